@@ -1,0 +1,42 @@
+-- Reading digits: one step at a place of a list.
+use Rattle.std.proofs.Common.{◌≡◌, ℕ, ◌+◌, ◌-◌, ◌*◌, ◌<◌, ◌≤◌, ◌≢◌, ◌⊎◌, pos, List, [], ◌∷◌, ◌++◌, length, drop, get_or, drop-cons, add-one, refl, arith, ap, Ok, Err}
+use Rattle.std.proofs.lemmas.Grind.{common_steps}
+use Rattle.ti_cap.specs.declared.token.Token.TheVariants.{Constant}
+use Rattle.ti_cap.specs.declared.token.CapFault.TheVariants.{CutShort, BadConstant}
+use Rattle.ti_cap.specs.Spelling.{number_from}
+use Rattle.ti_cap.specs.Reading.{digits_read}
+
+-- a number grows with each digit
+pub number_from-ge : (n : ℕ) (ds : List ℕ) → n ≤ number_from n ds
+number_from-ge n [] = omega arith
+number_from-ge n (c ∷ cs) = let h : 10 * n + (c - 48) ≤ number_from (10 * n + (c - 48)) cs = number_from-ge (10 * n + (c - 48)) cs in omega arith
+
+pub number_from-append : (n : ℕ) (ds es : List ℕ) → number_from n (ds ++ es) ≡ number_from (number_from n ds) es
+number_from-append n [] es = refl
+number_from-append n (c ∷ cs) es = number_from-append (10 * n + (c - 48)) cs es
+
+-- the digit at a place is the next
+pub number_from-next : (n i : ℕ) (ds : List ℕ) → i < length ds → number_from n (drop i ds) ≡ number_from (10 * n + (get_or ds i 0 - 48)) (drop (i + 1) ds)
+number_from-next n i ds h = rw add-one (ap (λ x. number_from n x) (drop-cons ds i 0 h))
+
+pub digit_step : (n i c : ℕ) (cs : List ℕ) → 48 ≤ c → c ≤ 57 → 10 * n + (c - 48) ≤ 2147483647
+    → digits_read n i (c ∷ cs) ≡ digits_read (10 * n + (c - 48)) (i + 1) cs
+unfolding digits_read
+digit_step n i c cs low high small = grind (arith, common_steps)
+
+pub digit_large : (n i c : ℕ) (cs : List ℕ) → 48 ≤ c → c ≤ 57 → 2147483647 < 10 * n + (c - 48)
+    → digits_read n i (c ∷ cs) ≡ Err BadConstant
+unfolding digits_read
+digit_large n i c cs low high large = grind (arith, common_steps)
+
+pub brace_step : (n i c : ℕ) (cs : List ℕ) → c ≡ 125 → 0 < i → digits_read n i (c ∷ cs) ≡ Ok (Constant (pos n), i + 3)
+unfolding digits_read
+brace_step n i c cs e h = grind (arith, common_steps)
+
+pub other_step : (n i c : ℕ) (cs : List ℕ) → (c < 48) ⊎ (57 < c) → (i ≡ 0) ⊎ (c ≢ 125) → digits_read n i (c ∷ cs) ≡ Err BadConstant
+unfolding digits_read
+other_step n i c cs h k = grind (arith, common_steps)
+
+pub digit_end : (n i : ℕ) → digits_read n i [] ≡ Err CutShort
+unfolding digits_read
+digit_end n i = refl

@@ -1,0 +1,11 @@
+pub mod Tree
+pub mod Path
+pub mod Sizes
+pub mod Height
+pub mod Pass
+pub mod Spelling
+pub mod Word
+pub mod Refusal
+pub mod Reading
+pub mod Capability
+pub mod Analysis

@@ -1,0 +1,114 @@
+-- Why bytes are no capability, and where.
+use Rattle.std.specs.Prelude.{◌≡◌, ◌≢◌, ℕ, ◌<◌, ◌≤◌, ◌⊎◌, List, [], ◌∷◌, ◌++◌, length, take, drop, if◌then◌else◌, nat_eq, nat_le, ◌&&◌, ◌||◌}
+use Rattle.ti_cap.specs.declared.token.Token.{Token}
+use Rattle.ti_cap.specs.declared.token.Token.TheVariants.{CondOpen, CondThen, CondElse, CondClose}
+use Rattle.ti_cap.specs.declared.token.CapFault.{CapFault}
+use Rattle.ti_cap.specs.declared.token.CapFault.TheVariants.{TooLong, CutShort, UnknownEscape, BadParameter, BadVariable, BadConstant, BadFormat, StrayThen, StrayElse, StrayEnd, NoThen, NestTooDeep, StackTooDeep}
+use Rattle.ti_cap.specs.declared.token.CapRefused.{CapRefused}
+use Rattle.ti_cap.specs.Tree.{Sequence, IsTree, tokens}
+use Rattle.ti_cap.specs.Path.{Walk, IsWalk, met}
+use Rattle.ti_cap.specs.Height.{end_height}
+use Rattle.ti_cap.specs.Spelling.{Spells, Written}
+
+-- some tree's tokens begin with these
+abbrev pub Begins : List Token → Type 0
+Begins before = (tree : Sequence) × (after : List Token) × IsTree tree × (tokens tree ≡ before ++ after)
+
+-- the part of an open conditional in which a place lies; what follows a `%e` is an otherwise part until a `%t` comes
+pub data Part : Type 0 where
+  FirstTest : Part
+  Body : Part
+  Otherwise : Part
+
+-- the parts of the open conditionals after a token, innermost first
+abbrev pub next_parts : List Part → Token → List Part
+next_parts parts CondOpen = FirstTest ∷ parts
+next_parts (part ∷ parts) CondThen = Body ∷ parts
+next_parts (part ∷ parts) CondElse = Otherwise ∷ parts
+next_parts (part ∷ parts) CondClose = parts
+next_parts parts token = parts
+
+abbrev pub parts_from : List Part → List Token → List Part
+parts_from parts [] = parts
+parts_from parts (token ∷ before) = parts_from (next_parts parts token) before
+
+abbrev pub open_parts : List Token → List Part
+open_parts before = parts_from [] before
+
+abbrev pub IsInFirstTest : List Part → Type 0
+IsInFirstTest (FirstTest ∷ parts) = Unit {0}
+IsInFirstTest _ = ⊥
+
+-- a spelling of the token is next
+abbrev pub IsNext : Token → List ℕ → Type 0
+IsNext token rest = (s : List ℕ) × (tail : List ℕ) × Spells token s × (rest ≡ s ++ tail)
+
+-- the rest is a spelling's front, but not the whole of it
+abbrev pub IsCut : List ℕ → Type 0
+IsCut rest = (token : Token) × (s : List ℕ) × (b : ℕ) × (more : List ℕ) × Spells token s × (s ≡ rest ++ b ∷ more)
+
+-- the fault of an escape that has no spelling, by the byte behind its `%`
+abbrev pub escape_fault : ℕ → CapFault
+escape_fault c =
+    if nat_eq c 112 then BadParameter
+    else if nat_eq c 80 || nat_eq c 103 then BadVariable
+    else if nat_eq c 39 || nat_eq c 123 then BadConstant
+    else if nat_eq c 58 || (nat_eq c 35 || (nat_eq c 32 || (nat_eq c 46 || (nat_le 48 c && nat_le c 57)))) then BadFormat
+    else UnknownEscape
+
+-- no spelling is next, and this is why
+pub record IsUnreadable (rest : List ℕ) (fault : CapFault) : Type 0 where
+  pub no_token : (token : Token) → ¬ IsNext token rest
+  pub why : ((fault ≡ CutShort) × IsCut rest)
+      ⊎ ((c : ℕ) × (tail : List ℕ) × (rest ≡ 37 ∷ c ∷ tail) × ¬ IsCut rest × (fault ≡ escape_fault c))
+
+-- the token is next, and no tree goes on with it
+abbrev pub IsStray : Token → List Token → List ℕ → Type 0
+IsStray token before rest = IsNext token rest × ¬ Begins (before ++ token ∷ [])
+
+-- some walk of some tree meets the token behind these, and has this height after it
+pub record Climbs (before : List Token) (token : Token) (height : ℕ) : Type 0 where
+  pub tree : Sequence
+  pub after : List Token
+  pub walk : Walk
+  pub formed : IsTree tree
+  pub spans : tokens tree ≡ before ++ token ∷ after
+  pub walked : IsWalk tree walk
+  pub meets : met walk (before ++ token ∷ []) ≡ met walk before ++ token ∷ []
+  pub climbs : end_height 0 (met walk (before ++ token ∷ [])) ≡ height
+
+-- each fault, where these tokens stand before it and this rest behind it
+abbrev pub IsFault : CapFault → List Token → List ℕ → Type 0
+IsFault TooLong before rest = ⊥
+IsFault StrayThen before rest = IsStray CondThen before rest
+IsFault StrayElse before rest = IsStray CondElse before rest × ¬ IsInFirstTest (open_parts before)
+IsFault StrayEnd before rest = IsStray CondClose before rest × (open_parts before ≡ [])
+IsFault NoThen before rest =
+    (IsStray CondElse before rest × IsInFirstTest (open_parts before))
+    ⊎ ((IsStray CondClose before rest × (open_parts before ≢ []))
+    ⊎ ((rest ≡ []) × ((tree : Sequence) → IsTree tree → tokens tree ≢ before)))
+IsFault NestTooDeep before rest = IsNext CondOpen rest × (32 ≤ length (open_parts before))
+IsFault StackTooDeep before rest = (token : Token) × IsNext token rest × Climbs before token 33
+IsFault fault before rest = (rest ≢ []) × IsUnreadable rest fault
+
+-- the fault stands at this place
+pub record HasFault (bytes : List ℕ) (fault : CapFault) (place : ℕ) : Type 0 where
+  pub before : List Token
+  pub within : place ≤ length bytes
+  pub written : Written before (take place bytes)
+  pub begins : Begins before
+  pub is : IsFault fault before (drop place bytes)
+
+-- no fault stands before this place
+abbrev pub IsSoundBelow : List ℕ → ℕ → Type 0
+IsSoundBelow bytes place = (fault : CapFault) (q : ℕ) → q < place → ¬ HasFault bytes fault q
+
+-- the refusal: too long, or else the fault at the least place
+abbrev pub IsRefusal : List ℕ → CapRefused → Type 0
+IsRefusal bytes r =
+    ((32767 < length bytes) × (r ≡ record { fault = TooLong; place = 32767 }))
+    ⊎ ((length bytes ≤ 32767) × HasFault bytes r.fault r.place × IsSoundBelow bytes r.place)
+
+-- bytes with no fault
+abbrev pub IsFaultless : List ℕ → Type 0
+IsFaultless bytes = (length bytes ≤ 32767) × ((fault : CapFault) (place : ℕ) → ¬ HasFault bytes fault place)

@@ -1,0 +1,208 @@
+//! The greatest value of a measure over all paths, kept in one pass over the tokens.
+//!
+//! A measure starts at 0 and each token that a path meets moves it: the height of the stack, or the bytes written.
+//! Where a test may go either way both values are kept, and where parts meet the greater goes on. At most one
+//! frame an open conditional is needed, so the cost is constant a token, and no memory is taken.
+
+ghost use Rattle.std.specs.Prelude.{◌≡◌};
+ghost use Rattle.ti_cap.specs.Analysis.{join};
+
+use crate::frame::Frame;
+use crate::token::{CapFault, Token};
+use arrayvec::ArrayVec;
+use std::marker::Model;
+
+/// The greatest value with which a path can run here, and what waits in the open conditionals.
+#[derive(Drop)]
+pub struct Analysis {
+    running: u64,
+    frames: ArrayVec<Frame, 32>,
+}
+
+impl Model for Analysis {
+    ghost use Rattle.std.specs.Prelude.{◌≤◌, reverse};
+    ghost use Rattle.arrayvec.specs.ArrayVec.{array_vec_len};
+    ghost use Rattle.ti_cap.specs.Analysis.{State};
+
+    ghost Value = { State };
+
+    ghost view = { λ a. record { running = a.running; frames = reverse a.frames.items } };
+
+    ghost invariant = { λ a. array_vec_len a.frames ≤ 32 };
+}
+
+/// The greater of what waits, if anything does, and another value.
+fn joined(waits: Option<u64>, value: u64) -> u64
+    ensures { result ≡ join waits value }
+{
+    match waits {
+        None => value,
+        Some(waiting) => { if waiting < value { value } else { waiting } }
+    }
+}
+
+impl Analysis {
+    ghost use Rattle.std.specs.Prelude.{◌≡◌, ◌<◌, ◌≤◌, [], ◌∷◌, ◌↔◌, length, Some, None, Option, List};
+    ghost use Rattle.ti_cap.specs.Analysis.{State, moved_open, moved_then, moved_else, moved_close, moved, misplaced, parts_of, first_frame, top, are_in_test};
+
+    /// No token yet.
+    pub fn new() -> Self
+        ensures { result ≡ record { running = 0; frames = [] } }
+    {
+        Analysis {
+            running: 0,
+            frames: ArrayVec::new(),
+        }
+    }
+
+    /// The greatest value with which a path runs here.
+    pub fn running(&self) -> u64
+        ensures { result ≡ self.now.running }
+    {
+        self.running
+    }
+
+    /// How many conditionals are open.
+    pub fn open(&self) -> usize
+        ensures count { result ≡ length self.now.frames }
+        ensures few { result ≤ 32 }
+    {
+        self.frames.len()
+    }
+
+    /// The frame of the innermost open conditional.
+    fn innermost(&self) -> Option<Frame>
+        ensures { result ≡ first_frame self.now.frames }
+    {
+        self.frames.as_slice().last().copied()
+    }
+
+    /// Why the token may not stand here, by the parts of the open conditionals.
+    pub fn misplaced(&self, token: &Token) -> Option<CapFault>
+        ensures { result ≡ misplaced token.now (parts_of self.now.frames) }
+    {
+        match token {
+            Token::CondOpen => {
+                if self.open() < 32 {
+                    None
+                } else {
+                    Some(CapFault::NestTooDeep)
+                }
+            }
+            Token::CondThen => match self.innermost() {
+                Some(Frame { failed: None, .. }) => None,
+                _ => Some(CapFault::StrayThen),
+            },
+            Token::CondElse => match self.innermost() {
+                Some(
+                    Frame {
+                        failed: Some(_),
+                        ..
+                    },
+                ) => None,
+                Some(
+                    Frame {
+                        failed: None,
+                        done: None,
+                    },
+                ) => Some(CapFault::NoThen),
+                _ => Some(CapFault::StrayElse),
+            },
+            Token::CondClose => match self.innermost() {
+                None => Some(CapFault::StrayEnd),
+                Some(
+                    Frame {
+                        failed: None,
+                        done: None,
+                    },
+                ) => Some(CapFault::NoThen),
+                _ => None,
+            },
+            _ => None,
+        }
+    }
+
+    /// A conditional begins; `after` is the value behind its `%?`.
+    fn enter(&mut self, after: u64)
+        requires { length self.old.frames < 32 }
+        ensures { self.new ≡ moved_open after self.old.frames }
+    {
+        self.running = after;
+        self.frames.push(Frame {
+            failed: None,
+            done: None,
+        });
+    }
+
+    /// A test ends: a path may fail here, and go on behind the `%e` or `%;` to come.
+    fn test(&mut self, after: u64)
+        ensures { self.new ≡ moved_then after self.old.frames }
+    {
+        self.running = after;
+        if let Some(frame) = self.frames.pop() {
+            self.frames.push(Frame {
+                failed: Some(after),
+                done: frame.done,
+            });
+        }
+    }
+
+    /// A body ends: its value waits for the `%;`, and the failed test's goes on.
+    fn turn(&mut self, after: u64)
+        ensures { self.new ≡ moved_else after self.old.frames }
+    {
+        self.running = after;
+        if let Some(frame) = self.frames.pop() {
+            self.frames.push(Frame {
+                failed: None,
+                done: Some(joined(frame.done, after)),
+            });
+            self.running = frame.failed.unwrap_or(after);
+        }
+    }
+
+    /// A conditional ends: the greatest of what runs and what waits in it goes on.
+    fn leave(&mut self, after: u64)
+        ensures { self.new ≡ moved_close after self.old.frames }
+    {
+        self.running = after;
+        if let Some(frame) = self.frames.pop() {
+            self.running = joined(frame.done, joined(frame.failed, after));
+        }
+    }
+
+    /// Meets a token, of which `after` is the value that it makes of the running one.
+    pub fn meet(&mut self, token: &Token, after: u64)
+        requires { token.now ≡ Token.CondOpen → length self.old.frames < 32 }
+        ensures { self.new ≡ moved self.old token.now after }
+    {
+        match token {
+            Token::CondOpen => self.enter(after),
+            Token::CondThen => self.test(after),
+            Token::CondElse => self.turn(after),
+            Token::CondClose => self.leave(after),
+            _ => self.running = after,
+        }
+    }
+
+    /// The greatest value with which a path can end here.
+    pub fn greatest(&self) -> u64
+        ensures { result ≡ top self.now.frames self.now.running }
+    {
+        self.frames.as_slice().iter().rev().fold(
+            self.running,
+            |value, frame| joined(frame.done, joined(frame.failed, value)),
+        )
+    }
+
+    /// Whether an open conditional is in its first test.
+    pub fn is_in_first_test(&self) -> bool
+        ensures { result ≡ are_in_test self.now.frames }
+    {
+        self.frames
+            .as_slice()
+            .iter()
+            .rev()
+            .fold(false, |found, frame| found || frame.is_in_first_test())
+    }
+}
