@@ -1,0 +1,11 @@
+use Rattle.std.proofs.Common.{◌≡◌, ◌+◌, length}
+use Rattle.ti_expand.specs.Printed.{significant}
+use Rattle.ti_expand.proofs.Rest.{drop_behind}
+use Rattle.ti_expand.proofs.digits.Digits.put.Goals as goal
+
+pub returns-clause-rest : goal.returns-clause-rest
+returns-clause-rest c =
+    let w = c.write_digits-start in
+    let d = c.self.inside in
+    let counted : d.count ≡ length (significant d.base d.upper d.number) = c.self.invariant.2 in
+    drop_behind w.new.out c.args.out.now (significant d.base d.upper d.number) w.result (c.args.at + d.count) w.ensures.start w.ensures.written

@@ -1,0 +1,17 @@
+use Rattle.std.proofs.Common.{◌≡◌, ◌≤◌, length, drop}
+use Rattle.ti_expand.specs.State.{start}
+use Rattle.ti_expand.specs.Machine.{machine}
+use Rattle.ti_expand.specs.Mode.{seen}
+use Rattle.ti_expand.proofs.Loop.{IsUnderway}
+use Rattle.ti_expand.proofs.pass.run_tape.Given as goal
+
+abbrev pub invariant-loop-token : goal.invariant-loop-token
+invariant-loop-token l = record {
+  underway : IsUnderway l.initial.tape.left (start l.fn.vars l.fn.parameters) (length l.fn.stack) (length l.fn.out) l.tape.left (seen l.mode) (machine l.stack.slots.now l.stack.height l.vars l.parameters l.out l.written) l.ran l.passed l.peak;
+  slots : length l.stack.slots.now ≡ length l.fn.stack;
+  within : l.written ≤ length l.out;
+  rest : drop l.written l.out ≡ drop l.written l.fn.out;
+}
+
+abbrev pub decreases-loop-token : goal.decreases-loop-token
+decreases-loop-token l = length l.tape.left

@@ -1,0 +1,10 @@
+pub mod State
+pub mod Printed
+pub mod Effect
+pub mod Meaning
+pub mod Mode
+pub mod Flat
+pub mod Sound
+pub mod Machine
+pub mod Expands
+pub mod Running

@@ -1,0 +1,20 @@
+//! Why a capability is not expanded.
+
+use thiserror::Error;
+
+/// Why a capability is not expanded.
+#[derive(Clone, Copy, PartialEq, Eq, Debug, Error)]
+pub enum ExpandFault {
+    /// The text of this parameter, counted from 1, has more than 32767 bytes; it is the lowest such parameter.
+    #[error("TextTooLong")]
+    TextTooLong { parameter: u8 },
+    /// The stack slice has fewer places than the depth of the capability, which is `need`.
+    #[error("StackTooSmall")]
+    StackTooSmall { need: usize },
+    /// The output slice has fewer bytes than the capability's bound for the longest text, which is `need`.
+    #[error("OutTooSmall")]
+    OutTooSmall { need: u64 },
+    /// Memory for the output was refused.
+    #[error("Memory")]
+    Memory,
+}

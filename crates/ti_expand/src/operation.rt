@@ -1,0 +1,59 @@
+//! The operations on numbers.
+
+ghost use Rattle.std.specs.Prelude.{◌≡◌, ◌+ℤ◌, pos};
+ghost use Rattle.ti_expand.specs.Effect.{combine, complement, is_zero, flag_number, wrapped, char_byte};
+
+use ti_cap::token::Op;
+
+/// What an operation makes of the two numbers that were popped.
+pub fn apply(op: Op, left: i32, right: i32) -> i32
+    ensures { result ≡ combine op left right }
+{
+    match op {
+        Op::Add => left.wrapping_add(right),
+        Op::Sub => left.wrapping_sub(right),
+        Op::Mul => left.wrapping_mul(right),
+        Op::Div if right == 0 => 0,
+        Op::Div => left.wrapping_div(right),
+        Op::Rem if right == 0 => 0,
+        Op::Rem => left.wrapping_rem(right),
+        Op::BitAnd => left & right,
+        Op::BitOr => left | right,
+        Op::BitXor => left ^ right,
+        Op::Equal => i32::from(left == right),
+        Op::Greater => i32::from(left > right),
+        Op::Less => i32::from(left < right),
+        Op::And => i32::from(left != 0 && right != 0),
+        Op::Or => i32::from(left != 0 || right != 0),
+        Op::Not | Op::BitNot => 0,
+    }
+}
+
+/// Each bit the other way round.
+pub fn inverted(number: i32) -> i32
+    ensures { result ≡ complement number }
+{
+    !number
+}
+
+/// 1 for 0, else 0.
+pub fn negated(number: i32) -> i32
+    ensures { result ≡ flag_number (is_zero number) }
+{
+    i32::from(number == 0)
+}
+
+/// One more, wrapping.
+pub fn next_number(number: i32) -> i32
+    ensures { result ≡ wrapped (number +ℤ pos 1) }
+{
+    number.wrapping_add(1)
+}
+
+/// The byte that `%c` writes.
+pub fn byte_of(number: i32) -> u8
+    ensures { result ≡ char_byte number }
+{
+    let low = (number.cast_unsigned() % 256) as u8;
+    if low == 0 { 0x80 } else { low }
+}

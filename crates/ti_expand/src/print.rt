@@ -1,0 +1,137 @@
+//! What `%d`, `%o`, `%x`, `%X` and `%s` print, written straight into the caller's slice: the bytes are those of
+//! `printed` and `printed_text`, and no value needs more of them than the format's size.
+
+ghost use Rattle.std.specs.Prelude.{◌≡◌, ◌≢◌, ◌+◌, ◌≤◌, ◌++◌, length, take, drop, replicate};
+ghost use Rattle.ti_cap.specs.Sizes.{format_size};
+ghost use Rattle.ti_expand.specs.Printed.{magnitude, least_count, front_for, joined, fill, printed, printed_text};
+
+use crate::digits::Digits;
+use crate::write::{put, put_repeated};
+use ti_cap::token::{Conversion, Format};
+
+/// The least count of digits.
+fn least_digits(precision: Option<u8>) -> usize
+    ensures { result ≡ least_count precision }
+{
+    match precision {
+        Some(count) => count as usize,
+        None => 1,
+    }
+}
+
+/// The sign, or the prefix that `#` asks for. The digits of a number but 0 begin with no `0`, so that the octal prefix
+/// is wanted exactly where no zeros stand before them.
+fn front_bytes(format: &Format, number: i32, zeros: usize) -> &'static [u8]
+    ensures { result.now ≡ front_for format.now.conversion format.now number (replicate zeros 48 ++ magnitude format.now.conversion number) }
+{
+    match format.conversion {
+        Conversion::Signed if number < 0 => b"-",
+        Conversion::Signed if format.plus => b"+",
+        Conversion::Signed if format.space => b" ",
+        Conversion::Octal if format.alternate && zeros == 0 => b"0",
+        Conversion::LowerHex if format.alternate && number.cast_unsigned() != 0 => b"0x",
+        Conversion::UpperHex if format.alternate && number.cast_unsigned() != 0 => b"0X",
+        _ => b"",
+    }
+}
+
+/// Puts the front, zeros and the digits.
+#[tactic(auto, using(crate::proofs::Rest::drop_further))]
+fn put_body(digits: &Digits, out: &mut [u8], at: usize, front: &[u8], zeros: usize) -> usize
+    requires { at + (length front.now + (zeros + length digits.now)) ≤ length out.old }
+    ensures end { result ≡ at + (length front.now + (zeros + length digits.now)) }
+    ensures written { take result out.new ≡ take at out.old ++ (front.now ++ (replicate zeros 48 ++ digits.now)) }
+    ensures rest { drop result out.new ≡ drop result out.old }
+{
+    let behind_front = put(out, at, front);
+    let behind_zeros = put_repeated(out, behind_front, b'0', zeros);
+    digits.put(out, behind_zeros)
+}
+
+/// Puts the front, zeros and the digits, filled to the width.
+#[tactic(auto, using(crate::proofs::Rest::drop_further))]
+fn put_filled(
+    format: &Format,
+    digits: &Digits,
+    out: &mut [u8],
+    at: usize,
+    front: &[u8],
+    zeros: usize,
+) -> usize
+    requires { at + length (fill format.now (joined format.now front.now (replicate zeros 48 ++ digits.now))) ≤ length out.old }
+    ensures end { result ≡ at + length (fill format.now (joined format.now front.now (replicate zeros 48 ++ digits.now))) }
+    ensures written { take result out.new ≡ take at out.old ++ fill format.now (joined format.now front.now (replicate zeros 48 ++ digits.now)) }
+    ensures rest { drop result out.new ≡ drop result out.old }
+{
+    let body = front.len() + (zeros + digits.len());
+    let missing = (format.width as usize).saturating_sub(body);
+    if format.zero && !format.left && format.precision.is_none() {
+        return put_body(digits, out, at, front, missing + zeros);
+    }
+    if format.left {
+        let end = put_body(digits, out, at, front, zeros);
+        return put_repeated(out, end, b' ', missing);
+    }
+    let start = put_repeated(out, at, b' ', missing);
+    put_body(digits, out, start, front, zeros)
+}
+
+/// Prints a number from a place on, and returns the place behind it.
+pub(crate) fn print_number(format: &Format, number: i32, out: &mut [u8], at: usize) -> usize
+    requires numeric { format.now.conversion ≢ Conversion.Text }
+    requires room { at + length (printed format.now number) ≤ length out.old }
+    ensures end { result ≡ at + length (printed format.now number) }
+    ensures written { take result out.new ≡ take at out.old ++ printed format.now number }
+    ensures rest { drop result out.new ≡ drop result out.old }
+{
+    let digits = Digits::new(format.conversion, number);
+    let zeros = least_digits(format.precision).saturating_sub(digits.len());
+    let front = front_bytes(format, number, zeros);
+    put_filled(format, &digits, out, at, front, zeros)
+}
+
+/// Prints a number from the front of a slice on, and returns how many bytes that took; the bytes behind them stay. The
+/// conversion is not `Text`, and the slice has the format's size for texts of no bytes.
+pub fn format_number(format: &Format, number: i32, out: &mut [u8]) -> usize
+    requires numeric { format.now.conversion ≢ Conversion.Text }
+    requires room { format_size format.now 0 ≤ length out.old }
+    ensures count { result ≡ length (printed format.now number) }
+    ensures written { take result out.new ≡ printed format.now number }
+    ensures rest { drop result out.new ≡ drop result out.old }
+{
+    print_number(format, number, out, 0)
+}
+
+/// Prints a text from the front of a slice on, and returns how many bytes that took; the bytes behind them stay. The
+/// conversion is `Text`, the text has at most 32767 bytes, and the slice has the format's size for its length.
+pub fn format_text(format: &Format, text: &[u8], out: &mut [u8]) -> usize
+    requires textual { format.now.conversion ≡ Conversion.Text }
+    requires short { length text.now ≤ 32767 }
+    requires room { format_size format.now (length text.now) ≤ length out.old }
+    ensures count { result ≡ length (printed_text format.now text.now) }
+    ensures written { take result out.new ≡ printed_text format.now text.now }
+    ensures rest { drop result out.new ≡ drop result out.old }
+{
+    print_text(format, text, out, 0)
+}
+
+/// Prints a text from a place on, and returns the place behind it.
+#[tactic(auto, using(crate::proofs::Rest::drop_further))]
+pub(crate) fn print_text(format: &Format, text: &[u8], out: &mut [u8], at: usize) -> usize
+    requires room { at + length (printed_text format.now text.now) ≤ length out.old }
+    ensures end { result ≡ at + length (printed_text format.now text.now) }
+    ensures written { take result out.new ≡ take at out.old ++ printed_text format.now text.now }
+    ensures rest { drop result out.new ≡ drop result out.old }
+{
+    let shown = match format.precision {
+        Some(precision) if (precision as usize) < text.len() => &text[..precision as usize],
+        _ => text,
+    };
+    let missing = (format.width as usize).saturating_sub(shown.len());
+    if format.left {
+        let end = put(out, at, shown);
+        return put_repeated(out, end, b' ', missing);
+    }
+    let start = put_repeated(out, at, b' ', missing);
+    put(out, start, shown)
+}

@@ -1,0 +1,191 @@
+//! Capabilities with their numbers, expanded into slices of exactly the promised size; and faults, which change nothing.
+
+use crate::expand::{expand, expand_into};
+use crate::fault::ExpandFault;
+use crate::run::Run;
+use crate::value::Value;
+use crate::vars::Vars;
+use std::test::Fail;
+use ti_cap::capability::Capability;
+
+/// A capability, its first three parameters, and what it writes.
+#[derive(Drop)]
+struct Case {
+    bytes: &'static [u8],
+    parameters: [i32; 3],
+    output: &'static [u8],
+    run: Run,
+}
+
+fn counted(written: usize, ran: usize, passed: usize, peak: usize) -> Run {
+    Run {
+        written,
+        ran,
+        passed,
+        peak,
+    }
+}
+
+fn parameters_of<'a>(numbers: [i32; 3]) -> [Value<'a>; 9] {
+    let mut parameters = [Value::Num(0); 9];
+    parameters[0] = Value::Num(numbers[0]);
+    parameters[1] = Value::Num(numbers[1]);
+    parameters[2] = Value::Num(numbers[2]);
+    parameters
+}
+
+const SETAF: &[u8] = b"\x1b[%?%p1%{8}%<%t3%p1%d%e%p1%{16}%<%t9%p1%{8}%-%d%e38;5;%p1%d%;m";
+
+const INNER: &[u8] = b"%?%p1%t%?%p2%ta%eb%;c%e%?%p3%td%;e%;f";
+
+#[test]
+fn writes_what_the_tree_means(rt: HostRuntime) -> Result<(), Fail> {
+    let cases = [
+        Case {
+            bytes: b"\x1b[%i%p1%d;%p2%dH",
+            parameters: [4, 9, 0],
+            output: b"\x1b[5;10H",
+            run: counted(7, 9, 0, 1),
+        },
+        Case {
+            bytes: SETAF,
+            parameters: [1, 0, 0],
+            output: b"\x1b[31m",
+            run: counted(5, 13, 17, 2),
+        },
+        Case {
+            bytes: SETAF,
+            parameters: [9, 0, 0],
+            output: b"\x1b[91m",
+            run: counted(5, 20, 10, 2),
+        },
+        Case {
+            bytes: SETAF,
+            parameters: [200, 0, 0],
+            output: b"\x1b[38;5;200m",
+            run: counted(11, 22, 8, 2),
+        },
+        Case {
+            bytes: b"%?%p1%t%?%p2%tA%eB%;%eC",
+            parameters: [0, 1, 0],
+            output: b"C",
+            run: counted(1, 5, 7, 1),
+        },
+        Case {
+            bytes: b"%?%p1%t%?%p2%tA%eB%;%eC",
+            parameters: [1, 0, 0],
+            output: b"B",
+            run: counted(1, 10, 2, 1),
+        },
+        Case {
+            bytes: INNER,
+            parameters: [0, 0, 0],
+            output: b"ef",
+            run: counted(2, 11, 9, 1),
+        },
+        Case {
+            bytes: INNER,
+            parameters: [1, 0, 0],
+            output: b"bcf",
+            run: counted(3, 13, 7, 1),
+        },
+        Case {
+            bytes: b"%p1%#06x,%p2%:-5d|",
+            parameters: [255, 7, 0],
+            output: b"0x00ff,7    |",
+            run: counted(13, 6, 0, 1),
+        },
+        Case {
+            bytes: b"",
+            parameters: [0, 0, 0],
+            output: b"",
+            run: counted(0, 0, 0, 0),
+        },
+    ];
+    for case in &cases {
+        let Ok(capability) = Capability::parse(case.bytes) else {
+            panic!(rt; "{:?} is refused", case.bytes);
+        };
+        let parameters = parameters_of(case.parameters);
+        let mut vars = Vars::new();
+        let mut places = [Value::Num(0); 32];
+        let mut room = [0xee; 64];
+        let depth = capability.depth();
+        let bound = capability.bound(0) as usize;
+        assert!(rt; depth <= 32 && bound < 64);
+        let answer = expand_into(
+            capability.tape(),
+            &parameters,
+            &mut vars,
+            &mut places[..depth],
+            &mut room[..bound],
+        );
+        assert_eq!(rt; answer, Ok(case.run), "{:?}", case.bytes);
+        assert_eq!(rt; &room[..case.output.len().min(64)], case.output);
+        let whole = expand(rt.alloc(), &capability, &parameters, &mut vars);
+        let Ok(whole) = whole else {
+            panic!(rt; "want of memory");
+        };
+        assert_eq!(rt; whole.as_slice(), case.output);
+    }
+    Ok(())
+}
+
+#[test]
+fn a_fault_changes_nothing(rt: HostRuntime) -> Result<(), Fail> {
+    let Ok(capability) = Capability::parse(b"\x1b[%i%p1%d;%p2%dH") else {
+        panic!(rt; "refused");
+    };
+    let long = [b'a'; 32768];
+    let mut parameters = parameters_of([4, 9, 0]);
+    let mut vars = Vars::new();
+    assert!(rt; vars.set(b'A', 7));
+    let mut places = [Value::Num(3); 1];
+    let mut room = [0xee; 25];
+    parameters[1] = Value::Text(&long);
+    assert_eq!(rt;
+        expand_into(
+            capability.tape(),
+            &parameters,
+            &mut vars,
+            &mut places,
+            &mut room
+        ),
+        Err(ExpandFault::TextTooLong { parameter: 2 })
+    );
+    parameters[1] = Value::Num(9);
+    assert_eq!(rt;
+        expand_into(
+            capability.tape(),
+            &parameters,
+            &mut vars,
+            &mut places[..0],
+            &mut room
+        ),
+        Err(ExpandFault::StackTooSmall { need: 1 })
+    );
+    assert_eq!(rt;
+        expand_into(
+            capability.tape(),
+            &parameters,
+            &mut vars,
+            &mut places,
+            &mut room
+        ),
+        Err(ExpandFault::OutTooSmall { need: 26 })
+    );
+    assert_eq!(rt; room, [0xee; 25]);
+    assert_eq!(rt; vars.get(b'A'), Some(7));
+    for (fault, name) in [
+        (ExpandFault::TextTooLong { parameter: 2 }, "TextTooLong"),
+        (ExpandFault::StackTooSmall { need: 1 }, "StackTooSmall"),
+        (ExpandFault::OutTooSmall { need: 26 }, "OutTooSmall"),
+        (ExpandFault::Memory, "Memory"),
+    ] {
+        let Ok(message) = fault.to_string(rt.alloc()) else {
+            panic!(rt; "want of memory");
+        };
+        assert_eq!(rt; message.as_str(), name);
+    }
+    Ok(())
+}
