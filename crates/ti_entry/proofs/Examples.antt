@@ -1,0 +1,284 @@
+-- The definitions at known bytes: what they spell, why they are refused, how their entries are written.
+use Rattle.std.proofs.Common.{◌≡◌, ℕ, pos, negsuc, List, [], ◌∷◌, ◌++◌, map, take, drop, replicate, slice_set, Some, None, refl, inl, inr, arith}
+use Rattle.ti_words.specs.declared.Flag.TheVariants as flags
+use Rattle.ti_words.specs.declared.Number.TheVariants as numbers
+use Rattle.ti_words.specs.declared.Width.TheVariants.{Legacy}
+use Rattle.ti_words.specs.Texts.{AbsentText, TextOf}
+use Rattle.ti_entry.specs.declared.fault.Fault.TheVariants.{Truncated, BadMagic, BadHeader, HeaderTooBig, BadNames, BadFlag, BadPad, BadNumber, BadOffset, Unterminated, BadExtendedHeader, ExtendedTooBig, BadExtendedName, Trailing}
+use Rattle.ti_entry.specs.Value.{EntryValue}
+use Rattle.ti_entry.specs.Layout.{places, header_of}
+use Rattle.ti_entry.specs.Checks.{refused}
+use Rattle.ti_entry.specs.Refusal.{refusal, plain_refusal}
+use Rattle.ti_entry.specs.Content.{plain_content, content}
+use Rattle.ti_entry.specs.Spelling.{Spells}
+use Rattle.ti_entry.specs.Canonical.{canonical}
+
+-- ---- bytes
+
+-- names t, bw Yes, cols 80, cbt absent, bel 07
+abbrev small : List ℕ
+small =
+    0x1a ∷ 0x01 ∷ 0x02 ∷ 0x00 ∷ 0x01 ∷ 0x00 ∷ 0x01 ∷ 0x00 ∷ 0x02 ∷ 0x00 ∷ 0x02 ∷ 0x00
+    ∷ 0x74 ∷ 0x00
+    ∷ 0x01
+    ∷ 0x00
+    ∷ 0x50 ∷ 0x00
+    ∷ 0xff ∷ 0xff ∷ 0x00 ∷ 0x00
+    ∷ 0x07 ∷ 0x00 ∷ []
+
+-- AX Yes and E3, as an extended part
+abbrev extension : List ℕ
+extension =
+    0x01 ∷ 0x00 ∷ 0x00 ∷ 0x00 ∷ 0x01 ∷ 0x00 ∷ 0x03 ∷ 0x00 ∷ 0x0b ∷ 0x00
+    ∷ 0x01
+    ∷ 0x00
+    ∷ 0x00 ∷ 0x00
+    ∷ 0x00 ∷ 0x00 ∷ 0x03 ∷ 0x00
+    ∷ 0x1b ∷ 0x5b ∷ 0x33 ∷ 0x4a ∷ 0x00 ∷ 0x41 ∷ 0x58 ∷ 0x00 ∷ 0x45 ∷ 0x33 ∷ 0x00 ∷ []
+
+abbrev extended : List ℕ
+extended = small ++ extension
+
+-- two texts that share their bytes
+abbrev shared : List ℕ
+shared =
+    0x1a ∷ 0x01 ∷ 0x02 ∷ 0x00 ∷ 0x00 ∷ 0x00 ∷ 0x00 ∷ 0x00 ∷ 0x02 ∷ 0x00 ∷ 0x02 ∷ 0x00
+    ∷ 0x74 ∷ 0x00
+    ∷ 0x00 ∷ 0x00 ∷ 0x00 ∷ 0x00
+    ∷ 0x07 ∷ 0x00 ∷ []
+
+-- the same entry with no sharing
+abbrev unshared : List ℕ
+unshared =
+    0x1a ∷ 0x01 ∷ 0x02 ∷ 0x00 ∷ 0x00 ∷ 0x00 ∷ 0x00 ∷ 0x00 ∷ 0x02 ∷ 0x00 ∷ 0x04 ∷ 0x00
+    ∷ 0x74 ∷ 0x00
+    ∷ 0x00 ∷ 0x00 ∷ 0x02 ∷ 0x00
+    ∷ 0x07 ∷ 0x00 ∷ 0x07 ∷ 0x00 ∷ []
+
+-- a long text, which is a bad capability in a good entry
+abbrev long_text : List ℕ
+long_text =
+    0x1b ∷ 0x5b ∷ 0x3f ∷ 0x25 ∷ 0x5b ∷ 0x3b ∷ 0x30 ∷ 0x31 ∷ 0x32 ∷ 0x33 ∷ 0x34 ∷ 0x35 ∷ 0x36 ∷ 0x37 ∷ 0x38 ∷ 0x39 ∷ 0x5d ∷ 0x63 ∷ []
+
+abbrev long : List ℕ
+long = slice_set (take 22 small) 10 0x13 ++ long_text ++ 0x00 ∷ []
+
+-- a string table of odd size
+abbrev odd : List ℕ
+odd = slice_set (take 22 small) 10 0x03 ++ (0x07 ∷ 0x07 ∷ 0x00 ∷ [])
+
+-- ---- entries
+
+abbrev small_entry : EntryValue
+small_entry = record {
+  width = Legacy;
+  names = 0x74 ∷ [];
+  flags = flags.Yes ∷ [];
+  numbers = numbers.Value (pos 80) ∷ [];
+  texts = AbsentText ∷ TextOf (0x07 ∷ []) ∷ [];
+  extended_flags = [];
+  extended_numbers = [];
+  extended_texts = [];
+}
+
+abbrev extended_entry : EntryValue
+extended_entry = record small_entry {
+  extended_flags = (0x41 ∷ 0x58 ∷ [], flags.Yes) ∷ [];
+  extended_texts = (0x45 ∷ 0x33 ∷ [], TextOf (0x1b ∷ 0x5b ∷ 0x33 ∷ 0x4a ∷ [])) ∷ [];
+}
+
+abbrev shared_entry : EntryValue
+shared_entry = record small_entry { flags = []; numbers = []; texts = TextOf (0x07 ∷ []) ∷ TextOf (0x07 ∷ []) ∷ [] }
+
+-- U8 = 80 alone, by its extended name
+abbrev number_entry : EntryValue
+number_entry = record small_entry { flags = []; numbers = []; texts = []; extended_numbers = (0x55 ∷ 0x38 ∷ [], numbers.Value (pos 80)) ∷ [] }
+
+-- ---- what the bytes spell
+
+small_spells : Spells small small_entry
+small_spells = record {
+  fits = omega arith;
+  table = 0x07 ∷ 0x00 ∷ [];
+  rest = [];
+  sections = record {
+    offsets = negsuc 0 ∷ pos 0 ∷ [];
+    joined = refl;
+    counts = (omega arith, (omega arith, (omega arith, (omega arith, (omega arith, tt)))));
+    named = omega arith;
+    names_fit = (omega arith, tt);
+    numbers_fit = (omega arith, tt);
+    texts_there = (refl, ((0, refl, (omega arith, tt), record { found = refl }), tt));
+  };
+  behind = inl (record { ends = refl; no_flags = refl; no_numbers = refl; no_texts = refl });
+}
+
+shared_spells : Spells shared shared_entry
+shared_spells = record {
+  fits = omega arith;
+  table = 0x07 ∷ 0x00 ∷ [];
+  rest = [];
+  sections = record {
+    offsets = pos 0 ∷ pos 0 ∷ [];
+    joined = refl;
+    counts = (omega arith, (omega arith, (omega arith, (omega arith, (omega arith, tt)))));
+    named = omega arith;
+    names_fit = (omega arith, tt);
+    numbers_fit = tt;
+    texts_there = ((0, refl, (omega arith, tt), record { found = refl }), ((0, refl, (omega arith, tt), record { found = refl }), tt));
+  };
+  behind = inl (record { ends = refl; no_flags = refl; no_numbers = refl; no_texts = refl });
+}
+
+-- with each word items
+abbrev with_items : ℕ → ℕ → List ℕ
+with_items low high = slice_set (slice_set extended 30 low) 31 high
+
+extended_spells : (low high : ℕ) → Spells (with_items low high) extended_entry
+extended_spells low high = record {
+  fits = omega arith;
+  table = 0x07 ∷ 0x00 ∷ [];
+  rest = drop 24 (with_items low high);
+  sections = record {
+    offsets = negsuc 0 ∷ pos 0 ∷ [];
+    joined = refl;
+    counts = (omega arith, (omega arith, (omega arith, (omega arith, (omega arith, tt)))));
+    named = omega arith;
+    names_fit = (omega arith, tt);
+    numbers_fit = (omega arith, tt);
+    texts_there = (refl, ((0, refl, (omega arith, tt), record { found = refl }), tt));
+  };
+  behind = inr (record {
+    values = pos 0 ∷ [];
+    names = pos 0 ∷ pos 3 ∷ [];
+    items = low ∷ high ∷ [];
+    table = drop 18 extension;
+    joined = refl;
+    counts = (omega arith, (omega arith, (omega arith, (omega arith, tt))));
+    items_size = refl;
+    numbers_fit = tt;
+    texts_there = ((0, refl, (omega arith, (omega arith, (omega arith, (omega arith, tt)))), record { found = refl }), tt);
+    names_there = ((0, refl, (omega arith, (omega arith, tt)), record { found = refl }), ((3, refl, (omega arith, (omega arith, tt)), record { found = refl }), tt));
+  });
+}
+
+small_content : content small ≡ small_entry
+small_content = refl
+
+extended_content : content extended ≡ extended_entry
+extended_content = refl
+
+shared_content : content shared ≡ shared_entry
+shared_content = refl
+
+-- extended counts of 0 say what no extended part says
+no_counts : content (small ++ replicate 10 0) ≡ small_entry
+no_counts = refl
+
+-- ---- how entries are written
+
+small_canonical : canonical small_entry ≡ small
+small_canonical = refl
+
+extended_canonical : canonical extended_entry ≡ extended
+extended_canonical = refl
+
+shared_canonical : canonical shared_entry ≡ unshared
+shared_canonical = refl
+
+number_canonical : canonical number_entry ≡
+    0x1a ∷ 0x01 ∷ 0x02 ∷ 0x00 ∷ 0x00 ∷ 0x00 ∷ 0x00 ∷ 0x00 ∷ 0x00 ∷ 0x00 ∷ 0x00 ∷ 0x00
+    ∷ 0x74 ∷ 0x00
+    ∷ 0x00 ∷ 0x00 ∷ 0x01 ∷ 0x00 ∷ 0x00 ∷ 0x00 ∷ 0x01 ∷ 0x00 ∷ 0x03 ∷ 0x00
+    ∷ 0x50 ∷ 0x00
+    ∷ 0x00 ∷ 0x00
+    ∷ 0x55 ∷ 0x38 ∷ 0x00 ∷ []
+number_canonical = refl
+
+-- ---- what is accepted, and what a changed byte makes of it
+
+accepted : map refusal (small ∷ extended ∷ shared ∷ unshared ∷ long ∷ odd ∷ (small ++ replicate 10 0) ∷ []) ≡ replicate 7 None
+accepted = refl
+
+-- each proper prefix ends too early
+small_prefixes : map (λ n. refusal (take n small)) (places 0 1 24) ≡ map (λ n. Some (refused Truncated n)) (places 0 1 24)
+small_prefixes = refl
+
+extended_prefixes : map (λ n. refusal (take n extended)) (places 25 1 28) ≡ map (λ n. Some (refused Truncated n)) (places 25 1 28)
+extended_prefixes = refl
+
+small_behind : refusal (small ++ 0x00 ∷ []) ≡ Some (refused Truncated 25)
+small_behind = refl
+
+extended_behind : refusal (extended ++ 0x00 ∷ []) ≡ Some (refused Trailing 53)
+extended_behind = refl
+
+odd_behind : map (λ b. refusal (odd ++ b ∷ [])) (0x01 ∷ 0x00 ∷ []) ≡ Some (refused BadPad 25) ∷ Some (refused Truncated 26) ∷ []
+odd_behind = refl
+
+-- a byte behind the string table is one too many while no extended part is read
+plain_behind : map plain_refusal (extended ∷ (odd ++ 0x00 ∷ []) ∷ (odd ++ 0x01 ∷ []) ∷ []) ≡ Some (refused Trailing 24) ∷ Some (refused Trailing 25) ∷ Some (refused Trailing 25) ∷ []
+plain_behind = refl
+
+magic_changed : refusal (slice_set small 0 0x1b) ≡ Some (refused BadMagic 0)
+magic_changed = refl
+
+size_negative : refusal (slice_set small 3 0x80) ≡ Some (refused BadHeader 2)
+size_negative = refl
+
+all_sizes_great : refusal (0x1a ∷ 0x01 ∷ 0xff ∷ 0x7f ∷ 0xff ∷ 0x7f ∷ 0xff ∷ 0x7f ∷ 0xff ∷ 0x7f ∷ 0xff ∷ 0x7f ∷ drop 12 small) ≡ Some (refused HeaderTooBig 0)
+all_sizes_great = refl
+
+names_empty : refusal (slice_set small 2 0x01) ≡ Some (refused BadNames 12)
+names_empty = refl
+
+names_unended : refusal (slice_set small 13 0x75) ≡ Some (refused BadNames 13)
+names_unended = refl
+
+flag_wrong : refusal (slice_set small 14 0x02) ≡ Some (refused BadFlag 14)
+flag_wrong = refl
+
+flag_cancelled : plain_content (slice_set small 14 0xfe) (header_of small) ≡ record small_entry { flags = flags.Cancelled ∷ [] }
+flag_cancelled = refl
+
+flag_cancelled_accepted : refusal (slice_set small 14 0xfe) ≡ None
+flag_cancelled_accepted = refl
+
+pad_wrong : refusal (slice_set small 15 0x01) ≡ Some (refused BadPad 15)
+pad_wrong = refl
+
+number_below : refusal (slice_set (slice_set small 16 0xfd) 17 0xff) ≡ Some (refused BadNumber 16)
+number_below = refl
+
+number_cancelled : content (slice_set (slice_set small 16 0xfe) 17 0xff) ≡ record small_entry { numbers = numbers.Cancelled ∷ [] }
+number_cancelled = refl
+
+number_cancelled_accepted : refusal (slice_set (slice_set small 16 0xfe) 17 0xff) ≡ None
+number_cancelled_accepted = refl
+
+offset_beyond : refusal (slice_set small 20 0x02) ≡ Some (refused BadOffset 20)
+offset_beyond = refl
+
+text_unended : refusal (slice_set small 23 0x01) ≡ Some (refused Unterminated 20)
+text_unended = refl
+
+extended_count_negative : refusal (slice_set extended 25 0x80) ≡ Some (refused BadExtendedHeader 24)
+extended_count_negative = refl
+
+extended_table_great : refusal (slice_set (slice_set extended 32 0xff) 33 0x7f) ≡ Some (refused ExtendedTooBig 24)
+extended_table_great = refl
+
+items_unread : content (with_items 0xff 0xff) ≡ extended_entry
+items_unread = refl
+
+items_unread_accepted : refusal (with_items 0xff 0xff) ≡ None
+items_unread_accepted = refl
+
+name_negative : refusal (slice_set (slice_set extended 38 0xff) 39 0xff) ≡ Some (refused BadExtendedName 38)
+name_negative = refl
+
+name_beyond : refusal (slice_set extended 40 0x06) ≡ Some (refused BadExtendedName 40)
+name_beyond = refl
+
+name_unended : refusal (slice_set extended 52 0x01) ≡ Some (refused Unterminated 40)
+name_unended = refl

@@ -1,0 +1,209 @@
+-- A check that has failed has failed for every continuation of the input.
+use Rattle.std.proofs.Common.{◌≡◌, ℕ, ◌+◌, ◌-◌, ◌*◌, ◌<◌, ◌≤◌, ◌⊎◌, ℤ, Bool, true, false, not, ltb, leb, cond, List, [], ◌∷◌, ◌++◌, map, length, get_or, take, drop, inl, inr, refl, sym, ap, subst, ◌∙◌, arith}
+use Rattle.std.proofs.lemmas.List.{get_or_append_left, length-append, take-append-le, drop-append-le, length-drop}
+use Rattle.std.proofs.lemmas.Bool.{cases_lt, le-ltb, lt-ltb, leb-false, lt-leb}
+use Rattle.std.specs.Prelude.{is_some}
+use Rattle.ti_words.specs.Marks.{flag_of_byte}
+use Rattle.ti_entry.specs.declared.fault.Fault.{Fault}
+use Rattle.ti_entry.specs.declared.fault.Fault.TheVariants.{BadHeader, BadNames, BadPad, BadFlag, BadNumber, BadOffset, Unterminated, Trailing}
+use Rattle.ti_entry.specs.declared.fault.Refused.{Refused}
+use Rattle.ti_entry.specs.declared.header.Header.{Header}
+use Rattle.ti_entry.specs.Word.{unsigned_at, word_at, signed}
+use Rattle.ti_entry.specs.Layout.{header_of, number_size, places, pad_len, flags_from, pad_from, numbers_from, offsets_from, table_from, end_of}
+use Rattle.ti_entry.specs.Table.{is_nul, table_of}
+use Rattle.ti_entry.specs.Checks.{Check, check, Verdict, Passes, EndsEarly, Fails, verdict, refused, is_number_word, is_not_negative, is_offset_below, is_ended, sign_check, sign_checks, name_check, nul_check, name_checks, flag_check, flag_checks, pad_checks, number_check, number_checks, offset_check, offset_checks, ending_check, ending_checks, end_check, end_checks}
+use Rattle.ti_entry.specs.Refusal.{magic_check, size_check, named_check, magic_checks, size_checks, front_checks, section_checks, plain_checks}
+use Rattle.ti_entry.specs.Spelling.{Each}
+use Rattle.ti_entry.proofs.Sections.{then, verdict_append}
+use Rattle.ti_entry.proofs.Passing.{first_passes}
+use Rattle.ti_entry.proofs.SectionLaws.{both_pass, each_item}
+
+-- two checks that are one where their front is there
+pub record Alike (len : ℕ) (c d : Check) : Type 0 where
+  pub same_front : c.prefix ≡ d.prefix
+  pub same : c.prefix ≤ len → c ≡ d
+
+each_append : {A B : Type 0} (R : A → B → Type 0) (xs : List A) (ys : List B) (xs' : List A) (ys' : List B) → Each R xs ys → Each R xs' ys' → Each R (xs ++ xs') (ys ++ ys')
+each_append R [] [] xs' ys' h k = k
+each_append R [] (y ∷ ys) xs' ys' h k = absurd h
+each_append R (x ∷ xs) [] xs' ys' h k = absurd h
+each_append R (x ∷ xs) (y ∷ ys) xs' ys' h k = (h.0, each_append R xs ys xs' ys' h.1 k)
+
+decided : (len more : ℕ) (b : Bool) (r : Refused) (v w : Verdict) → (v ≡ EndsEarly) ⊎ (v ≡ w) → (cond b v (Fails r) ≡ EndsEarly) ⊎ (cond b v (Fails r) ≡ cond b w (Fails r))
+decided len more true r v w h = h
+decided len more false r v w h = inr refl
+
+-- what is decided stays so
+pub stays : (len more : ℕ) (cs ds : List Check) → Each (Alike len) cs ds → (verdict len cs ≡ EndsEarly) ⊎ (verdict len cs ≡ verdict (len + more) ds)
+stays len more [] [] h = inr refl
+stays len more [] (d ∷ ds) h = absurd h
+stays len more (c ∷ cs) [] h = absurd h
+stays len more (c ∷ cs) (d ∷ ds) h =
+    elim (cases_lt len c.prefix) [
+      | inl lt ↦ inl (rw (lt-ltb len c.prefix lt) refl)
+      | inr le ↦
+          let first : verdict len (c ∷ cs) ≡ cond c.holds (verdict len cs) (Fails (refused c.fault c.place)) = rw (le-ltb len c.prefix le) refl in
+          let e : c ≡ d = h.0.same le in
+          let le2 : d.prefix ≤ len + more = (let f = h.0.same_front in omega arith) in
+          let second : verdict (len + more) (d ∷ ds) ≡ cond c.holds (verdict (len + more) ds) (Fails (refused c.fault c.place)) =
+          (let g : verdict (len + more) (d ∷ ds) ≡ cond d.holds (verdict (len + more) ds) (Fails (refused d.fault d.place)) = rw (le-ltb (len + more) d.prefix le2) refl in
+          g ∙ ap (λ (k : Check). cond k.holds (verdict (len + more) ds) (Fails (refused k.fault k.place))) (sym e)) in
+          elim (decided len more c.holds (refused c.fault c.place) (verdict len cs) (verdict (len + more) ds) (stays len more cs ds h.1)) [
+            | inl early ↦ inl (first ∙ early)
+            | inr equal ↦ inr (first ∙ equal ∙ sym second)
+          ]
+    ]
+
+byte_same : (xs ys : List ℕ) (p : ℕ) → p + 1 ≤ length xs → get_or xs p 0 ≡ get_or (xs ++ ys) p 0
+byte_same xs ys p le = sym (get_or_append_left xs ys 0 p (omega arith))
+
+unsigned_same : (xs ys : List ℕ) (p : ℕ) → p + 2 ≤ length xs → unsigned_at 2 xs p ≡ unsigned_at 2 (xs ++ ys) p
+unsigned_same xs ys p le =
+    let a = byte_same xs ys p (omega arith) in
+    let b = byte_same xs ys (p + 1) (omega arith) in
+    ap (λ k. k + 256 * (get_or xs (p + 1) 0 + 256 * 0)) a ∙ ap (λ k. get_or (xs ++ ys) p 0 + 256 * (k + 256 * 0)) b
+
+by_byte : (xs ys : List ℕ) (test : ℕ → Bool) (fault : Fault) (p : ℕ) → Alike (length xs) (check (p + 1) (test (get_or xs p 0)) fault p) (check (p + 1) (test (get_or (xs ++ ys) p 0)) fault p)
+by_byte xs ys test fault p = record { same_front = refl; same = λ le. ap (λ k. check (p + 1) (test k) fault p) (byte_same xs ys p le) }
+
+by_word : (xs ys : List ℕ) (test : ℤ → Bool) (fault : Fault) (p : ℕ) → Alike (length xs) (check (p + 2) (test (word_at 2 xs p)) fault p) (check (p + 2) (test (word_at 2 (xs ++ ys) p)) fault p)
+by_word xs ys test fault p = record { same_front = refl; same = λ le. ap (λ k. check (p + 2) (test (signed 2 k)) fault p) (unsigned_same xs ys p le) }
+
+pub header_same : (xs ys : List ℕ) → 12 ≤ length xs → header_of xs ≡ header_of (xs ++ ys)
+header_same xs ys le =
+    let u1 = unsigned_same xs ys 2 (omega arith) in
+    let u2 = unsigned_same xs ys 4 (omega arith) in
+    let u3 = unsigned_same xs ys 6 (omega arith) in
+    let u4 = unsigned_same xs ys 8 (omega arith) in
+    let u5 = unsigned_same xs ys 10 le in
+    rw (u1, u2, u3, u4, u5) refl
+
+by_header : (xs ys : List ℕ) (f : Header → Check) → ((h : Header) → (f h).prefix ≡ 12) → Alike (length xs) (f (header_of xs)) (f (header_of (xs ++ ys)))
+by_header xs ys f n = record { same_front = n (header_of xs) ∙ sym (n (header_of (xs ++ ys))); same = λ le. (let twelve : 12 ≤ length xs = (let k = n (header_of xs) in omega arith) in ap f (header_same xs ys twelve)) }
+
+magic_alike : (xs ys : List ℕ) → Alike (length xs) (magic_check xs) (magic_check (xs ++ ys))
+magic_alike xs ys = record { same_front = refl; same = λ le. (let a = byte_same xs ys 0 (omega arith) in let b = byte_same xs ys 1 le in rw (a, b) refl) }
+
+pub front_alike : (xs ys : List ℕ) → Each (Alike (length xs)) (front_checks xs (header_of xs)) (front_checks (xs ++ ys) (header_of (xs ++ ys)))
+front_alike xs ys =
+    let len = length xs in
+    let zs = xs ++ ys in
+    each_append (Alike len) (magic_checks xs ++ sign_checks xs BadHeader 2 5) (magic_checks zs ++ sign_checks zs BadHeader 2 5) (size_checks (header_of xs)) (size_checks (header_of zs))
+    (each_append (Alike len) (magic_checks xs) (magic_checks zs) (sign_checks xs BadHeader 2 5) (sign_checks zs BadHeader 2 5)
+    (magic_alike xs ys, tt)
+    (each_item (Alike len) (sign_check xs BadHeader) (sign_check zs BadHeader) 2 2 5 (λ i lt. by_word xs ys is_not_negative BadHeader (2 + 2 * i))))
+    (by_header xs ys size_check (λ h. refl), (by_header xs ys named_check (λ h. refl), tt))
+
+table_same : (xs ys : List ℕ) (h : Header) → end_of h ≤ length xs → table_of xs h ≡ table_of (xs ++ ys) h
+table_same xs ys h le =
+    let d : drop (table_from h) (xs ++ ys) ≡ drop (table_from h) xs ++ ys = drop-append-le (table_from h) xs ys (omega arith) in
+    let n : h.table ≤ length (drop (table_from h) xs) = omega (arith, length-drop (table_from h) xs) in
+    sym (ap (take h.table) d ∙ take-append-le h.table (drop (table_from h) xs) ys n)
+
+ending_alike : (xs ys : List ℕ) (h : Header) (i : ℕ) → i < h.texts → Alike (length xs) (ending_check xs (table_of xs h) (end_of h) (offsets_from h + 2 * i)) (ending_check (xs ++ ys) (table_of (xs ++ ys) h) (end_of h) (offsets_from h + 2 * i))
+ending_alike xs ys h i lt = record {
+  same_front = refl;
+  same = λ le.
+      (let p = offsets_from h + 2 * i in
+      let u = unsigned_same xs ys p (omega arith) in
+      ap (λ t. ending_check xs t (end_of h) p) (table_same xs ys h le) ∙ ap (λ k. check (end_of h) (is_ended (table_of (xs ++ ys) h) (signed 2 k)) Unterminated p) u);
+}
+
+pub section_alike : (xs ys : List ℕ) (h : Header) → number_size h.width ≡ 2 → Each (Alike (length xs)) (section_checks xs h) (section_checks (xs ++ ys) h)
+section_alike xs ys h two =
+    let len = length xs in
+    let zs = xs ++ ys in
+    let R = Alike len in
+    let names : Each R (name_checks xs h.names) (name_checks zs h.names) =
+    each_append R (map (name_check xs) (places 12 1 (h.names - 1))) (map (name_check zs) (places 12 1 (h.names - 1))) (nul_check xs BadNames (11 + h.names) ∷ []) (nul_check zs BadNames (11 + h.names) ∷ [])
+    (each_item R (name_check xs) (name_check zs) 12 1 (h.names - 1) (λ i lt. by_byte xs ys (λ b. not (is_nul b)) BadNames (12 + 1 * i)))
+    (by_byte xs ys is_nul BadNames (11 + h.names), tt) in
+    let flags = each_item R (flag_check xs) (flag_check zs) (flags_from h) 1 h.flags (λ i lt. by_byte xs ys (λ b. is_some (flag_of_byte b)) BadFlag (flags_from h + 1 * i)) in
+    let pads = each_item R (nul_check xs BadPad) (nul_check zs BadPad) (pad_from h) 1 (pad_len (h.names + h.flags)) (λ i lt. by_byte xs ys is_nul BadPad (pad_from h + 1 * i)) in
+    let numbers_two = each_item R (number_check xs 2) (number_check zs 2) (numbers_from h) 2 h.numbers (λ i lt. by_word xs ys is_number_word BadNumber (numbers_from h + 2 * i)) in
+    let numbers : Each R (number_checks xs (number_size h.width) (numbers_from h) h.numbers) (number_checks zs (number_size h.width) (numbers_from h) h.numbers) = rw two numbers_two in
+    let offsets = each_item R (offset_check xs h.table) (offset_check zs h.table) (offsets_from h) 2 h.texts (λ i lt. by_word xs ys (is_offset_below h.table) BadOffset (offsets_from h + 2 * i)) in
+    let endings : Each R (ending_checks xs (table_of xs h) (end_of h) (offsets_from h) h.texts) (ending_checks zs (table_of zs h) (end_of h) (offsets_from h) h.texts) =
+    (record { same_front = refl; same = λ le. refl }, each_item R (ending_check xs (table_of xs h) (end_of h)) (ending_check zs (table_of zs h) (end_of h)) (offsets_from h) 2 h.texts (λ i lt. ending_alike xs ys h i lt)) in
+    let an = name_checks xs h.names in
+    let bn = name_checks zs h.names in
+    let af = flag_checks xs (flags_from h) h.flags in
+    let bf = flag_checks zs (flags_from h) h.flags in
+    let apd = pad_checks xs (pad_from h) (h.names + h.flags) in
+    let bpd = pad_checks zs (pad_from h) (h.names + h.flags) in
+    let am = number_checks xs (number_size h.width) (numbers_from h) h.numbers in
+    let bm = number_checks zs (number_size h.width) (numbers_from h) h.numbers in
+    let ao = offset_checks xs h.table (offsets_from h) h.texts in
+    let bo = offset_checks zs h.table (offsets_from h) h.texts in
+    let ae = ending_checks xs (table_of xs h) (end_of h) (offsets_from h) h.texts in
+    let be = ending_checks zs (table_of zs h) (end_of h) (offsets_from h) h.texts in
+    each_append R ((((an ++ af) ++ apd) ++ am) ++ ao) ((((bn ++ bf) ++ bpd) ++ bm) ++ bo) ae be
+    (each_append R (((an ++ af) ++ apd) ++ am) (((bn ++ bf) ++ bpd) ++ bm) ao bo
+    (each_append R ((an ++ af) ++ apd) ((bn ++ bf) ++ bpd) am bm
+    (each_append R (an ++ af) (bn ++ bf) apd bpd (each_append R an bn af bf names flags) pads) numbers) offsets) endings
+
+-- ---- three lists, one after the other
+
+early_fails : (r : Refused) → EndsEarly ≡ Fails r → ⊥
+early_fails r e = cc
+
+kept_early : (v w : Verdict) → (v ≡ EndsEarly) ⊎ (v ≡ w) → (v ≡ EndsEarly → ⊥) → w ≡ v
+kept_early v w (inl e) other = absurd (other e)
+kept_early v w (inr e) other = sym e
+
+three : (vF vS vE wF wS wE : Verdict) (r : Refused) → then (then vF vS) vE ≡ Fails r → (vF ≡ EndsEarly) ⊎ (vF ≡ wF) → (vF ≡ Passes → (vS ≡ EndsEarly) ⊎ (vS ≡ wS)) → (vF ≡ Passes → vE ≡ Fails r → wE ≡ Fails r) → then (then wF wS) wE ≡ Fails r
+three Passes Passes vE wF wS wE r h f s e =
+    let a : wF ≡ Passes = kept_early Passes wF f (λ x. cc) in
+    let b : wS ≡ Passes = kept_early Passes wS (s refl) (λ x. cc) in
+    rw (a, b) (e refl h)
+three Passes EndsEarly vE wF wS wE r h f s e = absurd (early_fails r h)
+three Passes (Fails q) vE wF wS wE r h f s e =
+    let a : wF ≡ Passes = kept_early Passes wF f (λ x. cc) in
+    let b : wS ≡ Fails q = kept_early (Fails q) wS (s refl) (λ x. cc) in
+    rw (a, b) h
+three EndsEarly vS vE wF wS wE r h f s e = absurd (early_fails r h)
+three (Fails q) vS vE wF wS wE r h f s e =
+    let a : wF ≡ Fails q = kept_early (Fails q) wF f (λ x. cc) in
+    rw a h
+
+-- behind the end more bytes are still too many
+end_fails : (len more end : ℕ) (bytes longer : List ℕ) (r : Refused) → length bytes ≡ len → length longer ≡ len + more → verdict len (end_check bytes end ∷ []) ≡ Fails r → verdict (len + more) (end_check longer end ∷ []) ≡ Fails r
+end_fails len more end bytes longer r el em h =
+    elim (cases_lt len end) [
+      | inl lt ↦ absurd (early_fails r (sym (let e : verdict len (end_check bytes end ∷ []) ≡ EndsEarly = rw (lt-ltb len end lt) refl in e) ∙ h))
+      | inr le ↦ behind (leb (length bytes) end) refl le
+    ]
+  where
+    behind : (b : Bool) → leb (length bytes) end ≡ b → end ≤ len → verdict (len + more) (end_check longer end ∷ []) ≡ Fails r
+    behind true e le = absurd (passes_fails (sym (let k : verdict len (end_check bytes end ∷ []) ≡ Passes = rw (le-ltb len end le, e) refl in k) ∙ h))
+      where
+        passes_fails : Passes ≡ Fails r → ⊥
+        passes_fails e = cc
+    behind false e le =
+        let above : end < length bytes = omega (arith, leb-false (length bytes) end e) in
+        let longer_above : leb (length longer) end ≡ false = lt-leb (length longer) end (omega arith) in
+        let long : ltb (len + more) end ≡ false = le-ltb (len + more) end (omega arith) in
+        let was : verdict len (end_check bytes end ∷ []) ≡ Fails (refused Trailing end) = rw (le-ltb len end le, e) refl in
+        let now : verdict (len + more) (end_check longer end ∷ []) ≡ Fails (refused Trailing end) = rw (long, longer_above) refl in
+        now ∙ sym was ∙ h
+
+pub failure_stays : (xs ys : List ℕ) (r : Refused) → verdict (length xs) (plain_checks xs) ≡ Fails r → verdict (length (xs ++ ys)) (plain_checks (xs ++ ys)) ≡ Fails r
+failure_stays xs ys r h =
+    let len = length xs in
+    let zs = xs ++ ys in
+    let hx = header_of xs in
+    let hz = header_of zs in
+    let n : length zs ≡ len + length ys = length-append xs ys in
+    let split : (bytes : List ℕ) (k : ℕ) → verdict k (plain_checks bytes) ≡ then (then (verdict k (front_checks bytes (header_of bytes))) (verdict k (section_checks bytes (header_of bytes)))) (verdict k (end_checks bytes (end_of (header_of bytes)))) =
+    λ bytes k. verdict_append k (front_checks bytes (header_of bytes) ++ section_checks bytes (header_of bytes)) (end_checks bytes (end_of (header_of bytes))) ∙ ap (λ v. then v (verdict k (end_checks bytes (end_of (header_of bytes))))) (verdict_append k (front_checks bytes (header_of bytes)) (section_checks bytes (header_of bytes))) in
+    let same : verdict len (front_checks xs hx) ≡ Passes → hx ≡ hz = λ p.
+    (let a = both_pass len (magic_checks xs ++ sign_checks xs BadHeader 2 5) (size_checks hx) (sym p) in
+    let b = first_passes len (size_check hx) (named_check hx ∷ []) a.1 in header_same xs ys b.long) in
+    let sections : verdict len (front_checks xs hx) ≡ Passes → (verdict len (section_checks xs hx) ≡ EndsEarly) ⊎ (verdict len (section_checks xs hx) ≡ verdict (len + length ys) (section_checks zs hz)) = λ p.
+    subst (λ k. (verdict len (section_checks xs hx) ≡ EndsEarly) ⊎ (verdict len (section_checks xs hx) ≡ verdict (len + length ys) (section_checks zs k))) (same p)
+    (stays len (length ys) (section_checks xs hx) (section_checks zs hx) (section_alike xs ys hx refl)) in
+    let last : verdict len (front_checks xs hx) ≡ Passes → verdict len (end_checks xs (end_of hx)) ≡ Fails r → verdict (len + length ys) (end_checks zs (end_of hz)) ≡ Fails r = λ p f.
+    subst (λ k. verdict (len + length ys) (end_checks zs (end_of k)) ≡ Fails r) (same p) (end_fails len (length ys) (end_of hx) xs zs r refl n f) in
+    ap (λ k. verdict k (plain_checks zs)) n ∙ split zs (len + length ys)
+    ∙ three (verdict len (front_checks xs hx)) (verdict len (section_checks xs hx)) (verdict len (end_checks xs (end_of hx))) (verdict (len + length ys) (front_checks zs hz)) (verdict (len + length ys) (section_checks zs hz)) (verdict (len + length ys) (end_checks zs (end_of hz))) r
+    (sym (split xs len) ∙ h) (stays len (length ys) (front_checks xs hx) (front_checks zs hz) (front_alike xs ys)) sections last

@@ -1,0 +1,59 @@
+-- What a source lost and a reader was fed.
+use Rattle.std.proofs.Common.{◌≡◌, ℕ, List, [], ◌++◌, take, refl, sym, ap, subst, ◌∙◌, append_assoc, append-nil}
+use Rattle.std.specs.Prelude.{Option, Some, None, Err}
+use Rattle.std.specs.Io.KnownBytes.{Consumes, Keeps}
+use Rattle.std.proofs.KnownBytes.{Consumes-trans, Consumes-nil, Consumes-kept}
+use Rattle.ti_entry.specs.declared.fault.Refused.{Refused}
+use Rattle.ti_entry.specs.Layout.{header_of}
+use Rattle.ti_entry.specs.Content.{plain_content}
+use Rattle.ti_entry.specs.Reading.{Reading, new_reading, failed_on, met, fed, answer_under, answer_for, FeedsFrom}
+use Rattle.ti_entry.proofs.Feeding.{met-passed, met-none, fed-none, failed-refuses}
+
+pub FeedsFrom-nil : (a : Option (List ℕ)) (r : Reading) → r.refusal ≡ None → failed_on r.kept ≡ None → FeedsFrom a a r r
+FeedsFrom-nil a r none passes =
+    let e : met r.kept ≡ record { kept = r.kept; refusal = None } = met-passed r.kept passes in
+    let back : ◌≡◌ {A = Reading} (record { kept = r.kept; refusal = None }) r = ap (λ (x : Option Refused). let s : Reading = record { kept = r.kept; refusal = x } in s) (sym none) in
+    ([], Consumes-nil a, sym (fed-none r [] none ∙ ap met (append-nil r.kept) ∙ e ∙ back))
+
+-- after a refusal nothing is read
+pub FeedsFrom-refused : (a : Option (List ℕ)) (r : Reading) (refused : Refused) → r.refusal ≡ Some refused → FeedsFrom a a r r
+FeedsFrom-refused a r refused e = let same : fed r [] ≡ r = rw e refl in ([], Consumes-nil a, sym same)
+
+-- a read that gave no byte, and one that failed
+pub FeedsFrom-end : (a b c : Option (List ℕ)) (old mid : Reading) (n : ℕ) (buf : List ℕ) → n ≡ 0 → FeedsFrom a b old mid → Consumes b c (take n buf) → FeedsFrom a c old mid
+FeedsFrom-end a b c old mid n buf e before took =
+    let (bytes, taken, is_fed) = before in
+    let none : Consumes b c [] = subst (λ k. Consumes b c (take k buf)) e took in
+    (bytes, subst (Consumes a c) (append-nil bytes) (Consumes-trans a b c bytes [] taken none), is_fed)
+
+pub FeedsFrom-kept : (a b c : Option (List ℕ)) (old mid : Reading) → FeedsFrom a b old mid → Keeps b c → FeedsFrom a c old mid
+FeedsFrom-kept a b c old mid before same =
+    let (bytes, taken, is_fed) = before in (bytes, Consumes-kept a b c bytes taken same, is_fed)
+
+pub FeedsFrom-next : (a b c : Option (List ℕ)) (old mid new : Reading) (piece : List ℕ) → old.refusal ≡ None → mid.refusal ≡ None
+    → FeedsFrom a b old mid → Consumes b c piece → new ≡ fed mid piece → FeedsFrom a c old new
+FeedsFrom-next a b c old mid new piece first none before took e =
+    let (bytes, taken, is_fed) = before in
+    let m : mid ≡ met (old.kept ++ bytes) = is_fed ∙ fed-none old bytes first in
+    let kept : mid.kept ≡ old.kept ++ bytes = ap (λ r. r.kept) (m ∙ met-none (old.kept ++ bytes) (sym (ap (λ r. r.refusal) m) ∙ none)) in (
+      bytes ++ piece,
+      Consumes-trans a b c bytes piece taken took,
+      e ∙ fed-none mid piece none ∙ ap (λ k. met (k ++ piece)) kept ∙ ap met (append_assoc old.kept bytes piece) ∙ sym (fed-none old (bytes ++ piece) first),
+    )
+
+-- ---- for callers that read from a source with a new reader
+
+-- where no piece was refused, all that the source lost is kept
+pub FeedsFrom-whole : (a b : Option (List ℕ)) (new : Reading) → FeedsFrom a b new_reading new → new.refusal ≡ None → Consumes a b new.kept
+FeedsFrom-whole a b new h none =
+    let (bytes, taken, is_fed) = h in
+    let kept : new.kept ≡ bytes = ap (λ r. r.kept) (is_fed ∙ met-none bytes (sym (ap (λ r. r.refusal) is_fed) ∙ none)) in
+    subst (Consumes a b) (sym kept) taken
+
+-- where one was, all that the source lost is refused so
+pub FeedsFrom-refusal : (a b : Option (List ℕ)) (new : Reading) (r : Refused) → FeedsFrom a b new_reading new → new.refusal ≡ Some r
+    → (bytes : List ℕ) × Consumes a b bytes × (answer_for bytes ≡ Err r)
+FeedsFrom-refusal a b new r h some =
+    let (bytes, taken, is_fed) = h in
+    let failed : failed_on bytes ≡ Some r = sym (ap (λ r. r.refusal) is_fed) ∙ some in
+    (bytes, taken, ap (λ o. answer_under o (plain_content bytes (header_of bytes))) (failed-refuses bytes r failed))

@@ -1,0 +1,11 @@
+use Rattle.std.proofs.Common.{◌∙◌, length, sym, ap}
+use Rattle.ti_entry.specs.Value.{EntryValue}
+use Rattle.ti_entry.specs.Layout.{number_size, numbers_from}
+use Rattle.ti_entry.specs.Content.{number_at}
+use Rattle.ti_entry.proofs.Places.{length_places}
+use Rattle.ti_entry.proofs.entry.Entry.number_count.Goals as goal
+
+pub returns : goal.returns
+returns c =
+    let size = number_size c.self.inside.header.width in
+    sym (length_places (number_at size c.self.inside.bytes.now) (numbers_from c.self.inside.header) size c.self.inside.header.numbers) ∙ ap (λ (v : EntryValue). length v.numbers) c.self.view_is

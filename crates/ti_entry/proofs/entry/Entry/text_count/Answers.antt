@@ -1,0 +1,10 @@
+use Rattle.std.proofs.Common.{◌∙◌, length, sym, ap}
+use Rattle.ti_entry.specs.Value.{EntryValue}
+use Rattle.ti_entry.specs.Layout.{offsets_from}
+use Rattle.ti_entry.specs.Table.{table_of}
+use Rattle.ti_entry.specs.Content.{text_at}
+use Rattle.ti_entry.proofs.Places.{length_places}
+use Rattle.ti_entry.proofs.entry.Entry.text_count.Goals as goal
+
+pub returns : goal.returns
+returns c = sym (length_places (text_at (table_of c.self.inside.bytes.now c.self.inside.header) c.self.inside.bytes.now) (offsets_from c.self.inside.header) 2 c.self.inside.header.texts) ∙ ap (λ (v : EntryValue). length v.texts) c.self.view_is

@@ -1,0 +1,5 @@
+use Rattle.ti_entry.proofs.Feeding.{any_cutting}
+use Rattle.ti_entry.proofs.laws.any_cutting.Goals as goal
+
+pub returns : goal.returns
+returns c = any_cutting

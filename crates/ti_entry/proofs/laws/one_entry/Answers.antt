@@ -1,0 +1,5 @@
+use Rattle.ti_entry.proofs.AtMostOne.{at_most_one}
+use Rattle.ti_entry.proofs.laws.one_entry.Goals as goal
+
+pub returns : goal.returns
+returns c = at_most_one

@@ -1,0 +1,13 @@
+pub mod Value
+pub mod Word
+pub mod Layout
+pub mod Table
+pub mod Spelling
+pub mod Checks
+pub mod Reach
+pub mod Refusal
+pub mod Content
+pub mod Canonical
+pub mod Faults
+pub mod Reading
+pub mod Laws

@@ -1,0 +1,297 @@
+//! The checks of single items and of whole sections, in the order of their bytes.
+//!
+//! Each function answers as the list of checks does that its clause names. Each section is gone over once; whether its
+//! texts have their NULs is decided for all of them from one look for the last NUL of the table.
+
+ghost use Rattle.std.specs.Prelude.{◌≡◌, ◌+◌, ◌*◌, ◌<◌, ◌≤◌, ◌^◌, ◌∷◌, [], length, map, take, drop, OnOk};
+ghost use Rattle.ti_entry.specs.Layout.{places};
+ghost use Rattle.ti_entry.specs.Checks.{verdict, verdict_of, sign_check, name_check, nul_check, flag_check, number_check, offset_check, name_checks, flag_checks, pad_checks, number_checks, offset_checks, ending_checks, end_checks, sign_checks, is_offset_below as the_is_offset_below};
+ghost use Rattle.ti_entry.specs.Reach.{IsReach, reach_check, is_before as the_is_before};
+
+use crate::fault::{Fault, Refused, Stop};
+use crate::word::word_at;
+use ti_words::flag_of;
+
+/// Whether an offset is a mark, or a place below the size of the table.
+fn is_offset_below(size: usize, offset: i16) -> bool
+    ensures { result ≡ the_is_offset_below size offset }
+{
+    if offset < 0 {
+        offset >= -2
+    } else {
+        (offset as usize) < size
+    }
+}
+
+/// Whether an offset is a mark, or a place before the reach of the table.
+fn is_before(reach: usize, offset: i16) -> bool
+    ensures { result ≡ the_is_before reach offset }
+{
+    offset < 0 || (offset as usize) < reach
+}
+
+/// The place behind the last NUL of a table: the texts that begin before it end in the table.
+fn reach_of(table: &[u8]) -> usize
+    ensures { IsReach table.now result }
+{
+    let mut reach = table.len();
+    'back: while reach > 0 {
+        if table[reach - 1] == 0 {
+            return reach;
+        }
+        reach -= 1;
+    }
+    0
+}
+
+/// The word at a place is not negative.
+fn check_sign(bytes: &[u8], fault: Fault, place: usize) -> Result<(), Stop>
+    requires { place < 2 ^ 33 }
+    ensures { verdict_of result ≡ verdict (length bytes.now) (sign_check bytes.now fault place ∷ []) }
+{
+    if bytes.len() < place + 2 {
+        return Err(Stop::Early);
+    }
+    if word_at(bytes, place) < 0 {
+        return Err(Stop::Failed(Refused { fault, place }));
+    }
+    Ok(())
+}
+
+/// No NUL stands at a place.
+fn check_name(bytes: &[u8], place: usize) -> Result<(), Stop>
+    requires { place < 2 ^ 33 }
+    ensures { verdict_of result ≡ verdict (length bytes.now) (name_check bytes.now place ∷ []) }
+{
+    if bytes.len() < place + 1 {
+        return Err(Stop::Early);
+    }
+    if bytes[place] == 0 {
+        return Err(Stop::Failed(Refused {
+            fault: Fault::BadNames,
+            place,
+        }));
+    }
+    Ok(())
+}
+
+/// A NUL stands at a place.
+fn check_nul(bytes: &[u8], fault: Fault, place: usize) -> Result<(), Stop>
+    requires { place < 2 ^ 33 }
+    ensures { verdict_of result ≡ verdict (length bytes.now) (nul_check bytes.now fault place ∷ []) }
+{
+    if bytes.len() < place + 1 {
+        return Err(Stop::Early);
+    }
+    if bytes[place] != 0 {
+        return Err(Stop::Failed(Refused { fault, place }));
+    }
+    Ok(())
+}
+
+/// The byte at a place is a flag.
+fn check_flag(bytes: &[u8], place: usize) -> Result<(), Stop>
+    requires { place < 2 ^ 33 }
+    ensures { verdict_of result ≡ verdict (length bytes.now) (flag_check bytes.now place ∷ []) }
+{
+    if bytes.len() < place + 1 {
+        return Err(Stop::Early);
+    }
+    if flag_of(bytes[place]).is_none() {
+        return Err(Stop::Failed(Refused {
+            fault: Fault::BadFlag,
+            place,
+        }));
+    }
+    Ok(())
+}
+
+/// The number at a place is at least -2.
+fn check_number(bytes: &[u8], place: usize) -> Result<(), Stop>
+    requires { place < 2 ^ 33 }
+    ensures { verdict_of result ≡ verdict (length bytes.now) (number_check bytes.now 2 place ∷ []) }
+{
+    if bytes.len() < place + 2 {
+        return Err(Stop::Early);
+    }
+    if word_at(bytes, place) < -2 {
+        return Err(Stop::Failed(Refused {
+            fault: Fault::BadNumber,
+            place,
+        }));
+    }
+    Ok(())
+}
+
+/// The offset at a place is a mark, or a place of the table.
+fn check_offset(bytes: &[u8], table_size: usize, place: usize) -> Result<(), Stop>
+    requires { place < 2 ^ 33 }
+    ensures { verdict_of result ≡ verdict (length bytes.now) (offset_check bytes.now table_size place ∷ []) }
+{
+    if bytes.len() < place + 2 {
+        return Err(Stop::Early);
+    }
+    let offset = word_at(bytes, place);
+    if !is_offset_below(table_size, offset) {
+        return Err(Stop::Failed(Refused {
+            fault: Fault::BadOffset,
+            place,
+        }));
+    }
+    Ok(())
+}
+
+/// The text whose offset stands at a place begins before the reach of the table.
+fn check_ending(bytes: &[u8], reach: usize, end: usize, place: usize) -> Result<(), Stop>
+    requires { place + 2 ≤ end }
+    ensures { verdict_of result ≡ verdict (length bytes.now) (reach_check bytes.now reach end place ∷ []) }
+{
+    if bytes.len() < end {
+        return Err(Stop::Early);
+    }
+    if !is_before(reach, word_at(bytes, place)) {
+        return Err(Stop::Failed(Refused {
+            fault: Fault::Unterminated,
+            place,
+        }));
+    }
+    Ok(())
+}
+
+/// No word of a section is negative.
+pub(crate) fn check_signs(bytes: &[u8], fault: Fault, from: usize, count: usize) -> Result<(), Stop>
+    requires { from + 2 * count < 2 ^ 32 }
+    ensures { verdict_of result ≡ verdict (length bytes.now) (sign_checks bytes.now fault from count) }
+{
+    for i in 0..count {
+        check_sign(bytes, fault, from + 2 * i)?;
+    }
+    Ok(())
+}
+
+/// No NUL stands in a section.
+fn check_no_nuls(bytes: &[u8], from: usize, count: usize) -> Result<(), Stop>
+    requires { from + count < 2 ^ 32 }
+    ensures { verdict_of result ≡ verdict (length bytes.now) (map (name_check bytes.now) (places from 1 count)) }
+{
+    for i in 0..count {
+        check_name(bytes, from + i)?;
+    }
+    Ok(())
+}
+
+/// The names have their size, with no NUL but at their end.
+#[tactic(auto, using(crate::proofs::Sections::verdict_append))]
+pub(crate) fn check_names(bytes: &[u8], size: usize) -> Result<(), Stop>
+    requires some { 0 < size }
+    requires fits { size < 2 ^ 31 }
+    ensures { verdict_of result ≡ verdict (length bytes.now) (name_checks bytes.now size) }
+{
+    check_no_nuls(bytes, 12, size - 1)?;
+    check_nul(bytes, Fault::BadNames, 11 + size)
+}
+
+/// Each byte of a section is a flag.
+pub(crate) fn check_flags(bytes: &[u8], from: usize, count: usize) -> Result<(), Stop>
+    requires { from + count < 2 ^ 32 }
+    ensures { verdict_of result ≡ verdict (length bytes.now) (flag_checks bytes.now from count) }
+{
+    for i in 0..count {
+        check_flag(bytes, from + i)?;
+    }
+    Ok(())
+}
+
+/// The byte after an odd count is 0.
+pub(crate) fn check_pad(bytes: &[u8], from: usize, count: usize) -> Result<(), Stop>
+    requires { from < 2 ^ 32 }
+    ensures { verdict_of result ≡ verdict (length bytes.now) (pad_checks bytes.now from count) }
+{
+    if count % 2 == 0 {
+        return Ok(());
+    }
+    check_nul(bytes, Fault::BadPad, from)
+}
+
+/// Each number is at least -2.
+pub(crate) fn check_numbers(bytes: &[u8], from: usize, count: usize) -> Result<(), Stop>
+    requires { from + 2 * count < 2 ^ 32 }
+    ensures { verdict_of result ≡ verdict (length bytes.now) (number_checks bytes.now 2 from count) }
+{
+    for i in 0..count {
+        check_number(bytes, from + 2 * i)?;
+    }
+    Ok(())
+}
+
+/// Each offset is a mark, or a place of the table.
+pub(crate) fn check_offsets(
+    bytes: &[u8],
+    table_size: usize,
+    from: usize,
+    count: usize,
+) -> Result<(), Stop>
+    requires { from + 2 * count < 2 ^ 32 }
+    ensures { verdict_of result ≡ verdict (length bytes.now) (offset_checks bytes.now table_size from count) }
+{
+    for i in 0..count {
+        check_offset(bytes, table_size, from + 2 * i)?;
+    }
+    Ok(())
+}
+
+/// The table is there, and each text that is there has a NUL in it.
+pub(crate) fn check_endings(
+    bytes: &[u8],
+    table_from: usize,
+    table_size: usize,
+    from: usize,
+    count: usize,
+) -> Result<(), Stop>
+    requires before { from + 2 * count ≤ table_from }
+    requires fits { table_from + table_size < 2 ^ 32 }
+    ensures { let table = take table_size (drop table_from bytes.now) in
+        verdict_of result ≡ verdict (length bytes.now) (ending_checks bytes.now table (table_from + table_size) from count) }
+{
+    let end = table_from + table_size;
+    if bytes.len() < end {
+        return Err(Stop::Early);
+    }
+    let reach = reach_of(&bytes[table_from..end]);
+    check_each_ending(bytes, reach, end, from, count)
+}
+
+/// Each text that is there begins before the reach of the table.
+fn check_each_ending(
+    bytes: &[u8],
+    reach: usize,
+    end: usize,
+    from: usize,
+    count: usize,
+) -> Result<(), Stop>
+    requires before { from + 2 * count ≤ end }
+    requires fits { end < 2 ^ 32 }
+    ensures { verdict_of result ≡ verdict (length bytes.now) (map (reach_check bytes.now reach end) (places from 2 count)) }
+{
+    for i in 0..count {
+        check_ending(bytes, reach, end, from + 2 * i)?;
+    }
+    Ok(())
+}
+
+/// Nothing stands behind the end.
+pub(crate) fn check_end(bytes: &[u8], end: usize) -> Result<(), Stop>
+    ensures verdict { verdict_of result ≡ verdict (length bytes.now) (end_checks bytes.now end) }
+    ensures there { OnOk result (end ≤ length bytes.now) }
+{
+    if bytes.len() < end {
+        return Err(Stop::Early);
+    }
+    if bytes.len() > end {
+        return Err(Stop::Failed(Refused {
+            fault: Fault::Trailing,
+            place: end,
+        }));
+    }
+    Ok(())
+}

@@ -1,0 +1,185 @@
+//! The header of an entry, and where its sections lie.
+//!
+//! A place is a sum of the header's words, so it takes a few additions.
+
+ghost use Rattle.std.specs.Prelude.{◌≡◌, ◌<◌, ◌≤◌, ◌^◌, ◌++◌, length, IfOk, OnOk};
+ghost use Rattle.ti_entry.specs.Checks.{verdict, verdict_of, sign_checks};
+ghost use Rattle.ti_entry.specs.Refusal.{front_checks, section_checks, magic_checks, size_checks};
+ghost use Rattle.ti_entry.specs.Layout.{header_of, end_of, flags_from as the_flags_from, pad_from as the_pad_from, numbers_from as the_numbers_from, offsets_from as the_offsets_from, table_from as the_table_from};
+
+use crate::checks::{
+    check_endings, check_flags, check_names, check_numbers, check_offsets, check_pad, check_signs,
+};
+use crate::fault::{Fault, Refused, Stop};
+use crate::word::count_at;
+use ti_words::Width;
+
+/// The most bytes of an entry.
+pub(crate) const LIMIT: usize = 32768;
+
+/// The words of the header.
+#[derive(Clone, Copy, Debug, PartialEq, Eq)]
+pub(crate) struct Header {
+    pub(crate) width: Width,
+    /// The size of the names with their NUL.
+    pub(crate) names: usize,
+    /// The counts of flags, numbers and texts.
+    pub(crate) flags: usize,
+    pub(crate) numbers: usize,
+    pub(crate) texts: usize,
+    /// The size of the string table.
+    pub(crate) table: usize,
+}
+
+impl Header {
+    /// Where the flags begin, behind the names.
+    pub(crate) fn flags_from(&self) -> usize
+        requires { end_of self.now < 2 ^ 32 }
+        ensures { result ≡ the_flags_from self.now }
+    {
+        12 + self.names
+    }
+
+    /// Where the pad stands, behind the flags, if there is one.
+    pub(crate) fn pad_from(&self) -> usize
+        requires { end_of self.now < 2 ^ 32 }
+        ensures { result ≡ the_pad_from self.now }
+    {
+        self.flags_from() + self.flags
+    }
+
+    /// Where the numbers begin.
+    pub(crate) fn numbers_from(&self) -> usize
+        requires { end_of self.now < 2 ^ 32 }
+        ensures { result ≡ the_numbers_from self.now }
+    {
+        self.pad_from() + (self.names + self.flags) % 2
+    }
+
+    /// Where the offsets of the texts begin.
+    pub(crate) fn offsets_from(&self) -> usize
+        requires { end_of self.now < 2 ^ 32 }
+        ensures { result ≡ the_offsets_from self.now }
+    {
+        match self.width {
+            Width::Legacy => self.numbers_from() + 2 * self.numbers,
+        }
+    }
+
+    /// Where the string table begins.
+    pub(crate) fn table_from(&self) -> usize
+        requires { end_of self.now < 2 ^ 32 }
+        ensures { result ≡ the_table_from self.now }
+    {
+        self.offsets_from() + 2 * self.texts
+    }
+
+    /// Where the string table ends.
+    pub(crate) fn end(&self) -> usize
+        requires { end_of self.now < 2 ^ 32 }
+        ensures { result ≡ end_of self.now }
+    {
+        self.table_from() + self.table
+    }
+}
+
+/// The header of bytes that have one.
+fn header_words(bytes: &[u8]) -> Header
+    requires { 12 ≤ length bytes.now }
+    ensures words { result ≡ header_of bytes.now }
+    ensures fits { end_of result < 2 ^ 32 }
+{
+    Header {
+        width: Width::Legacy,
+        names: count_at(bytes, 2),
+        flags: count_at(bytes, 4),
+        numbers: count_at(bytes, 6),
+        texts: count_at(bytes, 8),
+        table: count_at(bytes, 10),
+    }
+}
+
+/// The first two bytes are the magic.
+fn check_magic(bytes: &[u8]) -> Result<(), Stop>
+    ensures { verdict_of result ≡ verdict (length bytes.now) (magic_checks bytes.now) }
+{
+    if bytes.len() < 2 {
+        return Err(Stop::Early);
+    }
+    if bytes[0] != 0x1a || bytes[1] != 0x01 {
+        return Err(Stop::Failed(Refused {
+            fault: Fault::BadMagic,
+            place: 0,
+        }));
+    }
+    Ok(())
+}
+
+/// Magic, counts and sizes.
+fn check_words(bytes: &[u8]) -> Result<(), Stop>
+    ensures verdict { verdict_of result ≡ verdict (length bytes.now) (magic_checks bytes.now ++ sign_checks bytes.now Fault.BadHeader 2 5) }
+    ensures long { OnOk result (12 ≤ length bytes.now) }
+{
+    check_magic(bytes)?;
+    check_signs(bytes, Fault::BadHeader, 2, 5)
+}
+
+/// The whole has at most 32768 bytes, and the names have one byte beside their NUL.
+fn check_sizes(len: usize, header: &Header) -> Result<(), Stop>
+    requires { end_of header.now < 2 ^ 32 }
+    ensures verdict { verdict_of result ≡ verdict len (size_checks header.now) }
+    ensures named { OnOk result (2 ≤ header.now.names) }
+    ensures fits { OnOk result (end_of header.now ≤ 32768) }
+{
+    if len < 12 {
+        return Err(Stop::Early);
+    }
+    if header.end() > LIMIT {
+        return Err(Stop::Failed(Refused {
+            fault: Fault::HeaderTooBig,
+            place: 0,
+        }));
+    }
+    if header.names < 2 {
+        return Err(Stop::Failed(Refused {
+            fault: Fault::BadNames,
+            place: 12,
+        }));
+    }
+    Ok(())
+}
+
+/// The header, where the checks that fix the sections pass.
+#[tactic(auto, using(crate::proofs::Sections::verdict_append))]
+pub(crate) fn read_header(bytes: &[u8]) -> Result<Header, Stop>
+    ensures verdict { verdict_of result ≡ verdict (length bytes.now) (front_checks bytes.now (header_of bytes.now)) }
+    ensures words { IfOk result (λ h. h ≡ header_of bytes.now) }
+    ensures named { IfOk result (λ h. 2 ≤ h.names) }
+    ensures fits { IfOk result (λ h. end_of h ≤ 32768) }
+{
+    check_words(bytes)?;
+    let header = header_words(bytes);
+    check_sizes(bytes.len(), &header)?;
+    Ok(header)
+}
+
+/// The checks of names, flags, numbers, offsets and texts.
+#[tactic(auto, using(crate::proofs::Sections::verdict_append))]
+pub(crate) fn check_sections(bytes: &[u8], header: &Header) -> Result<(), Stop>
+    requires named { 2 ≤ header.now.names }
+    requires fits { end_of header.now ≤ 32768 }
+    ensures { verdict_of result ≡ verdict (length bytes.now) (section_checks bytes.now header.now) }
+{
+    check_names(bytes, header.names)?;
+    check_flags(bytes, header.flags_from(), header.flags)?;
+    check_pad(bytes, header.pad_from(), header.names + header.flags)?;
+    check_numbers(bytes, header.numbers_from(), header.numbers)?;
+    check_offsets(bytes, header.table, header.offsets_from(), header.texts)?;
+    check_endings(
+        bytes,
+        header.table_from(),
+        header.table,
+        header.offsets_from(),
+        header.texts,
+    )
+}

@@ -1,0 +1,70 @@
+//! Reading an entry from a source of bytes to its end.
+//!
+//! Pieces of up to 512 bytes are read into a buffer on the stack and fed. The reads that bring a byte are at most 32769,
+//! and at most 1000 interrupted reads of a call are tried again.
+
+ghost use Rattle.std.specs.Prelude.{◌≡◌, ◌≢◌, None, OnOk, IfErr};
+ghost use Rattle.std.specs.Io.KnownBytes.{IsAtEnd};
+ghost use Rattle.ti_entry.specs.Reading.{FeedsFrom, refusal_behind};
+
+use crate::fault::Refused;
+use crate::reader::EntryReader;
+use std::io::{ErrorKind, Read};
+use thiserror::Error;
+
+/// Why reading from a source stopped before its end.
+#[derive(Clone, Copy, Debug, PartialEq, Eq, Error)]
+pub enum ReadStop {
+    /// The bytes that came are refused.
+    #[error("{0}")]
+    Refused(Refused),
+    /// A read failed, or was interrupted too often.
+    #[error("Io")]
+    Io,
+}
+
+/// The most interrupted reads of one call that are tried again.
+const MOST_INTERRUPTIONS: u32 = 1000;
+
+/// The most bytes of one read.
+const PIECE: usize = 512;
+
+/// Reads to the end of the source, and feeds what comes.
+///
+/// # Errors
+///
+/// `Refused` where a `feed` refuses; where one has refused before, nothing is read. `Io` where a read fails, or the
+/// 1001st is interrupted; the bytes that came before are kept.
+pub fn read_from<R: Read>(reader: &mut EntryReader, source: &mut R) -> Result<(), ReadStop>
+    // All that the source lost was fed, in order, whatever is answered.
+    ensures fed { FeedsFrom (R.remaining source.old) (R.remaining source.new) reader.old reader.new }
+    // Ok leaves nothing unread, and no refusal.
+    ensures end { OnOk result (IsAtEnd (R.remaining source.new)) }
+    ensures accepted { OnOk result (reader.new.refusal ≡ None) }
+    // Refused answers the refusal that the reader then holds; after Io it holds none.
+    ensures refused { IfErr result (λ stop. reader.new.refusal ≡ refusal_behind stop) }
+    // After an earlier refusal nothing is read.
+    ensures again { reader.old.refusal ≢ None → source.new ≡ source.old }
+{
+    if let Some(refused) = reader.refusal() {
+        return Err(ReadStop::Refused(refused));
+    }
+    let mut piece = [0; PIECE];
+    let mut interruptions = 0;
+    'source: loop {
+        match source.read(&mut piece) {
+            Ok(0) => return Ok(()),
+            Ok(count) => {
+                if let Err(refused) = reader.feed(&piece[..count]) {
+                    return Err(ReadStop::Refused(refused));
+                }
+            }
+            Err(error) => {
+                if error.kind() != ErrorKind::Interrupted || interruptions == MOST_INTERRUPTIONS {
+                    return Err(ReadStop::Io);
+                }
+                interruptions += 1;
+            }
+        }
+    }
+}

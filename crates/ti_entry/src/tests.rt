@@ -1,0 +1,283 @@
+//! Bytes from outside: entries written by hand, with what they say and what a changed byte makes of them.
+
+use super::*;
+use std::io;
+use std::io::{ErrorKind, Read};
+use std::process::Abort;
+use std::test::Fail;
+use ti_words::{Flag, Number, Text, Width};
+
+/// Names `t`, flag 0 set, number 0 is 80, text 0 absent, text 1 is the byte 07.
+const SMALL: [u8; 24] = [
+    0x1a, 0x01, 0x02, 0x00, 0x01, 0x00, 0x01, 0x00, 0x02, 0x00, 0x02, 0x00, 0x74, 0x00, 0x01, 0x00,
+    0x50, 0x00, 0xff, 0xff, 0x00, 0x00, 0x07, 0x00,
+];
+
+/// Two texts that share their bytes.
+const SHARED: [u8; 20] = [
+    0x1a, 0x01, 0x02, 0x00, 0x00, 0x00, 0x00, 0x00, 0x02, 0x00, 0x02, 0x00, 0x74, 0x00, 0x00, 0x00,
+    0x00, 0x00, 0x07, 0x00,
+];
+
+/// A text of 18 bytes.
+const LONG: [u8; 41] = [
+    0x1a, 0x01, 0x02, 0x00, 0x01, 0x00, 0x01, 0x00, 0x02, 0x00, 0x13, 0x00, 0x74, 0x00, 0x01, 0x00,
+    0x50, 0x00, 0xff, 0xff, 0x00, 0x00, 0x1b, 0x5b, 0x3f, 0x25, 0x5b, 0x3b, 0x30, 0x31, 0x32, 0x33,
+    0x34, 0x35, 0x36, 0x37, 0x38, 0x39, 0x5d, 0x63, 0x00,
+];
+
+/// A string table of odd size, and a byte behind it.
+const ODD_AND_MORE: [u8; 26] = [
+    0x1a, 0x01, 0x02, 0x00, 0x01, 0x00, 0x01, 0x00, 0x02, 0x00, 0x03, 0x00, 0x74, 0x00, 0x01, 0x00,
+    0x50, 0x00, 0xff, 0xff, 0x00, 0x00, 0x07, 0x07, 0x00, 0x00,
+];
+
+/// Why the bytes are refused by `read`, which a reader that is fed them answers too.
+fn refusal(rt: &impl Abort, bytes: &[u8]) -> Option<Refused> {
+    let mut reader = EntryReader::new();
+    assert!(rt; reader.feed(bytes).is_ok());
+    assert_eq!(rt; reader.kept(), bytes.len());
+    let refused = read(bytes).err();
+    assert_eq!(rt; reader.finish().err(), refused);
+    refused
+}
+
+fn refused(fault: Fault, place: usize) -> Option<Refused> {
+    Some(Refused { fault, place })
+}
+
+/// The view of `SMALL`.
+fn assert_small(rt: &impl Abort, entry: &Entry<'_>) {
+    assert_eq!(rt; entry.width(), Width::Legacy);
+    assert!(rt; entry.names() == b"t".as_slice());
+    assert_eq!(rt; entry.flag_count(), 1);
+    assert_eq!(rt; entry.number_count(), 1);
+    assert_eq!(rt; entry.text_count(), 2);
+    assert_eq!(rt; entry.flag(0), Flag::Yes);
+    assert_eq!(rt; entry.flag(99), Flag::No);
+    assert_eq!(rt; entry.number(0), Number::Value(80));
+    assert_eq!(rt; entry.number(1), Number::Absent);
+    assert!(rt; entry.text(0) == Text::Absent);
+    assert!(rt; entry.text(1) == Text::Value(b"\x07".as_slice()));
+    assert!(rt; entry.text(2) == Text::Absent);
+}
+
+#[test]
+fn small(rt: HostRuntime) {
+    match read(&SMALL) {
+        Ok(entry) => assert_small(&rt, &entry),
+        Err(_) => assert!(rt; false),
+    }
+    for cut in 0..24 {
+        assert_eq!(rt; refusal(&rt, &SMALL[..cut]), refused(Fault::Truncated, cut));
+        let mut reader = EntryReader::new();
+        assert!(rt; reader.feed(&SMALL[..cut]).is_ok());
+        assert!(rt; reader.finish().is_err());
+        assert!(rt; reader.feed(&SMALL[cut..]).is_ok());
+        match reader.finish() {
+            Ok(entry) => assert_small(&rt, &entry),
+            Err(_) => assert!(rt; false),
+        }
+    }
+}
+
+#[test]
+fn byte_by_byte(rt: HostRuntime) {
+    let mut reader = EntryReader::new();
+    for i in 0..24 {
+        assert_eq!(rt; reader.finish().err(), refused(Fault::Truncated, i));
+        assert!(rt; reader.feed(&SMALL[i..i + 1]).is_ok());
+        assert_eq!(rt; reader.kept(), i + 1);
+    }
+    match reader.finish() {
+        Ok(entry) => assert_small(&rt, &entry),
+        Err(_) => assert!(rt; false),
+    }
+}
+
+#[test]
+fn changed_bytes(rt: HostRuntime) {
+    let rows: [(usize, &[u8], Option<Refused>); 13] = [
+        (0, &[0x1b], refused(Fault::BadMagic, 0)),
+        (0, &[0x1e, 0x02], refused(Fault::BadMagic, 0)),
+        (3, &[0x80], refused(Fault::BadHeader, 2)),
+        (
+            2,
+            &[0xff, 0x7f, 0xff, 0x7f, 0xff, 0x7f, 0xff, 0x7f, 0xff, 0x7f],
+            refused(Fault::HeaderTooBig, 0),
+        ),
+        (2, &[0x01], refused(Fault::BadNames, 12)),
+        (13, &[0x75], refused(Fault::BadNames, 13)),
+        (14, &[0x02], refused(Fault::BadFlag, 14)),
+        (14, &[0xfe], None),
+        (15, &[0x01], refused(Fault::BadPad, 15)),
+        (16, &[0xfd, 0xff], refused(Fault::BadNumber, 16)),
+        (16, &[0xfe, 0xff], None),
+        (20, &[0x02], refused(Fault::BadOffset, 20)),
+        (23, &[0x01], refused(Fault::Unterminated, 20)),
+    ];
+    for (from, bytes, want) in rows {
+        let mut changed = SMALL;
+        for (i, byte) in bytes.iter().enumerate() {
+            if let Some(old) = changed.get_mut(from.saturating_add(i)) {
+                *old = *byte;
+            }
+        }
+        assert_eq!(rt; refusal(&rt, &changed), want, "at {from}");
+    }
+}
+
+#[test]
+fn other_entries(rt: HostRuntime) {
+    match read(&SHARED) {
+        Ok(entry) => {
+            assert!(rt; entry.text(0) == Text::Value(b"\x07".as_slice()));
+            assert!(rt; entry.text(1) == Text::Value(b"\x07".as_slice()));
+        }
+        Err(_) => assert!(rt; false),
+    }
+    match read(&LONG) {
+        Ok(entry) => assert!(rt; entry.text(1) == Text::Value(b"\x1b[?%[;0123456789]c".as_slice())),
+        Err(_) => assert!(rt; false),
+    }
+    match read(&ODD_AND_MORE[..25]) {
+        Ok(entry) => assert!(rt; entry.text(1) == Text::Value(b"\x07\x07".as_slice())),
+        Err(_) => assert!(rt; false),
+    }
+    assert_eq!(rt; refusal(&rt, &ODD_AND_MORE), refused(Fault::Trailing, 25));
+}
+
+/// 16000 offsets of the one text of a table of 700 bytes.
+#[test]
+fn many_texts(rt: HostRuntime) -> Result<(), Fail> {
+    let mut bytes = [
+        0x1a, 0x01, 0x02, 0x00, 0x00, 0x00, 0x00, 0x00, 0x80, 0x3e, 0xbc, 0x02, 0x74, 0x00,
+    ]
+    .to_vec(rt.alloc())?;
+    bytes.resize(32014, 0)?;
+    bytes.resize(32713, b'a')?;
+    bytes.push(0)?;
+    let mut reader = EntryReader::new();
+    assert!(rt; reader.feed(bytes.as_slice()).is_ok());
+    assert_eq!(rt; reader.kept(), 32714);
+    match reader.finish() {
+        Ok(entry) => {
+            let first = entry.text(0);
+            assert_eq!(rt; entry.text_count(), 16000);
+            for i in 0..16000 {
+                assert!(rt; entry.text(i) == first);
+            }
+            match first {
+                Text::Value(text) => assert_eq!(rt; text.len(), 699),
+                _ => assert!(rt; false),
+            }
+        }
+        Err(_) => assert!(rt; false),
+    }
+    Ok(())
+}
+
+#[test]
+fn a_byte_too_many(rt: HostRuntime) -> Result<(), Fail> {
+    let mut bytes = SMALL.to_vec(rt.alloc())?;
+    bytes.resize(32769, 0)?;
+    let mut reader = EntryReader::new();
+    assert_eq!(rt;
+        reader.feed(bytes.as_slice()).err(),
+        refused(Fault::Trailing, 24)
+    );
+    assert_eq!(rt; reader.kept(), 32768);
+    assert_eq!(rt; reader.feed(&[]).err(), refused(Fault::Trailing, 24));
+    assert_eq!(rt; reader.finish().err(), refused(Fault::Trailing, 24));
+    Ok(())
+}
+
+/// Gives its bytes ten at a time, after some interruptions, and fails at one call.
+#[derive(Drop)]
+struct Source<'a> {
+    bytes: &'a [u8],
+    interruptions: u32,
+    calls: usize,
+    fails_at: usize,
+}
+
+impl Read for Source<'_> {
+    fn read(&mut self, buf: &mut [u8]) -> io::Result<usize> {
+        if self.interruptions > 0 {
+            self.interruptions -= 1;
+            return Err(io::Error::from(ErrorKind::Interrupted));
+        }
+        self.calls = self.calls.saturating_add(1);
+        if self.calls == self.fails_at {
+            return Err(io::Error::from(ErrorKind::ConnectionReset));
+        }
+        let count = self.bytes.len().min(buf.len()).min(10);
+        let (now, later) = self.bytes.split_at(count);
+        buf[..count].copy_from_slice(now);
+        self.bytes = later;
+        Ok(count)
+    }
+}
+
+#[test]
+fn sources(rt: HostRuntime) {
+    for (interruptions, fails_at, want, kept) in [
+        (0, 0, Ok(()), 24),
+        (1000, 0, Ok(()), 24),
+        (1001, 0, Err(ReadStop::Io), 0),
+        (0, 3, Err(ReadStop::Io), 20),
+    ] {
+        let mut source = Source {
+            bytes: &SMALL,
+            interruptions,
+            calls: 0,
+            fails_at,
+        };
+        let mut reader = EntryReader::new();
+        assert_eq!(rt;
+            read_from(&mut reader, &mut source),
+            want,
+            "after {interruptions}, failing at {fails_at}"
+        );
+        assert_eq!(rt; reader.kept(), kept);
+        // A later call goes on from there.
+        assert_eq!(rt; read_from(&mut reader, &mut source), Ok(()));
+        match reader.finish() {
+            Ok(entry) => assert_small(&rt, &entry),
+            Err(_) => assert!(rt; false),
+        }
+    }
+}
+
+#[test]
+fn messages(rt: HostRuntime) -> Result<(), Fail> {
+    for (fault, name) in [
+        (Fault::Truncated, "Truncated"),
+        (Fault::BadMagic, "BadMagic"),
+        (Fault::BadHeader, "BadHeader"),
+        (Fault::HeaderTooBig, "HeaderTooBig"),
+        (Fault::BadNames, "BadNames"),
+        (Fault::BadFlag, "BadFlag"),
+        (Fault::BadPad, "BadPad"),
+        (Fault::BadNumber, "BadNumber"),
+        (Fault::BadOffset, "BadOffset"),
+        (Fault::Unterminated, "Unterminated"),
+        (Fault::BadExtendedHeader, "BadExtendedHeader"),
+        (Fault::ExtendedTooBig, "ExtendedTooBig"),
+        (Fault::BadExtendedName, "BadExtendedName"),
+        (Fault::Trailing, "Trailing"),
+    ] {
+        let message = format!(in rt.alloc(); "{fault}")?;
+        assert!(rt; message.as_str() == name);
+        assert!(rt; fault.word() == name);
+    }
+    let message = format!(in rt.alloc();
+        "{}",
+        Refused {
+            fault: Fault::BadPad,
+            place: 15
+        }
+    )?;
+    assert!(rt; message.as_str() == "BadPad at 15");
+    Ok(())
+}

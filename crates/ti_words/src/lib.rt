@@ -1,0 +1,111 @@
+//! What the bytes and words of a compiled terminfo entry stand for (term(5)).
+//!
+//! A flag is one byte, a number is one word, a text is an offset or a mark. Each function here is exact both ways: a
+//! byte and its flag, a word and its number determine each other. Each takes a few instructions and no memory.
+#![tactic(auto)]
+
+ghost use Rattle.std.specs.Prelude.{◌≡◌, IfSome};
+ghost use Rattle.ti_words.specs.Marks.{byte_of_flag, flag_of_byte, word_of_number, number_of_word, HasWord};
+
+/// A flag of an entry (a boolean capability of terminfo(5)).
+#[derive(Clone, Copy, Debug, PartialEq, Eq)]
+pub enum Flag {
+    /// The terminal has it not, or the entry says nothing of it.
+    No,
+    /// The terminal has it.
+    Yes,
+    /// The entry takes it back (`name@` in a source).
+    Cancelled,
+    /// The entry marks it as missing.
+    Missing,
+}
+
+/// A number of an entry.
+#[derive(Clone, Copy, Debug, PartialEq, Eq)]
+pub enum Number {
+    /// The entry says nothing of it.
+    Absent,
+    /// The entry takes it back.
+    Cancelled,
+    /// Its value. An entry that was read has none below 0.
+    Value(i32),
+}
+
+/// A text of an entry (a string capability of terminfo(5)), lent from the entry's bytes.
+#[derive(Clone, Copy, Debug, PartialEq, Eq)]
+pub enum Text<'a> {
+    /// The entry says nothing of it.
+    Absent,
+    /// The entry takes it back.
+    Cancelled,
+    /// Its bytes, without the NUL behind them. There may be none.
+    Value(&'a [u8]),
+}
+
+/// What a capability is.
+#[derive(Clone, Copy, Debug, PartialEq, Eq)]
+pub enum Kind {
+    Flag,
+    Number,
+    Text,
+}
+
+/// How wide the numbers of an entry are. Offsets and counts are words of 16 bits in each.
+#[derive(Clone, Copy, Debug, PartialEq, Eq)]
+pub enum Width {
+    /// Words of 16 bits.
+    Legacy,
+}
+
+/// The flag that a byte stands for: 0 No, 1 Yes, 254 Cancelled, 255 Missing, and no other byte.
+pub fn flag_of(byte: u8) -> Option<Flag>
+    ensures value { result ≡ flag_of_byte byte }
+    ensures back { IfSome result (λ flag. byte_of_flag flag ≡ byte) }
+{
+    match byte {
+        0 => Some(Flag::No),
+        1 => Some(Flag::Yes),
+        254 => Some(Flag::Cancelled),
+        255 => Some(Flag::Missing),
+        _ => None,
+    }
+}
+
+/// The byte that stands for a flag.
+pub fn flag_byte(flag: Flag) -> u8
+    ensures value { result ≡ byte_of_flag flag }
+    ensures back { flag_of_byte result ≡ Some flag }
+{
+    match flag {
+        Flag::No => 0,
+        Flag::Yes => 1,
+        Flag::Cancelled => 254,
+        Flag::Missing => 255,
+    }
+}
+
+/// The number that a word stands for: -1 Absent, -2 Cancelled, none below, else the word itself.
+pub fn number_of(word: i32) -> Option<Number>
+    ensures value { result ≡ number_of_word word }
+    ensures back { IfSome result (λ number. word_of_number number ≡ word) }
+{
+    match word {
+        -1 => Some(Number::Absent),
+        -2 => Some(Number::Cancelled),
+        value if value < 0 => None,
+        value => Some(Number::Value(value)),
+    }
+}
+
+/// The word that stands for a number, whose value is not negative.
+pub fn number_word(number: Number) -> i32
+    requires { HasWord number }
+    ensures value { result ≡ word_of_number number }
+    ensures back { number_of_word result ≡ Some number }
+{
+    match number {
+        Number::Absent => -1,
+        Number::Cancelled => -2,
+        Number::Value(value) => value,
+    }
+}
