@@ -1,0 +1,11 @@
+pub mod Taken
+pub mod Decimals
+pub mod Digits
+pub mod Longest
+pub mod Pieces
+pub mod Runs
+pub mod Fronts
+pub mod Least
+pub mod Grammar
+pub mod Apart
+pub mod Joined

@@ -1,0 +1,13 @@
+-- What is counted and the padded rest are the padded text; no byte of the text stands for too many.
+use Rattle.std.proofs.Common.{◌≡◌, ◌+◌, ◌*◌, ◌≤◌, length}
+use Rattle.ti_pad.specs.Padded.{padded}
+use Rattle.ti_pad.proofs.length.padded_len.Given as goal
+
+abbrev pub invariant-runs : goal.invariant-runs
+invariant-runs l = record {
+  counted : l.total + length (padded l.rest l.padding) ≡ length (padded l.fn.bytes l.padding);
+  few : l.total + 6553493446500 * length l.rest ≤ 6553493446500 * length l.fn.bytes;
+}
+
+abbrev pub decreases-runs : goal.decreases-runs
+decreases-runs l = length l.rest

@@ -1,0 +1,23 @@
+//! The length of a padded text.
+//!
+//! One pass over the text, without the padded bytes.
+
+ghost use Rattle.std.specs.Prelude.{◌≡◌, length};
+ghost use Rattle.ti_pad.specs.Padded.{padded};
+
+use crate::padding::Padding;
+use crate::run::first_run;
+
+/// How many bytes the padded text has.
+pub fn padded_len(bytes: &[u8], padding: &Padding) -> u128
+    ensures { result ≡ length (padded bytes.now padding.now) }
+{
+    let mut rest = bytes;
+    let mut total: u128 = 0;
+    'runs: while !rest.is_empty() {
+        let front = first_run(rest, padding);
+        total += u128::from(front.run.len());
+        rest = front.rest;
+    }
+    total
+}

@@ -1,0 +1,26 @@
+//! Writing the bytes for a terminal to the end, with the padding of their marks.
+//!
+//! A padding mark of terminfo(5) is a delay such as `$<5>`, `$<2.5*>` or `$<10/>`. It is replaced by as many pad bytes
+//! as take its time on the line. What is written is told exactly: all the bytes, or the first so many of them where the
+//! writer stopped. The time is linear in the bytes that are read and written. Only [`pad`] takes memory.
+#![tactic(auto)]
+
+pub mod laws;
+mod length;
+mod mark;
+mod memory;
+mod number;
+mod output;
+mod padding;
+mod run;
+mod scan;
+mod writing;
+
+pub use length::padded_len;
+pub use memory::{MOST_BYTES, PadFault, pad, pad_in};
+pub use output::{MOST_INTERRUPTIONS, write_out};
+pub use padding::{MOST_LINES, MOST_RATE, Padding};
+pub use writing::{PadStop, write_padded};
+
+#[cfg(test)]
+mod tests;

@@ -1,0 +1,23 @@
+//! A padding mark as its spelled parts, which it lends from the text.
+
+ghost use Rattle.std.specs.Prelude.{true, ◌≡◌, ◌≤◌, length, option_map, unwrap_or, []};
+ghost use Rattle.std.specs.Char.{is_ascii_digit};
+ghost use Rattle.std.specs.List.{list_all};
+
+/// A mark: its whole milliseconds, its decimals where it has a point, and its flags.
+#[derive(Clone, Copy, Debug)]
+pub struct Mark<'a> {
+    pub whole: &'a [u8],
+    pub decimals: Option<&'a [u8]>,
+    pub flags: &'a [u8],
+    ghost few: { length whole.now ≤ 5 },
+    ghost digits: { list_all is_ascii_digit whole.now ≡ true },
+    ghost more_digits: { list_all is_ascii_digit (unwrap_or (option_map (λ s. s.now) decimals) []) ≡ true },
+}
+
+/// A mark at the front of some bytes, and what stands behind it.
+#[derive(Clone, Copy, Debug)]
+pub struct Found<'a> {
+    pub mark: Mark<'a>,
+    pub rest: &'a [u8],
+}
