@@ -1,0 +1,47 @@
+//! `ti` reads, checks, shows, expands and writes compiled terminfo entries.
+//!
+//! Its words and the three standard streams go to `ti_tool`'s `run`, whose answer is the exit status.
+#![tactic(auto)]
+
+use std::alloc::AllocError;
+use std::io;
+use std::io::ErrorKind;
+use std::process::ExitCode;
+use ti_tool::run::run;
+
+/// The words of the command line, the program's own name first.
+fn words(rt: &HostRuntime) -> io::Result<Vec<String>> {
+    let mut words = Vec::new(rt.alloc());
+    for word in std::env::args(rt)? {
+        words.push(word).map_err(AllocError::from)?;
+    }
+    Ok(words)
+}
+
+/// The status of the run.
+fn status(rt: &HostRuntime) -> io::Result<u8> {
+    let words = words(rt)?;
+    let mut texts = Vec::new(rt.alloc());
+    for word in &words {
+        texts.push(word.as_str())?;
+    }
+    Ok(run(
+        rt.alloc(),
+        texts.as_slice(),
+        &mut rt.stdin(),
+        &mut rt.stdout(),
+        &mut rt.stderr(),
+    ))
+}
+
+/// Words that are no UTF-8 end with status 2, and want of memory for them with 6 and the line `memory`.
+fn main(rt: HostRuntime) -> ExitCode {
+    match status(&rt) {
+        Ok(status) => ExitCode::from(status),
+        Err(error) if error.kind() == ErrorKind::OutOfMemory => {
+            let _ = eprintln!(rt; "memory");
+            ExitCode::from(6)
+        }
+        Err(_) => ExitCode::from(2),
+    }
+}

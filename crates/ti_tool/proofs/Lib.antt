@@ -1,0 +1,5 @@
+pub mod Calling
+pub mod Capped
+pub mod Lines
+pub mod Standing
+pub mod Takings

@@ -1,0 +1,6 @@
+use Rattle.ti_tool.proofs.Standing.{texts, params_by}
+use Rattle.ti_tool.proofs.params.read_params.Goals as goal
+
+pub returns-clause-values : goal.returns-clause-values
+returns-clause-values c =
+    params_by (texts c.args.words.now) c.read_into-read.new.values c.read_into-read.result c.with.result c.with.ensures c.read_into-read.ensures.values

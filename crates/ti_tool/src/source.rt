@@ -1,0 +1,51 @@
+//! Reading what a call is to work on.
+//!
+//! At most 512 bytes are asked for at a time, straight into a buffer of a fixed size; no memory is taken.
+
+ghost use Rattle.std.specs.Prelude.{◌≡◌, ◌⊎◌, length, OnOk};
+ghost use Rattle.std.specs.Io.KnownBytes.{IsAtEnd};
+ghost use Rattle.ti_tool.specs.Reading.{Takes};
+
+use arrayvec::ArrayVec;
+use std::io::{ErrorKind, Read};
+use ti_pad::MOST_INTERRUPTIONS;
+
+/// The most bytes of an input that are kept.
+pub const MOST_BYTES: usize = 32768;
+
+const PIECE: usize = 512;
+
+/// A read that failed.
+#[derive(Clone, Copy, Debug, PartialEq, Eq)]
+pub struct ReadFailed;
+
+/// Reads to the end of the source or until the buffer is full, up to 512 bytes at a time.
+///
+/// Interrupted reads are tried again, at most [`MOST_INTERRUPTIONS`] of them; the next one and any other error is
+/// [`ReadFailed`].
+pub fn read_up_to<R: Read>(
+    bytes: &mut ArrayVec<u8, MOST_BYTES>,
+    source: &mut R,
+) -> Result<(), ReadFailed>
+    ensures taken { Takes (R.remaining source.old) (R.remaining source.new) bytes.old.items bytes.new.items }
+    ensures end { OnOk result ((length bytes.new.items ≡ 32768) ⊎ IsAtEnd (R.remaining source.new)) }
+{
+    let mut piece = [0; PIECE];
+    let mut interruptions = 0;
+    while !bytes.is_full() {
+        let room = bytes.remaining_capacity().min(PIECE);
+        match source.read(&mut piece[..room]) {
+            Ok(0) => return Ok(()),
+            Ok(count) => {
+                let _ = bytes.try_extend_from_slice(&piece[..count]);
+            }
+            Err(error) => {
+                if error.kind() != ErrorKind::Interrupted || interruptions == MOST_INTERRUPTIONS {
+                    return Err(ReadFailed);
+                }
+                interruptions += 1;
+            }
+        }
+    }
+    Ok(())
+}
