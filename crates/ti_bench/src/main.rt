@@ -1,0 +1,96 @@
+//! Times parsing and expanding: without words it does nothing, with a number it makes that many turns over each
+//! capability and prints a line for each, `NAME parse NANOSECONDS` and `NAME expand NANOSECONDS`, a turn.
+#![tactic(auto)]
+
+use std::io;
+use std::rt::Clock;
+use std::time::Instant;
+use ti_cap::capability::Capability;
+use ti_expand::expand::expand_into;
+use ti_expand::value::Value;
+use ti_expand::vars::Vars;
+
+/// A capability and what to call it.
+struct Case {
+    name: &'static str,
+    capability: &'static [u8],
+}
+
+const CASES: [Case; 5] = [
+    Case {
+        name: "cup",
+        capability: b"\x1b[%i%p1%d;%p2%dH",
+    },
+    Case {
+        name: "setaf",
+        capability: b"\x1b[%?%p1%{8}%<%t3%p1%d%e%p1%{16}%<%t9%p1%{8}%-%d%e38;5;%p1%d%;m",
+    },
+    Case {
+        name: "sgr",
+        capability: b"%?%p9%t\x1b(0%e\x1b(B%;\x1b[0%?%p6%t;1%;%?%p5%t;2%;%?%p2%t;4%;%?%p1%p3%|%t;7%;%?%p4%t;5%;%?%p7%t;8%;m",
+    },
+    Case {
+        name: "initc",
+        capability: b"\x1b]4;%p1%d;rgb:%p2%{255}%*%{1000}%/%2.2X/%p3%{255}%*%{1000}%/%2.2X/%p4%{255}%*%{1000}%/%2.2X\x1b\\",
+    },
+    Case {
+        name: "long",
+        capability: b"%p1%d,%p2%d,%p3%d,%p4%d,%p5%d,%p6%d,%p7%d,%p8%d,%p9%d,%p1%x,%p2%x,%p3%x,%p4%o,%p5%o,%p6%o and a run of plain bytes behind all of it, which is only copied",
+    },
+];
+
+const PARAMETERS: [i32; 9] = [200, 79, 1000, 500, 0, 1, 0, 1, 1];
+
+/// How long a turn of parsing takes, in nanoseconds.
+fn parsing<R: Clock>(rt: &R, bytes: &'static [u8], turns: u32) -> io::Result<u128> {
+    let start = Instant::now(rt)?;
+    let mut depth = 0usize;
+    for _ in 0..turns {
+        if let Ok(capability) = Capability::parse(std::hint::black_box(bytes)) {
+            depth = depth.max(capability.depth());
+        }
+    }
+    let _ = std::hint::black_box(depth);
+    Ok(start.elapsed(rt)?.as_nanos() / u128::from(turns.max(1)))
+}
+
+/// How long a turn of expanding takes, in nanoseconds.
+fn expanding<R: Clock>(rt: &R, bytes: &'static [u8], turns: u32) -> io::Result<u128> {
+    let mut parameters = [Value::Num(0); 9];
+    for i in 0..9usize {
+        parameters[i] = Value::Num(PARAMETERS[i]);
+    }
+    let mut stack = [Value::Num(0); 32];
+    let mut out = [0u8; 1024];
+    let mut vars = Vars::new();
+    let start = Instant::now(rt)?;
+    let mut written = 0usize;
+    if let Ok(capability) = Capability::parse(bytes) {
+        for _ in 0..turns {
+            let tape = capability.tape();
+            if let Ok(run) = expand_into(tape, &parameters, &mut vars, &mut stack, &mut out) {
+                written = written.max(run.written);
+            }
+        }
+    }
+    let _ = std::hint::black_box(written);
+    Ok(start.elapsed(rt)?.as_nanos() / u128::from(turns.max(1)))
+}
+
+fn main(rt: HostRuntime) -> io::Result<()> {
+    let mut turns = 0u32;
+    for word in std::env::args(&rt)? {
+        turns = word.as_str().parse::<u32>().unwrap_or(0);
+    }
+    if turns == 0 {
+        return Ok(());
+    }
+    for case in CASES.iter() {
+        let name = case.name;
+        let parse = parsing(&rt, case.capability, turns)?;
+        println!(rt; "{name} parse {parse}")?;
+        let expand = expanding(&rt, case.capability, turns)?;
+        println!(rt; "{name} expand {expand}")?;
+    }
+    Ok(())
+}
