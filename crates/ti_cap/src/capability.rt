@@ -2,7 +2,7 @@
 
 ghost use Rattle.std.specs.Prelude.{◌≡◌, ℕ, ◌≤◌, ◌++◌, [], ◌∷◌, List, length, IfOk, IfErr, IfSome, IfNone};
 ghost use Rattle.ti_cap.specs.Refusal.{IsRefusal, IsFaultless};
-ghost use Rattle.ti_cap.specs.Capability.{HasDepth, HasBound, HasNest, IsWellFormed, Spot, Takes, IsFirst, whole};
+ghost use Rattle.ti_cap.specs.Capability.{HasDepth, HasBound, HasNest, IsWellFormed, Spot, Takes, IsFirst, IsCapability, whole};
 
 use crate::analysis::Analysis;
 use crate::limits::Limits;
@@ -101,7 +101,7 @@ impl<'a> Capability<'a> {
 pub struct Tape<'a> {
     bytes: &'a [u8],
     place: usize,
-    limits: Limits,
+    maxima: Limits,
 }
 
 impl<'a> Model for Tape<'a> {
@@ -112,7 +112,7 @@ impl<'a> Model for Tape<'a> {
 
     ghost view = { λ t. record { taken = take t.place t.bytes.now; left = drop t.place t.bytes.now } };
 
-    ghost invariant = { λ t. IsTape t.bytes.now t.place t.limits };
+    ghost invariant = { λ t. IsTape t.bytes.now t.place t.maxima };
 }
 
 impl<'a> Capability<'a> {
@@ -120,11 +120,7 @@ impl<'a> Capability<'a> {
     pub fn tape(&self) -> Tape<'a>
         ensures start { result ≡ record { taken = []; left = self.now } }
     {
-        Tape {
-            bytes: self.bytes,
-            place: 0,
-            limits: self.limits,
-        }
+        Tape::fresh(self.bytes, self.limits)
     }
 
     /// The greatest number of bytes over all paths, where no text is longer than `longest`.
@@ -153,6 +149,18 @@ fn bound_from(mut tape: Tape<'_>, longest: u16) -> u64
 }
 
 impl<'a> Tape<'a> {
+    /// A tape at the first token of a capability with these limits.
+    fn fresh(bytes: &'a [u8], maxima: Limits) -> Tape<'a>
+        requires { IsCapability bytes.now maxima }
+        ensures { result ≡ record { taken = []; left = bytes.now } }
+    {
+        Tape {
+            bytes,
+            place: 0,
+            maxima,
+        }
+    }
+
     /// The next token, or none at the end.
     pub fn token(&mut self) -> Option<Token>
         ensures none { IfNone result ((self.new ≡ self.old) × (self.old.left ≡ [])) }
@@ -184,7 +192,7 @@ impl<'a> Tape<'a> {
         ensures low { result ≤ 32 }
         ensures tree { IsWellFormed (whole self.now) }
     {
-        self.limits.depth
+        self.maxima.depth
     }
 
     /// The capability's bound.
@@ -192,13 +200,8 @@ impl<'a> Tape<'a> {
         ensures exact { HasBound (whole self.now) longest result }
     {
         if longest == 0 {
-            return self.limits.bound;
+            return self.maxima.bound;
         }
-        let fresh = Tape {
-            bytes: self.bytes,
-            place: 0,
-            limits: self.limits,
-        };
-        bound_from(fresh, longest)
+        bound_from(Tape::fresh(self.bytes, self.maxima), longest)
     }
 }
