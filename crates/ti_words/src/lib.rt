@@ -1,11 +1,18 @@
-//! What the bytes and words of a compiled terminfo entry stand for (term(5)).
+//! What the bytes and words of a compiled terminfo entry stand for (term(5)), and the names of capabilities by index.
 //!
 //! A flag is one byte, a number is one word, a text is an offset or a mark. Each function here is exact both ways: a
-//! byte and its flag, a word and its number determine each other. Each takes a few instructions and no memory.
+//! byte and its flag, a word and its number, a name and its kind and index determine each other. None takes memory; a
+//! byte or word takes a few instructions, a name a look through a table of 114 rows.
 #![tactic(auto)]
 
 ghost use Rattle.std.specs.Prelude.{◌≡◌, IfSome};
 ghost use Rattle.ti_words.specs.Marks.{byte_of_flag, flag_of_byte, word_of_number, number_of_word, HasWord};
+
+pub mod laws;
+mod names;
+mod table;
+
+pub use names::{find, flag_name, number_name, text_name};
 
 /// A flag of an entry (a boolean capability of terminfo(5)).
 #[derive(Clone, Copy, Debug, PartialEq, Eq)]

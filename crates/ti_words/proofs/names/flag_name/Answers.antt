@@ -1,0 +1,10 @@
+use Rattle.std.proofs.Common.{◌∙◌}
+use Rattle.ti_words.specs.declared.Kind.TheVariants as kinds
+use Rattle.ti_words.proofs.Naming.{found_by, name_only}
+use Rattle.ti_words.proofs.names.flag_name.Goals as goal
+
+pub returns-clause-found : goal.returns-clause-found
+returns-clause-found c = found_by kinds.Flag c.args.index c.name_at.result c.name_at.ensures
+
+pub returns-clause-only : goal.returns-clause-only
+returns-clause-only c = λ name named. c.name_at.ensures ∙ name_only kinds.Flag c.args.index name named
