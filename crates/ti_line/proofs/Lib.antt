@@ -1,0 +1,4 @@
+pub mod Simple
+pub mod Getters
+pub mod Answered
+pub mod Worked

@@ -1,0 +1,35 @@
+-- Worked rows of the command line.
+use Rattle.std.proofs.Common.{[], ◌∷◌, true, false, refl, inl}
+use Rattle.std.specs.Prelude.{codes}
+use Rattle.clap.proofs.OnLiterals.{clap_on_literals}
+use Rattle.ti_line.specs.CommandLine.{AsksForHelp, Cap, Expand, IsRefused, Reads, Show}
+
+-- `ti cap n:4 --hex n:9`
+cap_row : Reads (codes "ti" ∷ codes "cap" ∷ codes "n:4" ∷ codes "--hex" ∷ codes "n:9" ∷ []) (Cap true (codes "n:4" ∷ codes "n:9" ∷ []))
+unfolding clap_on_literals
+cap_row = (refl, refl)
+
+-- `ti show`
+show_row : Reads (codes "ti" ∷ codes "show" ∷ []) Show
+unfolding clap_on_literals
+show_row = (refl, refl)
+
+-- `ti expand --rate 960 cup`
+expand_row : Reads (codes "ti" ∷ codes "expand" ∷ codes "--rate" ∷ codes "960" ∷ codes "cup" ∷ []) (Expand (codes "cup") false 960 1 false [])
+unfolding clap_on_literals
+expand_row = (refl, refl)
+
+-- `ti expand --rate 1000001 bel`
+rate_row : IsRefused (codes "ti" ∷ codes "expand" ∷ codes "--rate" ∷ codes "1000001" ∷ codes "bel" ∷ [])
+unfolding clap_on_literals
+rate_row = inl refl
+
+-- `ti`
+alone_row : IsRefused (codes "ti" ∷ [])
+unfolding clap_on_literals
+alone_row = inl refl
+
+-- `ti --help`
+help_row : AsksForHelp (codes "ti" ∷ codes "--help" ∷ [])
+unfolding clap_on_literals
+help_row = refl

@@ -1,0 +1,166 @@
+-- The command line of `ti`: the command that is handed to `clap`, what words ask for by it, and the words that it
+-- refuses or answers with help. `fault_of` and `subcommand_of` are `clap`'s own definition of a simple command.
+use Rattle.std.specs.Prelude.{◌≡◌, ◌⊎◌, ◌^◌, ◌&&◌, ℕ, Bool, true, false, not, List, [], ◌∷◌, fold, Option, Some, None, codes, pos, unwrap_or, option_and_then, if◌then◌else◌, nat_lt, nat_le, length}
+use Rattle.std.specs.List.{list_all, list_any}
+use Rattle.std.specs.Option.{option_map_or}
+use Rattle.std.specs.Str.{bytes_eq}
+use Rattle.std.specs.Char.{digit_value}
+use Rattle.std.specs.Str.Parse.{digits_value, without_leading_plus}
+use Rattle.clap.specs.Lexer.{usize_max}
+use Rattle.clap.specs.Words.{App, Kinds, Row, Rule, Text, all_of, fault_of, first_of, new_app, new_rule, one_of, subcommand_of, with_rule, with_subcommand}
+use Rattle.clap.specs.Simple.{on_top}
+use Rattle.clap.specs.declared.builder.action.ArgAction.TheVariants.{Append, SetTrue}
+use Rattle.clap.specs.declared.builder.value_parser.ValueParser.TheVariants as vp
+use Rattle.clap.specs.declared.error.kind.ErrorKind.{ErrorKind}
+use Rattle.clap.specs.declared.error.kind.ErrorKind.TheVariants as kind
+
+-- ---- the command
+
+-- `--hex`
+abbrev pub hex_rule : Rule
+hex_rule = record (new_rule (codes "hex")) { long = Some (codes "hex"); action = Some SetTrue }
+
+-- `PARAM..`: any number of words
+abbrev pub params_rule : Rule
+params_rule = record (new_rule (codes "PARAM")) {
+  action = Some Append;
+  range = Some (record { start_inclusive = 0; end_inclusive = usize_max });
+}
+
+-- `NAME`
+abbrev pub name_rule : Rule
+name_rule = record (new_rule (codes "NAME")) { required = true }
+
+-- `--rate N`, 0 to 1000000
+abbrev pub rate_rule : Rule
+rate_rule = record (new_rule (codes "rate")) {
+  long = Some (codes "rate");
+  value_names = 1;
+  parser = Some (vp.Signed (pos 0) (pos 1000000));
+}
+
+-- `--lines N`, 0 to 65535
+abbrev pub lines_rule : Rule
+lines_rule = record (new_rule (codes "lines")) {
+  long = Some (codes "lines");
+  value_names = 1;
+  parser = Some (vp.Signed (pos 0) (pos 65535));
+}
+
+-- `--xon`
+abbrev pub xon_rule : Rule
+xon_rule = record (new_rule (codes "xon")) { long = Some (codes "xon"); action = Some SetTrue }
+
+-- a command with these arguments too, in their order
+abbrev pub with_rules : App → List Rule → App
+with_rules = fold with_rule
+
+-- a command with these subcommands too, in their order
+abbrev pub with_commands : App → List App → App
+with_commands = fold (λ a sub. with_subcommand a sub.top)
+
+-- `cap [--hex] [PARAM..]`
+abbrev pub cap_app : App
+cap_app = with_rules (new_app (codes "cap")) (hex_rule ∷ params_rule ∷ [])
+
+-- `show`
+abbrev pub show_app : App
+show_app = new_app (codes "show")
+
+-- `check`
+abbrev pub check_app : App
+check_app = new_app (codes "check")
+
+-- `expand NAME [--hex] [--rate N] [--lines N] [--xon] [PARAM..]`
+abbrev pub expand_app : App
+expand_app =
+    with_rules (new_app (codes "expand")) (name_rule ∷ hex_rule ∷ rate_rule ∷ lines_rule ∷ xon_rule ∷ params_rule ∷ [])
+
+-- `convert`
+abbrev pub convert_app : App
+convert_app = new_app (codes "convert")
+
+-- `ti` with a version, which wants a subcommand
+abbrev pub start_app : App
+start_app = on_top (λ s. record s { has_version = true; subcommand_required = true }) (new_app (codes "ti"))
+
+-- `ti` whole
+abbrev pub ti_app : App
+ti_app = with_commands start_app (cap_app ∷ show_app ∷ check_app ∷ expand_app ∷ convert_app ∷ [])
+
+-- ---- the values that `clap` found
+
+-- an option without a value was given
+abbrev pub flag_in : Text → List Row → Bool
+flag_in id rows = option_map_or (λ t. bytes_eq t (codes "true")) (one_of id rows) false
+
+-- the number that a text spells in decimal, below 2^32, or else `default`
+abbrev pub number_or : ℕ → Text → ℕ
+number_or default text =
+    let ds = without_leading_plus text in
+    if nat_lt 0 (length ds) && list_all (λ d. nat_lt (digit_value d) 10) ds && nat_lt (digits_value 10 ds) (2 ^ 32)
+    then digits_value 10 ds else default
+
+-- the number of an option, `default` where it was not given
+abbrev pub number_in : Text → ℕ → List Row → ℕ
+number_in id default rows = option_map_or (number_or default) (one_of id rows) default
+
+-- the words of the parameters, in their order
+abbrev pub params_in : List Row → List Text
+params_in rows = unwrap_or (all_of (codes "PARAM") rows) []
+
+-- ---- what a command line asks for
+
+pub data Asked : Type 0 where
+  Cap : (hex : Bool) → (params : List Text) → Asked
+  Show : Asked
+  Check : Asked
+  Expand : (name : Text) → (hex : Bool) → (rate lines : ℕ) → (xon : Bool) → (params : List Text) → Asked
+  Convert : Asked
+
+-- `expand` with a name and numbers within their ranges
+abbrev pub expand_by : List Row → Text → Option Asked
+expand_by rows name =
+    let rate = number_in (codes "rate") 0 rows in
+    let lines = number_in (codes "lines") 1 rows in
+    if nat_le rate 1000000 && nat_le lines 65535
+    then Some (Expand name (flag_in (codes "hex") rows) rate lines (flag_in (codes "xon") rows) (params_in rows))
+    else None
+
+-- what a subcommand and its values ask for
+abbrev pub asked_by : Text → List Row → Option Asked
+asked_by command rows =
+    if bytes_eq command (codes "cap") then Some (Cap (flag_in (codes "hex") rows) (params_in rows))
+    else (if bytes_eq command (codes "show") then Some Show
+    else (if bytes_eq command (codes "check") then Some Check
+    else (if bytes_eq command (codes "expand") then option_and_then (expand_by rows) (first_of (codes "NAME") rows)
+    else (if bytes_eq command (codes "convert") then Some Convert
+    else None))))
+
+abbrev pub asked : Option (Text × List Row) → Option Asked
+asked found = option_and_then (λ p. asked_by p.0 p.1) found
+
+-- ---- which words are a command line
+
+-- the kinds of fault, or of help, that `clap` finds in the words: none where it reads them
+abbrev pub faults : List Text → Kinds
+faults words = fault_of ti_app words
+
+-- the words, of which the first is the program's own name, are read as this line
+abbrev pub Reads : List Text → Asked → Type 0
+Reads words line = (faults words ≡ []) × (asked (subcommand_of ti_app words) ≡ Some line)
+
+abbrev pub is_help : ErrorKind → Bool
+is_help kind.DisplayHelp = true
+is_help kind.DisplayVersion = true
+is_help _ = false
+
+-- the words ask for help or for the version
+abbrev pub AsksForHelp : List Text → Type 0
+AsksForHelp words = list_any is_help (faults words) ≡ true
+
+-- `clap` finds a fault in the words, or they have no value
+abbrev pub IsRefused : List Text → Type 0
+IsRefused words =
+    (list_any (λ k. not (is_help k)) (faults words) ≡ true)
+    ⊎ ((faults words ≡ []) × (asked (subcommand_of ti_app words) ≡ None))

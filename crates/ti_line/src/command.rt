@@ -1,0 +1,202 @@
+//! The command that is handed to `clap`: subcommands of one level, options, positionals, and the texts of help.
+
+ghost use Rattle.std.specs.Prelude.{◌≡◌, [], ◌∷◌, IfOk, false};
+ghost use Rattle.clap.specs.Words.{app_of, new_app, rule_of, with_rule};
+ghost use Rattle.clap.specs.declared.builder.command.Command.TheViews.{out-Command as fields_of};
+ghost use Rattle.ti_line.specs.CommandLine.{cap_app, check_app, convert_app, expand_app, hex_rule, lines_rule, name_rule, params_rule, rate_rule, show_app, start_app, ti_app, with_commands, xon_rule};
+
+use clap::{Arg, ArgAction, Command, value_parser};
+use std::alloc::{AllocError, Global};
+
+fn hex<'a>(alloc: Global) -> Arg<'a>
+    ensures rule { rule_of result ≡ hex_rule }
+    ensures local { result.global ≡ false }
+{
+    Arg::new(alloc, "hex")
+        .long("hex")
+        .action(ArgAction::SetTrue)
+        .help("Write the output as lower-case hex and one newline")
+}
+
+fn params<'a>(alloc: Global) -> Arg<'a>
+    ensures rule { rule_of result ≡ params_rule }
+    ensures local { result.global ≡ false }
+{
+    Arg::new(alloc, "PARAM")
+        .action(ArgAction::Append)
+        .num_args(0..)
+        .help(
+            "n:NUMBER (-2147483648 to 2147483647) or s:TEXT; at most nine, missing ones are the number 0",
+        )
+}
+
+fn name<'a>(alloc: Global) -> Arg<'a>
+    ensures rule { rule_of result ≡ name_rule }
+    ensures local { result.global ≡ false }
+{
+    Arg::new(alloc, "NAME").required(true).help(
+        "The text: # and its index, as #10, or its name, as cup, or an extended text's name",
+    )
+}
+
+fn rate<'a>(alloc: Global) -> Arg<'a>
+    ensures rule { rule_of result ≡ rate_rule }
+    ensures local { result.global ≡ false }
+{
+    Arg::new(alloc, "rate")
+        .long("rate")
+        .value_name("N")
+        .value_parser(value_parser!(u32).range(0..=1_000_000))
+        .help(
+            "Bytes per second of the line, 0 to 1000000; without it 0, at which padding takes no byte",
+        )
+}
+
+fn lines<'a>(alloc: Global) -> Arg<'a>
+    ensures rule { rule_of result ≡ lines_rule }
+    ensures local { result.global ≡ false }
+{
+    Arg::new(alloc, "lines")
+        .long("lines")
+        .value_name("N")
+        .value_parser(value_parser!(u32).range(0..=65535))
+        .help(
+            "Lines that the text affects, 0 to 65535, by which padding with * is multiplied; without it 1",
+        )
+}
+
+fn xon<'a>(alloc: Global) -> Arg<'a>
+    ensures rule { rule_of result ≡ xon_rule }
+    ensures local { result.global ≡ false }
+{
+    Arg::new(alloc, "xon")
+        .long("xon")
+        .action(ArgAction::SetTrue)
+        .help("The line has flow control: write only padding that is mandatory (marked by /)")
+}
+
+/// A command with its name, a line on what it does, and what its long help has at its end.
+fn titled<'a>(alloc: Global, name: &'a str, about: &'a str, example: &'a str) -> Command<'a>
+    ensures shape { app_of result ≡ new_app name.entry.now }
+    ensures local { (fields_of result).has_globals ≡ false }
+{
+    Command::new(alloc, name)
+        .about(about)
+        .after_long_help(example)
+}
+
+fn cap<'a>(alloc: Global) -> Result<Command<'a>, AllocError>
+    ensures shape { IfOk result (λ c. app_of c ≡ cap_app) }
+    ensures local { IfOk result (λ c. (fields_of c).has_globals ≡ false) }
+{
+    titled(
+        alloc,
+        "cap",
+        "Expand standard input as one capability; padding marks stay as they are",
+        "Example, which writes ESC [ 7 G:\n  printf '\\033[%%p1%%dG' | ti cap n:7",
+    )
+    .arg(hex(alloc))?
+    .arg(params(alloc))
+}
+
+fn show<'a>(alloc: Global) -> Command<'a>
+    ensures shape { app_of result ≡ show_app }
+    ensures local { (fields_of result).has_globals ≡ false }
+{
+    titled(
+        alloc,
+        "show",
+        "List the compiled entry on standard input, one line an item",
+        "Example:\n  ti show < /usr/share/terminfo/x/xterm",
+    )
+}
+
+fn check<'a>(alloc: Global) -> Command<'a>
+    ensures shape { app_of result ≡ check_app }
+    ensures local { (fields_of result).has_globals ≡ false }
+{
+    titled(
+        alloc,
+        "check",
+        "Analyse each text of the entry on standard input; status 1 where one has a fault",
+        "Example:\n  ti check < /usr/share/terminfo/x/xterm",
+    )
+}
+
+fn with_numbers<'a>(alloc: Global, command: Command<'a>) -> Result<Command<'a>, AllocError>
+    ensures shape { IfOk result (λ c. app_of c ≡ with_rule (with_rule (app_of command.entry) rate_rule) lines_rule) }
+    ensures local { (fields_of command.entry).has_globals ≡ false → IfOk result (λ c. (fields_of c).has_globals ≡ false) }
+{
+    command.arg(rate(alloc))?.arg(lines(alloc))
+}
+
+fn expand<'a>(alloc: Global) -> Result<Command<'a>, AllocError>
+    ensures shape { IfOk result (λ c. app_of c ≡ expand_app) }
+    ensures local { IfOk result (λ c. (fields_of c).has_globals ≡ false) }
+{
+    let command = titled(
+        alloc,
+        "expand",
+        "Expand and pad one text of the entry on standard input",
+        "Example, which moves to line 5, column 10:\n  ti expand cup n:4 n:9 < /usr/share/terminfo/x/xterm",
+    )
+    .arg(name(alloc))?
+    .arg(hex(alloc))?;
+    with_numbers(alloc, command)?
+        .arg(xon(alloc))?
+        .arg(params(alloc))
+}
+
+fn convert<'a>(alloc: Global) -> Command<'a>
+    ensures shape { app_of result ≡ convert_app }
+    ensures local { (fields_of result).has_globals ≡ false }
+{
+    titled(
+        alloc,
+        "convert",
+        "Write the entry on standard input in its canonical layout",
+        "Example:\n  ti convert < entry > canonical",
+    )
+}
+
+/// What help says of the exit status.
+const STATUSES: &str = "Status:
+  0  done
+  1  check found a fault
+  2  the words are wrong
+  3  the entry is refused
+  4  the capability is refused or absent
+  5  reading or writing failed
+  6  want of memory";
+
+/// `ti` itself, before its subcommands.
+fn start<'a>(alloc: Global) -> Command<'a>
+    ensures shape { app_of result ≡ start_app }
+    ensures local { (fields_of result).has_globals ≡ false }
+{
+    Command::new(alloc, "ti")
+        .about("Reads, analyses, expands and writes compiled terminfo entries")
+        .version("0.1.0")
+        .subcommand_required(true)
+        .after_help(STATUSES)
+}
+
+/// `ti` with its first three subcommands.
+fn reading<'a>(alloc: Global) -> Result<Command<'a>, AllocError>
+    ensures shape { IfOk result (λ c. app_of c ≡ with_commands start_app (cap_app ∷ show_app ∷ check_app ∷ [])) }
+    ensures local { IfOk result (λ c. (fields_of c).has_globals ≡ false) }
+{
+    start(alloc)
+        .subcommand(cap(alloc)?)?
+        .subcommand(show(alloc))?
+        .subcommand(check(alloc))
+}
+
+/// `ti` whole.
+pub(crate) fn program<'a>(alloc: Global) -> Result<Command<'a>, AllocError>
+    ensures { IfOk result (λ c. app_of c ≡ ti_app) }
+{
+    reading(alloc)?
+        .subcommand(expand(alloc)?)?
+        .subcommand(convert(alloc))
+}

@@ -1,0 +1,12 @@
+//! Laws of the command line, each proved of all words and with nothing to run.
+
+ghost use Rattle.ti_line.specs.Laws.{HasNumbersWithin, IsOneOfThree, ReadsOneLine, StandApart};
+
+/// Words are read as one line, or ask for help, or are refused; what is read is neither of the others, and its numbers
+/// are within their ranges.
+pub fn words_are_read_once()
+    ensures one { ReadsOneLine }
+    ensures apart { StandApart }
+    ensures whole { IsOneOfThree }
+    ensures within { HasNumbersWithin }
+{}

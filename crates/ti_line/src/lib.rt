@@ -1,0 +1,22 @@
+//! The command line of `ti`: words in, a plain value out.
+//!
+//! [`read_line`] reads the words by `clap`. What the words mean is defined in `specs/CommandLine.antt`: the definition
+//! of the command that is handed to `clap`, and the value of what `clap` finds. Nothing here reads or writes.
+//!
+//! | Command | Value |
+//! |---|---|
+//! | `cap [--hex] [PARAM..]` | [`Line::Cap`] |
+//! | `show` | [`Line::Show`] |
+//! | `check` | [`Line::Check`] |
+//! | `expand NAME [--hex] [--rate N] [--lines N] [--xon] [PARAM..]` | [`Line::Expand`] |
+//! | `convert` | [`Line::Convert`] |
+#![tactic(auto)]
+
+mod command;
+pub mod laws;
+mod line;
+mod read;
+mod values;
+
+pub use line::{Line, MOST_LINES, MOST_RATE, Message, NoLine};
+pub use read::read_line;

@@ -1,0 +1,83 @@
+//! What a command line asks for, and why words may be none.
+
+use std::fmt;
+use thiserror::Error;
+
+/// The greatest rate of `--rate`, in bytes per second.
+pub const MOST_RATE: u32 = 1_000_000;
+
+/// The greatest number of lines of `--lines`.
+pub const MOST_LINES: u32 = 65_535;
+
+/// What a command line asks for. Parameters are the words as they were given, in their order.
+#[derive(Debug, Drop)]
+pub enum Line<'a> {
+    /// Expand standard input as one capability.
+    Cap {
+        /// Write the output as lower-case hex and a newline.
+        hex: bool,
+        /// The words of the parameters.
+        params: Vec<&'a str>,
+    },
+    /// List the entry.
+    Show,
+    /// Analyse each text of the entry.
+    Check,
+    /// Expand and pad one text of the entry.
+    Expand {
+        /// The text: `#` and an index, or a name.
+        name: &'a str,
+        /// Write the output as lower-case hex and a newline.
+        hex: bool,
+        /// Bytes per second, at most [`MOST_RATE`]; 0 where none was given.
+        rate: u32,
+        /// Affected lines, at most [`MOST_LINES`]; 1 where none were given.
+        lines: u32,
+        /// The line has flow control, so only mandatory padding is written.
+        xon: bool,
+        /// The words of the parameters.
+        params: Vec<&'a str>,
+    },
+    /// Write the entry in its canonical layout.
+    Convert,
+}
+
+/// Why there is no line. Its `Display` is the text for the user, in full lines but for the one of [`NoLine::Memory`].
+#[derive(Debug, Drop, Error)]
+pub enum NoLine {
+    /// Help or the version was asked for. The text goes where results go, and the status is 0.
+    #[error("{0}")]
+    Help(Message),
+    /// The words are no command line. The text goes where faults go, and the status is 2.
+    #[error("{0}")]
+    Refused(Message),
+    /// Want of memory.
+    #[error("memory")]
+    Memory,
+}
+
+/// What `clap` says to the user.
+#[derive(Debug, Drop)]
+pub struct Message(Option<clap::Error>);
+
+impl Message {
+    /// What `clap` says of words that it refuses, or answers with help.
+    pub(crate) fn said(error: clap::Error) -> Message {
+        Message(Some(error))
+    }
+
+    /// The words have no value. `clap` refuses such words itself, but says so of its top level alone; here it is no
+    /// matter of trust.
+    pub(crate) fn no_value() -> Message {
+        Message(None)
+    }
+}
+
+impl fmt::Display for Message {
+    fn fmt<W: fmt::Write>(&self, f: &mut fmt::Formatter<W>) -> fmt::Result {
+        match &self.0 {
+            Some(error) => fmt::Display::fmt(error, f),
+            None => f.write_str("error: the words are no command line\n"),
+        }
+    }
+}

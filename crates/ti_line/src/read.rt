@@ -1,0 +1,57 @@
+//! Words as a command line.
+
+ghost use Rattle.std.specs.Prelude.{◌≡◌, IfErr, IfOk, map, option_map};
+ghost use Rattle.clap.specs.Words.{FailsBy, kind_of, subcommand_of};
+ghost use Rattle.ti_line.specs.CommandLine.{Asked, Reads, asked, faults, ti_app};
+ghost use Rattle.ti_line.specs.Line.{Explains, IsReadAs, TellsOf, asked_of};
+
+use crate::command::program;
+use crate::line::{Line, Message, NoLine};
+use crate::values::line_of;
+use clap::Error;
+use clap::error::ErrorKind;
+use std::alloc::Global;
+
+/// Reads the words by `clap`. There is no line where what `clap` found has no value.
+fn read_words<'a>(alloc: Global, words: &'a [&'a str]) -> Result<Option<Line<'a>>, Error>
+    ensures read { IfOk result (λ line. option_map asked_of line ≡ asked (subcommand_of ti_app (map (λ w. w.now) words.entry.now))) }
+    ensures kinds { FailsBy (faults (map (λ w. w.now) words.entry.now)) result }
+{
+    let matches = program(alloc)?.try_get_matches_from(words)?;
+    match matches.subcommand() {
+        Some((command, given)) => Ok(line_of(alloc, command, given)?),
+        None => Ok(None),
+    }
+}
+
+/// What an error of `clap` tells of the words.
+fn no_line(error: Error) -> NoLine
+    ensures { TellsOf (kind_of error) result }
+{
+    match error.kind() {
+        ErrorKind::OutOfMemory => NoLine::Memory,
+        ErrorKind::DisplayHelp | ErrorKind::DisplayVersion => NoLine::Help(Message::said(error)),
+        _ => NoLine::Refused(Message::said(error)),
+    }
+}
+
+/// Reads `words`, of which the first is the program's own name, as a command line.
+///
+/// Options may stand before, between and behind the parameters. Behind `--` each word is a parameter, or the name of
+/// `expand`, also one that begins with a hyphen. Words are text, so what is no UTF-8 is the caller's to refuse.
+///
+/// # Errors
+///
+/// [`NoLine::Help`] where help or the version is asked for, [`NoLine::Refused`] where the words are no command line,
+/// and [`NoLine::Memory`] where a growth was refused.
+pub fn read_line<'a>(alloc: Global, words: &'a [&'a str]) -> Result<Line<'a>, NoLine>
+    ensures read { IfOk result (λ line. Reads (map (λ w. w.now) words.entry.now) (asked_of line)) }
+    ensures only { (line : Asked) → Reads (map (λ w. w.now) words.entry.now) line → IsReadAs line result }
+    ensures none { IfErr result (Explains (map (λ w. w.now) words.entry.now)) }
+{
+    match read_words(alloc, words) {
+        Ok(Some(line)) => Ok(line),
+        Ok(None) => Err(NoLine::Refused(Message::no_value())),
+        Err(error) => Err(no_line(error)),
+    }
+}
