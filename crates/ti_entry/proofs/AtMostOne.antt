@@ -17,6 +17,7 @@ use Rattle.ti_entry.specs.Word.{unsigned_at, word_at, word}
 use Rattle.ti_entry.specs.Table.{text_from, text_of_word}
 use Rattle.ti_entry.specs.Spelling.{FitsWidth, IsText, IsName, Each, magic, count_word, words_of, numbers_of, flags_of, pad, text_size, texts_size, name_in, mark_in, extended_names, HasSections, HasExtendedPart, HasNoExtendedPart}
 use Rattle.ti_entry.specs.Laws.{SpellsAtMostOne}
+use Rattle.ti_entry.proofs.NamedItems.{names_length}
 use Rattle.ti_entry.proofs.WordLaws.{reads_count}
 use Rattle.ti_entry.proofs.Items.{IsShort, is_place, word_read, length_word, IsGood, placed, all_good, short_number, read_again, flag_read}
 
@@ -245,7 +246,7 @@ pairs_again {A} (x ∷ xs) (y ∷ ys) e f =
     let one : ◌≡◌ {A = List ℕ × A} x y = ap (λ (n : List ℕ). let p : List ℕ × A = (n, x.1) in p) name ∙ ap (λ (m : A). let p : List ℕ × A = (y.0, m) in p) mark in
     ap (λ (z : List ℕ × A). z ∷ xs) one ∙ ap (λ (zs : List (List ℕ × A)). y ∷ zs) (pairs_again xs ys names marks)
 
-same_sizes : (xs ys : List (List ℕ × TextValue)) → map mark_in xs ≡ map mark_in ys → texts_size xs ≡ texts_size ys
+pub same_sizes : (xs ys : List (List ℕ × TextValue)) → map mark_in xs ≡ map mark_in ys → texts_size xs ≡ texts_size ys
 same_sizes [] [] f = refl
 same_sizes [] (y ∷ ys) f = absurd cc
 same_sizes (x ∷ xs) [] f = absurd cc
@@ -254,7 +255,7 @@ same_sizes (x ∷ xs) (y ∷ ys) f =
     let marks : map mark_in xs ≡ map mark_in ys = cc in
     ap (λ m. text_size m + texts_size xs) mark ∙ ap (λ n. text_size y.1 + n) (same_sizes xs ys marks)
 
-grouped_part : (a b c d e f g h i j k l : List ℕ)
+pub grouped_part : (a b c d e f g h i j k l : List ℕ)
     → a ++ b ++ c ++ d ++ e ++ f ++ g ++ h ++ i ++ j ++ k ++ l ≡ a ++ (b ++ (c ++ (d ++ (e ++ (f ++ (g ++ (h ++ (i ++ (j ++ (k ++ l))))))))))
 grouped_part a b c d e f g h i j k l = simp append_assoc
 
@@ -262,6 +263,31 @@ pub record SameExtended (v w : EntryValue) : Type 0 where
   pub flags : v.extended_flags ≡ w.extended_flags
   pub numbers : v.extended_numbers ≡ w.extended_numbers
   pub texts : v.extended_texts ≡ w.extended_texts
+
+-- two extended parts with the same marks and the same names
+pub same_extended : (v w : EntryValue) → map mark_in v.extended_flags ≡ map mark_in w.extended_flags → map mark_in v.extended_numbers ≡ map mark_in w.extended_numbers → map mark_in v.extended_texts ≡ map mark_in w.extended_texts
+    → extended_names v ≡ extended_names w → SameExtended v w
+same_extended v w f n t all =
+    let flag_count : length v.extended_flags ≡ length w.extended_flags = sym (length-map v.extended_flags mark_in) ∙ ap length f ∙ length-map w.extended_flags mark_in in
+    let number_count : length v.extended_numbers ≡ length w.extended_numbers = sym (length-map v.extended_numbers mark_in) ∙ ap length n ∙ length-map w.extended_numbers mark_in in
+    let text_count : length v.extended_texts ≡ length w.extended_texts = sym (length-map v.extended_texts mark_in) ∙ ap length t ∙ length-map w.extended_texts mark_in in
+    let vf = map name_in v.extended_flags in
+    let vn = map name_in v.extended_numbers in
+    let vt = map name_in v.extended_texts in
+    let wf = map name_in w.extended_flags in
+    let wn = map name_in w.extended_numbers in
+    let wt = map name_in w.extended_texts in
+    let nf : length vf ≡ length wf = length-map v.extended_flags name_in ∙ flag_count ∙ sym (length-map w.extended_flags name_in) in
+    let nn : length vn ≡ length wn = length-map v.extended_numbers name_in ∙ number_count ∙ sym (length-map w.extended_numbers name_in) in
+    let nt : length vt ≡ length wt = length-map v.extended_texts name_in ∙ text_count ∙ sym (length-map w.extended_texts name_in) in
+    let front : length (vf ++ vn) ≡ length (wf ++ wn) = length-append vf vn ∙ (let s : length vf + length vn ≡ length wf + length wn = omega arith in s) ∙ sym (length-append wf wn) in
+    let c = cut (vf ++ vn) (wf ++ wn) vt wt front all in
+    let d = cut vf wf vn wn nf c.first in
+    record {
+      flags = pairs_again v.extended_flags w.extended_flags d.first f;
+      numbers = pairs_again v.extended_numbers w.extended_numbers d.rest n;
+      texts = pairs_again v.extended_texts w.extended_texts c.rest t;
+    }
 
 -- the marks of two extended parts, the words of their names, and their tables
 record SameMarks (v w : EntryValue) (ns ns' : List ℤ) (t t' : List ℕ) : Type 0 where
@@ -349,7 +375,7 @@ part_again v w size size' q s z a b same =
     let o = all_names s.table (texts_size v.extended_texts) s.names (extended_names v) (omega (arith, c.1.1.1.0)) s.names_there in
     let o' = all_names z.table (texts_size w.extended_texts) z.names (extended_names w) (omega (arith, c'.1.1.1.0)) z.names_there in
     let m9 : length s.values ≡ length z.values = g.2 ∙ m3 ∙ sym g'.2 in
-    let m10 : length s.names ≡ length z.names = o.2 ∙ names_count v w n1 n2 n3 ∙ sym o'.2 in
+    let m10 : length s.names ≡ length z.names = o.2 ∙ (names_length v ∙ (let s : length v.extended_flags + length v.extended_numbers + length v.extended_texts ≡ length w.extended_flags + length w.extended_numbers + length w.extended_texts = omega arith in s) ∙ sym (names_length w)) ∙ sym o'.2 in
     let k6 = cut a6 b6 x6 y6 (length-map ef byte_of_flag ∙ m1 ∙ sym (length-map ef' byte_of_flag)) k5.rest in
     let k7 = cut a7 b7 x7 y7 (ap (λ n. length (pad n)) n1) k6.rest in
     let k8 = cut a8 b8 x8 y8 (length_flat (λ n. word 2 (word_of_number n)) 2 (λ n. length_word (word_of_number n)) en en' m2) k7.rest in
@@ -366,14 +392,6 @@ part_again v w size size' q s z a b same =
       names = words_again s.names z.names m10 o.0 o'.0 k10.first;
       table = k10.rest;
     }
-  where
-    names_count : (v w : EntryValue) → length v.extended_flags ≡ length w.extended_flags → length v.extended_numbers ≡ length w.extended_numbers → length v.extended_texts ≡ length w.extended_texts → length (extended_names v) ≡ length (extended_names w)
-    names_count v w n1 n2 n3 =
-        let by : (u : EntryValue) → length (extended_names u) ≡ length u.extended_flags + length u.extended_numbers + length u.extended_texts = λ u.
-        length-append (map name_in u.extended_flags ++ map name_in u.extended_numbers) (map name_in u.extended_texts)
-        ∙ ap (λ n. n + length (map name_in u.extended_texts)) (length-append (map name_in u.extended_flags) (map name_in u.extended_numbers))
-        ∙ (let x = length-map u.extended_flags name_in in let y = length-map u.extended_numbers name_in in let t = length-map u.extended_texts name_in in omega arith) in
-        by v ∙ (let s : length v.extended_flags + length v.extended_numbers + length v.extended_texts ≡ length w.extended_flags + length w.extended_numbers + length w.extended_texts = omega arith in s) ∙ sym (by w)
 
 -- the names of two extended parts with the same marks
 names_again : (v w : EntryValue) (size size' : ℕ) (q : List ℕ) (s : HasExtendedPart v size q) (z : HasExtendedPart w size' q) → SameMarks v w s.names z.names s.table z.table → SameExtended v w
@@ -384,23 +402,7 @@ names_again v w size size' q s z h =
     let all : extended_names v ≡ extended_names w =
     sym o.1 ∙ ap (λ t. map (name_of_word t (texts_size v.extended_texts)) s.names) h.table
     ∙ ap (λ n. map (name_of_word z.table n) s.names) base ∙ ap (map (name_of_word z.table (texts_size w.extended_texts))) h.names ∙ o'.1 in
-    let vf = map name_in v.extended_flags in
-    let vn = map name_in v.extended_numbers in
-    let vt = map name_in v.extended_texts in
-    let wf = map name_in w.extended_flags in
-    let wn = map name_in w.extended_numbers in
-    let wt = map name_in w.extended_texts in
-    let nf : length vf ≡ length wf = length-map v.extended_flags name_in ∙ h.flag_count ∙ sym (length-map w.extended_flags name_in) in
-    let nn : length vn ≡ length wn = length-map v.extended_numbers name_in ∙ h.number_count ∙ sym (length-map w.extended_numbers name_in) in
-    let nt : length vt ≡ length wt = length-map v.extended_texts name_in ∙ h.text_count ∙ sym (length-map w.extended_texts name_in) in
-    let front : length (vf ++ vn) ≡ length (wf ++ wn) = length-append vf vn ∙ (let s : length vf + length vn ≡ length wf + length wn = omega arith in s) ∙ sym (length-append wf wn) in
-    let c = cut (vf ++ vn) (wf ++ wn) vt wt front all in
-    let d = cut vf wf vn wn nf c.first in
-    record {
-      flags = pairs_again v.extended_flags w.extended_flags d.first h.flags;
-      numbers = pairs_again v.extended_numbers w.extended_numbers d.rest h.numbers;
-      texts = pairs_again v.extended_texts w.extended_texts c.rest h.texts;
-    }
+    same_extended v w h.flags h.numbers h.texts all
 
 -- an extended part has bytes
 some_part : (v : EntryValue) (size : ℕ) (q : List ℕ) → HasExtendedPart v size q → q ≡ [] → ⊥
@@ -418,12 +420,16 @@ behind_again v w t u r e (inl s) (inr z) = absurd (some_part w (length u) r z s.
 behind_again v w t u r e (inr s) (inl z) = absurd (some_part v (length t) r s z.ends)
 behind_again v w t u r e (inr s) (inr z) = names_again v w (length t) (length u) r s z (part_again v w (length t) (length u) r s z (is_legacy v.width) (is_legacy w.width) (ap length e))
 
+pub same_value : (v w : EntryValue) → v.names ≡ w.names → v.flags ≡ w.flags → v.numbers ≡ w.numbers → v.texts ≡ w.texts → SameExtended v w → v ≡ w
+same_value v w names flags numbers texts more =
+    let width : v.width ≡ w.width = is_legacy v.width ∙ sym (is_legacy w.width) in
+    let fields : ◌≡◌ {A = EntryValue}
+    (record { width = v.width; names = v.names; flags = v.flags; numbers = v.numbers; texts = v.texts; extended_flags = v.extended_flags; extended_numbers = v.extended_numbers; extended_texts = v.extended_texts }) w =
+    rw (width, names, flags, numbers, texts, more.flags, more.numbers, more.texts) refl in
+    fields
+
 pub at_most_one : SpellsAtMostOne
 at_most_one bytes v w s z =
     let same = same_sections v w s.table z.table s.rest z.rest bytes s.sections z.sections in
     let more = behind_again v w s.table z.table z.rest same.table (subst (λ r. HasNoExtendedPart v r ⊎ HasExtendedPart v (length s.table) r) same.rest s.behind) z.behind in
-    let width : v.width ≡ w.width = is_legacy v.width ∙ sym (is_legacy w.width) in
-    let fields : ◌≡◌ {A = EntryValue}
-    (record { width = v.width; names = v.names; flags = v.flags; numbers = v.numbers; texts = v.texts; extended_flags = v.extended_flags; extended_numbers = v.extended_numbers; extended_texts = v.extended_texts }) w =
-    rw (width, same.names, same.flags, same.numbers, same.texts, more.flags, more.numbers, more.texts) refl in
-    fields
+    same_value v w same.names same.flags same.numbers same.texts more

@@ -8,7 +8,7 @@ use Rattle.ti_entry.specs.declared.fault.Fault.TheVariants.{Truncated, BadMagic,
 use Rattle.ti_entry.specs.Value.{EntryValue}
 use Rattle.ti_entry.specs.Layout.{places, header_of}
 use Rattle.ti_entry.specs.Checks.{refused}
-use Rattle.ti_entry.specs.Refusal.{refusal, plain_refusal}
+use Rattle.ti_entry.specs.Refusal.{refusal}
 use Rattle.ti_entry.specs.Content.{plain_content, content}
 use Rattle.ti_entry.specs.Spelling.{Spells}
 use Rattle.ti_entry.specs.Canonical.{canonical}
@@ -215,10 +215,6 @@ extended_behind = refl
 
 odd_behind : map (λ b. refusal (odd ++ b ∷ [])) (0x01 ∷ 0x00 ∷ []) ≡ Some (refused BadPad 25) ∷ Some (refused Truncated 26) ∷ []
 odd_behind = refl
-
--- a byte behind the string table is one too many while no extended part is read
-plain_behind : map plain_refusal (extended ∷ (odd ++ 0x00 ∷ []) ∷ (odd ++ 0x01 ∷ []) ∷ []) ≡ Some (refused Trailing 24) ∷ Some (refused Trailing 25) ∷ Some (refused Trailing 25) ∷ []
-plain_behind = refl
 
 magic_changed : refusal (slice_set small 0 0x1b) ≡ Some (refused BadMagic 0)
 magic_changed = refl

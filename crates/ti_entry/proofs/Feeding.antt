@@ -7,7 +7,7 @@ use Rattle.std.proofs.lemmas.Bool.{cases_lt, le-ltb, lt-ltb}
 use Rattle.std.proofs.lemmas.List.{take-append-le}
 use Rattle.ti_entry.specs.declared.fault.Refused.{Refused}
 use Rattle.ti_entry.specs.Checks.{Verdict, Passes, EndsEarly, Fails, verdict, refusal_of, failure_of}
-use Rattle.ti_entry.specs.Refusal.{plain_checks, plain_refusal, plain_failure}
+use Rattle.ti_entry.specs.Refusal.{checks, refusal, failure}
 use Rattle.ti_entry.specs.Reading.{Reading, failed_on, first_bytes, met, fed, answer_under}
 use Rattle.ti_entry.specs.Laws.{FailureLasts, FailureRefuses, AnyCutting}
 use Rattle.ti_entry.proofs.Growing.{failure_stays}
@@ -20,7 +20,7 @@ has_failed EndsEarly r h = absurd cc
 has_failed (Fails q) r h = let e : q ≡ r = cc in ap Fails e
 
 pub failure_lasts : FailureLasts
-failure_lasts xs ys r h = ap failure_of (failure_stays xs ys r (has_failed (verdict (length xs) (plain_checks xs)) r h))
+failure_lasts xs ys r h = ap failure_of (failure_stays xs ys r (has_failed (verdict (length xs) (checks xs)) r h))
 
 refuses : (len : ℕ) (v : Verdict) (r : Refused) → failure_of v ≡ Some r → refusal_of len v ≡ Some r
 refuses len Passes r h = absurd cc
@@ -28,12 +28,12 @@ refuses len EndsEarly r h = absurd cc
 refuses len (Fails q) r h = h
 
 pub failure_refuses : FailureRefuses
-failure_refuses bytes r h = refuses (length bytes) (verdict (length bytes) (plain_checks bytes)) r h
+failure_refuses bytes r h = refuses (length bytes) (verdict (length bytes) (checks bytes)) r h
 
 pub failed-short : (bytes : List ℕ) → length bytes ≤ 32768 → failed_on bytes ≡ None
 failed-short bytes le = rw (le-ltb 32768 (length bytes) le) refl
 
-failed-long : (bytes : List ℕ) → 32768 < length bytes → failed_on bytes ≡ plain_failure bytes
+failed-long : (bytes : List ℕ) → 32768 < length bytes → failed_on bytes ≡ failure bytes
 failed-long bytes lt = rw (lt-ltb 32768 (length bytes) lt) refl
 
 -- ---- what a reader holds
@@ -47,7 +47,7 @@ failed-is_long bytes r h =
     ]
 
 -- what was refused so far is refused so as a whole
-pub failed-refuses : (bytes : List ℕ) (r : Refused) → failed_on bytes ≡ Some r → plain_refusal bytes ≡ Some r
+pub failed-refuses : (bytes : List ℕ) (r : Refused) → failed_on bytes ≡ Some r → refusal bytes ≡ Some r
 failed-refuses bytes r h = failure_refuses bytes r (sym (failed-long bytes (failed-is_long bytes r h)) ∙ h)
 
 pub met-refused : (bytes : List ℕ) (r : Refused) → failed_on bytes ≡ Some r → met bytes ≡ record { kept = first_bytes bytes; refusal = Some r }
@@ -72,7 +72,7 @@ pub fed-short : (kept piece : List ℕ) → length kept + length piece ≤ 32768
 fed-short kept piece le = sym (met-passed (kept ++ piece) (failed-short (kept ++ piece) (omega (arith, length-append kept piece))))
 
 -- a piece with a byte too many
-pub fed-full : (kept piece : List ℕ) (room : ℕ) (r : Refused) → room + length kept ≡ 32768 → room < length piece → plain_failure (kept ++ piece) ≡ Some r
+pub fed-full : (kept piece : List ℕ) (room : ℕ) (r : Refused) → room + length kept ≡ 32768 → room < length piece → failure (kept ++ piece) ≡ Some r
     → ◌≡◌ {A = Reading} (record { kept = kept ++ take room piece; refusal = Some r }) (fed (record { kept = kept; refusal = None }) piece)
 fed-full kept piece room r full more h =
     let n = length-append kept piece in

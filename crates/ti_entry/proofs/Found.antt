@@ -1,50 +1,28 @@
--- Bytes that pass the checks spell what they are read as.
-use Rattle.std.proofs.Common.{◌≡◌, ℕ, ◌+◌, ◌-◌, ◌*◌, ◌^◌, ◌<◌, ◌≤◌, Bool, true, false, ◌&&◌, eqb, List, [], ◌∷◌, ◌++◌, map, length, get_or, take, drop, inl, inr, refl, sym, ap, ◌∙◌, arith}
+-- Bytes that pass the checks up to the end of the string table have the sections that they are read as.
+use Rattle.std.proofs.Common.{◌≡◌, ℕ, ◌+◌, ◌-◌, ◌*◌, ◌≤◌, Bool, true, false, ◌&&◌, eqb, List, [], ◌∷◌, ◌++◌, map, length, get_or, take, drop, refl, sym, ap, ◌∙◌, arith}
 use Rattle.std.proofs.Math.Seq.{take-add}
-use Rattle.std.proofs.lemmas.List.{drop-drop, take_all, append-nil, length-take-le, length-drop}
-use Rattle.std.proofs.lemmas.Bool.{cases_lt, eqb-true, leb-true}
+use Rattle.std.proofs.lemmas.List.{drop-drop, take-append-drop, length-take-le, length-drop}
+use Rattle.std.proofs.lemmas.Bool.{eqb-true, leb-true}
 use Rattle.std.specs.Prelude.{slice_range}
 use Rattle.ti_words.specs.declared.Width.TheVariants.{Legacy}
-use Rattle.ti_words.specs.Marks.{byte_of_flag, word_of_number}
-use Rattle.ti_entry.specs.declared.fault.Fault.TheVariants.{BadHeader, BadNames, BadPad}
-use Rattle.ti_entry.specs.Word.{unsigned_at, word_at, word}
+use Rattle.ti_entry.specs.declared.fault.Fault.TheVariants.{BadHeader, BadNames}
+use Rattle.ti_entry.specs.Word.{unsigned_at, word_at}
 use Rattle.ti_entry.specs.Layout.{header_of, places, pad_len, flags_from, pad_from, numbers_from, offsets_from, table_from, end_of}
 use Rattle.ti_entry.specs.Table.{is_nul, table_of}
-use Rattle.ti_entry.specs.Checks.{Passes, verdict, is_not_negative, sign_check, sign_checks, name_check, nul_check, name_checks, flag_check, flag_checks, pad_checks, number_check, number_checks, offset_check, offset_checks, ending_check, ending_checks, end_check, table_check, end_checks}
-use Rattle.ti_entry.specs.Refusal.{magic_check, size_check, named_check, magic_checks, size_checks, front_checks, section_checks, plain_checks}
+use Rattle.ti_entry.specs.Checks.{Passes, verdict, sign_check, sign_checks, name_check, nul_check, name_checks, flag_checks, pad_checks, number_checks, offset_checks, ending_check, ending_checks, table_check}
+use Rattle.ti_entry.specs.Refusal.{magic_check, size_check, named_check, magic_checks, size_checks, front_checks, section_checks}
 use Rattle.ti_entry.specs.Content.{flag_at, number_at, text_at, plain_content}
-use Rattle.ti_entry.specs.Spelling.{SpellsPlain, FitsWidth, IsText, magic, count_word, words_of, numbers_of, flags_of, pad}
+use Rattle.ti_entry.specs.Spelling.{HasSections, magic, count_word, words_of, numbers_of, flags_of, pad}
 use Rattle.ti_entry.proofs.Places.{length_places}
-use Rattle.ti_entry.proofs.Passing.{FirstPasses, first_passes}
-use Rattle.ti_entry.proofs.WordLaws.{IsBytes, below, above, word_is, two_bytes, one_byte, number_again, has_word}
-use Rattle.ti_entry.proofs.TextLaws.{is_text}
-use Rattle.ti_entry.proofs.SectionLaws.{both_pass, Passed, each_passed, items_are, each_item, all_items, no_nuls, flag_again, one_by_one, nul_byte, zeros}
+use Rattle.ti_entry.proofs.Passing.{first_passes}
+use Rattle.ti_entry.proofs.WordLaws.{IsBytes, two_bytes, one_byte}
+use Rattle.ti_entry.proofs.KindsFound.{IsCount, count_is, front, flags_are, pad_is, numbers_are, numbers_fit, words_are, texts_are}
+use Rattle.ti_entry.proofs.SectionLaws.{both_pass, each_passed, no_nuls}
 
 both_true : (a b : Bool) → (a && b) ≡ true → (a ≡ true) × (b ≡ true)
 both_true true true h = (refl, refl)
 both_true true false h = absurd cc
 both_true false b h = absurd cc
-
--- a word that is not negative is a count
-pub record IsCount (bytes : List ℕ) (p : ℕ) : Type 0 where
-  pub small : unsigned_at 2 bytes p < 2 ^ 15
-  pub bytes_are : take 2 (drop p bytes) ≡ count_word (unsigned_at 2 bytes p)
-
-pub count_is : (bytes : List ℕ) (p : ℕ) → IsBytes bytes → p + 2 ≤ length bytes → is_not_negative (word_at 2 bytes p) ≡ true → IsCount bytes p
-count_is bytes p fits le h =
-    let u = unsigned_at 2 bytes p in
-    elim (cases_lt (2 * u) 65536) [
-      | inl lt ↦ record { small = omega arith; bytes_are = word_is bytes p fits le ∙ ap (word 2) (below u lt) }
-      | inr ge ↦
-          let b0 : get_or bytes p 0 < 256 = fits p in
-          let b1 : get_or bytes (p + 1) 0 < 256 = fits (p + 1) in
-          let e : is_not_negative (word_at 2 bytes p) ≡ false = ap is_not_negative (above u (65535 - u) (omega arith) ge) in
-          absurd (let f : true ≡ false = sym h ∙ e in cc)
-    ]
-
--- one section more at the end of a front
-pub front : (bytes : List ℕ) (from k : ℕ) (x s : List ℕ) → take from bytes ≡ x → take k (drop from bytes) ≡ s → take (from + k) bytes ≡ x ++ s
-front bytes from k x s e f = take-add from k bytes ∙ ap (λ t. t ++ take k (drop from bytes)) e ∙ ap (λ t. x ++ t) f
 
 -- what the first checks say
 pub record HasFront (bytes : List ℕ) : Type 0 where
@@ -86,52 +64,6 @@ front_is bytes fits h =
       named = leb-true _ _ small.holds;
     }
 
--- what the checks of the sections say
-pub record HasAll (bytes : List ℕ) : Type 0 where
-  pub ahead : HasFront bytes
-  pub ends : length bytes ≡ end_of (header_of bytes)
-  pub names : (i : ℕ) → i < (header_of bytes).names - 1 → Passed (length bytes) (name_check bytes (12 + 1 * i))
-  pub named : FirstPasses (length bytes) (nul_check bytes BadNames (11 + (header_of bytes).names)) []
-  pub flags : (i : ℕ) → i < (header_of bytes).flags → Passed (length bytes) (flag_check bytes (flags_from (header_of bytes) + 1 * i))
-  pub pads : (i : ℕ) → i < pad_len ((header_of bytes).names + (header_of bytes).flags) → Passed (length bytes) (nul_check bytes BadPad (pad_from (header_of bytes) + 1 * i))
-  pub numbers : (i : ℕ) → i < (header_of bytes).numbers → Passed (length bytes) (number_check bytes 2 (numbers_from (header_of bytes) + 2 * i))
-  pub offsets : (i : ℕ) → i < (header_of bytes).texts → Passed (length bytes) (offset_check bytes (header_of bytes).table (offsets_from (header_of bytes) + 2 * i))
-  pub endings : (i : ℕ) → i < (header_of bytes).texts → Passed (length bytes) (ending_check bytes (table_of bytes (header_of bytes)) (end_of (header_of bytes)) (offsets_from (header_of bytes) + 2 * i))
-
-pub all_is : (bytes : List ℕ) → IsBytes bytes → Passes ≡ verdict (length bytes) (plain_checks bytes) → HasAll bytes
-all_is bytes fits h =
-    let len = length bytes in
-    let hd = header_of bytes in
-    let names = name_checks bytes hd.names in
-    let flags = flag_checks bytes (flags_from hd) hd.flags in
-    let pads = pad_checks bytes (pad_from hd) (hd.names + hd.flags) in
-    let numbers = number_checks bytes 2 (numbers_from hd) hd.numbers in
-    let offsets = offset_checks bytes hd.table (offsets_from hd) hd.texts in
-    let endings = ending_checks bytes (table_of bytes hd) (end_of hd) (offsets_from hd) hd.texts in
-    let a = both_pass len (front_checks bytes hd ++ section_checks bytes hd) (end_checks bytes (end_of hd)) h in
-    let b = both_pass len (front_checks bytes hd) (section_checks bytes hd) a.0 in
-    let c5 = both_pass len (((((names ++ flags) ++ pads) ++ numbers) ++ offsets)) endings b.1 in
-    let c4 = both_pass len ((((names ++ flags) ++ pads) ++ numbers)) offsets c5.0 in
-    let c3 = both_pass len (((names ++ flags) ++ pads)) numbers c4.0 in
-    let c2 = both_pass len ((names ++ flags)) pads c3.0 in
-    let c1 = both_pass len names flags c2.0 in
-    let n = both_pass len (map (name_check bytes) (places 12 1 (hd.names - 1))) (nul_check bytes BadNames (11 + hd.names) ∷ []) c1.0 in
-    let last = first_passes len (end_check bytes (end_of hd)) [] a.1 in
-    let table = first_passes len (table_check (end_of hd)) (map (ending_check bytes (table_of bytes hd) (end_of hd)) (places (offsets_from hd) 2 hd.texts)) c5.1 in
-    let at_most : len ≤ end_of hd = leb-true _ _ last.holds in
-    let at_least : end_of hd ≤ len = last.long in
-    record {
-      ahead = front_is bytes fits b.0;
-      ends = omega arith;
-      names = each_passed (name_check bytes) len 12 1 (hd.names - 1) n.0;
-      named = first_passes len (nul_check bytes BadNames (11 + hd.names)) [] n.1;
-      flags = each_passed (flag_check bytes) len (flags_from hd) 1 hd.flags c1.1;
-      pads = each_passed (nul_check bytes BadPad) len (pad_from hd) 1 (pad_len (hd.names + hd.flags)) c2.1;
-      numbers = each_passed (number_check bytes 2) len (numbers_from hd) 2 hd.numbers c3.1;
-      offsets = each_passed (offset_check bytes hd.table) len (offsets_from hd) 2 hd.texts c4.1;
-      endings = each_passed (ending_check bytes (table_of bytes hd) (end_of hd)) len (offsets_from hd) 2 hd.texts table.rest;
-    }
-
 -- the names and their NUL
 pub names_are : (bytes : List ℕ) (size : ℕ) → 2 ≤ size → 12 + size ≤ length bytes → is_nul (get_or bytes (11 + size) 0) ≡ true → take size (drop 12 bytes) ≡ slice_range bytes 12 (11 + size) ++ 0 ∷ []
 names_are bytes size some le nul =
@@ -145,15 +77,38 @@ names_are bytes size some le nul =
 pub names_length : (bytes : List ℕ) (size : ℕ) → 2 ≤ size → 12 + size ≤ length bytes → length (slice_range bytes 12 (11 + size)) + 1 ≡ size
 names_length bytes size some le = omega (arith, length-take-le (11 + size - 12) (drop 12 bytes) (omega (arith, length-drop 12 bytes)))
 
-pub found : (bytes : List ℕ) → IsBytes bytes → Passes ≡ verdict (length bytes) (plain_checks bytes) → SpellsPlain bytes (plain_content bytes (header_of bytes))
-found bytes fits h =
-    let all = all_is bytes fits h in
+-- the sections up to the end of the string table, and what stands behind
+pub record HasPlain (bytes : List ℕ) : Type 0 where
+  pub fits : end_of (header_of bytes) ≤ 32768
+  pub there : end_of (header_of bytes) ≤ length bytes
+  pub table_size : length (table_of bytes (header_of bytes)) ≡ (header_of bytes).table
+  pub sections : HasSections (plain_content bytes (header_of bytes)) (table_of bytes (header_of bytes)) (drop (end_of (header_of bytes)) bytes) bytes
+
+pub sections_found : (bytes : List ℕ) → IsBytes bytes → Passes ≡ verdict (length bytes) (front_checks bytes (header_of bytes)) → Passes ≡ verdict (length bytes) (section_checks bytes (header_of bytes)) → HasPlain bytes
+sections_found bytes fits ahead h =
+    let len = length bytes in
     let hd = header_of bytes in
-    let f = all.ahead in
+    let names = name_checks bytes hd.names in
+    let flags = flag_checks bytes (flags_from hd) hd.flags in
+    let pads = pad_checks bytes (pad_from hd) (hd.names + hd.flags) in
+    let numbers = number_checks bytes 2 (numbers_from hd) hd.numbers in
+    let offset_list = offset_checks bytes hd.table (offsets_from hd) hd.texts in
+    let endings = ending_checks bytes (table_of bytes hd) (end_of hd) (offsets_from hd) hd.texts in
+    let c5 = both_pass len (((((names ++ flags) ++ pads) ++ numbers) ++ offset_list)) endings h in
+    let c4 = both_pass len ((((names ++ flags) ++ pads) ++ numbers)) offset_list c5.0 in
+    let c3 = both_pass len (((names ++ flags) ++ pads)) numbers c4.0 in
+    let c2 = both_pass len ((names ++ flags)) pads c3.0 in
+    let c1 = both_pass len names flags c2.0 in
+    let n = both_pass len (map (name_check bytes) (places 12 1 (hd.names - 1))) (nul_check bytes BadNames (11 + hd.names) ∷ []) c1.0 in
+    let each_name = each_passed (name_check bytes) len 12 1 (hd.names - 1) n.0 in
+    let named = first_passes len (nul_check bytes BadNames (11 + hd.names)) [] n.1 in
+    let at_end = first_passes len (table_check (end_of hd)) (map (ending_check bytes (table_of bytes hd) (end_of hd)) (places (offsets_from hd) 2 hd.texts)) c5.1 in
+    let there : end_of hd ≤ len = at_end.long in
+    let f = front_is bytes fits ahead in
     let v = plain_content bytes hd in
     let table = table_of bytes hd in
-    let table_len : length table ≡ hd.table = length-take-le hd.table (drop (table_from hd) bytes) (let l : length (drop (table_from hd) bytes) ≡ length bytes - table_from hd = length-drop (table_from hd) bytes in let e = all.ends in omega arith) in
-    let whole = all.ends in
+    let rest = drop (end_of hd) bytes in
+    let table_len : length table ≡ hd.table = length-take-le hd.table (drop (table_from hd) bytes) (omega (arith, length-drop (table_from hd) bytes)) in
     let limit = f.fits in
     let some = f.named in
     let names_len : length v.names + 1 ≡ hd.names = names_length bytes hd.names some (omega arith) in
@@ -178,37 +133,25 @@ found bytes fits h =
     let t3 : take 8 bytes ≡ x3 = front bytes 6 2 x2 (count_word (length v.numbers)) t2 (f.numbers.bytes_are ∙ ap count_word (sym numbers_len)) in
     let t4 : take 10 bytes ≡ x4 = front bytes 8 2 x3 (count_word (length v.texts)) t3 (f.texts.bytes_are ∙ ap count_word (sym texts_len)) in
     let t5 : take 12 bytes ≡ x5 = front bytes 10 2 x4 (count_word (length table)) t4 (f.table.bytes_are ∙ ap count_word (sym table_len)) in
-    let t6 : take (12 + hd.names) bytes ≡ x6 = front bytes 12 hd.names x5 (v.names ++ 0 ∷ []) t5 (names_are bytes hd.names some (omega arith) all.named.holds) in
-    let flags_is : take hd.flags (drop (flags_from hd) bytes) ≡ flags_of v.flags =
-    ap (λ k. take k (drop (flags_from hd) bytes)) (let one : hd.flags ≡ 1 * hd.flags = omega arith in one)
-    ∙ items_are bytes (λ x. byte_of_flag x ∷ []) (flag_at bytes) (flags_from hd) 1 hd.flags (λ i lt. let p = all.flags i lt in one_byte bytes (flags_from hd + 1 * i) p.long ∙ ap (λ (x : ℕ). x ∷ []) (sym (flag_again (get_or bytes (flags_from hd + 1 * i) 0) p.holds)))
-    ∙ one_by_one byte_of_flag v.flags in
-    let t7 : take (flags_from hd + hd.flags) bytes ≡ x7 = front bytes (flags_from hd) hd.flags x6 (flags_of v.flags) t6 flags_is in
-    let pad_is : take (pad_len (hd.names + hd.flags)) (drop (pad_from hd) bytes) ≡ pad (length v.names + 1 + length v.flags) =
-    ap (λ k. take k (drop (pad_from hd) bytes)) (let one : pad_len (hd.names + hd.flags) ≡ 1 * pad_len (hd.names + hd.flags) = omega arith in one)
-    ∙ items_are bytes nul_byte (λ p. p) (pad_from hd) 1 (pad_len (hd.names + hd.flags)) (λ i lt. let p = all.pads i lt in one_byte bytes (pad_from hd + 1 * i) p.long ∙ ap (λ (x : ℕ). x ∷ []) (eqb-true _ _ p.holds))
-    ∙ zeros (λ p. p) (pad_from hd) (pad_len (hd.names + hd.flags))
-    ∙ ap pad (let sum : hd.names + hd.flags ≡ length v.names + 1 + length v.flags = omega arith in sum) in
-    let t8 : take (numbers_from hd) bytes ≡ x8 = front bytes (pad_from hd) (pad_len (hd.names + hd.flags)) x7 (pad (length v.names + 1 + length v.flags)) t7 pad_is in
-    let numbers_is : take (2 * hd.numbers) (drop (numbers_from hd) bytes) ≡ numbers_of Legacy v.numbers =
-    items_are bytes (λ n. word 2 (word_of_number n)) (number_at 2 bytes) (numbers_from hd) 2 hd.numbers (λ i lt. let p = all.numbers i lt in word_is bytes (numbers_from hd + 2 * i) fits p.long ∙ ap (word 2) (sym (number_again (word_at 2 bytes (numbers_from hd + 2 * i)) p.holds))) in
-    let t9 : take (offsets_from hd) bytes ≡ x9 = front bytes (numbers_from hd) (2 * hd.numbers) x8 (numbers_of Legacy v.numbers) t8 numbers_is in
-    let offsets_is : take (2 * hd.texts) (drop (offsets_from hd) bytes) ≡ words_of offsets =
-    items_are bytes (word 2) (word_at 2 bytes) (offsets_from hd) 2 hd.texts (λ i lt. word_is bytes (offsets_from hd + 2 * i) fits (all.offsets i lt).long) in
-    let t10 : take (table_from hd) bytes ≡ x10 = front bytes (offsets_from hd) (2 * hd.texts) x9 (words_of offsets) t9 offsets_is in
+    let t6 : take (12 + hd.names) bytes ≡ x6 = front bytes 12 hd.names x5 (v.names ++ 0 ∷ []) t5 (names_are bytes hd.names some (omega arith) named.holds) in
+    let t7 : take (flags_from hd + hd.flags) bytes ≡ x7 = front bytes (flags_from hd) hd.flags x6 (flags_of v.flags) t6 (flags_are bytes (flags_from hd) hd.flags c1.1) in
+    let pad_same : pad (hd.names + hd.flags) ≡ pad (length v.names + 1 + length v.flags) = ap pad (let sum : hd.names + hd.flags ≡ length v.names + 1 + length v.flags = omega arith in sum) in
+    let t8 : take (numbers_from hd) bytes ≡ x8 = front bytes (pad_from hd) (pad_len (hd.names + hd.flags)) x7 (pad (length v.names + 1 + length v.flags)) t7 (pad_is bytes (pad_from hd) (hd.names + hd.flags) c2.1 ∙ pad_same) in
+    let t9 : take (offsets_from hd) bytes ≡ x9 = front bytes (numbers_from hd) (2 * hd.numbers) x8 (numbers_of Legacy v.numbers) t8 (numbers_are bytes (numbers_from hd) hd.numbers fits c3.1) in
+    let t10 : take (table_from hd) bytes ≡ x10 = front bytes (offsets_from hd) (2 * hd.texts) x9 (words_of offsets) t9 (words_are bytes (offsets_from hd) hd.texts fits (omega arith)) in
     let t11 : take (end_of hd) bytes ≡ x11 = front bytes (table_from hd) hd.table x10 table t10 refl in
-    let joined : bytes ≡ x11 ++ [] = sym (take_all (end_of hd) bytes (omega arith)) ∙ t11 ∙ sym (append-nil x11) in
+    let joined : bytes ≡ x11 ++ rest = sym (take-append-drop (end_of hd) bytes) ∙ ap (λ t. t ++ rest) t11 in
     record {
-      fits = omega arith;
-      table = table;
+      fits = limit;
+      there = there;
+      table_size = table_len;
       sections = record {
         offsets = offsets;
         joined = joined;
         counts = (rw names_len f.names.small, (rw flags_len f.flags.small, (rw numbers_len f.numbers.small, (rw texts_len f.texts.small, (rw table_len f.table.small, tt)))));
         named = omega arith;
-        names_fit = no_nuls bytes 12 (11 + hd.names - 12) (omega arith) (λ i lt. (all.names i (omega arith)).holds);
-        numbers_fit = all_items (FitsWidth Legacy) (number_at 2 bytes) (numbers_from hd) 2 hd.numbers (λ i lt. let b0 = fits (numbers_from hd + 2 * i) in let b1 = fits (numbers_from hd + 2 * i + 1) in has_word (unsigned_at 2 bytes (numbers_from hd + 2 * i)) (omega arith));
-        texts_there = each_item (IsText table) (word_at 2 bytes) (text_at table bytes) (offsets_from hd) 2 hd.texts (λ i lt. is_text table (word_at 2 bytes (offsets_from hd + 2 * i)) (rw table_len (all.offsets i lt).holds) (all.endings i lt).holds);
+        names_fit = no_nuls bytes 12 (11 + hd.names - 12) (omega arith) (λ i lt. (each_name i (omega arith)).holds);
+        numbers_fit = numbers_fit bytes (numbers_from hd) hd.numbers fits;
+        texts_there = texts_are bytes table (end_of hd) (offsets_from hd) hd.texts (c4.1 ∙ ap (λ n. verdict len (offset_checks bytes n (offsets_from hd) hd.texts)) (sym table_len)) c5.1;
       };
-      nothing_more = record { ends = refl; no_flags = refl; no_numbers = refl; no_texts = refl };
     }

@@ -81,6 +81,10 @@ word_read pre post (negsuc n) (is_mark m lt) =
     ap (λ w. word_at 2 (pre ++ (low_bytes 2 w ++ post)) (length pre)) k
     ∙ ap (signed 2) (pair_at pre post (u % 256) (u / 256 % 256) ∙ low_two u (omega arith)) ∙ above u n (omega arith) (omega arith)
 
+-- an unsigned number behind some bytes
+pub place_read : (pre post : List ℕ) (n : ℕ) → 2 * n < 65536 → unsigned_at 2 (pre ++ (word 2 (pos n) ++ post)) (length pre) ≡ n
+place_read pre post n lt = pair_at pre post (n % 256) (n / 256 % 256) ∙ low_two n (omega arith)
+
 pub length_word : (z : ℤ) → length (word 2 z) ≡ 2
 length_word (pos n) = refl
 length_word (negsuc n) = refl

@@ -1,5 +1,7 @@
 -- Going over a section item by item.
 use Rattle.std.proofs.Common.{◌≡◌, ℕ, suc, ◌+◌, ◌-◌, ◌*◌, ◌<◌, ◌≤◌, true, false, cond, ltb, List, [], ◌∷◌, ◌++◌, map, refl, sym, ap, ◌∙◌, arith}
+use Rattle.std.specs.List.{flat_map}
+use Rattle.std.proofs.lemmas.List.Concat.{flat_map-cons}
 use Rattle.ti_entry.specs.declared.fault.Stop.{Stop}
 use Rattle.ti_entry.specs.declared.fault.Stop.TheVariants.{Early, Failed}
 use Rattle.ti_entry.specs.Layout.{places}
@@ -61,7 +63,13 @@ all_hold f len from size count i total le so_far =
     let none : rest_of f len from size count i ≡ Passes = rw k refl in
     sym none ∙ so_far
 
--- where the first of two lists stops, and where the second of three does, or the third
+-- where the first of three lists stops, or the second, or the third
+pub stops_first : (len : ℕ) (xs ys zs : List Check) (stop : Stop) → stopped stop ≡ verdict len xs → stopped stop ≡ verdict len ((xs ++ ys) ++ zs)
+stops_first len xs ys zs stop first =
+    sym (verdict_append len (xs ++ ys) zs
+    ∙ ap (λ v. then v (verdict len zs)) (verdict_append len xs ys ∙ ap (λ v. then v (verdict len ys)) (sym first) ∙ then-stopped stop (verdict len ys))
+    ∙ then-stopped stop (verdict len zs))
+
 pub stops_second : (len : ℕ) (xs ys zs : List Check) (stop : Stop) → Passes ≡ verdict len xs → stopped stop ≡ verdict len ys → stopped stop ≡ verdict len ((xs ++ ys) ++ zs)
 stops_second len xs ys zs stop first second =
     sym (verdict_append len (xs ++ ys) zs
@@ -73,3 +81,35 @@ stops_third len xs ys zs stop first second third =
     sym (verdict_append len (xs ++ ys) zs
     ∙ ap (λ v. then v (verdict len zs)) (verdict_append len xs ys ∙ ap (λ v. then v (verdict len ys)) (sym first) ∙ sym second)
     ∙ sym third)
+
+pub third_decides : (len : ℕ) (xs ys zs : List Check) (v : Verdict) → Passes ≡ verdict len xs → Passes ≡ verdict len ys → v ≡ verdict len zs → v ≡ verdict len ((xs ++ ys) ++ zs)
+third_decides len xs ys zs v first second third =
+    sym (verdict_append len (xs ++ ys) zs
+    ∙ ap (λ v. then v (verdict len zs)) (verdict_append len xs ys ∙ ap (λ v. then v (verdict len ys)) (sym first) ∙ sym second)
+    ∙ sym third)
+
+-- ---- sections of items with several checks each
+
+-- what is left of a section after i items
+abbrev pub rest_of_each : (ℕ → List Check) → ℕ → ℕ → ℕ → ℕ → ℕ → Verdict
+rest_of_each f len from size count i = verdict len (flat_map f (places (from + size * i) size (count - i)))
+
+opened_each : (f : ℕ → List Check) (len from size count i place : ℕ) → i < count → place ≡ from + size * i
+    → rest_of_each f len from size count i ≡ then (verdict len (f place)) (rest_of_each f len from size count (i + 1))
+opened_each f len from size count i place lt e =
+    let k : count - i ≡ suc (count - (i + 1)) = omega arith in
+    let next : place + size ≡ from + size * (i + 1) = omega arith in
+    let rest = places (from + size * (i + 1)) size (count - (i + 1)) in
+    let at : from + size * i ≡ place = sym e in
+    let list : places (from + size * i) size (count - i) ≡ place ∷ rest = rw (k, at, next) refl in
+    ap (λ ps. verdict len (flat_map f ps)) list ∙ ap (verdict len) (flat_map-cons f place rest) ∙ verdict_append len (f place) (flat_map f rest)
+
+pub goes_on_each : (f : ℕ → List Check) (len from size count i place : ℕ) (total : Verdict) → i < count → place ≡ from + size * i
+    → Passes ≡ verdict len (f place) → rest_of_each f len from size count i ≡ total → rest_of_each f len from size count (i + 1) ≡ total
+goes_on_each f len from size count i place total lt e holds so_far =
+    sym (opened_each f len from size count i place lt e ∙ ap (λ v. then v (rest_of_each f len from size count (i + 1))) (sym holds)) ∙ so_far
+
+pub stops_each : (f : ℕ → List Check) (len from size count i place : ℕ) (total : Verdict) (stop : Stop) → i < count → place ≡ from + size * i
+    → stopped stop ≡ verdict len (f place) → rest_of_each f len from size count i ≡ total → stopped stop ≡ total
+stops_each f len from size count i place total stop lt e fails so_far =
+    sym (opened_each f len from size count i place lt e ∙ ap (λ v. then v (rest_of_each f len from size count (i + 1))) (sym fails) ∙ then-stopped stop _) ∙ so_far

@@ -4,8 +4,7 @@ use Rattle.std.specs.Prelude.{Option, Some, None, Err}
 use Rattle.std.specs.Io.KnownBytes.{Consumes, Keeps}
 use Rattle.std.proofs.KnownBytes.{Consumes-trans, Consumes-nil, Consumes-kept}
 use Rattle.ti_entry.specs.declared.fault.Refused.{Refused}
-use Rattle.ti_entry.specs.Layout.{header_of}
-use Rattle.ti_entry.specs.Content.{plain_content}
+use Rattle.ti_entry.specs.Content.{content}
 use Rattle.ti_entry.specs.Reading.{Reading, new_reading, failed_on, met, fed, answer_under, answer_for, FeedsFrom}
 use Rattle.ti_entry.proofs.Feeding.{met-passed, met-none, fed-none, failed-refuses}
 
@@ -56,4 +55,4 @@ pub FeedsFrom-refusal : (a b : Option (List ℕ)) (new : Reading) (r : Refused) 
 FeedsFrom-refusal a b new r h some =
     let (bytes, taken, is_fed) = h in
     let failed : failed_on bytes ≡ Some r = sym (ap (λ r. r.refusal) is_fed) ∙ some in
-    (bytes, taken, ap (λ o. answer_under o (plain_content bytes (header_of bytes))) (failed-refuses bytes r failed))
+    (bytes, taken, ap (λ o. answer_under o (content bytes)) (failed-refuses bytes r failed))

@@ -10,7 +10,8 @@ use Rattle.ti_words.specs.Texts.{TextValue}
 use Rattle.ti_entry.specs.Word.{unsigned_at, word_at}
 use Rattle.ti_entry.specs.Value.{EntryValue}
 use Rattle.ti_entry.specs.declared.header.Header.{Header}
-use Rattle.ti_entry.specs.Layout.{header_of, number_size, places, flags_from, numbers_from, offsets_from, end_of, ExtendedHeader, extended_header_of, extended_flags_from, extended_numbers_from, extended_values_from, extended_names_from}
+use Rattle.ti_entry.specs.declared.extended_header.ExtendedHeader.{ExtendedHeader}
+use Rattle.ti_entry.specs.Layout.{header_of, number_size, places, flags_from, numbers_from, offsets_from, end_of, extended_header_of, extended_flags_from, extended_numbers_from, extended_values_from, extended_names_from}
 use Rattle.ti_entry.specs.Table.{text_from, text_of_word, table_of, extended_table_of, base_of}
 
 abbrev pub flag_at : List ℕ → ℕ → Flag

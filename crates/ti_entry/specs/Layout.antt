@@ -3,6 +3,7 @@ use Rattle.std.specs.Prelude.{ℕ, zero, suc, ◌+◌, ◌*◌, ◌%◌, List, [
 use Rattle.ti_words.specs.declared.Width.{Width}
 use Rattle.ti_words.specs.declared.Width.TheVariants.{Legacy}
 use Rattle.ti_entry.specs.declared.header.Header.{Header}
+use Rattle.ti_entry.specs.declared.extended_header.ExtendedHeader.{ExtendedHeader}
 use Rattle.ti_entry.specs.Word.{unsigned_at}
 
 -- the most bytes of an entry
@@ -55,15 +56,7 @@ end_of h = table_from h + h.table
 
 -- ---- the extended part (term(5), extended storage format)
 
--- the words of the extended header, and where it begins; the word items is not among them, as nothing reads it
-pub record ExtendedHeader : Type 0 where
-  pub width : Width
-  pub from : ℕ
-  pub flags : ℕ
-  pub numbers : ℕ
-  pub texts : ℕ
-  pub table : ℕ
-
+-- The words of the extended header, and where it begins. The word items is not among them, as nothing reads it.
 abbrev pub extended_from : Header → ℕ
 extended_from h = end_of h + pad_len h.table
 
@@ -94,8 +87,12 @@ extended_values_from x = extended_numbers_from x + number_size x.width * x.numbe
 abbrev pub extended_names_from : ExtendedHeader → ℕ
 extended_names_from x = extended_values_from x + 2 * x.texts
 
+-- each capability has a name
+abbrev pub extended_name_count : ExtendedHeader → ℕ
+extended_name_count x = x.flags + x.numbers + x.texts
+
 abbrev pub extended_table_from : ExtendedHeader → ℕ
-extended_table_from x = extended_names_from x + 2 * (x.flags + x.numbers + x.texts)
+extended_table_from x = extended_names_from x + 2 * extended_name_count x
 
 -- the end of the entry
 abbrev pub extended_end_of : ExtendedHeader → ℕ

@@ -7,7 +7,11 @@ pub mod Checks
 pub mod Reach
 pub mod Refusal
 pub mod Content
+pub mod Held
+pub mod Finding
 pub mod Canonical
+pub mod Lengths
+pub mod Unfit
 pub mod Faults
 pub mod Reading
 pub mod Laws

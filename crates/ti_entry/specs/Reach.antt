@@ -1,8 +1,10 @@
--- How all texts of a table are asked for their NULs at once: by the place behind its last NUL.
+-- How all texts and names of a table are asked for their NULs at once: by the place behind its last NUL.
 -- Only private functions of the crate cite this.
-use Rattle.std.specs.Prelude.{◌≡◌, ℕ, ℤ, pos, negsuc, Bool, true, List, nat_lt}
-use Rattle.ti_entry.specs.declared.fault.Fault.TheVariants.{Unterminated}
-use Rattle.ti_entry.specs.Word.{word_at}
+use Rattle.std.specs.Prelude.{◌≡◌, ℕ, ◌+◌, ℤ, pos, negsuc, Bool, true, List, [], ◌∷◌, nat_lt}
+use Rattle.std.specs.List.{flat_map}
+use Rattle.ti_entry.specs.declared.fault.Fault.TheVariants.{BadExtendedName, Unterminated}
+use Rattle.ti_entry.specs.declared.checks.NameTable.{NameTable}
+use Rattle.ti_entry.specs.Word.{unsigned_at, word_at}
 use Rattle.ti_entry.specs.Table.{ends_in}
 use Rattle.ti_entry.specs.Checks.{Check, check}
 
@@ -17,3 +19,13 @@ is_before reach (negsuc n) = true
 
 abbrev pub reach_check : List ℕ → ℕ → ℕ → ℕ → Check
 reach_check bytes reach end p = check end (is_before reach (word_at 2 bytes p)) Unterminated p
+
+-- the name at an offset: it begins in the table, and before the reach
+abbrev pub name_reach_checks : List ℕ → NameTable → ℕ → List Check
+name_reach_checks bytes t p =
+    check t.end (nat_lt (t.base + unsigned_at 2 bytes p) t.size) BadExtendedName p
+    ∷ check t.end (nat_lt (t.base + unsigned_at 2 bytes p) t.reach) Unterminated p
+    ∷ []
+
+abbrev pub all_name_reach_checks : List ℕ → NameTable → List ℕ → List Check
+all_name_reach_checks bytes t ps = flat_map (name_reach_checks bytes t) ps

@@ -5,9 +5,9 @@ use Rattle.ti_entry.specs.declared.fault.Refused.{Refused}
 use Rattle.ti_entry.specs.declared.source.ReadStop.{ReadStop}
 use Rattle.ti_entry.specs.declared.source.ReadStop.TheVariants as stop
 use Rattle.ti_entry.specs.Value.{EntryValue}
-use Rattle.ti_entry.specs.Layout.{limit, header_of}
-use Rattle.ti_entry.specs.Refusal.{plain_refusal, plain_failure}
-use Rattle.ti_entry.specs.Content.{plain_content}
+use Rattle.ti_entry.specs.Layout.{limit}
+use Rattle.ti_entry.specs.Refusal.{refusal, failure}
+use Rattle.ti_entry.specs.Content.{content}
 
 -- the refusal where there is one, else a value
 abbrev pub answer_under : {A : Type 0} → Option Refused → A → Result A Refused
@@ -16,7 +16,7 @@ answer_under (Some refused) v = Err refused
 
 -- what a read of the bytes answers
 abbrev pub answer_for : List ℕ → Result EntryValue Refused
-answer_for bytes = answer_under (plain_refusal bytes) (plain_content bytes (header_of bytes))
+answer_for bytes = answer_under (refusal bytes) (content bytes)
 
 -- ---- the reader
 
@@ -30,7 +30,7 @@ new_reading = record { kept = []; refusal = None }
 
 -- why bytes are refused as they come, where they are: there are too many, and then their first failing check
 abbrev pub failed_on : List ℕ → Option Refused
-failed_on bytes = if nat_lt limit (length bytes) then plain_failure bytes else None
+failed_on bytes = if nat_lt limit (length bytes) then failure bytes else None
 
 -- the bytes of an entry's greatest length
 unfoldable pub first_bytes : List ℕ → List ℕ

@@ -1,9 +1,11 @@
 -- Which bytes are refused, and why: all checks of an entry, in their order.
 use Rattle.std.specs.Prelude.{ℕ, ◌+◌, ◌&&◌, List, [], ◌∷◌, ◌++◌, length, slice_index, Option, ◌==◌, nat_le, if◌then◌else◌}
-use Rattle.ti_entry.specs.declared.fault.Fault.TheVariants.{BadMagic, BadHeader, HeaderTooBig, BadNames, BadExtendedHeader, ExtendedTooBig, BadExtendedName}
+use Rattle.ti_entry.specs.declared.fault.Fault.{Fault}
+use Rattle.ti_entry.specs.declared.fault.Fault.TheVariants.{BadMagic, BadHeader, HeaderTooBig, BadNames, BadExtendedHeader, ExtendedTooBig, BadExtendedName, Trailing}
 use Rattle.ti_entry.specs.declared.fault.Refused.{Refused}
 use Rattle.ti_entry.specs.declared.header.Header.{Header}
-use Rattle.ti_entry.specs.Layout.{limit, header_of, number_size, places, flags_from, pad_from, numbers_from, offsets_from, end_of, ExtendedHeader, extended_header_of, extended_flags_from, extended_pad_from, extended_numbers_from, extended_values_from, extended_names_from, extended_end_of}
+use Rattle.ti_entry.specs.declared.extended_header.ExtendedHeader.{ExtendedHeader}
+use Rattle.ti_entry.specs.Layout.{limit, header_of, number_size, places, flags_from, pad_from, numbers_from, offsets_from, end_of, extended_header_of, extended_from, extended_flags_from, extended_pad_from, extended_numbers_from, extended_values_from, extended_names_from, extended_name_count, extended_end_of}
 use Rattle.ti_entry.specs.Table.{table_of, extended_table_of, base_of}
 use Rattle.ti_entry.specs.Checks.{Check, check, verdict, refusal_of, failure_of, sign_checks, name_checks, flag_checks, pad_checks, number_checks, offset_checks, ending_checks, all_name_place_checks, end_checks}
 
@@ -40,34 +42,60 @@ section_checks bytes h =
 
 -- ---- the extended part
 
--- the size of its header, the pad, the words of its header, its size
-abbrev pub extended_front_checks : List ℕ → Header → ExtendedHeader → List Check
-extended_front_checks bytes h x =
-    check (end_of h + 1) (nat_le (extended_flags_from x) limit) ExtendedTooBig (end_of h)
-    ∷ pad_checks bytes (end_of h) h.table
-    ++ sign_checks bytes BadExtendedHeader x.from 3
-    ++ sign_checks bytes BadExtendedHeader (x.from + 8) 1
-    ++ check (extended_flags_from x) (nat_le (extended_end_of x) limit) ExtendedTooBig x.from ∷ []
+-- there is room for its header
+abbrev pub room_check : Header → Check
+room_check h = check (end_of h + 1) (nat_le (extended_from h + 10) limit) ExtendedTooBig (end_of h)
 
--- its sections in their order, the NUL of each text, the place and the NUL of each name, and no byte behind
-abbrev pub extended_checks : List ℕ → ExtendedHeader → List Check
-extended_checks bytes x =
-    let names = x.flags + x.numbers + x.texts in
-    let table = extended_table_of bytes x in
+abbrev pub room_checks : Header → List Check
+room_checks h = room_check h ∷ []
+
+abbrev pub extended_size_check : ExtendedHeader → Check
+extended_size_check x = check (extended_flags_from x) (nat_le (extended_end_of x) limit) ExtendedTooBig x.from
+
+abbrev pub extended_size_checks : ExtendedHeader → List Check
+extended_size_checks x = extended_size_check x ∷ []
+
+-- the size of its header, the pad, the words of its header but items
+abbrev pub extended_word_checks : List ℕ → Header → List Check
+extended_word_checks bytes h =
+    room_checks h
+    ++ pad_checks bytes (end_of h) h.table
+    ++ sign_checks bytes BadExtendedHeader (extended_from h) 3
+    ++ sign_checks bytes BadExtendedHeader (extended_from h + 8) 1
+
+-- and its size
+abbrev pub extended_front_checks : List ℕ → Header → ExtendedHeader → List Check
+extended_front_checks bytes h x = extended_word_checks bytes h ++ extended_size_checks x
+
+-- its sections in their order
+abbrev pub extended_item_checks : List ℕ → ExtendedHeader → List Check
+extended_item_checks bytes x =
     flag_checks bytes (extended_flags_from x) x.flags
     ++ pad_checks bytes (extended_pad_from x) x.flags
     ++ number_checks bytes (number_size x.width) (extended_numbers_from x) x.numbers
     ++ offset_checks bytes x.table (extended_values_from x) x.texts
-    ++ sign_checks bytes BadExtendedName (extended_names_from x) names
-    ++ ending_checks bytes table (extended_end_of x) (extended_values_from x) x.texts
-    ++ all_name_place_checks bytes table (base_of bytes x) (extended_end_of x) (places (extended_names_from x) 2 names)
-    ++ end_checks bytes (extended_end_of x)
+    ++ sign_checks bytes BadExtendedName (extended_names_from x) (extended_name_count x)
+
+-- the NUL of each text, then the place and the NUL of each name
+abbrev pub extended_text_checks : List ℕ → ExtendedHeader → List Check
+extended_text_checks bytes x =
+    let table = extended_table_of bytes x in
+    ending_checks bytes table (extended_end_of x) (extended_values_from x) x.texts
+    ++ all_name_place_checks bytes table (base_of bytes x) (extended_end_of x)
+    (places (extended_names_from x) 2 (extended_name_count x))
+
+abbrev pub extended_section_checks : List ℕ → ExtendedHeader → List Check
+extended_section_checks bytes x = extended_item_checks bytes x ++ extended_text_checks bytes x
+
+-- the extended part, and no byte behind it
+abbrev pub extended_checks : List ℕ → Header → ExtendedHeader → List Check
+extended_checks bytes h x =
+    extended_front_checks bytes h x ++ extended_section_checks bytes x ++ end_checks bytes (extended_end_of x)
 
 -- what is checked behind the string table: nothing where the input ends there
 abbrev pub behind_checks : List ℕ → Header → List Check
 behind_checks bytes h =
-    let x = extended_header_of h bytes in
-    if nat_le (length bytes) (end_of h) then [] else extended_front_checks bytes h x ++ extended_checks bytes x
+    if nat_le (length bytes) (end_of h) then [] else extended_checks bytes h (extended_header_of h bytes)
 
 -- ---- the whole
 
@@ -82,14 +110,6 @@ refusal bytes = refusal_of (length bytes) (verdict (length bytes) (checks bytes)
 abbrev pub failure : List ℕ → Option Refused
 failure bytes = failure_of (verdict (length bytes) (checks bytes))
 
--- ---- what is read so far: plain entries, which end with their string table
-
--- any byte behind the string table is one too many
-abbrev pub plain_checks : List ℕ → List Check
-plain_checks bytes = let h = header_of bytes in front_checks bytes h ++ section_checks bytes h ++ end_checks bytes (end_of h)
-
-abbrev pub plain_refusal : List ℕ → Option Refused
-plain_refusal bytes = refusal_of (length bytes) (verdict (length bytes) (plain_checks bytes))
-
-abbrev pub plain_failure : List ℕ → Option Refused
-plain_failure bytes = failure_of (verdict (length bytes) (plain_checks bytes))
+-- the fault of a byte behind an entry of the greatest length
+abbrev pub fault_behind : List ℕ → Fault
+fault_behind bytes = if end_of (header_of bytes) == length bytes then ExtendedTooBig else Trailing

@@ -153,10 +153,3 @@ pub record Spells (bytes : List ℕ) (v : EntryValue) : Type 0 where
   pub rest : List ℕ
   pub sections : HasSections v table rest bytes
   pub behind : HasNoExtendedPart v rest ⊎ HasExtendedPart v (length table) rest
-
--- the bytes spell a plain entry, which ends with its string table: all that is read so far
-pub record SpellsPlain (bytes : List ℕ) (v : EntryValue) : Type 0 where
-  pub fits : length bytes ≤ limit
-  pub table : List ℕ
-  pub sections : HasSections v table [] bytes
-  pub nothing_more : HasNoExtendedPart v []

@@ -3,8 +3,9 @@ use Rattle.std.specs.Prelude.{ℕ, zero, suc, ◌+◌, ℤ, pos, negsuc, Bool, n
 use Rattle.std.specs.List.{list_any, take_while}
 use Rattle.ti_words.specs.Texts.{TextValue, AbsentText, CancelledText, TextOf}
 use Rattle.ti_entry.specs.declared.header.Header.{Header}
+use Rattle.ti_entry.specs.declared.extended_header.ExtendedHeader.{ExtendedHeader}
 use Rattle.ti_entry.specs.Word.{word_at}
-use Rattle.ti_entry.specs.Layout.{places, table_from, ExtendedHeader, extended_values_from, extended_table_from}
+use Rattle.ti_entry.specs.Layout.{places, table_from, extended_values_from, extended_table_from}
 
 abbrev pub is_nul : ℕ → Bool
 is_nul b = b == 0

@@ -6,11 +6,20 @@
 ghost use Rattle.std.specs.Prelude.{◌≡◌, ◌+◌, ◌*◌, ◌<◌, ◌≤◌, ◌^◌, ◌∷◌, [], length, map, take, drop, OnOk};
 ghost use Rattle.ti_entry.specs.Layout.{places};
 ghost use Rattle.ti_entry.specs.Checks.{verdict, verdict_of, sign_check, name_check, nul_check, flag_check, number_check, offset_check, name_checks, flag_checks, pad_checks, number_checks, offset_checks, ending_checks, end_checks, sign_checks, is_offset_below as the_is_offset_below};
-ghost use Rattle.ti_entry.specs.Reach.{IsReach, reach_check, is_before as the_is_before};
+ghost use Rattle.ti_entry.specs.Reach.{IsReach, reach_check, name_reach_checks, all_name_reach_checks, is_before as the_is_before};
 
 use crate::fault::{Fault, Refused, Stop};
-use crate::word::word_at;
+use crate::word::{count_at, word_at};
 use ti_words::flag_of;
+
+/// A table of names: where it ends, its size, the place behind its last NUL, and what offsets are counted from.
+#[derive(Clone, Copy, Debug)]
+pub(crate) struct NameTable {
+    pub(crate) end: usize,
+    pub(crate) size: usize,
+    pub(crate) reach: usize,
+    pub(crate) base: usize,
+}
 
 /// Whether an offset is a mark, or a place below the size of the table.
 fn is_offset_below(size: usize, offset: i16) -> bool
@@ -31,7 +40,7 @@ fn is_before(reach: usize, offset: i16) -> bool
 }
 
 /// The place behind the last NUL of a table: the texts that begin before it end in the table.
-fn reach_of(table: &[u8]) -> usize
+pub(crate) fn reach_of(table: &[u8]) -> usize
     ensures { IsReach table.now result }
 {
     let mut reach = table.len();
@@ -158,6 +167,31 @@ fn check_ending(bytes: &[u8], reach: usize, end: usize, place: usize) -> Result<
     Ok(())
 }
 
+/// The name whose offset stands at a place begins in the table, and before its reach.
+fn check_name_place(bytes: &[u8], table: &NameTable, place: usize) -> Result<(), Stop>
+    requires within { place + 2 ≤ table.now.end }
+    requires small { table.now.base < 2 ^ 32 }
+    ensures { verdict_of result ≡ verdict (length bytes.now) (name_reach_checks bytes.now table.now place) }
+{
+    if bytes.len() < table.end {
+        return Err(Stop::Early);
+    }
+    let start = table.base + count_at(bytes, place);
+    if start >= table.size {
+        return Err(Stop::Failed(Refused {
+            fault: Fault::BadExtendedName,
+            place,
+        }));
+    }
+    if start >= table.reach {
+        return Err(Stop::Failed(Refused {
+            fault: Fault::Unterminated,
+            place,
+        }));
+    }
+    Ok(())
+}
+
 /// No word of a section is negative.
 pub(crate) fn check_signs(bytes: &[u8], fault: Fault, from: usize, count: usize) -> Result<(), Stop>
     requires { from + 2 * count < 2 ^ 32 }
@@ -250,8 +284,9 @@ pub(crate) fn check_endings(
 ) -> Result<(), Stop>
     requires before { from + 2 * count ≤ table_from }
     requires fits { table_from + table_size < 2 ^ 32 }
-    ensures { let table = take table_size (drop table_from bytes.now) in
+    ensures verdict { let table = take table_size (drop table_from bytes.now) in
         verdict_of result ≡ verdict (length bytes.now) (ending_checks bytes.now table (table_from + table_size) from count) }
+    ensures there { OnOk result (table_from + table_size ≤ length bytes.now) }
 {
     let end = table_from + table_size;
     if bytes.len() < end {
@@ -275,6 +310,24 @@ fn check_each_ending(
 {
     for i in 0..count {
         check_ending(bytes, reach, end, from + 2 * i)?;
+    }
+    Ok(())
+}
+
+/// Each name begins in the table, and before its reach.
+pub(crate) fn check_name_places(
+    bytes: &[u8],
+    table: &NameTable,
+    from: usize,
+    count: usize,
+) -> Result<(), Stop>
+    requires before { from + 2 * count ≤ table.now.end }
+    requires fits { table.now.end < 2 ^ 32 }
+    requires small { table.now.base < 2 ^ 32 }
+    ensures { verdict_of result ≡ verdict (length bytes.now) (all_name_reach_checks bytes.now table.now (places from 2 count)) }
+{
+    for i in 0..count {
+        check_name_place(bytes, table, from + 2 * i)?;
     }
     Ok(())
 }

@@ -5,7 +5,7 @@
 ghost use Rattle.std.specs.Prelude.{◌≡◌, ◌<◌, ◌≤◌, ◌^◌, ◌++◌, length, IfOk, OnOk};
 ghost use Rattle.ti_entry.specs.Checks.{verdict, verdict_of, sign_checks};
 ghost use Rattle.ti_entry.specs.Refusal.{front_checks, section_checks, magic_checks, size_checks};
-ghost use Rattle.ti_entry.specs.Layout.{header_of, end_of, flags_from as the_flags_from, pad_from as the_pad_from, numbers_from as the_numbers_from, offsets_from as the_offsets_from, table_from as the_table_from};
+ghost use Rattle.ti_entry.specs.Layout.{header_of, end_of, flags_from as the_flags_from, pad_from as the_pad_from, numbers_from as the_numbers_from, offsets_from as the_offsets_from, table_from as the_table_from, extended_from as the_extended_from};
 
 use crate::checks::{
     check_endings, check_flags, check_names, check_numbers, check_offsets, check_pad, check_signs,
@@ -81,10 +81,18 @@ impl Header {
     {
         self.table_from() + self.table
     }
+
+    /// Where the extended part begins behind its pad, if there is one.
+    pub(crate) fn extended_from(&self) -> usize
+        requires { end_of self.now < 2 ^ 32 }
+        ensures { result ≡ the_extended_from self.now }
+    {
+        self.end() + self.table % 2
+    }
 }
 
 /// The header of bytes that have one.
-fn header_words(bytes: &[u8]) -> Header
+pub(crate) fn header_words(bytes: &[u8]) -> Header
     requires { 12 ≤ length bytes.now }
     ensures words { result ≡ header_of bytes.now }
     ensures fits { end_of result < 2 ^ 32 }
@@ -168,7 +176,8 @@ pub(crate) fn read_header(bytes: &[u8]) -> Result<Header, Stop>
 pub(crate) fn check_sections(bytes: &[u8], header: &Header) -> Result<(), Stop>
     requires named { 2 ≤ header.now.names }
     requires fits { end_of header.now ≤ 32768 }
-    ensures { verdict_of result ≡ verdict (length bytes.now) (section_checks bytes.now header.now) }
+    ensures verdict { verdict_of result ≡ verdict (length bytes.now) (section_checks bytes.now header.now) }
+    ensures there { OnOk result (end_of header.now ≤ length bytes.now) }
 {
     check_names(bytes, header.names)?;
     check_flags(bytes, header.flags_from(), header.flags)?;

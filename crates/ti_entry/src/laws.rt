@@ -1,15 +1,10 @@
 //! Laws of the definitions, each the contract of a function that does nothing.
 
-ghost use Rattle.ti_entry.specs.Laws.{SpellsAtMostOne, PlainIsEntry, FailureLasts, FailureRefuses, AnyCutting};
+ghost use Rattle.ti_entry.specs.Laws.{SpellsAtMostOne, FailureLasts, FailureRefuses, AnyCutting, EncodedSpells, EncodedAlike, EncodedOnce, EncodedReads};
 
 /// Bytes spell at most one entry.
 pub fn one_entry()
     ensures { SpellsAtMostOne }
-{}
-
-/// What is read so far, entries without an extended part, are entries.
-pub fn plain_entry()
-    ensures { PlainIsEntry }
 {}
 
 /// A check that has failed on some bytes has failed, with the same answer, whatever bytes follow.
@@ -25,4 +20,20 @@ pub fn failure_refuses()
 /// However an input is cut into pieces, a reader that is fed them holds what their joining makes of it.
 pub fn any_cutting()
     ensures { AnyCutting }
+{}
+
+/// The bytes of an entry that has no fault spell it.
+pub fn encoded_spells()
+    ensures { EncodedSpells }
+{}
+
+/// Equal entries have the same bytes, and two entries that have no fault and the same bytes are the same.
+pub fn encoded_once()
+    ensures alike { EncodedAlike }
+    ensures once { EncodedOnce }
+{}
+
+/// Reading the bytes of an entry that has no fault gives it back.
+pub fn encoded_reads()
+    ensures { EncodedReads }
 {}

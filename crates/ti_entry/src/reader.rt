@@ -7,12 +7,12 @@ ghost use Rattle.std.specs.Prelude.{◌≡◌, ℕ, List, ◌∷◌, ◌+◌, �
 ghost use Rattle.arrayvec.specs.ArrayVec.{array_vec_len};
 ghost use Rattle.ti_entry.specs.declared.fault.Refused.{Refused};
 ghost use Rattle.ti_entry.specs.Value.{EntryValue};
-ghost use Rattle.ti_entry.specs.Spelling.{SpellsPlain};
-ghost use Rattle.ti_entry.specs.Refusal.{plain_refusal, plain_failure};
+ghost use Rattle.ti_entry.specs.Spelling.{Spells};
+ghost use Rattle.ti_entry.specs.Refusal.{refusal, failure, fault_behind as the_fault_behind};
 
 use crate::entry::{Entry, entry_of, read};
 use crate::fault::{Fault, Refused, Stop};
-use crate::header::LIMIT;
+use crate::header::{LIMIT, header_words};
 use arrayvec::ArrayVec;
 use std::marker::Model;
 
@@ -92,9 +92,9 @@ impl EntryReader {
         ensures lasting { (r : Refused) → self.now.refusal ≡ Some r → result ≡ Err r }
 
         // Else what `read` answers of the kept bytes.
-        ensures found { self.now.refusal ≡ None → IfOk result (λ e. SpellsPlain self.now.kept e) }
-        ensures only { self.now.refusal ≡ None → (v : EntryValue) → SpellsPlain self.now.kept v → IsOkAnd result (λ e. e ≡ v) }
-        ensures refused { self.now.refusal ≡ None → IfErr result (λ r. plain_refusal self.now.kept ≡ Some r) }
+        ensures found { self.now.refusal ≡ None → IfOk result (λ e. Spells self.now.kept e) }
+        ensures only { self.now.refusal ≡ None → (v : EntryValue) → Spells self.now.kept v → IsOkAnd result (λ e. e ≡ v) }
+        ensures refused { self.now.refusal ≡ None → IfErr result (λ r. refusal self.now.kept ≡ Some r) }
         ensures answer { self.now.refusal ≡ None → result ≡ answer_for self.now.kept }
     {
         if let Some(refused) = self.refusal {
@@ -116,14 +116,26 @@ impl EntryReader {
 /// Why a byte behind as many as an entry may have is refused.
 fn overfull(kept: &[u8]) -> Refused
     requires { length kept.now ≡ 32768 }
-    ensures { (byte : ℕ) → (more : List ℕ) → plain_failure (kept.now ++ byte ∷ more) ≡ Some result }
+    ensures { (byte : ℕ) → (more : List ℕ) → failure (kept.now ++ byte ∷ more) ≡ Some result }
 {
     match entry_of(kept) {
         Ok(_) => Refused {
-            fault: Fault::Trailing,
+            fault: fault_behind(kept),
             place: kept.len(),
         },
         Err(Stop::Failed(refused)) => refused,
         Err(Stop::Early) => unreachable!(),
+    }
+}
+
+/// The fault of a byte behind an entry of 32768 bytes: no extended part has room behind its string table.
+fn fault_behind(kept: &[u8]) -> Fault
+    requires { length kept.now ≡ 32768 }
+    ensures { result ≡ the_fault_behind kept.now }
+{
+    if header_words(kept).end() == kept.len() {
+        Fault::ExtendedTooBig
+    } else {
+        Fault::Trailing
     }
 }

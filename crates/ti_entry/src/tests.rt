@@ -1,16 +1,26 @@
 //! Bytes from outside: entries written by hand, with what they say and what a changed byte makes of them.
 
+mod encoding;
+
 use super::*;
 use std::io;
 use std::io::{ErrorKind, Read};
 use std::process::Abort;
 use std::test::Fail;
-use ti_words::{Flag, Number, Text, Width};
+use ti_words::{Flag, Kind, Number, Text, Width};
 
 /// Names `t`, flag 0 set, number 0 is 80, text 0 absent, text 1 is the byte 07.
 const SMALL: [u8; 24] = [
     0x1a, 0x01, 0x02, 0x00, 0x01, 0x00, 0x01, 0x00, 0x02, 0x00, 0x02, 0x00, 0x74, 0x00, 0x01, 0x00,
     0x50, 0x00, 0xff, 0xff, 0x00, 0x00, 0x07, 0x00,
+];
+
+/// `SMALL` with an extended part: the flag `AX` set, and the text `E3`.
+const EXTENDED: [u8; 53] = [
+    0x1a, 0x01, 0x02, 0x00, 0x01, 0x00, 0x01, 0x00, 0x02, 0x00, 0x02, 0x00, 0x74, 0x00, 0x01, 0x00,
+    0x50, 0x00, 0xff, 0xff, 0x00, 0x00, 0x07, 0x00, 0x01, 0x00, 0x00, 0x00, 0x01, 0x00, 0x03, 0x00,
+    0x0b, 0x00, 0x01, 0x00, 0x00, 0x00, 0x00, 0x00, 0x03, 0x00, 0x1b, 0x5b, 0x33, 0x4a, 0x00, 0x41,
+    0x58, 0x00, 0x45, 0x33, 0x00,
 ];
 
 /// Two texts that share their bytes.
@@ -127,6 +137,104 @@ fn changed_bytes(rt: HostRuntime) {
     }
 }
 
+/// The view of `EXTENDED`.
+fn assert_extended(rt: &impl Abort, entry: &Entry<'_>) {
+    assert_small(rt, entry);
+    let extended = entry.extended();
+    assert_eq!(rt; extended.flag_count(), 1);
+    assert_eq!(rt; extended.number_count(), 0);
+    assert_eq!(rt; extended.text_count(), 1);
+    assert_eq!(rt; extended.flag(0), Flag::Yes);
+    assert_eq!(rt; extended.flag(1), Flag::No);
+    assert_eq!(rt; extended.number(0), Number::Absent);
+    assert!(rt; extended.text(0) == Text::Value(b"\x1b[3J".as_slice()));
+    assert!(rt; extended.text(1) == Text::Absent);
+    assert!(rt; extended.name(Kind::Flag, 0) == Some(b"AX".as_slice()));
+    assert!(rt; extended.name(Kind::Number, 0) == None);
+    assert!(rt; extended.name(Kind::Text, 0) == Some(b"E3".as_slice()));
+    assert!(rt; extended.name(Kind::Text, 1) == None);
+    assert_eq!(rt; extended.find(b"AX"), Some((Kind::Flag, 0)));
+    assert_eq!(rt; extended.find(b"E3"), Some((Kind::Text, 0)));
+    assert_eq!(rt; extended.find(b"E"), None);
+    assert_eq!(rt; extended.find(b"E3\0"), None);
+    assert_eq!(rt; extended.find_text(b"E3"), Some(0));
+    assert_eq!(rt; extended.find_text(b"AX"), None);
+}
+
+#[test]
+fn extended(rt: HostRuntime) -> Result<(), Fail> {
+    match read(&EXTENDED) {
+        Ok(entry) => assert_extended(&rt, &entry),
+        Err(_) => assert!(rt; false),
+    }
+    for cut in 25..53 {
+        assert_eq!(rt;
+            refusal(&rt, &EXTENDED[..cut]),
+            refused(Fault::Truncated, cut)
+        );
+    }
+    let mut longer = EXTENDED.to_vec(rt.alloc())?;
+    longer.push(0)?;
+    assert_eq!(rt;
+        refusal(&rt, longer.as_slice()),
+        refused(Fault::Trailing, 53)
+    );
+    let rows: [(usize, &[u8], Option<Refused>); 8] = [
+        (25, &[0x80], refused(Fault::BadExtendedHeader, 24)),
+        (32, &[0xff, 0x7f], refused(Fault::ExtendedTooBig, 24)),
+        (30, &[0xff, 0xff], None),
+        (34, &[0x02], refused(Fault::BadFlag, 34)),
+        (35, &[0x01], refused(Fault::BadPad, 35)),
+        (38, &[0xff, 0xff], refused(Fault::BadExtendedName, 38)),
+        (40, &[0x06], refused(Fault::BadExtendedName, 40)),
+        (52, &[0x01], refused(Fault::Unterminated, 40)),
+    ];
+    for (from, bytes, want) in rows {
+        let mut changed = EXTENDED;
+        for (i, byte) in bytes.iter().enumerate() {
+            if let Some(old) = changed.get_mut(from.saturating_add(i)) {
+                *old = *byte;
+            }
+        }
+        assert_eq!(rt; refusal(&rt, &changed), want, "at {from}");
+        if let Ok(entry) = read(&changed) {
+            assert_extended(&rt, &entry);
+        }
+    }
+    Ok(())
+}
+
+/// An extended part with no capability says what none says.
+#[test]
+fn no_capability(rt: HostRuntime) -> Result<(), Fail> {
+    let mut bytes = SMALL.to_vec(rt.alloc())?;
+    bytes.resize(34, 0)?;
+    match read(bytes.as_slice()) {
+        Ok(entry) => {
+            assert_small(&rt, &entry);
+            assert_eq!(rt; entry.extended().text_count(), 0);
+            assert_eq!(rt; entry.extended().find(b""), None);
+        }
+        Err(_) => assert!(rt; false),
+    }
+    Ok(())
+}
+
+/// 6000 extended texts at the one place of a table of 7000 bytes: their sizes sum past it.
+#[test]
+fn many_extended_texts(rt: HostRuntime) -> Result<(), Fail> {
+    let mut bytes = SMALL.to_vec(rt.alloc())?;
+    bytes.extend_from_slice(&[0x00, 0x00, 0x00, 0x00, 0x70, 0x17, 0x00, 0x00, 0x58, 0x1b])?;
+    bytes.resize(24034, 0)?;
+    bytes.resize(31033, b'a')?;
+    bytes.push(0)?;
+    assert_eq!(rt;
+        refusal(&rt, bytes.as_slice()),
+        refused(Fault::BadExtendedName, 12034)
+    );
+    Ok(())
+}
+
 #[test]
 fn other_entries(rt: HostRuntime) {
     match read(&SHARED) {
@@ -144,7 +252,12 @@ fn other_entries(rt: HostRuntime) {
         Ok(entry) => assert!(rt; entry.text(1) == Text::Value(b"\x07\x07".as_slice())),
         Err(_) => assert!(rt; false),
     }
-    assert_eq!(rt; refusal(&rt, &ODD_AND_MORE), refused(Fault::Trailing, 25));
+    assert_eq!(rt; refusal(&rt, &ODD_AND_MORE), refused(Fault::Truncated, 26));
+    let mut more = ODD_AND_MORE;
+    if let Some(pad) = more.last_mut() {
+        *pad = 1;
+    }
+    assert_eq!(rt; refusal(&rt, &more), refused(Fault::BadPad, 25));
 }
 
 /// 16000 offsets of the one text of a table of 700 bytes.
@@ -184,11 +297,11 @@ fn a_byte_too_many(rt: HostRuntime) -> Result<(), Fail> {
     let mut reader = EntryReader::new();
     assert_eq!(rt;
         reader.feed(bytes.as_slice()).err(),
-        refused(Fault::Trailing, 24)
+        refused(Fault::Trailing, 34)
     );
     assert_eq!(rt; reader.kept(), 32768);
-    assert_eq!(rt; reader.feed(&[]).err(), refused(Fault::Trailing, 24));
-    assert_eq!(rt; reader.finish().err(), refused(Fault::Trailing, 24));
+    assert_eq!(rt; reader.feed(&[]).err(), refused(Fault::Trailing, 34));
+    assert_eq!(rt; reader.finish().err(), refused(Fault::Trailing, 34));
     Ok(())
 }
 

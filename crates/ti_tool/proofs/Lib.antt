@@ -1,5 +1,10 @@
 pub mod Calling
 pub mod Capped
+pub mod Dues
+pub mod Labels
 pub mod Lines
+pub mod Marked
+pub mod Ran
 pub mod Standing
 pub mod Takings
+pub mod Verdicts

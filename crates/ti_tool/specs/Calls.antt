@@ -1,8 +1,9 @@
 -- What the calls of the program do to their reader and writer.
-use Rattle.std.specs.Prelude.{◌≡◌, ◌<◌, ◌⊎◌, ℕ, List, Option, Some, None, Result, Ok, Err, length, take}
+use Rattle.std.specs.Prelude.{◌≡◌, ◌<◌, ◌⊎◌, ℕ, Bool, List, IfOk, Option, Some, None, Result, Ok, Err, length, take}
 use Rattle.std.specs.Io.KnownBytes.{Appends, Consumes, IsAtEnd, Keeps}
 use Rattle.ti_entry.specs.declared.fault.Refused.{Refused}
 use Rattle.ti_entry.specs.Reading.{Reading, failed_on}
+use Rattle.ti_entry.specs.Refusal.{refusal}
 use Rattle.ti_tool.specs.declared.fault.ToolFault.{ToolFault}
 use Rattle.ti_tool.specs.declared.fault.ToolFault.TheVariants as fault
 
@@ -42,7 +43,7 @@ HasFailed input = (refused : Refused) × (failed_on input ≡ Some refused)
 abbrev pub StoppedAt : Option (List ℕ) → Option (List ℕ) → ToolFault → Type 0
 StoppedAt before after fault.Read = (bytes : List ℕ) × Consumes before after bytes
 StoppedAt before after (fault.Entry refused) =
-    (bytes : List ℕ) × Consumes before after bytes × (failed_on bytes ≡ Some refused)
+    (bytes : List ℕ) × Consumes before after bytes × (failed_on bytes ≡ Some refused) × (refusal bytes ≡ Some refused)
 StoppedAt before after _ = ⊥
 
 -- all that there was to read is kept, and nothing is refused so far
@@ -50,3 +51,13 @@ pub record KeepsAll (before after : Option (List ℕ)) (reading : Reading) : Typ
   pub read : Consumes before after reading.kept
   pub end : IsAtEnd after
   pub unrefused : reading.refusal ≡ None
+
+-- an answer without its value
+abbrev pub without_value : {V : Type 0} → Result V ToolFault → Result (Unit {0}) ToolFault
+without_value (Ok v) = Ok tt
+without_value (Err e) = Err e
+
+-- a call on an entry did its work, and answered whether its texts are sound
+abbrev pub DidCheck : (Bool → List ℕ → Result (List ℕ) ToolFault → Type 0) → Option (List ℕ) → Option (List ℕ) → Option (List ℕ) → Option (List ℕ) → Result Bool ToolFault → Type 0
+DidCheck due left0 left1 held0 held1 answer =
+    (sound : Bool) × IfOk answer (λ s. s ≡ sound) × DidCall (due sound) HasFailed left0 left1 held0 held1 (without_value answer)

@@ -1,6 +1,9 @@
 pub mod Params
 pub mod Reading
+pub mod Labels
 pub mod Shown
+pub mod Names
+pub mod Checked
 pub mod Results
 pub mod Calls
 pub mod Runs

@@ -2,7 +2,7 @@
 
 use thiserror::Error;
 use ti_cap::token::CapRefused;
-use ti_entry::Refused;
+use ti_entry::{EncodeFault, Refused};
 
 /// Why a call of the program did not write its result, or not all of it.
 #[derive(Clone, Copy, Debug, PartialEq, Eq, Error)]
@@ -10,12 +10,21 @@ pub enum ToolFault {
     /// The bytes are no entry.
     #[error("Entry")]
     Entry(Refused),
+    /// The entry can't be encoded; want of memory is [`ToolFault::Memory`].
+    #[error("Encode")]
+    Encode(EncodeFault),
     /// The bytes are no capability.
     #[error("Cap")]
     Cap(CapRefused),
+    /// The entry has no such text: it is absent or cancelled.
+    #[error("NoSuchText")]
+    NoSuchText,
     /// The text of this parameter, counted from 1, has more than 32767 bytes; it is the first such.
     #[error("TextTooLong")]
     TextTooLong(u8),
+    /// The padded text would have this many bytes, more than 67108864.
+    #[error("TooMuch")]
+    TooMuch(u128),
     /// The input could not be read.
     #[error("Read")]
     Read,

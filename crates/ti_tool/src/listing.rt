@@ -2,159 +2,106 @@
 //!
 //! One line an item, in one pass over the entry; the whole listing is built before the first byte of it is written.
 
-ghost use Rattle.std.specs.Prelude.{◌≡◌, ◌++◌, ◌∷◌, [], OnOk, IfOk};
-ghost use Rattle.hex.specs.Hex.{encode_lower};
-ghost use Rattle.ti_words.specs.Texts.{text_value};
-ghost use Rattle.ti_tool.specs.Shown.{label, flag_line, number_line, text_line, hex_or_dash, lines_from, entry_lines};
+ghost use Rattle.std.specs.Prelude.{◌≡◌, ◌++◌, OnOk, IfOk};
+ghost use Rattle.ti_tool.specs.Shown.{standard_flag, standard_number, standard_text, standard_lines, extended_flag, extended_number, extended_text, extended_lines, lines_from, entry_lines};
 
-use itoa::Buffer;
+use crate::label::{extended_label, label_at};
+use crate::line::{push_flag, push_number, push_text};
 use std::alloc::{AllocError, Allocator};
-use ti_entry::Entry;
-use ti_words::{Flag, Number, Text};
-
-/// Writes `#` and an index.
-fn push_label<A: Allocator>(out: &mut Vec<u8, A>, index: usize) -> Result<(), AllocError>
-    ensures { OnOk result (out.new.items ≡ out.old.items ++ label index) }
-{
-    let mut digits = Buffer::new();
-    out.extend_from_slice(b"#")?;
-    out.extend_from_slice(digits.format(index).as_bytes())?;
-    Ok(())
-}
-
-/// Writes a line of a word, a label and what stands behind it.
-fn push_line<A: Allocator>(
-    out: &mut Vec<u8, A>,
-    word: &[u8],
-    index: usize,
-    end: &[u8],
-) -> Result<(), AllocError>
-    ensures { OnOk result (out.new.items ≡ out.old.items ++ (word.now ++ label index ++ end.now)) }
-{
-    out.extend_from_slice(word)?;
-    push_label(out, index)?;
-    out.extend_from_slice(end)?;
-    Ok(())
-}
-
-/// Writes the line of a flag, or none.
-fn push_flag<A: Allocator>(out: &mut Vec<u8, A>, index: usize, flag: Flag) -> Result<(), AllocError>
-    ensures { OnOk result (out.new.items ≡ out.old.items ++ flag_line index flag) }
-{
-    let end: &[u8] = match flag {
-        Flag::No => return Ok(()),
-        Flag::Yes => b"\n",
-        Flag::Cancelled => b" cancelled\n",
-        Flag::Missing => b" missing\n",
-    };
-    push_line(out, b"flag ", index, end)
-}
-
-/// Writes the line of a number, or none.
-fn push_number<A: Allocator>(
-    out: &mut Vec<u8, A>,
-    index: usize,
-    number: Number,
-) -> Result<(), AllocError>
-    ensures { OnOk result (out.new.items ≡ out.old.items ++ number_line index number) }
-{
-    match number {
-        Number::Absent => Ok(()),
-        Number::Cancelled => push_line(out, b"number ", index, b" cancelled\n"),
-        Number::Value(value) => {
-            let mut digits = Buffer::new();
-            out.extend_from_slice(b"number ")?;
-            push_label(out, index)?;
-            out.extend_from_slice(b" ")?;
-            out.extend_from_slice(digits.format(value).as_bytes())?;
-            out.extend_from_slice(b"\n")?;
-            Ok(())
-        }
-    }
-}
-
-/// The two hex digits of a byte.
-fn hex_pair(byte: u8) -> [u8; 2]
-    ensures { result ≡ encode_lower (byte ∷ []) }
-{
-    let mut pair = [0; 2];
-    let _ = hex::encode_to_slice([byte].as_slice(), &mut pair);
-    pair
-}
-
-/// Writes bytes in lower-case hex.
-fn push_digits<A: Allocator>(out: &mut Vec<u8, A>, bytes: &[u8]) -> Result<(), AllocError>
-    ensures { OnOk result (out.new.items ≡ out.old.items ++ encode_lower bytes.now) }
-{
-    for byte in bytes {
-        out.extend_from_slice(&hex_pair(*byte))?;
-    }
-    Ok(())
-}
-
-/// Writes bytes in lower-case hex, or `-` where there are none.
-fn push_hex<A: Allocator>(out: &mut Vec<u8, A>, bytes: &[u8]) -> Result<(), AllocError>
-    ensures { OnOk result (out.new.items ≡ out.old.items ++ hex_or_dash bytes.now) }
-{
-    match bytes {
-        [] => {
-            out.push(b'-')?;
-            Ok(())
-        }
-        _ => push_digits(out, bytes),
-    }
-}
-
-/// Writes the line of a text, or none.
-fn push_text<A: Allocator>(
-    out: &mut Vec<u8, A>,
-    index: usize,
-    text: Text<'_>,
-) -> Result<(), AllocError>
-    ensures { OnOk result (out.new.items ≡ out.old.items ++ text_line index (text_value text.entry)) }
-{
-    match text {
-        Text::Absent => Ok(()),
-        Text::Cancelled => push_line(out, b"text ", index, b" cancelled\n"),
-        Text::Value(bytes) => {
-            out.extend_from_slice(b"text ")?;
-            push_label(out, index)?;
-            out.extend_from_slice(b" ")?;
-            push_hex(out, bytes)?;
-            out.extend_from_slice(b"\n")?;
-            Ok(())
-        }
-    }
-}
+use ti_entry::{Entry, Extended};
+use ti_words::Kind;
 
 /// Writes the lines of the flags.
 fn push_flags<A: Allocator>(out: &mut Vec<u8, A>, entry: &Entry<'_>) -> Result<(), AllocError>
-    ensures { OnOk result (out.new.items ≡ out.old.items ++ lines_from flag_line 0 entry.now.flags) }
+    ensures { OnOk result (out.new.items ≡ out.old.items ++ lines_from standard_flag 0 entry.now.flags) }
 {
     for i in 0..entry.flag_count() {
-        push_flag(out, i, entry.flag(i))?;
+        push_flag(out, b"flag ", label_at(Kind::Flag, i), entry.flag(i))?;
     }
     Ok(())
 }
 
 /// Writes the lines of the numbers.
 fn push_numbers<A: Allocator>(out: &mut Vec<u8, A>, entry: &Entry<'_>) -> Result<(), AllocError>
-    ensures { OnOk result (out.new.items ≡ out.old.items ++ lines_from number_line 0 entry.now.numbers) }
+    ensures { OnOk result (out.new.items ≡ out.old.items ++ lines_from standard_number 0 entry.now.numbers) }
 {
     for i in 0..entry.number_count() {
-        push_number(out, i, entry.number(i))?;
+        push_number(out, b"number ", label_at(Kind::Number, i), entry.number(i))?;
     }
     Ok(())
 }
 
 /// Writes the lines of the texts.
 fn push_texts<A: Allocator>(out: &mut Vec<u8, A>, entry: &Entry<'_>) -> Result<(), AllocError>
-    ensures { OnOk result (out.new.items ≡ out.old.items ++ lines_from text_line 0 entry.now.texts) }
+    ensures { OnOk result (out.new.items ≡ out.old.items ++ lines_from standard_text 0 entry.now.texts) }
 {
     for i in 0..entry.text_count() {
-        push_text(out, i, entry.text(i))?;
+        push_text(out, b"text ", label_at(Kind::Text, i), entry.text(i))?;
     }
     Ok(())
+}
+
+/// Writes the lines of the standard capabilities.
+fn push_standard<A: Allocator>(out: &mut Vec<u8, A>, entry: &Entry<'_>) -> Result<(), AllocError>
+    ensures { OnOk result (out.new.items ≡ out.old.items ++ standard_lines entry.now) }
+{
+    push_flags(out, entry)?;
+    push_numbers(out, entry)?;
+    push_texts(out, entry)
+}
+
+/// Writes the lines of the extended flags.
+fn push_extended_flags<A: Allocator>(
+    out: &mut Vec<u8, A>,
+    extended: &Extended<'_>,
+) -> Result<(), AllocError>
+    ensures { OnOk result (out.new.items ≡ out.old.items ++ lines_from extended_flag 0 extended.now.extended_flags) }
+{
+    for i in 0..extended.flag_count() {
+        let label = extended_label(extended, Kind::Flag, i);
+        push_flag(out, b"flag+ ", label, extended.flag(i))?;
+    }
+    Ok(())
+}
+
+/// Writes the lines of the extended numbers.
+fn push_extended_numbers<A: Allocator>(
+    out: &mut Vec<u8, A>,
+    extended: &Extended<'_>,
+) -> Result<(), AllocError>
+    ensures { OnOk result (out.new.items ≡ out.old.items ++ lines_from extended_number 0 extended.now.extended_numbers) }
+{
+    for i in 0..extended.number_count() {
+        let label = extended_label(extended, Kind::Number, i);
+        push_number(out, b"number+ ", label, extended.number(i))?;
+    }
+    Ok(())
+}
+
+/// Writes the lines of the extended texts.
+fn push_extended_texts<A: Allocator>(
+    out: &mut Vec<u8, A>,
+    extended: &Extended<'_>,
+) -> Result<(), AllocError>
+    ensures { OnOk result (out.new.items ≡ out.old.items ++ lines_from extended_text 0 extended.now.extended_texts) }
+{
+    for i in 0..extended.text_count() {
+        let label = extended_label(extended, Kind::Text, i);
+        push_text(out, b"text+ ", label, extended.text(i))?;
+    }
+    Ok(())
+}
+
+/// Writes the lines of the extended capabilities.
+fn push_extended<A: Allocator>(
+    out: &mut Vec<u8, A>,
+    extended: &Extended<'_>,
+) -> Result<(), AllocError>
+    ensures { OnOk result (out.new.items ≡ out.old.items ++ extended_lines extended.now) }
+{
+    push_extended_flags(out, extended)?;
+    push_extended_numbers(out, extended)?;
+    push_extended_texts(out, extended)
 }
 
 /// The listing of an entry.
@@ -164,8 +111,7 @@ pub fn lines_in<A: Allocator + Copy>(alloc: A, entry: &Entry<'_>) -> Result<Vec<
     let mut out = Vec::from_slice(alloc, b"format: legacy\nnames: ")?;
     out.extend_from_slice(entry.names())?;
     out.push(b'\n')?;
-    push_flags(&mut out, entry)?;
-    push_numbers(&mut out, entry)?;
-    push_texts(&mut out, entry)?;
+    push_standard(&mut out, entry)?;
+    push_extended(&mut out, &entry.extended())?;
     Ok(out)
 }

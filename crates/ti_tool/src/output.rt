@@ -1,11 +1,44 @@
-//! Writing the whole result of a call.
+//! The whole result of a call, and writing it.
 
-ghost use Rattle.std.specs.Prelude.{◌≡◌, Ok};
+ghost use Rattle.std.specs.Prelude.{◌≡◌, true, Ok, IfOk, IfErr};
+ghost use Rattle.ti_tool.specs.declared.fault.ToolFault.TheVariants as fault;
+ghost use Rattle.ti_tool.specs.Results.{shown};
 ghost use Rattle.ti_tool.specs.Calls.{Wrote};
 
 use crate::fault::ToolFault;
+use std::alloc::{AllocError, Allocator};
 use std::io::Write;
 use ti_pad::write_out;
+
+/// The bytes in lower-case hex, and a newline.
+fn hex_line_in<A: Allocator + Copy>(alloc: A, bytes: &[u8]) -> Result<Vec<u8, A>, AllocError>
+    ensures { IfOk result (λ line. line.items ≡ shown true bytes.now) }
+{
+    let count = 2 * bytes.len();
+    let mut line = Vec::with_capacity(alloc, count + 1)?;
+    line.resize(count, 0)?;
+    let _ = hex::encode_to_slice(bytes, line.as_mut_slice());
+    line.push(b'\n')?;
+    Ok(line)
+}
+
+/// The bytes as they stand, or with `hex` in lower-case hex and a newline.
+pub fn shown_in<A: Allocator + Copy>(
+    alloc: A,
+    plain: Vec<u8, A>,
+    hex: bool,
+) -> Result<Vec<u8, A>, ToolFault>
+    ensures value { IfOk result (λ v. v.items ≡ shown hex plain.items) }
+    ensures refused { IfErr result (λ e. e ≡ fault.Memory) }
+{
+    if !hex {
+        return Ok(plain);
+    }
+    match hex_line_in(alloc, plain.as_slice()) {
+        Ok(line) => Ok(line),
+        Err(_) => Err(ToolFault::Memory),
+    }
+}
 
 /// Writes a result. Its fault says how many of its bytes the writer took.
 pub fn write_result<W: Write>(writer: &mut W, bytes: &[u8]) -> Result<(), ToolFault>

@@ -1,75 +1,50 @@
 //! The program over its words, a reader and two writers.
 
-ghost use Rattle.std.specs.Prelude.{◌≡◌, map};
-ghost use Rattle.ti_tool.specs.Runs.{Ran, RanCap, RanShow, RefusesWords, asked, asked_by, status_for};
+ghost use Rattle.std.specs.Prelude.{◌≡◌, ◌≤◌, ◌⊎◌, map};
+ghost use Rattle.ti_line.specs.CommandLine.{Asked, Cap, Show, Check, Expand, Convert, Reads};
+ghost use Rattle.ti_line.specs.Laws.{IsWithin};
+ghost use Rattle.ti_line.specs.Line.{asked_of};
+ghost use Rattle.ti_tool.specs.Runs.{EndsWords, HadNoMemory, RanLine, RanNoLine, status_for};
 
 use crate::cap::cap_run_in;
+use crate::check::check_in;
+use crate::convert::convert_in;
 use crate::fault::ToolFault;
-use crate::params::{WordFault, read_params};
+use crate::named::expand_named_in;
+use crate::params::read_params;
 use crate::show::show_in;
+use crate::status::{status, status_of_check, tell, tell_words};
 use std::alloc::{Allocator, Global};
 use std::io::{Read, Write};
+use ti_line::laws::words_are_read_once;
+use ti_line::{Line, NoLine, read_line};
+use ti_pad::Padding;
 
-/// The status of a call's answer.
-fn status(answer: &Result<(), ToolFault>) -> u8
-    ensures { result ≡ status_for answer.now }
+/// The status of a call's answer, whose fault is told.
+fn ended<E: Write>(errors: &mut E, answer: Result<(), ToolFault>) -> u8
+    ensures { result ≡ status_for answer }
 {
-    match answer {
-        Ok(()) => 0,
-        Err(ToolFault::Entry(_)) => 3,
-        Err(ToolFault::Cap(_) | ToolFault::TextTooLong(_)) => 4,
-        Err(ToolFault::Read | ToolFault::Write(_)) => 5,
-        Err(ToolFault::Memory) => 6,
+    if let Err(fault) = &answer {
+        tell(errors, fault);
     }
+    status(&answer)
 }
 
-/// Tells of a fault in one line. That it can't be told changes nothing.
-fn tell<E: Write>(errors: &mut E, fault: &ToolFault) {
-    let _ = match fault {
-        ToolFault::Entry(refused) => {
-            let word = refused.fault.word();
-            let place = refused.place;
-            writeln!(errors, "entry: {word} at {place}")
-        }
-        ToolFault::Cap(refused) => {
-            let word = refused.fault.word();
-            let place = refused.place;
-            writeln!(errors, "capability: {word} at {place}")
-        }
-        ToolFault::TextTooLong(parameter) => {
-            writeln!(errors, "capability: TextTooLong {parameter}")
-        }
-        ToolFault::Read => writeln!(errors, "input: failed"),
-        ToolFault::Write(_) => writeln!(errors, "output: failed"),
-        ToolFault::Memory => writeln!(errors, "memory"),
-    };
-}
-
-/// Tells of words that are no parameters.
-fn tell_words<E: Write>(errors: &mut E, fault: WordFault) {
-    let _ = match fault {
-        WordFault::TooMany => writeln!(errors, "parameters: more than nine"),
-        WordFault::BadWord { which } => writeln!(errors, "parameter {which}: bad word"),
-    };
-}
-
-/// `cap` with its words.
+/// `cap` with its values.
 fn run_cap_in<A: Allocator + Copy, R: Read, W: Write, E: Write>(
     alloc: A,
+    hex: bool,
     words: &[&str],
     input: &mut R,
     output: &mut W,
     errors: &mut E,
 ) -> u8
-    ensures { RanCap (map (λ w. w.now) words.now) (R.remaining input.old) (R.remaining input.new) (W.contents output.old) (W.contents output.new) result }
+    ensures { RanLine (Cap hex (map (λ w. w.now) words.now)) (record { left0 = R.remaining input.old; left1 = R.remaining input.new; held0 = W.contents output.old; held1 = W.contents output.new }) result }
 {
     match read_params(words) {
         Ok(parameters) => {
-            let answer = cap_run_in(alloc, input, &parameters, false, output);
-            if let Err(fault) = &answer {
-                tell(errors, fault);
-            }
-            status(&answer)
+            let answer = cap_run_in(alloc, input, &parameters, hex, output);
+            ended(errors, answer)
         }
         Err(fault) => {
             tell_words(errors, fault);
@@ -85,34 +60,168 @@ fn run_show_in<A: Allocator + Copy, R: Read, W: Write, E: Write>(
     output: &mut W,
     errors: &mut E,
 ) -> u8
-    ensures { RanShow (R.remaining input.old) (R.remaining input.new) (W.contents output.old) (W.contents output.new) result }
+    ensures { RanLine Show (record { left0 = R.remaining input.old; left1 = R.remaining input.new; held0 = W.contents output.old; held1 = W.contents output.new }) result }
 {
     let answer = show_in(alloc, input, output);
+    ended(errors, answer)
+}
+
+/// `check`.
+fn run_check_in<A: Allocator + Copy, R: Read, W: Write, E: Write>(
+    alloc: A,
+    input: &mut R,
+    output: &mut W,
+    errors: &mut E,
+) -> u8
+    ensures { RanLine Check (record { left0 = R.remaining input.old; left1 = R.remaining input.new; held0 = W.contents output.old; held1 = W.contents output.new }) result }
+{
+    let answer = check_in(alloc, input, output);
     if let Err(fault) = &answer {
         tell(errors, fault);
     }
-    status(&answer)
+    status_of_check(answer)
 }
 
-/// What [`run`] does, with memory of the allocator.
+/// What `expand` is to do.
+#[derive(Drop)]
+struct Expansion<'a> {
+    name: &'a str,
+    hex: bool,
+    rate: u32,
+    lines: u32,
+    xon: bool,
+    words: &'a [&'a str],
+}
+
+/// `expand` with its values.
+fn run_expand_in<A: Allocator + Copy, R: Read, W: Write, E: Write>(
+    alloc: A,
+    asked: Expansion<'_>,
+    input: &mut R,
+    output: &mut W,
+    errors: &mut E,
+) -> u8
+    requires rate { asked.rate ≤ 1000000 }
+    requires lines { asked.lines ≤ 65535 }
+    ensures { RanLine (Expand asked.entry.name.now asked.entry.hex asked.entry.rate asked.entry.lines asked.entry.xon (map (λ w. w.now) asked.entry.words.now)) (record { left0 = R.remaining input.old; left1 = R.remaining input.new; held0 = W.contents output.old; held1 = W.contents output.new }) result }
+{
+    let padding = match Padding::new(asked.rate, asked.lines, asked.xon, 0) {
+        Some(padding) => padding,
+        None => unreachable!(),
+    };
+    match read_params(asked.words) {
+        Ok(parameters) => {
+            let answer = expand_named_in(
+                alloc,
+                input,
+                asked.name,
+                &parameters,
+                &padding,
+                asked.hex,
+                output,
+            );
+            ended(errors, answer)
+        }
+        Err(fault) => {
+            tell_words(errors, fault);
+            2
+        }
+    }
+}
+
+/// `convert`.
+fn run_convert_in<A: Allocator + Copy, R: Read, W: Write, E: Write>(
+    alloc: A,
+    input: &mut R,
+    output: &mut W,
+    errors: &mut E,
+) -> u8
+    ensures { RanLine Convert (record { left0 = R.remaining input.old; left1 = R.remaining input.new; held0 = W.contents output.old; held1 = W.contents output.new }) result }
+{
+    let answer = convert_in(alloc, input, output);
+    ended(errors, answer)
+}
+
+/// A line that was read.
+fn run_line_in<A: Allocator + Copy, R: Read, W: Write, E: Write>(
+    alloc: A,
+    line: &Line<'_>,
+    input: &mut R,
+    output: &mut W,
+    errors: &mut E,
+) -> u8
+    requires { IsWithin (asked_of line.now) }
+    ensures { RanLine (asked_of line.now) (record { left0 = R.remaining input.old; left1 = R.remaining input.new; held0 = W.contents output.old; held1 = W.contents output.new }) result }
+{
+    match line {
+        Line::Cap { hex, params } => {
+            run_cap_in(alloc, *hex, params.as_slice(), input, output, errors)
+        }
+        Line::Show => run_show_in(alloc, input, output, errors),
+        Line::Check => run_check_in(alloc, input, output, errors),
+        Line::Expand {
+            name,
+            hex,
+            rate,
+            lines,
+            xon,
+            params,
+        } => {
+            let asked = Expansion {
+                name,
+                hex: *hex,
+                rate: *rate,
+                lines: *lines,
+                xon: *xon,
+                words: params.as_slice(),
+            };
+            run_expand_in(alloc, asked, input, output, errors)
+        }
+        Line::Convert => run_convert_in(alloc, input, output, errors),
+    }
+}
+
+/// Words that are no line: the text of help goes where results go, any other where faults go.
+fn run_no_line<W: Write, E: Write>(why: &NoLine, output: &mut W, errors: &mut E) -> u8
+    ensures { EndsWords why.now (W.contents output.old) (W.contents output.new) result }
+{
+    match why {
+        NoLine::Help(text) => {
+            if write!(output, "{text}").is_ok() {
+                return 0;
+            }
+            tell(errors, &ToolFault::Write(0));
+            5
+        }
+        NoLine::Refused(text) => {
+            let _ = write!(errors, "{text}");
+            2
+        }
+        NoLine::Memory => {
+            tell(errors, &ToolFault::Memory);
+            6
+        }
+    }
+}
+
+/// What [`run`] does, with memory of an allocator but for reading the words, which `clap` does with the global one.
 pub fn run_in<A: Allocator + Copy, R: Read, W: Write, E: Write>(
+    global: Global,
     alloc: A,
     words: &[&str],
     input: &mut R,
     output: &mut W,
     errors: &mut E,
 ) -> u8
-    ensures { Ran (asked (map (λ w. w.now) words.now)) (R.remaining input.old) (R.remaining input.new) (W.contents output.old) (W.contents output.new) result }
+    // Where `clap` reads the words, the named call did its work, unless memory was wanted.
+    ensures read { (line : Asked) → Reads (map (λ w. w.now) words.now) line → RanLine line (record { left0 = R.remaining input.old; left1 = R.remaining input.new; held0 = W.contents output.old; held1 = W.contents output.new }) result ⊎ HadNoMemory (record { left0 = R.remaining input.old; left1 = R.remaining input.new; held0 = W.contents output.old; held1 = W.contents output.new }) result }
+    // Where it does not, help was written, or the words are refused, unless memory was wanted.
+    ensures unread { ((line : Asked) → ¬ Reads (map (λ w. w.now) words.now) line) → RanNoLine (map (λ w. w.now) words.now) (record { left0 = R.remaining input.old; left1 = R.remaining input.new; held0 = W.contents output.old; held1 = W.contents output.new }) result ⊎ HadNoMemory (record { left0 = R.remaining input.old; left1 = R.remaining input.new; held0 = W.contents output.old; held1 = W.contents output.new }) result }
 {
-    match words {
-        [_, command, rest @ ..] if *command == "cap" => {
-            run_cap_in(alloc, rest, input, output, errors)
-        }
-        [_, command] if *command == "show" => run_show_in(alloc, input, output, errors),
-        _ => {
-            let _ = writeln!(errors, "command: unknown");
-            2
-        }
+    words_are_read_once();
+    match read_line(global, words) {
+        Ok(line) => run_line_in(alloc, &line, input, output, errors),
+        Err(why) => run_no_line(&why, output, errors),
     }
 }
 
@@ -121,10 +230,11 @@ pub fn run_in<A: Allocator + Copy, R: Read, W: Write, E: Write>(
 ///
 /// | Status | When | Line on `errors` |
 /// |---|---|---|
-/// | 0 | done | none |
-/// | 2 | the words are no command, or stand for no parameters | `command: unknown`; `parameters: more than nine`; `parameter K: bad word` |
-/// | 3 | the entry is refused | `entry: WORD at PLACE` |
-/// | 4 | the capability is refused, or a text is too long for it | `capability: WORD at PLACE`; `capability: TextTooLong K` |
+/// | 0 | done, or help was asked for | none |
+/// | 1 | `check` found a fault | none |
+/// | 2 | the words are no command line, or stand for no parameters | what is wrong and the usage; `parameters: more than nine`; `parameter K: bad word` |
+/// | 3 | the entry is refused, or can't be encoded | `entry: WORD at PLACE`; `entry: WORD` |
+/// | 4 | the capability is refused or absent, a text is too long for it, or its padding too much | `capability: WORD at PLACE`; `capability: absent`; `capability: TextTooLong K`; `capability: TooMuch N` |
 /// | 5 | reading or writing failed | `input: failed`; `output: failed` |
 /// | 6 | want of memory | `memory` |
 ///
@@ -136,7 +246,10 @@ pub fn run<R: Read, W: Write, E: Write>(
     output: &mut W,
     errors: &mut E,
 ) -> u8
-    ensures { Ran (asked (map (λ w. w.now) words.now)) (R.remaining input.old) (R.remaining input.new) (W.contents output.old) (W.contents output.new) result }
+    // Where `clap` reads the words, the named call did its work, unless memory was wanted.
+    ensures read { (line : Asked) → Reads (map (λ w. w.now) words.now) line → RanLine line (record { left0 = R.remaining input.old; left1 = R.remaining input.new; held0 = W.contents output.old; held1 = W.contents output.new }) result ⊎ HadNoMemory (record { left0 = R.remaining input.old; left1 = R.remaining input.new; held0 = W.contents output.old; held1 = W.contents output.new }) result }
+    // Where it does not, help was written, or the words are refused, unless memory was wanted.
+    ensures unread { ((line : Asked) → ¬ Reads (map (λ w. w.now) words.now) line) → RanNoLine (map (λ w. w.now) words.now) (record { left0 = R.remaining input.old; left1 = R.remaining input.new; held0 = W.contents output.old; held1 = W.contents output.new }) result ⊎ HadNoMemory (record { left0 = R.remaining input.old; left1 = R.remaining input.new; held0 = W.contents output.old; held1 = W.contents output.new }) result }
 {
-    run_in(alloc, words, input, output, errors)
+    run_in(alloc, alloc, words, input, output, errors)
 }

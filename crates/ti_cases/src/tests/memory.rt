@@ -72,7 +72,14 @@ fn the_program_without_memory_says_so(rt: HostRuntime) -> Result<(), Fail> {
     let words = ["ti", "cap", "n:7"];
     let mut input = Source::new(b"%p1%255d", 512);
     assert_eq!(rt;
-        run_in(&heap, &words, &mut input, &mut output, &mut errors),
+        run_in(
+            rt.alloc(),
+            &heap,
+            &words,
+            &mut input,
+            &mut output,
+            &mut errors
+        ),
         6
     );
     assert!(rt; output.taken.is_empty());

@@ -1,6 +1,6 @@
 //! What `show` lists, and what it refuses.
 
-use super::entries::{DUMB, QUESTION, SHARED, SMALL};
+use super::entries::{DUMB, EXTENDED, EXTENDED_BY_TIC, QUESTION, SHARED, SMALL};
 use super::fakes::{Sink, Source};
 use linked_list_allocator::LocalHeap;
 use std::test::Fail;
@@ -14,38 +14,62 @@ struct Row {
     lines: &'static [u8],
 }
 
-const ROWS: [Row; 7] = [
+const ROWS: [Row; 12] = [
     Row {
         entry: SMALL,
-        lines: b"format: legacy\nnames: t\nflag #0\nnumber #0 80\ntext #1 07\n",
+        lines: b"format: legacy\nnames: t\nflag bw\nnumber cols 80\ntext bel 07\n",
     },
     Row {
         entry: SHARED,
-        lines: b"format: legacy\nnames: t\ntext #0 07\ntext #1 07\n",
+        lines: b"format: legacy\nnames: t\ntext cbt 07\ntext bel 07\n",
     },
     Row {
         entry: QUESTION,
-        lines: b"format: legacy\nnames: t\nflag #0\nnumber #0 80\ntext #1 1b5b3f255b3b303132333435363738395d63\n",
+        lines: b"format: legacy\nnames: t\nflag bw\nnumber cols 80\ntext bel 1b5b3f255b3b303132333435363738395d63\n",
     },
     // the flag and the number cancelled
     Row {
         entry: b"\x1a\x01\x02\0\x01\0\x01\0\x02\0\x02\0t\0\xfe\0\xfe\xff\xff\xff\0\0\x07\0",
-        lines: b"format: legacy\nnames: t\nflag #0 cancelled\nnumber #0 cancelled\ntext #1 07\n",
+        lines: b"format: legacy\nnames: t\nflag bw cancelled\nnumber cols cancelled\ntext bel 07\n",
     },
     // the flag missing, the number absent, a text cancelled, and one of no bytes
     Row {
         entry: b"\x1a\x01\x02\0\x01\0\x01\0\x02\0\x02\0t\0\xff\0\xff\xff\xfe\xff\x01\0\x07\0",
-        lines: b"format: legacy\nnames: t\nflag #0 missing\ntext #0 cancelled\ntext #1 -\n",
+        lines: b"format: legacy\nnames: t\nflag bw missing\ntext cbt cancelled\ntext bel -\n",
     },
     // texts that overlap
     Row {
         entry: b"\x1a\x01\x02\0\0\0\0\0\x03\0\x03\0t\0\0\0\x01\0\x02\0ab\0",
-        lines: b"format: legacy\nnames: t\ntext #0 6162\ntext #1 62\ntext #2 -\n",
+        lines: b"format: legacy\nnames: t\ntext cbt 6162\ntext bel 62\ntext cr -\n",
+    },
+    Row {
+        entry: EXTENDED,
+        lines: b"format: legacy\nnames: t\nflag bw\nnumber cols 80\ntext bel 07\nflag+ AX\ntext+ E3 1b5b334a\n",
+    },
+    // an extended part without a capability
+    Row {
+        entry: b"\x1a\x01\x02\0\x01\0\x01\0\x02\0\x02\0t\0\x01\0P\0\xff\xff\0\0\x07\0\0\0\0\0\0\0\0\0\0\0",
+        lines: b"format: legacy\nnames: t\nflag bw\nnumber cols 80\ntext bel 07\n",
+    },
+    // an extended number
+    Row {
+        entry: b"\x1a\x01\x02\0\0\0\0\0\0\0\0\0t\0\0\0\x01\0\0\0\x01\0\x03\0P\0\0\0U8\0",
+        lines: b"format: legacy\nnames: t\nnumber+ U8 80\n",
+    },
+    // a name without a place in the table of names
+    Row {
+        entry: b"\x1a\x01\x02\0\x04\0\0\0\0\0\0\0t\0\0\0\x01\xfe",
+        lines: b"format: legacy\nnames: t\nflag #2\nflag #3 cancelled\n",
+    },
+    // what infocmp -x prints of it, as bytes
+    Row {
+        entry: &EXTENDED_BY_TIC,
+        lines: b"format: legacy\nnames: mog|mogyarsu test terminal\nflag am\nnumber cols 80\nnumber lines 24\ntext bel 07\ntext cr 0d\ntext clear 1b5b481b5b324a\ntext cup 1b5b256925703125643b257032256448\nflag+ AX\nflag+ XT\nnumber+ U8 1\ntext+ E3 1b5b334a\ntext+ Smulx 1b5b343a25703125646d\ntext+ kUP5 1b5b313b3541\n",
     },
     // infocmp: am, cols#80, bel=^G, cr=\r, cud1=\n, ind=\n
     Row {
         entry: &DUMB,
-        lines: b"format: legacy\nnames: dumb|80-column dumb tty\nflag #1\nnumber #0 80\ntext #1 07\ntext #2 0d\ntext #11 0a\ntext #129 0a\n",
+        lines: b"format: legacy\nnames: dumb|80-column dumb tty\nflag am\nnumber cols 80\ntext bel 07\ntext cr 0d\ntext cud1 0a\ntext ind 0a\n",
     },
 ];
 
@@ -82,13 +106,6 @@ fn refused_entries_end_with_status_three(rt: HostRuntime) {
         3
     );
     assert!(rt; errors.taken.as_slice() == b"entry: BadMagic at 0\n".as_slice());
-    let mut errors = Sink::new(rt.alloc());
-    let more = ["ti", "show", "n:1"];
-    assert_eq!(rt;
-        run(rt.alloc(), &more, &mut input, &mut output, &mut errors),
-        2
-    );
-    assert!(rt; errors.taken.as_slice() == b"command: unknown\n".as_slice());
 }
 
 #[test]

@@ -2,14 +2,14 @@ use Rattle.std.proofs.Common.{◌≡◌, sym, subst, ◌∙◌, arith}
 use Rattle.ti_entry.specs.declared.fault.Stop.{Stop}
 use Rattle.ti_entry.specs.declared.fault.Stop.TheVariants.{Early, Failed}
 use Rattle.ti_entry.specs.Checks.{Passes, stopped}
-use Rattle.ti_entry.specs.Spelling.{SpellsPlain}
-use Rattle.ti_entry.proofs.Found.{found}
-use Rattle.ti_entry.proofs.Spelled.{only}
+use Rattle.ti_entry.specs.Spelling.{Spells}
+use Rattle.ti_entry.proofs.FoundExtended.{found}
+use Rattle.ti_entry.proofs.SpelledExtended.{only}
 use Rattle.ti_entry.proofs.entry.read.Goals as goal
 
 pub returns-in-Ok-clause-found : goal.returns-in-Ok-clause-found
 returns-in-Ok-clause-found c =
-    subst (λ v. SpellsPlain c.args.bytes.now v) (sym c.in-Ok.ensures.value) (found c.args.bytes.now (λ i. omega (arith, c.type_inv.bytes i)) c.in-Ok.ensures.verdict)
+    subst (λ v. Spells c.args.bytes.now v) (sym c.in-Ok.ensures.value) (found c.args.bytes.now (λ i. omega (arith, c.type_inv.bytes i)) c.in-Ok.ensures.verdict)
 
 pub returns-in-Ok-clause-only : goal.returns-in-Ok-clause-only
 returns-in-Ok-clause-only c = λ v s. c.in-Ok.ensures.value ∙ sym (only c.args.bytes.now v s).same

@@ -8,5 +8,5 @@ pub returns-in-Err : goal.returns-in-Err
 returns-in-Err g c = inl (
   no_params (texts c.args.words.now) c.in-Err.fault c.read_params.result c.in-Err.is
       (λ e. omega (arith, length-map c.args.words.now (λ w. w.now), c.read_params.ensures.many.0 e)) c.read_params.ensures.bad,
-  (refl, Keeps-refl _),
+  (refl, refl, Keeps-refl _),
 )

@@ -2,7 +2,7 @@ use Rattle.std.proofs.Common.{◌≡◌, ◌+◌, ◌++◌, ◌∷◌, ◌<◌, 
 use Rattle.std.proofs.lemmas.Grind.{common_steps}
 use Rattle.std.proofs.lemmas.List.{drop_more, take-append-drop}
 use Rattle.std.specs.Prelude.{ℕ, List, Some}
-use Rattle.ti_entry.specs.Refusal.{plain_failure}
+use Rattle.ti_entry.specs.Refusal.{failure}
 use Rattle.ti_entry.proofs.Feeding.{fed-full}
 use Rattle.ti_entry.proofs.reader.EntryReader.feed.Goals as goal
 
@@ -19,7 +19,7 @@ returns-clause-fed c =
     let items : c.try_extend_from_slice-2.new.self.items ≡ kept ++ take room piece = grind (arith, common_steps) in
     let slice : c.as_slice.result.now ≡ kept ++ take room piece = c.as_slice.ensures.value ∙ items in
     let whole : c.as_slice.result.now ++ (get_or piece room 0 ∷ drop (room + 1) piece) ≡ kept ++ piece = ap (λ t. t ++ (get_or piece room 0 ∷ drop (room + 1) piece)) slice ∙ three_parts kept piece room c.if-piece-room.false in
-    let failed : plain_failure (kept ++ piece) ≡ Some c.overfull-refused.result = ap plain_failure (sym whole) ∙ c.overfull-refused.ensures (get_or piece room 0) (drop (room + 1) piece) in
+    let failed : failure (kept ++ piece) ≡ Some c.overfull-refused.result = ap failure (sym whole) ∙ c.overfull-refused.ensures (get_or piece room 0) (drop (room + 1) piece) in
     let none : c.self.inside.refusal ≡ None = c.in_default.is in
     let old : c.args.self.now ≡ record { kept = kept; refusal = None } = sym c.self.view_is ∙ rw none refl in
     rw (items, old) (fed-full kept piece room c.overfull-refused.result full c.if-piece-room.false failed)

@@ -1,0 +1,175 @@
+-- Canonical bytes of an entry without a fault spell it.
+use Rattle.std.proofs.Common.{◌≡◌, ◌≢◌, ℕ, ◌+◌, ◌^◌, ◌<◌, ◌==◌, pos, negsuc, Bool, true, false, ◌||◌, List, [], ◌∷◌, ◌++◌, length, map, take, None, inl, inr, refl, sym, ap, subst, ◌∙◌, arith, append_assoc}
+use Rattle.std.proofs.lemmas.Bool.{ltb-false, eqb-false, eqb-true}
+use Rattle.std.proofs.lemmas.List.{append-nil, length-append, take_at, drop_at}
+use Rattle.std.specs.List.{AllByRecursion, list_any}
+use Rattle.ti_words.specs.declared.Number.{Number}
+use Rattle.ti_words.specs.declared.Number.TheVariants as numbers
+use Rattle.ti_words.specs.declared.Width.{Width}
+use Rattle.ti_words.specs.declared.Width.TheVariants.{Legacy}
+use Rattle.ti_words.specs.Texts.{TextValue, AbsentText, CancelledText, TextOf}
+use Rattle.ti_entry.specs.Value.{EntryValue}
+use Rattle.ti_entry.specs.Table.{is_nul}
+use Rattle.ti_entry.specs.Spelling.{Spells, HasSections, HasExtendedPart, HasNoNul, FitsWidth, Has, IsText, IsName, Each, mark_in, text_size, texts_size, extended_names}
+use Rattle.ti_entry.specs.Canonical.{canonical, plain_bytes, extended_bytes, text_bytes, texts_table, text_words, names_table, name_words}
+use Rattle.ti_entry.specs.Unfit.{encode_fault, has_nul, text_has_nul, is_out_of_range}
+use Rattle.ti_entry.proofs.LengthLaws.{is_plain_bytes, is_both, length_extended_names}
+use Rattle.ti_entry.proofs.Fit.{fit, small, small_extended}
+
+-- ---- what has no fault
+
+pub neither : (a b : Bool) → (a || b) ≡ false → (a ≡ false) × (b ≡ false)
+neither true b h = absurd cc
+neither false b h = (refl, h)
+
+pub none_of : {X : Type 0} (p : X → Bool) (P : X → Type 0) → ((x : X) → p x ≡ false → P x) → (xs : List X) → list_any p xs ≡ false → AllByRecursion P xs
+none_of p P f [] h = tt
+none_of p P f (x ∷ xs) h = let s = neither (p x) (list_any p xs) h in (f x s.0, none_of p P f xs s.1)
+
+pub clean : (bytes : List ℕ) → has_nul bytes ≡ false → HasNoNul bytes
+clean bytes h = none_of is_nul (λ b. b ≢ 0) (λ b e. eqb-false b 0 e) bytes h
+
+-- a text without a NUL
+abbrev pub IsClean : TextValue → Type 0
+IsClean AbsentText = Unit {0}
+IsClean CancelledText = Unit {0}
+IsClean (TextOf text) = HasNoNul text
+
+clean_text : (t : TextValue) → text_has_nul t ≡ false → IsClean t
+clean_text AbsentText h = tt
+clean_text CancelledText h = tt
+clean_text (TextOf text) h = clean text h
+
+fits_width : (w : Width) (n : Number) → is_out_of_range w n ≡ false → FitsWidth w n
+fits_width w numbers.Absent h = tt
+fits_width w numbers.Cancelled h = tt
+fits_width Legacy (numbers.Value (pos n)) h = let le = ltb-false 32767 n h in omega arith
+fits_width w (numbers.Value (negsuc n)) h = absurd cc
+
+-- ---- tables
+
+has_at : (pre ys post : List ℕ) → Has (pre ++ (ys ++ post)) (length pre) ys
+has_at pre ys post = record { found = ap (take (length ys)) (drop_at pre (ys ++ post) (length pre) refl) ∙ take_at ys post (length ys) refl }
+
+pub texts_put : (pre : List ℕ) (ts : List TextValue) (post : List ℕ) → AllByRecursion IsClean ts
+    → Each (IsText (pre ++ (texts_table ts ++ post))) (text_words (length pre) ts) ts
+texts_put pre [] post h = tt
+texts_put pre (AbsentText ∷ ts) post h = (refl, texts_put pre ts post h.1)
+texts_put pre (CancelledText ∷ ts) post h = (refl, texts_put pre ts post h.1)
+texts_put pre (TextOf text ∷ ts) post h =
+    let one = text ++ 0 ∷ [] in
+    let n : length (pre ++ one) ≡ length pre + length text + 1 = length-append pre one ∙ ap (λ k. length pre + k) (length-append text (0 ∷ [])) ∙ omega arith in
+    let whole : pre ++ (one ++ (texts_table ts ++ post)) ≡ pre ++ ((one ++ texts_table ts) ++ post) = ap (λ l. pre ++ l) (sym (append_assoc one (texts_table ts) post)) in
+    let split : (pre ++ one) ++ (texts_table ts ++ post) ≡ pre ++ ((one ++ texts_table ts) ++ post) = append_assoc pre one (texts_table ts ++ post) ∙ whole in
+    let rest = texts_put (pre ++ one) ts post h.1 in
+    let P : List ℕ → Type 0 = λ table. Each (IsText table) (text_words (length (pre ++ one)) ts) ts in
+    let Q : ℕ → Type 0 = λ k. Each (IsText (pre ++ ((one ++ texts_table ts) ++ post))) (text_words k ts) ts in
+    let R : List ℕ → Type 0 = λ table. Has table (length pre) one in
+    ((length pre, refl, h.0, subst R whole (has_at pre one (texts_table ts ++ post))), subst Q n (subst P split rest))
+
+pub names_put : (pre : List ℕ) (base from : ℕ) (names : List (List ℕ)) → length pre ≡ base + from → AllByRecursion HasNoNul names
+    → Each (IsName (pre ++ names_table names) base) (name_words from names) names
+names_put pre base from [] k h = tt
+names_put pre base from (name ∷ names) k h =
+    let one = name ++ 0 ∷ [] in
+    let n : length (pre ++ one) ≡ base + (from + length name + 1) = length-append pre one ∙ ap (λ j. length pre + j) (length-append name (0 ∷ [])) ∙ omega arith in
+    let split : (pre ++ one) ++ names_table names ≡ pre ++ (one ++ names_table names) = append_assoc pre one (names_table names) in
+    let rest = names_put (pre ++ one) base (from + length name + 1) names n h.1 in
+    let P : List ℕ → Type 0 = λ table. Each (IsName table base) (name_words (from + length name + 1) names) names in
+    let R : ℕ → Type 0 = λ j. Has (pre ++ (one ++ names_table names)) j one in
+    ((from, refl, h.0, subst R k (has_at pre one (names_table names))), subst P split rest)
+
+size_of : (t : TextValue) → text_size t ≡ length (text_bytes t)
+size_of AbsentText = refl
+size_of CancelledText = refl
+size_of (TextOf text) = sym (length-append text (0 ∷ []))
+
+pub base_is : (ts : List (List ℕ × TextValue)) → texts_size ts ≡ length (texts_table (map mark_in ts))
+base_is [] = refl
+base_is (t ∷ ts) = omega (arith, size_of t.1, base_is ts, length-append (text_bytes t.1) (texts_table (map mark_in ts)))
+
+-- ---- both parts
+
+sections_of : (v : EntryValue) (rest : List ℕ) → encode_fault v ≡ None → HasSections v (texts_table v.texts) rest (plain_bytes v ++ rest)
+sections_of v rest h =
+    let f = fit v h in
+    let few = small v h in
+    let front = neither ((length v.names == 0) || has_nul v.names) (list_any has_nul (extended_names v)) f.good_names in
+    let named = neither (length v.names == 0) (has_nul v.names) front.0 in
+    let there = eqb-false (length v.names) 0 named.0 in
+    let text = neither (list_any text_has_nul v.texts) (list_any text_has_nul (map mark_in v.extended_texts)) f.good_texts in
+    let number = neither (list_any (is_out_of_range v.width) v.numbers) (list_any (is_out_of_range v.width) (map mark_in v.extended_numbers)) f.good_numbers in
+    let put = texts_put [] v.texts [] (none_of text_has_nul IsClean clean_text v.texts text.0) in
+    let P : List ℕ → Type 0 = λ table. Each (IsText table) (text_words 0 v.texts) v.texts in
+    record {
+      offsets = text_words 0 v.texts;
+      joined = refl;
+      counts = (few.names, (few.flags, (few.numbers, (few.texts, (few.table, tt)))));
+      named = omega (arith, there);
+      names_fit = clean v.names named.1;
+      numbers_fit = none_of (is_out_of_range v.width) (FitsWidth v.width) (fits_width v.width) v.numbers number.0;
+      texts_there = subst P (append-nil (texts_table v.texts)) put;
+    }
+
+extended_of : (v : EntryValue) → encode_fault v ≡ None → (length (extended_names v) == 0) ≡ false
+    → HasExtendedPart v (length (texts_table v.texts)) (extended_bytes v)
+extended_of v h e =
+    let f = fit v h in
+    let few = small_extended v h e in
+    let texts = map mark_in v.extended_texts in
+    let names = extended_names v in
+    let values = texts_table texts in
+    let named = neither ((length v.names == 0) || has_nul v.names) (list_any has_nul names) f.good_names in
+    let text = neither (list_any text_has_nul v.texts) (list_any text_has_nul texts) f.good_texts in
+    let number = neither (list_any (is_out_of_range v.width) v.numbers) (list_any (is_out_of_range v.width) (map mark_in v.extended_numbers)) f.good_numbers in
+    let long : length (values ++ names_table names) < 2 ^ 15 = omega (arith, length-append values (names_table names), few.table) in
+    let P : ℕ → Type 0 = λ base. Each (IsName (values ++ names_table names) base) (name_words 0 names) names in
+    let put = names_put values (length values) 0 names (omega arith) (none_of has_nul HasNoNul clean names named.1) in
+    record {
+      values = text_words 0 texts;
+      names = name_words 0 names;
+      items = _;
+      table = values ++ names_table names;
+      joined = refl;
+      counts = (few.flags, (few.numbers, (few.texts, (long, tt))));
+      items_size = refl;
+      numbers_fit = none_of (is_out_of_range v.width) (FitsWidth v.width) (fits_width v.width) (map mark_in v.extended_numbers) number.1;
+      texts_there = texts_put [] texts (names_table names) (none_of text_has_nul IsClean clean_text texts text.1);
+      names_there = subst P (sym (base_is v.extended_texts)) put;
+    }
+
+nothing : {X : Type 0} → (xs : List X) → length xs ≡ 0 → xs ≡ []
+nothing [] h = refl
+nothing (x ∷ xs) h = absurd (omega arith)
+
+spells_under : (v : EntryValue) (b : Bool) → (length (extended_names v) == 0) ≡ b → encode_fault v ≡ None → Spells (canonical v) v
+spells_under v true e h =
+    let P : List ℕ → Type 0 = λ bytes. Spells bytes v in
+    let is : canonical v ≡ plain_bytes v ++ [] = is_plain_bytes v e ∙ sym (append-nil (plain_bytes v)) in
+    let none = eqb-true (length (extended_names v)) 0 e in
+    let each = length_extended_names v in
+    subst P (sym is) record {
+      fits = omega (arith, (fit v h).short, ap length is);
+      table = texts_table v.texts;
+      rest = [];
+      sections = sections_of v [] h;
+      behind = inl record {
+        ends = refl;
+        no_flags = nothing v.extended_flags (omega (arith, none, each));
+        no_numbers = nothing v.extended_numbers (omega (arith, none, each));
+        no_texts = nothing v.extended_texts (omega (arith, none, each));
+      };
+    }
+spells_under v false e h =
+    let P : List ℕ → Type 0 = λ bytes. Spells bytes v in
+    let is = is_both v e in
+    subst P (sym is) record {
+      fits = omega (arith, (fit v h).short, ap length is);
+      table = texts_table v.texts;
+      rest = extended_bytes v;
+      sections = sections_of v (extended_bytes v) h;
+      behind = inr (extended_of v h e);
+    }
+
+pub canonical_spells : (v : EntryValue) → encode_fault v ≡ None → Spells (canonical v) v
+canonical_spells v h = spells_under v (length (extended_names v) == 0) refl h

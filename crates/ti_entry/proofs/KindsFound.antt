@@ -1,0 +1,75 @@
+-- A section of each kind whose checks pass: its bytes are those of what it is read as.
+use Rattle.std.proofs.Common.{◌≡◌, ℕ, ◌+◌, ◌-◌, ◌*◌, ◌^◌, ◌<◌, ◌≤◌, true, false, List, [], ◌∷◌, ◌++◌, map, length, get_or, take, drop, inl, inr, sym, ap, ◌∙◌, arith}
+use Rattle.std.proofs.Math.Seq.{take-add}
+use Rattle.std.proofs.lemmas.Bool.{cases_lt, eqb-true}
+use Rattle.std.specs.List.{AllByRecursion}
+use Rattle.ti_words.specs.declared.Width.TheVariants.{Legacy}
+use Rattle.ti_words.specs.Marks.{byte_of_flag, word_of_number}
+use Rattle.ti_entry.specs.declared.fault.Fault.TheVariants.{BadPad}
+use Rattle.ti_entry.specs.Word.{unsigned_at, word_at, word}
+use Rattle.ti_entry.specs.Layout.{places, pad_len}
+use Rattle.ti_entry.specs.Checks.{Passes, verdict, is_not_negative, nul_check, flag_check, flag_checks, pad_checks, number_check, number_checks, offset_check, offset_checks, ending_check, ending_checks, table_check}
+use Rattle.ti_entry.specs.Content.{flag_at, number_at, text_at}
+use Rattle.ti_entry.specs.Spelling.{FitsWidth, IsText, Each, count_word, words_of, numbers_of, flags_of, pad}
+use Rattle.ti_entry.proofs.Passing.{first_passes}
+use Rattle.ti_entry.proofs.WordLaws.{IsBytes, below, above, word_is, one_byte, number_again, has_word}
+use Rattle.ti_entry.proofs.TextLaws.{is_text}
+use Rattle.ti_entry.proofs.SectionLaws.{each_passed, items_are, each_item, all_items, flag_again, one_by_one, nul_byte, zeros}
+
+-- a word that is not negative is a count
+pub record IsCount (bytes : List ℕ) (p : ℕ) : Type 0 where
+  pub small : unsigned_at 2 bytes p < 2 ^ 15
+  pub bytes_are : take 2 (drop p bytes) ≡ count_word (unsigned_at 2 bytes p)
+
+pub count_is : (bytes : List ℕ) (p : ℕ) → IsBytes bytes → p + 2 ≤ length bytes → is_not_negative (word_at 2 bytes p) ≡ true → IsCount bytes p
+count_is bytes p fits le h =
+    let u = unsigned_at 2 bytes p in
+    elim (cases_lt (2 * u) 65536) [
+      | inl lt ↦ record { small = omega arith; bytes_are = word_is bytes p fits le ∙ ap (word 2) (below u lt) }
+      | inr ge ↦
+          let b0 : get_or bytes p 0 < 256 = fits p in
+          let b1 : get_or bytes (p + 1) 0 < 256 = fits (p + 1) in
+          let e : is_not_negative (word_at 2 bytes p) ≡ false = ap is_not_negative (above u (65535 - u) (omega arith) ge) in
+          absurd (let f : true ≡ false = sym h ∙ e in cc)
+    ]
+
+-- one section more at the end of a front
+pub front : (bytes : List ℕ) (from k : ℕ) (x s : List ℕ) → take from bytes ≡ x → take k (drop from bytes) ≡ s → take (from + k) bytes ≡ x ++ s
+front bytes from k x s e f = take-add from k bytes ∙ ap (λ t. t ++ take k (drop from bytes)) e ∙ ap (λ t. x ++ t) f
+
+pub flags_are : (bytes : List ℕ) (from count : ℕ) → Passes ≡ verdict (length bytes) (flag_checks bytes from count)
+    → take count (drop from bytes) ≡ flags_of (map (flag_at bytes) (places from 1 count))
+flags_are bytes from count h =
+    let all = each_passed (flag_check bytes) (length bytes) from 1 count h in
+    ap (λ k. take k (drop from bytes)) (let one : count ≡ 1 * count = omega arith in one)
+    ∙ items_are bytes (λ x. byte_of_flag x ∷ []) (flag_at bytes) from 1 count (λ i lt. let p = all i lt in one_byte bytes (from + 1 * i) p.long ∙ ap (λ (x : ℕ). x ∷ []) (sym (flag_again (get_or bytes (from + 1 * i) 0) p.holds)))
+    ∙ one_by_one byte_of_flag (map (flag_at bytes) (places from 1 count))
+
+pub pad_is : (bytes : List ℕ) (from count : ℕ) → Passes ≡ verdict (length bytes) (pad_checks bytes from count) → take (pad_len count) (drop from bytes) ≡ pad count
+pad_is bytes from count h =
+    let all = each_passed (nul_check bytes BadPad) (length bytes) from 1 (pad_len count) h in
+    ap (λ k. take k (drop from bytes)) (let one : pad_len count ≡ 1 * pad_len count = omega arith in one)
+    ∙ items_are bytes nul_byte (λ p. p) from 1 (pad_len count) (λ i lt. let p = all i lt in one_byte bytes (from + 1 * i) p.long ∙ ap (λ (x : ℕ). x ∷ []) (eqb-true _ _ p.holds))
+    ∙ zeros (λ p. p) from (pad_len count)
+
+pub numbers_are : (bytes : List ℕ) (from count : ℕ) → IsBytes bytes → Passes ≡ verdict (length bytes) (number_checks bytes 2 from count)
+    → take (2 * count) (drop from bytes) ≡ numbers_of Legacy (map (number_at 2 bytes) (places from 2 count))
+numbers_are bytes from count fits h =
+    let all = each_passed (number_check bytes 2) (length bytes) from 2 count h in
+    items_are bytes (λ n. word 2 (word_of_number n)) (number_at 2 bytes) from 2 count (λ i lt. let p = all i lt in word_is bytes (from + 2 * i) fits p.long ∙ ap (word 2) (sym (number_again (word_at 2 bytes (from + 2 * i)) p.holds)))
+
+pub numbers_fit : (bytes : List ℕ) (from count : ℕ) → IsBytes bytes → AllByRecursion (FitsWidth Legacy) (map (number_at 2 bytes) (places from 2 count))
+numbers_fit bytes from count fits =
+    all_items (FitsWidth Legacy) (number_at 2 bytes) from 2 count (λ i lt. let b0 = fits (from + 2 * i) in let b1 = fits (from + 2 * i + 1) in has_word (unsigned_at 2 bytes (from + 2 * i)) (omega arith))
+
+pub words_are : (bytes : List ℕ) (from count : ℕ) → IsBytes bytes → from + 2 * count ≤ length bytes → take (2 * count) (drop from bytes) ≡ words_of (map (word_at 2 bytes) (places from 2 count))
+words_are bytes from count fits le =
+    items_are bytes (word 2) (word_at 2 bytes) from 2 count (λ i lt. word_is bytes (from + 2 * i) fits (omega arith))
+
+pub texts_are : (bytes table : List ℕ) (end from count : ℕ) → Passes ≡ verdict (length bytes) (offset_checks bytes (length table) from count) → Passes ≡ verdict (length bytes) (ending_checks bytes table end from count)
+    → Each (IsText table) (map (word_at 2 bytes) (places from 2 count)) (map (text_at table bytes) (places from 2 count))
+texts_are bytes table end from count h k =
+    let all = each_passed (offset_check bytes (length table)) (length bytes) from 2 count h in
+    let last = first_passes (length bytes) (table_check end) (map (ending_check bytes table end) (places from 2 count)) k in
+    let ended = each_passed (ending_check bytes table end) (length bytes) from 2 count last.rest in
+    each_item (IsText table) (word_at 2 bytes) (text_at table bytes) from 2 count (λ i lt. is_text table (word_at 2 bytes (from + 2 * i)) (all i lt).holds (ended i lt).holds)

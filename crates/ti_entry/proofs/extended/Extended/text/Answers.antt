@@ -1,0 +1,25 @@
+use Rattle.std.proofs.Common.{◌≡◌, ◌+◌, ◌-◌, ◌*◌, ◌∙◌, map, take, drop, get_or, sym, ap, arith}
+use Rattle.ti_words.specs.Texts.{AbsentText}
+use Rattle.ti_entry.specs.Value.{EntryValue}
+use Rattle.ti_entry.specs.Table.{extended_table_of}
+use Rattle.ti_entry.specs.Content.{text_at}
+use Rattle.ti_entry.specs.Spelling.{mark_in}
+use Rattle.ti_entry.proofs.NamedItems.{text_item, no_text_item}
+use Rattle.ti_entry.proofs.extended.Extended.text.Goals as goal
+
+pub returns-then-i-header : goal.returns-then-i-header
+returns-then-i-header c =
+    let bytes = c.self.inside.bytes.now in
+    let x = c.self.inside.part.header in
+    let size : c.end.result - c.table_from.result ≡ x.table = omega arith in
+    let table : take (c.end.result - c.table_from.result) (drop c.table_from.result bytes) ≡ extended_table_of bytes x =
+    ap (λ n. take n (drop c.table_from.result bytes)) size ∙ ap (λ n. take x.table (drop n bytes)) c.table_from.ensures in
+    c.text_at.ensures ∙ ap (λ t. text_at t bytes (c.values_from.result + 2 * c.args.i)) table
+    ∙ ap (λ n. text_at (extended_table_of bytes x) bytes (n + 2 * c.args.i)) c.values_from.ensures
+    ∙ sym (text_item bytes c.self.inside.header x c.args.i c.if-i-header.true)
+    ∙ ap (λ (v : EntryValue). get_or (map mark_in v.extended_texts) c.args.i AbsentText) c.self.view_is
+
+pub returns-else-i-header : goal.returns-else-i-header
+returns-else-i-header c =
+    sym (no_text_item c.self.inside.bytes.now c.self.inside.header c.self.inside.part.header c.args.i c.if-i-header.false)
+    ∙ ap (λ (v : EntryValue). get_or (map mark_in v.extended_texts) c.args.i AbsentText) c.self.view_is

@@ -1,0 +1,5 @@
+use Rattle.ti_entry.proofs.Encoded.{canonical_spells}
+use Rattle.ti_entry.proofs.laws.encoded_spells.Goals as goal
+
+pub returns : goal.returns
+returns c = canonical_spells

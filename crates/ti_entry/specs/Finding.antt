@@ -1,0 +1,47 @@
+-- The names of extended capabilities, and which capability has a name first.
+use Rattle.std.specs.Prelude.{◌≡◌, ◌≢◌, ℕ, ◌+◌, ◌*◌, List, ◌++◌, map, take, slice_get, Option, Some, None}
+use Rattle.std.specs.List.{AllByRecursion}
+use Rattle.ti_words.specs.declared.Kind.{Kind}
+use Rattle.ti_words.specs.declared.Kind.TheVariants as kinds
+use Rattle.ti_entry.specs.declared.extended_header.ExtendedHeader.{ExtendedHeader}
+use Rattle.ti_entry.specs.Value.{EntryValue}
+use Rattle.ti_entry.specs.Layout.{extended_names_from}
+use Rattle.ti_entry.specs.Spelling.{name_in, extended_names}
+
+-- the names of the capabilities of a kind, by their index
+abbrev pub names_of : EntryValue → Kind → List (List ℕ)
+names_of v kinds.Flag = map name_in v.extended_flags
+names_of v kinds.Number = map name_in v.extended_numbers
+names_of v kinds.Text = map name_in v.extended_texts
+
+-- no name of a list is this one
+abbrev pub Lacks : List (List ℕ) → List ℕ → Type 0
+Lacks names name = AllByRecursion (λ n. n ≢ name) names
+
+-- the least index at which a list has the name, or none where no item is the name
+abbrev pub IsFirst : List (List ℕ) → List ℕ → Option ℕ → Type 0
+IsFirst names name None = Lacks names name
+IsFirst names name (Some i) = (slice_get names i ≡ Some name) × Lacks (take i names) name
+
+-- the names before a capability's: flags stand before numbers before texts, and each by its index
+abbrev pub names_before : EntryValue → Kind → ℕ → List (List ℕ)
+names_before v kinds.Flag i = take i (names_of v kinds.Flag)
+names_before v kinds.Number i = names_of v kinds.Flag ++ take i (names_of v kinds.Number)
+names_before v kinds.Text i = names_of v kinds.Flag ++ names_of v kinds.Number ++ take i (names_of v kinds.Text)
+
+-- the kind and the index of the first capability with the name, or none where no capability has it
+abbrev pub IsFirstNamed : EntryValue → List ℕ → Option (Kind × ℕ) → Type 0
+IsFirstNamed v name None = Lacks (extended_names v) name
+IsFirstNamed v name (Some at) = (slice_get (names_of v at.0) at.1 ≡ Some name) × Lacks (names_before v at.0 at.1) name
+
+-- ---- where the offsets of the names of a kind lie, and how many there are: only private functions cite these
+
+abbrev pub kind_count : ExtendedHeader → Kind → ℕ
+kind_count x kinds.Flag = x.flags
+kind_count x kinds.Number = x.numbers
+kind_count x kinds.Text = x.texts
+
+abbrev pub kind_names_from : ExtendedHeader → Kind → ℕ
+kind_names_from x kinds.Flag = extended_names_from x
+kind_names_from x kinds.Number = extended_names_from x + 2 * x.flags
+kind_names_from x kinds.Text = extended_names_from x + 2 * (x.flags + x.numbers)

@@ -1,0 +1,33 @@
+-- How an entry that was read holds its extended part: none is held as one with no capability.
+-- Only the views and private functions of the crate cite this.
+use Rattle.std.specs.Prelude.{◌≡◌, ℕ, ◌≤◌, List, length, nat_le, if◌then◌else◌}
+use Rattle.ti_words.specs.declared.Width.{Width}
+use Rattle.ti_entry.specs.declared.header.Header.{Header}
+use Rattle.ti_entry.specs.declared.extended_header.ExtendedHeader.{ExtendedHeader}
+use Rattle.ti_entry.specs.declared.part.Part.{Part}
+use Rattle.ti_entry.specs.Value.{EntryValue}
+use Rattle.ti_entry.specs.Layout.{end_of, extended_header_of, extended_end_of}
+use Rattle.ti_entry.specs.Table.{base_of}
+use Rattle.ti_entry.specs.Content.{content_with}
+
+abbrev pub no_capability : Width → ExtendedHeader
+no_capability width = record { width = width; from = 0; flags = 0; numbers = 0; texts = 0; table = 0 }
+
+abbrev pub held_header : List ℕ → Header → ExtendedHeader
+held_header bytes h = if nat_le (length bytes) (end_of h) then no_capability h.width else extended_header_of h bytes
+
+-- the entry that a view shows
+abbrev pub held : List ℕ → Header → Part → EntryValue
+held bytes h part = content_with bytes h part.header
+
+-- the sections lie within the bytes, and the base of the names is known
+abbrev pub IsPart : List ℕ → Part → Type 0
+IsPart bytes part =
+    (extended_end_of part.header ≤ 32768)
+    × (extended_end_of part.header ≤ length bytes)
+    × (part.base ≤ 32768)
+    × (part.base ≡ base_of bytes part.header)
+
+abbrev pub IsHeld : List ℕ → Header → Part → Type 0
+IsHeld bytes h part =
+    (2 ≤ h.names) × (end_of h ≤ 32768) × (end_of h ≤ length bytes) × IsPart bytes part

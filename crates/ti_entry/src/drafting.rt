@@ -1,0 +1,124 @@
+//! A draft of an entry that was read.
+//!
+//! Each section is gone over once, and each list takes its memory at once. Names and texts stay where the entry has
+//! them.
+
+ghost use Rattle.std.specs.Prelude.{◌≡◌, ◌++◌, IfOk, OnOk};
+
+use crate::draft::Draft;
+use crate::entry::Entry;
+use crate::extended::Extended;
+use std::alloc::{AllocError, Allocator, Global};
+use ti_words::Kind;
+
+/// Adds the flags of an entry.
+fn add_flags<A: Allocator>(draft: &mut Draft<'_, A>, entry: &Entry<'_>) -> Result<(), AllocError>
+    ensures { OnOk result (draft.new ≡ record draft.old { flags = draft.old.flags ++ entry.now.flags }) }
+{
+    for i in 0..entry.flag_count() {
+        draft.push_flag(entry.flag(i))?;
+    }
+    Ok(())
+}
+
+/// Adds the numbers of an entry.
+fn add_numbers<A: Allocator>(draft: &mut Draft<'_, A>, entry: &Entry<'_>) -> Result<(), AllocError>
+    ensures { OnOk result (draft.new ≡ record draft.old { numbers = draft.old.numbers ++ entry.now.numbers }) }
+{
+    for i in 0..entry.number_count() {
+        draft.push_number(entry.number(i))?;
+    }
+    Ok(())
+}
+
+/// Adds the texts of an entry.
+fn add_texts<'a, A: Allocator>(
+    draft: &mut Draft<'a, A>,
+    entry: &Entry<'a>,
+) -> Result<(), AllocError>
+    ensures { OnOk result (draft.new ≡ record draft.old { texts = draft.old.texts ++ entry.now.texts }) }
+{
+    for i in 0..entry.text_count() {
+        draft.push_text(entry.text(i))?;
+    }
+    Ok(())
+}
+
+/// Adds the extended flags of an entry.
+fn add_extended_flags<'a, A: Allocator>(
+    draft: &mut Draft<'a, A>,
+    extended: &Extended<'a>,
+) -> Result<(), AllocError>
+    ensures { OnOk result (draft.new ≡ record draft.old { extended_flags = draft.old.extended_flags ++ extended.now.extended_flags }) }
+{
+    for i in 0..extended.flag_count() {
+        if let Some(name) = extended.name(Kind::Flag, i) {
+            draft.push_extended_flag(name, extended.flag(i))?;
+        }
+    }
+    Ok(())
+}
+
+/// Adds the extended numbers of an entry.
+fn add_extended_numbers<'a, A: Allocator>(
+    draft: &mut Draft<'a, A>,
+    extended: &Extended<'a>,
+) -> Result<(), AllocError>
+    ensures { OnOk result (draft.new ≡ record draft.old { extended_numbers = draft.old.extended_numbers ++ extended.now.extended_numbers }) }
+{
+    for i in 0..extended.number_count() {
+        if let Some(name) = extended.name(Kind::Number, i) {
+            draft.push_extended_number(name, extended.number(i))?;
+        }
+    }
+    Ok(())
+}
+
+/// Adds the extended texts of an entry.
+fn add_extended_texts<'a, A: Allocator>(
+    draft: &mut Draft<'a, A>,
+    extended: &Extended<'a>,
+) -> Result<(), AllocError>
+    ensures { OnOk result (draft.new ≡ record draft.old { extended_texts = draft.old.extended_texts ++ extended.now.extended_texts }) }
+{
+    for i in 0..extended.text_count() {
+        if let Some(name) = extended.name(Kind::Text, i) {
+            draft.push_extended_text(name, extended.text(i))?;
+        }
+    }
+    Ok(())
+}
+
+impl<'a> Entry<'a> {
+    /// A draft that says what the entry says.
+    ///
+    /// # Errors
+    ///
+    /// Memory was refused.
+    pub fn draft(&self, alloc: Global) -> Result<Draft<'a>, AllocError>
+        ensures { IfOk result (λ draft. draft ≡ self.now) }
+    {
+        self.draft_in(alloc)
+    }
+
+    /// The same with memory from any allocator.
+    pub fn draft_in<A: Allocator + Copy>(&self, alloc: A) -> Result<Draft<'a, A>, AllocError>
+        ensures { IfOk result (λ draft. draft ≡ self.now) }
+    {
+        let mut draft = Draft::new_in(alloc, self.names(), self.width());
+        draft.reserve(self.flag_count(), self.number_count(), self.text_count())?;
+        add_flags(&mut draft, self)?;
+        add_numbers(&mut draft, self)?;
+        add_texts(&mut draft, self)?;
+        let extended = self.extended();
+        draft.reserve_extended(
+            extended.flag_count(),
+            extended.number_count(),
+            extended.text_count(),
+        )?;
+        add_extended_flags(&mut draft, &extended)?;
+        add_extended_numbers(&mut draft, &extended)?;
+        add_extended_texts(&mut draft, &extended)?;
+        Ok(draft)
+    }
+}

@@ -1,0 +1,10 @@
+use Rattle.std.proofs.Common.{◌≡◌, ◌⊎◌, Ok, Err, MatchResult, subst}
+use Rattle.ti_entry.specs.Value.{EntryValue}
+use Rattle.ti_tool.specs.declared.fault.ToolFault.TheVariants as fault
+use Rattle.ti_tool.specs.Results.{IsEncoding}
+use Rattle.ti_tool.proofs.convert.converted_in.Goals as goal
+
+pub returns-in-Ok : goal.returns-in-Ok
+returns-in-Ok g c =
+    let P : EntryValue → Type 0 = λ v. MatchResult c.encoded_in.result (λ x. IsEncoding v (Ok x.items)) (λ e. (e ≡ fault.Memory) ⊎ IsEncoding v (Err e)) in
+    subst P c.in-Ok.ensures c.encoded_in.ensures

@@ -1,0 +1,8 @@
+use Rattle.std.proofs.Common.{◌≡◌, ◌++◌, drop}
+use Rattle.ti_tool.specs.Shown.{lines_from, extended_number}
+use Rattle.ti_tool.proofs.listing.push_extended_numbers.Given as goal
+
+abbrev pub invariant-loop-i : goal.invariant-loop-i
+invariant-loop-i g l =
+    l.out.items ++ lines_from extended_number l.i (drop l.i l.extended.extended_numbers)
+    ≡ l.initial.out.items ++ lines_from extended_number 0 l.extended.extended_numbers

@@ -1,0 +1,36 @@
+-- Which text of an entry a name stands for.
+use Rattle.std.specs.Prelude.{◌≡◌, ◌≤◌, ◌⊎◌, ℕ, List, ◌++◌, length, codes, get_or, map, Option, Some, None}
+use Rattle.std.specs.Str.Parse.{IsNumeral, digits_value}
+use Rattle.ti_words.specs.declared.Kind.TheVariants as kinds
+use Rattle.ti_words.specs.Names.{Place, place_of}
+use Rattle.ti_words.specs.Texts.{TextValue, AbsentText}
+use Rattle.ti_entry.specs.Value.{EntryValue}
+use Rattle.ti_entry.specs.Spelling.{mark_in}
+use Rattle.ti_entry.specs.Finding.{IsFirst, names_of}
+
+-- `#` and one to five digits
+abbrev pub IsLabel : List ℕ → ℕ → Type 0
+IsLabel name index =
+    (digits : List ℕ) × (name ≡ codes "#" ++ digits) × IsNumeral 10 digits × (length digits ≤ 5) × (index ≡ digits_value 10 digits)
+
+-- the extended text at an index
+abbrev pub text_found : Option ℕ → EntryValue → TextValue
+text_found None v = AbsentText
+text_found (Some index) v = get_or (map mark_in v.extended_texts) index AbsentText
+
+-- the first extended text with the name
+abbrev pub IsExtendedCalled : List ℕ → EntryValue → TextValue → Type 0
+IsExtendedCalled name v text = (found : Option ℕ) × IsFirst (names_of v kinds.Text) name found × (text ≡ text_found found v)
+
+-- the text at the place that the table of names tells, or else the extended text of the name
+abbrev pub IsNamedText : Option Place → List ℕ → EntryValue → TextValue → Type 0
+IsNamedText (Some (kinds.Text, index)) name v text = text ≡ get_or v.texts index AbsentText
+IsNamedText (Some (kinds.Flag, index)) name v text = IsExtendedCalled name v text
+IsNamedText (Some (kinds.Number, index)) name v text = IsExtendedCalled name v text
+IsNamedText None name v text = IsExtendedCalled name v text
+
+-- the text at the index that the name tells, or the one that has the name
+abbrev pub IsCalled : List ℕ → EntryValue → TextValue → Type 0
+IsCalled name v text =
+    ((index : ℕ) × IsLabel name index × (text ≡ get_or v.texts index AbsentText))
+    ⊎ (((index : ℕ) → ¬ IsLabel name index) × IsNamedText (place_of name) name v text)

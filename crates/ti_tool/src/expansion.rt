@@ -1,0 +1,36 @@
+//! The expansion of a capability, as the calls of the program need it.
+
+ghost use Rattle.std.specs.Prelude.{◌≡◌, ◌⊎◌, IfOk, IfErr};
+ghost use Rattle.ti_cap.specs.Refusal.{IsFaultless};
+ghost use Rattle.ti_tool.specs.declared.fault.ToolFault.TheVariants as fault;
+ghost use Rattle.ti_tool.specs.Results.{IsExpansion, IsUnexpanded};
+
+use crate::fault::ToolFault;
+use std::alloc::Allocator;
+use ti_cap::capability::Capability;
+use ti_expand::expand::expand_in;
+use ti_expand::fault::ExpandFault;
+use ti_expand::value::Value;
+use ti_expand::vars::Vars;
+
+/// What a capability writes with these parameters, where each variable begins as 0.
+pub fn expanded_in<A: Allocator + Copy>(
+    alloc: A,
+    bytes: &[u8],
+    parameters: &[Value<'_>; 9],
+) -> Result<Vec<u8, A>, ToolFault>
+    ensures accepted { IfOk result (λ v. IsFaultless bytes.now) }
+    ensures output { IfOk result (λ v. IsExpansion bytes.now parameters.now v.items) }
+    ensures refused { IfErr result (λ e. (e ≡ fault.Memory) ⊎ IsUnexpanded bytes.now parameters.now e) }
+{
+    let capability = match Capability::parse(bytes) {
+        Ok(capability) => capability,
+        Err(refused) => return Err(ToolFault::Cap(refused)),
+    };
+    let mut vars = Vars::new();
+    match expand_in(alloc, &capability, parameters, &mut vars) {
+        Ok(output) => Ok(output),
+        Err(ExpandFault::TextTooLong { parameter }) => Err(ToolFault::TextTooLong(parameter)),
+        Err(_) => Err(ToolFault::Memory),
+    }
+}
