@@ -1,5 +1,6 @@
 //! Times parsing and expanding: without words it does nothing, with a number it makes that many turns over each
-//! capability and prints a line for each, `NAME parse NANOSECONDS` and `NAME expand NANOSECONDS`, a turn.
+//! capability and prints a line for each, `NAME parse NANOSECONDS` and `NAME expand NANOSECONDS`, a turn, and what an
+//! expansion did.
 #![tactic(auto)]
 
 use std::io;
@@ -7,6 +8,7 @@ use std::rt::Clock;
 use std::time::Instant;
 use ti_cap::capability::Capability;
 use ti_expand::expand::expand_into;
+use ti_expand::run::Run;
 use ti_expand::value::Value;
 use ti_expand::vars::Vars;
 
@@ -54,27 +56,34 @@ fn parsing<R: Clock>(rt: &R, bytes: &'static [u8], turns: u32) -> io::Result<u12
     Ok(start.elapsed(rt)?.as_nanos() / u128::from(turns.max(1)))
 }
 
-/// How long a turn of expanding takes, in nanoseconds.
-fn expanding<R: Clock>(rt: &R, bytes: &'static [u8], turns: u32) -> io::Result<u128> {
+/// How long a turn of expanding takes, in nanoseconds, and what the last one did.
+fn expanding<R: Clock>(rt: &R, bytes: &'static [u8], turns: u32) -> io::Result<(u128, Run)> {
+    // 0 but for the greatest number of turns, which the compiler cannot know: so it computes nothing ahead.
+    let nothing = (turns / u32::MAX) as i32;
     let mut parameters = [Value::Num(0); 9];
     for i in 0..9usize {
-        parameters[i] = Value::Num(PARAMETERS[i]);
+        parameters[i] = Value::Num(PARAMETERS[i].wrapping_add(nothing));
     }
     let mut stack = [Value::Num(0); 32];
     let mut out = [0u8; 1024];
     let mut vars = Vars::new();
+    let mut last = Run {
+        written: 0,
+        ran: 0,
+        passed: 0,
+        peak: 0,
+    };
     let start = Instant::now(rt)?;
-    let mut written = 0usize;
     if let Ok(capability) = Capability::parse(bytes) {
         for _ in 0..turns {
             let tape = capability.tape();
             if let Ok(run) = expand_into(tape, &parameters, &mut vars, &mut stack, &mut out) {
-                written = written.max(run.written);
+                last = run;
             }
         }
     }
-    let _ = std::hint::black_box(written);
-    Ok(start.elapsed(rt)?.as_nanos() / u128::from(turns.max(1)))
+    let nanoseconds = start.elapsed(rt)?.as_nanos() / u128::from(turns.max(1));
+    Ok((nanoseconds, last))
 }
 
 fn main(rt: HostRuntime) -> io::Result<()> {
@@ -89,8 +98,9 @@ fn main(rt: HostRuntime) -> io::Result<()> {
         let name = case.name;
         let parse = parsing(&rt, case.capability, turns)?;
         println!(rt; "{name} parse {parse}")?;
-        let expand = expanding(&rt, case.capability, turns)?;
+        let (expand, last) = expanding(&rt, case.capability, turns)?;
         println!(rt; "{name} expand {expand}")?;
+        println!(rt; "{name} run {last:?}")?;
     }
     Ok(())
 }

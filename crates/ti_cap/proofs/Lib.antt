@@ -5,6 +5,7 @@ pub mod FormatParts
 pub mod Formats
 pub mod FormatsSound
 pub mod FormatsUnread
+pub mod PlainFormats
 pub mod Spelled
 pub mod SpelledSize
 pub mod Unread

@@ -88,6 +88,10 @@ begins_format c = opens_format c || is_some (conversion_of c)
 abbrev pub flagged : List ℕ → Format
 flagged flags = record { conversion = Signed; left = has 45 flags; plus = has 43 flags; space = has 32 flags; alternate = has 35 flags; zero = has 48 flags; width = 0; precision = None }
 
+-- a conversion alone
+abbrev pub plain_format : Conversion → Format
+plain_format c = record (flagged []) { conversion = c }
+
 -- The format so far, and how many bytes have spelled it, stand before what is left to read.
 abbrev pub converted : Format → ℕ → Option Conversion → Reading
 converted f n None = Err BadFormat

@@ -12,10 +12,11 @@ use crate::token::{CapFault, Token};
 use arrayvec::ArrayVec;
 use std::marker::Model;
 
-/// The greatest value with which a path can run here, and what waits in the open conditionals.
+/// The greatest value with which a path can run here, and what waits in the open conditionals. At most 32767 tokens
+/// write at most 65535 bytes each, which fits 32 bits.
 #[derive(Drop)]
 pub struct Analysis {
-    running: u64,
+    running: u32,
     frames: ArrayVec<Frame, 32>,
 }
 
@@ -32,7 +33,7 @@ impl Model for Analysis {
 }
 
 /// The greater of what waits, if anything does, and another value.
-fn joined(waits: Option<u64>, value: u64) -> u64
+fn joined(waits: Option<u32>, value: u32) -> u32
     ensures { result ≡ join waits value }
 {
     match waits {
@@ -43,7 +44,7 @@ fn joined(waits: Option<u64>, value: u64) -> u64
 
 impl Analysis {
     ghost use Rattle.std.specs.Prelude.{◌≡◌, ◌<◌, ◌≤◌, [], ◌∷◌, ◌↔◌, length, Some, None, Option, List};
-    ghost use Rattle.ti_cap.specs.Analysis.{State, moved_open, moved_then, moved_else, moved_close, moved, misplaced, parts_of, first_frame, top, are_in_test};
+    ghost use Rattle.ti_cap.specs.Analysis.{State, moved_open, moved_then, moved_else, moved_close, moved, misplaced, misplaced_then, misplaced_else, misplaced_close, parts_of, first_frame, top, are_in_test};
 
     /// No token yet.
     pub fn new() -> Self
@@ -56,7 +57,7 @@ impl Analysis {
     }
 
     /// The greatest value with which a path runs here.
-    pub fn running(&self) -> u64
+    pub fn running(&self) -> u32
         ensures { result ≡ self.now.running }
     {
         self.running
@@ -77,53 +78,64 @@ impl Analysis {
         self.frames.as_slice().last().copied()
     }
 
+    /// Why a `%?` may not stand here.
+    fn misplaced_open(&self) -> Option<CapFault>
+        ensures { result ≡ misplaced Token.CondOpen (parts_of self.now.frames) }
+    {
+        if self.open() < 32 {
+            None
+        } else {
+            Some(CapFault::NestTooDeep)
+        }
+    }
+
+    /// Why a `%t` may not stand here.
+    fn misplaced_then(&self) -> Option<CapFault>
+        ensures { result ≡ misplaced_then (parts_of self.now.frames) }
+    {
+        match self.innermost() {
+            Some(frame) if !frame.is_in_body() => None,
+            _ => Some(CapFault::StrayThen),
+        }
+    }
+
+    /// Why a `%e` may not stand here.
+    fn misplaced_else(&self) -> Option<CapFault>
+        ensures { result ≡ misplaced_else (parts_of self.now.frames) }
+    {
+        match self.innermost() {
+            Some(frame) if frame.is_in_body() => None,
+            Some(frame) if frame.is_in_first_test() => Some(CapFault::NoThen),
+            _ => Some(CapFault::StrayElse),
+        }
+    }
+
+    /// Why a `%;` may not stand here.
+    fn misplaced_close(&self) -> Option<CapFault>
+        ensures { result ≡ misplaced_close (parts_of self.now.frames) }
+    {
+        match self.innermost() {
+            None => Some(CapFault::StrayEnd),
+            Some(frame) if frame.is_in_first_test() => Some(CapFault::NoThen),
+            Some(_) => None,
+        }
+    }
+
     /// Why the token may not stand here, by the parts of the open conditionals.
     pub fn misplaced(&self, token: &Token) -> Option<CapFault>
         ensures { result ≡ misplaced token.now (parts_of self.now.frames) }
     {
         match token {
-            Token::CondOpen => {
-                if self.open() < 32 {
-                    None
-                } else {
-                    Some(CapFault::NestTooDeep)
-                }
-            }
-            Token::CondThen => match self.innermost() {
-                Some(Frame { failed: None, .. }) => None,
-                _ => Some(CapFault::StrayThen),
-            },
-            Token::CondElse => match self.innermost() {
-                Some(
-                    Frame {
-                        failed: Some(_),
-                        ..
-                    },
-                ) => None,
-                Some(
-                    Frame {
-                        failed: None,
-                        done: None,
-                    },
-                ) => Some(CapFault::NoThen),
-                _ => Some(CapFault::StrayElse),
-            },
-            Token::CondClose => match self.innermost() {
-                None => Some(CapFault::StrayEnd),
-                Some(
-                    Frame {
-                        failed: None,
-                        done: None,
-                    },
-                ) => Some(CapFault::NoThen),
-                _ => None,
-            },
+            Token::CondOpen => self.misplaced_open(),
+            Token::CondThen => self.misplaced_then(),
+            Token::CondElse => self.misplaced_else(),
+            Token::CondClose => self.misplaced_close(),
             _ => None,
         }
     }
 
     /// A conditional begins; `after` is the value behind its `%?`.
-    fn enter(&mut self, after: u64)
+    fn enter(&mut self, after: u32)
         requires { length self.old.frames < 32 }
         ensures { self.new ≡ moved_open after self.old.frames }
     {
@@ -135,7 +147,7 @@ impl Analysis {
     }
 
     /// A test ends: a path may fail here, and go on behind the `%e` or `%;` to come.
-    fn test(&mut self, after: u64)
+    fn test(&mut self, after: u32)
         ensures { self.new ≡ moved_then after self.old.frames }
     {
         self.running = after;
@@ -148,7 +160,7 @@ impl Analysis {
     }
 
     /// A body ends: its value waits for the `%;`, and the failed test's goes on.
-    fn turn(&mut self, after: u64)
+    fn turn(&mut self, after: u32)
         ensures { self.new ≡ moved_else after self.old.frames }
     {
         self.running = after;
@@ -162,7 +174,7 @@ impl Analysis {
     }
 
     /// A conditional ends: the greatest of what runs and what waits in it goes on.
-    fn leave(&mut self, after: u64)
+    fn leave(&mut self, after: u32)
         ensures { self.new ≡ moved_close after self.old.frames }
     {
         self.running = after;
@@ -172,7 +184,8 @@ impl Analysis {
     }
 
     /// Meets a token, of which `after` is the value that it makes of the running one.
-    pub fn meet(&mut self, token: &Token, after: u64)
+    #[inline(always)]
+    pub fn meet(&mut self, token: &Token, after: u32)
         requires { token.now ≡ Token.CondOpen → length self.old.frames < 32 }
         ensures { self.new ≡ moved self.old token.now after }
     {
@@ -186,7 +199,7 @@ impl Analysis {
     }
 
     /// The greatest value with which a path can end here.
-    pub fn greatest(&self) -> u64
+    pub fn greatest(&self) -> u32
         ensures { result ≡ top self.now.frames self.now.running }
     {
         self.frames.as_slice().iter().rev().fold(

@@ -65,7 +65,7 @@ impl<'a> Capability<'a> {
         }
         let limits = Limits {
             depth: scan.depth() as usize,
-            nest: scan.nest() as usize,
+            nest: scan.nest(),
             bound: scan.bound(),
         };
         Ok(Capability { bytes, limits })
@@ -142,10 +142,10 @@ fn bound_from(mut tape: Tape<'_>, longest: u16) -> u64
 {
     let mut sizes = Analysis::new();
     while let Some(token) = tape.token() {
-        let size = sizes.running() + token.size(longest);
+        let size = sizes.running() + token.size(longest) as u32;
         sizes.meet(&token, size);
     }
-    sizes.greatest()
+    u64::from(sizes.greatest())
 }
 
 impl<'a> Tape<'a> {
@@ -162,6 +162,7 @@ impl<'a> Tape<'a> {
     }
 
     /// The next token, or none at the end.
+    #[inline(always)]
     pub fn token(&mut self) -> Option<Token>
         ensures none { IfNone result ((self.new ≡ self.old) × (self.old.left ≡ [])) }
         ensures some { IfSome result (λ token. Takes token self.old self.new) }

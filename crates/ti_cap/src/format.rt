@@ -8,7 +8,7 @@ ghost use Rattle.std.specs.Prelude.{◌≡◌, ◌+◌, ◌<◌, ◌≤◌, ◌^
 ghost use Rattle.std.specs.List.{prefix_len};
 ghost use Rattle.std.specs.Option.{SomeIff};
 ghost use Rattle.ti_cap.specs.Spelling.{number_of};
-ghost use Rattle.ti_cap.specs.Reading.{format_read, width_read, precision_read, letter_read, flagged, conversion_of, begins_format, is_flag, is_plain_flag, is_digit, front, rest};
+ghost use Rattle.ti_cap.specs.Reading.{format_read, width_read, precision_read, letter_read, flagged, plain_format, conversion_of, begins_format, is_flag, is_plain_flag, is_digit, front, rest};
 
 use crate::token::{CapFault, Conversion, Format, Token};
 
@@ -23,8 +23,40 @@ pub fn begins_format(byte: u8) -> bool
 }
 
 /// The format at the front, and how many bytes spell it with the `%` before them.
-#[tactic(auto, unfolding(crate::specs::Reading::format_read))]
+#[tactic(auto, using(crate::proofs::PlainFormats::plain_read), unfolding(crate::specs::Reading::format_read))]
 pub fn read_format(bytes: &[u8]) -> Result<(Token, usize), CapFault>
+    ensures { result ≡ format_read bytes.now }
+{
+    match bytes {
+        [] => Err(CapFault::CutShort),
+        // Most formats are a conversion alone.
+        [letter, ..] => match conversion(*letter) {
+            Some(conversion) => Ok((Token::Print(plain(conversion)), 2)),
+            None => read_parts(bytes),
+        },
+    }
+}
+
+/// The format of a conversion alone.
+fn plain(conversion: Conversion) -> Format
+    ensures { result ≡ plain_format conversion }
+{
+    Format {
+        conversion,
+        left: false,
+        plus: false,
+        space: false,
+        alternate: false,
+        zero: false,
+        width: 0,
+        precision: None,
+    }
+}
+
+/// The format at the front, part by part.
+#[inline(never)]
+#[tactic(auto, unfolding(crate::specs::Reading::format_read))]
+fn read_parts(bytes: &[u8]) -> Result<(Token, usize), CapFault>
     ensures { result ≡ format_read bytes.now }
 {
     match bytes {
@@ -96,14 +128,12 @@ fn with_flags(flags: &[u8]) -> Format
     ensures { result ≡ flagged flags.now }
 {
     Format {
-        conversion: Conversion::Signed,
         left: flags.contains(&b'-'),
         plus: flags.contains(&b'+'),
         space: flags.contains(&b' '),
         alternate: flags.contains(&b'#'),
         zero: flags.contains(&b'0'),
-        width: 0,
-        precision: None,
+        ..plain(Conversion::Signed)
     }
 }
 
@@ -166,6 +196,7 @@ fn read_letter(format: Format, taken: usize, bytes: &[u8]) -> Result<(Token, usi
 }
 
 /// The conversion that has this letter.
+#[inline]
 fn conversion(letter: u8) -> Option<Conversion>
     ensures { result ≡ conversion_of letter }
 {

@@ -14,6 +14,7 @@ use crate::token::{CapFault, Op, Token};
 const GREATEST: u64 = 2147483647;
 
 /// The token at the front, and how many bytes spell it.
+#[inline(always)]
 pub fn read_token(bytes: &[u8]) -> Result<(Token, usize), CapFault>
     ensures { result ≡ token_read bytes.now }
 {
@@ -25,6 +26,7 @@ pub fn read_token(bytes: &[u8]) -> Result<(Token, usize), CapFault>
 }
 
 /// The escape whose `%` stands before these bytes.
+#[inline(always)]
 fn read_escape(bytes: &[u8]) -> Result<(Token, usize), CapFault>
     ensures { result ≡ escape_read bytes.now }
 {
@@ -44,6 +46,7 @@ fn read_escape(bytes: &[u8]) -> Result<(Token, usize), CapFault>
 }
 
 /// The token that this one byte spells behind a `%`.
+#[inline(always)]
 #[tactic(auto, unfolding(crate::specs::Reading::lone_of))]
 fn lone(letter: u8) -> Option<Token>
     ensures { result ≡ lone_of letter }

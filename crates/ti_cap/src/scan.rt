@@ -4,18 +4,18 @@ ghost use Rattle.std.specs.Prelude.{◌≡◌, ℕ, ◌≤◌};
 ghost use Rattle.ti_cap.specs.Height.{next_height};
 
 use crate::analysis::Analysis;
-use crate::token::{CapFault, Op, Token, larger};
+use crate::token::{CapFault, Op, Token};
 use std::marker::Model;
 
-const MOST_VALUES: u64 = 32;
+const MOST_VALUES: u32 = 32;
 
 /// The analyses of heights and of sizes, and the greatest depth and nesting so far.
 #[derive(Drop)]
 pub struct Scan {
     heights: Analysis,
     sizes: Analysis,
-    depth: u64,
-    nest: u64,
+    depth: u32,
+    nest: usize,
 }
 
 impl Model for Scan {
@@ -27,7 +27,7 @@ impl Model for Scan {
 }
 
 /// The height after a token.
-fn height_after(height: u64, token: &Token) -> u64
+fn height_after(height: u32, token: &Token) -> u32
     requires { height ≤ 32 }
     ensures { result ≡ next_height height token.now }
 {
@@ -74,23 +74,23 @@ impl Scan {
         if height > MOST_VALUES {
             return Err(CapFault::StackTooDeep);
         }
-        let size = self.sizes.running() + token.size(0);
+        let size = self.sizes.running() + token.size(0) as u32;
         self.heights.meet(token, height);
         self.sizes.meet(token, size);
-        self.depth = larger(self.depth, self.heights.running());
-        self.nest = larger(self.nest, self.heights.open() as u64);
+        self.depth = self.depth.max(self.heights.running());
+        self.nest = self.nest.max(self.heights.open());
         Ok(())
     }
 
     /// The greatest height so far.
-    pub fn depth(&self) -> u64
+    pub fn depth(&self) -> u32
         ensures { result ≡ self.now.depth }
     {
         self.depth
     }
 
     /// The greatest number of open conditionals so far.
-    pub fn nest(&self) -> u64
+    pub fn nest(&self) -> usize
         ensures { result ≡ self.now.nest }
     {
         self.nest
@@ -100,7 +100,7 @@ impl Scan {
     pub fn bound(&self) -> u64
         ensures { result ≡ top self.now.sizes.frames self.now.sizes.running }
     {
-        self.sizes.greatest()
+        u64::from(self.sizes.greatest())
     }
 
     /// Whether a conditional is still in its first test.

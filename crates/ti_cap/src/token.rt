@@ -193,7 +193,7 @@ pub struct CapRefused {
 }
 
 /// The greater of two numbers.
-pub(crate) fn larger(a: u64, b: u64) -> u64
+fn larger(a: u64, b: u64) -> u64
     ensures { result ≡ max a b }
 {
     if a < b { b } else { a }

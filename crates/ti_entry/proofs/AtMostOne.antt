@@ -1,5 +1,5 @@
 -- Bytes spell at most one entry: equal joinings of sections of equal lengths have equal sections.
-use Rattle.std.proofs.Common.{◌≡◌, ℕ, suc, ◌+◌, ◌<◌, ◌^◌, ◌⊎◌, ℤ, pos, negsuc, List, [], ◌∷◌, ◌++◌, map, length, Some, inl, inr, refl, sym, ap, subst, ◌∙◌, arith, append_assoc}
+use Rattle.std.proofs.Common.{◌≡◌, ℕ, suc, ◌+◌, ◌<◌, ◌^◌, ◌⊎◌, ℤ, pos, negsuc, List, [], ◌∷◌, ◌++◌, map, length, take, Some, inl, inr, refl, sym, ap, subst, ◌∙◌, arith, append_assoc}
 use Rattle.std.proofs.lemmas.List.{length-append, length-map}
 use Rattle.std.proofs.lemmas.Bool.{ltb-true}
 use Rattle.std.proofs.lemmas.List.Concat.{flat_map-cons}
@@ -9,17 +9,19 @@ use Rattle.ti_words.specs.declared.Flag.{Flag}
 use Rattle.ti_words.specs.declared.Number.{Number}
 use Rattle.ti_words.specs.declared.Number.TheVariants as numbers
 use Rattle.ti_words.specs.declared.Width.{Width}
-use Rattle.ti_words.specs.declared.Width.TheVariants.{Legacy}
+use Rattle.ti_words.specs.declared.Width.TheVariants.{Legacy, Wide}
 use Rattle.ti_words.specs.Marks.{byte_of_flag, flag_of_byte, word_of_number, number_of_word}
 use Rattle.ti_words.specs.Texts.{TextValue, TextOf}
 use Rattle.ti_entry.specs.Value.{EntryValue}
 use Rattle.ti_entry.specs.Word.{unsigned_at, word_at, word}
+use Rattle.ti_entry.specs.Layout.{number_size}
 use Rattle.ti_entry.specs.Table.{text_from, text_of_word}
 use Rattle.ti_entry.specs.Spelling.{FitsWidth, IsText, IsName, Each, magic, count_word, words_of, numbers_of, flags_of, pad, text_size, texts_size, name_in, mark_in, extended_names, HasSections, HasExtendedPart, HasNoExtendedPart}
 use Rattle.ti_entry.specs.Laws.{SpellsAtMostOne}
 use Rattle.ti_entry.proofs.NamedItems.{names_length}
 use Rattle.ti_entry.proofs.WordLaws.{reads_count}
-use Rattle.ti_entry.proofs.Items.{IsShort, is_place, word_read, length_word, IsGood, placed, all_good, short_number, read_again, flag_read}
+use Rattle.ti_entry.proofs.LengthLaws.{length_word}
+use Rattle.ti_entry.proofs.Items.{IsShort, word_read, IsGood, placed, all_good, short_number, read_again, flag_read}
 
 -- ---- lists
 
@@ -55,12 +57,12 @@ flat_again g size ok len one (x ∷ xs) (y ∷ ys) n p q e =
 count_again : (m n : ℕ) → m < 32768 → n < 32768 → count_word m ≡ count_word n → m ≡ n
 count_again m n p q e = sym (reads_count m p) ∙ ap (λ l. unsigned_at 2 l 0) e ∙ reads_count n q
 
-word_determined : (a b : ℤ) → IsShort a → IsShort b → word 2 a ≡ word 2 b → a ≡ b
-word_determined a b p q e = sym (word_read [] [] a p) ∙ ap (λ l. word_at 2 (l ++ []) 0) e ∙ word_read [] [] b q
+word_determined : (w : Width) (a b : ℤ) → IsShort w a → IsShort w b → word (number_size w) a ≡ word (number_size w) b → a ≡ b
+word_determined w a b p q e = sym (word_read w [] [] a p) ∙ ap (λ l. word_at (number_size w) (l ++ []) 0) e ∙ word_read w [] [] b q
 
-number_determined : (m n : Number) → FitsWidth Legacy m → FitsWidth Legacy n → word 2 (word_of_number m) ≡ word 2 (word_of_number n) → m ≡ n
-number_determined m n p q e =
-    sym (read_again m p) ∙ ap (λ z. unwrap_or (number_of_word z) numbers.Absent) (word_determined (word_of_number m) (word_of_number n) (short_number m p) (short_number n q) e) ∙ read_again n q
+number_determined : (w : Width) (m n : Number) → FitsWidth w m → FitsWidth w n → word (number_size w) (word_of_number m) ≡ word (number_size w) (word_of_number n) → m ≡ n
+number_determined w m n p q e =
+    sym (read_again w m p) ∙ ap (λ z. unwrap_or (number_of_word z) numbers.Absent) (word_determined w (word_of_number m) (word_of_number n) (short_number w m p) (short_number w n q) e) ∙ read_again w n q
 
 flags_again : (xs ys : List Flag) → map byte_of_flag xs ≡ map byte_of_flag ys → xs ≡ ys
 flags_again [] [] e = refl
@@ -74,15 +76,17 @@ flags_again (x ∷ xs) (y ∷ ys) e =
     ap (λ (z : Flag). z ∷ xs) same ∙ ap (λ (zs : List Flag). y ∷ zs) (flags_again xs ys t)
 
 -- what offsets may be
-shorts : (table : List ℕ) (zs : List ℤ) → AllByRecursion (IsGood table) zs → AllByRecursion IsShort zs
+shorts : (table : List ℕ) (zs : List ℤ) → AllByRecursion (IsGood table) zs → AllByRecursion (IsShort Legacy) zs
 shorts table [] h = tt
 shorts table (z ∷ zs) h = (h.0.short, shorts table zs h.1)
 
-words_again : (xs ys : List ℤ) → length xs ≡ length ys → AllByRecursion IsShort xs → AllByRecursion IsShort ys → words_of xs ≡ words_of ys → xs ≡ ys
-words_again xs ys n p q e = flat_again (word 2) 2 IsShort length_word word_determined xs ys n p q e
+words_again : (xs ys : List ℤ) → length xs ≡ length ys → AllByRecursion (IsShort Legacy) xs → AllByRecursion (IsShort Legacy) ys → words_of xs ≡ words_of ys → xs ≡ ys
+words_again xs ys n p q e = flat_again (word 2) 2 (IsShort Legacy) (length_word 2) (word_determined Legacy) xs ys n p q e
 
-numbers_again : (xs ys : List Number) → length xs ≡ length ys → AllByRecursion (FitsWidth Legacy) xs → AllByRecursion (FitsWidth Legacy) ys → numbers_of Legacy xs ≡ numbers_of Legacy ys → xs ≡ ys
-numbers_again xs ys n p q e = flat_again (λ n. word 2 (word_of_number n)) 2 (FitsWidth Legacy) (λ n. length_word (word_of_number n)) number_determined xs ys n p q e
+numbers_again : (w : Width) (xs ys : List Number) → length xs ≡ length ys → AllByRecursion (FitsWidth w) xs → AllByRecursion (FitsWidth w) ys → numbers_of w xs ≡ numbers_of w ys → xs ≡ ys
+numbers_again w xs ys n p q e =
+    let size = number_size w in
+    flat_again (λ n. word size (word_of_number n)) size (FitsWidth w) (λ n. length_word size (word_of_number n)) (number_determined w) xs ys n p q e
 
 length_flat : {X : Type 0} (g : X → List ℕ) (size : ℕ) → ((x : X) → length (g x) ≡ size) → (xs ys : List X) → length xs ≡ length ys → length (flat_map g xs) ≡ length (flat_map g ys)
 length_flat g size len [] [] n = refl
@@ -98,6 +102,7 @@ length_flat g size len (x ∷ xs) (y ∷ ys) n =
 
 -- what of two entries must agree, and what stands behind
 pub record SameSections (v w : EntryValue) (t u r q : List ℕ) : Type 0 where
+  pub width : v.width ≡ w.width
   pub names : v.names ≡ w.names
   pub flags : v.flags ≡ w.flags
   pub numbers : v.numbers ≡ w.numbers
@@ -109,23 +114,26 @@ grouped : (a b c d e f g h i j k l m : List ℕ)
     → a ++ b ++ c ++ d ++ e ++ f ++ g ++ h ++ i ++ j ++ k ++ l ++ m ≡ a ++ (b ++ (c ++ (d ++ (e ++ (f ++ (g ++ (h ++ (i ++ (j ++ (k ++ (l ++ m)))))))))))
 grouped a b c d e f g h i j k l m = simp append_assoc
 
-is_legacy : (w : Width) → w ≡ Legacy
-is_legacy Legacy = refl
+same_magic : (v w : Width) → magic v ≡ magic w → v ≡ w
+same_magic Legacy Legacy e = refl
+same_magic Legacy Wide e = absurd cc
+same_magic Wide Legacy e = absurd cc
+same_magic Wide Wide e = refl
 
 -- the sections up to the end of the string table, by their joinings
-sections_again : (names names' : List ℕ) (fs fs' : List Flag) (ns ns' : List Number) (ts ts' : List TextValue) (t t' : List ℕ) (zs zs' : List ℤ) (r r' : List ℕ)
-    → magic Legacy
+sections_again : (w : Width) (names names' : List ℕ) (fs fs' : List Flag) (ns ns' : List Number) (ts ts' : List TextValue) (t t' : List ℕ) (zs zs' : List ℤ) (r r' : List ℕ)
+    → magic w
     ++ count_word (length names + 1) ++ count_word (length fs) ++ count_word (length ns) ++ count_word (length ts) ++ count_word (length t)
-    ++ (names ++ 0 ∷ []) ++ flags_of fs ++ pad (length names + 1 + length fs) ++ numbers_of Legacy ns ++ words_of zs ++ t ++ r
-    ≡ magic Legacy
+    ++ (names ++ 0 ∷ []) ++ flags_of fs ++ pad (length names + 1 + length fs) ++ numbers_of w ns ++ words_of zs ++ t ++ r
+    ≡ magic w
     ++ count_word (length names' + 1) ++ count_word (length fs') ++ count_word (length ns') ++ count_word (length ts') ++ count_word (length t')
-    ++ (names' ++ 0 ∷ []) ++ flags_of fs' ++ pad (length names' + 1 + length fs') ++ numbers_of Legacy ns' ++ words_of zs' ++ t' ++ r'
+    ++ (names' ++ 0 ∷ []) ++ flags_of fs' ++ pad (length names' + 1 + length fs') ++ numbers_of w ns' ++ words_of zs' ++ t' ++ r'
     → AllByRecursion (λ n. n < 2 ^ 15) ((length names + 1) ∷ length fs ∷ length ns ∷ length ts ∷ length t ∷ [])
     → AllByRecursion (λ n. n < 2 ^ 15) ((length names' + 1) ∷ length fs' ∷ length ns' ∷ length ts' ∷ length t' ∷ [])
-    → AllByRecursion (FitsWidth Legacy) ns → AllByRecursion (FitsWidth Legacy) ns'
+    → AllByRecursion (FitsWidth w) ns → AllByRecursion (FitsWidth w) ns'
     → Each (IsText t) zs ts → Each (IsText t') zs' ts'
     → (names ≡ names') × (fs ≡ fs') × (ns ≡ ns') × (ts ≡ ts') × (t ≡ t') × (r ≡ r')
-sections_again names names' fs fs' ns ns' ts ts' t t' zs zs' r r' e c c' p p' there there' =
+sections_again w names names' fs fs' ns ns' ts ts' t t' zs zs' r r' e c c' p p' there there' =
     let a1 = count_word (length names + 1) in
     let a2 = count_word (length fs) in
     let a3 = count_word (length ns) in
@@ -134,7 +142,7 @@ sections_again names names' fs fs' ns ns' ts ts' t t' zs zs' r r' e c c' p p' th
     let a6 = names ++ 0 ∷ [] in
     let a7 = flags_of fs in
     let a8 = pad (length names + 1 + length fs) in
-    let a9 = numbers_of Legacy ns in
+    let a9 = numbers_of w ns in
     let a10 = words_of zs in
     let b1 = count_word (length names' + 1) in
     let b2 = count_word (length fs') in
@@ -144,7 +152,7 @@ sections_again names names' fs fs' ns ns' ts ts' t t' zs zs' r r' e c c' p p' th
     let b6 = names' ++ 0 ∷ [] in
     let b7 = flags_of fs' in
     let b8 = pad (length names' + 1 + length fs') in
-    let b9 = numbers_of Legacy ns' in
+    let b9 = numbers_of w ns' in
     let b10 = words_of zs' in
     let x10 = t ++ r in
     let x9 = a10 ++ x10 in
@@ -168,9 +176,9 @@ sections_again names names' fs fs' ns ns' ts ts' t t' zs zs' r r' e c c' p p' th
     let y2 = b3 ++ y3 in
     let y1 = b2 ++ y2 in
     let y0 = b1 ++ y1 in
-    let whole : magic Legacy ++ x0 ≡ magic Legacy ++ y0 =
-    sym (grouped (magic Legacy) a1 a2 a3 a4 a5 a6 a7 a8 a9 a10 t r) ∙ e ∙ grouped (magic Legacy) b1 b2 b3 b4 b5 b6 b7 b8 b9 b10 t' r' in
-    let k0 = cut (magic Legacy) (magic Legacy) x0 y0 refl whole in
+    let whole : magic w ++ x0 ≡ magic w ++ y0 =
+    sym (grouped (magic w) a1 a2 a3 a4 a5 a6 a7 a8 a9 a10 t r) ∙ e ∙ grouped (magic w) b1 b2 b3 b4 b5 b6 b7 b8 b9 b10 t' r' in
+    let k0 = cut (magic w) (magic w) x0 y0 refl whole in
     let k1 = cut a1 b1 x1 y1 refl k0.rest in
     let k2 = cut a2 b2 x2 y2 refl k1.rest in
     let k3 = cut a3 b3 x3 y3 refl k2.rest in
@@ -188,23 +196,23 @@ sections_again names names' fs fs' ns ns' ts ts' t t' zs zs' r r' e c c' p p' th
     let k6 = cut a6 b6 x6 y6 (length-append names (0 ∷ []) ∙ n1 ∙ sym (length-append names' (0 ∷ []))) k5.rest in
     let k7 = cut a7 b7 x7 y7 (length-map fs byte_of_flag ∙ n2 ∙ sym (length-map fs' byte_of_flag)) k6.rest in
     let k8 = cut a8 b8 x8 y8 (ap (λ n. length (pad n)) (let s : length names + 1 + length fs ≡ length names' + 1 + length fs' = omega arith in s)) k7.rest in
-    let k9 = cut a9 b9 x9 y9 (length_flat (λ n. word 2 (word_of_number n)) 2 (λ n. length_word (word_of_number n)) ns ns' n3) k8.rest in
-    let k10 = cut a10 b10 x10 y10 (length_flat (word 2) 2 length_word zs zs' n10) k9.rest in
+    let k9 = cut a9 b9 x9 y9 (length_flat (λ n. word (number_size w) (word_of_number n)) (number_size w) (λ n. length_word (number_size w) (word_of_number n)) ns ns' n3) k8.rest in
+    let k10 = cut a10 b10 x10 y10 (length_flat (word 2) 2 (length_word 2) zs zs' n10) k9.rest in
     let k11 = cut t t' r r' n5 k10.rest in
     let offsets : zs ≡ zs' = words_again zs zs' n10 (shorts t zs g.0) (shorts t' zs' g'.0) k10.first in
     let texts : ts ≡ ts' = sym g.1 ∙ ap (λ u. map (text_of_word u) zs) k11.first ∙ ap (map (text_of_word t')) offsets ∙ g'.1 in
-    ((cut names names' (0 ∷ []) (0 ∷ []) n6 k6.first).first, flags_again fs fs' k7.first, numbers_again ns ns' n3 p p' k9.first, texts, k11.first, k11.rest)
+    ((cut names names' (0 ∷ []) (0 ∷ []) n6 k6.first).first, flags_again fs fs' k7.first, numbers_again w ns ns' n3 p p' k9.first, texts, k11.first, k11.rest)
 
 pub same_sections : (v w : EntryValue) (t u r q bytes : List ℕ) → HasSections v t r bytes → HasSections w u q bytes → SameSections v w t u r q
 same_sections v w t u r q bytes s z =
-    let a = is_legacy v.width in
-    let b = is_legacy w.width in
-    let js = rw a at s.joined in
-    let jz = rw b at z.joined in
-    let fs = rw a at s.numbers_fit in
-    let fz = rw b at z.numbers_fit in
-    let k = sections_again v.names w.names v.flags w.flags v.numbers w.numbers v.texts w.texts t u s.offsets z.offsets r q (sym js ∙ jz) s.counts z.counts fs fz s.texts_there z.texts_there in
-    record { names = k.0; flags = k.1; numbers = k.2; texts = k.3; table = k.4; rest = k.5 }
+    let same : v.width ≡ w.width = same_magic v.width w.width (ap (take 2) (sym s.joined ∙ z.joined)) in
+    let back = sym same in
+    let js = s.joined in
+    let jz = rw back at z.joined in
+    let fs = s.numbers_fit in
+    let fz = rw back at z.numbers_fit in
+    let k = sections_again v.width v.names w.names v.flags w.flags v.numbers w.numbers v.texts w.texts t u s.offsets z.offsets r q (sym js ∙ jz) s.counts z.counts fs fz s.texts_there z.texts_there in
+    record { width = same; names = k.0; flags = k.1; numbers = k.2; texts = k.3; table = k.4; rest = k.5 }
 
 -- ---- the extended part
 
@@ -213,7 +221,7 @@ name_of_word : List ℕ → ℕ → ℤ → List ℕ
 name_of_word table base (pos place) = text_from table (base + place)
 name_of_word table base (negsuc n) = []
 
-good_name : (table : List ℕ) (base : ℕ) (z : ℤ) (name : List ℕ) → length table < 32768 → IsName table base z name → IsShort z × (name_of_word table base z ≡ name)
+good_name : (table : List ℕ) (base : ℕ) (z : ℤ) (name : List ℕ) → length table < 32768 → IsName table base z name → IsShort Legacy z × (name_of_word table base z ≡ name)
 unfolding name_of_word
 good_name table base z name small h =
     let is = h.1 in
@@ -221,10 +229,10 @@ good_name table base z name small h =
     let there : base + h.0 < length table = ltb-true (base + h.0) (length table) t.0.below_size in
     let text : TextOf (text_from table (base + h.0)) ≡ TextOf name = t.1 in
     let same : text_from table (base + h.0) ≡ name = cc in
-    rw is (is_place h.0 (omega arith), same)
+    rw is (omega arith, same)
 
 all_names : (table : List ℕ) (base : ℕ) (zs : List ℤ) (names : List (List ℕ)) → length table < 32768 → Each (IsName table base) zs names
-    → AllByRecursion IsShort zs × (map (name_of_word table base) zs ≡ names) × (length zs ≡ length names)
+    → AllByRecursion (IsShort Legacy) zs × (map (name_of_word table base) zs ≡ names) × (length zs ≡ length names)
 all_names table base [] [] small h = (tt, refl, refl)
 all_names table base [] (n ∷ ns) small h = absurd h
 all_names table base (z ∷ zs) [] small h = absurd h
@@ -300,13 +308,15 @@ record SameMarks (v w : EntryValue) (ns ns' : List ℤ) (t t' : List ℕ) : Type
   names : ns ≡ ns'
   table : t ≡ t'
 
-part_again : (v w : EntryValue) (size size' : ℕ) (q : List ℕ) (s : HasExtendedPart v size q) (z : HasExtendedPart w size' q) → v.width ≡ Legacy → w.width ≡ Legacy → size ≡ size'
+part_again : (v w : EntryValue) (size size' : ℕ) (q : List ℕ) (s : HasExtendedPart v size q) (z : HasExtendedPart w size' q) → v.width ≡ w.width → size ≡ size'
     → SameMarks v w s.names z.names s.table z.table
-part_again v w size size' q s z a b same =
-    let js = rw a at s.joined in
-    let jz = rw b at z.joined in
-    let fs = rw a at s.numbers_fit in
-    let fz = rw b at z.numbers_fit in
+part_again v w size size' q s z width same =
+    let of = v.width in
+    let back = sym width in
+    let js = s.joined in
+    let jz = rw back at z.joined in
+    let fs = s.numbers_fit in
+    let fz = rw back at z.numbers_fit in
     let c = s.counts in
     let c' = z.counts in
     let ef = map mark_in v.extended_flags in
@@ -322,7 +332,7 @@ part_again v w size size' q s z a b same =
     let a5 = count_word (length s.table) in
     let a6 = flags_of ef in
     let a7 = pad (length v.extended_flags) in
-    let a8 = numbers_of Legacy en in
+    let a8 = numbers_of of en in
     let a9 = words_of s.values in
     let a10 = words_of s.names in
     let b0 = pad size' in
@@ -332,7 +342,7 @@ part_again v w size size' q s z a b same =
     let b5 = count_word (length z.table) in
     let b6 = flags_of ef' in
     let b7 = pad (length w.extended_flags) in
-    let b8 = numbers_of Legacy en' in
+    let b8 = numbers_of of en' in
     let b9 = words_of z.values in
     let b10 = words_of z.names in
     let x9 = a10 ++ s.table in
@@ -378,16 +388,16 @@ part_again v w size size' q s z a b same =
     let m10 : length s.names ≡ length z.names = o.2 ∙ (names_length v ∙ (let s : length v.extended_flags + length v.extended_numbers + length v.extended_texts ≡ length w.extended_flags + length w.extended_numbers + length w.extended_texts = omega arith in s) ∙ sym (names_length w)) ∙ sym o'.2 in
     let k6 = cut a6 b6 x6 y6 (length-map ef byte_of_flag ∙ m1 ∙ sym (length-map ef' byte_of_flag)) k5.rest in
     let k7 = cut a7 b7 x7 y7 (ap (λ n. length (pad n)) n1) k6.rest in
-    let k8 = cut a8 b8 x8 y8 (length_flat (λ n. word 2 (word_of_number n)) 2 (λ n. length_word (word_of_number n)) en en' m2) k7.rest in
-    let k9 = cut a9 b9 x9 y9 (length_flat (word 2) 2 length_word s.values z.values m9) k8.rest in
-    let k10 = cut a10 b10 s.table z.table (length_flat (word 2) 2 length_word s.names z.names m10) k9.rest in
+    let k8 = cut a8 b8 x8 y8 (length_flat (λ n. word (number_size of) (word_of_number n)) (number_size of) (λ n. length_word (number_size of) (word_of_number n)) en en' m2) k7.rest in
+    let k9 = cut a9 b9 x9 y9 (length_flat (word 2) 2 (length_word 2) s.values z.values m9) k8.rest in
+    let k10 = cut a10 b10 s.table z.table (length_flat (word 2) 2 (length_word 2) s.names z.names m10) k9.rest in
     let values : s.values ≡ z.values = words_again s.values z.values m9 (shorts s.table s.values g.0) (shorts z.table z.values g'.0) k9.first in
     record {
       flag_count = n1;
       number_count = n2;
       text_count = n3;
       flags = flags_again ef ef' k6.first;
-      numbers = numbers_again en en' m2 fs fz k8.first;
+      numbers = numbers_again of en en' m2 fs fz k8.first;
       texts = sym g.1 ∙ ap (λ t. map (text_of_word t) s.values) k10.rest ∙ ap (map (text_of_word z.table)) values ∙ g'.1;
       names = words_again s.names z.names m10 o.0 o'.0 k10.first;
       table = k10.rest;
@@ -414,15 +424,14 @@ some_part v size q s e =
     let n : 0 ≡ length (pad size) + suc (suc (length behind)) = ap length (sym e ∙ j) ∙ length-append (pad size) (count_word (length v.extended_flags) ++ behind) in
     omega arith
 
-behind_again : (v w : EntryValue) (t u : List ℕ) (r : List ℕ) → t ≡ u → HasNoExtendedPart v r ⊎ HasExtendedPart v (length t) r → HasNoExtendedPart w r ⊎ HasExtendedPart w (length u) r → SameExtended v w
-behind_again v w t u r e (inl s) (inl z) = record { flags = s.no_flags ∙ sym z.no_flags; numbers = s.no_numbers ∙ sym z.no_numbers; texts = s.no_texts ∙ sym z.no_texts }
-behind_again v w t u r e (inl s) (inr z) = absurd (some_part w (length u) r z s.ends)
-behind_again v w t u r e (inr s) (inl z) = absurd (some_part v (length t) r s z.ends)
-behind_again v w t u r e (inr s) (inr z) = names_again v w (length t) (length u) r s z (part_again v w (length t) (length u) r s z (is_legacy v.width) (is_legacy w.width) (ap length e))
+behind_again : (v w : EntryValue) (t u : List ℕ) (r : List ℕ) → v.width ≡ w.width → t ≡ u → HasNoExtendedPart v r ⊎ HasExtendedPart v (length t) r → HasNoExtendedPart w r ⊎ HasExtendedPart w (length u) r → SameExtended v w
+behind_again v w t u r width e (inl s) (inl z) = record { flags = s.no_flags ∙ sym z.no_flags; numbers = s.no_numbers ∙ sym z.no_numbers; texts = s.no_texts ∙ sym z.no_texts }
+behind_again v w t u r width e (inl s) (inr z) = absurd (some_part w (length u) r z s.ends)
+behind_again v w t u r width e (inr s) (inl z) = absurd (some_part v (length t) r s z.ends)
+behind_again v w t u r width e (inr s) (inr z) = names_again v w (length t) (length u) r s z (part_again v w (length t) (length u) r s z width (ap length e))
 
-pub same_value : (v w : EntryValue) → v.names ≡ w.names → v.flags ≡ w.flags → v.numbers ≡ w.numbers → v.texts ≡ w.texts → SameExtended v w → v ≡ w
-same_value v w names flags numbers texts more =
-    let width : v.width ≡ w.width = is_legacy v.width ∙ sym (is_legacy w.width) in
+pub same_value : (v w : EntryValue) → v.width ≡ w.width → v.names ≡ w.names → v.flags ≡ w.flags → v.numbers ≡ w.numbers → v.texts ≡ w.texts → SameExtended v w → v ≡ w
+same_value v w width names flags numbers texts more =
     let fields : ◌≡◌ {A = EntryValue}
     (record { width = v.width; names = v.names; flags = v.flags; numbers = v.numbers; texts = v.texts; extended_flags = v.extended_flags; extended_numbers = v.extended_numbers; extended_texts = v.extended_texts }) w =
     rw (width, names, flags, numbers, texts, more.flags, more.numbers, more.texts) refl in
@@ -431,5 +440,5 @@ same_value v w names flags numbers texts more =
 pub at_most_one : SpellsAtMostOne
 at_most_one bytes v w s z =
     let same = same_sections v w s.table z.table s.rest z.rest bytes s.sections z.sections in
-    let more = behind_again v w s.table z.table z.rest same.table (subst (λ r. HasNoExtendedPart v r ⊎ HasExtendedPart v (length s.table) r) same.rest s.behind) z.behind in
-    same_value v w same.names same.flags same.numbers same.texts more
+    let more = behind_again v w s.table z.table z.rest same.width same.table (subst (λ r. HasNoExtendedPart v r ⊎ HasExtendedPart v (length s.table) r) same.rest s.behind) z.behind in
+    same_value v w same.width same.names same.flags same.numbers same.texts more

@@ -6,7 +6,7 @@ use Rattle.std.specs.List.{AllByRecursion, list_any}
 use Rattle.ti_words.specs.declared.Number.{Number}
 use Rattle.ti_words.specs.declared.Number.TheVariants as numbers
 use Rattle.ti_words.specs.declared.Width.{Width}
-use Rattle.ti_words.specs.declared.Width.TheVariants.{Legacy}
+use Rattle.ti_words.specs.declared.Width.TheVariants.{Legacy, Wide}
 use Rattle.ti_words.specs.Texts.{TextValue, AbsentText, CancelledText, TextOf}
 use Rattle.ti_entry.specs.Value.{EntryValue}
 use Rattle.ti_entry.specs.Table.{is_nul}
@@ -44,6 +44,7 @@ fits_width : (w : Width) (n : Number) → is_out_of_range w n ≡ false → Fits
 fits_width w numbers.Absent h = tt
 fits_width w numbers.Cancelled h = tt
 fits_width Legacy (numbers.Value (pos n)) h = let le = ltb-false 32767 n h in omega arith
+fits_width Wide (numbers.Value (pos n)) h = let le = ltb-false 2147483647 n h in omega arith
 fits_width w (numbers.Value (negsuc n)) h = absurd cc
 
 -- ---- tables

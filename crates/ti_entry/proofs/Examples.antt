@@ -2,7 +2,7 @@
 use Rattle.std.proofs.Common.{◌≡◌, ℕ, pos, negsuc, List, [], ◌∷◌, ◌++◌, map, take, drop, replicate, slice_set, Some, None, refl, inl, inr, arith}
 use Rattle.ti_words.specs.declared.Flag.TheVariants as flags
 use Rattle.ti_words.specs.declared.Number.TheVariants as numbers
-use Rattle.ti_words.specs.declared.Width.TheVariants.{Legacy}
+use Rattle.ti_words.specs.declared.Width.TheVariants.{Legacy, Wide}
 use Rattle.ti_words.specs.Texts.{AbsentText, TextOf}
 use Rattle.ti_entry.specs.declared.fault.Fault.TheVariants.{Truncated, BadMagic, BadHeader, HeaderTooBig, BadNames, BadFlag, BadPad, BadNumber, BadOffset, Unterminated, BadExtendedHeader, ExtendedTooBig, BadExtendedName, Trailing}
 use Rattle.ti_entry.specs.Value.{EntryValue}
@@ -67,6 +67,22 @@ long = slice_set (take 22 small) 10 0x13 ++ long_text ++ 0x00 ∷ []
 abbrev odd : List ℕ
 odd = slice_set (take 22 small) 10 0x03 ++ (0x07 ∷ 0x07 ∷ 0x00 ∷ [])
 
+-- the small entry with numbers of 32 bits
+abbrev wide : List ℕ
+wide = 0x1e ∷ 0x02 ∷ drop 2 (take 18 small) ++ (0x00 ∷ 0x00 ∷ drop 18 small)
+
+-- and behind it U8, which is 70000
+abbrev wide_extended : List ℕ
+wide_extended =
+    wide ++ (0x00 ∷ 0x00 ∷ 0x01 ∷ 0x00 ∷ 0x00 ∷ 0x00 ∷ 0x01 ∷ 0x00 ∷ 0x03 ∷ 0x00
+    ∷ 0x70 ∷ 0x11 ∷ 0x01 ∷ 0x00
+    ∷ 0x00 ∷ 0x00
+    ∷ 0x55 ∷ 0x38 ∷ 0x00 ∷ [])
+
+-- another number in it
+abbrev with_number : ℕ → ℕ → ℕ → ℕ → List ℕ
+with_number a b c d = slice_set (slice_set (slice_set (slice_set wide 16 a) 17 b) 18 c) 19 d
+
 -- ---- entries
 
 abbrev small_entry : EntryValue
@@ -93,6 +109,12 @@ shared_entry = record small_entry { flags = []; numbers = []; texts = TextOf (0x
 -- U8 = 80 alone, by its extended name
 abbrev number_entry : EntryValue
 number_entry = record small_entry { flags = []; numbers = []; texts = []; extended_numbers = (0x55 ∷ 0x38 ∷ [], numbers.Value (pos 80)) ∷ [] }
+
+abbrev wide_entry : EntryValue
+wide_entry = record small_entry { width = Wide }
+
+abbrev wide_extended_entry : EntryValue
+wide_extended_entry = record wide_entry { extended_numbers = (0x55 ∷ 0x38 ∷ [], numbers.Value (pos 70000)) ∷ [] }
 
 -- ---- what the bytes spell
 
@@ -126,6 +148,23 @@ shared_spells = record {
     names_fit = (omega arith, tt);
     numbers_fit = tt;
     texts_there = ((0, refl, (omega arith, tt), record { found = refl }), ((0, refl, (omega arith, tt), record { found = refl }), tt));
+  };
+  behind = inl (record { ends = refl; no_flags = refl; no_numbers = refl; no_texts = refl });
+}
+
+wide_spells : Spells wide wide_entry
+wide_spells = record {
+  fits = omega arith;
+  table = 0x07 ∷ 0x00 ∷ [];
+  rest = [];
+  sections = record {
+    offsets = negsuc 0 ∷ pos 0 ∷ [];
+    joined = refl;
+    counts = (omega arith, (omega arith, (omega arith, (omega arith, (omega arith, tt)))));
+    named = omega arith;
+    names_fit = (omega arith, tt);
+    numbers_fit = (omega arith, tt);
+    texts_there = (refl, ((0, refl, (omega arith, tt), record { found = refl }), tt));
   };
   behind = inl (record { ends = refl; no_flags = refl; no_numbers = refl; no_texts = refl });
 }
@@ -168,6 +207,14 @@ small_content = refl
 extended_content : content extended ≡ extended_entry
 extended_content = refl
 
+wide_content : map content (wide ∷ wide_extended ∷ []) ≡ wide_entry ∷ wide_extended_entry ∷ []
+wide_content = refl
+
+wide_marks : map content (with_number 0xff 0xff 0xff 0xff ∷ with_number 0xfe 0xff 0xff 0xff ∷ with_number 0xff 0xff 0xff 0x7f ∷ [])
+    ≡ record wide_entry { numbers = numbers.Absent ∷ [] } ∷ record wide_entry { numbers = numbers.Cancelled ∷ [] }
+    ∷ record wide_entry { numbers = numbers.Value (pos 2147483647) ∷ [] } ∷ []
+wide_marks = refl
+
 shared_content : content shared ≡ shared_entry
 shared_content = refl
 
@@ -183,6 +230,9 @@ small_canonical = refl
 extended_canonical : canonical extended_entry ≡ extended
 extended_canonical = refl
 
+wide_canonical : map canonical (wide_entry ∷ wide_extended_entry ∷ []) ≡ wide ∷ wide_extended ∷ []
+wide_canonical = refl
+
 shared_canonical : canonical shared_entry ≡ unshared
 shared_canonical = refl
 
@@ -197,7 +247,7 @@ number_canonical = refl
 
 -- ---- what is accepted, and what a changed byte makes of it
 
-accepted : map refusal (small ∷ extended ∷ shared ∷ unshared ∷ long ∷ odd ∷ (small ++ replicate 10 0) ∷ []) ≡ replicate 7 None
+accepted : map refusal (small ∷ extended ∷ shared ∷ unshared ∷ long ∷ odd ∷ wide ∷ wide_extended ∷ (small ++ replicate 10 0) ∷ []) ≡ replicate 9 None
 accepted = refl
 
 -- each proper prefix ends too early
@@ -206,6 +256,9 @@ small_prefixes = refl
 
 extended_prefixes : map (λ n. refusal (take n extended)) (places 25 1 28) ≡ map (λ n. Some (refused Truncated n)) (places 25 1 28)
 extended_prefixes = refl
+
+wide_prefixes : map (λ n. refusal (take n wide)) (places 0 1 26) ≡ map (λ n. Some (refused Truncated n)) (places 0 1 26)
+wide_prefixes = refl
 
 small_behind : refusal (small ++ 0x00 ∷ []) ≡ Some (refused Truncated 25)
 small_behind = refl
@@ -218,6 +271,9 @@ odd_behind = refl
 
 magic_changed : refusal (slice_set small 0 0x1b) ≡ Some (refused BadMagic 0)
 magic_changed = refl
+
+magic_mixed : map refusal ((0x1e ∷ 0x01 ∷ []) ∷ (0x1a ∷ 0x02 ∷ []) ∷ []) ≡ replicate 2 (Some (refused BadMagic 0))
+magic_mixed = refl
 
 size_negative : refusal (slice_set small 3 0x80) ≡ Some (refused BadHeader 2)
 size_negative = refl
@@ -245,6 +301,13 @@ pad_wrong = refl
 
 number_below : refusal (slice_set (slice_set small 16 0xfd) 17 0xff) ≡ Some (refused BadNumber 16)
 number_below = refl
+
+wide_number_below : refusal (with_number 0xfd 0xff 0xff 0xff) ≡ Some (refused BadNumber 16)
+wide_number_below = refl
+
+-- it is looked at when its fourth byte is there
+wide_number_cut : refusal (take 19 (with_number 0xfd 0xff 0xff 0xff)) ≡ Some (refused Truncated 19)
+wide_number_cut = refl
 
 number_cancelled : content (slice_set (slice_set small 16 0xfe) 17 0xff) ≡ record small_entry { numbers = numbers.Cancelled ∷ [] }
 number_cancelled = refl

@@ -1,14 +1,13 @@
 -- Pieces that are fed one after another.
-use Rattle.std.proofs.Common.{◌≡◌, ℕ, ◌+◌, ◌<◌, ◌≤◌, List, [], ◌∷◌, ◌++◌, length, take, inl, inr, refl, sym, ap, ◌∙◌, arith, length-append, append_assoc, append-nil}
-use Rattle.std.specs.Prelude.{Option, Some, None, Ok, Result}
+use Rattle.std.proofs.Common.{◌≡◌, ℕ, zero, suc, ◌+◌, ◌≤◌, Bool, true, false, cond, List, [], ◌∷◌, ◌++◌, length, take, refl, sym, ap, ◌∙◌, arith, length-append, append_assoc, append-nil}
+use Rattle.std.specs.Prelude.{Option, Some, None, Ok, Err, Result, is_some}
 use Rattle.std.specs.List.{concat, fold}
 use Rattle.std.proofs.Math.Seq.{take-append-add}
-use Rattle.std.proofs.lemmas.Bool.{cases_lt, le-ltb, lt-ltb}
-use Rattle.std.proofs.lemmas.List.{take-append-le}
+use Rattle.std.proofs.lemmas.List.{take-append-le, take_all}
 use Rattle.ti_entry.specs.declared.fault.Refused.{Refused}
 use Rattle.ti_entry.specs.Checks.{Verdict, Passes, EndsEarly, Fails, verdict, refusal_of, failure_of}
-use Rattle.ti_entry.specs.Refusal.{checks, refusal, failure}
-use Rattle.ti_entry.specs.Reading.{Reading, failed_on, first_bytes, met, fed, answer_under}
+use Rattle.ti_entry.specs.Refusal.{checks, failure}
+use Rattle.ti_entry.specs.Reading.{Reading, unfailed_up_to, unfailed, met, fed, answer_under}
 use Rattle.ti_entry.specs.Laws.{FailureLasts, FailureRefuses, AnyCutting}
 use Rattle.ti_entry.proofs.Growing.{failure_stays}
 
@@ -30,30 +29,68 @@ refuses len (Fails q) r h = h
 pub failure_refuses : FailureRefuses
 failure_refuses bytes r h = refuses (length bytes) (verdict (length bytes) (checks bytes)) r h
 
-pub failed-short : (bytes : List ℕ) → length bytes ≤ 32768 → failed_on bytes ≡ None
-failed-short bytes le = rw (le-ltb 32768 (length bytes) le) refl
+-- ---- the longest front on which no check has failed
 
-failed-long : (bytes : List ℕ) → 32768 < length bytes → failed_on bytes ≡ failure bytes
-failed-long bytes lt = rw (lt-ltb 32768 (length bytes) lt) refl
+-- the front of one byte more, where a check fails on it and where none does
+one_less : (bytes : List ℕ) (n : ℕ) (r : Refused) → failure (take (suc n) bytes) ≡ Some r → unfailed_up_to bytes (suc n) ≡ unfailed_up_to bytes n
+one_less bytes n r some = ap (λ (o : Option Refused). cond (is_some o) (unfailed_up_to bytes n) (suc n)) some
+
+all_of_it : (bytes : List ℕ) (n : ℕ) → failure (take n bytes) ≡ None → unfailed_up_to bytes n ≡ n
+all_of_it bytes zero none = refl
+all_of_it bytes (suc n) none = ap (λ (o : Option Refused). cond (is_some o) (unfailed_up_to bytes n) (suc n)) none
+
+-- what is kept where the last byte is the first with which a check fails
+pub unfailed-last : (kept : List ℕ) (b : ℕ) (r : Refused) → failure kept ≡ None → failure (kept ++ b ∷ []) ≡ Some r → unfailed (kept ++ b ∷ []) ≡ kept
+unfolding unfailed
+unfailed-last kept b r none some =
+    let bytes = kept ++ b ∷ [] in
+    let n = length kept in
+    let long : length bytes ≡ suc n = omega (arith, length-append kept (b ∷ [])) in
+    let front : take n bytes ≡ kept = take-append-le n kept (b ∷ []) (omega arith) ∙ take_all n kept (omega arith) in
+    let whole : take (suc n) bytes ≡ bytes = take_all (suc n) bytes (omega arith) in
+    let stops : unfailed_up_to bytes (suc n) ≡ n = one_less bytes n r (ap failure whole ∙ some) ∙ all_of_it bytes n (ap failure front ∙ none) in
+    ap (λ m. take (unfailed_up_to bytes m) bytes) long ∙ ap (λ m. take m bytes) stops ∙ front
+
+by_test : (b : Bool) (m n : ℕ) → m ≤ n → cond b m (suc n) ≤ suc n
+by_test true m n le = omega arith
+by_test false m n le = omega arith
+
+unfailed_up_to-most : (bytes : List ℕ) (n : ℕ) → unfailed_up_to bytes n ≤ n
+unfailed_up_to-most bytes zero = omega arith
+unfailed_up_to-most bytes (suc n) = by_test (is_some (failure (take (suc n) bytes))) (unfailed_up_to bytes n) n (unfailed_up_to-most bytes n)
+
+unfailed_up_to-front : (xs ys : List ℕ) (n : ℕ) → n ≤ length xs → unfailed_up_to (xs ++ ys) n ≡ unfailed_up_to xs n
+unfailed_up_to-front xs ys zero le = refl
+unfailed_up_to-front xs ys (suc n) le =
+    let same : take (suc n) (xs ++ ys) ≡ take (suc n) xs = take-append-le (suc n) xs ys le in
+    ap (λ (t : List ℕ). cond (is_some (failure t)) (unfailed_up_to (xs ++ ys) n) (suc n)) same
+    ∙ ap (λ m. cond (is_some (failure (take (suc n) xs))) m (suc n)) (unfailed_up_to-front xs ys n (omega arith))
+
+unfailed_up_to-past : (xs ys : List ℕ) (k : ℕ) (r : Refused) → failure xs ≡ Some r → unfailed_up_to (xs ++ ys) (length xs + k) ≡ unfailed_up_to xs (length xs)
+unfailed_up_to-past xs ys zero r some =
+    let none : length xs + 0 ≡ length xs = omega arith in
+    ap (unfailed_up_to (xs ++ ys)) none ∙ unfailed_up_to-front xs ys (length xs) (omega arith)
+unfailed_up_to-past xs ys (suc k) r some =
+    let e : length xs + suc k ≡ suc (length xs + k) = omega arith in
+    let more : take (suc (length xs + k)) (xs ++ ys) ≡ xs ++ take (suc k) ys = ap (λ m. take m (xs ++ ys)) (sym e) ∙ take-append-add xs ys (suc k) in
+    let failed : failure (take (suc (length xs + k)) (xs ++ ys)) ≡ Some r = ap failure more ∙ failure_lasts xs (take (suc k) ys) r some in
+    ap (unfailed_up_to (xs ++ ys)) e ∙ one_less (xs ++ ys) (length xs + k) r failed ∙ unfailed_up_to-past xs ys k r some
+
+-- bytes behind a failure change nothing
+unfailed-append : (xs ys : List ℕ) (r : Refused) → failure xs ≡ Some r → unfailed (xs ++ ys) ≡ unfailed xs
+unfolding unfailed
+unfailed-append xs ys r some =
+    let most = unfailed_up_to-most xs (length xs) in
+    ap (λ m. take (unfailed_up_to (xs ++ ys) m) (xs ++ ys)) (length-append xs ys)
+    ∙ ap (λ m. take m (xs ++ ys)) (unfailed_up_to-past xs ys (length ys) r some)
+    ∙ take-append-le (unfailed_up_to xs (length xs)) xs ys (omega arith)
 
 -- ---- what a reader holds
 
--- only what is too long has failed
-failed-is_long : (bytes : List ℕ) (r : Refused) → failed_on bytes ≡ Some r → 32768 < length bytes
-failed-is_long bytes r h =
-    elim (cases_lt 32768 (length bytes)) [
-      | inl lt ↦ lt
-      | inr le ↦ absurd (let e : failed_on bytes ≡ None = failed-short bytes le in cc)
-    ]
-
--- what was refused so far is refused so as a whole
-pub failed-refuses : (bytes : List ℕ) (r : Refused) → failed_on bytes ≡ Some r → refusal bytes ≡ Some r
-failed-refuses bytes r h = failure_refuses bytes r (sym (failed-long bytes (failed-is_long bytes r h)) ∙ h)
-
-pub met-refused : (bytes : List ℕ) (r : Refused) → failed_on bytes ≡ Some r → met bytes ≡ record { kept = first_bytes bytes; refusal = Some r }
+pub met-refused : (bytes : List ℕ) (r : Refused) → failure bytes ≡ Some r → met bytes ≡ record { kept = unfailed bytes; refusal = Some r }
 met-refused bytes r e = rw e refl
 
-pub met-passed : (bytes : List ℕ) → failed_on bytes ≡ None → met bytes ≡ record { kept = bytes; refusal = None }
+pub met-passed : (bytes : List ℕ) → failure bytes ≡ None → met bytes ≡ record { kept = bytes; refusal = None }
 met-passed bytes e = rw e refl
 
 pub met-none : (bytes : List ℕ) → (met bytes).refusal ≡ None → met bytes ≡ record { kept = bytes; refusal = None }
@@ -62,45 +99,39 @@ met-none bytes e = met-passed bytes e
 pub fed-none : (r : Reading) (piece : List ℕ) → r.refusal ≡ None → fed r piece ≡ met (r.kept ++ piece)
 fed-none r piece e = rw e refl
 
-first_bytes-is : (bytes : List ℕ) (n : ℕ) → n ≡ 32768 → take n bytes ≡ first_bytes bytes
-unfolding first_bytes
-first_bytes-is bytes n e = ap (λ m. take m bytes) e
+pub fed-refused : (r : Reading) (piece : List ℕ) (refused : Refused) → r.refusal ≡ Some refused → fed r piece ≡ r
+fed-refused r piece refused e = rw e refl
 
--- a piece for which there is room
-pub fed-short : (kept piece : List ℕ) → length kept + length piece ≤ 32768
-    → ◌≡◌ {A = Reading} (record { kept = kept ++ piece; refusal = None }) (fed (record { kept = kept; refusal = None }) piece)
-fed-short kept piece le = sym (met-passed (kept ++ piece) (failed-short (kept ++ piece) (omega (arith, length-append kept piece))))
+-- a byte with which no check fails
+pub fed-passes : (kept : List ℕ) (b : ℕ) → failure (kept ++ b ∷ []) ≡ None
+    → ◌≡◌ {A = Reading} (record { kept = kept ++ b ∷ []; refusal = None }) (fed (record { kept = kept; refusal = None }) (b ∷ []))
+fed-passes kept b none = sym (met-passed (kept ++ b ∷ []) none)
 
--- a piece with a byte too many
-pub fed-full : (kept piece : List ℕ) (room : ℕ) (r : Refused) → room + length kept ≡ 32768 → room < length piece → failure (kept ++ piece) ≡ Some r
-    → ◌≡◌ {A = Reading} (record { kept = kept ++ take room piece; refusal = Some r }) (fed (record { kept = kept; refusal = None }) piece)
-fed-full kept piece room r full more h =
-    let n = length-append kept piece in
-    let failed : failed_on (kept ++ piece) ≡ Some r = failed-long (kept ++ piece) (omega arith) ∙ h in
-    let cut : kept ++ take room piece ≡ first_bytes (kept ++ piece) = sym (take-append-add kept piece room) ∙ first_bytes-is (kept ++ piece) (length kept + room) (omega arith) in
-    ap (λ (k : List ℕ). let s : Reading = record { kept = k; refusal = Some r } in s) cut ∙ sym (met-refused (kept ++ piece) r failed)
+-- a byte with which one fails
+pub fed-fails : (kept : List ℕ) (b : ℕ) (r : Refused) → failure kept ≡ None → failure (kept ++ b ∷ []) ≡ Some r
+    → ◌≡◌ {A = Reading} (record { kept = kept; refusal = Some r }) (fed (record { kept = kept; refusal = None }) (b ∷ []))
+fed-fails kept b r none some =
+    ap (λ (k : List ℕ). let s : Reading = record { kept = k; refusal = Some r } in s) (sym (unfailed-last kept b r none some)) ∙ sym (met-refused (kept ++ b ∷ []) r some)
 
 -- ---- any cutting
-
-first_bytes-append : (xs ys : List ℕ) → 32768 < length xs → first_bytes (xs ++ ys) ≡ first_bytes xs
-unfolding first_bytes
-first_bytes-append xs ys lt = take-append-le 32768 xs ys (omega arith)
 
 by_cases : {A : Type 0} (o : Option Refused) → (o ≡ None → A) → ((r : Refused) → o ≡ Some r → A) → A
 by_cases None passed failed = passed refl
 by_cases (Some r) passed failed = failed r refl
 
-fed-met : (bytes piece : List ℕ) → fed (met bytes) piece ≡ met (bytes ++ piece)
+pub fed-met : (bytes piece : List ℕ) → fed (met bytes) piece ≡ met (bytes ++ piece)
 fed-met bytes piece =
-    by_cases (failed_on bytes)
+    by_cases (failure bytes)
     (λ none. ap (λ r. fed r piece) (met-passed bytes none))
     (λ r some.
-    let long = failed-is_long bytes r some in
-    let n = length-append bytes piece in
-    let again : failed_on (bytes ++ piece) ≡ Some r = failed-long (bytes ++ piece) (omega arith) ∙ failure_lasts bytes piece r (sym (failed-long bytes long) ∙ some) in
     ap (λ r. fed r piece) (met-refused bytes r some)
-    ∙ ap (λ (k : List ℕ). let s : Reading = record { kept = k; refusal = Some r } in s) (sym (first_bytes-append bytes piece long))
-    ∙ sym (met-refused (bytes ++ piece) r again))
+    ∙ ap (λ (k : List ℕ). let s : Reading = record { kept = k; refusal = Some r } in s) (sym (unfailed-append bytes piece r some))
+    ∙ sym (met-refused (bytes ++ piece) r (failure_lasts bytes piece r some)))
+
+-- two pieces are one
+pub fed-append : (r : Reading) (xs ys : List ℕ) → r.refusal ≡ None → fed (fed r xs) ys ≡ fed r (xs ++ ys)
+fed-append r xs ys none =
+    ap (λ s. fed s ys) (fed-none r xs none) ∙ fed-met (r.kept ++ xs) ys ∙ ap met (append_assoc r.kept xs ys) ∙ sym (fed-none r (xs ++ ys) none)
 
 fed-all : (pieces : List (List ℕ)) (bytes : List ℕ) → fold fed (met bytes) pieces ≡ met (bytes ++ concat pieces)
 fed-all [] bytes = ap met (sym (append-nil bytes))
@@ -114,10 +145,14 @@ any_cutting pieces = fed-all pieces []
 pub fed-longer : (old new : Reading) (piece : List ℕ) → old.refusal ≡ None → new ≡ fed old piece → new.refusal ≡ None → length new.kept ≡ length old.kept + length piece
 fed-longer old new piece first e none =
     let m : new ≡ met (old.kept ++ piece) = e ∙ fed-none old piece first in
-    let passes : failed_on (old.kept ++ piece) ≡ None = sym (ap (λ r. r.refusal) m) ∙ none in
+    let passes : failure (old.kept ++ piece) ≡ None = sym (ap (λ r. r.refusal) m) ∙ none in
     ap (λ r. length r.kept) (m ∙ met-none (old.kept ++ piece) passes) ∙ length-append old.kept piece
 
 -- a call that answers `Ok` has left no refusal
 pub answer_under-ok : (o : Option Refused) (r : Result (Unit {0}) Refused) (u : Unit {0}) → r ≡ Ok u → r ≡ answer_under o tt → o ≡ None
 answer_under-ok None r u h e = refl
 answer_under-ok (Some refused) r u h e = cc
+
+pub answer_under-err : (o : Option Refused) (r : Result (Unit {0}) Refused) (refused : Refused) → r ≡ Err refused → r ≡ answer_under o tt → o ≡ Some refused
+answer_under-err None r refused h e = cc
+answer_under-err (Some other) r refused h e = cc

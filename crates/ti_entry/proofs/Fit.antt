@@ -3,7 +3,7 @@ use Rattle.std.proofs.Common.{◌≡◌, ℕ, ◌+◌, ◌*◌, ◌<◌, ◌≤�
 use Rattle.std.proofs.lemmas.Bool.{ltb-false}
 use Rattle.std.proofs.lemmas.List.{length-append}
 use Rattle.ti_words.specs.declared.Width.{Width}
-use Rattle.ti_words.specs.declared.Width.TheVariants.{Legacy}
+use Rattle.ti_words.specs.declared.Width.TheVariants.{Legacy, Wide}
 use Rattle.ti_words.specs.Texts.{TextValue, AbsentText, CancelledText, TextOf}
 use Rattle.ti_entry.specs.Value.{EntryValue}
 use Rattle.ti_entry.specs.Layout.{limit, number_size}
@@ -46,6 +46,7 @@ pub record Small (v : EntryValue) : Type 0 where
 
 at_least : (w : Width) (n : ℕ) → n ≤ n * number_size w
 at_least Legacy n = omega arith
+at_least Wide n = omega arith
 
 pub small : (v : EntryValue) → encode_fault v ≡ None → Small v
 small v h =

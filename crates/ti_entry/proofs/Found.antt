@@ -1,13 +1,14 @@
 -- Bytes that pass the checks up to the end of the string table have the sections that they are read as.
-use Rattle.std.proofs.Common.{◌≡◌, ℕ, ◌+◌, ◌-◌, ◌*◌, ◌≤◌, Bool, true, false, ◌&&◌, eqb, List, [], ◌∷◌, ◌++◌, map, length, get_or, take, drop, refl, sym, ap, ◌∙◌, arith}
+use Rattle.std.proofs.Common.{◌≡◌, ℕ, ◌+◌, ◌-◌, ◌*◌, ◌≤◌, Bool, true, false, cond, eqb, List, [], ◌∷◌, ◌++◌, map, length, get_or, take, drop, refl, sym, ap, ◌∙◌, arith}
 use Rattle.std.proofs.Math.Seq.{take-add}
 use Rattle.std.proofs.lemmas.List.{drop-drop, take-append-drop, length-take-le, length-drop}
 use Rattle.std.proofs.lemmas.Bool.{eqb-true, leb-true}
-use Rattle.std.specs.Prelude.{slice_range}
-use Rattle.ti_words.specs.declared.Width.TheVariants.{Legacy}
+use Rattle.std.specs.Prelude.{Option, Some, None, slice_range, is_some, unwrap_or}
+use Rattle.ti_words.specs.declared.Width.{Width}
+use Rattle.ti_words.specs.declared.Width.TheVariants.{Legacy, Wide}
 use Rattle.ti_entry.specs.declared.fault.Fault.TheVariants.{BadHeader, BadNames}
 use Rattle.ti_entry.specs.Word.{unsigned_at, word_at}
-use Rattle.ti_entry.specs.Layout.{header_of, places, pad_len, flags_from, pad_from, numbers_from, offsets_from, table_from, end_of}
+use Rattle.ti_entry.specs.Layout.{header_of, magic_number, number_size, places, pad_len, flags_from, pad_from, numbers_from, offsets_from, table_from, end_of}
 use Rattle.ti_entry.specs.Table.{is_nul, table_of}
 use Rattle.ti_entry.specs.Checks.{Passes, verdict, sign_check, sign_checks, name_check, nul_check, name_checks, flag_checks, pad_checks, number_checks, offset_checks, ending_check, ending_checks, table_check}
 use Rattle.ti_entry.specs.Refusal.{magic_check, size_check, named_check, magic_checks, size_checks, front_checks, section_checks}
@@ -15,19 +16,30 @@ use Rattle.ti_entry.specs.Content.{flag_at, number_at, text_at, plain_content}
 use Rattle.ti_entry.specs.Spelling.{HasSections, magic, count_word, words_of, numbers_of, flags_of, pad}
 use Rattle.ti_entry.proofs.Places.{length_places}
 use Rattle.ti_entry.proofs.Passing.{first_passes}
-use Rattle.ti_entry.proofs.WordLaws.{IsBytes, two_bytes, one_byte}
+use Rattle.ti_entry.proofs.WordLaws.{IsBytes, bytes_again, one_byte}
 use Rattle.ti_entry.proofs.KindsFound.{IsCount, count_is, front, flags_are, pad_is, numbers_are, numbers_fit, words_are, texts_are}
 use Rattle.ti_entry.proofs.SectionLaws.{both_pass, each_passed, no_nuls}
 
-both_true : (a b : Bool) → (a && b) ≡ true → (a ≡ true) × (b ≡ true)
-both_true true true h = (refl, refl)
-both_true true false h = absurd cc
-both_true false b h = absurd cc
+-- the width of a magic number
+abbrev width_under : ℕ → Option Width
+width_under u = cond (eqb u 282) (Some Legacy) (cond (eqb u 542) (Some Wide) None)
+
+-- an input that begins with some magic number begins with that of its width
+begins : (u : ℕ) → is_some (width_under u) ≡ true → u ≡ magic_number (unwrap_or (width_under u) Legacy)
+begins u h = first (eqb u 282) refl
+  where
+    second : (b : Bool) → eqb u 542 ≡ b → eqb u 282 ≡ false → u ≡ magic_number (unwrap_or (width_under u) Legacy)
+    second true e f = rw (f, e) (eqb-true u 542 e)
+    second false e f = absurd (let n : is_some (width_under u) ≡ false = rw (f, e) refl in let k : false ≡ true = sym n ∙ h in cc)
+
+    first : (b : Bool) → eqb u 282 ≡ b → u ≡ magic_number (unwrap_or (width_under u) Legacy)
+    first true e = rw e (eqb-true u 282 e)
+    first false e = second (eqb u 542) refl e
 
 -- what the first checks say
 pub record HasFront (bytes : List ℕ) : Type 0 where
   pub long : 12 ≤ length bytes
-  pub starts : take 2 bytes ≡ magic Legacy
+  pub starts : take 2 bytes ≡ magic (header_of bytes).width
   pub names : IsCount bytes 2
   pub flags : IsCount bytes 4
   pub numbers : IsCount bytes 6
@@ -42,7 +54,6 @@ front_is bytes fits h =
     let a = both_pass len (magic_checks bytes ++ sign_checks bytes BadHeader 2 5) (size_checks (header_of bytes)) h in
     let b = both_pass len (magic_checks bytes) (sign_checks bytes BadHeader 2 5) a.0 in
     let m = first_passes len (magic_check bytes) [] b.0 in
-    let t = both_true (eqb (get_or bytes 0 0) 26) (eqb (get_or bytes 1 0) 1) m.holds in
     let signs = each_passed (sign_check bytes BadHeader) len 2 2 5 b.1 in
     let s0 = signs 0 (omega arith) in
     let s1 = signs 1 (omega arith) in
@@ -51,7 +62,7 @@ front_is bytes fits h =
     let s4 = signs 4 (omega arith) in
     let big = first_passes len (size_check (header_of bytes)) (named_check (header_of bytes) ∷ []) a.1 in
     let small = first_passes len (named_check (header_of bytes)) [] big.rest in
-    let start : take 2 bytes ≡ 26 ∷ 1 ∷ [] = two_bytes bytes 0 m.long ∙ ap (λ (x : ℕ). x ∷ get_or bytes 1 0 ∷ []) (eqb-true _ _ t.0) ∙ ap (λ (x : ℕ). 26 ∷ x ∷ []) (eqb-true _ _ t.1) in
+    let start : take 2 bytes ≡ magic (header_of bytes).width = bytes_again 2 bytes 0 fits m.long ∙ ap count_word (begins (unsigned_at 2 bytes 0) m.holds) in
     record {
       long = s4.long;
       starts = start;
@@ -88,10 +99,12 @@ pub sections_found : (bytes : List ℕ) → IsBytes bytes → Passes ≡ verdict
 sections_found bytes fits ahead h =
     let len = length bytes in
     let hd = header_of bytes in
+    let w = hd.width in
+    let size = number_size w in
     let names = name_checks bytes hd.names in
     let flags = flag_checks bytes (flags_from hd) hd.flags in
     let pads = pad_checks bytes (pad_from hd) (hd.names + hd.flags) in
-    let numbers = number_checks bytes 2 (numbers_from hd) hd.numbers in
+    let numbers = number_checks bytes size (numbers_from hd) hd.numbers in
     let offset_list = offset_checks bytes hd.table (offsets_from hd) hd.texts in
     let endings = ending_checks bytes (table_of bytes hd) (end_of hd) (offsets_from hd) hd.texts in
     let c5 = both_pass len (((((names ++ flags) ++ pads) ++ numbers) ++ offset_list)) endings h in
@@ -113,10 +126,10 @@ sections_found bytes fits ahead h =
     let some = f.named in
     let names_len : length v.names + 1 ≡ hd.names = names_length bytes hd.names some (omega arith) in
     let flags_len : length v.flags ≡ hd.flags = length_places (flag_at bytes) (flags_from hd) 1 hd.flags in
-    let numbers_len : length v.numbers ≡ hd.numbers = length_places (number_at 2 bytes) (numbers_from hd) 2 hd.numbers in
+    let numbers_len : length v.numbers ≡ hd.numbers = length_places (number_at size bytes) (numbers_from hd) size hd.numbers in
     let texts_len : length v.texts ≡ hd.texts = length_places (text_at table bytes) (offsets_from hd) 2 hd.texts in
     let offsets = map (word_at 2 bytes) (places (offsets_from hd) 2 hd.texts) in
-    let x0 = magic Legacy in
+    let x0 = magic w in
     let x1 = x0 ++ count_word (length v.names + 1) in
     let x2 = x1 ++ count_word (length v.flags) in
     let x3 = x2 ++ count_word (length v.numbers) in
@@ -125,7 +138,7 @@ sections_found bytes fits ahead h =
     let x6 = x5 ++ (v.names ++ 0 ∷ []) in
     let x7 = x6 ++ flags_of v.flags in
     let x8 = x7 ++ pad (length v.names + 1 + length v.flags) in
-    let x9 = x8 ++ numbers_of Legacy v.numbers in
+    let x9 = x8 ++ numbers_of w v.numbers in
     let x10 = x9 ++ words_of offsets in
     let x11 = x10 ++ table in
     let t1 : take 4 bytes ≡ x1 = front bytes 2 2 x0 (count_word (length v.names + 1)) f.starts (f.names.bytes_are ∙ ap count_word (sym names_len)) in
@@ -137,7 +150,7 @@ sections_found bytes fits ahead h =
     let t7 : take (flags_from hd + hd.flags) bytes ≡ x7 = front bytes (flags_from hd) hd.flags x6 (flags_of v.flags) t6 (flags_are bytes (flags_from hd) hd.flags c1.1) in
     let pad_same : pad (hd.names + hd.flags) ≡ pad (length v.names + 1 + length v.flags) = ap pad (let sum : hd.names + hd.flags ≡ length v.names + 1 + length v.flags = omega arith in sum) in
     let t8 : take (numbers_from hd) bytes ≡ x8 = front bytes (pad_from hd) (pad_len (hd.names + hd.flags)) x7 (pad (length v.names + 1 + length v.flags)) t7 (pad_is bytes (pad_from hd) (hd.names + hd.flags) c2.1 ∙ pad_same) in
-    let t9 : take (offsets_from hd) bytes ≡ x9 = front bytes (numbers_from hd) (2 * hd.numbers) x8 (numbers_of Legacy v.numbers) t8 (numbers_are bytes (numbers_from hd) hd.numbers fits c3.1) in
+    let t9 : take (offsets_from hd) bytes ≡ x9 = front bytes (numbers_from hd) (size * hd.numbers) x8 (numbers_of w v.numbers) t8 (numbers_are w bytes (numbers_from hd) hd.numbers fits c3.1) in
     let t10 : take (table_from hd) bytes ≡ x10 = front bytes (offsets_from hd) (2 * hd.texts) x9 (words_of offsets) t9 (words_are bytes (offsets_from hd) hd.texts fits (omega arith)) in
     let t11 : take (end_of hd) bytes ≡ x11 = front bytes (table_from hd) hd.table x10 table t10 refl in
     let joined : bytes ≡ x11 ++ rest = sym (take-append-drop (end_of hd) bytes) ∙ ap (λ t. t ++ rest) t11 in
@@ -151,7 +164,7 @@ sections_found bytes fits ahead h =
         counts = (rw names_len f.names.small, (rw flags_len f.flags.small, (rw numbers_len f.numbers.small, (rw texts_len f.texts.small, (rw table_len f.table.small, tt)))));
         named = omega arith;
         names_fit = no_nuls bytes 12 (11 + hd.names - 12) (omega arith) (λ i lt. (each_name i (omega arith)).holds);
-        numbers_fit = numbers_fit bytes (numbers_from hd) hd.numbers fits;
+        numbers_fit = numbers_fit w bytes (numbers_from hd) hd.numbers fits;
         texts_there = texts_are bytes table (end_of hd) (offsets_from hd) hd.texts (c4.1 ∙ ap (λ n. verdict len (offset_checks bytes n (offsets_from hd) hd.texts)) (sym table_len)) c5.1;
       };
     }

@@ -53,11 +53,11 @@ is_place : (bytes : List ℕ) (p : ℕ) → IsBytes bytes → is_not_negative (w
 is_place bytes p fits h =
     let u = unsigned_at 2 bytes p in
     elim (cases_lt (2 * u) 65536) [
-      | inl lt ↦ below u lt
+      | inl lt ↦ below Legacy u lt
       | inr ge ↦
           let b0 : get_or bytes p 0 < 256 = fits p in
           let b1 : get_or bytes (p + 1) 0 < 256 = fits (p + 1) in
-          let e : is_not_negative (word_at 2 bytes p) ≡ false = ap is_not_negative (above u (65535 - u) (omega arith) ge) in
+          let e : is_not_negative (word_at 2 bytes p) ≡ false = ap is_not_negative (above Legacy u (65535 - u) (omega arith) ge) in
           absurd (let f : true ≡ false = sym h ∙ e in cc)
     ]
 
@@ -69,15 +69,15 @@ pub record PartPasses (bytes : List ℕ) (e t : ℕ) (x : ExtendedHeader) : Type
   pub fits : extended_end_of x ≤ 32768
   pub flags : Passes ≡ verdict (length bytes) (flag_checks bytes (extended_flags_from x) x.flags)
   pub inner_pad : Passes ≡ verdict (length bytes) (pad_checks bytes (extended_pad_from x) x.flags)
-  pub numbers : Passes ≡ verdict (length bytes) (number_checks bytes 2 (extended_numbers_from x) x.numbers)
+  pub numbers : Passes ≡ verdict (length bytes) (number_checks bytes (number_size x.width) (extended_numbers_from x) x.numbers)
   pub values : Passes ≡ verdict (length bytes) (offset_checks bytes x.table (extended_values_from x) x.texts)
   pub names : Passes ≡ verdict (length bytes) (sign_checks bytes BadExtendedName (extended_names_from x) (extended_name_count x))
   pub endings : Passes ≡ verdict (length bytes) (ending_checks bytes (extended_table_of bytes x) (extended_end_of x) (extended_values_from x) x.texts)
   pub name_places : Passes ≡ verdict (length bytes) (all_name_place_checks bytes (extended_table_of bytes x) (base_of bytes x) (extended_end_of x) (places (extended_names_from x) 2 (extended_name_count x)))
   pub whole : length bytes ≡ extended_end_of x
 
-pub part_passes : (bytes : List ℕ) (h : Header) (x : ExtendedHeader) → x.width ≡ Legacy → x.from ≡ extended_from h → Passes ≡ verdict (length bytes) (extended_checks bytes h x) → PartPasses bytes (end_of h) h.table x
-part_passes bytes h x legacy from k =
+pub part_passes : (bytes : List ℕ) (h : Header) (x : ExtendedHeader) → x.from ≡ extended_from h → Passes ≡ verdict (length bytes) (extended_checks bytes h x) → PartPasses bytes (end_of h) h.table x
+part_passes bytes h x from k =
     let len = length bytes in
     let room = room_checks h in
     let pads = pad_checks bytes (end_of h) h.table in
@@ -106,7 +106,6 @@ part_passes bytes h x legacy from k =
     let last = first_passes len (end_check bytes (extended_end_of x)) [] a.1 in
     let at_most : len ≤ extended_end_of x = leb-true _ _ last.holds in
     let at_least : extended_end_of x ≤ len = last.long in
-    let two : number_size x.width ≡ 2 = ap number_size legacy in
     record {
       outer_pad = f1.1;
       signs = subst (λ p. (i : ℕ) → i < 3 → Passed len (sign_check bytes BadExtendedHeader (p + 2 * i))) (sym from) (each_passed (sign_check bytes BadExtendedHeader) len (extended_from h) 2 3 f2.1);
@@ -114,7 +113,7 @@ part_passes bytes h x legacy from k =
       fits = leb-true _ _ size.holds;
       flags = c1.0;
       inner_pad = c1.1;
-      numbers = c2.1 ∙ ap (λ n. verdict len (number_checks bytes n (extended_numbers_from x) x.numbers)) two;
+      numbers = c2.1;
       values = c3.1;
       names = c4.1;
       endings = t.0;
@@ -122,13 +121,15 @@ part_passes bytes h x legacy from k =
       whole = omega arith;
     }
 
-pub part_found : (bytes : List ℕ) (h : Header) (e t from xb xm xs xt : ℕ) → IsBytes bytes → h.width ≡ Legacy → from ≡ e + pad_len t
+pub part_found : (bytes : List ℕ) (h : Header) (e t from xb xm xs xt : ℕ) → IsBytes bytes → from ≡ e + pad_len t
     → xb ≡ unsigned_at 2 bytes from → xm ≡ unsigned_at 2 bytes (from + 2) → xs ≡ unsigned_at 2 bytes (from + 4) → xt ≡ unsigned_at 2 bytes (from + 8)
-    → PartPasses bytes e t (record { width = Legacy; from = from; flags = xb; numbers = xm; texts = xs; table = xt })
-    → HasExtendedPart (content_with bytes h (record { width = Legacy; from = from; flags = xb; numbers = xm; texts = xs; table = xt })) t (drop e bytes)
-part_found bytes h e t from xb xm xs xt fits legacy from_is xb_is xm_is xs_is xt_is k =
+    → PartPasses bytes e t (record { width = h.width; from = from; flags = xb; numbers = xm; texts = xs; table = xt })
+    → HasExtendedPart (content_with bytes h (record { width = h.width; from = from; flags = xb; numbers = xm; texts = xs; table = xt })) t (drop e bytes)
+part_found bytes h e t from xb xm xs xt fits from_is xb_is xm_is xs_is xt_is k =
     let len = length bytes in
-    let x : ExtendedHeader = record { width = Legacy; from = from; flags = xb; numbers = xm; texts = xs; table = xt } in
+    let w = h.width in
+    let size_of = number_size w in
+    let x : ExtendedHeader = record { width = w; from = from; flags = xb; numbers = xm; texts = xs; table = xt } in
     let v = content_with bytes h x in
     let table = extended_table_of bytes x in
     let whole = k.whole in
@@ -146,10 +147,10 @@ part_found bytes h e t from xb xm xs xt fits legacy from_is xb_is xm_is xs_is xt
     let c2 : IsCount bytes (from + 4) = count_is bytes (from + 4) fits s2.long s2.holds in
     let c3 : IsCount bytes (from + 8) = let at : from + 8 + 2 * 0 ≡ from + 8 = omega arith in subst (IsCount bytes) at (count_is bytes (from + 8 + 2 * 0) fits s3.long s3.holds) in
     let flags_len : length v.extended_flags ≡ xb = length_named (name_at bytes x) (flag_at bytes) (extended_names_from x) (extended_flags_from x) 1 xb in
-    let numbers_len : length v.extended_numbers ≡ xm = length_named (name_at bytes x) (number_at 2 bytes) (extended_names_from x + 2 * xb) (extended_numbers_from x) 2 xm in
+    let numbers_len : length v.extended_numbers ≡ xm = length_named (name_at bytes x) (number_at size_of bytes) (extended_names_from x + 2 * xb) (extended_numbers_from x) size_of xm in
     let texts_len : length v.extended_texts ≡ xs = length_named (name_at bytes x) (text_at table bytes) (extended_names_from x + 2 * (xb + xm)) (extended_values_from x) 2 xs in
     let ef : map mark_in v.extended_flags ≡ map (flag_at bytes) (places (extended_flags_from x) 1 xb) = marks_in (name_at bytes x) (flag_at bytes) (extended_names_from x) (extended_flags_from x) 1 xb in
-    let en : map mark_in v.extended_numbers ≡ map (number_at 2 bytes) (places (extended_numbers_from x) 2 xm) = marks_in (name_at bytes x) (number_at 2 bytes) (extended_names_from x + 2 * xb) (extended_numbers_from x) 2 xm in
+    let en : map mark_in v.extended_numbers ≡ map (number_at size_of bytes) (places (extended_numbers_from x) size_of xm) = marks_in (name_at bytes x) (number_at size_of bytes) (extended_names_from x + 2 * xb) (extended_numbers_from x) size_of xm in
     let et : map mark_in v.extended_texts ≡ map (text_at table bytes) (places (extended_values_from x) 2 xs) = marks_in (name_at bytes x) (text_at table bytes) (extended_names_from x + 2 * (xb + xm)) (extended_values_from x) 2 xs in
     let y0 = pad t in
     let y1 = y0 ++ count_word (length v.extended_flags) in
@@ -159,14 +160,14 @@ part_found bytes h e t from xb xm xs xt fits legacy from_is xb_is xm_is xs_is xt
     let y5 = y4 ++ count_word (length table) in
     let y6 = y5 ++ flags_of (map mark_in v.extended_flags) in
     let y7 = y6 ++ pad (length v.extended_flags) in
-    let y8 = y7 ++ numbers_of Legacy (map mark_in v.extended_numbers) in
+    let y8 = y7 ++ numbers_of w (map mark_in v.extended_numbers) in
     let y9 = y8 ++ words_of values in
     let y10 = y9 ++ words_of names in
     let y11 = y10 ++ table in
     let n0 = pad_len t in
     let n6 = n0 + 2 + 2 + 2 + 2 + 2 in
     let n8 = n6 + xb + pad_len xb in
-    let n10 = n8 + 2 * xm + 2 * xs in
+    let n10 = n8 + size_of * xm + 2 * xs in
     let t0 : take n0 (drop e bytes) ≡ y0 = pad_is bytes e t k.outer_pad in
     let t1 : take (n0 + 2) (drop e bytes) ≡ y1 = front_behind bytes e n0 from 2 y0 (count_word (length v.extended_flags)) (sym from_is) t0 (c0.bytes_are ∙ ap count_word (sym (flags_len ∙ xb_is))) in
     let t2 : take (n0 + 2 + 2) (drop e bytes) ≡ y2 = front_behind bytes e (n0 + 2) (from + 2) 2 y1 (count_word (length v.extended_numbers)) (omega arith) t1 (c1.bytes_are ∙ ap count_word (sym (numbers_len ∙ xm_is))) in
@@ -175,8 +176,8 @@ part_found bytes h e t from xb xm xs xt fits legacy from_is xb_is xm_is xs_is xt
     let t5 : take n6 (drop e bytes) ≡ y5 = front_behind bytes e (n0 + 2 + 2 + 2 + 2) (from + 8) 2 y4 (count_word (length table)) (omega arith) t4 (c3.bytes_are ∙ ap count_word (sym (size ∙ xt_is))) in
     let t6 : take (n6 + xb) (drop e bytes) ≡ y6 = front_behind bytes e n6 (extended_flags_from x) xb y5 (flags_of (map mark_in v.extended_flags)) (omega arith) t5 (flags_are bytes (extended_flags_from x) xb k.flags ∙ ap flags_of (sym ef)) in
     let t7 : take n8 (drop e bytes) ≡ y7 = front_behind bytes e (n6 + xb) (extended_pad_from x) (pad_len xb) y6 (pad (length v.extended_flags)) (omega arith) t6 (pad_is bytes (extended_pad_from x) xb k.inner_pad ∙ ap pad (sym flags_len)) in
-    let t8 : take (n8 + 2 * xm) (drop e bytes) ≡ y8 = front_behind bytes e n8 (extended_numbers_from x) (2 * xm) y7 (numbers_of Legacy (map mark_in v.extended_numbers)) (omega arith) t7 (numbers_are bytes (extended_numbers_from x) xm fits k.numbers ∙ ap (numbers_of Legacy) (sym en)) in
-    let t9 : take n10 (drop e bytes) ≡ y9 = front_behind bytes e (n8 + 2 * xm) (extended_values_from x) (2 * xs) y8 (words_of values) (omega arith) t8 (words_are bytes (extended_values_from x) xs fits (omega arith)) in
+    let t8 : take (n8 + size_of * xm) (drop e bytes) ≡ y8 = front_behind bytes e n8 (extended_numbers_from x) (size_of * xm) y7 (numbers_of w (map mark_in v.extended_numbers)) (omega arith) t7 (numbers_are w bytes (extended_numbers_from x) xm fits k.numbers ∙ ap (numbers_of w) (sym en)) in
+    let t9 : take n10 (drop e bytes) ≡ y9 = front_behind bytes e (n8 + size_of * xm) (extended_values_from x) (2 * xs) y8 (words_of values) (omega arith) t8 (words_are bytes (extended_values_from x) xs fits (omega arith)) in
     let t10 : take (n10 + 2 * count) (drop e bytes) ≡ y10 = front_behind bytes e n10 (extended_names_from x) (2 * count) y9 (words_of names) (omega arith) t9 (words_are bytes (extended_names_from x) count fits (omega arith)) in
     let t11 : take (n10 + 2 * count + xt) (drop e bytes) ≡ y11 = front_behind bytes e (n10 + 2 * count) (extended_table_from x) xt y10 table (omega arith) t10 refl in
     let joined : drop e bytes ≡ y11 = sym (take_all (n10 + 2 * count + xt) (drop e bytes) (omega (arith, length-drop e bytes))) ∙ t11 in
@@ -193,7 +194,7 @@ part_found bytes h e t from xb xm xs xt fits legacy from_is xb_is xm_is xs_is xt
       names = names;
       items = items;
       table = table;
-      joined = rw legacy joined;
+      joined = joined;
       counts = (
         let small : length v.extended_flags < 2 ^ 15 = (let a = c0.small in omega arith) in small,
         (
@@ -205,7 +206,7 @@ part_found bytes h e t from xb xm xs xt fits legacy from_is xb_is xm_is xs_is xt
         ),
       );
       items_size = length-take-le 2 (drop (from + 6) bytes) (omega (arith, length-drop (from + 6) bytes));
-      numbers_fit = rw (legacy, en) (numbers_fit bytes (extended_numbers_from x) xm fits);
+      numbers_fit = rw en (numbers_fit w bytes (extended_numbers_from x) xm fits);
       texts_there = subst (λ l. Each (IsText table) values l) (sym et) (texts_are bytes table (extended_end_of x) (extended_values_from x) xs (k.values ∙ ap (λ n. verdict len (offset_checks bytes n (extended_values_from x) xs)) (sym size)) k.endings);
       names_there = subst (λ b. Each (IsName table b) names (extended_names v)) (sym (sizes_are_base bytes h x)) (subst (λ l. Each (IsName table base) names l) (sym (all_names_in bytes h x)) named);
     }
@@ -238,8 +239,8 @@ found bytes fits h =
         let x = extended_header_of hd bytes in
         let v = content_with bytes hd x in
         let s = plain.sections in
-        let p = part_passes bytes hd x refl refl k in
-        let part : HasExtendedPart v hd.table (drop (end_of hd) bytes) = part_found bytes hd (end_of hd) hd.table (extended_from hd) x.flags x.numbers x.texts x.table fits refl refl refl refl refl refl p in
+        let p = part_passes bytes hd x refl k in
+        let part : HasExtendedPart v hd.table (drop (end_of hd) bytes) = part_found bytes hd (end_of hd) hd.table (extended_from hd) x.flags x.numbers x.texts x.table fits refl refl refl refl refl p in
         let whole = p.whole in
         let fit = p.fits in
         record {

@@ -1,12 +1,11 @@
 -- Inputs as long as an entry may be.
-use Rattle.std.proofs.Common.{◌≡◌, ℕ, zero, suc, ◌+◌, ◌-◌, ◌*◌, ◌<◌, ◌≤◌, ◌⊎◌, Bool, true, false, cond, eqb, ltb, leb, List, [], ◌∷◌, ◌++◌, map, length, inl, inr, refl, sym, ap, subst, ◌∙◌, arith}
+use Rattle.std.proofs.Common.{◌≡◌, ℕ, zero, suc, ◌+◌, ◌-◌, ◌<◌, ◌≤◌, ◌⊎◌, Bool, true, false, cond, eqb, ltb, leb, List, [], ◌∷◌, ◌++◌, map, length, inl, inr, refl, sym, ap, subst, ◌∙◌, arith}
 use Rattle.std.proofs.lemmas.List.{length-append}
 use Rattle.std.proofs.lemmas.Bool.{le-ltb, leb-true, leb-false, lt-leb, ne_eqb, eq-eqb}
 use Rattle.std.proofs.lemmas.List.Concat.{flat_map-cons}
 use Rattle.std.specs.List.{AllByRecursion}
 use Rattle.ti_entry.specs.declared.fault.Fault.TheVariants.{BadHeader, BadNames, BadPad, BadExtendedHeader, BadExtendedName, ExtendedTooBig, Trailing}
 use Rattle.ti_entry.specs.declared.fault.Fault.{Fault}
-use Rattle.ti_words.specs.declared.Width.TheVariants.{Legacy}
 use Rattle.ti_entry.specs.declared.header.Header.{Header}
 use Rattle.ti_entry.specs.declared.extended_header.ExtendedHeader.{ExtendedHeader}
 use Rattle.ti_entry.specs.Layout.{header_of, number_size, places, pad_len, flags_from, pad_from, numbers_from, offsets_from, end_of, extended_from, extended_header_of, extended_flags_from, extended_pad_from, extended_numbers_from, extended_values_from, extended_names_from, extended_name_count, extended_end_of}
@@ -15,6 +14,7 @@ use Rattle.ti_entry.specs.Checks.{Check, Verdict, Passes, EndsEarly, Fails, verd
 use Rattle.ti_entry.specs.Refusal.{size_check, named_check, magic_checks, size_checks, front_checks, section_checks, room_check, extended_word_checks, extended_size_check, extended_size_checks, extended_front_checks, extended_section_checks, extended_checks, behind_checks, checks, fault_behind}
 use Rattle.ti_entry.proofs.Sections.{then}
 use Rattle.ti_entry.proofs.Passing.{first_passes}
+use Rattle.ti_entry.proofs.Places.{within}
 use Rattle.ti_entry.proofs.SectionLaws.{both_pass, all_items}
 use Rattle.ti_entry.proofs.Growing.{stays, front_alike, section_alike, header_same, split, extended_same, extended_split, extended_long, extended_front_alike, extended_section_alike}
 
@@ -26,7 +26,7 @@ all_append : {A : Type 0} (P : A → Type 0) (xs ys : List A) → AllByRecursion
 all_append P [] ys h k = k
 all_append P (x ∷ xs) ys h k = (h.0, all_append P xs ys h.1 k)
 
-no_early : (len : ℕ) (cs : List Check) → AllByRecursion (Reaches len) cs → verdict len cs ≡ EndsEarly → ⊥
+pub no_early : (len : ℕ) (cs : List Check) → AllByRecursion (Reaches len) cs → verdict len cs ≡ EndsEarly → ⊥
 no_early len [] h e = cc
 no_early len (c ∷ cs) h e = by_holds c.holds (no_early len cs h.1) (sym (let k : verdict len (c ∷ cs) ≡ cond c.holds (verdict len cs) (Fails (refused c.fault c.place)) = rw (le-ltb len c.prefix h.0) refl in k) ∙ e)
   where
@@ -40,13 +40,13 @@ front_reaches xs len le =
     (all_append (Reaches len) (magic_checks xs) (sign_checks xs BadHeader 2 5) (omega arith, tt) (all_items (Reaches len) (sign_check xs BadHeader) 2 2 5 (λ i lt. omega arith)))
     (le, (le, tt))
 
-section_reaches : (xs : List ℕ) (h : Header) (len : ℕ) → number_size h.width ≡ 2 → 2 ≤ h.names → end_of h ≤ len → AllByRecursion (Reaches len) (section_checks xs h)
-section_reaches xs h len two some le =
+section_reaches : (xs : List ℕ) (h : Header) (len : ℕ) → 2 ≤ h.names → end_of h ≤ len → AllByRecursion (Reaches len) (section_checks xs h)
+section_reaches xs h len some le =
     let P = Reaches len in
     let names = all_append P (map (name_check xs) (places 12 1 (h.names - 1))) (nul_check xs BadNames (11 + h.names) ∷ []) (all_items P (name_check xs) 12 1 (h.names - 1) (λ i lt. omega arith)) (omega arith, tt) in
     let flags = all_items P (flag_check xs) (flags_from h) 1 h.flags (λ i lt. omega arith) in
     let pads = all_items P (nul_check xs BadPad) (pad_from h) 1 (pad_len (h.names + h.flags)) (λ i lt. omega arith) in
-    let numbers : AllByRecursion P (number_checks xs (number_size h.width) (numbers_from h) h.numbers) = all_items P (number_check xs (number_size h.width)) (numbers_from h) (number_size h.width) h.numbers (λ i lt. (let k : numbers_from h + number_size h.width * i + number_size h.width ≤ offsets_from h = rw two (let m : offsets_from h ≡ numbers_from h + 2 * h.numbers = ap (λ s. numbers_from h + s * h.numbers) two in omega arith) in omega arith)) in
+    let numbers : AllByRecursion P (number_checks xs (number_size h.width) (numbers_from h) h.numbers) = all_items P (number_check xs (number_size h.width)) (numbers_from h) (number_size h.width) h.numbers (λ i lt. (let k = within h.width i h.numbers lt in omega arith)) in
     let offsets = all_items P (offset_check xs h.table) (offsets_from h) 2 h.texts (λ i lt. omega arith) in
     let endings : AllByRecursion P (ending_checks xs (table_of xs h) (end_of h) (offsets_from h) h.texts) = (le, all_items P (ending_check xs (table_of xs h) (end_of h)) (offsets_from h) 2 h.texts (λ i lt. le)) in
     let an = name_checks xs h.names in
@@ -112,9 +112,8 @@ names_reach xs table base end from zero len le = tt
 names_reach xs table base end from (suc count) len le =
     subst (AllByRecursion (Reaches len)) (sym (flat_map-cons (name_place_checks xs table base end) from (places (from + 2) 2 count))) (le, (le, names_reach xs table base end (from + 2) count len le))
 
-extended_section_reaches : (xs : List ℕ) (x : ExtendedHeader) (len : ℕ) → x.width ≡ Legacy → extended_end_of x ≤ len → AllByRecursion (Reaches len) (extended_section_checks xs x)
-extended_section_reaches xs x len legacy le =
-    let two : number_size x.width ≡ 2 = ap number_size legacy in
+extended_section_reaches : (xs : List ℕ) (x : ExtendedHeader) (len : ℕ) → extended_end_of x ≤ len → AllByRecursion (Reaches len) (extended_section_checks xs x)
+extended_section_reaches xs x len le =
     let P = Reaches len in
     let end = extended_end_of x in
     let count = extended_name_count x in
@@ -127,9 +126,8 @@ extended_section_reaches xs x len legacy le =
     let c6 = all_name_place_checks xs (extended_table_of xs x) (base_of xs x) end (places (extended_names_from x) 2 count) in
     let flags : AllByRecursion P c0 = all_items P (flag_check xs) (extended_flags_from x) 1 x.flags (λ i lt. omega arith) in
     let pads : AllByRecursion P c1 = all_items P (nul_check xs BadPad) (extended_pad_from x) 1 (pad_len x.flags) (λ i lt. omega arith) in
-    let values_are : extended_values_from x ≡ extended_numbers_from x + 2 * x.numbers = ap (λ s. extended_numbers_from x + s * x.numbers) two in
-    let numbers_two : AllByRecursion P (number_checks xs 2 (extended_numbers_from x) x.numbers) = all_items P (number_check xs 2) (extended_numbers_from x) 2 x.numbers (λ i lt. omega arith) in
-    let numbers : AllByRecursion P c2 = rw two numbers_two in
+    let size = number_size x.width in
+    let numbers : AllByRecursion P c2 = all_items P (number_check xs size) (extended_numbers_from x) size x.numbers (λ i lt. (let k = within x.width i x.numbers lt in omega arith)) in
     let values : AllByRecursion P c3 = all_items P (offset_check xs x.table) (extended_values_from x) 2 x.texts (λ i lt. omega arith) in
     let names : AllByRecursion P c4 = all_items P (sign_check xs BadExtendedName) (extended_names_from x) 2 count (λ i lt. omega arith) in
     let endings : AllByRecursion P c5 = (le, all_items P (ending_check xs (extended_table_of xs x) end) (extended_values_from x) 2 x.texts (λ i lt. le)) in
@@ -146,8 +144,8 @@ extended_fits xs h x len p =
     let b = first_passes len (extended_size_check x) [] a.1 in leb-true _ _ b.holds
 
 -- no check behind the string table of a full input waits for more
-behind_decides : (xs : List ℕ) (h : Header) → h.width ≡ Legacy → 32768 ≤ length xs → verdict (length xs) (behind_checks xs h) ≡ EndsEarly → ⊥
-behind_decides xs h legacy long = by_end (leb (length xs) (end_of h)) refl
+behind_decides : (xs : List ℕ) (h : Header) → 32768 ≤ length xs → verdict (length xs) (behind_checks xs h) ≡ EndsEarly → ⊥
+behind_decides xs h long = by_end (leb (length xs) (end_of h)) refl
   where
     by_end : (b : Bool) → leb (length xs) (end_of h) ≡ b → verdict (length xs) (cond b [] (extended_checks xs h (extended_header_of h xs))) ≡ EndsEarly → ⊥
     by_end true e k = cc
@@ -157,7 +155,7 @@ behind_decides xs h legacy long = by_end (leb (length xs) (end_of h)) refl
         let above : end_of h < len = omega (arith, leb-false len (end_of h) e) in
         no_early_in_three (verdict len (extended_front_checks xs h x)) (verdict len (extended_section_checks xs x)) (verdict len (end_checks xs (extended_end_of x))) (sym (extended_split xs h x len) ∙ k)
         (no_early_after len (room_check h) (words_then_size xs h x) (omega arith) (λ room. words_reach xs h x len refl (let fit : extended_from h + 10 ≤ 32768 = leb-true _ _ room in omega arith)))
-        (λ p. no_early len (extended_section_checks xs x) (extended_section_reaches xs x len legacy (let f = extended_fits xs h x len p in omega arith)))
+        (λ p. no_early len (extended_section_checks xs x) (extended_section_reaches xs x len (let f = extended_fits xs h x len p in omega arith)))
         (λ p. no_early len (end_checks xs (extended_end_of x)) ((let f = extended_fits xs h x len p in omega arith), tt))
 
 -- ---- the whole
@@ -169,10 +167,10 @@ full_decides xs long h =
     let hx = header_of xs in
     no_early_in_three (verdict len (front_checks xs hx)) (verdict len (section_checks xs hx)) (verdict len (behind_checks xs hx)) (sym (split xs len) ∙ h)
     (no_early len (front_checks xs hx) (front_reaches xs len (omega arith)))
-    (λ p. (let s = sized xs p in no_early len (section_checks xs hx) (section_reaches xs hx len refl s.some (let f = s.fits in omega arith))))
-    (λ p. behind_decides xs hx refl long)
+    (λ p. (let s = sized xs p in no_early len (section_checks xs hx) (section_reaches xs hx len s.some (let f = s.fits in omega arith))))
+    (λ p. behind_decides xs hx long)
 
-kept_passes : (v w : Verdict) → (v ≡ EndsEarly) ⊎ (v ≡ w) → Passes ≡ v → w ≡ Passes
+pub kept_passes : (v w : Verdict) → (v ≡ EndsEarly) ⊎ (v ≡ w) → Passes ≡ v → w ≡ Passes
 kept_passes v w (inl e) p = absurd (apart (p ∙ e))
   where
     apart : Passes ≡ EndsEarly → ⊥
@@ -180,9 +178,9 @@ kept_passes v w (inl e) p = absurd (apart (p ∙ e))
 kept_passes v w (inr e) p = sym e ∙ sym p
 
 -- a full extended part is refused where a byte follows it
-extended_then_trailing : (xs ys : List ℕ) (h : Header) → h.width ≡ Legacy → 0 < length ys → Passes ≡ verdict (length xs) (extended_checks xs h (extended_header_of h xs))
+extended_then_trailing : (xs ys : List ℕ) (h : Header) → 0 < length ys → Passes ≡ verdict (length xs) (extended_checks xs h (extended_header_of h xs))
     → verdict (length xs + length ys) (extended_checks (xs ++ ys) h (extended_header_of h (xs ++ ys))) ≡ Fails (refused Trailing (length xs))
-extended_then_trailing xs ys h legacy some k =
+extended_then_trailing xs ys h some k =
     let len = length xs in
     let zs = xs ++ ys in
     let x = extended_header_of h xs in
@@ -196,7 +194,7 @@ extended_then_trailing xs ys h legacy some k =
     let ends : extended_end_of x ≡ len = (let l = last.long in omega arith) in
     let wF : verdict (len + length ys) (extended_front_checks zs h z) ≡ Passes = kept_passes _ _ (stays len (length ys) (extended_front_checks xs h x) (extended_front_checks zs h z) (extended_front_alike xs ys h)) c.0 in
     let wS : verdict (len + length ys) (extended_section_checks zs z) ≡ Passes =
-    subst (λ y. verdict (len + length ys) (extended_section_checks zs y) ≡ Passes) same (kept_passes _ _ (stays len (length ys) (extended_section_checks xs x) (extended_section_checks zs x) (extended_section_alike xs ys x legacy)) c.1) in
+    subst (λ y. verdict (len + length ys) (extended_section_checks zs y) ≡ Passes) same (kept_passes _ _ (stays len (length ys) (extended_section_checks xs x) (extended_section_checks zs x) (extended_section_alike xs ys x)) c.1) in
     let reach : ltb (len + length ys) len ≡ false = le-ltb (len + length ys) len (omega arith) in
     let over : leb (length zs) len ≡ false = lt-leb (length zs) len (omega arith) in
     let e : extended_end_of z ≡ len = ap extended_end_of (sym same) ∙ ends in
@@ -212,9 +210,9 @@ no_room xs ys h rest ends full some =
     let fails : verdict (length xs + length ys) (room_check h ∷ rest) ≡ Fails (refused ExtendedTooBig (end_of h)) = rw (reach, over) refl in
     fails ∙ ap (λ n. Fails (refused ExtendedTooBig n)) ends
 
-behind_full : (xs : List ℕ) (b : ℕ) (more : List ℕ) (h : Header) → h.width ≡ Legacy → h ≡ header_of xs → length xs ≡ 32768 → end_of h ≤ length xs → Passes ≡ verdict (length xs) (behind_checks xs h)
+behind_full : (xs : List ℕ) (b : ℕ) (more : List ℕ) (h : Header) → h ≡ header_of xs → length xs ≡ 32768 → end_of h ≤ length xs → Passes ≡ verdict (length xs) (behind_checks xs h)
     → verdict (length xs + length (b ∷ more)) (behind_checks (xs ++ b ∷ more) h) ≡ Fails (refused (fault_behind xs) (length xs))
-behind_full xs b more h legacy is full there = by_end (leb (length xs) (end_of h)) refl
+behind_full xs b more h is full there = by_end (leb (length xs) (end_of h)) refl
   where
     longer : leb (length (xs ++ b ∷ more)) (end_of h) ≡ false
     longer = let n : length (xs ++ b ∷ more) ≡ length xs + length (b ∷ more) = length-append xs (b ∷ more) in lt-leb (length (xs ++ b ∷ more)) (end_of h) (omega arith)
@@ -238,7 +236,7 @@ behind_full xs b more h legacy is full there = by_end (leb (length xs) (end_of h
         let same : end_of (header_of xs) ≡ end_of h = ap end_of (sym is) in
         let differs : eqb (end_of (header_of xs)) (length xs) ≡ false = ne_eqb _ _ (λ q. (let r : end_of h ≡ length xs = sym same ∙ q in omega arith)) in
         let fault : fault_behind xs ≡ Trailing = rw differs refl in
-        opened ∙ extended_then_trailing xs (b ∷ more) h legacy (omega arith) k ∙ ap (λ (f : Fault). Fails (refused f (length xs))) (sym fault)
+        opened ∙ extended_then_trailing xs (b ∷ more) h (omega arith) k ∙ ap (λ (f : Fault). Fails (refused f (length xs))) (sym fault)
 
 -- a full input that passes is refused where a byte follows it
 pub then_refused : (xs : List ℕ) (b : ℕ) (more : List ℕ) → length xs ≡ 32768 → Passes ≡ verdict (length xs) (checks xs) → verdict (length (xs ++ b ∷ more)) (checks (xs ++ b ∷ more)) ≡ Fails (refused (fault_behind xs) (length xs))
@@ -256,7 +254,7 @@ then_refused xs b more full h =
     let same : hx ≡ hz = header_same xs ys s.long in
     let wF : verdict (len + length ys) (front_checks zs hz) ≡ Passes = kept_passes _ _ (stays len (length ys) (front_checks xs hx) (front_checks zs hz) (front_alike xs ys)) c.0 in
     let wS : verdict (len + length ys) (section_checks zs hz) ≡ Passes =
-    subst (λ k. verdict (len + length ys) (section_checks zs k) ≡ Passes) same (kept_passes _ _ (stays len (length ys) (section_checks xs hx) (section_checks zs hx) (section_alike xs ys hx refl)) c.1) in
+    subst (λ k. verdict (len + length ys) (section_checks zs k) ≡ Passes) same (kept_passes _ _ (stays len (length ys) (section_checks xs hx) (section_checks zs hx) (section_alike xs ys hx)) c.1) in
     let wB : verdict (len + length ys) (behind_checks zs hz) ≡ Fails (refused (fault_behind xs) len) =
-    subst (λ k. verdict (len + length ys) (behind_checks zs k) ≡ Fails (refused (fault_behind xs) len)) same (behind_full xs b more hx refl refl full (omega arith) a.1) in
+    subst (λ k. verdict (len + length ys) (behind_checks zs k) ≡ Fails (refused (fault_behind xs) len)) same (behind_full xs b more hx refl full (omega arith) a.1) in
     ap (λ k. verdict k (checks zs)) n ∙ split zs (len + length ys) ∙ rw (wF, wS) wB

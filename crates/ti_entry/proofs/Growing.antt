@@ -9,7 +9,6 @@ use Rattle.ti_words.specs.Marks.{flag_of_byte}
 use Rattle.ti_entry.specs.declared.fault.Fault.{Fault}
 use Rattle.ti_entry.specs.declared.fault.Fault.TheVariants.{BadHeader, BadNames, BadPad, BadFlag, BadNumber, BadOffset, Unterminated, BadExtendedHeader, BadExtendedName, Trailing}
 use Rattle.ti_entry.specs.declared.fault.Refused.{Refused}
-use Rattle.ti_words.specs.declared.Width.TheVariants.{Legacy}
 use Rattle.ti_entry.specs.declared.header.Header.{Header}
 use Rattle.ti_entry.specs.declared.extended_header.ExtendedHeader.{ExtendedHeader}
 use Rattle.ti_entry.specs.Word.{unsigned_at, word_at, signed}
@@ -27,7 +26,7 @@ pub record Alike (len : ℕ) (c d : Check) : Type 0 where
   pub same_front : c.prefix ≡ d.prefix
   pub same : c.prefix ≤ len → c ≡ d
 
-each_append : {A B : Type 0} (R : A → B → Type 0) (xs : List A) (ys : List B) (xs' : List A) (ys' : List B) → Each R xs ys → Each R xs' ys' → Each R (xs ++ xs') (ys ++ ys')
+pub each_append : {A B : Type 0} (R : A → B → Type 0) (xs : List A) (ys : List B) (xs' : List A) (ys' : List B) → Each R xs ys → Each R xs' ys' → Each R (xs ++ xs') (ys ++ ys')
 each_append R [] [] xs' ys' h k = k
 each_append R [] (y ∷ ys) xs' ys' h k = absurd h
 each_append R (x ∷ xs) [] xs' ys' h k = absurd h
@@ -61,32 +60,39 @@ stays len more (c ∷ cs) (d ∷ ds) h =
 byte_same : (xs ys : List ℕ) (p : ℕ) → p + 1 ≤ length xs → get_or xs p 0 ≡ get_or (xs ++ ys) p 0
 byte_same xs ys p le = sym (get_or_append_left xs ys 0 p (omega arith))
 
-unsigned_same : (xs ys : List ℕ) (p : ℕ) → p + 2 ≤ length xs → unsigned_at 2 xs p ≡ unsigned_at 2 (xs ++ ys) p
-unsigned_same xs ys p le =
-    let a = byte_same xs ys p (omega arith) in
-    let b = byte_same xs ys (p + 1) (omega arith) in
-    ap (λ k. k + 256 * (get_or xs (p + 1) 0 + 256 * 0)) a ∙ ap (λ k. get_or (xs ++ ys) p 0 + 256 * (k + 256 * 0)) b
+number_same : (size : ℕ) (xs ys : List ℕ) (p : ℕ) → p + size ≤ length xs → unsigned_at size xs p ≡ unsigned_at size (xs ++ ys) p
+number_same zero xs ys p le = refl
+number_same (suc size) xs ys p le =
+    ap (λ k. k + 256 * unsigned_at size xs (p + 1)) (byte_same xs ys p (omega arith))
+    ∙ ap (λ k. get_or (xs ++ ys) p 0 + 256 * k) (number_same size xs ys (p + 1) (omega arith))
 
-by_byte : (xs ys : List ℕ) (test : ℕ → Bool) (fault : Fault) (p : ℕ) → Alike (length xs) (check (p + 1) (test (get_or xs p 0)) fault p) (check (p + 1) (test (get_or (xs ++ ys) p 0)) fault p)
+unsigned_same : (xs ys : List ℕ) (p : ℕ) → p + 2 ≤ length xs → unsigned_at 2 xs p ≡ unsigned_at 2 (xs ++ ys) p
+unsigned_same xs ys p le = number_same 2 xs ys p le
+
+pub by_byte : (xs ys : List ℕ) (test : ℕ → Bool) (fault : Fault) (p : ℕ) → Alike (length xs) (check (p + 1) (test (get_or xs p 0)) fault p) (check (p + 1) (test (get_or (xs ++ ys) p 0)) fault p)
 by_byte xs ys test fault p = record { same_front = refl; same = λ le. ap (λ k. check (p + 1) (test k) fault p) (byte_same xs ys p le) }
 
-by_word : (xs ys : List ℕ) (test : ℤ → Bool) (fault : Fault) (p : ℕ) → Alike (length xs) (check (p + 2) (test (word_at 2 xs p)) fault p) (check (p + 2) (test (word_at 2 (xs ++ ys) p)) fault p)
+pub by_word : (xs ys : List ℕ) (test : ℤ → Bool) (fault : Fault) (p : ℕ) → Alike (length xs) (check (p + 2) (test (word_at 2 xs p)) fault p) (check (p + 2) (test (word_at 2 (xs ++ ys) p)) fault p)
 by_word xs ys test fault p = record { same_front = refl; same = λ le. ap (λ k. check (p + 2) (test (signed 2 k)) fault p) (unsigned_same xs ys p le) }
+
+pub by_number : (size : ℕ) (xs ys : List ℕ) (p : ℕ) → Alike (length xs) (number_check xs size p) (number_check (xs ++ ys) size p)
+by_number size xs ys p = record { same_front = refl; same = λ le. ap (λ k. check (p + size) (is_number_word (signed size k)) BadNumber p) (number_same size xs ys p le) }
 
 pub header_same : (xs ys : List ℕ) → 12 ≤ length xs → header_of xs ≡ header_of (xs ++ ys)
 header_same xs ys le =
+    let u0 = unsigned_same xs ys 0 (omega arith) in
     let u1 = unsigned_same xs ys 2 (omega arith) in
     let u2 = unsigned_same xs ys 4 (omega arith) in
     let u3 = unsigned_same xs ys 6 (omega arith) in
     let u4 = unsigned_same xs ys 8 (omega arith) in
     let u5 = unsigned_same xs ys 10 le in
-    rw (u1, u2, u3, u4, u5) refl
+    rw (u0, u1, u2, u3, u4, u5) refl
 
-by_header : (xs ys : List ℕ) (f : Header → Check) → ((h : Header) → (f h).prefix ≡ 12) → Alike (length xs) (f (header_of xs)) (f (header_of (xs ++ ys)))
+pub by_header : (xs ys : List ℕ) (f : Header → Check) → ((h : Header) → (f h).prefix ≡ 12) → Alike (length xs) (f (header_of xs)) (f (header_of (xs ++ ys)))
 by_header xs ys f n = record { same_front = n (header_of xs) ∙ sym (n (header_of (xs ++ ys))); same = λ le. (let twelve : 12 ≤ length xs = (let k = n (header_of xs) in omega arith) in ap f (header_same xs ys twelve)) }
 
-magic_alike : (xs ys : List ℕ) → Alike (length xs) (magic_check xs) (magic_check (xs ++ ys))
-magic_alike xs ys = record { same_front = refl; same = λ le. (let a = byte_same xs ys 0 (omega arith) in let b = byte_same xs ys 1 le in rw (a, b) refl) }
+pub magic_alike : (xs ys : List ℕ) → Alike (length xs) (magic_check xs) (magic_check (xs ++ ys))
+magic_alike xs ys = record { same_front = refl; same = λ le. (let u = unsigned_same xs ys 0 le in rw u refl) }
 
 pub front_alike : (xs ys : List ℕ) → Each (Alike (length xs)) (front_checks xs (header_of xs)) (front_checks (xs ++ ys) (header_of (xs ++ ys)))
 front_alike xs ys =
@@ -104,7 +110,7 @@ table_same xs ys h le =
     let n : h.table ≤ length (drop (table_from h) xs) = omega (arith, length-drop (table_from h) xs) in
     sym (ap (take h.table) d ∙ take-append-le h.table (drop (table_from h) xs) ys n)
 
-ending_alike : (xs ys : List ℕ) (h : Header) (i : ℕ) → i < h.texts → Alike (length xs) (ending_check xs (table_of xs h) (end_of h) (offsets_from h + 2 * i)) (ending_check (xs ++ ys) (table_of (xs ++ ys) h) (end_of h) (offsets_from h + 2 * i))
+pub ending_alike : (xs ys : List ℕ) (h : Header) (i : ℕ) → i < h.texts → Alike (length xs) (ending_check xs (table_of xs h) (end_of h) (offsets_from h + 2 * i)) (ending_check (xs ++ ys) (table_of (xs ++ ys) h) (end_of h) (offsets_from h + 2 * i))
 ending_alike xs ys h i lt = record {
   same_front = refl;
   same = λ le.
@@ -113,8 +119,8 @@ ending_alike xs ys h i lt = record {
       ap (λ t. ending_check xs t (end_of h) p) (table_same xs ys h le) ∙ ap (λ k. check (end_of h) (is_ended (table_of (xs ++ ys) h) (signed 2 k)) Unterminated p) u);
 }
 
-pub section_alike : (xs ys : List ℕ) (h : Header) → number_size h.width ≡ 2 → Each (Alike (length xs)) (section_checks xs h) (section_checks (xs ++ ys) h)
-section_alike xs ys h two =
+pub section_alike : (xs ys : List ℕ) (h : Header) → Each (Alike (length xs)) (section_checks xs h) (section_checks (xs ++ ys) h)
+section_alike xs ys h =
     let len = length xs in
     let zs = xs ++ ys in
     let R = Alike len in
@@ -124,8 +130,8 @@ section_alike xs ys h two =
     (by_byte xs ys is_nul BadNames (11 + h.names), tt) in
     let flags = each_item R (flag_check xs) (flag_check zs) (flags_from h) 1 h.flags (λ i lt. by_byte xs ys (λ b. is_some (flag_of_byte b)) BadFlag (flags_from h + 1 * i)) in
     let pads = each_item R (nul_check xs BadPad) (nul_check zs BadPad) (pad_from h) 1 (pad_len (h.names + h.flags)) (λ i lt. by_byte xs ys is_nul BadPad (pad_from h + 1 * i)) in
-    let numbers_two = each_item R (number_check xs 2) (number_check zs 2) (numbers_from h) 2 h.numbers (λ i lt. by_word xs ys is_number_word BadNumber (numbers_from h + 2 * i)) in
-    let numbers : Each R (number_checks xs (number_size h.width) (numbers_from h) h.numbers) (number_checks zs (number_size h.width) (numbers_from h) h.numbers) = rw two numbers_two in
+    let size = number_size h.width in
+    let numbers = each_item R (number_check xs size) (number_check zs size) (numbers_from h) size h.numbers (λ i lt. by_number size xs ys (numbers_from h + size * i)) in
     let offsets = each_item R (offset_check xs h.table) (offset_check zs h.table) (offsets_from h) 2 h.texts (λ i lt. by_word xs ys (is_offset_below h.table) BadOffset (offsets_from h + 2 * i)) in
     let endings : Each R (ending_checks xs (table_of xs h) (end_of h) (offsets_from h) h.texts) (ending_checks zs (table_of zs h) (end_of h) (offsets_from h) h.texts) =
     (record { same_front = refl; same = λ le. refl }, each_item R (ending_check xs (table_of xs h) (end_of h)) (ending_check zs (table_of zs h) (end_of h)) (offsets_from h) 2 h.texts (λ i lt. ending_alike xs ys h i lt)) in
@@ -135,8 +141,8 @@ section_alike xs ys h two =
     let bf = flag_checks zs (flags_from h) h.flags in
     let apd = pad_checks xs (pad_from h) (h.names + h.flags) in
     let bpd = pad_checks zs (pad_from h) (h.names + h.flags) in
-    let am = number_checks xs (number_size h.width) (numbers_from h) h.numbers in
-    let bm = number_checks zs (number_size h.width) (numbers_from h) h.numbers in
+    let am = number_checks xs size (numbers_from h) h.numbers in
+    let bm = number_checks zs size (numbers_from h) h.numbers in
     let ao = offset_checks xs h.table (offsets_from h) h.texts in
     let bo = offset_checks zs h.table (offsets_from h) h.texts in
     let ae = ending_checks xs (table_of xs h) (end_of h) (offsets_from h) h.texts in
@@ -193,12 +199,12 @@ sizes_same xs ys table from (suc count) le =
     ap (λ k. size_at table (signed 2 k) + sizes_at xs table (places (from + 2) 2 count)) u
     ∙ ap (λ n. size_at table (word_at 2 (xs ++ ys) from) + n) (sizes_same xs ys table (from + 2) count (omega arith))
 
-base_same : (xs ys : List ℕ) (x : ExtendedHeader) → extended_end_of x ≤ length xs → base_of xs x ≡ base_of (xs ++ ys) x
+pub base_same : (xs ys : List ℕ) (x : ExtendedHeader) → extended_end_of x ≤ length xs → base_of xs x ≡ base_of (xs ++ ys) x
 base_same xs ys x le =
     sizes_same xs ys (extended_table_of xs x) (extended_values_from x) x.texts (omega arith)
     ∙ ap (λ t. sizes_at (xs ++ ys) t (places (extended_values_from x) 2 x.texts)) (extended_table_same xs ys x le)
 
-extended_ending_alike : (xs ys : List ℕ) (x : ExtendedHeader) (i : ℕ) → i < x.texts → Alike (length xs) (ending_check xs (extended_table_of xs x) (extended_end_of x) (extended_values_from x + 2 * i)) (ending_check (xs ++ ys) (extended_table_of (xs ++ ys) x) (extended_end_of x) (extended_values_from x + 2 * i))
+pub extended_ending_alike : (xs ys : List ℕ) (x : ExtendedHeader) (i : ℕ) → i < x.texts → Alike (length xs) (ending_check xs (extended_table_of xs x) (extended_end_of x) (extended_values_from x + 2 * i)) (ending_check (xs ++ ys) (extended_table_of (xs ++ ys) x) (extended_end_of x) (extended_values_from x + 2 * i))
 extended_ending_alike xs ys x i lt = record {
   same_front = refl;
   same = λ le.
@@ -208,7 +214,7 @@ extended_ending_alike xs ys x i lt = record {
 }
 
 -- the two checks of each name
-names_alike : (xs ys : List ℕ) (x : ExtendedHeader) (from count : ℕ) → from + 2 * count ≤ extended_end_of x
+pub names_alike : (xs ys : List ℕ) (x : ExtendedHeader) (from count : ℕ) → from + 2 * count ≤ extended_end_of x
     → Each (Alike (length xs)) (all_name_place_checks xs (extended_table_of xs x) (base_of xs x) (extended_end_of x) (places from 2 count)) (all_name_place_checks (xs ++ ys) (extended_table_of (xs ++ ys) x) (base_of (xs ++ ys) x) (extended_end_of x) (places from 2 count))
 names_alike xs ys x from zero le = tt
 names_alike xs ys x from (suc count) le =
@@ -240,9 +246,9 @@ names_alike xs ys x from (suc count) le =
     second_of_two : (c d c' d' : Check) → ◌≡◌ {A = List Check} (c ∷ d ∷ []) (c' ∷ d' ∷ []) → d ≡ d'
     second_of_two c d c' d' e = cc
 
-pub extended_section_alike : (xs ys : List ℕ) (x : ExtendedHeader) → x.width ≡ Legacy → Each (Alike (length xs)) (extended_section_checks xs x) (extended_section_checks (xs ++ ys) x)
-extended_section_alike xs ys x legacy =
-    let two : number_size x.width ≡ 2 = ap number_size legacy in
+pub extended_section_alike : (xs ys : List ℕ) (x : ExtendedHeader) → Each (Alike (length xs)) (extended_section_checks xs x) (extended_section_checks (xs ++ ys) x)
+extended_section_alike xs ys x =
+    let size = number_size x.width in
     let zs = xs ++ ys in
     let R = Alike (length xs) in
     let count = extended_name_count x in
@@ -250,8 +256,8 @@ extended_section_alike xs ys x legacy =
     let d0 = flag_checks zs (extended_flags_from x) x.flags in
     let c1 = pad_checks xs (extended_pad_from x) x.flags in
     let d1 = pad_checks zs (extended_pad_from x) x.flags in
-    let c2 = number_checks xs (number_size x.width) (extended_numbers_from x) x.numbers in
-    let d2 = number_checks zs (number_size x.width) (extended_numbers_from x) x.numbers in
+    let c2 = number_checks xs size (extended_numbers_from x) x.numbers in
+    let d2 = number_checks zs size (extended_numbers_from x) x.numbers in
     let c3 = offset_checks xs x.table (extended_values_from x) x.texts in
     let d3 = offset_checks zs x.table (extended_values_from x) x.texts in
     let c4 = sign_checks xs BadExtendedName (extended_names_from x) count in
@@ -262,8 +268,7 @@ extended_section_alike xs ys x legacy =
     let d6 = all_name_place_checks zs (extended_table_of zs x) (base_of zs x) (extended_end_of x) (places (extended_names_from x) 2 count) in
     let flags : Each R c0 d0 = each_item R (flag_check xs) (flag_check zs) (extended_flags_from x) 1 x.flags (λ i lt. by_byte xs ys (λ b. is_some (flag_of_byte b)) BadFlag (extended_flags_from x + 1 * i)) in
     let pads : Each R c1 d1 = each_item R (nul_check xs BadPad) (nul_check zs BadPad) (extended_pad_from x) 1 (pad_len x.flags) (λ i lt. by_byte xs ys is_nul BadPad (extended_pad_from x + 1 * i)) in
-    let numbers_two = each_item R (number_check xs 2) (number_check zs 2) (extended_numbers_from x) 2 x.numbers (λ i lt. by_word xs ys is_number_word BadNumber (extended_numbers_from x + 2 * i)) in
-    let numbers : Each R c2 d2 = rw two numbers_two in
+    let numbers : Each R c2 d2 = each_item R (number_check xs size) (number_check zs size) (extended_numbers_from x) size x.numbers (λ i lt. by_number size xs ys (extended_numbers_from x + size * i)) in
     let values : Each R c3 d3 = each_item R (offset_check xs x.table) (offset_check zs x.table) (extended_values_from x) 2 x.texts (λ i lt. by_word xs ys (is_offset_below x.table) BadOffset (extended_values_from x + 2 * i)) in
     let names : Each R c4 d4 = each_item R (sign_check xs BadExtendedName) (sign_check zs BadExtendedName) (extended_names_from x) 2 count (λ i lt. by_word xs ys is_not_negative BadExtendedName (extended_names_from x + 2 * i)) in
     let endings : Each R c5 d5 =
@@ -329,9 +334,9 @@ extended_long bytes h x k p =
     let a = both_pass k (extended_word_checks bytes h) (extended_size_checks x) (sym p) in
     let b = first_passes k (extended_size_check x) [] a.1 in b.long
 
-extended_stays : (xs ys : List ℕ) (h : Header) (r : Refused) → h.width ≡ Legacy → verdict (length xs) (extended_checks xs h (extended_header_of h xs)) ≡ Fails r
+extended_stays : (xs ys : List ℕ) (h : Header) (r : Refused) → verdict (length xs) (extended_checks xs h (extended_header_of h xs)) ≡ Fails r
     → verdict (length xs + length ys) (extended_checks (xs ++ ys) h (extended_header_of h (xs ++ ys))) ≡ Fails r
-extended_stays xs ys h r legacy k =
+extended_stays xs ys h r k =
     let len = length xs in
     let zs = xs ++ ys in
     let xx = extended_header_of h xs in
@@ -342,7 +347,7 @@ extended_stays xs ys h r legacy k =
     let same : F ≡ Passes → xx ≡ xz = λ p. extended_same xs ys h (extended_long xs h xx len p) in
     let sections : F ≡ Passes → (S ≡ EndsEarly) ⊎ (S ≡ verdict (len + length ys) (extended_section_checks zs xz)) = λ p.
     subst (λ x. (S ≡ EndsEarly) ⊎ (S ≡ verdict (len + length ys) (extended_section_checks zs x))) (same p)
-    (stays len (length ys) (extended_section_checks xs xx) (extended_section_checks zs xx) (extended_section_alike xs ys xx legacy)) in
+    (stays len (length ys) (extended_section_checks xs xx) (extended_section_checks zs xx) (extended_section_alike xs ys xx)) in
     let last : F ≡ Passes → verdict len (end_checks xs (extended_end_of xx)) ≡ Fails r → verdict (len + length ys) (end_checks zs (extended_end_of xz)) ≡ Fails r = λ p f.
     subst (λ x. verdict (len + length ys) (end_checks zs (extended_end_of x)) ≡ Fails r) (same p) (end_fails len (length ys) (extended_end_of xx) xs zs r refl n f) in
     extended_split zs h xz (len + length ys)
@@ -350,8 +355,8 @@ extended_stays xs ys h r legacy k =
     (sym (extended_split xs h xx len) ∙ k) (stays len (length ys) (extended_front_checks xs h xx) (extended_front_checks zs h xz) (extended_front_alike xs ys h)) sections last
 
 -- what fails behind the string table fails there on every continuation
-behind_stays : (xs ys : List ℕ) (h : Header) (r : Refused) → h.width ≡ Legacy → verdict (length xs) (behind_checks xs h) ≡ Fails r → verdict (length xs + length ys) (behind_checks (xs ++ ys) h) ≡ Fails r
-behind_stays xs ys h r legacy = by_end (leb (length xs) (end_of h)) refl
+behind_stays : (xs ys : List ℕ) (h : Header) (r : Refused) → verdict (length xs) (behind_checks xs h) ≡ Fails r → verdict (length xs + length ys) (behind_checks (xs ++ ys) h) ≡ Fails r
+behind_stays xs ys h r = by_end (leb (length xs) (end_of h)) refl
   where
     by_end : (b : Bool) → leb (length xs) (end_of h) ≡ b → verdict (length xs) (cond b [] (extended_checks xs h (extended_header_of h xs))) ≡ Fails r → verdict (length xs + length ys) (behind_checks (xs ++ ys) h) ≡ Fails r
     by_end true e k = absurd (passes_fails k)
@@ -362,7 +367,7 @@ behind_stays xs ys h r legacy = by_end (leb (length xs) (end_of h)) refl
         let n : length (xs ++ ys) ≡ length xs + length ys = length-append xs ys in
         let above : end_of h < length xs = omega (arith, leb-false (length xs) (end_of h) e) in
         let longer : leb (length (xs ++ ys)) (end_of h) ≡ false = lt-leb (length (xs ++ ys)) (end_of h) (omega arith) in
-        ap (λ b. verdict (length xs + length ys) (cond b [] (extended_checks (xs ++ ys) h (extended_header_of h (xs ++ ys))))) longer ∙ extended_stays xs ys h r legacy k
+        ap (λ b. verdict (length xs + length ys) (cond b [] (extended_checks (xs ++ ys) h (extended_header_of h (xs ++ ys))))) longer ∙ extended_stays xs ys h r k
 
 pub split : (bytes : List ℕ) (k : ℕ) → verdict k (checks bytes) ≡ then (then (verdict k (front_checks bytes (header_of bytes))) (verdict k (section_checks bytes (header_of bytes)))) (verdict k (behind_checks bytes (header_of bytes)))
 split bytes k = verdict_append k (front_checks bytes (header_of bytes) ++ section_checks bytes (header_of bytes)) (behind_checks bytes (header_of bytes)) ∙ ap (λ v. then v (verdict k (behind_checks bytes (header_of bytes)))) (verdict_append k (front_checks bytes (header_of bytes)) (section_checks bytes (header_of bytes)))
@@ -379,9 +384,9 @@ failure_stays xs ys r h =
     let b = first_passes len (size_check hx) (named_check hx ∷ []) a.1 in header_same xs ys b.long) in
     let sections : verdict len (front_checks xs hx) ≡ Passes → (verdict len (section_checks xs hx) ≡ EndsEarly) ⊎ (verdict len (section_checks xs hx) ≡ verdict (len + length ys) (section_checks zs hz)) = λ p.
     subst (λ k. (verdict len (section_checks xs hx) ≡ EndsEarly) ⊎ (verdict len (section_checks xs hx) ≡ verdict (len + length ys) (section_checks zs k))) (same p)
-    (stays len (length ys) (section_checks xs hx) (section_checks zs hx) (section_alike xs ys hx refl)) in
+    (stays len (length ys) (section_checks xs hx) (section_checks zs hx) (section_alike xs ys hx)) in
     let last : verdict len (front_checks xs hx) ≡ Passes → verdict len (behind_checks xs hx) ≡ Fails r → verdict (len + length ys) (behind_checks zs hz) ≡ Fails r = λ p f.
-    subst (λ k. verdict (len + length ys) (behind_checks zs k) ≡ Fails r) (same p) (behind_stays xs ys hx r refl f) in
+    subst (λ k. verdict (len + length ys) (behind_checks zs k) ≡ Fails r) (same p) (behind_stays xs ys hx r f) in
     ap (λ k. verdict k (checks zs)) n ∙ split zs (len + length ys)
     ∙ three (verdict len (front_checks xs hx)) (verdict len (section_checks xs hx)) (verdict len (behind_checks xs hx)) (verdict (len + length ys) (front_checks zs hz)) (verdict (len + length ys) (section_checks zs hz)) (verdict (len + length ys) (behind_checks zs hz)) r
     (sym (split xs len) ∙ h) (stays len (length ys) (front_checks xs hx) (front_checks zs hz) (front_alike xs ys)) sections last

@@ -1,6 +1,7 @@
 -- Bytes that spell an entry pass the checks, and are read as it.
-use Rattle.std.proofs.Common.{◌≡◌, ℕ, suc, ◌+◌, ◌-◌, ◌*◌, ◌/◌, ◌%◌, ◌<◌, ◌≤◌, ℤ, pos, negsuc, Bool, true, false, not, ◌||◌, eqb, ltb, List, [], ◌∷◌, ◌++◌, map, length, get_or, drop, Some, refl, sym, ap, subst, ◌∙◌, arith, append_assoc}
-use Rattle.std.proofs.lemmas.List.{get_or_at, length-append, length-drop, take-append-drop, get_or-append-add}
+use Rattle.std.proofs.Common.{◌≡◌, ℕ, zero, suc, ◌+◌, ◌-◌, ◌*◌, ◌/◌, ◌%◌, ◌^◌, ◌<◌, ◌≤◌, ℤ, pos, negsuc, Bool, true, false, not, ◌||◌, eqb, ltb, List, [], ◌∷◌, ◌++◌, map, length, get_or, drop, Some, refl, sym, ap, subst, ◌∙◌, arith, append_assoc}
+use Rattle.std.proofs.Math.Nat.{pow-suc}
+use Rattle.std.proofs.lemmas.List.{get_or_at, length-append, length-drop, take-append-drop}
 use Rattle.std.proofs.lemmas.Bool.{le-ltb, lt-ltb, ne_eqb}
 use Rattle.std.proofs.lemmas.List.Sums.{take_while-cons}
 use Rattle.std.proofs.lemmas.List.Concat.{flat_map-cons}
@@ -10,15 +11,17 @@ use Rattle.ti_words.specs.declared.Flag.{Flag}
 use Rattle.ti_words.specs.declared.Flag.TheVariants as flags
 use Rattle.ti_words.specs.declared.Number.{Number}
 use Rattle.ti_words.specs.declared.Number.TheVariants as numbers
-use Rattle.ti_words.specs.declared.Width.TheVariants.{Legacy}
+use Rattle.ti_words.specs.declared.Width.{Width}
+use Rattle.ti_words.specs.declared.Width.TheVariants.{Legacy, Wide}
 use Rattle.ti_words.specs.Marks.{byte_of_flag, word_of_number, flag_of_byte, number_of_word}
 use Rattle.ti_words.specs.Texts.{TextValue, AbsentText, CancelledText, TextOf}
 use Rattle.ti_entry.specs.Word.{unsigned_at, word_at, word, signed, low_bytes}
-use Rattle.ti_entry.specs.Layout.{places}
+use Rattle.ti_entry.specs.Layout.{number_size, places}
 use Rattle.ti_entry.specs.Table.{is_nul, text_of_word, until_nul}
 use Rattle.ti_entry.specs.Checks.{Check, Passes, verdict, is_number_word, is_offset_below, is_ended}
-use Rattle.ti_entry.specs.Spelling.{HasNoNul, FitsWidth, IsText, Has, Each}
+use Rattle.ti_entry.specs.Spelling.{HasNoNul, FitsWidth, IsText, Has, Each, numbers_of}
 use Rattle.ti_entry.proofs.WordLaws.{below, above}
+use Rattle.ti_entry.proofs.LengthLaws.{length_word}
 use Rattle.ti_entry.proofs.SectionLaws.{Passed}
 
 -- each item of a list, at the place where it stands
@@ -60,34 +63,41 @@ at_each P Q from size (x ∷ xs) f h = (f from x h.0, at_each P Q (from + size) 
 -- ---- words
 
 -- what a word may be that stands in an entry
-pub data IsShort : ℤ → Type 0 where
-  is_place : (n : ℕ) → 2 * n < 65536 → IsShort (pos n)
-  is_mark : (n : ℕ) → n < 2 → IsShort (negsuc n)
-
-low_two : (n : ℕ) → n < 65536 → n % 256 + 256 * (n / 256 % 256 + 256 * 0) ≡ n
-low_two n lt = omega arith
-
-pair_at : (pre post : List ℕ) (a b : ℕ) → unsigned_at 2 (pre ++ (a ∷ b ∷ post)) (length pre) ≡ a + 256 * (b + 256 * 0)
-pair_at pre post a b =
-    let first : get_or (pre ++ (a ∷ b ∷ post)) (length pre) 0 ≡ a = get_or_at pre a (b ∷ post) 0 (length pre) refl in
-    let second : get_or (pre ++ (a ∷ b ∷ post)) (length pre + 1) 0 ≡ b = get_or-append-add pre (a ∷ b ∷ post) 1 0 in
-    rw (first, second) refl
-
-pub word_read : (pre post : List ℕ) (z : ℤ) → IsShort z → word_at 2 (pre ++ (word 2 z ++ post)) (length pre) ≡ z
-word_read pre post (pos n) (is_place m lt) = ap (signed 2) (pair_at pre post (n % 256) (n / 256 % 256) ∙ low_two n (omega arith)) ∙ below n lt
-word_read pre post (negsuc n) (is_mark m lt) =
-    let k : 65536 - 1 - n % 65536 ≡ 65535 - n = omega arith in
-    let u = 65535 - n in
-    ap (λ w. word_at 2 (pre ++ (low_bytes 2 w ++ post)) (length pre)) k
-    ∙ ap (signed 2) (pair_at pre post (u % 256) (u / 256 % 256) ∙ low_two u (omega arith)) ∙ above u n (omega arith) (omega arith)
+abbrev pub IsShort : Width → ℤ → Type 0
+IsShort w (pos n) = 2 * n < 256 ^ number_size w
+IsShort w (negsuc n) = n < 2
 
 -- an unsigned number behind some bytes
-pub place_read : (pre post : List ℕ) (n : ℕ) → 2 * n < 65536 → unsigned_at 2 (pre ++ (word 2 (pos n) ++ post)) (length pre) ≡ n
-place_read pre post n lt = pair_at pre post (n % 256) (n / 256 % 256) ∙ low_two n (omega arith)
+pub unsigned_read : (size n : ℕ) (pre post : List ℕ) → n < 256 ^ size → unsigned_at size (pre ++ (low_bytes size n ++ post)) (length pre) ≡ n
+unsigned_read zero n pre post lt = omega arith
+unsigned_read (suc size) n pre post lt =
+    let b = n % 256 in
+    let more = low_bytes size (n / 256) ++ post in
+    let bytes = pre ++ (b ∷ more) in
+    let power = pow-suc 256 size in
+    let first : get_or bytes (length pre) 0 ≡ b = get_or_at pre b more 0 (length pre) refl in
+    let split : bytes ≡ (pre ++ (b ∷ [])) ++ more = sym (append_assoc pre (b ∷ []) more) in
+    let at : length pre + 1 ≡ length (pre ++ (b ∷ [])) = sym (length-append pre (b ∷ [])) in
+    let rest : unsigned_at size bytes (length pre + 1) ≡ n / 256 =
+    ap (λ l. unsigned_at size l (length pre + 1)) split ∙ ap (unsigned_at size ((pre ++ (b ∷ [])) ++ more)) at
+    ∙ unsigned_read size (n / 256) (pre ++ (b ∷ [])) post (omega arith) in
+    let whole : b + 256 * (n / 256) ≡ n = omega arith in
+    ap (λ k. k + 256 * unsigned_at size bytes (length pre + 1)) first ∙ ap (λ k. b + 256 * k) rest ∙ whole
 
-pub length_word : (z : ℤ) → length (word 2 z) ≡ 2
-length_word (pos n) = refl
-length_word (negsuc n) = refl
+pub word_read : (w : Width) (pre post : List ℕ) (z : ℤ) → IsShort w z → word_at (number_size w) (pre ++ (word (number_size w) z ++ post)) (length pre) ≡ z
+word_read w pre post (pos n) lt = ap (signed (number_size w)) (unsigned_read (number_size w) n pre post (omega arith)) ∙ below w n lt
+word_read Legacy pre post (negsuc n) lt =
+    let back : 65536 - 1 - n % 65536 ≡ 65535 - n = omega arith in
+    ap (λ u. word_at 2 (pre ++ (low_bytes 2 u ++ post)) (length pre)) back
+    ∙ ap (signed 2) (unsigned_read 2 (65535 - n) pre post (omega arith)) ∙ above Legacy (65535 - n) n (omega arith) (omega arith)
+word_read Wide pre post (negsuc n) lt =
+    let back : 4294967296 - 1 - n % 4294967296 ≡ 4294967295 - n = omega arith in
+    ap (λ u. word_at 4 (pre ++ (low_bytes 4 u ++ post)) (length pre)) back
+    ∙ ap (signed 4) (unsigned_read 4 (4294967295 - n) pre post (omega arith)) ∙ above Wide (4294967295 - n) n (omega arith) (omega arith)
+
+-- a place behind some bytes
+pub place_read : (pre post : List ℕ) (n : ℕ) → 2 * n < 65536 → unsigned_at 2 (pre ++ (word 2 (pos n) ++ post)) (length pre) ≡ n
+place_read pre post n lt = unsigned_read 2 n pre post (omega arith)
 
 -- ---- texts
 
@@ -107,7 +117,7 @@ any_here (x ∷ xs) rest = ap (λ b. is_nul x || b) (any_here xs rest) ∙ or_tr
 
 -- what an offset of a spelled entry says
 pub record IsGood (table : List ℕ) (z : ℤ) : Type 0 where
-  pub short : IsShort z
+  pub short : IsShort Legacy z
   pub below_size : is_offset_below (length table) z ≡ true
   pub ended : is_ended table z ≡ true
 
@@ -119,7 +129,7 @@ placed table place text small clean has =
     let n : length (drop place table) ≡ length text + suc (length rest) = ap length split ∙ length-append text (0 ∷ rest) in
     let there : place < length table = omega (arith, length-drop place table) in (
       record {
-        short = is_place place (omega arith);
+        short = omega arith;
         below_size = lt-ltb place (length table) there;
         ended = ap (list_any is_nul) split ∙ any_here text rest;
       },
@@ -127,8 +137,8 @@ placed table place text small clean has =
     )
 
 pub good : (table : List ℕ) (z : ℤ) (t : TextValue) → length table < 32768 → IsText table z t → IsGood table z × (text_of_word table z ≡ t)
-good table z AbsentText small h = rw h (record { short = is_mark 0 (omega arith); below_size = refl; ended = refl }, refl)
-good table z CancelledText small h = rw h (record { short = is_mark 1 (omega arith); below_size = refl; ended = refl }, refl)
+good table z AbsentText small h = rw h (record { short = omega arith; below_size = refl; ended = refl }, refl)
+good table z CancelledText small h = rw h (record { short = omega arith; below_size = refl; ended = refl }, refl)
 good table z (TextOf text) small h = let e = h.1 in rw e (placed table h.0 text small h.2 h.3)
 
 pub all_good : (table : List ℕ) (zs : List ℤ) (ts : List TextValue) → length table < 32768 → Each (IsText table) zs ts → AllByRecursion (IsGood table) zs × (map (text_of_word table) zs ≡ ts) × (length zs ≡ length ts)
@@ -142,41 +152,42 @@ all_good table (z ∷ zs) (t ∷ ts) small h =
 
 -- ---- items at their places
 
--- a word, and room for it
-pub record WordAt (bytes : List ℕ) (p : ℕ) (z : ℤ) : Type 0 where
-  pub room : p + 2 ≤ length bytes
-  pub is : word_at 2 bytes p ≡ z
+-- a word of some bytes, and room for it
+pub record WordAt (size : ℕ) (bytes : List ℕ) (p : ℕ) (z : ℤ) : Type 0 where
+  pub room : p + size ≤ length bytes
+  pub is : word_at size bytes p ≡ z
 
 pub record ByteAt (bytes : List ℕ) (p : ℕ) (b : ℕ) : Type 0 where
   pub room : p + 1 ≤ length bytes
   pub is : get_or bytes p 0 ≡ b
 
-pub word_at_is : (pre post : List ℕ) (z : ℤ) → IsShort z → WordAt (pre ++ (word 2 z ++ post)) (length pre) z
-word_at_is pre post z h =
-    let n : length (pre ++ (word 2 z ++ post)) ≡ length pre + (length (word 2 z) + length post) = length-append pre (word 2 z ++ post) ∙ ap (λ k. length pre + k) (length-append (word 2 z) post) in
-    let two : length (word 2 z) ≡ 2 = length_word z in
-    record { room = omega arith; is = word_read pre post z h }
+pub word_at_is : (w : Width) (pre post : List ℕ) (z : ℤ) → IsShort w z → WordAt (number_size w) (pre ++ (word (number_size w) z ++ post)) (length pre) z
+word_at_is w pre post z h =
+    let bytes = word (number_size w) z in
+    let n : length (pre ++ (bytes ++ post)) ≡ length pre + (length bytes + length post) = length-append pre (bytes ++ post) ∙ ap (λ k. length pre + k) (length-append bytes post) in
+    let size : length bytes ≡ number_size w = length_word (number_size w) z in
+    record { room = omega arith; is = word_read w pre post z h }
 
 pub byte_at_is : (pre post : List ℕ) (b : ℕ) → ByteAt (pre ++ (b ∷ post)) (length pre) b
 byte_at_is pre post b =
     let n : length (pre ++ (b ∷ post)) ≡ length pre + suc (length post) = length-append pre (b ∷ post) in
     record { room = omega arith; is = get_or_at pre b post 0 (length pre) refl }
 
-pub short_number : (n : Number) → FitsWidth Legacy n → IsShort (word_of_number n)
-short_number numbers.Absent h = is_mark 0 (omega arith)
-short_number numbers.Cancelled h = is_mark 1 (omega arith)
-short_number (numbers.Value (pos x)) h = is_place x h
-short_number (numbers.Value (negsuc x)) h = absurd h
+pub short_number : (w : Width) (n : Number) → FitsWidth w n → IsShort w (word_of_number n)
+short_number w numbers.Absent h = omega arith
+short_number w numbers.Cancelled h = omega arith
+short_number w (numbers.Value (pos x)) h = h
+short_number w (numbers.Value (negsuc x)) h = absurd h
 
-pub read_again : (n : Number) → FitsWidth Legacy n → unwrap_or (number_of_word (word_of_number n)) numbers.Absent ≡ n
-read_again numbers.Absent h = refl
-read_again numbers.Cancelled h = refl
-read_again (numbers.Value (pos x)) h = refl
-read_again (numbers.Value (negsuc x)) h = absurd h
+pub read_again : (w : Width) (n : Number) → FitsWidth w n → unwrap_or (number_of_word (word_of_number n)) numbers.Absent ≡ n
+read_again w numbers.Absent h = refl
+read_again w numbers.Cancelled h = refl
+read_again w (numbers.Value (pos x)) h = refl
+read_again w (numbers.Value (negsuc x)) h = absurd h
 
-pub is_number : (z : ℤ) → IsShort z → is_number_word z ≡ true
-is_number (pos n) h = refl
-is_number (negsuc n) (is_mark m lt) = lt-ltb n 2 lt
+pub is_number : (w : Width) (z : ℤ) → IsShort w z → is_number_word z ≡ true
+is_number w (pos n) h = refl
+is_number w (negsuc n) h = lt-ltb n 2 h
 
 pub flag_read : (f : Flag) → flag_of_byte (byte_of_flag f) ≡ Some f
 flag_read flags.No = refl
@@ -184,8 +195,11 @@ flag_read flags.Yes = refl
 flag_read flags.Cancelled = refl
 flag_read flags.Missing = refl
 
-pub numbers_at : (pre post : List ℕ) (ns : List Number) → AllByRecursion (FitsWidth Legacy) ns → EachAt (λ p n. WordAt (pre ++ (flat_map (λ n. word 2 (word_of_number n)) ns ++ post)) p (word_of_number n) × FitsWidth Legacy n) (length pre) 2 ns
-numbers_at pre post ns h = each_at (λ n. word 2 (word_of_number n)) 2 (λ b p n. WordAt b p (word_of_number n) × FitsWidth Legacy n) (FitsWidth Legacy) (λ n. length_word (word_of_number n)) (λ a z n ok. (word_at_is a z (word_of_number n) (short_number n ok), ok)) pre post ns h
+pub numbers_at : (w : Width) (pre post : List ℕ) (ns : List Number) → AllByRecursion (FitsWidth w) ns
+    → EachAt (λ p n. WordAt (number_size w) (pre ++ (numbers_of w ns ++ post)) p (word_of_number n) × FitsWidth w n) (length pre) (number_size w) ns
+numbers_at w pre post ns h =
+    each_at (λ n. word (number_size w) (word_of_number n)) (number_size w) (λ b p n. WordAt (number_size w) b p (word_of_number n) × FitsWidth w n) (FitsWidth w)
+    (λ n. length_word (number_size w) (word_of_number n)) (λ a z n ok. (word_at_is w a z (word_of_number n) (short_number w n ok), ok)) pre post ns h
 
-pub offsets_at : (table pre post : List ℕ) (zs : List ℤ) → AllByRecursion (IsGood table) zs → EachAt (λ p z. WordAt (pre ++ (flat_map (word 2) zs ++ post)) p z × IsGood table z) (length pre) 2 zs
-offsets_at table pre post zs h = each_at (word 2) 2 (λ b p z. WordAt b p z × IsGood table z) (IsGood table) length_word (λ a y z ok. (word_at_is a y z ok.short, ok)) pre post zs h
+pub offsets_at : (table pre post : List ℕ) (zs : List ℤ) → AllByRecursion (IsGood table) zs → EachAt (λ p z. WordAt 2 (pre ++ (flat_map (word 2) zs ++ post)) p z × IsGood table z) (length pre) 2 zs
+offsets_at table pre post zs h = each_at (word 2) 2 (λ b p z. WordAt 2 b p z × IsGood table z) (IsGood table) (length_word 2) (λ a y z ok. (word_at_is Legacy a y z ok.short, ok)) pre post zs h

@@ -1,11 +1,9 @@
 -- What is appended piece by piece.
-use Rattle.std.proofs.Common.{◌≡◌, ℕ, ◌+◌, List, [], ◌∷◌, ◌++◌, length, refl, sym, ap, ◌∙◌, pos, arith, append_assoc}
+use Rattle.std.proofs.Common.{◌≡◌, ℕ, ◌+◌, List, [], ◌∷◌, ◌++◌, length, sym, ap, ◌∙◌, pos, arith, append_assoc}
 use Rattle.std.proofs.lemmas.List.{length-append}
 use Rattle.std.proofs.lemmas.List.Concat.{flat_map-append}
-use Rattle.ti_words.specs.declared.Width.{Width}
-use Rattle.ti_words.specs.declared.Width.TheVariants.{Legacy}
 use Rattle.ti_entry.specs.Word.{word}
-use Rattle.ti_entry.specs.Spelling.{magic, words_of}
+use Rattle.ti_entry.specs.Spelling.{words_of}
 use Rattle.ti_entry.specs.Canonical.{names_table, name_words}
 
 pub after : (o p q a b : List ℕ) → p ≡ o ++ a → q ≡ p ++ b → q ≡ o ++ (a ++ b)
@@ -18,9 +16,6 @@ after_as o p q a b b' e f k = after o p q a b' e (f ∙ ap (λ l. p ++ l) k)
 -- two pieces that are one
 pub both_tables : (o a p q r b d : List ℕ) → p ≡ o ++ a → q ≡ p ++ b → r ≡ q ++ d → r ≡ o ++ (a ++ (b ++ d))
 both_tables o a p q r b d e f h = after o p r a (b ++ d) e (after p q r b d f h)
-
-pub the_magic : (w : Width) → 26 ∷ 1 ∷ [] ≡ magic w
-the_magic Legacy = refl
 
 pub name_words_append : (from : ℕ) (xs ys : List (List ℕ)) → name_words from (xs ++ ys) ≡ name_words from xs ++ name_words (from + length (names_table xs)) ys
 name_words_append from [] ys = ap (λ k. name_words k ys) (omega arith)

@@ -3,16 +3,17 @@ use Rattle.std.proofs.Common.{◌≡◌, ℕ, ◌+◌, ◌-◌, ◌*◌, ◌^◌
 use Rattle.std.proofs.Math.Seq.{take-add}
 use Rattle.std.proofs.lemmas.Bool.{cases_lt, eqb-true}
 use Rattle.std.specs.List.{AllByRecursion}
+use Rattle.ti_words.specs.declared.Width.{Width}
 use Rattle.ti_words.specs.declared.Width.TheVariants.{Legacy}
 use Rattle.ti_words.specs.Marks.{byte_of_flag, word_of_number}
 use Rattle.ti_entry.specs.declared.fault.Fault.TheVariants.{BadPad}
 use Rattle.ti_entry.specs.Word.{unsigned_at, word_at, word}
-use Rattle.ti_entry.specs.Layout.{places, pad_len}
+use Rattle.ti_entry.specs.Layout.{number_size, places, pad_len}
 use Rattle.ti_entry.specs.Checks.{Passes, verdict, is_not_negative, nul_check, flag_check, flag_checks, pad_checks, number_check, number_checks, offset_check, offset_checks, ending_check, ending_checks, table_check}
 use Rattle.ti_entry.specs.Content.{flag_at, number_at, text_at}
 use Rattle.ti_entry.specs.Spelling.{FitsWidth, IsText, Each, count_word, words_of, numbers_of, flags_of, pad}
 use Rattle.ti_entry.proofs.Passing.{first_passes}
-use Rattle.ti_entry.proofs.WordLaws.{IsBytes, below, above, word_is, one_byte, number_again, has_word}
+use Rattle.ti_entry.proofs.WordLaws.{IsBytes, below, above, unsigned_fits, word_is, one_byte, number_again, has_word}
 use Rattle.ti_entry.proofs.TextLaws.{is_text}
 use Rattle.ti_entry.proofs.SectionLaws.{each_passed, items_are, each_item, all_items, flag_again, one_by_one, nul_byte, zeros}
 
@@ -25,11 +26,11 @@ pub count_is : (bytes : List ℕ) (p : ℕ) → IsBytes bytes → p + 2 ≤ leng
 count_is bytes p fits le h =
     let u = unsigned_at 2 bytes p in
     elim (cases_lt (2 * u) 65536) [
-      | inl lt ↦ record { small = omega arith; bytes_are = word_is bytes p fits le ∙ ap (word 2) (below u lt) }
+      | inl lt ↦ record { small = omega arith; bytes_are = word_is Legacy bytes p fits le ∙ ap (word 2) (below Legacy u lt) }
       | inr ge ↦
           let b0 : get_or bytes p 0 < 256 = fits p in
           let b1 : get_or bytes (p + 1) 0 < 256 = fits (p + 1) in
-          let e : is_not_negative (word_at 2 bytes p) ≡ false = ap is_not_negative (above u (65535 - u) (omega arith) ge) in
+          let e : is_not_negative (word_at 2 bytes p) ≡ false = ap is_not_negative (above Legacy u (65535 - u) (omega arith) ge) in
           absurd (let f : true ≡ false = sym h ∙ e in cc)
     ]
 
@@ -52,19 +53,23 @@ pad_is bytes from count h =
     ∙ items_are bytes nul_byte (λ p. p) from 1 (pad_len count) (λ i lt. let p = all i lt in one_byte bytes (from + 1 * i) p.long ∙ ap (λ (x : ℕ). x ∷ []) (eqb-true _ _ p.holds))
     ∙ zeros (λ p. p) from (pad_len count)
 
-pub numbers_are : (bytes : List ℕ) (from count : ℕ) → IsBytes bytes → Passes ≡ verdict (length bytes) (number_checks bytes 2 from count)
-    → take (2 * count) (drop from bytes) ≡ numbers_of Legacy (map (number_at 2 bytes) (places from 2 count))
-numbers_are bytes from count fits h =
-    let all = each_passed (number_check bytes 2) (length bytes) from 2 count h in
-    items_are bytes (λ n. word 2 (word_of_number n)) (number_at 2 bytes) from 2 count (λ i lt. let p = all i lt in word_is bytes (from + 2 * i) fits p.long ∙ ap (word 2) (sym (number_again (word_at 2 bytes (from + 2 * i)) p.holds)))
+pub numbers_are : (w : Width) (bytes : List ℕ) (from count : ℕ) → IsBytes bytes → Passes ≡ verdict (length bytes) (number_checks bytes (number_size w) from count)
+    → take (number_size w * count) (drop from bytes) ≡ numbers_of w (map (number_at (number_size w) bytes) (places from (number_size w) count))
+numbers_are w bytes from count fits h =
+    let size = number_size w in
+    let all = each_passed (number_check bytes size) (length bytes) from size count h in
+    items_are bytes (λ n. word size (word_of_number n)) (number_at size bytes) from size count
+    (λ i lt. let p = all i lt in word_is w bytes (from + size * i) fits p.long ∙ ap (word size) (sym (number_again (word_at size bytes (from + size * i)) p.holds)))
 
-pub numbers_fit : (bytes : List ℕ) (from count : ℕ) → IsBytes bytes → AllByRecursion (FitsWidth Legacy) (map (number_at 2 bytes) (places from 2 count))
-numbers_fit bytes from count fits =
-    all_items (FitsWidth Legacy) (number_at 2 bytes) from 2 count (λ i lt. let b0 = fits (from + 2 * i) in let b1 = fits (from + 2 * i + 1) in has_word (unsigned_at 2 bytes (from + 2 * i)) (omega arith))
+pub numbers_fit : (w : Width) (bytes : List ℕ) (from count : ℕ) → IsBytes bytes → AllByRecursion (FitsWidth w) (map (number_at (number_size w) bytes) (places from (number_size w) count))
+numbers_fit w bytes from count fits =
+    let size = number_size w in
+    all_items (FitsWidth w) (number_at size bytes) from size count
+    (λ i lt. has_word w (unsigned_at size bytes (from + size * i)) (unsigned_fits w bytes (from + size * i) fits))
 
 pub words_are : (bytes : List ℕ) (from count : ℕ) → IsBytes bytes → from + 2 * count ≤ length bytes → take (2 * count) (drop from bytes) ≡ words_of (map (word_at 2 bytes) (places from 2 count))
 words_are bytes from count fits le =
-    items_are bytes (word 2) (word_at 2 bytes) from 2 count (λ i lt. word_is bytes (from + 2 * i) fits (omega arith))
+    items_are bytes (word 2) (word_at 2 bytes) from 2 count (λ i lt. word_is Legacy bytes (from + 2 * i) fits (omega arith))
 
 pub texts_are : (bytes table : List ℕ) (end from count : ℕ) → Passes ≡ verdict (length bytes) (offset_checks bytes (length table) from count) → Passes ≡ verdict (length bytes) (ending_checks bytes table end from count)
     → Each (IsText table) (map (word_at 2 bytes) (places from 2 count)) (map (text_at table bytes) (places from 2 count))

@@ -9,13 +9,14 @@ use Rattle.ti_words.specs.declared.Flag.{Flag}
 use Rattle.ti_words.specs.declared.Flag.TheVariants as flags
 use Rattle.ti_words.specs.declared.Number.{Number}
 use Rattle.ti_words.specs.declared.Number.TheVariants as numbers
+use Rattle.ti_words.specs.declared.Width.{Width}
 use Rattle.ti_words.specs.declared.Width.TheVariants.{Legacy}
 use Rattle.ti_words.specs.Marks.{byte_of_flag, word_of_number, flag_of_byte, number_of_word}
 use Rattle.ti_words.specs.Texts.{TextValue, TextOf}
 use Rattle.ti_entry.specs.declared.fault.Fault.{Fault}
 use Rattle.ti_entry.specs.declared.fault.Fault.TheVariants.{BadPad, BadExtendedName, Unterminated}
 use Rattle.ti_entry.specs.Word.{unsigned_at, word, signed}
-use Rattle.ti_entry.specs.Layout.{places, pad_len}
+use Rattle.ti_entry.specs.Layout.{number_size, places, pad_len}
 use Rattle.ti_entry.specs.Table.{is_nul, ends_in, text_from, text_of_word}
 use Rattle.ti_entry.specs.Checks.{Check, check, Passes, verdict, is_number_word, is_not_negative, is_offset_below, is_ended, sign_check, sign_checks, nul_check, flag_check, flag_checks, pad_checks, number_check, number_checks, offset_check, offset_checks, ending_check, ending_checks, table_check, all_name_place_checks}
 use Rattle.ti_entry.specs.Content.{flag_at, number_at, text_at}
@@ -23,7 +24,8 @@ use Rattle.ti_entry.specs.Spelling.{FitsWidth, IsText, IsName, Each, count_word,
 use Rattle.ti_entry.proofs.Sections.{then, verdict_append}
 use Rattle.ti_entry.proofs.SectionLaws.{Passed, one_by_one}
 use Rattle.ti_entry.proofs.WordLaws.{below}
-use Rattle.ti_entry.proofs.Items.{EachAt, each_at, values_at, passes_one, passes_at, at_each, IsGood, all_good, WordAt, ByteAt, byte_at_is, read_again, is_number, flag_read, numbers_at, offsets_at, length_word, short_number, placed, place_read}
+use Rattle.ti_entry.proofs.LengthLaws.{length_word}
+use Rattle.ti_entry.proofs.Items.{EachAt, each_at, values_at, passes_one, passes_at, at_each, IsGood, all_good, WordAt, ByteAt, byte_at_is, read_again, is_number, flag_read, numbers_at, offsets_at, short_number, placed, place_read}
 
 pub append_pass : (len : ℕ) (xs ys : List Check) → Passes ≡ verdict len xs → Passes ≡ verdict len ys → Passes ≡ verdict len (xs ++ ys)
 append_pass len xs ys p q = q ∙ ap (λ v. then v (verdict len ys)) p ∙ sym (verdict_append len xs ys)
@@ -59,7 +61,7 @@ pub count_read : (bytes x p : List ℕ) (from n : ℕ) → bytes ≡ x ++ (count
 count_read bytes x p from n e l lt = ap (λ b. unsigned_at 2 b from) e ∙ ap (unsigned_at 2 (x ++ (count_word n ++ p))) (sym l) ∙ place_read x p n (omega arith)
 
 pub sign_passed : (bytes : List ℕ) (fault : Fault) (p n : ℕ) → p + 2 ≤ length bytes → n < 2 ^ 15 → unsigned_at 2 bytes p ≡ n → Passed (length bytes) (sign_check bytes fault p)
-sign_passed bytes fault p n le lt e = record { long = le; holds = ap is_not_negative (ap (signed 2) e ∙ below n (omega arith)) }
+sign_passed bytes fault p n le lt e = record { long = le; holds = ap is_not_negative (ap (signed 2) e ∙ below Legacy n (omega arith)) }
 
 -- ---- flags
 
@@ -94,20 +96,25 @@ pad_read bytes x p from n e l =
 
 -- ---- numbers
 
-pub record NumbersRead (bytes : List ℕ) (from : ℕ) (ns : List Number) : Type 0 where
-  pub passes : Passes ≡ verdict (length bytes) (number_checks bytes 2 from (length ns))
-  pub same : map (number_at 2 bytes) (places from 2 (length ns)) ≡ ns
+pub record NumbersRead (w : Width) (bytes : List ℕ) (from : ℕ) (ns : List Number) : Type 0 where
+  pub passes : Passes ≡ verdict (length bytes) (number_checks bytes (number_size w) from (length ns))
+  pub same : map (number_at (number_size w) bytes) (places from (number_size w) (length ns)) ≡ ns
 
-pub numbers_read : (bytes x p : List ℕ) (from : ℕ) (ns : List Number) → bytes ≡ x ++ (numbers_of Legacy ns ++ p) → length x ≡ from → AllByRecursion (FitsWidth Legacy) ns → NumbersRead bytes from ns
-numbers_read bytes x p from ns e l fit =
+-- a number that fits, at its place
+abbrev NumberAt : Width → List ℕ → ℕ → Number → Type 0
+NumberAt w bytes q n = WordAt (number_size w) bytes q (word_of_number n) × FitsWidth w n
+
+pub numbers_read : (w : Width) (bytes x p : List ℕ) (from : ℕ) (ns : List Number) → bytes ≡ x ++ (numbers_of w ns ++ p) → length x ≡ from → AllByRecursion (FitsWidth w) ns → NumbersRead w bytes from ns
+numbers_read w bytes x p from ns e l fit =
     let len = length bytes in
-    let there : EachAt (λ q n. WordAt bytes q (word_of_number n) × FitsWidth Legacy n) from 2 ns =
-    moved (λ y q n. WordAt y q (word_of_number n) × FitsWidth Legacy n) (x ++ (numbers_of Legacy ns ++ p)) bytes (length x) from 2 ns (sym e) l (numbers_at x p ns fit) in
+    let size = number_size w in
+    let there : EachAt (NumberAt w bytes) from size ns =
+    moved (NumberAt w) (x ++ (numbers_of w ns ++ p)) bytes (length x) from size ns (sym e) l (numbers_at w x p ns fit) in
     record {
-      passes = passes_at (number_check bytes 2) len from 2 ns (at_each (λ q n. WordAt bytes q (word_of_number n) × FitsWidth Legacy n) (λ q n. Passed len (number_check bytes 2 q)) from 2 ns
-          (λ q n h. record { long = h.0.room; holds = ap is_number_word h.0.is ∙ is_number (word_of_number n) (short_number n h.1) }) there);
-      same = values_at (number_at 2 bytes) (λ (n : Number). n) from 2 ns (at_each (λ q n. WordAt bytes q (word_of_number n) × FitsWidth Legacy n) (λ q n. number_at 2 bytes q ≡ n) from 2 ns
-          (λ q n h. ap (λ z. unwrap_or (number_of_word z) numbers.Absent) h.0.is ∙ read_again n h.1) there) ∙ map-id ns;
+      passes = passes_at (number_check bytes size) len from size ns (at_each (NumberAt w bytes) (λ q n. Passed len (number_check bytes size q)) from size ns
+          (λ q n h. record { long = h.0.room; holds = ap is_number_word h.0.is ∙ is_number w (word_of_number n) (short_number w n h.1) }) there);
+      same = values_at (number_at size bytes) (λ (n : Number). n) from size ns (at_each (NumberAt w bytes) (λ q n. number_at size bytes q ≡ n) from size ns
+          (λ q n h. ap (λ z. unwrap_or (number_of_word z) numbers.Absent) h.0.is ∙ read_again w n h.1) there) ∙ map-id ns;
     }
 
 -- ---- texts
@@ -121,18 +128,18 @@ pub texts_read : (bytes x p table : List ℕ) (from : ℕ) (zs : List ℤ) (ts :
 texts_read bytes x p table from zs ts e l small texts =
     let len = length bytes in
     let goods = all_good table zs ts small texts in
-    let there : EachAt (λ q z. WordAt bytes q z × IsGood table z) from 2 zs =
-    moved (λ y q z. WordAt y q z × IsGood table z) (x ++ (words_of zs ++ p)) bytes (length x) from 2 zs (sym e) l (offsets_at table x p zs goods.0) in
+    let there : EachAt (λ q z. WordAt 2 bytes q z × IsGood table z) from 2 zs =
+    moved (λ y q z. WordAt 2 y q z × IsGood table z) (x ++ (words_of zs ++ p)) bytes (length x) from 2 zs (sym e) l (offsets_at table x p zs goods.0) in
     record {
       passes = subst (λ k. Passes ≡ verdict len (map (offset_check bytes (length table)) (places from 2 k))) goods.2
-          (passes_at (offset_check bytes (length table)) len from 2 zs (at_each (λ q z. WordAt bytes q z × IsGood table z) (λ q z. Passed len (offset_check bytes (length table) q)) from 2 zs
+          (passes_at (offset_check bytes (length table)) len from 2 zs (at_each (λ q z. WordAt 2 bytes q z × IsGood table z) (λ q z. Passed len (offset_check bytes (length table) q)) from 2 zs
           (λ q z h. record { long = h.0.room; holds = ap (is_offset_below (length table)) h.0.is ∙ h.1.below_size }) there));
       ended = λ end le. passes_one len (table_check end) (map (ending_check bytes table end) (places from 2 (length ts))) (record { long = le; holds = refl })
           (subst (λ k. Passes ≡ verdict len (map (ending_check bytes table end) (places from 2 k))) goods.2
-          (passes_at (ending_check bytes table end) len from 2 zs (at_each (λ q z. WordAt bytes q z × IsGood table z) (λ q z. Passed len (ending_check bytes table end q)) from 2 zs
+          (passes_at (ending_check bytes table end) len from 2 zs (at_each (λ q z. WordAt 2 bytes q z × IsGood table z) (λ q z. Passed len (ending_check bytes table end q)) from 2 zs
           (λ q z h. record { long = le; holds = ap (is_ended table) h.0.is ∙ h.1.ended }) there)));
       same = subst (λ k. map (text_at table bytes) (places from 2 k) ≡ map (text_of_word table) zs) goods.2
-          (values_at (text_at table bytes) (text_of_word table) from 2 zs (at_each (λ q z. WordAt bytes q z × IsGood table z) (λ q z. text_at table bytes q ≡ text_of_word table z) from 2 zs
+          (values_at (text_at table bytes) (text_of_word table) from 2 zs (at_each (λ q z. WordAt 2 bytes q z × IsGood table z) (λ q z. text_at table bytes q ≡ text_of_word table z) from 2 zs
           (λ q z h. ap (text_of_word table) h.0.is) there))
           ∙ goods.1;
     }
@@ -187,7 +194,7 @@ all_good_names table base (z ∷ zs) (n ∷ ns) small h =
 name_at_is : (table : List ℕ) (base : ℕ) (pre post : List ℕ) (z : ℤ) → IsGoodName table base z → NameAt table base (pre ++ (word 2 z ++ post)) (length pre) z
 name_at_is table base pre post z h =
     let n : length (pre ++ (word 2 z ++ post)) ≡ length pre + (length (word 2 z) + length post) = length-append pre (word 2 z ++ post) ∙ ap (λ k. length pre + k) (length-append (word 2 z) post) in
-    let two : length (word 2 z) ≡ 2 = length_word z in
+    let two : length (word 2 z) ≡ 2 = length_word 2 z in
     record {
       number = h.number;
       room = omega arith;
@@ -218,11 +225,11 @@ names_read bytes x p table base from zs names e l small are =
     let goods = all_good_names table base zs names small are in
     let N = NameAt table base in
     let there : EachAt (N bytes) from 2 zs =
-    moved N (x ++ (words_of zs ++ p)) bytes (length x) from 2 zs (sym e) l (each_at (word 2) 2 N (IsGoodName table base) length_word (λ pre post z ok. name_at_is table base pre post z ok) x p zs goods.0) in
+    moved N (x ++ (words_of zs ++ p)) bytes (length x) from 2 zs (sym e) l (each_at (word 2) 2 N (IsGoodName table base) (length_word 2) (λ pre post z ok. name_at_is table base pre post z ok) x p zs goods.0) in
     record {
       passes = subst (λ k. Passes ≡ verdict len (map (sign_check bytes BadExtendedName) (places from 2 k))) goods.2
           (passes_at (sign_check bytes BadExtendedName) len from 2 zs (at_each (N bytes) (λ q z. Passed len (sign_check bytes BadExtendedName q)) from 2 zs
-          (λ q z h. record { long = h.room; holds = ap is_not_negative (ap (signed 2) h.is ∙ below h.number h.short) }) there));
+          (λ q z h. record { long = h.room; holds = ap is_not_negative (ap (signed 2) h.is ∙ below Legacy h.number h.short) }) there));
       placed_so = λ end le. subst (λ k. Passes ≡ verdict len (all_name_place_checks bytes table base end (places from 2 k))) goods.2
           (passes_both_at (λ q. check end (ltb (base + unsigned_at 2 bytes q) (length table)) BadExtendedName q) (λ q. check end (ends_in table (base + unsigned_at 2 bytes q)) Unterminated q) len from 2 zs (at_each (N bytes) (λ q z. Passed len (check end (ltb (base + unsigned_at 2 bytes q) (length table)) BadExtendedName q) × Passed len (check end (ends_in table (base + unsigned_at 2 bytes q)) Unterminated q)) from 2 zs
           (λ q z h. (record { long = le; holds = ap (λ n. ltb (base + n) (length table)) h.is ∙ h.below_size }, record { long = le; holds = ap (λ n. ends_in table (base + n)) h.is ∙ h.ended })) there));

@@ -4,7 +4,6 @@ use Rattle.std.proofs.lemmas.List.{append-nil, length-append, length-map, length
 use Rattle.std.proofs.Math.Nat.{mul-add}
 use Rattle.ti_words.specs.declared.Number.{Number}
 use Rattle.ti_words.specs.declared.Width.{Width}
-use Rattle.ti_words.specs.declared.Width.TheVariants.{Legacy}
 use Rattle.ti_words.specs.Texts.{TextValue, AbsentText, CancelledText, TextOf}
 use Rattle.ti_words.specs.Marks.{byte_of_flag, word_of_number}
 use Rattle.ti_entry.specs.Word.{low_bytes, word}
@@ -28,7 +27,10 @@ length_words (w ∷ ws) = length-append (word 2 w) (words_of ws) ∙ omega (arit
 
 pub length_numbers : (w : Width) (ns : List Number) → length (numbers_of w ns) ≡ length ns * number_size w
 length_numbers w [] = omega arith
-length_numbers Legacy (n ∷ ns) = length-append (word 2 (word_of_number n)) (numbers_of Legacy ns) ∙ omega (arith, length_word 2 (word_of_number n), length_numbers Legacy ns)
+length_numbers w (n ∷ ns) =
+    let size = number_size w in
+    let more : suc (length ns) * size ≡ size + length ns * size = omega arith in
+    length-append (word size (word_of_number n)) (numbers_of w ns) ∙ omega (arith, length_word size (word_of_number n), length_numbers w ns)
 
 pub length_text_words : (from : ℕ) (ts : List TextValue) → length (text_words from ts) ≡ length ts
 length_text_words from [] = refl
@@ -41,7 +43,7 @@ length_name_words from [] = refl
 length_name_words from (name ∷ names) = ap suc (length_name_words (from + length name + 1) names)
 
 pub length_magic : (w : Width) → length (magic w) ≡ 2
-length_magic Legacy = refl
+length_magic w = refl
 
 pub length_flags : {A : Type 0} → (f : A → ℕ) (xs : List A) → length (map f xs) ≡ length xs
 length_flags f xs = length-map xs f

@@ -20,6 +20,9 @@ pub mod SpelledExtended
 pub mod Growing
 pub mod Full
 pub mod Feeding
+pub mod Stages
+pub mod StageSteps
+pub mod StageEnds
 pub mod Sources
 pub mod Beside
 pub mod Capped

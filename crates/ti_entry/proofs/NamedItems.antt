@@ -13,7 +13,7 @@ use Rattle.ti_entry.specs.Layout.{places, number_size, end_of, extended_header_o
 use Rattle.ti_entry.specs.Table.{text_of_word, size_at, sizes_at, extended_table_of, base_of}
 use Rattle.ti_entry.specs.Content.{flag_at, number_at, text_at, name_at, named_items, plain_content, content_with}
 use Rattle.ti_entry.specs.Held.{held_header, no_capability}
-use Rattle.ti_entry.proofs.Places.{item_at, no_item_at, legacy_size}
+use Rattle.ti_entry.proofs.Places.{item_at, no_item_at}
 use Rattle.ti_entry.specs.Spelling.{text_size, texts_size, name_in, mark_in, extended_names}
 
 pub marks_in : {A : Type 0} (name : ℕ → List ℕ) (item : ℕ → A) (names_from from size count : ℕ)
@@ -102,13 +102,11 @@ no_flag_item bytes h x i le =
     ap (λ l. get_or l i flags.No) (marks_in (name_at bytes x) (flag_at bytes) (extended_names_from x) (extended_flags_from x) 1 x.flags)
     ∙ no_item_at (flag_at bytes) (extended_flags_from x) 1 x.flags i flags.No le
 
-pub number_item : (bytes : List ℕ) (h : Header) (x : ExtendedHeader) (i : ℕ) → i < x.numbers → get_or (map mark_in (content_with bytes h x).extended_numbers) i numbers.Absent ≡ number_at 2 bytes (extended_numbers_from x + 2 * i)
+pub number_item : (bytes : List ℕ) (h : Header) (x : ExtendedHeader) (i : ℕ) → i < x.numbers → get_or (map mark_in (content_with bytes h x).extended_numbers) i numbers.Absent ≡ number_at (number_size x.width) bytes (extended_numbers_from x + number_size x.width * i)
 number_item bytes h x i lt =
     let size = number_size x.width in
-    let two : size ≡ 2 = legacy_size x.width in
     ap (λ l. get_or l i numbers.Absent) (marks_in (name_at bytes x) (number_at size bytes) (extended_names_from x + 2 * x.flags) (extended_numbers_from x) size x.numbers)
     ∙ item_at (number_at size bytes) (extended_numbers_from x) size x.numbers i numbers.Absent lt
-    ∙ ap (λ n. number_at n bytes (extended_numbers_from x + n * i)) two
 
 pub no_number_item : (bytes : List ℕ) (h : Header) (x : ExtendedHeader) (i : ℕ) → x.numbers ≤ i → get_or (map mark_in (content_with bytes h x).extended_numbers) i numbers.Absent ≡ numbers.Absent
 no_number_item bytes h x i le =

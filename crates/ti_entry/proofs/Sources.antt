@@ -4,11 +4,12 @@ use Rattle.std.specs.Prelude.{Option, Some, None, Err}
 use Rattle.std.specs.Io.KnownBytes.{Consumes, Keeps}
 use Rattle.std.proofs.KnownBytes.{Consumes-trans, Consumes-nil, Consumes-kept}
 use Rattle.ti_entry.specs.declared.fault.Refused.{Refused}
+use Rattle.ti_entry.specs.Refusal.{failure}
 use Rattle.ti_entry.specs.Content.{content}
-use Rattle.ti_entry.specs.Reading.{Reading, new_reading, failed_on, met, fed, answer_under, answer_for, FeedsFrom}
-use Rattle.ti_entry.proofs.Feeding.{met-passed, met-none, fed-none, failed-refuses}
+use Rattle.ti_entry.specs.Reading.{Reading, new_reading, met, fed, answer_under, answer_for, FeedsFrom}
+use Rattle.ti_entry.proofs.Feeding.{met-passed, met-none, fed-none, failure_refuses}
 
-pub FeedsFrom-nil : (a : Option (List ℕ)) (r : Reading) → r.refusal ≡ None → failed_on r.kept ≡ None → FeedsFrom a a r r
+pub FeedsFrom-nil : (a : Option (List ℕ)) (r : Reading) → r.refusal ≡ None → failure r.kept ≡ None → FeedsFrom a a r r
 FeedsFrom-nil a r none passes =
     let e : met r.kept ≡ record { kept = r.kept; refusal = None } = met-passed r.kept passes in
     let back : ◌≡◌ {A = Reading} (record { kept = r.kept; refusal = None }) r = ap (λ (x : Option Refused). let s : Reading = record { kept = r.kept; refusal = x } in s) (sym none) in
@@ -54,5 +55,5 @@ pub FeedsFrom-refusal : (a b : Option (List ℕ)) (new : Reading) (r : Refused) 
     → (bytes : List ℕ) × Consumes a b bytes × (answer_for bytes ≡ Err r)
 FeedsFrom-refusal a b new r h some =
     let (bytes, taken, is_fed) = h in
-    let failed : failed_on bytes ≡ Some r = sym (ap (λ r. r.refusal) is_fed) ∙ some in
-    (bytes, taken, ap (λ o. answer_under o (content bytes)) (failed-refuses bytes r failed))
+    let failed : failure bytes ≡ Some r = sym (ap (λ r. r.refusal) is_fed) ∙ some in
+    (bytes, taken, ap (λ o. answer_under o (content bytes)) (failure_refuses bytes r failed))

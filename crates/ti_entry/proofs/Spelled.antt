@@ -1,34 +1,37 @@
 -- Bytes that have the sections of an entry pass the checks up to the end of the string table, and are read so.
-use Rattle.std.proofs.Common.{◌≡◌, ◌≢◌, ℕ, ◌+◌, ◌-◌, ◌*◌, ◌<◌, ◌≤◌, false, not, eqb, List, [], ◌∷◌, ◌++◌, map, length, get_or, take, drop, refl, sym, ap, subst, ◌∙◌, arith, append_assoc}
+use Rattle.std.proofs.Common.{◌≡◌, ◌≢◌, ℕ, ◌+◌, ◌-◌, ◌*◌, ◌<◌, ◌≤◌, false, not, eqb, List, [], ◌∷◌, ◌++◌, map, length, take, drop, Some, refl, sym, ap, subst, ◌∙◌, arith, append_assoc}
 use Rattle.std.proofs.lemmas.List.{length-append, length-map, length-replicate, take_at, drop_at}
 use Rattle.std.proofs.lemmas.Bool.{le-leb, ne_eqb}
-use Rattle.std.specs.List.{flat_map, AllByRecursion}
-use Rattle.std.specs.Prelude.{slice_range}
+use Rattle.std.specs.List.{flat_map}
+use Rattle.std.specs.Prelude.{slice_range, is_some}
 use Rattle.ti_words.specs.declared.Width.{Width}
-use Rattle.ti_words.specs.declared.Width.TheVariants.{Legacy}
+use Rattle.ti_words.specs.declared.Width.TheVariants.{Legacy, Wide}
 use Rattle.ti_words.specs.Marks.{byte_of_flag, word_of_number}
 use Rattle.ti_entry.specs.declared.fault.Fault.TheVariants.{BadHeader, BadNames}
 use Rattle.ti_entry.specs.declared.header.Header.{Header}
 use Rattle.ti_entry.specs.Value.{EntryValue}
 use Rattle.ti_entry.specs.Word.{unsigned_at, word}
-use Rattle.ti_entry.specs.Layout.{header_of, places, pad_len, flags_from, pad_from, numbers_from, offsets_from, table_from, end_of}
+use Rattle.ti_entry.specs.Layout.{header_of, width_of, number_size, places, pad_len, flags_from, pad_from, numbers_from, offsets_from, table_from, end_of}
 use Rattle.ti_entry.specs.Table.{is_nul, table_of}
 use Rattle.ti_entry.specs.Checks.{Passes, verdict, sign_check, sign_checks, name_check, nul_check, name_checks, flag_checks, pad_checks, number_checks, offset_checks, ending_checks}
 use Rattle.ti_entry.specs.Refusal.{magic_check, size_check, named_check, magic_checks, size_checks, front_checks, section_checks}
 use Rattle.ti_entry.specs.Content.{text_at, plain_content}
-use Rattle.ti_entry.specs.Spelling.{HasSections, FitsWidth, magic, count_word, words_of, numbers_of, flags_of, pad}
+use Rattle.ti_entry.specs.Spelling.{HasSections, magic, count_word, words_of, numbers_of, flags_of, pad}
 use Rattle.ti_entry.proofs.SectionLaws.{Passed}
 use Rattle.ti_entry.proofs.WordLaws.{reads_count}
 use Rattle.ti_entry.proofs.KindsSpelled.{append_pass, moved, length_flat, byte, bytes_flat, sign_passed, flags_read, pad_read, numbers_read, texts_read}
-use Rattle.ti_entry.proofs.Items.{EachAt, each_at, passes_one, passes_at, at_each, all_good, ByteAt, byte_at_is, length_word}
+use Rattle.ti_entry.proofs.Items.{EachAt, each_at, passes_one, passes_at, at_each, all_good, ByteAt, byte_at_is}
+use Rattle.ti_entry.proofs.LengthLaws.{length_word}
 
-pub is_legacy : (w : Width) → w ≡ Legacy
-is_legacy Legacy = refl
+starts : (w : Width) → width_of (magic w) ≡ Some w
+starts Legacy = refl
+starts Wide = refl
 
 -- what a reading makes of the sections up to the end of the string table, and where the rest begins
 pub record PlainRead (bytes : List ℕ) (v : EntryValue) (table rest : List ℕ) : Type 0 where
   pub ahead : Passes ≡ verdict (length bytes) (front_checks bytes (header_of bytes))
   pub sections : Passes ≡ verdict (length bytes) (section_checks bytes (header_of bytes))
+  pub width : (plain_content bytes (header_of bytes)).width ≡ v.width
   pub names : (plain_content bytes (header_of bytes)).names ≡ v.names
   pub flags : (plain_content bytes (header_of bytes)).flags ≡ v.flags
   pub numbers : (plain_content bytes (header_of bytes)).numbers ≡ v.numbers
@@ -40,7 +43,8 @@ pub record PlainRead (bytes : List ℕ) (v : EntryValue) (table rest : List ℕ)
 
 pub plain_read : (bytes : List ℕ) (v : EntryValue) (table rest : List ℕ) → HasSections v table rest bytes → length bytes ≤ 32768 → PlainRead bytes v table rest
 plain_read bytes v table rest s short =
-    let legacy = is_legacy v.width in
+    let w = v.width in
+    let size = number_size w in
     let names = v.names in
     let fs = v.flags in
     let ns = v.numbers in
@@ -49,27 +53,27 @@ plain_read bytes v table rest s short =
     let counts = s.counts in
     let some = s.named in
     let len = length bytes in
-    let hv : Header = record { width = Legacy; names = length names + 1; flags = length fs; numbers = length ns; texts = length ts; table = length table } in
+    let hv : Header = record { width = w; names = length names + 1; flags = length fs; numbers = length ns; texts = length ts; table = length table } in
     let small_table : length table < 32768 = omega (arith, counts.1.1.1.1.0) in
     let goods = all_good table offsets ts small_table s.texts_there in
-    let x5 = magic Legacy ++ count_word (length names + 1) ++ count_word (length fs) ++ count_word (length ns) ++ count_word (length ts) ++ count_word (length table) in
+    let x5 = magic w ++ count_word (length names + 1) ++ count_word (length fs) ++ count_word (length ns) ++ count_word (length ts) ++ count_word (length table) in
     let x6 = x5 ++ (names ++ 0 ∷ []) in
     let x7 = x6 ++ flags_of fs in
     let zeros = pad (length names + 1 + length fs) in
     let x8 = x7 ++ zeros in
-    let x9 = x8 ++ numbers_of Legacy ns in
+    let x9 = x8 ++ numbers_of w ns in
     let x10 = x9 ++ words_of offsets in
     let x11 = x10 ++ table in
     let p10 = table ++ rest in
     let p9 = words_of offsets ++ p10 in
-    let p8 = numbers_of Legacy ns ++ p9 in
+    let p8 = numbers_of w ns ++ p9 in
     let p7 = zeros ++ p8 in
     let p6 = flags_of fs ++ p7 in
     let p5 = (names ++ 0 ∷ []) ++ p6 in
-    let e11 : bytes ≡ x11 ++ rest = rw legacy at s.joined in
+    let e11 : bytes ≡ x11 ++ rest = s.joined in
     let e10 : bytes ≡ x10 ++ p10 = e11 ∙ append_assoc x10 table rest in
     let e9 : bytes ≡ x9 ++ p9 = e10 ∙ append_assoc x9 (words_of offsets) p10 in
-    let e8 : bytes ≡ x8 ++ p8 = e9 ∙ append_assoc x8 (numbers_of Legacy ns) p9 in
+    let e8 : bytes ≡ x8 ++ p8 = e9 ∙ append_assoc x8 (numbers_of w ns) p9 in
     let e7 : bytes ≡ x7 ++ p7 = e8 ∙ append_assoc x7 zeros p8 in
     let e6 : bytes ≡ x6 ++ p6 = e7 ∙ append_assoc x6 (flags_of fs) p7 in
     let e5 : bytes ≡ x5 ++ p5 = e6 ∙ append_assoc x5 (names ++ 0 ∷ []) p6 in
@@ -77,8 +81,8 @@ plain_read bytes v table rest s short =
     let l6 : length x6 ≡ flags_from hv = length-append x5 (names ++ 0 ∷ []) ∙ ap (λ k. 12 + k) (length-append names (0 ∷ [])) in
     let l7 : length x7 ≡ pad_from hv = length-append x6 (flags_of fs) ∙ (let a = l6 in let b = length-map fs byte_of_flag in omega arith) in
     let l8 : length x8 ≡ numbers_from hv = length-append x7 zeros ∙ (let a = l7 in let b : length zeros ≡ pad_len (length names + 1 + length fs) = length-replicate (pad_len (length names + 1 + length fs)) 0 in omega arith) in
-    let l9 : length x9 ≡ offsets_from hv = length-append x8 (numbers_of Legacy ns) ∙ (let a = l8 in let b : length (numbers_of Legacy ns) ≡ 2 * length ns = length_flat (λ n. word 2 (word_of_number n)) 2 ns (λ n. length_word (word_of_number n)) in omega arith) in
-    let l10 : length x10 ≡ table_from hv = length-append x9 (words_of offsets) ∙ (let a = l9 in let b : length (words_of offsets) ≡ 2 * length offsets = length_flat (word 2) 2 offsets length_word in let d = goods.2 in omega arith) in
+    let l9 : length x9 ≡ offsets_from hv = length-append x8 (numbers_of w ns) ∙ (let a = l8 in let b : length (numbers_of w ns) ≡ size * length ns = length_flat (λ n. word size (word_of_number n)) size ns (λ n. length_word size (word_of_number n)) in omega arith) in
+    let l10 : length x10 ≡ table_from hv = length-append x9 (words_of offsets) ∙ (let a = l9 in let b : length (words_of offsets) ≡ 2 * length offsets = length_flat (word 2) 2 offsets (length_word 2) in let d = goods.2 in omega arith) in
     let l11 : length x11 ≡ end_of hv = length-append x10 table ∙ (let a = l10 in omega arith) in
     let whole : len ≡ end_of hv + length rest = ap length e11 ∙ length-append x11 rest ∙ (let a = l11 in omega arith) in
     let h1 : unsigned_at 2 bytes 2 ≡ length names + 1 = ap (λ b. unsigned_at 2 b 2) e5 ∙ reads_count (length names + 1) (omega (arith, counts.0)) in
@@ -86,11 +90,10 @@ plain_read bytes v table rest s short =
     let h3 : unsigned_at 2 bytes 6 ≡ length ns = ap (λ b. unsigned_at 2 b 6) e5 ∙ reads_count (length ns) (omega (arith, counts.1.1.0)) in
     let h4 : unsigned_at 2 bytes 8 ≡ length ts = ap (λ b. unsigned_at 2 b 8) e5 ∙ reads_count (length ts) (omega (arith, counts.1.1.1.0)) in
     let h5 : unsigned_at 2 bytes 10 ≡ length table = ap (λ b. unsigned_at 2 b 10) e5 ∙ reads_count (length table) (omega (arith, counts.1.1.1.1.0)) in
-    let hd : header_of bytes ≡ hv = rw (h1, h2, h3, h4, h5) refl in
+    let h0 : width_of bytes ≡ Some w = ap width_of e5 ∙ starts w in
+    let hd : header_of bytes ≡ hv = rw (h0, h1, h2, h3, h4, h5) refl in
     let twelve : 12 ≤ len = omega arith in
-    let b0 : get_or bytes 0 0 ≡ 26 = ap (λ b. get_or b 0 0) e5 in
-    let b1 : get_or bytes 1 0 ≡ 1 = ap (λ b. get_or b 1 0) e5 in
-    let magic_ok : Passed len (magic_check bytes) = record { long = omega arith; holds = rw (b0, b1) refl } in
+    let magic_ok : Passed len (magic_check bytes) = record { long = omega arith; holds = ap is_some h0 } in
     let ahead : Passes ≡ verdict len (front_checks bytes hv) =
     append_pass len (magic_checks bytes ++ sign_checks bytes BadHeader 2 5) (size_checks hv)
     (append_pass len (magic_checks bytes) (sign_checks bytes BadHeader 2 5)
@@ -126,10 +129,9 @@ plain_read bytes v table rest s short =
     ∙ ap (take (length names)) (drop_at x5 p5 12 l5 ∙ append_assoc names (0 ∷ []) p6)
     ∙ take_at names (0 ∷ p6) (length names) refl in
     -- the other sections
-    let fit : AllByRecursion (FitsWidth Legacy) ns = rw legacy at s.numbers_fit in
     let f = flags_read bytes x6 p7 (flags_from hv) fs e6 l6 in
     let pads : Passes ≡ verdict len (pad_checks bytes (pad_from hv) (hv.names + hv.flags)) = pad_read bytes x7 p8 (pad_from hv) (length names + 1 + length fs) e7 l7 in
-    let n = numbers_read bytes x8 p9 (numbers_from hv) ns e8 l8 fit in
+    let n = numbers_read w bytes x8 p9 (numbers_from hv) ns e8 l8 s.numbers_fit in
     let t = texts_read bytes x9 p10 table (offsets_from hv) offsets ts e9 l9 small_table s.texts_there in
     let table_is : table_of bytes hv ≡ table =
     let d : drop (table_from hv) bytes ≡ table ++ rest = ap (drop (table_from hv)) e10 ∙ drop_at x10 p10 (table_from hv) l10 in
@@ -142,7 +144,7 @@ plain_read bytes v table rest s short =
     let cn = name_checks bytes hv.names in
     let cf = flag_checks bytes (flags_from hv) hv.flags in
     let cp = pad_checks bytes (pad_from hv) (hv.names + hv.flags) in
-    let cm = number_checks bytes 2 (numbers_from hv) hv.numbers in
+    let cm = number_checks bytes size (numbers_from hv) hv.numbers in
     let co = offset_checks bytes hv.table (offsets_from hv) hv.texts in
     let ce = ending_checks bytes (table_of bytes hv) (end_of hv) (offsets_from hv) hv.texts in
     let sections_pass : Passes ≡ verdict len (section_checks bytes hv) =
@@ -154,6 +156,7 @@ plain_read bytes v table rest s short =
     record {
       ahead = subst (λ h. Passes ≡ verdict len (front_checks bytes h)) back ahead;
       sections = subst (λ h. Passes ≡ verdict len (section_checks bytes h)) back sections_pass;
+      width = ap (λ (h : Header). h.width) hd;
       names = subst (λ (h : Header). (plain_content bytes h).names ≡ names) back names_same;
       flags = subst (λ (h : Header). (plain_content bytes h).flags ≡ fs) back f.same;
       numbers = subst (λ (h : Header). (plain_content bytes h).numbers ≡ ns) back n.same;

@@ -2,24 +2,24 @@
 use Rattle.std.proofs.Common.{◌≡◌, ℕ, suc, ◌+◌, ◌*◌, ◌<◌, ◌≤◌, ◌⊎◌, true, false, cond, leb, List, [], ◌∷◌, ◌++◌, map, length, take, drop, inl, inr, refl, sym, ap, subst, ◌∙◌, arith, append_assoc}
 use Rattle.std.proofs.lemmas.List.{length-append, length-map, length-replicate, take_all, drop_at}
 use Rattle.std.proofs.lemmas.Bool.{le-leb, lt-leb}
-use Rattle.ti_words.specs.declared.Width.TheVariants.{Legacy}
 use Rattle.ti_words.specs.Marks.{byte_of_flag, word_of_number}
 use Rattle.ti_entry.specs.declared.fault.Fault.TheVariants.{BadExtendedHeader, BadExtendedName}
 use Rattle.ti_entry.specs.declared.header.Header.{Header}
 use Rattle.ti_entry.specs.declared.extended_header.ExtendedHeader.{ExtendedHeader}
 use Rattle.ti_entry.specs.Value.{EntryValue}
 use Rattle.ti_entry.specs.Word.{unsigned_at, word}
-use Rattle.ti_entry.specs.Layout.{header_of, extended_header_of, places, pad_len, end_of, extended_from, extended_flags_from, extended_pad_from, extended_numbers_from, extended_values_from, extended_names_from, extended_name_count, extended_table_from, extended_end_of}
+use Rattle.ti_entry.specs.Layout.{header_of, extended_header_of, number_size, places, pad_len, end_of, extended_from, extended_flags_from, extended_pad_from, extended_numbers_from, extended_values_from, extended_names_from, extended_name_count, extended_table_from, extended_end_of}
 use Rattle.ti_entry.specs.Table.{text_from, extended_table_of, base_of}
 use Rattle.ti_entry.specs.Checks.{Passes, verdict, sign_check, sign_checks, flag_checks, pad_checks, number_checks, offset_checks, ending_checks, all_name_place_checks, end_check, end_checks}
 use Rattle.ti_entry.specs.Refusal.{room_check, room_checks, extended_size_check, extended_size_checks, extended_front_checks, extended_item_checks, extended_text_checks, extended_section_checks, extended_checks, behind_checks, front_checks, section_checks, checks}
 use Rattle.ti_entry.specs.Content.{flag_at, number_at, text_at, name_at, plain_content, content_with, content}
 use Rattle.ti_entry.specs.Spelling.{Spells, HasExtendedPart, HasNoExtendedPart, IsText, IsName, Each, count_word, words_of, numbers_of, flags_of, pad, texts_size, extended_names, mark_in}
-use Rattle.ti_entry.proofs.Items.{passes_one, length_word}
+use Rattle.ti_entry.proofs.Items.{passes_one}
+use Rattle.ti_entry.proofs.LengthLaws.{length_word}
 use Rattle.ti_entry.proofs.KindsSpelled.{append_pass, length_flat, count_read, sign_passed, flags_read, pad_read, numbers_read, texts_read, names_read}
 use Rattle.ti_entry.proofs.NamedItems.{marks_in, all_names_in, sizes_are_base, names_length}
 use Rattle.ti_entry.proofs.AtMostOne.{SameExtended, grouped_part, same_sizes, same_extended, same_value}
-use Rattle.ti_entry.proofs.Spelled.{PlainRead, plain_read, is_legacy}
+use Rattle.ti_entry.proofs.Spelled.{PlainRead, plain_read}
 
 pub record IsRead (bytes : List ℕ) (v : EntryValue) : Type 0 where
   pub passes : Passes ≡ verdict (length bytes) (checks bytes)
@@ -44,10 +44,11 @@ record PartRead (bytes : List ℕ) (v : EntryValue) (h : Header) : Type 0 where
   behind : end_of h < length bytes
   same : SameExtended v (content_with bytes h (extended_header_of h bytes))
 
-part_read : (bytes front rest : List ℕ) (v : EntryValue) (h : Header) → h.width ≡ Legacy → bytes ≡ front ++ rest → length front ≡ end_of h → length bytes ≤ 32768 → HasExtendedPart v h.table rest → PartRead bytes v h
-part_read bytes front rest v h legacy split l0 short s =
+part_read : (bytes front rest : List ℕ) (v : EntryValue) (h : Header) → h.width ≡ v.width → bytes ≡ front ++ rest → length front ≡ end_of h → length bytes ≤ 32768 → HasExtendedPart v h.table rest → PartRead bytes v h
+part_read bytes front rest v h width split l0 short s =
     let len = length bytes in
-    let w = is_legacy v.width in
+    let w = v.width in
+    let size_of = number_size w in
     let ef = map mark_in v.extended_flags in
     let en = map mark_in v.extended_numbers in
     let et = map mark_in v.extended_texts in
@@ -55,7 +56,7 @@ part_read bytes front rest v h legacy split l0 short s =
     let nn : length en ≡ length v.extended_numbers = length-map v.extended_numbers mark_in in
     let nt : length et ≡ length v.extended_texts = length-map v.extended_texts mark_in in
     let from = extended_from h in
-    let x : ExtendedHeader = record { width = Legacy; from = from; flags = length v.extended_flags; numbers = length v.extended_numbers; texts = length v.extended_texts; table = length s.table } in
+    let x : ExtendedHeader = record { width = w; from = from; flags = length v.extended_flags; numbers = length v.extended_numbers; texts = length v.extended_texts; table = length s.table } in
     let small : length s.table < 32768 = omega (arith, s.counts.1.1.1.0) in
     let count = extended_name_count x in
     let base = texts_size v.extended_texts in
@@ -68,7 +69,7 @@ part_read bytes front rest v h legacy split l0 short s =
     let a5 = count_word (length s.table) in
     let a6 = flags_of ef in
     let a7 = pad (length v.extended_flags) in
-    let a8 = numbers_of Legacy en in
+    let a8 = numbers_of w en in
     let a9 = words_of s.values in
     let a10 = words_of s.names in
     let q10 = a10 ++ s.table in
@@ -92,7 +93,7 @@ part_read bytes front rest v h legacy split l0 short s =
     let x9 = x8 ++ a8 in
     let x10 = x9 ++ a9 in
     let x11 = x10 ++ a10 in
-    let joined = rw w at s.joined in
+    let joined = s.joined in
     let e0 : bytes ≡ front ++ (a0 ++ q1) = split ∙ ap (λ r. front ++ r) (joined ∙ grouped_part a0 a1 a2 a3 s.items a5 a6 a7 a8 a9 a10 s.table) in
     let e1 : bytes ≡ x1 ++ q1 = step bytes front a0 q1 e0 in
     let e2 : bytes ≡ x2 ++ q2 = step bytes x1 a1 q2 e1 in
@@ -113,29 +114,29 @@ part_read bytes front rest v h legacy split l0 short s =
     let l6 : length x6 ≡ extended_flags_from x = longer x5 a5 (from + 8) 2 (from + 10) l5 refl (omega arith) in
     let l7 : length x7 ≡ extended_pad_from x = longer x6 a6 (extended_flags_from x) (length v.extended_flags) (extended_pad_from x) l6 (length-map ef byte_of_flag ∙ nf) refl in
     let l8 : length x8 ≡ extended_numbers_from x = longer x7 a7 (extended_pad_from x) (pad_len (length v.extended_flags)) (extended_numbers_from x) l7 (length-replicate (pad_len (length v.extended_flags)) 0) refl in
-    let l9 : length x9 ≡ extended_values_from x = longer x8 a8 (extended_numbers_from x) (2 * length v.extended_numbers) (extended_values_from x) l8 (length_flat (λ n. word 2 (word_of_number n)) 2 en (λ n. length_word (word_of_number n)) ∙ ap (λ n. 2 * n) nn) refl in
-    let l10 : length x10 ≡ extended_names_from x = longer x9 a9 (extended_values_from x) (2 * length v.extended_texts) (extended_names_from x) l9 (length_flat (word 2) 2 s.values length_word ∙ ap (λ n. 2 * n) nv) refl in
-    let l11 : length x11 ≡ extended_table_from x = longer x10 a10 (extended_names_from x) (2 * count) (extended_table_from x) l10 (length_flat (word 2) 2 s.names length_word ∙ ap (λ n. 2 * n) no) refl in
+    let l9 : length x9 ≡ extended_values_from x = longer x8 a8 (extended_numbers_from x) (size_of * length v.extended_numbers) (extended_values_from x) l8 (length_flat (λ n. word size_of (word_of_number n)) size_of en (λ n. length_word size_of (word_of_number n)) ∙ ap (λ n. size_of * n) nn) refl in
+    let l10 : length x10 ≡ extended_names_from x = longer x9 a9 (extended_values_from x) (2 * length v.extended_texts) (extended_names_from x) l9 (length_flat (word 2) 2 s.values (length_word 2) ∙ ap (λ n. 2 * n) nv) refl in
+    let l11 : length x11 ≡ extended_table_from x = longer x10 a10 (extended_names_from x) (2 * count) (extended_table_from x) l10 (length_flat (word 2) 2 s.names (length_word 2) ∙ ap (λ n. 2 * n) no) refl in
     let whole : len ≡ extended_end_of x = ap length e11 ∙ longer x11 s.table (extended_table_from x) (length s.table) (extended_end_of x) l11 refl refl in
     let h1 : unsigned_at 2 bytes from ≡ length v.extended_flags = count_read bytes x1 q2 from (length v.extended_flags) e1 l1 s.counts.0 in
     let h2 : unsigned_at 2 bytes (from + 2) ≡ length v.extended_numbers = count_read bytes x2 q3 (from + 2) (length v.extended_numbers) e2 l2 s.counts.1.0 in
     let h3 : unsigned_at 2 bytes (from + 4) ≡ length v.extended_texts = count_read bytes x3 q4 (from + 4) (length v.extended_texts) e3 l3 s.counts.1.1.0 in
     let h4 : unsigned_at 2 bytes (from + 8) ≡ length s.table = count_read bytes x5 q6 (from + 8) (length s.table) e5 l5 s.counts.1.1.1.0 in
-    let header : extended_header_of h bytes ≡ x = same_header (extended_header_of h bytes) x legacy refl h1 h2 h3 h4 in
+    let header : extended_header_of h bytes ≡ x = same_header (extended_header_of h bytes) x width refl h1 h2 h3 h4 in
     let table_is : extended_table_of bytes x ≡ s.table =
     ap (take (length s.table)) (ap (drop (extended_table_from x)) e11 ∙ drop_at x11 s.table (extended_table_from x) l11) ∙ take_all (length s.table) s.table (omega arith) in
     -- its sections
     let f = flags_read bytes x6 q7 (extended_flags_from x) ef e6 l6 in
-    let n = numbers_read bytes x8 q9 (extended_numbers_from x) en e8 l8 (rw w at s.numbers_fit) in
+    let n = numbers_read w bytes x8 q9 (extended_numbers_from x) en e8 l8 s.numbers_fit in
     let t = texts_read bytes x9 q10 s.table (extended_values_from x) s.values et e9 l9 small s.texts_there in
     let o = names_read bytes x10 s.table s.table base (extended_names_from x) s.names (extended_names v) e10 l10 small s.names_there in
     let flags_same : map (flag_at bytes) (places (extended_flags_from x) 1 x.flags) ≡ ef = ap (λ k. map (flag_at bytes) (places (extended_flags_from x) 1 k)) (sym nf) ∙ f.same in
-    let numbers_same : map (number_at 2 bytes) (places (extended_numbers_from x) 2 x.numbers) ≡ en = ap (λ k. map (number_at 2 bytes) (places (extended_numbers_from x) 2 k)) (sym nn) ∙ n.same in
+    let numbers_same : map (number_at size_of bytes) (places (extended_numbers_from x) size_of x.numbers) ≡ en = ap (λ k. map (number_at size_of bytes) (places (extended_numbers_from x) size_of k)) (sym nn) ∙ n.same in
     let texts_same : map (text_at (extended_table_of bytes x) bytes) (places (extended_values_from x) 2 x.texts) ≡ et =
     ap (λ l. map (text_at l bytes) (places (extended_values_from x) 2 x.texts)) table_is ∙ ap (λ k. map (text_at s.table bytes) (places (extended_values_from x) 2 k)) (sym nt) ∙ t.same in
     let c = content_with bytes h x in
     let mf : ef ≡ map mark_in c.extended_flags = sym (marks_in (name_at bytes x) (flag_at bytes) (extended_names_from x) (extended_flags_from x) 1 x.flags ∙ flags_same) in
-    let mn : en ≡ map mark_in c.extended_numbers = sym (marks_in (name_at bytes x) (number_at 2 bytes) (extended_names_from x + 2 * x.flags) (extended_numbers_from x) 2 x.numbers ∙ numbers_same) in
+    let mn : en ≡ map mark_in c.extended_numbers = sym (marks_in (name_at bytes x) (number_at size_of bytes) (extended_names_from x + 2 * x.flags) (extended_numbers_from x) size_of x.numbers ∙ numbers_same) in
     let mt : et ≡ map mark_in c.extended_texts = sym (marks_in (name_at bytes x) (text_at (extended_table_of bytes x) bytes) (extended_names_from x + 2 * (x.flags + x.numbers)) (extended_values_from x) 2 x.texts ∙ texts_same) in
     let base_is : base_of bytes x ≡ base = sym (sizes_are_base bytes h x) ∙ sym (same_sizes v.extended_texts c.extended_texts mt) in
     let names_n : length (extended_names v) ≡ count = names_length v in
@@ -160,7 +161,7 @@ part_read bytes front rest v h legacy split l0 short s =
     let size : Passes ≡ verdict len (extended_size_checks x) = passes_one len (extended_size_check x) [] (record { long = omega arith; holds = le-leb _ _ (omega arith) }) refl in
     let flags_pass : Passes ≡ verdict len (flag_checks bytes (extended_flags_from x) x.flags) = f.passes ∙ ap (λ k. verdict len (flag_checks bytes (extended_flags_from x) k)) nf in
     let inner : Passes ≡ verdict len (pad_checks bytes (extended_pad_from x) x.flags) = pad_read bytes x7 q8 (extended_pad_from x) (length v.extended_flags) e7 l7 in
-    let numbers_pass : Passes ≡ verdict len (number_checks bytes 2 (extended_numbers_from x) x.numbers) = n.passes ∙ ap (λ k. verdict len (number_checks bytes 2 (extended_numbers_from x) k)) nn in
+    let numbers_pass : Passes ≡ verdict len (number_checks bytes size_of (extended_numbers_from x) x.numbers) = n.passes ∙ ap (λ k. verdict len (number_checks bytes size_of (extended_numbers_from x) k)) nn in
     let values_pass : Passes ≡ verdict len (offset_checks bytes x.table (extended_values_from x) x.texts) = t.passes ∙ ap (λ k. verdict len (offset_checks bytes x.table (extended_values_from x) k)) nt in
     let names_pass : Passes ≡ verdict len (sign_checks bytes BadExtendedName (extended_names_from x) count) = o.passes ∙ ap (λ k. verdict len (sign_checks bytes BadExtendedName (extended_names_from x) k)) names_n in
     let endings : Passes ≡ verdict len (ending_checks bytes (extended_table_of bytes x) end (extended_values_from x) x.texts) =
@@ -178,7 +179,7 @@ part_read bytes front rest v h legacy split l0 short s =
     let c4 = extended_size_checks x in
     let d0 = flag_checks bytes (extended_flags_from x) x.flags in
     let d1 = pad_checks bytes (extended_pad_from x) x.flags in
-    let d2 = number_checks bytes 2 (extended_numbers_from x) x.numbers in
+    let d2 = number_checks bytes size_of (extended_numbers_from x) x.numbers in
     let d3 = offset_checks bytes x.table (extended_values_from x) x.texts in
     let d4 = sign_checks bytes BadExtendedName (extended_names_from x) count in
     let d5 = ending_checks bytes (extended_table_of bytes x) end (extended_values_from x) x.texts in
@@ -219,17 +220,17 @@ only bytes v s = by_rest s.behind
         let same : SameExtended v (plain_content bytes h) = record { flags = none.no_flags; numbers = none.no_numbers; texts = none.no_texts } in
         record {
           passes = append_pass len (front_checks bytes h ++ section_checks bytes h) (behind_checks bytes h) ahead (rw at_end refl);
-          same = same_value v (plain_content bytes h) (sym plain.names) (sym plain.flags) (sym plain.numbers) (sym plain.texts) same ∙ (let is : plain_content bytes h ≡ content bytes = rw at_end refl in is);
+          same = same_value v (plain_content bytes h) (sym plain.width) (sym plain.names) (sym plain.flags) (sym plain.numbers) (sym plain.texts) same ∙ (let is : plain_content bytes h ≡ content bytes = rw at_end refl in is);
         }
     by_rest (inr part) =
         let len = length bytes in
         let h = header_of bytes in
         let x = extended_header_of h bytes in
-        let p = part_read bytes plain.front s.rest v h refl plain.split plain.end s.fits (subst (λ n. HasExtendedPart v n s.rest) (sym plain.table_size) part) in
+        let p = part_read bytes plain.front s.rest v h plain.width plain.split plain.end s.fits (subst (λ n. HasExtendedPart v n s.rest) (sym plain.table_size) part) in
         let behind : leb len (end_of h) ≡ false = lt-leb _ _ p.behind in
         let checked : Passes ≡ verdict len (behind_checks bytes h) = p.passes ∙ ap (λ b. verdict len (cond b [] (extended_checks bytes h x))) (sym behind) in
         let is : content_with bytes h x ≡ content bytes = ap (λ b. cond b (plain_content bytes h) (content_with bytes h x)) (sym behind) in
         record {
           passes = append_pass len (front_checks bytes h ++ section_checks bytes h) (behind_checks bytes h) ahead checked;
-          same = same_value v (content_with bytes h x) (sym plain.names) (sym plain.flags) (sym plain.numbers) (sym plain.texts) p.same ∙ is;
+          same = same_value v (content_with bytes h x) (sym plain.width) (sym plain.names) (sym plain.flags) (sym plain.numbers) (sym plain.texts) p.same ∙ is;
         }

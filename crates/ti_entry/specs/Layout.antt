@@ -1,7 +1,7 @@
 -- Where the sections of an entry lie (term(5)).
-use Rattle.std.specs.Prelude.{ℕ, zero, suc, ◌+◌, ◌*◌, ◌%◌, List, [], ◌∷◌}
+use Rattle.std.specs.Prelude.{ℕ, zero, suc, ◌+◌, ◌*◌, ◌%◌, List, [], ◌∷◌, ◌==◌, Option, Some, None, unwrap_or, if◌then◌else◌}
 use Rattle.ti_words.specs.declared.Width.{Width}
-use Rattle.ti_words.specs.declared.Width.TheVariants.{Legacy}
+use Rattle.ti_words.specs.declared.Width.TheVariants.{Legacy, Wide}
 use Rattle.ti_entry.specs.declared.header.Header.{Header}
 use Rattle.ti_entry.specs.declared.extended_header.ExtendedHeader.{ExtendedHeader}
 use Rattle.ti_entry.specs.Word.{unsigned_at}
@@ -13,6 +13,18 @@ limit = 32768
 -- the bytes of a number
 abbrev pub number_size : Width → ℕ
 number_size Legacy = 2
+number_size Wide = 4
+
+-- the magic number of a format: octal 0432 and 01036
+abbrev pub magic_number : Width → ℕ
+magic_number Legacy = 282
+magic_number Wide = 542
+
+-- the format whose magic number an input begins with, where it begins with one
+abbrev pub width_of : List ℕ → Option Width
+width_of bytes =
+    if unsigned_at 2 bytes 0 == magic_number Legacy then Some Legacy
+    else (if unsigned_at 2 bytes 0 == magic_number Wide then Some Wide else None)
 
 -- the bytes after an odd count
 abbrev pub pad_len : ℕ → ℕ
@@ -25,9 +37,10 @@ places from size (suc count) = from ∷ places (from + size) size count
 
 -- ---- the entry up to the end of its string table
 
+-- of an input that begins with no magic number the header says nothing of use
 abbrev pub header_of : List ℕ → Header
 header_of bytes = record {
-  width = Legacy;
+  width = unwrap_or (width_of bytes) Legacy;
   names = unsigned_at 2 bytes 2;
   flags = unsigned_at 2 bytes 4;
   numbers = unsigned_at 2 bytes 6;

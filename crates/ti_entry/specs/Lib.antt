@@ -8,6 +8,7 @@ pub mod Reach
 pub mod Refusal
 pub mod Content
 pub mod Held
+pub mod Stages
 pub mod Finding
 pub mod Canonical
 pub mod Lengths

@@ -1,11 +1,10 @@
 -- What a read of bytes answers, what a reader of entries holds, and what a piece makes of it.
-use Rattle.std.specs.Prelude.{◌≡◌, ℕ, List, [], ◌++◌, Option, Some, None, Result, Ok, Err, length, take, nat_lt, if◌then◌else◌}
+use Rattle.std.specs.Prelude.{◌≡◌, ℕ, zero, suc, List, [], ◌++◌, Option, Some, None, Result, Ok, Err, length, take, is_some, if◌then◌else◌}
 use Rattle.std.specs.Io.KnownBytes.{Consumes}
 use Rattle.ti_entry.specs.declared.fault.Refused.{Refused}
 use Rattle.ti_entry.specs.declared.source.ReadStop.{ReadStop}
 use Rattle.ti_entry.specs.declared.source.ReadStop.TheVariants as stop
 use Rattle.ti_entry.specs.Value.{EntryValue}
-use Rattle.ti_entry.specs.Layout.{limit}
 use Rattle.ti_entry.specs.Refusal.{refusal, failure}
 use Rattle.ti_entry.specs.Content.{content}
 
@@ -28,22 +27,23 @@ pub record Reading : Type 0 where
 abbrev pub new_reading : Reading
 new_reading = record { kept = []; refusal = None }
 
--- why bytes are refused as they come, where they are: there are too many, and then their first failing check
-abbrev pub failed_on : List ℕ → Option Refused
-failed_on bytes = if nat_lt limit (length bytes) then failure bytes else None
+-- the greatest length, up to a given one, of a front of the bytes on which no check has failed
+abbrev pub unfailed_up_to : List ℕ → ℕ → ℕ
+unfailed_up_to bytes zero = zero
+unfailed_up_to bytes (suc len) = if is_some (failure (take (suc len) bytes)) then unfailed_up_to bytes len else suc len
 
--- the bytes of an entry's greatest length
-unfoldable pub first_bytes : List ℕ → List ℕ
-first_bytes bytes = take limit bytes
+-- the longest front of the bytes on which no check has failed
+unfoldable pub unfailed : List ℕ → List ℕ
+unfailed bytes = take (unfailed_up_to bytes (length bytes)) bytes
 
 -- what is kept of bytes that are refused, or are not
 abbrev pub kept_under : Option Refused → List ℕ → List ℕ
 kept_under None bytes = bytes
-kept_under (Some refused) bytes = first_bytes bytes
+kept_under (Some refused) bytes = unfailed bytes
 
 -- what a reader holds that has met these bytes
 abbrev pub met : List ℕ → Reading
-met bytes = record { kept = kept_under (failed_on bytes) bytes; refusal = failed_on bytes }
+met bytes = record { kept = kept_under (failure bytes) bytes; refusal = failure bytes }
 
 abbrev pub fed_under : Option Refused → Reading → List ℕ → Reading
 fed_under None r piece = met (r.kept ++ piece)

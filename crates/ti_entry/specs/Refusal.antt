@@ -1,18 +1,18 @@
 -- Which bytes are refused, and why: all checks of an entry, in their order.
-use Rattle.std.specs.Prelude.{ℕ, ◌+◌, ◌&&◌, List, [], ◌∷◌, ◌++◌, length, slice_index, Option, ◌==◌, nat_le, if◌then◌else◌}
+use Rattle.std.specs.Prelude.{ℕ, ◌+◌, List, [], ◌∷◌, ◌++◌, length, Option, ◌==◌, nat_le, if◌then◌else◌, is_some}
 use Rattle.ti_entry.specs.declared.fault.Fault.{Fault}
 use Rattle.ti_entry.specs.declared.fault.Fault.TheVariants.{BadMagic, BadHeader, HeaderTooBig, BadNames, BadExtendedHeader, ExtendedTooBig, BadExtendedName, Trailing}
 use Rattle.ti_entry.specs.declared.fault.Refused.{Refused}
 use Rattle.ti_entry.specs.declared.header.Header.{Header}
 use Rattle.ti_entry.specs.declared.extended_header.ExtendedHeader.{ExtendedHeader}
-use Rattle.ti_entry.specs.Layout.{limit, header_of, number_size, places, flags_from, pad_from, numbers_from, offsets_from, end_of, extended_header_of, extended_from, extended_flags_from, extended_pad_from, extended_numbers_from, extended_values_from, extended_names_from, extended_name_count, extended_end_of}
+use Rattle.ti_entry.specs.Layout.{limit, width_of, header_of, number_size, places, flags_from, pad_from, numbers_from, offsets_from, end_of, extended_header_of, extended_from, extended_flags_from, extended_pad_from, extended_numbers_from, extended_values_from, extended_names_from, extended_name_count, extended_end_of}
 use Rattle.ti_entry.specs.Table.{table_of, extended_table_of, base_of}
 use Rattle.ti_entry.specs.Checks.{Check, check, verdict, refusal_of, failure_of, sign_checks, name_checks, flag_checks, pad_checks, number_checks, offset_checks, ending_checks, all_name_place_checks, end_checks}
 
 -- ---- the entry up to the end of its string table
 
 abbrev pub magic_check : List ℕ → Check
-magic_check bytes = check 2 (slice_index bytes 0 == 26 && slice_index bytes 1 == 1) BadMagic 0
+magic_check bytes = check 2 (is_some (width_of bytes)) BadMagic 0
 
 abbrev pub magic_checks : List ℕ → List Check
 magic_checks bytes = magic_check bytes ∷ []

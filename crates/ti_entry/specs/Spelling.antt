@@ -5,12 +5,11 @@ use Rattle.ti_words.specs.declared.Flag.{Flag}
 use Rattle.ti_words.specs.declared.Number.{Number}
 use Rattle.ti_words.specs.declared.Number.TheVariants as numbers
 use Rattle.ti_words.specs.declared.Width.{Width}
-use Rattle.ti_words.specs.declared.Width.TheVariants.{Legacy}
 use Rattle.ti_words.specs.Marks.{byte_of_flag, word_of_number}
 use Rattle.ti_words.specs.Texts.{TextValue, AbsentText, CancelledText, TextOf}
 use Rattle.ti_entry.specs.Word.{word}
 use Rattle.ti_entry.specs.Value.{EntryValue}
-use Rattle.ti_entry.specs.Layout.{limit, number_size, pad_len}
+use Rattle.ti_entry.specs.Layout.{limit, number_size, magic_number, pad_len}
 
 -- ---- items
 
@@ -48,13 +47,15 @@ Each R (x ∷ xs) (y ∷ ys) = R x y × Each R xs ys
 
 -- ---- sections
 
-abbrev pub magic : Width → List ℕ
-magic Legacy = 26 ∷ 1 ∷ []
-
--- a count as a word, and the words of a list
+-- a count as a word
 abbrev pub count_word : ℕ → List ℕ
 count_word n = word 2 (pos n)
 
+-- the magic number as a word
+abbrev pub magic : Width → List ℕ
+magic w = count_word (magic_number w)
+
+-- the words of a list
 abbrev pub words_of : List ℤ → List ℕ
 words_of ws = flat_map (word 2) ws
 

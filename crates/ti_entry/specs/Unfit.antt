@@ -4,7 +4,7 @@ use Rattle.std.specs.List.{list_any}
 use Rattle.ti_words.specs.declared.Number.{Number}
 use Rattle.ti_words.specs.declared.Number.TheVariants as numbers
 use Rattle.ti_words.specs.declared.Width.{Width}
-use Rattle.ti_words.specs.declared.Width.TheVariants.{Legacy}
+use Rattle.ti_words.specs.declared.Width.TheVariants.{Legacy, Wide}
 use Rattle.ti_words.specs.Texts.{TextValue, AbsentText, CancelledText, TextOf}
 use Rattle.ti_entry.specs.declared.unfit.EncodeFault.{EncodeFault}
 use Rattle.ti_entry.specs.declared.unfit.EncodeFault.TheVariants as faults
@@ -33,6 +33,7 @@ has_bad_text v = list_any text_has_nul v.texts || list_any text_has_nul (map mar
 -- the greatest number of a format
 abbrev pub greatest_number : Width → ℕ
 greatest_number Legacy = 32767
+greatest_number Wide = 2147483647
 
 abbrev pub is_out_of_range : Width → Number → Bool
 is_out_of_range w numbers.Absent = false

@@ -4,13 +4,13 @@
 //! texts have their NULs is decided for all of them from one look for the last NUL of the table.
 
 ghost use Rattle.std.specs.Prelude.{◌≡◌, ◌+◌, ◌*◌, ◌<◌, ◌≤◌, ◌^◌, ◌∷◌, [], length, map, take, drop, OnOk};
-ghost use Rattle.ti_entry.specs.Layout.{places};
+ghost use Rattle.ti_entry.specs.Layout.{number_size as the_number_size, places};
 ghost use Rattle.ti_entry.specs.Checks.{verdict, verdict_of, sign_check, name_check, nul_check, flag_check, number_check, offset_check, name_checks, flag_checks, pad_checks, number_checks, offset_checks, ending_checks, end_checks, sign_checks, is_offset_below as the_is_offset_below};
 ghost use Rattle.ti_entry.specs.Reach.{IsReach, reach_check, name_reach_checks, all_name_reach_checks, is_before as the_is_before};
 
 use crate::fault::{Fault, Refused, Stop};
-use crate::word::{count_at, word_at};
-use ti_words::flag_of;
+use crate::word::{count_at, number_size, number_word_at, numbers_size, word_at};
+use ti_words::{Width, flag_of};
 
 /// A table of names: where it ends, its size, the place behind its last NUL, and what offsets are counted from.
 #[derive(Clone, Copy, Debug)]
@@ -54,7 +54,7 @@ pub(crate) fn reach_of(table: &[u8]) -> usize
 }
 
 /// The word at a place is not negative.
-fn check_sign(bytes: &[u8], fault: Fault, place: usize) -> Result<(), Stop>
+pub(crate) fn check_sign(bytes: &[u8], fault: Fault, place: usize) -> Result<(), Stop>
     requires { place < 2 ^ 33 }
     ensures { verdict_of result ≡ verdict (length bytes.now) (sign_check bytes.now fault place ∷ []) }
 {
@@ -68,7 +68,7 @@ fn check_sign(bytes: &[u8], fault: Fault, place: usize) -> Result<(), Stop>
 }
 
 /// No NUL stands at a place.
-fn check_name(bytes: &[u8], place: usize) -> Result<(), Stop>
+pub(crate) fn check_name(bytes: &[u8], place: usize) -> Result<(), Stop>
     requires { place < 2 ^ 33 }
     ensures { verdict_of result ≡ verdict (length bytes.now) (name_check bytes.now place ∷ []) }
 {
@@ -85,7 +85,7 @@ fn check_name(bytes: &[u8], place: usize) -> Result<(), Stop>
 }
 
 /// A NUL stands at a place.
-fn check_nul(bytes: &[u8], fault: Fault, place: usize) -> Result<(), Stop>
+pub(crate) fn check_nul(bytes: &[u8], fault: Fault, place: usize) -> Result<(), Stop>
     requires { place < 2 ^ 33 }
     ensures { verdict_of result ≡ verdict (length bytes.now) (nul_check bytes.now fault place ∷ []) }
 {
@@ -99,7 +99,7 @@ fn check_nul(bytes: &[u8], fault: Fault, place: usize) -> Result<(), Stop>
 }
 
 /// The byte at a place is a flag.
-fn check_flag(bytes: &[u8], place: usize) -> Result<(), Stop>
+pub(crate) fn check_flag(bytes: &[u8], place: usize) -> Result<(), Stop>
     requires { place < 2 ^ 33 }
     ensures { verdict_of result ≡ verdict (length bytes.now) (flag_check bytes.now place ∷ []) }
 {
@@ -116,14 +116,14 @@ fn check_flag(bytes: &[u8], place: usize) -> Result<(), Stop>
 }
 
 /// The number at a place is at least -2.
-fn check_number(bytes: &[u8], place: usize) -> Result<(), Stop>
+pub(crate) fn check_number(bytes: &[u8], width: Width, place: usize) -> Result<(), Stop>
     requires { place < 2 ^ 33 }
-    ensures { verdict_of result ≡ verdict (length bytes.now) (number_check bytes.now 2 place ∷ []) }
+    ensures { verdict_of result ≡ verdict (length bytes.now) (number_check bytes.now (the_number_size width) place ∷ []) }
 {
-    if bytes.len() < place + 2 {
+    if bytes.len() < place + number_size(width) {
         return Err(Stop::Early);
     }
-    if word_at(bytes, place) < -2 {
+    if number_word_at(bytes, width, place) < -2 {
         return Err(Stop::Failed(Refused {
             fault: Fault::BadNumber,
             place,
@@ -133,7 +133,7 @@ fn check_number(bytes: &[u8], place: usize) -> Result<(), Stop>
 }
 
 /// The offset at a place is a mark, or a place of the table.
-fn check_offset(bytes: &[u8], table_size: usize, place: usize) -> Result<(), Stop>
+pub(crate) fn check_offset(bytes: &[u8], table_size: usize, place: usize) -> Result<(), Stop>
     requires { place < 2 ^ 33 }
     ensures { verdict_of result ≡ verdict (length bytes.now) (offset_check bytes.now table_size place ∷ []) }
 {
@@ -248,12 +248,17 @@ pub(crate) fn check_pad(bytes: &[u8], from: usize, count: usize) -> Result<(), S
 }
 
 /// Each number is at least -2.
-pub(crate) fn check_numbers(bytes: &[u8], from: usize, count: usize) -> Result<(), Stop>
-    requires { from + 2 * count < 2 ^ 32 }
-    ensures { verdict_of result ≡ verdict (length bytes.now) (number_checks bytes.now 2 from count) }
+pub(crate) fn check_numbers(
+    bytes: &[u8],
+    width: Width,
+    from: usize,
+    count: usize,
+) -> Result<(), Stop>
+    requires { from + the_number_size width * count < 2 ^ 32 }
+    ensures { verdict_of result ≡ verdict (length bytes.now) (number_checks bytes.now (the_number_size width) from count) }
 {
     for i in 0..count {
-        check_number(bytes, from + 2 * i)?;
+        check_number(bytes, width, from + numbers_size(width, i))?;
     }
     Ok(())
 }

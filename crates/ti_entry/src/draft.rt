@@ -76,6 +76,13 @@ impl<'a, A: Allocator> Draft<'a, A> {
         }
     }
 
+    /// Changes how wide its numbers are, and nothing else. It takes no memory and cannot fail.
+    pub fn set_width(&mut self, width: Width)
+        ensures { self.new ≡ record self.old { width = width } }
+    {
+        self.width = width;
+    }
+
     /// Adds a flag behind the others.
     ///
     /// # Errors

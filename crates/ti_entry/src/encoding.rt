@@ -11,6 +11,7 @@ ghost use Rattle.ti_entry.specs.Unfit.{encode_fault};
 ghost use Rattle.ti_entry.specs.Lengths.{plain_head, extended_head};
 
 use crate::draft::Draft;
+use crate::header::magic_number;
 use crate::put::{
     put_count, put_flags, put_name_words, put_names, put_numbers, put_pad, put_text_words,
     put_texts,
@@ -18,7 +19,7 @@ use crate::put::{
 use crate::size::{encoded_len, extended_table_len, texts_len};
 use crate::unfit::{EncodeFault, first_fault};
 use std::alloc::{AllocError, Allocator, Global};
-use ti_words::{Text, Width};
+use ti_words::Text;
 
 /// The bytes of the entry that a draft is (term(5)).
 ///
@@ -82,9 +83,7 @@ fn put_plain_head<A: Allocator, D: Allocator>(
     requires { encode_fault draft.now ≡ None }
     ensures { OnOk result (out.new.items ≡ out.old.items ++ plain_head draft.now) }
 {
-    match draft.width() {
-        Width::Legacy => out.extend_from_slice(&[0x1a, 0x01])?,
-    }
+    put_count(out, magic_number(draft.width()))?;
     put_count(out, draft.names().len() + 1)?;
     put_count(out, draft.flags().len())?;
     put_count(out, draft.numbers().len())?;

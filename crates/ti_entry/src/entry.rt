@@ -5,18 +5,20 @@
 
 ghost use Rattle.std.specs.Prelude.{◌≡◌, ◌+◌, ◌<◌, ◌≤◌, length, get_or, IfOk, IfErr, IsOkAnd, Some};
 ghost use Rattle.ti_words.specs.Texts.{text_value, AbsentText};
-ghost use Rattle.ti_entry.specs.Checks.{verdict, verdict_of};
+ghost use Rattle.ti_entry.specs.Checks.{Passes, verdict, verdict_of};
 ghost use Rattle.ti_entry.specs.Refusal.{checks, refusal};
 ghost use Rattle.ti_entry.specs.Value.{EntryValue};
 ghost use Rattle.ti_entry.specs.Spelling.{Spells};
 ghost use Rattle.ti_entry.specs.Content.{content};
 ghost use Rattle.ti_entry.specs.Reading.{answer_for};
+ghost use Rattle.ti_entry.specs.Held.{held, IsHeld};
 
 use crate::extended::{Extended, extended_of};
 use crate::fault::{Fault, Refused, Stop};
 use crate::header::{Header, check_sections, read_header};
 use crate::item::{flag_at, number_at, text_at};
 use crate::part::{Part, read_part};
+use crate::word::numbers_size;
 use std::marker::Model;
 use ti_words::{Flag, Number, Text, Width};
 
@@ -67,7 +69,7 @@ pub fn read(bytes: &[u8]) -> Result<Entry<'_>, Refused>
 
 /// The entry of bytes that pass the checks, or the first that they do not pass.
 #[tactic(auto, using(crate::proofs::Sections::verdict_append))]
-pub(crate) fn entry_of(bytes: &[u8]) -> Result<Entry<'_>, Stop>
+fn entry_of(bytes: &[u8]) -> Result<Entry<'_>, Stop>
     ensures verdict { verdict_of result ≡ verdict (length bytes.now) (checks bytes.now) }
     ensures value { IfOk result (λ e. e ≡ content bytes.now) }
 {
@@ -79,6 +81,21 @@ pub(crate) fn entry_of(bytes: &[u8]) -> Result<Entry<'_>, Stop>
         header,
         part,
     })
+}
+
+/// The entry of bytes that pass the checks, with the headers that the checks met.
+pub(crate) fn entry_with(bytes: &[u8], header: Header, part: Part) -> Entry<'_>
+    requires is_held { IsHeld bytes.now header part }
+    requires shows { held bytes.now header part ≡ content bytes.now }
+    requires passes { verdict (length bytes.now) (checks bytes.now) ≡ Passes }
+    ensures value { result ≡ content bytes.now }
+    ensures found { Spells bytes.now result }
+{
+    Entry {
+        bytes,
+        header,
+        part,
+    }
 }
 
 impl<'a> Entry<'a> {
@@ -133,7 +150,9 @@ impl<'a> Entry<'a> {
         ensures { result ≡ get_or self.now.numbers i Number.Absent }
     {
         if i < self.header.numbers {
-            number_at(self.bytes, self.header.numbers_from() + 2 * i)
+            let width = self.header.width;
+            let place = self.header.numbers_from() + numbers_size(width, i);
+            number_at(self.bytes, width, place)
         } else {
             Number::Absent
         }

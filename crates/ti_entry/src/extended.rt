@@ -16,7 +16,7 @@ ghost use Rattle.ti_entry.specs.Finding.{IsFirst, IsFirstNamed, names_of};
 use crate::header::Header;
 use crate::item::{flag_at, is_text, number_at, text_at, text_from};
 use crate::part::Part;
-use crate::word::count_at;
+use crate::word::{count_at, numbers_size};
 use std::marker::Model;
 use ti_words::{Flag, Kind, Number, Text};
 
@@ -92,7 +92,8 @@ impl<'a> Extended<'a> {
     {
         let header = &self.part.header;
         if i < header.numbers {
-            number_at(self.bytes, header.numbers_from() + 2 * i)
+            let place = header.numbers_from() + numbers_size(header.width, i);
+            number_at(self.bytes, header.width, place)
         } else {
             Number::Absent
         }

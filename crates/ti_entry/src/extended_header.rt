@@ -11,7 +11,7 @@ ghost use Rattle.ti_entry.specs.Layout.{end_of, extended_from, extended_header_o
 use crate::checks::{check_pad, check_signs};
 use crate::fault::{Fault, Refused, Stop};
 use crate::header::{Header, LIMIT};
-use crate::word::count_at;
+use crate::word::{count_at, numbers_size};
 use ti_words::{Kind, Width};
 
 /// The words of the extended header, and where it begins. Its word `items` is not read.
@@ -57,9 +57,7 @@ impl ExtendedHeader {
         requires { extended_end_of self.now < 2 ^ 32 }
         ensures { result ≡ extended_values_from self.now }
     {
-        match self.width {
-            Width::Legacy => self.numbers_from() + 2 * self.numbers,
-        }
+        self.numbers_from() + numbers_size(self.width, self.numbers)
     }
 
     /// Where the offsets of the names begin.
@@ -121,7 +119,7 @@ impl ExtendedHeader {
 }
 
 /// The extended header of bytes that have one.
-fn extended_words(bytes: &[u8], header: &Header) -> ExtendedHeader
+pub(crate) fn extended_words(bytes: &[u8], header: &Header) -> ExtendedHeader
     requires fits { end_of header.now ≤ 32768 }
     requires there { extended_from header.now + 10 ≤ length bytes.now }
     ensures words { result ≡ extended_header_of header.now bytes.now }
@@ -156,7 +154,7 @@ fn check_room(len: usize, header: &Header) -> Result<(), Stop>
 }
 
 /// There is room, and the pad is 0.
-fn check_start(bytes: &[u8], header: &Header) -> Result<(), Stop>
+pub(crate) fn check_start(bytes: &[u8], header: &Header) -> Result<(), Stop>
     requires { end_of header.now ≤ 32768 }
     ensures { verdict_of result ≡ verdict (length bytes.now) (room_checks header.now ++ pad_checks bytes.now (end_of header.now) header.now.table) }
 {
@@ -178,7 +176,7 @@ fn check_extended_words(bytes: &[u8], header: &Header) -> Result<(), Stop>
 }
 
 /// With its extended part the entry has at most 32768 bytes.
-fn check_extended_size(len: usize, extended: &ExtendedHeader) -> Result<(), Stop>
+pub(crate) fn check_extended_size(len: usize, extended: &ExtendedHeader) -> Result<(), Stop>
     requires { extended_end_of extended.now < 2 ^ 32 }
     ensures verdict { verdict_of result ≡ verdict len (extended_size_checks extended.now) }
     ensures fits { OnOk result (extended_end_of extended.now ≤ 32768) }

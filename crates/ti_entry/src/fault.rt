@@ -13,7 +13,7 @@ pub enum Fault {
     /// The bytes end before a section does.
     #[error("Truncated")]
     Truncated,
-    /// The first two bytes are not 1a 01.
+    /// The first two bytes are neither 1a 01 nor 1e 02.
     #[error("BadMagic")]
     BadMagic,
     /// A size or a count of the header is negative.

@@ -5,13 +5,13 @@
 ghost use Rattle.std.specs.Prelude.{◌≡◌, ◌<◌, ◌≤◌, ◌^◌, ◌++◌, length, IfOk, OnOk};
 ghost use Rattle.ti_entry.specs.Checks.{verdict, verdict_of, sign_checks};
 ghost use Rattle.ti_entry.specs.Refusal.{front_checks, section_checks, magic_checks, size_checks};
-ghost use Rattle.ti_entry.specs.Layout.{header_of, end_of, flags_from as the_flags_from, pad_from as the_pad_from, numbers_from as the_numbers_from, offsets_from as the_offsets_from, table_from as the_table_from, extended_from as the_extended_from};
+ghost use Rattle.ti_entry.specs.Layout.{header_of, end_of, width_of as the_width_of, magic_number as the_magic_number, flags_from as the_flags_from, pad_from as the_pad_from, numbers_from as the_numbers_from, offsets_from as the_offsets_from, table_from as the_table_from, extended_from as the_extended_from};
 
 use crate::checks::{
     check_endings, check_flags, check_names, check_numbers, check_offsets, check_pad, check_signs,
 };
 use crate::fault::{Fault, Refused, Stop};
-use crate::word::count_at;
+use crate::word::{count_at, numbers_size};
 use ti_words::Width;
 
 /// The most bytes of an entry.
@@ -61,9 +61,7 @@ impl Header {
         requires { end_of self.now < 2 ^ 32 }
         ensures { result ≡ the_offsets_from self.now }
     {
-        match self.width {
-            Width::Legacy => self.numbers_from() + 2 * self.numbers,
-        }
+        self.numbers_from() + numbers_size(self.width, self.numbers)
     }
 
     /// Where the string table begins.
@@ -91,6 +89,29 @@ impl Header {
     }
 }
 
+/// The number that an entry of a format begins with.
+pub(crate) fn magic_number(width: Width) -> usize
+    ensures value { result ≡ the_magic_number width }
+    ensures fits { result < 2 ^ 15 }
+{
+    match width {
+        Width::Legacy => 0o432,
+        Width::Wide => 0o1036,
+    }
+}
+
+/// The format whose magic number the first two bytes are.
+fn width_of(bytes: &[u8]) -> Option<Width>
+    requires { 2 ≤ length bytes.now }
+    ensures { result ≡ the_width_of bytes.now }
+{
+    match count_at(bytes, 0) {
+        0o432 => Some(Width::Legacy),
+        0o1036 => Some(Width::Wide),
+        _ => None,
+    }
+}
+
 /// The header of bytes that have one.
 pub(crate) fn header_words(bytes: &[u8]) -> Header
     requires { 12 ≤ length bytes.now }
@@ -98,7 +119,7 @@ pub(crate) fn header_words(bytes: &[u8]) -> Header
     ensures fits { end_of result < 2 ^ 32 }
 {
     Header {
-        width: Width::Legacy,
+        width: width_of(bytes).unwrap_or(Width::Legacy),
         names: count_at(bytes, 2),
         flags: count_at(bytes, 4),
         numbers: count_at(bytes, 6),
@@ -107,14 +128,14 @@ pub(crate) fn header_words(bytes: &[u8]) -> Header
     }
 }
 
-/// The first two bytes are the magic.
-fn check_magic(bytes: &[u8]) -> Result<(), Stop>
+/// The first two bytes are the magic number of a format.
+pub(crate) fn check_magic(bytes: &[u8]) -> Result<(), Stop>
     ensures { verdict_of result ≡ verdict (length bytes.now) (magic_checks bytes.now) }
 {
     if bytes.len() < 2 {
         return Err(Stop::Early);
     }
-    if bytes[0] != 0x1a || bytes[1] != 0x01 {
+    if width_of(bytes).is_none() {
         return Err(Stop::Failed(Refused {
             fault: Fault::BadMagic,
             place: 0,
@@ -133,7 +154,7 @@ fn check_words(bytes: &[u8]) -> Result<(), Stop>
 }
 
 /// The whole has at most 32768 bytes, and the names have one byte beside their NUL.
-fn check_sizes(len: usize, header: &Header) -> Result<(), Stop>
+pub(crate) fn check_sizes(len: usize, header: &Header) -> Result<(), Stop>
     requires { end_of header.now < 2 ^ 32 }
     ensures verdict { verdict_of result ≡ verdict len (size_checks header.now) }
     ensures named { OnOk result (2 ≤ header.now.names) }
@@ -182,7 +203,7 @@ pub(crate) fn check_sections(bytes: &[u8], header: &Header) -> Result<(), Stop>
     check_names(bytes, header.names)?;
     check_flags(bytes, header.flags_from(), header.flags)?;
     check_pad(bytes, header.pad_from(), header.names + header.flags)?;
-    check_numbers(bytes, header.numbers_from(), header.numbers)?;
+    check_numbers(bytes, header.width, header.numbers_from(), header.numbers)?;
     check_offsets(bytes, header.table, header.offsets_from(), header.texts)?;
     check_endings(
         bytes,

@@ -5,11 +5,12 @@
 ghost use Rattle.std.specs.Prelude.{◌≡◌, ◌+◌, ◌<◌, ◌≤◌, ◌↔◌, length, IsTrue};
 ghost use Rattle.ti_words.specs.Texts.{text_value};
 ghost use Rattle.ti_entry.specs.Word.{word_at as the_word_at};
+ghost use Rattle.ti_entry.specs.Layout.{number_size};
 ghost use Rattle.ti_entry.specs.Table.{text_from as the_text_from, until_nul as the_until_nul, text_of_word, size_at as the_size_at};
 ghost use Rattle.ti_entry.specs.Content.{flag_at as the_flag_at, number_at as the_number_at, text_at as the_text_at};
 
-use crate::word::word_at;
-use ti_words::{Flag, Number, Text, flag_of, number_of};
+use crate::word::{number_word_at, word_at};
+use ti_words::{Flag, Number, Text, Width, flag_of, number_of};
 
 /// The flag of the byte at a place.
 pub(crate) fn flag_at(bytes: &[u8], place: usize) -> Flag
@@ -20,11 +21,11 @@ pub(crate) fn flag_at(bytes: &[u8], place: usize) -> Flag
 }
 
 /// The number of the word at a place.
-pub(crate) fn number_at(bytes: &[u8], place: usize) -> Number
-    requires { place + 2 ≤ length bytes.now }
-    ensures { result ≡ the_number_at 2 bytes.now place }
+pub(crate) fn number_at(bytes: &[u8], width: Width, place: usize) -> Number
+    requires { place + number_size width ≤ length bytes.now }
+    ensures { result ≡ the_number_at (number_size width) bytes.now place }
 {
-    number_of(i32::from(word_at(bytes, place))).unwrap_or(Number::Absent)
+    number_of(number_word_at(bytes, width, place)).unwrap_or(Number::Absent)
 }
 
 /// The text of the offset at a place.

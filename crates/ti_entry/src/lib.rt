@@ -22,6 +22,7 @@ mod put;
 mod reader;
 mod size;
 mod source;
+mod stage;
 mod unfit;
 mod word;
 

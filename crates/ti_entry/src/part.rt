@@ -28,7 +28,7 @@ pub(crate) struct Part {
 }
 
 /// No extended part, held as one with no capability.
-fn no_part(width: Width) -> Part
+pub(crate) fn no_part(width: Width) -> Part
     ensures header { result.header ≡ no_capability width }
     ensures base { result.base ≡ 0 }
 {
@@ -68,7 +68,12 @@ fn check_items(bytes: &[u8], extended: &ExtendedHeader) -> Result<(), Stop>
 {
     check_flags(bytes, extended.flags_from(), extended.flags)?;
     check_pad(bytes, extended.pad_from(), extended.flags)?;
-    check_numbers(bytes, extended.numbers_from(), extended.numbers)?;
+    check_numbers(
+        bytes,
+        extended.width,
+        extended.numbers_from(),
+        extended.numbers,
+    )?;
     check_offsets(
         bytes,
         extended.table,
@@ -104,7 +109,7 @@ fn check_names_from(bytes: &[u8], extended: &ExtendedHeader, base: usize) -> Res
 
 /// The base of the names, where each text and each name has its NUL in the table.
 #[tactic(auto, using(crate::proofs::Sections::verdict_append))]
-fn check_texts(bytes: &[u8], extended: &ExtendedHeader) -> Result<usize, Stop>
+pub(crate) fn check_texts(bytes: &[u8], extended: &ExtendedHeader) -> Result<usize, Stop>
     requires { extended_end_of extended.now ≤ 32768 }
     ensures verdict { verdict_of result ≡ verdict (length bytes.now) (extended_text_checks bytes.now extended.now) }
     ensures base { IfOk result (λ base. base ≡ the_base_of bytes.now extended.now) }

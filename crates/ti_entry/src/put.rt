@@ -27,6 +27,15 @@ fn put_word<A: Allocator>(out: &mut Vec<u8, A>, number: i16) -> Result<(), Alloc
     out.extend_from_slice(&two)
 }
 
+/// A word of 32 bits.
+fn put_wide_word<A: Allocator>(out: &mut Vec<u8, A>, number: i32) -> Result<(), AllocError>
+    ensures { OnOk result (out.new.items ≡ out.old.items ++ word 4 number) }
+{
+    let mut four = [0; 4];
+    LittleEndian::write_i32(&mut four, number);
+    out.extend_from_slice(&four)
+}
+
 /// A count, a size or a place as a word.
 pub(crate) fn put_count<A: Allocator>(out: &mut Vec<u8, A>, count: usize) -> Result<(), AllocError>
     requires { count < 2 ^ 15 }
@@ -69,6 +78,7 @@ fn put_number<A: Allocator>(
 {
     match width {
         Width::Legacy => put_word(out, number_word(number) as i16),
+        Width::Wide => put_wide_word(out, number_word(number)),
     }
 }
 

@@ -1,41 +1,43 @@
-//! A reader that keeps the pieces of an entry as they come.
+//! A reader that keeps the pieces of an entry as they come, and makes each check at the byte that completes its prefix.
 //!
-//! It keeps at most 32768 bytes in a buffer of its own and takes no other memory. The checks are made in `finish`; a
-//! piece is refused where it brings one byte too many, and that refusal lasts.
+//! It keeps at most 32768 bytes in a buffer of its own and takes no other memory. A piece is refused at the byte with
+//! which a check fails, and that refusal lasts. Over all pieces the time is linear in their bytes.
 
-ghost use Rattle.std.specs.Prelude.{◌≡◌, ℕ, List, ◌∷◌, ◌+◌, ◌≤◌, ◌++◌, length, IfOk, IfErr, IsOkAnd, Some, None, Err};
+ghost use Rattle.std.specs.Prelude.{◌≡◌, ℕ, List, ◌∷◌, ◌+◌, ◌≤◌, ◌++◌, [], length, IfOk, IfErr, IsOkAnd, Some, None, Err};
 ghost use Rattle.arrayvec.specs.ArrayVec.{array_vec_len};
 ghost use Rattle.ti_entry.specs.declared.fault.Refused.{Refused};
 ghost use Rattle.ti_entry.specs.Value.{EntryValue};
 ghost use Rattle.ti_entry.specs.Spelling.{Spells};
 ghost use Rattle.ti_entry.specs.Refusal.{refusal, failure, fault_behind as the_fault_behind};
 
-use crate::entry::{Entry, entry_of, read};
-use crate::fault::{Fault, Refused, Stop};
+use crate::entry::{Entry, entry_with};
+use crate::fault::{Fault, Refused};
 use crate::header::{LIMIT, header_words};
+use crate::stage::Stage;
 use arrayvec::ArrayVec;
 use std::marker::Model;
 
-/// The bytes of an entry that came so far, and the refusal that lasts.
+/// The bytes of an entry that came so far, the check that is next, and the refusal that lasts.
 #[derive(Drop)]
 pub struct EntryReader {
     kept: ArrayVec<u8, LIMIT>,
+    stage: Stage,
     refusal: Option<Refused>,
 }
 
 impl Model for EntryReader {
-    ghost use Rattle.std.specs.Prelude.{◌≤◌, length};
     ghost use Rattle.ti_entry.specs.Reading.{Reading};
+    ghost use Rattle.ti_entry.specs.Stages.{IsReading};
 
     ghost Value = { Reading };
 
     ghost view = { λ r. record { kept = r.kept.items; refusal = r.refusal } };
 
-    ghost invariant = { λ r. length r.kept.items ≤ 32768 };
+    ghost invariant = { λ r. IsReading r.kept.items r.stage r.refusal };
 }
 
 impl EntryReader {
-    ghost use Rattle.ti_entry.specs.Reading.{new_reading, fed, failed_on, answer_under, answer_for};
+    ghost use Rattle.ti_entry.specs.Reading.{new_reading, fed, answer_under, answer_for};
 
     /// A reader that has met nothing.
     pub fn new() -> Self
@@ -43,6 +45,7 @@ impl EntryReader {
     {
         EntryReader {
             kept: ArrayVec::new(),
+            stage: Stage::new(),
             refusal: None,
         }
     }
@@ -51,8 +54,8 @@ impl EntryReader {
     ///
     /// # Errors
     ///
-    /// Where it brings a 32769th byte, the first check that fails on all bytes so far; the first 32768 are kept. From
-    /// then on this refusal is answered to every piece, and nothing changes.
+    /// The first check that fails on the bytes so far; those before the byte that decides it are kept. From then on this
+    /// refusal is answered to every piece, and nothing changes.
     pub fn feed(&mut self, piece: &[u8]) -> Result<(), Refused>
         // What the piece makes of the reader.
         ensures fed { self.new ≡ fed self.old piece.now }
@@ -60,18 +63,34 @@ impl EntryReader {
         ensures answer { result ≡ answer_under self.new.refusal tt }
         ensures most { length self.new.kept ≤ 32768 }
     {
-        if let Some(refused) = self.refusal {
+        if let Some(refused) = self.refusal() {
             return Err(refused);
         }
-        let room = self.kept.remaining_capacity();
-        if piece.len() <= room {
-            let _ = self.kept.try_extend_from_slice(piece);
-            return Ok(());
+        'bytes: for &byte in piece {
+            self.take(byte)?;
         }
-        let _ = self.kept.try_extend_from_slice(&piece[..room]);
-        let refused = overfull(self.kept.as_slice());
-        self.refusal = Some(refused);
-        Err(refused)
+        Ok(())
+    }
+
+    /// Takes one byte.
+    fn take(&mut self, byte: u8) -> Result<(), Refused>
+        requires { self.old.refusal ≡ None }
+        ensures fed { self.new ≡ fed self.old (byte ∷ []) }
+        ensures answer { result ≡ answer_under self.new.refusal tt }
+        ensures most { length self.new.kept ≤ 32768 }
+    {
+        if self.kept.is_full() {
+            let refused = overfull(self.kept.as_slice());
+            self.refusal = Some(refused);
+            return Err(refused);
+        }
+        self.kept.push(byte);
+        if let Err(refused) = self.stage.advance(self.kept.as_slice()) {
+            self.kept.pop();
+            self.refusal = Some(refused);
+            return Err(refused);
+        }
+        Ok(())
     }
 
     /// How many bytes are kept.
@@ -82,11 +101,11 @@ impl EntryReader {
         self.kept.len()
     }
 
-    /// The entry that the kept bytes spell. It changes nothing, and more pieces may follow.
+    /// The entry that the kept bytes spell. It makes no check and changes nothing, and more pieces may follow.
     ///
     /// # Errors
     ///
-    /// The refusal of an earlier `feed`; else the first check that does not hold of the kept bytes, as `read` answers.
+    /// The refusal of an earlier `feed`; else `Truncated` at the number of bytes kept, where these end before an entry does.
     pub fn finish(&self) -> Result<Entry<'_>, Refused>
         // After a refusal, that refusal.
         ensures lasting { (r : Refused) → self.now.refusal ≡ Some r → result ≡ Err r }
@@ -100,13 +119,20 @@ impl EntryReader {
         if let Some(refused) = self.refusal {
             return Err(refused);
         }
-        read(self.kept.as_slice())
+        let bytes = self.kept.as_slice();
+        if !self.stage.is_whole() {
+            return Err(Refused {
+                fault: Fault::Truncated,
+                place: bytes.len(),
+            });
+        }
+        Ok(entry_with(bytes, self.stage.header, self.stage.part))
     }
 
     /// The refusal that lasts.
     pub(crate) fn refusal(&self) -> Option<Refused>
         ensures value { result ≡ self.now.refusal }
-        ensures none_failed { failed_on self.now.kept ≡ None }
+        ensures none_failed { failure self.now.kept ≡ None }
         ensures most { length self.now.kept ≤ 32768 }
     {
         self.refusal
@@ -115,16 +141,13 @@ impl EntryReader {
 
 /// Why a byte behind as many as an entry may have is refused.
 fn overfull(kept: &[u8]) -> Refused
-    requires { length kept.now ≡ 32768 }
+    requires full { length kept.now ≡ 32768 }
+    requires unfailed { failure kept.now ≡ None }
     ensures { (byte : ℕ) → (more : List ℕ) → failure (kept.now ++ byte ∷ more) ≡ Some result }
 {
-    match entry_of(kept) {
-        Ok(_) => Refused {
-            fault: fault_behind(kept),
-            place: kept.len(),
-        },
-        Err(Stop::Failed(refused)) => refused,
-        Err(Stop::Early) => unreachable!(),
+    Refused {
+        fault: fault_behind(kept),
+        place: kept.len(),
     }
 }
 

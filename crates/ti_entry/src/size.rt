@@ -5,23 +5,15 @@
 
 ghost use Rattle.std.specs.Prelude.{◌≡◌, ◌+◌, ◌*◌, ◌%◌, length, map, min};
 ghost use Rattle.ti_words.specs.Texts.{text_value};
-ghost use Rattle.ti_entry.specs.Layout.{number_size as the_number_size, pad_len as the_pad_len};
+ghost use Rattle.ti_entry.specs.Layout.{pad_len as the_pad_len};
 ghost use Rattle.ti_entry.specs.Spelling.{mark_in, extended_names};
 ghost use Rattle.ti_entry.specs.Canonical.{canonical, text_bytes, texts_table, names_table, plain_bytes};
 ghost use Rattle.ti_entry.specs.Lengths.{capped, extended_length};
 
 use crate::draft::Draft;
+use crate::word::number_size;
 use std::alloc::Allocator;
-use ti_words::{Text, Width};
-
-/// The bytes of a number.
-fn number_size(width: Width) -> u64
-    ensures { result ≡ the_number_size width }
-{
-    match width {
-        Width::Legacy => 2,
-    }
-}
+use ti_words::Text;
 
 /// The bytes after this count.
 fn pad_len(count: usize) -> u64
@@ -63,10 +55,10 @@ fn names_len(names: &[&[u8]]) -> u64
 }
 
 /// The bytes of this many items of a size.
-fn items_len(count: usize, size: u64) -> u64
+fn items_len(count: usize, size: usize) -> u64
     ensures { result ≡ capped (count * size) }
 {
-    (count as u64).saturating_mul(size)
+    (count as u64).saturating_mul(size as u64)
 }
 
 /// The bytes up to the end of a string table of this size.

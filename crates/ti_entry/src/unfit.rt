@@ -3,10 +3,10 @@
 //! Four faults are asked for in a fixed order, each by one look at what it speaks of. The words of the faults are their
 //! names.
 
-ghost use Rattle.std.specs.Prelude.{◌≡◌, map};
+ghost use Rattle.std.specs.Prelude.{◌≡◌, pos, map};
 ghost use Rattle.std.specs.List.{list_any};
 ghost use Rattle.ti_words.specs.Texts.{text_value};
-ghost use Rattle.ti_entry.specs.Unfit.{has_nul as the_has_nul, text_has_nul as the_text_has_nul, is_out_of_range as the_is_out_of_range, has_bad_name as the_has_bad_name, has_bad_text as the_has_bad_text, has_bad_number as the_has_bad_number, encode_fault};
+ghost use Rattle.ti_entry.specs.Unfit.{has_nul as the_has_nul, text_has_nul as the_text_has_nul, greatest_number as the_greatest_number, is_out_of_range as the_is_out_of_range, has_bad_name as the_has_bad_name, has_bad_text as the_has_bad_text, has_bad_number as the_has_bad_number, encode_fault};
 
 use crate::draft::Draft;
 use crate::header::LIMIT;
@@ -93,13 +93,23 @@ fn any_text_has_nul(texts: &[Text<'_>]) -> bool
     false
 }
 
+/// The greatest number of a format.
+fn greatest_number(width: Width) -> i32
+    ensures { result ≡ pos (the_greatest_number width) }
+{
+    match width {
+        Width::Legacy => 32767,
+        Width::Wide => 2147483647,
+    }
+}
+
 /// Whether a number is negative, or too great for the format.
 fn is_out_of_range(width: Width, number: Number) -> bool
     ensures { result ≡ the_is_out_of_range width number }
 {
-    match (width, number) {
-        (_, Number::Absent | Number::Cancelled) => false,
-        (Width::Legacy, Number::Value(value)) => value < 0 || value > 32767,
+    match number {
+        Number::Absent | Number::Cancelled => false,
+        Number::Value(value) => value < 0 || value > greatest_number(width),
     }
 }
 

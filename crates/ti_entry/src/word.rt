@@ -1,9 +1,11 @@
-//! Words of 16 bits, the lower byte first, at places of an input.
+//! Words of 16 bits, the lower byte first, at places of an input, and numbers, which are words of 16 or of 32 bits.
 
-ghost use Rattle.std.specs.Prelude.{◌≡◌, ◌+◌, ◌<◌, ◌≤◌, ◌^◌, length};
+ghost use Rattle.std.specs.Prelude.{◌≡◌, ◌+◌, ◌*◌, ◌<◌, ◌≤◌, ◌^◌, length};
 ghost use Rattle.ti_entry.specs.Word.{unsigned_at, word_at as the_word_at};
+ghost use Rattle.ti_entry.specs.Layout.{number_size as the_number_size};
 
 use byteorder::{ByteOrder, LittleEndian};
+use ti_words::Width;
 
 /// The word at a place.
 pub(crate) fn word_at(bytes: &[u8], at: usize) -> i16
@@ -20,4 +22,33 @@ pub(crate) fn count_at(bytes: &[u8], at: usize) -> usize
     ensures fits { result < 2 ^ 16 }
 {
     usize::from(LittleEndian::read_u16(&bytes[at..]))
+}
+
+/// The bytes of a number.
+pub(crate) fn number_size(width: Width) -> usize
+    ensures { result ≡ the_number_size width }
+{
+    match width {
+        Width::Legacy => 2,
+        Width::Wide => 4,
+    }
+}
+
+/// The bytes of this many numbers.
+pub(crate) fn numbers_size(width: Width, count: usize) -> usize
+    requires { the_number_size width * count < 2 ^ 32 }
+    ensures { result ≡ the_number_size width * count }
+{
+    number_size(width) * count
+}
+
+/// The word of the number at a place.
+pub(crate) fn number_word_at(bytes: &[u8], width: Width, at: usize) -> i32
+    requires { at + the_number_size width ≤ length bytes.now }
+    ensures { result ≡ the_word_at (the_number_size width) bytes.now at }
+{
+    match width {
+        Width::Legacy => i32::from(word_at(bytes, at)),
+        Width::Wide => LittleEndian::read_i32(&bytes[at..]),
+    }
 }

@@ -39,7 +39,7 @@ fn digit_count(number: u32, base: u32) -> usize
 }
 
 /// Writes the digits so that they end at a place, and returns where they start.
-#[inline]
+#[inline(always)]
 fn write_radix(number: u32, base: u32, upper: bool, out: &mut [u8], end: usize) -> usize
     requires base { (2 ≤ base) × (base ≤ 16) }
     requires room { (length (significant base upper number) ≤ end) × (end ≤ length out.old) }
@@ -80,10 +80,13 @@ fn write_digits(number: u32, base: u32, upper: bool, out: &mut [u8], end: usize)
     ensures written { drop result out.new ≡ significant base upper number ++ drop end out.old }
     ensures before { take result out.new ≡ take result out.old }
 {
-    if base == 10 && !upper {
-        return write_decimal(number, out, end);
+    // Where the base is known, the compiler divides by shifts.
+    match base {
+        10 if !upper => write_decimal(number, out, end),
+        8 => write_radix(number, 8, upper, out, end),
+        16 => write_radix(number, 16, upper, out, end),
+        _ => write_radix(number, base, upper, out, end),
     }
-    write_radix(number, base, upper, out, end)
 }
 
 /// The digits of a number, seen as their bytes.

@@ -1,11 +1,12 @@
 //! What a simple token does: the state behind it is its `effect`.
 
-ghost use Rattle.std.specs.Prelude.{◌≡◌, ◌+◌, ◌-◌, ◌<◌, ◌≤◌, ◌++◌, length, take, drop};
+ghost use Rattle.std.specs.Prelude.{◌≡◌, ℕ, List, ◌+◌, ◌-◌, ◌<◌, ◌≤◌, ◌++◌, length, take, drop};
 ghost use Rattle.ti_cap.specs.Tree.{IsSimple};
 ghost use Rattle.ti_cap.specs.Height.{next_height};
-ghost use Rattle.ti_expand.specs.State.{popped, parameter};
+ghost use Rattle.ti_expand.specs.State.{popped, text_on, parameter};
 ghost use Rattle.ti_expand.specs.Machine.{held, machine};
 ghost use Rattle.ti_expand.specs.Sound.{IsSound};
+ghost use Rattle.ti_expand.specs.Running.{IsSilent};
 ghost use Rattle.ti_expand.specs.Effect.{effect, computed, with_increments, incremented, print_for};
 
 use crate::operation::{apply, byte_of, inverted, negated, next_number};
@@ -79,6 +80,42 @@ fn print(format: &Format, stack: &mut Stack<'_, '_>, out: &mut [u8], written: us
     }
 }
 
+/// Does what a token does that writes nothing.
+fn change<'a>(
+    token: &Token,
+    parameters: &mut [Value<'a>; 9],
+    vars: &mut Vars,
+    stack: &mut Stack<'_, 'a>,
+)
+    requires silent { IsSilent token.now }
+    requires short { length (text_on (held stack.old.slots.now stack.old.height)) ≤ 32767 }
+    requires height { next_height stack.old.height token.now ≤ length stack.old.slots.now }
+    ensures state { (out : List ℕ) (written : ℕ) → machine stack.new.slots.now stack.new.height vars.new parameters.new out written
+        ≡ effect token.now (machine stack.old.slots.now stack.old.height vars.old parameters.old out written) }
+    ensures height { stack.new.height ≡ next_height stack.old.height token.now }
+    ensures slots { length stack.new.slots.now ≡ length stack.old.slots.now }
+{
+    match token {
+        Token::Param(k) => stack.push(parameter_at(parameters, *k)),
+        Token::Constant(number) => stack.push(Value::Num(*number)),
+        Token::Store(letter) => {
+            let number = stack.pop_number();
+            let _ = vars.set(*letter, number);
+        }
+        Token::Load(letter) => {
+            let number = vars.get(*letter).unwrap_or(0);
+            stack.push(Value::Num(number));
+        }
+        Token::Length => {
+            let length = stack.pop_text().len();
+            stack.push(Value::Num(length as i32));
+        }
+        Token::Compute(op) => compute(*op, stack),
+        Token::Increment => increment(parameters),
+        _ => (),
+    }
+}
+
 /// Does what a simple token does, and returns where the output ends.
 #[tactic(auto, using(crate::proofs::Soundness::text_on_sound))]
 pub fn act<'a>(
@@ -104,42 +141,11 @@ pub fn act<'a>(
 {
     match token {
         Token::Byte(byte) => put_byte(out, written, *byte),
-        Token::Param(k) => {
-            stack.push(parameter_at(parameters, *k));
-            written
-        }
-        Token::Constant(number) => {
-            stack.push(Value::Num(*number));
-            written
-        }
-        Token::Store(letter) => {
-            let number = stack.pop_number();
-            let _ = vars.set(*letter, number);
-            written
-        }
-        Token::Load(letter) => {
-            let number = vars.get(*letter).unwrap_or(0);
-            stack.push(Value::Num(number));
-            written
-        }
-        Token::Length => {
-            let length = stack.pop_text().len();
-            stack.push(Value::Num(length as i32));
-            written
-        }
-        Token::Compute(op) => {
-            compute(*op, stack);
-            written
-        }
-        Token::Increment => {
-            increment(parameters);
-            written
-        }
-        Token::Char => {
-            let byte = byte_of(stack.pop_number());
-            put_byte(out, written, byte)
-        }
+        Token::Char => put_byte(out, written, byte_of(stack.pop_number())),
         Token::Print(format) => print(format, stack, out, written),
-        Token::CondOpen | Token::CondThen | Token::CondElse | Token::CondClose => written,
+        _ => {
+            change(token, parameters, vars, stack);
+            written
+        }
     }
 }

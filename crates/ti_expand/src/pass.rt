@@ -81,10 +81,7 @@ pub(crate) fn run_tape<'a>(
     let mut mode = Mode::Run;
     let mut parameters = *parameters;
     let mut stack = Stack::new(stack);
-    let mut written = 0;
-    let mut ran = 0;
-    let mut passed = 0;
-    let mut peak = 0;
+    let mut run = Run::start();
     while let Some(token) = tape.token() {
         let (after, end) = meet(
             mode,
@@ -93,21 +90,11 @@ pub(crate) fn run_tape<'a>(
             vars,
             &mut stack,
             out,
-            written,
+            run.written,
         );
-        if mode.ran(after) {
-            ran += 1;
-        } else {
-            passed += 1;
-        }
-        peak = stack.height().max(peak);
+        run.count(mode.ran(after), stack.height());
+        run.written = end;
         mode = after;
-        written = end;
     }
-    Run {
-        written,
-        ran,
-        passed,
-        peak,
-    }
+    run
 }

@@ -12,3 +12,35 @@ pub struct Run {
     /// The greatest number of values on the stack after a token.
     pub peak: usize,
 }
+
+impl Run {
+    ghost use Rattle.std.specs.Prelude.{◌≡◌, ◌+◌, ◌<◌, ◌^◌, max, if◌then◌else◌};
+
+    /// Before the first token.
+    pub(crate) fn start() -> Run
+        ensures { result ≡ record { written = 0; ran = 0; passed = 0; peak = 0 } }
+    {
+        Run {
+            written: 0,
+            ran: 0,
+            passed: 0,
+            peak: 0,
+        }
+    }
+
+    /// Counts a token that ran or was passed over, behind which the stack has `height` values.
+    pub(crate) fn count(&mut self, ran: bool, height: usize)
+        requires { self.old.ran + self.old.passed + 1 < 2 ^ 64 }
+        ensures written { self.new.written ≡ self.old.written }
+        ensures ran { self.new.ran ≡ (if ran then self.old.ran + 1 else self.old.ran) }
+        ensures passed { self.new.passed ≡ (if ran then self.old.passed else self.old.passed + 1) }
+        ensures peak { self.new.peak ≡ max self.old.peak height }
+    {
+        if ran {
+            self.ran += 1;
+        } else {
+            self.passed += 1;
+        }
+        self.peak = self.peak.max(height);
+    }
+}

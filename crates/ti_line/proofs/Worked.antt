@@ -2,7 +2,7 @@
 use Rattle.std.proofs.Common.{[], ◌∷◌, true, false, refl, inl}
 use Rattle.std.specs.Prelude.{codes}
 use Rattle.clap.proofs.OnLiterals.{clap_on_literals}
-use Rattle.ti_line.specs.CommandLine.{AsksForHelp, Cap, Expand, IsRefused, Reads, Show}
+use Rattle.ti_line.specs.CommandLine.{AsksForHelp, Cap, Convert, Expand, IsRefused, Reads, Show}
 
 -- `ti cap n:4 --hex n:9`
 cap_row : Reads (codes "ti" ∷ codes "cap" ∷ codes "n:4" ∷ codes "--hex" ∷ codes "n:9" ∷ []) (Cap true (codes "n:4" ∷ codes "n:9" ∷ []))
@@ -13,6 +13,16 @@ cap_row = (refl, refl)
 show_row : Reads (codes "ti" ∷ codes "show" ∷ []) Show
 unfolding clap_on_literals
 show_row = (refl, refl)
+
+-- `ti convert --wide`
+wide_row : Reads (codes "ti" ∷ codes "convert" ∷ codes "--wide" ∷ []) (Convert true false)
+unfolding clap_on_literals
+wide_row = (refl, refl)
+
+-- `ti convert --narrow --wide`
+both_row : Reads (codes "ti" ∷ codes "convert" ∷ codes "--narrow" ∷ codes "--wide" ∷ []) (Convert true true)
+unfolding clap_on_literals
+both_row = (refl, refl)
 
 -- `ti expand --rate 960 cup`
 expand_row : Reads (codes "ti" ∷ codes "expand" ∷ codes "--rate" ∷ codes "960" ∷ codes "cup" ∷ []) (Expand (codes "cup") false 960 1 false [])

@@ -51,6 +51,14 @@ lines_rule = record (new_rule (codes "lines")) {
 abbrev pub xon_rule : Rule
 xon_rule = record (new_rule (codes "xon")) { long = Some (codes "xon"); action = Some SetTrue }
 
+-- `--wide`
+abbrev pub wide_rule : Rule
+wide_rule = record (new_rule (codes "wide")) { long = Some (codes "wide"); action = Some SetTrue }
+
+-- `--narrow`
+abbrev pub narrow_rule : Rule
+narrow_rule = record (new_rule (codes "narrow")) { long = Some (codes "narrow"); action = Some SetTrue }
+
 -- a command with these arguments too, in their order
 abbrev pub with_rules : App → List Rule → App
 with_rules = fold with_rule
@@ -76,9 +84,9 @@ abbrev pub expand_app : App
 expand_app =
     with_rules (new_app (codes "expand")) (name_rule ∷ hex_rule ∷ rate_rule ∷ lines_rule ∷ xon_rule ∷ params_rule ∷ [])
 
--- `convert`
+-- `convert [--wide] [--narrow]`
 abbrev pub convert_app : App
-convert_app = new_app (codes "convert")
+convert_app = with_rules (new_app (codes "convert")) (wide_rule ∷ narrow_rule ∷ [])
 
 -- `ti` with a version, which wants a subcommand
 abbrev pub start_app : App
@@ -116,7 +124,7 @@ pub data Asked : Type 0 where
   Show : Asked
   Check : Asked
   Expand : (name : Text) → (hex : Bool) → (rate lines : ℕ) → (xon : Bool) → (params : List Text) → Asked
-  Convert : Asked
+  Convert : (wide narrow : Bool) → Asked
 
 -- `expand` with a name and numbers within their ranges
 abbrev pub expand_by : List Row → Text → Option Asked
@@ -134,7 +142,7 @@ asked_by command rows =
     else (if bytes_eq command (codes "show") then Some Show
     else (if bytes_eq command (codes "check") then Some Check
     else (if bytes_eq command (codes "expand") then option_and_then (expand_by rows) (first_of (codes "NAME") rows)
-    else (if bytes_eq command (codes "convert") then Some Convert
+    else (if bytes_eq command (codes "convert") then Some (Convert (flag_in (codes "wide") rows) (flag_in (codes "narrow") rows))
     else None))))
 
 abbrev pub asked : Option (Text × List Row) → Option Asked

@@ -21,7 +21,7 @@ IsWithin (Cap hex params) = Unit {0}
 IsWithin Show = Unit {0}
 IsWithin Check = Unit {0}
 IsWithin (Expand name hex rate lines xon params) = (rate ≤ 1000000) × (lines ≤ 65535)
-IsWithin Convert = Unit {0}
+IsWithin (Convert wide narrow) = Unit {0}
 
 abbrev pub HasNumbersWithin : Type 0
 HasNumbersWithin = (words : List Text) (line : Asked) → Reads words line → IsWithin line

@@ -15,7 +15,7 @@ asked_of (line.Cap hex params) = Cap hex (map (λ t. t.now) params.items)
 asked_of line.Show = Show
 asked_of line.Check = Check
 asked_of (line.Expand name hex rate lines xon params) = Expand name.now hex rate lines xon (map (λ t. t.now) params.items)
-asked_of line.Convert = Convert
+asked_of (line.Convert wide narrow) = Convert wide narrow
 
 -- words that are read as this line are answered with it, or with want of memory
 abbrev pub IsReadAs : Asked → Result Line NoLine → Type 0

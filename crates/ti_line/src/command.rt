@@ -3,7 +3,7 @@
 ghost use Rattle.std.specs.Prelude.{◌≡◌, [], ◌∷◌, IfOk, false};
 ghost use Rattle.clap.specs.Words.{app_of, new_app, rule_of, with_rule};
 ghost use Rattle.clap.specs.declared.builder.command.Command.TheViews.{out-Command as fields_of};
-ghost use Rattle.ti_line.specs.CommandLine.{cap_app, check_app, convert_app, expand_app, hex_rule, lines_rule, name_rule, params_rule, rate_rule, show_app, start_app, ti_app, with_commands, xon_rule};
+ghost use Rattle.ti_line.specs.CommandLine.{cap_app, check_app, convert_app, expand_app, hex_rule, lines_rule, name_rule, narrow_rule, params_rule, rate_rule, show_app, start_app, ti_app, wide_rule, with_commands, xon_rule};
 
 use clap::{Arg, ArgAction, Command, value_parser};
 use std::alloc::{AllocError, Global};
@@ -73,6 +73,26 @@ fn xon<'a>(alloc: Global) -> Arg<'a>
         .long("xon")
         .action(ArgAction::SetTrue)
         .help("The line has flow control: write only padding that is mandatory (marked by /)")
+}
+
+fn wide<'a>(alloc: Global) -> Arg<'a>
+    ensures rule { rule_of result ≡ wide_rule }
+    ensures local { result.global ≡ false }
+{
+    Arg::new(alloc, "wide")
+        .long("wide")
+        .action(ArgAction::SetTrue)
+        .help("Write the format with numbers of 32 bits")
+}
+
+fn narrow<'a>(alloc: Global) -> Arg<'a>
+    ensures rule { rule_of result ≡ narrow_rule }
+    ensures local { result.global ≡ false }
+{
+    Arg::new(alloc, "narrow")
+        .long("narrow")
+        .action(ArgAction::SetTrue)
+        .help("Write the format with numbers of 16 bits, which are at most 32767; not with --wide")
 }
 
 /// A command with its name, a line on what it does, and what its long help has at its end.
@@ -147,16 +167,18 @@ fn expand<'a>(alloc: Global) -> Result<Command<'a>, AllocError>
         .arg(params(alloc))
 }
 
-fn convert<'a>(alloc: Global) -> Command<'a>
-    ensures shape { app_of result ≡ convert_app }
-    ensures local { (fields_of result).has_globals ≡ false }
+fn convert<'a>(alloc: Global) -> Result<Command<'a>, AllocError>
+    ensures shape { IfOk result (λ c. app_of c ≡ convert_app) }
+    ensures local { IfOk result (λ c. (fields_of c).has_globals ≡ false) }
 {
     titled(
         alloc,
         "convert",
         "Write the entry on standard input in its canonical layout",
-        "Example:\n  ti convert < entry > canonical",
+        "Example, which writes the entry with numbers of 32 bits:\n  ti convert --wide < entry > wide",
     )
+    .arg(wide(alloc))?
+    .arg(narrow(alloc))
 }
 
 /// What help says of the exit status.
@@ -198,5 +220,5 @@ pub(crate) fn program<'a>(alloc: Global) -> Result<Command<'a>, AllocError>
 {
     reading(alloc)?
         .subcommand(expand(alloc)?)?
-        .subcommand(convert(alloc))
+        .subcommand(convert(alloc)?)
 }

@@ -9,7 +9,7 @@
 //! | `show` | [`Line::Show`] |
 //! | `check` | [`Line::Check`] |
 //! | `expand NAME [--hex] [--rate N] [--lines N] [--xon] [PARAM..]` | [`Line::Expand`] |
-//! | `convert` | [`Line::Convert`] |
+//! | `convert [--wide] [--narrow]` | [`Line::Convert`] |
 #![tactic(auto)]
 
 mod command;

@@ -39,7 +39,12 @@ pub enum Line<'a> {
         params: Vec<&'a str>,
     },
     /// Write the entry in its canonical layout.
-    Convert,
+    Convert {
+        /// Write it with numbers of 32 bits.
+        wide: bool,
+        /// Write it with numbers of 16 bits. That both are given is the caller's to refuse.
+        narrow: bool,
+    },
 }
 
 /// Why there is no line. Its `Display` is the text for the user, in full lines but for the one of [`NoLine::Memory`].

@@ -88,7 +88,10 @@ pub(crate) fn line_of<'a>(
             Some(name) => expand_line(given, name, params),
             None => None,
         },
-        "convert" => Some(Line::Convert),
+        "convert" => Some(Line::Convert {
+            wide: flag(given, "wide"),
+            narrow: flag(given, "narrow"),
+        }),
         _ => None,
     };
     Ok(line)

@@ -6,8 +6,8 @@ use Rattle.std.proofs.KnownBytes.{Keeps-refl}
 use Rattle.ti_tool.specs.declared.fault.ToolFault.{ToolFault}
 use Rattle.ti_tool.specs.declared.fault.ToolFault.TheVariants as fault
 use Rattle.ti_entry.specs.declared.fault.Refused.{Refused}
-use Rattle.ti_entry.specs.Refusal.{refusal}
-use Rattle.ti_entry.specs.Reading.{Reading, new_reading, fed, failed_on}
+use Rattle.ti_entry.specs.Refusal.{refusal, failure}
+use Rattle.ti_entry.specs.Reading.{Reading, new_reading, fed}
 use Rattle.ti_tool.specs.Reading.{Takes}
 use Rattle.ti_tool.specs.Calls.{Wrote, Ended, DidCall, HasFailed, StoppedAt, without_value}
 
@@ -93,7 +93,7 @@ did_stop due left0 left1 held fault.NoSuchText s h = absurd s
 did_stop due left0 left1 held (fault.TooMuch need) s h = absurd s
 
 -- what a new reader refused is why the bytes fail
-pub stopped_on : (bytes : List ℕ) (old new : Reading) (r : Refused) → old ≡ new_reading → new ≡ fed old bytes → new.refusal ≡ Some r → failed_on bytes ≡ Some r
+pub stopped_on : (bytes : List ℕ) (old new : Reading) (r : Refused) → old ≡ new_reading → new ≡ fed old bytes → new.refusal ≡ Some r → failure bytes ≡ Some r
 stopped_on bytes old new r o n h = ap (λ x. (fed x bytes).refusal) (sym o) ∙ ap (λ x. x.refusal) (sym n) ∙ h
 
 -- a call whose answer has a value did what the same answer without it tells

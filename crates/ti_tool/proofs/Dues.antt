@@ -1,5 +1,7 @@
 -- What is due for a named text.
 use Rattle.std.proofs.Common.{◌≡◌, ◌⊎◌, ℕ, inl, inr, Bool, List, Err}
+use Rattle.std.specs.Prelude.{Option}
+use Rattle.ti_words.specs.declared.Width.{Width}
 use Rattle.ti_words.specs.Texts.{TextValue, AbsentText, CancelledText, TextOf}
 use Rattle.ti_expand.specs.declared.value.Value.{Value}
 use Rattle.ti_pad.specs.Setting.{Setting}
@@ -7,7 +9,7 @@ use Rattle.ti_entry.specs.Value.{EntryValue}
 use Rattle.ti_entry.specs.Spelling.{Spells}
 use Rattle.ti_tool.specs.declared.fault.ToolFault.{ToolFault}
 use Rattle.ti_tool.specs.declared.fault.ToolFault.TheVariants as fault
-use Rattle.ti_tool.specs.Results.{IsConverted, IsDue, IsDueFor, IsEncoding, IsNamed}
+use Rattle.ti_tool.specs.Results.{IsConverted, IsDue, IsDueFor, IsEncoding, IsNamed, in_width}
 
 due_never : (text : TextValue) (parameters : List Value) (setting : Setting) (hex : Bool) (gone : ℕ) → ¬ IsDue text parameters setting hex (Err (fault.Write gone))
 due_never AbsentText parameters setting hex gone d = absurd (cc)
@@ -26,11 +28,11 @@ named_due name parameters setting hex input v e spells (inl is) = inl is
 named_due name parameters setting hex input v e spells (inr d) = inr (inr (v, spells, d))
 
 -- a writer's fault is due to no conversion
-pub converted_never : (input : List ℕ) (gone : ℕ) → ¬ IsConverted input (Err (fault.Write gone))
-converted_never input gone (inl (refused, is, e)) = absurd (cc)
-converted_never input gone (inr (v, spells, h)) = h
+pub converted_never : (width : Option Width) (input : List ℕ) (gone : ℕ) → ¬ IsConverted width input (Err (fault.Write gone))
+converted_never width input gone (inl (refused, is, e)) = absurd (cc)
+converted_never width input gone (inr (v, spells, h)) = h
 
 -- what an entry is encoded as is due for the bytes that spell it
-pub converted_due : (input : List ℕ) (v : EntryValue) (e : ToolFault) → Spells input v → (e ≡ fault.Memory) ⊎ IsEncoding v (Err e) → (e ≡ fault.Memory) ⊎ IsConverted input (Err e)
-converted_due input v e spells (inl is) = inl is
-converted_due input v e spells (inr h) = inr (inr (v, spells, h))
+pub converted_due : (width : Option Width) (input : List ℕ) (v : EntryValue) (e : ToolFault) → Spells input v → (e ≡ fault.Memory) ⊎ IsEncoding (in_width width v) (Err e) → (e ≡ fault.Memory) ⊎ IsConverted width input (Err e)
+converted_due width input v e spells (inl is) = inl is
+converted_due width input v e spells (inr h) = inr (inr (v, spells, h))

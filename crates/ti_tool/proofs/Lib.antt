@@ -8,3 +8,4 @@ pub mod Ran
 pub mod Standing
 pub mod Takings
 pub mod Verdicts
+pub mod Widened

@@ -1,8 +1,7 @@
 -- What a run did, from why there is a line or none.
-use Rattle.std.proofs.Common.{◌≡◌, ◌⊎◌, ℕ, inl, inr, List, Err, Ok, sym, subst}
-use Rattle.ti_line.specs.CommandLine.{Asked, Reads}
-use Rattle.ti_line.specs.Line.{Explains, IsReadAs, asked_of}
-use Rattle.ti_line.specs.declared.line.Line.{Line}
+use Rattle.std.proofs.Common.{◌≡◌, ◌⊎◌, ℕ, inl, inr, List, subst}
+use Rattle.ti_line.specs.CommandLine.{Asked}
+use Rattle.ti_line.specs.Line.{Explains}
 use Rattle.ti_line.specs.declared.line.NoLine.{NoLine}
 use Rattle.ti_line.specs.declared.line.NoLine.TheVariants as no_line
 use Rattle.ti_tool.specs.Runs.{Ends, EndsWords, HadNoMemory, RanLine, RanNoLine}

@@ -2,8 +2,8 @@
 use Rattle.std.specs.Prelude.{◌≡◌, ◌<◌, ◌⊎◌, ℕ, Bool, List, IfOk, Option, Some, None, Result, Ok, Err, length, take}
 use Rattle.std.specs.Io.KnownBytes.{Appends, Consumes, IsAtEnd, Keeps}
 use Rattle.ti_entry.specs.declared.fault.Refused.{Refused}
-use Rattle.ti_entry.specs.Reading.{Reading, failed_on}
-use Rattle.ti_entry.specs.Refusal.{refusal}
+use Rattle.ti_entry.specs.Reading.{Reading}
+use Rattle.ti_entry.specs.Refusal.{refusal, failure}
 use Rattle.ti_tool.specs.declared.fault.ToolFault.{ToolFault}
 use Rattle.ti_tool.specs.declared.fault.ToolFault.TheVariants as fault
 
@@ -37,13 +37,13 @@ IsFull input = length input ≡ 32768
 
 -- a check of an entry has failed on bytes that came, whatever would follow
 abbrev pub HasFailed : List ℕ → Type 0
-HasFailed input = (refused : Refused) × (failed_on input ≡ Some refused)
+HasFailed input = (refused : Refused) × (failure input ≡ Some refused)
 
 -- why reading an entry stopped: a read failed, or the bytes that came are refused
 abbrev pub StoppedAt : Option (List ℕ) → Option (List ℕ) → ToolFault → Type 0
 StoppedAt before after fault.Read = (bytes : List ℕ) × Consumes before after bytes
 StoppedAt before after (fault.Entry refused) =
-    (bytes : List ℕ) × Consumes before after bytes × (failed_on bytes ≡ Some refused) × (refusal bytes ≡ Some refused)
+    (bytes : List ℕ) × Consumes before after bytes × (failure bytes ≡ Some refused) × (refusal bytes ≡ Some refused)
 StoppedAt before after _ = ⊥
 
 -- all that there was to read is kept, and nothing is refused so far

@@ -7,3 +7,4 @@ pub mod Checked
 pub mod Results
 pub mod Calls
 pub mod Runs
+pub mod Laws

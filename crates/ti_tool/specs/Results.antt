@@ -1,5 +1,5 @@
 -- What each call of the program makes of the bytes that it read.
-use Rattle.std.specs.Prelude.{◌≡◌, ◌≤◌, ◌<◌, ◌⊎◌, ℕ, Bool, length, List, [], ◌∷◌, ◌++◌, Result, Ok, Err, Some, None, pos, replicate, if◌then◌else◌}
+use Rattle.std.specs.Prelude.{◌≡◌, ◌≤◌, ◌<◌, ◌⊎◌, ℕ, Bool, length, List, [], ◌∷◌, ◌++◌, Result, Ok, Err, Some, None, pos, replicate, Option, if◌then◌else◌}
 use Rattle.hex.specs.Hex.{encode_lower}
 use Rattle.ti_cap.specs.Tree.{Sequence}
 use Rattle.ti_cap.specs.Spelling.{Writes}
@@ -12,6 +12,7 @@ use Rattle.ti_entry.specs.declared.fault.Refused.{Refused}
 use Rattle.ti_entry.specs.Value.{EntryValue}
 use Rattle.ti_entry.specs.Spelling.{Spells}
 use Rattle.ti_entry.specs.Refusal.{refusal}
+use Rattle.ti_words.specs.declared.Width.{Width}
 use Rattle.ti_words.specs.Texts.{TextValue, AbsentText, CancelledText, TextOf}
 use Rattle.ti_pad.specs.Setting.{Setting}
 use Rattle.ti_pad.specs.Padded.{padded}
@@ -90,8 +91,13 @@ IsEncoding v (Ok out) = (encode_fault v ≡ None) × (out ≡ canonical v)
 IsEncoding v (Err (fault.Encode unfit)) = encode_fault v ≡ Some unfit
 IsEncoding v (Err _) = ⊥
 
+-- an entry in the width that is asked for, or in its own
+abbrev pub in_width : Option Width → EntryValue → EntryValue
+in_width None v = v
+in_width (Some width) v = record v { width = width }
+
 -- the result of `convert`, or the first fault
-abbrev pub IsConverted : List ℕ → Result (List ℕ) ToolFault → Type 0
-IsConverted input answer =
+abbrev pub IsConverted : Option Width → List ℕ → Result (List ℕ) ToolFault → Type 0
+IsConverted width input answer =
     ((refused : Refused) × (refusal input ≡ Some refused) × (answer ≡ Err (fault.Entry refused)))
-    ⊎ ((v : EntryValue) × Spells input v × IsEncoding v answer)
+    ⊎ ((v : EntryValue) × Spells input v × IsEncoding (in_width width v) answer)

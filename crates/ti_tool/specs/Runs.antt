@@ -1,9 +1,11 @@
 -- What a run of the program does.
-use Rattle.std.specs.Prelude.{◌≡◌, ◌⊎◌, ℕ, Bool, true, false, List, Option, Result, Ok, Err}
+use Rattle.std.specs.Prelude.{◌≡◌, ◌⊎◌, ℕ, Bool, true, false, ◌&&◌, List, Option, Some, None, Result, Ok, Err}
 use Rattle.std.specs.Io.KnownBytes.{Keeps}
+use Rattle.ti_words.specs.declared.Width.{Width}
+use Rattle.ti_words.specs.declared.Width.TheVariants.{Legacy, Wide}
 use Rattle.ti_expand.specs.declared.value.Value.{Value}
 use Rattle.ti_pad.specs.Setting.{Setting}
-use Rattle.ti_line.specs.CommandLine.{Asked, AsksForHelp, Cap, Show, Check, Expand, Convert, IsRefused, Reads}
+use Rattle.ti_line.specs.CommandLine.{Asked, AsksForHelp, Cap, Show, Check, Expand, Convert, IsRefused}
 use Rattle.ti_line.specs.declared.line.NoLine.{NoLine}
 use Rattle.ti_line.specs.declared.line.NoLine.TheVariants as no_line
 use Rattle.ti_tool.specs.declared.fault.ToolFault.{ToolFault}
@@ -52,7 +54,13 @@ RanWith Did words ends status =
 abbrev pub setting_of : ℕ → ℕ → Bool → Setting
 setting_of rate lines xon = record { rate = rate; lines = lines; xon = xon; pad = 0 }
 
--- a line did what it asks for
+-- the width that a flag of `convert` asks for; without one the entry keeps its own
+abbrev pub width_asked : Bool → Bool → Option Width
+width_asked true narrow = Some Wide
+width_asked false true = Some Legacy
+width_asked false false = None
+
+-- a line did what it asks for; both flags of `convert` together are refused as bad parameters are
 abbrev pub RanLine : Asked → Ends → ℕ → Type 0
 RanLine (Cap hex words) ends status =
     RanWith (λ values answer. DidCall (IsCapped values hex) IsFull ends.left0 ends.left1 ends.held0 ends.held1 answer) words ends status
@@ -62,8 +70,11 @@ RanLine Check ends status =
     (answer : Result Bool ToolFault) × DidCheck IsChecked ends.left0 ends.left1 ends.held0 ends.held1 answer × (status ≡ check_status answer)
 RanLine (Expand name hex rate lines xon words) ends status =
     RanWith (λ values answer. DidCall (IsNamed name values (setting_of rate lines xon) hex) HasFailed ends.left0 ends.left1 ends.held0 ends.held1 answer) words ends status
-RanLine Convert ends status =
-    (answer : Result (Unit {0}) ToolFault) × DidCall IsConverted HasFailed ends.left0 ends.left1 ends.held0 ends.held1 answer × (status ≡ status_for answer)
+RanLine (Convert wide narrow) ends status =
+    ((wide && narrow ≡ true) × RefusesWords ends status)
+    ⊎ ((wide && narrow ≡ false)
+    × ((answer : Result (Unit {0}) ToolFault)
+    × DidCall (IsConverted (width_asked wide narrow)) HasFailed ends.left0 ends.left1 ends.held0 ends.held1 answer × (status ≡ status_for answer)))
 
 -- memory was wanted, and nothing is done
 abbrev pub HadNoMemory : Ends → ℕ → Type 0

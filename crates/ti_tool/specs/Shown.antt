@@ -7,6 +7,8 @@ use Rattle.ti_words.specs.declared.Flag.TheVariants as flags
 use Rattle.ti_words.specs.declared.Kind.TheVariants as kinds
 use Rattle.ti_words.specs.declared.Number.{Number}
 use Rattle.ti_words.specs.declared.Number.TheVariants as numbers
+use Rattle.ti_words.specs.declared.Width.{Width}
+use Rattle.ti_words.specs.declared.Width.TheVariants.{Legacy, Wide}
 use Rattle.ti_words.specs.Texts.{TextValue, AbsentText, CancelledText, TextOf}
 use Rattle.ti_entry.specs.Value.{EntryValue}
 use Rattle.ti_tool.specs.Labels.{label_of}
@@ -67,6 +69,12 @@ extended_lines v =
     lines_from extended_flag 0 v.extended_flags ++ lines_from extended_number 0 v.extended_numbers
     ++ lines_from extended_text 0 v.extended_texts
 
+-- the name of a format
+abbrev pub format_word : Width → List ℕ
+format_word Legacy = codes "legacy"
+format_word Wide = codes "wide"
+
 -- the format and the names, then the standard capabilities and those of the extended part
 abbrev pub entry_lines : EntryValue → List ℕ
-entry_lines v = codes "format: legacy\nnames: " ++ v.names ++ codes "\n" ++ standard_lines v ++ extended_lines v
+entry_lines v =
+    codes "format: " ++ format_word v.width ++ codes "\nnames: " ++ v.names ++ codes "\n" ++ standard_lines v ++ extended_lines v

@@ -1,16 +1,17 @@
-//! `convert`: an entry in its canonical layout.
+//! `convert`: an entry in its canonical layout, in its own format or in the one that is asked for.
 
-ghost use Rattle.std.specs.Prelude.{◌≡◌, ◌⊎◌, Ok, Err, MatchResult};
+ghost use Rattle.std.specs.Prelude.{◌≡◌, ◌⊎◌, Ok, Err, IfOk, MatchResult};
 ghost use Rattle.ti_tool.specs.declared.fault.ToolFault.TheVariants as fault;
-ghost use Rattle.ti_tool.specs.Results.{IsConverted, IsEncoding};
+ghost use Rattle.ti_tool.specs.Results.{IsConverted, IsEncoding, in_width};
 ghost use Rattle.ti_tool.specs.Calls.{DidCall, HasFailed};
 
 use crate::entry::read_entry;
 use crate::fault::ToolFault;
 use crate::output::write_result;
-use std::alloc::{Allocator, Global};
+use std::alloc::{AllocError, Allocator, Global};
 use std::io::{Read, Write};
 use ti_entry::{Draft, EncodeFault, Entry, EntryReader, encode_in};
+use ti_words::Width;
 
 /// The canonical bytes of a draft.
 fn encoded_in<A: Allocator + Copy>(alloc: A, draft: &Draft<'_, A>) -> Result<Vec<u8, A>, ToolFault>
@@ -23,11 +24,30 @@ fn encoded_in<A: Allocator + Copy>(alloc: A, draft: &Draft<'_, A>) -> Result<Vec
     }
 }
 
-/// The canonical bytes of an entry.
-fn converted_in<A: Allocator + Copy>(alloc: A, entry: &Entry<'_>) -> Result<Vec<u8, A>, ToolFault>
-    ensures { MatchResult result (λ v. IsEncoding entry.now (Ok v.items)) (λ e. (e ≡ fault.Memory) ⊎ IsEncoding entry.now (Err e)) }
+/// A draft of an entry, in the width that is asked for.
+fn drafted_in<'a, A: Allocator + Copy>(
+    alloc: A,
+    entry: &Entry<'a>,
+    width: Option<Width>,
+) -> Result<Draft<'a, A>, AllocError>
+    ensures { IfOk result (λ draft. draft ≡ in_width width entry.now) }
 {
-    match entry.draft_in(alloc) {
+    let mut draft = entry.draft_in(alloc)?;
+    if let Some(width) = width {
+        draft.set_width(width);
+    }
+    Ok(draft)
+}
+
+/// The canonical bytes of an entry, in the width that is asked for.
+fn converted_in<A: Allocator + Copy>(
+    alloc: A,
+    entry: &Entry<'_>,
+    width: Option<Width>,
+) -> Result<Vec<u8, A>, ToolFault>
+    ensures { MatchResult result (λ v. IsEncoding (in_width width entry.now) (Ok v.items)) (λ e. (e ≡ fault.Memory) ⊎ IsEncoding (in_width width entry.now) (Err e)) }
+{
+    match drafted_in(alloc, entry, width) {
         Ok(draft) => encoded_in(alloc, &draft),
         Err(_) => Err(ToolFault::Memory),
     }
@@ -37,9 +57,10 @@ fn converted_in<A: Allocator + Copy>(alloc: A, entry: &Entry<'_>) -> Result<Vec<
 pub fn convert_in<A: Allocator + Copy, R: Read, W: Write>(
     alloc: A,
     reader: &mut R,
+    width: Option<Width>,
     writer: &mut W,
 ) -> Result<(), ToolFault>
-    ensures { DidCall IsConverted HasFailed (R.remaining reader.old) (R.remaining reader.new) (W.contents writer.old) (W.contents writer.new) result }
+    ensures { DidCall (IsConverted width) HasFailed (R.remaining reader.old) (R.remaining reader.new) (W.contents writer.old) (W.contents writer.new) result }
 {
     let mut kept = EntryReader::new();
     match read_entry(&mut kept, reader) {
@@ -47,7 +68,7 @@ pub fn convert_in<A: Allocator + Copy, R: Read, W: Write>(
         Err(fault) => return Err(fault),
     }
     match kept.finish() {
-        Ok(entry) => match converted_in(alloc, &entry) {
+        Ok(entry) => match converted_in(alloc, &entry, width) {
             Ok(bytes) => write_result(writer, bytes.as_slice()),
             Err(fault) => Err(fault),
         },
@@ -58,18 +79,22 @@ pub fn convert_in<A: Allocator + Copy, R: Read, W: Write>(
 /// Writes the entry that the reader gives in its canonical layout: each text in its place without sharing, the extended
 /// part only where there is an extended capability. What tic writes is canonical already and comes out as it came.
 ///
+/// The entry is written in the format of `width`, or with none in its own. Nothing else of it changes.
+///
 /// Nothing is written before all bytes are there: after a fault other than `Write` the writer is as it was.
 ///
 /// # Errors
 ///
-/// In this order: `Read` or `Entry` where there is no entry to be had, `Encode` where its canonical bytes would be more
-/// than 32768, which shared texts can lead to, `Write`; `Memory` where a growth is refused.
+/// In this order: `Read` or `Entry` where there is no entry to be had, `Encode` where a number is above 32767 and the
+/// legacy format is asked for, or else where its canonical bytes would be more than 32768, which shared texts or wider
+/// numbers can lead to, `Write`; `Memory` where a growth is refused.
 pub fn convert<R: Read, W: Write>(
     alloc: Global,
     reader: &mut R,
+    width: Option<Width>,
     writer: &mut W,
 ) -> Result<(), ToolFault>
-    ensures { DidCall IsConverted HasFailed (R.remaining reader.old) (R.remaining reader.new) (W.contents writer.old) (W.contents writer.new) result }
+    ensures { DidCall (IsConverted width) HasFailed (R.remaining reader.old) (R.remaining reader.new) (W.contents writer.old) (W.contents writer.new) result }
 {
-    convert_in(alloc, reader, writer)
+    convert_in(alloc, reader, width, writer)
 }

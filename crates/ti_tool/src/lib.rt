@@ -8,6 +8,7 @@ mod entry;
 mod expansion;
 mod fault;
 mod label;
+pub mod laws;
 mod line;
 mod listing;
 mod named;

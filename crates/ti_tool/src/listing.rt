@@ -3,13 +3,13 @@
 //! One line an item, in one pass over the entry; the whole listing is built before the first byte of it is written.
 
 ghost use Rattle.std.specs.Prelude.{◌≡◌, ◌++◌, OnOk, IfOk};
-ghost use Rattle.ti_tool.specs.Shown.{standard_flag, standard_number, standard_text, standard_lines, extended_flag, extended_number, extended_text, extended_lines, lines_from, entry_lines};
+ghost use Rattle.ti_tool.specs.Shown.{standard_flag, standard_number, standard_text, standard_lines, extended_flag, extended_number, extended_text, extended_lines, lines_from, format_word as the_format_word, entry_lines};
 
 use crate::label::{extended_label, label_at};
 use crate::line::{push_flag, push_number, push_text};
 use std::alloc::{AllocError, Allocator};
 use ti_entry::{Entry, Extended};
-use ti_words::Kind;
+use ti_words::{Kind, Width};
 
 /// Writes the lines of the flags.
 fn push_flags<A: Allocator>(out: &mut Vec<u8, A>, entry: &Entry<'_>) -> Result<(), AllocError>
@@ -104,11 +104,23 @@ fn push_extended<A: Allocator>(
     push_extended_texts(out, extended)
 }
 
+/// The name of a format.
+fn format_word(width: Width) -> &'static str
+    ensures { result.now ≡ the_format_word width }
+{
+    match width {
+        Width::Legacy => "legacy",
+        Width::Wide => "wide",
+    }
+}
+
 /// The listing of an entry.
 pub fn lines_in<A: Allocator + Copy>(alloc: A, entry: &Entry<'_>) -> Result<Vec<u8, A>, AllocError>
     ensures { IfOk result (λ out. out.items ≡ entry_lines entry.now) }
 {
-    let mut out = Vec::from_slice(alloc, b"format: legacy\nnames: ")?;
+    let mut out = Vec::from_slice(alloc, b"format: ")?;
+    out.extend_from_slice(format_word(entry.width()).as_bytes())?;
+    out.extend_from_slice(b"\nnames: ")?;
     out.extend_from_slice(entry.names())?;
     out.push(b'\n')?;
     push_standard(&mut out, entry)?;

@@ -4,7 +4,7 @@ ghost use Rattle.std.specs.Prelude.{◌≡◌, ◌≤◌, ◌⊎◌, map};
 ghost use Rattle.ti_line.specs.CommandLine.{Asked, Cap, Show, Check, Expand, Convert, Reads};
 ghost use Rattle.ti_line.specs.Laws.{IsWithin};
 ghost use Rattle.ti_line.specs.Line.{asked_of};
-ghost use Rattle.ti_tool.specs.Runs.{EndsWords, HadNoMemory, RanLine, RanNoLine, status_for};
+ghost use Rattle.ti_tool.specs.Runs.{EndsWords, HadNoMemory, RanLine, RanNoLine, status_for, width_asked as the_width_asked};
 
 use crate::cap::cap_run_in;
 use crate::check::check_in;
@@ -13,12 +13,13 @@ use crate::fault::ToolFault;
 use crate::named::expand_named_in;
 use crate::params::read_params;
 use crate::show::show_in;
-use crate::status::{status, status_of_check, tell, tell_words};
+use crate::status::{status, status_of_check, tell, tell_both_widths, tell_words};
 use std::alloc::{Allocator, Global};
 use std::io::{Read, Write};
 use ti_line::laws::words_are_read_once;
 use ti_line::{Line, NoLine, read_line};
 use ti_pad::Padding;
+use ti_words::Width;
 
 /// The status of a call's answer, whose fault is told.
 fn ended<E: Write>(errors: &mut E, answer: Result<(), ToolFault>) -> u8
@@ -129,16 +130,33 @@ fn run_expand_in<A: Allocator + Copy, R: Read, W: Write, E: Write>(
     }
 }
 
-/// `convert`.
+/// The width that a flag of `convert` asks for.
+fn width_asked(wide: bool, narrow: bool) -> Option<Width>
+    ensures { result ≡ the_width_asked wide narrow }
+{
+    match (wide, narrow) {
+        (true, _) => Some(Width::Wide),
+        (false, true) => Some(Width::Legacy),
+        (false, false) => None,
+    }
+}
+
+/// `convert` with its flags, of which at most one may be given.
 fn run_convert_in<A: Allocator + Copy, R: Read, W: Write, E: Write>(
     alloc: A,
+    wide: bool,
+    narrow: bool,
     input: &mut R,
     output: &mut W,
     errors: &mut E,
 ) -> u8
-    ensures { RanLine Convert (record { left0 = R.remaining input.old; left1 = R.remaining input.new; held0 = W.contents output.old; held1 = W.contents output.new }) result }
+    ensures { RanLine (Convert wide narrow) (record { left0 = R.remaining input.old; left1 = R.remaining input.new; held0 = W.contents output.old; held1 = W.contents output.new }) result }
 {
-    let answer = convert_in(alloc, input, output);
+    if wide && narrow {
+        tell_both_widths(errors);
+        return 2;
+    }
+    let answer = convert_in(alloc, input, width_asked(wide, narrow), output);
     ended(errors, answer)
 }
 
@@ -177,7 +195,9 @@ fn run_line_in<A: Allocator + Copy, R: Read, W: Write, E: Write>(
             };
             run_expand_in(alloc, asked, input, output, errors)
         }
-        Line::Convert => run_convert_in(alloc, input, output, errors),
+        Line::Convert { wide, narrow } => {
+            run_convert_in(alloc, *wide, *narrow, input, output, errors)
+        }
     }
 }
 
@@ -232,7 +252,7 @@ pub fn run_in<A: Allocator + Copy, R: Read, W: Write, E: Write>(
 /// |---|---|---|
 /// | 0 | done, or help was asked for | none |
 /// | 1 | `check` found a fault | none |
-/// | 2 | the words are no command line, or stand for no parameters | what is wrong and the usage; `parameters: more than nine`; `parameter K: bad word` |
+/// | 2 | the words are no command line, or stand for no parameters, or ask for both widths | what is wrong and the usage; `parameters: more than nine`; `parameter K: bad word`; `convert: both widths` |
 /// | 3 | the entry is refused, or can't be encoded | `entry: WORD at PLACE`; `entry: WORD` |
 /// | 4 | the capability is refused or absent, a text is too long for it, or its padding too much | `capability: WORD at PLACE`; `capability: absent`; `capability: TextTooLong K`; `capability: TooMuch N` |
 /// | 5 | reading or writing failed | `input: failed`; `output: failed` |

@@ -64,6 +64,11 @@ pub fn tell<E: Write>(errors: &mut E, fault: &ToolFault) {
     };
 }
 
+/// Tells that both flags of `convert` were given.
+pub fn tell_both_widths<E: Write>(errors: &mut E) {
+    let _ = writeln!(errors, "convert: both widths");
+}
+
 /// Tells of words that are no parameters.
 pub fn tell_words<E: Write>(errors: &mut E, fault: WordFault) {
     let _ = match fault {

@@ -62,6 +62,8 @@ pub enum Kind {
 pub enum Width {
     /// Words of 16 bits.
     Legacy,
+    /// Words of 32 bits.
+    Wide,
 }
 
 /// The flag that a byte stands for: 0 No, 1 Yes, 254 Cancelled, 255 Missing, and no other byte.

@@ -91,6 +91,14 @@ fn the_longest_text_is_written(rt: HostRuntime) -> Result<(), Fail> {
     assert!(rt; out.as_slice() == text.as_slice());
     let out = into_vector(rt.alloc(), b"%p1%s", &parameters, &mut Vars::new())?;
     assert!(rt; out.as_slice() == text.as_slice());
+    let mut short = vec![in rt.alloc(); 0u8; 32766]?;
+    let answer = fault_of_slices(
+        b"%p1%s",
+        &parameters,
+        &mut Vars::new(),
+        short.as_mut_slice(),
+    );
+    assert!(rt; answer == Some(ExpandFault::OutTooSmall { need: 32767 }));
     Ok(())
 }
 

@@ -4,7 +4,7 @@ use ti_line::{NoLine, read_line};
 use ti_words::{Kind, find, flag_name, number_name, text_name};
 
 /// Words, and the line that they are read as.
-const READ: [(&[&str], &str); 13] = [
+const READ: [(&[&str], &str); 16] = [
     (
         &["ti", "cap", "n:7"],
         "Cap { hex: false, params: [\"n:7\"] }",
@@ -28,7 +28,19 @@ const READ: [(&[&str], &str); 13] = [
     ),
     (&["ti", "show"], "Show"),
     (&["ti", "check"], "Check"),
-    (&["ti", "convert"], "Convert"),
+    (&["ti", "convert"], "Convert { wide: false, narrow: false }"),
+    (
+        &["ti", "convert", "--wide"],
+        "Convert { wide: true, narrow: false }",
+    ),
+    (
+        &["ti", "convert", "--narrow"],
+        "Convert { wide: false, narrow: true }",
+    ),
+    (
+        &["ti", "convert", "--narrow", "--wide"],
+        "Convert { wide: true, narrow: true }",
+    ),
     (
         &["ti", "expand", "cup"],
         "Expand { name: \"cup\", hex: false, rate: 0, lines: 1, xon: false, params: [] }",

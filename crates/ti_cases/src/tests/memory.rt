@@ -1,5 +1,6 @@
 //! Each growth refused in turn: a heap with room for the first growths alone.
 
+use super::entries::{EXTENDED, TEXT};
 use super::fakes::{Sink, Source};
 use linked_list_allocator::LocalHeap;
 use std::test::Fail;
@@ -8,6 +9,7 @@ use ti_expand::expand::{expand, expand_in};
 use ti_expand::fault::ExpandFault;
 use ti_expand::value::Value;
 use ti_expand::vars::Vars;
+use ti_pad::{PadFault, Padding, pad_in};
 use ti_tool::run::run_in;
 use ti_tool::{ToolFault, cap_run_in};
 
@@ -84,5 +86,78 @@ fn the_program_without_memory_says_so(rt: HostRuntime) -> Result<(), Fail> {
     );
     assert!(rt; output.taken.is_empty());
     assert!(rt; errors.taken.as_slice() == b"memory\n".as_slice());
+    Ok(())
+}
+
+/// Words for each command, and what it reads.
+const COMMANDS: [(&[&str], &[u8]); 5] = [
+    (&["ti", "cap", "--hex", "n:7"], b"\x1b[%p1%40dG"),
+    (&["ti", "show"], EXTENDED),
+    (&["ti", "check"], EXTENDED),
+    (
+        &[
+            "ti",
+            "expand",
+            "--rate",
+            "960",
+            "#0",
+            "s:a$<9> and some more bytes behind it, as many as sixty or so",
+        ],
+        TEXT,
+    ),
+    (&["ti", "convert"], EXTENDED),
+];
+
+#[test]
+fn each_growth_of_the_program_is_refused_in_turn(rt: HostRuntime) -> Result<(), Fail> {
+    for (words, bytes) in COMMANDS.iter() {
+        let mut refused = 0u32;
+        let mut given = 0u32;
+        for step in 0..80usize {
+            let heap = LocalHeap::new(rt.alloc(), 32 * step)?;
+            let mut output = Sink::new(rt.alloc());
+            let mut errors = Sink::new(rt.alloc());
+            let mut input = Source::new(*bytes, 512);
+            match run_in(
+                rt.alloc(),
+                &heap,
+                *words,
+                &mut input,
+                &mut output,
+                &mut errors,
+            ) {
+                0 => given = given.saturating_add(1),
+                status => {
+                    assert!(rt; status == 6 && given == 0, "{words:?} at {step}");
+                    assert!(rt; output.taken.is_empty(), "{words:?} at {step}");
+                    assert!(rt; errors.taken.as_slice() == b"memory\n".as_slice());
+                    refused = refused.saturating_add(1);
+                }
+            }
+            assert!(rt; heap.used() == 0, "{words:?} at {step}");
+        }
+        assert!(rt; refused > 2, "{words:?}");
+        assert!(rt; given > 2, "{words:?}");
+    }
+    Ok(())
+}
+
+#[test]
+fn padding_takes_its_memory_at_once(rt: HostRuntime) -> Result<(), Fail> {
+    let padding = Padding::new(960, 2, false, 0).ok_or("padding")?;
+    let mut refused = 0u32;
+    for step in 0..40usize {
+        let heap = LocalHeap::new(rt.alloc(), 8 * step)?;
+        match pad_in(&heap, b"\x1b[H$<50*/>", &padding) {
+            Ok(text) => assert_eq!(rt; text.len(), 99, "at {step}"),
+            Err(fault) => {
+                assert!(rt; fault == PadFault::Memory, "at {step}");
+                refused = refused.saturating_add(1);
+            }
+        }
+        assert!(rt; heap.used() == 0, "at {step}");
+    }
+    assert!(rt; refused > 4);
+    assert!(rt; refused < 36);
     Ok(())
 }

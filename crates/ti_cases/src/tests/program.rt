@@ -1,6 +1,6 @@
 //! The program's statuses and lines.
 
-use super::entries::{EXTENDED, QUESTION, SHARED, SMALL, TEXT};
+use super::entries::{EXTENDED, QUESTION, SHARED, SMALL, TEXT, WIDE, WIDE_EXTENDED};
 use super::fakes::{Sink, Source};
 use std::test::Fail;
 use ti_tool::run::run;
@@ -14,7 +14,7 @@ struct Row {
     errors: &'static [u8],
 }
 
-const ROWS: [Row; 29] = [
+const ROWS: [Row; 34] = [
     Row {
         words: &["ti", "cap", "n:7"],
         input: b"\x1b[%p1%dG",
@@ -113,6 +113,41 @@ const ROWS: [Row; 29] = [
         input: SHARED,
         status: 0,
         output: b"\x1a\x01\x02\0\0\0\0\0\x02\0\x04\0t\0\0\0\x02\0\x07\0\x07\0",
+        errors: b"",
+    },
+    Row {
+        words: &["ti", "convert", "--wide"],
+        input: SMALL,
+        status: 0,
+        output: WIDE,
+        errors: b"",
+    },
+    Row {
+        words: &["ti", "convert", "--narrow"],
+        input: WIDE,
+        status: 0,
+        output: SMALL,
+        errors: b"",
+    },
+    Row {
+        words: &["ti", "convert", "--narrow"],
+        input: WIDE_EXTENDED,
+        status: 3,
+        output: b"",
+        errors: b"entry: NumberOutOfRange\n",
+    },
+    Row {
+        words: &["ti", "convert", "--wide", "--narrow"],
+        input: SMALL,
+        status: 2,
+        output: b"",
+        errors: b"convert: both widths\n",
+    },
+    Row {
+        words: &["ti", "show"],
+        input: WIDE,
+        status: 0,
+        output: b"format: wide\nnames: t\nflag bw\nnumber cols 80\ntext bel 07\n",
         errors: b"",
     },
     Row {
@@ -245,6 +280,7 @@ fn the_program_ends_with_its_status(rt: HostRuntime) {
         let mut input = Source::new(row.input, 5);
         let status = run(rt.alloc(), row.words, &mut input, &mut output, &mut errors);
         assert_eq!(rt; status, row.status, "{:?}", row.errors);
+        assert!(rt; status != 2 || input.calls == 0, "{:?}", row.errors);
         assert!(rt; output.taken.as_slice() == row.output, "{:?}", row.output);
         assert!(rt; errors.taken.as_slice() == row.errors, "{:?}", row.errors);
     }

@@ -2,7 +2,7 @@
 
 use std::test::Fail;
 use ti_cap::capability::Capability;
-use ti_expand::expand::expand_into;
+use ti_expand::expand::{expand, expand_into};
 use ti_expand::fault::ExpandFault;
 use ti_expand::value::Value;
 use ti_expand::vars::Vars;
@@ -113,4 +113,22 @@ fn a_text_may_be_too_long(rt: HostRuntime) {
     assert!(rt; answer == Some(ExpandFault::TextTooLong { parameter: 2 }));
     let answer = with_text(b"%p1%s%p2%s", &long[..32767]);
     assert!(rt; answer == Some(ExpandFault::OutTooSmall { need: 65534 }));
+}
+
+/// Each front of a real capability is refused, or is expanded whatever its parameters are.
+#[test]
+fn each_front_of_a_capability_is_answered(rt: HostRuntime) -> Result<(), Fail> {
+    let whole: &'static [u8] = b"\x1b[%?%p1%{8}%<%t3%p1%d%e%p1%{16}%<%t9%p1%{8}%-%d%e38;5;%p1%d%;m";
+    for len in 0..whole.len() {
+        let Ok(capability) = Capability::parse(&whole[..len]) else {
+            continue;
+        };
+        for number in [0, 1, 9, 200] {
+            let parameters = [Value::Num(number); 9];
+            let out = expand(rt.alloc(), &capability, &parameters, &mut Vars::new());
+            assert!(rt; out.is_ok(), "{len} with {number}");
+        }
+    }
+    assert!(rt; Capability::parse(whole).is_ok());
+    Ok(())
 }

@@ -1,6 +1,8 @@
 //! What `show` lists, and what it refuses.
 
-use super::entries::{DUMB, EXTENDED, EXTENDED_BY_TIC, QUESTION, SHARED, SMALL};
+use super::entries::{
+    DUMB, EXTENDED, EXTENDED_BY_TIC, QUESTION, SHARED, SMALL, WIDE, WIDE_BY_TIC, WIDE_EXTENDED,
+};
 use super::fakes::{Sink, Source};
 use linked_list_allocator::LocalHeap;
 use std::test::Fail;
@@ -14,7 +16,7 @@ struct Row {
     lines: &'static [u8],
 }
 
-const ROWS: [Row; 12] = [
+const ROWS: [Row; 16] = [
     Row {
         entry: SMALL,
         lines: b"format: legacy\nnames: t\nflag bw\nnumber cols 80\ntext bel 07\n",
@@ -61,10 +63,28 @@ const ROWS: [Row; 12] = [
         entry: b"\x1a\x01\x02\0\x04\0\0\0\0\0\0\0t\0\0\0\x01\xfe",
         lines: b"format: legacy\nnames: t\nflag #2\nflag #3 cancelled\n",
     },
+    // the 32-bit format: the small entry, the greatest number, and an extended number
+    Row {
+        entry: WIDE,
+        lines: b"format: wide\nnames: t\nflag bw\nnumber cols 80\ntext bel 07\n",
+    },
+    Row {
+        entry: b"\x1e\x02\x02\0\x01\0\x01\0\x02\0\x02\0t\0\x01\0\xff\xff\xff\x7f\xff\xff\0\0\x07\0",
+        lines: b"format: wide\nnames: t\nflag bw\nnumber cols 2147483647\ntext bel 07\n",
+    },
+    Row {
+        entry: WIDE_EXTENDED,
+        lines: b"format: wide\nnames: t\nflag bw\nnumber cols 80\ntext bel 07\nnumber+ U8 70000\n",
+    },
     // what infocmp -x prints of it, as bytes
     Row {
         entry: &EXTENDED_BY_TIC,
         lines: b"format: legacy\nnames: mog|mogyarsu test terminal\nflag am\nnumber cols 80\nnumber lines 24\ntext bel 07\ntext cr 0d\ntext clear 1b5b481b5b324a\ntext cup 1b5b256925703125643b257032256448\nflag+ AX\nflag+ XT\nnumber+ U8 1\ntext+ E3 1b5b334a\ntext+ Smulx 1b5b343a25703125646d\ntext+ kUP5 1b5b313b3541\n",
+    },
+    // the same of an entry with numbers of 32 bits
+    Row {
+        entry: &WIDE_BY_TIC,
+        lines: b"format: wide\nnames: mogw|mogyarsu wide terminal\nflag am\nnumber cols 80\nnumber colors 16777216\nnumber pairs 65536\ntext bel 07\ntext cr 0d\nflag+ AX\nnumber+ U8 70000\ntext+ E3 1b5b334a\n",
     },
     // infocmp: am, cols#80, bel=^G, cr=\r, cud1=\n, ind=\n
     Row {

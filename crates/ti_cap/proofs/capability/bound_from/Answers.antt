@@ -1,4 +1,4 @@
-use Rattle.std.proofs.Common.{ℕ, ◌+◌, ◌≤◌, refl, sym, subst, arith}
+use Rattle.std.proofs.Common.{ℕ, ◌+◌, ◌≤◌, refl, sym, subst, arith, ◌∙◌}
 use Rattle.ti_cap.specs.Analysis.{State, moved}
 use Rattle.ti_cap.specs.Capability.{HasBound}
 use Rattle.ti_cap.proofs.Bounded.{Summed, Step, summed_start, summed_small, summed_step, summed_end}
@@ -35,4 +35,4 @@ loop-token-preserved c =
 pub returns : goal.returns
 returns c =
     let P : ℕ → Type 0 = λ x. HasBound c.args.tape.left c.args.longest x in
-    subst P (sym c.greatest.ensures) (summed_end c.args.tape.left c.args.longest c.loop-token.tape c.loop-token.sizes c.in_default.ensures.none.1 c.loop-token.invariant)
+    subst P (sym (c.from.ensures ∙ c.greatest.ensures)) (summed_end c.args.tape.left c.args.longest c.loop-token.tape c.loop-token.sizes c.in_default.ensures.none.1 c.loop-token.invariant)

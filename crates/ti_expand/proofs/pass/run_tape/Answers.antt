@@ -1,4 +1,4 @@
-use Rattle.std.proofs.Common.{◌≡◌, ◌≤◌, ◌+◌, length, arith, ap, refl, ◌∙◌, if◌then◌else◌}
+use Rattle.std.proofs.Common.{◌≡◌, ◌≤◌, length, arith, ap, refl, ◌∙◌}
 use Rattle.std.proofs.lemmas.List.{length-take}
 use Rattle.ti_cap.specs.Pass.{Run}
 use Rattle.ti_expand.specs.State.{State, start}
@@ -7,9 +7,8 @@ use Rattle.ti_expand.specs.Mode.{seen}
 use Rattle.ti_expand.specs.Flat.{moved}
 use Rattle.ti_expand.proofs.Held.{length-held}
 use Rattle.ti_expand.proofs.Rest.{drop_further}
-use Rattle.ti_expand.proofs.Loop.{IsUnderway, underway_start, underway_height, underway_output, underway_next, underway_end}
+use Rattle.ti_expand.proofs.Loop.{IsUnderway, underway_start, underway_height, underway_output, underway_few, underway_next, underway_end}
 use Rattle.ti_expand.proofs.pass.run_tape.Goals as goal
-use Rattle.ti_expand.proofs.pass.run_tape.Goals.{then-ran, else-ran}
 
 pub loop-token-init : goal.loop-token-init
 loop-token-init c =
@@ -17,12 +16,12 @@ loop-token-init c =
     let begin : State = start a.vars.now a.parameters.now in
     let first : IsUnderway a.tape.left begin (length a.stack.now) (length a.out.now) a.tape.left Run begin 0 0 0 =
     underway_start a.tape.left begin (length a.stack.now) (length a.out.now) refl c.requires in
-    record { underway = rw c.new-stack.ensures.empty first; slots = c.new-stack.ensures.room; within = omega arith; rest = refl }
+    record { underway = rw (c.new-stack.ensures.empty, c.start-run.ensures) first; slots = c.new-stack.ensures.room; within = rw c.start-run.ensures (omega arith); rest = refl }
 
 pub meet-after-requires-clause-height : goal.meet-after-requires-clause-height
 meet-after-requires-clause-height c =
     let l = c.loop-token in
-    let s : State = machine l.stack.slots.now l.stack.height l.vars l.parameters l.out l.written in
+    let s : State = machine l.stack.slots.now l.stack.height l.vars l.parameters l.out l.run.written in
     let high : length (moved (seen l.mode) c.in-Some.token s).stack ≤ length c.args.stack.now =
     underway_height _ _ _ _ _ _ _ _ _ _ _ _ l.invariant.underway c.in-Some.ensures.order in
     omega (arith, high, l.invariant.slots)
@@ -30,31 +29,32 @@ meet-after-requires-clause-height c =
 pub meet-after-requires-clause-room : goal.meet-after-requires-clause-room
 meet-after-requires-clause-room c =
     let l = c.loop-token in
-    let s : State = machine l.stack.slots.now l.stack.height l.vars l.parameters l.out l.written in
+    let s : State = machine l.stack.slots.now l.stack.height l.vars l.parameters l.out l.run.written in
     let long : length (moved (seen l.mode) c.in-Some.token s).output ≤ length c.args.out.now =
     underway_output _ _ _ _ _ _ _ _ _ _ _ _ l.invariant.underway c.in-Some.ensures.order in
     omega (arith, long)
 
+pub count-requires : goal.count-requires
+count-requires c =
+    let few = underway_few _ _ _ _ _ _ _ _ _ _ _ _ c.loop-token.invariant.underway c.in-Some.ensures.order in
+    omega (arith, few)
+
 pub loop-token-preserved : goal.loop-token-preserved
 loop-token-preserved c =
     let l = c.loop-token in
-    let s : State = machine l.stack.slots.now l.stack.height l.vars l.parameters l.out l.written in
+    let s : State = machine l.stack.slots.now l.stack.height l.vars l.parameters l.out l.run.written in
     let m = c.meet-after in
+    let n = c.count.new.self in
     let next : State = machine m.new.stack.slots.now m.new.stack.height m.new.vars m.new.parameters m.new.out m.result.1 in
-    let b = c.ran.result in
-    let ran : c.if-ran.ran ≡ (if b then l.ran + 1 else l.ran) =
-    elim c.if-ran.branch [ then-ran w ↦ rw w.if-ran.true w.ran-is | else-ran w ↦ rw w.if-ran.false w.ran-is ] in
-    let passed : c.if-ran.passed ≡ (if b then l.passed else l.passed + 1) =
-    elim c.if-ran.branch [ then-ran w ↦ rw w.if-ran.true w.passed-is | else-ran w ↦ rw w.if-ran.false w.passed-is ] in
     let height : length (held m.new.stack.slots.now m.new.stack.height) ≡ m.new.stack.height = length-held m.new.stack.slots.now m.new.stack.height in
     let same : length next.stack ≡ length (moved (seen l.mode) c.in-Some.token s).stack = ap (λ (x : State). length x.stack) m.ensures.state in
     record {
       underway =
-          underway_next _ _ _ _ _ _ _ _ _ _ _ _ (seen m.result.0) next c.if-ran.ran c.if-ran.passed c.max-peak.result b
-          l.invariant.underway c.in-Some.ensures.order m.ensures.mode m.ensures.state c.ran.ensures ran passed (omega (arith, height, same, c.max-peak.ensures, c.height.ensures));
+          underway_next _ _ _ _ _ _ _ _ _ _ _ _ (seen m.result.0) next n.ran n.passed n.peak c.ran.result
+          l.invariant.underway c.in-Some.ensures.order m.ensures.mode m.ensures.state c.ran.ensures c.count.ensures.ran c.count.ensures.passed (omega (arith, height, same, c.count.ensures.peak, c.height.ensures));
       slots = m.ensures.slots ∙ l.invariant.slots;
       within = m.ensures.within;
-      rest = m.ensures.rest ∙ drop_further m.result.1 l.written l.out c.args.out.now m.ensures.onward l.invariant.rest;
+      rest = m.ensures.rest ∙ drop_further m.result.1 l.run.written l.out c.args.out.now m.ensures.onward l.invariant.rest;
     }
 
 pub returns-clause-output : goal.returns-clause-output
@@ -67,7 +67,7 @@ pub returns-clause-written : goal.returns-clause-written
 returns-clause-written c = λ tree w.
     let done = underway_end _ _ _ _ _ _ _ _ _ _ c.loop-token.invariant.underway c.in_default.ensures.none.1 tree w in
     let same = ap (λ (s : State). length s.output) done.state in
-    omega (arith, same, length-take c.loop-token.written c.loop-token.out, c.loop-token.invariant.within)
+    omega (arith, same, length-take c.loop-token.run.written c.loop-token.out, c.loop-token.invariant.within)
 
 pub returns-clause-ran : goal.returns-clause-ran
 returns-clause-ran c = λ tree w. (underway_end _ _ _ _ _ _ _ _ _ _ c.loop-token.invariant.underway c.in_default.ensures.none.1 tree w).path

@@ -7,10 +7,10 @@ use Rattle.ti_expand.proofs.pass.run_tape.Given as goal
 
 abbrev pub invariant-loop-token : goal.invariant-loop-token
 invariant-loop-token l = record {
-  underway : IsUnderway l.initial.tape.left (start l.fn.vars l.fn.parameters) (length l.fn.stack) (length l.fn.out) l.tape.left (seen l.mode) (machine l.stack.slots.now l.stack.height l.vars l.parameters l.out l.written) l.ran l.passed l.peak;
+  underway : IsUnderway l.initial.tape.left (start l.fn.vars l.fn.parameters) (length l.fn.stack) (length l.fn.out) l.tape.left (seen l.mode) (machine l.stack.slots.now l.stack.height l.vars l.parameters l.out l.run.written) l.run.ran l.run.passed l.run.peak;
   slots : length l.stack.slots.now ≡ length l.fn.stack;
-  within : l.written ≤ length l.out;
-  rest : drop l.written l.out ≡ drop l.written l.fn.out;
+  within : l.run.written ≤ length l.out;
+  rest : drop l.run.written l.out ≡ drop l.run.written l.fn.out;
 }
 
 abbrev pub decreases-loop-token : goal.decreases-loop-token

@@ -1,6 +1,6 @@
 use Rattle.std.proofs.Common.{ap, ◌∙◌}
 use Rattle.ti_entry.specs.Reading.{refusal_behind}
-use Rattle.ti_entry.proofs.Feeding.{failed-refuses}
+use Rattle.ti_entry.proofs.Feeding.{failure_refuses}
 use Rattle.ti_tool.proofs.Calling.{stopped_on}
 use Rattle.ti_tool.proofs.entry.read_entry.Goals as goal
 
@@ -9,4 +9,4 @@ returns-in-Err-Refused-clause-stopped g c =
     let (bytes, took, is) = c.read_from.ensures.fed in
     let failed = stopped_on bytes c.args.reader.now c.read_from.new.reader c.in-Err-Refused.refused c.requires is
     (c.in-Err-Refused.ensures.refused ∙ ap (λ stop. refusal_behind stop) c.in-Err-Refused.field-0-is) in
-    (bytes, took, failed, failed-refuses bytes c.in-Err-Refused.refused failed)
+    (bytes, took, failed, failure_refuses bytes c.in-Err-Refused.refused failed)

@@ -1,14 +1,29 @@
-use Rattle.std.proofs.Common.{◌+◌, ◌*◌, ◌∙◌, map, get_or, sym, ap}
+use Rattle.std.proofs.Common.{◌≡◌, ◌+◌, ◌*◌, ◌∙◌, map, get_or, sym, ap, arith}
 use Rattle.ti_words.specs.declared.Number.TheVariants.{Absent}
 use Rattle.ti_entry.specs.Value.{EntryValue}
+use Rattle.ti_entry.specs.Layout.{number_size, extended_numbers_from}
 use Rattle.ti_entry.specs.Content.{number_at}
 use Rattle.ti_entry.specs.Spelling.{mark_in}
+use Rattle.ti_entry.proofs.Places.{within}
 use Rattle.ti_entry.proofs.NamedItems.{number_item, no_number_item}
 use Rattle.ti_entry.proofs.extended.Extended.number.Goals as goal
 
+pub numbers_size-requires : goal.numbers_size-requires
+numbers_size-requires c =
+    let x = c.self.inside.part.header in
+    omega (arith, within x.width c.args.i x.numbers c.if-i-header.true)
+
+pub number_at-requires : goal.number_at-requires
+number_at-requires c =
+    let x = c.self.inside.part.header in
+    omega (arith, within x.width c.args.i x.numbers c.if-i-header.true, c.numbers_from.ensures, c.numbers_size.ensures)
+
 pub returns-then-i-header : goal.returns-then-i-header
 returns-then-i-header c =
-    c.number_at.ensures ∙ ap (λ n. number_at 2 c.self.inside.bytes.now (n + 2 * c.args.i)) c.numbers_from.ensures
+    let x = c.self.inside.part.header in
+    let size = number_size x.width in
+    let place : c.numbers_from.result + c.numbers_size.result ≡ extended_numbers_from x + size * c.args.i = omega arith in
+    c.number_at.ensures ∙ ap (number_at size c.self.inside.bytes.now) place
     ∙ sym (number_item c.self.inside.bytes.now c.self.inside.header c.self.inside.part.header c.args.i c.if-i-header.true)
     ∙ ap (λ (v : EntryValue). get_or (map mark_in v.extended_numbers) c.args.i Absent) c.self.view_is
 

@@ -1,25 +1,36 @@
-use Rattle.std.proofs.Common.{◌≡◌, ◌+◌, ◌++◌, ◌∷◌, ◌<◌, ◌∙◌, ap, sym, length, take, drop, get_or, None, arith, refl, append_assoc}
-use Rattle.std.proofs.lemmas.Grind.{common_steps}
-use Rattle.std.proofs.lemmas.List.{drop_more, take-append-drop}
-use Rattle.std.specs.Prelude.{ℕ, List, Some}
-use Rattle.ti_entry.specs.Refusal.{failure}
-use Rattle.ti_entry.proofs.Feeding.{fed-full}
+use Rattle.std.proofs.Common.{◌≡◌, ◌+◌, ◌<◌, ◌∷◌, [], ◌∙◌, ap, sym, length, take, drop, get_or, List, None, Some}
+use Rattle.std.specs.Prelude.{ℕ}
+use Rattle.std.proofs.lemmas.List.{take-append-drop, take_more}
+use Rattle.ti_entry.specs.declared.fault.Refused.{Refused}
+use Rattle.ti_entry.specs.Reading.{Reading, fed}
+use Rattle.ti_entry.proofs.Feeding.{fed-append, fed-refused, answer_under-ok, answer_under-err}
 use Rattle.ti_entry.proofs.reader.EntryReader.feed.Goals as goal
 
--- a list in three parts
-three_parts : (xs ys : List ℕ) (k : ℕ) → k < length ys → (xs ++ take k ys) ++ (get_or ys k 0 ∷ drop (k + 1) ys) ≡ xs ++ ys
-three_parts xs ys k lt = append_assoc xs (take k ys) (get_or ys k 0 ∷ drop (k + 1) ys) ∙ ap (λ t. xs ++ (take k ys ++ t)) (sym (drop_more ys k 0 lt)) ∙ ap (λ t. xs ++ t) (take-append-drop k ys)
+-- one byte more is fed
+one_more : (old mid new : Reading) (piece : List ℕ) (i : ℕ) → i < length piece → old.refusal ≡ None → mid ≡ fed old (take i piece) → new ≡ fed mid (get_or piece i 0 ∷ []) → new ≡ fed old (take (i + 1) piece)
+one_more old mid new piece i lt none so_far e =
+    e ∙ ap (λ r. fed r (get_or piece i 0 ∷ [])) so_far ∙ fed-append old (take i piece) (get_or piece i 0 ∷ []) none ∙ ap (fed old) (sym (take_more piece i 0 lt))
 
-pub returns-clause-fed : goal.returns-clause-fed
-returns-clause-fed c =
-    let kept = c.self.inside.kept.items in
-    let piece = c.args.piece.now in
-    let room = c.remaining_capacity-room.result in
-    let full : room + length kept ≡ 32768 = c.remaining_capacity-room.ensures in
-    let items : c.try_extend_from_slice-2.new.self.items ≡ kept ++ take room piece = grind (arith, common_steps) in
-    let slice : c.as_slice.result.now ≡ kept ++ take room piece = c.as_slice.ensures.value ∙ items in
-    let whole : c.as_slice.result.now ++ (get_or piece room 0 ∷ drop (room + 1) piece) ≡ kept ++ piece = ap (λ t. t ++ (get_or piece room 0 ∷ drop (room + 1) piece)) slice ∙ three_parts kept piece room c.if-piece-room.false in
-    let failed : failure (kept ++ piece) ≡ Some c.overfull-refused.result = ap failure (sym whole) ∙ c.overfull-refused.ensures (get_or piece room 0) (drop (room + 1) piece) in
-    let none : c.self.inside.refusal ≡ None = c.in_default.is in
-    let old : c.args.self.now ≡ record { kept = kept; refusal = None } = sym c.self.view_is ∙ rw none refl in
-    rw (items, old) (fed-full kept piece room c.overfull-refused.result full c.if-piece-room.false failed)
+-- what is refused stays so for the rest of the piece
+rest_too : (old new : Reading) (piece : List ℕ) (k : ℕ) (r : Refused) → old.refusal ≡ None → new ≡ fed old (take k piece) → new.refusal ≡ Some r → new ≡ fed old piece
+rest_too old new piece k r none e some =
+    sym (fed-refused new (drop k piece) r some) ∙ ap (λ s. fed s (drop k piece)) e ∙ fed-append old (take k piece) (drop k piece) none ∙ ap (fed old) (take-append-drop k piece)
+
+pub returns-in_err-take-clause-fed : goal.returns-in_err-take-clause-fed
+returns-in_err-take-clause-fed c =
+    let i = c.bytes.invariant in
+    let more = one_more c.args.self.now c.bytes.self c.take.new.self c.args.piece.now c.bytes.byte-index c.bytes-test.true i.first i.fed c.take.ensures.fed in
+    rest_too c.args.self.now c.take.new.self c.args.piece.now (c.bytes.byte-index + 1) c.in_err-take.field-0.0 i.first more (answer_under-err _ _ _ c.in_err-take.was c.take.ensures.answer)
+
+pub returns-in_err-take-clause-most : goal.returns-in_err-take-clause-most
+returns-in_err-take-clause-most c = c.take.ensures.most
+
+pub bytes-preserved : goal.bytes-preserved
+bytes-preserved c =
+    let i = c.bytes.invariant in
+    record {
+      first = i.first;
+      unrefused = answer_under-ok _ _ _ c.in_ok-take.was c.take.ensures.answer;
+      within = c.take.ensures.most;
+      fed = one_more c.args.self.now c.bytes.self c.take.new.self c.args.piece.now c.bytes.byte-index c.bytes-test.true i.first i.fed c.take.ensures.fed;
+    }

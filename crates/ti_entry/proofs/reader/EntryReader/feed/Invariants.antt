@@ -1,0 +1,12 @@
+-- The bytes before this one were fed, and none was refused.
+use Rattle.std.proofs.Common.{◌≡◌, None, ◌≤◌, length, take}
+use Rattle.ti_entry.specs.Reading.{fed}
+use Rattle.ti_entry.proofs.reader.EntryReader.feed.Given as goal
+
+abbrev pub invariant-bytes : goal.invariant-bytes
+invariant-bytes l = record {
+  first : l.initial.self.refusal ≡ None;
+  unrefused : l.self.refusal ≡ None;
+  within : length l.self.kept ≤ 32768;
+  fed : l.self ≡ fed l.initial.self (take l.byte-index l.piece);
+}
