@@ -1,12 +1,15 @@
-//! Times parsing and expanding: without words it does nothing, with a number it makes that many turns over each
-//! capability and prints a line for each, `NAME parse NANOSECONDS` and `NAME expand NANOSECONDS`, a turn, and what an
-//! expansion did.
+//! Times parsing and expanding, and reading an entry: without words it does nothing, with a number it makes that many
+//! turns over each capability and prints a line for each, `NAME parse NANOSECONDS` and `NAME expand NANOSECONDS`, a turn,
+//! and what an expansion did. Then it reads the entry on standard input a hundredth as often, whole and in pieces, and
+//! prints `entry read NANOSECONDS` and `entry feed NANOSECONDS`.
 #![tactic(auto)]
 
 use std::io;
+use std::io::Read;
 use std::rt::Clock;
 use std::time::Instant;
 use ti_cap::capability::Capability;
+use ti_entry::{EntryReader, read};
 use ti_expand::expand::expand_into;
 use ti_expand::run::Run;
 use ti_expand::value::Value;
@@ -86,6 +89,39 @@ fn expanding<R: Clock>(rt: &R, bytes: &'static [u8], turns: u32) -> io::Result<(
     Ok((nanoseconds, last))
 }
 
+/// The most bytes of a piece that is fed.
+const PIECE: usize = 512;
+
+/// How long it takes to read bytes as an entry, in nanoseconds.
+fn reading<R: Clock>(rt: &R, bytes: &[u8], turns: u32) -> io::Result<u128> {
+    let start = Instant::now(rt)?;
+    let mut texts = 0usize;
+    for _ in 0..turns {
+        if let Ok(entry) = read(std::hint::black_box(bytes)) {
+            texts = texts.max(entry.text_count());
+        }
+    }
+    let _ = std::hint::black_box(texts);
+    Ok(start.elapsed(rt)?.as_nanos() / u128::from(turns.max(1)))
+}
+
+/// How long it takes to feed bytes to a reader piece by piece, in nanoseconds.
+fn feeding<R: Clock>(rt: &R, bytes: &[u8], turns: u32) -> io::Result<u128> {
+    let start = Instant::now(rt)?;
+    let mut texts = 0usize;
+    for _ in 0..turns {
+        let mut reader = EntryReader::new();
+        for piece in std::hint::black_box(bytes).chunks(PIECE) {
+            let _ = reader.feed(piece);
+        }
+        if let Ok(entry) = reader.finish() {
+            texts = texts.max(entry.text_count());
+        }
+    }
+    let _ = std::hint::black_box(texts);
+    Ok(start.elapsed(rt)?.as_nanos() / u128::from(turns.max(1)))
+}
+
 fn main(rt: HostRuntime) -> io::Result<()> {
     let mut turns = 0u32;
     for word in std::env::args(&rt)? {
@@ -102,5 +138,11 @@ fn main(rt: HostRuntime) -> io::Result<()> {
         println!(rt; "{name} expand {expand}")?;
         println!(rt; "{name} run {last:?}")?;
     }
+    let mut bytes = Vec::new(rt.alloc());
+    rt.stdin().read_to_end(&mut bytes)?;
+    let read = reading(&rt, bytes.as_slice(), turns / 100)?;
+    println!(rt; "entry read {read}")?;
+    let feed = feeding(&rt, bytes.as_slice(), turns / 100)?;
+    println!(rt; "entry feed {feed}")?;
     Ok(())
 }

@@ -102,16 +102,29 @@ fed-none r piece e = rw e refl
 pub fed-refused : (r : Reading) (piece : List ℕ) (refused : Refused) → r.refusal ≡ Some refused → fed r piece ≡ r
 fed-refused r piece refused e = rw e refl
 
--- a byte with which no check fails
-pub fed-passes : (kept : List ℕ) (b : ℕ) → failure (kept ++ b ∷ []) ≡ None
-    → ◌≡◌ {A = Reading} (record { kept = kept ++ b ∷ []; refusal = None }) (fed (record { kept = kept; refusal = None }) (b ∷ []))
-fed-passes kept b none = sym (met-passed (kept ++ b ∷ []) none)
+-- a piece with which no check fails
+pub fed-passes : (kept piece : List ℕ) → failure (kept ++ piece) ≡ None
+    → ◌≡◌ {A = Reading} (record { kept = kept ++ piece; refusal = None }) (fed (record { kept = kept; refusal = None }) piece)
+fed-passes kept piece none = sym (met-passed (kept ++ piece) none)
 
 -- a byte with which one fails
 pub fed-fails : (kept : List ℕ) (b : ℕ) (r : Refused) → failure kept ≡ None → failure (kept ++ b ∷ []) ≡ Some r
     → ◌≡◌ {A = Reading} (record { kept = kept; refusal = Some r }) (fed (record { kept = kept; refusal = None }) (b ∷ []))
 fed-fails kept b r none some =
     ap (λ (k : List ℕ). let s : Reading = record { kept = k; refusal = Some r } in s) (sym (unfailed-last kept b r none some)) ∙ sym (met-refused (kept ++ b ∷ []) r some)
+
+-- a reader by its parts
+abbrev pub held : List ℕ → Option Refused → Reading
+held kept refusal = record { kept = kept; refusal = refusal }
+
+-- nothing more
+pub fed-nothing : (r : Reading) → r.refusal ≡ None → failure r.kept ≡ None → r ≡ fed r []
+fed-nothing r first none =
+    sym (fed-none r [] first ∙ ap met (append-nil r.kept) ∙ met-passed r.kept none ∙ ap (held r.kept) (sym first))
+
+pub same_fed : (kept : List ℕ) (old new : Reading) (piece : List ℕ) (refusal : Option Refused) → held kept refusal ≡ old → refusal ≡ None → new ≡ fed (held kept None) piece → new ≡ fed old piece
+same_fed kept old new piece refusal is none e =
+    let same : held kept None ≡ old = ap (held kept) (sym none) ∙ is in e ∙ ap (λ r. fed r piece) same
 
 -- ---- any cutting
 

@@ -1,4 +1,4 @@
-//! How far the checks of an entry are made that comes byte by byte, and which one is next.
+//! How far the checks of an entry are made that comes in pieces, and which one is next.
 //!
 //! A stage says in which section the next check is and which of its items are left, and keeps the headers that the checks
 //! met. A step makes one check, or the few that stand between two sections. Over an entry there are as many steps as it

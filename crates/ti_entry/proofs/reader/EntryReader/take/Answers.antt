@@ -1,22 +1,13 @@
-use Rattle.std.proofs.Common.{◌≡◌, ◌+◌, ◌-◌, ◌≤◌, ◌∙◌, ap, sym, subst, refl, length, take, List, ◌++◌, ◌∷◌, [], arith}
-use Rattle.std.specs.Prelude.{ℕ, Option, None, Some}
+use Rattle.std.proofs.Common.{◌≡◌, ◌+◌, ◌-◌, ◌≤◌, ◌∙◌, ap, sym, subst, length, take, List, ◌++◌, ◌∷◌, [], arith}
+use Rattle.std.specs.Prelude.{ℕ, None, Some}
 use Rattle.std.proofs.Math.Seq.{take-append_seam}
-use Rattle.ti_entry.specs.declared.fault.Refused.{Refused}
-use Rattle.ti_entry.specs.Reading.{Reading, fed}
+use Rattle.ti_entry.specs.Reading.{Reading}
 use Rattle.ti_entry.specs.Refusal.{failure}
 use Rattle.ti_entry.specs.Stages.{Stands, Waits}
-use Rattle.ti_entry.proofs.Feeding.{fed-passes, fed-fails}
+use Rattle.ti_entry.proofs.Feeding.{held, same_fed, fed-passes, fed-fails}
 use Rattle.ti_entry.proofs.StageSteps.{stands_on}
 use Rattle.ti_entry.proofs.StageEnds.{waits_unfailed}
 use Rattle.ti_entry.proofs.reader.EntryReader.take.Goals as goal
-
--- the reader before the byte
-abbrev held : List ℕ → Option Refused → Reading
-held kept refusal = record { kept = kept; refusal = refusal }
-
-same_fed : (kept now : List ℕ) (old new : Reading) (piece : List ℕ) (refusal : Option Refused) → now ≡ kept → held now refusal ≡ old → refusal ≡ None → new ≡ fed (held kept None) piece → new ≡ fed old piece
-same_fed kept now old new piece refusal a b e f =
-    let same : held kept None ≡ old = sym (rw (a, e) refl) ∙ b in f ∙ ap (λ r. fed r piece) same
 
 -- ---- no room
 
@@ -26,7 +17,7 @@ returns-then-is_full-clause-fed c =
     let none : c.self.inside.refusal ≡ None = ap (λ (r : Reading). r.refusal) c.self.view_is ∙ c.requires in
     let failed : failure (kept ++ c.args.byte ∷ []) ≡ Some c.overfull-refused.result =
     ap (λ (k : List ℕ). failure (k ++ c.args.byte ∷ [])) (sym c.as_slice.ensures.value) ∙ c.overfull-refused.ensures c.args.byte [] in
-    same_fed kept kept c.args.self.now _ (c.args.byte ∷ []) c.self.inside.refusal refl c.self.view_is none
+    same_fed kept c.args.self.now _ (c.args.byte ∷ []) c.self.inside.refusal c.self.view_is none
     (fed-fails kept c.args.byte c.overfull-refused.result c.self.invariant.unfailed failed)
 
 -- ---- a byte more
@@ -60,7 +51,7 @@ returns-in-Err-clause-fed c =
     let same = popped kept c.pop.new.self.items c.push.new.self.items c.args.byte _ c.push.ensures.items c.push.ensures.len c.pop.ensures.rest in
     let failed : failure (kept ++ c.args.byte ∷ []) ≡ Some c.in-Err.refused =
     ap failure (sym (c.as_slice-2.ensures.value ∙ c.push.ensures.items)) ∙ c.in-Err.ensures.failed in
-    same_fed kept kept c.args.self.now _ (c.args.byte ∷ []) c.self.inside.refusal refl c.self.view_is none
+    same_fed kept c.args.self.now _ (c.args.byte ∷ []) c.self.inside.refusal c.self.view_is none
     (ap (λ (k : List ℕ). held k (Some c.in-Err.refused)) same ∙ fed-fails kept c.args.byte c.in-Err.refused c.self.invariant.unfailed failed)
 
 pub invariant_of-self-in_default : goal.invariant_of-self-in_default
@@ -83,5 +74,5 @@ returns-clause-fed c =
     let items = c.as_slice-2.ensures.value ∙ c.push.ensures.items in
     let waits = subst (λ (k : List ℕ). Waits k c.advance.new.self) items c.in_default.ensures.waits in
     let passes : failure (kept ++ c.args.byte ∷ []) ≡ None = waits_unfailed (kept ++ c.args.byte ∷ []) c.advance.new.self waits in
-    same_fed kept kept c.args.self.now _ (c.args.byte ∷ []) c.self.inside.refusal refl c.self.view_is none
-    (ap (λ (k : List ℕ). held k c.self.inside.refusal) c.push.ensures.items ∙ ap (held (kept ++ c.args.byte ∷ [])) none ∙ fed-passes kept c.args.byte passes)
+    same_fed kept c.args.self.now _ (c.args.byte ∷ []) c.self.inside.refusal c.self.view_is none
+    (ap (λ (k : List ℕ). held k c.self.inside.refusal) c.push.ensures.items ∙ ap (held (kept ++ c.args.byte ∷ [])) none ∙ fed-passes kept (c.args.byte ∷ []) passes)

@@ -1,7 +1,7 @@
 -- The bytes before this one were fed, and none was refused.
 use Rattle.std.proofs.Common.{◌≡◌, None, ◌≤◌, length, take}
 use Rattle.ti_entry.specs.Reading.{fed}
-use Rattle.ti_entry.proofs.reader.EntryReader.feed.Given as goal
+use Rattle.ti_entry.proofs.reader.EntryReader.take_each.Given as goal
 
 abbrev pub invariant-bytes : goal.invariant-bytes
 invariant-bytes l = record {

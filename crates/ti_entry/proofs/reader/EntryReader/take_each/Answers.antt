@@ -3,8 +3,8 @@ use Rattle.std.specs.Prelude.{ℕ}
 use Rattle.std.proofs.lemmas.List.{take-append-drop, take_more}
 use Rattle.ti_entry.specs.declared.fault.Refused.{Refused}
 use Rattle.ti_entry.specs.Reading.{Reading, fed}
-use Rattle.ti_entry.proofs.Feeding.{fed-append, fed-refused, answer_under-ok, answer_under-err}
-use Rattle.ti_entry.proofs.reader.EntryReader.feed.Goals as goal
+use Rattle.ti_entry.proofs.Feeding.{fed-append, fed-nothing, fed-refused, answer_under-ok, answer_under-err}
+use Rattle.ti_entry.proofs.reader.EntryReader.take_each.Goals as goal
 
 -- one byte more is fed
 one_more : (old mid new : Reading) (piece : List ℕ) (i : ℕ) → i < length piece → old.refusal ≡ None → mid ≡ fed old (take i piece) → new ≡ fed mid (get_or piece i 0 ∷ []) → new ≡ fed old (take (i + 1) piece)
@@ -15,6 +15,14 @@ one_more old mid new piece i lt none so_far e =
 rest_too : (old new : Reading) (piece : List ℕ) (k : ℕ) (r : Refused) → old.refusal ≡ None → new ≡ fed old (take k piece) → new.refusal ≡ Some r → new ≡ fed old piece
 rest_too old new piece k r none e some =
     sym (fed-refused new (drop k piece) r some) ∙ ap (λ s. fed s (drop k piece)) e ∙ fed-append old (take k piece) (drop k piece) none ∙ ap (fed old) (take-append-drop k piece)
+
+pub bytes-init : goal.bytes-init
+bytes-init c = record {
+  first = c.requires.unrefused;
+  unrefused = c.requires.unrefused;
+  within = c.requires.most;
+  fed = fed-nothing c.args.self.now c.requires.unrefused c.requires.unfailed;
+}
 
 pub returns-in_err-take-clause-fed : goal.returns-in_err-take-clause-fed
 returns-in_err-take-clause-fed c =

@@ -1,0 +1,56 @@
+use Rattle.std.proofs.Common.{◌≡◌, ◌≤◌, ◌∙◌, ap, sym, subst, length, take, List, ◌++◌}
+use Rattle.std.specs.Prelude.{ℕ, None}
+use Rattle.std.proofs.Math.Seq.{take-append_seam}
+use Rattle.ti_entry.specs.Reading.{Reading}
+use Rattle.ti_entry.specs.Refusal.{failure}
+use Rattle.ti_entry.specs.Stages.{Stands, Waits}
+use Rattle.ti_entry.proofs.Feeding.{held, same_fed, fed-passes}
+use Rattle.ti_entry.proofs.StageSteps.{stands_on}
+use Rattle.ti_entry.proofs.StageEnds.{waits_unfailed}
+use Rattle.ti_entry.proofs.reader.EntryReader.take_whole.Goals as goal
+
+pub advance-requires : goal.advance-requires
+advance-requires c =
+    let none : c.self.inside.refusal ≡ None = ap (λ (r : Reading). r.refusal) c.self.view_is ∙ c.requires in
+    let longer = stands_on c.self.inside.kept.items c.args.piece.now c.self.inside.stage (c.self.invariant.stands none) in
+    subst (λ (k : List ℕ). Stands k c.self.inside.stage) (sym (c.as_slice.ensures.value ∙ c.in-Ok.ensures.ok)) longer
+
+-- ---- a check fails
+
+restored : (kept now longer piece : List ℕ) (count : ℕ) → longer ≡ kept ++ piece → count ≡ length kept → now ≡ take count longer → now ≡ kept
+restored kept now longer piece count a b e = e ∙ ap (λ n. take n longer) b ∙ ap (take (length kept)) a ∙ take-append_seam kept piece
+
+pub invariant_of-self-in_default-advance : goal.invariant_of-self-in_default-advance
+invariant_of-self-in_default-advance c =
+    let count = c.kept-count.ensures.count ∙ ap (λ (r : Reading). length r.kept) (sym c.self.view_is) in
+    let same = restored c.self.inside.kept.items c.truncate.new.self.items c.try_extend_from_slice.new.self.items c.args.piece.now c.kept-count.result c.in-Ok.ensures.ok count c.truncate.ensures.items in
+    record {
+      most = subst (λ (k : List ℕ). length k ≤ 32768) (sym same) c.self.invariant.most;
+      unfailed = ap failure same ∙ c.self.invariant.unfailed;
+      stands = λ e. subst (λ (k : List ℕ). Stands k c.self.inside.stage) (sym same) (c.self.invariant.stands e);
+      waits = λ e. subst (λ (k : List ℕ). Waits k c.self.inside.stage) (sym same) (c.self.invariant.waits e);
+    }
+
+-- ---- none does
+
+pub invariant_of-self-2 : goal.invariant_of-self-2
+invariant_of-self-2 c =
+    let items = c.as_slice.ensures.value in
+    let waits = subst (λ (k : List ℕ). Waits k c.advance.new.self) items c.in-Ok-advance.ensures.waits in
+    record {
+      most = subst (λ (k : List ℕ). length k ≤ 32768) items c.as_slice.ensures.fits;
+      unfailed = waits_unfailed c.try_extend_from_slice.new.self.items c.advance.new.self waits;
+      stands = λ e. subst (λ (k : List ℕ). Stands k c.advance.new.self) items c.in-Ok-advance.ensures.stands;
+      waits = λ e. waits;
+    }
+
+pub returns-clause-taken : goal.returns-clause-taken
+returns-clause-taken c = λ e.
+    let kept = c.self.inside.kept.items in
+    let piece = c.args.piece.now in
+    let none : c.self.inside.refusal ≡ None = ap (λ (r : Reading). r.refusal) c.self.view_is ∙ c.requires in
+    let items = c.as_slice.ensures.value ∙ c.in-Ok.ensures.ok in
+    let waits = subst (λ (k : List ℕ). Waits k c.advance.new.self) items c.in-Ok-advance.ensures.waits in
+    let passes : failure (kept ++ piece) ≡ None = waits_unfailed (kept ++ piece) c.advance.new.self waits in
+    same_fed kept c.args.self.now _ piece c.self.inside.refusal c.self.view_is none
+    (ap (λ (k : List ℕ). held k c.self.inside.refusal) c.in-Ok.ensures.ok ∙ ap (held (kept ++ piece)) none ∙ fed-passes kept piece passes)
