@@ -5,7 +5,7 @@ use Rattle.ti_cap.specs.declared.token.Token.TheVariants.{Print}
 use Rattle.ti_cap.specs.declared.token.Conversion.{Conversion}
 use Rattle.ti_cap.specs.declared.token.Conversion.TheVariants.{Signed, Octal, LowerHex, UpperHex, Text}
 use Rattle.ti_cap.specs.Spelling.{conversion_letter}
-use Rattle.ti_cap.specs.Reading.{Reading, conversions, conversion_of, plain_format, format_read}
+use Rattle.ti_cap.specs.Reading.{conversions, conversion_of, plain_format, format_read}
 use Rattle.ti_cap.proofs.Choices.{letter_found}
 
 at_letter : (c : Conversion) (cs : List ℕ) → format_read (conversion_letter c ∷ cs) ≡ Ok (Print (plain_format c), 2)

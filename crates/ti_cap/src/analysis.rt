@@ -38,7 +38,7 @@ fn joined(waits: Option<u32>, value: u32) -> u32
 {
     match waits {
         None => value,
-        Some(waiting) => { if waiting < value { value } else { waiting } }
+        Some(waiting) => waiting.max(value),
     }
 }
 

@@ -3,7 +3,7 @@
 //! The language is that of terminfo(5), "Parameterized Strings", and of the Terminfo chapter of X/Open Curses.
 //! All values here are small and are copied; no call takes memory, and each takes constant time.
 
-ghost use Rattle.std.specs.Prelude.{◌≡◌, ◌≤◌, max, min};
+ghost use Rattle.std.specs.Prelude.{◌≡◌, ◌≤◌};
 ghost use Rattle.ti_cap.specs.Sizes.{format_size, token_size};
 ghost use Rattle.ti_cap.specs.Word.{name_of};
 
@@ -192,13 +192,6 @@ pub struct CapRefused {
     pub place: usize,
 }
 
-/// The greater of two numbers.
-fn larger(a: u64, b: u64) -> u64
-    ensures { result ≡ max a b }
-{
-    if a < b { b } else { a }
-}
-
 impl Format {
     /// The most bytes that a print by this format writes, where no text is longer than `longest` bytes.
     pub fn size(&self, longest: u16) -> u64
@@ -206,28 +199,19 @@ impl Format {
         ensures small { result ≤ 65535 }
     {
         let longest = u64::from(longest);
-        let precision = match self.precision {
-            None => 0,
-            Some(digits) => u64::from(digits),
-        };
+        let least = u64::from(self.precision.unwrap_or(0));
         let text = match self.conversion {
-            Conversion::Signed => 1 + larger(10, precision),
-            Conversion::Octal => larger(if self.alternate { 12 } else { 11 }, precision),
+            Conversion::Signed => 1 + least.max(10),
+            Conversion::Octal => least.max(if self.alternate { 12 } else { 11 }),
             Conversion::LowerHex | Conversion::UpperHex => {
-                (if self.alternate { 2 } else { 0 }) + larger(8, precision)
+                (if self.alternate { 2 } else { 0 }) + least.max(8)
             }
             Conversion::Text => match self.precision {
                 None => longest,
-                Some(most) => {
-                    if u64::from(most) < longest {
-                        u64::from(most)
-                    } else {
-                        longest
-                    }
-                }
+                Some(most) => longest.min(u64::from(most)),
             },
         };
-        larger(u64::from(self.width), text)
+        text.max(u64::from(self.width))
     }
 }
 
