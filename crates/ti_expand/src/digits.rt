@@ -3,7 +3,7 @@
 
 ghost use Rattle.std.specs.Prelude.{◌≡◌, ◌+◌, ◌<◌, ◌≤◌, ◌++◌, Bool, false, length, take, drop};
 ghost use Rattle.std.specs.Fmt.{digit_glyph};
-ghost use Rattle.ti_expand.specs.Printed.{significant, magnitude};
+ghost use Rattle.ti_expand.specs.Printed.{significant, digits_of, magnitude};
 
 use std::marker::Model;
 use ti_cap::token::Conversion;
@@ -71,69 +71,70 @@ fn write_decimal(number: u32, out: &mut [u8], end: usize) -> usize
     itoa::write_digits(u64::from(number), out, end)
 }
 
-/// Writes digits so that they end at a place, and returns where they start; 0 has none.
+/// How many digits a conversion writes of an amount.
 #[inline]
-fn write_digits(number: u32, base: u32, upper: bool, out: &mut [u8], end: usize) -> usize
-    requires base { (2 ≤ base) × (base ≤ 16) }
-    requires room { (length (significant base upper number) ≤ end) × (end ≤ length out.old) }
-    ensures start { result + length (significant base upper number) ≡ end }
-    ensures written { drop result out.new ≡ significant base upper number ++ drop end out.old }
-    ensures before { take result out.new ≡ take result out.old }
+fn count_of(conversion: Conversion, amount: u32) -> usize
+    ensures { result ≡ length (digits_of conversion amount) }
 {
-    // Where the base is known, the compiler divides by shifts.
-    match base {
-        10 if !upper => write_decimal(number, out, end),
-        8 => write_radix(number, 8, upper, out, end),
-        16 => write_radix(number, 16, upper, out, end),
-        _ => write_radix(number, base, upper, out, end),
+    match conversion {
+        Conversion::Signed => digit_count(amount, 10),
+        Conversion::Octal => digit_count(amount, 8),
+        Conversion::LowerHex | Conversion::UpperHex => digit_count(amount, 16),
+        Conversion::Text => 0,
     }
 }
 
-/// The digits of a number, seen as their bytes.
+/// Writes the digits of a conversion so that they end at a place, and returns where they start.
+#[inline]
+fn write_digits(conversion: Conversion, amount: u32, out: &mut [u8], end: usize) -> usize
+    requires { (length (digits_of conversion amount) ≤ end) × (end ≤ length out.old) }
+    ensures start { result + length (digits_of conversion amount) ≡ end }
+    ensures written { drop result out.new ≡ digits_of conversion amount ++ drop end out.old }
+    ensures before { take result out.new ≡ take result out.old }
+{
+    // Where the base is known, the compiler divides by shifts.
+    match conversion {
+        Conversion::Signed => write_decimal(amount, out, end),
+        Conversion::Octal => write_radix(amount, 8, false, out, end),
+        Conversion::LowerHex => write_radix(amount, 16, false, out, end),
+        Conversion::UpperHex => write_radix(amount, 16, true, out, end),
+        Conversion::Text => end,
+    }
+}
+
+/// The digits that a conversion writes of an amount, seen as their bytes.
 #[derive(Drop)]
 pub struct Digits {
-    number: u32,
-    base: u32,
-    upper: bool,
+    conversion: Conversion,
+    amount: u32,
     count: usize,
 }
 
 impl Model for Digits {
-    ghost use Rattle.std.specs.Prelude.{◌≡◌, ◌≤◌, ℕ, List, length};
-    ghost use Rattle.ti_expand.specs.Printed.{significant};
+    ghost use Rattle.std.specs.Prelude.{◌≡◌, ℕ, List, length};
+    ghost use Rattle.ti_expand.specs.Printed.{digits_of};
 
     ghost Value = { List ℕ };
 
-    ghost view = { λ digits. significant digits.base digits.upper digits.number };
+    ghost view = { λ digits. digits_of digits.conversion digits.amount };
 
-    ghost invariant = { λ digits. (2 ≤ digits.base) × (digits.base ≤ 16) × (digits.count ≡ length (significant digits.base digits.upper digits.number)) };
+    ghost invariant = { λ digits. digits.count ≡ length (digits_of digits.conversion digits.amount) };
 }
 
 impl Digits {
-    /// The digits of a number in a base; 0 has none.
-    fn in_base(number: u32, base: u32, upper: bool) -> Digits
-        requires { (2 ≤ base) × (base ≤ 16) }
-        ensures { result ≡ significant base upper number }
-    {
-        let count = digit_count(number, base);
-        Digits {
-            number,
-            base,
-            upper,
-            count,
-        }
-    }
-
-    /// The digits of the magnitude that a conversion prints: of `%d` the absolute value, else the 32 bits.
+    /// The digits of a number: of `%d` those of its absolute value, else of its 32 bits. 0 has none.
     pub fn new(conversion: Conversion, number: i32) -> Digits
         ensures { result ≡ magnitude conversion number }
     {
-        match conversion {
-            Conversion::Signed => Digits::in_base(number.unsigned_abs(), 10, false),
-            Conversion::Octal => Digits::in_base(number.cast_unsigned(), 8, false),
-            Conversion::LowerHex => Digits::in_base(number.cast_unsigned(), 16, false),
-            Conversion::UpperHex => Digits::in_base(number.cast_unsigned(), 16, true),
-            Conversion::Text => Digits::in_base(0, 10, false),
+        let amount = match conversion {
+            Conversion::Signed => number.unsigned_abs(),
+            _ => number.cast_unsigned(),
+        };
+        let count = count_of(conversion, amount);
+        Digits {
+            conversion,
+            amount,
+            count,
         }
     }
 
@@ -152,7 +153,7 @@ impl Digits {
         ensures rest { drop result out.new ≡ drop result out.old }
     {
         let end = at + self.count;
-        let _start = write_digits(self.number, self.base, self.upper, out, end);
+        let _start = write_digits(self.conversion, self.amount, out, end);
         end
     }
 }

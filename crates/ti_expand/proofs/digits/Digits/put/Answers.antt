@@ -1,5 +1,5 @@
 use Rattle.std.proofs.Common.{◌≡◌, ◌+◌, length}
-use Rattle.ti_expand.specs.Printed.{significant}
+use Rattle.ti_expand.specs.Printed.{digits_of}
 use Rattle.ti_expand.proofs.Rest.{drop_behind}
 use Rattle.ti_expand.proofs.digits.Digits.put.Goals as goal
 
@@ -7,5 +7,5 @@ pub returns-clause-rest : goal.returns-clause-rest
 returns-clause-rest c =
     let w = c.write_digits-start in
     let d = c.self.inside in
-    let counted : d.count ≡ length (significant d.base d.upper d.number) = c.self.invariant.2 in
-    drop_behind w.new.out c.args.out.now (significant d.base d.upper d.number) w.result (c.args.at + d.count) w.ensures.start w.ensures.written
+    let counted : d.count ≡ length (digits_of d.conversion d.amount) = c.self.invariant in
+    drop_behind w.new.out c.args.out.now (digits_of d.conversion d.amount) w.result (c.args.at + d.count) w.ensures.start w.ensures.written
