@@ -53,10 +53,7 @@ pub fn encode_in<A: Allocator + Copy, D: Allocator>(
     if let Some(fault) = first_fault(draft) {
         return Err(fault);
     }
-    match written_in(alloc, draft) {
-        Ok(out) => Ok(out),
-        Err(_) => Err(EncodeFault::Memory),
-    }
+    Ok(written_in(alloc, draft)?)
 }
 
 /// The bytes of a draft that has no fault.

@@ -11,7 +11,7 @@ ghost use Rattle.ti_entry.specs.Unfit.{has_nul as the_has_nul, text_has_nul as t
 use crate::draft::Draft;
 use crate::header::LIMIT;
 use crate::size::encoded_len;
-use std::alloc::Allocator;
+use std::alloc::{AllocError, Allocator};
 use thiserror::Error;
 use ti_words::{Number, Text, Width};
 
@@ -33,6 +33,16 @@ pub enum EncodeFault {
     /// Memory was refused.
     #[error("Memory")]
     Memory,
+}
+
+impl From<AllocError> for EncodeFault {
+    ghost use Rattle.ti_entry.specs.declared.unfit.EncodeFault.TheVariants.{Memory};
+
+    ghost from_gives = { λ _ e. e ≡ Memory };
+
+    fn from(_refused: AllocError) -> EncodeFault {
+        EncodeFault::Memory
+    }
 }
 
 impl EncodeFault {

@@ -89,10 +89,8 @@ pub fn expand_into<'a>(
 {
     // Each variable fits 32 bits, on which the bound rests.
     let _numbers = vars.numbers();
-    match check(&tape, parameters, stack.len(), out.len()) {
-        Ok(_) => Ok(run_tape(tape, parameters, vars, stack, out)),
-        Err(fault) => Err(fault),
-    }
+    check(&tape, parameters, stack.len(), out.len())?;
+    Ok(run_tape(tape, parameters, vars, stack, out))
 }
 
 /// The most values on the stack of any capability.
@@ -127,10 +125,7 @@ pub fn expand_in<'a, A: Allocator + Copy>(
     };
     let bound = capability.bound(longest) as usize;
     let depth = capability.depth();
-    let mut out = match Vec::from_elem(alloc, 0, bound) {
-        Ok(out) => out,
-        Err(_) => return Err(ExpandFault::Memory),
-    };
+    let mut out = Vec::from_elem(alloc, 0, bound)?;
     let mut stack = [Value::Num(0); MOST_VALUES];
     // Each variable fits 32 bits, on which the bound rests.
     let _numbers = vars.numbers();

@@ -1,5 +1,9 @@
 //! Why a capability is not expanded.
 
+ghost use Rattle.std.specs.Prelude.{◌≡◌};
+ghost use Rattle.ti_expand.specs.declared.fault.ExpandFault.TheVariants as fault;
+
+use std::alloc::AllocError;
 use thiserror::Error;
 
 /// Why a capability is not expanded.
@@ -17,4 +21,12 @@ pub enum ExpandFault {
     /// Memory for the output was refused.
     #[error("Memory")]
     Memory,
+}
+
+impl From<AllocError> for ExpandFault {
+    ghost from_gives = { λ _ e. e ≡ fault.Memory };
+
+    fn from(_refused: AllocError) -> ExpandFault {
+        ExpandFault::Memory
+    }
 }

@@ -27,6 +27,14 @@ pub enum PadFault {
     Memory,
 }
 
+impl From<AllocError> for PadFault {
+    ghost from_gives = { λ _ e. e ≡ fault.Memory };
+
+    fn from(_refused: AllocError) -> PadFault {
+        PadFault::Memory
+    }
+}
+
 /// The padded text. [`PadFault::TooMuch`] is answered exactly where it has more than [`MOST_BYTES`].
 pub fn pad(alloc: Global, bytes: &[u8], padding: &Padding) -> Result<Vec<u8>, PadFault>
     ensures text { IfOk result (λ v. v.items ≡ padded bytes.now padding.now) }
@@ -50,10 +58,7 @@ pub fn pad_in<A: Allocator + Copy>(
     if need > MOST_BYTES {
         return Err(PadFault::TooMuch { need });
     }
-    match made_in(alloc, need as usize, bytes, padding) {
-        Ok(out) => Ok(out),
-        Err(_) => Err(PadFault::Memory),
-    }
+    Ok(made_in(alloc, need as usize, bytes, padding)?)
 }
 
 /// The padded text, which has this many bytes.

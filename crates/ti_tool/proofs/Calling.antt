@@ -1,5 +1,5 @@
 -- What a call has done, from what it read and what it wrote.
-use Rattle.std.proofs.Common.{◌≡◌, ℕ, Bool, ◌⊎◌, inl, inr, List, Ok, Err, Some, subst, sym, ap, ◌∙◌}
+use Rattle.std.proofs.Common.{◌≡◌, ℕ, ◌⊎◌, inl, inr, List, Ok, Err, Some, subst, sym, ap, ◌∙◌}
 use Rattle.std.specs.Prelude.{Option, Result}
 use Rattle.std.specs.Io.KnownBytes.{Consumes, IsAtEnd}
 use Rattle.std.proofs.KnownBytes.{Keeps-refl}
@@ -9,7 +9,7 @@ use Rattle.ti_entry.specs.declared.fault.Refused.{Refused}
 use Rattle.ti_entry.specs.Refusal.{refusal, failure}
 use Rattle.ti_entry.specs.Reading.{Reading, new_reading, fed}
 use Rattle.ti_tool.specs.Reading.{Takes}
-use Rattle.ti_tool.specs.Calls.{Wrote, Ended, DidCall, HasFailed, StoppedAt, without_value}
+use Rattle.ti_tool.specs.Calls.{Wrote, Ended, DidCall, HasFailed, StoppedAt}
 
 -- a writer's own fault is due to nothing
 abbrev pub NeverWrite : (Result (List ℕ) ToolFault → Type 0) → Type 0
@@ -95,11 +95,3 @@ did_stop due left0 left1 held (fault.TooMuch need) s h = absurd s
 -- what a new reader refused is why the bytes fail
 pub stopped_on : (bytes : List ℕ) (old new : Reading) (r : Refused) → old ≡ new_reading → new ≡ fed old bytes → new.refusal ≡ Some r → failure bytes ≡ Some r
 stopped_on bytes old new r o n h = ap (λ x. (fed x bytes).refusal) (sym o) ∙ ap (λ x. x.refusal) (sym n) ∙ h
-
--- a call whose answer has a value did what the same answer without it tells
-pub did_answer : (due : List ℕ → Result (List ℕ) ToolFault → Type 0) (enough : List ℕ → Type 0) (left0 left1 held0 held1 : Option (List ℕ)) (answer : Result Bool ToolFault)
-    (written : Result (Unit {0}) ToolFault) → without_value answer ≡ written → DidCall due enough left0 left1 held0 held1 written
-    → DidCall due enough left0 left1 held0 held1 (without_value answer)
-did_answer due enough left0 left1 held0 held1 answer written e d =
-    let P : Result (Unit {0}) ToolFault → Type 0 = λ r. DidCall due enough left0 left1 held0 held1 r in
-    subst P (sym e) d

@@ -11,7 +11,7 @@ ghost use Rattle.ti_tool.specs.Calls.{DidCall, IsFull};
 use crate::expansion::expanded_in;
 use crate::fault::ToolFault;
 use crate::output::{shown_in, write_result};
-use crate::source::{ReadFailed, read_up_to};
+use crate::source::read_up_to;
 use arrayvec::ArrayVec;
 use std::alloc::{Allocator, Global};
 use std::io::{Read, Write};
@@ -41,14 +41,9 @@ pub fn cap_run_in<A: Allocator + Copy, R: Read, W: Write>(
     ensures { DidCall (IsCapped parameters.now hex) IsFull (R.remaining reader.old) (R.remaining reader.new) (W.contents writer.old) (W.contents writer.new) result }
 {
     let mut input = ArrayVec::new();
-    match read_up_to(&mut input, reader) {
-        Ok(()) => (),
-        Err(ReadFailed) => return Err(ToolFault::Read),
-    }
-    match capped_in(alloc, input.as_slice(), parameters, hex) {
-        Ok(result) => write_result(writer, result.as_slice()),
-        Err(fault) => Err(fault),
-    }
+    read_up_to(&mut input, reader)?;
+    let result = capped_in(alloc, input.as_slice(), parameters, hex)?;
+    write_result(writer, result.as_slice())
 }
 
 /// Expands what the reader gives as one capability, each byte of it as it stands, and writes the result: its bytes, or

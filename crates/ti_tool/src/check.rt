@@ -68,17 +68,6 @@ fn verdicts_in<A: Allocator + Copy>(alloc: A, entry: &Entry<'_>) -> Result<Verdi
     Ok(Verdicts { lines, sound })
 }
 
-/// The answer of `check`, where its lines were written or not.
-fn answer(written: Result<(), ToolFault>, sound: bool) -> Result<bool, ToolFault>
-    ensures written { without_value result ≡ written }
-    ensures sound { IfOk result (λ s. s ≡ sound) }
-{
-    match written {
-        Ok(()) => Ok(sound),
-        Err(fault) => Err(fault),
-    }
-}
-
 /// What [`check`] does, with memory of the allocator.
 pub fn check_in<A: Allocator + Copy, R: Read, W: Write>(
     alloc: A,
@@ -88,20 +77,11 @@ pub fn check_in<A: Allocator + Copy, R: Read, W: Write>(
     ensures { DidCheck IsChecked (R.remaining reader.old) (R.remaining reader.new) (W.contents writer.old) (W.contents writer.new) result }
 {
     let mut kept = EntryReader::new();
-    match read_entry(&mut kept, reader) {
-        Ok(()) => (),
-        Err(fault) => return Err(fault),
-    }
-    match kept.finish() {
-        Ok(entry) => match verdicts_in(alloc, &entry) {
-            Ok(verdicts) => answer(
-                write_result(writer, verdicts.lines.as_slice()),
-                verdicts.sound,
-            ),
-            Err(_) => Err(ToolFault::Memory),
-        },
-        Err(refused) => Err(ToolFault::Entry(refused)),
-    }
+    read_entry(&mut kept, reader)?;
+    let entry = kept.finish()?;
+    let verdicts = verdicts_in(alloc, &entry)?;
+    write_result(writer, verdicts.lines.as_slice())?;
+    Ok(verdicts.sound)
 }
 
 /// Analyses each text of the entry that the reader gives, and writes a line for each that is present, in the order of

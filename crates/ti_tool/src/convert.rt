@@ -47,10 +47,8 @@ fn converted_in<A: Allocator + Copy>(
 ) -> Result<Vec<u8, A>, ToolFault>
     ensures { MatchResult result (λ v. IsEncoding (in_width width entry.now) (Ok v.items)) (λ e. (e ≡ fault.Memory) ⊎ IsEncoding (in_width width entry.now) (Err e)) }
 {
-    match drafted_in(alloc, entry, width) {
-        Ok(draft) => encoded_in(alloc, &draft),
-        Err(_) => Err(ToolFault::Memory),
-    }
+    let draft = drafted_in(alloc, entry, width)?;
+    encoded_in(alloc, &draft)
 }
 
 /// What [`convert`] does, with memory of the allocator.
@@ -63,17 +61,10 @@ pub fn convert_in<A: Allocator + Copy, R: Read, W: Write>(
     ensures { DidCall (IsConverted width) HasFailed (R.remaining reader.old) (R.remaining reader.new) (W.contents writer.old) (W.contents writer.new) result }
 {
     let mut kept = EntryReader::new();
-    match read_entry(&mut kept, reader) {
-        Ok(()) => (),
-        Err(fault) => return Err(fault),
-    }
-    match kept.finish() {
-        Ok(entry) => match converted_in(alloc, &entry, width) {
-            Ok(bytes) => write_result(writer, bytes.as_slice()),
-            Err(fault) => Err(fault),
-        },
-        Err(refused) => Err(ToolFault::Entry(refused)),
-    }
+    read_entry(&mut kept, reader)?;
+    let entry = kept.finish()?;
+    let bytes = converted_in(alloc, &entry, width)?;
+    write_result(writer, bytes.as_slice())
 }
 
 /// Writes the entry that the reader gives in its canonical layout: each text in its place without sharing, the extended

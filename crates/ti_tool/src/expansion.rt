@@ -23,10 +23,7 @@ pub fn expanded_in<A: Allocator + Copy>(
     ensures output { IfOk result (λ v. IsExpansion bytes.now parameters.now v.items) }
     ensures refused { IfErr result (λ e. (e ≡ fault.Memory) ⊎ IsUnexpanded bytes.now parameters.now e) }
 {
-    let capability = match Capability::parse(bytes) {
-        Ok(capability) => capability,
-        Err(refused) => return Err(ToolFault::Cap(refused)),
-    };
+    let capability = Capability::parse(bytes)?;
     let mut vars = Vars::new();
     match expand_in(alloc, &capability, parameters, &mut vars) {
         Ok(output) => Ok(output),

@@ -1,5 +1,10 @@
 //! Why a call of the program did not write its result.
 
+ghost use Rattle.std.specs.Prelude.{◌≡◌};
+ghost use Rattle.ti_tool.specs.declared.fault.ToolFault.TheVariants as fault;
+
+use crate::source::ReadFailed;
+use std::alloc::AllocError;
 use thiserror::Error;
 use ti_cap::token::CapRefused;
 use ti_entry::{EncodeFault, Refused};
@@ -34,4 +39,36 @@ pub enum ToolFault {
     /// Memory was refused.
     #[error("Memory")]
     Memory,
+}
+
+impl From<AllocError> for ToolFault {
+    ghost from_gives = { λ _ e. e ≡ fault.Memory };
+
+    fn from(_refused: AllocError) -> ToolFault {
+        ToolFault::Memory
+    }
+}
+
+impl From<Refused> for ToolFault {
+    ghost from_gives = { λ refused e. e ≡ fault.Entry refused };
+
+    fn from(refused: Refused) -> ToolFault {
+        ToolFault::Entry(refused)
+    }
+}
+
+impl From<CapRefused> for ToolFault {
+    ghost from_gives = { λ refused e. e ≡ fault.Cap refused };
+
+    fn from(refused: CapRefused) -> ToolFault {
+        ToolFault::Cap(refused)
+    }
+}
+
+impl From<ReadFailed> for ToolFault {
+    ghost from_gives = { λ _ e. e ≡ fault.Read };
+
+    fn from(_failed: ReadFailed) -> ToolFault {
+        ToolFault::Read
+    }
 }

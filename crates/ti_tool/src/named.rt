@@ -82,17 +82,10 @@ pub fn expand_named_in<A: Allocator + Copy, R: Read, W: Write>(
     ensures { DidCall (IsNamed name.now parameters.now padding.now hex) HasFailed (R.remaining reader.old) (R.remaining reader.new) (W.contents writer.old) (W.contents writer.new) result }
 {
     let mut kept = EntryReader::new();
-    match read_entry(&mut kept, reader) {
-        Ok(()) => (),
-        Err(fault) => return Err(fault),
-    }
-    match kept.finish() {
-        Ok(entry) => match named_in(alloc, &entry, name, parameters, padding, hex) {
-            Ok(result) => write_result(writer, result.as_slice()),
-            Err(fault) => Err(fault),
-        },
-        Err(refused) => Err(ToolFault::Entry(refused)),
-    }
+    read_entry(&mut kept, reader)?;
+    let entry = kept.finish()?;
+    let result = named_in(alloc, &entry, name, parameters, padding, hex)?;
+    write_result(writer, result.as_slice())
 }
 
 /// Expands one text of the entry that the reader gives, pads it, and writes the result: its bytes, or with `hex` the same

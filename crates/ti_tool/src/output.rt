@@ -34,10 +34,7 @@ pub fn shown_in<A: Allocator + Copy>(
     if !hex {
         return Ok(plain);
     }
-    match hex_line_in(alloc, plain.as_slice()) {
-        Ok(line) => Ok(line),
-        Err(_) => Err(ToolFault::Memory),
-    }
+    Ok(hex_line_in(alloc, plain.as_slice())?)
 }
 
 /// Writes a result. Its fault says how many of its bytes the writer took.

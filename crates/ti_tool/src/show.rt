@@ -21,17 +21,10 @@ pub fn show_in<A: Allocator + Copy, R: Read, W: Write>(
     ensures { DidCall IsShown HasFailed (R.remaining reader.old) (R.remaining reader.new) (W.contents writer.old) (W.contents writer.new) result }
 {
     let mut kept = EntryReader::new();
-    match read_entry(&mut kept, reader) {
-        Ok(()) => (),
-        Err(fault) => return Err(fault),
-    }
-    match kept.finish() {
-        Ok(entry) => match lines_in(alloc, &entry) {
-            Ok(lines) => write_result(writer, lines.as_slice()),
-            Err(_) => Err(ToolFault::Memory),
-        },
-        Err(refused) => Err(ToolFault::Entry(refused)),
-    }
+    read_entry(&mut kept, reader)?;
+    let entry = kept.finish()?;
+    let lines = lines_in(alloc, &entry)?;
+    write_result(writer, lines.as_slice())
 }
 
 /// Lists the entry that the reader gives, one line an item: the format, the names, then the flags, numbers and texts in

@@ -10,7 +10,7 @@ run_tape-run-requires g c =
     rw c.tape.ensures.start
     (can_run c.args.capability.now c.args.vars.now c.args.parameters.now c.in-Ok.longest c.depth-depth.result c.bound-bound.result _ _
     c.depth-depth.ensures.tree c.numbers-numbers.ensures.numbers c.in-Ok.ensures.short c.depth-depth.ensures.exact (rw length-take (omega (arith, c.depth-depth.ensures.low)))
-    c.bound-bound.ensures.exact (omega (arith, c.as_mut_slice.ensures.len, c.in-Ok-from_elem.ensures.len)))
+    c.bound-bound.ensures.exact (omega (arith, c.as_mut_slice.ensures.len, c.in_ok-out.ensures.len)))
 
 pub returns-clause-too_long : goal.returns-clause-too_long
 returns-clause-too_long g c = λ k. (λ e. absurd (cc), λ h. absurd (none_too_long c.args.parameters.now k (omega (arith, c.in-Ok.ensures.short.short, c.in-Ok.ensures.short.longest_is)) h))

@@ -4,7 +4,7 @@ use Rattle.ti_tool.specs.declared.fault.ToolFault.TheVariants as fault
 use Rattle.ti_tool.specs.Results.{IsEncoding}
 use Rattle.ti_tool.proofs.convert.converted_in.Goals as goal
 
-pub returns-in-Ok : goal.returns-in-Ok
-returns-in-Ok g c =
+pub returns : goal.returns
+returns g c =
     let P : EntryValue → Type 0 = λ v. MatchResult c.encoded_in.result (λ x. IsEncoding v (Ok x.items)) (λ e. (e ≡ fault.Memory) ⊎ IsEncoding v (Err e)) in
-    subst P c.in-Ok.ensures c.encoded_in.ensures
+    subst P c.in_ok-draft.ensures c.encoded_in.ensures

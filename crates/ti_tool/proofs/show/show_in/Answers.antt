@@ -1,21 +1,31 @@
-use Rattle.std.proofs.Common.{inr}
+use Rattle.std.proofs.Common.{inl, inr, refl}
+use Rattle.std.proofs.lemmas.Result.{err_from_is_err_and}
 use Rattle.ti_tool.specs.Results.{IsShown}
 use Rattle.ti_tool.specs.Calls.{HasFailed}
 use Rattle.ti_tool.proofs.Calling.{did_fail, did_stop, did_write}
 use Rattle.ti_tool.proofs.show.show_in.Goals as goal
 
-pub returns-in-Err : goal.returns-in-Err
-returns-in-Err g c = did_stop IsShown _ _ _ c.in-Err.fault c.in-Err.ensures.stopped (λ bytes refused is. is)
+pub returns-in_err-read_entry : goal.returns-in_err-read_entry
+returns-in_err-read_entry g c =
+    let p = err_from_is_err_and c.from_residual.result c.from_residual.ensures.1 in
+    rw (p.1, p.2) (did_stop IsShown _ _ _ c.in_err-read_entry.field-0.0 c.in_err-read_entry.ensures.stopped (λ bytes refused is. is))
 
-pub returns-in-Ok-lines_in : goal.returns-in-Ok-lines_in
-returns-in-Ok-lines_in g c =
-    did_write IsShown HasFailed _ _ _ _ c.read_entry.new.reader.kept c.in-Ok-lines_in.lines.items c.as_slice.result.now c.write_result.result
-    c.in-Ok.ensures.whole.read (inr c.in-Ok.ensures.whole.end)
-    (_, c.in-Ok-finish.ensures.found c.in-Ok.ensures.whole.unrefused, c.in-Ok-lines_in.ensures)
+pub returns-in_err-entry : goal.returns-in_err-entry
+returns-in_err-entry g c =
+    let p = err_from_is_err_and c.from_residual-in_err-entry.result c.from_residual-in_err-entry.ensures.1 in
+    let whole = c.in_ok-read_entry.ensures.whole in
+    rw (p.1, p.2) (did_fail IsShown HasFailed _ _ _ c.read_entry.new.reader.kept _ whole.read (inr whole.end) (λ gone h. h) (inr (c.in_err-entry.ensures.refused whole.unrefused)))
+
+pub returns-in_err-lines : goal.returns-in_err-lines
+returns-in_err-lines g c =
+    let p = err_from_is_err_and c.from_residual-in_err-lines.result c.from_residual-in_err-lines.ensures.1 in
+    let whole = c.in_ok-read_entry.ensures.whole in
+    rw (p.1, p.2) (did_fail IsShown HasFailed _ _ _ c.read_entry.new.reader.kept _ whole.read (inr whole.end) (λ gone h. h) (inl refl))
+
+pub returns : goal.returns
+returns g c =
+    let whole = c.in_ok-read_entry.ensures.whole in
+    did_write IsShown HasFailed _ _ _ _ c.read_entry.new.reader.kept c.in_ok-lines.lines.items c.as_slice.result.now c.write_result.result
+    whole.read (inr whole.end)
+    (_, c.in_ok-entry.ensures.found whole.unrefused, c.in_ok-lines.ensures)
     c.as_slice.ensures.value c.write_result.ensures
-
-pub returns-in-Err-finish : goal.returns-in-Err-finish
-returns-in-Err-finish g c =
-    did_fail IsShown HasFailed _ _ _ c.read_entry.new.reader.kept (_)
-    c.in-Ok.ensures.whole.read (inr c.in-Ok.ensures.whole.end) (λ gone h. h)
-    (inr (c.in-Err-finish.ensures.refused c.in-Ok.ensures.whole.unrefused))
