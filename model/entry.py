@@ -1,0 +1,279 @@
+"""Compiled entries of term(5): reading with the first check that fails, the canonical bytes, and the listing of `show`.
+
+Written from the manual pages and the list of checks alone, to be compared with the proved program.
+"""
+import struct
+from dataclasses import dataclass, field
+
+LIMIT = 32768
+FLAGS = {0: "no", 1: "yes", 254: "cancelled", 255: "missing"}
+FLAG_BYTES = {flag: byte for byte, flag in FLAGS.items()}
+ABSENT, CANCELLED = "absent", "cancelled"
+
+FLAG_NAMES = {
+    0: "bw", 1: "am", 4: "xenl", 5: "eo", 6: "gn", 7: "hc", 8: "km", 9: "hs", 11: "da", 12: "db", 13: "mir", 14: "msgr",
+    15: "os", 18: "hz", 19: "ul", 20: "xon", 21: "nxon", 25: "npc", 27: "ccc", 28: "bce",
+}
+NUMBER_NAMES = {0: "cols", 1: "it", 2: "lines", 3: "lm", 4: "xmc", 5: "pb", 13: "colors", 14: "pairs", 15: "ncv"}
+TEXT_NAMES = {
+    0: "cbt", 1: "bel", 2: "cr", 3: "csr", 4: "tbc", 5: "clear", 6: "el", 7: "ed", 8: "hpa", 10: "cup", 11: "cud1",
+    12: "home", 13: "civis", 14: "cub1", 16: "cnorm", 17: "cuf1", 19: "cuu1", 20: "cvvis", 21: "dch1", 22: "dl1",
+    25: "smacs", 26: "blink", 27: "bold", 28: "smcup", 30: "dim", 31: "smir", 32: "invis", 34: "rev", 35: "smso",
+    36: "smul", 37: "ech", 38: "rmacs", 39: "sgr0", 40: "rmcup", 42: "rmir", 43: "rmso", 44: "rmul", 45: "flash",
+    52: "ich1", 53: "il1", 55: "kbs", 59: "kdch1", 61: "kcud1", 66: "kf1", 67: "kf10", 68: "kf2", 69: "kf3", 70: "kf4",
+    71: "kf5", 72: "kf6", 73: "kf7", 74: "kf8", 75: "kf9", 76: "khome", 77: "kich1", 79: "kcub1", 81: "knp", 82: "kpp",
+    83: "kcuf1", 87: "kcuu1", 88: "rmkx", 89: "smkx", 105: "dch", 106: "dl", 107: "cud", 108: "ich", 109: "indn",
+    110: "il", 111: "cub", 112: "cuf", 113: "rin", 114: "cuu", 126: "rc", 127: "vpa", 128: "sc", 129: "ind", 130: "ri",
+    131: "sgr", 132: "hts", 134: "ht", 164: "kend", 216: "kf11", 217: "kf12", 359: "setaf", 360: "setab",
+}
+
+
+class Refused(Exception):
+    """The first check that fails, and its place."""
+
+    def __init__(self, fault, place):
+        super().__init__(f"{fault} at {place}")
+
+
+class Unfit(Exception):
+    """Why an entry has no canonical bytes."""
+
+
+@dataclass
+class Entry:
+    """Numbers are -1 where absent and -2 where cancelled; extended items are pairs of a name and a mark."""
+
+    wide: bool
+    names: bytes
+    flags: list = field(default_factory=list)
+    numbers: list = field(default_factory=list)
+    texts: list = field(default_factory=list)
+    extended_flags: list = field(default_factory=list)
+    extended_numbers: list = field(default_factory=list)
+    extended_texts: list = field(default_factory=list)
+
+    def extended_names(self):
+        return [name for name, _ in self.extended_flags + self.extended_numbers + self.extended_texts]
+
+
+class Input:
+    """Bytes that are gone over from the front; a check that wants more of them than there are is Truncated."""
+
+    def __init__(self, data):
+        self.data, self.at = data, 0
+
+    def need(self, length):
+        if len(self.data) < length:
+            raise Refused("Truncated", len(self.data))
+
+    def take(self, size):
+        """The place and the bytes of the next item."""
+        place = self.at
+        self.need(place + size)
+        self.at += size
+        return place, self.data[place:self.at]
+
+    def word(self):
+        place, data = self.take(2)
+        return place, struct.unpack("<h", data)[0]
+
+    def count(self, fault):
+        place, word = self.word()
+        if word < 0:
+            raise Refused(fault, place)
+        return word
+
+    def nul(self, fault):
+        place, data = self.take(1)
+        if data != b"\0":
+            raise Refused(fault, place)
+
+    def flags(self, count):
+        flags = []
+        for _ in range(count):
+            place, data = self.take(1)
+            if data[0] not in FLAGS:
+                raise Refused("BadFlag", place)
+            flags.append(FLAGS[data[0]])
+        return flags
+
+    def numbers(self, count, wide):
+        numbers = []
+        for _ in range(count):
+            place, data = self.take(4 if wide else 2)
+            number = struct.unpack("<i" if wide else "<h", data)[0]
+            if number < -2:
+                raise Refused("BadNumber", place)
+            numbers.append(number)
+        return numbers
+
+    def offsets(self, count, table):
+        offsets = []
+        for _ in range(count):
+            place, offset = self.word()
+            if not -2 <= offset < table:
+                raise Refused("BadOffset", place)
+            offsets.append((place, offset))
+        return offsets
+
+
+def text_at(table, place, offset):
+    end = table.find(b"\0", offset)
+    if end < 0:
+        raise Refused("Unterminated", place)
+    return table[offset:end]
+
+
+def texts_at(table, offsets):
+    marks = {-1: ABSENT, -2: CANCELLED}
+    return [marks[offset] if offset < 0 else text_at(table, place, offset) for place, offset in offsets]
+
+
+def read(data):
+    """The entry that the bytes spell, or Refused."""
+    source = Input(data)
+    source.need(2)
+    magic = data[0] + 256 * data[1]
+    if magic not in (0o432, 0o1036):
+        raise Refused("BadMagic", 0)
+    wide = magic == 0o1036
+    size = 4 if wide else 2
+    source.at = 2
+    names, flags, numbers, texts, table = [source.count("BadHeader") for _ in range(5)]
+    end = 12 + names + flags + (names + flags) % 2 + size * numbers + 2 * texts + table
+    if end > LIMIT:
+        raise Refused("HeaderTooBig", 0)
+    if names < 2:
+        raise Refused("BadNames", 12)
+    for _ in range(names - 1):
+        place, byte = source.take(1)
+        if byte == b"\0":
+            raise Refused("BadNames", place)
+    source.nul("BadNames")
+    entry = Entry(wide, data[12:11 + names])
+    entry.flags = source.flags(flags)
+    if (names + flags) % 2:
+        source.nul("BadPad")
+    entry.numbers = source.numbers(numbers, wide)
+    offsets = source.offsets(texts, table)
+    entry.texts = texts_at(source.take(table)[1], offsets)
+    if len(data) > end:
+        read_extended(source, entry, end, table)
+    return entry
+
+
+def read_extended(source, entry, end, table):
+    size = 4 if entry.wide else 2
+    begin = end + table % 2
+    if begin + 10 > LIMIT:
+        raise Refused("ExtendedTooBig", end)
+    if table % 2:
+        source.nul("BadPad")
+    flags, numbers, texts = [source.count("BadExtendedHeader") for _ in range(3)]
+    source.at += 2
+    extended_table = source.count("BadExtendedHeader")
+    count = flags + numbers + texts
+    end = begin + 10 + flags + flags % 2 + size * numbers + 2 * texts + 2 * count + extended_table
+    if end > LIMIT:
+        raise Refused("ExtendedTooBig", begin)
+    found_flags = source.flags(flags)
+    if flags % 2:
+        source.nul("BadPad")
+    found_numbers = source.numbers(numbers, entry.wide)
+    offsets = source.offsets(texts, extended_table)
+    name_offsets = [(source.at, source.count("BadExtendedName")) for _ in range(count)]
+    table = source.take(extended_table)[1]
+    found_texts = texts_at(table, offsets)
+    base = sum(len(text) + 1 for text in found_texts if isinstance(text, bytes))
+    names = []
+    for place, offset in name_offsets:
+        if base + offset >= extended_table:
+            raise Refused("BadExtendedName", place)
+        names.append(text_at(table, place, base + offset))
+    if len(source.data) > end:
+        raise Refused("Trailing", end)
+    entry.extended_flags = list(zip(names, found_flags))
+    entry.extended_numbers = list(zip(names[flags:], found_numbers))
+    entry.extended_texts = list(zip(names[flags + numbers:], found_texts))
+
+
+def word(number):
+    return struct.pack("<H", number & 0xFFFF)
+
+
+def table_of(texts):
+    """Offsets and table of texts that stand one behind the other."""
+    offsets = table = b""
+    for text in texts:
+        if isinstance(text, bytes):
+            offsets += word(len(table))
+            table += text + b"\0"
+        else:
+            offsets += word(-1 if text == ABSENT else -2)
+    return offsets, table
+
+
+def encode(entry, wide):
+    """The canonical bytes in a format, or Unfit."""
+    names = entry.extended_names()
+    extended_texts = [text for _, text in entry.extended_texts]
+    extended_numbers = [number for _, number in entry.extended_numbers]
+    if not entry.names or any(0 in name for name in [entry.names] + names):
+        raise Unfit("BadName")
+    if any(isinstance(text, bytes) and 0 in text for text in entry.texts + extended_texts):
+        raise Unfit("NulInText")
+    if any(number > (2**31 - 1 if wide else 2**15 - 1) for number in entry.numbers + extended_numbers):
+        raise Unfit("NumberOutOfRange")
+
+    def numbers_of(numbers):
+        return b"".join(struct.pack("<i" if wide else "<h", number) for number in numbers)
+
+    offsets, table = table_of(entry.texts)
+    counts = [len(entry.names) + 1, len(entry.flags), len(entry.numbers), len(entry.texts), len(table)]
+    out = word(0o1036 if wide else 0o432) + b"".join(map(word, counts))
+    out += entry.names + b"\0" + bytes(FLAG_BYTES[flag] for flag in entry.flags)
+    out += b"\0" * (len(out) % 2) + numbers_of(entry.numbers) + offsets + table
+    if names:
+        offsets, values = table_of(extended_texts)
+        name_offsets, name_table = table_of(names)
+        present = sum(isinstance(text, bytes) for text in extended_texts)
+        flags = bytes(FLAG_BYTES[flag] for _, flag in entry.extended_flags)
+        counts = [len(flags), len(extended_numbers), len(extended_texts), present + len(names), len(values + name_table)]
+        out += b"\0" * (len(table) % 2) + b"".join(map(word, counts)) + flags + b"\0" * (len(flags) % 2)
+        out += numbers_of(extended_numbers) + offsets + name_offsets + values + name_table
+    if len(out) > LIMIT:
+        raise Unfit("TooManyOrLong")
+    return out
+
+
+def label(names, index):
+    return names.get(index, f"#{index}").encode()
+
+
+def flag_line(kind, name, flag):
+    ends = {"no": None, "yes": b"", "cancelled": b" cancelled", "missing": b" missing"}
+    return b"" if ends[flag] is None else kind + name + ends[flag] + b"\n"
+
+
+def number_line(kind, name, number):
+    if number == -1:
+        return b""
+    return kind + name + (b" cancelled" if number == -2 else b" %d" % number) + b"\n"
+
+
+def text_line(kind, name, text):
+    if text == ABSENT:
+        return b""
+    return kind + name + b" " + (b"cancelled" if text == CANCELLED else text.hex().encode() or b"-") + b"\n"
+
+
+def listing(entry):
+    """What `show` writes."""
+    lines = [b"format: " + (b"wide" if entry.wide else b"legacy") + b"\nnames: " + entry.names + b"\n"]
+    lines += [flag_line(b"flag ", label(FLAG_NAMES, i), flag) for i, flag in enumerate(entry.flags)]
+    lines += [number_line(b"number ", label(NUMBER_NAMES, i), number) for i, number in enumerate(entry.numbers)]
+    lines += [text_line(b"text ", label(TEXT_NAMES, i), text) for i, text in enumerate(entry.texts)]
+    lines += [flag_line(b"flag+ ", name, flag) for name, flag in entry.extended_flags]
+    lines += [number_line(b"number+ ", name, number) for name, number in entry.extended_numbers]
+    lines += [text_line(b"text+ ", name, text) for name, text in entry.extended_texts]
+    return b"".join(lines)
