@@ -33,10 +33,7 @@ fn check(
     ensures faults { (fault : ExpandFault) → (result ≡ Err fault) ↔ IsFault tape.now.left parameters.now places room fault }
     ensures ready { IfOk result (IsReady tape.now.left parameters.now places room) }
 {
-    let longest = match longest_text(parameters) {
-        Ok(longest) => longest,
-        Err(parameter) => return Err(ExpandFault::TextTooLong { parameter }),
-    };
+    let longest = longest_text(parameters)?;
     let need = tape.depth();
     if places < need {
         return Err(ExpandFault::StackTooSmall { need });
@@ -119,10 +116,7 @@ pub fn expand_in<'a, A: Allocator + Copy>(
     ensures variables { OnOk result (ForTree capability.now (λ tree. vars.new ≡ (meaning tree (start vars.old parameters.now)).variables)) }
     ensures output_low { IfOk result (λ out. (bound : ℕ) → HasBound capability.now (longest_text parameters.now) bound → vec_len out ≤ bound) }
 {
-    let longest = match longest_text(parameters) {
-        Ok(longest) => longest,
-        Err(parameter) => return Err(ExpandFault::TextTooLong { parameter }),
-    };
+    let longest = longest_text(parameters)?;
     let bound = capability.bound(longest) as usize;
     let depth = capability.depth();
     let mut out = Vec::from_elem(alloc, 0, bound)?;

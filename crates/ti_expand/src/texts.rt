@@ -2,9 +2,10 @@
 
 ghost use Rattle.std.specs.Prelude.{◌≡◌, IfOk, IfErr};
 ghost use Rattle.ti_expand.specs.Sound.{IsSoundValue};
-ghost use Rattle.ti_expand.specs.Expands.{text_len, IsFirstTooLong};
+ghost use Rattle.ti_expand.specs.Expands.{text_len, IsTooLongFault};
 ghost use Rattle.ti_expand.specs.Running.{AreShort};
 
+use crate::fault::ExpandFault;
 use crate::value::Value;
 
 /// The most bytes that a text may have.
@@ -21,17 +22,20 @@ fn text_len(value: &Value<'_>) -> usize
     }
 }
 
-/// The length of the longest text, 0 without texts; or else the number of the first parameter, counted from 1, whose
-/// text has more than 32767 bytes.
-pub fn longest_text(parameters: &[Value<'_>; 9]) -> Result<u16, u8>
+/// The length of the longest text, 0 without texts.
+///
+/// # Errors
+/// `TextTooLong` with the first parameter, counted from 1, whose text has more than 32767 bytes.
+pub fn longest_text(parameters: &[Value<'_>; 9]) -> Result<u16, ExpandFault>
     ensures short { IfOk result (AreShort parameters.now) }
-    ensures too_long { IfErr result (IsFirstTooLong parameters.now) }
+    ensures too_long { IfErr result (IsTooLongFault parameters.now) }
 {
     let mut longest = 0;
     for (i, value) in parameters.iter().enumerate() {
         let len = text_len(value);
         if len > MOST_BYTES {
-            return Err(i as u8 + 1);
+            let parameter = i as u8 + 1;
+            return Err(ExpandFault::TextTooLong { parameter });
         }
         longest = len.max(longest);
     }
