@@ -7,7 +7,7 @@ use std::alloc::AllocError;
 use std::io;
 use std::io::ErrorKind;
 use std::process::ExitCode;
-use ti_tool::run::run;
+use ti_tool::run;
 
 /// The words of the command line, the program's own name first.
 fn words(rt: &HostRuntime) -> io::Result<Vec<String>> {
@@ -27,6 +27,7 @@ fn status(rt: &HostRuntime) -> io::Result<u8> {
     }
     Ok(run(
         rt.alloc(),
+        rt.alloc(),
         texts.as_slice(),
         &mut rt.stdin(),
         &mut rt.stdout(),
@@ -34,7 +35,7 @@ fn status(rt: &HostRuntime) -> io::Result<u8> {
     ))
 }
 
-/// Words that are no UTF-8 end with status 2, and want of memory for them with 6 and the line `memory`.
+/// Words that are no UTF-8 end with status 2, and out of memory for them with 6 and the line `memory`.
 fn main(rt: HostRuntime) -> ExitCode {
     match status(&rt) {
         Ok(status) => ExitCode::from(status),

@@ -1,8 +1,8 @@
 -- The greatest value with which a pass can come to each mode, kept for the modes of the open conditionals.
 use Rattle.std.proofs.Common.{◌≡◌, ℕ, zero, suc, ◌≤◌, ◌⊎◌, inl, inr, max, List, [], ◌∷◌, ◌++◌, refl, sym, ◌∙◌, ap, subst, arith, Bool, true, false, ◌||◌, cond}
 use Rattle.std.specs.Prelude.{Option, Some, None}
-use Rattle.ti_cap.specs.declared.token.Token.{Token}
-use Rattle.ti_cap.specs.declared.token.Token.TheVariants.{CondOpen, CondThen, CondElse, CondClose}
+use Rattle.ti_cap.specs.declared.language.Token.{Token}
+use Rattle.ti_cap.specs.declared.language.Token.TheVariants.{CondOpen, CondThen, CondElse, CondClose}
 use Rattle.ti_cap.specs.Tree.{IsSimple}
 use Rattle.ti_cap.specs.Path.{Walk, met}
 use Rattle.ti_cap.specs.Pass.{Mode, Run, Past, next_mode, is_run, Passes}

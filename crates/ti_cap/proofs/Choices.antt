@@ -3,8 +3,8 @@ use Rattle.std.proofs.Common.{◌≡◌, ℕ, ◌⊎◌, inl, inr, List, [], ◌
 use Rattle.std.specs.Prelude.{Some, None}
 use Rattle.std.specs.List.{AllByRecursion}
 use Rattle.std.proofs.lemmas.Bool.{eqb-true}
-use Rattle.ti_cap.specs.declared.token.Token.{Token}
-use Rattle.ti_cap.specs.declared.token.CapFault.{CapFault}
+use Rattle.ti_cap.specs.declared.language.Token.{Token}
+use Rattle.ti_cap.specs.declared.language.CapFault.{CapFault}
 use Rattle.ti_cap.specs.Reading.{Reading, with_letter}
 
 -- which way a test went

@@ -1,7 +1,7 @@
 -- A token climbs to a height where the kept maximum does.
 use Rattle.std.proofs.Common.{◌≡◌, ℕ, ◌≤◌, List, [], ◌∷◌, ◌++◌, refl, sym, ◌∙◌, ap, subst, arith, Bool, true, false, ◌||◌, append_assoc}
 use Rattle.std.specs.Prelude.{Some, None}
-use Rattle.ti_cap.specs.declared.token.Token.{Token}
+use Rattle.ti_cap.specs.declared.language.Token.{Token}
 use Rattle.ti_cap.specs.Tree.{tokens}
 use Rattle.ti_cap.specs.Path.{Walk, met}
 use Rattle.ti_cap.specs.Pass.{Mode, Run, next_mode, is_run, Passes}

@@ -1,7 +1,7 @@
 -- Bytes are cut into tokens in one way.
 use Rattle.std.proofs.Common.{◌≡◌, ℕ, ◌<◌, inl, inr, List, [], ◌∷◌, ◌++◌, length, take, drop, refl, sym, ◌∙◌, ap, subst, arith, append_assoc, length-append}
 use Rattle.std.proofs.lemmas.List.{append-nil, take_at, drop_at}
-use Rattle.ti_cap.specs.declared.token.Token.{Token}
+use Rattle.ti_cap.specs.declared.language.Token.{Token}
 use Rattle.ti_cap.specs.Spelling.{Spells, Written}
 use Rattle.ti_cap.specs.Reading.{token_read}
 use Rattle.ti_cap.proofs.Spelled.{token_again, read_token_is, read_length_is}

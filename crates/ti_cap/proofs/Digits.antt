@@ -1,10 +1,10 @@
 -- Reading digits: one step at a place of a list.
-use Rattle.std.proofs.Common.{◌≡◌, ℕ, ◌+◌, ◌-◌, ◌*◌, ◌<◌, ◌≤◌, ◌≢◌, ◌⊎◌, pos, List, [], ◌∷◌, ◌++◌, length, drop, get_or, drop-cons, add-one, refl, arith, ap, Ok, Err}
+use Rattle.std.proofs.Common.{◌≡◌, ℕ, suc, ◌+◌, ◌-◌, ◌*◌, ◌<◌, ◌≤◌, ◌≢◌, ◌⊎◌, pos, List, [], ◌∷◌, ◌++◌, length, drop, get_or, drop-cons, add-one, refl, ◌∙◌, arith, ap, Ok, Err}
 use Rattle.std.proofs.lemmas.Grind.{common_steps}
-use Rattle.ti_cap.specs.declared.token.Token.TheVariants.{Constant}
-use Rattle.ti_cap.specs.declared.token.CapFault.TheVariants.{CutShort, BadConstant}
+use Rattle.ti_cap.specs.declared.language.Token.TheVariants.{Constant}
+use Rattle.ti_cap.specs.declared.language.CapFault.TheVariants.{CutShort, BadConstant}
 use Rattle.ti_cap.specs.Spelling.{number_from}
-use Rattle.ti_cap.specs.Reading.{digits_read}
+use Rattle.ti_cap.specs.Reading.{digits_read, front, is_digit}
 
 -- a number grows with each digit
 pub number_from-ge : (n : ℕ) (ds : List ℕ) → n ≤ number_from n ds
@@ -40,3 +40,17 @@ other_step n i c cs h k = grind (arith, common_steps)
 pub digit_end : (n i : ℕ) → digits_read n i [] ≡ Err CutShort
 unfolding digits_read
 digit_end n i = refl
+
+-- the front of the bytes from a place on: a digit goes on with the next place, and another byte ends it
+pub front_digit : (i : ℕ) (bytes : List ℕ) → i < length bytes → 48 ≤ get_or bytes i 0 → get_or bytes i 0 ≤ 57
+    → front is_digit (drop i bytes) ≡ get_or bytes i 0 ∷ front is_digit (drop (i + 1) bytes)
+front_digit i bytes h low high = rw add-one (ap (λ x. front is_digit x) (drop-cons bytes i 0 h) ∙ digit_first (get_or bytes i 0) (drop (suc i) bytes) low high)
+  where
+    digit_first : (c : ℕ) (cs : List ℕ) → 48 ≤ c → c ≤ 57 → front is_digit (c ∷ cs) ≡ c ∷ front is_digit cs
+    digit_first c cs low high = grind (arith, common_steps)
+
+pub front_other : (i : ℕ) (bytes : List ℕ) → i < length bytes → (get_or bytes i 0 < 48) ⊎ (57 < get_or bytes i 0) → front is_digit (drop i bytes) ≡ []
+front_other i bytes h other = ap (λ x. front is_digit x) (drop-cons bytes i 0 h) ∙ other_first (get_or bytes i 0) (drop (suc i) bytes) other
+  where
+    other_first : (c : ℕ) (cs : List ℕ) → (c < 48) ⊎ (57 < c) → front is_digit (c ∷ cs) ≡ []
+    other_first c cs other = grind (arith, common_steps)

@@ -3,8 +3,8 @@ use Rattle.std.proofs.Common.{◌≡◌, ◌≢◌, ℕ, ◌≤◌, inl, inr, Li
 use Rattle.std.specs.Prelude.{Option}
 use Rattle.std.proofs.lemmas.Grind.{common_steps}
 use Rattle.std.specs.List.{AllByRecursion}
-use Rattle.ti_cap.specs.declared.token.Format.{Format}
-use Rattle.ti_cap.specs.declared.token.Conversion.{Conversion}
+use Rattle.ti_cap.specs.declared.language.Format.{Format}
+use Rattle.ti_cap.specs.declared.language.Conversion.{Conversion}
 use Rattle.ti_cap.specs.Spelling.{IsDigit, number_of, IsPlainFlag, IsFlag, SpellsWidth}
 use Rattle.ti_cap.specs.Reading.{front, rest, is_digit, is_plain_flag, is_flag}
 use Rattle.ti_cap.proofs.Fronts.{Stops, AllPass, front_passes, rest_ends}

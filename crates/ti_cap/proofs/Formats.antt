@@ -3,11 +3,11 @@ use Rattle.std.proofs.Common.{◌≡◌, ◌≢◌, ℕ, suc, ◌+◌, ◌≤◌
 use Rattle.std.specs.Prelude.{Option, Some, None}
 use Rattle.std.proofs.lemmas.Grind.{common_steps}
 use Rattle.std.specs.List.{AllByRecursion}
-use Rattle.ti_cap.specs.declared.token.Token.TheVariants.{Print}
-use Rattle.ti_cap.specs.declared.token.Format.{Format}
-use Rattle.ti_cap.specs.declared.token.Conversion.{Conversion}
-use Rattle.ti_cap.specs.declared.token.Conversion.TheVariants.{Signed, Octal, LowerHex, UpperHex, Text}
-use Rattle.ti_cap.specs.declared.token.CapFault.TheVariants.{BadFormat}
+use Rattle.ti_cap.specs.declared.language.Token.TheVariants.{Print}
+use Rattle.ti_cap.specs.declared.language.Format.{Format}
+use Rattle.ti_cap.specs.declared.language.Conversion.{Conversion}
+use Rattle.ti_cap.specs.declared.language.Conversion.TheVariants.{Signed, Octal, LowerHex, UpperHex, Text}
+use Rattle.ti_cap.specs.declared.language.CapFault.TheVariants.{BadFormat}
 use Rattle.ti_cap.specs.Spelling.{IsDigit, number_of, IsPlainFlag, IsFlag, AreFlags, HasFlags, SpellsWidth, SpellsPrecision, conversion_letter}
 use Rattle.ti_cap.specs.Reading.{Reading, front, rest, is_digit, is_plain_flag, is_flag, is_colon, conversion_of, converted, flagged, letter_read, precision_read, width_read, format_read}
 use Rattle.ti_cap.proofs.Fronts.{Stops, AllPass, front_stops, rest_stops}

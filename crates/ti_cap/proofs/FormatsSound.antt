@@ -2,10 +2,10 @@
 use Rattle.std.proofs.Common.{◌≡◌, ℕ, suc, ◌+◌, inl, inr, List, [], ◌∷◌, ◌++◌, length, refl, sym, ◌∙◌, ap, arith, Ok, nat_eq, nat_lt, append_assoc, length-append}
 use Rattle.std.specs.Prelude.{Option, Some, None}
 use Rattle.std.proofs.lemmas.Bool.{eqb-true}
-use Rattle.ti_cap.specs.declared.token.Token.{Token}
-use Rattle.ti_cap.specs.declared.token.Token.TheVariants.{Print}
-use Rattle.ti_cap.specs.declared.token.Format.{Format}
-use Rattle.ti_cap.specs.declared.token.Conversion.{Conversion}
+use Rattle.ti_cap.specs.declared.language.Token.{Token}
+use Rattle.ti_cap.specs.declared.language.Token.TheVariants.{Print}
+use Rattle.ti_cap.specs.declared.language.Format.{Format}
+use Rattle.ti_cap.specs.declared.language.Conversion.{Conversion}
 use Rattle.ti_cap.specs.Spelling.{number_of, AreFlags, SpellsWidth, SpellsPrecision, SpellsFormat, conversion_letter}
 use Rattle.ti_cap.specs.Reading.{front, rest, is_digit, is_plain_flag, is_flag, is_colon, conversions, conversion_of, converted, flagged, letter_read, precision_read, width_read, format_read}
 use Rattle.ti_cap.proofs.Choices.{chosen, letter_found, pair_of}

@@ -54,6 +54,13 @@ prefix_len_within p (x ∷ xs) = by_test (p x) (prefix_len_within p xs)
     by_test true h = omega arith
     by_test false h = omega arith
 
+pub front_within : (p : ℕ → Bool) (xs : List ℕ) → length (front p xs) ≤ length xs
+front_within p xs = omega (arith, length-front p xs, prefix_len_within p xs)
+
+-- what stands behind the front, by its length
+pub rest_behind : (p : ℕ → Bool) (xs : List ℕ) → drop (length (front p xs)) xs ≡ rest p xs
+rest_behind p xs = ap (λ n. drop n xs) (length-front p xs) ∙ rest_drop p xs
+
 pub front_and_rest : (p : ℕ → Bool) (xs : List ℕ) → xs ≡ front p xs ++ rest p xs
 front_and_rest p [] = refl
 front_and_rest p (x ∷ xs) = by_test (p x) (front_and_rest p xs)

@@ -2,8 +2,8 @@
 use Rattle.std.proofs.Common.{◌≡◌, ℕ, zero, suc, ◌+◌, ◌≤◌, max, List, [], ◌∷◌, ◌++◌, length, refl, sym, ◌∙◌, ap, arith, true, false, append_assoc}
 use Rattle.std.specs.Prelude.{Some}
 use Rattle.std.proofs.lemmas.List.{append-nil}
-use Rattle.ti_cap.specs.declared.token.Token.{Token}
-use Rattle.ti_cap.specs.declared.token.Token.TheVariants.{CondOpen, CondThen, CondElse, CondClose}
+use Rattle.ti_cap.specs.declared.language.Token.{Token}
+use Rattle.ti_cap.specs.declared.language.Token.TheVariants.{CondOpen, CondThen, CondElse, CondClose}
 use Rattle.ti_cap.specs.Tree.{Sequence, Empty, Simple, Conditional, Arms, Lone, Else, ElseIf, tokens, arm_tokens, IsSimple, IsFormed, AreFormed, nest, arm_nest}
 use Rattle.ti_cap.specs.Refusal.{Part, FirstTest, Body, Otherwise}
 use Rattle.ti_cap.proofs.Parts.{allowed, at_then, at_else, at_close, Leads}

@@ -28,3 +28,4 @@ pub mod Rows
 pub mod SpellingRows
 pub mod OneTree
 pub mod Climbing
+pub mod Scanned

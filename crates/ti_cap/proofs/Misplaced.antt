@@ -1,10 +1,10 @@
 -- Where a token may stand, and the fault where it may not.
 use Rattle.std.proofs.Common.{◌≡◌, ◌≢◌, ℕ, ◌<◌, ◌≤◌, inl, inr, List, [], ◌∷◌, ◌++◌, length, refl, sym, ◌∙◌, ap, subst, arith, Bool, true, false, cond}
 use Rattle.std.specs.Prelude.{Option, Some, None, nat_lt, is_none, ◌&&◌, ◌||◌, fold}
-use Rattle.ti_cap.specs.declared.token.Token.{Token}
-use Rattle.ti_cap.specs.declared.token.Token.TheVariants.{CondOpen, CondThen, CondElse, CondClose}
-use Rattle.ti_cap.specs.declared.token.CapFault.{CapFault}
-use Rattle.ti_cap.specs.declared.token.CapFault.TheVariants.{NestTooDeep}
+use Rattle.ti_cap.specs.declared.language.Token.{Token}
+use Rattle.ti_cap.specs.declared.language.Token.TheVariants.{CondOpen, CondThen, CondElse, CondClose}
+use Rattle.ti_cap.specs.declared.language.CapFault.{CapFault}
+use Rattle.ti_cap.specs.declared.language.CapFault.TheVariants.{NestTooDeep}
 use Rattle.ti_cap.specs.declared.frame.Frame.{Frame}
 use Rattle.ti_cap.specs.Tree.{IsTree, Sequence, tokens}
 use Rattle.ti_cap.specs.Refusal.{Part, FirstTest, Body, Otherwise, next_parts, parts_from, open_parts, IsInFirstTest, IsNext, IsFault}

@@ -1,8 +1,8 @@
 -- Tokens are written by at most one tree.
 use Rattle.std.proofs.Common.{◌≡◌, List, [], ◌∷◌, ◌++◌, refl, sym, ◌∙◌, ap, subst, Bool, true, false, append_assoc}
 use Rattle.std.proofs.lemmas.List.{append-nil}
-use Rattle.ti_cap.specs.declared.token.Token.{Token}
-use Rattle.ti_cap.specs.declared.token.Token.TheVariants.{CondOpen, CondThen, CondElse, CondClose}
+use Rattle.ti_cap.specs.declared.language.Token.{Token}
+use Rattle.ti_cap.specs.declared.language.Token.TheVariants.{CondOpen, CondThen, CondElse, CondClose}
 use Rattle.ti_cap.specs.Tree.{Sequence, Empty, Simple, Conditional, Arms, Lone, Else, ElseIf, tokens, arm_tokens, closing, IsSimple, IsFormed, AreFormed, IsTree}
 
 -- what may stand behind a sequence

@@ -3,10 +3,10 @@ use Rattle.std.proofs.Common.{◌≡◌, ◌≢◌, ℕ, suc, ◌+◌, ◌-◌, 
 use Rattle.std.specs.Prelude.{Option, Some, None, nat_le}
 use Rattle.std.proofs.Math.Seq.{take-length, take-add}
 use Rattle.std.proofs.lemmas.List.{take-append-le, take-append-drop, take_at, drop_all, length-take-le, get_or-drop, length-map}
-use Rattle.ti_cap.specs.declared.token.Token.{Token}
-use Rattle.ti_cap.specs.declared.token.Token.TheVariants.{Compute, CondOpen, CondThen, CondElse, CondClose}
-use Rattle.ti_cap.specs.declared.token.CapFault.{CapFault}
-use Rattle.ti_cap.specs.declared.token.CapFault.TheVariants.{TooLong, CutShort, UnknownEscape, BadParameter, BadVariable, BadConstant, BadFormat, StrayThen, StrayElse, StrayEnd, NoThen, NestTooDeep, StackTooDeep}
+use Rattle.ti_cap.specs.declared.language.Token.{Token}
+use Rattle.ti_cap.specs.declared.language.Token.TheVariants.{Compute, CondOpen, CondThen, CondElse, CondClose}
+use Rattle.ti_cap.specs.declared.language.CapFault.{CapFault}
+use Rattle.ti_cap.specs.declared.language.CapFault.TheVariants.{TooLong, CutShort, UnknownEscape, BadParameter, BadVariable, BadConstant, BadFormat, StrayThen, StrayElse, StrayEnd, NoThen, NestTooDeep, StackTooDeep}
 use Rattle.ti_cap.specs.declared.frame.Frame.{Frame}
 use Rattle.ti_cap.specs.declared.limits.Limits.{Limits}
 use Rattle.ti_cap.specs.Tree.{Sequence, IsTree, tokens}

@@ -1,9 +1,9 @@
 -- Worked examples of the definitions.
 use Rattle.std.proofs.Common.{◌≡◌, ℕ, List, [], ◌∷◌, length, refl, inl, inr, true, false}
 use Rattle.std.specs.Prelude.{Some, None, codes}
-use Rattle.ti_cap.specs.declared.token.Token.TheVariants.{Byte, Param, Print, CondOpen, CondThen, CondElse, CondClose}
-use Rattle.ti_cap.specs.declared.token.Format.{Format}
-use Rattle.ti_cap.specs.declared.token.Conversion.TheVariants.{Signed}
+use Rattle.ti_cap.specs.declared.language.Token.TheVariants.{Byte, Param, Print, CondOpen, CondThen, CondElse, CondClose}
+use Rattle.ti_cap.specs.declared.language.Format.{Format}
+use Rattle.ti_cap.specs.declared.language.Conversion.TheVariants.{Signed}
 use Rattle.ti_cap.specs.Tree.{Sequence, Empty, Simple, Conditional, Else, tokens, IsTree}
 use Rattle.ti_cap.specs.Path.{Walk, IsWalk, met}
 use Rattle.ti_cap.specs.Sizes.{format_size}

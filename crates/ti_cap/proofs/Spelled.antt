@@ -4,15 +4,15 @@ use Rattle.std.specs.Prelude.{Option, Some, None}
 use Rattle.std.proofs.lemmas.Grind.{common_steps}
 use Rattle.std.proofs.lemmas.Bool.{eqb-true}
 use Rattle.std.specs.List.{AllByRecursion}
-use Rattle.ti_cap.specs.declared.token.Token.{Token}
-use Rattle.ti_cap.specs.declared.token.Token.TheVariants.{Byte, Param, Constant, Store, Load, Compute, Print}
-use Rattle.ti_cap.specs.declared.token.Op.{Op}
-use Rattle.ti_cap.specs.declared.token.Op.TheVariants.{Add, Sub, Mul, Div, Rem, BitAnd, BitOr, BitXor, Equal, Greater, Less, And, Or, Not, BitNot}
-use Rattle.ti_cap.specs.declared.token.Format.{Format}
-use Rattle.ti_cap.specs.declared.token.Conversion.{Conversion}
-use Rattle.ti_cap.specs.declared.token.Conversion.TheVariants.{Signed, Octal, LowerHex, UpperHex, Text}
-use Rattle.ti_cap.specs.declared.token.CapFault.{CapFault}
-use Rattle.ti_cap.specs.declared.token.CapFault.TheVariants.{CutShort, UnknownEscape, BadVariable}
+use Rattle.ti_cap.specs.declared.language.Token.{Token}
+use Rattle.ti_cap.specs.declared.language.Token.TheVariants.{Byte, Param, Constant, Store, Load, Compute, Print}
+use Rattle.ti_cap.specs.declared.language.Op.{Op}
+use Rattle.ti_cap.specs.declared.language.Op.TheVariants.{Add, Sub, Mul, Div, Rem, BitAnd, BitOr, BitXor, Equal, Greater, Less, And, Or, Not, BitNot}
+use Rattle.ti_cap.specs.declared.language.Format.{Format}
+use Rattle.ti_cap.specs.declared.language.Conversion.{Conversion}
+use Rattle.ti_cap.specs.declared.language.Conversion.TheVariants.{Signed, Octal, LowerHex, UpperHex, Text}
+use Rattle.ti_cap.specs.declared.language.CapFault.{CapFault}
+use Rattle.ti_cap.specs.declared.language.CapFault.TheVariants.{CutShort, UnknownEscape, BadVariable}
 use Rattle.ti_cap.specs.Spelling.{IsDigit, IsLetter, IsPlainFlag, AreFlags, number_from, number_of, op_letter, conversion_letter, Spells, SpellsEscape, SpellsConstant, SpellsFormat, SpellsWidth, SpellsPrecision}
 use Rattle.ti_cap.specs.Reading.{Reading, token_read, escape_read, parameter_read, is_letter, variable_of, variable_read, quoted_read, digits_read, begins_format, format_read, lone_letter, lone_tokens, lone_of, lone_or}
 use Rattle.ti_cap.proofs.Choices.{chosen, still, letter_found, letter_holds, letter_missed, apart, pair_of}

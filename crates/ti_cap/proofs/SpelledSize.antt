@@ -1,11 +1,11 @@
 -- What a spelled token writes at most.
 use Rattle.std.proofs.Common.{◌≡◌, ℕ, ◌+◌, ◌<◌, ◌≤◌, ◌^◌, max, inl, inr, List, [], ◌∷◌, ap, arith, if◌then◌else◌, Bool, true, false}
 use Rattle.std.specs.Prelude.{Option, Some, None}
-use Rattle.ti_cap.specs.declared.token.Token.{Token}
-use Rattle.ti_cap.specs.declared.token.Token.TheVariants.{Byte, Param, Constant, Char, Print}
-use Rattle.ti_cap.specs.declared.token.Format.{Format}
-use Rattle.ti_cap.specs.declared.token.Conversion.{Conversion}
-use Rattle.ti_cap.specs.declared.token.Conversion.TheVariants.{Signed, Octal, LowerHex, UpperHex, Text}
+use Rattle.ti_cap.specs.declared.language.Token.{Token}
+use Rattle.ti_cap.specs.declared.language.Token.TheVariants.{Byte, Param, Constant, Char, Print}
+use Rattle.ti_cap.specs.declared.language.Format.{Format}
+use Rattle.ti_cap.specs.declared.language.Conversion.{Conversion}
+use Rattle.ti_cap.specs.declared.language.Conversion.TheVariants.{Signed, Octal, LowerHex, UpperHex, Text}
 use Rattle.ti_cap.specs.Sizes.{or_else, text_size, token_size}
 use Rattle.ti_cap.specs.Spelling.{Spells, SpellsWidth, SpellsPrecision}
 

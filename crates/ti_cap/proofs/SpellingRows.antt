@@ -1,12 +1,12 @@
 -- Worked examples of reading and of spellings: what stands at the front of the bytes, and how many bytes spell it.
 use Rattle.std.proofs.Common.{◌≡◌, ℕ, pos, [], ◌∷◌, refl, inl, inr, true, false, arith, Ok, Err}
 use Rattle.std.specs.Prelude.{Option, Some, None, codes}
-use Rattle.ti_cap.specs.declared.token.Token.TheVariants.{Byte, Param, Constant, Store, Load, Length, Compute, Increment, Char, Print, CondOpen, CondThen, CondElse, CondClose}
-use Rattle.ti_cap.specs.declared.token.Op.TheVariants.{Add, Sub, Mul, Div, Rem, BitAnd, BitOr, BitXor, Equal, Greater, Less, And, Or, Not, BitNot}
-use Rattle.ti_cap.specs.declared.token.Format.{Format}
-use Rattle.ti_cap.specs.declared.token.Conversion.{Conversion}
-use Rattle.ti_cap.specs.declared.token.Conversion.TheVariants.{Signed, Octal, LowerHex, UpperHex, Text}
-use Rattle.ti_cap.specs.declared.token.CapFault.TheVariants.{CutShort, UnknownEscape, BadParameter, BadVariable, BadConstant, BadFormat}
+use Rattle.ti_cap.specs.declared.language.Token.TheVariants.{Byte, Param, Constant, Store, Load, Length, Compute, Increment, Char, Print, CondOpen, CondThen, CondElse, CondClose}
+use Rattle.ti_cap.specs.declared.language.Op.TheVariants.{Add, Sub, Mul, Div, Rem, BitAnd, BitOr, BitXor, Equal, Greater, Less, And, Or, Not, BitNot}
+use Rattle.ti_cap.specs.declared.language.Format.{Format}
+use Rattle.ti_cap.specs.declared.language.Conversion.{Conversion}
+use Rattle.ti_cap.specs.declared.language.Conversion.TheVariants.{Signed, Octal, LowerHex, UpperHex, Text}
+use Rattle.ti_cap.specs.declared.language.CapFault.TheVariants.{CutShort, UnknownEscape, BadParameter, BadVariable, BadConstant, BadFormat}
 use Rattle.ti_cap.specs.Spelling.{Spells}
 use Rattle.ti_cap.specs.Reading.{token_read, digits_read, format_read, lone_of}
 

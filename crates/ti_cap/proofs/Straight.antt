@@ -2,7 +2,7 @@
 use Rattle.std.proofs.Common.{◌≡◌, ℕ, List, [], ◌∷◌, ◌++◌, refl, sym, ◌∙◌, ap, subst, arith, Bool, true, false, append_assoc, ◌||◌}
 use Rattle.std.proofs.lemmas.List.{append-nil}
 use Rattle.std.specs.List.{AllByRecursion}
-use Rattle.ti_cap.specs.declared.token.Token.{Token}
+use Rattle.ti_cap.specs.declared.language.Token.{Token}
 use Rattle.ti_cap.specs.Tree.{Sequence, Empty, Simple, tokens, IsSimple, IsTree}
 use Rattle.ti_cap.specs.Path.{Walk, IsWalk, met, met_all}
 use Rattle.ti_cap.specs.Pass.{Mode, Run, next_mode, is_run, Passes}

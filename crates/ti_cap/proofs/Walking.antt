@@ -1,8 +1,8 @@
 -- The passes over the tokens of a tree are its walks.
 use Rattle.std.proofs.Common.{◌≡◌, ℕ, suc, ◌⊎◌, inl, inr, List, [], ◌∷◌, ◌++◌, refl, sym, ◌∙◌, ap, subst, Bool, true, false, ◌||◌}
 use Rattle.std.proofs.lemmas.List.{map-append, append-nil}
-use Rattle.ti_cap.specs.declared.token.Token.{Token}
-use Rattle.ti_cap.specs.declared.token.Token.TheVariants.{CondOpen, CondThen, CondElse, CondClose}
+use Rattle.ti_cap.specs.declared.language.Token.{Token}
+use Rattle.ti_cap.specs.declared.language.Token.TheVariants.{CondOpen, CondThen, CondElse, CondClose}
 use Rattle.ti_cap.specs.Tree.{Sequence, Empty, Simple, Conditional, Arms, Lone, Else, ElseIf, tokens, arm_tokens, IsSimple, IsFormed, AreFormed}
 use Rattle.ti_cap.specs.Path.{Walk, IsWalk, IsArmWalk, passed}
 use Rattle.ti_cap.specs.Pass.{Mode, Run, Past, from_past, at_else, next_mode, is_run, Passes}

@@ -1,9 +1,9 @@
 -- How the analyser moves with each token. Private clauses alone cite this; proofs/ ties it to the paths of a tree.
 use Rattle.std.specs.Prelude.{ℕ, ◌+◌, max, map, List, [], ◌∷◌, length, Option, Some, None, Bool, false, is_none, ◌&&◌, ◌||◌, nat_le, nat_lt, if◌then◌else◌, fold}
-use Rattle.ti_cap.specs.declared.token.Token.{Token}
-use Rattle.ti_cap.specs.declared.token.Token.TheVariants.{CondOpen, CondThen, CondElse, CondClose}
-use Rattle.ti_cap.specs.declared.token.CapFault.{CapFault}
-use Rattle.ti_cap.specs.declared.token.CapFault.TheVariants.{StrayThen, StrayElse, StrayEnd, NoThen, NestTooDeep, StackTooDeep}
+use Rattle.ti_cap.specs.declared.language.Token.{Token}
+use Rattle.ti_cap.specs.declared.language.Token.TheVariants.{CondOpen, CondThen, CondElse, CondClose}
+use Rattle.ti_cap.specs.declared.language.CapFault.{CapFault}
+use Rattle.ti_cap.specs.declared.language.CapFault.TheVariants.{StrayThen, StrayElse, StrayEnd, NoThen, NestTooDeep, StackTooDeep}
 use Rattle.ti_cap.specs.declared.frame.Frame.{Frame}
 use Rattle.ti_cap.specs.Sizes.{token_size}
 use Rattle.ti_cap.specs.Height.{next_height}
@@ -65,10 +65,6 @@ moved s token after = record { running = after; frames = s.frames }
 -- the greatest of what runs and what waits
 abbrev pub top : List Frame → ℕ → ℕ
 top frames y = fold (λ z f. join f.done (join f.failed z)) y frames
-
-abbrev pub first_frame : List Frame → Option Frame
-first_frame [] = None
-first_frame (f ∷ fs) = Some f
 
 -- whether some open conditional is in its first test
 abbrev pub is_in_test : Frame → Bool

@@ -9,3 +9,4 @@ pub mod Refusal
 pub mod Reading
 pub mod Capability
 pub mod Analysis
+pub mod Scan

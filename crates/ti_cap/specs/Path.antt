@@ -1,6 +1,6 @@
 -- The paths of a tree: which tokens are met where each test may go either way.
 use Rattle.std.specs.Prelude.{◌≡◌, Bool, true, false, List, [], ◌∷◌, ◌++◌, ◌⊎◌, map}
-use Rattle.ti_cap.specs.declared.token.Token.{Token}
+use Rattle.ti_cap.specs.declared.language.Token.{Token}
 use Rattle.ti_cap.specs.Tree.{Sequence, Empty, Simple, Conditional, Arms, Lone, Else, ElseIf, tokens, arm_tokens, closing}
 
 -- A walk has a mark for each token: true where it is met, false where it is passed over.

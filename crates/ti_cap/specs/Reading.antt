@@ -1,15 +1,15 @@
 -- The lexer on lists, which private clauses alone cite: the token at the front of some bytes and how many bytes spell it,
 -- or why there is none.
 use Rattle.std.specs.Prelude.{ℕ, ◌+◌, ◌-◌, ◌*◌, pos, List, [], ◌∷◌, length, map, Result, Ok, Err, Option, Some, None, is_some, Bool, nat_eq, nat_le, nat_lt, ◌&&◌, ◌||◌, if◌then◌else◌}
-use Rattle.ti_cap.specs.declared.token.Token.{Token}
-use Rattle.ti_cap.specs.declared.token.Token.TheVariants.{Byte, Param, Constant, Store, Load, Length, Compute, Increment, Char, Print, CondOpen, CondThen, CondElse, CondClose}
-use Rattle.ti_cap.specs.declared.token.Op.{Op}
-use Rattle.ti_cap.specs.declared.token.Op.TheVariants.{Add, Sub, Mul, Div, Rem, BitAnd, BitOr, BitXor, Equal, Greater, Less, And, Or, Not, BitNot}
-use Rattle.ti_cap.specs.declared.token.Format.{Format}
-use Rattle.ti_cap.specs.declared.token.Conversion.{Conversion}
-use Rattle.ti_cap.specs.declared.token.Conversion.TheVariants.{Signed, Octal, LowerHex, UpperHex, Text}
-use Rattle.ti_cap.specs.declared.token.CapFault.{CapFault}
-use Rattle.ti_cap.specs.declared.token.CapFault.TheVariants.{CutShort, UnknownEscape, BadParameter, BadVariable, BadConstant, BadFormat}
+use Rattle.ti_cap.specs.declared.language.Token.{Token}
+use Rattle.ti_cap.specs.declared.language.Token.TheVariants.{Byte, Param, Constant, Store, Load, Length, Compute, Increment, Char, Print, CondOpen, CondThen, CondElse, CondClose}
+use Rattle.ti_cap.specs.declared.language.Op.{Op}
+use Rattle.ti_cap.specs.declared.language.Op.TheVariants.{Add, Sub, Mul, Div, Rem, BitAnd, BitOr, BitXor, Equal, Greater, Less, And, Or, Not, BitNot}
+use Rattle.ti_cap.specs.declared.language.Format.{Format}
+use Rattle.ti_cap.specs.declared.language.Conversion.{Conversion}
+use Rattle.ti_cap.specs.declared.language.Conversion.TheVariants.{Signed, Octal, LowerHex, UpperHex, Text}
+use Rattle.ti_cap.specs.declared.language.CapFault.{CapFault}
+use Rattle.ti_cap.specs.declared.language.CapFault.TheVariants.{CutShort, UnknownEscape, BadParameter, BadVariable, BadConstant, BadFormat}
 use Rattle.ti_cap.specs.Spelling.{op_letter, conversion_letter, number_of, has}
 
 abbrev pub Reading : Type 0
@@ -119,6 +119,11 @@ format_read [] = Err CutShort
 format_read (c ∷ cs) =
     if is_colon c then width_read (flagged (front is_flag cs)) (2 + length (front is_flag cs)) (rest is_flag cs)
     else width_read (flagged (front is_plain_flag (c ∷ cs))) (1 + length (front is_plain_flag (c ∷ cs))) (rest is_plain_flag (c ∷ cs))
+
+-- a format, where one may begin
+abbrev pub print_read : List ℕ → Reading
+print_read [] = Err CutShort
+print_read (c ∷ cs) = if begins_format c then format_read (c ∷ cs) else Err UnknownEscape
 
 -- the byte behind the `%` of a token that one byte spells there
 abbrev pub lone_letter : Token → ℕ

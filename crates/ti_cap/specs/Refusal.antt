@@ -1,10 +1,10 @@
 -- Why bytes are no capability, and where.
 use Rattle.std.specs.Prelude.{◌≡◌, ◌≢◌, ℕ, ◌<◌, ◌≤◌, ◌⊎◌, List, [], ◌∷◌, ◌++◌, length, take, drop, if◌then◌else◌, nat_eq, nat_le, ◌&&◌, ◌||◌}
-use Rattle.ti_cap.specs.declared.token.Token.{Token}
-use Rattle.ti_cap.specs.declared.token.Token.TheVariants.{CondOpen, CondThen, CondElse, CondClose}
-use Rattle.ti_cap.specs.declared.token.CapFault.{CapFault}
-use Rattle.ti_cap.specs.declared.token.CapFault.TheVariants.{TooLong, CutShort, UnknownEscape, BadParameter, BadVariable, BadConstant, BadFormat, StrayThen, StrayElse, StrayEnd, NoThen, NestTooDeep, StackTooDeep}
-use Rattle.ti_cap.specs.declared.token.CapRefused.{CapRefused}
+use Rattle.ti_cap.specs.declared.language.Token.{Token}
+use Rattle.ti_cap.specs.declared.language.Token.TheVariants.{CondOpen, CondThen, CondElse, CondClose}
+use Rattle.ti_cap.specs.declared.language.CapFault.{CapFault}
+use Rattle.ti_cap.specs.declared.language.CapFault.TheVariants.{TooLong, CutShort, UnknownEscape, BadParameter, BadVariable, BadConstant, BadFormat, StrayThen, StrayElse, StrayEnd, NoThen, NestTooDeep, StackTooDeep}
+use Rattle.ti_cap.specs.declared.language.CapRefused.{CapRefused}
 use Rattle.ti_cap.specs.Tree.{Sequence, IsTree, tokens}
 use Rattle.ti_cap.specs.Path.{Walk, IsWalk, met}
 use Rattle.ti_cap.specs.Height.{end_height}

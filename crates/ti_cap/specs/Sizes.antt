@@ -1,10 +1,10 @@
 -- The most bytes that a token writes.
 use Rattle.std.specs.Prelude.{ℕ, ◌+◌, max, min, Option, Some, None, if◌then◌else◌}
-use Rattle.ti_cap.specs.declared.token.Token.{Token}
-use Rattle.ti_cap.specs.declared.token.Token.TheVariants.{Byte, Char, Print}
-use Rattle.ti_cap.specs.declared.token.Format.{Format}
-use Rattle.ti_cap.specs.declared.token.Conversion.{Conversion}
-use Rattle.ti_cap.specs.declared.token.Conversion.TheVariants.{Signed, Octal, LowerHex, UpperHex, Text}
+use Rattle.ti_cap.specs.declared.language.Token.{Token}
+use Rattle.ti_cap.specs.declared.language.Token.TheVariants.{Byte, Char, Print}
+use Rattle.ti_cap.specs.declared.language.Format.{Format}
+use Rattle.ti_cap.specs.declared.language.Conversion.{Conversion}
+use Rattle.ti_cap.specs.declared.language.Conversion.TheVariants.{Signed, Octal, LowerHex, UpperHex, Text}
 
 -- the precision, or what stands for it where there is none
 abbrev pub or_else : Option ℕ → ℕ → ℕ

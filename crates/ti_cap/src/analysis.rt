@@ -8,7 +8,7 @@ ghost use Rattle.std.specs.Prelude.{◌≡◌};
 ghost use Rattle.ti_cap.specs.Analysis.{join};
 
 use crate::frame::Frame;
-use crate::token::{CapFault, Token};
+use crate::language::Token;
 use arrayvec::ArrayVec;
 use std::marker::Model;
 
@@ -43,8 +43,8 @@ fn joined(waits: Option<u32>, value: u32) -> u32
 }
 
 impl Analysis {
-    ghost use Rattle.std.specs.Prelude.{◌≡◌, ◌<◌, ◌≤◌, [], ◌∷◌, ◌↔◌, length, Some, None, Option, List};
-    ghost use Rattle.ti_cap.specs.Analysis.{State, moved_open, moved_then, moved_else, moved_close, moved, misplaced, misplaced_then, misplaced_else, misplaced_close, parts_of, first_frame, top, are_in_test};
+    ghost use Rattle.std.specs.Prelude.{◌≡◌, ◌<◌, [], length};
+    ghost use Rattle.ti_cap.specs.Analysis.{State, moved_open, moved_then, moved_else, moved_close, moved, top};
 
     /// No token yet.
     pub fn new() -> Self
@@ -61,77 +61,6 @@ impl Analysis {
         ensures { result ≡ self.now.running }
     {
         self.running
-    }
-
-    /// How many conditionals are open.
-    pub fn open(&self) -> usize
-        ensures count { result ≡ length self.now.frames }
-        ensures few { result ≤ 32 }
-    {
-        self.frames.len()
-    }
-
-    /// The frame of the innermost open conditional.
-    fn innermost(&self) -> Option<Frame>
-        ensures { result ≡ first_frame self.now.frames }
-    {
-        self.frames.as_slice().last().copied()
-    }
-
-    /// Why a `%?` may not stand here.
-    fn misplaced_open(&self) -> Option<CapFault>
-        ensures { result ≡ misplaced Token.CondOpen (parts_of self.now.frames) }
-    {
-        if self.open() < 32 {
-            None
-        } else {
-            Some(CapFault::NestTooDeep)
-        }
-    }
-
-    /// Why a `%t` may not stand here.
-    fn misplaced_then(&self) -> Option<CapFault>
-        ensures { result ≡ misplaced_then (parts_of self.now.frames) }
-    {
-        match self.innermost() {
-            Some(frame) if !frame.is_in_body() => None,
-            _ => Some(CapFault::StrayThen),
-        }
-    }
-
-    /// Why a `%e` may not stand here.
-    fn misplaced_else(&self) -> Option<CapFault>
-        ensures { result ≡ misplaced_else (parts_of self.now.frames) }
-    {
-        match self.innermost() {
-            Some(frame) if frame.is_in_body() => None,
-            Some(frame) if frame.is_in_first_test() => Some(CapFault::NoThen),
-            _ => Some(CapFault::StrayElse),
-        }
-    }
-
-    /// Why a `%;` may not stand here.
-    fn misplaced_close(&self) -> Option<CapFault>
-        ensures { result ≡ misplaced_close (parts_of self.now.frames) }
-    {
-        match self.innermost() {
-            None => Some(CapFault::StrayEnd),
-            Some(frame) if frame.is_in_first_test() => Some(CapFault::NoThen),
-            Some(_) => None,
-        }
-    }
-
-    /// Why the token may not stand here, by the parts of the open conditionals.
-    pub fn misplaced(&self, token: &Token) -> Option<CapFault>
-        ensures { result ≡ misplaced token.now (parts_of self.now.frames) }
-    {
-        match token {
-            Token::CondOpen => self.misplaced_open(),
-            Token::CondThen => self.misplaced_then(),
-            Token::CondElse => self.misplaced_else(),
-            Token::CondClose => self.misplaced_close(),
-            _ => None,
-        }
     }
 
     /// A conditional begins; `after` is the value behind its `%?`.
@@ -206,16 +135,5 @@ impl Analysis {
             self.running,
             |value, frame| joined(frame.done, joined(frame.failed, value)),
         )
-    }
-
-    /// Whether an open conditional is in its first test.
-    pub fn is_in_first_test(&self) -> bool
-        ensures { result ≡ are_in_test self.now.frames }
-    {
-        self.frames
-            .as_slice()
-            .iter()
-            .rev()
-            .fold(false, |found, frame| found || frame.is_in_first_test())
     }
 }

@@ -8,22 +8,3 @@ pub struct Frame {
     /// The greatest value with which one of its bodies ended.
     pub done: Option<u32>,
 }
-
-impl Frame {
-    ghost use Rattle.std.specs.Prelude.{◌≡◌, is_some};
-    ghost use Rattle.ti_cap.specs.Analysis.{is_in_test};
-
-    /// Whether a body is being passed through.
-    pub fn is_in_body(&self) -> bool
-        ensures { result ≡ is_some self.now.failed }
-    {
-        self.failed.is_some()
-    }
-
-    /// Whether no test of its conditional has ended yet.
-    pub fn is_in_first_test(&self) -> bool
-        ensures { result ≡ is_in_test self.now }
-    {
-        self.failed.is_none() && self.done.is_none()
-    }
-}

@@ -1,7 +1,7 @@
 //! Laws of the capability language, each the contract of a function that does nothing.
 
 ghost use Rattle.std.specs.Prelude.{◌≡◌, ℕ, List, [], ◌++◌};
-ghost use Rattle.ti_cap.specs.declared.token.Token.{Token};
+ghost use Rattle.ti_cap.specs.declared.language.Token.{Token};
 ghost use Rattle.ti_cap.specs.Tree.{Sequence};
 ghost use Rattle.ti_cap.specs.Spelling.{Spells, Written, Writes};
 

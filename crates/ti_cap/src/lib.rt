@@ -5,11 +5,15 @@
 #![tactic(auto)]
 
 mod analysis;
-pub mod capability;
-mod format;
+mod extent;
 mod frame;
+mod language;
 pub mod laws;
 mod limits;
+mod parse;
 mod read;
+mod read_format;
 mod scan;
-pub mod token;
+
+pub use language::{CapFault, CapRefused, Conversion, Format, Op, Token};
+pub use parse::{Capability, Tape};

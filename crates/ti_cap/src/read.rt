@@ -7,8 +7,8 @@
 ghost use Rattle.std.specs.Prelude.{◌≡◌};
 ghost use Rattle.ti_cap.specs.Reading.{token_read, escape_read, parameter_read, variable_of, quoted_read, digits_read, lone_of};
 
-use crate::format::{begins_format, read_format};
-use crate::token::{CapFault, Op, Token};
+use crate::language::{CapFault, Op, Token};
+use crate::read_format::read_format;
 
 /// The greatest constant between braces.
 const GREATEST: u64 = 2147483647;
@@ -39,8 +39,7 @@ fn read_escape(bytes: &[u8]) -> Result<(Token, usize), CapFault>
         [b'{', rest @ ..] => read_digits(rest),
         [letter, ..] => match lone(*letter) {
             Some(token) => Ok((token, 2)),
-            None if begins_format(*letter) => read_format(bytes),
-            None => Err(CapFault::UnknownEscape),
+            None => read_format(bytes),
         },
     }
 }

@@ -1,84 +1,223 @@
 //! What parsing keeps as it goes from token to token.
+//!
+//! It finds the greatest height and size over all paths in one pass. Where a test may go either way both are kept, and
+//! where parts meet the greater goes on. At most one record an open conditional is needed, so the cost is constant a
+//! token, and no memory is taken.
 
-ghost use Rattle.std.specs.Prelude.{◌≡◌, ℕ, ◌≤◌};
-ghost use Rattle.ti_cap.specs.Height.{next_height};
+ghost use Rattle.std.specs.Prelude.{◌≡◌};
 
-use crate::analysis::Analysis;
-use crate::token::{CapFault, Op, Token};
-use std::marker::Model;
+use crate::extent::Extent;
+use crate::language::{CapFault, Op, Token};
 
+/// The greatest height of the stack.
 const MOST_VALUES: u32 = 32;
 
-/// The analyses of heights and of sizes, and the greatest depth and nesting so far.
+/// What waits in an open conditional.
+#[derive(Clone, Copy)]
+pub struct Open {
+    /// What its last test failed with, where a body is being passed through.
+    failed: Option<Extent>,
+    /// The greatest that its bodies ended with.
+    done: Option<Extent>,
+}
+
+impl Open {
+    /// A conditional in its first test.
+    pub const FRESH: Open = Open {
+        failed: None,
+        done: None,
+    };
+}
+
+/// What holds where a scan stands. The open conditionals stand apart, so that these counts stay in registers.
 #[derive(Drop)]
 pub struct Scan {
-    heights: Analysis,
-    sizes: Analysis,
+    /// How far the paths have come.
+    here: Extent,
+    /// The greatest height so far.
     depth: u32,
+    /// How many conditionals are open.
+    nesting: usize,
+    /// The greatest number of open conditionals so far.
     nest: usize,
 }
 
-impl Model for Scan {
-    ghost use Rattle.ti_cap.specs.Analysis.{Found};
-
-    ghost Value = { Found };
-
-    ghost view = { λ s. record { heights = s.heights; sizes = s.sizes; depth = s.depth; nest = s.nest } };
-}
-
-/// The height after a token.
-fn height_after(height: u32, token: &Token) -> u32
-    requires { height ≤ 32 }
-    ensures { result ≡ next_height height token.now }
-{
-    match token {
-        Token::Param(_) | Token::Constant(_) | Token::Load(_) => height + 1,
-        Token::Store(_) | Token::Char | Token::Print(_) | Token::CondThen => {
-            height.saturating_sub(1)
-        }
-        Token::Length | Token::Compute(Op::Not | Op::BitNot) => height.saturating_sub(1) + 1,
-        Token::Compute(_) => height.saturating_sub(2) + 1,
-        _ => height,
-    }
-}
-
 impl Scan {
-    ghost use Rattle.std.specs.Prelude.{◌≡◌, ◌≤◌, ◌+◌, ◌^◌, ◌<◌, length, Some, OnOk, IfErr};
+    ghost use Rattle.std.specs.Prelude.{ℕ, ◌≡◌, ◌≤◌, ◌<◌, ◌+◌, ◌-◌, ◌^◌, List, length, map, Some, None, OnOk, IfErr};
+    ghost use Rattle.ti_cap.specs.declared.language.Token.{Token};
+    ghost use Rattle.ti_cap.specs.declared.language.CapFault.{CapFault};
+    ghost use Rattle.ti_cap.specs.declared.scan.Open.{Open};
     ghost use Rattle.ti_cap.specs.Analysis.{nothing_found, found_after, fault_of, top, are_in_test};
+    ghost use Rattle.ti_cap.specs.Scan.{found_of, IsInOrder, IsSure, pushed, stacked, height_frame, size_frame, ended};
 
     /// No token yet.
     pub fn new() -> Self
-        ensures { result ≡ nothing_found }
+        ensures start { (opens : List Open) → found_of result opens ≡ nothing_found }
+        ensures order { (room : ℕ) → IsInOrder room result }
     {
         Scan {
-            heights: Analysis::new(),
-            sizes: Analysis::new(),
+            here: Extent { height: 0, size: 0 },
             depth: 0,
+            nesting: 0,
             nest: 0,
         }
     }
 
     /// Goes on over a token, or says why it may not stand here.
-    pub fn take(&mut self, token: &Token) -> Result<(), CapFault>
-        requires low { self.old.heights.running ≤ 32 }
-        requires small { self.old.sizes.running ≤ 2147418113 }
-        requires alike { length self.old.sizes.frames ≡ length self.old.heights.frames }
-        ensures refused { IfErr result (λ fault. fault_of self.old token.now ≡ Some fault) }
-        ensures taken { OnOk result (self.new ≡ found_after self.old token.now) }
-        ensures fine { OnOk result (fault_of self.old token.now ≡ None) }
+    #[inline(always)]
+    pub fn take<const ROOM: usize>(
+        &mut self,
+        opens: &mut [Open; ROOM],
+        token: Token,
+    ) -> Result<(), CapFault>
+        requires room { ROOM ≤ 32 }
+        requires low { self.old.here.height ≤ 32 }
+        requires small { self.old.here.size ≤ 2147418113 }
+        requires order { IsInOrder ROOM self.old }
+        ensures refused { IfErr result (λ fault. IsSure ROOM fault → fault_of (found_of self.old opens.old) token ≡ Some fault) }
+        ensures taken { OnOk result (found_of self.new opens.new ≡ found_after (found_of self.old opens.old) token) }
+        ensures fine { OnOk result (fault_of (found_of self.old opens.old) token ≡ None) }
+        ensures order { OnOk result (IsInOrder ROOM self.new) }
     {
-        if let Some(fault) = self.heights.misplaced(token) {
-            return Err(fault);
+        match token {
+            Token::Byte(_) => self.write(0, 1),
+            Token::Store(_) => self.write(1, 0),
+            Token::Increment => {}
+            Token::Char => self.write(1, 1),
+            Token::Print(format) => self.write(1, format.size(0) as u32),
+            Token::Param(_) | Token::Constant(_) | Token::Load(_) => return self.push(0),
+            Token::Length | Token::Compute(Op::Not | Op::BitNot) => return self.push(1),
+            Token::Compute(_) => return self.push(2),
+            Token::CondOpen => return self.enter(opens),
+            Token::CondThen => return self.test(opens),
+            Token::CondElse => return self.turn(opens),
+            Token::CondClose => return self.leave(opens),
         }
-        let height = height_after(self.heights.running(), token);
+        Ok(())
+    }
+
+    /// Pops values, and writes bytes.
+    #[inline(always)]
+    fn write(&mut self, popped: u32, size: u32)
+        requires { self.old.here.size + size < 2 ^ 32 }
+        ensures { self.new ≡ record self.old { here = record { height = self.old.here.height - popped; size = self.old.here.size + size } } }
+    {
+        self.here.height = self.here.height.saturating_sub(popped);
+        self.here.size += size;
+    }
+
+    /// Pops values, and pushes one.
+    #[inline(always)]
+    fn push(&mut self, popped: u32) -> Result<(), CapFault>
+        requires { self.old.here.height ≤ 32 }
+        ensures refused { IfErr result (λ fault. (fault ≡ CapFault.StackTooDeep) × (32 < self.old.here.height - popped + 1)) }
+        ensures taken { OnOk result (self.new ≡ pushed self.old popped) }
+        ensures fine { OnOk result (self.old.here.height - popped + 1 ≤ 32) }
+    {
+        let height = self.here.height.saturating_sub(popped) + 1;
         if height > MOST_VALUES {
             return Err(CapFault::StackTooDeep);
         }
-        let size = self.sizes.running() + token.size(0) as u32;
-        self.heights.meet(token, height);
-        self.sizes.meet(token, size);
-        self.depth = self.depth.max(self.heights.running());
-        self.nest = self.nest.max(self.heights.open());
+        self.here.height = height;
+        self.depth = self.depth.max(height);
+        Ok(())
+    }
+
+    /// A conditional begins.
+    #[inline(always)]
+    fn enter<const ROOM: usize>(&mut self, opens: &mut [Open; ROOM]) -> Result<(), CapFault>
+        requires room { ROOM ≤ 32 }
+        requires low { self.old.here.height ≤ 32 }
+        requires order { IsInOrder ROOM self.old }
+        ensures refused { IfErr result (λ fault. IsSure ROOM fault → fault_of (found_of self.old opens.old) Token.CondOpen ≡ Some fault) }
+        ensures taken { OnOk result (found_of self.new opens.new ≡ found_after (found_of self.old opens.old) Token.CondOpen) }
+        ensures fine { OnOk result (fault_of (found_of self.old opens.old) Token.CondOpen ≡ None) }
+        ensures order { OnOk result (IsInOrder ROOM self.new) }
+    {
+        if self.nesting >= ROOM {
+            return Err(CapFault::NestTooDeep);
+        }
+        opens[self.nesting] = Open::FRESH;
+        self.nesting += 1;
+        self.nest = self.nest.max(self.nesting);
+        Ok(())
+    }
+
+    /// A test ends: a path may fail here, and go on after the `%e` or `%;` to come.
+    #[inline(always)]
+    fn test<const ROOM: usize>(&mut self, opens: &mut [Open; ROOM]) -> Result<(), CapFault>
+        requires low { self.old.here.height ≤ 32 }
+        requires order { IsInOrder ROOM self.old }
+        ensures refused { IfErr result (λ fault. fault_of (found_of self.old opens.old) Token.CondThen ≡ Some fault) }
+        ensures taken { OnOk result (found_of self.new opens.new ≡ found_after (found_of self.old opens.old) Token.CondThen) }
+        ensures fine { OnOk result (fault_of (found_of self.old opens.old) Token.CondThen ≡ None) }
+        ensures order { OnOk result (IsInOrder ROOM self.new) }
+    {
+        if self.nesting == 0 {
+            return Err(CapFault::StrayThen);
+        }
+        let Open { failed, done } = opens[self.nesting - 1];
+        if failed.is_some() {
+            return Err(CapFault::StrayThen);
+        }
+        self.here.height = self.here.height.saturating_sub(1);
+        opens[self.nesting - 1] = Open {
+            failed: Some(self.here),
+            done,
+        };
+        Ok(())
+    }
+
+    /// A body ends: what it ended with waits for the `%;`, and what its test failed with goes on.
+    #[inline(always)]
+    fn turn<const ROOM: usize>(&mut self, opens: &mut [Open; ROOM]) -> Result<(), CapFault>
+        requires low { self.old.here.height ≤ 32 }
+        requires order { IsInOrder ROOM self.old }
+        ensures refused { IfErr result (λ fault. fault_of (found_of self.old opens.old) Token.CondElse ≡ Some fault) }
+        ensures taken { OnOk result (found_of self.new opens.new ≡ found_after (found_of self.old opens.old) Token.CondElse) }
+        ensures fine { OnOk result (fault_of (found_of self.old opens.old) Token.CondElse ≡ None) }
+        ensures order { OnOk result (IsInOrder ROOM self.new) }
+    {
+        if self.nesting == 0 {
+            return Err(CapFault::StrayElse);
+        }
+        let Open { failed, done } = opens[self.nesting - 1];
+        match failed {
+            None if done.is_none() => Err(CapFault::NoThen),
+            None => Err(CapFault::StrayElse),
+            Some(failed) => {
+                opens[self.nesting - 1] = Open {
+                    failed: None,
+                    done: Some(self.here.joined(done)),
+                };
+                self.here = failed;
+                self.depth = self.depth.max(failed.height);
+                Ok(())
+            }
+        }
+    }
+
+    /// A conditional ends: the greatest of what runs and what waits in it goes on.
+    #[inline(always)]
+    #[tactic(auto, using(crate::proofs::Scanned::joined_height, crate::proofs::Scanned::joined_size))]
+    fn leave<const ROOM: usize>(&mut self, opens: &[Open; ROOM]) -> Result<(), CapFault>
+        requires low { self.old.here.height ≤ 32 }
+        requires order { IsInOrder ROOM self.old }
+        ensures refused { IfErr result (λ fault. fault_of (found_of self.old opens.now) Token.CondClose ≡ Some fault) }
+        ensures taken { OnOk result (found_of self.new opens.now ≡ found_after (found_of self.old opens.now) Token.CondClose) }
+        ensures fine { OnOk result (fault_of (found_of self.old opens.now) Token.CondClose ≡ None) }
+        ensures order { OnOk result (IsInOrder ROOM self.new) }
+    {
+        if self.nesting == 0 {
+            return Err(CapFault::StrayEnd);
+        }
+        let Open { failed, done } = opens[self.nesting - 1];
+        if failed.is_none() && done.is_none() {
+            return Err(CapFault::NoThen);
+        }
+        self.here = self.here.joined(failed).joined(done);
+        self.depth = self.depth.max(self.here.height);
+        self.nesting -= 1;
         Ok(())
     }
 
@@ -96,17 +235,38 @@ impl Scan {
         self.nest
     }
 
-    /// The most bytes that any path writes, were this the end, where no text has any.
-    pub fn bound(&self) -> u64
-        ensures { result ≡ top self.now.sizes.frames self.now.sizes.running }
+    /// The most bytes that any path writes, were this the end.
+    #[tactic(auto, using(crate::proofs::Scanned::ended_size))]
+    pub fn bound<const ROOM: usize>(&self, opens: &[Open; ROOM]) -> u64
+        requires order { IsInOrder ROOM self.now }
+        ensures { result ≡ top (map size_frame (stacked self.now.nesting opens.now)) self.now.here.size }
     {
-        u64::from(self.sizes.greatest())
+        u64::from(self.end(opens).size)
+    }
+
+    /// How far any path has come, were this the end.
+    fn end<const ROOM: usize>(&self, opens: &[Open; ROOM]) -> Extent
+        requires order { IsInOrder ROOM self.now }
+        ensures { result ≡ ended (stacked self.now.nesting opens.now) self.now.here }
+    {
+        opens[..self.nesting]
+            .iter()
+            .rev()
+            .fold(self.here, |here, open| {
+                here.joined(open.failed).joined(open.done)
+            })
     }
 
     /// Whether a conditional is still in its first test.
-    pub fn is_in_first_test(&self) -> bool
-        ensures { result ≡ are_in_test self.now.heights.frames }
+    pub fn is_in_first_test<const ROOM: usize>(&self, opens: &[Open; ROOM]) -> bool
+        requires order { IsInOrder ROOM self.now }
+        ensures { result ≡ are_in_test (map height_frame (stacked self.now.nesting opens.now)) }
     {
-        self.heights.is_in_first_test()
+        opens[..self.nesting]
+            .iter()
+            .rev()
+            .fold(false, |found, open| {
+                found || (open.failed.is_none() && open.done.is_none())
+            })
     }
 }

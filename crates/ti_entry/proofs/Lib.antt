@@ -5,6 +5,8 @@ pub mod Passing
 pub mod WordLaws
 pub mod TextLaws
 pub mod Reach
+pub mod Greatest
+pub mod Nuls
 pub mod NamePlaces
 pub mod NamedItems
 pub mod SectionLaws

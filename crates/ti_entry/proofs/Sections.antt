@@ -63,31 +63,6 @@ all_hold f len from size count i total le so_far =
     let none : rest_of f len from size count i ≡ Passes = rw k refl in
     sym none ∙ so_far
 
--- where the first of three lists stops, or the second, or the third
-pub stops_first : (len : ℕ) (xs ys zs : List Check) (stop : Stop) → stopped stop ≡ verdict len xs → stopped stop ≡ verdict len ((xs ++ ys) ++ zs)
-stops_first len xs ys zs stop first =
-    sym (verdict_append len (xs ++ ys) zs
-    ∙ ap (λ v. then v (verdict len zs)) (verdict_append len xs ys ∙ ap (λ v. then v (verdict len ys)) (sym first) ∙ then-stopped stop (verdict len ys))
-    ∙ then-stopped stop (verdict len zs))
-
-pub stops_second : (len : ℕ) (xs ys zs : List Check) (stop : Stop) → Passes ≡ verdict len xs → stopped stop ≡ verdict len ys → stopped stop ≡ verdict len ((xs ++ ys) ++ zs)
-stops_second len xs ys zs stop first second =
-    sym (verdict_append len (xs ++ ys) zs
-    ∙ ap (λ v. then v (verdict len zs)) (verdict_append len xs ys ∙ ap (λ v. then v (verdict len ys)) (sym first) ∙ sym second)
-    ∙ then-stopped stop (verdict len zs))
-
-pub stops_third : (len : ℕ) (xs ys zs : List Check) (stop : Stop) → Passes ≡ verdict len xs → Passes ≡ verdict len ys → stopped stop ≡ verdict len zs → stopped stop ≡ verdict len ((xs ++ ys) ++ zs)
-stops_third len xs ys zs stop first second third =
-    sym (verdict_append len (xs ++ ys) zs
-    ∙ ap (λ v. then v (verdict len zs)) (verdict_append len xs ys ∙ ap (λ v. then v (verdict len ys)) (sym first) ∙ sym second)
-    ∙ sym third)
-
-pub third_decides : (len : ℕ) (xs ys zs : List Check) (v : Verdict) → Passes ≡ verdict len xs → Passes ≡ verdict len ys → v ≡ verdict len zs → v ≡ verdict len ((xs ++ ys) ++ zs)
-third_decides len xs ys zs v first second third =
-    sym (verdict_append len (xs ++ ys) zs
-    ∙ ap (λ v. then v (verdict len zs)) (verdict_append len xs ys ∙ ap (λ v. then v (verdict len ys)) (sym first) ∙ sym second)
-    ∙ sym third)
-
 -- ---- sections of items with several checks each
 
 -- what is left of a section after i items

@@ -1,5 +1,7 @@
 -- One step of a stage.
-use Rattle.std.proofs.Common.{◌≡◌, ℕ, zero, suc, ◌+◌, ◌-◌, ◌*◌, ◌<◌, ◌≤◌, true, false, cond, leb, List, [], ◌∷◌, ◌++◌, map, length, inl, inr, refl, sym, ap, subst, ◌∙◌, arith, append_assoc, append-nil, length-append}
+use Rattle.std.proofs.Common.{◌≡◌, ℕ, ◌+◌, ◌-◌, ◌*◌, ◌<◌, ◌≤◌, true, false, cond, leb, List, [], ◌∷◌, ◌++◌, map, length, inl, inr, refl, sym, ap, subst, ◌∙◌, arith, append_assoc, append-nil, length-append}
+use Rattle.std.proofs.Math.Nat.{mul-add}
+use Rattle.std.proofs.lemmas.List.{map-append}
 use Rattle.std.proofs.lemmas.Bool.{cases_lt, le-ltb, lt-ltb, leb-true, lt-leb, le-leb}
 use Rattle.ti_entry.specs.declared.fault.Fault.TheVariants.{BadHeader, BadNames, BadPad, BadExtendedHeader, BadExtendedName, Trailing}
 use Rattle.ti_entry.specs.declared.fault.Stop.{Stop}
@@ -18,10 +20,12 @@ use Rattle.ti_entry.specs.Layout.{header_of, number_size, places, pad_len, flags
 use Rattle.ti_entry.specs.Table.{table_of, extended_table_of, base_of}
 use Rattle.ti_entry.specs.Checks.{Check, Passes, EndsEarly, Fails, verdict, stopped, refused, sign_checks, name_check, nul_check, flag_checks, pad_checks, number_checks, offset_checks, table_check, ending_check, ending_checks, all_name_place_checks, end_checks}
 use Rattle.ti_entry.specs.Refusal.{magic_checks, size_check, named_check, size_checks, section_checks, room_check, room_checks, extended_size_check, extended_size_checks, extended_section_checks, extended_checks, behind_checks, checks}
-use Rattle.ti_entry.specs.Stages.{item_check, item_size, items_checks, items_behind, items_of, next, between, counts_checks, no_more_check, after, after_words, after_counts, left, Knows, StandsAt, Stands, new_stage, part_behind, left_behind, entered, is_whole, awaited, Waits, sections_left, steps_left}
+use Rattle.ti_entry.specs.Stages.{item_check, item_size, items_checks, first_items, items_after, items_of, next, between, counts_checks, no_more_check, after, after_words, after_counts, left, Knows, StandsAt, Stands, new_stage, part_behind, left_behind, entered, is_whole, awaited, Waits, sections_left, steps_left}
 use Rattle.ti_entry.proofs.Passing.{first_passes}
-use Rattle.ti_entry.proofs.SectionLaws.{all_items}
-use Rattle.ti_entry.proofs.Growing.{header_same, extended_same, base_same}
+use Rattle.ti_entry.specs.Spelling.{Each}
+use Rattle.ti_entry.proofs.NamedItems.{places_append}
+use Rattle.ti_entry.proofs.SectionLaws.{all_items, each_item}
+use Rattle.ti_entry.proofs.Growing.{Alike, header_same, extended_same, base_same}
 use Rattle.ti_entry.proofs.Full.{Reaches, no_early}
 use Rattle.ti_entry.proofs.Stages.{item_alike, between_alike, passes_on, goes, halts, none_left, regroup_front, regroup_sections, regroup_behind, regroup_extended}
 
@@ -54,29 +58,30 @@ stands_now xs s h = subst (λ zs. StandsAt zs s) (append-nil xs) (h [])
 abbrev stage : Section → Items → Header → Part → Stage
 stage section it h part = record { section = section; items = it; header = h; part = part }
 
-opened : (bytes : List ℕ) (it : Items) → 0 < it.left → items_checks bytes it ≡ item_check bytes it.item it.at ∷ items_checks bytes (items_behind it)
-opened bytes it lt =
-    let k : it.left ≡ suc (it.left - 1) = omega arith in
-    ap (λ n. map (item_check bytes it.item) (places it.at (item_size it.item) n)) k
-
-split_items : (bytes : List ℕ) (it : Items) (rest : List Check) → 0 < it.left → items_checks bytes it ++ rest ≡ (item_check bytes it.item it.at ∷ []) ++ (items_checks bytes (items_behind it) ++ rest)
-split_items bytes it rest lt = ap (λ (t : List Check). t ++ rest) (opened bytes it lt)
+split_items : (bytes : List ℕ) (it : Items) (n : ℕ) (rest : List Check) → n ≤ it.left → items_checks bytes it ++ rest ≡ items_checks bytes (first_items n it) ++ (items_checks bytes (items_after n it) ++ rest)
+split_items bytes it n rest le =
+    let size = item_size it.item in
+    let f = item_check bytes it.item in
+    let m : it.left ≡ n + (it.left - n) = omega arith in
+    let split : map f (places it.at size it.left) ≡ map f (places it.at size n) ++ map f (places (it.at + size * n) size (it.left - n)) =
+    ap (λ k. map f (places it.at size k)) m ∙ ap (map f) (places_append it.at size n (it.left - n)) ∙ map-append f (places it.at size n) (places (it.at + size * n) size (it.left - n)) in
+    ap (λ (t : List Check). t ++ rest) split ∙ append_assoc (map f (places it.at size n)) (map f (places (it.at + size * n) size (it.left - n))) rest
 
 -- a section with items left is not one that may end
-knows_behind : (section : Section) (bytes : List ℕ) (it : Items) (h : Header) (part : Part) → 0 < it.left → Knows section bytes it h part → Knows section bytes (items_behind it) h part
-knows_behind Magic b it h part lt k = k
-knows_behind Words b it h part lt k = k
-knows_behind Names b it h part lt k = k
-knows_behind Flags b it h part lt k = k
-knows_behind Numbers b it h part lt k = k
-knows_behind Offsets b it h part lt k = k
-knows_behind Behind b it h part lt k = let none = k.none in absurd (omega arith)
-knows_behind Counts b it h part lt k = k
-knows_behind ExtendedFlags b it h part lt k = k
-knows_behind ExtendedNumbers b it h part lt k = k
-knows_behind ExtendedValues b it h part lt k = k
-knows_behind ExtendedNames b it h part lt k = k
-knows_behind End b it h part lt k = let none = k.none in absurd (omega arith)
+knows_after : (section : Section) (bytes : List ℕ) (it : Items) (n : ℕ) (h : Header) (part : Part) → 0 < it.left → Knows section bytes it h part → Knows section bytes (items_after n it) h part
+knows_after Magic b it n h part lt k = k
+knows_after Words b it n h part lt k = k
+knows_after Names b it n h part lt k = k
+knows_after Flags b it n h part lt k = k
+knows_after Numbers b it n h part lt k = k
+knows_after Offsets b it n h part lt k = k
+knows_after Behind b it n h part lt k = let none = k.none in absurd (omega arith)
+knows_after Counts b it n h part lt k = k
+knows_after ExtendedFlags b it n h part lt k = k
+knows_after ExtendedNumbers b it n h part lt k = k
+knows_after ExtendedValues b it n h part lt k = k
+knows_after ExtendedNames b it n h part lt k = k
+knows_after End b it n h part lt k = let none = k.none in absurd (omega arith)
 
 not_whole : (section : Section) (bytes : List ℕ) (it : Items) (h : Header) (part : Part) → 0 < it.left → Knows section bytes it h part → is_whole section ≡ false
 not_whole Behind b it h part lt k = let none = k.none in absurd (omega arith)
@@ -97,40 +102,38 @@ awaits : (section : Section) (stop : Stop) → is_whole section ≡ false → st
 awaits section Early e = sym (ap (λ b. cond b Passes EndsEarly) e)
 awaits section (Failed r) e = refl
 
-pub item_passes : (xs : List ℕ) (s : Stage) → Stands xs s → 0 < s.items.left → Passes ≡ verdict (length xs) (item_check xs s.items.item s.items.at ∷ [])
-    → Stands xs (stage s.section (items_behind s.items) s.header s.part)
-item_passes xs s h lt p ys =
+-- the items of both inputs, one by one
+items_alike : (item : Item) (xs ys : List ℕ) (at n : ℕ) → Each (Alike (length xs)) (map (item_check xs item) (places at (item_size item) n)) (map (item_check (xs ++ ys) item) (places at (item_size item) n))
+items_alike item xs ys at n = each_item (Alike (length xs)) (item_check xs item) (item_check (xs ++ ys) item) at (item_size item) n (λ i lt. item_alike item xs ys (at + item_size item * i))
+
+pub items_pass : (xs : List ℕ) (s : Stage) (n : ℕ) → Stands xs s → 0 < s.items.left → n ≤ s.items.left → Passes ≡ verdict (length xs) (items_checks xs (first_items n s.items))
+    → Stands xs (stage s.section (items_after n s.items) s.header s.part)
+items_pass xs s n h lt le p ys =
     let zs = xs ++ ys in
     let k = h ys in
     let it = s.items in
-    let w = k.within in
     let rest = after s.section zs s.header s.part.header in
-    let passed : verdict (length zs) (item_check zs it.item it.at ∷ []) ≡ Passes = passes_on xs ys (item_check xs it.item it.at ∷ []) (item_check zs it.item it.at ∷ []) (item_alike it.item xs ys it.at, tt) p in
+    let passed : verdict (length zs) (items_checks zs (first_items n it)) ≡ Passes = passes_on xs ys (items_checks xs (first_items n it)) (items_checks zs (first_items n it)) (items_alike it.item xs ys it.at n) p in
     record {
-      decides = goes (length zs) _ (item_check zs it.item it.at ∷ []) (items_checks zs (items_behind it) ++ rest) (k.decides ∙ ap (verdict (length zs)) (split_items zs it rest lt)) passed;
-      within = one_less it.at (item_size it.item) it.left lt w;
+      decides = goes (length zs) _ (items_checks zs (first_items n it)) (items_checks zs (items_after n it) ++ rest) (k.decides ∙ ap (verdict (length zs)) (split_items zs it n rest le)) passed;
+      within = fewer it.at (item_size it.item) it.left n le k.within;
       fits = k.fits;
       extended_fits = k.extended_fits;
       base_fits = k.base_fits;
-      known = knows_behind s.section zs it s.header s.part lt k.known;
+      known = knows_after s.section zs it n s.header s.part lt k.known;
     }
   where
-    one_less : (at size n : ℕ) → 0 < n → at + size * n ≤ 32768 → (at + size) + size * (n - 1) ≤ 32768
-    one_less at size zero lt le = absurd (omega arith)
-    one_less at size (suc n) lt le =
-        let m : size * suc n ≡ size + size * n = mul_suc size n in
-        let same : suc n - 1 ≡ n = omega arith in
-        let q : size * (suc n - 1) ≡ size * n = ap (λ k. size * k) same in omega arith
-      where
-        mul_suc : (a b : ℕ) → a * suc b ≡ a + a * b
-        mul_suc a b = omega arith
+    fewer : (at size left n : ℕ) → n ≤ left → at + size * left ≤ 32768 → (at + size * n) + size * (left - n) ≤ 32768
+    fewer at size left n le within =
+        let m : left ≡ n + (left - n) = omega arith in
+        let e : size * left ≡ size * n + size * (left - n) = ap (λ k. size * k) m ∙ mul-add size n (left - n) in omega arith
 
-pub item_stops : (xs : List ℕ) (s : Stage) (stop : Stop) → StandsAt xs s → 0 < s.items.left → stopped stop ≡ verdict (length xs) (item_check xs s.items.item s.items.at ∷ [])
+pub items_stop : (xs : List ℕ) (s : Stage) (n : ℕ) (stop : Stop) → StandsAt xs s → 0 < s.items.left → n ≤ s.items.left → stopped stop ≡ verdict (length xs) (items_checks xs (first_items n s.items))
     → verdict (length xs) (checks xs) ≡ awaited s.section stop
-item_stops xs s stop k lt e =
+items_stop xs s n stop k lt le e =
     let it = s.items in
     let rest = after s.section xs s.header s.part.header in
-    halts (length xs) _ (item_check xs it.item it.at ∷ []) (items_checks xs (items_behind it) ++ rest) stop (k.decides ∙ ap (verdict (length xs)) (split_items xs it rest lt)) e
+    halts (length xs) _ (items_checks xs (first_items n it)) (items_checks xs (items_after n it) ++ rest) stop (k.decides ∙ ap (verdict (length xs)) (split_items xs it n rest le)) e
     ∙ awaits s.section stop (not_whole s.section xs it s.header s.part lt k.known)
 
 -- ---- from a section to the next
@@ -450,18 +453,59 @@ pub between_waits : (xs : List ℕ) (s : Stage) → StandsAt xs s → s.items.le
 between_waits xs s k none p =
     let halted = halts_in s.section xs s.items s.header s.part Early k none p in record { decides = halted.decides; ends = halted.ends refl }
 
-pub item_waits : (xs : List ℕ) (s : Stage) → StandsAt xs s → 0 < s.items.left → EndsEarly ≡ verdict (length xs) (item_check xs s.items.item s.items.at ∷ []) → Waits xs s
-item_waits xs s k lt p = record { decides = item_stops xs s Early k lt p; ends = λ e. no_items s.section s.items s.header s.part k.known lt e }
+pub items_wait : (xs : List ℕ) (s : Stage) (n : ℕ) → StandsAt xs s → 0 < s.items.left → n ≤ s.items.left → EndsEarly ≡ verdict (length xs) (items_checks xs (first_items n s.items)) → Waits xs s
+items_wait xs s n k lt le p = record { decides = items_stop xs s n Early k lt le p; ends = λ e. no_items s.section s.items s.header s.part k.known lt e }
   where
     no_items : (section : Section) (it : Items) (h : Header) (part : Part) → Knows section xs it h part → 0 < it.left → section ≡ Behind → length xs ≤ end_of h
     no_items section it h part known lt e =
         let whole : is_whole section ≡ true = ap is_whole e in
         let other : is_whole section ≡ false = not_whole section xs it h part lt known in absurd (cc)
 
--- ---- the measure
+-- ---- what has not come
 
-pub fewer_items : (s : Stage) → 0 < s.items.left → steps_left (stage s.section (items_behind s.items) s.header s.part) < steps_left s
-fewer_items s lt = omega arith
+-- so many bytes have come where the checks after a section are made
+abbrev pub Needs : Section → Header → ExtendedHeader → ℕ → Type 0
+Needs Offsets h x need = need ≡ end_of h
+Needs Behind h x need = need ≡ end_of h + 1
+Needs ExtendedNames h x need = need ≡ extended_end_of x
+Needs End h x need = need ≡ extended_end_of x + 1
+Needs _ h x need = ⊥
+
+item_early : (bytes : List ℕ) (item : Item) (p : ℕ) → length bytes < p + item_size item → EndsEarly ≡ verdict (length bytes) (item_check bytes item p ∷ [])
+item_early bytes (Sign fault) p lt = sym (rw (lt-ltb (length bytes) (p + 2) lt) refl)
+item_early bytes Name p lt = sym (rw (lt-ltb (length bytes) (p + 1) lt) refl)
+item_early bytes Flag p lt = sym (rw (lt-ltb (length bytes) (p + 1) lt) refl)
+item_early bytes (Number width) p lt = sym (rw (lt-ltb (length bytes) (p + number_size width) lt) refl)
+item_early bytes (Offset table_size) p lt = sym (rw (lt-ltb (length bytes) (p + 2) lt) refl)
+
+pub item_stopped : (xs : List ℕ) (s : Stage) → StandsAt xs s → 0 < s.items.left → length xs < s.items.at + item_size s.items.item → verdict (length xs) (checks xs) ≡ awaited s.section Early
+item_stopped xs s k lt short = items_stop xs s 1 Early k lt (omega arith) (item_early xs s.items.item s.items.at short)
+
+-- an item is awaited
+pub item_awaited : (xs : List ℕ) (s : Stage) → StandsAt xs s → 0 < s.items.left → length xs < s.items.at + item_size s.items.item → Waits xs s
+item_awaited xs s k lt short = items_wait xs s 1 k lt (omega arith) (item_early xs s.items.item s.items.at short)
+
+between_early : (xs : List ℕ) (section : Section) (h : Header) (x : ExtendedHeader) (need : ℕ) → Needs section h x need → length xs < need → EndsEarly ≡ verdict (length xs) (between section h x xs)
+between_early xs Offsets h x need e lt = let short : length xs < end_of h = omega arith in sym (rw (lt-ltb (length xs) (end_of h) short) refl)
+between_early xs Behind h x need e lt = let short : length xs < end_of h + 1 = omega arith in sym (rw (lt-ltb (length xs) (end_of h + 1) short) refl)
+between_early xs ExtendedNames h x need e lt = let short : length xs < extended_end_of x = omega arith in sym (rw (lt-ltb (length xs) (extended_end_of x) short) refl)
+between_early xs End h x need e lt = let short : length xs < extended_end_of x + 1 = omega arith in sym (rw (lt-ltb (length xs) (extended_end_of x + 1) short) refl)
+between_early xs Magic h x need e lt = absurd e
+between_early xs Words h x need e lt = absurd e
+between_early xs Names h x need e lt = absurd e
+between_early xs Flags h x need e lt = absurd e
+between_early xs Numbers h x need e lt = absurd e
+between_early xs Counts h x need e lt = absurd e
+between_early xs ExtendedFlags h x need e lt = absurd e
+between_early xs ExtendedNumbers h x need e lt = absurd e
+between_early xs ExtendedValues h x need e lt = absurd e
+
+-- a table is awaited, or a byte after it
+pub table_awaited : (xs : List ℕ) (s : Stage) (section : Section) (need : ℕ) → s.section ≡ section → StandsAt xs s → s.items.left ≡ 0 → Needs section s.header s.part.header need → length xs < need → Waits xs s
+table_awaited xs s section need e k none needs lt =
+    between_waits xs s k none (between_early xs section s.header s.part.header need needs lt ∙ ap (λ t. verdict (length xs) (between t s.header s.part.header xs)) (sym e))
+
+-- ---- the measure
 
 most_left : (item : Item) (at n : ℕ) → at + item_size item * n ≤ 32768 → n ≤ 32768
 most_left (Sign fault) at n le = omega arith

@@ -1,9 +1,10 @@
 -- Texts up to their NUL.
-use Rattle.std.proofs.Common.{◌≡◌, ℕ, zero, suc, ℤ, pos, negsuc, Bool, true, false, not, eqb, ltb, List, [], ◌∷◌, ◌++◌, length, take, drop, refl, sym, ap, ◌∙◌, arith}
+use Rattle.std.proofs.Common.{◌≡◌, ℕ, zero, suc, ◌+◌, ◌-◌, ◌≤◌, ℤ, pos, negsuc, Bool, true, false, not, eqb, ltb, List, [], ◌∷◌, ◌++◌, length, take, drop, refl, sym, ap, ◌∙◌, arith, length-drop}
 use Rattle.std.proofs.lemmas.Bool.{le-ltb, eqb-false, eqb-true}
 use Rattle.std.proofs.lemmas.List.Sums.{take_while-cons}
+use Rattle.std.proofs.lemmas.List.{take_all, drop-drop}
 use Rattle.std.specs.List.{list_any}
-use Rattle.ti_entry.specs.Table.{is_nul, until_nul, text_of_word}
+use Rattle.ti_entry.specs.Table.{is_nul, until_nul, text_from, text_of_word}
 use Rattle.ti_entry.specs.Checks.{is_ended, is_offset_below}
 use Rattle.ti_entry.specs.Spelling.{HasNoNul, IsText}
 
@@ -29,3 +30,30 @@ is_text table (pos place) below ended = let t = ends (drop place table) ended in
 is_text table (negsuc zero) below ended = refl
 is_text table (negsuc (suc zero)) below ended = refl
 is_text table (negsuc (suc (suc n))) below ended = absurd (let e : ltb (suc (suc n)) 2 ≡ false = le-ltb _ _ (omega arith) in let f : false ≡ true = sym e ∙ below in cc)
+
+-- ---- a text that starts within another
+
+until_within : (xs : List ℕ) (k : ℕ) → k ≤ length (until_nul xs) → drop k (until_nul xs) ≡ until_nul (drop k xs)
+until_within xs zero le = refl
+until_within [] (suc k) le = absurd (omega arith)
+until_within (x ∷ xs) (suc k) le = by_nul (eqb x 0) refl (until_within xs k)
+  where
+    by_nul : (b : Bool) → eqb x 0 ≡ b → (k ≤ length (until_nul xs) → drop k (until_nul xs) ≡ until_nul (drop k xs)) → drop (suc k) (until_nul (x ∷ xs)) ≡ until_nul (drop k xs)
+    by_nul true e rest =
+        let stop : until_nul (x ∷ xs) ≡ [] = take_while-cons (λ b. not (is_nul b)) x xs ∙ rw e refl in
+        let n : length (until_nul (x ∷ xs)) ≡ 0 = ap length stop in absurd (omega arith)
+    by_nul false e rest =
+        let goes : until_nul (x ∷ xs) ≡ x ∷ until_nul xs = take_while-cons (λ b. not (is_nul b)) x xs ∙ rw e refl in
+        let n : length (until_nul (x ∷ xs)) ≡ suc (length (until_nul xs)) = ap length goes in
+        ap (drop (suc k)) goes ∙ rest (omega arith)
+
+-- it is the rest of the other
+pub tail_is : (table in_mind : List ℕ) (start place : ℕ) → in_mind ≡ text_from table start → start ≤ place → place ≤ start + length in_mind
+    → take (length in_mind - (place - start)) (drop (place - start) in_mind) ≡ text_from table place
+tail_is table in_mind start place e low high =
+    let k = place - start in
+    let n : length in_mind ≡ length (text_from table start) = ap length e in
+    let at : start + k ≡ place = omega arith in
+    take_all (length in_mind - k) (drop k in_mind) (omega (arith, length-drop k in_mind))
+    ∙ ap (drop k) e ∙ until_within (drop start table) k (omega arith)
+    ∙ ap until_nul (drop-drop k start table) ∙ ap (text_from table) at

@@ -1,4 +1,4 @@
--- Which checks are left where the bytes of an entry come one by one.
+-- Which checks are left at a stage of reading an entry, whose bytes are all there or still come.
 -- Only the reader and private functions of the crate cite this.
 use Rattle.std.specs.Prelude.{◌≡◌, ℕ, ◌+◌, ◌-◌, ◌*◌, ◌≤◌, Bool, true, false, List, Option, None, if◌then◌else◌, [], ◌∷◌, ◌++◌, length, map}
 use Rattle.ti_words.specs.declared.Width.TheVariants.{Legacy}
@@ -41,12 +41,15 @@ item_size (Offset table_size) = 2
 abbrev pub items_checks : List ℕ → Items → List Check
 items_checks bytes s = map (item_check bytes s.item) (places s.at (item_size s.item) s.left)
 
--- the items behind the first
-abbrev pub items_behind : Items → Items
-items_behind s = record { item = s.item; at = s.at + item_size s.item; left = s.left - 1 }
-
 abbrev pub items : Item → ℕ → ℕ → Items
 items item at left = record { item = item; at = at; left = left }
+
+-- so many of the items, and those after them
+abbrev pub first_items : ℕ → Items → Items
+first_items n s = items s.item s.at n
+
+abbrev pub items_after : ℕ → Items → Items
+items_after n s = items s.item (s.at + item_size s.item * n) (s.left - n)
 
 -- the items of a section
 abbrev pub items_of : Section → Header → ExtendedHeader → Items

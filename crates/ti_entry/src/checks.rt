@@ -1,14 +1,18 @@
-//! The checks of single items and of whole sections, in the order of their bytes.
+//! The checks of single items and of whole sections.
 //!
-//! Each function answers as the list of checks does that its clause names. Each section is gone over once; whether its
-//! texts have their NULs is decided for all of them from one look for the last NUL of the table.
+//! Each function answers as the list of checks does that its clause names. A section is tested at once, and gone over item
+//! by item only where that test leaves it open. Whether its texts have their NULs is decided for all of them from one look
+//! for the last NUL of the table.
 
 ghost use Rattle.std.specs.Prelude.{◌≡◌, ◌+◌, ◌*◌, ◌<◌, ◌≤◌, ◌^◌, ◌∷◌, [], length, map, take, drop, OnOk};
 ghost use Rattle.ti_entry.specs.Layout.{number_size as the_number_size, places};
-ghost use Rattle.ti_entry.specs.Checks.{verdict, verdict_of, sign_check, name_check, nul_check, flag_check, number_check, offset_check, name_checks, flag_checks, pad_checks, number_checks, offset_checks, ending_checks, end_checks, sign_checks, is_offset_below as the_is_offset_below};
+ghost use Rattle.ti_entry.specs.Checks.{verdict, verdict_of, sign_check, name_check, nul_check, flag_check, number_check, offset_check, flag_checks, pad_checks, number_checks, offset_checks, ending_checks, sign_checks, is_offset_below as the_is_offset_below};
 ghost use Rattle.ti_entry.specs.Reach.{IsReach, reach_check, name_reach_checks, all_name_reach_checks, is_before as the_is_before};
 
 use crate::fault::{Fault, Refused, Stop};
+use crate::whole::{
+    are_before, are_flags, are_names, are_no_nuls, are_not_negative, are_numbers, are_offsets,
+};
 use crate::word::{count_at, number_size, number_word_at, numbers_size, word_at};
 use ti_words::{Width, flag_of};
 
@@ -197,6 +201,9 @@ pub(crate) fn check_signs(bytes: &[u8], fault: Fault, from: usize, count: usize)
     requires { from + 2 * count < 2 ^ 32 }
     ensures { verdict_of result ≡ verdict (length bytes.now) (sign_checks bytes.now fault from count) }
 {
+    if are_not_negative(bytes, fault, from, count) {
+        return Ok(());
+    }
     for i in 0..count {
         check_sign(bytes, fault, from + 2 * i)?;
     }
@@ -204,25 +211,17 @@ pub(crate) fn check_signs(bytes: &[u8], fault: Fault, from: usize, count: usize)
 }
 
 /// No NUL stands in a section.
-fn check_no_nuls(bytes: &[u8], from: usize, count: usize) -> Result<(), Stop>
+pub(crate) fn check_no_nuls(bytes: &[u8], from: usize, count: usize) -> Result<(), Stop>
     requires { from + count < 2 ^ 32 }
     ensures { verdict_of result ≡ verdict (length bytes.now) (map (name_check bytes.now) (places from 1 count)) }
 {
+    if are_no_nuls(bytes, from, count) {
+        return Ok(());
+    }
     for i in 0..count {
         check_name(bytes, from + i)?;
     }
     Ok(())
-}
-
-/// The names have their size, with no NUL but at their end.
-#[tactic(auto, using(crate::proofs::Sections::verdict_append))]
-pub(crate) fn check_names(bytes: &[u8], size: usize) -> Result<(), Stop>
-    requires some { 0 < size }
-    requires fits { size < 2 ^ 31 }
-    ensures { verdict_of result ≡ verdict (length bytes.now) (name_checks bytes.now size) }
-{
-    check_no_nuls(bytes, 12, size - 1)?;
-    check_nul(bytes, Fault::BadNames, 11 + size)
 }
 
 /// Each byte of a section is a flag.
@@ -230,6 +229,9 @@ pub(crate) fn check_flags(bytes: &[u8], from: usize, count: usize) -> Result<(),
     requires { from + count < 2 ^ 32 }
     ensures { verdict_of result ≡ verdict (length bytes.now) (flag_checks bytes.now from count) }
 {
+    if are_flags(bytes, from, count) {
+        return Ok(());
+    }
     for i in 0..count {
         check_flag(bytes, from + i)?;
     }
@@ -257,6 +259,9 @@ pub(crate) fn check_numbers(
     requires { from + the_number_size width * count < 2 ^ 32 }
     ensures { verdict_of result ≡ verdict (length bytes.now) (number_checks bytes.now (the_number_size width) from count) }
 {
+    if are_numbers(bytes, width, from, count) {
+        return Ok(());
+    }
     for i in 0..count {
         check_number(bytes, width, from + numbers_size(width, i))?;
     }
@@ -273,6 +278,9 @@ pub(crate) fn check_offsets(
     requires { from + 2 * count < 2 ^ 32 }
     ensures { verdict_of result ≡ verdict (length bytes.now) (offset_checks bytes.now table_size from count) }
 {
+    if are_offsets(bytes, table_size, from, count) {
+        return Ok(());
+    }
     for i in 0..count {
         check_offset(bytes, table_size, from + 2 * i)?;
     }
@@ -310,9 +318,13 @@ fn check_each_ending(
     count: usize,
 ) -> Result<(), Stop>
     requires before { from + 2 * count ≤ end }
+    requires there { end ≤ length bytes.now }
     requires fits { end < 2 ^ 32 }
     ensures { verdict_of result ≡ verdict (length bytes.now) (map (reach_check bytes.now reach end) (places from 2 count)) }
 {
+    if are_before(bytes, reach, end, from, count) {
+        return Ok(());
+    }
     for i in 0..count {
         check_ending(bytes, reach, end, from + 2 * i)?;
     }
@@ -327,29 +339,16 @@ pub(crate) fn check_name_places(
     count: usize,
 ) -> Result<(), Stop>
     requires before { from + 2 * count ≤ table.now.end }
+    requires there { table.now.end ≤ length bytes.now }
     requires fits { table.now.end < 2 ^ 32 }
     requires small { table.now.base < 2 ^ 32 }
     ensures { verdict_of result ≡ verdict (length bytes.now) (all_name_reach_checks bytes.now table.now (places from 2 count)) }
 {
+    if are_names(bytes, table, from, count) {
+        return Ok(());
+    }
     for i in 0..count {
         check_name_place(bytes, table, from + 2 * i)?;
-    }
-    Ok(())
-}
-
-/// Nothing stands behind the end.
-pub(crate) fn check_end(bytes: &[u8], end: usize) -> Result<(), Stop>
-    ensures verdict { verdict_of result ≡ verdict (length bytes.now) (end_checks bytes.now end) }
-    ensures there { OnOk result (end ≤ length bytes.now) }
-{
-    if bytes.len() < end {
-        return Err(Stop::Early);
-    }
-    if bytes.len() > end {
-        return Err(Stop::Failed(Refused {
-            fault: Fault::Trailing,
-            place: end,
-        }));
     }
     Ok(())
 }

@@ -44,22 +44,11 @@ impl<'a, A: Allocator> Model for Draft<'a, A> {
     } };
 }
 
-impl<'a> Draft<'a> {
-    ghost use Rattle.ti_entry.specs.Value.{EntryValue, bare};
-
-    /// A draft with names, which are separated by `|`, and no capability. It takes no memory.
-    pub fn new(alloc: Global, names: &'a [u8], width: Width) -> Draft<'a>
-        ensures { result ≡ bare width names.now }
-    {
-        Draft::new_in(alloc, names, width)
-    }
-}
-
 impl<'a, A: Allocator> Draft<'a, A> {
     ghost use Rattle.ti_entry.specs.Value.{EntryValue, bare};
 
-    /// The same with memory from any allocator.
-    pub fn new_in(alloc: A, names: &'a [u8], width: Width) -> Draft<'a, A>
+    /// A draft with names, which are separated by `|`, and no capability. It takes no memory.
+    pub fn new(alloc: A, names: &'a [u8], width: Width) -> Draft<'a, A>
     where
         A: Copy,
         ensures { result ≡ bare width names.now }

@@ -8,7 +8,7 @@ ghost use Rattle.std.specs.Prelude.{◌≡◌, ◌++◌, IfOk, OnOk};
 use crate::draft::Draft;
 use crate::entry::Entry;
 use crate::extended::Extended;
-use std::alloc::{AllocError, Allocator, Global};
+use std::alloc::{AllocError, Allocator};
 use ti_words::Kind;
 
 /// Adds the flags of an entry.
@@ -38,8 +38,9 @@ fn add_texts<'a, A: Allocator>(
 ) -> Result<(), AllocError>
     ensures { OnOk result (draft.new ≡ record draft.old { texts = draft.old.texts ++ entry.now.texts }) }
 {
+    let mut texts = entry.texts();
     for i in 0..entry.text_count() {
-        draft.push_text(entry.text(i))?;
+        draft.push_text(texts.text(i))?;
     }
     Ok(())
 }
@@ -95,17 +96,10 @@ impl<'a> Entry<'a> {
     /// # Errors
     ///
     /// Memory was refused.
-    pub fn draft(&self, alloc: Global) -> Result<Draft<'a>, AllocError>
+    pub fn draft<A: Allocator + Copy>(&self, alloc: A) -> Result<Draft<'a, A>, AllocError>
         ensures { IfOk result (λ draft. draft ≡ self.now) }
     {
-        self.draft_in(alloc)
-    }
-
-    /// The same with memory from any allocator.
-    pub fn draft_in<A: Allocator + Copy>(&self, alloc: A) -> Result<Draft<'a, A>, AllocError>
-        ensures { IfOk result (λ draft. draft ≡ self.now) }
-    {
-        let mut draft = Draft::new_in(alloc, self.names(), self.width());
+        let mut draft = Draft::new(alloc, self.names(), self.width());
         draft.reserve(self.flag_count(), self.number_count(), self.text_count())?;
         add_flags(&mut draft, self)?;
         add_numbers(&mut draft, self)?;

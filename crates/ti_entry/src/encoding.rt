@@ -18,7 +18,7 @@ use crate::put::{
 };
 use crate::size::{encoded_len, extended_table_len, texts_len};
 use crate::unfit::{EncodeFault, first_fault};
-use std::alloc::{AllocError, Allocator, Global};
+use std::alloc::{AllocError, Allocator};
 use ti_words::Text;
 
 /// The bytes of the entry that a draft is (term(5)).
@@ -30,34 +30,25 @@ use ti_words::Text;
 ///
 /// The first that holds of: `BadName`, `NulInText`, `NumberOutOfRange`, `TooManyOrLong`, and then `Memory` where memory
 /// was refused.
-pub fn encode(alloc: Global, draft: &Draft<'_>) -> Result<Vec<u8>, EncodeFault>
+pub fn encode<A: Allocator + Copy, D: Allocator>(
+    alloc: A,
+    draft: &Draft<'_, D>,
+) -> Result<Vec<u8, A>, EncodeFault>
     // What is answered is the canonical bytes.
     ensures bytes { IfOk result (λ bytes. bytes.items ≡ canonical draft.now) }
     // It is answered only where there is no fault.
     ensures fit { OnOk result (encode_fault draft.now ≡ None) }
-    // A fault is the first that there is, or want of memory where there is none.
-    ensures refused { IfErr result (λ fault. (encode_fault draft.now ≡ Some fault) ⊎ ((encode_fault draft.now ≡ None) × (fault ≡ EncodeFault.Memory))) }
-{
-    encode_in(alloc, draft)
-}
-
-/// The same with memory from any allocator.
-pub fn encode_in<A: Allocator + Copy, D: Allocator>(
-    alloc: A,
-    draft: &Draft<'_, D>,
-) -> Result<Vec<u8, A>, EncodeFault>
-    ensures bytes { IfOk result (λ bytes. bytes.items ≡ canonical draft.now) }
-    ensures fit { OnOk result (encode_fault draft.now ≡ None) }
+    // A fault is the first that there is, or out of memory where there is none.
     ensures refused { IfErr result (λ fault. (encode_fault draft.now ≡ Some fault) ⊎ ((encode_fault draft.now ≡ None) × (fault ≡ EncodeFault.Memory))) }
 {
     if let Some(fault) = first_fault(draft) {
         return Err(fault);
     }
-    Ok(written_in(alloc, draft)?)
+    Ok(canonical_bytes(alloc, draft)?)
 }
 
 /// The bytes of a draft that has no fault.
-fn written_in<A: Allocator + Copy, D: Allocator>(
+fn canonical_bytes<A: Allocator + Copy, D: Allocator>(
     alloc: A,
     draft: &Draft<'_, D>,
 ) -> Result<Vec<u8, A>, AllocError>

@@ -1,23 +1,23 @@
 //! An entry that was read: a view that lends from its bytes.
 //!
 //! The view holds the slice and the headers, which say where the sections lie. Each accessor takes a few instructions
-//! and no memory; `text` looks once for its NUL. Reading is one pass over each section.
+//! and no memory; `text` looks once for its NUL. Reading is the checker of `stage` over all the bytes at once.
 
 ghost use Rattle.std.specs.Prelude.{◌≡◌, ◌+◌, ◌<◌, ◌≤◌, length, get_or, IfOk, IfErr, IsOkAnd, Some};
 ghost use Rattle.ti_words.specs.Texts.{text_value, AbsentText};
-ghost use Rattle.ti_entry.specs.Checks.{Passes, verdict, verdict_of};
-ghost use Rattle.ti_entry.specs.Refusal.{checks, refusal};
+ghost use Rattle.ti_entry.specs.Refusal.{refusal};
 ghost use Rattle.ti_entry.specs.Value.{EntryValue};
 ghost use Rattle.ti_entry.specs.Spelling.{Spells};
-ghost use Rattle.ti_entry.specs.Content.{content};
 ghost use Rattle.ti_entry.specs.Reading.{answer_for};
-ghost use Rattle.ti_entry.specs.Held.{held, IsHeld};
+ghost use Rattle.ti_entry.specs.Stages.{Stands, Waits};
 
 use crate::extended::{Extended, extended_of};
-use crate::fault::{Fault, Refused, Stop};
-use crate::header::{Header, check_sections, read_header};
+use crate::fault::{Fault, Refused};
+use crate::header::Header;
 use crate::item::{flag_at, number_at, text_at};
-use crate::part::{Part, read_part};
+use crate::part::Part;
+use crate::stage::Stage;
+use crate::texts::{Texts, texts_of};
 use crate::word::numbers_size;
 use std::marker::Model;
 use ti_words::{Flag, Number, Text, Width};
@@ -57,45 +57,35 @@ pub fn read(bytes: &[u8]) -> Result<Entry<'_>, Refused>
     // The answer in one equation.
     ensures answer { result ≡ answer_for bytes.now }
 {
-    match entry_of(bytes) {
-        Ok(entry) => Ok(entry),
-        Err(Stop::Early) => Err(Refused {
+    let mut stage = Stage::new();
+    stage.advance(bytes)?;
+    entry_at(bytes, &stage)
+}
+
+/// The entry that bytes spell which came to a stage and wait there for more.
+///
+/// # Errors
+///
+/// `Truncated` at the length of the bytes, where they end before an entry does.
+pub(crate) fn entry_at<'a>(bytes: &'a [u8], stage: &Stage) -> Result<Entry<'a>, Refused>
+    requires stands { Stands bytes.now stage.now }
+    requires waits { Waits bytes.now stage.now }
+    ensures found { IfOk result (λ e. Spells bytes.now e) }
+    ensures only { (v : EntryValue) → Spells bytes.now v → IsOkAnd result (λ e. e ≡ v) }
+    ensures refused { IfErr result (λ r. refusal bytes.now ≡ Some r) }
+    ensures answer { result ≡ answer_for bytes.now }
+{
+    if !stage.is_whole() {
+        return Err(Refused {
             fault: Fault::Truncated,
             place: bytes.len(),
-        }),
-        Err(Stop::Failed(refused)) => Err(refused),
+        });
     }
-}
-
-/// The entry of bytes that pass the checks, or the first that they do not pass.
-#[tactic(auto, using(crate::proofs::Sections::verdict_append))]
-fn entry_of(bytes: &[u8]) -> Result<Entry<'_>, Stop>
-    ensures verdict { verdict_of result ≡ verdict (length bytes.now) (checks bytes.now) }
-    ensures value { IfOk result (λ e. e ≡ content bytes.now) }
-{
-    let header = read_header(bytes)?;
-    check_sections(bytes, &header)?;
-    let part = read_part(bytes, &header)?;
     Ok(Entry {
         bytes,
-        header,
-        part,
+        header: stage.header,
+        part: stage.part,
     })
-}
-
-/// The entry of bytes that pass the checks, with the headers that the checks met.
-pub(crate) fn entry_with(bytes: &[u8], header: Header, part: Part) -> Entry<'_>
-    requires is_held { IsHeld bytes.now header part }
-    requires shows { held bytes.now header part ≡ content bytes.now }
-    requires passes { verdict (length bytes.now) (checks bytes.now) ≡ Passes }
-    ensures value { result ≡ content bytes.now }
-    ensures found { Spells bytes.now result }
-{
-    Entry {
-        bytes,
-        header,
-        part,
-    }
 }
 
 impl<'a> Entry<'a> {
@@ -168,6 +158,19 @@ impl<'a> Entry<'a> {
         } else {
             Text::Absent
         }
+    }
+
+    /// Its texts, to be read one after another.
+    pub(crate) fn texts(&self) -> Texts<'a>
+        ensures { result ≡ self.now.texts }
+    {
+        let table = &self.bytes[self.header.table_from()..self.header.end()];
+        texts_of(
+            table,
+            self.bytes,
+            self.header.offsets_from(),
+            self.text_count(),
+        )
     }
 
     /// Its extended part, with no capability where it has none.

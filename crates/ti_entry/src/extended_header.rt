@@ -2,13 +2,13 @@
 //!
 //! A place is a sum of the header's words, so it takes a few additions.
 
-ghost use Rattle.std.specs.Prelude.{◌≡◌, ◌+◌, ◌*◌, ◌<◌, ◌≤◌, ◌^◌, ◌++◌, length, IfOk, OnOk};
+ghost use Rattle.std.specs.Prelude.{◌≡◌, ◌+◌, ◌*◌, ◌<◌, ◌≤◌, ◌^◌, ◌++◌, length, OnOk};
 ghost use Rattle.ti_entry.specs.Checks.{verdict, verdict_of, pad_checks};
-ghost use Rattle.ti_entry.specs.Refusal.{room_checks, extended_word_checks, extended_size_checks, extended_front_checks};
+ghost use Rattle.ti_entry.specs.Refusal.{room_checks, extended_size_checks};
 ghost use Rattle.ti_entry.specs.Finding.{kind_count, kind_names_from};
 ghost use Rattle.ti_entry.specs.Layout.{end_of, extended_from, extended_header_of, extended_flags_from, extended_pad_from, extended_numbers_from, extended_values_from, extended_names_from, extended_name_count, extended_table_from, extended_end_of};
 
-use crate::checks::{check_pad, check_signs};
+use crate::checks::check_pad;
 use crate::fault::{Fault, Refused, Stop};
 use crate::header::{Header, LIMIT};
 use crate::word::{count_at, numbers_size};
@@ -162,19 +162,6 @@ pub(crate) fn check_start(bytes: &[u8], header: &Header) -> Result<(), Stop>
     check_pad(bytes, header.end(), header.table)
 }
 
-/// Room, pad, and the words of the header but items.
-#[tactic(auto, using(crate::proofs::Sections::verdict_append))]
-fn check_extended_words(bytes: &[u8], header: &Header) -> Result<(), Stop>
-    requires { end_of header.now ≤ 32768 }
-    ensures verdict { verdict_of result ≡ verdict (length bytes.now) (extended_word_checks bytes.now header.now) }
-    ensures long { OnOk result (extended_from header.now + 10 ≤ length bytes.now) }
-{
-    check_start(bytes, header)?;
-    let from = header.extended_from();
-    check_signs(bytes, Fault::BadExtendedHeader, from, 3)?;
-    check_signs(bytes, Fault::BadExtendedHeader, from + 8, 1)
-}
-
 /// With its extended part the entry has at most 32768 bytes.
 pub(crate) fn check_extended_size(len: usize, extended: &ExtendedHeader) -> Result<(), Stop>
     requires { extended_end_of extended.now < 2 ^ 32 }
@@ -191,18 +178,4 @@ pub(crate) fn check_extended_size(len: usize, extended: &ExtendedHeader) -> Resu
         }));
     }
     Ok(())
-}
-
-/// The extended header, where the checks that fix the extended sections pass.
-#[tactic(auto, using(crate::proofs::Sections::verdict_append))]
-pub(crate) fn read_extended_header(bytes: &[u8], header: &Header) -> Result<ExtendedHeader, Stop>
-    requires { end_of header.now ≤ 32768 }
-    ensures verdict { verdict_of result ≡ verdict (length bytes.now) (extended_front_checks bytes.now header.now (extended_header_of header.now bytes.now)) }
-    ensures words { IfOk result (λ x. x ≡ extended_header_of header.now bytes.now) }
-    ensures fits { IfOk result (λ x. extended_end_of x ≤ 32768) }
-{
-    check_extended_words(bytes, header)?;
-    let extended = extended_words(bytes, header);
-    check_extended_size(bytes.len(), &extended)?;
-    Ok(extended)
 }

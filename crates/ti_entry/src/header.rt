@@ -2,14 +2,11 @@
 //!
 //! A place is a sum of the header's words, so it takes a few additions.
 
-ghost use Rattle.std.specs.Prelude.{◌≡◌, ◌<◌, ◌≤◌, ◌^◌, ◌++◌, length, IfOk, OnOk};
-ghost use Rattle.ti_entry.specs.Checks.{verdict, verdict_of, sign_checks};
-ghost use Rattle.ti_entry.specs.Refusal.{front_checks, section_checks, magic_checks, size_checks};
+ghost use Rattle.std.specs.Prelude.{◌≡◌, ◌<◌, ◌≤◌, ◌^◌, length, OnOk};
+ghost use Rattle.ti_entry.specs.Checks.{verdict, verdict_of};
+ghost use Rattle.ti_entry.specs.Refusal.{magic_checks, size_checks};
 ghost use Rattle.ti_entry.specs.Layout.{header_of, end_of, width_of as the_width_of, magic_number as the_magic_number, flags_from as the_flags_from, pad_from as the_pad_from, numbers_from as the_numbers_from, offsets_from as the_offsets_from, table_from as the_table_from, extended_from as the_extended_from};
 
-use crate::checks::{
-    check_endings, check_flags, check_names, check_numbers, check_offsets, check_pad, check_signs,
-};
 use crate::fault::{Fault, Refused, Stop};
 use crate::word::{count_at, numbers_size};
 use ti_words::Width;
@@ -144,15 +141,6 @@ pub(crate) fn check_magic(bytes: &[u8]) -> Result<(), Stop>
     Ok(())
 }
 
-/// Magic, counts and sizes.
-fn check_words(bytes: &[u8]) -> Result<(), Stop>
-    ensures verdict { verdict_of result ≡ verdict (length bytes.now) (magic_checks bytes.now ++ sign_checks bytes.now Fault.BadHeader 2 5) }
-    ensures long { OnOk result (12 ≤ length bytes.now) }
-{
-    check_magic(bytes)?;
-    check_signs(bytes, Fault::BadHeader, 2, 5)
-}
-
 /// The whole has at most 32768 bytes, and the names have one byte beside their NUL.
 pub(crate) fn check_sizes(len: usize, header: &Header) -> Result<(), Stop>
     requires { end_of header.now < 2 ^ 32 }
@@ -176,40 +164,4 @@ pub(crate) fn check_sizes(len: usize, header: &Header) -> Result<(), Stop>
         }));
     }
     Ok(())
-}
-
-/// The header, where the checks that fix the sections pass.
-#[tactic(auto, using(crate::proofs::Sections::verdict_append))]
-pub(crate) fn read_header(bytes: &[u8]) -> Result<Header, Stop>
-    ensures verdict { verdict_of result ≡ verdict (length bytes.now) (front_checks bytes.now (header_of bytes.now)) }
-    ensures words { IfOk result (λ h. h ≡ header_of bytes.now) }
-    ensures named { IfOk result (λ h. 2 ≤ h.names) }
-    ensures fits { IfOk result (λ h. end_of h ≤ 32768) }
-{
-    check_words(bytes)?;
-    let header = header_words(bytes);
-    check_sizes(bytes.len(), &header)?;
-    Ok(header)
-}
-
-/// The checks of names, flags, numbers, offsets and texts.
-#[tactic(auto, using(crate::proofs::Sections::verdict_append))]
-pub(crate) fn check_sections(bytes: &[u8], header: &Header) -> Result<(), Stop>
-    requires named { 2 ≤ header.now.names }
-    requires fits { end_of header.now ≤ 32768 }
-    ensures verdict { verdict_of result ≡ verdict (length bytes.now) (section_checks bytes.now header.now) }
-    ensures there { OnOk result (end_of header.now ≤ length bytes.now) }
-{
-    check_names(bytes, header.names)?;
-    check_flags(bytes, header.flags_from(), header.flags)?;
-    check_pad(bytes, header.pad_from(), header.names + header.flags)?;
-    check_numbers(bytes, header.width, header.numbers_from(), header.numbers)?;
-    check_offsets(bytes, header.table, header.offsets_from(), header.texts)?;
-    check_endings(
-        bytes,
-        header.table_from(),
-        header.table,
-        header.offsets_from(),
-        header.texts,
-    )
 }

@@ -2,7 +2,7 @@
 //!
 //! Each function is total: what it answers of bytes that were not checked is of no use.
 
-ghost use Rattle.std.specs.Prelude.{◌≡◌, ◌+◌, ◌<◌, ◌≤◌, ◌↔◌, length, IsTrue};
+ghost use Rattle.std.specs.Prelude.{◌≡◌, ◌+◌, ◌<◌, ◌≤◌, ◌↔◌, length, IfSome, IsTrue, pos};
 ghost use Rattle.ti_words.specs.Texts.{text_value};
 ghost use Rattle.ti_entry.specs.Word.{word_at as the_word_at};
 ghost use Rattle.ti_entry.specs.Layout.{number_size};
@@ -10,6 +10,7 @@ ghost use Rattle.ti_entry.specs.Table.{text_from as the_text_from, until_nul as 
 ghost use Rattle.ti_entry.specs.Content.{flag_at as the_flag_at, number_at as the_number_at, text_at as the_text_at};
 
 use crate::word::{number_word_at, word_at};
+use memchr::memchr;
 use ti_words::{Flag, Number, Text, Width, flag_of, number_of};
 
 /// The flag of the byte at a place.
@@ -34,6 +35,18 @@ pub(crate) fn text_at<'a>(table: &'a [u8], bytes: &[u8], place: usize) -> Text<'
     ensures { text_value result ≡ the_text_at table.now bytes.now place }
 {
     text_of(table, word_at(bytes, place))
+}
+
+/// The place in its table that the offset at a place is; none where it is a mark.
+pub(crate) fn place_at(bytes: &[u8], at: usize) -> Option<usize>
+    requires { at + 2 ≤ length bytes.now }
+    ensures { IfSome result (λ place. the_word_at 2 bytes.now at ≡ pos place) }
+{
+    let offset = word_at(bytes, at);
+    if offset < 0 {
+        return None;
+    }
+    Some(offset as usize)
 }
 
 /// What an offset says of a table.
@@ -61,12 +74,10 @@ pub(crate) fn text_from(table: &[u8], place: usize) -> &[u8]
 pub(crate) fn until_nul(bytes: &[u8]) -> &[u8]
     ensures { result.now ≡ the_until_nul bytes.now }
 {
-    for (i, byte) in bytes.iter().enumerate() {
-        if *byte == 0 {
-            return &bytes[..i];
-        }
+    match memchr(0, bytes) {
+        Some(end) => &bytes[..end],
+        None => bytes,
     }
-    bytes
 }
 
 /// The size of the text at an offset and its NUL, where it is there.

@@ -23,11 +23,13 @@ mod reader;
 mod size;
 mod source;
 mod stage;
+mod texts;
 mod unfit;
+mod whole;
 mod word;
 
 pub use draft::Draft;
-pub use encoding::{encode, encode_in};
+pub use encoding::encode;
 pub use entry::{Entry, read};
 pub use extended::Extended;
 pub use fault::{Fault, Refused};

@@ -1,22 +1,18 @@
-//! The extended part behind the string table, checked.
+//! The texts and names of the extended part, checked.
 //!
-//! Each section is gone over once. The base of the names is summed in one pass that stops at the size of the table, from
-//! which on no name can lie in it: so it is linear also where texts share their bytes.
+//! The base of the names is summed in one pass that stops at the size of the table, from which on no name can lie in it:
+//! so it is linear also where texts share their bytes.
 
 ghost use Rattle.std.specs.Prelude.{◌≡◌, ◌+◌, ◌*◌, ◌<◌, ◌≤◌, ◌^◌, length, min, IfOk, OnOk};
 ghost use Rattle.ti_entry.specs.Checks.{verdict, verdict_of, all_name_place_checks};
-ghost use Rattle.ti_entry.specs.Refusal.{extended_item_checks, extended_text_checks, extended_checks, behind_checks};
-ghost use Rattle.ti_entry.specs.Layout.{places, end_of, extended_header_of, extended_names_from, extended_name_count, extended_end_of};
+ghost use Rattle.ti_entry.specs.Refusal.{extended_text_checks};
+ghost use Rattle.ti_entry.specs.Layout.{places, extended_names_from, extended_name_count, extended_end_of};
 ghost use Rattle.ti_entry.specs.Table.{sizes_at, extended_table_of, base_of as the_base_of};
-ghost use Rattle.ti_entry.specs.Held.{held_header, no_capability, IsPart};
+ghost use Rattle.ti_entry.specs.Held.{no_capability};
 
-use crate::checks::{
-    NameTable, check_end, check_endings, check_flags, check_name_places, check_numbers,
-    check_offsets, check_pad, check_signs, reach_of,
-};
-use crate::extended_header::{ExtendedHeader, read_extended_header};
-use crate::fault::{Fault, Stop};
-use crate::header::Header;
+use crate::checks::{NameTable, check_endings, check_name_places, reach_of};
+use crate::extended_header::ExtendedHeader;
+use crate::fault::Stop;
 use crate::item::size_at;
 use ti_words::Width;
 
@@ -60,34 +56,6 @@ fn base_of(bytes: &[u8], table: &[u8], from: usize, count: usize) -> usize
     base.min(table.len())
 }
 
-/// Flags, pad, numbers, and the offsets of texts and names.
-#[tactic(auto, using(crate::proofs::Sections::verdict_append))]
-fn check_items(bytes: &[u8], extended: &ExtendedHeader) -> Result<(), Stop>
-    requires { extended_end_of extended.now ≤ 32768 }
-    ensures { verdict_of result ≡ verdict (length bytes.now) (extended_item_checks bytes.now extended.now) }
-{
-    check_flags(bytes, extended.flags_from(), extended.flags)?;
-    check_pad(bytes, extended.pad_from(), extended.flags)?;
-    check_numbers(
-        bytes,
-        extended.width,
-        extended.numbers_from(),
-        extended.numbers,
-    )?;
-    check_offsets(
-        bytes,
-        extended.table,
-        extended.values_from(),
-        extended.texts,
-    )?;
-    check_signs(
-        bytes,
-        Fault::BadExtendedName,
-        extended.names_from(),
-        extended.name_count(),
-    )
-}
-
 /// Each name begins in the extended table, counted from the base, and has its NUL there.
 fn check_names_from(bytes: &[u8], extended: &ExtendedHeader, base: usize) -> Result<(), Stop>
     requires fits { extended_end_of extended.now ≤ 32768 }
@@ -129,37 +97,4 @@ pub(crate) fn check_texts(bytes: &[u8], extended: &ExtendedHeader) -> Result<usi
     let base = base_of(bytes, table, values_from, extended.texts);
     check_names_from(bytes, extended, base)?;
     Ok(base)
-}
-
-/// The extended part of bytes that go on behind the string table.
-#[tactic(auto, using(crate::proofs::Sections::verdict_append))]
-fn read_behind(bytes: &[u8], header: &Header) -> Result<Part, Stop>
-    requires { end_of header.now ≤ 32768 }
-    ensures verdict { verdict_of result ≡ verdict (length bytes.now) (extended_checks bytes.now header.now (extended_header_of header.now bytes.now)) }
-    ensures header { IfOk result (λ part. part.header ≡ extended_header_of header.now bytes.now) }
-    ensures part { IfOk result (λ part. IsPart bytes.now part) }
-{
-    let extended = read_extended_header(bytes, header)?;
-    check_items(bytes, &extended)?;
-    let base = check_texts(bytes, &extended)?;
-    check_end(bytes, extended.end())?;
-    Ok(Part {
-        header: extended,
-        base,
-    })
-}
-
-/// The extended part, if there is one.
-pub(crate) fn read_part(bytes: &[u8], header: &Header) -> Result<Part, Stop>
-    requires fits { end_of header.now ≤ 32768 }
-    requires there { end_of header.now ≤ length bytes.now }
-    ensures verdict { verdict_of result ≡ verdict (length bytes.now) (behind_checks bytes.now header.now) }
-    ensures header { IfOk result (λ part. part.header ≡ held_header bytes.now header.now) }
-    ensures part { IfOk result (λ part. IsPart bytes.now part) }
-{
-    if bytes.len() <= header.end() {
-        Ok(no_part(header.width))
-    } else {
-        read_behind(bytes, header)
-    }
 }

@@ -2,7 +2,8 @@
 //!
 //! It keeps at most 32768 bytes in a buffer of its own and takes no other memory. A piece is refused at the byte with
 //! which a check fails, and that refusal lasts. A piece is copied whole and its checks are made in one go; only where one
-//! fails is the byte looked for at which it does. Over all pieces the time is linear in their bytes.
+//! fails is the byte looked for at which it does. A piece that brings too few bytes for the next check is only copied.
+//! Over all pieces the time is linear in their bytes.
 
 ghost use Rattle.std.specs.Prelude.{◌≡◌, ℕ, List, ◌∷◌, ◌+◌, ◌≤◌, ◌++◌, [], length, true, false, IfOk, IfErr, IsOkAnd, Some, None, Err};
 ghost use Rattle.arrayvec.specs.ArrayVec.{array_vec_len};
@@ -11,7 +12,7 @@ ghost use Rattle.ti_entry.specs.Value.{EntryValue};
 ghost use Rattle.ti_entry.specs.Spelling.{Spells};
 ghost use Rattle.ti_entry.specs.Refusal.{refusal, failure, fault_behind as the_fault_behind};
 
-use crate::entry::{Entry, entry_with};
+use crate::entry::{Entry, entry_at};
 use crate::fault::{Fault, Refused};
 use crate::header::{LIMIT, header_words};
 use crate::stage::Stage;
@@ -67,7 +68,7 @@ impl EntryReader {
         if let Some(refused) = self.refusal() {
             return Err(refused);
         }
-        if self.take_whole(piece) {
+        if piece.len() > 1 && self.take_whole(piece) {
             return Ok(());
         }
         self.take_each(piece)
@@ -85,6 +86,9 @@ impl EntryReader {
         let Ok(()) = self.kept.try_extend_from_slice(piece) else {
             return false;
         };
+        if self.kept.as_slice().len() < self.stage.need() {
+            return true;
+        }
         let mut stage = self.stage;
         let Ok(()) = stage.advance(self.kept.as_slice()) else {
             self.kept.truncate(count);
@@ -122,6 +126,9 @@ impl EntryReader {
             return Err(refused);
         }
         self.kept.push(byte);
+        if self.kept.as_slice().len() < self.stage.need() {
+            return Ok(());
+        }
         if let Err(refused) = self.stage.advance(self.kept.as_slice()) {
             self.kept.pop();
             self.refusal = Some(refused);
@@ -156,14 +163,7 @@ impl EntryReader {
         if let Some(refused) = self.refusal {
             return Err(refused);
         }
-        let bytes = self.kept.as_slice();
-        if !self.stage.is_whole() {
-            return Err(Refused {
-                fault: Fault::Truncated,
-                place: bytes.len(),
-            });
-        }
-        Ok(entry_with(bytes, self.stage.header, self.stage.part))
+        entry_at(self.kept.as_slice(), &self.stage)
     }
 
     /// The refusal that lasts.

@@ -1,19 +1,19 @@
-//! How far the checks of an entry are made that comes in pieces, and which one is next.
+//! The one checker of entries: how far the checks of bytes are made, and which one is next.
 //!
 //! A stage says in which section the next check is and which of its items are left, and keeps the headers that the checks
-//! met. A step makes one check, or the few that stand between two sections. Over an entry there are as many steps as it
-//! has items and sections.
+//! met. It goes on over all the bytes that have come: a step checks the items of a section that lie within them, in one
+//! loop, or makes the few checks between two sections. Bytes that come whole take two steps a section.
 
-ghost use Rattle.std.specs.Prelude.{◌≡◌, ◌≢◌, ◌+◌, ◌*◌, ◌<◌, ◌≤◌, ◌^◌, ◌++◌, ◌∷◌, [], length, IfOk, IfErr, OnOk, Err, Some};
+ghost use Rattle.std.specs.Prelude.{◌≡◌, ◌≢◌, ℕ, List, ◌+◌, ◌*◌, ◌<◌, ◌≤◌, ◌^◌, ◌++◌, ◌∷◌, [], length, IfOk, IfErr, OnOk, Err, Some};
 ghost use Rattle.ti_entry.specs.Layout.{header_of, end_of, extended_header_of, extended_end_of};
 ghost use Rattle.ti_entry.specs.Checks.{verdict, verdict_of};
 ghost use Rattle.ti_entry.specs.Refusal.{size_checks, checks, failure};
-ghost use Rattle.ti_entry.specs.Stages.{item_check, item_size, items_behind, items_of, next, between, Stands, Waits, new_stage, left_behind, entered, awaited, steps_left, counts_checks, no_more_check, is_whole};
+ghost use Rattle.ti_entry.specs.Stages.{item_size, items_checks, first_items, items_after, items_of, next, between, StandsAt, Stands, Waits, new_stage, left_behind, entered, awaited, steps_left, counts_checks, no_more_check, is_whole};
 ghost use Rattle.ti_entry.specs.declared.fault.Stop.TheVariants.{Early};
 
 use crate::checks::{
-    check_endings, check_flag, check_name, check_nul, check_number, check_offset, check_pad,
-    check_sign,
+    check_endings, check_flags, check_no_nuls, check_nul, check_numbers, check_offsets, check_pad,
+    check_sign, check_signs,
 };
 use crate::extended_header::{ExtendedHeader, check_extended_size, check_start, extended_words};
 use crate::fault::{Fault, Refused, Stop};
@@ -74,7 +74,8 @@ pub(crate) struct Stage {
 impl Item {
     /// How many bytes one has.
     fn size(self) -> usize
-        ensures { result ≡ item_size self }
+        ensures value { result ≡ item_size self }
+        ensures small { result ≤ 4 }
     {
         match self {
             Item::Name | Item::Flag => 1,
@@ -82,33 +83,48 @@ impl Item {
             Item::Number(width) => number_size(width),
         }
     }
-
-    /// The check of one at a place.
-    fn check(self, bytes: &[u8], place: usize) -> Result<(), Stop>
-        requires { place < 2 ^ 33 }
-        ensures { verdict_of result ≡ verdict (length bytes.now) (item_check bytes.now self place ∷ []) }
-    {
-        match self {
-            Item::Sign(fault) => check_sign(bytes, fault, place),
-            Item::Name => check_name(bytes, place),
-            Item::Flag => check_flag(bytes, place),
-            Item::Number(width) => check_number(bytes, width, place),
-            Item::Offset(table_size) => check_offset(bytes, table_size, place),
-        }
-    }
 }
 
 impl Items {
-    /// The items behind the first.
-    fn behind(self) -> Items
+    /// How many of them lie within so many bytes, or one where none does.
+    fn come(self, len: usize) -> usize
         requires some { 0 < self.left }
         requires within { self.at + item_size self.item * self.left ≤ 32768 }
-        ensures { result ≡ items_behind self }
+        ensures some { 0 < result }
+        ensures most { result ≤ self.left }
+    {
+        let room = len.saturating_sub(self.at);
+        if self.item.size() * self.left <= room {
+            return self.left;
+        }
+        (room / self.item.size()).min(self.left).max(1)
+    }
+
+    /// The checks of so many of them, in one loop.
+    fn check(self, bytes: &[u8], count: usize) -> Result<(), Stop>
+        requires most { count ≤ self.left }
+        requires within { self.at + item_size self.item * self.left ≤ 32768 }
+        ensures { verdict_of result ≡ verdict (length bytes.now) (items_checks bytes.now (first_items count self)) }
+    {
+        match self.item {
+            Item::Sign(fault) => check_signs(bytes, fault, self.at, count),
+            Item::Name => check_no_nuls(bytes, self.at, count),
+            Item::Flag => check_flags(bytes, self.at, count),
+            Item::Number(width) => check_numbers(bytes, width, self.at, count),
+            Item::Offset(table_size) => check_offsets(bytes, table_size, self.at, count),
+        }
+    }
+
+    /// Those after so many.
+    fn after(self, count: usize) -> Items
+        requires most { count ≤ self.left }
+        requires within { self.at + item_size self.item * self.left ≤ 32768 }
+        ensures { result ≡ items_after count self }
     {
         Items {
             item: self.item,
-            at: self.at + self.item.size(),
-            left: self.left - 1,
+            at: self.at + self.item.size() * count,
+            left: self.left - count,
         }
     }
 }
@@ -317,14 +333,37 @@ impl Stage {
         ensures same { IfErr result (λ stop. self.new ≡ self.old) }
     {
         if self.items.left > 0 {
-            self.items.item.check(bytes, self.items.at)?;
-            self.items = self.items.behind();
+            if bytes.len() < self.items.at + self.items.item.size() {
+                return Err(Stop::Early);
+            }
+            let count = self.items.come(bytes.len());
+            self.items.check(bytes, count)?;
+            self.items = self.items.after(count);
             return Ok(());
         }
         self.leave(bytes)?;
         self.section = self.section.next();
         self.items = self.section.items(&self.header, &self.part.header);
         Ok(())
+    }
+
+    /// With fewer bytes no check more is made.
+    pub(crate) fn need(&self) -> usize
+        requires within { self.now.items.at + item_size self.now.items.item * self.now.items.left ≤ 32768 }
+        requires fits { end_of self.now.header ≤ 32768 }
+        requires extended_fits { extended_end_of self.now.part.header ≤ 32768 }
+        ensures { (bytes : List ℕ) → StandsAt bytes self.now → length bytes < result → Waits bytes self.now }
+    {
+        if self.items.left > 0 {
+            return self.items.at + self.items.item.size();
+        }
+        match self.section {
+            Section::Offsets => self.header.end(),
+            Section::Behind => self.header.end() + 1,
+            Section::ExtendedNames => self.part.header.end(),
+            Section::End => self.part.header.end() + 1,
+            _ => 0,
+        }
     }
 
     /// Makes each check whose prefix is there.

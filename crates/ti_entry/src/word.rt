@@ -1,7 +1,7 @@
 //! Words of 16 bits, the lower byte first, at places of an input, and numbers, which are words of 16 or of 32 bits.
 
 ghost use Rattle.std.specs.Prelude.{◌≡◌, ◌+◌, ◌*◌, ◌<◌, ◌≤◌, ◌^◌, length};
-ghost use Rattle.ti_entry.specs.Word.{unsigned_at, word_at as the_word_at};
+ghost use Rattle.ti_entry.specs.Word.{unsigned_at as the_unsigned_at, word_at as the_word_at};
 ghost use Rattle.ti_entry.specs.Layout.{number_size as the_number_size};
 
 use byteorder::{ByteOrder, LittleEndian};
@@ -15,13 +15,29 @@ pub(crate) fn word_at(bytes: &[u8], at: usize) -> i16
     LittleEndian::read_i16(&bytes[at..])
 }
 
+/// The word at a place, read without a sign.
+pub(crate) fn unsigned_at(bytes: &[u8], at: usize) -> u16
+    requires { at + 2 ≤ length bytes.now }
+    ensures { result ≡ the_unsigned_at 2 bytes.now at }
+{
+    LittleEndian::read_u16(&bytes[at..])
+}
+
+/// The word of 32 bits at a place, read without a sign.
+pub(crate) fn wide_unsigned_at(bytes: &[u8], at: usize) -> u32
+    requires { at + 4 ≤ length bytes.now }
+    ensures { result ≡ the_unsigned_at 4 bytes.now at }
+{
+    LittleEndian::read_u32(&bytes[at..])
+}
+
 /// The count or size at a place, read without a sign.
 pub(crate) fn count_at(bytes: &[u8], at: usize) -> usize
     requires { at + 2 ≤ length bytes.now }
-    ensures value { result ≡ unsigned_at 2 bytes.now at }
+    ensures value { result ≡ the_unsigned_at 2 bytes.now at }
     ensures fits { result < 2 ^ 16 }
 {
-    usize::from(LittleEndian::read_u16(&bytes[at..]))
+    usize::from(unsigned_at(bytes, at))
 }
 
 /// The bytes of a number.

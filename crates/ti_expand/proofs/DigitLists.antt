@@ -21,7 +21,7 @@ quotient_bits base i n large h =
     let more : 2 ^ i * 2 ≤ 2 ^ i * base = mul-le-mul_left (2 ^ i) large in
     (div-lt_iff_lt-mul {k = base} {x = n} {y = 2 ^ i} (omega arith)).1 (omega arith)
 
--- digits that do not begin with a `0`
+-- digits that do not start with a `0`
 abbrev pub IsNoZero : List ℕ → Type 0
 IsNoZero [] = Unit {0}
 IsNoZero (d ∷ ds) = d ≢ 48

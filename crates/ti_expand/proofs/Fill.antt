@@ -2,7 +2,7 @@
 use Rattle.std.proofs.Common.{◌≡◌, ℕ, ◌+◌, ◌-◌, true, false, List, ◌++◌, length, replicate, refl, ap, sym, ◌∙◌, arith, append_assoc, length-append}
 use Rattle.std.proofs.lemmas.List.{replicate-append-replicate, length-replicate}
 use Rattle.std.specs.Prelude.{is_none}
-use Rattle.ti_cap.specs.declared.token.Format.{Format}
+use Rattle.ti_cap.specs.declared.language.Format.{Format}
 use Rattle.ti_expand.specs.Printed.{fill, joined, with_zeros}
 
 -- zeros before zeros

@@ -1,4 +1,5 @@
 pub mod Bound
+pub mod Decimals
 pub mod DigitLists
 pub mod DigitLoops
 pub mod Faults

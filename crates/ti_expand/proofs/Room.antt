@@ -4,9 +4,9 @@ use Rattle.std.specs.Prelude.{unsigned_abs, Option, Some, None, negsuc, FitsSign
 use Rattle.std.specs.Int.{w32, cast_unsigned}
 use Rattle.std.proofs.lemmas.Int.{ints}
 use Rattle.std.proofs.lemmas.List.{length-append, length-replicate, length-take}
-use Rattle.ti_cap.specs.declared.token.Format.{Format}
-use Rattle.ti_cap.specs.declared.token.Conversion.{Conversion}
-use Rattle.ti_cap.specs.declared.token.Conversion.TheVariants.{Signed, Octal, LowerHex, UpperHex, Text}
+use Rattle.ti_cap.specs.declared.language.Format.{Format}
+use Rattle.ti_cap.specs.declared.language.Conversion.{Conversion}
+use Rattle.ti_cap.specs.declared.language.Conversion.TheVariants.{Signed, Octal, LowerHex, UpperHex, Text}
 use Rattle.ti_cap.specs.Sizes.{or_else, text_size, format_size}
 use Rattle.ti_expand.specs.Printed.{significant, least_count, magnitude, sign, octal_prefix, front_for, fill, joined, fills_with_zeros, cut, printed, printed_text}
 use Rattle.ti_expand.proofs.DigitLists.{length-significant-le}

@@ -8,3 +8,5 @@ pub mod Sound
 pub mod Machine
 pub mod Expands
 pub mod Running
+pub mod Underway
+pub mod Decimal

@@ -6,7 +6,7 @@ ghost use Rattle.std.specs.Fmt.{digit_glyph};
 ghost use Rattle.ti_expand.specs.Printed.{significant, digits_of, magnitude};
 
 use std::marker::Model;
-use ti_cap::token::Conversion;
+use ti_cap::Conversion;
 
 /// The digit as ASCII.
 #[inline]
@@ -145,7 +145,7 @@ impl Digits {
         self.count
     }
 
-    /// Puts them at a place, and returns the place behind them.
+    /// Puts them at a place, and returns the place after them.
     pub fn put(&self, out: &mut [u8], at: usize) -> usize
         requires { at + length self.now ≤ length out.old }
         ensures end { result ≡ at + length self.now }

@@ -9,7 +9,8 @@ use thiserror::Error;
 /// Why a capability is not expanded.
 #[derive(Clone, Copy, PartialEq, Eq, Debug, Error)]
 pub enum ExpandFault {
-    /// The text of this parameter, counted from 1, has more than 32767 bytes; it is the lowest such parameter.
+    /// The text of this parameter, counted from 1, has more bytes than [`ti_base::MOST_TEXT_BYTES`]; it is the lowest
+    /// such parameter.
     #[error("TextTooLong")]
     TextTooLong { parameter: u8 },
     /// The stack slice has fewer places than the depth of the capability, which is `need`.

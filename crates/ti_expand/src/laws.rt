@@ -3,7 +3,7 @@
 ghost use Rattle.ti_expand.specs.Flat.{OnePassFollows, TakenIsPath};
 
 /// One flat pass whose control is a `Mode` alone ends in the state that the tree means, and what ran is the path that
-/// the tests choose; for every nesting up to 32, and for conditionals that the end closes.
+/// the tests choose; for every nesting that a capability may have, and for conditionals that the end closes.
 pub fn one_pass()
     ensures { OnePassFollows }
 {}

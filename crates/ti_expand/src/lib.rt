@@ -7,20 +7,30 @@
 //! variables and the counts are those of the tree that writes the capability.
 #![tactic(auto)]
 
+mod counts;
 mod digits;
 mod eval;
-pub mod expand;
-pub mod fault;
+mod expansion;
+mod fault;
 pub mod laws;
-pub mod mode;
+mod modes;
 mod operation;
+mod parameters;
 mod pass;
-pub mod print;
-pub mod run;
+mod print;
 mod stack;
+mod texts;
+mod values;
+mod variables;
+mod write;
+
+pub use counts::Run;
+pub use expansion::{expand, expand_into};
+pub use fault::ExpandFault;
+pub use modes::Mode;
+pub use print::{format_number, format_text};
+pub use values::Value;
+pub use variables::Vars;
+
 #[cfg(test)]
 mod tests;
-mod texts;
-pub mod value;
-pub mod vars;
-mod write;

@@ -3,7 +3,7 @@
 ghost use Rattle.std.specs.Prelude.{◌≡◌, ◌+ℤ◌, pos};
 ghost use Rattle.ti_expand.specs.Effect.{combine, complement, is_zero, flag_number, wrapped, char_byte};
 
-use ti_cap::token::Op;
+use ti_cap::Op;
 
 /// What an operation makes of the two numbers that were popped.
 pub fn apply(op: Op, left: i32, right: i32) -> i32

@@ -1,67 +1,91 @@
-//! The pass over a tape: one loop, whose control is a `Mode` alone. It takes no memory, and makes no test of the room
-//! on the stack or in the output.
+//! The pass over a tape: one loop runs tokens, and one passes tokens over. Their control is a `Mode` alone. They take no
+//! memory, and make no test of the room on the stack or in the output.
 
-ghost use Rattle.std.specs.Prelude.{◌≡◌, ◌+◌, ◌<◌, ◌≤◌, length, take, drop};
+ghost use Rattle.std.specs.Prelude.{◌≡◌, ◌+◌, ◌<◌, ◌≤◌, length, max, take, drop};
+ghost use Rattle.ti_base.specs.Limits.{most_text_bytes};
 ghost use Rattle.ti_cap.specs.Tree.{tokens};
 ghost use Rattle.ti_cap.specs.Height.{height};
 ghost use Rattle.ti_cap.specs.Pass.{next_mode};
 ghost use Rattle.ti_expand.specs.State.{start};
 ghost use Rattle.ti_expand.specs.Machine.{machine};
 ghost use Rattle.ti_expand.specs.Sound.{IsSound};
-ghost use Rattle.ti_expand.specs.Mode.{seen, count};
+ghost use Rattle.ti_expand.specs.Mode.{seen};
 ghost use Rattle.ti_expand.specs.Meaning.{meaning, taken, tests_zero};
 ghost use Rattle.ti_expand.specs.Flat.{moved};
 ghost use Rattle.ti_expand.specs.Expands.{ForTree};
 ghost use Rattle.ti_expand.specs.Running.{CanRun};
+ghost use Rattle.ti_expand.specs.Underway.{IsOnTheWay, GoesOn};
 
+use crate::counts::Run;
 use crate::eval::act;
-use crate::mode::Mode;
-use crate::run::Run;
+use crate::modes::Mode;
+use crate::parameters::Parameters;
 use crate::stack::Stack;
-use crate::value::Value;
-use crate::vars::Vars;
-use ti_cap::capability::Tape;
-use ti_cap::token::Token;
+use crate::values::Value;
+use crate::variables::Vars;
+use ti_cap::{Tape, Token};
 
-/// Meets a token: returns the mode and where the output ends behind it.
+/// Meets a token in `Run`: returns the mode and where the output ends after it.
+#[inline(always)]
 fn meet<'a>(
-    mode: Mode,
     token: &Token,
-    parameters: &mut [Value<'a>; 9],
+    parameters: &mut Parameters<'_, 'a>,
     vars: &mut Vars,
     stack: &mut Stack<'_, 'a>,
     out: &mut [u8],
     written: usize,
 ) -> (Mode, usize)
-    requires count { count mode < 255 }
-    requires sound { IsSound 32767 (machine stack.old.slots.now stack.old.height vars.old parameters.old out.old written) }
-    requires height { length (moved (seen mode) token.now (machine stack.old.slots.now stack.old.height vars.old parameters.old out.old written)).stack ≤ length stack.old.slots.now }
+    requires sound { IsSound most_text_bytes (machine stack.old.slots.now stack.old.height vars.old parameters.old out.old written) }
+    requires height { length (moved (seen Mode.Run) token.now (machine stack.old.slots.now stack.old.height vars.old parameters.old out.old written)).stack ≤ length stack.old.slots.now }
     requires within { written ≤ length out.old }
-    requires room { length (moved (seen mode) token.now (machine stack.old.slots.now stack.old.height vars.old parameters.old out.old written)).output ≤ length out.old }
-    ensures mode { seen result.0 ≡ next_mode (seen mode) token.now (tests_zero (machine stack.old.slots.now stack.old.height vars.old parameters.old out.old written)) }
+    requires room { length (moved (seen Mode.Run) token.now (machine stack.old.slots.now stack.old.height vars.old parameters.old out.old written)).output ≤ length out.old }
+    ensures mode { seen result.0 ≡ next_mode (seen Mode.Run) token.now (tests_zero (machine stack.old.slots.now stack.old.height vars.old parameters.old out.old written)) }
     ensures state { machine stack.new.slots.now stack.new.height vars.new parameters.new out.new result.1
-        ≡ moved (seen mode) token.now (machine stack.old.slots.now stack.old.height vars.old parameters.old out.old written) }
+        ≡ moved (seen Mode.Run) token.now (machine stack.old.slots.now stack.old.height vars.old parameters.old out.old written) }
     ensures slots { length stack.new.slots.now ≡ length stack.old.slots.now }
+    ensures highest { stack.new.highest ≡ max stack.old.highest stack.new.height }
     ensures within { result.1 ≤ length out.new }
     ensures onward { written ≤ result.1 }
     ensures rest { drop result.1 out.new ≡ drop result.1 out.old }
 {
-    match mode {
-        Mode::Run => match token {
-            Token::CondThen => {
-                let popped_zero = stack.pop_number() == 0;
-                (mode.next(token, popped_zero), written)
-            }
-            Token::CondOpen => (mode.next(token, false), written),
-            Token::CondElse => (mode.next(token, false), written),
-            Token::CondClose => (mode.next(token, false), written),
-            _ => (Mode::Run, act(token, parameters, vars, stack, out, written)),
-        },
-        Mode::ToElse(_) | Mode::ToEnd(_) => (mode.next(token, false), written),
+    match token {
+        Token::CondThen => {
+            let zero = stack.pop_number() == 0;
+            (Mode::Run.next(token, zero), written)
+        }
+        Token::CondOpen => (Mode::Run.next(token, false), written),
+        Token::CondElse => (Mode::Run.next(token, false), written),
+        Token::CondClose => (Mode::Run.next(token, false), written),
+        _ => {
+            let end = act(token, parameters, vars, stack, out, written);
+            (Mode::Run.next(token, false), end)
+        }
     }
 }
 
-/// Runs a tape from its begin, where there is room for what it does.
+/// Passes tokens over from a mode on, up to the one that ends that, which ran.
+#[inline(always)]
+fn pass_over(tape: &mut Tape<'_>, from: Mode, run: &mut Run)
+    requires { IsOnTheWay tape.old.left (seen from) run.old.ran run.old.passed }
+    ensures onward { GoesOn tape.old.left (seen from) run.old.ran run.old.passed tape.new.left (seen Mode.Run) run.new.ran run.new.passed }
+    ensures written { run.new.written ≡ run.old.written }
+    ensures forward { length tape.new.left ≤ length tape.old.left }
+{
+    let mut mode = from;
+    while !mode.is_run() {
+        let Some(token) = tape.token() else {
+            return;
+        };
+        mode = mode.next(&token, false);
+        if mode.is_run() {
+            run.ran += 1;
+        } else {
+            run.passed += 1;
+        }
+    }
+}
+
+/// Runs a tape from its start, where there is room for what it does.
 pub(crate) fn run_tape<'a>(
     mut tape: Tape<'_>,
     parameters: &[Value<'a>; 9],
@@ -78,23 +102,17 @@ pub(crate) fn run_tape<'a>(
     ensures all { ForTree tape.entry.left (λ tree. result.ran + result.passed ≡ length (tokens tree)) }
     ensures peak { ForTree tape.entry.left (λ tree. result.peak ≡ height (taken tree (start vars.old parameters.now))) }
 {
-    let mut mode = Mode::Run;
-    let mut parameters = *parameters;
+    let mut parameters = Parameters::new(parameters);
     let mut stack = Stack::new(stack);
     let mut run = Run::start();
     while let Some(token) = tape.token() {
-        let (after, end) = meet(
-            mode,
-            &token,
-            &mut parameters,
-            vars,
-            &mut stack,
-            out,
-            run.written,
-        );
-        run.count(mode.ran(after), stack.height());
+        let (after, end) = meet(&token, &mut parameters, vars, &mut stack, out, run.written);
         run.written = end;
-        mode = after;
+        run.ran += 1;
+        pass_over(&mut tape, after, &mut run);
     }
-    run
+    Run {
+        peak: stack.highest(),
+        ..run
+    }
 }

@@ -1,13 +1,17 @@
 //! What `%d`, `%o`, `%x`, `%X` and `%s` print, written straight into the caller's slice: the bytes are those of
 //! `printed` and `printed_text`, and no value needs more of them than the format's size.
 
-ghost use Rattle.std.specs.Prelude.{◌≡◌, ◌≢◌, ◌+◌, ◌≤◌, ◌++◌, length, take, drop, replicate};
+ghost use Rattle.std.specs.Prelude.{◌≡◌, ◌≢◌, ◌+◌, ◌<◌, ◌≤◌, ◌++◌, length, take, drop, replicate, codes};
+ghost use Rattle.std.specs.Bool.{OnTrue};
+ghost use Rattle.ti_base.specs.Letters.{letter};
+ghost use Rattle.ti_base.specs.Limits.{most_text_bytes};
 ghost use Rattle.ti_cap.specs.Sizes.{format_size};
+ghost use Rattle.ti_expand.specs.Decimal.{IsPlainDecimal, decimal_digits};
 ghost use Rattle.ti_expand.specs.Printed.{magnitude, least_count, front_for, joined, fill, printed, printed_text};
 
 use crate::digits::Digits;
 use crate::write::{put, put_repeated};
-use ti_cap::token::{Conversion, Format};
+use ti_cap::{Conversion, Format};
 
 /// The least count of digits.
 fn least_digits(precision: Option<u8>) -> usize
@@ -19,10 +23,10 @@ fn least_digits(precision: Option<u8>) -> usize
     }
 }
 
-/// The sign, or the prefix that `#` asks for. The digits of a number but 0 begin with no `0`, so that the octal prefix
+/// The sign, or the prefix that `#` asks for. The digits of a number but 0 start with no `0`, so that the octal prefix
 /// is wanted exactly where no zeros stand before them.
 fn front_bytes(format: &Format, number: i32, zeros: usize) -> &'static [u8]
-    ensures { result.now ≡ front_for format.now.conversion format.now number (replicate zeros 48 ++ magnitude format.now.conversion number) }
+    ensures { result.now ≡ front_for format.now.conversion format.now number (replicate zeros (letter (codes "0")) ++ magnitude format.now.conversion number) }
 {
     match format.conversion {
         Conversion::Signed if number < 0 => b"-",
@@ -40,12 +44,12 @@ fn front_bytes(format: &Format, number: i32, zeros: usize) -> &'static [u8]
 fn put_body(digits: &Digits, out: &mut [u8], at: usize, front: &[u8], zeros: usize) -> usize
     requires { at + (length front.now + (zeros + length digits.now)) ≤ length out.old }
     ensures end { result ≡ at + (length front.now + (zeros + length digits.now)) }
-    ensures written { take result out.new ≡ take at out.old ++ (front.now ++ (replicate zeros 48 ++ digits.now)) }
+    ensures written { take result out.new ≡ take at out.old ++ (front.now ++ (replicate zeros (letter (codes "0")) ++ digits.now)) }
     ensures rest { drop result out.new ≡ drop result out.old }
 {
-    let behind_front = put(out, at, front);
-    let behind_zeros = put_repeated(out, behind_front, b'0', zeros);
-    digits.put(out, behind_zeros)
+    let after_front = put(out, at, front);
+    let after_zeros = put_repeated(out, after_front, b'0', zeros);
+    digits.put(out, after_zeros)
 }
 
 /// Puts the front, zeros and the digits, filled to the width.
@@ -58,9 +62,9 @@ fn put_filled(
     front: &[u8],
     zeros: usize,
 ) -> usize
-    requires { at + length (fill format.now (joined format.now front.now (replicate zeros 48 ++ digits.now))) ≤ length out.old }
-    ensures end { result ≡ at + length (fill format.now (joined format.now front.now (replicate zeros 48 ++ digits.now))) }
-    ensures written { take result out.new ≡ take at out.old ++ fill format.now (joined format.now front.now (replicate zeros 48 ++ digits.now)) }
+    requires { at + length (fill format.now (joined format.now front.now (replicate zeros (letter (codes "0")) ++ digits.now))) ≤ length out.old }
+    ensures end { result ≡ at + length (fill format.now (joined format.now front.now (replicate zeros (letter (codes "0")) ++ digits.now))) }
+    ensures written { take result out.new ≡ take at out.old ++ fill format.now (joined format.now front.now (replicate zeros (letter (codes "0")) ++ digits.now)) }
     ensures rest { drop result out.new ≡ drop result out.old }
 {
     let body = front.len() + (zeros + digits.len());
@@ -76,8 +80,61 @@ fn put_filled(
     put_body(digits, out, start, front, zeros)
 }
 
-/// Prints a number from a place on, and returns the place behind it.
-pub(crate) fn print_number(format: &Format, number: i32, out: &mut [u8], at: usize) -> usize
+/// Whether a format prints a number with its digits alone.
+#[inline(always)]
+fn is_plain_decimal(format: &Format) -> bool
+    ensures { OnTrue result (IsPlainDecimal format.now) }
+{
+    matches!(format.conversion, Conversion::Signed)
+        && !format.plus
+        && !format.space
+        && format.width == 0
+        && format.precision.is_none()
+}
+
+/// Puts an amount below 1000 in decimal, and returns the place after it.
+#[inline(always)]
+fn put_decimal(amount: u32, out: &mut [u8], at: usize) -> usize
+    requires small { amount < 1000 }
+    requires room { at + length (decimal_digits amount) ≤ length out.old }
+    ensures end { result ≡ at + length (decimal_digits amount) }
+    ensures written { take result out.new ≡ take at out.old ++ decimal_digits amount }
+    ensures rest { drop result out.new ≡ drop result out.old }
+{
+    if amount < 10 {
+        return put(out, at, &[b'0' + amount as u8]);
+    }
+    let tens = amount / 10;
+    let ones = b'0' + (amount % 10) as u8;
+    if amount < 100 {
+        return put(out, at, &[b'0' + tens as u8, ones]);
+    }
+    put(
+        out,
+        at,
+        &[b'0' + (tens / 10) as u8, b'0' + (tens % 10) as u8, ones],
+    )
+}
+
+/// Prints a number from a place on, and returns the place after it. Most are small, and most formats are `%d`.
+#[inline(never)]
+pub(crate) fn print_number(format: Format, number: i32, out: &mut [u8], at: usize) -> usize
+    requires numeric { format.conversion ≢ Conversion.Text }
+    requires room { at + length (printed format number) ≤ length out.old }
+    ensures end { result ≡ at + length (printed format number) }
+    ensures written { take result out.new ≡ take at out.old ++ printed format number }
+    ensures rest { drop result out.new ≡ drop result out.old }
+{
+    let amount = number.cast_unsigned();
+    if amount < 1000 && is_plain_decimal(&format) {
+        return put_decimal(amount, out, at);
+    }
+    print_by_parts(&format, number, out, at)
+}
+
+/// Prints a number part by part from a place on, and returns the place after it.
+#[inline(never)]
+fn print_by_parts(format: &Format, number: i32, out: &mut [u8], at: usize) -> usize
     requires numeric { format.now.conversion ≢ Conversion.Text }
     requires room { at + length (printed format.now number) ≤ length out.old }
     ensures end { result ≡ at + length (printed format.now number) }
@@ -90,7 +147,7 @@ pub(crate) fn print_number(format: &Format, number: i32, out: &mut [u8], at: usi
     put_filled(format, &digits, out, at, front, zeros)
 }
 
-/// Prints a number from the front of a slice on, and returns how many bytes that took; the bytes behind them stay. The
+/// Prints a number from the front of a slice on, and returns how many bytes that took; the bytes after them stay. The
 /// conversion is not `Text`, and the slice has the format's size for texts of no bytes.
 pub fn format_number(format: &Format, number: i32, out: &mut [u8]) -> usize
     requires numeric { format.now.conversion ≢ Conversion.Text }
@@ -99,28 +156,30 @@ pub fn format_number(format: &Format, number: i32, out: &mut [u8]) -> usize
     ensures written { take result out.new ≡ printed format.now number }
     ensures rest { drop result out.new ≡ drop result out.old }
 {
-    print_number(format, number, out, 0)
+    print_number(*format, number, out, 0)
 }
 
-/// Prints a text from the front of a slice on, and returns how many bytes that took; the bytes behind them stay. The
-/// conversion is `Text`, the text has at most 32767 bytes, and the slice has the format's size for its length.
+/// Prints a text from the front of a slice on, and returns how many bytes that took; the bytes after them stay. The
+/// conversion is `Text`, the text has at most [`ti_base::MOST_TEXT_BYTES`] bytes, and the slice has the format's size
+/// for its length.
 pub fn format_text(format: &Format, text: &[u8], out: &mut [u8]) -> usize
     requires textual { format.now.conversion ≡ Conversion.Text }
-    requires short { length text.now ≤ 32767 }
+    requires short { length text.now ≤ most_text_bytes }
     requires room { format_size format.now (length text.now) ≤ length out.old }
     ensures count { result ≡ length (printed_text format.now text.now) }
     ensures written { take result out.new ≡ printed_text format.now text.now }
     ensures rest { drop result out.new ≡ drop result out.old }
 {
-    print_text(format, text, out, 0)
+    print_text(*format, text, out, 0)
 }
 
-/// Prints a text from a place on, and returns the place behind it.
+/// Prints a text from a place on, and returns the place after it.
+#[inline(never)]
 #[tactic(auto, using(crate::proofs::Rest::drop_further))]
-pub(crate) fn print_text(format: &Format, text: &[u8], out: &mut [u8], at: usize) -> usize
-    requires room { at + length (printed_text format.now text.now) ≤ length out.old }
-    ensures end { result ≡ at + length (printed_text format.now text.now) }
-    ensures written { take result out.new ≡ take at out.old ++ printed_text format.now text.now }
+pub(crate) fn print_text(format: Format, text: &[u8], out: &mut [u8], at: usize) -> usize
+    requires room { at + length (printed_text format text.now) ≤ length out.old }
+    ensures end { result ≡ at + length (printed_text format text.now) }
+    ensures written { take result out.new ≡ take at out.old ++ printed_text format text.now }
     ensures rest { drop result out.new ≡ drop result out.old }
 {
     let shown = match format.precision {

@@ -1,12 +1,9 @@
 //! Capabilities with their numbers, expanded into slices of exactly the promised size; and faults, which change nothing.
 
-use crate::expand::{expand, expand_into};
-use crate::fault::ExpandFault;
-use crate::run::Run;
-use crate::value::Value;
-use crate::vars::Vars;
+use crate::{ExpandFault, Run, Value, Vars, expand, expand_into};
 use std::test::Fail;
-use ti_cap::capability::Capability;
+use ti_base::MOST_VALUES;
+use ti_cap::Capability;
 
 /// A capability, its first three parameters, and what it writes.
 #[derive(Drop)]
@@ -108,11 +105,11 @@ fn writes_what_the_tree_means(rt: HostRuntime) -> Result<(), Fail> {
         };
         let parameters = parameters_of(case.parameters);
         let mut vars = Vars::new();
-        let mut places = [Value::Num(0); 32];
+        let mut places = [Value::Num(0); MOST_VALUES];
         let mut room = [0xee; 64];
         let depth = capability.depth();
         let bound = capability.bound(0) as usize;
-        assert!(rt; depth <= 32 && bound < 64);
+        assert!(rt; depth <= MOST_VALUES && bound < 64);
         let answer = expand_into(
             capability.tape(),
             &parameters,
@@ -124,7 +121,7 @@ fn writes_what_the_tree_means(rt: HostRuntime) -> Result<(), Fail> {
         assert_eq!(rt; &room[..case.output.len().min(64)], case.output);
         let whole = expand(rt.alloc(), &capability, &parameters, &mut vars);
         let Ok(whole) = whole else {
-            panic!(rt; "want of memory");
+            panic!(rt; "out of memory");
         };
         assert_eq!(rt; whole.as_slice(), case.output);
     }
@@ -183,7 +180,7 @@ fn a_fault_changes_nothing(rt: HostRuntime) -> Result<(), Fail> {
         (ExpandFault::Memory, "Memory"),
     ] {
         let Ok(message) = fault.to_string(rt.alloc()) else {
-            panic!(rt; "want of memory");
+            panic!(rt; "out of memory");
         };
         assert_eq!(rt; message.as_str(), name);
     }

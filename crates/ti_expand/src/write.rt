@@ -2,7 +2,8 @@
 
 ghost use Rattle.std.specs.Prelude.{◌≡◌, ◌+◌, ◌≤◌, ◌∷◌, ◌++◌, [], length, take, drop, replicate};
 
-/// Puts the bytes at a place, and returns the place behind them.
+/// Puts the bytes at a place, and returns the place after them.
+#[inline(always)]
 pub fn put(out: &mut [u8], at: usize, bytes: &[u8]) -> usize
     requires { at + length bytes.now ≤ length out.old }
     ensures end { result ≡ at + length bytes.now }
@@ -14,7 +15,7 @@ pub fn put(out: &mut [u8], at: usize, bytes: &[u8]) -> usize
     end
 }
 
-/// Puts a byte some times, and returns the place behind it.
+/// Puts a byte some times, and returns the place after it.
 pub fn put_repeated(out: &mut [u8], at: usize, byte: u8, count: usize) -> usize
     requires { at + count ≤ length out.old }
     ensures end { result ≡ at + count }
@@ -26,7 +27,8 @@ pub fn put_repeated(out: &mut [u8], at: usize, byte: u8, count: usize) -> usize
     end
 }
 
-/// Puts a byte at a place, and returns the place behind it.
+/// Puts a byte at a place, and returns the place after it.
+#[inline(always)]
 pub fn put_byte(out: &mut [u8], at: usize, byte: u8) -> usize
     requires { at + 1 ≤ length out.old }
     ensures end { result ≡ at + 1 }

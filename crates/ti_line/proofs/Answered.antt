@@ -7,6 +7,7 @@ use Rattle.clap.specs.Words.{Kinds, Row, Text, IsAmong, first_of}
 use Rattle.clap.specs.declared.error.kind.ErrorKind.{ErrorKind}
 use Rattle.clap.proofs.WalkLemmas.{both}
 use Rattle.clap.specs.declared.error.kind.ErrorKind.TheVariants as kind
+use Rattle.ti_base.specs.Limits.{greatest_rate, most_lines}
 use Rattle.ti_line.specs.CommandLine.{Asked, asked, asked_by, expand_by, faults, is_help, number_in}
 use Rattle.ti_line.specs.Laws.{IsWithin}
 use Rattle.ti_line.specs.Line.{Explains, TellsOf}
@@ -58,8 +59,8 @@ chosen : (b : Bool) (x y : Option Asked) → IfSome x IsWithin → IfSome y IsWi
 chosen true x y h k = h
 chosen false x y h k = k
 
-bounded : (rate lines : ℕ) (line : Asked) (b : Bool) → nat_le rate 1000000 && nat_le lines 65535 ≡ b
-    → ((rate ≤ 1000000) × (lines ≤ 65535) → IsWithin line) → IfSome (if b then Some line else None) IsWithin
+bounded : (rate lines : ℕ) (line : Asked) (b : Bool) → nat_le rate greatest_rate && nat_le lines most_lines ≡ b
+    → ((rate ≤ greatest_rate) × (lines ≤ most_lines) → IsWithin line) → IfSome (if b then Some line else None) IsWithin
 bounded rate lines line false e h = tt
 bounded rate lines line true e h = let parts = both _ _ e in h (leb-true _ _ parts.0, leb-true _ _ parts.1)
 

@@ -6,6 +6,7 @@ use Rattle.std.specs.Option.{option_map_or}
 use Rattle.std.specs.Str.{bytes_eq}
 use Rattle.std.specs.Char.{digit_value}
 use Rattle.std.specs.Str.Parse.{digits_value, without_leading_plus}
+use Rattle.ti_base.specs.Limits.{greatest_rate, most_lines}
 use Rattle.clap.specs.Lexer.{usize_max}
 use Rattle.clap.specs.Words.{App, Kinds, Row, Rule, Text, all_of, fault_of, first_of, new_app, new_rule, one_of, subcommand_of, with_rule, with_subcommand}
 use Rattle.clap.specs.Simple.{on_top}
@@ -31,20 +32,20 @@ params_rule = record (new_rule (codes "PARAM")) {
 abbrev pub name_rule : Rule
 name_rule = record (new_rule (codes "NAME")) { required = true }
 
--- `--rate N`, 0 to 1000000
+-- `--rate N`, 0 to the greatest rate
 abbrev pub rate_rule : Rule
 rate_rule = record (new_rule (codes "rate")) {
   long = Some (codes "rate");
   value_names = 1;
-  parser = Some (vp.Signed (pos 0) (pos 1000000));
+  parser = Some (vp.Signed (pos 0) (pos greatest_rate));
 }
 
--- `--lines N`, 0 to 65535
+-- `--lines N`, 0 to the most lines
 abbrev pub lines_rule : Rule
 lines_rule = record (new_rule (codes "lines")) {
   long = Some (codes "lines");
   value_names = 1;
-  parser = Some (vp.Signed (pos 0) (pos 65535));
+  parser = Some (vp.Signed (pos 0) (pos most_lines));
 }
 
 -- `--xon`
@@ -131,7 +132,7 @@ abbrev pub expand_by : List Row → Text → Option Asked
 expand_by rows name =
     let rate = number_in (codes "rate") 0 rows in
     let lines = number_in (codes "lines") 1 rows in
-    if nat_le rate 1000000 && nat_le lines 65535
+    if nat_le rate greatest_rate && nat_le lines most_lines
     then Some (Expand name (flag_in (codes "hex") rows) rate lines (flag_in (codes "xon") rows) (params_in rows))
     else None
 

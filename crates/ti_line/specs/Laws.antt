@@ -1,6 +1,7 @@
 -- What holds of all words.
 use Rattle.std.specs.Prelude.{◌≡◌, ◌⊎◌, ◌≤◌, List}
 use Rattle.clap.specs.Words.{Text}
+use Rattle.ti_base.specs.Limits.{greatest_rate, most_lines}
 use Rattle.ti_line.specs.CommandLine.{Asked, Cap, Show, Check, Expand, Convert, AsksForHelp, IsRefused, Reads}
 
 -- words are read as one line
@@ -20,7 +21,7 @@ abbrev pub IsWithin : Asked → Type 0
 IsWithin (Cap hex params) = Unit {0}
 IsWithin Show = Unit {0}
 IsWithin Check = Unit {0}
-IsWithin (Expand name hex rate lines xon params) = (rate ≤ 1000000) × (lines ≤ 65535)
+IsWithin (Expand name hex rate lines xon params) = (rate ≤ greatest_rate) × (lines ≤ most_lines)
 IsWithin (Convert wide narrow) = Unit {0}
 
 abbrev pub HasNumbersWithin : Type 0

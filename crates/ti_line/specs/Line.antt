@@ -17,12 +17,12 @@ asked_of line.Check = Check
 asked_of (line.Expand name hex rate lines xon params) = Expand name.now hex rate lines xon (map (λ t. t.now) params.items)
 asked_of (line.Convert wide narrow) = Convert wide narrow
 
--- words that are read as this line are answered with it, or with want of memory
+-- words that are read as this line are answered with it, or with out of memory
 abbrev pub IsReadAs : Asked → Result Line NoLine → Type 0
 IsReadAs asked (Ok l) = asked_of l ≡ asked
 IsReadAs asked (Err why) = why ≡ no_line.Memory
 
--- why the words give no line; want of memory says nothing of them
+-- why the words give no line; out of memory says nothing of them
 abbrev pub Explains : List Text → NoLine → Type 0
 Explains words (no_line.Help message) = AsksForHelp words
 Explains words (no_line.Refused message) = IsRefused words

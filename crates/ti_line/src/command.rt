@@ -7,6 +7,7 @@ ghost use Rattle.ti_line.specs.CommandLine.{cap_app, check_app, convert_app, exp
 
 use clap::{Arg, ArgAction, Command, value_parser};
 use std::alloc::{AllocError, Global};
+use ti_base::{GREATEST_RATE, MOST_LINES};
 
 fn hex<'a>(alloc: Global) -> Arg<'a>
     ensures rule { rule_of result ≡ hex_rule }
@@ -46,7 +47,7 @@ fn rate<'a>(alloc: Global) -> Arg<'a>
     Arg::new(alloc, "rate")
         .long("rate")
         .value_name("N")
-        .value_parser(value_parser!(u32).range(0..=1_000_000))
+        .value_parser(value_parser!(u32).range(0..=i64::from(GREATEST_RATE)))
         .help(
             "Bytes per second of the line, 0 to 1000000; without it 0, at which padding takes no byte",
         )
@@ -59,7 +60,7 @@ fn lines<'a>(alloc: Global) -> Arg<'a>
     Arg::new(alloc, "lines")
         .long("lines")
         .value_name("N")
-        .value_parser(value_parser!(u32).range(0..=65535))
+        .value_parser(value_parser!(u32).range(0..=i64::from(MOST_LINES)))
         .help(
             "Lines that the text affects, 0 to 65535, by which padding with * is multiplied; without it 1",
         )
@@ -189,7 +190,7 @@ const STATUSES: &str = "Status:
   3  the entry is refused
   4  the capability is refused or absent
   5  reading or writing failed
-  6  want of memory";
+  6  out of memory";
 
 /// `ti` itself, before its subcommands.
 fn start<'a>(alloc: Global) -> Command<'a>

@@ -3,12 +3,6 @@
 use std::fmt;
 use thiserror::Error;
 
-/// The greatest rate of `--rate`, in bytes per second.
-pub const MOST_RATE: u32 = 1_000_000;
-
-/// The greatest number of lines of `--lines`.
-pub const MOST_LINES: u32 = 65_535;
-
 /// What a command line asks for. Parameters are the words as they were given, in their order.
 #[derive(Debug, Drop)]
 pub enum Line<'a> {
@@ -29,9 +23,9 @@ pub enum Line<'a> {
         name: &'a str,
         /// Write the output as lower-case hex and a newline.
         hex: bool,
-        /// Bytes per second, at most [`MOST_RATE`]; 0 where none was given.
+        /// Bytes per second, at most [`GREATEST_RATE`](ti_base::GREATEST_RATE); 0 where none was given.
         rate: u32,
-        /// Affected lines, at most [`MOST_LINES`]; 1 where none were given.
+        /// Affected lines, at most [`MOST_LINES`](ti_base::MOST_LINES); 1 where none were given.
         lines: u32,
         /// The line has flow control, so only mandatory padding is written.
         xon: bool,
@@ -56,7 +50,7 @@ pub enum NoLine {
     /// The words are no command line. The text goes where faults go, and the status is 2.
     #[error("{0}")]
     Refused(Message),
-    /// Want of memory.
+    /// Out of memory.
     #[error("memory")]
     Memory,
 }

@@ -5,9 +5,10 @@ ghost use Rattle.clap.specs.Words.{first_of, found_of, rows_of};
 ghost use Rattle.ti_line.specs.CommandLine.{asked_by, expand_by, flag_in, number_in, params_in};
 ghost use Rattle.ti_line.specs.Line.{asked_of};
 
-use crate::line::{Line, MOST_LINES, MOST_RATE};
+use crate::line::Line;
 use clap::ArgMatches;
 use std::alloc::{AllocError, Global};
+use ti_base::{GREATEST_RATE, MOST_LINES};
 
 /// Whether an option without a value was given.
 fn flag(given: &ArgMatches<'_>, id: &str) -> bool
@@ -55,7 +56,7 @@ fn expand_line<'a>(given: &ArgMatches<'a>, name: &'a str, params: Vec<&'a str>) 
 {
     let rate = number(given, "rate", 0);
     let lines = number(given, "lines", 1);
-    if rate > MOST_RATE || lines > MOST_LINES {
+    if rate > GREATEST_RATE || lines > MOST_LINES {
         return None;
     }
     Some(Line::Expand {

@@ -1,4 +1,4 @@
--- Behind the first byte of a mark no mark begins.
+-- After the first byte of a mark no mark starts.
 use Rattle.std.proofs.Common.{◌≡◌, ◌∙◌, ◌+◌, ◌<◌, ◌≤◌, ℕ, zero, suc, true, false, List, [], ◌∷◌, ◌++◌, ap, refl, length, drop, get_or, eqb, arith, length-append}
 use Rattle.std.specs.Prelude.{Option, Some, None, codes, find, is_some, unwrap_or}
 use Rattle.std.specs.Char.{is_ascii_digit}
@@ -12,7 +12,7 @@ use Rattle.ti_pad.specs.Marks.{IsMark, Mark, all_flags, decimals_text, mark_at, 
 use Rattle.ti_pad.specs.Written.{is_plain}
 use Rattle.ti_pad.proofs.Digits.{digit_bounds, list_all_get}
 use Rattle.ti_pad.proofs.Grammar.{listed}
-use Rattle.ti_pad.proofs.Runs.{mark_at-plain}
+use Rattle.ti_pad.proofs.Stretches.{mark_at-plain}
 
 plain_digits : (xs : List ℕ) → list_all is_ascii_digit xs ≡ true → list_all is_plain xs ≡ true
 plain_digits [] all = refl
@@ -31,8 +31,8 @@ plain_append xs ys p q = list_all-append is_plain xs ys ∙ and_from (list_all i
 plain_flags : (flags : List ℕ) → is_some (find (bytes_eq flags) all_flags) ≡ true → list_all is_plain (flags ++ codes ">") ≡ true
 plain_flags flags = listed (λ flags. list_all is_plain (flags ++ codes ">") ≡ true) flags refl refl refl refl refl
 
-plain_behind : (m : Mark) → IsMark m → list_all is_plain (drop 1 (spelled m)) ≡ true
-plain_behind m is =
+plain_after : (m : Mark) → IsMark m → list_all is_plain (drop 1 (spelled m)) ≡ true
+plain_after m is =
     plain_append m.whole _ (plain_digits m.whole is.whole) (plain_append (decimals_text m.decimals) _ (plain_decimals m.decimals is.decimals) (plain_flags m.flags is.flags))
 
 none_at : (m : Mark) (rest : List ℕ) (k : ℕ) → IsMark m → 0 < k → k < length (spelled m) → mark_at (drop k (spelled m ++ rest)) ≡ None
@@ -41,7 +41,7 @@ none_at m rest (suc j) is some short =
     let text : List ℕ = spelled m ++ rest in
     let within : suc j < length text = omega (arith, length-append (spelled m) rest) in
     let byte : get_or text (suc j) 0 ≡ get_or (spelled m) (suc j) 0 = get_or_append_left (spelled m) rest 0 (suc j) short in
-    let plain : is_plain (get_or (drop 1 (spelled m)) j 0) ≡ true = list_all_get is_plain (drop 1 (spelled m)) j (plain_behind m is) (omega arith) in
+    let plain : is_plain (get_or (drop 1 (spelled m)) j 0) ≡ true = list_all_get is_plain (drop 1 (spelled m)) j (plain_after m is) (omega arith) in
     ap mark_at (drop_more text (suc j) 0 within)
     ∙ mark_at-plain (get_or text (suc j) 0) (drop (suc j + 1) text) (ap (λ b. eqb b 36) byte ∙ not-true _ plain)
 

@@ -31,7 +31,7 @@ one_more : (b : Bool) (x : List ℕ) (o : Option (List ℕ)) → is_some o ≡ t
 one_more true x o h = refl
 one_more false x o h = h
 
--- some bytes are their longest run and what stands behind it
+-- some bytes are their longest run and what stands after it
 pub take_while-rest : (p : ℕ → Bool) (xs : List ℕ) → xs ≡ take_while p xs ++ drop (length (take_while p xs)) xs
 take_while-rest p xs =
     sym (take-append-drop (prefix_len p xs) xs) ∙ ap (λ n. take_while p xs ++ drop n xs) (sym (length-prefix_len p xs))

@@ -7,14 +7,14 @@ use Rattle.std.specs.Str.{bytes_eq}
 use Rattle.std.proofs.lemmas.Bool.{and_from, and_parts, le-leb, leb-true, lt-ltb, ltb-true}
 use Rattle.std.proofs.lemmas.List.{drop_at}
 use Rattle.std.proofs.lemmas.Slice.Eq.{bytes_eq-Decides}
-use Rattle.ti_pad.specs.Marks.{Begins, IsMark, Mark, all_flags, decimals_at, decimals_text, flags_at, has_number, mark_at, mark_behind_front, mark_behind_number, mark_behind_whole, spelled, starts_with}
+use Rattle.ti_pad.specs.Marks.{Begins, IsMark, Mark, all_flags, decimals_at, decimals_text, flags_at, has_number, mark_at, mark_after_front, mark_after_number, mark_after_whole, spelled, starts_with}
 use Rattle.ti_pad.specs.Laws.{FindsMarks}
 use Rattle.ti_pad.proofs.Fronts.{find_some, starts, take_while-rest, take_while-run}
 use Rattle.ti_pad.proofs.Longest.{list_all-take_while}
 
 -- ---- from a mark that is found to the grammar
 
--- flags that are found, with the `>` behind them
+-- flags that are found, with the `>` after them
 flags_at-some : (rest flags : List ℕ) → flags_at rest ≡ Some flags
     → (rest ≡ (flags ++ codes ">") ++ drop (length (flags ++ codes ">")) rest) × (is_some (find (bytes_eq flags) all_flags) ≡ true)
 flags_at-some rest flags e =
@@ -56,14 +56,14 @@ numbered_by whole decimals rest m true h e =
 parts_assoc : (a b c d : List ℕ) → (a ++ (b ++ c)) ++ d ≡ a ++ (b ++ (c ++ d))
 parts_assoc a b c d = append_assoc a (b ++ c) d ∙ ap (λ l. a ++ l) (append_assoc b c d)
 
--- the parts behind the `$<`, and what stands behind the mark
+-- the parts after the `$<`, and what stands after the mark
 record IsBehindFront (bytes : List ℕ) (m : Mark) : Type 0 where
   is_mark : IsMark m
   rest : List ℕ
   bytes_are : bytes ≡ (m.whole ++ (decimals_text m.decimals ++ (m.flags ++ codes ">"))) ++ rest
 
-mark_behind_front-some : (bytes : List ℕ) (m : Mark) → mark_behind_front bytes ≡ Some m → IsBehindFront bytes m
-mark_behind_front-some bytes m e =
+mark_after_front-some : (bytes : List ℕ) (m : Mark) → mark_after_front bytes ≡ Some m → IsBehindFront bytes m
+mark_after_front-some bytes m e =
     let whole : List ℕ = take_while is_ascii_digit bytes in
     let behind_whole : List ℕ = drop (length whole) bytes in
     let decimals : Option (List ℕ) = decimals_at behind_whole in
@@ -87,10 +87,10 @@ mark_behind_front-some bytes m e =
           ∙ sym (parts_assoc whole (decimals_text decimals) (m.flags ++ codes ">") rest));
     }
 
-begins_by : (bytes : List ℕ) (m : Mark) (b : Bool) → starts_with bytes (codes "$<") ≡ b → cond b (mark_behind_front (drop 2 bytes)) None ≡ Some m → Begins m bytes
+begins_by : (bytes : List ℕ) (m : Mark) (b : Bool) → starts_with bytes (codes "$<") ≡ b → cond b (mark_after_front (drop 2 bytes)) None ≡ Some m → Begins m bytes
 begins_by bytes m false s e = cc
 begins_by bytes m true s e =
-    let parts : IsBehindFront (drop 2 bytes) m = mark_behind_front-some (drop 2 bytes) m e in
+    let parts : IsBehindFront (drop 2 bytes) m = mark_after_front-some (drop 2 bytes) m e in
     record { is_mark = parts.is_mark; rest = parts.rest; bytes_are = starts bytes (codes "$<") s ∙ ap (λ l. codes "$<" ++ l) parts.bytes_are }
 
 -- ---- from the grammar to a mark that is found
@@ -114,7 +114,7 @@ listed P flags none lines mandatory both both_turned =
     (bytes_eq flags (codes "*")) refl)
     (bytes_eq flags []) refl
 
--- what stands behind a number: flags and a `>`
+-- what stands after a number: flags and a `>`
 record EndsNumber (flags : List ℕ) : Type 0 where
   found : (rest : List ℕ) → flags_at ((flags ++ codes ">") ++ rest) ≡ Some flags
   no_digit : (rest : List ℕ) → prefix_len is_ascii_digit ((flags ++ codes ">") ++ rest) ≡ 0
@@ -145,38 +145,38 @@ decimals_at-text : (decimals : Option (List ℕ)) (rest : List ℕ) → list_all
 decimals_at-text None rest all no_digit no_point = (rw no_point refl, no_digit)
 decimals_at-text (Some digits) rest all no_digit no_point = (ap Some (take_while-run is_ascii_digit digits rest all no_digit), refl)
 
-mark_behind_number-found : (m : Mark) (rest : List ℕ) → IsMark m → flags_at rest ≡ Some m.flags → mark_behind_number m.whole m.decimals rest ≡ Some m
-mark_behind_number-found m rest is found =
+mark_after_number-found : (m : Mark) (rest : List ℕ) → IsMark m → flags_at rest ≡ Some m.flags → mark_after_number m.whole m.decimals rest ≡ Some m
+mark_after_number-found m rest is found =
     let number : has_number m.whole m.decimals ≡ true =
     and_from _ _ (le-leb (length m.whole) 5 is.at_most_five) (lt-ltb 0 (length m.whole + length (unwrap_or m.decimals [])) is.some_digit) in
     rw (number, found) refl
 
-mark_behind_whole-found : (m : Mark) (rest : List ℕ) → IsMark m
-    → mark_behind_whole m.whole (decimals_text m.decimals ++ ((m.flags ++ codes ">") ++ rest)) ≡ Some m
-mark_behind_whole-found m rest is =
+mark_after_whole-found : (m : Mark) (rest : List ℕ) → IsMark m
+    → mark_after_whole m.whole (decimals_text m.decimals ++ ((m.flags ++ codes ">") ++ rest)) ≡ Some m
+mark_after_whole-found m rest is =
     let ends : EndsNumber m.flags = ends_number m.flags is.flags in
-    let behind : List ℕ = (m.flags ++ codes ">") ++ rest in
-    let text : List ℕ = decimals_text m.decimals ++ behind in
-    let decimals : decimals_at text ≡ m.decimals = (decimals_at-text m.decimals behind is.decimals (ends.no_digit rest) (ends.no_point rest)).0 in
-    ap (λ d. mark_behind_number m.whole d (drop (length (decimals_text d)) text)) decimals
-    ∙ ap (mark_behind_number m.whole m.decimals) (drop_at (decimals_text m.decimals) behind (length (decimals_text m.decimals)) refl)
-    ∙ mark_behind_number-found m behind is (ends.found rest)
+    let after : List ℕ = (m.flags ++ codes ">") ++ rest in
+    let text : List ℕ = decimals_text m.decimals ++ after in
+    let decimals : decimals_at text ≡ m.decimals = (decimals_at-text m.decimals after is.decimals (ends.no_digit rest) (ends.no_point rest)).0 in
+    ap (λ d. mark_after_number m.whole d (drop (length (decimals_text d)) text)) decimals
+    ∙ ap (mark_after_number m.whole m.decimals) (drop_at (decimals_text m.decimals) after (length (decimals_text m.decimals)) refl)
+    ∙ mark_after_number-found m after is (ends.found rest)
 
-mark_behind_front-found : (m : Mark) (rest : List ℕ) → IsMark m
-    → mark_behind_front (m.whole ++ (decimals_text m.decimals ++ ((m.flags ++ codes ">") ++ rest))) ≡ Some m
-mark_behind_front-found m rest is =
+mark_after_front-found : (m : Mark) (rest : List ℕ) → IsMark m
+    → mark_after_front (m.whole ++ (decimals_text m.decimals ++ ((m.flags ++ codes ">") ++ rest))) ≡ Some m
+mark_after_front-found m rest is =
     let ends : EndsNumber m.flags = ends_number m.flags is.flags in
-    let behind : List ℕ = decimals_text m.decimals ++ ((m.flags ++ codes ">") ++ rest) in
-    let no_digit : prefix_len is_ascii_digit behind ≡ 0 =
+    let later : List ℕ = decimals_text m.decimals ++ ((m.flags ++ codes ">") ++ rest) in
+    let no_digit : prefix_len is_ascii_digit later ≡ 0 =
     (decimals_at-text m.decimals ((m.flags ++ codes ">") ++ rest) is.decimals (ends.no_digit rest) (ends.no_point rest)).1 in
-    let whole : take_while is_ascii_digit (m.whole ++ behind) ≡ m.whole = take_while-run is_ascii_digit m.whole behind is.whole no_digit in
-    ap (λ w. mark_behind_whole w (drop (length w) (m.whole ++ behind))) whole
-    ∙ ap (mark_behind_whole m.whole) (drop_at m.whole behind (length m.whole) refl)
-    ∙ mark_behind_whole-found m rest is
+    let whole : take_while is_ascii_digit (m.whole ++ later) ≡ m.whole = take_while-run is_ascii_digit m.whole later is.whole no_digit in
+    ap (λ w. mark_after_whole w (drop (length w) (m.whole ++ later))) whole
+    ∙ ap (mark_after_whole m.whole) (drop_at m.whole later (length m.whole) refl)
+    ∙ mark_after_whole-found m rest is
 
 mark_at-spelled : (m : Mark) (rest : List ℕ) → IsMark m → mark_at (spelled m ++ rest) ≡ Some m
 mark_at-spelled m rest is =
-    ap mark_behind_front (parts_assoc m.whole (decimals_text m.decimals) (m.flags ++ codes ">") rest) ∙ mark_behind_front-found m rest is
+    ap mark_after_front (parts_assoc m.whole (decimals_text m.decimals) (m.flags ++ codes ">") rest) ∙ mark_after_front-found m rest is
 
 pub finds_marks : FindsMarks
 finds_marks m bytes =

@@ -3,7 +3,7 @@ pub mod Decimals
 pub mod Digits
 pub mod Longest
 pub mod Pieces
-pub mod Runs
+pub mod Stretches
 pub mod Fronts
 pub mod Least
 pub mod Grammar

@@ -24,7 +24,7 @@ Appends-pads-part a b c n m size pad h p q =
     let part : take m (replicate size pad) ≡ replicate m pad = take-replicate m size pad h in
     Appends-pads a b c n m pad p (rw part at q)
 
--- the first bytes of a text, and then the first of a run that stands behind them
+-- the first bytes of a text, and then the first of a stretch that stands after them
 pub Appends-part : (a b c : Option (List ℕ)) (text run rest : List ℕ) (i m : ℕ) → drop i text ≡ run ++ rest → m ≤ length run → Appends a b (take i text)
     → Appends b c (take m run) → Appends a c (take (i + m) text)
 Appends-part a b c text run rest i m left h p q =
@@ -32,7 +32,7 @@ Appends-part a b c text run rest i m left h p q =
     ap (λ l. take i text ++ l) (sym (take-append-le m run rest h) ∙ ap (take m) (sym left)) ∙ sym (take-add i m text) in
     subst (Appends a c) e (Appends-trans a b c _ _ p q)
 
--- and the whole run
+-- and the whole stretch
 pub Appends-run : (a b c : Option (List ℕ)) (text run rest : List ℕ) (i n : ℕ) → drop i text ≡ run ++ rest → n ≡ length run → Appends a b (take i text)
     → Appends b c run → Appends a c (take (i + n) text)
 Appends-run a b c text run rest i n left is p q =
@@ -44,6 +44,6 @@ pub part_within : (text run rest : List ℕ) (i : ℕ) → drop i text ≡ run +
 part_within text run rest i left h =
     omega (arith, ap length left, length-drop i text, length-append run rest)
 
--- what stands behind the run
+-- what stands after the run
 pub drop-run : (text run rest : List ℕ) (i n : ℕ) → drop i text ≡ run ++ rest → n ≡ length run → drop (i + n) text ≡ rest
 drop-run text run rest i n left is = sym (drop-drop n i text) ∙ ap (drop n) left ∙ drop_at run rest n (sym is)

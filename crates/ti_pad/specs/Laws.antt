@@ -4,11 +4,11 @@ use Rattle.ti_pad.specs.Setting.{Setting}
 use Rattle.ti_pad.specs.Marks.{Begins, Mark, joined, mark_at, pieces, spelled}
 use Rattle.ti_pad.specs.Padded.{TakesTheTime, count_of, is_passed_over}
 
--- a mark is found exactly where one begins by the grammar
+-- a mark is found exactly where one starts by the grammar
 abbrev pub FindsMarks : Type 0
 FindsMarks = (m : Mark) (bytes : List ℕ) → (mark_at bytes ≡ Some m) ↔ Begins m bytes
 
--- behind the first byte of a mark none begins before its end
+-- after the first byte of a mark none starts before its end
 abbrev pub MarksLieApart : Type 0
 MarksLieApart = (m : Mark) (bytes : List ℕ) (k : ℕ) → Begins m bytes → 0 < k → k < length (spelled m) → mark_at (drop k bytes) ≡ None
 

@@ -52,19 +52,19 @@ flags_at bytes = find (λ flags. starts_with bytes (flags ++ codes ">")) all_fla
 abbrev pub has_number : List ℕ → Option (List ℕ) → Bool
 has_number whole decimals = nat_le (length whole) 5 && nat_lt 0 (length whole + length (unwrap_or decimals []))
 
-abbrev pub mark_behind_number : List ℕ → Option (List ℕ) → List ℕ → Option Mark
-mark_behind_number whole decimals rest =
+abbrev pub mark_after_number : List ℕ → Option (List ℕ) → List ℕ → Option Mark
+mark_after_number whole decimals rest =
     if has_number whole decimals then option_map (λ flags. record { whole = whole; decimals = decimals; flags = flags }) (flags_at rest)
     else None
 
-abbrev pub mark_behind_whole : List ℕ → List ℕ → Option Mark
-mark_behind_whole whole rest = mark_behind_number whole (decimals_at rest) (drop (length (decimals_text (decimals_at rest))) rest)
+abbrev pub mark_after_whole : List ℕ → List ℕ → Option Mark
+mark_after_whole whole rest = mark_after_number whole (decimals_at rest) (drop (length (decimals_text (decimals_at rest))) rest)
 
-abbrev pub mark_behind_front : List ℕ → Option Mark
-mark_behind_front rest = mark_behind_whole (take_while is_ascii_digit rest) (drop (length (take_while is_ascii_digit rest)) rest)
+abbrev pub mark_after_front : List ℕ → Option Mark
+mark_after_front rest = mark_after_whole (take_while is_ascii_digit rest) (drop (length (take_while is_ascii_digit rest)) rest)
 
 abbrev pub mark_at : List ℕ → Option Mark
-mark_at bytes = if starts_with bytes (codes "$<") then mark_behind_front (drop 2 bytes) else None
+mark_at bytes = if starts_with bytes (codes "$<") then mark_after_front (drop 2 bytes) else None
 
 -- ---- a text in pieces
 
@@ -77,7 +77,7 @@ abbrev pub piece_at : ℕ → Option Mark → (ℕ → List Piece) → List Piec
 piece_at byte None next = literal byte ∷ next 0
 piece_at byte (Some m) next = marked m ∷ next (pred (length (spelled m)))
 
--- the pieces behind the first `skip` bytes, which belong to a mark
+-- the pieces after the first `skip` bytes, which belong to a mark
 unfoldable pub pieces_from : ℕ → List ℕ → List Piece
 pieces_from skip [] = []
 pieces_from (suc skip) (byte ∷ rest) = pieces_from skip rest

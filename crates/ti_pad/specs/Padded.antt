@@ -1,7 +1,8 @@
 -- What padding makes of a text.
-use Rattle.std.specs.Prelude.{◌+◌, ◌*◌, ◌/◌, ◌≤◌, ◌&&◌, ℕ, Bool, not, List, [], ◌∷◌, flat_map, take, unwrap_or, if◌then◌else◌, ◌==◌, replicate}
+use Rattle.std.specs.Prelude.{◌+◌, ◌*◌, ◌/◌, ◌≤◌, ◌&&◌, ℕ, Bool, not, List, [], ◌∷◌, codes, flat_map, take, unwrap_or, if◌then◌else◌, ◌==◌, replicate}
 use Rattle.std.specs.List.{list_any}
 use Rattle.std.specs.Str.Parse.{digits_value}
+use Rattle.ti_base.specs.Letters.{letter}
 use Rattle.ti_pad.specs.Setting.{Setting}
 use Rattle.ti_pad.specs.Marks.{Mark, Piece, literal, marked, pieces}
 
@@ -14,11 +15,11 @@ has_flag flag m = list_any (λ b. b == flag) m.flags
 
 -- the affected lines where the mark has a `*`
 abbrev pub lines_of : Setting → Mark → ℕ
-lines_of s m = if has_flag 42 m then s.lines else 1
+lines_of s m = if has_flag (letter (codes "*")) m then s.lines else 1
 
 -- under xon only a mark with a `/` is padded
 abbrev pub is_passed_over : Setting → Mark → Bool
-is_passed_over s m = s.xon && not (has_flag 47 m)
+is_passed_over s m = s.xon && not (has_flag (letter (codes "/")) m)
 
 -- so many pad bytes take the time of the mark: `tenths / 10000` seconds a line, at `rate` bytes a second
 abbrev pub TakesTheTime : Setting → Mark → ℕ → Type 0

@@ -1,13 +1,14 @@
--- A text in runs.
-use Rattle.std.specs.Prelude.{ℕ, Bool, not, List, ◌==◌, replicate}
-use Rattle.ti_pad.specs.declared.run.Run.{Run}
-use Rattle.ti_pad.specs.declared.run.Run.TheVariants.{Literal, Pads}
+-- A text in stretches.
+use Rattle.std.specs.Prelude.{ℕ, Bool, not, List, ◌==◌, replicate, codes}
+use Rattle.ti_base.specs.Letters.{letter}
+use Rattle.ti_pad.specs.declared.stretch.Stretch.{Stretch}
+use Rattle.ti_pad.specs.declared.stretch.Stretch.TheVariants.{Literal, Pads}
 
--- the bytes of a run
-abbrev pub written : ℕ → Run → List ℕ
+-- the bytes of a stretch
+abbrev pub written : ℕ → Stretch → List ℕ
 written pad (Literal bytes) = bytes.now
 written pad (Pads count) = replicate count pad
 
--- no mark begins at such a byte
+-- no mark starts at such a byte
 abbrev pub is_plain : ℕ → Bool
-is_plain byte = not (byte == 36)
+is_plain byte = not (byte == letter (codes "$"))

@@ -2,7 +2,7 @@
 
 ghost use Rattle.ti_pad.specs.Laws.{CountsEnough, CountsLeast, FindsMarks, MarksLieApart, PassesOver, PiecesJoin};
 
-/// A mark is found exactly where one begins by the grammar, and lies apart from every other.
+/// A mark is found exactly where one starts by the grammar, and lies apart from every other.
 pub fn marks_are_found()
     ensures found { FindsMarks }
     ensures apart { MarksLieApart }

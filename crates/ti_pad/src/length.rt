@@ -6,7 +6,7 @@ ghost use Rattle.std.specs.Prelude.{◌≡◌, length};
 ghost use Rattle.ti_pad.specs.Padded.{padded};
 
 use crate::padding::Padding;
-use crate::run::first_run;
+use crate::stretch::first_stretch;
 
 /// How many bytes the padded text has.
 pub fn padded_len(bytes: &[u8], padding: &Padding) -> u128
@@ -14,9 +14,9 @@ pub fn padded_len(bytes: &[u8], padding: &Padding) -> u128
 {
     let mut rest = bytes;
     let mut total: u128 = 0;
-    'runs: while !rest.is_empty() {
-        let front = first_run(rest, padding);
-        total += u128::from(front.run.len());
+    'stretches: while !rest.is_empty() {
+        let front = first_stretch(rest, padding);
+        total += u128::from(front.stretch.len());
         rest = front.rest;
     }
     total

@@ -5,6 +5,7 @@
 //! writer stopped. The time is linear in the bytes that are read and written. Only [`pad`] takes memory.
 #![tactic(auto)]
 
+mod find_mark;
 pub mod laws;
 mod length;
 mod mark;
@@ -12,14 +13,13 @@ mod memory;
 mod number;
 mod output;
 mod padding;
-mod run;
-mod scan;
+mod stretch;
 mod writing;
 
 pub use length::padded_len;
-pub use memory::{MOST_BYTES, PadFault, pad, pad_in};
-pub use output::{MOST_INTERRUPTIONS, write_out};
-pub use padding::{MOST_LINES, MOST_RATE, Padding};
+pub use memory::{PadFault, pad};
+pub use output::write_out;
+pub use padding::Padding;
 pub use writing::{PadStop, write_padded};
 
 #[cfg(test)]

@@ -15,7 +15,7 @@ pub struct Mark<'a> {
     ghost more_digits: { list_all is_ascii_digit (unwrap_or (option_map (λ s. s.now) decimals) []) ≡ true },
 }
 
-/// A mark at the front of some bytes, and what stands behind it.
+/// A mark at the front of some bytes, and what stands after it.
 #[derive(Clone, Copy, Debug)]
 pub struct Found<'a> {
     pub mark: Mark<'a>,

@@ -4,11 +4,10 @@
 
 ghost use Rattle.std.specs.Prelude.{◌≡◌, ◌≤◌, ◌<◌, length, take, OnOk, IfErr};
 ghost use Rattle.std.specs.Io.KnownBytes.{Appends};
+ghost use Rattle.ti_base.specs.Limits.{most_interruptions};
 
 use std::io::{ErrorKind, Write};
-
-/// How many interrupted reads or writes one call tries again.
-pub const MOST_INTERRUPTIONS: u32 = 1000;
+use ti_base::MOST_INTERRUPTIONS;
 
 /// Writes the bytes to the end. An error is the number of bytes that the writer took, which is less than all.
 ///
@@ -29,8 +28,8 @@ pub(crate) fn write_some<W: Write>(
     bytes: &[u8],
     interruptions: &mut u32,
 ) -> Result<(), u64>
-    requires { interruptions.old ≤ MOST_INTERRUPTIONS }
-    ensures tries { interruptions.new ≤ MOST_INTERRUPTIONS }
+    requires { interruptions.old ≤ most_interruptions }
+    ensures tries { interruptions.new ≤ most_interruptions }
     ensures written { OnOk result (Appends (W.contents writer.old) (W.contents writer.new) bytes.now) }
     ensures short { IfErr result (λ gone. gone < length bytes.now) }
     ensures gone { IfErr result (λ gone. Appends (W.contents writer.old) (W.contents writer.new) (take gone bytes.now)) }

@@ -1,18 +1,14 @@
 //! What padding depends on, and how many pad bytes stand for a mark.
 
 ghost use Rattle.std.specs.Prelude.{◌≡◌, ◌≤◌, ◌↔◌, ◌+◌, ◌*◌, ◌/◌, IsSome, IfSome};
+ghost use Rattle.ti_base.specs.Limits.{greatest_rate, most_lines};
 ghost use Rattle.ti_pad.specs.Padded.{count_of, tenths};
 ghost use Rattle.ti_pad.specs.Shown.{shown};
 
 use crate::mark::Mark;
 use crate::number::{first_digit, number};
 use std::marker::Model;
-
-/// The greatest rate, in bytes per second.
-pub const MOST_RATE: u32 = 1_000_000;
-
-/// The most affected lines.
-pub const MOST_LINES: u32 = 65_535;
+use ti_base::{GREATEST_RATE, MOST_LINES};
 
 /// The longest time of a mark in tenths of a millisecond: five digits and a decimal.
 const MOST_TENTHS: u32 = 999_999;
@@ -32,25 +28,25 @@ pub struct Padding {
 impl Model for Padding {
     ghost use Rattle.std.specs.Prelude.{◌≤◌};
     ghost use Rattle.ti_pad.specs.Setting.{Setting};
-    ghost use Rattle.ti_pad.specs.declared.padding.TheConstants.{MOST_LINES, MOST_RATE};
+    ghost use Rattle.ti_base.specs.Limits.{greatest_rate, most_lines};
 
     ghost Value = { Setting };
 
     ghost view = { λ p. record { rate = p.rate; lines = p.lines; xon = p.xon; pad = p.pad } };
 
-    ghost invariant = { λ p. (p.rate ≤ MOST_RATE) × (p.lines ≤ MOST_LINES) };
+    ghost invariant = { λ p. (p.rate ≤ greatest_rate) × (p.lines ≤ most_lines) };
 
     ghost inverse = { λ s. record { rate = s.rate; lines = s.lines; xon = s.xon; pad = s.pad } };
 }
 
 impl Padding {
-    /// The padding for a line of this rate. `None` where the rate is above [`MOST_RATE`] or the lines are above
+    /// The padding for a line of this rate. `None` where the rate is above [`GREATEST_RATE`] or the lines are above
     /// [`MOST_LINES`].
     pub fn new(rate: u32, lines: u32, xon: bool, pad: u8) -> Option<Padding>
-        ensures within { IsSome result ↔ ((rate ≤ MOST_RATE) × (lines ≤ MOST_LINES)) }
+        ensures within { IsSome result ↔ ((rate ≤ greatest_rate) × (lines ≤ most_lines)) }
         ensures value { IfSome result (λ p. (p.rate ≡ rate) × (p.lines ≡ lines) × (p.xon ≡ xon) × (p.pad ≡ pad)) }
     {
-        if rate > MOST_RATE || lines > MOST_LINES {
+        if rate > GREATEST_RATE || lines > MOST_LINES {
             return None;
         }
         Some(Padding {
@@ -97,8 +93,8 @@ fn tenths_of(mark: &Mark<'_>) -> u32
 /// the 10000th part of a second.
 fn rounded_up(tenths: u32, lines: u32, rate: u32) -> u64
     requires tenths { tenths ≤ MOST_TENTHS }
-    requires lines { lines ≤ MOST_LINES }
-    requires rate { rate ≤ MOST_RATE }
+    requires lines { lines ≤ most_lines }
+    requires rate { rate ≤ greatest_rate }
     ensures value { result ≡ (tenths * lines * rate + 9999) / 10000 }
     ensures most { result ≤ MOST_COUNT }
 {

@@ -4,18 +4,19 @@
 
 ghost use Rattle.std.specs.Prelude.{◌≡◌, ◌≤◌, ◌<◌, ◌↔◌, length, take, replicate, Err, OnOk, IfErr};
 ghost use Rattle.std.specs.Io.KnownBytes.{Appends};
+ghost use Rattle.ti_base.specs.Limits.{most_interruptions, most_padded_bytes};
 ghost use Rattle.ti_pad.specs.Padded.{padded};
 ghost use Rattle.ti_pad.specs.Stopped.{StopsAt};
 ghost use Rattle.ti_pad.specs.Written.{written};
 ghost use Rattle.ti_pad.specs.declared.writing.PadStop.TheVariants as stop;
 
 use crate::length::padded_len;
-use crate::memory::MOST_BYTES;
-use crate::output::{MOST_INTERRUPTIONS, write_some};
+use crate::output::write_some;
 use crate::padding::Padding;
-use crate::run::{Run, first_run};
+use crate::stretch::{Stretch, first_stretch};
 use std::io::Write;
 use thiserror::Error;
+use ti_base::MOST_PADDED_BYTES;
 
 /// The most pad bytes of one write.
 const BLOCK: usize = 512;
@@ -23,7 +24,7 @@ const BLOCK: usize = 512;
 /// Why a padded text is not written to its end.
 #[derive(Clone, Copy, Debug, PartialEq, Eq, Error)]
 pub enum PadStop {
-    /// The padded text would have this many bytes, more than [`MOST_BYTES`]. Nothing was written.
+    /// The padded text would have this many bytes, more than [`MOST_PADDED_BYTES`]. Nothing was written.
     #[error("TooMuch")]
     TooMuch { need: u128 },
     /// The writer took the first `gone` bytes of the padded text, and no more.
@@ -33,7 +34,7 @@ pub enum PadStop {
 
 /// Writes the padded text to its end.
 ///
-/// [`PadStop::TooMuch`] is answered exactly where it has more than [`MOST_BYTES`], before anything is written.
+/// [`PadStop::TooMuch`] is answered exactly where it has more than [`MOST_PADDED_BYTES`], before anything is written.
 /// Interrupted writes are tried again, at most [`MOST_INTERRUPTIONS`] of them; the next one, any other error, and a
 /// write that takes no byte stop it. Nothing is flushed.
 pub fn write_padded<W: Write>(
@@ -43,21 +44,18 @@ pub fn write_padded<W: Write>(
 ) -> Result<(), PadStop>
     ensures written { OnOk result (Appends (W.contents writer.old) (W.contents writer.new) (padded bytes.now padding.now)) }
     ensures stops { IfErr result (StopsAt (W.contents writer.old) (W.contents writer.new) (padded bytes.now padding.now)) }
-    ensures limit { (result ≡ Err (stop.TooMuch (length (padded bytes.now padding.now)))) ↔ (MOST_BYTES < length (padded bytes.now padding.now)) }
+    ensures limit { (result ≡ Err (stop.TooMuch (length (padded bytes.now padding.now)))) ↔ (most_padded_bytes < length (padded bytes.now padding.now)) }
 {
     let need = padded_len(bytes, padding);
-    if need > MOST_BYTES {
+    if need > MOST_PADDED_BYTES {
         return Err(PadStop::TooMuch { need });
     }
-    match write_runs(writer, bytes, padding) {
-        Ok(()) => Ok(()),
-        Err(gone) => Err(PadStop::Failed { gone }),
-    }
+    write_stretches(writer, bytes, padding).map_err(|gone| PadStop::Failed { gone })
 }
 
 /// Writes the padded text to its end. An error is the number of bytes that the writer took.
-fn write_runs<W: Write>(writer: &mut W, bytes: &[u8], padding: &Padding) -> Result<(), u64>
-    requires { length (padded bytes.now padding.now) ≤ MOST_BYTES }
+fn write_stretches<W: Write>(writer: &mut W, bytes: &[u8], padding: &Padding) -> Result<(), u64>
+    requires { length (padded bytes.now padding.now) ≤ most_padded_bytes }
     ensures written { OnOk result (Appends (W.contents writer.old) (W.contents writer.new) (padded bytes.now padding.now)) }
     ensures short { IfErr result (λ gone. gone < length (padded bytes.now padding.now)) }
     ensures gone { IfErr result (λ gone. Appends (W.contents writer.old) (W.contents writer.new) (take gone (padded bytes.now padding.now))) }
@@ -65,10 +63,10 @@ fn write_runs<W: Write>(writer: &mut W, bytes: &[u8], padding: &Padding) -> Resu
     let mut rest = bytes;
     let mut gone = 0;
     let mut interruptions = 0;
-    'runs: while !rest.is_empty() {
-        let front = first_run(rest, padding);
-        match write_run(writer, &front.run, padding, &mut interruptions) {
-            Ok(()) => gone += front.run.len(),
+    'stretches: while !rest.is_empty() {
+        let front = first_stretch(rest, padding);
+        match write_stretch(writer, &front.stretch, padding, &mut interruptions) {
+            Ok(()) => gone += front.stretch.len(),
             Err(more) => return Err(gone + more),
         }
         rest = front.rest;
@@ -76,22 +74,22 @@ fn write_runs<W: Write>(writer: &mut W, bytes: &[u8], padding: &Padding) -> Resu
     Ok(())
 }
 
-/// Writes a run to its end, as [`write_some`] does.
-fn write_run<W: Write>(
+/// Writes a stretch to its end, as [`write_some`] does.
+fn write_stretch<W: Write>(
     writer: &mut W,
-    run: &Run<'_>,
+    stretch: &Stretch<'_>,
     padding: &Padding,
     interruptions: &mut u32,
 ) -> Result<(), u64>
-    requires { interruptions.old ≤ MOST_INTERRUPTIONS }
-    ensures tries { interruptions.new ≤ MOST_INTERRUPTIONS }
-    ensures written { OnOk result (Appends (W.contents writer.old) (W.contents writer.new) (written padding.now.pad run.now)) }
-    ensures short { IfErr result (λ gone. gone < length (written padding.now.pad run.now)) }
-    ensures gone { IfErr result (λ gone. Appends (W.contents writer.old) (W.contents writer.new) (take gone (written padding.now.pad run.now))) }
+    requires { interruptions.old ≤ most_interruptions }
+    ensures tries { interruptions.new ≤ most_interruptions }
+    ensures written { OnOk result (Appends (W.contents writer.old) (W.contents writer.new) (written padding.now.pad stretch.now)) }
+    ensures short { IfErr result (λ gone. gone < length (written padding.now.pad stretch.now)) }
+    ensures gone { IfErr result (λ gone. Appends (W.contents writer.old) (W.contents writer.new) (take gone (written padding.now.pad stretch.now))) }
 {
-    match run {
-        Run::Literal(bytes) => write_some(writer, bytes, interruptions),
-        Run::Pads(count) => write_pads(writer, padding.pad_byte(), *count, interruptions),
+    match stretch {
+        Stretch::Literal(bytes) => write_some(writer, bytes, interruptions),
+        Stretch::Pads(count) => write_pads(writer, padding.pad_byte(), *count, interruptions),
     }
 }
 
@@ -102,8 +100,8 @@ fn write_pads<W: Write>(
     count: u64,
     interruptions: &mut u32,
 ) -> Result<(), u64>
-    requires { interruptions.old ≤ MOST_INTERRUPTIONS }
-    ensures tries { interruptions.new ≤ MOST_INTERRUPTIONS }
+    requires { interruptions.old ≤ most_interruptions }
+    ensures tries { interruptions.new ≤ most_interruptions }
     ensures written { OnOk result (Appends (W.contents writer.old) (W.contents writer.new) (replicate count pad)) }
     ensures short { IfErr result (λ gone. gone < count) }
     ensures gone { IfErr result (λ gone. Appends (W.contents writer.old) (W.contents writer.new) (replicate gone pad)) }
@@ -127,8 +125,8 @@ fn write_block<W: Write>(
     interruptions: &mut u32,
 ) -> Result<(), u64>
     requires size { size ≤ BLOCK }
-    requires tries { interruptions.old ≤ MOST_INTERRUPTIONS }
-    ensures tries { interruptions.new ≤ MOST_INTERRUPTIONS }
+    requires tries { interruptions.old ≤ most_interruptions }
+    ensures tries { interruptions.new ≤ most_interruptions }
     ensures written { OnOk result (Appends (W.contents writer.old) (W.contents writer.new) (replicate size pad)) }
     ensures short { IfErr result (λ gone. gone < size) }
     ensures gone { IfErr result (λ gone. Appends (W.contents writer.old) (W.contents writer.new) (take gone (replicate size pad))) }

@@ -4,7 +4,7 @@ use Rattle.std.specs.Prelude.{replicate, Result, Ok, Err, ℤ, ◌↔◌}
 use Rattle.ti_expand.specs.declared.fault.ExpandFault.{ExpandFault}
 use Rattle.ti_expand.specs.declared.fault.ExpandFault.TheVariants.{TextTooLong}
 use Rattle.ti_cap.specs.Capability.{IsWellFormed}
-use Rattle.ti_expand.specs.declared.value.Value.{Value}
+use Rattle.ti_expand.specs.declared.values.Value.{Value}
 use Rattle.ti_expand.specs.State.{start}
 use Rattle.ti_expand.specs.Meaning.{meaning}
 use Rattle.ti_expand.specs.Expands.{ForTree, IsFirstTooLong}

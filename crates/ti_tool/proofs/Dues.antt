@@ -3,7 +3,7 @@ use Rattle.std.proofs.Common.{◌≡◌, ◌⊎◌, ℕ, inl, inr, Bool, List, E
 use Rattle.std.specs.Prelude.{Option}
 use Rattle.ti_words.specs.declared.Width.{Width}
 use Rattle.ti_words.specs.Texts.{TextValue, AbsentText, CancelledText, TextOf}
-use Rattle.ti_expand.specs.declared.value.Value.{Value}
+use Rattle.ti_expand.specs.declared.values.Value.{Value}
 use Rattle.ti_pad.specs.Setting.{Setting}
 use Rattle.ti_entry.specs.Value.{EntryValue}
 use Rattle.ti_entry.specs.Spelling.{Spells}

@@ -6,7 +6,7 @@ use Rattle.std.proofs.Math.Seq.{take-suc}
 use Rattle.std.proofs.lemmas.List.{map-append, length-map, length-take-le, take-append-drop}
 use Rattle.ti_tool.specs.declared.params.WordFault.{WordFault}
 use Rattle.ti_tool.specs.declared.params.WordFault.TheVariants.{TooMany, BadWord}
-use Rattle.ti_expand.specs.declared.value.Value.{Value}
+use Rattle.ti_expand.specs.declared.values.Value.{Value}
 use Rattle.ti_tool.specs.Params.{IsWord, Stand, AreParams, IsFirstBad}
 
 -- the first words stand for the first values, and the values behind are 0

@@ -1,8 +1,9 @@
 -- Pieces that a source gave one after another.
-use Rattle.std.proofs.Common.{◌≡◌, ◌∙◌, ◌⊎◌, ℕ, length, List, [], ◌++◌, sym, ap, subst, append-nil, append_assoc}
+use Rattle.std.proofs.Common.{◌≡◌, ◌∙◌, ◌⊎◌, ◌+◌, ℕ, length, List, [], ◌++◌, sym, ap, subst, append-nil, append_assoc}
 use Rattle.std.specs.Prelude.{Option}
 use Rattle.std.specs.Io.KnownBytes.{Consumes}
 use Rattle.std.proofs.KnownBytes.{Consumes-nil, Consumes-trans}
+use Rattle.ti_base.specs.Limits.{most_capability_bytes}
 use Rattle.ti_tool.specs.Reading.{Takes}
 
 pub Takes-nil : (a : Option (List ℕ)) (xs : List ℕ) → Takes a a xs xs
@@ -20,5 +21,5 @@ Takes-empty a b old new x (bytes, took, is) e s =
     subst P (sym (s ∙ is ∙ ap (λ l. l ++ bytes) e)) took
 
 -- the buffer is full, or the source is at its end
-pub at_end : (E : Type 0) (new x : List ℕ) → x ≡ new → (length new ≡ 32768) ⊎ E → (length x ≡ 32768) ⊎ E
-at_end E new x s h = let P : List ℕ → Type 0 = λ l. (length l ≡ 32768) ⊎ E in subst P (sym s) h
+pub at_end : (E : Type 0) (new x : List ℕ) → x ≡ new → (length new ≡ most_capability_bytes + 1) ⊎ E → (length x ≡ most_capability_bytes + 1) ⊎ E
+at_end E new x s h = let P : List ℕ → Type 0 = λ l. (length l ≡ most_capability_bytes + 1) ⊎ E in subst P (sym s) h

@@ -1,14 +1,20 @@
 -- Lines with verdicts that are written one item after another.
-use Rattle.std.proofs.Common.{◌≡◌, ℕ, inl, suc, ◌+◌, ◌<◌, ◌≤◌, Bool, true, false, ◌&&◌, List, [], ◌∷◌, ◌++◌, length, drop, get_or, refl, sym, ◌∙◌, ap, subst, append_assoc, add-one, drop-cons}
+use Rattle.std.proofs.Common.{◌≡◌, ℕ, inl, inr, suc, ◌+◌, ◌<◌, ◌≤◌, Bool, true, false, ◌&&◌, List, [], ◌∷◌, ◌++◌, length, drop, get_or, refl, sym, ◌∙◌, ap, subst, append_assoc, add-one, drop-cons}
 use Rattle.std.proofs.lemmas.List.{append-nil, drop_all}
-use Rattle.std.specs.Prelude.{codes, decimal}
+use Rattle.std.specs.Prelude.{codes}
 use Rattle.ti_words.specs.declared.Kind.TheVariants as kinds
-use Rattle.ti_words.specs.Texts.{TextValue, AbsentText}
+use Rattle.ti_words.specs.Texts.{TextValue, AbsentText, TextOf, text_value}
+use Rattle.ti_words.specs.declared.Text.{Text}
+use Rattle.ti_words.specs.declared.Text.TheVariants as texts
+use denote.Bor.{Bor}
 use Rattle.ti_entry.specs.Value.{EntryValue}
 use Rattle.ti_cap.specs.Capability.{HasDepth, HasBound}
 use Rattle.ti_cap.specs.Refusal.{IsFaultless}
 use Rattle.ti_tool.specs.Labels.{label_of}
-use Rattle.ti_tool.specs.Checked.{AreLines, AreVerdicts, IsLine, IsStandardLine, IsVerdict}
+use Rattle.ti_tool.specs.declared.verdict.Verdict.{Verdict}
+use Rattle.ti_tool.specs.declared.verdict.Verdict.TheVariants.{Sound, Faulty}
+use Rattle.ti_tool.specs.Judged.{IsJudged, is_sound, verdict_line}
+use Rattle.ti_tool.specs.Checked.{AreLines, AreVerdicts, IsLine, IsStandardLine}
 
 -- what was written so far goes on to lines of the whole, however the items from an index on are told
 abbrev pub GoesOn : {X : Type 0} → (ℕ → X → List ℕ → Bool → Type 0) → List X → List ℕ → ℕ → List ℕ → Bool → Type 0
@@ -20,7 +26,7 @@ and_assoc : (a b c : Bool) → (a && (b && c)) ≡ ((a && b) && c)
 and_assoc true b c = refl
 and_assoc false b c = refl
 
-and_true : (a : Bool) → (a && true) ≡ a
+pub and_true : (a : Bool) → (a && true) ≡ a
 and_true true = refl
 and_true false = refl
 
@@ -56,13 +62,32 @@ standard_next texts i label text begin out new sound one h l t goes (line, is, n
     goes_next IsStandardLine texts i AbsentText begin out new line sound one h goes (subst Q t (subst P l is)) n
 
 -- the verdict on a text that parsing accepted
-pub sound_verdict : (text capability : List ℕ) (depth bound : ℕ) (out new : List ℕ) → capability ≡ text → IsFaultless text → HasDepth capability depth → HasBound capability 0 bound
-    → new ≡ out ++ (codes " ok depth " ++ decimal depth ++ codes " bound " ++ decimal bound ++ codes "\n")
-    → (verdict : List ℕ) × IsVerdict text verdict true × (new ≡ out ++ verdict)
-sound_verdict text capability depth bound out new e faultless d b n =
+pub sound_judged : (text capability : List ℕ) (verdict : Verdict) (depth bound : ℕ) → verdict ≡ Sound depth bound → capability ≡ text → IsFaultless text
+    → HasDepth capability depth → HasBound capability 0 bound → IsJudged text verdict
+sound_judged text capability verdict depth bound v e faultless d b =
     let P : List ℕ → Type 0 = λ x. HasDepth x depth in
     let Q : List ℕ → Type 0 = λ x. HasBound x 0 bound in
-    (_, inl (refl, (depth, bound, faultless, subst P e d, subst Q e b, refl)), n)
+    subst (IsJudged text) (sym v) (faultless, subst P e d, subst Q e b)
+
+-- its line is that of the definitions
+pub judged_line : (word label text : List ℕ) (verdict : Verdict) → IsJudged text verdict → IsLine word label (TextOf text) (word ++ label ++ verdict_line verdict) (is_sound verdict)
+judged_line word label text (Sound depth bound) (faultless, d, b) = (_, inl (refl, (depth, bound, faultless, d, b, refl)), refl)
+judged_line word label text (Faulty refused) h = (_, inr (refl, (refused, h, refl)), refl)
+
+-- what is written of a text that is there
+pub line_of_text : (word label out new : List ℕ) (text : Text) (bytes : List ℕ) (verdict : Verdict) (one : Bool) → text_value text ≡ TextOf bytes → IsJudged bytes verdict → one ≡ is_sound verdict
+    → new ≡ out ++ (word ++ label ++ verdict_line verdict) → (line : List ℕ) × IsLine word label (text_value text) line one × (new ≡ out ++ line)
+line_of_text word label out new text bytes verdict one t judged s n =
+    let P : TextValue → Type 0 = λ x. IsLine word label x (word ++ label ++ verdict_line verdict) one in
+    let Q : Bool → Type 0 = λ b. IsLine word label (TextOf bytes) (word ++ label ++ verdict_line verdict) b in
+    (_, subst P (sym t) (subst Q (sym s) (judged_line word label bytes verdict judged)), n)
+
+-- nothing is written of a text that is not there
+pub line_of_none : (word label out new : List ℕ) (text : Text) → ((bytes : Bor (List ℕ)) → text ≡ texts.Value bytes → ⊥) → new ≡ out
+    → (line : List ℕ) × IsLine word label (text_value text) line true × (new ≡ out ++ line)
+line_of_none word label out new texts.Absent none n = ([], (refl, refl), n ∙ sym (append-nil out))
+line_of_none word label out new texts.Cancelled none n = ([], (refl, refl), n ∙ sym (append-nil out))
+line_of_none word label out new (texts.Value bytes) none n = absurd (none bytes refl)
 
 -- what was written to a new vector is all of the lines
 pub all_verdicts : (v : EntryValue) (old new : List ℕ) (sound : Bool) → old ≡ [] → (lines : List ℕ) × AreVerdicts v lines sound × (new ≡ old ++ lines) → AreVerdicts v new sound

@@ -1,6 +1,7 @@
 -- What the calls of the program do to their reader and writer.
-use Rattle.std.specs.Prelude.{◌≡◌, ◌<◌, ◌⊎◌, ℕ, Bool, List, IfOk, Option, Some, None, Result, Ok, Err, length, take}
+use Rattle.std.specs.Prelude.{◌≡◌, ◌<◌, ◌⊎◌, ◌+◌, ℕ, Bool, List, IfOk, Option, Some, None, Result, Ok, Err, length, take}
 use Rattle.std.specs.Io.KnownBytes.{Appends, Consumes, IsAtEnd, Keeps}
+use Rattle.ti_base.specs.Limits.{most_capability_bytes}
 use Rattle.ti_entry.specs.declared.fault.Refused.{Refused}
 use Rattle.ti_entry.specs.Reading.{Reading}
 use Rattle.ti_entry.specs.Refusal.{refusal, failure}
@@ -33,7 +34,7 @@ pub record DidCall (due : List ℕ → Result (List ℕ) ToolFault → Type 0) (
 
 -- as many bytes as `cap` keeps
 abbrev pub IsFull : List ℕ → Type 0
-IsFull input = length input ≡ 32768
+IsFull input = length input ≡ most_capability_bytes + 1
 
 -- a check of an entry has failed on bytes that came, whatever would follow
 abbrev pub HasFailed : List ℕ → Type 0

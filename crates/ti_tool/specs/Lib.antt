@@ -4,6 +4,7 @@ pub mod Labels
 pub mod Shown
 pub mod Names
 pub mod Checked
+pub mod Judged
 pub mod Results
 pub mod Calls
 pub mod Runs

@@ -3,8 +3,8 @@ use Rattle.std.specs.Prelude.{◌≡◌, ℕ, ◌<◌, ◌-◌, List, [], ◌∷
 use Rattle.std.specs.List.{AllByRecursion}
 use Rattle.std.specs.Int.{w32}
 use Rattle.std.specs.Str.Parse.{IsNumeral, digits_value}
-use Rattle.ti_expand.specs.declared.value.Value.{Value}
-use Rattle.ti_expand.specs.declared.value.Value.TheVariants.{Num, Text}
+use Rattle.ti_expand.specs.declared.values.Value.{Value}
+use Rattle.ti_expand.specs.declared.values.Value.TheVariants.{Num, Text}
 
 -- decimal digits, one or more, with a `-` before them or none, that stand for a number of 32 bits
 abbrev pub IsNumber : List ℕ → ℤ → Type 0

@@ -4,7 +4,7 @@ use Rattle.hex.specs.Hex.{encode_lower}
 use Rattle.ti_cap.specs.Tree.{Sequence}
 use Rattle.ti_cap.specs.Spelling.{Writes}
 use Rattle.ti_cap.specs.Refusal.{IsRefusal, IsFaultless}
-use Rattle.ti_expand.specs.declared.value.Value.{Value}
+use Rattle.ti_expand.specs.declared.values.Value.{Value}
 use Rattle.ti_expand.specs.State.{start}
 use Rattle.ti_expand.specs.Meaning.{meaning}
 use Rattle.ti_expand.specs.Expands.{IsFirstTooLong}
@@ -14,6 +14,7 @@ use Rattle.ti_entry.specs.Spelling.{Spells}
 use Rattle.ti_entry.specs.Refusal.{refusal}
 use Rattle.ti_words.specs.declared.Width.{Width}
 use Rattle.ti_words.specs.Texts.{TextValue, AbsentText, CancelledText, TextOf}
+use Rattle.ti_base.specs.Limits.{most_padded_bytes}
 use Rattle.ti_pad.specs.Setting.{Setting}
 use Rattle.ti_pad.specs.Padded.{padded}
 use Rattle.ti_entry.specs.Canonical.{canonical}
@@ -25,10 +26,10 @@ use Rattle.ti_tool.specs.declared.fault.ToolFault.{ToolFault}
 use Rattle.ti_tool.specs.declared.fault.ToolFault.TheVariants as fault
 
 -- the bytes, or the same in lower-case hex with a newline
-abbrev pub shown : Bool → List ℕ → List ℕ
-shown hex bytes = if hex then encode_lower bytes ++ 10 ∷ [] else bytes
+abbrev pub output_bytes : Bool → List ℕ → List ℕ
+output_bytes hex bytes = if hex then encode_lower bytes ++ 10 ∷ [] else bytes
 
--- the bytes that a capability writes with these parameters, where each variable begins as 0
+-- the bytes that a capability writes with these parameters, where each variable starts as 0
 pub record IsExpansion (capability : List ℕ) (parameters : List Value) (out : List ℕ) : Type 0 where
   pub tree : Sequence
   pub writes : Writes tree capability
@@ -44,17 +45,17 @@ IsUnexpanded capability parameters _ = ⊥
 -- the result of `cap`, or the first fault
 abbrev pub IsCapped : List Value → Bool → List ℕ → Result (List ℕ) ToolFault → Type 0
 IsCapped parameters hex input (Ok out) =
-    (plain : List ℕ) × IsFaultless input × IsExpansion input parameters plain × (out ≡ shown hex plain)
+    (plain : List ℕ) × IsFaultless input × IsExpansion input parameters plain × (out ≡ output_bytes hex plain)
 IsCapped parameters hex input (Err e) = IsUnexpanded input parameters e
 
 -- a text of an entry, expanded and then padded, or the first fault
 abbrev pub IsPadded : List ℕ → List Value → Setting → Bool → Result (List ℕ) ToolFault → Type 0
 IsPadded text parameters setting hex (Ok out) =
     (plain : List ℕ) × IsFaultless text × IsExpansion text parameters plain
-    × (length (padded plain setting) ≤ 67108864) × (out ≡ shown hex (padded plain setting))
+    × (length (padded plain setting) ≤ most_padded_bytes) × (out ≡ output_bytes hex (padded plain setting))
 IsPadded text parameters setting hex (Err (fault.TooMuch need)) =
     (plain : List ℕ) × IsFaultless text × IsExpansion text parameters plain
-    × (need ≡ length (padded plain setting)) × (67108864 < need)
+    × (need ≡ length (padded plain setting)) × (most_padded_bytes < need)
 IsPadded text parameters setting hex (Err e) = IsUnexpanded text parameters e
 
 -- what is due for a text, or for none

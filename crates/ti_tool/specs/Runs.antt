@@ -3,7 +3,7 @@ use Rattle.std.specs.Prelude.{◌≡◌, ◌⊎◌, ℕ, Bool, true, false, ◌&
 use Rattle.std.specs.Io.KnownBytes.{Keeps}
 use Rattle.ti_words.specs.declared.Width.{Width}
 use Rattle.ti_words.specs.declared.Width.TheVariants.{Legacy, Wide}
-use Rattle.ti_expand.specs.declared.value.Value.{Value}
+use Rattle.ti_expand.specs.declared.values.Value.{Value}
 use Rattle.ti_pad.specs.Setting.{Setting}
 use Rattle.ti_line.specs.CommandLine.{Asked, AsksForHelp, Cap, Show, Check, Expand, Convert, IsRefused}
 use Rattle.ti_line.specs.declared.line.NoLine.{NoLine}
@@ -33,21 +33,21 @@ check_status (Ok true) = 0
 check_status (Ok false) = 1
 check_status (Err e) = status_for (Err e)
 
--- what the reader has left and the writer of the results holds, before and after
-pub record Ends : Type 0 where
-  pub left0 : Option (List ℕ)
-  pub left1 : Option (List ℕ)
-  pub held0 : Option (List ℕ)
-  pub held1 : Option (List ℕ)
+-- what is known of the bytes that a reader has left, or that a writer holds
+abbrev pub Known : Type 0
+Known = Option (List ℕ)
+
+-- In what follows `left0` and `left1` are what the reader has left before and after, and `held0` and `held1` what the
+-- writer of the results holds.
 
 -- a run that refuses its words reads nothing, and writes nothing to the results
-abbrev pub RefusesWords : Ends → ℕ → Type 0
-RefusesWords ends status = (status ≡ 2) × (ends.left1 ≡ ends.left0) × Keeps ends.held0 ends.held1
+abbrev pub RefusesWords : Known → Known → Known → Known → ℕ → Type 0
+RefusesWords left0 left1 held0 held1 status = (status ≡ 2) × (left1 ≡ left0) × Keeps held0 held1
 
 -- the words of the parameters stand for none, or a call did its work with them
-abbrev pub RanWith : (List Value → Result (Unit {0}) ToolFault → Type 0) → List (List ℕ) → Ends → ℕ → Type 0
-RanWith Did words ends status =
-    (((values : List Value) → ¬ AreParams words values) × RefusesWords ends status)
+abbrev pub RanWith : (List Value → Result (Unit {0}) ToolFault → Type 0) → List (List ℕ) → Known → Known → Known → Known → ℕ → Type 0
+RanWith Did words left0 left1 held0 held1 status =
+    (((values : List Value) → ¬ AreParams words values) × RefusesWords left0 left1 held0 held1 status)
     ⊎ ((values : List Value) × (answer : Result (Unit {0}) ToolFault) × AreParams words values × Did values answer × (status ≡ status_for answer))
 
 -- the padding of the options of `expand`; the pad byte is 0
@@ -61,33 +61,43 @@ width_asked false true = Some Legacy
 width_asked false false = None
 
 -- a line did what it asks for; both flags of `convert` together are refused as bad parameters are
-abbrev pub RanLine : Asked → Ends → ℕ → Type 0
-RanLine (Cap hex words) ends status =
-    RanWith (λ values answer. DidCall (IsCapped values hex) IsFull ends.left0 ends.left1 ends.held0 ends.held1 answer) words ends status
-RanLine Show ends status =
-    (answer : Result (Unit {0}) ToolFault) × DidCall IsShown HasFailed ends.left0 ends.left1 ends.held0 ends.held1 answer × (status ≡ status_for answer)
-RanLine Check ends status =
-    (answer : Result Bool ToolFault) × DidCheck IsChecked ends.left0 ends.left1 ends.held0 ends.held1 answer × (status ≡ check_status answer)
-RanLine (Expand name hex rate lines xon words) ends status =
-    RanWith (λ values answer. DidCall (IsNamed name values (setting_of rate lines xon) hex) HasFailed ends.left0 ends.left1 ends.held0 ends.held1 answer) words ends status
-RanLine (Convert wide narrow) ends status =
-    ((wide && narrow ≡ true) × RefusesWords ends status)
+abbrev pub RanLine : Asked → Known → Known → Known → Known → ℕ → Type 0
+RanLine (Cap hex words) left0 left1 held0 held1 status =
+    RanWith (λ values answer. DidCall (IsCapped values hex) IsFull left0 left1 held0 held1 answer) words left0 left1 held0 held1 status
+RanLine Show left0 left1 held0 held1 status =
+    (answer : Result (Unit {0}) ToolFault) × DidCall IsShown HasFailed left0 left1 held0 held1 answer × (status ≡ status_for answer)
+RanLine Check left0 left1 held0 held1 status =
+    (answer : Result Bool ToolFault) × DidCheck IsChecked left0 left1 held0 held1 answer × (status ≡ check_status answer)
+RanLine (Expand name hex rate lines xon words) left0 left1 held0 held1 status =
+    RanWith (λ values answer. DidCall (IsNamed name values (setting_of rate lines xon) hex) HasFailed left0 left1 held0 held1 answer) words left0 left1 held0 held1 status
+RanLine (Convert wide narrow) left0 left1 held0 held1 status =
+    ((wide && narrow ≡ true) × RefusesWords left0 left1 held0 held1 status)
     ⊎ ((wide && narrow ≡ false)
     × ((answer : Result (Unit {0}) ToolFault)
-    × DidCall (IsConverted (width_asked wide narrow)) HasFailed ends.left0 ends.left1 ends.held0 ends.held1 answer × (status ≡ status_for answer)))
+    × DidCall (IsConverted (width_asked wide narrow)) HasFailed left0 left1 held0 held1 answer × (status ≡ status_for answer)))
 
--- memory was wanted, and nothing is done
-abbrev pub HadNoMemory : Ends → ℕ → Type 0
-HadNoMemory ends status = (status ≡ 6) × (ends.left1 ≡ ends.left0) × Keeps ends.held0 ends.held1
+-- memory was refused, and nothing is done
+abbrev pub HadNoMemory : Known → Known → Known → Known → ℕ → Type 0
+HadNoMemory left0 left1 held0 held1 status = (status ≡ 6) × (left1 ≡ left0) × Keeps held0 held1
 
 -- words that are no line: they ask for help, which is all that is written, or they are refused; nothing is read
-abbrev pub RanNoLine : List (List ℕ) → Ends → ℕ → Type 0
-RanNoLine words ends status =
-    (AsksForHelp words × (ends.left1 ≡ ends.left0) × ((status ≡ 0) ⊎ (status ≡ 5)))
-    ⊎ (IsRefused words × RefusesWords ends status)
+abbrev pub RanNoLine : List (List ℕ) → Known → Known → Known → Known → ℕ → Type 0
+RanNoLine words left0 left1 held0 held1 status =
+    (AsksForHelp words × (left1 ≡ left0) × ((status ≡ 0) ⊎ (status ≡ 5)))
+    ⊎ (IsRefused words × RefusesWords left0 left1 held0 held1 status)
+
+-- a line did what it asks for, unless memory was refused before
+abbrev pub DidLine : Asked → Known → Known → Known → Known → ℕ → Type 0
+DidLine line left0 left1 held0 held1 status =
+    RanLine line left0 left1 held0 held1 status ⊎ HadNoMemory left0 left1 held0 held1 status
+
+-- words that are no line were answered, unless memory was refused before
+abbrev pub DidNoLine : List (List ℕ) → Known → Known → Known → Known → ℕ → Type 0
+DidNoLine words left0 left1 held0 held1 status =
+    RanNoLine words left0 left1 held0 held1 status ⊎ HadNoMemory left0 left1 held0 held1 status
 
 -- how the program ends where there is no line, by the reason
-abbrev pub EndsWords : NoLine → Option (List ℕ) → Option (List ℕ) → ℕ → Type 0
+abbrev pub EndsWords : NoLine → Known → Known → ℕ → Type 0
 EndsWords (no_line.Help message) held0 held1 status = (status ≡ 0) ⊎ (status ≡ 5)
 EndsWords (no_line.Refused message) held0 held1 status = (status ≡ 2) × Keeps held0 held1
 EndsWords no_line.Memory held0 held1 status = (status ≡ 6) × Keeps held0 held1

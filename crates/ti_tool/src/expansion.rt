@@ -7,14 +7,11 @@ ghost use Rattle.ti_tool.specs.Results.{IsExpansion, IsUnexpanded};
 
 use crate::fault::ToolFault;
 use std::alloc::Allocator;
-use ti_cap::capability::Capability;
-use ti_expand::expand::expand_in;
-use ti_expand::fault::ExpandFault;
-use ti_expand::value::Value;
-use ti_expand::vars::Vars;
+use ti_cap::Capability;
+use ti_expand::{ExpandFault, Value, Vars, expand};
 
 /// What a capability writes with these parameters, where each variable begins as 0.
-pub fn expanded_in<A: Allocator + Copy>(
+pub fn expansion_of<A: Allocator + Copy>(
     alloc: A,
     bytes: &[u8],
     parameters: &[Value<'_>; 9],
@@ -25,7 +22,7 @@ pub fn expanded_in<A: Allocator + Copy>(
 {
     let capability = Capability::parse(bytes)?;
     let mut vars = Vars::new();
-    match expand_in(alloc, &capability, parameters, &mut vars) {
+    match expand(alloc, &capability, parameters, &mut vars) {
         Ok(output) => Ok(output),
         Err(ExpandFault::TextTooLong { parameter }) => Err(ToolFault::TextTooLong(parameter)),
         Err(_) => Err(ToolFault::Memory),

@@ -6,7 +6,7 @@ ghost use Rattle.ti_tool.specs.declared.fault.ToolFault.TheVariants as fault;
 use crate::source::ReadFailed;
 use std::alloc::AllocError;
 use thiserror::Error;
-use ti_cap::token::CapRefused;
+use ti_cap::CapRefused;
 use ti_entry::{EncodeFault, Refused};
 
 /// Why a call of the program did not write its result, or not all of it.
@@ -15,7 +15,7 @@ pub enum ToolFault {
     /// The bytes are no entry.
     #[error("Entry")]
     Entry(Refused),
-    /// The entry can't be encoded; want of memory is [`ToolFault::Memory`].
+    /// The entry can't be encoded; out of memory is [`ToolFault::Memory`].
     #[error("Encode")]
     Encode(EncodeFault),
     /// The bytes are no capability.

@@ -1,9 +1,7 @@
 //! The program `ti` as functions from the bytes read to the bytes written.
 #![tactic(auto)]
 
-mod cap;
-pub mod check;
-pub mod convert;
+mod command;
 mod entry;
 mod expansion;
 mod fault;
@@ -11,17 +9,19 @@ mod label;
 pub mod laws;
 mod line;
 mod listing;
-mod named;
 mod names;
 mod output;
 mod params;
-pub mod run;
-pub mod show;
+mod program;
 mod source;
 mod status;
 mod verdict;
 
-pub use cap::{cap_run, cap_run_in};
+pub use command::cap::cap_run;
+pub use command::check::check;
+pub use command::convert::convert;
+pub use command::expand::expand_named;
+pub use command::show::show;
 pub use fault::ToolFault;
-pub use named::{expand_named, expand_named_in};
 pub use params::{WordFault, read_params};
+pub use program::run;

@@ -115,7 +115,7 @@ fn format_word(width: Width) -> &'static str
 }
 
 /// The listing of an entry.
-pub fn lines_in<A: Allocator + Copy>(alloc: A, entry: &Entry<'_>) -> Result<Vec<u8, A>, AllocError>
+pub fn lines_of<A: Allocator + Copy>(alloc: A, entry: &Entry<'_>) -> Result<Vec<u8, A>, AllocError>
     ensures { IfOk result (λ out. out.items ≡ entry_lines entry.now) }
 {
     let mut out = Vec::from_slice(alloc, b"format: ")?;

@@ -2,7 +2,7 @@
 
 ghost use Rattle.std.specs.Prelude.{◌≡◌, true, Ok, IfOk, IfErr};
 ghost use Rattle.ti_tool.specs.declared.fault.ToolFault.TheVariants as fault;
-ghost use Rattle.ti_tool.specs.Results.{shown};
+ghost use Rattle.ti_tool.specs.Results.{output_bytes as the_output_bytes};
 ghost use Rattle.ti_tool.specs.Calls.{Wrote};
 
 use crate::fault::ToolFault;
@@ -11,8 +11,8 @@ use std::io::Write;
 use ti_pad::write_out;
 
 /// The bytes in lower-case hex, and a newline.
-fn hex_line_in<A: Allocator + Copy>(alloc: A, bytes: &[u8]) -> Result<Vec<u8, A>, AllocError>
-    ensures { IfOk result (λ line. line.items ≡ shown true bytes.now) }
+fn hex_line<A: Allocator + Copy>(alloc: A, bytes: &[u8]) -> Result<Vec<u8, A>, AllocError>
+    ensures { IfOk result (λ line. line.items ≡ the_output_bytes true bytes.now) }
 {
     let count = 2 * bytes.len();
     let mut line = Vec::with_capacity(alloc, count + 1)?;
@@ -23,18 +23,18 @@ fn hex_line_in<A: Allocator + Copy>(alloc: A, bytes: &[u8]) -> Result<Vec<u8, A>
 }
 
 /// The bytes as they stand, or with `hex` in lower-case hex and a newline.
-pub fn shown_in<A: Allocator + Copy>(
+pub fn output_bytes<A: Allocator + Copy>(
     alloc: A,
     plain: Vec<u8, A>,
     hex: bool,
 ) -> Result<Vec<u8, A>, ToolFault>
-    ensures value { IfOk result (λ v. v.items ≡ shown hex plain.items) }
+    ensures value { IfOk result (λ v. v.items ≡ the_output_bytes hex plain.items) }
     ensures refused { IfErr result (λ e. e ≡ fault.Memory) }
 {
     if !hex {
         return Ok(plain);
     }
-    Ok(hex_line_in(alloc, plain.as_slice())?)
+    Ok(hex_line(alloc, plain.as_slice())?)
 }
 
 /// Writes a result. Its fault says how many of its bytes the writer took.

@@ -2,11 +2,11 @@
 
 ghost use Rattle.std.specs.Prelude.{◌≡◌, ℕ, ℤ, ◌<◌, ◌↔◌, map, length, IfSome, IfNone, IfOk, OnOk, MatchResult};
 ghost use Rattle.std.specs.List.{AllByRecursion};
-ghost use Rattle.ti_expand.specs.declared.value.Value.{Value};
+ghost use Rattle.ti_expand.specs.declared.values.Value.{Value};
 ghost use Rattle.ti_tool.specs.Params.{IsNumber, IsWord, IsZero, AreParams, IsFirstBad};
 
 use thiserror::Error;
-use ti_expand::value::Value;
+use ti_expand::Value;
 
 /// How many parameters a capability has.
 const COUNT: usize = 9;

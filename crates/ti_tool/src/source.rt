@@ -1,17 +1,18 @@
 //! Reading what a call is to work on.
 //!
-//! At most 512 bytes are asked for at a time, straight into a buffer of a fixed size; no memory is taken.
+//! At most 512 bytes are asked for at a time, and put into a buffer of a fixed size; no memory is taken.
 
-ghost use Rattle.std.specs.Prelude.{◌≡◌, ◌⊎◌, length, OnOk};
+ghost use Rattle.std.specs.Prelude.{◌≡◌, ◌⊎◌, ◌+◌, length, OnOk};
 ghost use Rattle.std.specs.Io.KnownBytes.{IsAtEnd};
+ghost use Rattle.ti_base.specs.Limits.{most_capability_bytes};
 ghost use Rattle.ti_tool.specs.Reading.{Takes};
 
 use arrayvec::ArrayVec;
 use std::io::{ErrorKind, Read};
-use ti_pad::MOST_INTERRUPTIONS;
+use ti_base::{MOST_CAPABILITY_BYTES, MOST_INTERRUPTIONS};
 
-/// The most bytes of an input that are kept.
-pub const MOST_BYTES: usize = 32768;
+/// The most bytes of an input that are kept: one more than a capability may have.
+pub const MOST_BYTES: usize = MOST_CAPABILITY_BYTES + 1;
 
 const PIECE: usize = 512;
 
@@ -28,7 +29,7 @@ pub fn read_up_to<R: Read>(
     source: &mut R,
 ) -> Result<(), ReadFailed>
     ensures taken { Takes (R.remaining source.old) (R.remaining source.new) bytes.old.items bytes.new.items }
-    ensures end { OnOk result ((length bytes.new.items ≡ 32768) ⊎ IsAtEnd (R.remaining source.new)) }
+    ensures end { OnOk result ((length bytes.new.items ≡ most_capability_bytes + 1) ⊎ IsAtEnd (R.remaining source.new)) }
 {
     let mut piece = [0; PIECE];
     let mut interruptions = 0;

@@ -1,17 +1,70 @@
-//! The line that `check` writes of a text.
+//! The verdict that `check` gives on a text, and its line.
+//!
+//! A text is analysed once for each run of equal texts, since texts of an entry may share a long slice.
 
 ghost use Rattle.std.specs.Prelude.{◌≡◌, ◌++◌, List, ℕ, codes, decimal, IfOk, OnOk};
-ghost use Rattle.ti_words.specs.Texts.{text_value};
 ghost use Rattle.ti_cap.specs.Word.{name_of};
 ghost use Rattle.ti_tool.specs.Labels.{label_bytes};
-ghost use Rattle.ti_tool.specs.Checked.{IsVerdict, IsLine};
+ghost use Rattle.ti_tool.specs.Judged.{IsJudged, is_sound, verdict_line};
 
 use crate::label::{Label, push_label};
 use itoa::Buffer;
 use std::alloc::{AllocError, Allocator};
-use ti_cap::capability::Capability;
-use ti_cap::token::CapRefused;
-use ti_words::Text;
+use ti_cap::{CapRefused, Capability};
+
+/// What a text is as a capability.
+#[derive(Clone, Copy, Debug)]
+pub enum Verdict {
+    /// It has no fault, this depth, and this bound where text parameters have no bytes.
+    Sound { depth: usize, bound: u64 },
+    /// It has a fault.
+    Faulty(CapRefused),
+}
+
+impl Verdict {
+    /// Whether there is no fault.
+    pub fn is_sound(self) -> bool
+        ensures { result ≡ is_sound self }
+    {
+        match self {
+            Verdict::Sound { .. } => true,
+            Verdict::Faulty(_) => false,
+        }
+    }
+}
+
+/// A text and the verdict on it.
+#[derive(Clone, Copy, Debug)]
+pub struct JudgedText<'a> {
+    pub text: &'a [u8],
+    pub verdict: Verdict,
+}
+
+/// Analyses a text.
+pub fn judge(text: &[u8]) -> JudgedText<'_>
+    ensures verdict { IsJudged text.now result.verdict }
+    ensures text { result.text.now ≡ text.now }
+{
+    let verdict = match Capability::parse(text) {
+        Ok(capability) => Verdict::Sound {
+            depth: capability.depth(),
+            bound: capability.bound(0),
+        },
+        Err(refused) => Verdict::Faulty(refused),
+    };
+    JudgedText { text, verdict }
+}
+
+impl<'a> JudgedText<'a> {
+    /// The verdict on the text that comes next, which is this one where the text is the same.
+    pub fn next(self, text: &'a [u8]) -> JudgedText<'a>
+        requires { IsJudged self.text.now self.verdict }
+        ensures verdict { IsJudged text.now result.verdict }
+        ensures text { result.text.now ≡ text.now }
+    {
+        if text == self.text { self } else { judge(text) }
+    }
+}
 
 /// Writes the verdict on a capability.
 fn push_sound<A: Allocator>(
@@ -41,37 +94,26 @@ fn push_fault<A: Allocator>(out: &mut Vec<u8, A>, refused: CapRefused) -> Result
     out.extend_from_slice(b"\n")
 }
 
-/// Writes the verdict on a text, and answers whether it has no fault.
-fn push_verdict<A: Allocator>(out: &mut Vec<u8, A>, text: &[u8]) -> Result<bool, AllocError>
-    ensures { IfOk result (λ sound. (verdict : List ℕ) × IsVerdict text.now verdict sound × (out.new.items ≡ out.old.items ++ verdict)) }
+/// Writes the verdict on a text.
+fn push_verdict<A: Allocator>(out: &mut Vec<u8, A>, verdict: Verdict) -> Result<(), AllocError>
+    ensures { OnOk result (out.new.items ≡ out.old.items ++ verdict_line verdict) }
 {
-    match Capability::parse(text) {
-        Ok(capability) => {
-            push_sound(out, capability.depth(), capability.bound(0))?;
-            Ok(true)
-        }
-        Err(refused) => {
-            push_fault(out, refused)?;
-            Ok(false)
-        }
+    match verdict {
+        Verdict::Sound { depth, bound } => push_sound(out, depth, bound),
+        Verdict::Faulty(refused) => push_fault(out, refused),
     }
 }
 
-/// Writes the line of a text that is present, and answers whether it has no fault.
-pub fn push_checked<A: Allocator>(
+/// Writes the line of a text.
+pub fn push_line<A: Allocator>(
     out: &mut Vec<u8, A>,
     word: &[u8],
     label: Label<'_>,
-    text: Text<'_>,
-) -> Result<bool, AllocError>
-    ensures { IfOk result (λ sound. (line : List ℕ) × IsLine word.now (label_bytes label.entry) (text_value text.entry) line sound × (out.new.items ≡ out.old.items ++ line)) }
+    verdict: Verdict,
+) -> Result<(), AllocError>
+    ensures { OnOk result (out.new.items ≡ out.old.items ++ (word.now ++ label_bytes label.entry ++ verdict_line verdict)) }
 {
-    match text {
-        Text::Absent | Text::Cancelled => Ok(true),
-        Text::Value(bytes) => {
-            out.extend_from_slice(word)?;
-            push_label(out, label)?;
-            push_verdict(out, bytes)
-        }
-    }
+    out.extend_from_slice(word)?;
+    push_label(out, label)?;
+    push_verdict(out, verdict)
 }

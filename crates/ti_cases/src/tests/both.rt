@@ -3,11 +3,8 @@
 
 use std::alloc::Global;
 use std::test::Fail;
-use ti_cap::capability::Capability;
-use ti_expand::expand::{expand, expand_into};
-use ti_expand::fault::ExpandFault;
-use ti_expand::value::Value;
-use ti_expand::vars::Vars;
+use ti_cap::Capability;
+use ti_expand::{ExpandFault, Value, Vars, expand, expand_into};
 
 const NUMBERS: [Value<'static>; 9] = [Value::Num(12); 9];
 

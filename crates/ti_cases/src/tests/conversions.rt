@@ -10,9 +10,7 @@ use std::alloc::Global;
 use std::process::Abort;
 use std::test::Fail;
 use ti_entry::EncodeFault;
-use ti_tool::ToolFault;
-use ti_tool::convert::{convert, convert_in};
-use ti_tool::run::run;
+use ti_tool::{ToolFault, convert, run};
 use ti_words::Width;
 
 /// An entry that is canonical already.
@@ -93,7 +91,14 @@ fn texts_shared_by_many_are_too_long(rt: HostRuntime) {
     let words = ["ti", "convert"];
     let mut input = Source::new(&bytes, 512);
     assert_eq!(rt;
-        run(rt.alloc(), &words, &mut input, &mut output, &mut errors),
+        run(
+            rt.alloc(),
+            rt.alloc(),
+            &words,
+            &mut input,
+            &mut output,
+            &mut errors
+        ),
         3
     );
     assert!(rt; output.taken.is_empty());
@@ -213,7 +218,7 @@ fn refused_and_given(
     for step in 0..120usize {
         let heap = LocalHeap::new(alloc, 16 * step)?;
         let mut writer = Sink::new(alloc);
-        match convert_in(&heap, &mut Source::new(entry, 512), width, &mut writer) {
+        match convert(&heap, &mut Source::new(entry, 512), width, &mut writer) {
             Ok(()) => {
                 assert!(rt; writer.taken.as_slice() == bytes, "at {step}");
                 given = given.saturating_add(1);

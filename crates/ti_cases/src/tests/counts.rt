@@ -1,10 +1,8 @@
 //! Lengths, depths, bounds and nesting of capabilities, and the counts of their runs in slices of exactly that size.
 
 use std::test::Fail;
-use ti_cap::capability::Capability;
-use ti_expand::expand::expand_into;
-use ti_expand::value::Value;
-use ti_expand::vars::Vars;
+use ti_cap::Capability;
+use ti_expand::{Value, Vars, expand_into};
 use ti_tool::read_params;
 
 /// A capability with its numbers, and the counts of one run.

@@ -4,7 +4,7 @@ use linked_list_allocator::LocalHeap;
 use std::alloc::{AllocError, Allocator, Global};
 use std::process::Abort;
 use std::test::Fail;
-use ti_entry::{Draft, EncodeFault, encode, encode_in, encoded_len, read};
+use ti_entry::{Draft, EncodeFault, encode, encoded_len, read};
 use ti_words::{Flag, Number, Text, Width};
 
 /// Names `t`, one flag, one number, two texts, and behind them the extended flag AX and the extended text E3.
@@ -35,7 +35,7 @@ fn assert_same<A: Allocator>(
     same: &Draft<'_>,
 ) {
     assert_eq!(rt; encoded_len(draft), encoded_len(same));
-    match (encode_in(alloc, draft), encode(alloc, same)) {
+    match (encode(alloc, draft), encode(alloc, same)) {
         (Ok(bytes), Ok(others)) => assert!(rt; bytes.as_slice() == others.as_slice()),
         _ => assert!(rt; false),
     }
@@ -48,7 +48,7 @@ fn refused_pushes_change_nothing(rt: HostRuntime) -> Result<(), Fail> {
     let mut given = 0u32;
     for step in 0..48usize {
         let heap = LocalHeap::new(rt.alloc(), 24 * step)?;
-        let mut draft = Draft::new_in(&heap, b"t", Width::Legacy);
+        let mut draft = Draft::new(&heap, b"t", Width::Legacy);
         let mut same = Draft::new(rt.alloc(), b"t", Width::Legacy);
         for turn in 0..18usize {
             match push(&mut draft, turn % 6) {
@@ -76,10 +76,10 @@ fn refused_drafts_of_an_entry(rt: HostRuntime) -> Result<(), Fail> {
     let mut given = 0u32;
     for step in 0..48usize {
         let heap = LocalHeap::new(rt.alloc(), 16 * step)?;
-        match entry.draft_in(&heap) {
+        match entry.draft(&heap) {
             Ok(draft) => {
                 given = given.saturating_add(1);
-                let bytes = encode_in(rt.alloc(), &draft).ok().ok_or("encode")?;
+                let bytes = encode(rt.alloc(), &draft).ok().ok_or("encode")?;
                 assert!(rt; bytes.as_slice() == EXTENDED.as_slice(), "at {step}");
             }
             Err(AllocError) => {
@@ -103,7 +103,7 @@ fn refused_encoding(rt: HostRuntime) -> Result<(), Fail> {
     let mut given = 0u32;
     for step in 0..24usize {
         let heap = LocalHeap::new(rt.alloc(), 8 * step)?;
-        match encode_in(&heap, &draft) {
+        match encode(&heap, &draft) {
             Ok(bytes) => {
                 given = given.saturating_add(1);
                 assert!(rt; bytes.as_slice() == EXTENDED.as_slice(), "at {step}");

@@ -6,7 +6,7 @@ use std::alloc::Global;
 use std::process::Abort;
 use std::test::Fail;
 use ti_entry::{Entry, EntryReader, Fault, ReadStop, Refused, encode, read, read_from};
-use ti_tool::run::run;
+use ti_tool::run;
 
 /// An entry written again is read as one that is written in the same way.
 fn assert_again(rt: &impl Abort, alloc: Global, entry: &Entry<'_>) -> Result<Vec<u8>, Fail> {
@@ -295,7 +295,14 @@ fn a_command_whose_source_fails_writes_nothing(rt: HostRuntime) {
             source.fails_at = k;
             let mut output = Sink::new(rt.alloc());
             let mut errors = Sink::new(rt.alloc());
-            let status = run(rt.alloc(), words, &mut source, &mut output, &mut errors);
+            let status = run(
+                rt.alloc(),
+                rt.alloc(),
+                words,
+                &mut source,
+                &mut output,
+                &mut errors,
+            );
             assert_eq!(rt; status, 5, "{words:?} at {k}");
             assert!(rt; output.taken.is_empty(), "{words:?} at {k}");
             assert!(rt; errors.taken.as_slice() == b"input: failed\n".as_slice());

@@ -4,14 +4,10 @@ use super::entries::{EXTENDED, TEXT};
 use super::fakes::{Sink, Source};
 use linked_list_allocator::LocalHeap;
 use std::test::Fail;
-use ti_cap::capability::Capability;
-use ti_expand::expand::{expand, expand_in};
-use ti_expand::fault::ExpandFault;
-use ti_expand::value::Value;
-use ti_expand::vars::Vars;
-use ti_pad::{PadFault, Padding, pad_in};
-use ti_tool::run::run_in;
-use ti_tool::{ToolFault, cap_run_in};
+use ti_cap::Capability;
+use ti_expand::{ExpandFault, Value, Vars, expand};
+use ti_pad::{PadFault, Padding, pad};
+use ti_tool::{ToolFault, cap_run, run};
 
 const NUMBERS: [Value<'static>; 9] = [Value::Num(12); 9];
 
@@ -20,7 +16,7 @@ fn expanding_without_memory_keeps_the_variables(rt: HostRuntime) -> Result<(), F
     let mut vars = Vars::new();
     let heap = LocalHeap::new(rt.alloc(), 64)?;
     let wide = Capability::parse(b"%p1%PA%gA%255d").ok().ok_or("parse")?;
-    let refused = expand_in(&heap, &wide, &NUMBERS, &mut vars);
+    let refused = expand(&heap, &wide, &NUMBERS, &mut vars);
     assert!(rt; matches!(refused, Err(ExpandFault::Memory)));
     assert!(rt; vars.get(b'A') == Some(0));
     let capability = Capability::parse(b"%p1%PA%gA%gA%*%d").ok().ok_or("parse")?;
@@ -48,7 +44,7 @@ fn each_growth_of_a_call_is_refused_in_turn(rt: HostRuntime) -> Result<(), Fail>
         let heap = LocalHeap::new(rt.alloc(), 16 * step)?;
         let mut writer = Sink::new(rt.alloc());
         let mut source = Source::new(b"\x1b[%i%p1%d;%p2%dH, and some more bytes behind it", 512);
-        match cap_run_in(&heap, &mut source, &NUMBERS, true, &mut writer) {
+        match cap_run(&heap, &mut source, &NUMBERS, true, &mut writer) {
             Ok(()) => {
                 given = given.saturating_add(1);
                 assert!(rt; writer.taken.len() > 60, "at {step}");
@@ -74,7 +70,7 @@ fn the_program_without_memory_says_so(rt: HostRuntime) -> Result<(), Fail> {
     let words = ["ti", "cap", "n:7"];
     let mut input = Source::new(b"%p1%255d", 512);
     assert_eq!(rt;
-        run_in(
+        run(
             rt.alloc(),
             &heap,
             &words,
@@ -118,7 +114,7 @@ fn each_growth_of_the_program_is_refused_in_turn(rt: HostRuntime) -> Result<(), 
             let mut output = Sink::new(rt.alloc());
             let mut errors = Sink::new(rt.alloc());
             let mut input = Source::new(*bytes, 512);
-            match run_in(
+            match run(
                 rt.alloc(),
                 &heap,
                 *words,
@@ -148,7 +144,7 @@ fn padding_takes_its_memory_at_once(rt: HostRuntime) -> Result<(), Fail> {
     let mut refused = 0u32;
     for step in 0..40usize {
         let heap = LocalHeap::new(rt.alloc(), 8 * step)?;
-        match pad_in(&heap, b"\x1b[H$<50*/>", &padding) {
+        match pad(&heap, b"\x1b[H$<50*/>", &padding) {
             Ok(text) => assert_eq!(rt; text.len(), 99, "at {step}"),
             Err(fault) => {
                 assert!(rt; fault == PadFault::Memory, "at {step}");

@@ -4,10 +4,9 @@ use super::entries::{EXTENDED, SMALL, TEXT};
 use super::fakes::{Sink, Source};
 use linked_list_allocator::LocalHeap;
 use std::test::Fail;
-use ti_expand::value::Value;
+use ti_expand::Value;
 use ti_pad::Padding;
-use ti_tool::run::{run, run_in};
-use ti_tool::{ToolFault, expand_named, expand_named_in};
+use ti_tool::{ToolFault, expand_named, run};
 
 /// An entry, a name, the text that is parameter 1, the padding, and what is written.
 struct Row {
@@ -338,7 +337,7 @@ fn each_growth_of_an_expansion_is_refused_in_turn(rt: HostRuntime) -> Result<(),
         let heap = LocalHeap::new(rt.alloc(), 16 * step)?;
         let mut writer = Sink::new(rt.alloc());
         let mut source = Source::new(TEXT, 512);
-        match expand_named_in(
+        match expand_named(
             &heap,
             &mut source,
             "#0",
@@ -369,7 +368,14 @@ fn a_failed_write_and_want_of_memory_have_their_status(rt: HostRuntime) -> Resul
     let mut errors = Sink::new(rt.alloc());
     let mut input = Source::new(SMALL, 5);
     assert_eq!(rt;
-        run(rt.alloc(), &words, &mut input, &mut output, &mut errors),
+        run(
+            rt.alloc(),
+            rt.alloc(),
+            &words,
+            &mut input,
+            &mut output,
+            &mut errors
+        ),
         5
     );
     assert!(rt; errors.taken.as_slice() == b"output: failed\n".as_slice());
@@ -384,7 +390,7 @@ fn a_failed_write_and_want_of_memory_have_their_status(rt: HostRuntime) -> Resul
     let mut errors = Sink::new(rt.alloc());
     let mut input = Source::new(TEXT, 5);
     assert_eq!(rt;
-        run_in(
+        run(
             rt.alloc(),
             &heap,
             &wide,

@@ -4,10 +4,8 @@ use super::fakes::{Sink, Source};
 use std::alloc::Global;
 use std::process::Abort;
 use std::test::Fail;
-use ti_cap::capability::Capability;
-use ti_expand::expand::{expand, expand_into};
-use ti_expand::value::Value;
-use ti_expand::vars::Vars;
+use ti_cap::Capability;
+use ti_expand::{Value, Vars, expand, expand_into};
 use ti_tool::{cap_run, read_params};
 
 /// A capability, the words of its parameters, and the bytes that it writes.

@@ -3,7 +3,7 @@
 use super::entries::{EXTENDED, QUESTION, SHARED, SMALL, TEXT, WIDE, WIDE_EXTENDED};
 use super::fakes::{Sink, Source};
 use std::test::Fail;
-use ti_tool::run::run;
+use ti_tool::run;
 
 /// Words, what is read, the status, what is written, and the line on a fault.
 struct Row {
@@ -278,7 +278,14 @@ fn the_program_ends_with_its_status(rt: HostRuntime) {
         let mut output = Sink::new(rt.alloc());
         let mut errors = Sink::new(rt.alloc());
         let mut input = Source::new(row.input, 5);
-        let status = run(rt.alloc(), row.words, &mut input, &mut output, &mut errors);
+        let status = run(
+            rt.alloc(),
+            rt.alloc(),
+            row.words,
+            &mut input,
+            &mut output,
+            &mut errors,
+        );
         assert_eq!(rt; status, row.status, "{:?}", row.errors);
         assert!(rt; status != 2 || input.calls == 0, "{:?}", row.errors);
         assert!(rt; output.taken.as_slice() == row.output, "{:?}", row.output);
@@ -309,7 +316,14 @@ fn words_that_are_no_line_end_with_status_two(rt: HostRuntime) {
         let mut output = Sink::new(rt.alloc());
         let mut errors = Sink::new(rt.alloc());
         let mut input = Source::new(SMALL, 5);
-        let status = run(rt.alloc(), *words, &mut input, &mut output, &mut errors);
+        let status = run(
+            rt.alloc(),
+            rt.alloc(),
+            *words,
+            &mut input,
+            &mut output,
+            &mut errors,
+        );
         assert_eq!(rt; status, 2, "{words:?}");
         assert!(rt; output.taken.is_empty(), "{words:?}");
         assert!(rt; !errors.taken.is_empty(), "{words:?}");
@@ -329,14 +343,28 @@ fn help_goes_where_results_go(rt: HostRuntime) {
         let mut output = Sink::new(rt.alloc());
         let mut errors = Sink::new(rt.alloc());
         let mut input = Source::new(SMALL, 5);
-        let status = run(rt.alloc(), *words, &mut input, &mut output, &mut errors);
+        let status = run(
+            rt.alloc(),
+            rt.alloc(),
+            *words,
+            &mut input,
+            &mut output,
+            &mut errors,
+        );
         assert_eq!(rt; status, 0, "{words:?}");
         assert!(rt; !output.taken.is_empty(), "{words:?}");
         assert!(rt; errors.taken.is_empty(), "{words:?}");
         assert!(rt; input.calls == 0, "{words:?}");
         let mut output = Sink::new(rt.alloc());
         output.fails_at = 1;
-        let status = run(rt.alloc(), *words, &mut input, &mut output, &mut errors);
+        let status = run(
+            rt.alloc(),
+            rt.alloc(),
+            *words,
+            &mut input,
+            &mut output,
+            &mut errors,
+        );
         assert_eq!(rt; status, 5, "{words:?}");
         assert!(rt; errors.taken.as_slice() == b"output: failed\n".as_slice());
     }
@@ -350,7 +378,14 @@ fn failing_streams_end_with_status_five(rt: HostRuntime) {
     let mut input = Source::new(b"%p1%d", 1);
     input.fails_at = 3;
     assert_eq!(rt;
-        run(rt.alloc(), &words, &mut input, &mut output, &mut errors),
+        run(
+            rt.alloc(),
+            rt.alloc(),
+            &words,
+            &mut input,
+            &mut output,
+            &mut errors
+        ),
         5
     );
     assert!(rt; output.taken.is_empty());
@@ -361,7 +396,14 @@ fn failing_streams_end_with_status_five(rt: HostRuntime) {
     let mut errors = Sink::new(rt.alloc());
     let mut input = Source::new(b"%p1%d", 1);
     assert_eq!(rt;
-        run(rt.alloc(), &words, &mut input, &mut output, &mut errors),
+        run(
+            rt.alloc(),
+            rt.alloc(),
+            &words,
+            &mut input,
+            &mut output,
+            &mut errors
+        ),
         5
     );
     assert!(rt; errors.taken.as_slice() == b"output: failed\n".as_slice());
@@ -372,7 +414,14 @@ fn failing_streams_end_with_status_five(rt: HostRuntime) {
     let mut output = Sink::new(rt.alloc());
     let mut input = Source::new(b"%", 1);
     assert_eq!(rt;
-        run(rt.alloc(), &words, &mut input, &mut output, &mut errors),
+        run(
+            rt.alloc(),
+            rt.alloc(),
+            &words,
+            &mut input,
+            &mut output,
+            &mut errors
+        ),
         4
     );
 }
@@ -389,7 +438,14 @@ fn a_text_that_is_too_long_has_its_line(rt: HostRuntime) -> Result<(), Fail> {
     let mut errors = Sink::new(rt.alloc());
     let mut input = Source::new(b"%p1%d", 5);
     assert_eq!(rt;
-        run(rt.alloc(), &words, &mut input, &mut output, &mut errors),
+        run(
+            rt.alloc(),
+            rt.alloc(),
+            &words,
+            &mut input,
+            &mut output,
+            &mut errors
+        ),
         4
     );
     assert!(rt; output.taken.is_empty());

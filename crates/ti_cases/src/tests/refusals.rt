@@ -1,11 +1,8 @@
 //! Which bytes are no capability, and where they are at fault; and what an expansion refuses.
 
 use std::test::Fail;
-use ti_cap::capability::Capability;
-use ti_expand::expand::{expand, expand_into};
-use ti_expand::fault::ExpandFault;
-use ti_expand::value::Value;
-use ti_expand::vars::Vars;
+use ti_cap::Capability;
+use ti_expand::{ExpandFault, Value, Vars, expand, expand_into};
 
 const REFUSED: [(&[u8], &str, usize); 26] = [
     (b"%q", "UnknownEscape", 0),

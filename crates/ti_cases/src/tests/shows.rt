@@ -6,9 +6,7 @@ use super::entries::{
 use super::fakes::{Sink, Source};
 use linked_list_allocator::LocalHeap;
 use std::test::Fail;
-use ti_tool::ToolFault;
-use ti_tool::run::run;
-use ti_tool::show::{show, show_in};
+use ti_tool::{ToolFault, run, show};
 
 /// An entry, and its listing.
 struct Row {
@@ -110,7 +108,14 @@ fn refused_entries_end_with_status_three(rt: HostRuntime) {
         let mut errors = Sink::new(rt.alloc());
         let (part, _) = SMALL.split_at(SMALL.len().min(k));
         let mut input = Source::new(part, 5);
-        let status = run(rt.alloc(), &words, &mut input, &mut output, &mut errors);
+        let status = run(
+            rt.alloc(),
+            rt.alloc(),
+            &words,
+            &mut input,
+            &mut output,
+            &mut errors,
+        );
         assert_eq!(rt; status, 3, "at {k}");
         assert!(rt; output.taken.is_empty(), "at {k}");
         assert!(rt;
@@ -122,7 +127,14 @@ fn refused_entries_end_with_status_three(rt: HostRuntime) {
     let mut errors = Sink::new(rt.alloc());
     let mut input = Source::new(b"\x1b\x01", 5);
     assert_eq!(rt;
-        run(rt.alloc(), &words, &mut input, &mut output, &mut errors),
+        run(
+            rt.alloc(),
+            rt.alloc(),
+            &words,
+            &mut input,
+            &mut output,
+            &mut errors
+        ),
         3
     );
     assert!(rt; errors.taken.as_slice() == b"entry: BadMagic at 0\n".as_slice());
@@ -148,7 +160,7 @@ fn each_growth_of_a_listing_is_refused_in_turn(rt: HostRuntime) -> Result<(), Fa
     for step in 0..60usize {
         let heap = LocalHeap::new(rt.alloc(), 64 + 16 * step)?;
         let mut writer = Sink::new(rt.alloc());
-        match show_in(&heap, &mut Source::new(&DUMB, 512), &mut writer) {
+        match show(&heap, &mut Source::new(&DUMB, 512), &mut writer) {
             Ok(()) => given = given.saturating_add(1),
             Err(fault) => {
                 assert!(rt; fault == ToolFault::Memory, "at {step}");

@@ -2,7 +2,7 @@
 
 use super::fakes::{Sink, Source};
 use std::test::Fail;
-use ti_expand::value::Value;
+use ti_expand::Value;
 use ti_pad::write_out;
 use ti_tool::{ToolFault, cap_run};
 

@@ -4,8 +4,7 @@ use super::entries::{DUMB, EXTENDED, EXTENDED_BY_TIC, QUESTION, SHARED, SMALL, T
 use super::fakes::{Sink, Source};
 use linked_list_allocator::LocalHeap;
 use std::test::Fail;
-use ti_tool::ToolFault;
-use ti_tool::check::{check, check_in};
+use ti_tool::{ToolFault, check};
 
 /// An entry, its verdicts, and whether no text has a fault.
 struct Row {
@@ -14,7 +13,7 @@ struct Row {
     sound: bool,
 }
 
-const ROWS: [Row; 10] = [
+const ROWS: [Row; 11] = [
     Row {
         entry: SMALL,
         lines: b"text bel ok depth 0 bound 1\n",
@@ -54,6 +53,12 @@ const ROWS: [Row; 10] = [
     Row {
         entry: b"\x1a\x01\x02\0\0\0\0\0\x03\0\x06\0t\0\0\0\xff\xff\x02\0%\0%t%\0",
         lines: b"text cbt fault CutShort at 0\ntext cr fault StrayThen at 0\n",
+        sound: false,
+    },
+    // equal texts in a row, another of the same length, and one that is its end
+    Row {
+        entry: b"\x1a\x01\x02\0\0\0\0\0\x05\0\x06\0t\0\0\0\0\0\x03\0\x03\0\x04\0%t\0ab\0",
+        lines: b"text cbt fault StrayThen at 0\ntext bel fault StrayThen at 0\ntext cr ok depth 0 bound 2\ntext csr ok depth 0 bound 2\ntext tbc ok depth 0 bound 1\n",
         sound: false,
     },
     // an extended text with a fault
@@ -107,7 +112,7 @@ fn each_growth_of_the_verdicts_is_refused_in_turn(rt: HostRuntime) -> Result<(),
     for step in 0..60usize {
         let heap = LocalHeap::new(rt.alloc(), 16 * step)?;
         let mut writer = Sink::new(rt.alloc());
-        match check_in(&heap, &mut Source::new(&DUMB, 512), &mut writer) {
+        match check(&heap, &mut Source::new(&DUMB, 512), &mut writer) {
             Ok(sound) => {
                 assert!(rt; sound, "at {step}");
                 given = given.saturating_add(1);

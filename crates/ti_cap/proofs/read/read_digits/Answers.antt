@@ -3,7 +3,7 @@ use Rattle.std.proofs.lemmas.List.{drop_all}
 use Rattle.std.proofs.lemmas.Int.{to_z_pos}
 use Rattle.ti_cap.specs.Reading.{digits_read}
 use Rattle.ti_cap.proofs.Digits.{digit_step, digit_large, brace_step, other_step, digit_end}
-use Rattle.ti_cap.specs.declared.token.Token.TheVariants.{Constant}
+use Rattle.ti_cap.specs.declared.language.Token.TheVariants.{Constant}
 use Rattle.ti_cap.proofs.read.read_digits.Goals as goal
 
 pub returns-then-longer-gt-GREATEST : goal.returns-then-longer-gt-GREATEST

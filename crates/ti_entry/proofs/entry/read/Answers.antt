@@ -1,26 +1,19 @@
-use Rattle.std.proofs.Common.{◌≡◌, sym, subst, ◌∙◌, arith}
-use Rattle.ti_entry.specs.declared.fault.Stop.{Stop}
-use Rattle.ti_entry.specs.declared.fault.Stop.TheVariants.{Early, Failed}
-use Rattle.ti_entry.specs.Checks.{Passes, stopped}
-use Rattle.ti_entry.specs.Spelling.{Spells}
-use Rattle.ti_entry.proofs.FoundExtended.{found}
+use Rattle.std.proofs.Common.{◌≡◌, ◌∙◌, ap}
+use Rattle.std.specs.Prelude.{None}
+use Rattle.std.proofs.lemmas.Result.{err_from_is_err_and}
+use Rattle.ti_entry.specs.Checks.{failure_of}
+use Rattle.ti_entry.specs.Refusal.{failure}
+use Rattle.ti_entry.proofs.Feeding.{failure_refuses}
 use Rattle.ti_entry.proofs.SpelledExtended.{only}
 use Rattle.ti_entry.proofs.entry.read.Goals as goal
 
-pub returns-in-Ok-clause-found : goal.returns-in-Ok-clause-found
-returns-in-Ok-clause-found c =
-    subst (λ v. Spells c.args.bytes.now v) (sym c.in-Ok.ensures.value) (found c.args.bytes.now (λ i. omega (arith, c.type_inv.bytes i)) c.in-Ok.ensures.verdict)
+pub returns-in_err-advance-clause-only : goal.returns-in_err-advance-clause-only
+returns-in_err-advance-clause-only c = λ v s.
+    let bytes = c.args.bytes.now in
+    let none : None ≡ failure bytes = ap failure_of (only bytes v s).passes in
+    let never = none ∙ c.in_err-advance.ensures.failed in absurd (cc)
 
-pub returns-in-Ok-clause-only : goal.returns-in-Ok-clause-only
-returns-in-Ok-clause-only c = λ v s. c.in-Ok.ensures.value ∙ sym (only c.args.bytes.now v s).same
-
--- what stops does not pass
-apart : (stop : Stop) → stopped stop ≡ Passes → ⊥
-apart Early e = cc
-apart (Failed r) e = cc
-
-pub returns-in-Err-Early-clause-only : goal.returns-in-Err-Early-clause-only
-returns-in-Err-Early-clause-only c = λ v s. apart c.in-Err-Early.field-0 (c.in-Err-Early.ensures.verdict ∙ sym (only c.args.bytes.now v s).passes)
-
-pub returns-in-Err-Failed-clause-only : goal.returns-in-Err-Failed-clause-only
-returns-in-Err-Failed-clause-only c = λ v s. apart c.in-Err-Failed.field-0 (c.in-Err-Failed.ensures.verdict ∙ sym (only c.args.bytes.now v s).passes)
+pub returns-in_err-advance-clause-refused : goal.returns-in_err-advance-clause-refused
+returns-in_err-advance-clause-refused c =
+    let p = err_from_is_err_and c.from_residual.result c.from_residual.ensures.1 in
+    rw (p.1, p.2) (failure_refuses c.args.bytes.now c.in_err-advance.field-0.0 c.in_err-advance.ensures.failed)

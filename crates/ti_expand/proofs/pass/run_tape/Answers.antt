@@ -1,28 +1,29 @@
-use Rattle.std.proofs.Common.{◌≡◌, ◌≤◌, length, arith, ap, refl, ◌∙◌}
+use Rattle.std.proofs.Common.{◌<◌, ◌≤◌, length, arith, ap, refl, ◌∙◌}
 use Rattle.std.proofs.lemmas.List.{length-take}
 use Rattle.ti_cap.specs.Pass.{Run}
 use Rattle.ti_expand.specs.State.{State, start}
-use Rattle.ti_expand.specs.Machine.{held, machine}
+use Rattle.ti_expand.specs.Machine.{machine}
 use Rattle.ti_expand.specs.Mode.{seen}
 use Rattle.ti_expand.specs.Flat.{moved}
-use Rattle.ti_expand.proofs.Held.{length-held}
 use Rattle.ti_expand.proofs.Rest.{drop_further}
-use Rattle.ti_expand.proofs.Loop.{IsUnderway, underway_start, underway_height, underway_output, underway_few, underway_next, underway_end}
+use Rattle.ti_expand.specs.Underway.{IsUnderway}
+use Rattle.ti_expand.proofs.Loop.{underway_start, underway_height, underway_output, underway_ran, underway_end}
+use Rattle.ti_expand.proofs.Spellings.{less_left}
 use Rattle.ti_expand.proofs.pass.run_tape.Goals as goal
 
 pub loop-token-init : goal.loop-token-init
 loop-token-init c =
     let a = c.args in
-    let begin : State = start a.vars.now a.parameters.now in
-    let first : IsUnderway a.tape.left begin (length a.stack.now) (length a.out.now) a.tape.left Run begin 0 0 0 =
-    underway_start a.tape.left begin (length a.stack.now) (length a.out.now) refl c.requires in
-    record { underway = rw (c.new-stack.ensures.empty, c.start-run.ensures) first; slots = c.new-stack.ensures.room; within = rw c.start-run.ensures (omega arith); rest = refl }
+    let initial : State = start a.vars.now a.parameters.now in
+    let first : IsUnderway a.tape.left initial (length a.stack.now) (length a.out.now) a.tape.left Run initial 0 0 0 =
+    underway_start a.tape.left initial (length a.stack.now) (length a.out.now) refl c.requires in
+    record { underway = rw (c.new-parameters.ensures, c.new-stack.ensures.empty, c.new-stack.ensures.low, c.start-run.ensures) first; slots = c.new-stack.ensures.room; within = rw c.start-run.ensures (omega arith); rest = refl }
 
 pub meet-after-requires-clause-height : goal.meet-after-requires-clause-height
 meet-after-requires-clause-height c =
     let l = c.loop-token in
     let s : State = machine l.stack.slots.now l.stack.height l.vars l.parameters l.out l.run.written in
-    let high : length (moved (seen l.mode) c.in-Some.token s).stack ≤ length c.args.stack.now =
+    let high : length (moved Run c.in-Some.token s).stack ≤ length c.args.stack.now =
     underway_height _ _ _ _ _ _ _ _ _ _ _ _ l.invariant.underway c.in-Some.ensures.order in
     omega (arith, high, l.invariant.slots)
 
@@ -30,31 +31,44 @@ pub meet-after-requires-clause-room : goal.meet-after-requires-clause-room
 meet-after-requires-clause-room c =
     let l = c.loop-token in
     let s : State = machine l.stack.slots.now l.stack.height l.vars l.parameters l.out l.run.written in
-    let long : length (moved (seen l.mode) c.in-Some.token s).output ≤ length c.args.out.now =
+    let long : length (moved Run c.in-Some.token s).output ≤ length c.args.out.now =
     underway_output _ _ _ _ _ _ _ _ _ _ _ _ l.invariant.underway c.in-Some.ensures.order in
     omega (arith, long)
 
-pub count-requires : goal.count-requires
-count-requires c =
-    let few = underway_few _ _ _ _ _ _ _ _ _ _ _ _ c.loop-token.invariant.underway c.in-Some.ensures.order in
-    omega (arith, few)
+pub pass_over-requires : goal.pass_over-requires
+pass_over-requires c =
+    let l = c.loop-token in
+    let m = c.meet-after in
+    record {
+      bytes = _;
+      initial = _;
+      places = _;
+      room = _;
+      state = _;
+      highest = _;
+      underway =
+          underway_ran _ _ _ _ _ _ _ _ _ _ _ m.new.stack.slots.now m.new.stack.height m.new.vars m.new.parameters m.new.out m.result.1 (seen m.result.0) m.new.stack.highest
+          l.invariant.underway c.in-Some.ensures.order m.ensures.mode m.ensures.state m.ensures.highest;
+    }
+
+pub loop-token-smaller : goal.loop-token-smaller
+loop-token-smaller c =
+    let less : length c.pass_over.new.tape.left < length c.loop-token.tape.left =
+    omega (arith, less_left _ _ _ c.in-Some.ensures.some, c.pass_over.ensures.forward) in
+    less
 
 pub loop-token-preserved : goal.loop-token-preserved
 loop-token-preserved c =
     let l = c.loop-token in
-    let s : State = machine l.stack.slots.now l.stack.height l.vars l.parameters l.out l.run.written in
     let m = c.meet-after in
-    let n = c.count.new.self in
-    let next : State = machine m.new.stack.slots.now m.new.stack.height m.new.vars m.new.parameters m.new.out m.result.1 in
-    let height : length (held m.new.stack.slots.now m.new.stack.height) ≡ m.new.stack.height = length-held m.new.stack.slots.now m.new.stack.height in
-    let same : length next.stack ≡ length (moved (seen l.mode) c.in-Some.token s).stack = ap (λ (x : State). length x.stack) m.ensures.state in
+    let met =
+    underway_ran _ _ _ _ _ _ _ _ _ _ _ m.new.stack.slots.now m.new.stack.height m.new.vars m.new.parameters m.new.out m.result.1 (seen m.result.0) m.new.stack.highest
+    l.invariant.underway c.in-Some.ensures.order m.ensures.mode m.ensures.state m.ensures.highest in
     record {
-      underway =
-          underway_next _ _ _ _ _ _ _ _ _ _ _ _ (seen m.result.0) next n.ran n.passed n.peak c.ran.result
-          l.invariant.underway c.in-Some.ensures.order m.ensures.mode m.ensures.state c.ran.ensures c.count.ensures.ran c.count.ensures.passed (omega (arith, height, same, c.count.ensures.peak, c.height.ensures));
+      underway = rw c.pass_over.ensures.written (c.pass_over.ensures.onward _ _ _ _ _ _ met);
       slots = m.ensures.slots ∙ l.invariant.slots;
-      within = m.ensures.within;
-      rest = m.ensures.rest ∙ drop_further m.result.1 l.run.written l.out c.args.out.now m.ensures.onward l.invariant.rest;
+      within = omega (arith, m.ensures.within, c.pass_over.ensures.written);
+      rest = rw c.pass_over.ensures.written (m.ensures.rest ∙ drop_further m.result.1 l.run.written l.out c.args.out.now m.ensures.onward l.invariant.rest);
     }
 
 pub returns-clause-output : goal.returns-clause-output
@@ -76,4 +90,4 @@ pub returns-clause-all : goal.returns-clause-all
 returns-clause-all c = λ tree w. (underway_end _ _ _ _ _ _ _ _ _ _ c.loop-token.invariant.underway c.in_default.ensures.none.1 tree w).all
 
 pub returns-clause-peak : goal.returns-clause-peak
-returns-clause-peak c = λ tree w. (underway_end _ _ _ _ _ _ _ _ _ _ c.loop-token.invariant.underway c.in_default.ensures.none.1 tree w).peak
+returns-clause-peak c = λ tree w. c.highest.ensures ∙ (underway_end _ _ _ _ _ _ _ _ _ _ c.loop-token.invariant.underway c.in_default.ensures.none.1 tree w).peak

@@ -3,11 +3,11 @@ use Rattle.std.proofs.Common.{◌≡◌, ◌+◌, ◌*◌, ◌≤◌, length}
 use Rattle.ti_pad.specs.Padded.{padded}
 use Rattle.ti_pad.proofs.length.padded_len.Given as goal
 
-abbrev pub invariant-runs : goal.invariant-runs
-invariant-runs l = record {
+abbrev pub invariant-stretches : goal.invariant-stretches
+invariant-stretches l = record {
   counted : l.total + length (padded l.rest l.padding) ≡ length (padded l.fn.bytes l.padding);
   few : l.total + 6553493446500 * length l.rest ≤ 6553493446500 * length l.fn.bytes;
 }
 
-abbrev pub decreases-runs : goal.decreases-runs
-decreases-runs l = length l.rest
+abbrev pub decreases-stretches : goal.decreases-stretches
+decreases-stretches l = length l.rest

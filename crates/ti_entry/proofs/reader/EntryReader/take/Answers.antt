@@ -5,7 +5,7 @@ use Rattle.ti_entry.specs.Reading.{Reading}
 use Rattle.ti_entry.specs.Refusal.{failure}
 use Rattle.ti_entry.specs.Stages.{Stands, Waits}
 use Rattle.ti_entry.proofs.Feeding.{held, same_fed, fed-passes, fed-fails}
-use Rattle.ti_entry.proofs.StageSteps.{stands_on}
+use Rattle.ti_entry.proofs.StageSteps.{stands_on, stands_now}
 use Rattle.ti_entry.proofs.StageEnds.{waits_unfailed}
 use Rattle.ti_entry.proofs.reader.EntryReader.take.Goals as goal
 
@@ -26,7 +26,37 @@ pub advance-requires : goal.advance-requires
 advance-requires c =
     let none : c.self.inside.refusal ≡ None = ap (λ (r : Reading). r.refusal) c.self.view_is ∙ c.requires in
     let longer = stands_on c.self.inside.kept.items (c.args.byte ∷ []) c.self.inside.stage (c.self.invariant.stands none) in
-    subst (λ (k : List ℕ). Stands k c.self.inside.stage) (sym (c.as_slice-2.ensures.value ∙ c.push.ensures.items)) longer
+    subst (λ (k : List ℕ). Stands k c.self.inside.stage) (sym (c.as_slice-3.ensures.value ∙ c.push.ensures.items)) longer
+
+-- ---- too few bytes for a check
+
+pub invariant_of-self-then-as_slice-need : goal.invariant_of-self-then-as_slice-need
+invariant_of-self-then-as_slice-need c =
+    let now = c.push.new.self.items in
+    let none : c.self.inside.refusal ≡ None = ap (λ (r : Reading). r.refusal) c.self.view_is ∙ c.requires in
+    let stands = subst (λ (k : List ℕ). Stands k c.self.inside.stage) (sym c.push.ensures.items) (stands_on c.self.inside.kept.items (c.args.byte ∷ []) c.self.inside.stage (c.self.invariant.stands none)) in
+    let long : length c.as_slice-2.result.now ≡ length now = ap length c.as_slice-2.ensures.value in
+    let waits = c.need.ensures now (stands_now now c.self.inside.stage stands) (omega arith) in
+    record {
+      most = subst (λ (k : List ℕ). length k ≤ 32768) c.as_slice-2.ensures.value c.as_slice-2.ensures.fits;
+      unfailed = waits_unfailed now c.self.inside.stage waits;
+      stands = λ e. stands;
+      waits = λ e. waits;
+    }
+
+pub returns-then-as_slice-need-clause-fed : goal.returns-then-as_slice-need-clause-fed
+returns-then-as_slice-need-clause-fed c =
+    let kept = c.self.inside.kept.items in
+    let now = c.push.new.self.items in
+    let none : c.self.inside.refusal ≡ None = ap (λ (r : Reading). r.refusal) c.self.view_is ∙ c.requires in
+    let stands = subst (λ (k : List ℕ). Stands k c.self.inside.stage) (sym c.push.ensures.items) (stands_on kept (c.args.byte ∷ []) c.self.inside.stage (c.self.invariant.stands none)) in
+    let long : length c.as_slice-2.result.now ≡ length now = ap length c.as_slice-2.ensures.value in
+    let waits = c.need.ensures now (stands_now now c.self.inside.stage stands) (omega arith) in
+    let passes : failure (kept ++ c.args.byte ∷ []) ≡ None = ap failure (sym c.push.ensures.items) ∙ waits_unfailed now c.self.inside.stage waits in
+    same_fed kept c.args.self.now _ (c.args.byte ∷ []) c.self.inside.refusal c.self.view_is none
+    (ap (λ (k : List ℕ). held k c.self.inside.refusal) c.push.ensures.items ∙ ap (held (kept ++ c.args.byte ∷ [])) none ∙ fed-passes kept (c.args.byte ∷ []) passes)
+
+-- ---- a byte that completes one
 
 -- what is left after the last byte is taken off
 popped : (kept now old : List ℕ) (byte len : ℕ) → old ≡ kept ++ byte ∷ [] → len ≡ length kept + 1 → now ≡ take (len - 1) old → now ≡ kept
@@ -50,16 +80,16 @@ returns-in-Err-clause-fed c =
     let none : c.self.inside.refusal ≡ None = ap (λ (r : Reading). r.refusal) c.self.view_is ∙ c.requires in
     let same = popped kept c.pop.new.self.items c.push.new.self.items c.args.byte _ c.push.ensures.items c.push.ensures.len c.pop.ensures.rest in
     let failed : failure (kept ++ c.args.byte ∷ []) ≡ Some c.in-Err.refused =
-    ap failure (sym (c.as_slice-2.ensures.value ∙ c.push.ensures.items)) ∙ c.in-Err.ensures.failed in
+    ap failure (sym (c.as_slice-3.ensures.value ∙ c.push.ensures.items)) ∙ c.in-Err.ensures.failed in
     same_fed kept c.args.self.now _ (c.args.byte ∷ []) c.self.inside.refusal c.self.view_is none
     (ap (λ (k : List ℕ). held k (Some c.in-Err.refused)) same ∙ fed-fails kept c.args.byte c.in-Err.refused c.self.invariant.unfailed failed)
 
 pub invariant_of-self-in_default : goal.invariant_of-self-in_default
 invariant_of-self-in_default c =
-    let items = c.as_slice-2.ensures.value in
+    let items = c.as_slice-3.ensures.value in
     let waits = subst (λ (k : List ℕ). Waits k c.advance.new.self) items c.in_default.ensures.waits in
     let long = ap length items in
-    let fits = c.as_slice-2.ensures.fits in
+    let fits = c.as_slice-3.ensures.fits in
     record {
       most = omega arith;
       unfailed = waits_unfailed c.push.new.self.items c.advance.new.self waits;
@@ -71,7 +101,7 @@ pub returns-clause-fed : goal.returns-clause-fed
 returns-clause-fed c =
     let kept = c.self.inside.kept.items in
     let none : c.self.inside.refusal ≡ None = ap (λ (r : Reading). r.refusal) c.self.view_is ∙ c.requires in
-    let items = c.as_slice-2.ensures.value ∙ c.push.ensures.items in
+    let items = c.as_slice-3.ensures.value ∙ c.push.ensures.items in
     let waits = subst (λ (k : List ℕ). Waits k c.advance.new.self) items c.in_default.ensures.waits in
     let passes : failure (kept ++ c.args.byte ∷ []) ≡ None = waits_unfailed (kept ++ c.args.byte ∷ []) c.advance.new.self waits in
     same_fed kept c.args.self.now _ (c.args.byte ∷ []) c.self.inside.refusal c.self.view_is none

@@ -1,11 +1,11 @@
-use Rattle.std.proofs.Common.{◌≡◌, ◌≤◌, ◌∙◌, ap, sym, subst, length, take, List, ◌++◌}
+use Rattle.std.proofs.Common.{◌≡◌, ◌≤◌, ◌∙◌, ap, sym, subst, length, take, List, ◌++◌, arith}
 use Rattle.std.specs.Prelude.{ℕ, None}
 use Rattle.std.proofs.Math.Seq.{take-append_seam}
 use Rattle.ti_entry.specs.Reading.{Reading}
 use Rattle.ti_entry.specs.Refusal.{failure}
 use Rattle.ti_entry.specs.Stages.{Stands, Waits}
 use Rattle.ti_entry.proofs.Feeding.{held, same_fed, fed-passes}
-use Rattle.ti_entry.proofs.StageSteps.{stands_on}
+use Rattle.ti_entry.proofs.StageSteps.{stands_on, stands_now}
 use Rattle.ti_entry.proofs.StageEnds.{waits_unfailed}
 use Rattle.ti_entry.proofs.reader.EntryReader.take_whole.Goals as goal
 
@@ -13,7 +13,36 @@ pub advance-requires : goal.advance-requires
 advance-requires c =
     let none : c.self.inside.refusal ≡ None = ap (λ (r : Reading). r.refusal) c.self.view_is ∙ c.requires in
     let longer = stands_on c.self.inside.kept.items c.args.piece.now c.self.inside.stage (c.self.invariant.stands none) in
-    subst (λ (k : List ℕ). Stands k c.self.inside.stage) (sym (c.as_slice.ensures.value ∙ c.in-Ok.ensures.ok)) longer
+    subst (λ (k : List ℕ). Stands k c.self.inside.stage) (sym (c.as_slice-2.ensures.value ∙ c.in-Ok.ensures.ok)) longer
+
+-- ---- too few bytes for a check
+
+pub invariant_of-self-then-as_slice-need : goal.invariant_of-self-then-as_slice-need
+invariant_of-self-then-as_slice-need c =
+    let now = c.try_extend_from_slice.new.self.items in
+    let none : c.self.inside.refusal ≡ None = ap (λ (r : Reading). r.refusal) c.self.view_is ∙ c.requires in
+    let stands = subst (λ (k : List ℕ). Stands k c.self.inside.stage) (sym c.in-Ok.ensures.ok) (stands_on c.self.inside.kept.items c.args.piece.now c.self.inside.stage (c.self.invariant.stands none)) in
+    let long : length c.as_slice.result.now ≡ length now = ap length c.as_slice.ensures.value in
+    let waits = c.need.ensures now (stands_now now c.self.inside.stage stands) (omega arith) in
+    record {
+      most = subst (λ (k : List ℕ). length k ≤ 32768) c.as_slice.ensures.value c.as_slice.ensures.fits;
+      unfailed = waits_unfailed now c.self.inside.stage waits;
+      stands = λ e. stands;
+      waits = λ e. waits;
+    }
+
+pub returns-then-as_slice-need-clause-taken : goal.returns-then-as_slice-need-clause-taken
+returns-then-as_slice-need-clause-taken c = λ e.
+    let kept = c.self.inside.kept.items in
+    let piece = c.args.piece.now in
+    let now = c.try_extend_from_slice.new.self.items in
+    let none : c.self.inside.refusal ≡ None = ap (λ (r : Reading). r.refusal) c.self.view_is ∙ c.requires in
+    let stands = subst (λ (k : List ℕ). Stands k c.self.inside.stage) (sym c.in-Ok.ensures.ok) (stands_on kept piece c.self.inside.stage (c.self.invariant.stands none)) in
+    let long : length c.as_slice.result.now ≡ length now = ap length c.as_slice.ensures.value in
+    let waits = c.need.ensures now (stands_now now c.self.inside.stage stands) (omega arith) in
+    let passes : failure (kept ++ piece) ≡ None = ap failure (sym c.in-Ok.ensures.ok) ∙ waits_unfailed now c.self.inside.stage waits in
+    same_fed kept c.args.self.now _ piece c.self.inside.refusal c.self.view_is none
+    (ap (λ (k : List ℕ). held k c.self.inside.refusal) c.in-Ok.ensures.ok ∙ ap (held (kept ++ piece)) none ∙ fed-passes kept piece passes)
 
 -- ---- a check fails
 
@@ -35,10 +64,10 @@ invariant_of-self-in_default-advance c =
 
 pub invariant_of-self-2 : goal.invariant_of-self-2
 invariant_of-self-2 c =
-    let items = c.as_slice.ensures.value in
+    let items = c.as_slice-2.ensures.value in
     let waits = subst (λ (k : List ℕ). Waits k c.advance.new.self) items c.in-Ok-advance.ensures.waits in
     record {
-      most = subst (λ (k : List ℕ). length k ≤ 32768) items c.as_slice.ensures.fits;
+      most = subst (λ (k : List ℕ). length k ≤ 32768) items c.as_slice-2.ensures.fits;
       unfailed = waits_unfailed c.try_extend_from_slice.new.self.items c.advance.new.self waits;
       stands = λ e. subst (λ (k : List ℕ). Stands k c.advance.new.self) items c.in-Ok-advance.ensures.stands;
       waits = λ e. waits;
@@ -49,7 +78,7 @@ returns-clause-taken c = λ e.
     let kept = c.self.inside.kept.items in
     let piece = c.args.piece.now in
     let none : c.self.inside.refusal ≡ None = ap (λ (r : Reading). r.refusal) c.self.view_is ∙ c.requires in
-    let items = c.as_slice.ensures.value ∙ c.in-Ok.ensures.ok in
+    let items = c.as_slice-2.ensures.value ∙ c.in-Ok.ensures.ok in
     let waits = subst (λ (k : List ℕ). Waits k c.advance.new.self) items c.in-Ok-advance.ensures.waits in
     let passes : failure (kept ++ piece) ≡ None = waits_unfailed (kept ++ piece) c.advance.new.self waits in
     same_fed kept c.args.self.now _ piece c.self.inside.refusal c.self.view_is none

@@ -4,29 +4,42 @@ use Rattle.ti_entry.specs.declared.fault.Stop.TheVariants.{Early}
 use Rattle.ti_entry.specs.Checks.{stopped}
 use Rattle.ti_entry.specs.declared.stage.Stage.{Stage}
 use Rattle.ti_entry.specs.Stages.{entered, next}
-use Rattle.ti_entry.proofs.StageSteps.{stands_now, item_passes, item_stops, item_waits, entered_now, at_front, between_stops, between_waits, fewer_sections}
+use Rattle.ti_entry.proofs.StageSteps.{stands_now, item_stopped, item_awaited, items_pass, items_stop, items_wait, entered_now, at_front, between_stops, between_waits, fewer_sections}
 use Rattle.ti_entry.proofs.stage.Stage.step.Goals as goal
 
-pub check-requires : goal.check-requires
-check-requires c =
-    let within = (stands_now c.args.bytes.now c.args.self.now c.requires).within in omega arith
+pub overflow_add-self : goal.overflow_add-self
+overflow_add-self c = let within = (stands_now c.args.bytes.now c.args.self.now c.requires).within in omega arith
+
+pub returns-then-bytes-self-clause-verdict : goal.returns-then-bytes-self-clause-verdict
+returns-then-bytes-self-clause-verdict c =
+    item_stopped c.args.bytes.now c.args.self.now (stands_now c.args.bytes.now c.args.self.now c.requires) c.if-self-gt0.true (omega arith)
+
+pub returns-then-bytes-self-clause-waits : goal.returns-then-bytes-self-clause-waits
+returns-then-bytes-self-clause-waits c = λ e.
+    item_awaited c.args.bytes.now c.args.self.now (stands_now c.args.bytes.now c.args.self.now c.requires) c.if-self-gt0.true (omega arith)
+
+pub come-count-requires-clause-within : goal.come-count-requires-clause-within
+come-count-requires-clause-within c = (stands_now c.args.bytes.now c.args.self.now c.requires).within
+
+pub check-requires-clause-within : goal.check-requires-clause-within
+check-requires-clause-within c = (stands_now c.args.bytes.now c.args.self.now c.requires).within
 
 pub returns-in_err-check-clause-verdict : goal.returns-in_err-check-clause-verdict
 returns-in_err-check-clause-verdict c =
     let p = err_from_is_err_and c.from_residual.result c.from_residual.ensures.1 in
-    rw (p.1, p.2) (item_stops c.args.bytes.now c.args.self.now c.in_err-check.field-0.0 (stands_now c.args.bytes.now c.args.self.now c.requires) c.if-self-gt0.true c.in_err-check.ensures)
+    rw (p.1, p.2) (items_stop c.args.bytes.now c.args.self.now c.come-count.result c.in_err-check.field-0.0 (stands_now c.args.bytes.now c.args.self.now c.requires) c.if-self-gt0.true c.come-count.ensures.most c.in_err-check.ensures)
 
 pub returns-in_err-check-clause-waits : goal.returns-in_err-check-clause-waits
 returns-in_err-check-clause-waits c = λ e.
     let p = err_from_is_err_and c.from_residual.result c.from_residual.ensures.1 in
     let early : c.in_err-check.field-0.0 ≡ Early = cc in
-    item_waits c.args.bytes.now c.args.self.now (stands_now c.args.bytes.now c.args.self.now c.requires) c.if-self-gt0.true (sym (ap stopped early) ∙ c.in_err-check.ensures)
+    items_wait c.args.bytes.now c.args.self.now c.come-count.result (stands_now c.args.bytes.now c.args.self.now c.requires) c.if-self-gt0.true c.come-count.ensures.most (sym (ap stopped early) ∙ c.in_err-check.ensures)
 
-pub behind-self-requires-clause-within : goal.behind-self-requires-clause-within
-behind-self-requires-clause-within c = (stands_now c.args.bytes.now c.args.self.now c.requires).within
+pub after-self-requires-clause-within : goal.after-self-requires-clause-within
+after-self-requires-clause-within c = (stands_now c.args.bytes.now c.args.self.now c.requires).within
 
 pub returns-then-self-gt0-clause-stands : goal.returns-then-self-gt0-clause-stands
-returns-then-self-gt0-clause-stands c = rw c.behind-self.ensures (item_passes c.args.bytes.now c.args.self.now c.requires c.if-self-gt0.true c.in_ok-check.ensures)
+returns-then-self-gt0-clause-stands c = rw c.after-self.ensures (items_pass c.args.bytes.now c.args.self.now c.come-count.result c.requires c.if-self-gt0.true c.come-count.ensures.most c.in_ok-check.ensures)
 
 pub leave-requires-clause-fits : goal.leave-requires-clause-fits
 leave-requires-clause-fits c = (stands_now c.args.bytes.now c.args.self.now c.requires).fits

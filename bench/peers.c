@@ -1,0 +1,124 @@
+/* The same work done by other libraries, for bench/run.
+ *
+ *     peers WORK TURNS GROUP < LIST
+ *
+ * reads the list that crates/ti_bench reads, does the work on each item of the group so many times in a row, and prints
+ * `GROUP WORK ITEMS NANOSECONDS`, the processor time of all turns. The work `output` prints what `tiparm` makes of each
+ * capability, in hex, a line each. Built with -DUNIBILIUM it knows that library's calls too. */
+#include <curses.h>
+#include <stdio.h>
+#include <stdlib.h>
+#include <string.h>
+#include <term.h>
+#include <time.h>
+#ifdef UNIBILIUM
+#include <unibilium.h>
+#endif
+
+enum { MOST_ITEMS = 4096, LONGEST_LINE = 1 << 17, MOST_NUMBERS = 9, ROOM = 4096 };
+
+struct item {
+    char *bytes;
+    size_t length;
+    int numbers[MOST_NUMBERS];
+};
+
+static struct item items[MOST_ITEMS];
+static size_t count;
+
+static void add_item(char *hex) {
+    struct item *item = &items[count++];
+    item->length = strlen(hex) / 2;
+    item->bytes = calloc(item->length + 1, 1);
+    for (size_t i = 0; i < item->length; i++) {
+        unsigned byte;
+        sscanf(hex + 2 * i, "%2x", &byte);
+        item->bytes[i] = (char)byte;
+    }
+    for (int i = 0; i < MOST_NUMBERS; i++) {
+        char *word = strtok(NULL, " \n");
+        item->numbers[i] = word ? atoi(word) : 0;
+    }
+}
+
+static void read_items(const char *group) {
+    static char line[LONGEST_LINE];
+    while (fgets(line, sizeof line, stdin) && count < MOST_ITEMS) {
+        char *word = strtok(line, " \n");
+        if (!word || strcmp(word, group) != 0) continue;
+        strtok(NULL, " \n");
+        word = strtok(NULL, " \n");
+        if (word) add_item(word);
+    }
+}
+
+static char *by_tiparm(const struct item *item) {
+    const int *n = item->numbers;
+    return tiparm(item->bytes, n[0], n[1], n[2], n[3], n[4], n[5], n[6], n[7], n[8]);
+}
+
+static char *by_tparm(const struct item *item) {
+    const int *n = item->numbers;
+    return tparm(item->bytes, (long)n[0], (long)n[1], (long)n[2], (long)n[3], (long)n[4], (long)n[5], (long)n[6],
+                 (long)n[7], (long)n[8]);
+}
+
+static size_t run_tiparm(const struct item *item) { return by_tiparm(item) != NULL; }
+
+static size_t run_tparm(const struct item *item) { return by_tparm(item) != NULL; }
+
+#ifdef UNIBILIUM
+static size_t run_unibi_run(const struct item *item) {
+    static char out[ROOM];
+    unibi_var_t parameters[MOST_NUMBERS];
+    for (int k = 0; k < MOST_NUMBERS; k++) parameters[k] = unibi_var_from_num(item->numbers[k]);
+    return unibi_run(item->bytes, parameters, out, sizeof out);
+}
+
+static size_t run_unibi_from_mem(const struct item *item) {
+    unibi_term *entry = unibi_from_mem(item->bytes, item->length);
+    if (entry) unibi_destroy(entry);
+    return entry != NULL;
+}
+#endif
+
+static const struct {
+    const char *name;
+    size_t (*run)(const struct item *item);
+} works[] = {
+    {"tiparm", run_tiparm},
+    {"tparm", run_tparm},
+#ifdef UNIBILIUM
+    {"unibi_run", run_unibi_run},
+    {"unibi_from_mem", run_unibi_from_mem},
+#endif
+};
+
+static int print_outputs(void) {
+    for (size_t i = 0; i < count; i++) {
+        const char *output = by_tiparm(&items[i]);
+        for (const char *p = output ? output : ""; *p; p++) printf("%02x", (unsigned char)*p);
+        putchar('\n');
+    }
+    return 0;
+}
+
+int main(int argc, char **argv) {
+    int error;
+    if (argc != 4 || setupterm("xterm-256color", 1, &error) != OK) return 2;
+    read_items(argv[3]);
+    if (strcmp(argv[1], "output") == 0) return print_outputs();
+    for (size_t i = 0; i < sizeof works / sizeof *works; i++) {
+        if (strcmp(argv[1], works[i].name) != 0) continue;
+        struct timespec from, to;
+        size_t total = 0;
+        clock_gettime(CLOCK_PROCESS_CPUTIME_ID, &from);
+        for (size_t k = 0; k < count; k++)
+            for (long turn = atol(argv[2]); turn > 0; turn--) total += works[i].run(&items[k]);
+        clock_gettime(CLOCK_PROCESS_CPUTIME_ID, &to);
+        long long all = (to.tv_sec - from.tv_sec) * 1000000000LL + (to.tv_nsec - from.tv_nsec);
+        printf("%s %s %zu %lld\n", argv[3], argv[1], count, all);
+        return total == 0 && count != 0;
+    }
+    return 2;
+}

@@ -1,0 +1,30 @@
+//! How far the paths have come at a place of a capability.
+
+/// The greatest height of the stack and the most bytes written, each over all paths that run here, where no text has any
+/// bytes. At most 32767 tokens write at most 65535 bytes each, which fits 32 bits.
+#[derive(Clone, Copy, Debug, PartialEq, Eq)]
+pub struct Extent {
+    /// The greatest height.
+    pub height: u32,
+    /// The most bytes.
+    pub size: u32,
+}
+
+impl Extent {
+    ghost use Rattle.std.specs.Prelude.{◌≡◌};
+    ghost use Rattle.ti_cap.specs.Scan.{joined};
+
+    /// The greater height and the greater size of this and of what waits, if anything does.
+    #[inline(always)]
+    pub fn joined(self, waiting: Option<Extent>) -> Extent
+        ensures { result ≡ joined waiting self }
+    {
+        match waiting {
+            None => self,
+            Some(waiting) => Extent {
+                height: waiting.height.max(self.height),
+                size: waiting.size.max(self.size),
+            },
+        }
+    }
+}

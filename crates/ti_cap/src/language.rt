@@ -1,0 +1,267 @@
+//! What a capability is made of: its tokens, the formats in them, and the faults of bytes that are no capability.
+//!
+//! The language is that of terminfo(5), "Parameterized Strings", and of the Terminfo chapter of X/Open Curses.
+//! All values here are small and are copied; no call takes memory, and each takes constant time.
+
+ghost use Rattle.std.specs.Prelude.{◌≡◌, ◌≤◌};
+ghost use Rattle.ti_cap.specs.Sizes.{format_size, token_size};
+ghost use Rattle.ti_cap.specs.Word.{name_of};
+
+use thiserror::Error;
+
+/// An operation on the numbers on top of the stack.
+///
+/// A binary one pops the right operand first, then the left one, and pushes what it makes of them.
+#[derive(Clone, Copy, Debug, PartialEq, Eq)]
+pub enum Op {
+    /// `%+`, the sum.
+    Add,
+    /// `%-`, left minus right.
+    Sub,
+    /// `%*`, the product.
+    Mul,
+    /// `%/`, left by right, truncated toward zero; 0 where right is 0.
+    Div,
+    /// `%m`, the remainder of that division; 0 where right is 0.
+    Rem,
+    /// `%&`, bitwise and.
+    BitAnd,
+    /// `%|`, bitwise or.
+    BitOr,
+    /// `%^`, bitwise exclusive or.
+    BitXor,
+    /// `%=`, 1 where both are equal, else 0.
+    Equal,
+    /// `%>`, 1 where left is greater, else 0.
+    Greater,
+    /// `%<`, 1 where left is less, else 0.
+    Less,
+    /// `%A`, 1 where neither is 0, else 0.
+    And,
+    /// `%O`, 1 where not both are 0, else 0.
+    Or,
+    /// `%!`, of one operand: 1 where it is 0, else 0.
+    Not,
+    /// `%~`, of one operand: each bit turned.
+    BitNot,
+}
+
+/// What a print makes of the value that it takes.
+#[derive(Clone, Copy, Debug, PartialEq, Eq)]
+pub enum Conversion {
+    /// `d`, a number in decimal with its sign.
+    Signed,
+    /// `o`, the 32 bits of a number in octal.
+    Octal,
+    /// `x`, the 32 bits of a number in hexadecimal, with small letters.
+    LowerHex,
+    /// `X`, the same with capital letters.
+    UpperHex,
+    /// `s`, a text.
+    Text,
+}
+
+/// How a value is printed: the flags, the width, the precision and the conversion of a format.
+#[derive(Clone, Copy, Debug, PartialEq, Eq)]
+pub struct Format {
+    /// What is printed.
+    pub conversion: Conversion,
+    /// `-`, spaces fill on the right.
+    pub left: bool,
+    /// `+`, a number that is not negative has a `+` before it.
+    pub plus: bool,
+    /// A space stands before a number that has no sign.
+    pub space: bool,
+    /// `#`, octal digits begin with a `0`, and hexadecimal ones of a value other than 0 stand behind `0x` or `0X`.
+    pub alternate: bool,
+    /// `0`, zeros fill between the sign or prefix and the digits.
+    pub zero: bool,
+    /// The least number of bytes, 0 where none is given.
+    pub width: u8,
+    /// The least number of digits, or the greatest number of a text's bytes.
+    pub precision: Option<u8>,
+}
+
+/// One step of a capability: a byte, or an escape.
+#[derive(Clone, Copy, Debug, PartialEq, Eq)]
+pub enum Token {
+    /// Writes the byte. It is spelled by itself; `%` is spelled `%%`.
+    Byte(u8),
+    /// `%p1` to `%p9`, pushes the parameter of this number, from 1 to 9.
+    Param(u8),
+    /// `%'c'` or `%{nn}`, pushes the number, from 0 to 2147483647.
+    Constant(i32),
+    /// `%Pv`, pops a number into the variable of this letter, an ASCII letter.
+    Store(u8),
+    /// `%gv`, pushes the variable of this letter, an ASCII letter.
+    Load(u8),
+    /// `%l`, pops a text and pushes its length.
+    Length,
+    /// Works on the numbers on top of the stack.
+    Compute(Op),
+    /// `%i`, adds 1 to each of the first two parameters that is a number.
+    Increment,
+    /// `%c`, pops a number and writes its low byte, or the byte 128 where that is 0.
+    Char,
+    /// A format, as `%d` or `%:-5.3x`: pops a value and prints it.
+    Print(Format),
+    /// `%?`, opens a conditional and its first test.
+    CondOpen,
+    /// `%t`, ends a test: pops a number, and 0 passes the body over.
+    CondThen,
+    /// `%e`, ends a body; another test or the otherwise part follows.
+    CondElse,
+    /// `%;`, closes the innermost conditional.
+    CondClose,
+}
+
+/// Why bytes are no capability. As an error it prints its name.
+#[derive(Clone, Copy, Debug, PartialEq, Eq, Error)]
+pub enum CapFault {
+    /// More than 32767 bytes.
+    #[error("TooLong")]
+    TooLong,
+    /// The bytes end within an escape.
+    #[error("CutShort")]
+    CutShort,
+    /// No escape begins with the byte behind the `%`.
+    #[error("UnknownEscape")]
+    UnknownEscape,
+    /// `%p` without a digit from 1 to 9.
+    #[error("BadParameter")]
+    BadParameter,
+    /// `%P` or `%g` without an ASCII letter.
+    #[error("BadVariable")]
+    BadVariable,
+    /// Another fault of `%'` or `%{`, as a number above 2147483647.
+    #[error("BadConstant")]
+    BadConstant,
+    /// Another fault of a format, as a width above 255.
+    #[error("BadFormat")]
+    BadFormat,
+    /// `%t` where no conditional is open, or in a body.
+    #[error("StrayThen")]
+    StrayThen,
+    /// `%e` where no conditional is open, or in an otherwise part.
+    #[error("StrayElse")]
+    StrayElse,
+    /// `%;` where no conditional is open.
+    #[error("StrayEnd")]
+    StrayEnd,
+    /// `%e`, `%;` or the end in a first test.
+    #[error("NoThen")]
+    NoThen,
+    /// The 33rd open conditional.
+    #[error("NestTooDeep")]
+    NestTooDeep,
+    /// Some path has 33 values on the stack behind this token.
+    #[error("StackTooDeep")]
+    StackTooDeep,
+}
+
+impl CapFault {
+    /// The fault's name, as the error prints it.
+    pub fn word(self) -> &'static str
+        ensures name { result.now ≡ name_of self }
+    {
+        match self {
+            CapFault::TooLong => "TooLong",
+            CapFault::CutShort => "CutShort",
+            CapFault::UnknownEscape => "UnknownEscape",
+            CapFault::BadParameter => "BadParameter",
+            CapFault::BadVariable => "BadVariable",
+            CapFault::BadConstant => "BadConstant",
+            CapFault::BadFormat => "BadFormat",
+            CapFault::StrayThen => "StrayThen",
+            CapFault::StrayElse => "StrayElse",
+            CapFault::StrayEnd => "StrayEnd",
+            CapFault::NoThen => "NoThen",
+            CapFault::NestTooDeep => "NestTooDeep",
+            CapFault::StackTooDeep => "StackTooDeep",
+        }
+    }
+}
+
+/// A fault, and the number of bytes before it.
+#[derive(Clone, Copy, Debug, PartialEq, Eq, Error)]
+#[error("{fault} at {place}")]
+pub struct CapRefused {
+    /// What is wrong.
+    pub fault: CapFault,
+    /// How many bytes stand before the token at fault; the number of all bytes where the end is at fault.
+    pub place: usize,
+}
+
+impl Format {
+    /// The most bytes that a print by this format writes, where no text is longer than `longest` bytes.
+    pub fn size(&self, longest: u16) -> u64
+        ensures exact { result ≡ format_size self.now longest }
+        ensures small { result ≤ 65535 }
+    {
+        let longest = u64::from(longest);
+        let least = u64::from(self.precision.unwrap_or(0));
+        let text = match self.conversion {
+            Conversion::Signed => 1 + least.max(10),
+            Conversion::Octal => least.max(if self.alternate { 12 } else { 11 }),
+            Conversion::LowerHex | Conversion::UpperHex => {
+                (if self.alternate { 2 } else { 0 }) + least.max(8)
+            }
+            Conversion::Text => match self.precision {
+                None => longest,
+                Some(most) => longest.min(u64::from(most)),
+            },
+        };
+        text.max(u64::from(self.width))
+    }
+}
+
+impl Token {
+    /// The most bytes that it writes, where no text is longer than `longest`.
+    pub(crate) fn size(&self, longest: u16) -> u64
+        ensures exact { result ≡ token_size longest self.now }
+        ensures small { result ≤ 65535 }
+    {
+        match self {
+            Token::Byte(_) | Token::Char => 1,
+            Token::Print(format) => format.size(longest),
+            _ => 0,
+        }
+    }
+}
+
+#[cfg(test)]
+mod tests {
+    use super::*;
+    use std::test::Fail;
+
+    const FAULTS: [CapFault; 13] = [
+        CapFault::TooLong,
+        CapFault::CutShort,
+        CapFault::UnknownEscape,
+        CapFault::BadParameter,
+        CapFault::BadVariable,
+        CapFault::BadConstant,
+        CapFault::BadFormat,
+        CapFault::StrayThen,
+        CapFault::StrayElse,
+        CapFault::StrayEnd,
+        CapFault::NoThen,
+        CapFault::NestTooDeep,
+        CapFault::StackTooDeep,
+    ];
+
+    #[test]
+    fn messages_are_names(rt: HostRuntime) -> Result<(), Fail> {
+        for fault in FAULTS {
+            let message = format!(in rt.alloc(); "{fault}")?;
+            assert_eq!(rt; message.as_str(), fault.word());
+        }
+        let refused = CapRefused {
+            fault: CapFault::BadFormat,
+            place: 3,
+        };
+        let message = format!(in rt.alloc(); "{refused}")?;
+        assert_eq!(rt; message.as_str(), "BadFormat at 3");
+        Ok(())
+    }
+}

@@ -1,0 +1,233 @@
+//! A parsed capability, and the tape that gives its tokens.
+
+ghost use Rattle.std.specs.Prelude.{◌≡◌, ℕ, ◌≤◌, ◌++◌, [], ◌∷◌, List, length, IfOk, IfErr, IfSome, IfNone};
+ghost use Rattle.ti_cap.specs.Refusal.{IsRefusal, IsFaultless};
+ghost use Rattle.ti_cap.specs.Scan.{IsSure};
+ghost use Rattle.ti_cap.specs.Capability.{HasDepth, HasBound, HasNest, IsWellFormed, Spot, Takes, IsFirst, IsCapability, whole};
+
+use crate::analysis::Analysis;
+use crate::language::{CapFault, CapRefused, Token};
+use crate::limits::Limits;
+use crate::read::read_token;
+use crate::scan::{Open, Scan};
+use std::marker::Model;
+
+const MOST_BYTES: usize = 32767;
+
+/// The greatest number of open conditionals.
+const MOST_OPEN: usize = 32;
+
+/// Nearly all capabilities nest no deeper, and less room takes less time to make.
+const FEW_OPEN: usize = 4;
+
+/// Bytes that are a capability.
+#[derive(Drop)]
+pub struct Capability<'a> {
+    bytes: &'a [u8],
+    limits: Limits,
+}
+
+impl<'a> Model for Capability<'a> {
+    ghost use Rattle.std.specs.Prelude.{ℕ, List};
+
+    ghost Value = { List ℕ };
+
+    ghost use Rattle.ti_cap.specs.Capability.{IsCapability};
+
+    ghost view = { λ c. c.bytes.now };
+
+    ghost invariant = { λ c. IsCapability c.bytes.now c.limits };
+}
+
+impl<'a> Capability<'a> {
+    /// Reads bytes as a capability.
+    pub fn parse(bytes: &'a [u8]) -> Result<Self, CapRefused>
+        ensures value { IfOk result (λ c. c ≡ bytes.now) }
+        ensures tree { IfOk result (λ _. IsWellFormed bytes.now) }
+        ensures accepted { IfOk result (λ _. IsFaultless bytes.now) }
+        ensures refused { IfErr result (IsRefusal bytes.now) }
+    {
+        if bytes.len() > MOST_BYTES {
+            return Err(CapRefused {
+                fault: CapFault::TooLong,
+                place: MOST_BYTES,
+            });
+        }
+        let limits = match limits_of::<FEW_OPEN>(bytes) {
+            Ok(limits) => limits,
+            Err(refused) if refused.fault == CapFault::NestTooDeep => {
+                limits_of::<MOST_OPEN>(bytes)?
+            }
+            Err(refused) => return Err(refused),
+        };
+        Ok(Capability { bytes, limits })
+    }
+
+    /// How many bytes it has.
+    pub fn len(&self) -> usize
+        ensures exact { result ≡ length self.now }
+    {
+        self.bytes.len()
+    }
+
+    /// The greatest height of the stack over all paths.
+    pub fn depth(&self) -> usize
+        ensures exact { HasDepth self.now result }
+        ensures low { result ≤ 32 }
+        ensures tree { IsWellFormed self.now }
+    {
+        self.limits.depth
+    }
+
+    /// The greatest number of conditionals that are open at once.
+    pub fn nest(&self) -> usize
+        ensures exact { HasNest self.now result }
+        ensures few { result ≤ 32 }
+    {
+        self.limits.nest
+    }
+}
+
+/// The limits of a capability, with room for so many open conditionals. With room for fewer than 32, that they nest too
+/// deep says only that more room is needed.
+fn limits_of<const ROOM: usize>(bytes: &[u8]) -> Result<Limits, CapRefused>
+    requires room { ROOM ≤ 32 }
+    requires short { length bytes.now ≤ 32767 }
+    ensures accepted { IfOk result (λ limits. IsCapability bytes.now limits) }
+    ensures refused { IfErr result (λ refused. IsSure ROOM refused.fault → IsRefusal bytes.now refused) }
+{
+    let mut scan = Scan::new();
+    let mut opens = [Open::FRESH; ROOM];
+    let mut place = 0;
+    while place < bytes.len() {
+        match read_token(&bytes[place..]) {
+            Err(fault) => return Err(CapRefused { fault, place }),
+            Ok((token, long)) => match scan.take(&mut opens, token) {
+                Err(fault) => return Err(CapRefused { fault, place }),
+                Ok(()) => place += long,
+            },
+        }
+    }
+    if scan.is_in_first_test(&opens) {
+        return Err(CapRefused {
+            fault: CapFault::NoThen,
+            place,
+        });
+    }
+    Ok(Limits {
+        depth: scan.depth() as usize,
+        nest: scan.nest(),
+        bound: scan.bound(&opens),
+    })
+}
+
+/// The tokens of a capability, one after the other. It goes forward only.
+#[derive(Drop)]
+pub struct Tape<'a> {
+    bytes: &'a [u8],
+    place: usize,
+    maxima: Limits,
+}
+
+impl<'a> Model for Tape<'a> {
+    ghost use Rattle.std.specs.Prelude.{take, drop};
+    ghost use Rattle.ti_cap.specs.Capability.{Spot, IsTape};
+
+    ghost Value = { Spot };
+
+    ghost view = { λ t. record { taken = take t.place t.bytes.now; left = drop t.place t.bytes.now } };
+
+    ghost invariant = { λ t. IsTape t.bytes.now t.place t.maxima };
+}
+
+impl<'a> Capability<'a> {
+    /// A tape at the first token.
+    pub fn tape(&self) -> Tape<'a>
+        ensures start { result ≡ record { taken = []; left = self.now } }
+    {
+        Tape::fresh(self.bytes, self.limits)
+    }
+
+    /// The greatest number of bytes over all paths, where no text is longer than `longest`.
+    pub fn bound(&self, longest: u16) -> u64
+        ensures exact { HasBound self.now longest result }
+    {
+        if longest == 0 {
+            return self.limits.bound;
+        }
+        bound_from(self.tape(), longest)
+    }
+}
+
+/// The greatest number of bytes over all paths, by a pass over a fresh tape.
+fn bound_from(mut tape: Tape<'_>, longest: u16) -> u64
+    requires start { tape.taken ≡ [] }
+    requires tree { IsWellFormed (whole tape) }
+    ensures { HasBound tape.entry.left longest result }
+{
+    let mut sizes = Analysis::new();
+    while let Some(token) = tape.token() {
+        let size = sizes.running() + token.size(longest) as u32;
+        sizes.meet(&token, size);
+    }
+    u64::from(sizes.greatest())
+}
+
+impl<'a> Tape<'a> {
+    /// A tape at the first token of a capability with these limits.
+    fn fresh(bytes: &'a [u8], maxima: Limits) -> Tape<'a>
+        requires { IsCapability bytes.now maxima }
+        ensures { result ≡ record { taken = []; left = bytes.now } }
+    {
+        Tape {
+            bytes,
+            place: 0,
+            maxima,
+        }
+    }
+
+    /// The next token, or none at the end.
+    #[inline(always)]
+    pub fn token(&mut self) -> Option<Token>
+        ensures none { IfNone result ((self.new ≡ self.old) × (self.old.left ≡ [])) }
+        ensures some { IfSome result (λ token. Takes token self.old self.new) }
+        ensures order { IfSome result (λ token. IsFirst token self.old self.new) }
+    {
+        if self.place >= self.bytes.len() {
+            return None;
+        }
+        match read_token(&self.bytes[self.place..]) {
+            Ok((token, long)) => {
+                self.place += long;
+                Some(token)
+            }
+            Err(_) => unreachable!(),
+        }
+    }
+
+    /// How many bytes were taken.
+    pub fn at(&self) -> usize
+        ensures exact { result ≡ length self.now.taken }
+    {
+        self.place
+    }
+
+    /// The capability's depth.
+    pub fn depth(&self) -> usize
+        ensures exact { HasDepth (whole self.now) result }
+        ensures low { result ≤ 32 }
+        ensures tree { IsWellFormed (whole self.now) }
+    {
+        self.maxima.depth
+    }
+
+    /// The capability's bound.
+    pub fn bound(&self, longest: u16) -> u64
+        ensures exact { HasBound (whole self.now) longest result }
+    {
+        if longest == 0 {
+            return self.maxima.bound;
+        }
+        bound_from(Tape::fresh(self.bytes, self.maxima), longest)
+    }
+}

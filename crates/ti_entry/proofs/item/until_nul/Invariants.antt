@@ -1,6 +1,0 @@
-use Rattle.std.proofs.Common.{◌≡◌, ◌++◌, take, drop}
-use Rattle.ti_entry.specs.Table.{until_nul}
-use Rattle.ti_entry.proofs.item.until_nul.Given as goal
-
-abbrev pub invariant-loop-i : goal.invariant-loop-i
-invariant-loop-i l = until_nul l.bytes ≡ take l.i l.bytes ++ until_nul (drop l.i l.bytes)

@@ -1,0 +1,30 @@
+//! What an expansion that succeeds answers.
+
+/// How an expansion went: its counts are exact, those of the one path that the tests choose.
+#[derive(Clone, Copy, PartialEq, Eq, Debug)]
+pub struct Run {
+    /// The bytes of output.
+    pub written: usize,
+    /// The tokens that ran. The `%e` or `%;` that ends a passing over ran, and so did the `%e` that starts one.
+    pub ran: usize,
+    /// The tokens that were passed over.
+    pub passed: usize,
+    /// The greatest number of values on the stack after a token.
+    pub peak: usize,
+}
+
+impl Run {
+    ghost use Rattle.std.specs.Prelude.{◌≡◌};
+
+    /// Before the first token.
+    pub(crate) fn start() -> Run
+        ensures { result ≡ record { written = 0; ran = 0; passed = 0; peak = 0 } }
+    {
+        Run {
+            written: 0,
+            ran: 0,
+            passed: 0,
+            peak: 0,
+        }
+    }
+}

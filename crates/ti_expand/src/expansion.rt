@@ -1,0 +1,134 @@
+//! Expanding a capability, into slices of the caller or into a vector: what the contracts promise is said by the tree
+//! that writes the capability, its `meaning` and the path that its tests choose.
+//!
+//! An expansion is linear in the capability's bytes and in its output. `expand_into` takes no memory; `expand` takes it
+//! once. Where a parameter is a text, one more pass over the tape computes the bound for its length.
+
+ghost use Rattle.std.specs.Prelude.{◌≡◌, ℕ, ◌+◌, ◌≤◌, ◌↔◌, [], length, take, drop, vec_len, IfOk, IfErr, OnOk, OnErr};
+ghost use Rattle.ti_cap.specs.Tree.{tokens};
+ghost use Rattle.ti_cap.specs.Height.{height};
+ghost use Rattle.ti_cap.specs.Capability.{HasDepth, HasBound, IsWellFormed};
+ghost use Rattle.ti_expand.specs.State.{start};
+ghost use Rattle.ti_expand.specs.Meaning.{meaning, taken};
+ghost use Rattle.ti_expand.specs.Expands.{ForTree, longest_text, IsFirstTooLong, IsFault, IsTextOrMemory};
+ghost use Rattle.ti_expand.specs.Running.{IsReady};
+
+use crate::counts::Run;
+use crate::fault::ExpandFault;
+use crate::pass::run_tape;
+use crate::texts::longest_text;
+use crate::values::Value;
+use crate::variables::Vars;
+use std::alloc::Allocator;
+use ti_base::MOST_VALUES;
+use ti_cap::{Capability, Tape};
+
+/// The first fault that holds, or else the length of the longest text.
+#[inline(always)]
+fn check(
+    tape: &Tape<'_>,
+    parameters: &[Value<'_>; 9],
+    places: usize,
+    room: usize,
+) -> Result<u16, ExpandFault>
+    requires { tape.now.taken ≡ [] }
+    ensures faults { (fault : ExpandFault) → (result ≡ Err fault) ↔ IsFault tape.now.left parameters.now places room fault }
+    ensures ready { IfOk result (IsReady tape.now.left parameters.now places room) }
+{
+    let longest = longest_text(parameters)?;
+    let need = tape.depth();
+    if places < need {
+        return Err(ExpandFault::StackTooSmall { need });
+    }
+    let need = tape.bound(longest);
+    if (room as u64) < need {
+        return Err(ExpandFault::OutTooSmall { need });
+    }
+    Ok(longest)
+}
+
+/// Expands a tape from its start into slices of the caller. It takes no memory: the stack slice needs as many places as
+/// the capability's depth, and the output slice as many bytes as its bound for the longest text among the parameters.
+/// Each token is taken off the tape once. What the stack slice holds afterwards is left open.
+///
+/// # Errors
+/// In this order, each only where it is so: `TextTooLong` with the lowest parameter whose text has more bytes than
+/// [`ti_base::MOST_TEXT_BYTES`], `StackTooSmall` with the depth, `OutTooSmall` with the bound. After each of them
+/// variables, stack and output are as before.
+pub fn expand_into<'a>(
+    tape: Tape<'a>,
+    parameters: &[Value<'a>; 9],
+    vars: &mut Vars,
+    stack: &mut [Value<'a>],
+    out: &mut [u8],
+) -> Result<Run, ExpandFault>
+    requires { tape.taken ≡ [] }
+    // each fault comes exactly where it is so, and changes nothing
+    ensures faults { (fault : ExpandFault) → (result ≡ Err fault) ↔ IsFault tape.entry.left parameters.now (length stack.old) (length out.old) fault }
+    ensures kept_variables { OnErr result (vars.new ≡ vars.old) }
+    ensures kept_stack { OnErr result (stack.new ≡ stack.old) }
+    ensures kept_output { OnErr result (out.new ≡ out.old) }
+
+    // else the output and the variables are those of the meaning of the tree that writes the tape, and there is one
+    ensures tree { OnOk result (IsWellFormed tape.entry.left) }
+    ensures output { IfOk result (λ run. ForTree tape.entry.left (λ tree. take run.written out.new ≡ (meaning tree (start vars.old parameters.now)).output)) }
+    ensures rest { IfOk result (λ run. drop run.written out.new ≡ drop run.written out.old) }
+    ensures variables { OnOk result (ForTree tape.entry.left (λ tree. vars.new ≡ (meaning tree (start vars.old parameters.now)).variables)) }
+
+    // and the counts are those of the path that its tests choose
+    ensures written { IfOk result (λ run. ForTree tape.entry.left (λ tree. run.written ≡ length (meaning tree (start vars.old parameters.now)).output)) }
+    ensures ran { IfOk result (λ run. ForTree tape.entry.left (λ tree. run.ran ≡ length (taken tree (start vars.old parameters.now)))) }
+    ensures all { IfOk result (λ run. ForTree tape.entry.left (λ tree. run.ran + run.passed ≡ length (tokens tree))) }
+    ensures peak { IfOk result (λ run. ForTree tape.entry.left (λ tree. run.peak ≡ height (taken tree (start vars.old parameters.now)))) }
+
+    // which keep to the limits
+    ensures steps_low { IfOk result (λ run. run.ran + run.passed ≤ length tape.entry.left) }
+    ensures peak_low { IfOk result (λ run. (depth : ℕ) → HasDepth tape.entry.left depth → run.peak ≤ depth) }
+    ensures written_low { IfOk result (λ run. (bound : ℕ) → HasBound tape.entry.left (longest_text parameters.now) bound → run.written ≤ bound) }
+{
+    // Each variable fits 32 bits, on which the bound rests.
+    let _numbers = vars.numbers();
+    check(&tape, parameters, stack.len(), out.len())?;
+    Ok(run_tape(tape, parameters, vars, stack, out))
+}
+
+/// Expands a capability into a vector of the allocator. It grows once, to the capability's bound for the longest text
+/// among the parameters, before it evaluates.
+///
+/// # Errors
+/// `TextTooLong` with the lowest parameter whose text has more bytes than [`ti_base::MOST_TEXT_BYTES`], or `Memory`
+/// where the growth was refused. After either the variables are as before.
+pub fn expand<'a, A: Allocator + Copy>(
+    alloc: A,
+    capability: &Capability<'a>,
+    parameters: &[Value<'a>; 9],
+    vars: &mut Vars,
+) -> Result<Vec<u8, A>, ExpandFault>
+    // a text is too long, exactly where it is so, or memory was refused
+    ensures too_long { (k : ℕ) → (result ≡ Err (ExpandFault.TextTooLong k)) ↔ IsFirstTooLong parameters.now k }
+    ensures only { IfErr result IsTextOrMemory }
+    ensures kept { OnErr result (vars.new ≡ vars.old) }
+
+    // else the output and the variables are those of the meaning of the tree that writes the capability, and there is one
+    ensures tree { OnOk result (IsWellFormed capability.now) }
+    ensures output { IfOk result (λ out. ForTree capability.now (λ tree. out.items ≡ (meaning tree (start vars.old parameters.now)).output)) }
+    ensures variables { OnOk result (ForTree capability.now (λ tree. vars.new ≡ (meaning tree (start vars.old parameters.now)).variables)) }
+    ensures output_low { IfOk result (λ out. (bound : ℕ) → HasBound capability.now (longest_text parameters.now) bound → vec_len out ≤ bound) }
+{
+    let longest = longest_text(parameters)?;
+    let bound = capability.bound(longest) as usize;
+    let depth = capability.depth();
+    let mut out = Vec::from_elem(alloc, 0, bound)?;
+    let mut stack = [Value::Num(0); MOST_VALUES];
+    // Each variable fits 32 bits, on which the bound rests.
+    let _numbers = vars.numbers();
+    let run = run_tape(
+        capability.tape(),
+        parameters,
+        vars,
+        &mut stack[..depth],
+        out.as_mut_slice(),
+    );
+    out.truncate(run.written);
+    Ok(out)
+}

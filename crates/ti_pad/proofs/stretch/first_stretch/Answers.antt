@@ -1,0 +1,12 @@
+use Rattle.ti_pad.specs.Shown.{shown}
+use Rattle.ti_pad.proofs.Stretches.{text-literal, text-marked}
+use Rattle.ti_pad.proofs.stretch.first_stretch.Goals as goal
+
+pub returns-in-Some-clause-text : goal.returns-in-Some-clause-text
+returns-in-Some-clause-text c =
+    text-marked c.args.bytes.now c.in-Some.found.rest.now (shown c.in-Some.found.mark) c.args.padding.now c.count.result
+    c.in-Some.ensures.mark c.in-Some.ensures.rest c.count.ensures.value
+
+pub returns-in-None-clause-text : goal.returns-in-None-clause-text
+returns-in-None-clause-text c =
+    text-literal c.args.bytes.now c.args.padding.now c.plain_len-len.result c.in-None.ensures.mark c.requires c.plain_len-len.ensures.count

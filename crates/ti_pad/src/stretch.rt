@@ -1,0 +1,67 @@
+//! A text in stretches: bytes that stand for themselves, and pad bytes.
+//!
+//! The next stretch is found by one look at its bytes. No memory is taken.
+
+ghost use Rattle.std.specs.Prelude.{◌≡◌, ◌≤◌, ◌<◌, ◌+◌, ◌*◌, ◌++◌, ℕ, length};
+ghost use Rattle.std.specs.List.{prefix_len};
+ghost use Rattle.ti_pad.specs.Padded.{padded};
+ghost use Rattle.ti_pad.specs.Written.{is_plain, written};
+
+use crate::find_mark::mark_at_front;
+use crate::padding::{MOST_COUNT, Padding};
+
+/// Bytes that stand for themselves, or this many pad bytes.
+#[derive(Clone, Copy, Debug)]
+pub enum Stretch<'a> {
+    Literal(&'a [u8]),
+    Pads(u64),
+}
+
+/// The stretch at the front of some bytes, and the bytes after it.
+#[derive(Clone, Copy, Debug)]
+pub struct Front<'a> {
+    pub stretch: Stretch<'a>,
+    pub rest: &'a [u8],
+}
+
+impl Stretch<'_> {
+    /// The number of its bytes.
+    pub fn len(&self) -> u64
+        ensures { (pad : ℕ) → result ≡ length (written pad self.now) }
+    {
+        match self {
+            Stretch::Literal(bytes) => bytes.len() as u64,
+            Stretch::Pads(count) => *count,
+        }
+    }
+}
+
+/// How many bytes stand before the first `$`.
+fn plain_len(bytes: &[u8]) -> usize
+    ensures count { result ≡ prefix_len is_plain bytes.now }
+    ensures within { result ≤ length bytes.now }
+{
+    bytes.iter().take_while(|b| **b != b'$').count()
+}
+
+/// The stretch at the front: the pad bytes of a mark, or else the bytes up to the next place where a mark may start.
+pub fn first_stretch<'a>(bytes: &'a [u8], padding: &Padding) -> Front<'a>
+    requires { 0 < length bytes.now }
+    ensures text { padded bytes.now padding.now ≡ written padding.now.pad result.stretch ++ padded result.rest.now padding.now }
+    ensures shorter { length result.rest.now < length bytes.now }
+    ensures few { length (written padding.now.pad result.stretch) + MOST_COUNT * length result.rest.now ≤ MOST_COUNT * length bytes.now }
+{
+    match mark_at_front(bytes) {
+        Some(found) => Front {
+            stretch: Stretch::Pads(padding.count(&found.mark)),
+            rest: found.rest,
+        },
+        None => {
+            let len = 1 + plain_len(&bytes[1..]);
+            Front {
+                stretch: Stretch::Literal(&bytes[..len]),
+                rest: &bytes[len..],
+            }
+        }
+    }
+}

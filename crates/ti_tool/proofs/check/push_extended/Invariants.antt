@@ -1,6 +1,0 @@
-use Rattle.ti_tool.specs.Checked.{IsExtendedLine}
-use Rattle.ti_tool.proofs.Verdicts.{GoesOn}
-use Rattle.ti_tool.proofs.check.push_extended.Given as goal
-
-abbrev pub invariant-loop-i : goal.invariant-loop-i
-invariant-loop-i g l = GoesOn IsExtendedLine l.extended.extended_texts l.initial.out.items l.i l.out.items l.sound

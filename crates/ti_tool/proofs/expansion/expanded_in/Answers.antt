@@ -1,7 +1,0 @@
-use Rattle.ti_tool.proofs.Capped.{expansion, none_too_long}
-use Rattle.ti_tool.proofs.expansion.expanded_in.Goals as goal
-
-pub returns-in-Ok-clause-output : goal.returns-in-Ok-clause-output
-returns-in-Ok-clause-output g c =
-    expansion c.args.bytes.now c.in_ok-capability.capability c.args.parameters.now c.new-vars.result c.in-Ok.output.items c.in_ok-capability.ensures.value c.new-vars.ensures.zero c.in_ok-capability.ensures.tree
-    (none_too_long c.expand_in.result c.in-Ok.output c.args.parameters.now c.expand_in.ensures.too_long c.in-Ok.is) c.in-Ok.ensures.output

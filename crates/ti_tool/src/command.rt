@@ -1,0 +1,7 @@
+//! What each subcommand of the program does, a module each.
+
+pub mod cap;
+pub mod check;
+pub mod convert;
+pub mod expand;
+pub mod show;

@@ -1,0 +1,51 @@
+//! `cap`: one capability, expanded.
+//!
+//! The whole result is built before the first byte of it is written; its memory grows once, and once more where it is
+//! written in hex.
+
+ghost use Rattle.std.specs.Prelude.{◌≡◌, ◌⊎◌, Ok, Err, MatchResult};
+ghost use Rattle.ti_tool.specs.declared.fault.ToolFault.TheVariants as fault;
+ghost use Rattle.ti_tool.specs.Results.{IsCapped};
+ghost use Rattle.ti_tool.specs.Calls.{DidCall, IsFull};
+
+use crate::expansion::expansion_of;
+use crate::fault::ToolFault;
+use crate::output::{output_bytes, write_result};
+use crate::source::read_up_to;
+use arrayvec::ArrayVec;
+use std::alloc::Allocator;
+use std::io::{Read, Write};
+use ti_expand::Value;
+
+/// The result of `cap` for an input.
+fn cap_result<A: Allocator + Copy>(
+    alloc: A,
+    input: &[u8],
+    parameters: &[Value<'_>; 9],
+    hex: bool,
+) -> Result<Vec<u8, A>, ToolFault>
+    ensures { MatchResult result (λ v. IsCapped parameters.now hex input.now (Ok v.items)) (λ e. (e ≡ fault.Memory) ⊎ IsCapped parameters.now hex input.now (Err e)) }
+{
+    let plain = expansion_of(alloc, input, parameters)?;
+    output_bytes(alloc, plain, hex)
+}
+
+/// Expands what the reader gives as one capability, each byte of it as it stands, and writes the result: its bytes, or
+/// with `hex` the same in lower-case hex and a newline. Marks of padding stay as they are. Each variable begins as 0.
+///
+/// At most 32768 bytes of the input are kept, which is one more than a capability may have. Nothing is written before
+/// the whole result is there: after a fault other than `Write` the writer is as it was.
+pub fn cap_run<A: Allocator + Copy, R: Read, W: Write>(
+    alloc: A,
+    reader: &mut R,
+    parameters: &[Value<'_>; 9],
+    hex: bool,
+    writer: &mut W,
+) -> Result<(), ToolFault>
+    ensures { DidCall (IsCapped parameters.now hex) IsFull (R.remaining reader.old) (R.remaining reader.new) (W.contents writer.old) (W.contents writer.new) result }
+{
+    let mut input = ArrayVec::new();
+    read_up_to(&mut input, reader)?;
+    let result = cap_result(alloc, input.as_slice(), parameters, hex)?;
+    write_result(writer, result.as_slice())
+}

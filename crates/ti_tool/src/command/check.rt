@@ -1,0 +1,100 @@
+//! `check`: each text of an entry analysed as a capability.
+//!
+//! One pass over the texts, of which equal ones in a row are analysed once; the whole listing is built before the first byte of it is written.
+
+ghost use Rattle.std.specs.Prelude.{◌≡◌, ◌++◌, List, ℕ, IfOk};
+ghost use Rattle.ti_tool.specs.Checked.{AreLines, AreVerdicts, IsExtendedLine, IsStandardLine};
+ghost use Rattle.ti_tool.specs.Calls.{DidCheck, without_value};
+ghost use Rattle.ti_tool.specs.Results.{IsChecked};
+
+use crate::entry::read_entry;
+use crate::fault::ToolFault;
+use crate::label::{extended_label, label_at};
+use crate::output::write_result;
+use crate::verdict::{judge, push_line};
+use std::alloc::{AllocError, Allocator};
+use std::io::{Read, Write};
+use ti_entry::{Entry, EntryReader, Extended};
+use ti_words::{Kind, Text};
+
+/// Writes the lines of the standard texts, and answers whether none has a fault.
+fn push_standard<A: Allocator>(out: &mut Vec<u8, A>, entry: &Entry<'_>) -> Result<bool, AllocError>
+    ensures { IfOk result (λ sound. (lines : List ℕ) × AreLines IsStandardLine 0 entry.now.texts lines sound × (out.new.items ≡ out.old.items ++ lines)) }
+{
+    let mut sound = true;
+    let mut last = judge(b"");
+    for i in 0..entry.text_count() {
+        if let Text::Value(text) = entry.text(i) {
+            last = last.next(text);
+            push_line(out, b"text ", label_at(Kind::Text, i), last.verdict)?;
+            sound &= last.verdict.is_sound();
+        }
+    }
+    Ok(sound)
+}
+
+/// Writes the lines of the texts of the extended part, and answers whether none has a fault.
+fn push_extended<A: Allocator>(
+    out: &mut Vec<u8, A>,
+    extended: &Extended<'_>,
+) -> Result<bool, AllocError>
+    ensures { IfOk result (λ sound. (lines : List ℕ) × AreLines IsExtendedLine 0 extended.now.extended_texts lines sound × (out.new.items ≡ out.old.items ++ lines)) }
+{
+    let mut sound = true;
+    let mut last = judge(b"");
+    for i in 0..extended.text_count() {
+        if let Text::Value(text) = extended.text(i) {
+            last = last.next(text);
+            let label = extended_label(extended, Kind::Text, i);
+            push_line(out, b"text+ ", label, last.verdict)?;
+            sound &= last.verdict.is_sound();
+        }
+    }
+    Ok(sound)
+}
+
+/// The lines of an entry, and whether no text has a fault.
+#[derive(Drop)]
+struct Verdicts<A: Allocator> {
+    lines: Vec<u8, A>,
+    sound: bool,
+}
+
+/// The lines of an entry.
+fn verdicts_of<A: Allocator + Copy>(alloc: A, entry: &Entry<'_>) -> Result<Verdicts<A>, AllocError>
+    ensures { IfOk result (λ v. AreVerdicts entry.now v.lines.items v.sound) }
+{
+    let mut lines = Vec::new(alloc);
+    let standard = push_standard(&mut lines, entry)?;
+    let extended = push_extended(&mut lines, &entry.extended())?;
+    Ok(Verdicts {
+        lines,
+        sound: standard && extended,
+    })
+}
+
+/// Analyses each text of the entry that the reader gives, and writes a line for each that is present, in the order of
+/// [`show`](crate::show): its depth and bound, or its fault with the place. The bound is the one where text
+/// parameters have no bytes. The answer is whether no text has a fault.
+///
+/// A text that is no output string, such as a pattern of input, can have a fault in an entry that is right.
+///
+/// Nothing is written before the whole listing is there: after a fault other than `Write` the writer is as it was.
+///
+/// # Errors
+///
+/// In this order: `Read` or `Entry` where there is no entry to be had, `Write`; `Memory` where a growth is refused.
+pub fn check<A: Allocator + Copy, R: Read, W: Write>(
+    alloc: A,
+    reader: &mut R,
+    writer: &mut W,
+) -> Result<bool, ToolFault>
+    ensures { DidCheck IsChecked (R.remaining reader.old) (R.remaining reader.new) (W.contents writer.old) (W.contents writer.new) result }
+{
+    let mut kept = EntryReader::new();
+    read_entry(&mut kept, reader)?;
+    let entry = kept.finish()?;
+    let verdicts = verdicts_of(alloc, &entry)?;
+    write_result(writer, verdicts.lines.as_slice())?;
+    Ok(verdicts.sound)
+}

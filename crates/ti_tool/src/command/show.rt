@@ -1,0 +1,32 @@
+//! `show`: the listing of an entry.
+
+ghost use Rattle.std.specs.Prelude.{◌≡◌};
+ghost use Rattle.ti_tool.specs.Results.{IsShown};
+ghost use Rattle.ti_tool.specs.Calls.{DidCall, HasFailed};
+
+use crate::entry::read_entry;
+use crate::fault::ToolFault;
+use crate::listing::lines_of;
+use crate::output::write_result;
+use std::alloc::Allocator;
+use std::io::{Read, Write};
+use ti_entry::EntryReader;
+
+/// Lists the entry that the reader gives, one line an item: the format, the names, then the flags, numbers and texts in
+/// the order of their indices. A flag that is No and what is absent is not listed. A text is in lower-case hex, `-`
+/// where it has no byte. Names are written byte for byte.
+///
+/// Nothing is written before the whole listing is there.
+pub fn show<A: Allocator + Copy, R: Read, W: Write>(
+    alloc: A,
+    reader: &mut R,
+    writer: &mut W,
+) -> Result<(), ToolFault>
+    ensures { DidCall IsShown HasFailed (R.remaining reader.old) (R.remaining reader.new) (W.contents writer.old) (W.contents writer.new) result }
+{
+    let mut kept = EntryReader::new();
+    read_entry(&mut kept, reader)?;
+    let entry = kept.finish()?;
+    let lines = lines_of(alloc, &entry)?;
+    write_result(writer, lines.as_slice())
+}

@@ -1,0 +1,268 @@
+//! The program over its words, a reader and two writers.
+
+ghost use Rattle.std.specs.Prelude.{◌≡◌, ◌≤◌, ◌⊎◌, map};
+ghost use Rattle.ti_base.specs.Limits.{greatest_rate, most_lines};
+ghost use Rattle.ti_line.specs.CommandLine.{Asked, Cap, Show, Check, Expand, Convert, Reads};
+ghost use Rattle.ti_line.specs.Laws.{IsWithin};
+ghost use Rattle.ti_line.specs.Line.{asked_of};
+ghost use Rattle.ti_tool.specs.Runs.{DidLine, DidNoLine, EndsWords, RanLine, status_for, width_asked as the_width_asked};
+
+use crate::command::cap::cap_run;
+use crate::command::check::check;
+use crate::command::convert::convert;
+use crate::command::expand::expand_named;
+use crate::command::show::show;
+use crate::fault::ToolFault;
+use crate::params::read_params;
+use crate::status::{status, status_of_check, tell, tell_both_widths, tell_words};
+use std::alloc::{Allocator, Global};
+use std::io::{Read, Write};
+use ti_line::laws::words_are_read_once;
+use ti_line::{Line, NoLine, read_line};
+use ti_pad::Padding;
+use ti_words::Width;
+
+/// The status of a call's answer, whose fault is told.
+fn ended<E: Write>(errors: &mut E, answer: Result<(), ToolFault>) -> u8
+    ensures { result ≡ status_for answer }
+{
+    if let Err(fault) = &answer {
+        tell(errors, fault);
+    }
+    status(&answer)
+}
+
+/// `cap` with its values.
+fn run_cap<A: Allocator + Copy, R: Read, W: Write, E: Write>(
+    alloc: A,
+    hex: bool,
+    words: &[&str],
+    input: &mut R,
+    output: &mut W,
+    errors: &mut E,
+) -> u8
+    ensures { RanLine (Cap hex (map (λ w. w.now) words.now)) (R.remaining input.old) (R.remaining input.new)
+        (W.contents output.old) (W.contents output.new) result }
+{
+    match read_params(words) {
+        Ok(parameters) => {
+            let answer = cap_run(alloc, input, &parameters, hex, output);
+            ended(errors, answer)
+        }
+        Err(fault) => {
+            tell_words(errors, fault);
+            2
+        }
+    }
+}
+
+/// `show`.
+fn run_show<A: Allocator + Copy, R: Read, W: Write, E: Write>(
+    alloc: A,
+    input: &mut R,
+    output: &mut W,
+    errors: &mut E,
+) -> u8
+    ensures { RanLine Show (R.remaining input.old) (R.remaining input.new)
+        (W.contents output.old) (W.contents output.new) result }
+{
+    let answer = show(alloc, input, output);
+    ended(errors, answer)
+}
+
+/// `check`.
+fn run_check<A: Allocator + Copy, R: Read, W: Write, E: Write>(
+    alloc: A,
+    input: &mut R,
+    output: &mut W,
+    errors: &mut E,
+) -> u8
+    ensures { RanLine Check (R.remaining input.old) (R.remaining input.new)
+        (W.contents output.old) (W.contents output.new) result }
+{
+    let answer = check(alloc, input, output);
+    if let Err(fault) = &answer {
+        tell(errors, fault);
+    }
+    status_of_check(answer)
+}
+
+/// What `expand` is to do.
+#[derive(Drop)]
+struct Expansion<'a> {
+    name: &'a str,
+    hex: bool,
+    rate: u32,
+    lines: u32,
+    xon: bool,
+    words: &'a [&'a str],
+}
+
+/// `expand` with its values.
+fn run_expand<A: Allocator + Copy, R: Read, W: Write, E: Write>(
+    alloc: A,
+    asked: Expansion<'_>,
+    input: &mut R,
+    output: &mut W,
+    errors: &mut E,
+) -> u8
+    requires rate { asked.rate ≤ greatest_rate }
+    requires lines { asked.lines ≤ most_lines }
+    ensures { RanLine (Expand asked.entry.name.now asked.entry.hex asked.entry.rate asked.entry.lines asked.entry.xon (map (λ w. w.now) asked.entry.words.now)) (R.remaining input.old) (R.remaining input.new)
+        (W.contents output.old) (W.contents output.new) result }
+{
+    let padding = match Padding::new(asked.rate, asked.lines, asked.xon, 0) {
+        Some(padding) => padding,
+        None => unreachable!(),
+    };
+    match read_params(asked.words) {
+        Ok(parameters) => {
+            let answer = expand_named(
+                alloc,
+                input,
+                asked.name,
+                &parameters,
+                &padding,
+                asked.hex,
+                output,
+            );
+            ended(errors, answer)
+        }
+        Err(fault) => {
+            tell_words(errors, fault);
+            2
+        }
+    }
+}
+
+/// The width that a flag of `convert` asks for.
+fn width_asked(wide: bool, narrow: bool) -> Option<Width>
+    ensures { result ≡ the_width_asked wide narrow }
+{
+    match (wide, narrow) {
+        (true, _) => Some(Width::Wide),
+        (false, true) => Some(Width::Legacy),
+        (false, false) => None,
+    }
+}
+
+/// `convert` with its flags, of which at most one may be given.
+fn run_convert<A: Allocator + Copy, R: Read, W: Write, E: Write>(
+    alloc: A,
+    wide: bool,
+    narrow: bool,
+    input: &mut R,
+    output: &mut W,
+    errors: &mut E,
+) -> u8
+    ensures { RanLine (Convert wide narrow) (R.remaining input.old) (R.remaining input.new)
+        (W.contents output.old) (W.contents output.new) result }
+{
+    if wide && narrow {
+        tell_both_widths(errors);
+        return 2;
+    }
+    let answer = convert(alloc, input, width_asked(wide, narrow), output);
+    ended(errors, answer)
+}
+
+/// A line that was read.
+fn run_line<A: Allocator + Copy, R: Read, W: Write, E: Write>(
+    alloc: A,
+    line: &Line<'_>,
+    input: &mut R,
+    output: &mut W,
+    errors: &mut E,
+) -> u8
+    requires { IsWithin (asked_of line.now) }
+    ensures { RanLine (asked_of line.now) (R.remaining input.old) (R.remaining input.new)
+        (W.contents output.old) (W.contents output.new) result }
+{
+    match line {
+        Line::Cap { hex, params } => {
+            run_cap(alloc, *hex, params.as_slice(), input, output, errors)
+        }
+        Line::Show => run_show(alloc, input, output, errors),
+        Line::Check => run_check(alloc, input, output, errors),
+        Line::Expand {
+            name,
+            hex,
+            rate,
+            lines,
+            xon,
+            params,
+        } => {
+            let asked = Expansion {
+                name,
+                hex: *hex,
+                rate: *rate,
+                lines: *lines,
+                xon: *xon,
+                words: params.as_slice(),
+            };
+            run_expand(alloc, asked, input, output, errors)
+        }
+        Line::Convert { wide, narrow } => {
+            run_convert(alloc, *wide, *narrow, input, output, errors)
+        }
+    }
+}
+
+/// Words that are no line: the text of help goes where results go, any other where faults go.
+fn run_no_line<W: Write, E: Write>(why: &NoLine, output: &mut W, errors: &mut E) -> u8
+    ensures { EndsWords why.now (W.contents output.old) (W.contents output.new) result }
+{
+    match why {
+        NoLine::Help(text) => {
+            if write!(output, "{text}").is_ok() {
+                return 0;
+            }
+            tell(errors, &ToolFault::Write(0));
+            5
+        }
+        NoLine::Refused(text) => {
+            let _ = write!(errors, "{text}");
+            2
+        }
+        NoLine::Memory => {
+            tell(errors, &ToolFault::Memory);
+            6
+        }
+    }
+}
+
+/// Runs the program: `words` start with its own name, results go to `output` and lines on faults to `errors`. The answer
+/// is the exit status.
+///
+/// | Status | When | Line on `errors` |
+/// |---|---|---|
+/// | 0 | done, or help was asked for | none |
+/// | 1 | `check` found a fault | none |
+/// | 2 | the words are no command line, or stand for no parameters, or ask for both widths | what is wrong and the usage; `parameters: more than nine`; `parameter K: bad word`; `convert: both widths` |
+/// | 3 | the entry is refused, or can't be encoded | `entry: WORD at PLACE`; `entry: WORD` |
+/// | 4 | the capability is refused or absent, a text is too long for it, or its padding too much | `capability: WORD at PLACE`; `capability: absent`; `capability: TextTooLong K`; `capability: TooMuch N` |
+/// | 5 | reading or writing failed | `input: failed`; `output: failed` |
+/// | 6 | out of memory | `memory` |
+///
+/// A fault line that cannot be written changes no status.
+pub fn run<A: Allocator + Copy, R: Read, W: Write, E: Write>(
+    global: Global,
+    alloc: A,
+    words: &[&str],
+    input: &mut R,
+    output: &mut W,
+    errors: &mut E,
+) -> u8
+    // Where `clap` reads the words, the named call did its work, unless memory was refused.
+    ensures read { (line : Asked) → Reads (map (λ w. w.now) words.now) line → DidLine line (R.remaining input.old) (R.remaining input.new)
+        (W.contents output.old) (W.contents output.new) result }
+    // Where it does not, help was written, or the words are refused, unless memory was refused.
+    ensures unread { ((line : Asked) → ¬ Reads (map (λ w. w.now) words.now) line) → DidNoLine (map (λ w. w.now) words.now) (R.remaining input.old) (R.remaining input.new)
+        (W.contents output.old) (W.contents output.new) result }
+{
+    words_are_read_once();
+    match read_line(global, words) {
+        Ok(line) => run_line(alloc, &line, input, output, errors),
+        Err(why) => run_no_line(&why, output, errors),
+    }
+}
