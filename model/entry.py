@@ -164,8 +164,8 @@ def read(data):
 
 def read_extended(source, entry, end, table):
     size = 4 if entry.wide else 2
-    begin = end + table % 2
-    if begin + 10 > LIMIT:
+    start = end + table % 2
+    if start + 10 > LIMIT:
         raise Refused("ExtendedTooBig", end)
     if table % 2:
         source.nul("BadPad")
@@ -173,9 +173,9 @@ def read_extended(source, entry, end, table):
     source.at += 2
     extended_table = source.count("BadExtendedHeader")
     count = flags + numbers + texts
-    end = begin + 10 + flags + flags % 2 + size * numbers + 2 * texts + 2 * count + extended_table
+    end = start + 10 + flags + flags % 2 + size * numbers + 2 * texts + 2 * count + extended_table
     if end > LIMIT:
-        raise Refused("ExtendedTooBig", begin)
+        raise Refused("ExtendedTooBig", start)
     found_flags = source.flags(flags)
     if flags % 2:
         source.nul("BadPad")
@@ -202,7 +202,7 @@ def word(number):
 
 
 def table_of(texts):
-    """Offsets and table of texts that stand one behind the other."""
+    """Offsets and table of texts that stand one after the other."""
     offsets = table = b""
     for text in texts:
         if isinstance(text, bytes):
