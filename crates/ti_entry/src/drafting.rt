@@ -5,10 +5,10 @@
 
 ghost use Rattle.std.specs.Prelude.{◌≡◌, ◌++◌, IfOk, OnOk};
 
-use crate::draft::Draft;
 use crate::entry::Entry;
 use crate::extended::Extended;
 use std::alloc::{AllocError, Allocator};
+use ti_draft::Draft;
 use ti_words::Kind;
 
 /// Adds the flags of an entry.

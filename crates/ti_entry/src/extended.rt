@@ -7,17 +7,15 @@
 ghost use Rattle.std.specs.Prelude.{◌≡◌, ℕ, ◌+◌, ◌*◌, ◌<◌, ◌≤◌, ◌^◌, ◌↔◌, List, map, length, get_or, slice_get, IsTrue};
 ghost use Rattle.std.specs.Option.{option_map};
 ghost use Rattle.ti_words.specs.Texts.{text_value, AbsentText};
-ghost use Rattle.ti_entry.specs.Layout.{places};
+ghost use Rattle.ti_layout.specs.Layout.{places};
 ghost use Rattle.ti_entry.specs.Content.{name_at as the_name_at};
 ghost use Rattle.ti_entry.specs.Held.{held, IsHeld, IsPart};
-ghost use Rattle.ti_entry.specs.Spelling.{mark_in};
+ghost use Rattle.ti_words.specs.Spelling.{mark_in};
 ghost use Rattle.ti_entry.specs.Finding.{IsFirst, IsFirstNamed, names_of};
 
-use crate::header::Header;
-use crate::item::{flag_at, is_text, number_at, text_at, text_from};
-use crate::part::Part;
-use crate::word::{count_at, numbers_size};
+use crate::item::{flag_at, is_text, number_at, text_at};
 use std::marker::Model;
+use ti_layout::{Header, Part, count_at, numbers_size, text_from};
 use ti_words::{Flag, Kind, Number, Text};
 
 /// The extended part of an entry, with no capability where the entry has none. What it gives is lent from the bytes that
@@ -30,7 +28,7 @@ pub struct Extended<'a> {
 }
 
 impl<'a> Model for Extended<'a> {
-    ghost use Rattle.ti_entry.specs.Value.{EntryValue};
+    ghost use Rattle.ti_words.specs.Value.{EntryValue};
     ghost use Rattle.ti_entry.specs.Held.{held, IsHeld};
 
     ghost Value = { EntryValue };

@@ -7,29 +7,28 @@
 
 ghost use Rattle.std.specs.Prelude.{◌≡◌, ℕ, List, ◌∷◌, ◌+◌, ◌≤◌, ◌++◌, [], length, true, false, IfOk, IfErr, IsOkAnd, Some, None, Err};
 ghost use Rattle.arrayvec.specs.ArrayVec.{array_vec_len};
-ghost use Rattle.ti_entry.specs.declared.fault.Refused.{Refused};
-ghost use Rattle.ti_entry.specs.Value.{EntryValue};
-ghost use Rattle.ti_entry.specs.Spelling.{Spells};
-ghost use Rattle.ti_entry.specs.Refusal.{refusal, failure, fault_behind as the_fault_behind};
+ghost use Rattle.ti_layout.specs.declared.fault.Refused.{Refused};
+ghost use Rattle.ti_words.specs.Value.{EntryValue};
+ghost use Rattle.ti_words.specs.Spelling.{Spells};
+ghost use Rattle.ti_layout.specs.Refusal.{refusal, failure, fault_behind as the_fault_behind};
 
 use crate::entry::{Entry, entry_at};
-use crate::fault::{Fault, Refused};
-use crate::header::{LIMIT, header_words};
-use crate::stage::Stage;
 use arrayvec::ArrayVec;
 use std::marker::Model;
+use ti_base::MOST_ENTRY_BYTES;
+use ti_layout::{Fault, Refused, Stage, header_words};
 
 /// The bytes of an entry that came so far, the check that is next, and the refusal that lasts.
 #[derive(Drop)]
 pub struct EntryReader {
-    kept: ArrayVec<u8, LIMIT>,
+    kept: ArrayVec<u8, MOST_ENTRY_BYTES>,
     stage: Stage,
     refusal: Option<Refused>,
 }
 
 impl Model for EntryReader {
     ghost use Rattle.ti_entry.specs.Reading.{Reading};
-    ghost use Rattle.ti_entry.specs.Stages.{IsReading};
+    ghost use Rattle.ti_entry.specs.Held.{IsReading};
 
     ghost Value = { Reading };
 

@@ -7,10 +7,10 @@ ghost use Rattle.std.specs.Prelude.{◌≡◌, ◌≢◌, None, OnOk, IfErr};
 ghost use Rattle.std.specs.Io.KnownBytes.{IsAtEnd};
 ghost use Rattle.ti_entry.specs.Reading.{FeedsFrom, refusal_behind};
 
-use crate::fault::Refused;
 use crate::reader::EntryReader;
 use std::io::{ErrorKind, Read};
 use thiserror::Error;
+use ti_layout::Refused;
 
 /// Why reading from a source stopped before its end.
 #[derive(Clone, Copy, Debug, PartialEq, Eq, Error)]
