@@ -9,7 +9,7 @@ use Rattle.ti_words.specs.Texts.{TextValue, AbsentText, CancelledText, TextOf, i
 use Rattle.ti_draft.specs.declared.unfit.EncodeFault.{EncodeFault}
 use Rattle.ti_draft.specs.declared.unfit.EncodeFault.TheVariants as faults
 use Rattle.ti_words.specs.Value.{EntryValue}
-use Rattle.ti_base.specs.Limits.{most_entry_bytes}
+use Rattle.ti_base.specs.Limits.{most_entry_bytes, greatest_word, greatest_wide_word}
 use Rattle.ti_words.specs.Spelling.{mark_in, extended_names}
 use Rattle.ti_draft.specs.Canonical.{canonical}
 
@@ -31,8 +31,8 @@ has_bad_text v = list_any text_has_nul v.texts || list_any text_has_nul (map mar
 
 -- the greatest number of a format
 abbrev pub greatest_number : Width → ℕ
-greatest_number Legacy = 32767
-greatest_number Wide = 2147483647
+greatest_number Legacy = greatest_word
+greatest_number Wide = greatest_wide_word
 
 abbrev pub is_out_of_range : Width → Number → Bool
 is_out_of_range w numbers.Absent = false

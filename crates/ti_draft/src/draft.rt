@@ -78,7 +78,9 @@ impl<'a, A: Allocator> Draft<'a, A> {
     ///
     /// Memory was refused, and the draft is as before; so of each push.
     pub fn push_flag(&mut self, flag: Flag) -> Result<(), AllocError>
-        ensures added { OnOk result (self.new ≡ record self.old { flags = self.old.flags ++ flag ∷ [] }) }
+        ensures added { OnOk result (self.new ≡ record self.old {
+          flags = self.old.flags ++ flag ∷ [];
+        }) }
         ensures unchanged { OnErr result (self.new ≡ self.old) }
     {
         self.flags.push(flag)?;
@@ -87,7 +89,9 @@ impl<'a, A: Allocator> Draft<'a, A> {
 
     /// Adds a number behind the others.
     pub fn push_number(&mut self, number: Number) -> Result<(), AllocError>
-        ensures added { OnOk result (self.new ≡ record self.old { numbers = self.old.numbers ++ number ∷ [] }) }
+        ensures added { OnOk result (self.new ≡ record self.old {
+          numbers = self.old.numbers ++ number ∷ [];
+        }) }
         ensures unchanged { OnErr result (self.new ≡ self.old) }
     {
         self.numbers.push(number)?;
@@ -96,7 +100,9 @@ impl<'a, A: Allocator> Draft<'a, A> {
 
     /// Adds a text behind the others.
     pub fn push_text(&mut self, text: Text<'a>) -> Result<(), AllocError>
-        ensures added { OnOk result (self.new ≡ record self.old { texts = self.old.texts ++ text_value text.entry ∷ [] }) }
+        ensures added { OnOk result (self.new ≡ record self.old {
+          texts = self.old.texts ++ text_value text.entry ∷ [];
+        }) }
         ensures unchanged { OnErr result (self.new ≡ self.old) }
     {
         self.texts.push(text)?;
@@ -105,7 +111,9 @@ impl<'a, A: Allocator> Draft<'a, A> {
 
     /// Adds a flag with its name behind the other extended flags.
     pub fn push_extended_flag(&mut self, name: &'a [u8], flag: Flag) -> Result<(), AllocError>
-        ensures added { OnOk result (self.new ≡ record self.old { extended_flags = self.old.extended_flags ++ (name.now, flag) ∷ [] }) }
+        ensures added { OnOk result (self.new ≡ record self.old {
+          extended_flags = self.old.extended_flags ++ (name.now, flag) ∷ [];
+        }) }
         ensures unchanged { OnErr result (self.new ≡ self.old) }
     {
         self.extended_flags.push(name, flag)
@@ -113,7 +121,9 @@ impl<'a, A: Allocator> Draft<'a, A> {
 
     /// Adds a number with its name behind the other extended numbers.
     pub fn push_extended_number(&mut self, name: &'a [u8], number: Number) -> Result<(), AllocError>
-        ensures added { OnOk result (self.new ≡ record self.old { extended_numbers = self.old.extended_numbers ++ (name.now, number) ∷ [] }) }
+        ensures added { OnOk result (self.new ≡ record self.old {
+          extended_numbers = self.old.extended_numbers ++ (name.now, number) ∷ [];
+        }) }
         ensures unchanged { OnErr result (self.new ≡ self.old) }
     {
         self.extended_numbers.push(name, number)
@@ -121,7 +131,9 @@ impl<'a, A: Allocator> Draft<'a, A> {
 
     /// Adds a text with its name behind the other extended texts.
     pub fn push_extended_text(&mut self, name: &'a [u8], text: Text<'a>) -> Result<(), AllocError>
-        ensures added { OnOk result (self.new ≡ record self.old { extended_texts = self.old.extended_texts ++ (name.now, text_value text.entry) ∷ [] }) }
+        ensures added { OnOk result (self.new ≡ record self.old {
+          extended_texts = self.old.extended_texts ++ (name.now, text_value text.entry) ∷ [];
+        }) }
         ensures unchanged { OnErr result (self.new ≡ self.old) }
     {
         self.extended_texts.push(name, text)

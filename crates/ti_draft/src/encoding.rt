@@ -38,7 +38,8 @@ pub fn encode<A: Allocator + Copy, D: Allocator>(
     // It is answered only where there is no fault.
     ensures fit { OnOk result (encode_fault draft.now ≡ None) }
     // A fault is the first that there is, or out of memory where there is none.
-    ensures refused { IfErr result (λ fault. (encode_fault draft.now ≡ Some fault) ⊎ ((encode_fault draft.now ≡ None) × (fault ≡ EncodeFault.Memory))) }
+    ensures refused { IfErr result (λ fault. (encode_fault draft.now ≡ Some fault)
+        ⊎ ((encode_fault draft.now ≡ None) × (fault ≡ EncodeFault.Memory))) }
 {
     if let Some(fault) = first_fault(draft) {
         return Err(fault);
@@ -143,7 +144,8 @@ fn put_all_name_words<A: Allocator, D: Allocator>(
 ) -> Result<(), AllocError>
     requires fit { encode_fault draft.now ≡ None }
     requires extended { (length (extended_names draft.now) == 0) ≡ false }
-    ensures { OnOk result (out.new.items ≡ out.old.items ++ words_of (name_words 0 (extended_names draft.now))) }
+    ensures { OnOk result
+        (out.new.items ≡ out.old.items ++ words_of (name_words 0 (extended_names draft.now))) }
 {
     let behind_flags = put_name_words(out, 0, draft.flag_names())?;
     let behind_numbers = put_name_words(out, behind_flags, draft.number_names())?;
@@ -156,7 +158,8 @@ fn put_all_names<A: Allocator, D: Allocator>(
     out: &mut Vec<u8, A>,
     draft: &Draft<'_, D>,
 ) -> Result<(), AllocError>
-    ensures { OnOk result (out.new.items ≡ out.old.items ++ names_table (extended_names draft.now)) }
+    ensures { OnOk result
+        (out.new.items ≡ out.old.items ++ names_table (extended_names draft.now)) }
 {
     put_names(out, draft.flag_names())?;
     put_names(out, draft.number_names())?;

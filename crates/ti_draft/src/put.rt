@@ -74,7 +74,8 @@ fn put_number<A: Allocator>(
     number: Number,
 ) -> Result<(), AllocError>
     requires { is_out_of_range width number ≡ false }
-    ensures { OnOk result (out.new.items ≡ out.old.items ++ word (number_size width) (word_of_number number)) }
+    ensures { OnOk result
+        (out.new.items ≡ out.old.items ++ word (number_size width) (word_of_number number)) }
 {
     match width {
         Width::Legacy => put_word(out, number_word(number) as i16),
@@ -104,7 +105,8 @@ fn put_text_word<A: Allocator>(
     text: Text<'_>,
 ) -> Result<usize, AllocError>
     requires { place + length (text_bytes (text_value text)) ≤ 2 ^ 15 }
-    ensures word { OnOk result (out.new.items ≡ out.old.items ++ word 2 (text_word place (text_value text.entry))) }
+    ensures word { OnOk result
+        (out.new.items ≡ out.old.items ++ word 2 (text_word place (text_value text.entry))) }
     ensures end { IfOk result (λ end. end ≡ place + length (text_bytes (text_value text.entry))) }
 {
     match text {
@@ -129,7 +131,8 @@ pub(crate) fn put_text_words<A: Allocator>(
     texts: &[Text<'_>],
 ) -> Result<(), AllocError>
     requires { length (texts_table (map text_value texts.now)) ≤ 2 ^ 15 }
-    ensures { OnOk result (out.new.items ≡ out.old.items ++ words_of (text_words 0 (map text_value texts.now))) }
+    ensures { OnOk result
+        (out.new.items ≡ out.old.items ++ words_of (text_words 0 (map text_value texts.now))) }
 {
     let mut place = 0;
     for text in texts {
@@ -154,7 +157,8 @@ pub(crate) fn put_texts<A: Allocator>(
     out: &mut Vec<u8, A>,
     texts: &[Text<'_>],
 ) -> Result<(), AllocError>
-    ensures { OnOk result (out.new.items ≡ out.old.items ++ texts_table (map text_value texts.now)) }
+    ensures { OnOk result
+        (out.new.items ≡ out.old.items ++ texts_table (map text_value texts.now)) }
 {
     for text in texts {
         put_text(out, *text)?;
@@ -169,8 +173,10 @@ pub(crate) fn put_name_words<A: Allocator>(
     names: &[&[u8]],
 ) -> Result<usize, AllocError>
     requires { from + length (names_table (map (λ name. name.now) names.now)) ≤ 2 ^ 15 }
-    ensures words { OnOk result (out.new.items ≡ out.old.items ++ words_of (name_words from (map (λ name. name.now) names.now))) }
-    ensures end { IfOk result (λ end. end ≡ from + length (names_table (map (λ name. name.now) names.now))) }
+    ensures words { OnOk result (out.new.items
+        ≡ out.old.items ++ words_of (name_words from (map (λ name. name.now) names.now))) }
+    ensures end { IfOk result
+        (λ end. end ≡ from + length (names_table (map (λ name. name.now) names.now))) }
 {
     let mut place = from;
     for name in names {
@@ -185,7 +191,8 @@ pub(crate) fn put_names<A: Allocator>(
     out: &mut Vec<u8, A>,
     names: &[&[u8]],
 ) -> Result<(), AllocError>
-    ensures { OnOk result (out.new.items ≡ out.old.items ++ names_table (map (λ name. name.now) names.now)) }
+    ensures { OnOk result
+        (out.new.items ≡ out.old.items ++ names_table (map (λ name. name.now) names.now)) }
 {
     for name in names {
         out.extend_from_slice(name)?;

@@ -76,7 +76,8 @@ fn plain_len<A: Allocator>(draft: &Draft<'_, A>, table: u64) -> u64
 
 /// The bytes of the tables of the extended part, of its values and of its names.
 pub(crate) fn extended_table_len<A: Allocator>(draft: &Draft<'_, A>) -> u64
-    ensures { result ≡ capped (length (texts_table (map mark_in draft.now.extended_texts)) + length (names_table (extended_names draft.now))) }
+    ensures { result ≡ capped (length (texts_table (map mark_in draft.now.extended_texts))
+        + length (names_table (extended_names draft.now))) }
 {
     texts_len(draft.extended_texts())
         .saturating_add(names_len(draft.flag_names()))

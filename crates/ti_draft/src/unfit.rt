@@ -12,7 +12,7 @@ use crate::draft::Draft;
 use crate::size::encoded_len;
 use std::alloc::{AllocError, Allocator};
 use thiserror::Error;
-use ti_base::MOST_ENTRY_BYTES;
+use ti_base::{GREATEST_WIDE_WORD, GREATEST_WORD, MOST_ENTRY_BYTES};
 use ti_words::{Number, Text, Width};
 
 /// Why a draft has no bytes.
@@ -24,10 +24,11 @@ pub enum EncodeFault {
     /// A text holds a NUL.
     #[error("NulInText")]
     NulInText,
-    /// A number is negative, or too great for the format: above 32767 in a legacy draft.
+    /// A number is negative, or too great for the format: above [`GREATEST_WORD`](ti_base::GREATEST_WORD) in a
+    /// legacy draft.
     #[error("NumberOutOfRange")]
     NumberOutOfRange,
-    /// The bytes would be more than 32768.
+    /// The bytes would be more than [`MOST_ENTRY_BYTES`](ti_base::MOST_ENTRY_BYTES).
     #[error("TooManyOrLong")]
     TooManyOrLong,
     /// Memory was refused.
@@ -108,8 +109,8 @@ fn greatest_number(width: Width) -> i32
     ensures { result ≡ pos (the_greatest_number width) }
 {
     match width {
-        Width::Legacy => 32767,
-        Width::Wide => 2147483647,
+        Width::Legacy => GREATEST_WORD,
+        Width::Wide => GREATEST_WIDE_WORD,
     }
 }
 

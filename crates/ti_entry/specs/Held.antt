@@ -1,6 +1,7 @@
 -- How an entry that was read holds its extended part, where none is held as one with no capability; and what a reader holds.
 -- Only the views and private functions of the crate cite this.
 use Rattle.std.specs.Prelude.{◌≡◌, ℕ, ◌≤◌, List, length, Option, None, nat_le, if◌then◌else◌}
+use Rattle.ti_base.specs.Limits.{most_entry_bytes}
 use Rattle.ti_layout.specs.declared.header.Header.{Header}
 use Rattle.ti_layout.specs.declared.extended_header.ExtendedHeader.{ExtendedHeader}
 use Rattle.ti_layout.specs.declared.part.Part.{Part}
@@ -23,20 +24,20 @@ held bytes h part = content_with bytes h part.header
 -- the sections lie within the bytes, and the base of the names is known
 abbrev pub IsPart : List ℕ → Part → Type 0
 IsPart bytes part =
-    (extended_end_of part.header ≤ 32768)
+    (extended_end_of part.header ≤ most_entry_bytes)
     × (extended_end_of part.header ≤ length bytes)
-    × (part.base ≤ 32768)
+    × (part.base ≤ most_entry_bytes)
     × (part.base ≡ base_of bytes part.header)
 
 abbrev pub IsHeld : List ℕ → Header → Part → Type 0
 IsHeld bytes h part =
-    (2 ≤ h.names) × (end_of h ≤ 32768) × (end_of h ≤ length bytes) × IsPart bytes part
+    (2 ≤ h.names) × (end_of h ≤ most_entry_bytes) × (end_of h ≤ length bytes) × IsPart bytes part
 
 -- ---- a reader
 
 -- what a reader holds beside its bytes: no check has failed on them, and without a refusal the next one waits for more
 pub record IsReading (kept : List ℕ) (stage : Stage) (refusal : Option Refused) : Type 0 where
-  pub most : length kept ≤ 32768
+  pub most : length kept ≤ most_entry_bytes
   pub unfailed : failure kept ≡ None
   pub stands : refusal ≡ None → Stands kept stage
   pub waits : refusal ≡ None → Waits kept stage

@@ -10,11 +10,11 @@ use Rattle.ti_words.specs.declared.Width.TheVariants.{Legacy, Wide}
 use Rattle.ti_layout.specs.declared.header.Header.{Header}
 use Rattle.ti_layout.specs.declared.extended_header.ExtendedHeader.{ExtendedHeader}
 use Rattle.ti_layout.specs.declared.part.Part.{Part}
-use Rattle.ti_layout.specs.declared.stage.Item.{Item}
-use Rattle.ti_layout.specs.declared.stage.Item.TheVariants.{Sign, Name, Flag, Number, Offset}
-use Rattle.ti_layout.specs.declared.stage.Items.{Items}
-use Rattle.ti_layout.specs.declared.stage.Section.{Section}
-use Rattle.ti_layout.specs.declared.stage.Section.TheVariants.{Magic, Words, Names, Flags, Numbers, Offsets, Behind, Counts, ExtendedFlags, ExtendedNumbers, ExtendedValues, ExtendedNames, End}
+use Rattle.ti_layout.specs.declared.section.Item.{Item}
+use Rattle.ti_layout.specs.declared.section.Item.TheVariants.{Sign, Name, Flag, Number, Offset}
+use Rattle.ti_layout.specs.declared.section.Items.{Items}
+use Rattle.ti_layout.specs.declared.section.Section.{Section}
+use Rattle.ti_layout.specs.declared.section.Section.TheVariants.{Magic, Words, Names, Flags, Numbers, Offsets, Behind, Counts, ExtendedFlags, ExtendedNumbers, ExtendedValues, ExtendedNames, End}
 use Rattle.ti_layout.specs.declared.stage.Stage.{Stage}
 use Rattle.ti_layout.specs.Layout.{header_of, places, flags_from, pad_from, numbers_from, offsets_from, end_of, extended_from, extended_header_of, extended_flags_from, extended_pad_from, extended_numbers_from, extended_values_from, extended_names_from, extended_name_count, extended_end_of}
 use Rattle.ti_words.specs.Widths.{number_size}

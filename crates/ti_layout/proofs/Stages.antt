@@ -6,11 +6,11 @@ use Rattle.ti_layout.specs.declared.fault.Fault.TheVariants.{BadNames, BadPad, B
 use Rattle.ti_layout.specs.declared.fault.Stop.{Stop}
 use Rattle.ti_layout.specs.declared.header.Header.{Header}
 use Rattle.ti_layout.specs.declared.extended_header.ExtendedHeader.{ExtendedHeader}
-use Rattle.ti_layout.specs.declared.stage.Item.{Item}
-use Rattle.ti_layout.specs.declared.stage.Item.TheVariants.{Sign, Name, Flag, Number, Offset}
-use Rattle.ti_layout.specs.declared.stage.Items.{Items}
-use Rattle.ti_layout.specs.declared.stage.Section.{Section}
-use Rattle.ti_layout.specs.declared.stage.Section.TheVariants.{Magic, Words, Names, Flags, Numbers, Offsets, Behind, Counts, ExtendedFlags, ExtendedNumbers, ExtendedValues, ExtendedNames, End}
+use Rattle.ti_layout.specs.declared.section.Item.{Item}
+use Rattle.ti_layout.specs.declared.section.Item.TheVariants.{Sign, Name, Flag, Number, Offset}
+use Rattle.ti_layout.specs.declared.section.Items.{Items}
+use Rattle.ti_layout.specs.declared.section.Section.{Section}
+use Rattle.ti_layout.specs.declared.section.Section.TheVariants.{Magic, Words, Names, Flags, Numbers, Offsets, Behind, Counts, ExtendedFlags, ExtendedNumbers, ExtendedValues, ExtendedNames, End}
 use Rattle.ti_words.specs.Widths.{number_size}
 use Rattle.ti_layout.specs.Layout.{places, pad_from, offsets_from, end_of, extended_from, extended_pad_from, extended_values_from, extended_names_from, extended_name_count, extended_end_of}
 use Rattle.ti_words.specs.Spelling.{pad_len, Each}

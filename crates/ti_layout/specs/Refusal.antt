@@ -78,13 +78,17 @@ extended_item_checks bytes x =
     ++ offset_checks bytes x.table (extended_values_from x) x.texts
     ++ sign_checks bytes BadExtendedName (extended_names_from x) (extended_name_count x)
 
--- the NUL of each text, then the place and the NUL of each name
+-- the place and the NUL of each name
+abbrev pub extended_name_checks : List ℕ → ExtendedHeader → List Check
+extended_name_checks bytes x =
+    all_name_place_checks bytes (extended_table_of bytes x) (base_of bytes x) (extended_end_of x)
+    (places (extended_names_from x) 2 (extended_name_count x))
+
+-- the NUL of each text, then those of the names
 abbrev pub extended_text_checks : List ℕ → ExtendedHeader → List Check
 extended_text_checks bytes x =
-    let table = extended_table_of bytes x in
-    ending_checks bytes table (extended_end_of x) (extended_values_from x) x.texts
-    ++ all_name_place_checks bytes table (base_of bytes x) (extended_end_of x)
-    (places (extended_names_from x) 2 (extended_name_count x))
+    ending_checks bytes (extended_table_of bytes x) (extended_end_of x) (extended_values_from x) x.texts
+    ++ extended_name_checks bytes x
 
 abbrev pub extended_section_checks : List ℕ → ExtendedHeader → List Check
 extended_section_checks bytes x = extended_item_checks bytes x ++ extended_text_checks bytes x

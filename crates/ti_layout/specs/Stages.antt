@@ -1,6 +1,7 @@
 -- Which checks are left at a stage of reading an entry, whose bytes are all there or still come.
 -- Only the stage itself, and the view and the reader of `ti_entry`, cite this.
 use Rattle.std.specs.Prelude.{◌≡◌, ℕ, ◌+◌, ◌-◌, ◌*◌, ◌≤◌, Bool, true, false, List, if◌then◌else◌, [], ◌∷◌, ◌++◌, length, map}
+use Rattle.ti_base.specs.Limits.{most_entry_bytes}
 use Rattle.ti_words.specs.declared.Width.TheVariants.{Legacy}
 use Rattle.ti_layout.specs.declared.fault.Fault.TheVariants.{BadHeader, BadNames, BadExtendedHeader, BadExtendedName, Trailing}
 use Rattle.ti_layout.specs.declared.fault.Stop.{Stop}
@@ -8,11 +9,11 @@ use Rattle.ti_layout.specs.declared.fault.Stop.TheVariants.{Early, Failed}
 use Rattle.ti_layout.specs.declared.header.Header.{Header}
 use Rattle.ti_layout.specs.declared.extended_header.ExtendedHeader.{ExtendedHeader}
 use Rattle.ti_layout.specs.declared.part.Part.{Part}
-use Rattle.ti_layout.specs.declared.stage.Item.{Item}
-use Rattle.ti_layout.specs.declared.stage.Item.TheVariants.{Sign, Name, Flag, Number, Offset}
-use Rattle.ti_layout.specs.declared.stage.Items.{Items}
-use Rattle.ti_layout.specs.declared.stage.Section.{Section}
-use Rattle.ti_layout.specs.declared.stage.Section.TheVariants.{Magic, Words, Names, Flags, Numbers, Offsets, Behind, Counts, ExtendedFlags, ExtendedNumbers, ExtendedValues, ExtendedNames, End}
+use Rattle.ti_layout.specs.declared.section.Item.{Item}
+use Rattle.ti_layout.specs.declared.section.Item.TheVariants.{Sign, Name, Flag, Number, Offset}
+use Rattle.ti_layout.specs.declared.section.Items.{Items}
+use Rattle.ti_layout.specs.declared.section.Section.{Section}
+use Rattle.ti_layout.specs.declared.section.Section.TheVariants.{Magic, Words, Names, Flags, Numbers, Offsets, Behind, Counts, ExtendedFlags, ExtendedNumbers, ExtendedValues, ExtendedNames, End}
 use Rattle.ti_layout.specs.declared.stage.Stage.{Stage}
 use Rattle.ti_layout.specs.Layout.{header_of, places, flags_from, pad_from, numbers_from, offsets_from, end_of, extended_from, extended_header_of, extended_flags_from, extended_pad_from, extended_numbers_from, extended_values_from, extended_names_from, extended_name_count, extended_end_of, no_capability}
 use Rattle.ti_words.specs.Widths.{number_size}
@@ -211,10 +212,10 @@ Knows End b s h part = KnowsAll b s h part
 -- A stage and bytes: what is left to check decides, and no section lies past the limit.
 pub record StandsAt (bytes : List ℕ) (s : Stage) : Type 0 where
   pub decides : verdict (length bytes) (checks bytes) ≡ verdict (length bytes) (left bytes s)
-  pub within : s.items.at + item_size s.items.item * s.items.left ≤ 32768
-  pub fits : end_of s.header ≤ 32768
-  pub extended_fits : extended_end_of s.part.header ≤ 32768
-  pub base_fits : s.part.base ≤ 32768
+  pub within : s.items.at + item_size s.items.item * s.items.left ≤ most_entry_bytes
+  pub fits : end_of s.header ≤ most_entry_bytes
+  pub extended_fits : extended_end_of s.part.header ≤ most_entry_bytes
+  pub base_fits : s.part.base ≤ most_entry_bytes
   pub known : Knows s.section bytes s.items s.header s.part
 
 -- the checks before a stage have passed on the bytes, so on every continuation
@@ -286,4 +287,4 @@ sections_left ExtendedNames = 1
 sections_left End = 0
 
 abbrev pub steps_left : Stage → ℕ
-steps_left s = 32769 * sections_left s.section + s.items.left
+steps_left s = (most_entry_bytes + 1) * sections_left s.section + s.items.left

@@ -61,7 +61,8 @@ pub(crate) fn reach_of(table: &[u8]) -> usize
 /// The word at a place is not negative.
 pub(crate) fn check_sign(bytes: &[u8], fault: Fault, place: usize) -> Result<(), Stop>
     requires { place < 2 ^ 33 }
-    ensures { verdict_of result ≡ verdict (length bytes.now) (sign_check bytes.now fault place ∷ []) }
+    ensures { verdict_of result
+        ≡ verdict (length bytes.now) (sign_check bytes.now fault place ∷ []) }
 {
     if bytes.len() < place + 2 {
         return Err(Stop::Early);
@@ -92,7 +93,8 @@ pub(crate) fn check_name(bytes: &[u8], place: usize) -> Result<(), Stop>
 /// A NUL stands at a place.
 pub(crate) fn check_nul(bytes: &[u8], fault: Fault, place: usize) -> Result<(), Stop>
     requires { place < 2 ^ 33 }
-    ensures { verdict_of result ≡ verdict (length bytes.now) (nul_check bytes.now fault place ∷ []) }
+    ensures { verdict_of result
+        ≡ verdict (length bytes.now) (nul_check bytes.now fault place ∷ []) }
 {
     if bytes.len() < place + 1 {
         return Err(Stop::Early);
@@ -123,7 +125,8 @@ pub(crate) fn check_flag(bytes: &[u8], place: usize) -> Result<(), Stop>
 /// The number at a place is at least -2.
 pub(crate) fn check_number(bytes: &[u8], width: Width, place: usize) -> Result<(), Stop>
     requires { place < 2 ^ 33 }
-    ensures { verdict_of result ≡ verdict (length bytes.now) (number_check bytes.now (the_number_size width) place ∷ []) }
+    ensures { verdict_of result
+        ≡ verdict (length bytes.now) (number_check bytes.now (the_number_size width) place ∷ []) }
 {
     if bytes.len() < place + number_size(width) {
         return Err(Stop::Early);
@@ -140,7 +143,8 @@ pub(crate) fn check_number(bytes: &[u8], width: Width, place: usize) -> Result<(
 /// The offset at a place is a mark, or a place of the table.
 pub(crate) fn check_offset(bytes: &[u8], table_size: usize, place: usize) -> Result<(), Stop>
     requires { place < 2 ^ 33 }
-    ensures { verdict_of result ≡ verdict (length bytes.now) (offset_check bytes.now table_size place ∷ []) }
+    ensures { verdict_of result
+        ≡ verdict (length bytes.now) (offset_check bytes.now table_size place ∷ []) }
 {
     if bytes.len() < place + 2 {
         return Err(Stop::Early);
@@ -158,7 +162,8 @@ pub(crate) fn check_offset(bytes: &[u8], table_size: usize, place: usize) -> Res
 /// The text whose offset stands at a place begins before the reach of the table.
 fn check_ending(bytes: &[u8], reach: usize, end: usize, place: usize) -> Result<(), Stop>
     requires { place + 2 ≤ end }
-    ensures { verdict_of result ≡ verdict (length bytes.now) (reach_check bytes.now reach end place ∷ []) }
+    ensures { verdict_of result
+        ≡ verdict (length bytes.now) (reach_check bytes.now reach end place ∷ []) }
 {
     if bytes.len() < end {
         return Err(Stop::Early);
@@ -176,7 +181,8 @@ fn check_ending(bytes: &[u8], reach: usize, end: usize, place: usize) -> Result<
 fn check_name_place(bytes: &[u8], table: &NameTable, place: usize) -> Result<(), Stop>
     requires within { place + 2 ≤ table.now.end }
     requires small { table.now.base < 2 ^ 32 }
-    ensures { verdict_of result ≡ verdict (length bytes.now) (name_reach_checks bytes.now table.now place) }
+    ensures { verdict_of result
+        ≡ verdict (length bytes.now) (name_reach_checks bytes.now table.now place) }
 {
     if bytes.len() < table.end {
         return Err(Stop::Early);
@@ -200,7 +206,8 @@ fn check_name_place(bytes: &[u8], table: &NameTable, place: usize) -> Result<(),
 /// No word of a section is negative.
 pub(crate) fn check_signs(bytes: &[u8], fault: Fault, from: usize, count: usize) -> Result<(), Stop>
     requires { from + 2 * count < 2 ^ 32 }
-    ensures { verdict_of result ≡ verdict (length bytes.now) (sign_checks bytes.now fault from count) }
+    ensures { verdict_of result
+        ≡ verdict (length bytes.now) (sign_checks bytes.now fault from count) }
 {
     if are_not_negative(bytes, fault, from, count) {
         return Ok(());
@@ -214,7 +221,8 @@ pub(crate) fn check_signs(bytes: &[u8], fault: Fault, from: usize, count: usize)
 /// No NUL stands in a section.
 pub(crate) fn check_no_nuls(bytes: &[u8], from: usize, count: usize) -> Result<(), Stop>
     requires { from + count < 2 ^ 32 }
-    ensures { verdict_of result ≡ verdict (length bytes.now) (map (name_check bytes.now) (places from 1 count)) }
+    ensures { verdict_of result
+        ≡ verdict (length bytes.now) (map (name_check bytes.now) (places from 1 count)) }
 {
     if are_no_nuls(bytes, from, count) {
         return Ok(());
@@ -258,7 +266,8 @@ pub(crate) fn check_numbers(
     count: usize,
 ) -> Result<(), Stop>
     requires { from + the_number_size width * count < 2 ^ 32 }
-    ensures { verdict_of result ≡ verdict (length bytes.now) (number_checks bytes.now (the_number_size width) from count) }
+    ensures { verdict_of result
+        ≡ verdict (length bytes.now) (number_checks bytes.now (the_number_size width) from count) }
 {
     if are_numbers(bytes, width, from, count) {
         return Ok(());
@@ -277,7 +286,8 @@ pub(crate) fn check_offsets(
     count: usize,
 ) -> Result<(), Stop>
     requires { from + 2 * count < 2 ^ 32 }
-    ensures { verdict_of result ≡ verdict (length bytes.now) (offset_checks bytes.now table_size from count) }
+    ensures { verdict_of result
+        ≡ verdict (length bytes.now) (offset_checks bytes.now table_size from count) }
 {
     if are_offsets(bytes, table_size, from, count) {
         return Ok(());
@@ -321,7 +331,8 @@ fn check_each_ending(
     requires before { from + 2 * count ≤ end }
     requires there { end ≤ length bytes.now }
     requires fits { end < 2 ^ 32 }
-    ensures { verdict_of result ≡ verdict (length bytes.now) (map (reach_check bytes.now reach end) (places from 2 count)) }
+    ensures { verdict_of result
+        ≡ verdict (length bytes.now) (map (reach_check bytes.now reach end) (places from 2 count)) }
 {
     if are_before(bytes, reach, end, from, count) {
         return Ok(());
@@ -343,7 +354,8 @@ pub(crate) fn check_name_places(
     requires there { table.now.end ≤ length bytes.now }
     requires fits { table.now.end < 2 ^ 32 }
     requires small { table.now.base < 2 ^ 32 }
-    ensures { verdict_of result ≡ verdict (length bytes.now) (all_name_reach_checks bytes.now table.now (places from 2 count)) }
+    ensures { verdict_of result ≡ verdict (length bytes.now)
+        (all_name_reach_checks bytes.now table.now (places from 2 count)) }
 {
     if are_names(bytes, table, from, count) {
         return Ok(());

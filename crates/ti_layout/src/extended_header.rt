@@ -3,6 +3,7 @@
 //! A place is a sum of the header's words, so it takes a few additions.
 
 ghost use Rattle.std.specs.Prelude.{◌≡◌, ◌+◌, ◌*◌, ◌<◌, ◌≤◌, ◌^◌, ◌++◌, length, OnOk};
+ghost use Rattle.ti_base.specs.Limits.{most_entry_bytes};
 ghost use Rattle.ti_layout.specs.Checks.{verdict, verdict_of, pad_checks};
 ghost use Rattle.ti_layout.specs.Refusal.{room_checks, extended_size_checks};
 ghost use Rattle.ti_layout.specs.Layout.{kind_count, kind_names_from, end_of, extended_from, extended_header_of, extended_flags_from, extended_pad_from, extended_numbers_from, extended_values_from, extended_names_from, extended_name_count, extended_table_from, extended_end_of};
@@ -120,7 +121,7 @@ impl ExtendedHeader {
 
 /// The extended header of bytes that have one.
 pub(crate) fn extended_words(bytes: &[u8], header: &Header) -> ExtendedHeader
-    requires fits { end_of header.now ≤ 32768 }
+    requires fits { end_of header.now ≤ most_entry_bytes }
     requires there { extended_from header.now + 10 ≤ length bytes.now }
     ensures words { result ≡ extended_header_of header.now bytes.now }
     ensures fits { extended_end_of result < 2 ^ 32 }
@@ -138,7 +139,7 @@ pub(crate) fn extended_words(bytes: &[u8], header: &Header) -> ExtendedHeader
 
 /// A byte follows the string table, and the limit leaves room for the extended header.
 fn check_room(len: usize, header: &Header) -> Result<(), Stop>
-    requires { end_of header.now ≤ 32768 }
+    requires { end_of header.now ≤ most_entry_bytes }
     ensures { verdict_of result ≡ verdict len (room_checks header.now) }
 {
     if len < header.end() + 1 {
@@ -155,18 +156,19 @@ fn check_room(len: usize, header: &Header) -> Result<(), Stop>
 
 /// There is room, and the pad is 0.
 pub(crate) fn check_start(bytes: &[u8], header: &Header) -> Result<(), Stop>
-    requires { end_of header.now ≤ 32768 }
-    ensures { verdict_of result ≡ verdict (length bytes.now) (room_checks header.now ++ pad_checks bytes.now (end_of header.now) header.now.table) }
+    requires { end_of header.now ≤ most_entry_bytes }
+    ensures { verdict_of result ≡ verdict (length bytes.now)
+        (room_checks header.now ++ pad_checks bytes.now (end_of header.now) header.now.table) }
 {
     check_room(bytes.len(), header)?;
     check_pad(bytes, header.end(), header.table)
 }
 
-/// With its extended part the entry has at most 32768 bytes.
+/// With its extended part the entry has at most as many bytes as an entry may have.
 pub(crate) fn check_extended_size(len: usize, extended: &ExtendedHeader) -> Result<(), Stop>
     requires { extended_end_of extended.now < 2 ^ 32 }
     ensures verdict { verdict_of result ≡ verdict len (extended_size_checks extended.now) }
-    ensures fits { OnOk result (extended_end_of extended.now ≤ 32768) }
+    ensures fits { OnOk result (extended_end_of extended.now ≤ most_entry_bytes) }
 {
     if len < extended.flags_from() {
         return Err(Stop::Early);

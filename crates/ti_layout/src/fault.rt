@@ -19,7 +19,7 @@ pub enum Fault {
     /// A size or a count of the header is negative.
     #[error("BadHeader")]
     BadHeader,
-    /// By its header the entry has more than 32768 bytes.
+    /// By its header the entry has more than [`MOST_ENTRY_BYTES`](ti_base::MOST_ENTRY_BYTES).
     #[error("HeaderTooBig")]
     HeaderTooBig,
     /// The names are empty, hold a NUL or do not end with one.
@@ -43,7 +43,7 @@ pub enum Fault {
     /// A size or a count of the extended header is negative.
     #[error("BadExtendedHeader")]
     BadExtendedHeader,
-    /// With its extended part the entry has more than 32768 bytes.
+    /// With its extended part the entry has more than [`MOST_ENTRY_BYTES`](ti_base::MOST_ENTRY_BYTES).
     #[error("ExtendedTooBig")]
     ExtendedTooBig,
     /// The offset of an extended name is negative, or past its table.

@@ -3,6 +3,7 @@
 //! A place is a sum of the header's words, so it takes a few additions.
 
 ghost use Rattle.std.specs.Prelude.{◌≡◌, ◌<◌, ◌≤◌, ◌^◌, length, OnOk};
+ghost use Rattle.ti_base.specs.Limits.{most_entry_bytes};
 ghost use Rattle.ti_layout.specs.Checks.{verdict, verdict_of};
 ghost use Rattle.ti_layout.specs.Refusal.{magic_checks, size_checks};
 ghost use Rattle.ti_layout.specs.Layout.{header_of, end_of, width_of as the_width_of, flags_from as the_flags_from, pad_from as the_pad_from, numbers_from as the_numbers_from, offsets_from as the_offsets_from, table_from as the_table_from, extended_from as the_extended_from};
@@ -128,12 +129,12 @@ pub(crate) fn check_magic(bytes: &[u8]) -> Result<(), Stop>
     Ok(())
 }
 
-/// The whole has at most 32768 bytes, and the names have one byte beside their NUL.
+/// The whole has at most as many bytes as an entry may have, and the names have one byte beside their NUL.
 pub(crate) fn check_sizes(len: usize, header: &Header) -> Result<(), Stop>
     requires { end_of header.now < 2 ^ 32 }
     ensures verdict { verdict_of result ≡ verdict len (size_checks header.now) }
     ensures named { OnOk result (2 ≤ header.now.names) }
-    ensures fits { OnOk result (end_of header.now ≤ 32768) }
+    ensures fits { OnOk result (end_of header.now ≤ most_entry_bytes) }
 {
     if len < 12 {
         return Err(Stop::Early);

@@ -10,6 +10,7 @@ mod extended_header;
 mod fault;
 mod header;
 mod part;
+mod section;
 mod stage;
 mod table;
 mod whole;

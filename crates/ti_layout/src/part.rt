@@ -4,8 +4,9 @@
 //! so it is linear also where texts share their bytes.
 
 ghost use Rattle.std.specs.Prelude.{◌≡◌, ◌+◌, ◌*◌, ◌<◌, ◌≤◌, ◌^◌, length, min, IfOk, OnOk};
-ghost use Rattle.ti_layout.specs.Checks.{verdict, verdict_of, all_name_place_checks};
-ghost use Rattle.ti_layout.specs.Refusal.{extended_text_checks};
+ghost use Rattle.ti_base.specs.Limits.{most_entry_bytes};
+ghost use Rattle.ti_layout.specs.Checks.{verdict, verdict_of};
+ghost use Rattle.ti_layout.specs.Refusal.{extended_name_checks, extended_text_checks};
 ghost use Rattle.ti_layout.specs.Layout.{places, extended_names_from, extended_name_count, extended_end_of, no_capability};
 ghost use Rattle.ti_layout.specs.Table.{sizes_at, extended_table_of, base_of as the_base_of};
 
@@ -40,7 +41,7 @@ pub(crate) fn no_part(width: Width) -> Part
 
 /// The sum of the sizes of the texts that are there, or the size of the table where that is less.
 fn base_of(bytes: &[u8], table: &[u8], from: usize, count: usize) -> usize
-    requires small { length table.now ≤ 32768 }
+    requires small { length table.now ≤ most_entry_bytes }
     requires there { from + 2 * count ≤ length bytes.now }
     requires fits { from + 2 * count < 2 ^ 32 }
     ensures { result ≡ min (sizes_at bytes.now table.now (places from 2 count)) (length table.now) }
@@ -57,10 +58,11 @@ fn base_of(bytes: &[u8], table: &[u8], from: usize, count: usize) -> usize
 
 /// Each name begins in the extended table, counted from the base, and has its NUL there.
 fn check_names_from(bytes: &[u8], extended: &ExtendedHeader, base: usize) -> Result<(), Stop>
-    requires fits { extended_end_of extended.now ≤ 32768 }
+    requires fits { extended_end_of extended.now ≤ most_entry_bytes }
     requires there { extended_end_of extended.now ≤ length bytes.now }
     requires base { base ≡ min (the_base_of bytes.now extended.now) extended.now.table }
-    ensures verdict { verdict_of result ≡ verdict (length bytes.now) (all_name_place_checks bytes.now (extended_table_of bytes.now extended.now) (the_base_of bytes.now extended.now) (extended_end_of extended.now) (places (extended_names_from extended.now) 2 (extended_name_count extended.now))) }
+    ensures verdict { verdict_of result
+        ≡ verdict (length bytes.now) (extended_name_checks bytes.now extended.now) }
     ensures exact { OnOk result (base ≡ the_base_of bytes.now extended.now) }
 {
     let end = extended.end();
@@ -77,10 +79,11 @@ fn check_names_from(bytes: &[u8], extended: &ExtendedHeader, base: usize) -> Res
 /// The base of the names, where each text and each name has its NUL in the table.
 #[tactic(auto, using(crate::proofs::Sections::verdict_append))]
 pub(crate) fn check_texts(bytes: &[u8], extended: &ExtendedHeader) -> Result<usize, Stop>
-    requires { extended_end_of extended.now ≤ 32768 }
-    ensures verdict { verdict_of result ≡ verdict (length bytes.now) (extended_text_checks bytes.now extended.now) }
+    requires { extended_end_of extended.now ≤ most_entry_bytes }
+    ensures verdict { verdict_of result
+        ≡ verdict (length bytes.now) (extended_text_checks bytes.now extended.now) }
     ensures base { IfOk result (λ base. base ≡ the_base_of bytes.now extended.now) }
-    ensures most { IfOk result (λ base. base ≤ 32768) }
+    ensures most { IfOk result (λ base. base ≤ most_entry_bytes) }
     ensures there { OnOk result (extended_end_of extended.now ≤ length bytes.now) }
 {
     let table_from = extended.table_from();

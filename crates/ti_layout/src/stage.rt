@@ -5,61 +5,20 @@
 //! loop, or makes the few checks between two sections. Bytes that come whole take two steps a section.
 
 ghost use Rattle.std.specs.Prelude.{◌≡◌, ◌≢◌, ℕ, List, ◌+◌, ◌*◌, ◌<◌, ◌≤◌, ◌^◌, ◌++◌, ◌∷◌, [], length, IfOk, IfErr, OnOk, Err, Some};
+ghost use Rattle.ti_base.specs.Limits.{most_entry_bytes};
 ghost use Rattle.ti_layout.specs.Layout.{header_of, end_of, extended_header_of, extended_end_of};
 ghost use Rattle.ti_layout.specs.Checks.{verdict, verdict_of};
 ghost use Rattle.ti_layout.specs.Refusal.{size_checks, checks, failure};
-ghost use Rattle.ti_layout.specs.Stages.{item_size, items_checks, first_items, items_after, items_of, next, between, StandsAt, Stands, Waits, new_stage, left_behind, entered, awaited, steps_left, counts_checks, no_more_check, is_whole};
+ghost use Rattle.ti_layout.specs.Stages.{item_size, between, StandsAt, Stands, Waits, new_stage, left_behind, entered, awaited, steps_left, counts_checks, no_more_check, is_whole};
 ghost use Rattle.ti_layout.specs.declared.fault.Stop.TheVariants.{Early};
 
-use crate::checks::{
-    check_endings, check_flags, check_no_nuls, check_nul, check_numbers, check_offsets, check_pad,
-    check_sign, check_signs,
-};
+use crate::checks::{check_endings, check_nul, check_pad, check_sign};
 use crate::extended_header::{ExtendedHeader, check_extended_size, check_start, extended_words};
 use crate::fault::{Fault, Refused, Stop};
 use crate::header::{Header, check_magic, check_sizes, header_words};
 use crate::part::{Part, check_texts, no_part};
-use ti_words::{Width, number_size};
-
-/// What the items of a section are.
-#[derive(Clone, Copy)]
-pub(crate) enum Item {
-    /// Words that are not negative, and the fault of one that is.
-    Sign(Fault),
-    /// Bytes of the names.
-    Name,
-    Flag,
-    Number(Width),
-    /// Offsets of texts, in a table of this size.
-    Offset(usize),
-}
-
-/// Items of one kind that lie one after the other: where the first begins, and how many are left.
-#[derive(Clone, Copy)]
-pub(crate) struct Items {
-    pub(crate) item: Item,
-    pub(crate) at: usize,
-    pub(crate) left: usize,
-}
-
-/// The sections with items to check, in their order. `Magic` stands before the first, `Behind` at the end of the string
-/// table and `End` at that of the extended one, each without items.
-#[derive(Clone, Copy)]
-pub(crate) enum Section {
-    Magic,
-    Words,
-    Names,
-    Flags,
-    Numbers,
-    Offsets,
-    Behind,
-    Counts,
-    ExtendedFlags,
-    ExtendedNumbers,
-    ExtendedValues,
-    ExtendedNames,
-    End,
-}
+use crate::section::{Item, Items, Section};
+use ti_words::Width;
 
 /// Which check is next, and the headers that are known by then.
 #[derive(Clone, Copy)]
@@ -70,160 +29,10 @@ pub struct Stage {
     pub(crate) part: Part,
 }
 
-impl Item {
-    /// How many bytes one has.
-    fn size(self) -> usize
-        ensures value { result ≡ item_size self }
-        ensures small { result ≤ 4 }
-    {
-        match self {
-            Item::Name | Item::Flag => 1,
-            Item::Sign(_) | Item::Offset(_) => 2,
-            Item::Number(width) => number_size(width),
-        }
-    }
-}
-
-impl Items {
-    /// How many of them lie within so many bytes, or one where none does.
-    fn come(self, len: usize) -> usize
-        requires some { 0 < self.left }
-        requires within { self.at + item_size self.item * self.left ≤ 32768 }
-        ensures some { 0 < result }
-        ensures most { result ≤ self.left }
-    {
-        let room = len.saturating_sub(self.at);
-        if self.item.size() * self.left <= room {
-            return self.left;
-        }
-        (room / self.item.size()).min(self.left).max(1)
-    }
-
-    /// The checks of so many of them, in one loop.
-    fn check(self, bytes: &[u8], count: usize) -> Result<(), Stop>
-        requires most { count ≤ self.left }
-        requires within { self.at + item_size self.item * self.left ≤ 32768 }
-        ensures { verdict_of result ≡ verdict (length bytes.now) (items_checks bytes.now (first_items count self)) }
-    {
-        match self.item {
-            Item::Sign(fault) => check_signs(bytes, fault, self.at, count),
-            Item::Name => check_no_nuls(bytes, self.at, count),
-            Item::Flag => check_flags(bytes, self.at, count),
-            Item::Number(width) => check_numbers(bytes, width, self.at, count),
-            Item::Offset(table_size) => check_offsets(bytes, table_size, self.at, count),
-        }
-    }
-
-    /// Those after so many.
-    fn after(self, count: usize) -> Items
-        requires most { count ≤ self.left }
-        requires within { self.at + item_size self.item * self.left ≤ 32768 }
-        ensures { result ≡ items_after count self }
-    {
-        Items {
-            item: self.item,
-            at: self.at + self.item.size() * count,
-            left: self.left - count,
-        }
-    }
-}
-
-impl Section {
-    fn next(self) -> Section
-        ensures { result ≡ next self }
-    {
-        match self {
-            Section::Magic => Section::Words,
-            Section::Words => Section::Names,
-            Section::Names => Section::Flags,
-            Section::Flags => Section::Numbers,
-            Section::Numbers => Section::Offsets,
-            Section::Offsets => Section::Behind,
-            Section::Behind => Section::Counts,
-            Section::Counts => Section::ExtendedFlags,
-            Section::ExtendedFlags => Section::ExtendedNumbers,
-            Section::ExtendedNumbers => Section::ExtendedValues,
-            Section::ExtendedValues => Section::ExtendedNames,
-            Section::ExtendedNames | Section::End => Section::End,
-        }
-    }
-
-    /// What its items are. A section without items is held as one with no flag.
-    fn item(self, header: &Header, extended: &ExtendedHeader) -> Item
-        ensures { result ≡ (items_of self header.now extended.now).item }
-    {
-        match self {
-            Section::Words => Item::Sign(Fault::BadHeader),
-            Section::Names => Item::Name,
-            Section::Numbers => Item::Number(header.width),
-            Section::Offsets => Item::Offset(header.table),
-            Section::Counts => Item::Sign(Fault::BadExtendedHeader),
-            Section::ExtendedNumbers => Item::Number(extended.width),
-            Section::ExtendedValues => Item::Offset(extended.table),
-            Section::ExtendedNames => Item::Sign(Fault::BadExtendedName),
-            Section::Flags | Section::ExtendedFlags => Item::Flag,
-            Section::Magic | Section::Behind | Section::End => Item::Flag,
-        }
-    }
-
-    /// Where its items begin.
-    fn from(self, header: &Header, extended: &ExtendedHeader) -> usize
-        requires fits { end_of header.now ≤ 32768 }
-        requires extended_fits { extended_end_of extended.now ≤ 32768 }
-        ensures { result ≡ (items_of self header.now extended.now).at }
-    {
-        match self {
-            Section::Words => 2,
-            Section::Names => 12,
-            Section::Flags => header.flags_from(),
-            Section::Numbers => header.numbers_from(),
-            Section::Offsets => header.offsets_from(),
-            Section::Counts => header.extended_from(),
-            Section::ExtendedFlags => extended.flags_from(),
-            Section::ExtendedNumbers => extended.numbers_from(),
-            Section::ExtendedValues => extended.values_from(),
-            Section::ExtendedNames => extended.names_from(),
-            Section::Magic | Section::Behind | Section::End => 0,
-        }
-    }
-
-    /// How many items it has.
-    fn count(self, header: &Header, extended: &ExtendedHeader) -> usize
-        requires { extended_end_of extended.now ≤ 32768 }
-        ensures { result ≡ (items_of self header.now extended.now).left }
-    {
-        match self {
-            Section::Words => 5,
-            Section::Names => header.names.saturating_sub(1),
-            Section::Flags => header.flags,
-            Section::Numbers => header.numbers,
-            Section::Offsets => header.texts,
-            Section::Counts => 3,
-            Section::ExtendedFlags => extended.flags,
-            Section::ExtendedNumbers => extended.numbers,
-            Section::ExtendedValues => extended.texts,
-            Section::ExtendedNames => extended.name_count(),
-            Section::Magic | Section::Behind | Section::End => 0,
-        }
-    }
-
-    /// Its items.
-    fn items(self, header: &Header, extended: &ExtendedHeader) -> Items
-        requires fits { end_of header.now ≤ 32768 }
-        requires extended_fits { extended_end_of extended.now ≤ 32768 }
-        ensures { result ≡ items_of self header.now extended.now }
-    {
-        Items {
-            item: self.item(header, extended),
-            at: self.from(header, extended),
-            left: self.count(header, extended),
-        }
-    }
-}
-
 /// The header, where the checks of the sizes in it pass.
 fn sized_header(bytes: &[u8]) -> Result<Header, Stop>
-    ensures verdict { verdict_of result ≡ verdict (length bytes.now) (size_checks (header_of bytes.now)) }
+    ensures verdict { verdict_of result
+        ≡ verdict (length bytes.now) (size_checks (header_of bytes.now)) }
     ensures words { IfOk result (λ h. h ≡ header_of bytes.now) }
 {
     if bytes.len() < 12 {
@@ -236,8 +45,9 @@ fn sized_header(bytes: &[u8]) -> Result<Header, Stop>
 
 /// The extended header, where its last word and the sizes in it pass.
 fn sized_extended_header(bytes: &[u8], header: &Header) -> Result<ExtendedHeader, Stop>
-    requires { end_of header.now ≤ 32768 }
-    ensures verdict { verdict_of result ≡ verdict (length bytes.now) (counts_checks bytes.now header.now) }
+    requires { end_of header.now ≤ most_entry_bytes }
+    ensures verdict { verdict_of result
+        ≡ verdict (length bytes.now) (counts_checks bytes.now header.now) }
     ensures words { IfOk result (λ x. x ≡ extended_header_of header.now bytes.now) }
 {
     check_sign(bytes, Fault::BadExtendedHeader, header.extended_from() + 8)?;
@@ -287,12 +97,13 @@ impl Stage {
 
     /// The checks between the items of a section and those of the next; it keeps the headers that they read.
     fn leave(&mut self, bytes: &[u8]) -> Result<(), Stop>
-        requires fits { end_of self.old.header ≤ 32768 }
-        requires extended_fits { extended_end_of self.old.part.header ≤ 32768 }
-        requires base_fits { self.old.part.base ≤ 32768 }
-        ensures verdict { verdict_of result ≡ verdict (length bytes.now) (between self.old.section self.old.header self.old.part.header bytes.now) }
+        requires fits { end_of self.old.header ≤ most_entry_bytes }
+        requires extended_fits { extended_end_of self.old.part.header ≤ most_entry_bytes }
+        requires base_fits { self.old.part.base ≤ most_entry_bytes }
+        ensures verdict { verdict_of result ≡ verdict (length bytes.now)
+            (between self.old.section self.old.header self.old.part.header bytes.now) }
         ensures kept { OnOk result (self.new ≡ left_behind self.old bytes.now) }
-        ensures base_fits { OnOk result (self.new.part.base ≤ 32768) }
+        ensures base_fits { OnOk result (self.new.part.base ≤ most_entry_bytes) }
         ensures same { IfErr result (λ stop. self.new ≡ self.old) }
     {
         let header = self.header;
@@ -327,7 +138,8 @@ impl Stage {
         requires { Stands bytes.now self.old }
         ensures stands { OnOk result (Stands bytes.now self.new) }
         ensures less { OnOk result (steps_left self.new < steps_left self.old) }
-        ensures verdict { IfErr result (λ stop. verdict (length bytes.now) (checks bytes.now) ≡ awaited self.old.section stop) }
+        ensures verdict { IfErr result (λ stop. verdict (length bytes.now) (checks bytes.now)
+            ≡ awaited self.old.section stop) }
         ensures waits { result ≡ Err Early → Waits bytes.now self.old }
         ensures same { IfErr result (λ stop. self.new ≡ self.old) }
     {
@@ -348,10 +160,12 @@ impl Stage {
 
     /// With fewer bytes no check more is made.
     pub fn need(&self) -> usize
-        requires within { self.now.items.at + item_size self.now.items.item * self.now.items.left ≤ 32768 }
-        requires fits { end_of self.now.header ≤ 32768 }
-        requires extended_fits { extended_end_of self.now.part.header ≤ 32768 }
-        ensures { (bytes : List ℕ) → StandsAt bytes self.now → length bytes < result → Waits bytes self.now }
+        requires within { self.now.items.at + item_size self.now.items.item * self.now.items.left
+            ≤ most_entry_bytes }
+        requires fits { end_of self.now.header ≤ most_entry_bytes }
+        requires extended_fits { extended_end_of self.now.part.header ≤ most_entry_bytes }
+        ensures { (bytes : List ℕ) → StandsAt bytes self.now → length bytes < result
+            → Waits bytes self.now }
     {
         if self.items.left > 0 {
             return self.items.at + self.items.item.size();

@@ -1,6 +1,7 @@
 //! The texts of a string table, each up to its NUL.
 
 ghost use Rattle.std.specs.Prelude.{◌≡◌, ◌+◌, ◌≤◌, length};
+ghost use Rattle.ti_base.specs.Limits.{most_entry_bytes};
 ghost use Rattle.ti_words.specs.Word.{word_at as the_word_at};
 ghost use Rattle.ti_layout.specs.Table.{text_from as the_text_from, until_nul as the_until_nul, size_at as the_size_at};
 
@@ -30,9 +31,9 @@ pub fn until_nul(bytes: &[u8]) -> &[u8]
 /// The size of the text at an offset and its NUL, where it is there.
 pub(crate) fn size_at(bytes: &[u8], table: &[u8], place: usize) -> usize
     requires room { place + 2 ≤ length bytes.now }
-    requires small { length table.now ≤ 32768 }
+    requires small { length table.now ≤ most_entry_bytes }
     ensures value { result ≡ the_size_at table.now (the_word_at 2 bytes.now place) }
-    ensures most { result ≤ 32769 }
+    ensures most { result ≤ most_entry_bytes + 1 }
 {
     let offset = word_at(bytes, place);
     if offset < 0 {

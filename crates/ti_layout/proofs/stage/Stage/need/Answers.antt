@@ -1,5 +1,5 @@
 use Rattle.std.proofs.Common.{arith}
-use Rattle.ti_layout.specs.declared.stage.Section.TheVariants.{Offsets, Behind, ExtendedNames, End}
+use Rattle.ti_layout.specs.declared.section.Section.TheVariants.{Offsets, Behind, ExtendedNames, End}
 use Rattle.ti_layout.proofs.StageSteps.{item_awaited, table_awaited}
 use Rattle.ti_layout.proofs.stage.Stage.need.Goals as goal
 
