@@ -9,6 +9,10 @@ most_entry_bytes = 32768
 abbrev pub greatest_word : ℕ
 greatest_word = 32767
 
+-- the greatest number of the format with numbers of 32 bits
+abbrev pub greatest_wide_word : ℕ
+greatest_wide_word = 2147483647
+
 -- bytes of a capability
 abbrev pub most_capability_bytes : ℕ
 most_capability_bytes = 32767

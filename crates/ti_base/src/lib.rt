@@ -11,6 +11,9 @@ pub const MOST_ENTRY_BYTES: usize = 32768;
 /// The greatest number of the legacy format, as of its header words and offsets.
 pub const GREATEST_WORD: i32 = 32767;
 
+/// The greatest number of the format with numbers of 32 bits.
+pub const GREATEST_WIDE_WORD: i32 = 2_147_483_647;
+
 /// The most bytes of a capability.
 pub const MOST_CAPABILITY_BYTES: usize = 32767;
 
@@ -45,6 +48,7 @@ pub const MOST_INTERRUPTIONS: u32 = 1000;
 pub fn limits_agree()
     ensures entry_bytes { MOST_ENTRY_BYTES ≡ limits.most_entry_bytes }
     ensures word { GREATEST_WORD ≡ pos limits.greatest_word }
+    ensures wide_word { GREATEST_WIDE_WORD ≡ pos limits.greatest_wide_word }
     ensures capability_bytes { MOST_CAPABILITY_BYTES ≡ limits.most_capability_bytes }
     ensures open { MOST_OPEN ≡ limits.most_open }
     ensures values { MOST_VALUES ≡ limits.most_values }

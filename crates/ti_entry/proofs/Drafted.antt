@@ -3,8 +3,8 @@ use Rattle.std.proofs.Common.{◌≡◌, ℕ, zero, suc, ◌+◌, ◌≤◌, Lis
 use Rattle.ti_words.specs.declared.Flag.{Flag}
 use Rattle.ti_words.specs.declared.Number.{Number}
 use Rattle.ti_words.specs.Texts.{TextValue}
-use Rattle.ti_entry.specs.Value.{EntryValue}
-use Rattle.ti_entry.specs.Spelling.{name_in, mark_in}
+use Rattle.ti_words.specs.Value.{EntryValue}
+use Rattle.ti_words.specs.Spelling.{name_in, mark_in}
 
 -- an item of a list, by its name and its mark
 taken_first : {A : Type 0} → (xs : List (List ℕ × A)) (i : ℕ) (d : A) (name : List ℕ) (mark : A)

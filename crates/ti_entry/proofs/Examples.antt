@@ -4,14 +4,14 @@ use Rattle.ti_words.specs.declared.Flag.TheVariants as flags
 use Rattle.ti_words.specs.declared.Number.TheVariants as numbers
 use Rattle.ti_words.specs.declared.Width.TheVariants.{Legacy, Wide}
 use Rattle.ti_words.specs.Texts.{AbsentText, TextOf}
-use Rattle.ti_entry.specs.declared.fault.Fault.TheVariants.{Truncated, BadMagic, BadHeader, HeaderTooBig, BadNames, BadFlag, BadPad, BadNumber, BadOffset, Unterminated, BadExtendedHeader, ExtendedTooBig, BadExtendedName, Trailing}
-use Rattle.ti_entry.specs.Value.{EntryValue}
-use Rattle.ti_entry.specs.Layout.{places, header_of}
-use Rattle.ti_entry.specs.Checks.{refused}
-use Rattle.ti_entry.specs.Refusal.{refusal}
+use Rattle.ti_layout.specs.declared.fault.Fault.TheVariants.{Truncated, BadMagic, BadHeader, HeaderTooBig, BadNames, BadFlag, BadPad, BadNumber, BadOffset, Unterminated, BadExtendedHeader, ExtendedTooBig, BadExtendedName, Trailing}
+use Rattle.ti_words.specs.Value.{EntryValue}
+use Rattle.ti_layout.specs.Layout.{places, header_of}
+use Rattle.ti_layout.specs.Checks.{refused}
+use Rattle.ti_layout.specs.Refusal.{refusal}
 use Rattle.ti_entry.specs.Content.{plain_content, content}
-use Rattle.ti_entry.specs.Spelling.{Spells}
-use Rattle.ti_entry.specs.Canonical.{canonical}
+use Rattle.ti_words.specs.Spelling.{Spells}
+use Rattle.ti_draft.specs.Canonical.{canonical}
 
 -- ---- bytes
 

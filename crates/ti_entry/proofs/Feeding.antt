@@ -4,12 +4,12 @@ use Rattle.std.specs.Prelude.{Option, Some, None, Ok, Err, Result, is_some}
 use Rattle.std.specs.List.{concat, fold}
 use Rattle.std.proofs.Math.Seq.{take-append-add}
 use Rattle.std.proofs.lemmas.List.{take-append-le, take_all}
-use Rattle.ti_entry.specs.declared.fault.Refused.{Refused}
-use Rattle.ti_entry.specs.Checks.{Verdict, Passes, EndsEarly, Fails, verdict, refusal_of, failure_of}
-use Rattle.ti_entry.specs.Refusal.{checks, failure}
+use Rattle.ti_layout.specs.declared.fault.Refused.{Refused}
+use Rattle.ti_layout.specs.Checks.{Verdict, Passes, EndsEarly, Fails, verdict, refusal_of, failure_of}
+use Rattle.ti_layout.specs.Refusal.{checks, failure}
 use Rattle.ti_entry.specs.Reading.{Reading, unfailed_up_to, unfailed, met, fed, answer_under}
 use Rattle.ti_entry.specs.Laws.{FailureLasts, FailureRefuses, AnyCutting}
-use Rattle.ti_entry.proofs.Growing.{failure_stays}
+use Rattle.ti_layout.proofs.Growing.{failure_stays}
 
 -- ---- failures
 

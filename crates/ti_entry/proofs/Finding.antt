@@ -5,13 +5,14 @@ use Rattle.std.proofs.lemmas.Bool.{cases_lt}
 use Rattle.std.specs.Prelude.{min, slice_get, Some, None}
 use Rattle.ti_words.specs.declared.Kind.{Kind}
 use Rattle.ti_words.specs.declared.Kind.TheVariants as kinds
-use Rattle.ti_entry.specs.declared.header.Header.{Header}
-use Rattle.ti_entry.specs.declared.extended_header.ExtendedHeader.{ExtendedHeader}
-use Rattle.ti_entry.specs.Layout.{places, extended_names_from}
-use Rattle.ti_entry.specs.Table.{is_nul, until_nul}
+use Rattle.ti_layout.specs.declared.header.Header.{Header}
+use Rattle.ti_layout.specs.declared.extended_header.ExtendedHeader.{ExtendedHeader}
+use Rattle.ti_layout.specs.Layout.{places, extended_names_from, kind_count, kind_names_from}
+use Rattle.ti_words.specs.Texts.{is_nul}
+use Rattle.ti_layout.specs.Table.{until_nul}
 use Rattle.ti_entry.specs.Content.{name_at, content_with}
-use Rattle.ti_entry.specs.Finding.{names_of, Lacks, IsFirst, kind_count, kind_names_from}
-use Rattle.ti_entry.proofs.SectionLaws.{all_items}
+use Rattle.ti_entry.specs.Finding.{names_of, Lacks, IsFirst}
+use Rattle.ti_layout.proofs.SectionLaws.{all_items}
 use Rattle.ti_entry.proofs.NamedItems.{names_in}
 
 -- ---- one name

@@ -6,19 +6,21 @@ use Rattle.std.proofs.lemmas.Bool.{eqb-true, leb-true}
 use Rattle.std.specs.Prelude.{Option, Some, None, slice_range, is_some, unwrap_or}
 use Rattle.ti_words.specs.declared.Width.{Width}
 use Rattle.ti_words.specs.declared.Width.TheVariants.{Legacy, Wide}
-use Rattle.ti_entry.specs.declared.fault.Fault.TheVariants.{BadHeader, BadNames}
-use Rattle.ti_entry.specs.Word.{unsigned_at, word_at}
-use Rattle.ti_entry.specs.Layout.{header_of, magic_number, number_size, places, pad_len, flags_from, pad_from, numbers_from, offsets_from, table_from, end_of}
-use Rattle.ti_entry.specs.Table.{is_nul, table_of}
-use Rattle.ti_entry.specs.Checks.{Passes, verdict, sign_check, sign_checks, name_check, nul_check, name_checks, flag_checks, pad_checks, number_checks, offset_checks, ending_check, ending_checks, table_check}
-use Rattle.ti_entry.specs.Refusal.{magic_check, size_check, named_check, magic_checks, size_checks, front_checks, section_checks}
+use Rattle.ti_layout.specs.declared.fault.Fault.TheVariants.{BadHeader, BadNames}
+use Rattle.ti_words.specs.Word.{unsigned_at, word_at}
+use Rattle.ti_layout.specs.Layout.{header_of, places, flags_from, pad_from, numbers_from, offsets_from, table_from, end_of}
+use Rattle.ti_words.specs.Widths.{magic_number, number_size}
+use Rattle.ti_words.specs.Spelling.{pad_len, HasSections, magic, count_word, words_of, numbers_of, flags_of, pad}
+use Rattle.ti_words.specs.Texts.{is_nul}
+use Rattle.ti_layout.specs.Table.{table_of}
+use Rattle.ti_layout.specs.Checks.{Passes, verdict, sign_check, sign_checks, name_check, nul_check, name_checks, flag_checks, pad_checks, number_checks, offset_checks, ending_check, ending_checks, table_check}
+use Rattle.ti_layout.specs.Refusal.{magic_check, size_check, named_check, magic_checks, size_checks, front_checks, section_checks}
 use Rattle.ti_entry.specs.Content.{flag_at, number_at, text_at, plain_content}
-use Rattle.ti_entry.specs.Spelling.{HasSections, magic, count_word, words_of, numbers_of, flags_of, pad}
-use Rattle.ti_entry.proofs.Places.{length_places}
-use Rattle.ti_entry.proofs.Passing.{first_passes}
-use Rattle.ti_entry.proofs.WordLaws.{IsBytes, bytes_again, one_byte}
+use Rattle.ti_layout.proofs.Places.{length_places}
+use Rattle.ti_layout.proofs.Passing.{first_passes}
+use Rattle.ti_layout.proofs.WordLaws.{IsBytes, bytes_again, one_byte}
 use Rattle.ti_entry.proofs.KindsFound.{IsCount, count_is, front, flags_are, pad_is, numbers_are, numbers_fit, words_are, texts_are}
-use Rattle.ti_entry.proofs.SectionLaws.{both_pass, each_passed, no_nuls}
+use Rattle.ti_layout.proofs.SectionLaws.{both_pass, each_passed, no_nuls}
 
 -- the width of a magic number
 abbrev width_under : ℕ → Option Width

@@ -4,23 +4,24 @@ use Rattle.std.proofs.Math.Seq.{take-add}
 use Rattle.std.proofs.lemmas.List.{drop-drop, drop_all, take_all, length-take-le, length-drop}
 use Rattle.std.proofs.lemmas.Bool.{cases_lt, leb-true}
 use Rattle.ti_words.specs.declared.Width.TheVariants.{Legacy}
-use Rattle.ti_entry.specs.declared.fault.Fault.TheVariants.{BadExtendedHeader, BadExtendedName, Unterminated}
-use Rattle.ti_entry.specs.declared.header.Header.{Header}
-use Rattle.ti_entry.specs.declared.extended_header.ExtendedHeader.{ExtendedHeader}
-use Rattle.ti_entry.specs.Word.{unsigned_at, word_at}
-use Rattle.ti_entry.specs.Layout.{header_of, extended_header_of, number_size, places, pad_len, end_of, extended_from, extended_flags_from, extended_pad_from, extended_numbers_from, extended_values_from, extended_names_from, extended_name_count, extended_table_from, extended_end_of}
-use Rattle.ti_entry.specs.Table.{ends_in, table_of, extended_table_of, base_of}
-use Rattle.ti_entry.specs.Checks.{check, Passes, verdict, is_not_negative, sign_check, sign_checks, flag_checks, pad_checks, number_checks, offset_checks, ending_checks, name_place_checks, all_name_place_checks, end_check, end_checks}
-use Rattle.ti_entry.specs.Refusal.{room_checks, extended_size_check, extended_size_checks, extended_front_checks, extended_section_checks, extended_checks, behind_checks, front_checks, section_checks, checks}
+use Rattle.ti_layout.specs.declared.fault.Fault.TheVariants.{BadExtendedHeader, BadExtendedName, Unterminated}
+use Rattle.ti_layout.specs.declared.header.Header.{Header}
+use Rattle.ti_layout.specs.declared.extended_header.ExtendedHeader.{ExtendedHeader}
+use Rattle.ti_words.specs.Word.{unsigned_at, word_at}
+use Rattle.ti_layout.specs.Layout.{header_of, extended_header_of, places, end_of, extended_from, extended_flags_from, extended_pad_from, extended_numbers_from, extended_values_from, extended_names_from, extended_name_count, extended_table_from, extended_end_of}
+use Rattle.ti_words.specs.Widths.{number_size}
+use Rattle.ti_words.specs.Spelling.{pad_len, Spells, HasExtendedPart, IsText, IsName, Each, count_word, words_of, numbers_of, flags_of, pad, extended_names, mark_in}
+use Rattle.ti_layout.specs.Table.{ends_in, table_of, extended_table_of, base_of}
+use Rattle.ti_layout.specs.Checks.{check, Passes, verdict, is_not_negative, sign_check, sign_checks, flag_checks, pad_checks, number_checks, offset_checks, ending_checks, name_place_checks, all_name_place_checks, end_check, end_checks}
+use Rattle.ti_layout.specs.Refusal.{room_checks, extended_size_check, extended_size_checks, extended_front_checks, extended_section_checks, extended_checks, behind_checks, front_checks, section_checks, checks}
 use Rattle.ti_entry.specs.Content.{flag_at, number_at, text_at, name_at, plain_content, content_with, content}
-use Rattle.ti_entry.specs.Spelling.{Spells, HasExtendedPart, IsText, IsName, Each, count_word, words_of, numbers_of, flags_of, pad, extended_names, mark_in}
-use Rattle.ti_entry.proofs.Passing.{first_passes}
-use Rattle.ti_entry.proofs.WordLaws.{IsBytes, below, above}
+use Rattle.ti_layout.proofs.Passing.{first_passes}
+use Rattle.ti_layout.proofs.WordLaws.{IsBytes, below, above}
 use Rattle.ti_entry.proofs.TextLaws.{ends}
-use Rattle.ti_entry.proofs.SectionLaws.{both_pass, Passed, each_passed, each_item}
+use Rattle.ti_layout.proofs.SectionLaws.{both_pass, Passed, each_passed, each_item}
 use Rattle.ti_entry.proofs.KindsFound.{IsCount, count_is, flags_are, pad_is, numbers_are, numbers_fit, words_are, texts_are}
 use Rattle.ti_entry.proofs.NamedItems.{marks_in, length_named, all_names_in, sizes_are_base}
-use Rattle.ti_entry.proofs.NamePlaces.{table_length}
+use Rattle.ti_layout.proofs.NamePlaces.{table_length}
 use Rattle.ti_entry.proofs.Found.{HasPlain, sections_found}
 use Rattle.std.proofs.lemmas.List.Concat.{flat_map-cons}
 

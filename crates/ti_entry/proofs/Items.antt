@@ -14,15 +14,16 @@ use Rattle.ti_words.specs.declared.Number.TheVariants as numbers
 use Rattle.ti_words.specs.declared.Width.{Width}
 use Rattle.ti_words.specs.declared.Width.TheVariants.{Legacy, Wide}
 use Rattle.ti_words.specs.Marks.{byte_of_flag, word_of_number, flag_of_byte, number_of_word}
-use Rattle.ti_words.specs.Texts.{TextValue, AbsentText, CancelledText, TextOf}
-use Rattle.ti_entry.specs.Word.{unsigned_at, word_at, word, signed, low_bytes}
-use Rattle.ti_entry.specs.Layout.{number_size, places}
-use Rattle.ti_entry.specs.Table.{is_nul, text_of_word, until_nul}
-use Rattle.ti_entry.specs.Checks.{Check, Passes, verdict, is_number_word, is_offset_below, is_ended}
-use Rattle.ti_entry.specs.Spelling.{HasNoNul, FitsWidth, IsText, Has, Each, numbers_of}
-use Rattle.ti_entry.proofs.WordLaws.{below, above}
-use Rattle.ti_entry.proofs.LengthLaws.{length_word}
-use Rattle.ti_entry.proofs.SectionLaws.{Passed}
+use Rattle.ti_words.specs.Texts.{TextValue, AbsentText, CancelledText, TextOf, is_nul}
+use Rattle.ti_words.specs.Word.{unsigned_at, word_at, word, signed, low_bytes}
+use Rattle.ti_words.specs.Widths.{number_size}
+use Rattle.ti_layout.specs.Layout.{places}
+use Rattle.ti_layout.specs.Table.{text_of_word, until_nul}
+use Rattle.ti_layout.specs.Checks.{Check, Passes, verdict, is_number_word, is_offset_below, is_ended}
+use Rattle.ti_words.specs.Spelling.{HasNoNul, FitsWidth, IsText, Has, Each, numbers_of}
+use Rattle.ti_layout.proofs.WordLaws.{below, above}
+use Rattle.ti_draft.proofs.LengthLaws.{length_word}
+use Rattle.ti_layout.proofs.SectionLaws.{Passed}
 
 -- each item of a list, at the place where it stands
 abbrev pub EachAt : {X : Type 0} → (ℕ → X → Type 0) → ℕ → ℕ → List X → Type 0

@@ -6,16 +6,17 @@ use Rattle.std.specs.List.{AllByRecursion}
 use Rattle.ti_words.specs.declared.Width.{Width}
 use Rattle.ti_words.specs.declared.Width.TheVariants.{Legacy}
 use Rattle.ti_words.specs.Marks.{byte_of_flag, word_of_number}
-use Rattle.ti_entry.specs.declared.fault.Fault.TheVariants.{BadPad}
-use Rattle.ti_entry.specs.Word.{unsigned_at, word_at, word}
-use Rattle.ti_entry.specs.Layout.{number_size, places, pad_len}
-use Rattle.ti_entry.specs.Checks.{Passes, verdict, is_not_negative, nul_check, flag_check, flag_checks, pad_checks, number_check, number_checks, offset_check, offset_checks, ending_check, ending_checks, table_check}
+use Rattle.ti_layout.specs.declared.fault.Fault.TheVariants.{BadPad}
+use Rattle.ti_words.specs.Word.{unsigned_at, word_at, word}
+use Rattle.ti_words.specs.Widths.{number_size}
+use Rattle.ti_layout.specs.Layout.{places}
+use Rattle.ti_words.specs.Spelling.{pad_len, FitsWidth, IsText, Each, count_word, words_of, numbers_of, flags_of, pad}
+use Rattle.ti_layout.specs.Checks.{Passes, verdict, is_not_negative, nul_check, flag_check, flag_checks, pad_checks, number_check, number_checks, offset_check, offset_checks, ending_check, ending_checks, table_check}
 use Rattle.ti_entry.specs.Content.{flag_at, number_at, text_at}
-use Rattle.ti_entry.specs.Spelling.{FitsWidth, IsText, Each, count_word, words_of, numbers_of, flags_of, pad}
-use Rattle.ti_entry.proofs.Passing.{first_passes}
-use Rattle.ti_entry.proofs.WordLaws.{IsBytes, below, above, unsigned_fits, word_is, one_byte, number_again, has_word}
+use Rattle.ti_layout.proofs.Passing.{first_passes}
+use Rattle.ti_layout.proofs.WordLaws.{IsBytes, below, above, unsigned_fits, word_is, one_byte, number_again, has_word}
 use Rattle.ti_entry.proofs.TextLaws.{is_text}
-use Rattle.ti_entry.proofs.SectionLaws.{each_passed, items_are, each_item, all_items, flag_again, one_by_one, nul_byte, zeros}
+use Rattle.ti_layout.proofs.SectionLaws.{each_passed, items_are, each_item, all_items, flag_again, one_by_one, nul_byte, zeros}
 
 -- a word that is not negative is a count
 pub record IsCount (bytes : List ℕ) (p : ℕ) : Type 0 where

@@ -12,19 +12,20 @@ use Rattle.ti_words.specs.declared.Number.TheVariants as numbers
 use Rattle.ti_words.specs.declared.Width.{Width}
 use Rattle.ti_words.specs.declared.Width.TheVariants.{Legacy}
 use Rattle.ti_words.specs.Marks.{byte_of_flag, word_of_number, flag_of_byte, number_of_word}
-use Rattle.ti_words.specs.Texts.{TextValue, TextOf}
-use Rattle.ti_entry.specs.declared.fault.Fault.{Fault}
-use Rattle.ti_entry.specs.declared.fault.Fault.TheVariants.{BadPad, BadExtendedName, Unterminated}
-use Rattle.ti_entry.specs.Word.{unsigned_at, word, signed}
-use Rattle.ti_entry.specs.Layout.{number_size, places, pad_len}
-use Rattle.ti_entry.specs.Table.{is_nul, ends_in, text_from, text_of_word}
-use Rattle.ti_entry.specs.Checks.{Check, check, Passes, verdict, is_number_word, is_not_negative, is_offset_below, is_ended, sign_check, sign_checks, nul_check, flag_check, flag_checks, pad_checks, number_check, number_checks, offset_check, offset_checks, ending_check, ending_checks, table_check, all_name_place_checks}
+use Rattle.ti_words.specs.Texts.{TextValue, TextOf, is_nul}
+use Rattle.ti_layout.specs.declared.fault.Fault.{Fault}
+use Rattle.ti_layout.specs.declared.fault.Fault.TheVariants.{BadPad, BadExtendedName, Unterminated}
+use Rattle.ti_words.specs.Word.{unsigned_at, word, signed}
+use Rattle.ti_words.specs.Widths.{number_size}
+use Rattle.ti_layout.specs.Layout.{places}
+use Rattle.ti_words.specs.Spelling.{pad_len, FitsWidth, IsText, IsName, Each, count_word, words_of, numbers_of, flags_of, pad}
+use Rattle.ti_layout.specs.Table.{ends_in, text_from, text_of_word}
+use Rattle.ti_layout.specs.Checks.{Check, check, Passes, verdict, is_number_word, is_not_negative, is_offset_below, is_ended, sign_check, sign_checks, nul_check, flag_check, flag_checks, pad_checks, number_check, number_checks, offset_check, offset_checks, ending_check, ending_checks, table_check, all_name_place_checks}
 use Rattle.ti_entry.specs.Content.{flag_at, number_at, text_at}
-use Rattle.ti_entry.specs.Spelling.{FitsWidth, IsText, IsName, Each, count_word, words_of, numbers_of, flags_of, pad}
-use Rattle.ti_entry.proofs.Sections.{then, verdict_append}
-use Rattle.ti_entry.proofs.SectionLaws.{Passed, one_by_one}
-use Rattle.ti_entry.proofs.WordLaws.{below}
-use Rattle.ti_entry.proofs.LengthLaws.{length_word}
+use Rattle.ti_layout.proofs.Sections.{then, verdict_append}
+use Rattle.ti_layout.proofs.SectionLaws.{Passed, one_by_one}
+use Rattle.ti_layout.proofs.WordLaws.{below}
+use Rattle.ti_draft.proofs.LengthLaws.{length_word}
 use Rattle.ti_entry.proofs.Items.{EachAt, each_at, values_at, passes_one, passes_at, at_each, IsGood, all_good, WordAt, ByteAt, byte_at_is, read_again, is_number, flag_read, numbers_at, offsets_at, short_number, placed, place_read}
 
 pub append_pass : (len : ℕ) (xs ys : List Check) → Passes ≡ verdict len xs → Passes ≡ verdict len ys → Passes ≡ verdict len (xs ++ ys)

@@ -1,15 +1,6 @@
 mod Examples
-pub mod Sections
-pub mod Places
-pub mod Passing
-pub mod WordLaws
 pub mod TextLaws
-pub mod Reach
-pub mod Greatest
-pub mod Nuls
-pub mod NamePlaces
 pub mod NamedItems
-pub mod SectionLaws
 pub mod Finding
 pub mod KindsFound
 pub mod Found
@@ -19,18 +10,8 @@ pub mod AtMostOne
 pub mod KindsSpelled
 pub mod Spelled
 pub mod SpelledExtended
-pub mod Growing
-pub mod Full
 pub mod Feeding
-pub mod Stages
-pub mod StageSteps
 pub mod StageEnds
 pub mod Sources
-pub mod Beside
-pub mod Capped
-pub mod LengthLaws
-pub mod Room
-pub mod Fit
-pub mod Joined
 pub mod Encoded
 pub mod Drafted

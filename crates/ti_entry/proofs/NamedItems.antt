@@ -5,16 +5,17 @@ use Rattle.std.specs.Prelude.{nat_le}
 use Rattle.ti_words.specs.Texts.{AbsentText}
 use Rattle.ti_words.specs.declared.Flag.TheVariants as flags
 use Rattle.ti_words.specs.declared.Number.TheVariants as numbers
-use Rattle.ti_entry.specs.declared.header.Header.{Header}
-use Rattle.ti_entry.specs.declared.extended_header.ExtendedHeader.{ExtendedHeader}
-use Rattle.ti_entry.specs.Value.{EntryValue}
-use Rattle.ti_entry.specs.Word.{word_at}
-use Rattle.ti_entry.specs.Layout.{places, number_size, end_of, extended_header_of, extended_flags_from, extended_numbers_from, extended_values_from, extended_names_from, extended_name_count}
-use Rattle.ti_entry.specs.Table.{text_of_word, size_at, sizes_at, extended_table_of, base_of}
+use Rattle.ti_layout.specs.declared.header.Header.{Header}
+use Rattle.ti_layout.specs.declared.extended_header.ExtendedHeader.{ExtendedHeader}
+use Rattle.ti_words.specs.Value.{EntryValue}
+use Rattle.ti_words.specs.Word.{word_at}
+use Rattle.ti_layout.specs.Layout.{places, end_of, extended_header_of, extended_flags_from, extended_numbers_from, extended_values_from, extended_names_from, extended_name_count, no_capability}
+use Rattle.ti_words.specs.Widths.{number_size}
+use Rattle.ti_layout.specs.Table.{text_of_word, size_at, sizes_at, extended_table_of, base_of}
 use Rattle.ti_entry.specs.Content.{flag_at, number_at, text_at, name_at, named_items, plain_content, content_with}
-use Rattle.ti_entry.specs.Held.{held_header, no_capability}
-use Rattle.ti_entry.proofs.Places.{item_at, no_item_at}
-use Rattle.ti_entry.specs.Spelling.{text_size, texts_size, name_in, mark_in, extended_names}
+use Rattle.ti_entry.specs.Held.{held_header}
+use Rattle.ti_layout.proofs.Places.{item_at, no_item_at, places_append}
+use Rattle.ti_words.specs.Spelling.{text_size, texts_size, name_in, mark_in, extended_names}
 
 pub marks_in : {A : Type 0} (name : ℕ → List ℕ) (item : ℕ → A) (names_from from size count : ℕ)
     → map mark_in (named_items name item names_from from size count) ≡ map item (places from size count)
@@ -29,16 +30,6 @@ names_in name item names_from from size (suc count) = ap (λ (ys : List (List �
 pub length_named : {A : Type 0} (name : ℕ → List ℕ) (item : ℕ → A) (names_from from size count : ℕ) → length (named_items name item names_from from size count) ≡ count
 length_named name item names_from from size zero = refl
 length_named name item names_from from size (suc count) = ap suc (length_named name item (names_from + 2) (from + size) size count)
-
-pub places_append : (from size a b : ℕ) → places from size (a + b) ≡ places from size a ++ places (from + size * a) size b
-places_append from size zero b =
-    let at : from ≡ from + size * 0 = omega arith in
-    let n : zero + b ≡ b = omega arith in
-    ap (places from size) n ∙ ap (λ p. places p size b) at
-places_append from size (suc a) b =
-    let n : suc a + b ≡ suc (a + b) = omega arith in
-    let at : from + size + size * a ≡ from + size * suc a = omega arith in
-    ap (places from size) n ∙ ap (λ (ps : List ℕ). from ∷ ps) (places_append (from + size) size a b ∙ ap (λ p. places (from + size) size a ++ places p size b) at)
 
 same_size : (table : List ℕ) (bytes : List ℕ) (p : ℕ) → text_size (text_at table bytes p) ≡ size_at table (word_at 2 bytes p)
 same_size table bytes p = of_word (word_at 2 bytes p)

@@ -3,8 +3,8 @@ use Rattle.std.proofs.Common.{◌≡◌, ℕ, List, [], ◌++◌, take, refl, sy
 use Rattle.std.specs.Prelude.{Option, Some, None, Err}
 use Rattle.std.specs.Io.KnownBytes.{Consumes, Keeps}
 use Rattle.std.proofs.KnownBytes.{Consumes-trans, Consumes-nil, Consumes-kept}
-use Rattle.ti_entry.specs.declared.fault.Refused.{Refused}
-use Rattle.ti_entry.specs.Refusal.{failure}
+use Rattle.ti_layout.specs.declared.fault.Refused.{Refused}
+use Rattle.ti_layout.specs.Refusal.{failure}
 use Rattle.ti_entry.specs.Content.{content}
 use Rattle.ti_entry.specs.Reading.{Reading, new_reading, met, fed, answer_under, answer_for, FeedsFrom}
 use Rattle.ti_entry.proofs.Feeding.{met-passed, met-none, fed-none, failure_refuses}

@@ -7,21 +7,23 @@ use Rattle.std.specs.Prelude.{slice_range, is_some}
 use Rattle.ti_words.specs.declared.Width.{Width}
 use Rattle.ti_words.specs.declared.Width.TheVariants.{Legacy, Wide}
 use Rattle.ti_words.specs.Marks.{byte_of_flag, word_of_number}
-use Rattle.ti_entry.specs.declared.fault.Fault.TheVariants.{BadHeader, BadNames}
-use Rattle.ti_entry.specs.declared.header.Header.{Header}
-use Rattle.ti_entry.specs.Value.{EntryValue}
-use Rattle.ti_entry.specs.Word.{unsigned_at, word}
-use Rattle.ti_entry.specs.Layout.{header_of, width_of, number_size, places, pad_len, flags_from, pad_from, numbers_from, offsets_from, table_from, end_of}
-use Rattle.ti_entry.specs.Table.{is_nul, table_of}
-use Rattle.ti_entry.specs.Checks.{Passes, verdict, sign_check, sign_checks, name_check, nul_check, name_checks, flag_checks, pad_checks, number_checks, offset_checks, ending_checks}
-use Rattle.ti_entry.specs.Refusal.{magic_check, size_check, named_check, magic_checks, size_checks, front_checks, section_checks}
+use Rattle.ti_layout.specs.declared.fault.Fault.TheVariants.{BadHeader, BadNames}
+use Rattle.ti_layout.specs.declared.header.Header.{Header}
+use Rattle.ti_words.specs.Value.{EntryValue}
+use Rattle.ti_words.specs.Word.{unsigned_at, word}
+use Rattle.ti_layout.specs.Layout.{header_of, width_of, places, flags_from, pad_from, numbers_from, offsets_from, table_from, end_of}
+use Rattle.ti_words.specs.Widths.{number_size}
+use Rattle.ti_words.specs.Spelling.{pad_len, HasSections, magic, count_word, words_of, numbers_of, flags_of, pad}
+use Rattle.ti_words.specs.Texts.{is_nul}
+use Rattle.ti_layout.specs.Table.{table_of}
+use Rattle.ti_layout.specs.Checks.{Passes, verdict, sign_check, sign_checks, name_check, nul_check, name_checks, flag_checks, pad_checks, number_checks, offset_checks, ending_checks}
+use Rattle.ti_layout.specs.Refusal.{magic_check, size_check, named_check, magic_checks, size_checks, front_checks, section_checks}
 use Rattle.ti_entry.specs.Content.{text_at, plain_content}
-use Rattle.ti_entry.specs.Spelling.{HasSections, magic, count_word, words_of, numbers_of, flags_of, pad}
-use Rattle.ti_entry.proofs.SectionLaws.{Passed}
-use Rattle.ti_entry.proofs.WordLaws.{reads_count}
+use Rattle.ti_layout.proofs.SectionLaws.{Passed}
+use Rattle.ti_layout.proofs.WordLaws.{reads_count}
 use Rattle.ti_entry.proofs.KindsSpelled.{append_pass, moved, length_flat, byte, bytes_flat, sign_passed, flags_read, pad_read, numbers_read, texts_read}
 use Rattle.ti_entry.proofs.Items.{EachAt, each_at, passes_one, passes_at, at_each, all_good, ByteAt, byte_at_is}
-use Rattle.ti_entry.proofs.LengthLaws.{length_word}
+use Rattle.ti_draft.proofs.LengthLaws.{length_word}
 
 starts : (w : Width) → width_of (magic w) ≡ Some w
 starts Legacy = refl

@@ -3,19 +3,20 @@ use Rattle.std.proofs.Common.{◌≡◌, ℕ, suc, ◌+◌, ◌*◌, ◌<◌, �
 use Rattle.std.proofs.lemmas.List.{length-append, length-map, length-replicate, take_all, drop_at}
 use Rattle.std.proofs.lemmas.Bool.{le-leb, lt-leb}
 use Rattle.ti_words.specs.Marks.{byte_of_flag, word_of_number}
-use Rattle.ti_entry.specs.declared.fault.Fault.TheVariants.{BadExtendedHeader, BadExtendedName}
-use Rattle.ti_entry.specs.declared.header.Header.{Header}
-use Rattle.ti_entry.specs.declared.extended_header.ExtendedHeader.{ExtendedHeader}
-use Rattle.ti_entry.specs.Value.{EntryValue}
-use Rattle.ti_entry.specs.Word.{unsigned_at, word}
-use Rattle.ti_entry.specs.Layout.{header_of, extended_header_of, number_size, places, pad_len, end_of, extended_from, extended_flags_from, extended_pad_from, extended_numbers_from, extended_values_from, extended_names_from, extended_name_count, extended_table_from, extended_end_of}
-use Rattle.ti_entry.specs.Table.{text_from, extended_table_of, base_of}
-use Rattle.ti_entry.specs.Checks.{Passes, verdict, sign_check, sign_checks, flag_checks, pad_checks, number_checks, offset_checks, ending_checks, all_name_place_checks, end_check, end_checks}
-use Rattle.ti_entry.specs.Refusal.{room_check, room_checks, extended_size_check, extended_size_checks, extended_front_checks, extended_item_checks, extended_text_checks, extended_section_checks, extended_checks, behind_checks, front_checks, section_checks, checks}
+use Rattle.ti_layout.specs.declared.fault.Fault.TheVariants.{BadExtendedHeader, BadExtendedName}
+use Rattle.ti_layout.specs.declared.header.Header.{Header}
+use Rattle.ti_layout.specs.declared.extended_header.ExtendedHeader.{ExtendedHeader}
+use Rattle.ti_words.specs.Value.{EntryValue}
+use Rattle.ti_words.specs.Word.{unsigned_at, word}
+use Rattle.ti_layout.specs.Layout.{header_of, extended_header_of, places, end_of, extended_from, extended_flags_from, extended_pad_from, extended_numbers_from, extended_values_from, extended_names_from, extended_name_count, extended_table_from, extended_end_of}
+use Rattle.ti_words.specs.Widths.{number_size}
+use Rattle.ti_words.specs.Spelling.{pad_len, Spells, HasExtendedPart, HasNoExtendedPart, IsText, IsName, Each, count_word, words_of, numbers_of, flags_of, pad, texts_size, extended_names, mark_in}
+use Rattle.ti_layout.specs.Table.{text_from, extended_table_of, base_of}
+use Rattle.ti_layout.specs.Checks.{Passes, verdict, sign_check, sign_checks, flag_checks, pad_checks, number_checks, offset_checks, ending_checks, all_name_place_checks, end_check, end_checks}
+use Rattle.ti_layout.specs.Refusal.{room_check, room_checks, extended_size_check, extended_size_checks, extended_front_checks, extended_item_checks, extended_text_checks, extended_section_checks, extended_checks, behind_checks, front_checks, section_checks, checks}
 use Rattle.ti_entry.specs.Content.{flag_at, number_at, text_at, name_at, plain_content, content_with, content}
-use Rattle.ti_entry.specs.Spelling.{Spells, HasExtendedPart, HasNoExtendedPart, IsText, IsName, Each, count_word, words_of, numbers_of, flags_of, pad, texts_size, extended_names, mark_in}
 use Rattle.ti_entry.proofs.Items.{passes_one}
-use Rattle.ti_entry.proofs.LengthLaws.{length_word}
+use Rattle.ti_draft.proofs.LengthLaws.{length_word}
 use Rattle.ti_entry.proofs.KindsSpelled.{append_pass, length_flat, count_read, sign_passed, flags_read, pad_read, numbers_read, texts_read, names_read}
 use Rattle.ti_entry.proofs.NamedItems.{marks_in, all_names_in, sizes_are_base, names_length}
 use Rattle.ti_entry.proofs.AtMostOne.{SameExtended, grouped_part, same_sizes, same_extended, same_value}

@@ -3,21 +3,21 @@ use Rattle.std.proofs.Common.{◌≡◌, ℕ, ◌≤◌, ◌<◌, Bool, true, fa
 use Rattle.std.proofs.lemmas.Bool.{le-leb, lt-leb}
 use Rattle.std.specs.Prelude.{Some, None, Ok, Err}
 use Rattle.ti_words.specs.declared.Width.{Width}
-use Rattle.ti_entry.specs.declared.fault.Fault.TheVariants.{Truncated}
-use Rattle.ti_entry.specs.declared.header.Header.{Header}
-use Rattle.ti_entry.specs.declared.extended_header.ExtendedHeader.{ExtendedHeader}
-use Rattle.ti_entry.specs.declared.part.Part.{Part}
-use Rattle.ti_entry.specs.declared.stage.Items.{Items}
-use Rattle.ti_entry.specs.declared.stage.Section.{Section}
-use Rattle.ti_entry.specs.declared.stage.Section.TheVariants.{Magic, Words, Names, Flags, Numbers, Offsets, Behind, Counts, ExtendedFlags, ExtendedNumbers, ExtendedValues, ExtendedNames, End}
-use Rattle.ti_entry.specs.declared.stage.Stage.{Stage}
-use Rattle.ti_entry.specs.Layout.{header_of, end_of, extended_from, extended_header_of, extended_end_of}
-use Rattle.ti_entry.specs.Checks.{Verdict, Passes, EndsEarly, Fails, verdict, refusal_of, failure_of, refused}
-use Rattle.ti_entry.specs.Refusal.{checks, refusal, failure}
+use Rattle.ti_layout.specs.declared.fault.Fault.TheVariants.{Truncated}
+use Rattle.ti_layout.specs.declared.header.Header.{Header}
+use Rattle.ti_layout.specs.declared.extended_header.ExtendedHeader.{ExtendedHeader}
+use Rattle.ti_layout.specs.declared.part.Part.{Part}
+use Rattle.ti_layout.specs.declared.section.Items.{Items}
+use Rattle.ti_layout.specs.declared.section.Section.{Section}
+use Rattle.ti_layout.specs.declared.section.Section.TheVariants.{Magic, Words, Names, Flags, Numbers, Offsets, Behind, Counts, ExtendedFlags, ExtendedNumbers, ExtendedValues, ExtendedNames, End}
+use Rattle.ti_layout.specs.declared.stage.Stage.{Stage}
+use Rattle.ti_layout.specs.Layout.{header_of, end_of, extended_from, extended_header_of, extended_end_of, no_capability}
+use Rattle.ti_layout.specs.Checks.{Verdict, Passes, EndsEarly, Fails, verdict, refusal_of, failure_of, refused}
+use Rattle.ti_layout.specs.Refusal.{checks, refusal, failure}
 use Rattle.ti_entry.specs.Content.{content, content_with}
-use Rattle.ti_entry.specs.Held.{no_capability, held_header, held, IsPart, IsHeld}
+use Rattle.ti_entry.specs.Held.{held_header, held, IsPart, IsHeld}
 use Rattle.ti_entry.specs.Reading.{answer_under, answer_for}
-use Rattle.ti_entry.specs.Stages.{KnowsPlain, KnowsAll, Knows, StandsAt, Waits, is_whole}
+use Rattle.ti_layout.specs.Stages.{KnowsPlain, KnowsAll, Knows, StandsAt, Waits, is_whole}
 use Rattle.ti_entry.proofs.NamedItems.{held_is}
 
 -- no check has failed on what waits for more

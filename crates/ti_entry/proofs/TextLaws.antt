@@ -4,9 +4,10 @@ use Rattle.std.proofs.lemmas.Bool.{le-ltb, eqb-false, eqb-true}
 use Rattle.std.proofs.lemmas.List.Sums.{take_while-cons}
 use Rattle.std.proofs.lemmas.List.{take_all, drop-drop}
 use Rattle.std.specs.List.{list_any}
-use Rattle.ti_entry.specs.Table.{is_nul, until_nul, text_from, text_of_word}
-use Rattle.ti_entry.specs.Checks.{is_ended, is_offset_below}
-use Rattle.ti_entry.specs.Spelling.{HasNoNul, IsText}
+use Rattle.ti_words.specs.Texts.{is_nul}
+use Rattle.ti_layout.specs.Table.{until_nul, text_from, text_of_word}
+use Rattle.ti_layout.specs.Checks.{is_ended, is_offset_below}
+use Rattle.ti_words.specs.Spelling.{HasNoNul, IsText}
 
 pub record Ends (xs : List ℕ) : Type 0 where
   pub clean : HasNoNul (until_nul xs)

@@ -1,12 +1,10 @@
 -- The names of extended capabilities, and which capability has a name first.
-use Rattle.std.specs.Prelude.{◌≡◌, ◌≢◌, ℕ, ◌+◌, ◌*◌, List, ◌++◌, map, take, slice_get, Option, Some, None}
+use Rattle.std.specs.Prelude.{◌≡◌, ◌≢◌, ℕ, List, ◌++◌, map, take, slice_get, Option, Some, None}
 use Rattle.std.specs.List.{AllByRecursion}
 use Rattle.ti_words.specs.declared.Kind.{Kind}
 use Rattle.ti_words.specs.declared.Kind.TheVariants as kinds
-use Rattle.ti_entry.specs.declared.extended_header.ExtendedHeader.{ExtendedHeader}
-use Rattle.ti_entry.specs.Value.{EntryValue}
-use Rattle.ti_entry.specs.Layout.{extended_names_from}
-use Rattle.ti_entry.specs.Spelling.{name_in, extended_names}
+use Rattle.ti_words.specs.Value.{EntryValue}
+use Rattle.ti_words.specs.Spelling.{name_in, extended_names}
 
 -- the names of the capabilities of a kind, by their index
 abbrev pub names_of : EntryValue → Kind → List (List ℕ)
@@ -33,15 +31,3 @@ names_before v kinds.Text i = names_of v kinds.Flag ++ names_of v kinds.Number +
 abbrev pub IsFirstNamed : EntryValue → List ℕ → Option (Kind × ℕ) → Type 0
 IsFirstNamed v name None = Lacks (extended_names v) name
 IsFirstNamed v name (Some at) = (slice_get (names_of v at.0) at.1 ≡ Some name) × Lacks (names_before v at.0 at.1) name
-
--- ---- where the offsets of the names of a kind lie, and how many there are: only private functions cite these
-
-abbrev pub kind_count : ExtendedHeader → Kind → ℕ
-kind_count x kinds.Flag = x.flags
-kind_count x kinds.Number = x.numbers
-kind_count x kinds.Text = x.texts
-
-abbrev pub kind_names_from : ExtendedHeader → Kind → ℕ
-kind_names_from x kinds.Flag = extended_names_from x
-kind_names_from x kinds.Number = extended_names_from x + 2 * x.flags
-kind_names_from x kinds.Text = extended_names_from x + 2 * (x.flags + x.numbers)

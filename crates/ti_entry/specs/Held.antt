@@ -1,17 +1,18 @@
--- How an entry that was read holds its extended part: none is held as one with no capability.
+-- How an entry that was read holds its extended part, where none is held as one with no capability; and what a reader holds.
 -- Only the views and private functions of the crate cite this.
-use Rattle.std.specs.Prelude.{◌≡◌, ℕ, ◌≤◌, List, length, nat_le, if◌then◌else◌}
-use Rattle.ti_words.specs.declared.Width.{Width}
-use Rattle.ti_entry.specs.declared.header.Header.{Header}
-use Rattle.ti_entry.specs.declared.extended_header.ExtendedHeader.{ExtendedHeader}
-use Rattle.ti_entry.specs.declared.part.Part.{Part}
-use Rattle.ti_entry.specs.Value.{EntryValue}
-use Rattle.ti_entry.specs.Layout.{end_of, extended_header_of, extended_end_of}
-use Rattle.ti_entry.specs.Table.{base_of}
+use Rattle.std.specs.Prelude.{◌≡◌, ℕ, ◌≤◌, List, length, Option, None, nat_le, if◌then◌else◌}
+use Rattle.ti_base.specs.Limits.{most_entry_bytes}
+use Rattle.ti_layout.specs.declared.header.Header.{Header}
+use Rattle.ti_layout.specs.declared.extended_header.ExtendedHeader.{ExtendedHeader}
+use Rattle.ti_layout.specs.declared.part.Part.{Part}
+use Rattle.ti_layout.specs.declared.fault.Refused.{Refused}
+use Rattle.ti_layout.specs.declared.stage.Stage.{Stage}
+use Rattle.ti_words.specs.Value.{EntryValue}
+use Rattle.ti_layout.specs.Layout.{end_of, extended_header_of, extended_end_of, no_capability}
+use Rattle.ti_layout.specs.Table.{base_of}
+use Rattle.ti_layout.specs.Refusal.{failure}
+use Rattle.ti_layout.specs.Stages.{Stands, Waits}
 use Rattle.ti_entry.specs.Content.{content_with}
-
-abbrev pub no_capability : Width → ExtendedHeader
-no_capability width = record { width = width; from = 0; flags = 0; numbers = 0; texts = 0; table = 0 }
 
 abbrev pub held_header : List ℕ → Header → ExtendedHeader
 held_header bytes h = if nat_le (length bytes) (end_of h) then no_capability h.width else extended_header_of h bytes
@@ -23,11 +24,20 @@ held bytes h part = content_with bytes h part.header
 -- the sections lie within the bytes, and the base of the names is known
 abbrev pub IsPart : List ℕ → Part → Type 0
 IsPart bytes part =
-    (extended_end_of part.header ≤ 32768)
+    (extended_end_of part.header ≤ most_entry_bytes)
     × (extended_end_of part.header ≤ length bytes)
-    × (part.base ≤ 32768)
+    × (part.base ≤ most_entry_bytes)
     × (part.base ≡ base_of bytes part.header)
 
 abbrev pub IsHeld : List ℕ → Header → Part → Type 0
 IsHeld bytes h part =
-    (2 ≤ h.names) × (end_of h ≤ 32768) × (end_of h ≤ length bytes) × IsPart bytes part
+    (2 ≤ h.names) × (end_of h ≤ most_entry_bytes) × (end_of h ≤ length bytes) × IsPart bytes part
+
+-- ---- a reader
+
+-- what a reader holds beside its bytes: no check has failed on them, and without a refusal the next one waits for more
+pub record IsReading (kept : List ℕ) (stage : Stage) (refusal : Option Refused) : Type 0 where
+  pub most : length kept ≤ most_entry_bytes
+  pub unfailed : failure kept ≡ None
+  pub stands : refusal ≡ None → Stands kept stage
+  pub waits : refusal ≡ None → Waits kept stage

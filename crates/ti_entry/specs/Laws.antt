@@ -1,12 +1,12 @@
 -- What holds of the definitions for all bytes.
 use Rattle.std.specs.Prelude.{◌≡◌, ℕ, List, ◌++◌, Some, None, Ok}
 use Rattle.std.specs.List.{concat, fold}
-use Rattle.ti_entry.specs.declared.fault.Refused.{Refused}
-use Rattle.ti_entry.specs.Value.{EntryValue}
-use Rattle.ti_entry.specs.Spelling.{Spells}
-use Rattle.ti_entry.specs.Refusal.{refusal, failure}
-use Rattle.ti_entry.specs.Canonical.{canonical}
-use Rattle.ti_entry.specs.Unfit.{encode_fault}
+use Rattle.ti_layout.specs.declared.fault.Refused.{Refused}
+use Rattle.ti_words.specs.Value.{EntryValue}
+use Rattle.ti_words.specs.Spelling.{Spells}
+use Rattle.ti_layout.specs.Refusal.{refusal, failure}
+use Rattle.ti_draft.specs.Canonical.{canonical}
+use Rattle.ti_draft.specs.Unfit.{encode_fault}
 use Rattle.ti_entry.specs.Reading.{new_reading, met, fed, answer_for}
 
 -- bytes spell at most one entry

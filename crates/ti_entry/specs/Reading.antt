@@ -1,11 +1,11 @@
 -- What a read of bytes answers, what a reader of entries holds, and what a piece makes of it.
 use Rattle.std.specs.Prelude.{◌≡◌, ℕ, zero, suc, List, [], ◌++◌, Option, Some, None, Result, Ok, Err, length, take, is_some, if◌then◌else◌}
 use Rattle.std.specs.Io.KnownBytes.{Consumes}
-use Rattle.ti_entry.specs.declared.fault.Refused.{Refused}
+use Rattle.ti_layout.specs.declared.fault.Refused.{Refused}
 use Rattle.ti_entry.specs.declared.source.ReadStop.{ReadStop}
 use Rattle.ti_entry.specs.declared.source.ReadStop.TheVariants as stop
-use Rattle.ti_entry.specs.Value.{EntryValue}
-use Rattle.ti_entry.specs.Refusal.{refusal, failure}
+use Rattle.ti_words.specs.Value.{EntryValue}
+use Rattle.ti_layout.specs.Refusal.{refusal, failure}
 use Rattle.ti_entry.specs.Content.{content}
 
 -- the refusal where there is one, else a value

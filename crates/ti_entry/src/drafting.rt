@@ -5,15 +5,17 @@
 
 ghost use Rattle.std.specs.Prelude.{◌≡◌, ◌++◌, IfOk, OnOk};
 
-use crate::draft::Draft;
 use crate::entry::Entry;
 use crate::extended::Extended;
 use std::alloc::{AllocError, Allocator};
+use ti_draft::Draft;
 use ti_words::Kind;
 
 /// Adds the flags of an entry.
 fn add_flags<A: Allocator>(draft: &mut Draft<'_, A>, entry: &Entry<'_>) -> Result<(), AllocError>
-    ensures { OnOk result (draft.new ≡ record draft.old { flags = draft.old.flags ++ entry.now.flags }) }
+    ensures { OnOk result (draft.new ≡ record draft.old {
+      flags = draft.old.flags ++ entry.now.flags;
+    }) }
 {
     for i in 0..entry.flag_count() {
         draft.push_flag(entry.flag(i))?;
@@ -23,7 +25,9 @@ fn add_flags<A: Allocator>(draft: &mut Draft<'_, A>, entry: &Entry<'_>) -> Resul
 
 /// Adds the numbers of an entry.
 fn add_numbers<A: Allocator>(draft: &mut Draft<'_, A>, entry: &Entry<'_>) -> Result<(), AllocError>
-    ensures { OnOk result (draft.new ≡ record draft.old { numbers = draft.old.numbers ++ entry.now.numbers }) }
+    ensures { OnOk result (draft.new ≡ record draft.old {
+      numbers = draft.old.numbers ++ entry.now.numbers;
+    }) }
 {
     for i in 0..entry.number_count() {
         draft.push_number(entry.number(i))?;
@@ -36,7 +40,9 @@ fn add_texts<'a, A: Allocator>(
     draft: &mut Draft<'a, A>,
     entry: &Entry<'a>,
 ) -> Result<(), AllocError>
-    ensures { OnOk result (draft.new ≡ record draft.old { texts = draft.old.texts ++ entry.now.texts }) }
+    ensures { OnOk result (draft.new ≡ record draft.old {
+      texts = draft.old.texts ++ entry.now.texts;
+    }) }
 {
     let mut texts = entry.texts();
     for i in 0..entry.text_count() {
@@ -50,7 +56,9 @@ fn add_extended_flags<'a, A: Allocator>(
     draft: &mut Draft<'a, A>,
     extended: &Extended<'a>,
 ) -> Result<(), AllocError>
-    ensures { OnOk result (draft.new ≡ record draft.old { extended_flags = draft.old.extended_flags ++ extended.now.extended_flags }) }
+    ensures { OnOk result (draft.new ≡ record draft.old {
+      extended_flags = draft.old.extended_flags ++ extended.now.extended_flags;
+    }) }
 {
     for i in 0..extended.flag_count() {
         if let Some(name) = extended.name(Kind::Flag, i) {
@@ -65,7 +73,9 @@ fn add_extended_numbers<'a, A: Allocator>(
     draft: &mut Draft<'a, A>,
     extended: &Extended<'a>,
 ) -> Result<(), AllocError>
-    ensures { OnOk result (draft.new ≡ record draft.old { extended_numbers = draft.old.extended_numbers ++ extended.now.extended_numbers }) }
+    ensures { OnOk result (draft.new ≡ record draft.old {
+      extended_numbers = draft.old.extended_numbers ++ extended.now.extended_numbers;
+    }) }
 {
     for i in 0..extended.number_count() {
         if let Some(name) = extended.name(Kind::Number, i) {
@@ -80,7 +90,9 @@ fn add_extended_texts<'a, A: Allocator>(
     draft: &mut Draft<'a, A>,
     extended: &Extended<'a>,
 ) -> Result<(), AllocError>
-    ensures { OnOk result (draft.new ≡ record draft.old { extended_texts = draft.old.extended_texts ++ extended.now.extended_texts }) }
+    ensures { OnOk result (draft.new ≡ record draft.old {
+      extended_texts = draft.old.extended_texts ++ extended.now.extended_texts;
+    }) }
 {
     for i in 0..extended.text_count() {
         if let Some(name) = extended.name(Kind::Text, i) {

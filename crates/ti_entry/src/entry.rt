@@ -5,21 +5,17 @@
 
 ghost use Rattle.std.specs.Prelude.{◌≡◌, ◌+◌, ◌<◌, ◌≤◌, length, get_or, IfOk, IfErr, IsOkAnd, Some};
 ghost use Rattle.ti_words.specs.Texts.{text_value, AbsentText};
-ghost use Rattle.ti_entry.specs.Refusal.{refusal};
-ghost use Rattle.ti_entry.specs.Value.{EntryValue};
-ghost use Rattle.ti_entry.specs.Spelling.{Spells};
+ghost use Rattle.ti_layout.specs.Refusal.{refusal};
+ghost use Rattle.ti_words.specs.Value.{EntryValue};
+ghost use Rattle.ti_words.specs.Spelling.{Spells};
 ghost use Rattle.ti_entry.specs.Reading.{answer_for};
-ghost use Rattle.ti_entry.specs.Stages.{Stands, Waits};
+ghost use Rattle.ti_layout.specs.Stages.{Stands, Waits};
 
 use crate::extended::{Extended, extended_of};
-use crate::fault::{Fault, Refused};
-use crate::header::Header;
 use crate::item::{flag_at, number_at, text_at};
-use crate::part::Part;
-use crate::stage::Stage;
 use crate::texts::{Texts, texts_of};
-use crate::word::numbers_size;
 use std::marker::Model;
+use ti_layout::{Fault, Header, Part, Refused, Stage, numbers_size};
 use ti_words::{Flag, Number, Text, Width};
 
 /// A compiled entry (term(5)). What it gives is lent from the bytes that it was read from.
@@ -31,7 +27,7 @@ pub struct Entry<'a> {
 }
 
 impl<'a> Model for Entry<'a> {
-    ghost use Rattle.ti_entry.specs.Value.{EntryValue};
+    ghost use Rattle.ti_words.specs.Value.{EntryValue};
     ghost use Rattle.ti_entry.specs.Held.{held, IsHeld};
 
     ghost Value = { EntryValue };
@@ -83,8 +79,8 @@ pub(crate) fn entry_at<'a>(bytes: &'a [u8], stage: &Stage) -> Result<Entry<'a>, 
     }
     Ok(Entry {
         bytes,
-        header: stage.header,
-        part: stage.part,
+        header: stage.header(),
+        part: stage.part(),
     })
 }
 

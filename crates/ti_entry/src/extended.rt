@@ -6,18 +6,17 @@
 
 ghost use Rattle.std.specs.Prelude.{◌≡◌, ℕ, ◌+◌, ◌*◌, ◌<◌, ◌≤◌, ◌^◌, ◌↔◌, List, map, length, get_or, slice_get, IsTrue};
 ghost use Rattle.std.specs.Option.{option_map};
+ghost use Rattle.ti_base.specs.Limits.{most_entry_bytes};
 ghost use Rattle.ti_words.specs.Texts.{text_value, AbsentText};
-ghost use Rattle.ti_entry.specs.Layout.{places};
+ghost use Rattle.ti_layout.specs.Layout.{places};
 ghost use Rattle.ti_entry.specs.Content.{name_at as the_name_at};
 ghost use Rattle.ti_entry.specs.Held.{held, IsHeld, IsPart};
-ghost use Rattle.ti_entry.specs.Spelling.{mark_in};
+ghost use Rattle.ti_words.specs.Spelling.{mark_in};
 ghost use Rattle.ti_entry.specs.Finding.{IsFirst, IsFirstNamed, names_of};
 
-use crate::header::Header;
-use crate::item::{flag_at, is_text, number_at, text_at, text_from};
-use crate::part::Part;
-use crate::word::{count_at, numbers_size};
+use crate::item::{flag_at, is_text, number_at, text_at};
 use std::marker::Model;
+use ti_layout::{Header, Part, count_at, numbers_size, text_from};
 use ti_words::{Flag, Kind, Number, Text};
 
 /// The extended part of an entry, with no capability where the entry has none. What it gives is lent from the bytes that
@@ -30,7 +29,7 @@ pub struct Extended<'a> {
 }
 
 impl<'a> Model for Extended<'a> {
-    ghost use Rattle.ti_entry.specs.Value.{EntryValue};
+    ghost use Rattle.ti_words.specs.Value.{EntryValue};
     ghost use Rattle.ti_entry.specs.Held.{held, IsHeld};
 
     ghost Value = { EntryValue };
@@ -186,8 +185,9 @@ fn is_name_at(bytes: &[u8], part: &Part, place: usize, name: &[u8]) -> bool
 fn first_named(bytes: &[u8], part: &Part, from: usize, count: usize, name: &[u8]) -> Option<usize>
     requires part { IsPart bytes.now part.now }
     requires within { from + 2 * count ≤ length bytes.now }
-    requires fits { from + 2 * count ≤ 32768 }
-    ensures { IsFirst (map (the_name_at bytes.now part.now.header) (places from 2 count)) name.now result }
+    requires fits { from + 2 * count ≤ most_entry_bytes }
+    ensures { IsFirst
+        (map (the_name_at bytes.now part.now.header) (places from 2 count)) name.now result }
 {
     for i in 0..count {
         if is_name_at(bytes, part, from + 2 * i, name) {

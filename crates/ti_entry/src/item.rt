@@ -4,13 +4,12 @@
 
 ghost use Rattle.std.specs.Prelude.{◌≡◌, ◌+◌, ◌<◌, ◌≤◌, ◌↔◌, length, IfSome, IsTrue, pos};
 ghost use Rattle.ti_words.specs.Texts.{text_value};
-ghost use Rattle.ti_entry.specs.Word.{word_at as the_word_at};
-ghost use Rattle.ti_entry.specs.Layout.{number_size};
-ghost use Rattle.ti_entry.specs.Table.{text_from as the_text_from, until_nul as the_until_nul, text_of_word, size_at as the_size_at};
+ghost use Rattle.ti_words.specs.Word.{word_at as the_word_at};
+ghost use Rattle.ti_words.specs.Widths.{number_size};
+ghost use Rattle.ti_layout.specs.Table.{text_from as the_text_from, until_nul as the_until_nul, text_of_word, size_at as the_size_at};
 ghost use Rattle.ti_entry.specs.Content.{flag_at as the_flag_at, number_at as the_number_at, text_at as the_text_at};
 
-use crate::word::{number_word_at, word_at};
-use memchr::memchr;
+use ti_layout::{number_word_at, text_from, until_nul, word_at};
 use ti_words::{Flag, Number, Text, Width, flag_of, number_of};
 
 /// The flag of the byte at a place.
@@ -58,40 +57,6 @@ fn text_of<'a>(table: &'a [u8], offset: i16) -> Text<'a>
         offset if offset < 0 => Text::Cancelled,
         offset => Text::Value(text_from(table, offset as usize)),
     }
-}
-
-/// The bytes from a place up to the next NUL.
-pub(crate) fn text_from(table: &[u8], place: usize) -> &[u8]
-    ensures { result.now ≡ the_text_from table.now place }
-{
-    match table.get(place..) {
-        Some(rest) => until_nul(rest),
-        None => until_nul(&[]),
-    }
-}
-
-/// The bytes before the first NUL.
-pub(crate) fn until_nul(bytes: &[u8]) -> &[u8]
-    ensures { result.now ≡ the_until_nul bytes.now }
-{
-    match memchr(0, bytes) {
-        Some(end) => &bytes[..end],
-        None => bytes,
-    }
-}
-
-/// The size of the text at an offset and its NUL, where it is there.
-pub(crate) fn size_at(bytes: &[u8], table: &[u8], place: usize) -> usize
-    requires room { place + 2 ≤ length bytes.now }
-    requires small { length table.now ≤ 32768 }
-    ensures value { result ≡ the_size_at table.now (the_word_at 2 bytes.now place) }
-    ensures most { result ≤ 32769 }
-{
-    let offset = word_at(bytes, place);
-    if offset < 0 {
-        return 0;
-    }
-    text_from(table, offset as usize).len() + 1
 }
 
 /// Whether the bytes from a place up to the next NUL are this text.

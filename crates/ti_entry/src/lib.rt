@@ -3,40 +3,26 @@
 //! `read` takes a slice, `EntryReader` takes pieces of any length, and `read_from` feeds one from a source. Bytes are
 //! accepted exactly where they spell an entry, else refused with the first check that does not hold and its place.
 //! Reading is linear in the bytes and takes no memory. `Entry::extended` shows the capabilities that an entry names itself.
+//!
+//! The checks are those of `ti_layout`, and `Entry::draft` makes a draft of `ti_draft`, which writes entries: what callers
+//! need of both stands here too.
 #![tactic(auto)]
 
-mod checks;
-mod draft;
 mod drafting;
-mod encoding;
 mod entry;
 mod extended;
-mod extended_header;
-mod fault;
-mod header;
 mod item;
 pub mod laws;
-mod named;
-mod part;
-mod put;
 mod reader;
-mod size;
 mod source;
-mod stage;
 mod texts;
-mod unfit;
-mod whole;
-mod word;
 
-pub use draft::Draft;
-pub use encoding::encode;
 pub use entry::{Entry, read};
 pub use extended::Extended;
-pub use fault::{Fault, Refused};
 pub use reader::EntryReader;
-pub use size::encoded_len;
 pub use source::{ReadStop, read_from};
-pub use unfit::EncodeFault;
+pub use ti_draft::{Draft, EncodeFault, encode, encoded_len};
+pub use ti_layout::{Fault, Refused};
 
 #[cfg(test)]
 mod tests;

@@ -1,35 +1,35 @@
 //! A reader that keeps the pieces of an entry as they come, and makes each check at the byte that completes its prefix.
 //!
-//! It keeps at most 32768 bytes in a buffer of its own and takes no other memory. A piece is refused at the byte with
+//! It keeps at most [`MOST_ENTRY_BYTES`] in a buffer of its own and takes no other memory. A piece is refused at the byte with
 //! which a check fails, and that refusal lasts. A piece is copied whole and its checks are made in one go; only where one
 //! fails is the byte looked for at which it does. A piece that brings too few bytes for the next check is only copied.
 //! Over all pieces the time is linear in their bytes.
 
 ghost use Rattle.std.specs.Prelude.{◌≡◌, ℕ, List, ◌∷◌, ◌+◌, ◌≤◌, ◌++◌, [], length, true, false, IfOk, IfErr, IsOkAnd, Some, None, Err};
+ghost use Rattle.ti_base.specs.Limits.{most_entry_bytes};
 ghost use Rattle.arrayvec.specs.ArrayVec.{array_vec_len};
-ghost use Rattle.ti_entry.specs.declared.fault.Refused.{Refused};
-ghost use Rattle.ti_entry.specs.Value.{EntryValue};
-ghost use Rattle.ti_entry.specs.Spelling.{Spells};
-ghost use Rattle.ti_entry.specs.Refusal.{refusal, failure, fault_behind as the_fault_behind};
+ghost use Rattle.ti_layout.specs.declared.fault.Refused.{Refused};
+ghost use Rattle.ti_words.specs.Value.{EntryValue};
+ghost use Rattle.ti_words.specs.Spelling.{Spells};
+ghost use Rattle.ti_layout.specs.Refusal.{refusal, failure, fault_behind as the_fault_behind};
 
 use crate::entry::{Entry, entry_at};
-use crate::fault::{Fault, Refused};
-use crate::header::{LIMIT, header_words};
-use crate::stage::Stage;
 use arrayvec::ArrayVec;
 use std::marker::Model;
+use ti_base::MOST_ENTRY_BYTES;
+use ti_layout::{Fault, Refused, Stage, header_words};
 
 /// The bytes of an entry that came so far, the check that is next, and the refusal that lasts.
 #[derive(Drop)]
 pub struct EntryReader {
-    kept: ArrayVec<u8, LIMIT>,
+    kept: ArrayVec<u8, MOST_ENTRY_BYTES>,
     stage: Stage,
     refusal: Option<Refused>,
 }
 
 impl Model for EntryReader {
     ghost use Rattle.ti_entry.specs.Reading.{Reading};
-    ghost use Rattle.ti_entry.specs.Stages.{IsReading};
+    ghost use Rattle.ti_entry.specs.Held.{IsReading};
 
     ghost Value = { Reading };
 
@@ -63,7 +63,7 @@ impl EntryReader {
         ensures fed { self.new ≡ fed self.old piece.now }
         // The refusal that it then holds, if any.
         ensures answer { result ≡ answer_under self.new.refusal tt }
-        ensures most { length self.new.kept ≤ 32768 }
+        ensures most { length self.new.kept ≤ most_entry_bytes }
     {
         if let Some(refused) = self.refusal() {
             return Err(refused);
@@ -80,7 +80,7 @@ impl EntryReader {
         ensures taken { result ≡ true → self.new ≡ fed self.old piece.now }
         ensures unrefused { result ≡ true → self.new.refusal ≡ None }
         ensures same { result ≡ false → self.new ≡ self.old }
-        ensures most { length self.new.kept ≤ 32768 }
+        ensures most { length self.new.kept ≤ most_entry_bytes }
     {
         let count = self.kept();
         let Ok(()) = self.kept.try_extend_from_slice(piece) else {
@@ -102,10 +102,10 @@ impl EntryReader {
     fn take_each(&mut self, piece: &[u8]) -> Result<(), Refused>
         requires unrefused { self.old.refusal ≡ None }
         requires unfailed { failure self.old.kept ≡ None }
-        requires most { length self.old.kept ≤ 32768 }
+        requires most { length self.old.kept ≤ most_entry_bytes }
         ensures fed { self.new ≡ fed self.old piece.now }
         ensures answer { result ≡ answer_under self.new.refusal tt }
-        ensures most { length self.new.kept ≤ 32768 }
+        ensures most { length self.new.kept ≤ most_entry_bytes }
     {
         'bytes: for &byte in piece {
             self.take(byte)?;
@@ -118,7 +118,7 @@ impl EntryReader {
         requires { self.old.refusal ≡ None }
         ensures fed { self.new ≡ fed self.old (byte ∷ []) }
         ensures answer { result ≡ answer_under self.new.refusal tt }
-        ensures most { length self.new.kept ≤ 32768 }
+        ensures most { length self.new.kept ≤ most_entry_bytes }
     {
         if self.kept.is_full() {
             let refused = overfull(self.kept.as_slice());
@@ -140,7 +140,7 @@ impl EntryReader {
     /// How many bytes are kept.
     pub fn kept(&self) -> usize
         ensures count { result ≡ length self.now.kept }
-        ensures most { result ≤ 32768 }
+        ensures most { result ≤ most_entry_bytes }
     {
         self.kept.len()
     }
@@ -156,8 +156,10 @@ impl EntryReader {
 
         // Else what `read` answers of the kept bytes.
         ensures found { self.now.refusal ≡ None → IfOk result (λ e. Spells self.now.kept e) }
-        ensures only { self.now.refusal ≡ None → (v : EntryValue) → Spells self.now.kept v → IsOkAnd result (λ e. e ≡ v) }
-        ensures refused { self.now.refusal ≡ None → IfErr result (λ r. refusal self.now.kept ≡ Some r) }
+        ensures only { self.now.refusal ≡ None → (v : EntryValue) → Spells self.now.kept v
+            → IsOkAnd result (λ e. e ≡ v) }
+        ensures refused { self.now.refusal ≡ None
+            → IfErr result (λ r. refusal self.now.kept ≡ Some r) }
         ensures answer { self.now.refusal ≡ None → result ≡ answer_for self.now.kept }
     {
         if let Some(refused) = self.refusal {
@@ -170,7 +172,7 @@ impl EntryReader {
     pub(crate) fn refusal(&self) -> Option<Refused>
         ensures value { result ≡ self.now.refusal }
         ensures none_failed { failure self.now.kept ≡ None }
-        ensures most { length self.now.kept ≤ 32768 }
+        ensures most { length self.now.kept ≤ most_entry_bytes }
     {
         self.refusal
     }
@@ -178,7 +180,7 @@ impl EntryReader {
 
 /// Why a byte behind as many as an entry may have is refused.
 fn overfull(kept: &[u8]) -> Refused
-    requires full { length kept.now ≡ 32768 }
+    requires full { length kept.now ≡ most_entry_bytes }
     requires unfailed { failure kept.now ≡ None }
     ensures { (byte : ℕ) → (more : List ℕ) → failure (kept.now ++ byte ∷ more) ≡ Some result }
 {
@@ -188,9 +190,9 @@ fn overfull(kept: &[u8]) -> Refused
     }
 }
 
-/// The fault of a byte behind an entry of 32768 bytes: no extended part has room behind its string table.
+/// The fault of a byte behind an entry of the greatest length: no extended part has room behind its string table.
 fn fault_behind(kept: &[u8]) -> Fault
-    requires { length kept.now ≡ 32768 }
+    requires { length kept.now ≡ most_entry_bytes }
     ensures { result ≡ the_fault_behind kept.now }
 {
     if header_words(kept).end() == kept.len() {

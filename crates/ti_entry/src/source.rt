@@ -1,16 +1,17 @@
 //! Reading an entry from a source of bytes to its end.
 //!
 //! Pieces of up to 512 bytes are read into a buffer on the stack and fed. The reads that bring a byte are at most 32769,
-//! and at most 1000 interrupted reads of a call are tried again.
+//! and at most [`MOST_INTERRUPTIONS`] interrupted reads of a call are tried again.
 
 ghost use Rattle.std.specs.Prelude.{◌≡◌, ◌≢◌, None, OnOk, IfErr};
 ghost use Rattle.std.specs.Io.KnownBytes.{IsAtEnd};
 ghost use Rattle.ti_entry.specs.Reading.{FeedsFrom, refusal_behind};
 
-use crate::fault::Refused;
 use crate::reader::EntryReader;
 use std::io::{ErrorKind, Read};
 use thiserror::Error;
+use ti_base::MOST_INTERRUPTIONS;
+use ti_layout::Refused;
 
 /// Why reading from a source stopped before its end.
 #[derive(Clone, Copy, Debug, PartialEq, Eq, Error)]
@@ -23,9 +24,6 @@ pub enum ReadStop {
     Io,
 }
 
-/// The most interrupted reads of one call that are tried again.
-const MOST_INTERRUPTIONS: u32 = 1000;
-
 /// The most bytes of one read.
 const PIECE: usize = 512;
 
@@ -33,11 +31,12 @@ const PIECE: usize = 512;
 ///
 /// # Errors
 ///
-/// `Refused` where a `feed` refuses; where one has refused before, nothing is read. `Io` where a read fails, or the
-/// 1001st is interrupted; the bytes that came before are kept.
+/// `Refused` where a `feed` refuses; where one has refused before, nothing is read. `Io` where a read fails, or one
+/// more than [`MOST_INTERRUPTIONS`] is interrupted; the bytes that came before are kept.
 pub fn read_from<R: Read>(reader: &mut EntryReader, source: &mut R) -> Result<(), ReadStop>
     // All that the source lost was fed, in order, whatever is answered.
-    ensures fed { FeedsFrom (R.remaining source.old) (R.remaining source.new) reader.old reader.new }
+    ensures fed { FeedsFrom (R.remaining source.old)
+        (R.remaining source.new) reader.old reader.new }
     // Ok leaves nothing unread, and no refusal.
     ensures end { OnOk result (IsAtEnd (R.remaining source.new)) }
     ensures accepted { OnOk result (reader.new.refusal ≡ None) }

@@ -4,12 +4,13 @@
 //! do. So texts that share one long slice are read in time linear in their count.
 
 ghost use Rattle.std.specs.Prelude.{◌≡◌, ◌+◌, ◌*◌, ◌≤◌, length, map};
-ghost use Rattle.ti_entry.specs.Layout.{places};
-ghost use Rattle.ti_entry.specs.Table.{text_from as the_text_from};
+ghost use Rattle.ti_layout.specs.Layout.{places};
+ghost use Rattle.ti_layout.specs.Table.{text_from as the_text_from};
 ghost use Rattle.ti_entry.specs.Content.{text_at as the_text_at};
 
-use crate::item::{place_at, text_at, text_from};
+use crate::item::{place_at, text_at};
 use std::marker::Model;
+use ti_layout::text_from;
 use ti_words::Text;
 
 /// The texts whose offsets stand one after the other from a place on. Contracts see the list of them.
@@ -27,8 +28,8 @@ pub(crate) struct Texts<'a> {
 impl<'a> Model for Texts<'a> {
     ghost use Rattle.std.specs.Prelude.{◌≡◌, ◌+◌, ◌*◌, ◌≤◌, List, length, map};
     ghost use Rattle.ti_words.specs.Texts.{TextValue};
-    ghost use Rattle.ti_entry.specs.Layout.{places};
-    ghost use Rattle.ti_entry.specs.Table.{text_from};
+    ghost use Rattle.ti_layout.specs.Layout.{places};
+    ghost use Rattle.ti_layout.specs.Table.{text_from};
     ghost use Rattle.ti_entry.specs.Content.{text_at};
 
     ghost Value = { List TextValue };

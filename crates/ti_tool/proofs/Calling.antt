@@ -5,8 +5,8 @@ use Rattle.std.specs.Io.KnownBytes.{Consumes, IsAtEnd}
 use Rattle.std.proofs.KnownBytes.{Keeps-refl}
 use Rattle.ti_tool.specs.declared.fault.ToolFault.{ToolFault}
 use Rattle.ti_tool.specs.declared.fault.ToolFault.TheVariants as fault
-use Rattle.ti_entry.specs.declared.fault.Refused.{Refused}
-use Rattle.ti_entry.specs.Refusal.{refusal, failure}
+use Rattle.ti_layout.specs.declared.fault.Refused.{Refused}
+use Rattle.ti_layout.specs.Refusal.{refusal, failure}
 use Rattle.ti_entry.specs.Reading.{Reading, new_reading, fed}
 use Rattle.ti_tool.specs.Reading.{Takes}
 use Rattle.ti_tool.specs.Calls.{Wrote, Ended, DidCall, HasFailed, StoppedAt}

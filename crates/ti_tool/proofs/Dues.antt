@@ -5,8 +5,8 @@ use Rattle.ti_words.specs.declared.Width.{Width}
 use Rattle.ti_words.specs.Texts.{TextValue, AbsentText, CancelledText, TextOf}
 use Rattle.ti_expand.specs.declared.values.Value.{Value}
 use Rattle.ti_pad.specs.Setting.{Setting}
-use Rattle.ti_entry.specs.Value.{EntryValue}
-use Rattle.ti_entry.specs.Spelling.{Spells}
+use Rattle.ti_words.specs.Value.{EntryValue}
+use Rattle.ti_words.specs.Spelling.{Spells}
 use Rattle.ti_tool.specs.declared.fault.ToolFault.{ToolFault}
 use Rattle.ti_tool.specs.declared.fault.ToolFault.TheVariants as fault
 use Rattle.ti_tool.specs.Results.{IsConverted, IsDue, IsDueFor, IsEncoding, IsNamed, in_width}

@@ -3,7 +3,7 @@ use Rattle.std.proofs.Common.{◌≡◌, ℕ, ◌+◌, ◌<◌, Bool, ◌&&◌, 
 use Rattle.std.specs.Prelude.{codes}
 use Rattle.std.proofs.lemmas.List.{get_or-map}
 use Rattle.ti_words.specs.Texts.{TextValue, AbsentText}
-use Rattle.ti_entry.specs.Spelling.{name_in, mark_in}
+use Rattle.ti_words.specs.Spelling.{name_in, mark_in}
 use Rattle.ti_tool.specs.Shown.{lines_from}
 use Rattle.ti_tool.specs.Checked.{IsExtendedLine, IsLine}
 use Rattle.ti_tool.proofs.Lines.{lines_next}

@@ -7,7 +7,7 @@ use Rattle.ti_words.specs.Texts.{TextValue, AbsentText, TextOf, text_value}
 use Rattle.ti_words.specs.declared.Text.{Text}
 use Rattle.ti_words.specs.declared.Text.TheVariants as texts
 use denote.Bor.{Bor}
-use Rattle.ti_entry.specs.Value.{EntryValue}
+use Rattle.ti_words.specs.Value.{EntryValue}
 use Rattle.ti_cap.specs.Capability.{HasDepth, HasBound}
 use Rattle.ti_cap.specs.Refusal.{IsFaultless}
 use Rattle.ti_tool.specs.Labels.{label_of}

@@ -2,9 +2,9 @@
 use Rattle.std.proofs.Common.{◌≡◌, ℕ, List, Ok, Some, refl, sym, ap, subst, ◌∙◌, inl, inr}
 use Rattle.ti_words.specs.declared.Width.{Width}
 use Rattle.ti_words.specs.declared.Width.TheVariants.{Legacy, Wide}
-use Rattle.ti_entry.specs.Value.{EntryValue}
-use Rattle.ti_entry.specs.Spelling.{Spells}
-use Rattle.ti_entry.specs.Canonical.{canonical}
+use Rattle.ti_words.specs.Value.{EntryValue}
+use Rattle.ti_words.specs.Spelling.{Spells}
+use Rattle.ti_draft.specs.Canonical.{canonical}
 use Rattle.ti_entry.proofs.AtMostOne.{at_most_one}
 use Rattle.ti_entry.proofs.Encoded.{canonical_spells}
 use Rattle.ti_tool.specs.Results.{IsConverted, IsEncoding, in_width}

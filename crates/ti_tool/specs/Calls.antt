@@ -2,9 +2,9 @@
 use Rattle.std.specs.Prelude.{◌≡◌, ◌<◌, ◌⊎◌, ◌+◌, ℕ, Bool, List, IfOk, Option, Some, None, Result, Ok, Err, length, take}
 use Rattle.std.specs.Io.KnownBytes.{Appends, Consumes, IsAtEnd, Keeps}
 use Rattle.ti_base.specs.Limits.{most_capability_bytes}
-use Rattle.ti_entry.specs.declared.fault.Refused.{Refused}
+use Rattle.ti_layout.specs.declared.fault.Refused.{Refused}
 use Rattle.ti_entry.specs.Reading.{Reading}
-use Rattle.ti_entry.specs.Refusal.{refusal, failure}
+use Rattle.ti_layout.specs.Refusal.{refusal, failure}
 use Rattle.ti_tool.specs.declared.fault.ToolFault.{ToolFault}
 use Rattle.ti_tool.specs.declared.fault.ToolFault.TheVariants as fault
 

@@ -4,8 +4,8 @@ use Rattle.std.specs.Str.Parse.{IsNumeral, digits_value}
 use Rattle.ti_words.specs.declared.Kind.TheVariants as kinds
 use Rattle.ti_words.specs.Names.{Place, place_of}
 use Rattle.ti_words.specs.Texts.{TextValue, AbsentText}
-use Rattle.ti_entry.specs.Value.{EntryValue}
-use Rattle.ti_entry.specs.Spelling.{mark_in}
+use Rattle.ti_words.specs.Value.{EntryValue}
+use Rattle.ti_words.specs.Spelling.{mark_in}
 use Rattle.ti_entry.specs.Finding.{IsFirst, names_of}
 
 -- `#` and one to five digits

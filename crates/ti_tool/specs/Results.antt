@@ -8,17 +8,17 @@ use Rattle.ti_expand.specs.declared.values.Value.{Value}
 use Rattle.ti_expand.specs.State.{start}
 use Rattle.ti_expand.specs.Meaning.{meaning}
 use Rattle.ti_expand.specs.Expands.{IsFirstTooLong}
-use Rattle.ti_entry.specs.declared.fault.Refused.{Refused}
-use Rattle.ti_entry.specs.Value.{EntryValue}
-use Rattle.ti_entry.specs.Spelling.{Spells}
-use Rattle.ti_entry.specs.Refusal.{refusal}
+use Rattle.ti_layout.specs.declared.fault.Refused.{Refused}
+use Rattle.ti_words.specs.Value.{EntryValue}
+use Rattle.ti_words.specs.Spelling.{Spells}
+use Rattle.ti_layout.specs.Refusal.{refusal}
 use Rattle.ti_words.specs.declared.Width.{Width}
 use Rattle.ti_words.specs.Texts.{TextValue, AbsentText, CancelledText, TextOf}
 use Rattle.ti_base.specs.Limits.{most_padded_bytes}
 use Rattle.ti_pad.specs.Setting.{Setting}
 use Rattle.ti_pad.specs.Padded.{padded}
-use Rattle.ti_entry.specs.Canonical.{canonical}
-use Rattle.ti_entry.specs.Unfit.{encode_fault}
+use Rattle.ti_draft.specs.Canonical.{canonical}
+use Rattle.ti_draft.specs.Unfit.{encode_fault}
 use Rattle.ti_tool.specs.Checked.{AreVerdicts}
 use Rattle.ti_tool.specs.Shown.{entry_lines}
 use Rattle.ti_tool.specs.Names.{IsCalled}

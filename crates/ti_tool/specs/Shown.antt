@@ -10,7 +10,7 @@ use Rattle.ti_words.specs.declared.Number.TheVariants as numbers
 use Rattle.ti_words.specs.declared.Width.{Width}
 use Rattle.ti_words.specs.declared.Width.TheVariants.{Legacy, Wide}
 use Rattle.ti_words.specs.Texts.{TextValue, AbsentText, CancelledText, TextOf}
-use Rattle.ti_entry.specs.Value.{EntryValue}
+use Rattle.ti_words.specs.Value.{EntryValue}
 use Rattle.ti_tool.specs.Labels.{label_of}
 
 -- a word and a label, and behind the label nothing, or a blank and a word; No has no line

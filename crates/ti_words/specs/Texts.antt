@@ -1,5 +1,5 @@
 -- Texts without where they lie in memory.
-use Rattle.std.specs.Prelude.{ℕ, List}
+use Rattle.std.specs.Prelude.{ℕ, Bool, List, ◌==◌}
 use Rattle.ti_words.specs.declared.Text.{Text}
 use Rattle.ti_words.specs.declared.Text.TheVariants as texts
 
@@ -14,3 +14,7 @@ abbrev pub text_value : Text → TextValue
 text_value texts.Absent = AbsentText
 text_value texts.Cancelled = CancelledText
 text_value (texts.Value bytes) = TextOf bytes.now
+
+-- the byte behind a text in its table
+abbrev pub is_nul : ℕ → Bool
+is_nul b = b == 0

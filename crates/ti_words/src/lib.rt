@@ -2,11 +2,13 @@
 //!
 //! A flag is one byte, a number is one word, a text is an offset or a mark. Each function here is exact both ways: a
 //! byte and its flag, a word and its number, a name and its kind and index determine each other. None takes memory; a
-//! byte or word takes a few instructions, a name a look through a table of 114 rows.
+//! byte or word takes a few instructions, a name a look through a table of 114 rows. `specs/Spelling.antt` says which
+//! bytes spell an entry: reading and writing stand on it, each in crates of their own.
 #![tactic(auto)]
 
-ghost use Rattle.std.specs.Prelude.{◌≡◌, IfSome};
+ghost use Rattle.std.specs.Prelude.{◌≡◌, ◌<◌, ◌^◌, IfSome};
 ghost use Rattle.ti_words.specs.Marks.{byte_of_flag, flag_of_byte, word_of_number, number_of_word, HasWord};
+ghost use Rattle.ti_words.specs.Widths.{number_size as the_number_size, magic_number as the_magic_number};
 
 pub mod laws;
 mod names;
@@ -116,5 +118,26 @@ pub fn number_word(number: Number) -> i32
         Number::Absent => -1,
         Number::Cancelled => -2,
         Number::Value(value) => value,
+    }
+}
+
+/// The bytes of a number.
+pub fn number_size(width: Width) -> usize
+    ensures { result ≡ the_number_size width }
+{
+    match width {
+        Width::Legacy => 2,
+        Width::Wide => 4,
+    }
+}
+
+/// The number that an entry of a format starts with.
+pub fn magic_number(width: Width) -> usize
+    ensures value { result ≡ the_magic_number width }
+    ensures fits { result < 2 ^ 15 }
+{
+    match width {
+        Width::Legacy => 0o432,
+        Width::Wide => 0o1036,
     }
 }

@@ -1,8 +1,8 @@
 use Rattle.std.proofs.Common.{◌≡◌, ◌+◌, ◌++◌, Some, None, drop, map, slice_get, sym, ap, ◌∙◌, arith}
 use Rattle.std.specs.Option.{option_map}
 use Rattle.ti_words.specs.declared.Flag.TheVariants.{No}
-use Rattle.ti_entry.specs.Value.{EntryValue}
-use Rattle.ti_entry.specs.Spelling.{name_in}
+use Rattle.ti_words.specs.Value.{EntryValue}
+use Rattle.ti_words.specs.Spelling.{name_in}
 use Rattle.ti_entry.proofs.Drafted.{taken, missing, one_flag}
 use Rattle.ti_entry.proofs.drafting.add_extended_flags.Goals as goal
 use Rattle.ti_entry.proofs.drafting.add_extended_flags.Goals.{in-Some+in_ok-push_extended_flag, in_default}

@@ -1,8 +1,8 @@
 use Rattle.std.proofs.Common.{◌≡◌, ◌+◌, ◌++◌, Some, None, drop, map, slice_get, sym, ap, ◌∙◌, arith}
 use Rattle.std.specs.Option.{option_map}
 use Rattle.ti_words.specs.Texts.{AbsentText, text_value}
-use Rattle.ti_entry.specs.Value.{EntryValue}
-use Rattle.ti_entry.specs.Spelling.{name_in}
+use Rattle.ti_words.specs.Value.{EntryValue}
+use Rattle.ti_words.specs.Spelling.{name_in}
 use Rattle.ti_entry.proofs.Drafted.{taken, missing, one_text}
 use Rattle.ti_entry.proofs.drafting.add_extended_texts.Goals as goal
 use Rattle.ti_entry.proofs.drafting.add_extended_texts.Goals.{in-Some+in_ok-push_extended_text, in_default}

@@ -1,11 +1,11 @@
 use Rattle.std.proofs.Common.{◌≡◌, ◌∙◌, ap, sym, subst, true, false, arith}
 use Rattle.std.specs.Prelude.{Ok}
-use Rattle.ti_entry.specs.Checks.{Passes, EndsEarly}
-use Rattle.ti_entry.specs.Spelling.{Spells}
-use Rattle.ti_entry.specs.Stages.{is_whole}
+use Rattle.ti_layout.specs.Checks.{Passes, EndsEarly}
+use Rattle.ti_words.specs.Spelling.{Spells}
+use Rattle.ti_layout.specs.Stages.{is_whole}
 use Rattle.ti_entry.proofs.FoundExtended.{found}
 use Rattle.ti_entry.proofs.SpelledExtended.{only}
-use Rattle.ti_entry.proofs.StageSteps.{stands_now}
+use Rattle.ti_layout.proofs.StageSteps.{stands_now}
 use Rattle.ti_entry.proofs.StageEnds.{part_ends_early, truncated, answer_truncated, answer_content, whole_passes, whole_is_view}
 use Rattle.ti_entry.proofs.entry.entry_at.Goals as goal
 
@@ -34,7 +34,7 @@ invariant_of-result c =
     let bytes = c.args.bytes.now in
     let stage = c.args.stage.now in
     let whole : is_whole stage.section ≡ true = sym c.is_whole.ensures ∙ c.if-not-is_whole.false in
-    (whole_is_view bytes stage (stands_now bytes stage c.requires.stands) c.requires.waits whole).is_held
+    rw (c.header.ensures, c.part.ensures) (whole_is_view bytes stage (stands_now bytes stage c.requires.stands) c.requires.waits whole).is_held
 
 pub returns-clause-found : goal.returns-clause-found
 returns-clause-found c =
@@ -42,19 +42,19 @@ returns-clause-found c =
     let stage = c.args.stage.now in
     let whole : is_whole stage.section ≡ true = sym c.is_whole.ensures ∙ c.if-not-is_whole.false in
     let view = whole_is_view bytes stage (stands_now bytes stage c.requires.stands) c.requires.waits whole in
-    subst (λ v. Spells bytes v) (sym view.content) (found bytes (λ i. omega (arith, c.type_inv.bytes i)) (whole_passes bytes stage c.requires.waits whole))
+    rw (c.header.ensures, c.part.ensures) (subst (λ v. Spells bytes v) (sym view.content) (found bytes (λ i. omega (arith, c.type_inv.bytes i)) (whole_passes bytes stage c.requires.waits whole)))
 
 pub returns-clause-only : goal.returns-clause-only
 returns-clause-only c = λ v s.
     let bytes = c.args.bytes.now in
     let stage = c.args.stage.now in
     let whole : is_whole stage.section ≡ true = sym c.is_whole.ensures ∙ c.if-not-is_whole.false in
-    (whole_is_view bytes stage (stands_now bytes stage c.requires.stands) c.requires.waits whole).content ∙ sym (only bytes v s).same
+    rw (c.header.ensures, c.part.ensures) ((whole_is_view bytes stage (stands_now bytes stage c.requires.stands) c.requires.waits whole).content ∙ sym (only bytes v s).same)
 
 pub returns-clause-answer : goal.returns-clause-answer
 returns-clause-answer c =
     let bytes = c.args.bytes.now in
     let stage = c.args.stage.now in
     let whole : is_whole stage.section ≡ true = sym c.is_whole.ensures ∙ c.if-not-is_whole.false in
-    ap Ok (whole_is_view bytes stage (stands_now bytes stage c.requires.stands) c.requires.waits whole).content
+    rw (c.header.ensures, c.part.ensures) (ap Ok (whole_is_view bytes stage (stands_now bytes stage c.requires.stands) c.requires.waits whole).content)
     ∙ answer_content bytes (whole_passes bytes stage c.requires.waits whole)

@@ -1,6 +1,6 @@
 use Rattle.std.proofs.Common.{ℕ, List, ap, sym, subst}
-use Rattle.ti_entry.specs.Spelling.{Spells}
-use Rattle.ti_entry.specs.Canonical.{canonical}
+use Rattle.ti_words.specs.Spelling.{Spells}
+use Rattle.ti_draft.specs.Canonical.{canonical}
 use Rattle.ti_entry.proofs.AtMostOne.{at_most_one}
 use Rattle.ti_entry.proofs.Encoded.{canonical_spells}
 use Rattle.ti_entry.proofs.laws.encoded_once.Goals as goal

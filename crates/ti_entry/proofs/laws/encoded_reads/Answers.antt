@@ -1,7 +1,7 @@
 use Rattle.std.proofs.Common.{length, Ok, sym, ap, ◌∙◌}
-use Rattle.ti_entry.specs.Checks.{Verdict, refusal_of}
+use Rattle.ti_layout.specs.Checks.{Verdict, refusal_of}
 use Rattle.ti_entry.specs.Content.{content}
-use Rattle.ti_entry.specs.Canonical.{canonical}
+use Rattle.ti_draft.specs.Canonical.{canonical}
 use Rattle.ti_entry.specs.Reading.{answer_under}
 use Rattle.ti_entry.proofs.SpelledExtended.{only}
 use Rattle.ti_entry.proofs.Encoded.{canonical_spells}

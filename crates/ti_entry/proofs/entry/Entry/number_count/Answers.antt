@@ -1,8 +1,9 @@
 use Rattle.std.proofs.Common.{◌∙◌, length, sym, ap}
-use Rattle.ti_entry.specs.Value.{EntryValue}
-use Rattle.ti_entry.specs.Layout.{number_size, numbers_from}
+use Rattle.ti_words.specs.Value.{EntryValue}
+use Rattle.ti_words.specs.Widths.{number_size}
+use Rattle.ti_layout.specs.Layout.{numbers_from}
 use Rattle.ti_entry.specs.Content.{number_at}
-use Rattle.ti_entry.proofs.Places.{length_places}
+use Rattle.ti_layout.proofs.Places.{length_places}
 use Rattle.ti_entry.proofs.entry.Entry.number_count.Goals as goal
 
 pub returns : goal.returns

@@ -1,9 +1,9 @@
 use Rattle.std.proofs.Common.{◌∙◌, length, sym, ap}
-use Rattle.ti_entry.specs.Value.{EntryValue}
-use Rattle.ti_entry.specs.Layout.{offsets_from}
-use Rattle.ti_entry.specs.Table.{table_of}
+use Rattle.ti_words.specs.Value.{EntryValue}
+use Rattle.ti_layout.specs.Layout.{offsets_from}
+use Rattle.ti_layout.specs.Table.{table_of}
 use Rattle.ti_entry.specs.Content.{text_at}
-use Rattle.ti_entry.proofs.Places.{length_places}
+use Rattle.ti_layout.proofs.Places.{length_places}
 use Rattle.ti_entry.proofs.entry.Entry.text_count.Goals as goal
 
 pub returns : goal.returns

@@ -1,9 +1,9 @@
 use Rattle.std.proofs.Common.{◌≡◌, ◌-◌, map, length, take, drop, ◌∙◌, sym, ap, arith}
-use Rattle.ti_entry.specs.Value.{EntryValue}
-use Rattle.ti_entry.specs.Layout.{places, offsets_from}
-use Rattle.ti_entry.specs.Table.{table_of}
+use Rattle.ti_words.specs.Value.{EntryValue}
+use Rattle.ti_layout.specs.Layout.{places, offsets_from}
+use Rattle.ti_layout.specs.Table.{table_of}
 use Rattle.ti_entry.specs.Content.{text_at}
-use Rattle.ti_entry.proofs.Places.{length_places}
+use Rattle.ti_layout.proofs.Places.{length_places}
 use Rattle.ti_entry.proofs.entry.Entry.texts.Goals as goal
 
 pub texts_of-requires : goal.texts_of-requires

@@ -1,8 +1,8 @@
 use Rattle.std.proofs.Common.{sym, ap, subst, ◌∙◌, map}
-use Rattle.ti_entry.specs.Value.{EntryValue}
-use Rattle.ti_entry.specs.Layout.{places}
+use Rattle.ti_words.specs.Value.{EntryValue}
+use Rattle.ti_layout.specs.Layout.{places, kind_names_from}
 use Rattle.ti_entry.specs.Content.{name_at}
-use Rattle.ti_entry.specs.Finding.{IsFirst, names_of, kind_names_from}
+use Rattle.ti_entry.specs.Finding.{IsFirst, names_of}
 use Rattle.ti_entry.proofs.Finding.{names_are}
 use Rattle.ti_entry.proofs.extended.Extended.find_of.Goals as goal
 

@@ -1,8 +1,8 @@
 use Rattle.std.proofs.Common.{◌+◌, ◌∙◌, map, get_or, sym, ap}
 use Rattle.ti_words.specs.declared.Flag.TheVariants.{No}
-use Rattle.ti_entry.specs.Value.{EntryValue}
+use Rattle.ti_words.specs.Value.{EntryValue}
 use Rattle.ti_entry.specs.Content.{flag_at}
-use Rattle.ti_entry.specs.Spelling.{mark_in}
+use Rattle.ti_words.specs.Spelling.{mark_in}
 use Rattle.ti_entry.proofs.NamedItems.{flag_item, no_flag_item}
 use Rattle.ti_entry.proofs.extended.Extended.flag.Goals as goal
 

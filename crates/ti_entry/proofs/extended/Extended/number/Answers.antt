@@ -1,10 +1,11 @@
 use Rattle.std.proofs.Common.{◌≡◌, ◌+◌, ◌*◌, ◌∙◌, map, get_or, sym, ap, arith}
 use Rattle.ti_words.specs.declared.Number.TheVariants.{Absent}
-use Rattle.ti_entry.specs.Value.{EntryValue}
-use Rattle.ti_entry.specs.Layout.{number_size, extended_numbers_from}
+use Rattle.ti_words.specs.Value.{EntryValue}
+use Rattle.ti_words.specs.Widths.{number_size}
+use Rattle.ti_layout.specs.Layout.{extended_numbers_from}
 use Rattle.ti_entry.specs.Content.{number_at}
-use Rattle.ti_entry.specs.Spelling.{mark_in}
-use Rattle.ti_entry.proofs.Places.{within}
+use Rattle.ti_words.specs.Spelling.{mark_in}
+use Rattle.ti_layout.proofs.Places.{within}
 use Rattle.ti_entry.proofs.NamedItems.{number_item, no_number_item}
 use Rattle.ti_entry.proofs.extended.Extended.number.Goals as goal
 

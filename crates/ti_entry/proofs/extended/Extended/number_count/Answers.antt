@@ -1,6 +1,7 @@
 use Rattle.std.proofs.Common.{◌+◌, ◌*◌, ◌∙◌, length, sym, ap}
-use Rattle.ti_entry.specs.Value.{EntryValue}
-use Rattle.ti_entry.specs.Layout.{number_size, extended_names_from, extended_numbers_from}
+use Rattle.ti_words.specs.Value.{EntryValue}
+use Rattle.ti_words.specs.Widths.{number_size}
+use Rattle.ti_layout.specs.Layout.{extended_names_from, extended_numbers_from}
 use Rattle.ti_entry.specs.Content.{name_at, number_at}
 use Rattle.ti_entry.proofs.NamedItems.{length_named}
 use Rattle.ti_entry.proofs.extended.Extended.number_count.Goals as goal

@@ -1,9 +1,9 @@
 use Rattle.std.proofs.Common.{◌≡◌, ◌+◌, ◌-◌, ◌*◌, ◌∙◌, map, take, drop, get_or, sym, ap, arith}
 use Rattle.ti_words.specs.Texts.{AbsentText}
-use Rattle.ti_entry.specs.Value.{EntryValue}
-use Rattle.ti_entry.specs.Table.{extended_table_of}
+use Rattle.ti_words.specs.Value.{EntryValue}
+use Rattle.ti_layout.specs.Table.{extended_table_of}
 use Rattle.ti_entry.specs.Content.{text_at}
-use Rattle.ti_entry.specs.Spelling.{mark_in}
+use Rattle.ti_words.specs.Spelling.{mark_in}
 use Rattle.ti_entry.proofs.NamedItems.{text_item, no_text_item}
 use Rattle.ti_entry.proofs.extended.Extended.text.Goals as goal
 

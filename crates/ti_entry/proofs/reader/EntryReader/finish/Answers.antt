@@ -1,9 +1,9 @@
 use Rattle.std.proofs.Common.{◌≡◌, ◌∙◌, ap, sym, subst, List}
 use Rattle.std.specs.Prelude.{ℕ, Some, IfErr}
-use Rattle.ti_entry.specs.Spelling.{Spells}
-use Rattle.ti_entry.specs.Refusal.{refusal}
+use Rattle.ti_words.specs.Spelling.{Spells}
+use Rattle.ti_layout.specs.Refusal.{refusal}
 use Rattle.ti_entry.specs.Reading.{Reading}
-use Rattle.ti_entry.specs.Stages.{Stands}
+use Rattle.ti_layout.specs.Stages.{Stands}
 use Rattle.ti_entry.proofs.reader.EntryReader.finish.Goals as goal
 
 pub entry_at-requires-clause-stands : goal.entry_at-requires-clause-stands

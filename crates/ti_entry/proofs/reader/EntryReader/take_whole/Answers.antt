@@ -2,10 +2,10 @@ use Rattle.std.proofs.Common.{◌≡◌, ◌≤◌, ◌∙◌, ap, sym, subst, l
 use Rattle.std.specs.Prelude.{ℕ, None}
 use Rattle.std.proofs.Math.Seq.{take-append_seam}
 use Rattle.ti_entry.specs.Reading.{Reading}
-use Rattle.ti_entry.specs.Refusal.{failure}
-use Rattle.ti_entry.specs.Stages.{Stands, Waits}
+use Rattle.ti_layout.specs.Refusal.{failure}
+use Rattle.ti_layout.specs.Stages.{Stands, Waits}
 use Rattle.ti_entry.proofs.Feeding.{held, same_fed, fed-passes}
-use Rattle.ti_entry.proofs.StageSteps.{stands_on, stands_now}
+use Rattle.ti_layout.proofs.StageSteps.{stands_on, stands_now}
 use Rattle.ti_entry.proofs.StageEnds.{waits_unfailed}
 use Rattle.ti_entry.proofs.reader.EntryReader.take_whole.Goals as goal
 

@@ -1,7 +1,7 @@
 use Rattle.std.proofs.Common.{◌∙◌, ◌+◌, ◌<◌, Bool, true, [], ap, arith, get_or, length, map, refl, subst, sym}
 use Rattle.std.specs.Prelude.{codes}
 use Rattle.ti_words.specs.Texts.{text_value}
-use Rattle.ti_entry.specs.Spelling.{name_in}
+use Rattle.ti_words.specs.Spelling.{name_in}
 use Rattle.ti_tool.specs.Labels.{label_bytes}
 use Rattle.ti_tool.specs.declared.verdict.JudgedText.{JudgedText}
 use Rattle.ti_tool.specs.Judged.{IsJudged}

@@ -1,5 +1,5 @@
 use Rattle.std.proofs.Common.{◌≡◌, ◌⊎◌, Ok, Err, MatchResult, subst}
-use Rattle.ti_entry.specs.Value.{EntryValue}
+use Rattle.ti_words.specs.Value.{EntryValue}
 use Rattle.ti_tool.specs.declared.fault.ToolFault.TheVariants as fault
 use Rattle.ti_tool.specs.Results.{IsEncoding}
 use Rattle.ti_tool.proofs.command.convert.convert_result.Goals as goal

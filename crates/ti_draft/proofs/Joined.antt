@@ -1,0 +1,32 @@
+-- What is appended piece by piece.
+use Rattle.std.proofs.Common.{◌≡◌, ℕ, ◌+◌, List, [], ◌∷◌, ◌++◌, length, sym, ap, ◌∙◌, pos, arith, append_assoc}
+use Rattle.std.proofs.lemmas.List.{length-append}
+use Rattle.std.proofs.lemmas.List.Concat.{flat_map-append}
+use Rattle.ti_words.specs.Word.{word}
+use Rattle.ti_words.specs.Spelling.{words_of}
+use Rattle.ti_draft.specs.Canonical.{names_table, name_words}
+
+pub after : (o p q a b : List ℕ) → p ≡ o ++ a → q ≡ p ++ b → q ≡ o ++ (a ++ b)
+after o p q a b e f = f ∙ ap (λ l. l ++ b) e ∙ append_assoc o a b
+
+-- the same, where the second piece is known by another name
+pub after_as : (o p q a b b' : List ℕ) → p ≡ o ++ a → q ≡ p ++ b → b ≡ b' → q ≡ o ++ (a ++ b')
+after_as o p q a b b' e f k = after o p q a b' e (f ∙ ap (λ l. p ++ l) k)
+
+-- two pieces that are one
+pub both_tables : (o a p q r b d : List ℕ) → p ≡ o ++ a → q ≡ p ++ b → r ≡ q ++ d → r ≡ o ++ (a ++ (b ++ d))
+both_tables o a p q r b d e f h = after o p r a (b ++ d) e (after p q r b d f h)
+
+pub name_words_append : (from : ℕ) (xs ys : List (List ℕ)) → name_words from (xs ++ ys) ≡ name_words from xs ++ name_words (from + length (names_table xs)) ys
+name_words_append from [] ys = ap (λ k. name_words k ys) (omega arith)
+name_words_append from (x ∷ xs) ys =
+    let one = length-append (x ++ 0 ∷ []) (names_table xs) in
+    let two = length-append x (0 ∷ []) in
+    let k : from + length x + 1 + length (names_table xs) ≡ from + length (names_table (x ∷ xs)) = omega (arith, one, two) in
+    ap (λ l. pos from ∷ l) (name_words_append (from + length x + 1) xs ys ∙ ap (λ n. name_words (from + length x + 1) xs ++ name_words n ys) k)
+
+-- the words of names behind others
+pub words_behind : (xs ys : List (List ℕ)) → words_of (name_words 0 xs) ++ words_of (name_words (length (names_table xs)) ys) ≡ words_of (name_words 0 (xs ++ ys))
+words_behind xs ys =
+    sym (ap words_of (name_words_append 0 xs ys ∙ ap (λ n. name_words 0 xs ++ name_words n ys) (omega arith))
+    ∙ flat_map-append (word 2) (name_words 0 xs) (name_words (length (names_table xs)) ys))

@@ -1,0 +1,11 @@
+use Rattle.std.proofs.Common.{◌≡◌, ◌+◌, ◌-◌, ◌^◌, ◌≤◌, length, drop}
+use Rattle.ti_draft.specs.Canonical.{names_table}
+use Rattle.ti_draft.specs.Lengths.{capped}
+use Rattle.ti_draft.proofs.Beside.{lent}
+use Rattle.ti_draft.proofs.size.names_len.Given as goal
+
+abbrev pub invariant-loop-name : goal.invariant-loop-name
+invariant-loop-name l = record {
+  counted : capped (l.total + length (names_table (lent (drop l.name-index l.names)))) ≡ capped (length (names_table (lent l.names)));
+  fits : l.total ≤ 2 ^ 64 - 1;
+}

@@ -1,0 +1,250 @@
+//! An entry that is being made.
+//!
+//! A draft lends its names and texts and copies none. A push takes memory as a vector does: now and then, and then for
+//! as many again as there are.
+
+ghost use Rattle.std.specs.Prelude.{◌≡◌, ◌==◌, ◌++◌, ◌∷◌, [], length, map, OnOk, OnErr};
+ghost use Rattle.ti_words.specs.Texts.{text_value};
+ghost use Rattle.ti_words.specs.Spelling.{name_in, mark_in, extended_names};
+
+use crate::named::Named;
+use std::alloc::{AllocError, Allocator, Global};
+use std::marker::Model;
+use ti_words::{Flag, Number, Text, Width};
+
+/// What an entry is to say (term(5)).
+#[derive(Drop)]
+pub struct Draft<'a, A: Allocator = Global> {
+    width: Width,
+    names: &'a [u8],
+    flags: Vec<Flag, A>,
+    numbers: Vec<Number, A>,
+    texts: Vec<Text<'a>, A>,
+    extended_flags: Named<'a, Flag, A>,
+    extended_numbers: Named<'a, Number, A>,
+    extended_texts: Named<'a, Text<'a>, A>,
+}
+
+impl<'a, A: Allocator> Model for Draft<'a, A> {
+    ghost use Rattle.std.specs.Prelude.{map};
+    ghost use Rattle.ti_words.specs.Texts.{text_value};
+    ghost use Rattle.ti_words.specs.Value.{EntryValue};
+
+    ghost Value = { EntryValue };
+
+    ghost view = { λ d. record {
+      width = d.width;
+      names = d.names.now;
+      flags = d.flags.items;
+      numbers = d.numbers.items;
+      texts = map text_value d.texts.items;
+      extended_flags = d.extended_flags;
+      extended_numbers = d.extended_numbers;
+      extended_texts = map (λ x. (x.0, text_value x.1)) d.extended_texts;
+    } };
+}
+
+impl<'a, A: Allocator> Draft<'a, A> {
+    ghost use Rattle.ti_words.specs.Value.{EntryValue, bare};
+
+    /// A draft with names, which are separated by `|`, and no capability. It takes no memory.
+    pub fn new(alloc: A, names: &'a [u8], width: Width) -> Draft<'a, A>
+    where
+        A: Copy,
+        ensures { result ≡ bare width names.now }
+    {
+        Draft {
+            width,
+            names,
+            flags: Vec::new(alloc),
+            numbers: Vec::new(alloc),
+            texts: Vec::new(alloc),
+            extended_flags: Named::new(alloc),
+            extended_numbers: Named::new(alloc),
+            extended_texts: Named::new(alloc),
+        }
+    }
+
+    /// Changes how wide its numbers are, and nothing else. It takes no memory and cannot fail.
+    pub fn set_width(&mut self, width: Width)
+        ensures { self.new ≡ record self.old { width = width } }
+    {
+        self.width = width;
+    }
+
+    /// Adds a flag behind the others.
+    ///
+    /// # Errors
+    ///
+    /// Memory was refused, and the draft is as before; so of each push.
+    pub fn push_flag(&mut self, flag: Flag) -> Result<(), AllocError>
+        ensures added { OnOk result (self.new ≡ record self.old {
+          flags = self.old.flags ++ flag ∷ [];
+        }) }
+        ensures unchanged { OnErr result (self.new ≡ self.old) }
+    {
+        self.flags.push(flag)?;
+        Ok(())
+    }
+
+    /// Adds a number behind the others.
+    pub fn push_number(&mut self, number: Number) -> Result<(), AllocError>
+        ensures added { OnOk result (self.new ≡ record self.old {
+          numbers = self.old.numbers ++ number ∷ [];
+        }) }
+        ensures unchanged { OnErr result (self.new ≡ self.old) }
+    {
+        self.numbers.push(number)?;
+        Ok(())
+    }
+
+    /// Adds a text behind the others.
+    pub fn push_text(&mut self, text: Text<'a>) -> Result<(), AllocError>
+        ensures added { OnOk result (self.new ≡ record self.old {
+          texts = self.old.texts ++ text_value text.entry ∷ [];
+        }) }
+        ensures unchanged { OnErr result (self.new ≡ self.old) }
+    {
+        self.texts.push(text)?;
+        Ok(())
+    }
+
+    /// Adds a flag with its name behind the other extended flags.
+    pub fn push_extended_flag(&mut self, name: &'a [u8], flag: Flag) -> Result<(), AllocError>
+        ensures added { OnOk result (self.new ≡ record self.old {
+          extended_flags = self.old.extended_flags ++ (name.now, flag) ∷ [];
+        }) }
+        ensures unchanged { OnErr result (self.new ≡ self.old) }
+    {
+        self.extended_flags.push(name, flag)
+    }
+
+    /// Adds a number with its name behind the other extended numbers.
+    pub fn push_extended_number(&mut self, name: &'a [u8], number: Number) -> Result<(), AllocError>
+        ensures added { OnOk result (self.new ≡ record self.old {
+          extended_numbers = self.old.extended_numbers ++ (name.now, number) ∷ [];
+        }) }
+        ensures unchanged { OnErr result (self.new ≡ self.old) }
+    {
+        self.extended_numbers.push(name, number)
+    }
+
+    /// Adds a text with its name behind the other extended texts.
+    pub fn push_extended_text(&mut self, name: &'a [u8], text: Text<'a>) -> Result<(), AllocError>
+        ensures added { OnOk result (self.new ≡ record self.old {
+          extended_texts = self.old.extended_texts ++ (name.now, text_value text.entry) ∷ [];
+        }) }
+        ensures unchanged { OnErr result (self.new ≡ self.old) }
+    {
+        self.extended_texts.push(name, text)
+    }
+
+    /// Takes memory at once for so many more flags, numbers and texts.
+    pub fn reserve(&mut self, flags: usize, numbers: usize, texts: usize) -> Result<(), AllocError>
+        ensures { self.new ≡ self.old }
+    {
+        self.flags.reserve_exact(flags)?;
+        self.numbers.reserve_exact(numbers)?;
+        self.texts.reserve_exact(texts)
+    }
+
+    /// Takes memory at once for so many more extended flags, numbers and texts.
+    pub fn reserve_extended(
+        &mut self,
+        flags: usize,
+        numbers: usize,
+        texts: usize,
+    ) -> Result<(), AllocError>
+        ensures { self.new ≡ self.old }
+    {
+        self.extended_flags.reserve(flags)?;
+        self.extended_numbers.reserve(numbers)?;
+        self.extended_texts.reserve(texts)
+    }
+
+    /// How wide its numbers are.
+    pub(crate) fn width(&self) -> Width
+        ensures { result ≡ self.now.width }
+    {
+        self.width
+    }
+
+    /// The names, without a NUL behind them.
+    pub(crate) fn names(&self) -> &'a [u8]
+        ensures { result.now ≡ self.now.names }
+    {
+        self.names
+    }
+
+    /// The flags.
+    pub(crate) fn flags(&self) -> &[Flag]
+        ensures { result.now ≡ self.now.flags }
+    {
+        self.flags.as_slice()
+    }
+
+    /// The numbers.
+    pub(crate) fn numbers(&self) -> &[Number]
+        ensures { result.now ≡ self.now.numbers }
+    {
+        self.numbers.as_slice()
+    }
+
+    /// The texts.
+    pub(crate) fn texts(&self) -> &[Text<'a>]
+        ensures { map text_value result.now ≡ self.now.texts }
+    {
+        self.texts.as_slice()
+    }
+
+    /// The names of the extended flags.
+    pub(crate) fn flag_names(&self) -> &[&'a [u8]]
+        ensures { map (λ name. name.now) result.now ≡ map name_in self.now.extended_flags }
+    {
+        self.extended_flags.names()
+    }
+
+    /// The extended flags.
+    pub(crate) fn extended_flags(&self) -> &[Flag]
+        ensures { result.now ≡ map mark_in self.now.extended_flags }
+    {
+        self.extended_flags.marks()
+    }
+
+    /// The names of the extended numbers.
+    pub(crate) fn number_names(&self) -> &[&'a [u8]]
+        ensures { map (λ name. name.now) result.now ≡ map name_in self.now.extended_numbers }
+    {
+        self.extended_numbers.names()
+    }
+
+    /// The extended numbers.
+    pub(crate) fn extended_numbers(&self) -> &[Number]
+        ensures { result.now ≡ map mark_in self.now.extended_numbers }
+    {
+        self.extended_numbers.marks()
+    }
+
+    /// The names of the extended texts.
+    pub(crate) fn text_names(&self) -> &[&'a [u8]]
+        ensures { map (λ name. name.now) result.now ≡ map name_in self.now.extended_texts }
+    {
+        self.extended_texts.names()
+    }
+
+    /// The extended texts.
+    pub(crate) fn extended_texts(&self) -> &[Text<'a>]
+        ensures { map text_value result.now ≡ map mark_in self.now.extended_texts }
+    {
+        self.extended_texts.marks()
+    }
+
+    /// Whether it has no extended capability.
+    pub(crate) fn is_plain(&self) -> bool
+        ensures { result ≡ (length (extended_names self.now) == 0) }
+    {
+        self.flag_names().is_empty()
+            && self.number_names().is_empty()
+            && self.text_names().is_empty()
+    }
+}

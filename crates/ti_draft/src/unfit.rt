@@ -1,0 +1,182 @@
+//! Why an entry is not written as bytes.
+//!
+//! Four faults are asked for in a fixed order, each by one look at what it speaks of. The words of the faults are their
+//! names.
+
+ghost use Rattle.std.specs.Prelude.{◌≡◌, pos, map};
+ghost use Rattle.std.specs.List.{list_any};
+ghost use Rattle.ti_words.specs.Texts.{text_value};
+ghost use Rattle.ti_draft.specs.Unfit.{has_nul as the_has_nul, text_has_nul as the_text_has_nul, greatest_number as the_greatest_number, is_out_of_range as the_is_out_of_range, has_bad_name as the_has_bad_name, has_bad_text as the_has_bad_text, has_bad_number as the_has_bad_number, encode_fault};
+
+use crate::draft::Draft;
+use crate::size::encoded_len;
+use std::alloc::{AllocError, Allocator};
+use thiserror::Error;
+use ti_base::{GREATEST_WIDE_WORD, GREATEST_WORD, MOST_ENTRY_BYTES};
+use ti_words::{Number, Text, Width};
+
+/// Why a draft has no bytes.
+#[derive(Clone, Copy, Debug, PartialEq, Eq, Error)]
+pub enum EncodeFault {
+    /// The names are empty or hold a NUL, or an extended name holds one.
+    #[error("BadName")]
+    BadName,
+    /// A text holds a NUL.
+    #[error("NulInText")]
+    NulInText,
+    /// A number is negative, or too great for the format: above [`GREATEST_WORD`](ti_base::GREATEST_WORD) in a
+    /// legacy draft.
+    #[error("NumberOutOfRange")]
+    NumberOutOfRange,
+    /// The bytes would be more than [`MOST_ENTRY_BYTES`](ti_base::MOST_ENTRY_BYTES).
+    #[error("TooManyOrLong")]
+    TooManyOrLong,
+    /// Memory was refused.
+    #[error("Memory")]
+    Memory,
+}
+
+impl From<AllocError> for EncodeFault {
+    ghost use Rattle.ti_draft.specs.declared.unfit.EncodeFault.TheVariants.{Memory};
+
+    ghost from_gives = { λ _ e. e ≡ Memory };
+
+    fn from(_refused: AllocError) -> EncodeFault {
+        EncodeFault::Memory
+    }
+}
+
+impl EncodeFault {
+    ghost use Rattle.ti_draft.specs.Unfit.{encode_fault_word};
+
+    /// The fault's name.
+    pub fn word(self) -> &'static str
+        ensures { result.now ≡ encode_fault_word self }
+    {
+        match self {
+            EncodeFault::BadName => "BadName",
+            EncodeFault::NulInText => "NulInText",
+            EncodeFault::NumberOutOfRange => "NumberOutOfRange",
+            EncodeFault::TooManyOrLong => "TooManyOrLong",
+            EncodeFault::Memory => "Memory",
+        }
+    }
+}
+
+/// Whether bytes hold a NUL.
+fn has_nul(bytes: &[u8]) -> bool
+    ensures { result ≡ the_has_nul bytes.now }
+{
+    bytes.contains(&0)
+}
+
+/// Whether a name holds a NUL.
+fn any_has_nul(names: &[&[u8]]) -> bool
+    ensures { result ≡ list_any the_has_nul (map (λ name. name.now) names.now) }
+{
+    for name in names {
+        if has_nul(name) {
+            return true;
+        }
+    }
+    false
+}
+
+/// Whether a text is there and holds a NUL.
+fn text_has_nul(text: Text<'_>) -> bool
+    ensures { result ≡ the_text_has_nul (text_value text.entry) }
+{
+    match text {
+        Text::Absent | Text::Cancelled => false,
+        Text::Value(bytes) => has_nul(bytes),
+    }
+}
+
+/// Whether a text among these holds a NUL.
+fn any_text_has_nul(texts: &[Text<'_>]) -> bool
+    ensures { result ≡ list_any the_text_has_nul (map text_value texts.now) }
+{
+    for text in texts {
+        if text_has_nul(*text) {
+            return true;
+        }
+    }
+    false
+}
+
+/// The greatest number of a format.
+fn greatest_number(width: Width) -> i32
+    ensures { result ≡ pos (the_greatest_number width) }
+{
+    match width {
+        Width::Legacy => GREATEST_WORD,
+        Width::Wide => GREATEST_WIDE_WORD,
+    }
+}
+
+/// Whether a number is negative, or too great for the format.
+fn is_out_of_range(width: Width, number: Number) -> bool
+    ensures { result ≡ the_is_out_of_range width number }
+{
+    match number {
+        Number::Absent | Number::Cancelled => false,
+        Number::Value(value) => value < 0 || value > greatest_number(width),
+    }
+}
+
+/// Whether a number among these is.
+fn any_out_of_range(width: Width, numbers: &[Number]) -> bool
+    ensures { result ≡ list_any (the_is_out_of_range width) numbers.now }
+{
+    for number in numbers {
+        if is_out_of_range(width, *number) {
+            return true;
+        }
+    }
+    false
+}
+
+/// The names are empty or hold a NUL, or an extended name holds one.
+fn has_bad_name<A: Allocator>(draft: &Draft<'_, A>) -> bool
+    ensures { result ≡ the_has_bad_name draft.now }
+{
+    draft.names().is_empty()
+        || has_nul(draft.names())
+        || any_has_nul(draft.flag_names())
+        || any_has_nul(draft.number_names())
+        || any_has_nul(draft.text_names())
+}
+
+/// A text holds a NUL.
+fn has_bad_text<A: Allocator>(draft: &Draft<'_, A>) -> bool
+    ensures { result ≡ the_has_bad_text draft.now }
+{
+    any_text_has_nul(draft.texts()) || any_text_has_nul(draft.extended_texts())
+}
+
+/// A number is negative, or too great for the format.
+fn has_bad_number<A: Allocator>(draft: &Draft<'_, A>) -> bool
+    ensures { result ≡ the_has_bad_number draft.now }
+{
+    any_out_of_range(draft.width(), draft.numbers())
+        || any_out_of_range(draft.width(), draft.extended_numbers())
+}
+
+/// The first fault that a draft has.
+pub(crate) fn first_fault<A: Allocator>(draft: &Draft<'_, A>) -> Option<EncodeFault>
+    ensures { result ≡ encode_fault draft.now }
+{
+    if has_bad_name(draft) {
+        return Some(EncodeFault::BadName);
+    }
+    if has_bad_text(draft) {
+        return Some(EncodeFault::NulInText);
+    }
+    if has_bad_number(draft) {
+        return Some(EncodeFault::NumberOutOfRange);
+    }
+    if encoded_len(draft) > MOST_ENTRY_BYTES as u64 {
+        return Some(EncodeFault::TooManyOrLong);
+    }
+    None
+}

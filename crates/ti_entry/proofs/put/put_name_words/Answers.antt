@@ -1,7 +1,0 @@
-use Rattle.std.proofs.Common.{arith}
-use Rattle.ti_entry.proofs.Room.{name_begins}
-use Rattle.ti_entry.proofs.put.put_name_words.Goals as goal
-
-pub put_count-requires : goal.put_count-requires
-put_count-requires g c =
-    name_begins c.args.names.now c.loop-name.name-index c.loop-name.place c.loop-name-test.true (omega arith)

@@ -1,7 +1,0 @@
-use Rattle.std.proofs.Common.{sym, subst}
-use Rattle.ti_entry.specs.declared.stage.Stage.{Stage}
-use Rattle.ti_entry.specs.Stages.{Stands}
-use Rattle.ti_entry.proofs.stage.Stage.advance.Goals as goal
-
-pub returns-in-Err-Early-clause-stands : goal.returns-in-Err-Early-clause-stands
-returns-in-Err-Early-clause-stands c = subst (λ (s : Stage). Stands c.args.bytes.now s) (sym c.in-Err-Early.ensures.same) c.steps.invariant

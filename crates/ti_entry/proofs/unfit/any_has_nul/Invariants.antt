@@ -1,8 +1,0 @@
-use Rattle.std.proofs.Common.{◌≡◌, drop}
-use Rattle.std.specs.List.{list_any}
-use Rattle.ti_entry.specs.Unfit.{has_nul}
-use Rattle.ti_entry.proofs.Beside.{lent}
-use Rattle.ti_entry.proofs.unfit.any_has_nul.Given as goal
-
-abbrev pub invariant-loop-name : goal.invariant-loop-name
-invariant-loop-name l = list_any has_nul (lent (drop l.name-index l.names)) ≡ list_any has_nul (lent l.names)

@@ -1,6 +1,0 @@
-use Rattle.std.proofs.Common.{ℕ, ◌+◌, ◌*◌, ◌%◌, ◌<◌, ◌≤◌}
-use Rattle.ti_entry.specs.Word.{unsigned_at}
-use Rattle.ti_entry.proofs.whole.greatest_word.Given as goal
-
-abbrev pub invariant-loop-i : goal.invariant-loop-i
-invariant-loop-i l = (k : ℕ) → k < l.i → (unsigned_at 2 l.bytes (l.from + 2 * k) + l.lift) % 65536 ≤ l.greatest

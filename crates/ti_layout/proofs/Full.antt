@@ -1,0 +1,262 @@
+-- Inputs as long as an entry may be.
+use Rattle.std.proofs.Common.{◌≡◌, ℕ, zero, suc, ◌+◌, ◌-◌, ◌<◌, ◌≤◌, ◌⊎◌, Bool, true, false, cond, eqb, ltb, leb, List, [], ◌∷◌, ◌++◌, map, length, inl, inr, refl, sym, ap, subst, ◌∙◌, arith}
+use Rattle.std.proofs.lemmas.List.{length-append}
+use Rattle.std.proofs.lemmas.Bool.{le-ltb, leb-true, leb-false, lt-leb, ne_eqb, eq-eqb}
+use Rattle.std.proofs.lemmas.List.Concat.{flat_map-cons}
+use Rattle.std.specs.List.{AllByRecursion}
+use Rattle.ti_layout.specs.declared.fault.Fault.TheVariants.{BadHeader, BadNames, BadPad, BadExtendedHeader, BadExtendedName, ExtendedTooBig, Trailing}
+use Rattle.ti_layout.specs.declared.fault.Fault.{Fault}
+use Rattle.ti_layout.specs.declared.header.Header.{Header}
+use Rattle.ti_layout.specs.declared.extended_header.ExtendedHeader.{ExtendedHeader}
+use Rattle.ti_layout.specs.Layout.{header_of, places, flags_from, pad_from, numbers_from, offsets_from, end_of, extended_from, extended_header_of, extended_flags_from, extended_pad_from, extended_numbers_from, extended_values_from, extended_names_from, extended_name_count, extended_end_of}
+use Rattle.ti_words.specs.Widths.{number_size}
+use Rattle.ti_words.specs.Spelling.{pad_len}
+use Rattle.ti_layout.specs.Table.{table_of, extended_table_of, base_of}
+use Rattle.ti_layout.specs.Checks.{Check, Verdict, Passes, EndsEarly, Fails, verdict, refused, sign_check, sign_checks, name_check, nul_check, name_checks, flag_check, flag_checks, pad_checks, number_check, number_checks, offset_check, offset_checks, ending_check, ending_checks, name_place_checks, all_name_place_checks, end_check, end_checks}
+use Rattle.ti_layout.specs.Refusal.{size_check, named_check, magic_checks, size_checks, front_checks, section_checks, room_check, extended_word_checks, extended_size_check, extended_size_checks, extended_front_checks, extended_section_checks, extended_checks, behind_checks, checks, fault_behind}
+use Rattle.ti_layout.proofs.Sections.{then}
+use Rattle.ti_layout.proofs.Passing.{first_passes}
+use Rattle.ti_layout.proofs.Places.{within}
+use Rattle.ti_layout.proofs.SectionLaws.{both_pass, all_items}
+use Rattle.ti_layout.proofs.Growing.{stays, front_alike, section_alike, header_same, split, extended_same, extended_split, extended_long, extended_front_alike, extended_section_alike}
+
+-- the fronts that these checks read are there
+abbrev pub Reaches : ℕ → Check → Type 0
+Reaches len c = c.prefix ≤ len
+
+all_append : {A : Type 0} (P : A → Type 0) (xs ys : List A) → AllByRecursion P xs → AllByRecursion P ys → AllByRecursion P (xs ++ ys)
+all_append P [] ys h k = k
+all_append P (x ∷ xs) ys h k = (h.0, all_append P xs ys h.1 k)
+
+pub no_early : (len : ℕ) (cs : List Check) → AllByRecursion (Reaches len) cs → verdict len cs ≡ EndsEarly → ⊥
+no_early len [] h e = cc
+no_early len (c ∷ cs) h e = by_holds c.holds (no_early len cs h.1) (sym (let k : verdict len (c ∷ cs) ≡ cond c.holds (verdict len cs) (Fails (refused c.fault c.place)) = rw (le-ltb len c.prefix h.0) refl in k) ∙ e)
+  where
+    by_holds : (b : Bool) → (verdict len cs ≡ EndsEarly → ⊥) → cond b (verdict len cs) (Fails (refused c.fault c.place)) ≡ EndsEarly → ⊥
+    by_holds true f e = f e
+    by_holds false f e = cc
+
+front_reaches : (xs : List ℕ) (len : ℕ) → 12 ≤ len → AllByRecursion (Reaches len) (front_checks xs (header_of xs))
+front_reaches xs len le =
+    all_append (Reaches len) (magic_checks xs ++ sign_checks xs BadHeader 2 5) (size_checks (header_of xs))
+    (all_append (Reaches len) (magic_checks xs) (sign_checks xs BadHeader 2 5) (omega arith, tt) (all_items (Reaches len) (sign_check xs BadHeader) 2 2 5 (λ i lt. omega arith)))
+    (le, (le, tt))
+
+section_reaches : (xs : List ℕ) (h : Header) (len : ℕ) → 2 ≤ h.names → end_of h ≤ len → AllByRecursion (Reaches len) (section_checks xs h)
+section_reaches xs h len some le =
+    let P = Reaches len in
+    let names = all_append P (map (name_check xs) (places 12 1 (h.names - 1))) (nul_check xs BadNames (11 + h.names) ∷ []) (all_items P (name_check xs) 12 1 (h.names - 1) (λ i lt. omega arith)) (omega arith, tt) in
+    let flags = all_items P (flag_check xs) (flags_from h) 1 h.flags (λ i lt. omega arith) in
+    let pads = all_items P (nul_check xs BadPad) (pad_from h) 1 (pad_len (h.names + h.flags)) (λ i lt. omega arith) in
+    let numbers : AllByRecursion P (number_checks xs (number_size h.width) (numbers_from h) h.numbers) = all_items P (number_check xs (number_size h.width)) (numbers_from h) (number_size h.width) h.numbers (λ i lt. (let k = within h.width i h.numbers lt in omega arith)) in
+    let offsets = all_items P (offset_check xs h.table) (offsets_from h) 2 h.texts (λ i lt. omega arith) in
+    let endings : AllByRecursion P (ending_checks xs (table_of xs h) (end_of h) (offsets_from h) h.texts) = (le, all_items P (ending_check xs (table_of xs h) (end_of h)) (offsets_from h) 2 h.texts (λ i lt. le)) in
+    let an = name_checks xs h.names in
+    let af = flag_checks xs (flags_from h) h.flags in
+    let apd = pad_checks xs (pad_from h) (h.names + h.flags) in
+    let am = number_checks xs (number_size h.width) (numbers_from h) h.numbers in
+    let ao = offset_checks xs h.table (offsets_from h) h.texts in
+    let ae = ending_checks xs (table_of xs h) (end_of h) (offsets_from h) h.texts in
+    all_append P ((((an ++ af) ++ apd) ++ am) ++ ao) ae
+    (all_append P (((an ++ af) ++ apd) ++ am) ao
+    (all_append P ((an ++ af) ++ apd) am
+    (all_append P (an ++ af) apd (all_append P an af names flags) pads) numbers) offsets) endings
+
+no_early_in_three : (vF vS vE : Verdict) → then (then vF vS) vE ≡ EndsEarly → (vF ≡ EndsEarly → ⊥) → (vF ≡ Passes → vS ≡ EndsEarly → ⊥) → (vF ≡ Passes → vE ≡ EndsEarly → ⊥) → ⊥
+no_early_in_three Passes Passes vE h f s e = e refl h
+no_early_in_three Passes EndsEarly vE h f s e = s refl refl
+no_early_in_three Passes (Fails q) vE h f s e = cc
+no_early_in_three EndsEarly vS vE h f s e = f refl
+no_early_in_three (Fails q) vS vE h f s e = cc
+
+pub record Sized (xs : List ℕ) : Type 0 where
+  pub some : 2 ≤ (header_of xs).names
+  pub fits : end_of (header_of xs) ≤ 32768
+  pub long : 12 ≤ length xs
+
+sized : (xs : List ℕ) → verdict (length xs) (front_checks xs (header_of xs)) ≡ Passes → Sized xs
+sized xs p =
+    let len = length xs in
+    let hx = header_of xs in
+    let a = both_pass len (magic_checks xs ++ sign_checks xs BadHeader 2 5) (size_checks hx) (sym p) in
+    let b = first_passes len (size_check hx) (named_check hx ∷ []) a.1 in
+    let c = first_passes len (named_check hx) [] b.rest in
+    record { some = leb-true _ _ c.holds; fits = leb-true _ _ b.holds; long = b.long }
+
+-- ---- the extended part
+
+-- where the first check decides what the others may read
+no_early_after : (len : ℕ) (c : Check) (cs : List Check) → c.prefix ≤ len → (c.holds ≡ true → AllByRecursion (Reaches len) cs) → verdict len (c ∷ cs) ≡ EndsEarly → ⊥
+no_early_after len c cs le f e = by_holds c.holds refl (sym (let k : verdict len (c ∷ cs) ≡ cond c.holds (verdict len cs) (Fails (refused c.fault c.place)) = rw (le-ltb len c.prefix le) refl in k) ∙ e)
+  where
+    by_holds : (b : Bool) → c.holds ≡ b → cond b (verdict len cs) (Fails (refused c.fault c.place)) ≡ EndsEarly → ⊥
+    by_holds true h e = no_early len cs (f h) e
+    by_holds false h e = cc
+
+-- the checks behind the first one of the extended part
+abbrev words_then_size : List ℕ → Header → ExtendedHeader → List Check
+words_then_size xs h x =
+    pad_checks xs (end_of h) h.table ++ sign_checks xs BadExtendedHeader (extended_from h) 3 ++ sign_checks xs BadExtendedHeader (extended_from h + 8) 1 ++ extended_size_checks x
+
+words_reach : (xs : List ℕ) (h : Header) (x : ExtendedHeader) (len : ℕ) → x.from ≡ extended_from h → extended_from h + 10 ≤ len → AllByRecursion (Reaches len) (words_then_size xs h x)
+words_reach xs h x len from le =
+    let P = Reaches len in
+    let c1 = pad_checks xs (end_of h) h.table in
+    let c2 = sign_checks xs BadExtendedHeader (extended_from h) 3 in
+    let c3 = sign_checks xs BadExtendedHeader (extended_from h + 8) 1 in
+    let pads : AllByRecursion P c1 = all_items P (nul_check xs BadPad) (end_of h) 1 (pad_len h.table) (λ i lt. omega arith) in
+    let signs : AllByRecursion P c2 = all_items P (sign_check xs BadExtendedHeader) (extended_from h) 2 3 (λ i lt. omega arith) in
+    let sign : AllByRecursion P c3 = all_items P (sign_check xs BadExtendedHeader) (extended_from h + 8) 2 1 (λ i lt. omega arith) in
+    all_append P ((c1 ++ c2) ++ c3) (extended_size_checks x) (all_append P (c1 ++ c2) c3 (all_append P c1 c2 pads signs) sign) (omega arith, tt)
+
+names_reach : (xs table : List ℕ) (base end from count len : ℕ) → end ≤ len → AllByRecursion (Reaches len) (all_name_place_checks xs table base end (places from 2 count))
+names_reach xs table base end from zero len le = tt
+names_reach xs table base end from (suc count) len le =
+    subst (AllByRecursion (Reaches len)) (sym (flat_map-cons (name_place_checks xs table base end) from (places (from + 2) 2 count))) (le, (le, names_reach xs table base end (from + 2) count len le))
+
+extended_section_reaches : (xs : List ℕ) (x : ExtendedHeader) (len : ℕ) → extended_end_of x ≤ len → AllByRecursion (Reaches len) (extended_section_checks xs x)
+extended_section_reaches xs x len le =
+    let P = Reaches len in
+    let end = extended_end_of x in
+    let count = extended_name_count x in
+    let c0 = flag_checks xs (extended_flags_from x) x.flags in
+    let c1 = pad_checks xs (extended_pad_from x) x.flags in
+    let c2 = number_checks xs (number_size x.width) (extended_numbers_from x) x.numbers in
+    let c3 = offset_checks xs x.table (extended_values_from x) x.texts in
+    let c4 = sign_checks xs BadExtendedName (extended_names_from x) count in
+    let c5 = ending_checks xs (extended_table_of xs x) end (extended_values_from x) x.texts in
+    let c6 = all_name_place_checks xs (extended_table_of xs x) (base_of xs x) end (places (extended_names_from x) 2 count) in
+    let flags : AllByRecursion P c0 = all_items P (flag_check xs) (extended_flags_from x) 1 x.flags (λ i lt. omega arith) in
+    let pads : AllByRecursion P c1 = all_items P (nul_check xs BadPad) (extended_pad_from x) 1 (pad_len x.flags) (λ i lt. omega arith) in
+    let size = number_size x.width in
+    let numbers : AllByRecursion P c2 = all_items P (number_check xs size) (extended_numbers_from x) size x.numbers (λ i lt. (let k = within x.width i x.numbers lt in omega arith)) in
+    let values : AllByRecursion P c3 = all_items P (offset_check xs x.table) (extended_values_from x) 2 x.texts (λ i lt. omega arith) in
+    let names : AllByRecursion P c4 = all_items P (sign_check xs BadExtendedName) (extended_names_from x) 2 count (λ i lt. omega arith) in
+    let endings : AllByRecursion P c5 = (le, all_items P (ending_check xs (extended_table_of xs x) end) (extended_values_from x) 2 x.texts (λ i lt. le)) in
+    let name_places : AllByRecursion P c6 = names_reach xs (extended_table_of xs x) (base_of xs x) end (extended_names_from x) count len le in
+    all_append P ((((c0 ++ c1) ++ c2) ++ c3) ++ c4) (c5 ++ c6)
+    (all_append P (((c0 ++ c1) ++ c2) ++ c3) c4
+    (all_append P ((c0 ++ c1) ++ c2) c3
+    (all_append P (c0 ++ c1) c2 (all_append P c0 c1 flags pads) numbers) values) names)
+    (all_append P c5 c6 endings name_places)
+
+extended_fits : (xs : List ℕ) (h : Header) (x : ExtendedHeader) (len : ℕ) → verdict len (extended_front_checks xs h x) ≡ Passes → extended_end_of x ≤ 32768
+extended_fits xs h x len p =
+    let a = both_pass len (extended_word_checks xs h) (extended_size_checks x) (sym p) in
+    let b = first_passes len (extended_size_check x) [] a.1 in leb-true _ _ b.holds
+
+-- no check behind the string table of a full input waits for more
+behind_decides : (xs : List ℕ) (h : Header) → 32768 ≤ length xs → verdict (length xs) (behind_checks xs h) ≡ EndsEarly → ⊥
+behind_decides xs h long = by_end (leb (length xs) (end_of h)) refl
+  where
+    by_end : (b : Bool) → leb (length xs) (end_of h) ≡ b → verdict (length xs) (cond b [] (extended_checks xs h (extended_header_of h xs))) ≡ EndsEarly → ⊥
+    by_end true e k = cc
+    by_end false e k =
+        let len = length xs in
+        let x = extended_header_of h xs in
+        let above : end_of h < len = omega (arith, leb-false len (end_of h) e) in
+        no_early_in_three (verdict len (extended_front_checks xs h x)) (verdict len (extended_section_checks xs x)) (verdict len (end_checks xs (extended_end_of x))) (sym (extended_split xs h x len) ∙ k)
+        (no_early_after len (room_check h) (words_then_size xs h x) (omega arith) (λ room. words_reach xs h x len refl (let fit : extended_from h + 10 ≤ 32768 = leb-true _ _ room in omega arith)))
+        (λ p. no_early len (extended_section_checks xs x) (extended_section_reaches xs x len (let f = extended_fits xs h x len p in omega arith)))
+        (λ p. no_early len (end_checks xs (extended_end_of x)) ((let f = extended_fits xs h x len p in omega arith), tt))
+
+-- ---- the whole
+
+-- no check of a full input waits for more
+pub full_decides : (xs : List ℕ) → 32768 ≤ length xs → verdict (length xs) (checks xs) ≡ EndsEarly → ⊥
+full_decides xs long h =
+    let len = length xs in
+    let hx = header_of xs in
+    no_early_in_three (verdict len (front_checks xs hx)) (verdict len (section_checks xs hx)) (verdict len (behind_checks xs hx)) (sym (split xs len) ∙ h)
+    (no_early len (front_checks xs hx) (front_reaches xs len (omega arith)))
+    (λ p. (let s = sized xs p in no_early len (section_checks xs hx) (section_reaches xs hx len s.some (let f = s.fits in omega arith))))
+    (λ p. behind_decides xs hx long)
+
+pub kept_passes : (v w : Verdict) → (v ≡ EndsEarly) ⊎ (v ≡ w) → Passes ≡ v → w ≡ Passes
+kept_passes v w (inl e) p = absurd (apart (p ∙ e))
+  where
+    apart : Passes ≡ EndsEarly → ⊥
+    apart e = cc
+kept_passes v w (inr e) p = sym e ∙ sym p
+
+-- a full extended part is refused where a byte follows it
+extended_then_trailing : (xs ys : List ℕ) (h : Header) → 0 < length ys → Passes ≡ verdict (length xs) (extended_checks xs h (extended_header_of h xs))
+    → verdict (length xs + length ys) (extended_checks (xs ++ ys) h (extended_header_of h (xs ++ ys))) ≡ Fails (refused Trailing (length xs))
+extended_then_trailing xs ys h some k =
+    let len = length xs in
+    let zs = xs ++ ys in
+    let x = extended_header_of h xs in
+    let z = extended_header_of h zs in
+    let n : length zs ≡ len + length ys = length-append xs ys in
+    let a = both_pass len (extended_front_checks xs h x ++ extended_section_checks xs x) (end_checks xs (extended_end_of x)) k in
+    let c = both_pass len (extended_front_checks xs h x) (extended_section_checks xs x) a.0 in
+    let same : x ≡ z = extended_same xs ys h (extended_long xs h x len (sym c.0)) in
+    let last = first_passes len (end_check xs (extended_end_of x)) [] a.1 in
+    let at_most : len ≤ extended_end_of x = leb-true _ _ last.holds in
+    let ends : extended_end_of x ≡ len = (let l = last.long in omega arith) in
+    let wF : verdict (len + length ys) (extended_front_checks zs h z) ≡ Passes = kept_passes _ _ (stays len (length ys) (extended_front_checks xs h x) (extended_front_checks zs h z) (extended_front_alike xs ys h)) c.0 in
+    let wS : verdict (len + length ys) (extended_section_checks zs z) ≡ Passes =
+    subst (λ y. verdict (len + length ys) (extended_section_checks zs y) ≡ Passes) same (kept_passes _ _ (stays len (length ys) (extended_section_checks xs x) (extended_section_checks zs x) (extended_section_alike xs ys x)) c.1) in
+    let reach : ltb (len + length ys) len ≡ false = le-ltb (len + length ys) len (omega arith) in
+    let over : leb (length zs) len ≡ false = lt-leb (length zs) len (omega arith) in
+    let e : extended_end_of z ≡ len = ap extended_end_of (sym same) ∙ ends in
+    let at_len : verdict (len + length ys) (end_checks zs len) ≡ Fails (refused Trailing len) = rw (reach, over) refl in
+    let wE : verdict (len + length ys) (end_checks zs (extended_end_of z)) ≡ Fails (refused Trailing len) = ap (λ m. verdict (len + length ys) (end_checks zs m)) e ∙ at_len in
+    extended_split zs h z (len + length ys) ∙ rw (wF, wS) wE
+
+-- where a full entry ends with its string table, an extended part has no room
+no_room : (xs ys : List ℕ) (h : Header) (rest : List Check) → end_of h ≡ length xs → length xs ≡ 32768 → 0 < length ys → verdict (length xs + length ys) (room_check h ∷ rest) ≡ Fails (refused ExtendedTooBig (length xs))
+no_room xs ys h rest ends full some =
+    let reach : ltb (length xs + length ys) (end_of h + 1) ≡ false = le-ltb (length xs + length ys) (end_of h + 1) (omega arith) in
+    let over : leb (extended_from h + 10) 32768 ≡ false = lt-leb (extended_from h + 10) 32768 (omega arith) in
+    let fails : verdict (length xs + length ys) (room_check h ∷ rest) ≡ Fails (refused ExtendedTooBig (end_of h)) = rw (reach, over) refl in
+    fails ∙ ap (λ n. Fails (refused ExtendedTooBig n)) ends
+
+behind_full : (xs : List ℕ) (b : ℕ) (more : List ℕ) (h : Header) → h ≡ header_of xs → length xs ≡ 32768 → end_of h ≤ length xs → Passes ≡ verdict (length xs) (behind_checks xs h)
+    → verdict (length xs + length (b ∷ more)) (behind_checks (xs ++ b ∷ more) h) ≡ Fails (refused (fault_behind xs) (length xs))
+behind_full xs b more h is full there = by_end (leb (length xs) (end_of h)) refl
+  where
+    longer : leb (length (xs ++ b ∷ more)) (end_of h) ≡ false
+    longer = let n : length (xs ++ b ∷ more) ≡ length xs + length (b ∷ more) = length-append xs (b ∷ more) in lt-leb (length (xs ++ b ∷ more)) (end_of h) (omega arith)
+
+    opened : verdict (length xs + length (b ∷ more)) (behind_checks (xs ++ b ∷ more) h) ≡ verdict (length xs + length (b ∷ more)) (extended_checks (xs ++ b ∷ more) h (extended_header_of h (xs ++ b ∷ more)))
+    opened = ap (λ t. verdict (length xs + length (b ∷ more)) (cond t [] (extended_checks (xs ++ b ∷ more) h (extended_header_of h (xs ++ b ∷ more))))) longer
+
+    by_end : (t : Bool) → leb (length xs) (end_of h) ≡ t → Passes ≡ verdict (length xs) (cond t [] (extended_checks xs h (extended_header_of h xs))) → verdict (length xs + length (b ∷ more)) (behind_checks (xs ++ b ∷ more) h) ≡ Fails (refused (fault_behind xs) (length xs))
+    by_end true e k =
+        let zs = xs ++ b ∷ more in
+        let z = extended_header_of h zs in
+        let at_most : length xs ≤ end_of h = leb-true _ _ e in
+        let ends : end_of h ≡ length xs = omega arith in
+        let same : end_of (header_of xs) ≡ length xs = ap end_of (sym is) ∙ ends in
+        let fault : fault_behind xs ≡ ExtendedTooBig = ap (λ n. cond (eqb n (length xs)) ExtendedTooBig Trailing) same ∙ rw (eq-eqb (length xs) (length xs) refl) refl in
+        opened
+        ∙ no_room xs (b ∷ more) h ((words_then_size zs h z ++ extended_section_checks zs z) ++ end_checks zs (extended_end_of z)) ends full (omega arith)
+        ∙ ap (λ (f : Fault). Fails (refused f (length xs))) (sym fault)
+    by_end false e k =
+        let above : end_of h < length xs = omega (arith, leb-false (length xs) (end_of h) e) in
+        let same : end_of (header_of xs) ≡ end_of h = ap end_of (sym is) in
+        let differs : eqb (end_of (header_of xs)) (length xs) ≡ false = ne_eqb _ _ (λ q. (let r : end_of h ≡ length xs = sym same ∙ q in omega arith)) in
+        let fault : fault_behind xs ≡ Trailing = rw differs refl in
+        opened ∙ extended_then_trailing xs (b ∷ more) h (omega arith) k ∙ ap (λ (f : Fault). Fails (refused f (length xs))) (sym fault)
+
+-- a full input that passes is refused where a byte follows it
+pub then_refused : (xs : List ℕ) (b : ℕ) (more : List ℕ) → length xs ≡ 32768 → Passes ≡ verdict (length xs) (checks xs) → verdict (length (xs ++ b ∷ more)) (checks (xs ++ b ∷ more)) ≡ Fails (refused (fault_behind xs) (length xs))
+then_refused xs b more full h =
+    let len = length xs in
+    let ys = b ∷ more in
+    let zs = xs ++ ys in
+    let hx = header_of xs in
+    let hz = header_of zs in
+    let n : length zs ≡ len + length ys = length-append xs ys in
+    let a = both_pass len (front_checks xs hx ++ section_checks xs hx) (behind_checks xs hx) h in
+    let c = both_pass len (front_checks xs hx) (section_checks xs hx) a.0 in
+    let s = sized xs (sym c.0) in
+    let fit = s.fits in
+    let same : hx ≡ hz = header_same xs ys s.long in
+    let wF : verdict (len + length ys) (front_checks zs hz) ≡ Passes = kept_passes _ _ (stays len (length ys) (front_checks xs hx) (front_checks zs hz) (front_alike xs ys)) c.0 in
+    let wS : verdict (len + length ys) (section_checks zs hz) ≡ Passes =
+    subst (λ k. verdict (len + length ys) (section_checks zs k) ≡ Passes) same (kept_passes _ _ (stays len (length ys) (section_checks xs hx) (section_checks zs hx) (section_alike xs ys hx)) c.1) in
+    let wB : verdict (len + length ys) (behind_checks zs hz) ≡ Fails (refused (fault_behind xs) len) =
+    subst (λ k. verdict (len + length ys) (behind_checks zs k) ≡ Fails (refused (fault_behind xs) len)) same (behind_full xs b more hx refl full (omega arith) a.1) in
+    ap (λ k. verdict k (checks zs)) n ∙ split zs (len + length ys) ∙ rw (wF, wS) wB

@@ -1,0 +1,13 @@
+pub mod Sections
+pub mod Places
+pub mod Passing
+pub mod WordLaws
+pub mod Reach
+pub mod SectionLaws
+pub mod Greatest
+pub mod Nuls
+pub mod NamePlaces
+pub mod Growing
+pub mod Full
+pub mod Stages
+pub mod StageSteps

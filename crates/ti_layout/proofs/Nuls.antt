@@ -1,0 +1,31 @@
+-- The first NUL of some bytes, as a search finds it.
+use Rattle.std.proofs.Common.{◌≡◌, ℕ, zero, suc, ◌<◌, Bool, true, false, not, eqb, List, [], ◌∷◌, length, take, refl, sym, ap, ◌∙◌, arith}
+use Rattle.std.proofs.lemmas.List.Sums.{take_while-cons}
+use Rattle.memchr.specs.Find.{Nowhere, Passes, is_byte}
+use Rattle.ti_words.specs.Texts.{is_nul}
+use Rattle.ti_layout.specs.Table.{until_nul}
+
+is_no_nul : (b : Bool) → (b ≡ true → ⊥) → b ≡ false
+is_no_nul true h = absurd (h refl)
+is_no_nul false h = refl
+
+-- no byte of the rest is a NUL
+rest_has_none : (x : ℕ) (xs : List ℕ) (k : ℕ) → Nowhere (Passes (is_byte 0) (x ∷ xs)) 0 (suc k) → Nowhere (Passes (is_byte 0) xs) 0 k
+rest_has_none x xs k none j low high here = none (suc j) (omega arith) (omega arith) here
+
+front_is_none : (x : ℕ) (xs : List ℕ) (k : ℕ) → Nowhere (Passes (is_byte 0) (x ∷ xs)) 0 (suc k) → is_nul x ≡ false
+front_is_none x xs k none = is_no_nul (eqb x 0) (λ e. none 0 (omega arith) (omega arith) e)
+
+pub until_first : (xs : List ℕ) (k : ℕ) → k < length xs → Nowhere (Passes (is_byte 0) xs) 0 k → Passes (is_byte 0) xs k → take k xs ≡ until_nul xs
+until_first [] k lt none here = absurd (omega arith)
+until_first (x ∷ xs) zero lt none here = let e : is_nul x ≡ true = here in sym (take_while-cons (λ b. not (is_nul b)) x xs ∙ rw e refl)
+until_first (x ∷ xs) (suc k) lt none here =
+    let e = front_is_none x xs k none in
+    let rest = until_first xs k (omega arith) (rest_has_none x xs k none) here in
+    ap (λ t. x ∷ t) rest ∙ sym (take_while-cons (λ b. not (is_nul b)) x xs ∙ rw e refl)
+
+pub until_end : (xs : List ℕ) → Nowhere (Passes (is_byte 0) xs) 0 (length xs) → xs ≡ until_nul xs
+until_end [] none = refl
+until_end (x ∷ xs) none =
+    let e = front_is_none x xs (length xs) none in
+    ap (λ t. x ∷ t) (until_end xs (rest_has_none x xs (length xs) none)) ∙ sym (take_while-cons (λ b. not (is_nul b)) x xs ∙ rw e refl)

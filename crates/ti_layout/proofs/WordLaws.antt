@@ -1,0 +1,97 @@
+-- A word's bytes and its number determine each other.
+use Rattle.std.proofs.Common.{◌≡◌, ℕ, zero, suc, ◌+◌, ◌-◌, ◌*◌, ◌/◌, ◌%◌, ◌^◌, ◌<◌, ◌≤◌, ℤ, pos, negsuc, true, false, ltb, List, [], ◌∷◌, length, get_or, take, drop, inl, inr, refl, sym, ap, ◌∙◌, arith}
+use Rattle.std.proofs.lemmas.Bool.{cases_lt, le-ltb, lt-ltb}
+use Rattle.std.proofs.lemmas.Int.{ints}
+use Rattle.std.proofs.lemmas.List.{drop_more}
+use Rattle.ti_words.specs.declared.Number.TheVariants as numbers
+use Rattle.ti_words.specs.declared.Width.{Width}
+use Rattle.ti_words.specs.declared.Width.TheVariants.{Legacy, Wide}
+use Rattle.ti_words.specs.Marks.{number_of_word, word_of_number}
+use Rattle.std.specs.Prelude.{unwrap_or}
+use Rattle.ti_words.specs.Word.{unsigned_at, signed, word_at, word, low_bytes}
+use Rattle.ti_words.specs.Widths.{number_size}
+use Rattle.ti_layout.specs.Checks.{is_number_word}
+use Rattle.ti_words.specs.Spelling.{FitsWidth}
+
+abbrev pub IsBytes : List ℕ → Type 0
+IsBytes bytes = (i : ℕ) → get_or bytes i 0 < 256
+
+pub below : (w : Width) (u : ℕ) → 2 * u < 256 ^ number_size w → signed (number_size w) u ≡ pos u
+below w u lt = rw (lt-ltb (2 * u) (256 ^ number_size w) lt) refl
+
+pub above : (w : Width) (u k : ℕ) → u + k + 1 ≡ 256 ^ number_size w → 256 ^ number_size w ≤ 2 * u → signed (number_size w) u ≡ negsuc k
+above Legacy u k e le = rw (le-ltb (2 * u) 65536 le) (omega (arith, ints))
+above Wide u k e le = rw (le-ltb (2 * u) 4294967296 le) (omega (arith, ints))
+
+-- bytes of an input are the lowest bytes of the number that they are without a sign
+pub bytes_again : (size : ℕ) (bytes : List ℕ) (p : ℕ) → IsBytes bytes → p + size ≤ length bytes → take size (drop p bytes) ≡ low_bytes size (unsigned_at size bytes p)
+bytes_again zero bytes p fits le = refl
+bytes_again (suc size) bytes p fits le =
+    let b = get_or bytes p 0 in
+    let u = unsigned_at size bytes (p + 1) in
+    let small = fits p in
+    let split : drop p bytes ≡ b ∷ drop (p + 1) bytes = drop_more bytes p 0 (omega arith) in
+    let first : (b + 256 * u) % 256 ≡ b = omega arith in
+    let rest : (b + 256 * u) / 256 ≡ u = omega arith in
+    ap (take (suc size)) split ∙ rw (first, rest) (ap (λ (t : List ℕ). b ∷ t) (bytes_again size bytes (p + 1) fits (omega arith)))
+
+-- a number of these bytes is below their power
+pub unsigned_fits : (w : Width) (bytes : List ℕ) (p : ℕ) → IsBytes bytes → unsigned_at (number_size w) bytes p < 256 ^ number_size w
+unsigned_fits Legacy bytes p fits =
+    let b0 = fits p in
+    let b1 = fits (p + 1) in omega arith
+unsigned_fits Wide bytes p fits =
+    let b0 = fits p in
+    let b1 = fits (p + 1) in
+    let b2 = fits (p + 1 + 1) in
+    let b3 = fits (p + 1 + 1 + 1) in omega arith
+
+-- the word of what bytes stand for is the bytes
+pub signed_again : (w : Width) (u : ℕ) → u < 256 ^ number_size w → word (number_size w) (signed (number_size w) u) ≡ low_bytes (number_size w) u
+signed_again Legacy u fits =
+    elim (cases_lt (2 * u) 65536) [
+      | inl lt ↦ ap (word 2) (below Legacy u lt)
+      | inr le ↦
+          let k = 65535 - u in
+          let back : 65536 - 1 - k % 65536 ≡ u = omega arith in
+          ap (word 2) (above Legacy u k (omega arith) le) ∙ ap (low_bytes 2) back
+    ]
+signed_again Wide u fits =
+    elim (cases_lt (2 * u) 4294967296) [
+      | inl lt ↦ ap (word 4) (below Wide u lt)
+      | inr le ↦
+          let k = 4294967295 - u in
+          let back : 4294967296 - 1 - k % 4294967296 ≡ u = omega arith in
+          ap (word 4) (above Wide u k (omega arith) le) ∙ ap (low_bytes 4) back
+    ]
+
+-- what the bytes of a number stand for
+pub reads_count : (n : ℕ) → n < 32768 → n % 256 + 256 * (n / 256 % 256 + 256 * 0) ≡ n
+reads_count n lt = omega arith
+
+pub one_byte : (bytes : List ℕ) (p : ℕ) → p + 1 ≤ length bytes → take 1 (drop p bytes) ≡ get_or bytes p 0 ∷ []
+one_byte bytes p le = ap (take 1) (drop_more bytes p 0 (omega arith))
+
+-- bytes of an input are the word that is read there
+pub word_is : (w : Width) (bytes : List ℕ) (p : ℕ) → IsBytes bytes → p + number_size w ≤ length bytes → take (number_size w) (drop p bytes) ≡ word (number_size w) (word_at (number_size w) bytes p)
+word_is w bytes p fits le = bytes_again (number_size w) bytes p fits le ∙ sym (signed_again w (unsigned_at (number_size w) bytes p) (unsigned_fits w bytes p fits))
+
+-- a word that is a number or a mark is the word of what it is read as
+pub number_again : (z : ℤ) → is_number_word z ≡ true → word_of_number (unwrap_or (number_of_word z) numbers.Absent) ≡ z
+number_again (pos n) h = refl
+number_again (negsuc zero) h = refl
+number_again (negsuc (suc zero)) h = refl
+number_again (negsuc (suc (suc n))) h = absurd (let e : ltb (suc (suc n)) 2 ≡ false = le-ltb _ _ (omega arith) in let f : false ≡ true = sym e ∙ h in cc)
+
+pub has_word : (w : Width) (u : ℕ) → u < 256 ^ number_size w → FitsWidth w (unwrap_or (number_of_word (signed (number_size w) u)) numbers.Absent)
+has_word w u fits =
+    let most = 256 ^ number_size w in
+    elim (cases_lt (2 * u) most) [
+      | inl lt ↦ rw (below w u lt) lt
+      | inr le ↦ rw (above w u (most - 1 - u) (omega arith) le) (has_mark (most - 1 - u))
+    ]
+  where
+    has_mark : (k : ℕ) → FitsWidth w (unwrap_or (number_of_word (negsuc k)) numbers.Absent)
+    has_mark zero = tt
+    has_mark (suc zero) = tt
+    has_mark (suc (suc k)) = tt

@@ -1,0 +1,13 @@
+use Rattle.std.proofs.Common.{◌+◌, length, arith}
+use Rattle.std.proofs.lemmas.Result.{err_from_is_err_and}
+use Rattle.ti_layout.specs.Checks.{flag_check}
+use Rattle.ti_layout.proofs.Sections.{goes_on, stops}
+use Rattle.ti_layout.proofs.checks.check_flags.Goals as goal
+
+pub loop-i-preserved : goal.loop-i-preserved
+loop-i-preserved c = goes_on (flag_check c.args.bytes.now) (length c.args.bytes.now) c.args.from 1 c.args.count c.loop-i.i (c.args.from + c.loop-i.i) _ c.loop-i-test.true (omega arith) (c.in_ok-check_flag.ensures) c.loop-i.invariant
+
+pub returns-in_err-check_flag : goal.returns-in_err-check_flag
+returns-in_err-check_flag c =
+    let p = err_from_is_err_and c.from_residual.result c.from_residual.ensures.1 in
+    rw (p.1, p.2) (stops (flag_check c.args.bytes.now) (length c.args.bytes.now) c.args.from 1 c.args.count c.loop-i.i (c.args.from + c.loop-i.i) _ c.in_err-check_flag.field-0.0 c.loop-i-test.true (omega arith) (c.in_err-check_flag.ensures) c.loop-i.invariant)

@@ -1,0 +1,19 @@
+use Rattle.std.proofs.Common.{arith}
+use Rattle.ti_layout.specs.declared.section.Section.TheVariants.{Offsets, Behind, ExtendedNames, End}
+use Rattle.ti_layout.proofs.StageSteps.{item_awaited, table_awaited}
+use Rattle.ti_layout.proofs.stage.Stage.need.Goals as goal
+
+pub returns-then-self-gt0 : goal.returns-then-self-gt0
+returns-then-self-gt0 c = λ bytes k short. item_awaited bytes c.args.self.now k c.if-self-gt0.true (omega arith)
+
+pub returns-in-Offsets : goal.returns-in-Offsets
+returns-in-Offsets c = λ bytes k short. table_awaited bytes c.args.self.now Offsets _ c.in-Offsets.is k (omega arith) c.end.ensures short
+
+pub returns-in-Behind : goal.returns-in-Behind
+returns-in-Behind c = λ bytes k short. table_awaited bytes c.args.self.now Behind _ c.in-Behind.is k (omega arith) (omega arith) short
+
+pub returns-in-ExtendedNames : goal.returns-in-ExtendedNames
+returns-in-ExtendedNames c = λ bytes k short. table_awaited bytes c.args.self.now ExtendedNames _ c.in-ExtendedNames.is k (omega arith) c.end-in-ExtendedNames.ensures short
+
+pub returns-in-End : goal.returns-in-End
+returns-in-End c = λ bytes k short. table_awaited bytes c.args.self.now End _ c.in-End.is k (omega arith) (omega arith) short

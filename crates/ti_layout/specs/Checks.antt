@@ -1,0 +1,151 @@
+-- Checks of an input in a fixed order, and what the first one that is not passed answers.
+use Rattle.std.specs.Prelude.{ℕ, ◌+◌, ◌-◌, ℤ, pos, negsuc, Bool, true, false, not, List, [], ◌∷◌, ◌++◌, length, map, slice_index, Option, Some, None, Result, Ok, Err, nat_lt, nat_le, if◌then◌else◌, is_some}
+use Rattle.std.specs.List.{flat_map}
+use Rattle.ti_words.specs.Marks.{flag_of_byte}
+use Rattle.ti_layout.specs.declared.fault.Fault.{Fault}
+use Rattle.ti_layout.specs.declared.fault.Fault.TheVariants.{Truncated, BadNames, BadFlag, BadPad, BadNumber, BadOffset, Unterminated, BadExtendedName, Trailing}
+use Rattle.ti_layout.specs.declared.fault.Refused.{Refused}
+use Rattle.ti_layout.specs.declared.fault.Stop.{Stop}
+use Rattle.ti_layout.specs.declared.fault.Stop.TheVariants.{Early, Failed}
+use Rattle.ti_words.specs.Word.{unsigned_at, word_at}
+use Rattle.ti_layout.specs.Layout.{places}
+use Rattle.ti_words.specs.Spelling.{pad_len}
+use Rattle.ti_words.specs.Texts.{is_nul}
+use Rattle.ti_layout.specs.Table.{ends_in}
+
+-- one check: the length of the prefix that it reads, what must hold of it, and what is answered where it does not hold
+pub record Check : Type 0 where
+  pub prefix : ℕ
+  pub holds : Bool
+  pub fault : Fault
+  pub place : ℕ
+
+abbrev pub check : ℕ → Bool → Fault → ℕ → Check
+check prefix holds fault place = record { prefix = prefix; holds = holds; fault = fault; place = place }
+
+abbrev pub refused : Fault → ℕ → Refused
+refused fault place = record { fault = fault; place = place }
+
+-- what a list of checks says of an input
+pub data Verdict : Type 0 where
+  Passes : Verdict
+  EndsEarly : Verdict
+  Fails : Refused → Verdict
+
+-- the first check, in order, that an input of this length does not pass
+abbrev pub verdict : ℕ → List Check → Verdict
+verdict len [] = Passes
+verdict len (c ∷ cs) =
+    if nat_lt len c.prefix then EndsEarly
+    else (if c.holds then verdict len cs
+    else Fails (refused c.fault c.place))
+
+-- the refusal: where the input ends before the prefix of a check, it is Truncated at its length
+abbrev pub refusal_of : ℕ → Verdict → Option Refused
+refusal_of len Passes = None
+refusal_of len EndsEarly = Some (refused Truncated len)
+refusal_of len (Fails r) = Some r
+
+-- the check that has failed: its prefix is there, it does not hold, and no earlier one fails
+abbrev pub failure_of : Verdict → Option Refused
+failure_of Passes = None
+failure_of EndsEarly = None
+failure_of (Fails r) = Some r
+
+-- the verdict that a call answers
+abbrev pub stopped : Stop → Verdict
+stopped Early = EndsEarly
+stopped (Failed r) = Fails r
+
+abbrev pub verdict_of : {A : Type 0} → Result A Stop → Verdict
+verdict_of (Ok x) = Passes
+verdict_of (Err stop) = stopped stop
+
+-- ---- what must hold
+
+abbrev pub is_not_negative : ℤ → Bool
+is_not_negative (pos n) = true
+is_not_negative (negsuc n) = false
+
+-- at least -2
+abbrev pub is_number_word : ℤ → Bool
+is_number_word (pos n) = true
+is_number_word (negsuc n) = nat_lt n 2
+
+-- at least -2, and below the size of the table
+abbrev pub is_offset_below : ℕ → ℤ → Bool
+is_offset_below size (pos n) = nat_lt n size
+is_offset_below size (negsuc n) = nat_lt n 2
+
+-- a mark, or a place of the table with a NUL at it or after it
+abbrev pub is_ended : List ℕ → ℤ → Bool
+is_ended table (pos place) = ends_in table place
+is_ended table (negsuc n) = true
+
+-- ---- checks of whole sections, item by item
+
+-- a word of a header, or the offset of a name
+abbrev pub sign_check : List ℕ → Fault → ℕ → Check
+sign_check bytes fault p = check (p + 2) (is_not_negative (word_at 2 bytes p)) fault p
+
+abbrev pub sign_checks : List ℕ → Fault → ℕ → ℕ → List Check
+sign_checks bytes fault from count = map (sign_check bytes fault) (places from 2 count)
+
+abbrev pub name_check : List ℕ → ℕ → Check
+name_check bytes p = check (p + 1) (not (is_nul (slice_index bytes p))) BadNames p
+
+abbrev pub nul_check : List ℕ → Fault → ℕ → Check
+nul_check bytes fault p = check (p + 1) (is_nul (slice_index bytes p)) fault p
+
+-- each byte of the names is no NUL, but the last
+abbrev pub name_checks : List ℕ → ℕ → List Check
+name_checks bytes size = map (name_check bytes) (places 12 1 (size - 1)) ++ nul_check bytes BadNames (11 + size) ∷ []
+
+abbrev pub flag_check : List ℕ → ℕ → Check
+flag_check bytes p = check (p + 1) (is_some (flag_of_byte (slice_index bytes p))) BadFlag p
+
+abbrev pub flag_checks : List ℕ → ℕ → ℕ → List Check
+flag_checks bytes from count = map (flag_check bytes) (places from 1 count)
+
+abbrev pub pad_checks : List ℕ → ℕ → ℕ → List Check
+pad_checks bytes from count = map (nul_check bytes BadPad) (places from 1 (pad_len count))
+
+abbrev pub number_check : List ℕ → ℕ → ℕ → Check
+number_check bytes size p = check (p + size) (is_number_word (word_at size bytes p)) BadNumber p
+
+abbrev pub number_checks : List ℕ → ℕ → ℕ → ℕ → List Check
+number_checks bytes size from count = map (number_check bytes size) (places from size count)
+
+abbrev pub offset_check : List ℕ → ℕ → ℕ → Check
+offset_check bytes table_size p = check (p + 2) (is_offset_below table_size (word_at 2 bytes p)) BadOffset p
+
+abbrev pub offset_checks : List ℕ → ℕ → ℕ → ℕ → List Check
+offset_checks bytes table_size from count = map (offset_check bytes table_size) (places from 2 count)
+
+-- the table, which ends at end, is there: asked also where no offset is a place in it
+abbrev pub table_check : ℕ → Check
+table_check end = check end true Unterminated end
+
+abbrev pub ending_check : List ℕ → List ℕ → ℕ → ℕ → Check
+ending_check bytes table end p = check end (is_ended table (word_at 2 bytes p)) Unterminated p
+
+-- each text has its NUL in the table
+abbrev pub ending_checks : List ℕ → List ℕ → ℕ → ℕ → ℕ → List Check
+ending_checks bytes table end from count = table_check end ∷ map (ending_check bytes table end) (places from 2 count)
+
+-- the name at an offset, counted from base: its place is in the table, and a NUL stands at it or after it
+abbrev pub name_place_checks : List ℕ → List ℕ → ℕ → ℕ → ℕ → List Check
+name_place_checks bytes table base end p =
+    check end (nat_lt (base + unsigned_at 2 bytes p) (length table)) BadExtendedName p
+    ∷ check end (ends_in table (base + unsigned_at 2 bytes p)) Unterminated p
+    ∷ []
+
+abbrev pub all_name_place_checks : List ℕ → List ℕ → ℕ → ℕ → List ℕ → List Check
+all_name_place_checks bytes table base end ps = flat_map (name_place_checks bytes table base end) ps
+
+-- no byte stands at a place or after it
+abbrev pub end_check : List ℕ → ℕ → Check
+end_check bytes end = check end (nat_le (length bytes) end) Trailing end
+
+abbrev pub end_checks : List ℕ → ℕ → List Check
+end_checks bytes end = end_check bytes end ∷ []

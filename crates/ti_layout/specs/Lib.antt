@@ -1,0 +1,7 @@
+pub mod Layout
+pub mod Table
+pub mod Checks
+pub mod Reach
+pub mod Refusal
+pub mod Stages
+pub mod Faults

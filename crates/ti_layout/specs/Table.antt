@@ -1,0 +1,48 @@
+-- String tables: texts that end with a NUL, told by words.
+use Rattle.std.specs.Prelude.{ℕ, zero, suc, ◌+◌, ℤ, pos, negsuc, Bool, not, List, [], ◌∷◌, length, take, drop}
+use Rattle.std.specs.List.{list_any, take_while}
+use Rattle.ti_words.specs.Texts.{TextValue, AbsentText, CancelledText, TextOf, is_nul}
+use Rattle.ti_layout.specs.declared.header.Header.{Header}
+use Rattle.ti_layout.specs.declared.extended_header.ExtendedHeader.{ExtendedHeader}
+use Rattle.ti_words.specs.Word.{word_at}
+use Rattle.ti_layout.specs.Layout.{places, table_from, extended_values_from, extended_table_from}
+
+-- a NUL stands at a place of the table or after it
+abbrev pub ends_in : List ℕ → ℕ → Bool
+ends_in table place = list_any is_nul (drop place table)
+
+-- the bytes before the first NUL
+abbrev pub until_nul : List ℕ → List ℕ
+until_nul bytes = take_while (λ b. not (is_nul b)) bytes
+
+-- the bytes from a place of the table up to the next NUL
+abbrev pub text_from : List ℕ → ℕ → List ℕ
+text_from table place = until_nul (drop place table)
+
+-- what an offset says: a mark, or the text at its place
+abbrev pub text_of_word : List ℕ → ℤ → TextValue
+text_of_word table (pos place) = TextOf (text_from table place)
+text_of_word table (negsuc zero) = AbsentText
+text_of_word table (negsuc (suc n)) = CancelledText
+
+-- the string table
+abbrev pub table_of : List ℕ → Header → List ℕ
+table_of bytes h = take h.table (drop (table_from h) bytes)
+
+-- ---- the extended part
+
+abbrev pub extended_table_of : List ℕ → ExtendedHeader → List ℕ
+extended_table_of bytes x = take x.table (drop (extended_table_from x) bytes)
+
+-- the length of the text at an offset and its NUL, where the text is there
+abbrev pub size_at : List ℕ → ℤ → ℕ
+size_at table (pos place) = length (text_from table place) + 1
+size_at table (negsuc n) = 0
+
+abbrev pub sizes_at : List ℕ → List ℕ → List ℕ → ℕ
+sizes_at bytes table [] = 0
+sizes_at bytes table (p ∷ ps) = size_at table (word_at 2 bytes p) + sizes_at bytes table ps
+
+-- what the places of names are counted from
+abbrev pub base_of : List ℕ → ExtendedHeader → ℕ
+base_of bytes x = sizes_at bytes (extended_table_of bytes x) (places (extended_values_from x) 2 x.texts)

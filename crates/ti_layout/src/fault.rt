@@ -1,0 +1,99 @@
+//! Why bytes are refused as an entry.
+//!
+//! A refusal is the first check, in a fixed order, that does not hold of the bytes, with the place that it speaks of. The
+//! words of the faults are their names.
+
+ghost use Rattle.std.specs.Prelude.{◌≡◌};
+
+use thiserror::Error;
+
+/// What is wrong with the bytes of an entry.
+#[derive(Clone, Copy, Debug, PartialEq, Eq, Error)]
+pub enum Fault {
+    /// The bytes end before a section does.
+    #[error("Truncated")]
+    Truncated,
+    /// The first two bytes are neither 1a 01 nor 1e 02.
+    #[error("BadMagic")]
+    BadMagic,
+    /// A size or a count of the header is negative.
+    #[error("BadHeader")]
+    BadHeader,
+    /// By its header the entry has more than [`MOST_ENTRY_BYTES`](ti_base::MOST_ENTRY_BYTES).
+    #[error("HeaderTooBig")]
+    HeaderTooBig,
+    /// The names are empty, hold a NUL or do not end with one.
+    #[error("BadNames")]
+    BadNames,
+    /// A byte stands for no flag.
+    #[error("BadFlag")]
+    BadFlag,
+    /// The byte after an odd count is not 0.
+    #[error("BadPad")]
+    BadPad,
+    /// A number is below -2.
+    #[error("BadNumber")]
+    BadNumber,
+    /// The offset of a text is below -2, or past its table.
+    #[error("BadOffset")]
+    BadOffset,
+    /// A text or an extended name runs to the end of its table with no NUL.
+    #[error("Unterminated")]
+    Unterminated,
+    /// A size or a count of the extended header is negative.
+    #[error("BadExtendedHeader")]
+    BadExtendedHeader,
+    /// With its extended part the entry has more than [`MOST_ENTRY_BYTES`](ti_base::MOST_ENTRY_BYTES).
+    #[error("ExtendedTooBig")]
+    ExtendedTooBig,
+    /// The offset of an extended name is negative, or past its table.
+    #[error("BadExtendedName")]
+    BadExtendedName,
+    /// Bytes stand behind the end of the entry.
+    #[error("Trailing")]
+    Trailing,
+}
+
+impl Fault {
+    ghost use Rattle.ti_layout.specs.Faults.{fault_word};
+
+    /// The fault's name.
+    pub fn word(self) -> &'static str
+        ensures { result.now ≡ fault_word self }
+    {
+        match self {
+            Fault::Truncated => "Truncated",
+            Fault::BadMagic => "BadMagic",
+            Fault::BadHeader => "BadHeader",
+            Fault::HeaderTooBig => "HeaderTooBig",
+            Fault::BadNames => "BadNames",
+            Fault::BadFlag => "BadFlag",
+            Fault::BadPad => "BadPad",
+            Fault::BadNumber => "BadNumber",
+            Fault::BadOffset => "BadOffset",
+            Fault::Unterminated => "Unterminated",
+            Fault::BadExtendedHeader => "BadExtendedHeader",
+            Fault::ExtendedTooBig => "ExtendedTooBig",
+            Fault::BadExtendedName => "BadExtendedName",
+            Fault::Trailing => "Trailing",
+        }
+    }
+}
+
+/// The first check that does not hold of the bytes.
+#[derive(Clone, Copy, Debug, PartialEq, Eq, Error)]
+#[error("{fault} at {place}")]
+pub struct Refused {
+    pub fault: Fault,
+    /// The count of bytes before the one that it speaks of.
+    pub place: usize,
+}
+
+/// Why a list of checks is not passed.
+#[derive(Clone, Copy, Debug, PartialEq, Eq)]
+pub(crate) enum Stop {
+    /// The bytes end before the prefix that a check reads.
+    Early,
+    /// A check does not hold.
+    Failed(Refused),
+}

@@ -1,0 +1,43 @@
+//! The texts of a string table, each up to its NUL.
+
+ghost use Rattle.std.specs.Prelude.{◌≡◌, ◌+◌, ◌≤◌, length};
+ghost use Rattle.ti_base.specs.Limits.{most_entry_bytes};
+ghost use Rattle.ti_words.specs.Word.{word_at as the_word_at};
+ghost use Rattle.ti_layout.specs.Table.{text_from as the_text_from, until_nul as the_until_nul, size_at as the_size_at};
+
+use crate::word::word_at;
+use memchr::memchr;
+
+/// The bytes from a place up to the next NUL.
+pub fn text_from(table: &[u8], place: usize) -> &[u8]
+    ensures { result.now ≡ the_text_from table.now place }
+{
+    match table.get(place..) {
+        Some(rest) => until_nul(rest),
+        None => until_nul(&[]),
+    }
+}
+
+/// The bytes before the first NUL.
+pub fn until_nul(bytes: &[u8]) -> &[u8]
+    ensures { result.now ≡ the_until_nul bytes.now }
+{
+    match memchr(0, bytes) {
+        Some(end) => &bytes[..end],
+        None => bytes,
+    }
+}
+
+/// The size of the text at an offset and its NUL, where it is there.
+pub(crate) fn size_at(bytes: &[u8], table: &[u8], place: usize) -> usize
+    requires room { place + 2 ≤ length bytes.now }
+    requires small { length table.now ≤ most_entry_bytes }
+    ensures value { result ≡ the_size_at table.now (the_word_at 2 bytes.now place) }
+    ensures most { result ≤ most_entry_bytes + 1 }
+{
+    let offset = word_at(bytes, place);
+    if offset < 0 {
+        return 0;
+    }
+    text_from(table, offset as usize).len() + 1
+}
