@@ -2,6 +2,7 @@
 use Rattle.std.proofs.Common.{◌≡◌, ℕ, suc, ◌+◌, ◌<◌, ◌≤◌, ◌^◌, true, List, [], ◌∷◌, ◌++◌, length, refl, sym, ◌∙◌, ap, subst, arith, length-append, append_assoc}
 use Rattle.std.specs.Prelude.{Some}
 use Rattle.std.proofs.lemmas.List.{append-nil, length-map}
+use Rattle.ti_base.specs.Limits.{most_capability_bytes, most_open}
 use Rattle.ti_cap.specs.declared.language.Token.{Token}
 use Rattle.ti_cap.specs.declared.language.Token.TheVariants.{CondOpen}
 use Rattle.ti_cap.specs.Tree.{Sequence, tokens, IsTree}
@@ -25,7 +26,7 @@ pub record Summed (bytes : List ℕ) (longest : ℕ) (spot : Spot) (sizes : Stat
   pub tree : Sequence
   pub formed : IsTree tree
   pub writes : Written (tokens tree) bytes
-  pub short : length bytes ≤ 32767
+  pub short : length bytes ≤ most_capability_bytes
   pub done : List Token
   pub todo : List Token
   pub splits : tokens tree ≡ done ++ todo
@@ -35,7 +36,7 @@ pub record Summed (bytes : List ℕ) (longest : ℕ) (spot : Spot) (sizes : Stat
   pub parts : List Part
   pub end : List Part
   pub leads : Leads parts todo end
-  pub fits : levels (length parts) todo ≤ 32
+  pub fits : levels (length parts) todo ≤ most_open
   pub stands : parts_of sizes.frames ≡ parts
   pub sums : Sums (size_act longest) done sizes
 
@@ -65,7 +66,7 @@ summed_start bytes longest spot f none all =
     }
 
 -- far from the greatest number
-pub summed_small : (bytes : List ℕ) (longest : ℕ) (spot : Spot) (sizes : State) → longest < 2 ^ 16 → Summed bytes longest spot sizes → sizes.running ≤ 2147418113
+pub summed_small : (bytes : List ℕ) (longest : ℕ) (spot : Spot) (sizes : State) → longest < 2 ^ 16 → Summed bytes longest spot sizes → sizes.running < 2 ^ 31
 summed_small bytes longest spot sizes h p =
     let b : IsBest (size_act longest) p.done Run (Some sizes.running) = p.sums Run in
     omega (arith, value-size longest p.done spot.taken b.1.walk h p.written, b.1.value, ap length p.spans, length-append spot.taken spot.left, p.short)
@@ -78,7 +79,7 @@ record Goes (longest : ℕ) (k : Token) (done todo : List Token) (parts end : Li
   after : List Part
   may : allowed k parts ≡ Some after
   leads : Leads after rest end
-  fits : levels (length after) rest ≤ 32
+  fits : levels (length after) rest ≤ most_open
   moves : Moves (size_act longest) done k (moved sizes k (sizes.running + token_size longest k)) after
 
 goes : (bytes : List ℕ) (longest : ℕ) (old new : Spot) (sizes : State) (k : Token) → (p : Summed bytes longest old sizes) → IsFirst k old new
@@ -87,8 +88,8 @@ goes bytes longest old new sizes k p first =
     let f : (rest : List Token) × (p.todo ≡ k ∷ rest) × Written rest new.left = first p.todo p.left in
     let P : List Token → Type 0 = λ x. Leads p.parts x p.end in
     let l : (ms : List Part) × (allowed k p.parts ≡ Some ms) × Leads ms f.0 p.end = subst P f.1 p.leads in
-    let Q : List Token → Type 0 = λ x. levels (length p.parts) x ≤ 32 in
-    let q : levels (length p.parts) (k ∷ f.0) ≤ 32 = subst Q f.1 p.fits in
+    let Q : List Token → Type 0 = λ x. levels (length p.parts) x ≤ most_open in
+    let q : levels (length p.parts) (k ∷ f.0) ≤ most_open = subst Q f.1 p.fits in
     let e : levels (level_after (length p.parts) k) f.0 ≡ levels (length l.0) f.0 = ap (λ x. levels x f.0) (allowed_level k p.parts l.0 l.1) in
     record {
       rest = f.0;
@@ -104,7 +105,7 @@ goes bytes longest old new sizes k p first =
 pub record Step (bytes : List ℕ) (longest : ℕ) (old new : Spot) (sizes : State) (k : Token) : Type 0 where
   pub summed : Summed bytes longest new (moved sizes k (sizes.running + token_size longest k))
   pub shorter : length new.left < length old.left
-  pub room : k ≡ CondOpen → length sizes.frames < 32
+  pub room : k ≡ CondOpen → length sizes.frames < most_open
 
 pub summed_step : (bytes : List ℕ) (longest : ℕ) (old new : Spot) (sizes : State) (k : Token) → Summed bytes longest old sizes → Takes k old new → IsFirst k old new
     → Step bytes longest old new sizes k

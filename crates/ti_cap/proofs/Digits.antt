@@ -1,6 +1,7 @@
 -- Reading digits: one step at a place of a list.
 use Rattle.std.proofs.Common.{◌≡◌, ℕ, suc, ◌+◌, ◌-◌, ◌*◌, ◌<◌, ◌≤◌, ◌≢◌, ◌⊎◌, pos, List, [], ◌∷◌, ◌++◌, length, drop, get_or, drop-cons, add-one, refl, ◌∙◌, arith, ap, Ok, Err}
 use Rattle.std.proofs.lemmas.Grind.{common_steps}
+use Rattle.ti_base.specs.Limits.{greatest_constant}
 use Rattle.ti_cap.specs.declared.language.Token.TheVariants.{Constant}
 use Rattle.ti_cap.specs.declared.language.CapFault.TheVariants.{CutShort, BadConstant}
 use Rattle.ti_cap.specs.Spelling.{number_from}
@@ -19,12 +20,12 @@ number_from-append n (c ∷ cs) es = number_from-append (10 * n + (c - 48)) cs e
 pub number_from-next : (n i : ℕ) (ds : List ℕ) → i < length ds → number_from n (drop i ds) ≡ number_from (10 * n + (get_or ds i 0 - 48)) (drop (i + 1) ds)
 number_from-next n i ds h = rw add-one (ap (λ x. number_from n x) (drop-cons ds i 0 h))
 
-pub digit_step : (n i c : ℕ) (cs : List ℕ) → 48 ≤ c → c ≤ 57 → 10 * n + (c - 48) ≤ 2147483647
+pub digit_step : (n i c : ℕ) (cs : List ℕ) → 48 ≤ c → c ≤ 57 → 10 * n + (c - 48) ≤ greatest_constant
     → digits_read n i (c ∷ cs) ≡ digits_read (10 * n + (c - 48)) (i + 1) cs
 unfolding digits_read
 digit_step n i c cs low high small = grind (arith, common_steps)
 
-pub digit_large : (n i c : ℕ) (cs : List ℕ) → 48 ≤ c → c ≤ 57 → 2147483647 < 10 * n + (c - 48)
+pub digit_large : (n i c : ℕ) (cs : List ℕ) → 48 ≤ c → c ≤ 57 → greatest_constant < 10 * n + (c - 48)
     → digits_read n i (c ∷ cs) ≡ Err BadConstant
 unfolding digits_read
 digit_large n i c cs low high large = grind (arith, common_steps)

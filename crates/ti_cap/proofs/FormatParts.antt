@@ -3,6 +3,7 @@ use Rattle.std.proofs.Common.{◌≡◌, ◌≢◌, ℕ, ◌≤◌, inl, inr, Li
 use Rattle.std.specs.Prelude.{Option}
 use Rattle.std.proofs.lemmas.Grind.{common_steps}
 use Rattle.std.specs.List.{AllByRecursion}
+use Rattle.ti_base.specs.Limits.{greatest_width}
 use Rattle.ti_cap.specs.declared.language.Format.{Format}
 use Rattle.ti_cap.specs.declared.language.Conversion.{Conversion}
 use Rattle.ti_cap.specs.Spelling.{IsDigit, number_of, IsPlainFlag, IsFlag, SpellsWidth}
@@ -16,7 +17,7 @@ with_precision f p c = record f { precision = p; conversion = c }
 abbrev pub with_width : Format → ℕ → Option ℕ → Conversion → Format
 with_width f w p c = record f { width = w; precision = p; conversion = c }
 
-pub fits : (n : ℕ) → nat_lt 255 n ≡ false → n ≤ 255
+pub fits : (n : ℕ) → nat_lt greatest_width n ≡ false → n ≤ greatest_width
 fits n h = grind (arith, common_steps)
 
 pub passes_digits : (ds : List ℕ) → AllPass is_digit ds → AllByRecursion IsDigit ds
@@ -60,14 +61,14 @@ pub flag_other : (c : ℕ) → is_flag c ≡ false → c ≢ 48
 flag_other c f e = absurd (grind (arith, common_steps, f, e))
 
 -- the digits at the front are a width
-pub width_spelled : (bytes : List ℕ) → NoZero bytes → number_of (front is_digit bytes) ≤ 255 → SpellsWidth (number_of (front is_digit bytes)) (front is_digit bytes)
+pub width_spelled : (bytes : List ℕ) → NoZero bytes → number_of (front is_digit bytes) ≤ greatest_width → SpellsWidth (number_of (front is_digit bytes)) (front is_digit bytes)
 width_spelled [] other le = refl
 width_spelled (c ∷ cs) other le = by_test (is_digit c) refl le
   where
     all : AllByRecursion IsDigit (front is_digit cs)
     all = passes_digits (front is_digit cs) (front_passes is_digit cs)
 
-    by_test : (b : Bool) → is_digit c ≡ b → number_of (cond b (c ∷ front is_digit cs) []) ≤ 255
+    by_test : (b : Bool) → is_digit c ≡ b → number_of (cond b (c ∷ front is_digit cs) []) ≤ greatest_width
         → SpellsWidth (number_of (cond b (c ∷ front is_digit cs) [])) (cond b (c ∷ front is_digit cs) [])
     by_test true t le = (other, ((grind (arith, common_steps, t), grind (arith, common_steps, t)), all), refl, le)
     by_test false t le = refl

@@ -3,6 +3,7 @@ use Rattle.std.proofs.Common.{◌≡◌, ◌≢◌, ℕ, suc, ◌+◌, ◌≤◌
 use Rattle.std.specs.Prelude.{Option, Some, None}
 use Rattle.std.proofs.lemmas.Grind.{common_steps}
 use Rattle.std.specs.List.{AllByRecursion}
+use Rattle.ti_base.specs.Limits.{greatest_width}
 use Rattle.ti_cap.specs.declared.language.Token.TheVariants.{Print}
 use Rattle.ti_cap.specs.declared.language.Format.{Format}
 use Rattle.ti_cap.specs.declared.language.Conversion.{Conversion}
@@ -45,7 +46,7 @@ letter_no_dot LowerHex = refl
 letter_no_dot UpperHex = refl
 letter_no_dot Text = refl
 
-small : (n : ℕ) → n ≤ 255 → nat_lt 255 n ≡ false
+small : (n : ℕ) → n ≤ greatest_width → nat_lt greatest_width n ≡ false
 small n h = grind (arith, common_steps)
 
 -- the precision and the letter are read again
@@ -59,7 +60,7 @@ precision_again f None c pr t n none is =
   where
     read_on : List ℕ → Reading
     read_on cs =
-        cond (nat_lt 255 (number_of (front is_digit cs))) (Err BadFormat)
+        cond (nat_lt greatest_width (number_of (front is_digit cs))) (Err BadFormat)
         (letter_read (record f { precision = Some (number_of (front is_digit cs)) }) (n + 1 + length (front is_digit cs)) (rest is_digit cs))
 precision_again f (Some p) c pr t n none (digits, all, value, le, is) =
     let end : List ℕ = conversion_letter c ∷ t in
@@ -71,9 +72,9 @@ precision_again f (Some p) c pr t n none (digits, all, value, le, is) =
     ∙ ap (λ m. printed (with_precision f (Some p) c) m) (omega arith))
   where
     read_on : List ℕ → List ℕ → Reading
-    read_on fr re = cond (nat_lt 255 (number_of fr)) (Err BadFormat) (letter_read (record f { precision = Some (number_of fr) }) (n + 1 + length fr) re)
+    read_on fr re = cond (nat_lt greatest_width (number_of fr)) (Err BadFormat) (letter_read (record f { precision = Some (number_of fr) }) (n + 1 + length fr) re)
 
-no_leading : (w : ℕ) (width : List ℕ) → SpellsWidth w width → AllByRecursion IsDigit width × (number_of width ≡ w) × (w ≤ 255)
+no_leading : (w : ℕ) (width : List ℕ) → SpellsWidth w width → AllByRecursion IsDigit width × (number_of width ≡ w) × (w ≤ greatest_width)
 no_leading w [] h = (tt, sym h, omega arith)
 no_leading w (c ∷ cs) h = (h.1, h.2, h.3)
 
@@ -85,7 +86,7 @@ precision_stops (Some p) pr c t (digits, all, value, le, is) = rw is refl
 width_again : (f : Format) (w : ℕ) (o : Option ℕ) (c : Conversion) (width pr t : List ℕ) (n : ℕ) → f.precision ≡ None → SpellsWidth w width → SpellsPrecision o pr
     → width_read f n (width ++ (pr ++ conversion_letter c ∷ t)) ≡ printed (with_width f w o c) (n + length width + length pr + 1)
 width_again f w o c width pr t n none sw sp =
-    let d : AllByRecursion IsDigit width × (number_of width ≡ w) × (w ≤ 255) = no_leading w width sw in
+    let d : AllByRecursion IsDigit width × (number_of width ≡ w) × (w ≤ greatest_width) = no_leading w width sw in
     let tail : List ℕ = pr ++ conversion_letter c ∷ t in
     let st : Stops is_digit (pr ++ conversion_letter c ∷ t) = precision_stops o pr c t sp in
     ap (λ x. read_on x (rest is_digit (width ++ tail))) (front_stops is_digit width tail (digits_pass width d.0) st)
@@ -95,7 +96,7 @@ width_again f w o c width pr t n none sw sp =
     ∙ precision_again (record f { width = w }) o c pr t (n + length width) none sp
   where
     read_on : List ℕ → List ℕ → Reading
-    read_on fr re = cond (nat_lt 255 (number_of fr)) (Err BadFormat) (precision_read (record f { width = number_of fr }) (n + length fr) re)
+    read_on fr re = cond (nat_lt greatest_width (number_of fr)) (Err BadFormat) (precision_read (record f { width = number_of fr }) (n + length fr) re)
 
 -- what stands behind the flags begins with none of these
 tail_stops : (p : ℕ → Bool) → ((c : Conversion) → p (conversion_letter c) ≡ false) → p 46 ≡ false → ((c : ℕ) → c ≢ 48 → IsDigit c → p c ≡ false)

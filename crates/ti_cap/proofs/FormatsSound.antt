@@ -2,6 +2,7 @@
 use Rattle.std.proofs.Common.{◌≡◌, ℕ, suc, ◌+◌, inl, inr, List, [], ◌∷◌, ◌++◌, length, refl, sym, ◌∙◌, ap, arith, Ok, nat_eq, nat_lt, append_assoc, length-append}
 use Rattle.std.specs.Prelude.{Option, Some, None}
 use Rattle.std.proofs.lemmas.Bool.{eqb-true}
+use Rattle.ti_base.specs.Limits.{greatest_width}
 use Rattle.ti_cap.specs.declared.language.Token.{Token}
 use Rattle.ti_cap.specs.declared.language.Token.TheVariants.{Print}
 use Rattle.ti_cap.specs.declared.language.Format.{Format}
@@ -46,7 +47,7 @@ precision_sound : (f : Format) (n : ℕ) (bytes : List ℕ) (token : Token) (len
 precision_sound f n [] token len none e = absurd (cc)
 precision_sound f n (c ∷ cs) token len none e =
     elim (chosen (nat_eq c 46) e) [
-      | inl (t, e) ↦ elim (chosen (nat_lt 255 (number_of (front is_digit cs))) e) [
+      | inl (t, e) ↦ elim (chosen (nat_lt greatest_width (number_of (front is_digit cs))) e) [
         | inl (large, e) ↦ absurd (cc)
         | inr (le, e) ↦
             let p : ℕ = number_of (front is_digit cs) in
@@ -99,7 +100,7 @@ width_sound : (f : Format) (n : ℕ) (bytes : List ℕ) (token : Token) (len : �
     → WidthFront f n bytes token len
 width_sound f n bytes token len none other e =
     let w : ℕ = number_of (front is_digit bytes) in
-    elim (chosen (nat_lt 255 (number_of (front is_digit bytes))) e) [
+    elim (chosen (nat_lt greatest_width (number_of (front is_digit bytes))) e) [
       | inl (large, e) ↦ absurd (cc)
       | inr (le, e) ↦
           let l : PrecisionFront (record f { width = w }) (n + length (front is_digit bytes)) (rest is_digit bytes) token len =

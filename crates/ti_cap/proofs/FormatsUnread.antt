@@ -4,6 +4,7 @@ use Rattle.std.specs.Prelude.{Option, Some, None}
 use Rattle.std.proofs.lemmas.Grind.{common_steps}
 use Rattle.std.proofs.lemmas.Bool.{eqb-true}
 use Rattle.std.proofs.lemmas.List.{append-nil}
+use Rattle.ti_base.specs.Limits.{greatest_width}
 use Rattle.ti_cap.specs.declared.language.Format.{Format}
 use Rattle.ti_cap.specs.declared.language.Conversion.{Conversion}
 use Rattle.ti_cap.specs.declared.language.Conversion.TheVariants.{Signed}
@@ -35,7 +36,7 @@ front_final p go bytes more fault uncut ends keeps e =
     ]
 
 -- a number that is too large stays so
-large_more : (bytes more : List ℕ) → nat_lt 255 (number_of (front is_digit bytes)) ≡ true → nat_lt 255 (number_of (front is_digit (bytes ++ more))) ≡ true
+large_more : (bytes more : List ℕ) → nat_lt greatest_width (number_of (front is_digit bytes)) ≡ true → nat_lt greatest_width (number_of (front is_digit (bytes ++ more))) ≡ true
 large_more bytes more large =
     let g : (longer : List ℕ) × (front is_digit (bytes ++ more) ≡ front is_digit bytes ++ longer) = front_grows is_digit bytes more in
     grown (number_of (front is_digit bytes)) (number_of (front is_digit (bytes ++ more))) large
@@ -46,23 +47,23 @@ large_more bytes more large =
       number_from-ge (number_of (front is_digit bytes)) g.0,
     ))
   where
-    grown : (m n : ℕ) → nat_lt 255 m ≡ true → m ≤ n → nat_lt 255 n ≡ true
+    grown : (m n : ℕ) → nat_lt greatest_width m ≡ true → m ≤ n → nat_lt greatest_width n ≡ true
     grown m n h le = grind (arith, common_steps, h, le)
 
 -- a number, and what is read behind it
 abbrev numbered : (List ℕ → List ℕ → Reading) → List ℕ → Reading
-numbered go bytes = cond (nat_lt 255 (number_of (front is_digit bytes))) (Err BadFormat) (go (front is_digit bytes) (rest is_digit bytes))
+numbered go bytes = cond (nat_lt greatest_width (number_of (front is_digit bytes))) (Err BadFormat) (go (front is_digit bytes) (rest is_digit bytes))
 
 numbered_final : (go : List ℕ → List ℕ → Reading) (bytes more : List ℕ) (fault : CapFault) → fault ≢ CutShort
     → ((ds : List ℕ) → go ds [] ≡ Err CutShort) → ((ds left : List ℕ) → go ds left ≡ Err fault → go ds (left ++ more) ≡ Err fault)
     → numbered go bytes ≡ Err fault → numbered go (bytes ++ more) ≡ Err fault
 numbered_final go bytes more fault uncut ends keeps e =
-    elim (chosen (nat_lt 255 (number_of (front is_digit bytes))) e) [
+    elim (chosen (nat_lt greatest_width (number_of (front is_digit bytes))) e) [
       | inl (large, e) ↦ ap (λ b. cond b (Err BadFormat) (go (front is_digit (bytes ++ more)) (rest is_digit (bytes ++ more)))) (large_more bytes more large) ∙ e
       | inr (le, e) ↦
           let r : (front is_digit (bytes ++ more) ≡ front is_digit bytes) × (go (front is_digit bytes) (rest is_digit (bytes ++ more)) ≡ Err fault) =
           front_final is_digit go bytes more fault uncut ends keeps e in
-          ap (λ x. cond (nat_lt 255 (number_of x)) (Err BadFormat) (go x (rest is_digit (bytes ++ more)))) r.0
+          ap (λ x. cond (nat_lt greatest_width (number_of x)) (Err BadFormat) (go x (rest is_digit (bytes ++ more)))) r.0
           ∙ ap (λ b. cond b (Err BadFormat) (go (front is_digit bytes) (rest is_digit (bytes ++ more)))) le
           ∙ r.1
     ]
@@ -115,7 +116,7 @@ precision_cut : (f : Format) (n : ℕ) (bytes : List ℕ) → precision_read f n
 precision_cut f n [] e = (None, refl)
 precision_cut f n (c ∷ cs) e =
     elim (chosen (nat_eq c 46) e) [
-      | inl (t, e) ↦ elim (chosen (nat_lt 255 (number_of (front is_digit cs))) e) [
+      | inl (t, e) ↦ elim (chosen (nat_lt greatest_width (number_of (front is_digit cs))) e) [
         | inl (large, e) ↦ absurd (cc)
         | inr (le, e) ↦
             let none : rest is_digit cs ≡ [] = letter_cut (record f { precision = Some (number_of (front is_digit cs)) }) (n + 1 + length (front is_digit cs)) (rest is_digit cs) e in
@@ -146,7 +147,7 @@ record WidthCut (bytes : List ℕ) : Type 0 where
 width_cut : (f : Format) (n : ℕ) (bytes : List ℕ) → NoZero bytes → width_read f n bytes ≡ Err CutShort → WidthCut bytes
 width_cut f n bytes other e =
     let w : ℕ = number_of (front is_digit bytes) in
-    elim (chosen (nat_lt 255 (number_of (front is_digit bytes))) e) [
+    elim (chosen (nat_lt greatest_width (number_of (front is_digit bytes))) e) [
       | inl (large, e) ↦ absurd (cc)
       | inr (le, e) ↦
           let p : (o : Option ℕ) × SpellsPrecision o (rest is_digit bytes) = precision_cut (record f { width = w }) (n + length (front is_digit bytes)) (rest is_digit bytes) e in
@@ -215,7 +216,7 @@ format_fault (c ∷ cs) fault uncut e =
     precision_fault f n [] e = absurd (uncut (cc))
     precision_fault f n (x ∷ xs) e =
         elim (chosen (nat_eq x 46) e) [
-          | inl (t, e) ↦ elim (chosen (nat_lt 255 (number_of (front is_digit xs))) e) [
+          | inl (t, e) ↦ elim (chosen (nat_lt greatest_width (number_of (front is_digit xs))) e) [
             | inl (large, e) ↦ cc
             | inr (le, e) ↦ letter_fault (record f { precision = Some (number_of (front is_digit xs)) }) (n + 1 + length (front is_digit xs)) (rest is_digit xs) e
           ]
@@ -224,7 +225,7 @@ format_fault (c ∷ cs) fault uncut e =
 
     width_fault : (f : Format) (n : ℕ) (bytes : List ℕ) → width_read f n bytes ≡ Err fault → fault ≡ BadFormat
     width_fault f n bytes e =
-        elim (chosen (nat_lt 255 (number_of (front is_digit bytes))) e) [
+        elim (chosen (nat_lt greatest_width (number_of (front is_digit bytes))) e) [
           | inl (large, e) ↦ cc
           | inr (le, e) ↦ precision_fault (record f { width = number_of (front is_digit bytes) }) (n + length (front is_digit bytes)) (rest is_digit bytes) e
         ]

@@ -1,6 +1,7 @@
 -- Where a token may stand, and the fault where it may not.
 use Rattle.std.proofs.Common.{◌≡◌, ◌≢◌, ℕ, ◌<◌, ◌≤◌, inl, inr, List, [], ◌∷◌, ◌++◌, length, refl, sym, ◌∙◌, ap, subst, arith, Bool, true, false, cond}
 use Rattle.std.specs.Prelude.{Option, Some, None, nat_lt, is_none, ◌&&◌, ◌||◌, fold}
+use Rattle.ti_base.specs.Limits.{most_open}
 use Rattle.ti_cap.specs.declared.language.Token.{Token}
 use Rattle.ti_cap.specs.declared.language.Token.TheVariants.{CondOpen, CondThen, CondElse, CondClose}
 use Rattle.ti_cap.specs.declared.language.CapFault.{CapFault}
@@ -59,8 +60,8 @@ lt_by : (a b : ℕ) (f : CapFault) → cond (nat_lt a b) None (Some f) ≡ None 
 lt_by a b f e = grind arith
 
 -- a `%?` that is not misplaced is at most the 32nd
-pub has_room : (ps : List Part) → misplaced CondOpen ps ≡ None → length ps < 32
-has_room ps e = lt_by (length ps) 32 NestTooDeep e
+pub has_room : (ps : List Part) → misplaced CondOpen ps ≡ None → length ps < most_open
+has_room ps e = lt_by (length ps) most_open NestTooDeep e
 
 -- ---- a misplaced token is at fault
 
@@ -69,14 +70,14 @@ become f g before rest e h = let is : f ≡ g = cc in let P : CapFault → Type 
 
 pub misplaced_fault : (k : Token) (ps : List Part) (f : CapFault) (before : List Token) (rest : List ℕ) → misplaced k ps ≡ Some f → Leads [] before ps → IsNext k rest
     → IsFault f before rest
-misplaced_fault CondOpen ps f before rest e l n = too_deep (nat_lt (length ps) 32) refl e
+misplaced_fault CondOpen ps f before rest e l n = too_deep (nat_lt (length ps) most_open) refl e
   where
-    too_deep : (b : Bool) → nat_lt (length ps) 32 ≡ b → cond b None (Some NestTooDeep) ≡ Some f → IsFault f before rest
+    too_deep : (b : Bool) → nat_lt (length ps) most_open ≡ b → cond b None (Some NestTooDeep) ≡ Some f → IsFault f before rest
     too_deep true t g = absurd (cc)
     too_deep false t g =
         let is : NestTooDeep ≡ f = cc in
         let P : CapFault → Type 0 = λ x. IsFault x before rest in
-        let long : 32 ≤ length ps = grind arith in
+        let long : most_open ≤ length ps = grind arith in
         let same : length (open_parts before) ≡ length ps = ap (λ x. length x) (leads_open ps before l) in
         subst P is (n, omega arith)
 misplaced_fault CondThen [] f before rest e l n = become _ f before rest e (n, stray before [] CondThen l refl)

@@ -1,8 +1,9 @@
 -- What has been read up to a place, one turn of parsing, and its ends.
 use Rattle.std.proofs.Common.{◌≡◌, ◌≢◌, ℕ, suc, ◌+◌, ◌-◌, ◌<◌, ◌≤◌, ◌⊎◌, inl, inr, max, List, [], ◌∷◌, ◌++◌, length, take, drop, get_or, refl, sym, ◌∙◌, ap, subst, arith, Bool, true, false, cond, nat_eq, ◌||◌, ◌&&◌, length-append, drop-cons, Ok, Err, length-drop}
-use Rattle.std.specs.Prelude.{Option, Some, None, nat_le}
+use Rattle.std.specs.Prelude.{Option, Some, None, nat_le, ◌^◌}
 use Rattle.std.proofs.Math.Seq.{take-length, take-add}
 use Rattle.std.proofs.lemmas.List.{take-append-le, take-append-drop, take_at, drop_all, length-take-le, get_or-drop, length-map}
+use Rattle.ti_base.specs.Limits.{most_capability_bytes, most_open, most_values}
 use Rattle.ti_cap.specs.declared.language.Token.{Token}
 use Rattle.ti_cap.specs.declared.language.Token.TheVariants.{Compute, CondOpen, CondThen, CondElse, CondClose}
 use Rattle.ti_cap.specs.declared.language.CapFault.{CapFault}
@@ -72,9 +73,9 @@ is_next rest s tail k l e p (u, more, q, f) =
 nothing_next : (k : Token) → ¬ IsNext k []
 nothing_next k (s, tail, p, e) = omega (arith, ap length e, length-append s tail, spelled_long k s p)
 
--- nothing is at fault where a token is next that may stand, is no 33rd `%?` and climbs to no height of 33
-fine_step : (before : List Token) (rest s tail : List ℕ) (k : Token) (d : ℕ) → Begins (before ++ k ∷ []) → (k ≡ CondOpen → length (open_parts before) < 32)
-    → Peaks next_height (before ++ k ∷ []) d → d ≤ 32 → rest ≡ s ++ tail → Spells k s → (f : CapFault) → ¬ IsFault f before rest
+-- nothing is at fault where a token is next that may stand, nests no deeper and climbs no higher than the limits
+fine_step : (before : List Token) (rest s tail : List ℕ) (k : Token) (d : ℕ) → Begins (before ++ k ∷ []) → (k ≡ CondOpen → length (open_parts before) < most_open)
+    → Peaks next_height (before ++ k ∷ []) d → d ≤ most_values → rest ≡ s ++ tail → Spells k s → (f : CapFault) → ¬ IsFault f before rest
 fine_step before rest s tail k d begins room peaks low e p f = each f
   where
     not_stray : (l : Token) → IsNext l rest → ¬ Begins (before ++ l ∷ []) → ⊥
@@ -90,12 +91,12 @@ fine_step before rest s tail k d begins room peaks low e p f = each f
     each NoThen (inr (inr h)) = let n : 0 < length s = spelled_long k s p in omega (arith, ap length (sym e ∙ h.0), length-append s tail)
     each NestTooDeep h =
         let is : CondOpen ≡ k = is_next rest s tail k CondOpen e p h.0 in
-        let r : length (open_parts before) < 32 = room (sym is) in
+        let r : length (open_parts before) < most_open = room (sym is) in
         omega (arith, h.1)
     each StackTooDeep (l, next, climbs) =
         let is : l ≡ k = is_next rest s tail k l e p next in
-        let P : Token → Type 0 = λ x. Climbs before x 33 in
-        let top : 33 ≤ d = climbs_low before k 33 d peaks (subst P is climbs) in
+        let P : Token → Type 0 = λ x. Climbs before x (suc most_values) in
+        let top : suc most_values ≤ d = climbs_low before k (suc most_values) d peaks (subst P is climbs) in
         omega arith
     each _ h = h.1.no_token k (s, tail, p, e)
 
@@ -113,9 +114,9 @@ pub record Parsed (bytes : List ℕ) (place : ℕ) (found : Found) : Type 0 wher
   pub heights : Sums next_height before found.heights
   pub sizes : Sums (size_act 0) before found.sizes
   pub peaks : Peaks next_height before found.depth
-  pub low : found.depth ≤ 32
+  pub low : found.depth ≤ most_values
   pub nested : levels 0 before ≡ found.nest
-  pub few : found.nest ≤ 32
+  pub few : found.nest ≤ most_open
 
 are_bytes : (xs : List ℕ) → ((i : ℕ) → get_or xs i 0 < 256) → AreBytes xs
 are_bytes [] h = tt
@@ -167,22 +168,22 @@ mark_low before k s d still p sums =
     either : (b : Bool) {x : ℕ} → cond b (next_height x k) x ≡ x
     either b {x} = pick b x (next_height x k) (still x)
 
-moved_low : (before : List Token) (s : State) (k : Token) (d : ℕ) → Peaks next_height before d → d ≤ 32 → next_height s.running k ≤ 32
-    → Sums next_height (before ++ k ∷ []) (moved s k (next_height s.running k)) → (moved s k (next_height s.running k)).running ≤ 32
+moved_low : (before : List Token) (s : State) (k : Token) (d : ℕ) → Peaks next_height before d → d ≤ most_values → next_height s.running k ≤ most_values
+    → Sums next_height (before ++ k ∷ []) (moved s k (next_height s.running k)) → (moved s k (next_height s.running k)).running ≤ most_values
 moved_low before s CondThen d p low high sums = by_frames s.frames
   where
-    by_frames : (fs : List Frame) → (moved (record { running = s.running; frames = fs }) CondThen (next_height s.running CondThen)).running ≤ 32
+    by_frames : (fs : List Frame) → (moved (record { running = s.running; frames = fs }) CondThen (next_height s.running CondThen)).running ≤ most_values
     by_frames [] = high
     by_frames (f ∷ fs) = high
 moved_low before s CondElse d p low high sums = omega (arith, mark_low before CondElse (moved s CondElse (next_height s.running CondElse)) d height_still.0 p sums)
 moved_low before s CondClose d p low high sums = omega (arith, mark_low before CondClose (moved s CondClose (next_height s.running CondClose)) d height_still.1 p sums)
 moved_low before s k d p low high sums = high
 
-pub parsed_low : (bytes : List ℕ) (place : ℕ) (found : Found) → Parsed bytes place found → found.heights.running ≤ 32
+pub parsed_low : (bytes : List ℕ) (place : ℕ) (found : Found) → Parsed bytes place found → found.heights.running ≤ most_values
 parsed_low bytes place found p = omega (arith, running_low p.before found.heights found.depth p.peaks p.heights, p.low)
 
 -- the greatest size is far from the greatest number
-pub parsed_small : (bytes : List ℕ) (place : ℕ) (found : Found) → length bytes ≤ 32767 → Parsed bytes place found → found.sizes.running ≤ 2147418113
+pub parsed_small : (bytes : List ℕ) (place : ℕ) (found : Found) → length bytes ≤ most_capability_bytes → Parsed bytes place found → found.sizes.running < 2 ^ 31
 parsed_small bytes place found short p =
     let h : IsBest (size_act 0) p.before Run (Some found.sizes.running) = p.sizes Run in
     omega (arith, value-size 0 p.before (take place bytes) h.1.walk (omega arith) p.written, h.1.value, length-take-le place bytes p.within, p.within)
@@ -195,10 +196,10 @@ parsed_alike bytes place found p = sym (length-map found.sizes.frames _) ∙ ap 
 -- what no fault says
 pub record IsFine (found : Found) (k : Token) : Type 0 where
   pub placed : misplaced k (parts_of found.heights.frames) ≡ None
-  pub low : next_height found.heights.running k ≤ 32
+  pub low : next_height found.heights.running k ≤ most_values
 
 fine : (found : Found) (k : Token) → fault_of found k ≡ None → IsFine found k
-fine found k e = record { placed = first _ _ e; low = by (nat_le (next_height found.heights.running k) 32) refl (second _ _ e) }
+fine found k e = record { placed = first _ _ e; low = by (nat_le (next_height found.heights.running k) most_values) refl (second _ _ e) }
   where
     first : (a b : Option CapFault) → first_fault a b ≡ None → a ≡ None
     first None b e = refl
@@ -208,7 +209,7 @@ fine found k e = record { placed = first _ _ e; low = by (nat_le (next_height fo
     second None b e = e
     second (Some f) b e = absurd (cc)
 
-    by : (b : Bool) → nat_le (next_height found.heights.running k) 32 ≡ b → cond b None (Some StackTooDeep) ≡ None → next_height found.heights.running k ≤ 32
+    by : (b : Bool) → nat_le (next_height found.heights.running k) most_values ≡ b → cond b None (Some StackTooDeep) ≡ None → next_height found.heights.running k ≤ most_values
     by true t e = grind arith
     by false t e = absurd (cc)
 
@@ -233,13 +234,13 @@ parse_step bytes place found k n fits p e none =
     sums_move (size_act 0) p.before found.sizes k go.0 (size_rising 0) (size_still 0) (ap (λ x. allowed k x) p.alike ∙ go.1) p.sizes in
     let deep : Peaks next_height (p.before ++ k ∷ []) (max found.depth (moved found.heights k (next_height found.heights.running k)).running) =
     peaks_step next_height p.before k found.depth (moved found.heights k (next_height found.heights.running k)) height_flat p.peaks h.sums in
-    let now : (moved found.heights k (next_height found.heights.running k)).running ≤ 32 = moved_low p.before found.heights k found.depth p.peaks p.low ok.low h.sums in
-    let low : max found.depth (moved found.heights k (next_height found.heights.running k)).running ≤ 32 = omega (arith, p.low, now) in
+    let now : (moved found.heights k (next_height found.heights.running k)).running ≤ most_values = moved_low p.before found.heights k found.depth p.peaks p.low ok.low h.sums in
+    let low : max found.depth (moved found.heights k (next_height found.heights.running k)).running ≤ most_values = omega (arith, p.low, now) in
     let long : place + n ≤ length bytes = omega (arith, f.long, ap length f.splits, length-append f.spelling f.tail, length-drop place bytes, p.within) in
     let open_now : length (moved found.heights k (next_height found.heights.running k)).frames ≡ length go.0 = sym (length-map _ _) ∙ ap length h.stands in
     let level : levels 0 (p.before ++ k ∷ []) ≡ max found.nest (length (moved found.heights k (next_height found.heights.running k)).frames) =
     levels-snoc 0 p.before k ∙ ap (λ x. max x (level_after (end_level 0 p.before) k)) p.nested ∙ ap (λ x. max found.nest x) (ap (λ x. level_after x k) (leads_level [] p.parts p.before p.leads) ∙ allowed_level k p.parts go.0 go.1 ∙ sym open_now) in
-    let few : length go.0 ≤ 32 = few_open k p.parts go.0 placed go.1 (omega (arith, leads_level [] p.parts p.before p.leads, end-level-le 0 p.before, p.nested, p.few)) in
+    let few : length go.0 ≤ most_open = few_open k p.parts go.0 placed go.1 (omega (arith, leads_level [] p.parts p.before p.leads, end-level-le 0 p.before, p.nested, p.few)) in
     record {
       parsed = record {
         before = p.before ++ k ∷ [];
@@ -267,13 +268,13 @@ parse_step bytes place found k n fits p e none =
       further = omega (arith, f.long, spelled_long k f.spelling f.spells);
     }
   where
-    room : misplaced k p.parts ≡ None → k ≡ CondOpen → length (open_parts p.before) < 32
+    room : misplaced k p.parts ≡ None → k ≡ CondOpen → length (open_parts p.before) < most_open
     room placed is =
         let P : Token → Type 0 = λ x. misplaced x p.parts ≡ None in
-        let r : length p.parts < 32 = has_room p.parts (subst P is placed) in
+        let r : length p.parts < most_open = has_room p.parts (subst P is placed) in
         omega (arith, ap length (leads_open p.parts p.before p.leads))
 
-    few_open : (k : Token) (ps qs : List Part) → misplaced k ps ≡ None → allowed k ps ≡ Some qs → length ps ≤ 32 → length qs ≤ 32
+    few_open : (k : Token) (ps qs : List Part) → misplaced k ps ≡ None → allowed k ps ≡ Some qs → length ps ≤ most_open → length qs ≤ most_open
     few_open CondOpen ps qs placed e few = omega (arith, has_room ps placed, allowed_level CondOpen ps qs e)
     few_open CondThen ps qs placed e few = omega (arith, allowed_level CondThen ps qs e)
     few_open CondElse ps qs placed e few = omega (arith, allowed_level CondElse ps qs e)
@@ -324,7 +325,7 @@ unreadable_fault f before rest some u = misspelled_fault f before rest (misspell
 -- ---- refusals
 
 -- nothing is read
-pub parse_fault : (bytes : List ℕ) (place : ℕ) (found : Found) (f : CapFault) → ((i : ℕ) → get_or bytes i 0 < 256) → length bytes ≤ 32767 → place < length bytes
+pub parse_fault : (bytes : List ℕ) (place : ℕ) (found : Found) (f : CapFault) → ((i : ℕ) → get_or bytes i 0 < 256) → length bytes ≤ most_capability_bytes → place < length bytes
     → Parsed bytes place found → token_read (drop place bytes) ≡ Err f → IsRefusal bytes (record { fault = f; place = place })
 parse_fault bytes place found f fits short more p e =
     let some : drop place bytes ≢ [] = λ z. omega (arith, ap length z, length-drop place bytes) in
@@ -342,22 +343,22 @@ parse_fault bytes place found f fits short more p e =
     )
 
 -- a token that ran from the greatest height climbs by one
-climbs_by_one : (before : List Token) (k : Token) (s : State) → Sums next_height before s → s.running ≤ 32 → 32 < next_height s.running k → Comes next_height (before ++ k ∷ []) Run 33
+climbs_by_one : (before : List Token) (k : Token) (s : State) → Sums next_height before s → s.running ≤ most_values → most_values < next_height s.running k → Comes next_height (before ++ k ∷ []) Run (suc most_values)
 climbs_by_one before k s sums low high =
     let h : IsBest next_height before Run (Some s.running) = sums Run in
     let c : Comes next_height (before ++ k ∷ []) (next_mode Run k false) (next_height s.running k) = comes_on next_height before k Run false s.running h.1 in
     let P : Mode → Type 0 = λ m. Comes next_height (before ++ k ∷ []) m (next_height s.running k) in
     let Q : ℕ → Type 0 = λ x. Comes next_height (before ++ k ∷ []) Run x in
-    let top : next_height s.running k ≡ 33 = omega (arith, pushes-le k) in
+    let top : next_height s.running k ≡ suc most_values = omega (arith, pushes-le k) in
     subst Q top (subst P (to_run k high) c)
   where
-    to_run : (k : Token) → 32 < next_height s.running k → next_mode Run k false ≡ Run
+    to_run : (k : Token) → most_values < next_height s.running k → next_mode Run k false ≡ Run
     to_run CondElse high = absurd (omega arith)
     to_run CondThen high = refl
     to_run _ high = refl
 
 -- a token may not stand, or climbs too high
-pub parse_misplaced : (bytes : List ℕ) (place : ℕ) (found : Found) (k : Token) (n : ℕ) (f : CapFault) → ((i : ℕ) → get_or bytes i 0 < 256) → length bytes ≤ 32767
+pub parse_misplaced : (bytes : List ℕ) (place : ℕ) (found : Found) (k : Token) (n : ℕ) (f : CapFault) → ((i : ℕ) → get_or bytes i 0 < 256) → length bytes ≤ most_capability_bytes
     → Parsed bytes place found → token_read (drop place bytes) ≡ Ok (k, n) → fault_of found k ≡ Some f → IsRefusal bytes (record { fault = f; place = place })
 parse_misplaced bytes place found k n f fits short p e some =
     inr (
@@ -372,25 +373,25 @@ parse_misplaced bytes place found k n f fits short p e some =
     next : IsNext k (drop place bytes)
     next = (front.spelling, front.tail, front.spells, front.splits)
 
-    deep : misplaced k p.parts ≡ None → (b : Bool) → nat_le (next_height found.heights.running k) 32 ≡ b → cond b None (Some StackTooDeep) ≡ Some f → IsFault f p.before (drop place bytes)
+    deep : misplaced k p.parts ≡ None → (b : Bool) → nat_le (next_height found.heights.running k) most_values ≡ b → cond b None (Some StackTooDeep) ≡ Some f → IsFault f p.before (drop place bytes)
     deep placed true t g = absurd (cc)
     deep placed false t g =
         let go : (qs : List Part) × (allowed k p.parts ≡ Some qs) = goes_on k p.parts placed in
         let begins : Begins (p.before ++ k ∷ []) = context_begins _ _ (context_step p.before p.parts go.0 k p.context go.1) in
-        let high : 32 < next_height found.heights.running k = grind arith in
+        let high : most_values < next_height found.heights.running k = grind arith in
         let is : StackTooDeep ≡ f = cc in
         let P : CapFault → Type 0 = λ x. IsFault x p.before (drop place bytes) in
-        subst P is (k, next, climbs_now p.before k 33 begins (climbs_by_one p.before k found.heights p.heights (parsed_low bytes place found p) high))
+        subst P is (k, next, climbs_now p.before k (suc most_values) begins (climbs_by_one p.before k found.heights p.heights (parsed_low bytes place found p) high))
 
     is : (m : Option CapFault) → misplaced k (parts_of found.heights.frames) ≡ m
-        → first_fault m (cond (nat_le (next_height found.heights.running k) 32) None (Some StackTooDeep)) ≡ Some f → IsFault f p.before (drop place bytes)
+        → first_fault m (cond (nat_le (next_height found.heights.running k) most_values) None (Some StackTooDeep)) ≡ Some f → IsFault f p.before (drop place bytes)
     is (Some g) m e = misplaced_fault k p.parts f p.before (drop place bytes) (ap (λ x. misplaced k x) (sym p.stands) ∙ m ∙ e) p.leads next
-    is None m e = deep (ap (λ x. misplaced k x) (sym p.stands) ∙ m) (nat_le (next_height found.heights.running k) 32) refl e
+    is None m e = deep (ap (λ x. misplaced k x) (sym p.stands) ∙ m) (nat_le (next_height found.heights.running k) most_values) refl e
 
 -- ---- the end
 
 -- all is read, and some conditional is still in its first test
-pub parse_no_then : (bytes : List ℕ) (place : ℕ) (found : Found) → length bytes ≤ 32767 → length bytes ≤ place → Parsed bytes place found → are_in_test found.heights.frames ≡ true
+pub parse_no_then : (bytes : List ℕ) (place : ℕ) (found : Found) → length bytes ≤ most_capability_bytes → length bytes ≤ place → Parsed bytes place found → are_in_test found.heights.frames ≡ true
     → IsRefusal bytes (record { fault = NoThen; place = place })
 parse_no_then bytes place found short end p e =
     inr (
@@ -425,7 +426,7 @@ end_fine before tree formed is StackTooDeep (l, next, climbs) = nothing_next l n
 end_fine before tree formed is _ h = h.0 refl
 
 -- all is read
-pub parse_done : (bytes : List ℕ) (place : ℕ) (found : Found) (limits : Limits) → length bytes ≤ 32767 → length bytes ≤ place → Parsed bytes place found → are_in_test found.heights.frames ≡ false
+pub parse_done : (bytes : List ℕ) (place : ℕ) (found : Found) (limits : Limits) → length bytes ≤ most_capability_bytes → length bytes ≤ place → Parsed bytes place found → are_in_test found.heights.frames ≡ false
     → limits.depth ≡ found.depth → limits.nest ≡ found.nest → limits.bound ≡ top found.sizes.frames found.sizes.running → IsCapability bytes limits
 parse_done bytes place found limits short end p e depth_is nest_is bound_is =
     let Q : List Part → Type 0 = λ x. AreSettled x in

@@ -4,6 +4,7 @@ use Rattle.std.specs.Prelude.{Option, Some, None}
 use Rattle.std.proofs.lemmas.Grind.{common_steps}
 use Rattle.std.proofs.lemmas.Bool.{eqb-true}
 use Rattle.std.specs.List.{AllByRecursion}
+use Rattle.ti_base.specs.Limits.{greatest_constant}
 use Rattle.ti_cap.specs.declared.language.Token.{Token}
 use Rattle.ti_cap.specs.declared.language.Token.TheVariants.{Byte, Param, Constant, Store, Load, Compute, Print}
 use Rattle.ti_cap.specs.declared.language.Op.{Op}
@@ -22,7 +23,7 @@ use Rattle.ti_cap.proofs.FormatsSound.{FormatFront, format_sound}
 use Rattle.ti_cap.proofs.FormatsUnread.{format_final}
 
 -- digits and a brace are read as their number
-pub digits_again : (n i : ℕ) (ds t : List ℕ) → AllByRecursion IsDigit ds → number_from n ds ≤ 2147483647 → 0 < i + length ds
+pub digits_again : (n i : ℕ) (ds t : List ℕ) → AllByRecursion IsDigit ds → number_from n ds ≤ greatest_constant → 0 < i + length ds
     → digits_read n i (ds ++ 125 ∷ t) ≡ Ok (Constant (pos (number_from n ds)), i + length ds + 3)
 digits_again n i [] t all small some =
     brace_step n i 125 t refl (omega arith) ∙ ap (λ m. Ok (Constant (pos n), m + 3)) (omega arith)
@@ -170,7 +171,7 @@ pub record DigitsFront (n i : ℕ) (bytes : List ℕ) (token : Token) (len : ℕ
   pub digits : List ℕ
   pub tail : List ℕ
   pub all : AllByRecursion IsDigit digits
-  pub small : number_from n digits ≤ 2147483647
+  pub small : number_from n digits ≤ greatest_constant
   pub some : 0 < i + length digits
   pub splits : bytes ≡ digits ++ 125 ∷ tail
   pub is : token ≡ Constant (pos (number_from n digits))
@@ -187,12 +188,12 @@ read_token_is k l m n e = ap (λ p. p.0) (pair_of (k, m) (l, n) _ _ refl refl e)
 pub read_length_is : (k l : Token) (m n : ℕ) → read_as k m ≡ read_as l n → m ≡ n
 read_length_is k l m n e = ap (λ p. p.1) (pair_of (k, m) (l, n) _ _ refl refl e)
 
-digits_sound : (n i : ℕ) (bytes : List ℕ) (token : Token) (len : ℕ) → n ≤ 2147483647 → digits_read n i bytes ≡ Ok (token, len) → DigitsFront n i bytes token len
+digits_sound : (n i : ℕ) (bytes : List ℕ) (token : Token) (len : ℕ) → n ≤ greatest_constant → digits_read n i bytes ≡ Ok (token, len) → DigitsFront n i bytes token len
 unfolding digits_read
 digits_sound n i [] token len small e = absurd (cc)
 digits_sound n i (c ∷ cs) token len small e =
     elim (chosen (nat_le 48 c && nat_le c 57) e) [
-      | inl (d, e) ↦ elim (chosen (nat_le (10 * n + (c - 48)) 2147483647) e) [
+      | inl (d, e) ↦ elim (chosen (nat_le (10 * n + (c - 48)) greatest_constant) e) [
         | inl (l, e) ↦
             let r : DigitsFront (10 * n + (c - 48)) (i + 1) cs token len = digits_sound (10 * n + (c - 48)) (i + 1) cs token len (grind (arith, common_steps, l)) e in
             record {
@@ -330,7 +331,7 @@ unfolding digits_read
 digits_final n i [] more f uncut e = absurd (uncut (cc))
 digits_final n i (c ∷ cs) more f uncut e =
     still (nat_le 48 c && nat_le c 57) _ _ _ _ f
-    (still (nat_le (10 * n + (c - 48)) 2147483647) _ _ _ _ f (digits_final (10 * n + (c - 48)) (i + 1) cs more f uncut) (λ e. e))
+    (still (nat_le (10 * n + (c - 48)) greatest_constant) _ _ _ _ f (digits_final (10 * n + (c - 48)) (i + 1) cs more f uncut) (λ e. e))
     (λ e. e) e
 
 parameter_final : (cs more : List ℕ) (f : CapFault) → f ≢ CutShort → parameter_read cs ≡ Err f → parameter_read (cs ++ more) ≡ Err f

@@ -5,6 +5,7 @@ use Rattle.std.proofs.lemmas.List.{append-nil}
 use Rattle.std.proofs.lemmas.Grind.{common_steps}
 use Rattle.std.proofs.lemmas.Bool.{eqb-true}
 use Rattle.std.specs.List.{AllByRecursion}
+use Rattle.ti_base.specs.Limits.{greatest_constant}
 use Rattle.ti_cap.specs.declared.language.Token.{Token}
 use Rattle.ti_cap.specs.declared.language.Token.TheVariants.{Byte, Param, Constant, Store, Load, Print}
 use Rattle.ti_cap.specs.declared.language.Format.{Format}
@@ -23,14 +24,14 @@ use Rattle.ti_cap.proofs.Spelled.{token_again, token_final, AreBytes}
 IsEscapeCut : List ℕ → Type 0
 IsEscapeCut bytes = (token : Token) × (b : ℕ) × (more : List ℕ) × SpellsEscape token (bytes ++ b ∷ more)
 
-digits_cut : (n i : ℕ) (cs : List ℕ) → n ≤ 2147483647 → digits_read n i cs ≡ Err CutShort → AllByRecursion IsDigit cs × (number_from n cs ≤ 2147483647)
+digits_cut : (n i : ℕ) (cs : List ℕ) → n ≤ greatest_constant → digits_read n i cs ≡ Err CutShort → AllByRecursion IsDigit cs × (number_from n cs ≤ greatest_constant)
 unfolding digits_read
 digits_cut n i [] small e = (tt, small)
 digits_cut n i (c ∷ cs) small e =
     elim (chosen (nat_le 48 c && nat_le c 57) e) [
-      | inl (d, e) ↦ elim (chosen (nat_le (10 * n + (c - 48)) 2147483647) e) [
+      | inl (d, e) ↦ elim (chosen (nat_le (10 * n + (c - 48)) greatest_constant) e) [
         | inl (l, e) ↦
-            let r : AllByRecursion IsDigit cs × (number_from (10 * n + (c - 48)) cs ≤ 2147483647) = digits_cut (10 * n + (c - 48)) (i + 1) cs (grind (arith, common_steps, l)) e in
+            let r : AllByRecursion IsDigit cs × (number_from (10 * n + (c - 48)) cs ≤ greatest_constant) = digits_cut (10 * n + (c - 48)) (i + 1) cs (grind (arith, common_steps, l)) e in
             (((grind (arith, common_steps, d), grind (arith, common_steps, d)), r.0), r.1)
         | inr (l, e) ↦ absurd (cc)
       ]
@@ -41,7 +42,7 @@ braced_cut : (cs : List ℕ) → digits_read 0 0 cs ≡ Err CutShort → IsEscap
 unfolding IsEscapeCut
 braced_cut [] e = (Constant (pos 0), 48, 125 ∷ [], (0, refl, inr (48 ∷ [], ((omega arith, omega arith), tt), omega arith, refl, omega arith, refl)))
 braced_cut (c ∷ cs) e =
-    let r : AllByRecursion IsDigit (c ∷ cs) × (number_from 0 (c ∷ cs) ≤ 2147483647) = digits_cut 0 0 (c ∷ cs) (omega arith) e in
+    let r : AllByRecursion IsDigit (c ∷ cs) × (number_from 0 (c ∷ cs) ≤ greatest_constant) = digits_cut 0 0 (c ∷ cs) (omega arith) e in
     (Constant (pos (number_of (c ∷ cs))), 125, [], (number_of (c ∷ cs), refl, inr (c ∷ cs, r.0, omega arith, refl, r.1, refl)))
 
 quoted_cut : (cs : List ℕ) → AreBytes cs → quoted_read cs ≡ Err CutShort → IsEscapeCut (39 ∷ cs)
@@ -197,7 +198,7 @@ named c cs f uncut e =
     braced n i [] e = absurd (uncut (cc))
     braced n i (c ∷ cs) e =
         elim (chosen (nat_le 48 c && nat_le c 57) e) [
-          | inl (d, e) ↦ elim (chosen (nat_le (10 * n + (c - 48)) 2147483647) e) [ inl (l, e) ↦ braced (10 * n + (c - 48)) (i + 1) cs e | inr (l, e) ↦ cc ]
+          | inl (d, e) ↦ elim (chosen (nat_le (10 * n + (c - 48)) greatest_constant) e) [ inl (l, e) ↦ braced (10 * n + (c - 48)) (i + 1) cs e | inr (l, e) ↦ cc ]
           | inr (d, e) ↦ elim (chosen (nat_eq c 125 && nat_lt 0 i) e) [ inl (b, e) ↦ absurd (cc) | inr (b, e) ↦ cc ]
         ]
 

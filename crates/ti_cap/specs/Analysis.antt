@@ -1,5 +1,6 @@
 -- How the analyser moves with each token. Private clauses alone cite this; proofs/ ties it to the paths of a tree.
 use Rattle.std.specs.Prelude.{ℕ, ◌+◌, max, map, List, [], ◌∷◌, length, Option, Some, None, Bool, false, is_none, ◌&&◌, ◌||◌, nat_le, nat_lt, if◌then◌else◌, fold}
+use Rattle.ti_base.specs.Limits.{most_open, most_values}
 use Rattle.ti_cap.specs.declared.language.Token.{Token}
 use Rattle.ti_cap.specs.declared.language.Token.TheVariants.{CondOpen, CondThen, CondElse, CondClose}
 use Rattle.ti_cap.specs.declared.language.CapFault.{CapFault}
@@ -92,7 +93,7 @@ misplaced_close _ = None
 
 -- the fault of a token that may not stand in these parts
 abbrev pub misplaced : Token → List Part → Option CapFault
-misplaced CondOpen parts = if nat_lt (length parts) 32 then None else Some NestTooDeep
+misplaced CondOpen parts = if nat_lt (length parts) most_open then None else Some NestTooDeep
 misplaced CondThen parts = misplaced_then parts
 misplaced CondElse parts = misplaced_else parts
 misplaced CondClose parts = misplaced_close parts
@@ -125,8 +126,8 @@ abbrev pub first_fault : Option CapFault → Option CapFault → Option CapFault
 first_fault (Some fault) other = Some fault
 first_fault None other = other
 
--- the fault of a token where parsing has come so far: by its place, or a height of 33
+-- the fault of a token where parsing has come so far: by its place, or a height above the limit
 abbrev pub fault_of : Found → Token → Option CapFault
 fault_of found token =
     first_fault (misplaced token (parts_of found.heights.frames))
-    (if nat_le (next_height found.heights.running token) 32 then None else Some StackTooDeep)
+    (if nat_le (next_height found.heights.running token) most_values then None else Some StackTooDeep)

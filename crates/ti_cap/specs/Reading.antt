@@ -1,6 +1,7 @@
 -- The lexer on lists, which private clauses alone cite: the token at the front of some bytes and how many bytes spell it,
 -- or why there is none.
 use Rattle.std.specs.Prelude.{ℕ, ◌+◌, ◌-◌, ◌*◌, pos, List, [], ◌∷◌, length, map, Result, Ok, Err, Option, Some, None, is_some, Bool, nat_eq, nat_le, nat_lt, ◌&&◌, ◌||◌, if◌then◌else◌}
+use Rattle.ti_base.specs.Limits.{greatest_width, greatest_constant}
 use Rattle.ti_cap.specs.declared.language.Token.{Token}
 use Rattle.ti_cap.specs.declared.language.Token.TheVariants.{Byte, Param, Constant, Store, Load, Length, Compute, Increment, Char, Print, CondOpen, CondThen, CondElse, CondClose}
 use Rattle.ti_cap.specs.declared.language.Op.{Op}
@@ -46,7 +47,7 @@ unfoldable pub digits_read : ℕ → ℕ → List ℕ → Reading
 digits_read n i [] = Err CutShort
 digits_read n i (c ∷ cs) =
     if nat_le 48 c && nat_le c 57
-    then (if nat_le (10 * n + (c - 48)) 2147483647 then digits_read (10 * n + (c - 48)) (i + 1) cs else Err BadConstant)
+    then (if nat_le (10 * n + (c - 48)) greatest_constant then digits_read (10 * n + (c - 48)) (i + 1) cs else Err BadConstant)
     else (if nat_eq c 125 && nat_lt 0 i then Ok (Constant (pos n), i + 3) else Err BadConstant)
 
 -- the front that passes a test
@@ -105,13 +106,13 @@ abbrev pub precision_read : Format → ℕ → List ℕ → Reading
 precision_read f n [] = Err CutShort
 precision_read f n (c ∷ cs) =
     if nat_eq c 46
-    then (if nat_lt 255 (number_of (front is_digit cs)) then Err BadFormat
+    then (if nat_lt greatest_width (number_of (front is_digit cs)) then Err BadFormat
     else letter_read (record f { precision = Some (number_of (front is_digit cs)) }) (n + 1 + length (front is_digit cs)) (rest is_digit cs))
     else letter_read f n (c ∷ cs)
 
 abbrev pub width_read : Format → ℕ → List ℕ → Reading
 width_read f n bytes =
-    if nat_lt 255 (number_of (front is_digit bytes)) then Err BadFormat
+    if nat_lt greatest_width (number_of (front is_digit bytes)) then Err BadFormat
     else precision_read (record f { width = number_of (front is_digit bytes) }) (n + length (front is_digit bytes)) (rest is_digit bytes)
 
 unfoldable pub format_read : List ℕ → Reading

@@ -1,5 +1,6 @@
 -- Why bytes are no capability, and where.
-use Rattle.std.specs.Prelude.{◌≡◌, ◌≢◌, ℕ, ◌<◌, ◌≤◌, ◌⊎◌, List, [], ◌∷◌, ◌++◌, length, take, drop, if◌then◌else◌, nat_eq, nat_le, ◌&&◌, ◌||◌}
+use Rattle.std.specs.Prelude.{◌≡◌, ◌≢◌, ℕ, suc, ◌<◌, ◌≤◌, ◌⊎◌, List, [], ◌∷◌, ◌++◌, length, take, drop, if◌then◌else◌, nat_eq, nat_le, ◌&&◌, ◌||◌}
+use Rattle.ti_base.specs.Limits.{most_capability_bytes, most_open, most_values}
 use Rattle.ti_cap.specs.declared.language.Token.{Token}
 use Rattle.ti_cap.specs.declared.language.Token.TheVariants.{CondOpen, CondThen, CondElse, CondClose}
 use Rattle.ti_cap.specs.declared.language.CapFault.{CapFault}
@@ -87,8 +88,8 @@ IsFault NoThen before rest =
     (IsStray CondElse before rest × IsInFirstTest (open_parts before))
     ⊎ ((IsStray CondClose before rest × (open_parts before ≢ []))
     ⊎ ((rest ≡ []) × ((tree : Sequence) → IsTree tree → tokens tree ≢ before)))
-IsFault NestTooDeep before rest = IsNext CondOpen rest × (32 ≤ length (open_parts before))
-IsFault StackTooDeep before rest = (token : Token) × IsNext token rest × Climbs before token 33
+IsFault NestTooDeep before rest = IsNext CondOpen rest × (most_open ≤ length (open_parts before))
+IsFault StackTooDeep before rest = (token : Token) × IsNext token rest × Climbs before token (suc most_values)
 IsFault fault before rest = (rest ≢ []) × IsUnreadable rest fault
 
 -- the fault stands at this place
@@ -106,9 +107,9 @@ IsSoundBelow bytes place = (fault : CapFault) (q : ℕ) → q < place → ¬ Has
 -- the refusal: too long, or else the fault at the least place
 abbrev pub IsRefusal : List ℕ → CapRefused → Type 0
 IsRefusal bytes r =
-    ((32767 < length bytes) × (r ≡ record { fault = TooLong; place = 32767 }))
-    ⊎ ((length bytes ≤ 32767) × HasFault bytes r.fault r.place × IsSoundBelow bytes r.place)
+    ((most_capability_bytes < length bytes) × (r ≡ record { fault = TooLong; place = most_capability_bytes }))
+    ⊎ ((length bytes ≤ most_capability_bytes) × HasFault bytes r.fault r.place × IsSoundBelow bytes r.place)
 
 -- bytes with no fault
 abbrev pub IsFaultless : List ℕ → Type 0
-IsFaultless bytes = (length bytes ≤ 32767) × ((fault : CapFault) (place : ℕ) → ¬ HasFault bytes fault place)
+IsFaultless bytes = (length bytes ≤ most_capability_bytes) × ((fault : CapFault) (place : ℕ) → ¬ HasFault bytes fault place)

@@ -1,5 +1,6 @@
 -- What a scan has found, by its counts and the open conditionals. Private clauses alone cite this.
 use Rattle.std.specs.Prelude.{ℕ, ◌≡◌, ◌+◌, ◌-◌, ◌≤◌, max, map, List, take, reverse, fold, Option, Some, None}
+use Rattle.ti_base.specs.Limits.{most_open}
 use Rattle.ti_cap.specs.declared.extent.Extent.{Extent}
 use Rattle.ti_cap.specs.declared.frame.Frame.{Frame}
 use Rattle.ti_cap.specs.declared.language.CapFault.{CapFault}
@@ -51,7 +52,7 @@ pub record IsInOrder (room : ℕ) (s : Scan) : Type 0 where
 
 -- a fault that more room for open conditionals does not cure
 abbrev pub IsSure : ℕ → CapFault → Type 0
-IsSure room fault = fault ≡ NestTooDeep → room ≡ 32
+IsSure room fault = fault ≡ NestTooDeep → room ≡ most_open
 
 -- the counts after values are popped and one is pushed
 abbrev pub pushed : Scan → ℕ → Scan

@@ -11,25 +11,27 @@ use crate::frame::Frame;
 use crate::language::Token;
 use arrayvec::ArrayVec;
 use std::marker::Model;
+use ti_base::MOST_OPEN;
 
-/// The greatest value with which a path can run here, and what waits in the open conditionals. At most 32767 tokens
-/// write at most 65535 bytes each, which fits 32 bits.
+/// The greatest value with which a path can run here, and what waits in the open conditionals. A token writes
+/// fewer than 2^16 bytes, so the bytes of a whole capability fit 32 bits.
 #[derive(Drop)]
 pub struct Analysis {
     running: u32,
-    frames: ArrayVec<Frame, 32>,
+    frames: ArrayVec<Frame, MOST_OPEN>,
 }
 
 impl Model for Analysis {
     ghost use Rattle.std.specs.Prelude.{◌≤◌, reverse};
     ghost use Rattle.arrayvec.specs.ArrayVec.{array_vec_len};
+    ghost use Rattle.ti_base.specs.Limits.{most_open};
     ghost use Rattle.ti_cap.specs.Analysis.{State};
 
     ghost Value = { State };
 
     ghost view = { λ a. record { running = a.running; frames = reverse a.frames.items } };
 
-    ghost invariant = { λ a. array_vec_len a.frames ≤ 32 };
+    ghost invariant = { λ a. array_vec_len a.frames ≤ most_open };
 }
 
 /// The greater of what waits, if anything does, and another value.
@@ -44,6 +46,7 @@ fn joined(waits: Option<u32>, value: u32) -> u32
 
 impl Analysis {
     ghost use Rattle.std.specs.Prelude.{◌≡◌, ◌<◌, [], length};
+    ghost use Rattle.ti_base.specs.Limits.{most_open};
     ghost use Rattle.ti_cap.specs.Analysis.{State, moved_open, moved_then, moved_else, moved_close, moved, top};
 
     /// No token yet.
@@ -65,7 +68,7 @@ impl Analysis {
 
     /// A conditional begins; `after` is the value behind its `%?`.
     fn enter(&mut self, after: u32)
-        requires { length self.old.frames < 32 }
+        requires { length self.old.frames < most_open }
         ensures { self.new ≡ moved_open after self.old.frames }
     {
         self.running = after;
@@ -115,7 +118,7 @@ impl Analysis {
     /// Meets a token, of which `after` is the value that it makes of the running one.
     #[inline(always)]
     pub fn meet(&mut self, token: &Token, after: u32)
-        requires { token.now ≡ Token.CondOpen → length self.old.frames < 32 }
+        requires { token.now ≡ Token.CondOpen → length self.old.frames < most_open }
         ensures { self.new ≡ moved self.old token.now after }
     {
         match token {

@@ -9,9 +9,10 @@ ghost use Rattle.ti_cap.specs.Reading.{token_read, escape_read, parameter_read, 
 
 use crate::language::{CapFault, Op, Token};
 use crate::read_format::read_format;
+use ti_base::GREATEST_CONSTANT;
 
-/// The greatest constant between braces.
-const GREATEST: u64 = 2147483647;
+/// The greatest constant between braces, in the width that one digit more takes.
+const GREATEST: u64 = GREATEST_CONSTANT as u64;
 
 /// The token at the front, and how many bytes spell it.
 #[inline(always)]

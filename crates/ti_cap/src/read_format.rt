@@ -6,13 +6,15 @@
 
 ghost use Rattle.std.specs.Prelude.{◌≡◌, ◌+◌, ◌<◌, ◌≤◌, ◌^◌, length, drop, IfSome, IfNone};
 ghost use Rattle.std.specs.List.{prefix_len};
+ghost use Rattle.ti_base.specs.Limits.{greatest_width};
 ghost use Rattle.ti_cap.specs.Spelling.{number_of};
 ghost use Rattle.ti_cap.specs.Reading.{format_read, width_read, precision_read, letter_read, flagged, plain_format, conversion_of, is_flag, is_plain_flag, is_digit, opens_format, print_read, front, rest};
 
 use crate::language::{CapFault, Conversion, Format, Token};
+use ti_base::GREATEST_WIDTH;
 
-/// The greatest width or precision.
-const GREATEST: u16 = 255;
+/// The greatest width or precision, in the width that one digit more takes.
+const GREATEST: u16 = GREATEST_WIDTH as u16;
 
 /// Whether something before the conversion of a format may begin with this byte.
 fn opens_format(byte: u8) -> bool
@@ -208,16 +210,15 @@ fn conversion(letter: u8) -> Option<Conversion>
     }
 }
 
-/// The number that the digits at the front stand for, and how many they are, or none where it is above 255.
+/// The number that the digits at the front stand for, and how many they are, or none where it is above the limit.
 #[tactic(auto, using(crate::proofs::Fronts::front_within, crate::proofs::Fronts::rest_behind))]
 fn small_number(bytes: &[u8]) -> Option<(u8, usize)>
-    ensures none { IfNone result (255 < number_of (front is_digit bytes.now)) }
+    ensures none { IfNone result (greatest_width < number_of (front is_digit bytes.now)) }
     ensures number { IfSome result (λ (number, count). number ≡ number_of (front is_digit bytes.now)) }
     ensures count { IfSome result (λ (number, count). count ≡ length (front is_digit bytes.now)) }
     ensures within { IfSome result (λ (number, count). count ≤ length bytes.now) }
     ensures left { IfSome result (λ (number, count). drop count bytes.now ≡ rest is_digit bytes.now) }
 {
-    // Wide enough for one digit more than the limit needs.
     let mut number: u16 = 0;
     for (count, byte) in bytes.iter().enumerate() {
         if !byte.is_ascii_digit() {

@@ -8,9 +8,7 @@ ghost use Rattle.std.specs.Prelude.{◌≡◌};
 
 use crate::extent::Extent;
 use crate::language::{CapFault, Op, Token};
-
-/// The greatest height of the stack.
-const MOST_VALUES: u32 = 32;
+use ti_base::MOST_VALUES;
 
 /// What waits in an open conditional.
 #[derive(Clone, Copy)]
@@ -44,6 +42,7 @@ pub struct Scan {
 
 impl Scan {
     ghost use Rattle.std.specs.Prelude.{ℕ, ◌≡◌, ◌≤◌, ◌<◌, ◌+◌, ◌-◌, ◌^◌, List, length, map, Some, None, OnOk, IfErr};
+    ghost use Rattle.ti_base.specs.Limits.{most_open, most_values};
     ghost use Rattle.ti_cap.specs.declared.language.Token.{Token};
     ghost use Rattle.ti_cap.specs.declared.language.CapFault.{CapFault};
     ghost use Rattle.ti_cap.specs.declared.scan.Open.{Open};
@@ -70,9 +69,9 @@ impl Scan {
         opens: &mut [Open; ROOM],
         token: Token,
     ) -> Result<(), CapFault>
-        requires room { ROOM ≤ 32 }
-        requires low { self.old.here.height ≤ 32 }
-        requires small { self.old.here.size ≤ 2147418113 }
+        requires room { ROOM ≤ most_open }
+        requires low { self.old.here.height ≤ most_values }
+        requires small { self.old.here.size < 2 ^ 31 }
         requires order { IsInOrder ROOM self.old }
         ensures refused { IfErr result (λ fault. IsSure ROOM fault → fault_of (found_of self.old opens.old) token ≡ Some fault) }
         ensures taken { OnOk result (found_of self.new opens.new ≡ found_after (found_of self.old opens.old) token) }
@@ -109,13 +108,13 @@ impl Scan {
     /// Pops values, and pushes one.
     #[inline(always)]
     fn push(&mut self, popped: u32) -> Result<(), CapFault>
-        requires { self.old.here.height ≤ 32 }
-        ensures refused { IfErr result (λ fault. (fault ≡ CapFault.StackTooDeep) × (32 < self.old.here.height - popped + 1)) }
+        requires { self.old.here.height ≤ most_values }
+        ensures refused { IfErr result (λ fault. (fault ≡ CapFault.StackTooDeep) × (most_values < self.old.here.height - popped + 1)) }
         ensures taken { OnOk result (self.new ≡ pushed self.old popped) }
-        ensures fine { OnOk result (self.old.here.height - popped + 1 ≤ 32) }
+        ensures fine { OnOk result (self.old.here.height - popped + 1 ≤ most_values) }
     {
         let height = self.here.height.saturating_sub(popped) + 1;
-        if height > MOST_VALUES {
+        if height > MOST_VALUES as u32 {
             return Err(CapFault::StackTooDeep);
         }
         self.here.height = height;
@@ -126,8 +125,8 @@ impl Scan {
     /// A conditional begins.
     #[inline(always)]
     fn enter<const ROOM: usize>(&mut self, opens: &mut [Open; ROOM]) -> Result<(), CapFault>
-        requires room { ROOM ≤ 32 }
-        requires low { self.old.here.height ≤ 32 }
+        requires room { ROOM ≤ most_open }
+        requires low { self.old.here.height ≤ most_values }
         requires order { IsInOrder ROOM self.old }
         ensures refused { IfErr result (λ fault. IsSure ROOM fault → fault_of (found_of self.old opens.old) Token.CondOpen ≡ Some fault) }
         ensures taken { OnOk result (found_of self.new opens.new ≡ found_after (found_of self.old opens.old) Token.CondOpen) }
@@ -146,7 +145,7 @@ impl Scan {
     /// A test ends: a path may fail here, and go on after the `%e` or `%;` to come.
     #[inline(always)]
     fn test<const ROOM: usize>(&mut self, opens: &mut [Open; ROOM]) -> Result<(), CapFault>
-        requires low { self.old.here.height ≤ 32 }
+        requires low { self.old.here.height ≤ most_values }
         requires order { IsInOrder ROOM self.old }
         ensures refused { IfErr result (λ fault. fault_of (found_of self.old opens.old) Token.CondThen ≡ Some fault) }
         ensures taken { OnOk result (found_of self.new opens.new ≡ found_after (found_of self.old opens.old) Token.CondThen) }
@@ -171,7 +170,7 @@ impl Scan {
     /// A body ends: what it ended with waits for the `%;`, and what its test failed with goes on.
     #[inline(always)]
     fn turn<const ROOM: usize>(&mut self, opens: &mut [Open; ROOM]) -> Result<(), CapFault>
-        requires low { self.old.here.height ≤ 32 }
+        requires low { self.old.here.height ≤ most_values }
         requires order { IsInOrder ROOM self.old }
         ensures refused { IfErr result (λ fault. fault_of (found_of self.old opens.old) Token.CondElse ≡ Some fault) }
         ensures taken { OnOk result (found_of self.new opens.new ≡ found_after (found_of self.old opens.old) Token.CondElse) }
@@ -201,7 +200,7 @@ impl Scan {
     #[inline(always)]
     #[tactic(auto, using(crate::proofs::Scanned::joined_height, crate::proofs::Scanned::joined_size))]
     fn leave<const ROOM: usize>(&mut self, opens: &[Open; ROOM]) -> Result<(), CapFault>
-        requires low { self.old.here.height ≤ 32 }
+        requires low { self.old.here.height ≤ most_values }
         requires order { IsInOrder ROOM self.old }
         ensures refused { IfErr result (λ fault. fault_of (found_of self.old opens.now) Token.CondClose ≡ Some fault) }
         ensures taken { OnOk result (found_of self.new opens.now ≡ found_after (found_of self.old opens.now) Token.CondClose) }

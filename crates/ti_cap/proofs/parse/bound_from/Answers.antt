@@ -1,4 +1,4 @@
-use Rattle.std.proofs.Common.{ℕ, ◌+◌, ◌≤◌, refl, sym, subst, arith, ◌∙◌}
+use Rattle.std.proofs.Common.{ℕ, ◌+◌, ◌<◌, ◌^◌, refl, sym, subst, arith, ◌∙◌}
 use Rattle.ti_cap.specs.Analysis.{State, moved}
 use Rattle.ti_cap.specs.Capability.{HasBound}
 use Rattle.ti_cap.proofs.Bounded.{Summed, Step, summed_start, summed_small, summed_step, summed_end}
@@ -11,7 +11,7 @@ loop-token-init c =
 
 pub overflow_add-size : goal.overflow_add-size
 overflow_add-size c =
-    let small : c.loop-token.sizes.running ≤ 2147418113 = summed_small c.args.tape.left c.args.longest c.loop-token.tape c.loop-token.sizes (omega (arith, c.ranges.longest)) c.loop-token.invariant in
+    let small : c.loop-token.sizes.running < 2 ^ 31 = summed_small c.args.tape.left c.args.longest c.loop-token.tape c.loop-token.sizes (omega (arith, c.ranges.longest)) c.loop-token.invariant in
     omega (arith, c.running.ensures, c.size.ensures.small)
 
 pub meet-requires : goal.meet-requires
