@@ -4,28 +4,28 @@ use Rattle.std.proofs.lemmas.Grind.{common_steps}
 use Rattle.ti_base.specs.Limits.{greatest_constant}
 use Rattle.ti_cap.specs.declared.language.Token.TheVariants.{Constant}
 use Rattle.ti_cap.specs.declared.language.CapFault.TheVariants.{CutShort, BadConstant}
-use Rattle.ti_cap.specs.Spelling.{number_from}
+use Rattle.ti_cap.specs.Spelling.{number_from, with_digit}
 use Rattle.ti_cap.specs.Reading.{digits_read, front, is_digit}
 
 -- a number grows with each digit
 pub number_from-ge : (n : ℕ) (ds : List ℕ) → n ≤ number_from n ds
 number_from-ge n [] = omega arith
-number_from-ge n (c ∷ cs) = let h : 10 * n + (c - 48) ≤ number_from (10 * n + (c - 48)) cs = number_from-ge (10 * n + (c - 48)) cs in omega arith
+number_from-ge n (c ∷ cs) = let h : with_digit n c ≤ number_from (with_digit n c) cs = number_from-ge (with_digit n c) cs in omega arith
 
 pub number_from-append : (n : ℕ) (ds es : List ℕ) → number_from n (ds ++ es) ≡ number_from (number_from n ds) es
 number_from-append n [] es = refl
-number_from-append n (c ∷ cs) es = number_from-append (10 * n + (c - 48)) cs es
+number_from-append n (c ∷ cs) es = number_from-append (with_digit n c) cs es
 
 -- the digit at a place is the next
 pub number_from-next : (n i : ℕ) (ds : List ℕ) → i < length ds → number_from n (drop i ds) ≡ number_from (10 * n + (get_or ds i 0 - 48)) (drop (i + 1) ds)
 number_from-next n i ds h = rw add-one (ap (λ x. number_from n x) (drop-cons ds i 0 h))
 
-pub digit_step : (n i c : ℕ) (cs : List ℕ) → 48 ≤ c → c ≤ 57 → 10 * n + (c - 48) ≤ greatest_constant
-    → digits_read n i (c ∷ cs) ≡ digits_read (10 * n + (c - 48)) (i + 1) cs
+pub digit_step : (n i c : ℕ) (cs : List ℕ) → 48 ≤ c → c ≤ 57 → with_digit n c ≤ greatest_constant
+    → digits_read n i (c ∷ cs) ≡ digits_read (with_digit n c) (i + 1) cs
 unfolding digits_read
 digit_step n i c cs low high small = grind (arith, common_steps)
 
-pub digit_large : (n i c : ℕ) (cs : List ℕ) → 48 ≤ c → c ≤ 57 → greatest_constant < 10 * n + (c - 48)
+pub digit_large : (n i c : ℕ) (cs : List ℕ) → 48 ≤ c → c ≤ 57 → greatest_constant < with_digit n c
     → digits_read n i (c ∷ cs) ≡ Err BadConstant
 unfolding digits_read
 digit_large n i c cs low high large = grind (arith, common_steps)

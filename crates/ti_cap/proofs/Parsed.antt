@@ -1,5 +1,5 @@
 -- What has been read up to a place, one turn of parsing, and its ends.
-use Rattle.std.proofs.Common.{◌≡◌, ◌≢◌, ℕ, suc, ◌+◌, ◌-◌, ◌<◌, ◌≤◌, ◌⊎◌, inl, inr, max, List, [], ◌∷◌, ◌++◌, length, take, drop, get_or, refl, sym, ◌∙◌, ap, subst, arith, Bool, true, false, cond, nat_eq, ◌||◌, ◌&&◌, length-append, drop-cons, Ok, Err, length-drop}
+use Rattle.std.proofs.Common.{◌≡◌, ◌≢◌, ℕ, suc, ◌+◌, ◌-◌, ◌<◌, ◌≤◌, ◌⊎◌, inl, inr, max, List, [], ◌∷◌, ◌++◌, length, take, drop, get_or, refl, sym, ◌∙◌, ap, subst, arith, Bool, true, false, cond, nat_eq, ◌||◌, length-append, drop-cons, Ok, Err, length-drop}
 use Rattle.std.specs.Prelude.{Option, Some, None, nat_le, ◌^◌}
 use Rattle.std.proofs.Math.Seq.{take-length, take-add}
 use Rattle.std.proofs.lemmas.List.{take-append-le, take-append-drop, take_at, drop_all, length-take-le, get_or-drop, length-map}
@@ -16,7 +16,7 @@ use Rattle.ti_cap.specs.Path.{met}
 use Rattle.ti_cap.specs.Pass.{Mode, Run, next_mode}
 use Rattle.ti_cap.specs.Spelling.{Spells, Written}
 use Rattle.ti_cap.specs.Reading.{token_read}
-use Rattle.ti_cap.specs.Refusal.{Begins, Climbs, Part, open_parts, IsNext, IsFault, IsUnreadable, IsSoundBelow, HasFault, escape_fault, IsRefusal}
+use Rattle.ti_cap.specs.Refusal.{Begins, Climbs, Part, open_parts, IsNext, IsFault, IsUnreadable, IsSoundBelow, HasFault, escape_fault, IsRefusal, opens_format}
 use Rattle.ti_cap.specs.Analysis.{State, parts_of, are_in_test, misplaced, moved, top, Found, nothing_found, found_after, first_fault, fault_of}
 use Rattle.ti_cap.specs.Capability.{IsCapability}
 use Rattle.ti_cap.proofs.Spelled.{Front, token_sound, AreBytes}
@@ -302,7 +302,7 @@ choice false f g p q = q
 escape_misspelled : (c : ℕ) → IsMisspelling (escape_fault c)
 escape_misspelled c =
     choice (nat_eq c 112) _ _ tt (choice (nat_eq c 80 || nat_eq c 103) _ _ tt (choice (nat_eq c 39 || nat_eq c 123) _ _ tt
-    (choice (nat_eq c 58 || (nat_eq c 35 || (nat_eq c 32 || (nat_eq c 46 || (nat_le 48 c && nat_le c 57))))) _ _ tt tt)))
+    (choice (opens_format c) _ _ tt tt)))
 
 misspelled : (rest : List ℕ) (f : CapFault) → IsUnreadable rest f → IsMisspelling f
 misspelled rest f u = elim u.why [

@@ -1,5 +1,5 @@
 -- Reading the token at the front and its spelling.
-use Rattle.std.proofs.Common.{◌≡◌, ℕ, suc, ◌+◌, ◌-◌, ◌*◌, ◌<◌, ◌≤◌, ◌≢◌, inl, inr, pos, List, [], ◌∷◌, ◌++◌, length, refl, sym, ◌∙◌, ap, subst, arith, Ok, Err, nat_eq, nat_le, nat_lt, ◌&&◌, cond, Bool, true, false, append_assoc, length-append}
+use Rattle.std.proofs.Common.{◌≡◌, ℕ, suc, ◌+◌, ◌-◌, ◌<◌, ◌≤◌, ◌≢◌, inl, inr, pos, List, [], ◌∷◌, ◌++◌, length, refl, sym, ◌∙◌, ap, subst, arith, Ok, Err, nat_eq, nat_le, nat_lt, ◌&&◌, cond, Bool, true, false, append_assoc, length-append}
 use Rattle.std.specs.Prelude.{Option, Some, None}
 use Rattle.std.proofs.lemmas.Grind.{common_steps}
 use Rattle.std.proofs.lemmas.Bool.{eqb-true}
@@ -14,7 +14,7 @@ use Rattle.ti_cap.specs.declared.language.Conversion.{Conversion}
 use Rattle.ti_cap.specs.declared.language.Conversion.TheVariants.{Signed, Octal, LowerHex, UpperHex, Text}
 use Rattle.ti_cap.specs.declared.language.CapFault.{CapFault}
 use Rattle.ti_cap.specs.declared.language.CapFault.TheVariants.{CutShort, UnknownEscape, BadVariable}
-use Rattle.ti_cap.specs.Spelling.{IsDigit, IsLetter, IsPlainFlag, AreFlags, number_from, number_of, op_letter, conversion_letter, Spells, SpellsEscape, SpellsConstant, SpellsFormat, SpellsWidth, SpellsPrecision}
+use Rattle.ti_cap.specs.Spelling.{IsDigit, IsLetter, IsPlainFlag, AreFlags, number_from, number_of, op_letter, conversion_letter, Spells, SpellsEscape, SpellsConstant, SpellsFormat, SpellsWidth, SpellsPrecision, with_digit}
 use Rattle.ti_cap.specs.Reading.{Reading, token_read, escape_read, parameter_read, is_letter, variable_of, variable_read, quoted_read, digits_read, begins_format, format_read, lone_letter, lone_tokens, lone_of, lone_or}
 use Rattle.ti_cap.proofs.Choices.{chosen, still, letter_found, letter_holds, letter_missed, apart, pair_of}
 use Rattle.ti_cap.proofs.Digits.{number_from-ge, digit_step, brace_step}
@@ -28,10 +28,10 @@ pub digits_again : (n i : ℕ) (ds t : List ℕ) → AllByRecursion IsDigit ds �
 digits_again n i [] t all small some =
     brace_step n i 125 t refl (omega arith) ∙ ap (λ m. Ok (Constant (pos n), m + 3)) (omega arith)
 digits_again n i (c ∷ cs) t all small some =
-    let ge : 10 * n + (c - 48) ≤ number_from (10 * n + (c - 48)) cs = number_from-ge (10 * n + (c - 48)) cs in
+    let ge : with_digit n c ≤ number_from (with_digit n c) cs = number_from-ge (with_digit n c) cs in
     digit_step n i c (cs ++ 125 ∷ t) all.0.0 all.0.1 (omega arith)
-    ∙ digits_again (10 * n + (c - 48)) (i + 1) cs t all.1 small (omega arith)
-    ∙ ap (λ m. Ok (Constant (pos (number_from (10 * n + (c - 48)) cs)), m + 3)) (omega arith)
+    ∙ digits_again (with_digit n c) (i + 1) cs t all.1 small (omega arith)
+    ∙ ap (λ m. Ok (Constant (pos (number_from (with_digit n c) cs)), m + 3)) (omega arith)
 
 abbrev pub read_as : Token → ℕ → Reading
 read_as token n = Ok (token, n)
@@ -193,9 +193,9 @@ unfolding digits_read
 digits_sound n i [] token len small e = absurd (cc)
 digits_sound n i (c ∷ cs) token len small e =
     elim (chosen (nat_le 48 c && nat_le c 57) e) [
-      | inl (d, e) ↦ elim (chosen (nat_le (10 * n + (c - 48)) greatest_constant) e) [
+      | inl (d, e) ↦ elim (chosen (nat_le (with_digit n c) greatest_constant) e) [
         | inl (l, e) ↦
-            let r : DigitsFront (10 * n + (c - 48)) (i + 1) cs token len = digits_sound (10 * n + (c - 48)) (i + 1) cs token len (grind (arith, common_steps, l)) e in
+            let r : DigitsFront (with_digit n c) (i + 1) cs token len = digits_sound (with_digit n c) (i + 1) cs token len (grind (arith, common_steps, l)) e in
             record {
               digits = c ∷ r.digits;
               tail = r.tail;
@@ -331,7 +331,7 @@ unfolding digits_read
 digits_final n i [] more f uncut e = absurd (uncut (cc))
 digits_final n i (c ∷ cs) more f uncut e =
     still (nat_le 48 c && nat_le c 57) _ _ _ _ f
-    (still (nat_le (10 * n + (c - 48)) greatest_constant) _ _ _ _ f (digits_final (10 * n + (c - 48)) (i + 1) cs more f uncut) (λ e. e))
+    (still (nat_le (with_digit n c) greatest_constant) _ _ _ _ f (digits_final (with_digit n c) (i + 1) cs more f uncut) (λ e. e))
     (λ e. e) e
 
 parameter_final : (cs more : List ℕ) (f : CapFault) → f ≢ CutShort → parameter_read cs ≡ Err f → parameter_read (cs ++ more) ≡ Err f

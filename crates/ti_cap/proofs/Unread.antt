@@ -1,5 +1,5 @@
 -- Why no token is read.
-use Rattle.std.proofs.Common.{◌≡◌, ℕ, ◌+◌, ◌-◌, ◌*◌, ◌≤◌, ◌≢◌, ◌⊎◌, inl, inr, pos, List, [], ◌∷◌, ◌++◌, length, refl, sym, ◌∙◌, ap, subst, arith, Ok, Err, nat_eq, nat_le, nat_lt, ◌&&◌, ◌||◌, cond, Bool, true, false}
+use Rattle.std.proofs.Common.{◌≡◌, ℕ, ◌+◌, ◌≤◌, ◌≢◌, ◌⊎◌, inl, inr, pos, List, [], ◌∷◌, ◌++◌, length, refl, sym, ◌∙◌, ap, subst, arith, Ok, Err, nat_eq, nat_le, nat_lt, ◌&&◌, ◌||◌, cond, Bool, true, false}
 use Rattle.std.specs.Prelude.{Option, Some, None, is_some}
 use Rattle.std.proofs.lemmas.List.{append-nil}
 use Rattle.std.proofs.lemmas.Grind.{common_steps}
@@ -13,9 +13,9 @@ use Rattle.ti_cap.specs.declared.language.Conversion.{Conversion}
 use Rattle.ti_cap.specs.declared.language.Conversion.TheVariants.{Signed, Octal, LowerHex, UpperHex, Text}
 use Rattle.ti_cap.specs.declared.language.CapFault.{CapFault}
 use Rattle.ti_cap.specs.declared.language.CapFault.TheVariants.{CutShort, UnknownEscape, BadParameter, BadVariable, BadConstant, BadFormat}
-use Rattle.ti_cap.specs.Spelling.{IsDigit, IsLetter, number_from, number_of, conversion_letter, SpellsEscape, SpellsFormat}
-use Rattle.ti_cap.specs.Reading.{Reading, token_read, escape_read, parameter_read, is_letter, variable_of, variable_read, quoted_read, digits_read, conversions, conversion_of, opens_format, begins_format, format_read, lone_of, lone_or}
-use Rattle.ti_cap.specs.Refusal.{IsCut, IsNext, IsUnreadable, escape_fault}
+use Rattle.ti_cap.specs.Spelling.{IsDigit, IsLetter, number_from, number_of, conversion_letter, SpellsEscape, SpellsFormat, with_digit}
+use Rattle.ti_cap.specs.Reading.{Reading, token_read, escape_read, parameter_read, is_letter, variable_of, variable_read, quoted_read, digits_read, conversions, conversion_of, begins_format, format_read, lone_of, lone_or}
+use Rattle.ti_cap.specs.Refusal.{IsCut, IsNext, IsUnreadable, escape_fault, opens_format}
 use Rattle.ti_cap.proofs.Choices.{chosen, apart, letter_found}
 use Rattle.ti_cap.proofs.FormatsUnread.{format_cut, format_fault}
 use Rattle.ti_cap.proofs.Spelled.{token_again, token_final, AreBytes}
@@ -29,9 +29,9 @@ unfolding digits_read
 digits_cut n i [] small e = (tt, small)
 digits_cut n i (c ∷ cs) small e =
     elim (chosen (nat_le 48 c && nat_le c 57) e) [
-      | inl (d, e) ↦ elim (chosen (nat_le (10 * n + (c - 48)) greatest_constant) e) [
+      | inl (d, e) ↦ elim (chosen (nat_le (with_digit n c) greatest_constant) e) [
         | inl (l, e) ↦
-            let r : AllByRecursion IsDigit cs × (number_from (10 * n + (c - 48)) cs ≤ greatest_constant) = digits_cut (10 * n + (c - 48)) (i + 1) cs (grind (arith, common_steps, l)) e in
+            let r : AllByRecursion IsDigit cs × (number_from (with_digit n c) cs ≤ greatest_constant) = digits_cut (with_digit n c) (i + 1) cs (grind (arith, common_steps, l)) e in
             (((grind (arith, common_steps, d), grind (arith, common_steps, d)), r.0), r.1)
         | inr (l, e) ↦ absurd (cc)
       ]
@@ -198,7 +198,7 @@ named c cs f uncut e =
     braced n i [] e = absurd (uncut (cc))
     braced n i (c ∷ cs) e =
         elim (chosen (nat_le 48 c && nat_le c 57) e) [
-          | inl (d, e) ↦ elim (chosen (nat_le (10 * n + (c - 48)) greatest_constant) e) [ inl (l, e) ↦ braced (10 * n + (c - 48)) (i + 1) cs e | inr (l, e) ↦ cc ]
+          | inl (d, e) ↦ elim (chosen (nat_le (with_digit n c) greatest_constant) e) [ inl (l, e) ↦ braced (with_digit n c) (i + 1) cs e | inr (l, e) ↦ cc ]
           | inr (d, e) ↦ elim (chosen (nat_eq c 125 && nat_lt 0 i) e) [ inl (b, e) ↦ absurd (cc) | inr (b, e) ↦ cc ]
         ]
 

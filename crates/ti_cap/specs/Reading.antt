@@ -1,6 +1,7 @@
 -- The lexer on lists, which private clauses alone cite: the token at the front of some bytes and how many bytes spell it,
 -- or why there is none.
-use Rattle.std.specs.Prelude.{ℕ, ◌+◌, ◌-◌, ◌*◌, pos, List, [], ◌∷◌, length, map, Result, Ok, Err, Option, Some, None, is_some, Bool, nat_eq, nat_le, nat_lt, ◌&&◌, ◌||◌, if◌then◌else◌}
+use Rattle.std.specs.Prelude.{ℕ, ◌+◌, ◌-◌, pos, List, [], ◌∷◌, length, map, Result, Ok, Err, Option, Some, None, is_some, Bool, nat_eq, nat_le, nat_lt, ◌&&◌, ◌||◌, if◌then◌else◌, codes}
+use Rattle.ti_base.specs.Letters.{letter}
 use Rattle.ti_base.specs.Limits.{greatest_width, greatest_constant}
 use Rattle.ti_cap.specs.declared.language.Token.{Token}
 use Rattle.ti_cap.specs.declared.language.Token.TheVariants.{Byte, Param, Constant, Store, Load, Length, Compute, Increment, Char, Print, CondOpen, CondThen, CondElse, CondClose}
@@ -11,7 +12,8 @@ use Rattle.ti_cap.specs.declared.language.Conversion.{Conversion}
 use Rattle.ti_cap.specs.declared.language.Conversion.TheVariants.{Signed, Octal, LowerHex, UpperHex, Text}
 use Rattle.ti_cap.specs.declared.language.CapFault.{CapFault}
 use Rattle.ti_cap.specs.declared.language.CapFault.TheVariants.{CutShort, UnknownEscape, BadParameter, BadVariable, BadConstant, BadFormat}
-use Rattle.ti_cap.specs.Spelling.{op_letter, conversion_letter, number_of, has}
+use Rattle.ti_cap.specs.Refusal.{opens_format}
+use Rattle.ti_cap.specs.Spelling.{op_letter, conversion_letter, with_digit, number_of, has}
 
 abbrev pub Reading : Type 0
 Reading = Result (Token × ℕ) CapFault
@@ -23,10 +25,10 @@ with_letter letter (x ∷ xs) c = if nat_eq c (letter x) then Some x else with_l
 
 abbrev pub parameter_read : List ℕ → Reading
 parameter_read [] = Err CutShort
-parameter_read (d ∷ ds) = if nat_le 49 d && nat_le d 57 then Ok (Param (d - 48), 3) else Err BadParameter
+parameter_read (d ∷ ds) = if nat_le (letter (codes "1")) d && nat_le d (letter (codes "9")) then Ok (Param (d - letter (codes "0")), 3) else Err BadParameter
 
 abbrev pub is_letter : ℕ → Bool
-is_letter c = (nat_le 65 c && nat_le c 90) || (nat_le 97 c && nat_le c 122)
+is_letter c = (nat_le (letter (codes "A")) c && nat_le c (letter (codes "Z"))) || (nat_le (letter (codes "a")) c && nat_le c (letter (codes "z")))
 
 abbrev pub variable_of : List ℕ → Result ℕ CapFault
 variable_of [] = Err CutShort
@@ -40,15 +42,18 @@ variable_read make (Err fault) = Err fault
 abbrev pub quoted_read : List ℕ → Reading
 quoted_read [] = Err CutShort
 quoted_read (n ∷ []) = Err CutShort
-quoted_read (n ∷ q ∷ rest) = if nat_eq q 39 then Ok (Constant (pos n), 4) else Err BadConstant
+quoted_read (n ∷ q ∷ rest) = if nat_eq q (letter (codes "'")) then Ok (Constant (pos n), 4) else Err BadConstant
 
--- behind `i` digits that stand for `n`
+abbrev pub is_digit : ℕ → Bool
+is_digit c = nat_le (letter (codes "0")) c && nat_le c (letter (codes "9"))
+
+-- after `i` digits that stand for `n`
 unfoldable pub digits_read : ℕ → ℕ → List ℕ → Reading
 digits_read n i [] = Err CutShort
 digits_read n i (c ∷ cs) =
-    if nat_le 48 c && nat_le c 57
-    then (if nat_le (10 * n + (c - 48)) greatest_constant then digits_read (10 * n + (c - 48)) (i + 1) cs else Err BadConstant)
-    else (if nat_eq c 125 && nat_lt 0 i then Ok (Constant (pos n), i + 3) else Err BadConstant)
+    if is_digit c
+    then (if nat_le (with_digit n c) greatest_constant then digits_read (with_digit n c) (i + 1) cs else Err BadConstant)
+    else (if nat_eq c (letter (codes "}")) && nat_lt 0 i then Ok (Constant (pos n), i + 3) else Err BadConstant)
 
 -- the front that passes a test
 abbrev pub front : (ℕ → Bool) → List ℕ → List ℕ
@@ -60,17 +65,14 @@ abbrev pub rest : (ℕ → Bool) → List ℕ → List ℕ
 rest p [] = []
 rest p (x ∷ xs) = if p x then rest p xs else x ∷ xs
 
-abbrev pub is_digit : ℕ → Bool
-is_digit c = nat_le 48 c && nat_le c 57
-
 abbrev pub is_plain_flag : ℕ → Bool
-is_plain_flag c = nat_eq c 35 || (nat_eq c 32 || nat_eq c 48)
+is_plain_flag c = nat_eq c (letter (codes "#")) || (nat_eq c (letter (codes " ")) || nat_eq c (letter (codes "0")))
 
 abbrev pub is_flag : ℕ → Bool
-is_flag c = nat_eq c 45 || (nat_eq c 43 || is_plain_flag c)
+is_flag c = nat_eq c (letter (codes "-")) || (nat_eq c (letter (codes "+")) || is_plain_flag c)
 
 abbrev pub is_colon : ℕ → Bool
-is_colon c = nat_eq c 58
+is_colon c = nat_eq c (letter (codes ":"))
 
 abbrev pub conversions : List Conversion
 conversions = Signed ∷ Octal ∷ LowerHex ∷ UpperHex ∷ Text ∷ []
@@ -79,15 +81,12 @@ abbrev pub conversion_of : ℕ → Option Conversion
 conversion_of c = with_letter conversion_letter conversions c
 
 -- a format may begin with one of these, or with its conversion
-abbrev pub opens_format : ℕ → Bool
-opens_format c = is_colon c || (nat_eq c 35 || (nat_eq c 32 || (nat_eq c 46 || is_digit c)))
-
 abbrev pub begins_format : ℕ → Bool
 begins_format c = opens_format c || is_some (conversion_of c)
 
 -- no width and no precision yet
 abbrev pub flagged : List ℕ → Format
-flagged flags = record { conversion = Signed; left = has 45 flags; plus = has 43 flags; space = has 32 flags; alternate = has 35 flags; zero = has 48 flags; width = 0; precision = None }
+flagged flags = record { conversion = Signed; left = has (letter (codes "-")) flags; plus = has (letter (codes "+")) flags; space = has (letter (codes " ")) flags; alternate = has (letter (codes "#")) flags; zero = has (letter (codes "0")) flags; width = 0; precision = None }
 
 -- a conversion alone
 abbrev pub plain_format : Conversion → Format
@@ -105,7 +104,7 @@ letter_read f n (c ∷ cs) = converted f (n + 1) (conversion_of c)
 abbrev pub precision_read : Format → ℕ → List ℕ → Reading
 precision_read f n [] = Err CutShort
 precision_read f n (c ∷ cs) =
-    if nat_eq c 46
+    if nat_eq c (letter (codes "."))
     then (if nat_lt greatest_width (number_of (front is_digit cs)) then Err BadFormat
     else letter_read (record f { precision = Some (number_of (front is_digit cs)) }) (n + 1 + length (front is_digit cs)) (rest is_digit cs))
     else letter_read f n (c ∷ cs)
@@ -128,22 +127,22 @@ print_read (c ∷ cs) = if begins_format c then format_read (c ∷ cs) else Err 
 
 -- the byte behind the `%` of a token that one byte spells there
 abbrev pub lone_letter : Token → ℕ
-lone_letter Length = 108
-lone_letter Increment = 105
-lone_letter Char = 99
-lone_letter CondOpen = 63
-lone_letter CondThen = 116
-lone_letter CondElse = 101
-lone_letter CondClose = 59
+lone_letter Length = letter (codes "l")
+lone_letter Increment = letter (codes "i")
+lone_letter Char = letter (codes "c")
+lone_letter CondOpen = letter (codes "?")
+lone_letter CondThen = letter (codes "t")
+lone_letter CondElse = letter (codes "e")
+lone_letter CondClose = letter (codes ";")
 lone_letter (Compute op) = op_letter op
-lone_letter _ = 37
+lone_letter _ = letter (codes "%")
 
 abbrev pub ops : List Op
 ops = Add ∷ Sub ∷ Mul ∷ Div ∷ Rem ∷ BitAnd ∷ BitOr ∷ BitXor ∷ Equal ∷ Greater ∷ Less ∷ And ∷ Or ∷ Not ∷ BitNot ∷ []
 
 -- the tokens that one byte spells behind the `%`
 abbrev pub lone_tokens : List Token
-lone_tokens = Byte 37 ∷ Length ∷ Increment ∷ Char ∷ CondOpen ∷ CondThen ∷ CondElse ∷ CondClose ∷ map (λ op. Compute op) ops
+lone_tokens = Byte (letter (codes "%")) ∷ Length ∷ Increment ∷ Char ∷ CondOpen ∷ CondThen ∷ CondElse ∷ CondClose ∷ map (λ op. Compute op) ops
 
 unfoldable pub lone_of : ℕ → Option Token
 lone_of c = with_letter lone_letter lone_tokens c
@@ -155,13 +154,13 @@ lone_or None other = other
 abbrev pub escape_read : List ℕ → Reading
 escape_read [] = Err CutShort
 escape_read (c ∷ cs) =
-    if nat_eq c 112 then parameter_read cs
-    else if nat_eq c 80 then variable_read (λ v. Store v) (variable_of cs)
-    else if nat_eq c 103 then variable_read (λ v. Load v) (variable_of cs)
-    else if nat_eq c 39 then quoted_read cs
-    else if nat_eq c 123 then digits_read 0 0 cs
+    if nat_eq c (letter (codes "p")) then parameter_read cs
+    else if nat_eq c (letter (codes "P")) then variable_read (λ v. Store v) (variable_of cs)
+    else if nat_eq c (letter (codes "g")) then variable_read (λ v. Load v) (variable_of cs)
+    else if nat_eq c (letter (codes "'")) then quoted_read cs
+    else if nat_eq c (letter (codes "{")) then digits_read 0 0 cs
     else lone_or (lone_of c) (if begins_format c then format_read (c ∷ cs) else Err UnknownEscape)
 
 abbrev pub token_read : List ℕ → Reading
 token_read [] = Err CutShort
-token_read (b ∷ bs) = if nat_eq b 37 then escape_read bs else Ok (Byte b, 1)
+token_read (b ∷ bs) = if nat_eq b (letter (codes "%")) then escape_read bs else Ok (Byte b, 1)

@@ -1,5 +1,6 @@
 -- Why bytes are no capability, and where.
-use Rattle.std.specs.Prelude.{◌≡◌, ◌≢◌, ℕ, suc, ◌<◌, ◌≤◌, ◌⊎◌, List, [], ◌∷◌, ◌++◌, length, take, drop, if◌then◌else◌, nat_eq, nat_le, ◌&&◌, ◌||◌}
+use Rattle.std.specs.Prelude.{Bool, ◌≡◌, ◌≢◌, ℕ, suc, ◌<◌, ◌≤◌, ◌⊎◌, List, [], ◌∷◌, ◌++◌, length, take, drop, if◌then◌else◌, nat_eq, nat_le, ◌&&◌, ◌||◌, codes}
+use Rattle.ti_base.specs.Letters.{letter}
 use Rattle.ti_base.specs.Limits.{most_capability_bytes, most_open, most_values}
 use Rattle.ti_cap.specs.declared.language.Token.{Token}
 use Rattle.ti_cap.specs.declared.language.Token.TheVariants.{CondOpen, CondThen, CondElse, CondClose}
@@ -48,20 +49,26 @@ IsNext token rest = (s : List ℕ) × (tail : List ℕ) × Spells token s × (re
 abbrev pub IsCut : List ℕ → Type 0
 IsCut rest = (token : Token) × (s : List ℕ) × (b : ℕ) × (more : List ℕ) × Spells token s × (s ≡ rest ++ b ∷ more)
 
--- the fault of an escape that has no spelling, by the byte behind its `%`
+-- the bytes with which a format starts, but for its conversion: a colon, a flag, a digit and a dot
+abbrev pub opens_format : ℕ → Bool
+opens_format c =
+    nat_eq c (letter (codes ":")) || (nat_eq c (letter (codes "#")) || (nat_eq c (letter (codes " "))
+    || (nat_eq c (letter (codes ".")) || (nat_le (letter (codes "0")) c && nat_le c (letter (codes "9"))))))
+
+-- the fault of an escape that has no spelling, by the byte after its `%`
 abbrev pub escape_fault : ℕ → CapFault
 escape_fault c =
-    if nat_eq c 112 then BadParameter
-    else if nat_eq c 80 || nat_eq c 103 then BadVariable
-    else if nat_eq c 39 || nat_eq c 123 then BadConstant
-    else if nat_eq c 58 || (nat_eq c 35 || (nat_eq c 32 || (nat_eq c 46 || (nat_le 48 c && nat_le c 57)))) then BadFormat
+    if nat_eq c (letter (codes "p")) then BadParameter
+    else if nat_eq c (letter (codes "P")) || nat_eq c (letter (codes "g")) then BadVariable
+    else if nat_eq c (letter (codes "'")) || nat_eq c (letter (codes "{")) then BadConstant
+    else if opens_format c then BadFormat
     else UnknownEscape
 
 -- no spelling is next, and this is why
 pub record IsUnreadable (rest : List ℕ) (fault : CapFault) : Type 0 where
   pub no_token : (token : Token) → ¬ IsNext token rest
   pub why : ((fault ≡ CutShort) × IsCut rest)
-      ⊎ ((c : ℕ) × (tail : List ℕ) × (rest ≡ 37 ∷ c ∷ tail) × ¬ IsCut rest × (fault ≡ escape_fault c))
+      ⊎ ((c : ℕ) × (tail : List ℕ) × (rest ≡ letter (codes "%") ∷ c ∷ tail) × ¬ IsCut rest × (fault ≡ escape_fault c))
 
 -- the token is next, and no tree goes on with it
 abbrev pub IsStray : Token → List Token → List ℕ → Type 0

@@ -8,7 +8,8 @@ ghost use Rattle.std.specs.Prelude.{◌≡◌, ◌+◌, ◌<◌, ◌≤◌, ◌^
 ghost use Rattle.std.specs.List.{prefix_len};
 ghost use Rattle.ti_base.specs.Limits.{greatest_width};
 ghost use Rattle.ti_cap.specs.Spelling.{number_of};
-ghost use Rattle.ti_cap.specs.Reading.{format_read, width_read, precision_read, letter_read, flagged, plain_format, conversion_of, is_flag, is_plain_flag, is_digit, opens_format, print_read, front, rest};
+ghost use Rattle.ti_cap.specs.Refusal.{opens_format};
+ghost use Rattle.ti_cap.specs.Reading.{format_read, width_read, precision_read, letter_read, flagged, plain_format, conversion_of, is_flag, is_plain_flag, is_digit, print_read, front, rest};
 
 use crate::language::{CapFault, Conversion, Format, Token};
 use ti_base::GREATEST_WIDTH;
