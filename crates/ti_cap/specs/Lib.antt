@@ -6,7 +6,5 @@ pub mod Pass
 pub mod Spelling
 pub mod Word
 pub mod Refusal
-pub mod Reading
 pub mod Capability
-pub mod Analysis
-pub mod Scan
+pub mod inner

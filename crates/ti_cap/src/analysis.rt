@@ -5,7 +5,7 @@
 //! frame an open conditional is needed, so the cost is constant a token, and no memory is taken.
 
 ghost use Rattle.std.specs.Prelude.{◌≡◌};
-ghost use Rattle.ti_cap.specs.Analysis.{join};
+ghost use Rattle.ti_cap.specs.inner.Analysis.{join};
 
 use crate::frame::Frame;
 use crate::language::Token;
@@ -25,7 +25,7 @@ impl Model for Analysis {
     ghost use Rattle.std.specs.Prelude.{◌≤◌, reverse};
     ghost use Rattle.arrayvec.specs.ArrayVec.{array_vec_len};
     ghost use Rattle.ti_base.specs.Limits.{most_open};
-    ghost use Rattle.ti_cap.specs.Analysis.{State};
+    ghost use Rattle.ti_cap.specs.inner.Analysis.{State};
 
     ghost Value = { State };
 
@@ -47,7 +47,7 @@ fn joined(waits: Option<u32>, value: u32) -> u32
 impl Analysis {
     ghost use Rattle.std.specs.Prelude.{◌≡◌, ◌<◌, [], length};
     ghost use Rattle.ti_base.specs.Limits.{most_open};
-    ghost use Rattle.ti_cap.specs.Analysis.{State, moved_open, moved_then, moved_else, moved_close, moved, top};
+    ghost use Rattle.ti_cap.specs.inner.Analysis.{State, moved_open, moved_then, moved_else, moved_close, moved, top};
 
     /// No token yet.
     pub fn new() -> Self

@@ -12,7 +12,7 @@ pub struct Extent {
 
 impl Extent {
     ghost use Rattle.std.specs.Prelude.{◌≡◌};
-    ghost use Rattle.ti_cap.specs.Scan.{joined};
+    ghost use Rattle.ti_cap.specs.inner.Scan.{joined};
 
     /// The greater height and the greater size of this and of what waits, if anything does.
     #[inline(always)]

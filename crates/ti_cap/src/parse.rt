@@ -3,7 +3,7 @@
 ghost use Rattle.std.specs.Prelude.{◌≡◌, ℕ, ◌≤◌, ◌++◌, [], ◌∷◌, List, length, IfOk, IfErr, IfSome, IfNone};
 ghost use Rattle.ti_base.specs.Limits.{most_capability_bytes, most_open, most_values};
 ghost use Rattle.ti_cap.specs.Refusal.{IsRefusal, IsFaultless};
-ghost use Rattle.ti_cap.specs.Scan.{IsSure};
+ghost use Rattle.ti_cap.specs.inner.Scan.{IsSure};
 ghost use Rattle.ti_cap.specs.Capability.{HasDepth, HasBound, HasNest, IsWellFormed, Spot, Takes, IsFirst, IsCapability, whole};
 
 use crate::analysis::Analysis;

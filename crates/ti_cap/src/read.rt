@@ -5,7 +5,7 @@
 //! Cost: linear in the bytes of the token or of the fault, and no memory.
 
 ghost use Rattle.std.specs.Prelude.{◌≡◌};
-ghost use Rattle.ti_cap.specs.Reading.{token_read, escape_read, parameter_read, variable_of, quoted_read, digits_read, lone_of};
+ghost use Rattle.ti_cap.specs.inner.Reading.{token_read, escape_read, parameter_read, variable_of, quoted_read, digits_read, lone_of};
 
 use crate::language::{CapFault, Op, Token};
 use crate::read_format::read_format;
@@ -47,7 +47,7 @@ fn read_escape(bytes: &[u8]) -> Result<(Token, usize), CapFault>
 
 /// The token that this one byte spells behind a `%`.
 #[inline(always)]
-#[tactic(auto, unfolding(crate::specs::Reading::lone_of))]
+#[tactic(auto, unfolding(crate::specs::inner::Reading::lone_of))]
 fn lone(letter: u8) -> Option<Token>
     ensures { result ≡ lone_of letter }
 {

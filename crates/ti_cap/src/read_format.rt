@@ -9,7 +9,7 @@ ghost use Rattle.std.specs.List.{prefix_len};
 ghost use Rattle.ti_base.specs.Limits.{greatest_width};
 ghost use Rattle.ti_cap.specs.Spelling.{number_of};
 ghost use Rattle.ti_cap.specs.Refusal.{opens_format};
-ghost use Rattle.ti_cap.specs.Reading.{format_read, width_read, precision_read, letter_read, flagged, plain_format, conversion_of, is_flag, is_plain_flag, is_digit, print_read, front, rest};
+ghost use Rattle.ti_cap.specs.inner.Reading.{format_read, width_read, precision_read, letter_read, flagged, plain_format, conversion_of, is_flag, is_plain_flag, is_digit, print_read, front, rest};
 
 use crate::language::{CapFault, Conversion, Format, Token};
 use ti_base::GREATEST_WIDTH;
@@ -59,7 +59,7 @@ fn plain(conversion: Conversion) -> Format
 
 /// The format at the front, part by part.
 #[inline(never)]
-#[tactic(auto, unfolding(crate::specs::Reading::format_read))]
+#[tactic(auto, unfolding(crate::specs::inner::Reading::format_read))]
 fn read_parts(bytes: &[u8]) -> Result<(Token, usize), CapFault>
     ensures { result ≡ format_read bytes.now }
 {
@@ -78,7 +78,7 @@ fn read_parts(bytes: &[u8]) -> Result<(Token, usize), CapFault>
 }
 
 /// Takes the flags that may stand behind a colon off the front.
-#[tactic(auto, using(crate::proofs::Fronts::front_take, crate::proofs::Fronts::rest_drop, crate::proofs::Fronts::prefix_len_within))]
+#[tactic(auto, using(crate::proofs::FrontLemmas::front_take, crate::proofs::FrontLemmas::rest_drop, crate::proofs::FrontLemmas::prefix_len_within))]
 fn split_flags(bytes: &[u8]) -> (&[u8], &[u8])
     ensures flags { result.0.now ≡ front is_flag bytes.now }
     ensures left { result.1.now ≡ rest is_flag bytes.now }
@@ -95,7 +95,7 @@ fn count_flags(bytes: &[u8]) -> usize
 }
 
 /// Takes the flags that need no colon off the front.
-#[tactic(auto, using(crate::proofs::Fronts::front_take, crate::proofs::Fronts::rest_drop, crate::proofs::Fronts::prefix_len_within))]
+#[tactic(auto, using(crate::proofs::FrontLemmas::front_take, crate::proofs::FrontLemmas::rest_drop, crate::proofs::FrontLemmas::prefix_len_within))]
 fn split_plain_flags(bytes: &[u8]) -> (&[u8], &[u8])
     ensures flags { result.0.now ≡ front is_plain_flag bytes.now }
     ensures left { result.1.now ≡ rest is_plain_flag bytes.now }
@@ -212,7 +212,7 @@ fn conversion(letter: u8) -> Option<Conversion>
 }
 
 /// The number that the digits at the front stand for, and how many they are, or none where it is above the limit.
-#[tactic(auto, using(crate::proofs::Fronts::front_within, crate::proofs::Fronts::rest_behind))]
+#[tactic(auto, using(crate::proofs::FrontLemmas::front_within, crate::proofs::FrontLemmas::rest_behind))]
 fn small_number(bytes: &[u8]) -> Option<(u8, usize)>
     ensures none { IfNone result (greatest_width < number_of (front is_digit bytes.now)) }
     ensures number { IfSome result (λ (number, count). number ≡ number_of (front is_digit bytes.now)) }

@@ -46,8 +46,8 @@ impl Scan {
     ghost use Rattle.ti_cap.specs.declared.language.Token.{Token};
     ghost use Rattle.ti_cap.specs.declared.language.CapFault.{CapFault};
     ghost use Rattle.ti_cap.specs.declared.scan.Open.{Open};
-    ghost use Rattle.ti_cap.specs.Analysis.{nothing_found, found_after, fault_of, top, are_in_test};
-    ghost use Rattle.ti_cap.specs.Scan.{found_of, IsInOrder, IsSure, pushed, stacked, height_frame, size_frame, ended};
+    ghost use Rattle.ti_cap.specs.inner.Analysis.{nothing_found, found_after, fault_of, top, are_in_test};
+    ghost use Rattle.ti_cap.specs.inner.Scan.{found_of, IsInOrder, IsSure, pushed, stacked, height_frame, size_frame, ended};
 
     /// No token yet.
     pub fn new() -> Self
@@ -198,7 +198,7 @@ impl Scan {
 
     /// A conditional ends: the greatest of what runs and what waits in it goes on.
     #[inline(always)]
-    #[tactic(auto, using(crate::proofs::Scanned::joined_height, crate::proofs::Scanned::joined_size))]
+    #[tactic(auto, using(crate::proofs::ScanLemmas::joined_height, crate::proofs::ScanLemmas::joined_size))]
     fn leave<const ROOM: usize>(&mut self, opens: &[Open; ROOM]) -> Result<(), CapFault>
         requires low { self.old.here.height ≤ most_values }
         requires order { IsInOrder ROOM self.old }
@@ -235,7 +235,7 @@ impl Scan {
     }
 
     /// The most bytes that any path writes, were this the end.
-    #[tactic(auto, using(crate::proofs::Scanned::ended_size))]
+    #[tactic(auto, using(crate::proofs::ScanLemmas::ended_size))]
     pub fn bound<const ROOM: usize>(&self, opens: &[Open; ROOM]) -> u64
         requires order { IsInOrder ROOM self.now }
         ensures { result ≡ top (map size_frame (stacked self.now.nesting opens.now)) self.now.here.size }

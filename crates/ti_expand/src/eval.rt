@@ -5,7 +5,7 @@ ghost use Rattle.ti_base.specs.Limits.{most_text_bytes};
 ghost use Rattle.ti_cap.specs.Tree.{IsSimple};
 ghost use Rattle.ti_cap.specs.Height.{next_height};
 ghost use Rattle.ti_expand.specs.State.{popped, text_on};
-ghost use Rattle.ti_expand.specs.Machine.{held, machine};
+ghost use Rattle.ti_expand.specs.inner.Machine.{held, machine};
 ghost use Rattle.ti_expand.specs.Sound.{IsSound};
 ghost use Rattle.ti_expand.specs.Effect.{effect, computed, print_for};
 
@@ -59,7 +59,7 @@ fn print(format: &Format, stack: &mut Stack<'_, '_>, out: &mut [u8], written: us
 
 /// Does what a simple token does, and returns where the output ends.
 #[inline(always)]
-#[tactic(auto, using(crate::proofs::Soundness::text_on_sound))]
+#[tactic(auto, using(crate::proofs::SoundLemmas::text_on_sound))]
 pub fn act<'a>(
     token: &Token,
     parameters: &mut Parameters<'_, 'a>,

@@ -12,7 +12,7 @@ ghost use Rattle.ti_cap.specs.Capability.{HasDepth, HasBound, IsWellFormed};
 ghost use Rattle.ti_expand.specs.State.{start};
 ghost use Rattle.ti_expand.specs.Meaning.{meaning, taken};
 ghost use Rattle.ti_expand.specs.Expands.{ForTree, longest_text, IsFirstTooLong, IsFault, IsTextOrMemory};
-ghost use Rattle.ti_expand.specs.Running.{IsReady, CanRun};
+ghost use Rattle.ti_expand.specs.inner.Running.{IsReady, CanRun};
 
 use crate::counts::Run;
 use crate::fault::ExpandFault;

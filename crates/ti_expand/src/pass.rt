@@ -7,14 +7,14 @@ ghost use Rattle.ti_cap.specs.Tree.{tokens};
 ghost use Rattle.ti_cap.specs.Height.{height};
 ghost use Rattle.ti_cap.specs.Pass.{next_mode};
 ghost use Rattle.ti_expand.specs.State.{start};
-ghost use Rattle.ti_expand.specs.Machine.{machine};
+ghost use Rattle.ti_expand.specs.inner.Machine.{machine};
 ghost use Rattle.ti_expand.specs.Sound.{IsSound};
 ghost use Rattle.ti_expand.specs.Mode.{seen};
 ghost use Rattle.ti_expand.specs.Meaning.{meaning, taken, tests_zero};
 ghost use Rattle.ti_expand.specs.Flat.{moved};
 ghost use Rattle.ti_expand.specs.Expands.{ForTree};
-ghost use Rattle.ti_expand.specs.Running.{CanRun};
-ghost use Rattle.ti_expand.specs.Underway.{IsOnTheWay, GoesOn};
+ghost use Rattle.ti_expand.specs.inner.Running.{CanRun};
+ghost use Rattle.ti_expand.specs.inner.Underway.{IsOnTheWay, GoesOn};
 
 use crate::counts::Run;
 use crate::eval::act;

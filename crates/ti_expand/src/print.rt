@@ -6,7 +6,7 @@ ghost use Rattle.std.specs.Bool.{OnTrue};
 ghost use Rattle.ti_base.specs.Letters.{letter};
 ghost use Rattle.ti_base.specs.Limits.{most_text_bytes};
 ghost use Rattle.ti_cap.specs.Sizes.{format_size};
-ghost use Rattle.ti_expand.specs.Decimal.{IsPlainDecimal, decimal_digits};
+ghost use Rattle.ti_expand.specs.inner.Decimal.{IsPlainDecimal, decimal_digits};
 ghost use Rattle.ti_expand.specs.Printed.{magnitude, least_count, front_for, joined, fill, printed, printed_text};
 
 use crate::digits::Digits;
@@ -40,7 +40,7 @@ fn front_bytes(format: &Format, number: i32, zeros: usize) -> &'static [u8]
 }
 
 /// Puts the front, zeros and the digits.
-#[tactic(auto, using(crate::proofs::Rest::drop_further))]
+#[tactic(auto, using(crate::proofs::RestLemmas::drop_further))]
 fn put_body(digits: &Digits, out: &mut [u8], at: usize, front: &[u8], zeros: usize) -> usize
     requires { at + (length front.now + (zeros + length digits.now)) ≤ length out.old }
     ensures end { result ≡ at + (length front.now + (zeros + length digits.now)) }
@@ -53,7 +53,7 @@ fn put_body(digits: &Digits, out: &mut [u8], at: usize, front: &[u8], zeros: usi
 }
 
 /// Puts the front, zeros and the digits, filled to the width.
-#[tactic(auto, using(crate::proofs::Rest::drop_further))]
+#[tactic(auto, using(crate::proofs::RestLemmas::drop_further))]
 fn put_filled(
     format: &Format,
     digits: &Digits,
@@ -175,7 +175,7 @@ pub fn format_text(format: &Format, text: &[u8], out: &mut [u8]) -> usize
 
 /// Prints a text from a place on, and returns the place after it.
 #[inline(never)]
-#[tactic(auto, using(crate::proofs::Rest::drop_further))]
+#[tactic(auto, using(crate::proofs::RestLemmas::drop_further))]
 pub(crate) fn print_text(format: Format, text: &[u8], out: &mut [u8], at: usize) -> usize
     requires room { at + length (printed_text format text.now) ≤ length out.old }
     ensures end { result ≡ at + length (printed_text format text.now) }

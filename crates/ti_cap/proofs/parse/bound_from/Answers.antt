@@ -1,7 +1,7 @@
 use Rattle.std.proofs.Common.{ℕ, ◌+◌, ◌<◌, ◌^◌, refl, sym, subst, arith, ◌∙◌}
-use Rattle.ti_cap.specs.Analysis.{State, moved}
+use Rattle.ti_cap.specs.inner.Analysis.{State, moved}
 use Rattle.ti_cap.specs.Capability.{HasBound}
-use Rattle.ti_cap.proofs.Bounded.{Summed, Step, summed_start, summed_small, summed_step, summed_end}
+use Rattle.ti_cap.proofs.HasBoundLemmas.{Summed, Step, summed_start, summed_small, summed_step, summed_end}
 use Rattle.ti_cap.proofs.parse.bound_from.Goals as goal
 
 pub loop-token-init : goal.loop-token-init

@@ -1,8 +1,8 @@
 use Rattle.std.proofs.Common.{◌+◌, sym, ◌∙◌, ap, subst, arith}
-use Rattle.ti_cap.specs.Reading.{token_read}
-use Rattle.ti_cap.specs.Analysis.{Found, found_after}
-use Rattle.ti_cap.specs.Scan.{found_of}
-use Rattle.ti_cap.proofs.Parsed.{Parsed, Stepped, parse_start, parse_step, parse_fault, parse_misplaced, parse_no_then, parse_done, parsed_low, parsed_small, from_place}
+use Rattle.ti_cap.specs.inner.Reading.{token_read}
+use Rattle.ti_cap.specs.inner.Analysis.{Found, found_after}
+use Rattle.ti_cap.specs.inner.Scan.{found_of}
+use Rattle.ti_cap.proofs.IsRefusalLemmas.{Parsed, Stepped, parse_start, parse_step, parse_fault, parse_misplaced, parse_no_then, parse_done, parsed_low, parsed_small, from_place}
 use Rattle.ti_cap.proofs.parse.limits_of.Goals as goal
 
 pub loop-place-init : goal.loop-place-init

@@ -1,6 +1,6 @@
 use Rattle.std.proofs.Common.{length, ◌-◌}
-use Rattle.ti_cap.specs.Scan.{found_of, IsInOrder}
-use Rattle.ti_cap.proofs.Parsed.{Parsed}
+use Rattle.ti_cap.specs.inner.Scan.{found_of, IsInOrder}
+use Rattle.ti_cap.proofs.IsRefusalLemmas.{Parsed}
 use Rattle.ti_cap.proofs.parse.limits_of.Given as goal
 
 abbrev pub invariant-loop-place : goal.invariant-loop-place

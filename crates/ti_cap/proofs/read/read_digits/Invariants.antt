@@ -1,7 +1,7 @@
 -- What is left to read gives what the whole gives, from the number so far.
 use Rattle.std.proofs.Common.{◌≡◌, ◌≤◌, drop}
 use Rattle.ti_base.specs.Limits.{greatest_constant}
-use Rattle.ti_cap.specs.Reading.{digits_read}
+use Rattle.ti_cap.specs.inner.Reading.{digits_read}
 use Rattle.ti_cap.proofs.read.read_digits.Given as goal
 
 abbrev pub invariant-loop-i : goal.invariant-loop-i

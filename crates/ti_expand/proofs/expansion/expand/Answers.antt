@@ -1,7 +1,7 @@
 use Rattle.std.proofs.Common.{ℕ, ◌≤◌, arith, sym, subst}
 use Rattle.ti_cap.specs.Capability.{HasBound}
-use Rattle.ti_expand.proofs.Bound.{can_run, written_within}
-use Rattle.ti_expand.proofs.ParameterTexts.{none_too_long}
+use Rattle.ti_expand.proofs.CanRunLemmas.{can_run, written_within}
+use Rattle.ti_expand.proofs.AreShortLemmas.{none_too_long}
 use Rattle.ti_expand.proofs.expansion.expand.Goals as goal
 use Rattle.ti_expand.proofs.expansion.expand.Goals.{then-depth-le-FEW_VALUES, else-depth-le-FEW_VALUES}
 

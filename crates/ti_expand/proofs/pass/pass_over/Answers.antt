@@ -1,8 +1,8 @@
 use Rattle.std.proofs.Common.{◌≡◌, ◌∙◌, true, false, arith, refl, sym}
 use Rattle.ti_cap.specs.Pass.{is_run}
 use Rattle.ti_expand.specs.Mode.{seen}
-use Rattle.ti_expand.proofs.Loop.{underway_few, underway_past, underway_over, underway_opened, count_opened}
-use Rattle.ti_expand.proofs.Spellings.{less_left}
+use Rattle.ti_expand.proofs.UnderwayLemmas.{underway_few, underway_past, underway_over, underway_opened, count_opened}
+use Rattle.ti_expand.proofs.WrittenLemmas.{less_left}
 use Rattle.ti_expand.proofs.pass.pass_over.Goals as goal
 
 pub next-mode-requires : goal.next-mode-requires

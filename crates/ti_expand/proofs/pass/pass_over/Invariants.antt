@@ -1,6 +1,6 @@
 use Rattle.std.proofs.Common.{◌≡◌, ◌≤◌, length}
 use Rattle.ti_expand.specs.Mode.{seen}
-use Rattle.ti_expand.specs.Underway.{GoesOn}
+use Rattle.ti_expand.specs.inner.Underway.{GoesOn}
 use Rattle.ti_expand.proofs.pass.pass_over.Given as goal
 
 abbrev pub invariant-loop-mode : goal.invariant-loop-mode

@@ -2,13 +2,13 @@ use Rattle.std.proofs.Common.{◌<◌, ◌≤◌, length, arith, ap, refl, ◌�
 use Rattle.std.proofs.lemmas.List.{length-take}
 use Rattle.ti_cap.specs.Pass.{Run}
 use Rattle.ti_expand.specs.State.{State, start}
-use Rattle.ti_expand.specs.Machine.{machine}
+use Rattle.ti_expand.specs.inner.Machine.{machine}
 use Rattle.ti_expand.specs.Mode.{seen}
 use Rattle.ti_expand.specs.Flat.{moved}
-use Rattle.ti_expand.proofs.Rest.{drop_further}
-use Rattle.ti_expand.specs.Underway.{IsUnderway}
-use Rattle.ti_expand.proofs.Loop.{underway_start, underway_height, underway_output, underway_ran, underway_end}
-use Rattle.ti_expand.proofs.Spellings.{less_left}
+use Rattle.ti_expand.proofs.RestLemmas.{drop_further}
+use Rattle.ti_expand.specs.inner.Underway.{IsUnderway}
+use Rattle.ti_expand.proofs.UnderwayLemmas.{underway_start, underway_height, underway_output, underway_ran, underway_end}
+use Rattle.ti_expand.proofs.WrittenLemmas.{less_left}
 use Rattle.ti_expand.proofs.pass.run_tape.Goals as goal
 
 pub loop-token-init : goal.loop-token-init

@@ -1,8 +1,8 @@
 use Rattle.std.proofs.Common.{◌≡◌, ◌≤◌, length, drop}
 use Rattle.ti_expand.specs.State.{start}
-use Rattle.ti_expand.specs.Machine.{machine}
+use Rattle.ti_expand.specs.inner.Machine.{machine}
 use Rattle.ti_cap.specs.Pass.{Run}
-use Rattle.ti_expand.specs.Underway.{IsUnderway}
+use Rattle.ti_expand.specs.inner.Underway.{IsUnderway}
 use Rattle.ti_expand.proofs.pass.run_tape.Given as goal
 
 abbrev pub invariant-loop-token : goal.invariant-loop-token

@@ -3,7 +3,7 @@ use Rattle.std.specs.Int.{w32}
 use Rattle.std.proofs.lemmas.Int.{to_z-of_z}
 use Rattle.ti_cap.specs.Sizes.{format_size}
 use Rattle.ti_expand.specs.Printed.{printed}
-use Rattle.ti_expand.proofs.Room.{length-printed-le}
+use Rattle.ti_expand.proofs.RoomLemmas.{length-printed-le}
 use Rattle.ti_expand.proofs.print.format_number.Goals as goal
 
 pub print_number-requires-clause-room : goal.print_number-requires-clause-room

@@ -1,7 +1,7 @@
 use Rattle.std.proofs.Common.{arith, length, ◌≤◌}
 use Rattle.ti_cap.specs.Sizes.{format_size}
 use Rattle.ti_expand.specs.Printed.{printed_text}
-use Rattle.ti_expand.proofs.Room.{length-printed_text-le}
+use Rattle.ti_expand.proofs.RoomLemmas.{length-printed_text-le}
 use Rattle.ti_expand.proofs.print.format_text.Goals as goal
 
 pub print_text-requires : goal.print_text-requires

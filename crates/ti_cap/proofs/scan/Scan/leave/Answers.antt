@@ -1,6 +1,6 @@
 use Rattle.std.proofs.Common.{None, ◌∙◌, arith}
 use Rattle.ti_cap.specs.declared.scan.Open.{Open}
-use Rattle.ti_cap.proofs.Scanned.{found_closed}
+use Rattle.ti_cap.proofs.ScanLemmas.{found_closed}
 use Rattle.ti_cap.proofs.scan.Scan.leave.Goals as goal
 
 pub returns-clause-taken : goal.returns-clause-taken
