@@ -29,7 +29,7 @@ formed-append loose (Simple k s) b h g = (h.0, formed-append loose s b h.1 g)
 formed-append loose (Conditional arms true s) b h g = (h.0, formed-append loose s b h.1 g)
 formed-append loose (Conditional arms false s) b h g = absurd (cc (h.0))
 
--- an arm that is whole, with a part behind it
+-- an arm that is whole, with a part after it
 abbrev pub Whole : Type 0
 Whole = Sequence × Sequence
 
@@ -61,7 +61,7 @@ whole-append : (es fs : List Whole) → AreWhole es → AreWhole fs → AreWhole
 whole-append [] fs h g = g
 whole-append (a ∷ more) fs h g = (h.0, h.1, whole-append more fs h.2 g)
 
--- where in an open conditional: in its first test, in a body behind a test, or behind a `%e`
+-- where in an open conditional: in its first test, in a body after a test, or after a `%e`
 pub data Where : Type 0 where
   InTest : Where
   InBody : (test : Sequence) → Where

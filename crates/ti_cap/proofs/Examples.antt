@@ -5,7 +5,7 @@ use Rattle.ti_cap.specs.declared.language.Token.TheVariants.{Byte, Param, Print,
 use Rattle.ti_cap.specs.declared.language.Format.{Format}
 use Rattle.ti_cap.specs.declared.language.Conversion.TheVariants.{Signed}
 use Rattle.ti_cap.specs.Tree.{Sequence, Empty, Simple, Conditional, Else, tokens, IsTree}
-use Rattle.ti_cap.specs.Path.{Walk, IsWalk, met}
+use Rattle.ti_cap.specs.Path.{Walk, IsWalk, path_of}
 use Rattle.ti_cap.specs.Sizes.{format_size}
 use Rattle.ti_cap.specs.Height.{height, size}
 
@@ -48,16 +48,16 @@ either_walk0 = (
   refl,
 )
 
-either_ran1 : length (met walk1 (tokens either)) ≡ 8
+either_ran1 : length (path_of walk1 (tokens either)) ≡ 8
 either_ran1 = refl
 
-either_ran0 : length (met walk0 (tokens either)) ≡ 6
+either_ran0 : length (path_of walk0 (tokens either)) ≡ 6
 either_ran0 = refl
 
-either_size1 : size (met walk1 (tokens either)) 0 ≡ 3
+either_size1 : size (path_of walk1 (tokens either)) 0 ≡ 3
 either_size1 = refl
 
-either_size0 : size (met walk0 (tokens either)) 0 ≡ 1
+either_size0 : size (path_of walk0 (tokens either)) 0 ≡ 1
 either_size0 = refl
 
 -- %?%p1%t%?%p2%tA%eB%;%eC, whose end closes the outer conditional

@@ -10,7 +10,7 @@ use Rattle.ti_cap.specs.Spelling.{IsDigit, number_of, IsPlainFlag, IsFlag, Spell
 use Rattle.ti_cap.specs.inner.Reading.{front, rest, is_digit, is_plain_flag, is_flag}
 use Rattle.ti_cap.proofs.FrontLemmas.{Stops, AllPass, front_passes, rest_ends}
 
--- the format so far, with what is read behind it
+-- the format so far, with what is read after it
 abbrev pub with_precision : Format → Option ℕ → Conversion → Format
 with_precision f p c = record f { precision = p; conversion = c }
 

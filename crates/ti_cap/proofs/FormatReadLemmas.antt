@@ -8,7 +8,7 @@ use Rattle.ti_cap.specs.declared.language.Token.TheVariants.{Print}
 use Rattle.ti_cap.specs.declared.language.Format.{Format}
 use Rattle.ti_cap.specs.declared.language.Conversion.{Conversion}
 use Rattle.ti_cap.specs.Spelling.{number_of, AreFlags, SpellsWidth, SpellsPrecision, SpellsFormat, conversion_letter}
-use Rattle.ti_cap.specs.inner.Reading.{front, rest, is_digit, is_plain_flag, is_flag, is_colon, conversions, conversion_of, converted, flagged, letter_read, precision_read, width_read, format_read}
+use Rattle.ti_cap.specs.inner.Reading.{front, rest, is_digit, is_plain_flag, is_flag, is_colon, conversions, conversion_of, with_conversion, with_flags, letter_read, precision_read, width_read, format_read}
 use Rattle.ti_cap.proofs.ChoiceLemmas.{chosen, letter_found, pair_of}
 use Rattle.ti_cap.proofs.FrontLemmas.{front_and_rest, front_passes}
 use Rattle.ti_cap.proofs.FormatPartsLemmas.{with_precision, with_width, fits, NoZero, behind_flags, plain_flag_other, flag_other, width_spelled, passes_digits, passes_plain_flags, passes_flags}
@@ -25,7 +25,7 @@ letter_sound : (f : Format) (n : ℕ) (bytes : List ℕ) (token : Token) (len : 
 letter_sound f n [] token len e = absurd (cc)
 letter_sound f n (x ∷ xs) token len e = by_letter (conversion_of x) refl e
   where
-    by_letter : (o : Option Conversion) → conversion_of x ≡ o → converted f (n + 1) o ≡ Ok (token, len) → LetterFront f n (x ∷ xs) token len
+    by_letter : (o : Option Conversion) → conversion_of x ≡ o → with_conversion f (n + 1) o ≡ Ok (token, len) → LetterFront f n (x ∷ xs) token len
     by_letter None found e = absurd (cc)
     by_letter (Some c) found e =
         let same : (Print (record f { conversion = c }), n + 1) ≡ (token, len) = pair_of _ _ _ _ refl refl e in
@@ -137,12 +137,12 @@ in_row a b c d t = sym (simp append_assoc)
 row_length : (a b c : List ℕ) (x : ℕ) → suc (length (a ++ b ++ c ++ x ∷ [])) ≡ 1 + length a + length b + length c + 1
 row_length a b c x = omega (arith, length-append (a ++ b ++ c) (x ∷ []), length-append (a ++ b) c, length-append a b)
 
--- flags and what is read behind them
+-- flags and what is read after them
 flags_front : (bytes flags more : List ℕ) (n : ℕ) (token : Token) (len : ℕ) → AreFlags flags → bytes ≡ flags ++ more → n ≡ 1 + length flags
-    → WidthFront (flagged flags) n more token len → FormatFront bytes token len
+    → WidthFront (with_flags flags) n more token len → FormatFront bytes token len
 flags_front bytes flags more n token len are splits count l =
     record {
-      format = with_width (flagged flags) l.size l.precision l.conversion;
+      format = with_width (with_flags flags) l.size l.precision l.conversion;
       spelling = flags ++ l.width ++ l.spelling ++ conversion_letter l.conversion ∷ [];
       tail = l.tail;
       spells = (flags, l.width, l.spelling, are, (refl, refl, refl, refl, refl), l.spells_width, l.spells, refl);
@@ -161,10 +161,10 @@ format_sound (c ∷ cs) token len e =
           let fl : List ℕ = front is_flag cs in
           flags_front (c ∷ cs) (58 ∷ fl) (rest is_flag cs) (2 + length fl) token len (inr (fl, passes_flags fl (front_passes is_flag cs), refl))
           (ap (λ x. x ∷ cs) (eqb-true c 58 t) ∙ ap (λ x. 58 ∷ x) (front_and_rest is_flag cs)) (omega arith)
-          (width_sound (flagged fl) (2 + length fl) (rest is_flag cs) token len refl (behind_flags is_flag flag_other cs) e)
+          (width_sound (with_flags fl) (2 + length fl) (rest is_flag cs) token len refl (behind_flags is_flag flag_other cs) e)
       | inr (t, e) ↦
           let fl : List ℕ = front is_plain_flag (c ∷ cs) in
           flags_front (c ∷ cs) fl (rest is_plain_flag (c ∷ cs)) (1 + length fl) token len (inl (passes_plain_flags fl (front_passes is_plain_flag (c ∷ cs))))
           (front_and_rest is_plain_flag (c ∷ cs)) refl
-          (width_sound (flagged fl) (1 + length fl) (rest is_plain_flag (c ∷ cs)) token len refl (behind_flags is_plain_flag plain_flag_other (c ∷ cs)) e)
+          (width_sound (with_flags fl) (1 + length fl) (rest is_plain_flag (c ∷ cs)) token len refl (behind_flags is_plain_flag plain_flag_other (c ∷ cs)) e)
     ]

@@ -11,7 +11,7 @@ use Rattle.ti_cap.specs.declared.language.Conversion.TheVariants.{Signed}
 use Rattle.ti_cap.specs.declared.language.CapFault.{CapFault}
 use Rattle.ti_cap.specs.declared.language.CapFault.TheVariants.{CutShort, BadFormat}
 use Rattle.ti_cap.specs.Spelling.{number_of, AreFlags, SpellsWidth, SpellsPrecision, SpellsFormat}
-use Rattle.ti_cap.specs.inner.Reading.{Reading, front, rest, is_digit, is_plain_flag, is_flag, is_colon, conversion_of, converted, flagged, letter_read, precision_read, width_read, format_read}
+use Rattle.ti_cap.specs.inner.Reading.{Reading, front, rest, is_digit, is_plain_flag, is_flag, is_colon, conversion_of, with_conversion, with_flags, letter_read, precision_read, width_read, format_read}
 use Rattle.ti_cap.proofs.ChoiceLemmas.{chosen, still}
 use Rattle.ti_cap.proofs.FrontLemmas.{front_and_rest, front_passes, rest_ends, front_more, rest_more, front_grows}
 use Rattle.ti_cap.proofs.DigitsReadLemmas.{number_from-ge, number_from-append}
@@ -22,7 +22,7 @@ letter_final : (f : Format) (n : ℕ) (bytes more : List ℕ) (fault : CapFault)
 letter_final f n [] more fault uncut e = absurd (uncut (cc))
 letter_final f n (c ∷ cs) more fault uncut e = e
 
--- an error behind a front stays, as the front stays
+-- an error after a front stays, as the front stays
 front_final : (p : ℕ → Bool) (go : List ℕ → List ℕ → Reading) (bytes more : List ℕ) (fault : CapFault) → fault ≢ CutShort
     → ((ds : List ℕ) → go ds [] ≡ Err CutShort) → ((ds left : List ℕ) → go ds left ≡ Err fault → go ds (left ++ more) ≡ Err fault)
     → go (front p bytes) (rest p bytes) ≡ Err fault
@@ -50,7 +50,7 @@ large_more bytes more large =
     grown : (m n : ℕ) → nat_lt greatest_width m ≡ true → m ≤ n → nat_lt greatest_width n ≡ true
     grown m n h le = grind (arith, common_steps, h, le)
 
--- a number, and what is read behind it
+-- a number, and what is read after it
 abbrev numbered : (List ℕ → List ℕ → Reading) → List ℕ → Reading
 numbered go bytes = cond (nat_lt greatest_width (number_of (front is_digit bytes))) (Err BadFormat) (go (front is_digit bytes) (rest is_digit bytes))
 
@@ -85,17 +85,17 @@ width_final f n bytes more fault uncut e =
     go : List ℕ → List ℕ → Reading
     go ds left = precision_read (record f { width = number_of ds }) (n + length ds) left
 
--- what is read behind `k` bytes and the flags at the front
+-- what is read after `k` bytes and the flags at the front
 flags_final : (p : ℕ → Bool) (k : ℕ) (bytes more : List ℕ) (fault : CapFault) → fault ≢ CutShort
-    → width_read (flagged (front p bytes)) (k + length (front p bytes)) (rest p bytes) ≡ Err fault
-    → width_read (flagged (front p (bytes ++ more))) (k + length (front p (bytes ++ more))) (rest p (bytes ++ more)) ≡ Err fault
+    → width_read (with_flags (front p bytes)) (k + length (front p bytes)) (rest p bytes) ≡ Err fault
+    → width_read (with_flags (front p (bytes ++ more))) (k + length (front p (bytes ++ more))) (rest p (bytes ++ more)) ≡ Err fault
 flags_final p k bytes more fault uncut e =
     let r : (front p (bytes ++ more) ≡ front p bytes) × (go (front p bytes) (rest p (bytes ++ more)) ≡ Err fault) =
-    front_final p go bytes more fault uncut (λ ds. refl) (λ ds left. width_final (flagged ds) (k + length ds) left more fault uncut) e in
+    front_final p go bytes more fault uncut (λ ds. refl) (λ ds left. width_final (with_flags ds) (k + length ds) left more fault uncut) e in
     ap (λ x. go x (rest p (bytes ++ more))) r.0 ∙ r.1
   where
     go : List ℕ → List ℕ → Reading
-    go ds left = width_read (flagged ds) (k + length ds) left
+    go ds left = width_read (with_flags ds) (k + length ds) left
 
 pub format_final : (bytes more : List ℕ) (fault : CapFault) → fault ≢ CutShort → format_read bytes ≡ Err fault → format_read (bytes ++ more) ≡ Err fault
 unfolding format_read
@@ -108,7 +108,7 @@ letter_cut : (f : Format) (n : ℕ) (bytes : List ℕ) → letter_read f n bytes
 letter_cut f n [] e = refl
 letter_cut f n (c ∷ cs) e = absurd (never (conversion_of c) e)
   where
-    never : (o : Option Conversion) → converted f (n + 1) o ≡ Err CutShort → ⊥
+    never : (o : Option Conversion) → with_conversion f (n + 1) o ≡ Err CutShort → ⊥
     never None e = cc
     never (Some k) e = cc
 
@@ -164,7 +164,7 @@ width_cut f n bytes other e =
 
 flags_cut : (bytes flags more : List ℕ) → AreFlags flags → bytes ≡ flags ++ more → WidthCut more → (f : Format) × SpellsFormat f (bytes ++ 100 ∷ [])
 flags_cut bytes flags more are splits l = (
-  with_width (flagged flags) l.size l.precision Signed,
+  with_width (with_flags flags) l.size l.precision Signed,
   (
     flags,
     l.width,
@@ -186,12 +186,12 @@ format_cut (c ∷ cs) e =
           let fl : List ℕ = front is_flag cs in
           flags_cut (c ∷ cs) (58 ∷ fl) (rest is_flag cs) (inr (fl, passes_flags fl (front_passes is_flag cs), refl))
           (ap (λ x. x ∷ cs) (eqb-true c 58 t) ∙ ap (λ x. 58 ∷ x) (front_and_rest is_flag cs))
-          (width_cut (flagged fl) (2 + length fl) (rest is_flag cs) (behind_flags is_flag flag_other cs) e)
+          (width_cut (with_flags fl) (2 + length fl) (rest is_flag cs) (behind_flags is_flag flag_other cs) e)
       | inr (t, e) ↦
           let fl : List ℕ = front is_plain_flag (c ∷ cs) in
           flags_cut (c ∷ cs) fl (rest is_plain_flag (c ∷ cs)) (inl (passes_plain_flags fl (front_passes is_plain_flag (c ∷ cs))))
           (front_and_rest is_plain_flag (c ∷ cs))
-          (width_cut (flagged fl) (1 + length fl) (rest is_plain_flag (c ∷ cs)) (behind_flags is_plain_flag plain_flag_other (c ∷ cs)) e)
+          (width_cut (with_flags fl) (1 + length fl) (rest is_plain_flag (c ∷ cs)) (behind_flags is_plain_flag plain_flag_other (c ∷ cs)) e)
     ]
 
 -- a format that does not end short is at fault in one way
@@ -200,15 +200,15 @@ unfolding format_read
 format_fault [] fault uncut e = absurd (uncut (cc))
 format_fault (c ∷ cs) fault uncut e =
     elim (chosen (is_colon c) e) [
-      | inl (t, e) ↦ width_fault (flagged (front is_flag cs)) (2 + length (front is_flag cs)) (rest is_flag cs) e
-      | inr (t, e) ↦ width_fault (flagged (front is_plain_flag (c ∷ cs))) (1 + length (front is_plain_flag (c ∷ cs))) (rest is_plain_flag (c ∷ cs)) e
+      | inl (t, e) ↦ width_fault (with_flags (front is_flag cs)) (2 + length (front is_flag cs)) (rest is_flag cs) e
+      | inr (t, e) ↦ width_fault (with_flags (front is_plain_flag (c ∷ cs))) (1 + length (front is_plain_flag (c ∷ cs))) (rest is_plain_flag (c ∷ cs)) e
     ]
   where
     letter_fault : (f : Format) (n : ℕ) (bytes : List ℕ) → letter_read f n bytes ≡ Err fault → fault ≡ BadFormat
     letter_fault f n [] e = absurd (uncut (cc))
     letter_fault f n (x ∷ xs) e = by_letter (conversion_of x) e
       where
-        by_letter : (o : Option Conversion) → converted f (n + 1) o ≡ Err fault → fault ≡ BadFormat
+        by_letter : (o : Option Conversion) → with_conversion f (n + 1) o ≡ Err fault → fault ≡ BadFormat
         by_letter None e = cc
         by_letter (Some k) e = absurd (cc)
 

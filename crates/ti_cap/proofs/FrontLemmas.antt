@@ -1,4 +1,4 @@
--- The front of a list that passes a test, and what stands behind it.
+-- The front of a list that passes a test, and what stands after it.
 use Rattle.std.proofs.Common.{◌≡◌, ℕ, ◌+◌, ◌≤◌, ◌⊎◌, inl, inr, List, [], ◌∷◌, ◌++◌, length, take, drop, one-add, refl, ◌∙◌, ap, arith, append_assoc, cond, Bool, true, false}
 use Rattle.std.specs.List.{AllByRecursion, prefix_len}
 use Rattle.ti_cap.specs.inner.Reading.{front, rest}
@@ -21,7 +21,7 @@ rest_stops p [] [] h g = absurd g
 rest_stops p [] (x ∷ r) h g = ap (λ b. cond b (rest p r) (x ∷ r)) g
 rest_stops p (x ∷ a) r h g = ap (λ b. cond b (rest p (a ++ r)) (x ∷ (a ++ r))) h.0 ∙ rest_stops p a r h.1 g
 
--- the front as a slice, and what stands behind it as one
+-- the front as a slice, and what stands after it as one
 pub front_take : (p : ℕ → Bool) (xs : List ℕ) → take (prefix_len p xs) xs ≡ front p xs
 front_take p [] = refl
 front_take p (x ∷ xs) = by_test (p x) (front_take p xs)
@@ -57,7 +57,7 @@ prefix_len_within p (x ∷ xs) = by_test (p x) (prefix_len_within p xs)
 pub front_within : (p : ℕ → Bool) (xs : List ℕ) → length (front p xs) ≤ length xs
 front_within p xs = omega (arith, length-front p xs, prefix_len_within p xs)
 
--- what stands behind the front, by its length
+-- what stands after the front, by its length
 pub rest_behind : (p : ℕ → Bool) (xs : List ℕ) → drop (length (front p xs)) xs ≡ rest p xs
 rest_behind p xs = ap (λ n. drop n xs) (length-front p xs) ∙ rest_drop p xs
 

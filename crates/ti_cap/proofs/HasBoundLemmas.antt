@@ -8,10 +8,10 @@ use Rattle.ti_cap.specs.declared.language.Token.TheVariants.{CondOpen}
 use Rattle.ti_cap.specs.Tree.{Sequence, tokens, IsTree}
 use Rattle.ti_cap.specs.Sizes.{token_size}
 use Rattle.ti_cap.specs.Height.{size}
-use Rattle.ti_cap.specs.Pass.{Run}
+use Rattle.ti_cap.specs.Pass.{Running}
 use Rattle.ti_cap.specs.Spelling.{Written}
 use Rattle.ti_cap.specs.Refusal.{Part}
-use Rattle.ti_cap.specs.inner.Analysis.{State, parts_of, moved, top}
+use Rattle.ti_cap.specs.inner.Analysis.{Progress, parts_of, next_progress, greatest_of}
 use Rattle.ti_cap.specs.Capability.{Spot, whole, Takes, IsFirst, HasBound, IsWellFormed}
 use Rattle.ti_cap.proofs.WrittenLemmas.{written-append, written_one, spelled_long}
 use Rattle.ti_cap.proofs.PartsLemmas.{allowed, Leads, Opens, opens}
@@ -22,7 +22,7 @@ use Rattle.ti_cap.proofs.NestLemmas.{levels, levels-ge, level_after, allowed_lev
 use Rattle.ti_cap.proofs.SizesLemmas.{size_act, size_rising, size_still, value-size, value_is}
 
 -- a tape has given these tokens, and goes on with those
-pub record Summed (bytes : List ℕ) (longest : ℕ) (spot : Spot) (sizes : State) : Type 0 where
+pub record Summed (bytes : List ℕ) (longest : ℕ) (spot : Spot) (sizes : Progress) : Type 0 where
   pub tree : Sequence
   pub formed : IsTree tree
   pub writes : Written (tokens tree) bytes
@@ -66,13 +66,13 @@ summed_start bytes longest spot f none all =
     }
 
 -- far from the greatest number
-pub summed_small : (bytes : List ℕ) (longest : ℕ) (spot : Spot) (sizes : State) → longest < 2 ^ 16 → Summed bytes longest spot sizes → sizes.running < 2 ^ 31
+pub summed_small : (bytes : List ℕ) (longest : ℕ) (spot : Spot) (sizes : Progress) → longest < 2 ^ 16 → Summed bytes longest spot sizes → sizes.running < 2 ^ 31
 summed_small bytes longest spot sizes h p =
-    let b : IsBest (size_act longest) p.done Run (Some sizes.running) = p.sums Run in
+    let b : IsBest (size_act longest) p.done Running (Some sizes.running) = p.sums Running in
     omega (arith, value-size longest p.done spot.taken b.1.walk h p.written, b.1.value, ap length p.spans, length-append spot.taken spot.left, p.short)
 
 -- what is left begins with the token
-record Goes (longest : ℕ) (k : Token) (done todo : List Token) (parts end : List Part) (sizes : State) (left : List ℕ) : Type 0 where
+record Goes (longest : ℕ) (k : Token) (done todo : List Token) (parts end : List Part) (sizes : Progress) (left : List ℕ) : Type 0 where
   rest : List Token
   first : todo ≡ k ∷ rest
   behind : Written rest left
@@ -80,9 +80,9 @@ record Goes (longest : ℕ) (k : Token) (done todo : List Token) (parts end : Li
   may : allowed k parts ≡ Some after
   leads : Leads after rest end
   fits : levels (length after) rest ≤ most_open
-  moves : Moves (size_act longest) done k (moved sizes k (sizes.running + token_size longest k)) after
+  moves : Moves (size_act longest) done k (next_progress sizes k (sizes.running + token_size longest k)) after
 
-goes : (bytes : List ℕ) (longest : ℕ) (old new : Spot) (sizes : State) (k : Token) → (p : Summed bytes longest old sizes) → IsFirst k old new
+goes : (bytes : List ℕ) (longest : ℕ) (old new : Spot) (sizes : Progress) (k : Token) → (p : Summed bytes longest old sizes) → IsFirst k old new
     → Goes longest k p.done p.todo p.parts p.end sizes new.left
 goes bytes longest old new sizes k p first =
     let f : (rest : List Token) × (p.todo ≡ k ∷ rest) × Written rest new.left = first p.todo p.left in
@@ -102,12 +102,12 @@ goes bytes longest old new sizes k p first =
       moves = sums_move (size_act longest) p.done sizes k l.0 (size_rising longest) (size_still longest) (ap (λ x. allowed k x) p.stands ∙ l.1) p.sums;
     }
 
-pub record Step (bytes : List ℕ) (longest : ℕ) (old new : Spot) (sizes : State) (k : Token) : Type 0 where
-  pub summed : Summed bytes longest new (moved sizes k (sizes.running + token_size longest k))
+pub record Step (bytes : List ℕ) (longest : ℕ) (old new : Spot) (sizes : Progress) (k : Token) : Type 0 where
+  pub summed : Summed bytes longest new (next_progress sizes k (sizes.running + token_size longest k))
   pub shorter : length new.left < length old.left
   pub room : k ≡ CondOpen → length sizes.frames < most_open
 
-pub summed_step : (bytes : List ℕ) (longest : ℕ) (old new : Spot) (sizes : State) (k : Token) → Summed bytes longest old sizes → Takes k old new → IsFirst k old new
+pub summed_step : (bytes : List ℕ) (longest : ℕ) (old new : Spot) (sizes : Progress) (k : Token) → Summed bytes longest old sizes → Takes k old new → IsFirst k old new
     → Step bytes longest old new sizes k
 summed_step bytes longest old new sizes k p (s, spells, left, taken) first =
     let g : Goes longest k p.done p.todo p.parts p.end sizes new.left = goes bytes longest old new sizes k p first in
@@ -138,7 +138,7 @@ summed_step bytes longest old new sizes k p (s, spells, left, taken) first =
           omega (arith, g.fits, levels-ge (length g.after) g.rest);
     }
 
-pub summed_end : (bytes : List ℕ) (longest : ℕ) (spot : Spot) (sizes : State) → spot.left ≡ [] → Summed bytes longest spot sizes → HasBound bytes longest (top sizes.frames sizes.running)
+pub summed_end : (bytes : List ℕ) (longest : ℕ) (spot : Spot) (sizes : Progress) → spot.left ≡ [] → Summed bytes longest spot sizes → HasBound bytes longest (greatest_of sizes.frames sizes.running)
 summed_end bytes longest spot sizes none p =
     let P : List ℕ → Type 0 = λ x. Written p.todo x in
     let all : tokens p.tree ≡ p.done = p.splits ∙ ap (λ x. p.done ++ x) (over p.todo (subst P none p.left)) ∙ append-nil p.done in

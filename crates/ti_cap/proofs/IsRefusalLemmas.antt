@@ -12,12 +12,12 @@ use Rattle.ti_cap.specs.declared.frame.Frame.{Frame}
 use Rattle.ti_cap.specs.declared.limits.Limits.{Limits}
 use Rattle.ti_cap.specs.Tree.{Sequence, IsTree, tokens}
 use Rattle.ti_cap.specs.Height.{pushes, next_height, size, IsDepth, IsBound}
-use Rattle.ti_cap.specs.Path.{met}
-use Rattle.ti_cap.specs.Pass.{Mode, Run, next_mode}
+use Rattle.ti_cap.specs.Path.{path_of}
+use Rattle.ti_cap.specs.Pass.{Mode, Running, next_mode}
 use Rattle.ti_cap.specs.Spelling.{Spells, Written}
 use Rattle.ti_cap.specs.inner.Reading.{token_read}
-use Rattle.ti_cap.specs.Refusal.{Begins, Climbs, Part, open_parts, IsNext, IsFault, IsUnreadable, IsSoundBelow, HasFault, escape_fault, IsRefusal, opens_format}
-use Rattle.ti_cap.specs.inner.Analysis.{State, parts_of, are_in_test, misplaced, moved, top, Found, nothing_found, found_after, first_fault, fault_of}
+use Rattle.ti_cap.specs.Refusal.{Begins, Climbs, Part, open_parts, IsNext, IsFaultBetween, IsUnreadable, IsSoundBelow, HasFault, escape_fault, IsRefusal, opens_format}
+use Rattle.ti_cap.specs.inner.Analysis.{Progress, parts_of, are_in_test, place_fault, next_progress, greatest_of, Findings, no_findings, findings_after, first_fault, fault_of}
 use Rattle.ti_cap.specs.Capability.{IsCapability}
 use Rattle.ti_cap.proofs.SpellsLemmas.{Front, token_sound, AreBytes}
 use Rattle.ti_cap.proofs.IsUnreadableLemmas.{unreadable}
@@ -53,13 +53,13 @@ inside bytes place before token s tail written rest spelled q others low high w 
 -- no fault before a place, none at it: none up to the end of the next spelling
 sound_step : (bytes : List ℕ) (place : ℕ) (before : List Token) (token : Token) (s tail : List ℕ) → Written before (take place bytes)
     → drop place bytes ≡ s ++ tail → Spells token s → IsSoundBelow bytes place
-    → ((f : CapFault) → ¬ IsFault f before (drop place bytes)) → IsSoundBelow bytes (place + length s)
+    → ((f : CapFault) → ¬ IsFaultBetween f before (drop place bytes)) → IsSoundBelow bytes (place + length s)
 sound_step bytes place before token s tail written rest spelled sound fine f q high has =
     elim (which q place) [
       | inl lt ↦ sound f q lt has
       | inr le ↦
           let r : (q ≡ place) × (has.before ≡ before) = inside bytes place before token s tail written rest spelled q has.before le high has.written in
-          fine f (let P : ℕ → Type 0 = λ x. IsFault f before (drop x bytes) in subst P r.0 (let Q : List Token → Type 0 = λ x. IsFault f x (drop q bytes) in subst Q r.1 has.is))
+          fine f (let P : ℕ → Type 0 = λ x. IsFaultBetween f before (drop x bytes) in subst P r.0 (let Q : List Token → Type 0 = λ x. IsFaultBetween f x (drop q bytes) in subst Q r.1 has.is))
     ]
   where
     which : (q place : ℕ) → (q < place) ⊎ (place ≤ q)
@@ -75,13 +75,13 @@ nothing_next k (s, tail, p, e) = omega (arith, ap length e, length-append s tail
 
 -- nothing is at fault where a token is next that may stand, nests no deeper and climbs no higher than the limits
 fine_step : (before : List Token) (rest s tail : List ℕ) (k : Token) (d : ℕ) → Begins (before ++ k ∷ []) → (k ≡ CondOpen → length (open_parts before) < most_open)
-    → Peaks next_height (before ++ k ∷ []) d → d ≤ most_values → rest ≡ s ++ tail → Spells k s → (f : CapFault) → ¬ IsFault f before rest
+    → Peaks next_height (before ++ k ∷ []) d → d ≤ most_values → rest ≡ s ++ tail → Spells k s → (f : CapFault) → ¬ IsFaultBetween f before rest
 fine_step before rest s tail k d begins room peaks low e p f = each f
   where
     not_stray : (l : Token) → IsNext l rest → ¬ Begins (before ++ l ∷ []) → ⊥
     not_stray l n h = let is : l ≡ k = is_next rest s tail k l e p n in let P : Token → Type 0 = λ x. ¬ Begins (before ++ x ∷ []) in subst P is h begins
 
-    each : (f : CapFault) → ¬ IsFault f before rest
+    each : (f : CapFault) → ¬ IsFaultBetween f before rest
     each TooLong h = h
     each StrayThen h = not_stray CondThen h.0 h.1
     each StrayElse h = not_stray CondElse h.0.0 h.0.1
@@ -101,7 +101,7 @@ fine_step before rest s tail k d begins room peaks low e p f = each f
     each _ h = h.1.no_token k (s, tail, p, e)
 
 -- what has been read up to a place
-pub record Parsed (bytes : List ℕ) (place : ℕ) (found : Found) : Type 0 where
+pub record Parsed (bytes : List ℕ) (place : ℕ) (found : Findings) : Type 0 where
   pub before : List Token
   pub parts : List Part
   pub within : place ≤ length bytes
@@ -122,7 +122,7 @@ are_bytes : (xs : List ℕ) → ((i : ℕ) → get_or xs i 0 < 256) → AreBytes
 are_bytes [] h = tt
 are_bytes (x ∷ xs) h = (h 0, are_bytes xs (λ i. h (suc i)))
 
-pub parse_start : (bytes : List ℕ) → Parsed bytes 0 nothing_found
+pub parse_start : (bytes : List ℕ) → Parsed bytes 0 no_findings
 parse_start bytes = record {
   before = [];
   parts = [];
@@ -145,19 +145,19 @@ parse_start bytes = record {
 
 -- a value that comes is at most the depth
 comes_low : (before : List Token) (m : Mode) (x d : ℕ) → Peaks next_height before d → Comes next_height before m x → x ≤ d
-comes_low before m x d p c = omega (arith, c.value, p.above_all m c.walk c.passes, value-le next_height 0 (met c.walk before))
+comes_low before m x d p c = omega (arith, c.value, p.above_all m c.walk c.passes, value-le next_height 0 (path_of c.walk before))
 
-running_low : (before : List Token) (s : State) (d : ℕ) → Peaks next_height before d → Sums next_height before s → s.running ≤ d
-running_low before s d p sums = let h : IsBest next_height before Run (Some s.running) = sums Run in comes_low before Run s.running d p h.1
+running_low : (before : List Token) (s : Progress) (d : ℕ) → Peaks next_height before d → Sums next_height before s → s.running ≤ d
+running_low before s d p sums = let h : IsBest next_height before Running (Some s.running) = sums Running in comes_low before Running s.running d p h.1
 
 height_still : IsStill next_height
 height_still = ((λ x. omega arith), (λ x. omega arith))
 
 -- a `%e` or `%;` climbs no higher than before
-mark_low : (before : List Token) (k : Token) (s : State) (d : ℕ) → ((x : ℕ) → next_height x k ≡ x) → Peaks next_height before d → Sums next_height (before ++ k ∷ []) s → s.running ≤ d
+mark_low : (before : List Token) (k : Token) (s : Progress) (d : ℕ) → ((x : ℕ) → next_height x k ≡ x) → Peaks next_height before d → Sums next_height (before ++ k ∷ []) s → s.running ≤ d
 mark_low before k s d still p sums =
-    let h : IsBest next_height (before ++ k ∷ []) Run (Some s.running) = sums Run in
-    let r : From next_height before k Run s.running = comes_from next_height before k Run s.running h.1 in
+    let h : IsBest next_height (before ++ k ∷ []) Running (Some s.running) = sums Running in
+    let r : From next_height before k Running s.running = comes_from next_height before k Running s.running h.1 in
     let same : after next_height r.source k r.fails r.old ≡ r.old = either (is_met r.source k r.fails) in
     omega (arith, comes_low before r.source r.old d p r.comes, r.gives)
   where
@@ -168,37 +168,37 @@ mark_low before k s d still p sums =
     either : (b : Bool) {x : ℕ} → cond b (next_height x k) x ≡ x
     either b {x} = pick b x (next_height x k) (still x)
 
-moved_low : (before : List Token) (s : State) (k : Token) (d : ℕ) → Peaks next_height before d → d ≤ most_values → next_height s.running k ≤ most_values
-    → Sums next_height (before ++ k ∷ []) (moved s k (next_height s.running k)) → (moved s k (next_height s.running k)).running ≤ most_values
-moved_low before s CondThen d p low high sums = by_frames s.frames
+progress_low : (before : List Token) (s : Progress) (k : Token) (d : ℕ) → Peaks next_height before d → d ≤ most_values → next_height s.running k ≤ most_values
+    → Sums next_height (before ++ k ∷ []) (next_progress s k (next_height s.running k)) → (next_progress s k (next_height s.running k)).running ≤ most_values
+progress_low before s CondThen d p low high sums = by_frames s.frames
   where
-    by_frames : (fs : List Frame) → (moved (record { running = s.running; frames = fs }) CondThen (next_height s.running CondThen)).running ≤ most_values
+    by_frames : (fs : List Frame) → (next_progress (record { running = s.running; frames = fs }) CondThen (next_height s.running CondThen)).running ≤ most_values
     by_frames [] = high
     by_frames (f ∷ fs) = high
-moved_low before s CondElse d p low high sums = omega (arith, mark_low before CondElse (moved s CondElse (next_height s.running CondElse)) d height_still.0 p sums)
-moved_low before s CondClose d p low high sums = omega (arith, mark_low before CondClose (moved s CondClose (next_height s.running CondClose)) d height_still.1 p sums)
-moved_low before s k d p low high sums = high
+progress_low before s CondElse d p low high sums = omega (arith, mark_low before CondElse (next_progress s CondElse (next_height s.running CondElse)) d height_still.0 p sums)
+progress_low before s CondClose d p low high sums = omega (arith, mark_low before CondClose (next_progress s CondClose (next_height s.running CondClose)) d height_still.1 p sums)
+progress_low before s k d p low high sums = high
 
-pub parsed_low : (bytes : List ℕ) (place : ℕ) (found : Found) → Parsed bytes place found → found.heights.running ≤ most_values
+pub parsed_low : (bytes : List ℕ) (place : ℕ) (found : Findings) → Parsed bytes place found → found.heights.running ≤ most_values
 parsed_low bytes place found p = omega (arith, running_low p.before found.heights found.depth p.peaks p.heights, p.low)
 
 -- the greatest size is far from the greatest number
-pub parsed_small : (bytes : List ℕ) (place : ℕ) (found : Found) → length bytes ≤ most_capability_bytes → Parsed bytes place found → found.sizes.running < 2 ^ 31
+pub parsed_small : (bytes : List ℕ) (place : ℕ) (found : Findings) → length bytes ≤ most_capability_bytes → Parsed bytes place found → found.sizes.running < 2 ^ 31
 parsed_small bytes place found short p =
-    let h : IsBest (size_act 0) p.before Run (Some found.sizes.running) = p.sizes Run in
+    let h : IsBest (size_act 0) p.before Running (Some found.sizes.running) = p.sizes Running in
     omega (arith, value-size 0 p.before (take place bytes) h.1.walk (omega arith) p.written, h.1.value, length-take-le place bytes p.within, p.within)
 
-pub parsed_alike : (bytes : List ℕ) (place : ℕ) (found : Found) → Parsed bytes place found → length found.sizes.frames ≡ length found.heights.frames
+pub parsed_alike : (bytes : List ℕ) (place : ℕ) (found : Findings) → Parsed bytes place found → length found.sizes.frames ≡ length found.heights.frames
 parsed_alike bytes place found p = sym (length-map found.sizes.frames _) ∙ ap length (p.alike ∙ sym p.stands) ∙ length-map found.heights.frames _
 
 -- ---- one token more
 
 -- what no fault says
-pub record IsFine (found : Found) (k : Token) : Type 0 where
-  pub placed : misplaced k (parts_of found.heights.frames) ≡ None
+pub record IsFine (found : Findings) (k : Token) : Type 0 where
+  pub placed : place_fault k (parts_of found.heights.frames) ≡ None
   pub low : next_height found.heights.running k ≤ most_values
 
-fine : (found : Found) (k : Token) → fault_of found k ≡ None → IsFine found k
+fine : (found : Findings) (k : Token) → fault_of found k ≡ None → IsFine found k
 fine found k e = record { placed = first _ _ e; low = by (nat_le (next_height found.heights.running k) most_values) refl (second _ _ e) }
   where
     first : (a b : Option CapFault) → first_fault a b ≡ None → a ≡ None
@@ -213,32 +213,32 @@ fine found k e = record { placed = first _ _ e; low = by (nat_le (next_height fo
     by true t e = grind arith
     by false t e = absurd (cc)
 
-pub record Stepped (bytes : List ℕ) (place n : ℕ) (found : Found) : Type 0 where
+pub record Stepped (bytes : List ℕ) (place n : ℕ) (found : Findings) : Type 0 where
   pub parsed : Parsed bytes (place + n) found
   pub within : place + n ≤ length bytes
   pub further : 0 < n
 
-pub parse_step : (bytes : List ℕ) (place : ℕ) (found : Found) (k : Token) (n : ℕ) → ((i : ℕ) → get_or bytes i 0 < 256) → Parsed bytes place found
-    → token_read (drop place bytes) ≡ Ok (k, n) → fault_of found k ≡ None → Stepped bytes place n (found_after found k)
+pub parse_step : (bytes : List ℕ) (place : ℕ) (found : Findings) (k : Token) (n : ℕ) → ((i : ℕ) → get_or bytes i 0 < 256) → Parsed bytes place found
+    → token_read (drop place bytes) ≡ Ok (k, n) → fault_of found k ≡ None → Stepped bytes place n (findings_after found k)
 parse_step bytes place found k n fits p e none =
     let f : Front (drop place bytes) k n = token_sound (drop place bytes) k n (are_bytes (drop place bytes) (λ i. rw get_or-drop (fits (place + i)))) e in
     let ok : IsFine found k = fine found k none in
-    let P : List Part → Type 0 = λ x. misplaced k x ≡ None in
-    let placed : misplaced k p.parts ≡ None = subst P p.stands ok.placed in
+    let P : List Part → Type 0 = λ x. place_fault k x ≡ None in
+    let placed : place_fault k p.parts ≡ None = subst P p.stands ok.placed in
     let go : (qs : List Part) × (allowed k p.parts ≡ Some qs) = goes_on k p.parts placed in
     let context : Context (p.before ++ k ∷ []) go.0 = context_step p.before p.parts go.0 k p.context go.1 in
     let leads : Leads [] (p.before ++ k ∷ []) go.0 = leads-append [] p.parts go.0 p.before (k ∷ []) p.leads (go.0, go.1, refl) in
-    let h : Moves next_height p.before k (moved found.heights k (next_height found.heights.running k)) go.0 =
+    let h : Moves next_height p.before k (next_progress found.heights k (next_height found.heights.running k)) go.0 =
     sums_move next_height p.before found.heights k go.0 height_rising height_still (ap (λ x. allowed k x) p.stands ∙ go.1) p.heights in
-    let z : Moves (size_act 0) p.before k (moved found.sizes k (size_act 0 found.sizes.running k)) go.0 =
+    let z : Moves (size_act 0) p.before k (next_progress found.sizes k (size_act 0 found.sizes.running k)) go.0 =
     sums_move (size_act 0) p.before found.sizes k go.0 (size_rising 0) (size_still 0) (ap (λ x. allowed k x) p.alike ∙ go.1) p.sizes in
-    let deep : Peaks next_height (p.before ++ k ∷ []) (max found.depth (moved found.heights k (next_height found.heights.running k)).running) =
-    peaks_step next_height p.before k found.depth (moved found.heights k (next_height found.heights.running k)) height_flat p.peaks h.sums in
-    let now : (moved found.heights k (next_height found.heights.running k)).running ≤ most_values = moved_low p.before found.heights k found.depth p.peaks p.low ok.low h.sums in
-    let low : max found.depth (moved found.heights k (next_height found.heights.running k)).running ≤ most_values = omega (arith, p.low, now) in
+    let deep : Peaks next_height (p.before ++ k ∷ []) (max found.depth (next_progress found.heights k (next_height found.heights.running k)).running) =
+    peaks_step next_height p.before k found.depth (next_progress found.heights k (next_height found.heights.running k)) height_flat p.peaks h.sums in
+    let now : (next_progress found.heights k (next_height found.heights.running k)).running ≤ most_values = progress_low p.before found.heights k found.depth p.peaks p.low ok.low h.sums in
+    let low : max found.depth (next_progress found.heights k (next_height found.heights.running k)).running ≤ most_values = omega (arith, p.low, now) in
     let long : place + n ≤ length bytes = omega (arith, f.long, ap length f.splits, length-append f.spelling f.tail, length-drop place bytes, p.within) in
-    let open_now : length (moved found.heights k (next_height found.heights.running k)).frames ≡ length go.0 = sym (length-map _ _) ∙ ap length h.stands in
-    let level : levels 0 (p.before ++ k ∷ []) ≡ max found.nest (length (moved found.heights k (next_height found.heights.running k)).frames) =
+    let open_now : length (next_progress found.heights k (next_height found.heights.running k)).frames ≡ length go.0 = sym (length-map _ _) ∙ ap length h.stands in
+    let level : levels 0 (p.before ++ k ∷ []) ≡ max found.nest (length (next_progress found.heights k (next_height found.heights.running k)).frames) =
     levels-snoc 0 p.before k ∙ ap (λ x. max x (level_after (end_level 0 p.before) k)) p.nested ∙ ap (λ x. max found.nest x) (ap (λ x. level_after x k) (leads_level [] p.parts p.before p.leads) ∙ allowed_level k p.parts go.0 go.1 ∙ sym open_now) in
     let few : length go.0 ≤ most_open = few_open k p.parts go.0 placed go.1 (omega (arith, leads_level [] p.parts p.before p.leads, end-level-le 0 p.before, p.nested, p.few)) in
     record {
@@ -268,13 +268,13 @@ parse_step bytes place found k n fits p e none =
       further = omega (arith, f.long, spelled_long k f.spelling f.spells);
     }
   where
-    room : misplaced k p.parts ≡ None → k ≡ CondOpen → length (open_parts p.before) < most_open
+    room : place_fault k p.parts ≡ None → k ≡ CondOpen → length (open_parts p.before) < most_open
     room placed is =
-        let P : Token → Type 0 = λ x. misplaced x p.parts ≡ None in
+        let P : Token → Type 0 = λ x. place_fault x p.parts ≡ None in
         let r : length p.parts < most_open = has_room p.parts (subst P is placed) in
         omega (arith, ap length (leads_open p.parts p.before p.leads))
 
-    few_open : (k : Token) (ps qs : List Part) → misplaced k ps ≡ None → allowed k ps ≡ Some qs → length ps ≤ most_open → length qs ≤ most_open
+    few_open : (k : Token) (ps qs : List Part) → place_fault k ps ≡ None → allowed k ps ≡ Some qs → length ps ≤ most_open → length qs ≤ most_open
     few_open CondOpen ps qs placed e few = omega (arith, has_room ps placed, allowed_level CondOpen ps qs e)
     few_open CondThen ps qs placed e few = omega (arith, allowed_level CondThen ps qs e)
     few_open CondElse ps qs placed e few = omega (arith, allowed_level CondElse ps qs e)
@@ -310,7 +310,7 @@ misspelled rest f u = elim u.why [
   | inr h ↦ let P : CapFault → Type 0 = λ x. IsMisspelling x in subst P (sym h.4) (escape_misspelled h.0)
 ]
 
-misspelled_fault : (f : CapFault) (before : List Token) (rest : List ℕ) → IsMisspelling f → rest ≢ [] → IsUnreadable rest f → IsFault f before rest
+misspelled_fault : (f : CapFault) (before : List Token) (rest : List ℕ) → IsMisspelling f → rest ≢ [] → IsUnreadable rest f → IsFaultBetween f before rest
 misspelled_fault CutShort before rest h some u = (some, u)
 misspelled_fault UnknownEscape before rest h some u = (some, u)
 misspelled_fault BadParameter before rest h some u = (some, u)
@@ -319,13 +319,13 @@ misspelled_fault BadConstant before rest h some u = (some, u)
 misspelled_fault BadFormat before rest h some u = (some, u)
 misspelled_fault _ before rest h some u = absurd h
 
-unreadable_fault : (f : CapFault) (before : List Token) (rest : List ℕ) → rest ≢ [] → IsUnreadable rest f → IsFault f before rest
+unreadable_fault : (f : CapFault) (before : List Token) (rest : List ℕ) → rest ≢ [] → IsUnreadable rest f → IsFaultBetween f before rest
 unreadable_fault f before rest some u = misspelled_fault f before rest (misspelled rest f u) some u
 
 -- ---- refusals
 
 -- nothing is read
-pub parse_fault : (bytes : List ℕ) (place : ℕ) (found : Found) (f : CapFault) → ((i : ℕ) → get_or bytes i 0 < 256) → length bytes ≤ most_capability_bytes → place < length bytes
+pub parse_fault : (bytes : List ℕ) (place : ℕ) (found : Findings) (f : CapFault) → ((i : ℕ) → get_or bytes i 0 < 256) → length bytes ≤ most_capability_bytes → place < length bytes
     → Parsed bytes place found → token_read (drop place bytes) ≡ Err f → IsRefusal bytes (record { fault = f; place = place })
 parse_fault bytes place found f fits short more p e =
     let some : drop place bytes ≢ [] = λ z. omega (arith, ap length z, length-drop place bytes) in
@@ -343,27 +343,27 @@ parse_fault bytes place found f fits short more p e =
     )
 
 -- a token that ran from the greatest height climbs by one
-climbs_by_one : (before : List Token) (k : Token) (s : State) → Sums next_height before s → s.running ≤ most_values → most_values < next_height s.running k → Comes next_height (before ++ k ∷ []) Run (suc most_values)
+climbs_by_one : (before : List Token) (k : Token) (s : Progress) → Sums next_height before s → s.running ≤ most_values → most_values < next_height s.running k → Comes next_height (before ++ k ∷ []) Running (suc most_values)
 climbs_by_one before k s sums low high =
-    let h : IsBest next_height before Run (Some s.running) = sums Run in
-    let c : Comes next_height (before ++ k ∷ []) (next_mode Run k false) (next_height s.running k) = comes_on next_height before k Run false s.running h.1 in
+    let h : IsBest next_height before Running (Some s.running) = sums Running in
+    let c : Comes next_height (before ++ k ∷ []) (next_mode Running k false) (next_height s.running k) = comes_on next_height before k Running false s.running h.1 in
     let P : Mode → Type 0 = λ m. Comes next_height (before ++ k ∷ []) m (next_height s.running k) in
-    let Q : ℕ → Type 0 = λ x. Comes next_height (before ++ k ∷ []) Run x in
+    let Q : ℕ → Type 0 = λ x. Comes next_height (before ++ k ∷ []) Running x in
     let top : next_height s.running k ≡ suc most_values = omega (arith, pushes-le k) in
     subst Q top (subst P (to_run k high) c)
   where
-    to_run : (k : Token) → most_values < next_height s.running k → next_mode Run k false ≡ Run
+    to_run : (k : Token) → most_values < next_height s.running k → next_mode Running k false ≡ Running
     to_run CondElse high = absurd (omega arith)
     to_run CondThen high = refl
     to_run _ high = refl
 
 -- a token may not stand, or climbs too high
-pub parse_misplaced : (bytes : List ℕ) (place : ℕ) (found : Found) (k : Token) (n : ℕ) (f : CapFault) → ((i : ℕ) → get_or bytes i 0 < 256) → length bytes ≤ most_capability_bytes
+pub parse_misplaced : (bytes : List ℕ) (place : ℕ) (found : Findings) (k : Token) (n : ℕ) (f : CapFault) → ((i : ℕ) → get_or bytes i 0 < 256) → length bytes ≤ most_capability_bytes
     → Parsed bytes place found → token_read (drop place bytes) ≡ Ok (k, n) → fault_of found k ≡ Some f → IsRefusal bytes (record { fault = f; place = place })
 parse_misplaced bytes place found k n f fits short p e some =
     inr (
       short,
-      record { before = p.before; within = p.within; written = p.written; begins = context_begins p.before p.parts p.context; is = is (misplaced k (parts_of found.heights.frames)) refl some },
+      record { before = p.before; within = p.within; written = p.written; begins = context_begins p.before p.parts p.context; is = is (place_fault k (parts_of found.heights.frames)) refl some },
       p.sound,
     )
   where
@@ -373,25 +373,25 @@ parse_misplaced bytes place found k n f fits short p e some =
     next : IsNext k (drop place bytes)
     next = (front.spelling, front.tail, front.spells, front.splits)
 
-    deep : misplaced k p.parts ≡ None → (b : Bool) → nat_le (next_height found.heights.running k) most_values ≡ b → cond b None (Some StackTooDeep) ≡ Some f → IsFault f p.before (drop place bytes)
+    deep : place_fault k p.parts ≡ None → (b : Bool) → nat_le (next_height found.heights.running k) most_values ≡ b → cond b None (Some StackTooDeep) ≡ Some f → IsFaultBetween f p.before (drop place bytes)
     deep placed true t g = absurd (cc)
     deep placed false t g =
         let go : (qs : List Part) × (allowed k p.parts ≡ Some qs) = goes_on k p.parts placed in
         let begins : Begins (p.before ++ k ∷ []) = context_begins _ _ (context_step p.before p.parts go.0 k p.context go.1) in
         let high : most_values < next_height found.heights.running k = grind arith in
         let is : StackTooDeep ≡ f = cc in
-        let P : CapFault → Type 0 = λ x. IsFault x p.before (drop place bytes) in
+        let P : CapFault → Type 0 = λ x. IsFaultBetween x p.before (drop place bytes) in
         subst P is (k, next, climbs_now p.before k (suc most_values) begins (climbs_by_one p.before k found.heights p.heights (parsed_low bytes place found p) high))
 
-    is : (m : Option CapFault) → misplaced k (parts_of found.heights.frames) ≡ m
-        → first_fault m (cond (nat_le (next_height found.heights.running k) most_values) None (Some StackTooDeep)) ≡ Some f → IsFault f p.before (drop place bytes)
-    is (Some g) m e = misplaced_fault k p.parts f p.before (drop place bytes) (ap (λ x. misplaced k x) (sym p.stands) ∙ m ∙ e) p.leads next
-    is None m e = deep (ap (λ x. misplaced k x) (sym p.stands) ∙ m) (nat_le (next_height found.heights.running k) most_values) refl e
+    is : (m : Option CapFault) → place_fault k (parts_of found.heights.frames) ≡ m
+        → first_fault m (cond (nat_le (next_height found.heights.running k) most_values) None (Some StackTooDeep)) ≡ Some f → IsFaultBetween f p.before (drop place bytes)
+    is (Some g) m e = misplaced_fault k p.parts f p.before (drop place bytes) (ap (λ x. place_fault k x) (sym p.stands) ∙ m ∙ e) p.leads next
+    is None m e = deep (ap (λ x. place_fault k x) (sym p.stands) ∙ m) (nat_le (next_height found.heights.running k) most_values) refl e
 
 -- ---- the end
 
 -- all is read, and some conditional is still in its first test
-pub parse_no_then : (bytes : List ℕ) (place : ℕ) (found : Found) → length bytes ≤ most_capability_bytes → length bytes ≤ place → Parsed bytes place found → are_in_test found.heights.frames ≡ true
+pub parse_no_then : (bytes : List ℕ) (place : ℕ) (found : Findings) → length bytes ≤ most_capability_bytes → length bytes ≤ place → Parsed bytes place found → are_in_test found.heights.frames ≡ true
     → IsRefusal bytes (record { fault = NoThen; place = place })
 parse_no_then bytes place found short end p e =
     inr (
@@ -413,7 +413,7 @@ parse_no_then bytes place found short end p e =
         unsettled_by found.heights.frames e (subst Q (sym p.stands) (settled tree p.parts formed (subst P (sym is) p.leads)))
 
 -- nothing is at fault at the end
-end_fine : (before : List Token) (tree : Sequence) → IsTree tree → tokens tree ≡ before → (f : CapFault) → ¬ IsFault f before []
+end_fine : (before : List Token) (tree : Sequence) → IsTree tree → tokens tree ≡ before → (f : CapFault) → ¬ IsFaultBetween f before []
 end_fine before tree formed is TooLong h = h
 end_fine before tree formed is StrayThen h = nothing_next CondThen h.0
 end_fine before tree formed is StrayElse h = nothing_next CondElse h.0.0
@@ -426,8 +426,8 @@ end_fine before tree formed is StackTooDeep (l, next, climbs) = nothing_next l n
 end_fine before tree formed is _ h = h.0 refl
 
 -- all is read
-pub parse_done : (bytes : List ℕ) (place : ℕ) (found : Found) (limits : Limits) → length bytes ≤ most_capability_bytes → length bytes ≤ place → Parsed bytes place found → are_in_test found.heights.frames ≡ false
-    → limits.depth ≡ found.depth → limits.nest ≡ found.nest → limits.bound ≡ top found.sizes.frames found.sizes.running → IsCapability bytes limits
+pub parse_done : (bytes : List ℕ) (place : ℕ) (found : Findings) (limits : Limits) → length bytes ≤ most_capability_bytes → length bytes ≤ place → Parsed bytes place found → are_in_test found.heights.frames ≡ false
+    → limits.depth ≡ found.depth → limits.nest ≡ found.nest → limits.bound ≡ greatest_of found.sizes.frames found.sizes.running → IsCapability bytes limits
 parse_done bytes place found limits short end p e depth_is nest_is bound_is =
     let Q : List Part → Type 0 = λ x. AreSettled x in
     let r : (tree : Sequence) × IsTree tree × (tokens tree ≡ p.before) = context_ends p.before p.parts p.context (subst Q p.stands (settled_by found.heights.frames e)) in
@@ -460,8 +460,8 @@ parse_done bytes place found limits short end p e depth_is nest_is bound_is =
           let P : ℕ → Type 0 = λ x. Written has.before (take x bytes) in
           let R : List ℕ → Type 0 = λ x. Written has.before x in
           let same : has.before ≡ p.before = one_cutting has.before p.before bytes (subst R (take-length bytes) (subst P eq has.written)) all in
-          let F : List Token → Type 0 = λ x. IsFault f x (drop q bytes) in
-          let G : List ℕ → Type 0 = λ x. IsFault f p.before x in
+          let F : List Token → Type 0 = λ x. IsFaultBetween f x (drop q bytes) in
+          let G : List ℕ → Type 0 = λ x. IsFaultBetween f p.before x in
           end_fine p.before tree formed is f (subst G (drop_all q bytes (omega arith)) (subst F same has.is))
     ]
       where

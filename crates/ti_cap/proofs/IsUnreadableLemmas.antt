@@ -20,7 +20,7 @@ use Rattle.ti_cap.proofs.ChoiceLemmas.{chosen, apart, letter_found}
 use Rattle.ti_cap.proofs.FormatUnreadLemmas.{format_cut, format_fault}
 use Rattle.ti_cap.proofs.SpellsLemmas.{token_again, token_final, AreBytes}
 
--- these bytes behind a `%` begin an escape and are not the whole of it
+-- these bytes after a `%` begin an escape and are not the whole of it
 IsEscapeCut : List ℕ → Type 0
 IsEscapeCut bytes = (token : Token) × (b : ℕ) × (more : List ℕ) × SpellsEscape token (bytes ++ b ∷ more)
 
@@ -153,7 +153,7 @@ format_named c cs f uncut h e = by_test (opens_format c) refl
     by_test true t = format_fault (c ∷ cs) f uncut e ∙ opened c t
     by_test false t = absurd (by_letter (conversion_of c) refl h t)
 
--- the fault is named by the byte behind the `%`
+-- the fault is named by the byte after the `%`
 named : (c : ℕ) (cs : List ℕ) (f : CapFault) → f ≢ CutShort → escape_read (c ∷ cs) ≡ Err f → f ≡ escape_fault c
 unfolding digits_read
 named c cs f uncut e =

@@ -5,7 +5,7 @@ use Rattle.ti_cap.specs.declared.language.Token.{Token}
 use Rattle.ti_cap.specs.declared.language.Token.TheVariants.{CondOpen, CondThen, CondElse, CondClose}
 use Rattle.ti_cap.specs.Tree.{Sequence, Empty, Simple, Conditional, Arms, Lone, Else, ElseIf, tokens, arm_tokens, closing, IsSimple, IsFormed, AreFormed, IsTree}
 
--- what may stand behind a sequence
+-- what may stand after a sequence
 abbrev Stops : List Token → Type 0
 Stops [] = Unit {0}
 Stops (CondThen ∷ x) = Unit {0}
@@ -13,7 +13,7 @@ Stops (CondElse ∷ x) = Unit {0}
 Stops (CondClose ∷ x) = Unit {0}
 Stops _ = ⊥
 
--- what may stand behind the arms of a conditional
+-- what may stand after the arms of a conditional
 abbrev Ends : List Token → Type 0
 Ends [] = Unit {0}
 Ends (CondClose ∷ x) = Unit {0}
@@ -52,7 +52,7 @@ record SameArms (a b : Arms) (x y : List Token) : Type 0 where
   arms : a ≡ b
   rest : x ≡ y
 
--- the first test and what stands behind its `%t`
+-- the first test and what stands after its `%t`
 abbrev first : Arms → Sequence
 first (Lone t s) = t
 first (Else t s o) = t

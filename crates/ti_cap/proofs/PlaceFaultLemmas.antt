@@ -8,8 +8,8 @@ use Rattle.ti_cap.specs.declared.language.CapFault.{CapFault}
 use Rattle.ti_cap.specs.declared.language.CapFault.TheVariants.{NestTooDeep}
 use Rattle.ti_cap.specs.declared.frame.Frame.{Frame}
 use Rattle.ti_cap.specs.Tree.{IsTree, Sequence, tokens}
-use Rattle.ti_cap.specs.Refusal.{Part, FirstTest, Body, Otherwise, next_parts, parts_from, open_parts, IsInFirstTest, IsNext, IsFault}
-use Rattle.ti_cap.specs.inner.Analysis.{misplaced, part_by, parts_of, is_in_test, are_in_test}
+use Rattle.ti_cap.specs.Refusal.{Part, FirstTest, Body, Otherwise, next_parts, parts_from, open_parts, IsInFirstTest, IsNext, IsFaultBetween}
+use Rattle.ti_cap.specs.inner.Analysis.{place_fault, part_by, parts_of, is_in_test, are_in_test}
 use Rattle.ti_cap.proofs.PartsLemmas.{allowed, Leads, AreSettled, Opens, opens}
 use Rattle.ti_cap.proofs.ClimbsLemmas.{stray, leads_one}
 
@@ -40,7 +40,7 @@ leads_open qs ks l = leads_from [] qs ks l
 
 -- ---- a token that is not misplaced may stand
 
-pub goes_on : (k : Token) (ps : List Part) → misplaced k ps ≡ None → (qs : List Part) × (allowed k ps ≡ Some qs)
+pub goes_on : (k : Token) (ps : List Part) → place_fault k ps ≡ None → (qs : List Part) × (allowed k ps ≡ Some qs)
 goes_on CondOpen ps e = (FirstTest ∷ ps, refl)
 goes_on CondThen [] e = absurd (cc)
 goes_on CondThen (FirstTest ∷ ps) e = (Body ∷ ps, refl)
@@ -60,23 +60,23 @@ lt_by : (a b : ℕ) (f : CapFault) → cond (nat_lt a b) None (Some f) ≡ None 
 lt_by a b f e = grind arith
 
 -- a `%?` that is not misplaced is at most the 32nd
-pub has_room : (ps : List Part) → misplaced CondOpen ps ≡ None → length ps < most_open
+pub has_room : (ps : List Part) → place_fault CondOpen ps ≡ None → length ps < most_open
 has_room ps e = lt_by (length ps) most_open NestTooDeep e
 
 -- ---- a misplaced token is at fault
 
-become : (f g : CapFault) (before : List Token) (rest : List ℕ) → Some f ≡ Some g → IsFault f before rest → IsFault g before rest
-become f g before rest e h = let is : f ≡ g = cc in let P : CapFault → Type 0 = λ x. IsFault x before rest in subst P is h
+become : (f g : CapFault) (before : List Token) (rest : List ℕ) → Some f ≡ Some g → IsFaultBetween f before rest → IsFaultBetween g before rest
+become f g before rest e h = let is : f ≡ g = cc in let P : CapFault → Type 0 = λ x. IsFaultBetween x before rest in subst P is h
 
-pub misplaced_fault : (k : Token) (ps : List Part) (f : CapFault) (before : List Token) (rest : List ℕ) → misplaced k ps ≡ Some f → Leads [] before ps → IsNext k rest
-    → IsFault f before rest
+pub misplaced_fault : (k : Token) (ps : List Part) (f : CapFault) (before : List Token) (rest : List ℕ) → place_fault k ps ≡ Some f → Leads [] before ps → IsNext k rest
+    → IsFaultBetween f before rest
 misplaced_fault CondOpen ps f before rest e l n = too_deep (nat_lt (length ps) most_open) refl e
   where
-    too_deep : (b : Bool) → nat_lt (length ps) most_open ≡ b → cond b None (Some NestTooDeep) ≡ Some f → IsFault f before rest
+    too_deep : (b : Bool) → nat_lt (length ps) most_open ≡ b → cond b None (Some NestTooDeep) ≡ Some f → IsFaultBetween f before rest
     too_deep true t g = absurd (cc)
     too_deep false t g =
         let is : NestTooDeep ≡ f = cc in
-        let P : CapFault → Type 0 = λ x. IsFault x before rest in
+        let P : CapFault → Type 0 = λ x. IsFaultBetween x before rest in
         let long : most_open ≤ length ps = grind arith in
         let same : length (open_parts before) ≡ length ps = ap (λ x. length x) (leads_open ps before l) in
         subst P is (n, omega arith)

@@ -2,7 +2,7 @@
 use Rattle.std.proofs.Common.{◌≡◌, ℕ, ◌+◌, ◌*◌, ◌<◌, ◌≤◌, ◌^◌, List, [], ◌∷◌, length, ◌∙◌, ap, arith, true, false, length-append}
 use Rattle.std.proofs.lemmas.List.Sums.{sum_by-cons}
 use Rattle.ti_cap.specs.declared.language.Token.{Token}
-use Rattle.ti_cap.specs.Path.{Walk, met}
+use Rattle.ti_cap.specs.Path.{Walk, path_of}
 use Rattle.ti_cap.specs.Sizes.{token_size}
 use Rattle.ti_cap.specs.Height.{size}
 use Rattle.ti_cap.specs.Spelling.{Written}
@@ -22,7 +22,7 @@ pub size_still : (longest : ℕ) → IsStill (size_act longest)
 size_still longest = ((λ x. omega arith), (λ x. omega arith))
 
 value-from : (longest : ℕ) (ks : List Token) (bytes : List ℕ) (w : Walk) (x : ℕ) → longest < 2 ^ 16 → Written ks bytes
-    → value_of (size_act longest) x (met w ks) ≤ x + 65535 * length bytes
+    → value_of (size_act longest) x (path_of w ks) ≤ x + 65535 * length bytes
 value-from longest ks bytes [] x h q = omega arith
 value-from longest [] bytes (b ∷ w) x h q = omega arith
 value-from longest (k ∷ ks) bytes (true ∷ w) x h (s, tail, p, q, e) =
@@ -32,7 +32,7 @@ value-from longest (k ∷ ks) bytes (false ∷ w) x h (s, tail, p, q, e) =
 
 -- no walk over tokens that bytes spell is larger than so much for each byte
 pub value-size : (longest : ℕ) (ks : List Token) (bytes : List ℕ) (w : Walk) → longest < 2 ^ 16 → Written ks bytes
-    → value_of (size_act longest) 0 (met w ks) ≤ 65535 * length bytes
+    → value_of (size_act longest) 0 (path_of w ks) ≤ 65535 * length bytes
 value-size longest ks bytes w h q = omega (arith, value-from longest ks bytes w 0 h q)
 
 size-from : (longest x : ℕ) (path : List Token) → value_of (size_act longest) x path ≡ x + size path longest

@@ -10,7 +10,7 @@ use Rattle.ti_cap.specs.declared.language.Conversion.{Conversion}
 use Rattle.ti_cap.specs.declared.language.Conversion.TheVariants.{Signed, Octal, LowerHex, UpperHex, Text}
 use Rattle.ti_cap.specs.declared.language.CapFault.TheVariants.{BadFormat}
 use Rattle.ti_cap.specs.Spelling.{IsDigit, number_of, IsPlainFlag, IsFlag, AreFlags, HasFlags, SpellsWidth, SpellsPrecision, conversion_letter}
-use Rattle.ti_cap.specs.inner.Reading.{Reading, front, rest, is_digit, is_plain_flag, is_flag, is_colon, conversion_of, converted, flagged, letter_read, precision_read, width_read, format_read}
+use Rattle.ti_cap.specs.inner.Reading.{Reading, front, rest, is_digit, is_plain_flag, is_flag, is_colon, conversion_of, with_conversion, with_flags, letter_read, precision_read, width_read, format_read}
 use Rattle.ti_cap.proofs.FrontLemmas.{Stops, AllPass, front_stops, rest_stops}
 use Rattle.ti_cap.proofs.FormatPartsLemmas.{with_precision, with_width}
 
@@ -30,7 +30,7 @@ letter_is Text = refl
 
 -- the letter is read again
 letter_again : (f : Format) (c : Conversion) (t : List ℕ) (n : ℕ) → letter_read f n (conversion_letter c ∷ t) ≡ printed (record f { conversion = c }) (n + 1)
-letter_again f c t n = ap (λ o. converted f (n + 1) o) (letter_is c)
+letter_again f c t n = ap (λ o. with_conversion f (n + 1) o) (letter_is c)
 
 letter_stops : (c : Conversion) (t : List ℕ) → Stops is_digit (conversion_letter c ∷ t)
 letter_stops Signed t = refl
@@ -82,7 +82,7 @@ precision_stops : (o : Option ℕ) (pr : List ℕ) (c : Conversion) (t : List �
 precision_stops None pr c t h = rw h (letter_stops c t)
 precision_stops (Some p) pr c t (digits, all, value, le, is) = rw is refl
 
--- the width and what stands behind it are read again
+-- the width and what stands after it are read again
 width_again : (f : Format) (w : ℕ) (o : Option ℕ) (c : Conversion) (width pr t : List ℕ) (n : ℕ) → f.precision ≡ None → SpellsWidth w width → SpellsPrecision o pr
     → width_read f n (width ++ (pr ++ conversion_letter c ∷ t)) ≡ printed (with_width f w o c) (n + length width + length pr + 1)
 width_again f w o c width pr t n none sw sp =
@@ -98,7 +98,7 @@ width_again f w o c width pr t n none sw sp =
     read_on : List ℕ → List ℕ → Reading
     read_on fr re = cond (nat_lt greatest_width (number_of fr)) (Err BadFormat) (precision_read (record f { width = number_of fr }) (n + length fr) re)
 
--- what stands behind the flags begins with none of these
+-- what stands after the flags begins with none of these
 tail_stops : (p : ℕ → Bool) → ((c : Conversion) → p (conversion_letter c) ≡ false) → p 46 ≡ false → ((c : ℕ) → c ≢ 48 → IsDigit c → p c ≡ false)
     → (f : Format) (width pr t : List ℕ) → SpellsWidth f.width width → SpellsPrecision f.precision pr → Stops p (width ++ (pr ++ conversion_letter f.conversion ∷ t))
 tail_stops p letters dot digits f (c ∷ cs) pr t sw sp = digits c sw.0 sw.1.0
@@ -169,18 +169,18 @@ no_colon (c ∷ fl) r h g = plain_flag_no_colon c h.0
 
 -- a format without a colon
 plain_format : (bytes : List ℕ) → Stops is_colon bytes
-    → format_read bytes ≡ width_read (flagged (front is_plain_flag bytes)) (1 + length (front is_plain_flag bytes)) (rest is_plain_flag bytes)
+    → format_read bytes ≡ width_read (with_flags (front is_plain_flag bytes)) (1 + length (front is_plain_flag bytes)) (rest is_plain_flag bytes)
 unfolding format_read
 plain_format [] h = absurd h
 plain_format (c ∷ cs) h =
-    ap (λ b. cond b (width_read (flagged (front is_flag cs)) (2 + length (front is_flag cs)) (rest is_flag cs)) (width_read (flagged (front is_plain_flag (c ∷ cs))) (1 + length (front is_plain_flag (c ∷ cs))) (rest is_plain_flag (c ∷ cs)))) h
+    ap (λ b. cond b (width_read (with_flags (front is_flag cs)) (2 + length (front is_flag cs)) (rest is_flag cs)) (width_read (with_flags (front is_plain_flag (c ∷ cs))) (1 + length (front is_plain_flag (c ∷ cs))) (rest is_plain_flag (c ∷ cs)))) h
 
 -- and one with it
-colon_format : (cs : List ℕ) → format_read (58 ∷ cs) ≡ width_read (flagged (front is_flag cs)) (2 + length (front is_flag cs)) (rest is_flag cs)
+colon_format : (cs : List ℕ) → format_read (58 ∷ cs) ≡ width_read (with_flags (front is_flag cs)) (2 + length (front is_flag cs)) (rest is_flag cs)
 unfolding format_read
 colon_format cs = refl
 
-same_format : (f : Format) (flags : List ℕ) → HasFlags f flags → with_width (flagged flags) f.width f.precision f.conversion ≡ f
+same_format : (f : Format) (flags : List ℕ) → HasFlags f flags → with_width (with_flags flags) f.width f.precision f.conversion ≡ f
 same_format f flags h = rw (sym h.0, sym h.1, sym h.2, sym h.3, sym h.4) refl
 
 -- a format is read again, whatever follows
@@ -192,11 +192,11 @@ format_again f flags width pr t (inl plain) h sw sp =
     plain_format (flags ++ tail) (no_colon flags tail plain (tail_stops is_colon letter_no_colon refl digit_no_colon f width pr t sw sp))
     ∙ ap (λ x. read_on x (rest is_plain_flag (flags ++ tail))) (front_stops is_plain_flag flags tail (plain_flags_pass flags plain) st)
     ∙ ap (λ x. read_on flags x) (rest_stops is_plain_flag flags tail (plain_flags_pass flags plain) st)
-    ∙ width_again (flagged flags) f.width f.precision f.conversion width pr t (1 + length flags) refl sw sp
+    ∙ width_again (with_flags flags) f.width f.precision f.conversion width pr t (1 + length flags) refl sw sp
     ∙ ap (λ x. printed x (1 + length flags + length width + length pr + 1)) (same_format f flags h)
   where
     read_on : List ℕ → List ℕ → Reading
-    read_on fr re = width_read (flagged fr) (1 + length fr) re
+    read_on fr re = width_read (with_flags fr) (1 + length fr) re
 format_again f flags width pr t (inr (fl, all, is)) h sw sp =
     let tail : List ℕ = width ++ (pr ++ conversion_letter f.conversion ∷ t) in
     let st : Stops is_flag (width ++ (pr ++ conversion_letter f.conversion ∷ t)) = tail_stops is_flag letter_no_flag refl digit_no_flag f width pr t sw sp in
@@ -205,7 +205,7 @@ format_again f flags width pr t (inr (fl, all, is)) h sw sp =
     ∙ colon_format (fl ++ tail)
     ∙ ap (λ x. read_on x (rest is_flag (fl ++ tail))) (front_stops is_flag fl tail (flags_pass fl all) st)
     ∙ ap (λ x. read_on fl x) (rest_stops is_flag fl tail (flags_pass fl all) st)
-    ∙ width_again (flagged fl) f.width f.precision f.conversion width pr t (2 + length fl) refl sw sp
+    ∙ width_again (with_flags fl) f.width f.precision f.conversion width pr t (2 + length fl) refl sw sp
     ∙ ap (λ x. printed x (2 + length fl + length width + length pr + 1)) (same_format f fl (subst P is h))
     ∙ ap (λ m. printed f m) (longer (length fl) (length flags) (length width) (length pr) (ap length is))
   where
@@ -213,4 +213,4 @@ format_again f flags width pr t (inr (fl, all, is)) h sw sp =
     longer a b c d e = omega arith
 
     read_on : List ℕ → List ℕ → Reading
-    read_on fr re = width_read (flagged fr) (2 + length fr) re
+    read_on fr re = width_read (with_flags fr) (2 + length fr) re

@@ -151,7 +151,7 @@ pub token_again : (token : Token) (s t : List ℕ) → Spells token s → token_
 token_again token s t (inl (b, is, other, spelled)) = rw (is, spelled) (plain_again b t other)
 token_again token s t (inr (e, spelled, is)) = rw is (escape_again token e t spelled)
 
--- a spelling and the bytes behind it
+-- a spelling and the bytes after it
 pub record Front (bytes : List ℕ) (token : Token) (n : ℕ) : Type 0 where
   pub spelling : List ℕ
   pub tail : List ℕ
@@ -159,7 +159,7 @@ pub record Front (bytes : List ℕ) (token : Token) (n : ℕ) : Type 0 where
   pub splits : bytes ≡ spelling ++ tail
   pub long : n ≡ length spelling
 
--- the same behind a `%`
+-- the same after a `%`
 pub record EscapeFront (bytes : List ℕ) (token : Token) (n : ℕ) : Type 0 where
   pub spelling : List ℕ
   pub tail : List ℕ

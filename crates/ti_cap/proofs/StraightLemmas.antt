@@ -4,8 +4,8 @@ use Rattle.std.proofs.lemmas.List.{append-nil}
 use Rattle.std.specs.List.{AllByRecursion}
 use Rattle.ti_cap.specs.declared.language.Token.{Token}
 use Rattle.ti_cap.specs.Tree.{Sequence, Empty, Simple, tokens, IsSimple, IsTree}
-use Rattle.ti_cap.specs.Path.{Walk, IsWalk, met, met_all}
-use Rattle.ti_cap.specs.Pass.{Mode, Run, next_mode, is_run, Passes}
+use Rattle.ti_cap.specs.Path.{Walk, IsWalk, path_of, all_met}
+use Rattle.ti_cap.specs.Pass.{Mode, Running, next_mode, is_running, Passes}
 use Rattle.ti_cap.specs.Height.{end_height, IsGreatest}
 use Rattle.ti_cap.specs.Refusal.{Begins, Climbs}
 use Rattle.ti_cap.proofs.PassesLemmas.{Split, passes_split, Over, walk_passes}
@@ -34,55 +34,55 @@ simple-append [] ls h g = g
 simple-append (k ∷ ks) ls h g = (h.0, simple-append ks ls h.1 g)
 
 -- the marks beyond a list's end do not matter
-pub met_front : (ks : List Token) (m o : Mode) (u v : Walk) → Passes m ks u o → met (u ++ v) ks ≡ met u ks
+pub met_front : (ks : List Token) (m o : Mode) (u v : Walk) → Passes m ks u o → path_of (u ++ v) ks ≡ path_of u ks
 met_front [] m o u v (eu, eo) = rw eu (none v)
   where
-    none : (v : Walk) → met v [] ≡ []
+    none : (v : Walk) → path_of v [] ≡ []
     none [] = refl
     none (b ∷ v) = refl
 met_front (k ∷ ks) m o u v (fails, more, e, p) =
-    rw e (both (is_run m || is_run (next_mode m k fails)) (met_front ks (next_mode m k fails) o more v p))
+    rw e (both (is_running m || is_running (next_mode m k fails)) (met_front ks (next_mode m k fails) o more v p))
   where
-    both : (b : Bool) → met (more ++ v) ks ≡ met more ks → met (b ∷ (more ++ v)) (k ∷ ks) ≡ met (b ∷ more) (k ∷ ks)
+    both : (b : Bool) → path_of (more ++ v) ks ≡ path_of more ks → path_of (b ∷ (more ++ v)) (k ∷ ks) ≡ path_of (b ∷ more) (k ∷ ks)
     both true h = ap (λ x. k ∷ x) h
     both false h = h
 
 -- simple tokens are all met
-pub simple_met : (ks : List Token) (w : Walk) (o : Mode) → AreSimple ks → Passes Run ks w o → met w ks ≡ ks
+pub simple_met : (ks : List Token) (w : Walk) (o : Mode) → AreSimple ks → Passes Running ks w o → path_of w ks ≡ ks
 simple_met [] w o h p = rw p.0 refl
 simple_met (k ∷ ks) w o h p =
-    let q : Step true Run ks w o = run_simple_only k ks w o h.0 p in
+    let q : Step true Running ks w o = run_simple_only k ks w o h.0 p in
     rw q.marks (ap (λ x. k ∷ x) (simple_met ks q.more o h.1 q.passes))
 
 -- some tree's walk meets simple tokens at its front
-pub simple_front : (tree : Sequence) (ks after : List Token) (w : Walk) → IsTree tree → tokens tree ≡ ks ++ after → IsWalk tree w → AreSimple ks → met w ks ≡ ks
+pub simple_front : (tree : Sequence) (ks after : List Token) (w : Walk) → IsTree tree → tokens tree ≡ ks ++ after → IsWalk tree w → AreSimple ks → path_of w ks ≡ ks
 simple_front tree ks after w formed spans walked h =
-    let r : Over true Run (tokens tree) w = walk_passes true tree w formed walked in
-    let P : List Token → Type 0 = λ x. Passes Run x w r.to in
-    let c : Split ks after Run r.to w = passes_split ks after Run r.to w (subst P spans r.passes) in
-    rw c.joined (met_front ks Run c.between c.front c.back c.first ∙ simple_met ks c.front c.between h c.first)
+    let r : Over true Running (tokens tree) w = walk_passes true tree w formed walked in
+    let P : List Token → Type 0 = λ x. Passes Running x w r.to in
+    let c : Split ks after Running r.to w = passes_split ks after Running r.to w (subst P spans r.passes) in
+    rw c.joined (met_front ks Running c.between c.front c.back c.first ∙ simple_met ks c.front c.between h c.first)
 
 -- the height that simple tokens climb to is their own
 pub simple_climb : (before : List Token) (k : Token) (h : ℕ) → AreSimple (before ++ k ∷ []) → Climbs before k h → end_height 0 (before ++ k ∷ []) ≡ h
 simple_climb before k h s c =
-    ap (λ x. end_height 0 x) (sym (simple_front c.tree (before ++ k ∷ []) c.after c.walk c.formed (c.spans ∙ sym (append_assoc before (k ∷ []) c.after)) c.walked s)) ∙ c.climbs
+    ap (λ x. end_height 0 x) (sym (simple_front c.tree (before ++ k ∷ []) c.after c.walk c.formed (c.spans ∙ sym (append_assoc before (k ∷ []) c.after)) c.walked s)) ∙ c.height_is
 
-straight_walk : (ks : List Token) (w : Walk) → IsWalk (straight ks) w → met w ks ≡ ks
+straight_walk : (ks : List Token) (w : Walk) → IsWalk (straight ks) w → path_of w ks ≡ ks
 straight_walk [] w h = rw h refl
 straight_walk (k ∷ ks) w (v, h, e) = rw e (ap (λ x. k ∷ x) (straight_walk ks v h))
 
-pub walk_straight : (ks : List Token) → IsWalk (straight ks) (met_all ks)
+pub walk_straight : (ks : List Token) → IsWalk (straight ks) (all_met ks)
 walk_straight [] = refl
-walk_straight (k ∷ ks) = (met_all ks, walk_straight ks, refl)
+walk_straight (k ∷ ks) = (all_met ks, walk_straight ks, refl)
 
 pub straight_greatest : (ks : List Token) (measure : List Token → ℕ) → IsGreatest (straight ks) measure (measure ks)
 straight_greatest ks measure = record {
-  above_all = λ path p. let e : path ≡ ks = p.2 ∙ ap (λ x. met p.0 x) (straight_tokens ks) ∙ straight_walk ks p.0 p.1 in
+  above_all = λ path p. let e : path ≡ ks = p.2 ∙ ap (λ x. path_of p.0 x) (straight_tokens ks) ∙ straight_walk ks p.0 p.1 in
       let q : measure path ≡ measure ks = ap measure e in omega arith;
-  reached = (ks, (met_all ks, walk_straight ks, sym (ap (λ x. met (met_all ks) x) (straight_tokens ks) ∙ straight_walk ks (met_all ks) (walk_straight ks))), refl);
+  reached = (ks, (all_met ks, walk_straight ks, sym (ap (λ x. path_of (all_met ks) x) (straight_tokens ks) ∙ straight_walk ks (all_met ks) (walk_straight ks))), refl);
 }
 
-pub met_all_front : (a b : List Token) → met (met_all (a ++ b)) a ≡ a
+pub met_all_front : (a b : List Token) → path_of (all_met (a ++ b)) a ≡ a
 met_all_front [] [] = refl
 met_all_front [] (k ∷ b) = refl
 met_all_front (k ∷ a) b = ap (λ x. k ∷ x) (met_all_front a b)

@@ -8,7 +8,7 @@ use Rattle.ti_cap.specs.declared.language.CapFault.{CapFault}
 use Rattle.ti_cap.specs.declared.language.CapFault.TheVariants.{TooLong, CutShort, UnknownEscape, BadParameter, BadVariable, BadConstant, BadFormat, StrayThen, StrayElse, StrayEnd, NoThen, NestTooDeep, StackTooDeep}
 use Rattle.ti_cap.specs.declared.language.CapRefused.{CapRefused}
 use Rattle.ti_cap.specs.Tree.{Sequence, IsTree, tokens}
-use Rattle.ti_cap.specs.Path.{Walk, IsWalk, met}
+use Rattle.ti_cap.specs.Path.{Walk, IsWalk, path_of}
 use Rattle.ti_cap.specs.Height.{end_height}
 use Rattle.ti_cap.specs.Spelling.{Spells, Written}
 
@@ -74,7 +74,7 @@ pub record IsUnreadable (rest : List ℕ) (fault : CapFault) : Type 0 where
 abbrev pub IsStray : Token → List Token → List ℕ → Type 0
 IsStray token before rest = IsNext token rest × ¬ Begins (before ++ token ∷ [])
 
--- some walk of some tree meets the token behind these, and has this height after it
+-- some walk of some tree meets the token after these, as the last of its path so far, and has this height after it
 pub record Climbs (before : List Token) (token : Token) (height : ℕ) : Type 0 where
   pub tree : Sequence
   pub after : List Token
@@ -82,22 +82,22 @@ pub record Climbs (before : List Token) (token : Token) (height : ℕ) : Type 0 
   pub formed : IsTree tree
   pub spans : tokens tree ≡ before ++ token ∷ after
   pub walked : IsWalk tree walk
-  pub meets : met walk (before ++ token ∷ []) ≡ met walk before ++ token ∷ []
-  pub climbs : end_height 0 (met walk (before ++ token ∷ [])) ≡ height
+  pub on_path : path_of walk (before ++ token ∷ []) ≡ path_of walk before ++ token ∷ []
+  pub height_is : end_height 0 (path_of walk (before ++ token ∷ [])) ≡ height
 
--- each fault, where these tokens stand before it and this rest behind it
-abbrev pub IsFault : CapFault → List Token → List ℕ → Type 0
-IsFault TooLong before rest = ⊥
-IsFault StrayThen before rest = IsStray CondThen before rest
-IsFault StrayElse before rest = IsStray CondElse before rest × ¬ IsInFirstTest (open_parts before)
-IsFault StrayEnd before rest = IsStray CondClose before rest × (open_parts before ≡ [])
-IsFault NoThen before rest =
+-- each fault, where these tokens stand before it and this rest after it
+abbrev pub IsFaultBetween : CapFault → List Token → List ℕ → Type 0
+IsFaultBetween TooLong before rest = ⊥
+IsFaultBetween StrayThen before rest = IsStray CondThen before rest
+IsFaultBetween StrayElse before rest = IsStray CondElse before rest × ¬ IsInFirstTest (open_parts before)
+IsFaultBetween StrayEnd before rest = IsStray CondClose before rest × (open_parts before ≡ [])
+IsFaultBetween NoThen before rest =
     (IsStray CondElse before rest × IsInFirstTest (open_parts before))
     ⊎ ((IsStray CondClose before rest × (open_parts before ≢ []))
     ⊎ ((rest ≡ []) × ((tree : Sequence) → IsTree tree → tokens tree ≢ before)))
-IsFault NestTooDeep before rest = IsNext CondOpen rest × (most_open ≤ length (open_parts before))
-IsFault StackTooDeep before rest = (token : Token) × IsNext token rest × Climbs before token (suc most_values)
-IsFault fault before rest = (rest ≢ []) × IsUnreadable rest fault
+IsFaultBetween NestTooDeep before rest = IsNext CondOpen rest × (most_open ≤ length (open_parts before))
+IsFaultBetween StackTooDeep before rest = (token : Token) × IsNext token rest × Climbs before token (suc most_values)
+IsFaultBetween fault before rest = (rest ≢ []) × IsUnreadable rest fault
 
 -- the fault stands at this place
 pub record HasFault (bytes : List ℕ) (fault : CapFault) (place : ℕ) : Type 0 where
@@ -105,7 +105,7 @@ pub record HasFault (bytes : List ℕ) (fault : CapFault) (place : ℕ) : Type 0
   pub within : place ≤ length bytes
   pub written : Written before (take place bytes)
   pub begins : Begins before
-  pub is : IsFault fault before (drop place bytes)
+  pub is : IsFaultBetween fault before (drop place bytes)
 
 -- no fault stands before this place
 abbrev pub IsSoundBelow : List ℕ → ℕ → Type 0

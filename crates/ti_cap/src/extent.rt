@@ -12,12 +12,12 @@ pub struct Extent {
 
 impl Extent {
     ghost use Rattle.std.specs.Prelude.{◌≡◌};
-    ghost use Rattle.ti_cap.specs.inner.Scan.{joined};
+    ghost use Rattle.ti_cap.specs.inner.Scan.{greater_extent};
 
     /// The greater height and the greater size of this and of what waits, if anything does.
     #[inline(always)]
-    pub fn joined(self, waiting: Option<Extent>) -> Extent
-        ensures { result ≡ joined waiting self }
+    pub fn max_with(self, waiting: Option<Extent>) -> Extent
+        ensures { result ≡ greater_extent waiting self }
     {
         match waiting {
             None => self,

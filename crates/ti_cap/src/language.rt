@@ -5,7 +5,7 @@
 
 ghost use Rattle.std.specs.Prelude.{◌≡◌, ◌≤◌};
 ghost use Rattle.ti_cap.specs.Sizes.{format_size, token_size};
-ghost use Rattle.ti_cap.specs.Word.{name_of};
+ghost use Rattle.ti_cap.specs.FaultNames.{name_of};
 
 use thiserror::Error;
 
@@ -72,7 +72,7 @@ pub struct Format {
     pub plus: bool,
     /// A space stands before a number that has no sign.
     pub space: bool,
-    /// `#`, octal digits begin with a `0`, and hexadecimal ones of a value other than 0 stand behind `0x` or `0X`.
+    /// `#`, octal digits begin with a `0`, and hexadecimal ones of a value other than 0 stand after `0x` or `0X`.
     pub alternate: bool,
     /// `0`, zeros fill between the sign or prefix and the digits.
     pub zero: bool,
@@ -124,7 +124,7 @@ pub enum CapFault {
     /// The bytes end within an escape.
     #[error("CutShort")]
     CutShort,
-    /// No escape begins with the byte behind the `%`.
+    /// No escape begins with the byte after the `%`.
     #[error("UnknownEscape")]
     UnknownEscape,
     /// `%p` without a digit from 1 to 9.

@@ -45,7 +45,7 @@ fn read_escape(bytes: &[u8]) -> Result<(Token, usize), CapFault>
     }
 }
 
-/// The token that this one byte spells behind a `%`.
+/// The token that this one byte spells after a `%`.
 #[inline(always)]
 #[tactic(auto, unfolding(crate::specs::inner::Reading::lone_of))]
 fn lone(letter: u8) -> Option<Token>
@@ -80,7 +80,7 @@ fn lone(letter: u8) -> Option<Token>
     Some(token)
 }
 
-/// Behind `%p`: a digit from 1 to 9.
+/// After `%p`: a digit from 1 to 9.
 fn read_parameter(bytes: &[u8]) -> Result<(Token, usize), CapFault>
     ensures { result ≡ parameter_read bytes.now }
 {
@@ -91,7 +91,7 @@ fn read_parameter(bytes: &[u8]) -> Result<(Token, usize), CapFault>
     }
 }
 
-/// Behind `%P` or `%g`: the variable's letter.
+/// After `%P` or `%g`: the variable's letter.
 fn read_variable(bytes: &[u8]) -> Result<u8, CapFault>
     ensures { result ≡ variable_of bytes.now }
 {
@@ -102,7 +102,7 @@ fn read_variable(bytes: &[u8]) -> Result<u8, CapFault>
     }
 }
 
-/// Behind `%'`: any byte and an apostrophe.
+/// After `%'`: any byte and an apostrophe.
 fn read_quoted(bytes: &[u8]) -> Result<(Token, usize), CapFault>
     ensures { result ≡ quoted_read bytes.now }
 {
@@ -113,7 +113,7 @@ fn read_quoted(bytes: &[u8]) -> Result<(Token, usize), CapFault>
     }
 }
 
-/// Behind `%{`: at least one digit, and a brace.
+/// After `%{`: at least one digit, and a brace.
 fn read_digits(bytes: &[u8]) -> Result<(Token, usize), CapFault>
     ensures { result ≡ digits_read 0 0 bytes.now }
 {

@@ -1,4 +1,4 @@
-//! The format behind a `%`: flags, width, precision and conversion, each as far as its bytes go.
+//! The format after a `%`: flags, width, precision and conversion, each as far as its bytes go.
 //!
 //! It guarantees what the list lexer's `format_read` says, which is proved to read exactly the spellings of formats.
 //! Cost: each byte is looked at a fixed number of times, and no memory is taken. Each part goes on where the one
@@ -9,7 +9,7 @@ ghost use Rattle.std.specs.List.{prefix_len};
 ghost use Rattle.ti_base.specs.Limits.{greatest_width};
 ghost use Rattle.ti_cap.specs.Spelling.{number_of};
 ghost use Rattle.ti_cap.specs.Refusal.{opens_format};
-ghost use Rattle.ti_cap.specs.inner.Reading.{format_read, width_read, precision_read, letter_read, flagged, plain_format, conversion_of, is_flag, is_plain_flag, is_digit, print_read, front, rest};
+ghost use Rattle.ti_cap.specs.inner.Reading.{format_read, width_read, precision_read, letter_read, with_flags, plain_format, conversion_of, is_flag, is_plain_flag, is_digit, print_read, front, rest};
 
 use crate::language::{CapFault, Conversion, Format, Token};
 use ti_base::GREATEST_WIDTH;
@@ -65,8 +65,8 @@ fn read_parts(bytes: &[u8]) -> Result<(Token, usize), CapFault>
 {
     match bytes {
         [] => Err(CapFault::CutShort),
-        [b':', behind @ ..] => {
-            let (flags, left) = split_flags(behind);
+        [b':', after @ ..] => {
+            let (flags, left) = split_flags(after);
             read_width(with_flags(flags), 2 + flags.len(), left)
         }
         [first, ..] if is_plain_flag(*first) => {
@@ -77,7 +77,7 @@ fn read_parts(bytes: &[u8]) -> Result<(Token, usize), CapFault>
     }
 }
 
-/// Takes the flags that may stand behind a colon off the front.
+/// Takes the flags that may stand after a colon off the front.
 #[tactic(auto, using(crate::proofs::FrontLemmas::front_take, crate::proofs::FrontLemmas::rest_drop, crate::proofs::FrontLemmas::prefix_len_within))]
 fn split_flags(bytes: &[u8]) -> (&[u8], &[u8])
     ensures flags { result.0.now ≡ front is_flag bytes.now }
@@ -87,7 +87,7 @@ fn split_flags(bytes: &[u8]) -> (&[u8], &[u8])
     bytes.split_at(count_flags(bytes))
 }
 
-/// How many flags stand at the front, behind a colon.
+/// How many flags stand at the front, after a colon.
 fn count_flags(bytes: &[u8]) -> usize
     ensures { result ≡ prefix_len is_flag bytes.now }
 {
@@ -121,7 +121,7 @@ fn is_plain_flag(byte: u8) -> bool
     byte == b'#' || byte == b' ' || byte == b'0'
 }
 
-/// A flag that may stand behind a colon.
+/// A flag that may stand after a colon.
 fn is_flag(byte: u8) -> bool
     ensures { result ≡ is_flag byte }
 {
@@ -130,7 +130,7 @@ fn is_flag(byte: u8) -> bool
 
 /// The format with these flags, and nothing else yet.
 fn with_flags(flags: &[u8]) -> Format
-    ensures { result ≡ flagged flags.now }
+    ensures { result ≡ with_flags flags.now }
 {
     Format {
         left: flags.contains(&b'-'),
@@ -162,14 +162,14 @@ fn read_precision(format: Format, taken: usize, bytes: &[u8]) -> Result<(Token, 
     ensures { result ≡ precision_read format taken bytes.now }
 {
     match bytes {
-        [b'.', behind @ ..] => match small_number(behind) {
+        [b'.', after @ ..] => match small_number(after) {
             None => Err(CapFault::BadFormat),
             Some((number, count)) => {
                 let format = Format {
                     precision: Some(number),
                     ..format
                 };
-                read_letter(format, taken + 1 + count, &behind[count..])
+                read_letter(format, taken + 1 + count, &after[count..])
             }
         },
         _ => read_letter(format, taken, bytes),

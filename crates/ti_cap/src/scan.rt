@@ -46,12 +46,12 @@ impl Scan {
     ghost use Rattle.ti_cap.specs.declared.language.Token.{Token};
     ghost use Rattle.ti_cap.specs.declared.language.CapFault.{CapFault};
     ghost use Rattle.ti_cap.specs.declared.scan.Open.{Open};
-    ghost use Rattle.ti_cap.specs.inner.Analysis.{nothing_found, found_after, fault_of, top, are_in_test};
-    ghost use Rattle.ti_cap.specs.inner.Scan.{found_of, IsInOrder, IsSure, pushed, stacked, height_frame, size_frame, ended};
+    ghost use Rattle.ti_cap.specs.inner.Analysis.{no_findings, findings_after, fault_of, greatest_of, are_in_test};
+    ghost use Rattle.ti_cap.specs.inner.Scan.{findings_of, IsInOrder, IsSure, after_push, innermost_first, height_frame, size_frame, greatest_end};
 
     /// No token yet.
     pub fn new() -> Self
-        ensures start { (opens : List Open) → found_of result opens ≡ nothing_found }
+        ensures start { (opens : List Open) → findings_of result opens ≡ no_findings }
         ensures order { (room : ℕ) → IsInOrder room result }
     {
         Scan {
@@ -73,9 +73,9 @@ impl Scan {
         requires low { self.old.here.height ≤ most_values }
         requires small { self.old.here.size < 2 ^ 31 }
         requires order { IsInOrder ROOM self.old }
-        ensures refused { IfErr result (λ fault. IsSure ROOM fault → fault_of (found_of self.old opens.old) token ≡ Some fault) }
-        ensures taken { OnOk result (found_of self.new opens.new ≡ found_after (found_of self.old opens.old) token) }
-        ensures fine { OnOk result (fault_of (found_of self.old opens.old) token ≡ None) }
+        ensures refused { IfErr result (λ fault. IsSure ROOM fault → fault_of (findings_of self.old opens.old) token ≡ Some fault) }
+        ensures taken { OnOk result (findings_of self.new opens.new ≡ findings_after (findings_of self.old opens.old) token) }
+        ensures fine { OnOk result (fault_of (findings_of self.old opens.old) token ≡ None) }
         ensures order { OnOk result (IsInOrder ROOM self.new) }
     {
         match token {
@@ -110,7 +110,7 @@ impl Scan {
     fn push(&mut self, popped: u32) -> Result<(), CapFault>
         requires { self.old.here.height ≤ most_values }
         ensures refused { IfErr result (λ fault. (fault ≡ CapFault.StackTooDeep) × (most_values < self.old.here.height - popped + 1)) }
-        ensures taken { OnOk result (self.new ≡ pushed self.old popped) }
+        ensures taken { OnOk result (self.new ≡ after_push self.old popped) }
         ensures fine { OnOk result (self.old.here.height - popped + 1 ≤ most_values) }
     {
         let height = self.here.height.saturating_sub(popped) + 1;
@@ -128,9 +128,9 @@ impl Scan {
         requires room { ROOM ≤ most_open }
         requires low { self.old.here.height ≤ most_values }
         requires order { IsInOrder ROOM self.old }
-        ensures refused { IfErr result (λ fault. IsSure ROOM fault → fault_of (found_of self.old opens.old) Token.CondOpen ≡ Some fault) }
-        ensures taken { OnOk result (found_of self.new opens.new ≡ found_after (found_of self.old opens.old) Token.CondOpen) }
-        ensures fine { OnOk result (fault_of (found_of self.old opens.old) Token.CondOpen ≡ None) }
+        ensures refused { IfErr result (λ fault. IsSure ROOM fault → fault_of (findings_of self.old opens.old) Token.CondOpen ≡ Some fault) }
+        ensures taken { OnOk result (findings_of self.new opens.new ≡ findings_after (findings_of self.old opens.old) Token.CondOpen) }
+        ensures fine { OnOk result (fault_of (findings_of self.old opens.old) Token.CondOpen ≡ None) }
         ensures order { OnOk result (IsInOrder ROOM self.new) }
     {
         if self.nesting >= ROOM {
@@ -147,9 +147,9 @@ impl Scan {
     fn test<const ROOM: usize>(&mut self, opens: &mut [Open; ROOM]) -> Result<(), CapFault>
         requires low { self.old.here.height ≤ most_values }
         requires order { IsInOrder ROOM self.old }
-        ensures refused { IfErr result (λ fault. fault_of (found_of self.old opens.old) Token.CondThen ≡ Some fault) }
-        ensures taken { OnOk result (found_of self.new opens.new ≡ found_after (found_of self.old opens.old) Token.CondThen) }
-        ensures fine { OnOk result (fault_of (found_of self.old opens.old) Token.CondThen ≡ None) }
+        ensures refused { IfErr result (λ fault. fault_of (findings_of self.old opens.old) Token.CondThen ≡ Some fault) }
+        ensures taken { OnOk result (findings_of self.new opens.new ≡ findings_after (findings_of self.old opens.old) Token.CondThen) }
+        ensures fine { OnOk result (fault_of (findings_of self.old opens.old) Token.CondThen ≡ None) }
         ensures order { OnOk result (IsInOrder ROOM self.new) }
     {
         if self.nesting == 0 {
@@ -172,9 +172,9 @@ impl Scan {
     fn turn<const ROOM: usize>(&mut self, opens: &mut [Open; ROOM]) -> Result<(), CapFault>
         requires low { self.old.here.height ≤ most_values }
         requires order { IsInOrder ROOM self.old }
-        ensures refused { IfErr result (λ fault. fault_of (found_of self.old opens.old) Token.CondElse ≡ Some fault) }
-        ensures taken { OnOk result (found_of self.new opens.new ≡ found_after (found_of self.old opens.old) Token.CondElse) }
-        ensures fine { OnOk result (fault_of (found_of self.old opens.old) Token.CondElse ≡ None) }
+        ensures refused { IfErr result (λ fault. fault_of (findings_of self.old opens.old) Token.CondElse ≡ Some fault) }
+        ensures taken { OnOk result (findings_of self.new opens.new ≡ findings_after (findings_of self.old opens.old) Token.CondElse) }
+        ensures fine { OnOk result (fault_of (findings_of self.old opens.old) Token.CondElse ≡ None) }
         ensures order { OnOk result (IsInOrder ROOM self.new) }
     {
         if self.nesting == 0 {
@@ -187,7 +187,7 @@ impl Scan {
             Some(failed) => {
                 opens[self.nesting - 1] = Open {
                     failed: None,
-                    done: Some(self.here.joined(done)),
+                    done: Some(self.here.max_with(done)),
                 };
                 self.here = failed;
                 self.depth = self.depth.max(failed.height);
@@ -198,13 +198,13 @@ impl Scan {
 
     /// A conditional ends: the greatest of what runs and what waits in it goes on.
     #[inline(always)]
-    #[tactic(auto, using(crate::proofs::ScanLemmas::joined_height, crate::proofs::ScanLemmas::joined_size))]
+    #[tactic(auto, using(crate::proofs::ScanLemmas::greater_extent_height, crate::proofs::ScanLemmas::greater_extent_size))]
     fn leave<const ROOM: usize>(&mut self, opens: &[Open; ROOM]) -> Result<(), CapFault>
         requires low { self.old.here.height ≤ most_values }
         requires order { IsInOrder ROOM self.old }
-        ensures refused { IfErr result (λ fault. fault_of (found_of self.old opens.now) Token.CondClose ≡ Some fault) }
-        ensures taken { OnOk result (found_of self.new opens.now ≡ found_after (found_of self.old opens.now) Token.CondClose) }
-        ensures fine { OnOk result (fault_of (found_of self.old opens.now) Token.CondClose ≡ None) }
+        ensures refused { IfErr result (λ fault. fault_of (findings_of self.old opens.now) Token.CondClose ≡ Some fault) }
+        ensures taken { OnOk result (findings_of self.new opens.now ≡ findings_after (findings_of self.old opens.now) Token.CondClose) }
+        ensures fine { OnOk result (fault_of (findings_of self.old opens.now) Token.CondClose ≡ None) }
         ensures order { OnOk result (IsInOrder ROOM self.new) }
     {
         if self.nesting == 0 {
@@ -214,7 +214,7 @@ impl Scan {
         if failed.is_none() && done.is_none() {
             return Err(CapFault::NoThen);
         }
-        self.here = self.here.joined(failed).joined(done);
+        self.here = self.here.max_with(failed).max_with(done);
         self.depth = self.depth.max(self.here.height);
         self.nesting -= 1;
         Ok(())
@@ -235,10 +235,10 @@ impl Scan {
     }
 
     /// The most bytes that any path writes, were this the end.
-    #[tactic(auto, using(crate::proofs::ScanLemmas::ended_size))]
+    #[tactic(auto, using(crate::proofs::ScanLemmas::greatest_end_size))]
     pub fn bound<const ROOM: usize>(&self, opens: &[Open; ROOM]) -> u64
         requires order { IsInOrder ROOM self.now }
-        ensures { result ≡ top (map size_frame (stacked self.now.nesting opens.now)) self.now.here.size }
+        ensures { result ≡ greatest_of (map size_frame (innermost_first self.now.nesting opens.now)) self.now.here.size }
     {
         u64::from(self.end(opens).size)
     }
@@ -246,20 +246,20 @@ impl Scan {
     /// How far any path has come, were this the end.
     fn end<const ROOM: usize>(&self, opens: &[Open; ROOM]) -> Extent
         requires order { IsInOrder ROOM self.now }
-        ensures { result ≡ ended (stacked self.now.nesting opens.now) self.now.here }
+        ensures { result ≡ greatest_end (innermost_first self.now.nesting opens.now) self.now.here }
     {
         opens[..self.nesting]
             .iter()
             .rev()
             .fold(self.here, |here, open| {
-                here.joined(open.failed).joined(open.done)
+                here.max_with(open.failed).max_with(open.done)
             })
     }
 
     /// Whether a conditional is still in its first test.
     pub fn is_in_first_test<const ROOM: usize>(&self, opens: &[Open; ROOM]) -> bool
         requires order { IsInOrder ROOM self.now }
-        ensures { result ≡ are_in_test (map height_frame (stacked self.now.nesting opens.now)) }
+        ensures { result ≡ are_in_test (map height_frame (innermost_first self.now.nesting opens.now)) }
     {
         opens[..self.nesting]
             .iter()

@@ -3,7 +3,7 @@ use Rattle.std.proofs.Common.{◌≡◌, ℕ, ◌+◌, ◌-◌, true, false, Lis
 use Rattle.std.proofs.lemmas.List.{replicate-append-replicate, length-replicate}
 use Rattle.std.specs.Prelude.{is_none}
 use Rattle.ti_cap.specs.declared.language.Format.{Format}
-use Rattle.ti_expand.specs.Printed.{fill, joined, with_zeros}
+use Rattle.ti_expand.specs.Printed.{fill, with_front, with_zeros}
 
 -- zeros before zeros
 more_zeros : (k missing count : ℕ) (ds : List ℕ) → k - (count + length ds) ≡ missing → with_zeros k (replicate count 48 ++ ds) ≡ replicate (missing + count) 48 ++ ds
@@ -19,7 +19,7 @@ no_spaces n xs e = rw e refl
 pub zero_filled : (f : Format) (front ds : List ℕ) (count missing : ℕ)
     → f.zero ≡ true → f.left ≡ false → is_none f.precision ≡ true
     → missing ≡ f.width - (length front + (count + length ds))
-    → fill f (joined f front (replicate count 48 ++ ds)) ≡ front ++ (replicate (missing + count) 48 ++ ds)
+    → fill f (with_front f front (replicate count 48 ++ ds)) ≡ front ++ (replicate (missing + count) 48 ++ ds)
 zero_filled f front ds count missing z l p m =
     rw (z, l, p)
     (let body : with_zeros (f.width - length front) (replicate count 48 ++ ds) ≡ replicate (missing + count) 48 ++ ds = more_zeros (f.width - length front) missing count ds (omega arith) in

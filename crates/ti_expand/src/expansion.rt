@@ -10,8 +10,8 @@ ghost use Rattle.ti_cap.specs.Tree.{tokens};
 ghost use Rattle.ti_cap.specs.Height.{height};
 ghost use Rattle.ti_cap.specs.Capability.{HasDepth, HasBound, IsWellFormed};
 ghost use Rattle.ti_expand.specs.State.{start};
-ghost use Rattle.ti_expand.specs.Meaning.{meaning, taken};
-ghost use Rattle.ti_expand.specs.Expands.{ForTree, longest_text, IsFirstTooLong, IsFault, IsTextOrMemory};
+ghost use Rattle.ti_expand.specs.Meaning.{meaning, taken_path};
+ghost use Rattle.ti_expand.specs.Expands.{ForTree, longest_text, IsFirstTooLong, IsExpandFault, IsTextOrMemory};
 ghost use Rattle.ti_expand.specs.inner.Running.{IsReady, CanRun};
 
 use crate::counts::Run;
@@ -36,7 +36,7 @@ fn check(
     room: usize,
 ) -> Result<u16, ExpandFault>
     requires { tape.now.taken ≡ [] }
-    ensures faults { (fault : ExpandFault) → (result ≡ Err fault) ↔ IsFault tape.now.left parameters.now places room fault }
+    ensures faults { (fault : ExpandFault) → (result ≡ Err fault) ↔ IsExpandFault tape.now.left parameters.now places room fault }
     ensures ready { IfOk result (IsReady tape.now.left parameters.now places room) }
 {
     let longest = longest_text(parameters)?;
@@ -68,7 +68,7 @@ pub fn expand_into<'a>(
 ) -> Result<Run, ExpandFault>
     requires { tape.taken ≡ [] }
     // each fault comes exactly where it is so, and changes nothing
-    ensures faults { (fault : ExpandFault) → (result ≡ Err fault) ↔ IsFault tape.entry.left parameters.now (length stack.old) (length out.old) fault }
+    ensures faults { (fault : ExpandFault) → (result ≡ Err fault) ↔ IsExpandFault tape.entry.left parameters.now (length stack.old) (length out.old) fault }
     ensures kept_variables { OnErr result (vars.new ≡ vars.old) }
     ensures kept_stack { OnErr result (stack.new ≡ stack.old) }
     ensures kept_output { OnErr result (out.new ≡ out.old) }
@@ -81,9 +81,9 @@ pub fn expand_into<'a>(
 
     // and the counts are those of the path that its tests choose
     ensures written { IfOk result (λ run. ForTree tape.entry.left (λ tree. run.written ≡ length (meaning tree (start vars.old parameters.now)).output)) }
-    ensures ran { IfOk result (λ run. ForTree tape.entry.left (λ tree. run.ran ≡ length (taken tree (start vars.old parameters.now)))) }
+    ensures ran { IfOk result (λ run. ForTree tape.entry.left (λ tree. run.ran ≡ length (taken_path tree (start vars.old parameters.now)))) }
     ensures all { IfOk result (λ run. ForTree tape.entry.left (λ tree. run.ran + run.passed ≡ length (tokens tree))) }
-    ensures peak { IfOk result (λ run. ForTree tape.entry.left (λ tree. run.peak ≡ height (taken tree (start vars.old parameters.now)))) }
+    ensures peak { IfOk result (λ run. ForTree tape.entry.left (λ tree. run.peak ≡ height (taken_path tree (start vars.old parameters.now)))) }
 
     // which keep to the limits
     ensures steps_low { IfOk result (λ run. run.ran + run.passed ≤ length tape.entry.left) }

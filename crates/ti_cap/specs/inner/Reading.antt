@@ -59,7 +59,7 @@ abbrev pub front : (ℕ → Bool) → List ℕ → List ℕ
 front p [] = []
 front p (x ∷ xs) = if p x then x ∷ front p xs else []
 
--- what stands behind that front
+-- what stands after that front
 abbrev pub rest : (ℕ → Bool) → List ℕ → List ℕ
 rest p [] = []
 rest p (x ∷ xs) = if p x then rest p xs else x ∷ xs
@@ -84,21 +84,21 @@ abbrev pub begins_format : ℕ → Bool
 begins_format c = opens_format c || is_some (conversion_of c)
 
 -- no width and no precision yet
-abbrev pub flagged : List ℕ → Format
-flagged flags = record { conversion = Signed; left = has (letter (codes "-")) flags; plus = has (letter (codes "+")) flags; space = has (letter (codes " ")) flags; alternate = has (letter (codes "#")) flags; zero = has (letter (codes "0")) flags; width = 0; precision = None }
+abbrev pub with_flags : List ℕ → Format
+with_flags flags = record { conversion = Signed; left = has (letter (codes "-")) flags; plus = has (letter (codes "+")) flags; space = has (letter (codes " ")) flags; alternate = has (letter (codes "#")) flags; zero = has (letter (codes "0")) flags; width = 0; precision = None }
 
 -- a conversion alone
 abbrev pub plain_format : Conversion → Format
-plain_format c = record (flagged []) { conversion = c }
+plain_format c = record (with_flags []) { conversion = c }
 
 -- The format so far, and how many bytes have spelled it, stand before what is left to read.
-abbrev pub converted : Format → ℕ → Option Conversion → Reading
-converted f n None = Err BadFormat
-converted f n (Some c) = Ok (Print (record f { conversion = c }), n)
+abbrev pub with_conversion : Format → ℕ → Option Conversion → Reading
+with_conversion f n None = Err BadFormat
+with_conversion f n (Some c) = Ok (Print (record f { conversion = c }), n)
 
 abbrev pub letter_read : Format → ℕ → List ℕ → Reading
 letter_read f n [] = Err CutShort
-letter_read f n (c ∷ cs) = converted f (n + 1) (conversion_of c)
+letter_read f n (c ∷ cs) = with_conversion f (n + 1) (conversion_of c)
 
 abbrev pub precision_read : Format → ℕ → List ℕ → Reading
 precision_read f n [] = Err CutShort
@@ -116,15 +116,15 @@ width_read f n bytes =
 unfoldable pub format_read : List ℕ → Reading
 format_read [] = Err CutShort
 format_read (c ∷ cs) =
-    if is_colon c then width_read (flagged (front is_flag cs)) (2 + length (front is_flag cs)) (rest is_flag cs)
-    else width_read (flagged (front is_plain_flag (c ∷ cs))) (1 + length (front is_plain_flag (c ∷ cs))) (rest is_plain_flag (c ∷ cs))
+    if is_colon c then width_read (with_flags (front is_flag cs)) (2 + length (front is_flag cs)) (rest is_flag cs)
+    else width_read (with_flags (front is_plain_flag (c ∷ cs))) (1 + length (front is_plain_flag (c ∷ cs))) (rest is_plain_flag (c ∷ cs))
 
 -- a format, where one may begin
 abbrev pub print_read : List ℕ → Reading
 print_read [] = Err CutShort
 print_read (c ∷ cs) = if begins_format c then format_read (c ∷ cs) else Err UnknownEscape
 
--- the byte behind the `%` of a token that one byte spells there
+-- the byte after the `%` of a token that one byte spells there
 abbrev pub lone_letter : Token → ℕ
 lone_letter Length = letter (codes "l")
 lone_letter Increment = letter (codes "i")
@@ -139,7 +139,7 @@ lone_letter _ = letter (codes "%")
 abbrev pub ops : List Op
 ops = Add ∷ Sub ∷ Mul ∷ Div ∷ Rem ∷ BitAnd ∷ BitOr ∷ BitXor ∷ Equal ∷ Greater ∷ Less ∷ And ∷ Or ∷ Not ∷ BitNot ∷ []
 
--- the tokens that one byte spells behind the `%`
+-- the tokens that one byte spells after the `%`
 abbrev pub lone_tokens : List Token
 lone_tokens = Byte (letter (codes "%")) ∷ Length ∷ Increment ∷ Char ∷ CondOpen ∷ CondThen ∷ CondElse ∷ CondClose ∷ map (λ op. Compute op) ops
 

@@ -7,7 +7,7 @@ use Rattle.ti_cap.specs.declared.language.CapFault.{CapFault}
 use Rattle.ti_cap.specs.declared.language.CapFault.TheVariants.{NestTooDeep}
 use Rattle.ti_cap.specs.declared.scan.Open.{Open}
 use Rattle.ti_cap.specs.declared.scan.Scan.{Scan}
-use Rattle.ti_cap.specs.inner.Analysis.{Found}
+use Rattle.ti_cap.specs.inner.Analysis.{Findings}
 
 abbrev pub height_of : Option Extent → Option ℕ
 height_of None = None
@@ -18,9 +18,9 @@ size_of None = None
 size_of (Some e) = Some e.size
 
 -- the greater of what waits, if anything does, and another
-abbrev pub joined : Option Extent → Extent → Extent
-joined None e = e
-joined (Some w) e = record { height = max w.height e.height; size = max w.size e.size }
+abbrev pub greater_extent : Option Extent → Extent → Extent
+greater_extent None e = e
+greater_extent (Some w) e = record { height = max w.height e.height; size = max w.size e.size }
 
 abbrev pub height_frame : Open → Frame
 height_frame o = record { failed = height_of o.failed; done = height_of o.done }
@@ -29,20 +29,20 @@ abbrev pub size_frame : Open → Frame
 size_frame o = record { failed = size_of o.failed; done = size_of o.done }
 
 -- the open conditionals, innermost first
-abbrev pub stacked : ℕ → List Open → List Open
-stacked n opens = reverse (take n opens)
+abbrev pub innermost_first : ℕ → List Open → List Open
+innermost_first n opens = reverse (take n opens)
 
-abbrev pub found_of : Scan → List Open → Found
-found_of s opens = record {
-  heights = record { running = s.here.height; frames = map height_frame (stacked s.nesting opens) };
-  sizes = record { running = s.here.size; frames = map size_frame (stacked s.nesting opens) };
+abbrev pub findings_of : Scan → List Open → Findings
+findings_of s opens = record {
+  heights = record { running = s.here.height; frames = map height_frame (innermost_first s.nesting opens) };
+  sizes = record { running = s.here.size; frames = map size_frame (innermost_first s.nesting opens) };
   depth = s.depth;
   nest = s.nest;
 }
 
 -- the greatest of how far the paths have come and of what waits
-abbrev pub ended : List Open → Extent → Extent
-ended opens e = fold (λ here o. joined o.done (joined o.failed here)) e opens
+abbrev pub greatest_end : List Open → Extent → Extent
+greatest_end opens e = fold (λ here o. greater_extent o.done (greater_extent o.failed here)) e opens
 
 -- the greatest counts are no less than those of here, and there is room for the open conditionals
 pub record IsInOrder (room : ℕ) (s : Scan) : Type 0 where
@@ -55,8 +55,8 @@ abbrev pub IsSure : ℕ → CapFault → Type 0
 IsSure room fault = fault ≡ NestTooDeep → room ≡ most_open
 
 -- the counts after values are popped and one is pushed
-abbrev pub pushed : Scan → ℕ → Scan
-pushed s popped = record s {
+abbrev pub after_push : Scan → ℕ → Scan
+after_push s popped = record s {
   here = record s.here { height = s.here.height - popped + 1 };
   depth = max s.depth (s.here.height - popped + 1);
 }
