@@ -4,9 +4,7 @@ pub mod Sizes
 pub mod Height
 pub mod Pass
 pub mod Spelling
-pub mod Word
+pub mod FaultNames
 pub mod Refusal
-pub mod Reading
 pub mod Capability
-pub mod Analysis
-pub mod Scan
+pub mod inner

@@ -1,12 +1,14 @@
 -- Why bytes are no capability, and where.
-use Rattle.std.specs.Prelude.{◌≡◌, ◌≢◌, ℕ, ◌<◌, ◌≤◌, ◌⊎◌, List, [], ◌∷◌, ◌++◌, length, take, drop, if◌then◌else◌, nat_eq, nat_le, ◌&&◌, ◌||◌}
+use Rattle.std.specs.Prelude.{Bool, ◌≡◌, ◌≢◌, ℕ, suc, ◌<◌, ◌≤◌, ◌⊎◌, List, [], ◌∷◌, ◌++◌, length, take, drop, if◌then◌else◌, nat_eq, nat_le, ◌&&◌, ◌||◌, codes}
+use Rattle.ti_base.specs.Letters.{letter}
+use Rattle.ti_base.specs.Limits.{most_capability_bytes, most_open, most_values}
 use Rattle.ti_cap.specs.declared.language.Token.{Token}
 use Rattle.ti_cap.specs.declared.language.Token.TheVariants.{CondOpen, CondThen, CondElse, CondClose}
 use Rattle.ti_cap.specs.declared.language.CapFault.{CapFault}
 use Rattle.ti_cap.specs.declared.language.CapFault.TheVariants.{TooLong, CutShort, UnknownEscape, BadParameter, BadVariable, BadConstant, BadFormat, StrayThen, StrayElse, StrayEnd, NoThen, NestTooDeep, StackTooDeep}
 use Rattle.ti_cap.specs.declared.language.CapRefused.{CapRefused}
 use Rattle.ti_cap.specs.Tree.{Sequence, IsTree, tokens}
-use Rattle.ti_cap.specs.Path.{Walk, IsWalk, met}
+use Rattle.ti_cap.specs.Path.{Walk, IsWalk, path_of}
 use Rattle.ti_cap.specs.Height.{end_height}
 use Rattle.ti_cap.specs.Spelling.{Spells, Written}
 
@@ -47,26 +49,32 @@ IsNext token rest = (s : List ℕ) × (tail : List ℕ) × Spells token s × (re
 abbrev pub IsCut : List ℕ → Type 0
 IsCut rest = (token : Token) × (s : List ℕ) × (b : ℕ) × (more : List ℕ) × Spells token s × (s ≡ rest ++ b ∷ more)
 
--- the fault of an escape that has no spelling, by the byte behind its `%`
+-- the bytes with which a format starts, but for its conversion: a colon, a flag, a digit and a dot
+abbrev pub opens_format : ℕ → Bool
+opens_format c =
+    nat_eq c (letter (codes ":")) || (nat_eq c (letter (codes "#")) || (nat_eq c (letter (codes " "))
+    || (nat_eq c (letter (codes ".")) || (nat_le (letter (codes "0")) c && nat_le c (letter (codes "9"))))))
+
+-- the fault of an escape that has no spelling, by the byte after its `%`
 abbrev pub escape_fault : ℕ → CapFault
 escape_fault c =
-    if nat_eq c 112 then BadParameter
-    else if nat_eq c 80 || nat_eq c 103 then BadVariable
-    else if nat_eq c 39 || nat_eq c 123 then BadConstant
-    else if nat_eq c 58 || (nat_eq c 35 || (nat_eq c 32 || (nat_eq c 46 || (nat_le 48 c && nat_le c 57)))) then BadFormat
+    if nat_eq c (letter (codes "p")) then BadParameter
+    else if nat_eq c (letter (codes "P")) || nat_eq c (letter (codes "g")) then BadVariable
+    else if nat_eq c (letter (codes "'")) || nat_eq c (letter (codes "{")) then BadConstant
+    else if opens_format c then BadFormat
     else UnknownEscape
 
 -- no spelling is next, and this is why
 pub record IsUnreadable (rest : List ℕ) (fault : CapFault) : Type 0 where
   pub no_token : (token : Token) → ¬ IsNext token rest
   pub why : ((fault ≡ CutShort) × IsCut rest)
-      ⊎ ((c : ℕ) × (tail : List ℕ) × (rest ≡ 37 ∷ c ∷ tail) × ¬ IsCut rest × (fault ≡ escape_fault c))
+      ⊎ ((c : ℕ) × (tail : List ℕ) × (rest ≡ letter (codes "%") ∷ c ∷ tail) × ¬ IsCut rest × (fault ≡ escape_fault c))
 
 -- the token is next, and no tree goes on with it
 abbrev pub IsStray : Token → List Token → List ℕ → Type 0
 IsStray token before rest = IsNext token rest × ¬ Begins (before ++ token ∷ [])
 
--- some walk of some tree meets the token behind these, and has this height after it
+-- some walk of some tree meets the token after these, as the last of its path so far, and has this height after it
 pub record Climbs (before : List Token) (token : Token) (height : ℕ) : Type 0 where
   pub tree : Sequence
   pub after : List Token
@@ -74,22 +82,22 @@ pub record Climbs (before : List Token) (token : Token) (height : ℕ) : Type 0 
   pub formed : IsTree tree
   pub spans : tokens tree ≡ before ++ token ∷ after
   pub walked : IsWalk tree walk
-  pub meets : met walk (before ++ token ∷ []) ≡ met walk before ++ token ∷ []
-  pub climbs : end_height 0 (met walk (before ++ token ∷ [])) ≡ height
+  pub on_path : path_of walk (before ++ token ∷ []) ≡ path_of walk before ++ token ∷ []
+  pub height_is : end_height 0 (path_of walk (before ++ token ∷ [])) ≡ height
 
--- each fault, where these tokens stand before it and this rest behind it
-abbrev pub IsFault : CapFault → List Token → List ℕ → Type 0
-IsFault TooLong before rest = ⊥
-IsFault StrayThen before rest = IsStray CondThen before rest
-IsFault StrayElse before rest = IsStray CondElse before rest × ¬ IsInFirstTest (open_parts before)
-IsFault StrayEnd before rest = IsStray CondClose before rest × (open_parts before ≡ [])
-IsFault NoThen before rest =
+-- each fault, where these tokens stand before it and this rest after it
+abbrev pub IsFaultBetween : CapFault → List Token → List ℕ → Type 0
+IsFaultBetween TooLong before rest = ⊥
+IsFaultBetween StrayThen before rest = IsStray CondThen before rest
+IsFaultBetween StrayElse before rest = IsStray CondElse before rest × ¬ IsInFirstTest (open_parts before)
+IsFaultBetween StrayEnd before rest = IsStray CondClose before rest × (open_parts before ≡ [])
+IsFaultBetween NoThen before rest =
     (IsStray CondElse before rest × IsInFirstTest (open_parts before))
     ⊎ ((IsStray CondClose before rest × (open_parts before ≢ []))
     ⊎ ((rest ≡ []) × ((tree : Sequence) → IsTree tree → tokens tree ≢ before)))
-IsFault NestTooDeep before rest = IsNext CondOpen rest × (32 ≤ length (open_parts before))
-IsFault StackTooDeep before rest = (token : Token) × IsNext token rest × Climbs before token 33
-IsFault fault before rest = (rest ≢ []) × IsUnreadable rest fault
+IsFaultBetween NestTooDeep before rest = IsNext CondOpen rest × (most_open ≤ length (open_parts before))
+IsFaultBetween StackTooDeep before rest = (token : Token) × IsNext token rest × Climbs before token (suc most_values)
+IsFaultBetween fault before rest = (rest ≢ []) × IsUnreadable rest fault
 
 -- the fault stands at this place
 pub record HasFault (bytes : List ℕ) (fault : CapFault) (place : ℕ) : Type 0 where
@@ -97,7 +105,7 @@ pub record HasFault (bytes : List ℕ) (fault : CapFault) (place : ℕ) : Type 0
   pub within : place ≤ length bytes
   pub written : Written before (take place bytes)
   pub begins : Begins before
-  pub is : IsFault fault before (drop place bytes)
+  pub is : IsFaultBetween fault before (drop place bytes)
 
 -- no fault stands before this place
 abbrev pub IsSoundBelow : List ℕ → ℕ → Type 0
@@ -106,9 +114,9 @@ IsSoundBelow bytes place = (fault : CapFault) (q : ℕ) → q < place → ¬ Has
 -- the refusal: too long, or else the fault at the least place
 abbrev pub IsRefusal : List ℕ → CapRefused → Type 0
 IsRefusal bytes r =
-    ((32767 < length bytes) × (r ≡ record { fault = TooLong; place = 32767 }))
-    ⊎ ((length bytes ≤ 32767) × HasFault bytes r.fault r.place × IsSoundBelow bytes r.place)
+    ((most_capability_bytes < length bytes) × (r ≡ record { fault = TooLong; place = most_capability_bytes }))
+    ⊎ ((length bytes ≤ most_capability_bytes) × HasFault bytes r.fault r.place × IsSoundBelow bytes r.place)
 
 -- bytes with no fault
 abbrev pub IsFaultless : List ℕ → Type 0
-IsFaultless bytes = (length bytes ≤ 32767) × ((fault : CapFault) (place : ℕ) → ¬ HasFault bytes fault place)
+IsFaultless bytes = (length bytes ≤ most_capability_bytes) × ((fault : CapFault) (place : ℕ) → ¬ HasFault bytes fault place)

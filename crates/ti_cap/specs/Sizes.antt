@@ -1,27 +1,22 @@
 -- The most bytes that a token writes.
-use Rattle.std.specs.Prelude.{ℕ, ◌+◌, max, min, Option, Some, None, if◌then◌else◌}
+use Rattle.std.specs.Prelude.{ℕ, ◌+◌, max, min, unwrap_or, if◌then◌else◌}
 use Rattle.ti_cap.specs.declared.language.Token.{Token}
 use Rattle.ti_cap.specs.declared.language.Token.TheVariants.{Byte, Char, Print}
 use Rattle.ti_cap.specs.declared.language.Format.{Format}
 use Rattle.ti_cap.specs.declared.language.Conversion.{Conversion}
 use Rattle.ti_cap.specs.declared.language.Conversion.TheVariants.{Signed, Octal, LowerHex, UpperHex, Text}
 
--- the precision, or what stands for it where there is none
-abbrev pub or_else : Option ℕ → ℕ → ℕ
-or_else None d = d
-or_else (Some p) d = p
-
--- the least number of digits that a number of up to `digits` digits takes
-abbrev pub digits_of : Format → ℕ → ℕ
-digits_of f digits = max digits (or_else f.precision 0)
+-- the most digits that are written of a number of up to `digits` digits
+abbrev pub most_digits : Format → ℕ → ℕ
+most_digits f digits = max digits (unwrap_or f.precision 0)
 
 -- the most bytes that the value takes, before the width
 abbrev pub text_size : Conversion → Format → ℕ → ℕ
-text_size Signed f longest = 1 + digits_of f 10
-text_size Octal f longest = digits_of f (if f.alternate then 12 else 11)
-text_size LowerHex f longest = (if f.alternate then 2 else 0) + digits_of f 8
-text_size UpperHex f longest = (if f.alternate then 2 else 0) + digits_of f 8
-text_size Text f longest = min (or_else f.precision longest) longest
+text_size Signed f longest = 1 + most_digits f 10
+text_size Octal f longest = most_digits f (if f.alternate then 12 else 11)
+text_size LowerHex f longest = (if f.alternate then 2 else 0) + most_digits f 8
+text_size UpperHex f longest = (if f.alternate then 2 else 0) + most_digits f 8
+text_size Text f longest = min (unwrap_or f.precision longest) longest
 
 abbrev pub format_size : Format → ℕ → ℕ
 format_size f longest = max f.width (text_size f.conversion f longest)

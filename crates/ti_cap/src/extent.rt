@@ -1,7 +1,7 @@
 //! How far the paths have come at a place of a capability.
 
 /// The greatest height of the stack and the most bytes written, each over all paths that run here, where no text has any
-/// bytes. At most 32767 tokens write at most 65535 bytes each, which fits 32 bits.
+/// bytes. A token writes fewer than 2^16 bytes, so the bytes of a whole capability fit 32 bits.
 #[derive(Clone, Copy, Debug, PartialEq, Eq)]
 pub struct Extent {
     /// The greatest height.
@@ -12,12 +12,12 @@ pub struct Extent {
 
 impl Extent {
     ghost use Rattle.std.specs.Prelude.{◌≡◌};
-    ghost use Rattle.ti_cap.specs.Scan.{joined};
+    ghost use Rattle.ti_cap.specs.inner.Scan.{greater_extent};
 
     /// The greater height and the greater size of this and of what waits, if anything does.
     #[inline(always)]
-    pub fn joined(self, waiting: Option<Extent>) -> Extent
-        ensures { result ≡ joined waiting self }
+    pub fn max_with(self, waiting: Option<Extent>) -> Extent
+        ensures { result ≡ greater_extent waiting self }
     {
         match waiting {
             None => self,

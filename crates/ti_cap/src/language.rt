@@ -5,7 +5,7 @@
 
 ghost use Rattle.std.specs.Prelude.{◌≡◌, ◌≤◌};
 ghost use Rattle.ti_cap.specs.Sizes.{format_size, token_size};
-ghost use Rattle.ti_cap.specs.Word.{name_of};
+ghost use Rattle.ti_cap.specs.FaultNames.{name_of};
 
 use thiserror::Error;
 
@@ -72,7 +72,7 @@ pub struct Format {
     pub plus: bool,
     /// A space stands before a number that has no sign.
     pub space: bool,
-    /// `#`, octal digits begin with a `0`, and hexadecimal ones of a value other than 0 stand behind `0x` or `0X`.
+    /// `#`, octal digits begin with a `0`, and hexadecimal ones of a value other than 0 stand after `0x` or `0X`.
     pub alternate: bool,
     /// `0`, zeros fill between the sign or prefix and the digits.
     pub zero: bool,
@@ -89,7 +89,7 @@ pub enum Token {
     Byte(u8),
     /// `%p1` to `%p9`, pushes the parameter of this number, from 1 to 9.
     Param(u8),
-    /// `%'c'` or `%{nn}`, pushes the number, from 0 to 2147483647.
+    /// `%'c'` or `%{nn}`, pushes the number, from 0 to [`ti_base::GREATEST_CONSTANT`].
     Constant(i32),
     /// `%Pv`, pops a number into the variable of this letter, an ASCII letter.
     Store(u8),
@@ -118,13 +118,13 @@ pub enum Token {
 /// Why bytes are no capability. As an error it prints its name.
 #[derive(Clone, Copy, Debug, PartialEq, Eq, Error)]
 pub enum CapFault {
-    /// More than 32767 bytes.
+    /// More bytes than [`ti_base::MOST_CAPABILITY_BYTES`].
     #[error("TooLong")]
     TooLong,
     /// The bytes end within an escape.
     #[error("CutShort")]
     CutShort,
-    /// No escape begins with the byte behind the `%`.
+    /// No escape begins with the byte after the `%`.
     #[error("UnknownEscape")]
     UnknownEscape,
     /// `%p` without a digit from 1 to 9.
@@ -133,10 +133,10 @@ pub enum CapFault {
     /// `%P` or `%g` without an ASCII letter.
     #[error("BadVariable")]
     BadVariable,
-    /// Another fault of `%'` or `%{`, as a number above 2147483647.
+    /// Another fault of `%'` or `%{`, as a number above [`ti_base::GREATEST_CONSTANT`].
     #[error("BadConstant")]
     BadConstant,
-    /// Another fault of a format, as a width above 255.
+    /// Another fault of a format, as a width above [`ti_base::GREATEST_WIDTH`].
     #[error("BadFormat")]
     BadFormat,
     /// `%t` where no conditional is open, or in a body.
@@ -151,10 +151,10 @@ pub enum CapFault {
     /// `%e`, `%;` or the end in a first test.
     #[error("NoThen")]
     NoThen,
-    /// The 33rd open conditional.
+    /// One open conditional more than [`ti_base::MOST_OPEN`].
     #[error("NestTooDeep")]
     NestTooDeep,
-    /// Some path has 33 values on the stack behind this token.
+    /// Some path has more values on the stack after this token than [`ti_base::MOST_VALUES`].
     #[error("StackTooDeep")]
     StackTooDeep,
 }

@@ -1,8 +1,9 @@
 //! A parsed capability, and the tape that gives its tokens.
 
 ghost use Rattle.std.specs.Prelude.{◌≡◌, ℕ, ◌≤◌, ◌++◌, [], ◌∷◌, List, length, IfOk, IfErr, IfSome, IfNone};
+ghost use Rattle.ti_base.specs.Limits.{most_capability_bytes, most_open, most_values};
 ghost use Rattle.ti_cap.specs.Refusal.{IsRefusal, IsFaultless};
-ghost use Rattle.ti_cap.specs.Scan.{IsSure};
+ghost use Rattle.ti_cap.specs.inner.Scan.{IsSure};
 ghost use Rattle.ti_cap.specs.Capability.{HasDepth, HasBound, HasNest, IsWellFormed, Spot, Takes, IsFirst, IsCapability, whole};
 
 use crate::analysis::Analysis;
@@ -11,11 +12,7 @@ use crate::limits::Limits;
 use crate::read::read_token;
 use crate::scan::{Open, Scan};
 use std::marker::Model;
-
-const MOST_BYTES: usize = 32767;
-
-/// The greatest number of open conditionals.
-const MOST_OPEN: usize = 32;
+use ti_base::{MOST_CAPABILITY_BYTES, MOST_OPEN};
 
 /// Nearly all capabilities nest no deeper, and less room takes less time to make.
 const FEW_OPEN: usize = 4;
@@ -47,10 +44,10 @@ impl<'a> Capability<'a> {
         ensures accepted { IfOk result (λ _. IsFaultless bytes.now) }
         ensures refused { IfErr result (IsRefusal bytes.now) }
     {
-        if bytes.len() > MOST_BYTES {
+        if bytes.len() > MOST_CAPABILITY_BYTES {
             return Err(CapRefused {
                 fault: CapFault::TooLong,
-                place: MOST_BYTES,
+                place: MOST_CAPABILITY_BYTES,
             });
         }
         let limits = match limits_of::<FEW_OPEN>(bytes) {
@@ -73,7 +70,7 @@ impl<'a> Capability<'a> {
     /// The greatest height of the stack over all paths.
     pub fn depth(&self) -> usize
         ensures exact { HasDepth self.now result }
-        ensures low { result ≤ 32 }
+        ensures low { result ≤ most_values }
         ensures tree { IsWellFormed self.now }
     {
         self.limits.depth
@@ -82,17 +79,17 @@ impl<'a> Capability<'a> {
     /// The greatest number of conditionals that are open at once.
     pub fn nest(&self) -> usize
         ensures exact { HasNest self.now result }
-        ensures few { result ≤ 32 }
+        ensures few { result ≤ most_open }
     {
         self.limits.nest
     }
 }
 
-/// The limits of a capability, with room for so many open conditionals. With room for fewer than 32, that they nest too
-/// deep says only that more room is needed.
+/// The limits of a capability, with room for so many open conditionals. With room for fewer than may be
+/// open, that they nest too deep says only that more room is needed.
 fn limits_of<const ROOM: usize>(bytes: &[u8]) -> Result<Limits, CapRefused>
-    requires room { ROOM ≤ 32 }
-    requires short { length bytes.now ≤ 32767 }
+    requires room { ROOM ≤ most_open }
+    requires short { length bytes.now ≤ most_capability_bytes }
     ensures accepted { IfOk result (λ limits. IsCapability bytes.now limits) }
     ensures refused { IfErr result (λ refused. IsSure ROOM refused.fault → IsRefusal bytes.now refused) }
 {
@@ -215,7 +212,7 @@ impl<'a> Tape<'a> {
     /// The capability's depth.
     pub fn depth(&self) -> usize
         ensures exact { HasDepth (whole self.now) result }
-        ensures low { result ≤ 32 }
+        ensures low { result ≤ most_values }
         ensures tree { IsWellFormed (whole self.now) }
     {
         self.maxima.depth

@@ -5,13 +5,14 @@
 //! Cost: linear in the bytes of the token or of the fault, and no memory.
 
 ghost use Rattle.std.specs.Prelude.{◌≡◌};
-ghost use Rattle.ti_cap.specs.Reading.{token_read, escape_read, parameter_read, variable_of, quoted_read, digits_read, lone_of};
+ghost use Rattle.ti_cap.specs.inner.Reading.{token_read, escape_read, parameter_read, variable_of, quoted_read, digits_read, lone_of};
 
 use crate::language::{CapFault, Op, Token};
 use crate::read_format::read_format;
+use ti_base::GREATEST_CONSTANT;
 
-/// The greatest constant between braces.
-const GREATEST: u64 = 2147483647;
+/// The greatest constant between braces, in the width that one digit more takes.
+const GREATEST: u64 = GREATEST_CONSTANT as u64;
 
 /// The token at the front, and how many bytes spell it.
 #[inline(always)]
@@ -44,9 +45,9 @@ fn read_escape(bytes: &[u8]) -> Result<(Token, usize), CapFault>
     }
 }
 
-/// The token that this one byte spells behind a `%`.
+/// The token that this one byte spells after a `%`.
 #[inline(always)]
-#[tactic(auto, unfolding(crate::specs::Reading::lone_of))]
+#[tactic(auto, unfolding(crate::specs::inner::Reading::lone_of))]
 fn lone(letter: u8) -> Option<Token>
     ensures { result ≡ lone_of letter }
 {
@@ -79,7 +80,7 @@ fn lone(letter: u8) -> Option<Token>
     Some(token)
 }
 
-/// Behind `%p`: a digit from 1 to 9.
+/// After `%p`: a digit from 1 to 9.
 fn read_parameter(bytes: &[u8]) -> Result<(Token, usize), CapFault>
     ensures { result ≡ parameter_read bytes.now }
 {
@@ -90,7 +91,7 @@ fn read_parameter(bytes: &[u8]) -> Result<(Token, usize), CapFault>
     }
 }
 
-/// Behind `%P` or `%g`: the variable's letter.
+/// After `%P` or `%g`: the variable's letter.
 fn read_variable(bytes: &[u8]) -> Result<u8, CapFault>
     ensures { result ≡ variable_of bytes.now }
 {
@@ -101,7 +102,7 @@ fn read_variable(bytes: &[u8]) -> Result<u8, CapFault>
     }
 }
 
-/// Behind `%'`: any byte and an apostrophe.
+/// After `%'`: any byte and an apostrophe.
 fn read_quoted(bytes: &[u8]) -> Result<(Token, usize), CapFault>
     ensures { result ≡ quoted_read bytes.now }
 {
@@ -112,7 +113,7 @@ fn read_quoted(bytes: &[u8]) -> Result<(Token, usize), CapFault>
     }
 }
 
-/// Behind `%{`: at least one digit, and a brace.
+/// After `%{`: at least one digit, and a brace.
 fn read_digits(bytes: &[u8]) -> Result<(Token, usize), CapFault>
     ensures { result ≡ digits_read 0 0 bytes.now }
 {

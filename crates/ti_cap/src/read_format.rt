@@ -1,4 +1,4 @@
-//! The format behind a `%`: flags, width, precision and conversion, each as far as its bytes go.
+//! The format after a `%`: flags, width, precision and conversion, each as far as its bytes go.
 //!
 //! It guarantees what the list lexer's `format_read` says, which is proved to read exactly the spellings of formats.
 //! Cost: each byte is looked at a fixed number of times, and no memory is taken. Each part goes on where the one
@@ -6,13 +6,16 @@
 
 ghost use Rattle.std.specs.Prelude.{◌≡◌, ◌+◌, ◌<◌, ◌≤◌, ◌^◌, length, drop, IfSome, IfNone};
 ghost use Rattle.std.specs.List.{prefix_len};
+ghost use Rattle.ti_base.specs.Limits.{greatest_width};
 ghost use Rattle.ti_cap.specs.Spelling.{number_of};
-ghost use Rattle.ti_cap.specs.Reading.{format_read, width_read, precision_read, letter_read, flagged, plain_format, conversion_of, is_flag, is_plain_flag, is_digit, opens_format, print_read, front, rest};
+ghost use Rattle.ti_cap.specs.Refusal.{opens_format};
+ghost use Rattle.ti_cap.specs.inner.Reading.{format_read, width_read, precision_read, letter_read, with_flags, plain_format, conversion_of, is_flag, is_plain_flag, is_digit, print_read, front, rest};
 
 use crate::language::{CapFault, Conversion, Format, Token};
+use ti_base::GREATEST_WIDTH;
 
-/// The greatest width or precision.
-const GREATEST: u16 = 255;
+/// The greatest width or precision, in the width that one digit more takes.
+const GREATEST: u16 = GREATEST_WIDTH as u16;
 
 /// Whether something before the conversion of a format may begin with this byte.
 fn opens_format(byte: u8) -> bool
@@ -56,14 +59,14 @@ fn plain(conversion: Conversion) -> Format
 
 /// The format at the front, part by part.
 #[inline(never)]
-#[tactic(auto, unfolding(crate::specs::Reading::format_read))]
+#[tactic(auto, unfolding(crate::specs::inner::Reading::format_read))]
 fn read_parts(bytes: &[u8]) -> Result<(Token, usize), CapFault>
     ensures { result ≡ format_read bytes.now }
 {
     match bytes {
         [] => Err(CapFault::CutShort),
-        [b':', behind @ ..] => {
-            let (flags, left) = split_flags(behind);
+        [b':', after @ ..] => {
+            let (flags, left) = split_flags(after);
             read_width(with_flags(flags), 2 + flags.len(), left)
         }
         [first, ..] if is_plain_flag(*first) => {
@@ -74,8 +77,8 @@ fn read_parts(bytes: &[u8]) -> Result<(Token, usize), CapFault>
     }
 }
 
-/// Takes the flags that may stand behind a colon off the front.
-#[tactic(auto, using(crate::proofs::Fronts::front_take, crate::proofs::Fronts::rest_drop, crate::proofs::Fronts::prefix_len_within))]
+/// Takes the flags that may stand after a colon off the front.
+#[tactic(auto, using(crate::proofs::FrontLemmas::front_take, crate::proofs::FrontLemmas::rest_drop, crate::proofs::FrontLemmas::prefix_len_within))]
 fn split_flags(bytes: &[u8]) -> (&[u8], &[u8])
     ensures flags { result.0.now ≡ front is_flag bytes.now }
     ensures left { result.1.now ≡ rest is_flag bytes.now }
@@ -84,7 +87,7 @@ fn split_flags(bytes: &[u8]) -> (&[u8], &[u8])
     bytes.split_at(count_flags(bytes))
 }
 
-/// How many flags stand at the front, behind a colon.
+/// How many flags stand at the front, after a colon.
 fn count_flags(bytes: &[u8]) -> usize
     ensures { result ≡ prefix_len is_flag bytes.now }
 {
@@ -92,7 +95,7 @@ fn count_flags(bytes: &[u8]) -> usize
 }
 
 /// Takes the flags that need no colon off the front.
-#[tactic(auto, using(crate::proofs::Fronts::front_take, crate::proofs::Fronts::rest_drop, crate::proofs::Fronts::prefix_len_within))]
+#[tactic(auto, using(crate::proofs::FrontLemmas::front_take, crate::proofs::FrontLemmas::rest_drop, crate::proofs::FrontLemmas::prefix_len_within))]
 fn split_plain_flags(bytes: &[u8]) -> (&[u8], &[u8])
     ensures flags { result.0.now ≡ front is_plain_flag bytes.now }
     ensures left { result.1.now ≡ rest is_plain_flag bytes.now }
@@ -118,7 +121,7 @@ fn is_plain_flag(byte: u8) -> bool
     byte == b'#' || byte == b' ' || byte == b'0'
 }
 
-/// A flag that may stand behind a colon.
+/// A flag that may stand after a colon.
 fn is_flag(byte: u8) -> bool
     ensures { result ≡ is_flag byte }
 {
@@ -127,7 +130,7 @@ fn is_flag(byte: u8) -> bool
 
 /// The format with these flags, and nothing else yet.
 fn with_flags(flags: &[u8]) -> Format
-    ensures { result ≡ flagged flags.now }
+    ensures { result ≡ with_flags flags.now }
 {
     Format {
         left: flags.contains(&b'-'),
@@ -159,14 +162,14 @@ fn read_precision(format: Format, taken: usize, bytes: &[u8]) -> Result<(Token, 
     ensures { result ≡ precision_read format taken bytes.now }
 {
     match bytes {
-        [b'.', behind @ ..] => match small_number(behind) {
+        [b'.', after @ ..] => match small_number(after) {
             None => Err(CapFault::BadFormat),
             Some((number, count)) => {
                 let format = Format {
                     precision: Some(number),
                     ..format
                 };
-                read_letter(format, taken + 1 + count, &behind[count..])
+                read_letter(format, taken + 1 + count, &after[count..])
             }
         },
         _ => read_letter(format, taken, bytes),
@@ -208,16 +211,15 @@ fn conversion(letter: u8) -> Option<Conversion>
     }
 }
 
-/// The number that the digits at the front stand for, and how many they are, or none where it is above 255.
-#[tactic(auto, using(crate::proofs::Fronts::front_within, crate::proofs::Fronts::rest_behind))]
+/// The number that the digits at the front stand for, and how many they are, or none where it is above the limit.
+#[tactic(auto, using(crate::proofs::FrontLemmas::front_within, crate::proofs::FrontLemmas::rest_behind))]
 fn small_number(bytes: &[u8]) -> Option<(u8, usize)>
-    ensures none { IfNone result (255 < number_of (front is_digit bytes.now)) }
+    ensures none { IfNone result (greatest_width < number_of (front is_digit bytes.now)) }
     ensures number { IfSome result (λ (number, count). number ≡ number_of (front is_digit bytes.now)) }
     ensures count { IfSome result (λ (number, count). count ≡ length (front is_digit bytes.now)) }
     ensures within { IfSome result (λ (number, count). count ≤ length bytes.now) }
     ensures left { IfSome result (λ (number, count). drop count bytes.now ≡ rest is_digit bytes.now) }
 {
-    // Wide enough for one digit more than the limit needs.
     let mut number: u16 = 0;
     for (count, byte) in bytes.iter().enumerate() {
         if !byte.is_ascii_digit() {

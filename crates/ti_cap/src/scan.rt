@@ -8,9 +8,7 @@ ghost use Rattle.std.specs.Prelude.{◌≡◌};
 
 use crate::extent::Extent;
 use crate::language::{CapFault, Op, Token};
-
-/// The greatest height of the stack.
-const MOST_VALUES: u32 = 32;
+use ti_base::MOST_VALUES;
 
 /// What waits in an open conditional.
 #[derive(Clone, Copy)]
@@ -44,15 +42,16 @@ pub struct Scan {
 
 impl Scan {
     ghost use Rattle.std.specs.Prelude.{ℕ, ◌≡◌, ◌≤◌, ◌<◌, ◌+◌, ◌-◌, ◌^◌, List, length, map, Some, None, OnOk, IfErr};
+    ghost use Rattle.ti_base.specs.Limits.{most_open, most_values};
     ghost use Rattle.ti_cap.specs.declared.language.Token.{Token};
     ghost use Rattle.ti_cap.specs.declared.language.CapFault.{CapFault};
     ghost use Rattle.ti_cap.specs.declared.scan.Open.{Open};
-    ghost use Rattle.ti_cap.specs.Analysis.{nothing_found, found_after, fault_of, top, are_in_test};
-    ghost use Rattle.ti_cap.specs.Scan.{found_of, IsInOrder, IsSure, pushed, stacked, height_frame, size_frame, ended};
+    ghost use Rattle.ti_cap.specs.inner.Analysis.{no_findings, findings_after, fault_of, greatest_of, are_in_test};
+    ghost use Rattle.ti_cap.specs.inner.Scan.{findings_of, IsInOrder, IsSure, after_push, innermost_first, height_frame, size_frame, greatest_end};
 
     /// No token yet.
     pub fn new() -> Self
-        ensures start { (opens : List Open) → found_of result opens ≡ nothing_found }
+        ensures start { (opens : List Open) → findings_of result opens ≡ no_findings }
         ensures order { (room : ℕ) → IsInOrder room result }
     {
         Scan {
@@ -70,13 +69,13 @@ impl Scan {
         opens: &mut [Open; ROOM],
         token: Token,
     ) -> Result<(), CapFault>
-        requires room { ROOM ≤ 32 }
-        requires low { self.old.here.height ≤ 32 }
-        requires small { self.old.here.size ≤ 2147418113 }
+        requires room { ROOM ≤ most_open }
+        requires low { self.old.here.height ≤ most_values }
+        requires small { self.old.here.size < 2 ^ 31 }
         requires order { IsInOrder ROOM self.old }
-        ensures refused { IfErr result (λ fault. IsSure ROOM fault → fault_of (found_of self.old opens.old) token ≡ Some fault) }
-        ensures taken { OnOk result (found_of self.new opens.new ≡ found_after (found_of self.old opens.old) token) }
-        ensures fine { OnOk result (fault_of (found_of self.old opens.old) token ≡ None) }
+        ensures refused { IfErr result (λ fault. IsSure ROOM fault → fault_of (findings_of self.old opens.old) token ≡ Some fault) }
+        ensures taken { OnOk result (findings_of self.new opens.new ≡ findings_after (findings_of self.old opens.old) token) }
+        ensures fine { OnOk result (fault_of (findings_of self.old opens.old) token ≡ None) }
         ensures order { OnOk result (IsInOrder ROOM self.new) }
     {
         match token {
@@ -109,13 +108,13 @@ impl Scan {
     /// Pops values, and pushes one.
     #[inline(always)]
     fn push(&mut self, popped: u32) -> Result<(), CapFault>
-        requires { self.old.here.height ≤ 32 }
-        ensures refused { IfErr result (λ fault. (fault ≡ CapFault.StackTooDeep) × (32 < self.old.here.height - popped + 1)) }
-        ensures taken { OnOk result (self.new ≡ pushed self.old popped) }
-        ensures fine { OnOk result (self.old.here.height - popped + 1 ≤ 32) }
+        requires { self.old.here.height ≤ most_values }
+        ensures refused { IfErr result (λ fault. (fault ≡ CapFault.StackTooDeep) × (most_values < self.old.here.height - popped + 1)) }
+        ensures taken { OnOk result (self.new ≡ after_push self.old popped) }
+        ensures fine { OnOk result (self.old.here.height - popped + 1 ≤ most_values) }
     {
         let height = self.here.height.saturating_sub(popped) + 1;
-        if height > MOST_VALUES {
+        if height > MOST_VALUES as u32 {
             return Err(CapFault::StackTooDeep);
         }
         self.here.height = height;
@@ -126,12 +125,12 @@ impl Scan {
     /// A conditional begins.
     #[inline(always)]
     fn enter<const ROOM: usize>(&mut self, opens: &mut [Open; ROOM]) -> Result<(), CapFault>
-        requires room { ROOM ≤ 32 }
-        requires low { self.old.here.height ≤ 32 }
+        requires room { ROOM ≤ most_open }
+        requires low { self.old.here.height ≤ most_values }
         requires order { IsInOrder ROOM self.old }
-        ensures refused { IfErr result (λ fault. IsSure ROOM fault → fault_of (found_of self.old opens.old) Token.CondOpen ≡ Some fault) }
-        ensures taken { OnOk result (found_of self.new opens.new ≡ found_after (found_of self.old opens.old) Token.CondOpen) }
-        ensures fine { OnOk result (fault_of (found_of self.old opens.old) Token.CondOpen ≡ None) }
+        ensures refused { IfErr result (λ fault. IsSure ROOM fault → fault_of (findings_of self.old opens.old) Token.CondOpen ≡ Some fault) }
+        ensures taken { OnOk result (findings_of self.new opens.new ≡ findings_after (findings_of self.old opens.old) Token.CondOpen) }
+        ensures fine { OnOk result (fault_of (findings_of self.old opens.old) Token.CondOpen ≡ None) }
         ensures order { OnOk result (IsInOrder ROOM self.new) }
     {
         if self.nesting >= ROOM {
@@ -146,11 +145,11 @@ impl Scan {
     /// A test ends: a path may fail here, and go on after the `%e` or `%;` to come.
     #[inline(always)]
     fn test<const ROOM: usize>(&mut self, opens: &mut [Open; ROOM]) -> Result<(), CapFault>
-        requires low { self.old.here.height ≤ 32 }
+        requires low { self.old.here.height ≤ most_values }
         requires order { IsInOrder ROOM self.old }
-        ensures refused { IfErr result (λ fault. fault_of (found_of self.old opens.old) Token.CondThen ≡ Some fault) }
-        ensures taken { OnOk result (found_of self.new opens.new ≡ found_after (found_of self.old opens.old) Token.CondThen) }
-        ensures fine { OnOk result (fault_of (found_of self.old opens.old) Token.CondThen ≡ None) }
+        ensures refused { IfErr result (λ fault. fault_of (findings_of self.old opens.old) Token.CondThen ≡ Some fault) }
+        ensures taken { OnOk result (findings_of self.new opens.new ≡ findings_after (findings_of self.old opens.old) Token.CondThen) }
+        ensures fine { OnOk result (fault_of (findings_of self.old opens.old) Token.CondThen ≡ None) }
         ensures order { OnOk result (IsInOrder ROOM self.new) }
     {
         if self.nesting == 0 {
@@ -171,11 +170,11 @@ impl Scan {
     /// A body ends: what it ended with waits for the `%;`, and what its test failed with goes on.
     #[inline(always)]
     fn turn<const ROOM: usize>(&mut self, opens: &mut [Open; ROOM]) -> Result<(), CapFault>
-        requires low { self.old.here.height ≤ 32 }
+        requires low { self.old.here.height ≤ most_values }
         requires order { IsInOrder ROOM self.old }
-        ensures refused { IfErr result (λ fault. fault_of (found_of self.old opens.old) Token.CondElse ≡ Some fault) }
-        ensures taken { OnOk result (found_of self.new opens.new ≡ found_after (found_of self.old opens.old) Token.CondElse) }
-        ensures fine { OnOk result (fault_of (found_of self.old opens.old) Token.CondElse ≡ None) }
+        ensures refused { IfErr result (λ fault. fault_of (findings_of self.old opens.old) Token.CondElse ≡ Some fault) }
+        ensures taken { OnOk result (findings_of self.new opens.new ≡ findings_after (findings_of self.old opens.old) Token.CondElse) }
+        ensures fine { OnOk result (fault_of (findings_of self.old opens.old) Token.CondElse ≡ None) }
         ensures order { OnOk result (IsInOrder ROOM self.new) }
     {
         if self.nesting == 0 {
@@ -188,7 +187,7 @@ impl Scan {
             Some(failed) => {
                 opens[self.nesting - 1] = Open {
                     failed: None,
-                    done: Some(self.here.joined(done)),
+                    done: Some(self.here.max_with(done)),
                 };
                 self.here = failed;
                 self.depth = self.depth.max(failed.height);
@@ -199,13 +198,13 @@ impl Scan {
 
     /// A conditional ends: the greatest of what runs and what waits in it goes on.
     #[inline(always)]
-    #[tactic(auto, using(crate::proofs::Scanned::joined_height, crate::proofs::Scanned::joined_size))]
+    #[tactic(auto, using(crate::proofs::ScanLemmas::greater_extent_height, crate::proofs::ScanLemmas::greater_extent_size))]
     fn leave<const ROOM: usize>(&mut self, opens: &[Open; ROOM]) -> Result<(), CapFault>
-        requires low { self.old.here.height ≤ 32 }
+        requires low { self.old.here.height ≤ most_values }
         requires order { IsInOrder ROOM self.old }
-        ensures refused { IfErr result (λ fault. fault_of (found_of self.old opens.now) Token.CondClose ≡ Some fault) }
-        ensures taken { OnOk result (found_of self.new opens.now ≡ found_after (found_of self.old opens.now) Token.CondClose) }
-        ensures fine { OnOk result (fault_of (found_of self.old opens.now) Token.CondClose ≡ None) }
+        ensures refused { IfErr result (λ fault. fault_of (findings_of self.old opens.now) Token.CondClose ≡ Some fault) }
+        ensures taken { OnOk result (findings_of self.new opens.now ≡ findings_after (findings_of self.old opens.now) Token.CondClose) }
+        ensures fine { OnOk result (fault_of (findings_of self.old opens.now) Token.CondClose ≡ None) }
         ensures order { OnOk result (IsInOrder ROOM self.new) }
     {
         if self.nesting == 0 {
@@ -215,7 +214,7 @@ impl Scan {
         if failed.is_none() && done.is_none() {
             return Err(CapFault::NoThen);
         }
-        self.here = self.here.joined(failed).joined(done);
+        self.here = self.here.max_with(failed).max_with(done);
         self.depth = self.depth.max(self.here.height);
         self.nesting -= 1;
         Ok(())
@@ -236,10 +235,10 @@ impl Scan {
     }
 
     /// The most bytes that any path writes, were this the end.
-    #[tactic(auto, using(crate::proofs::Scanned::ended_size))]
+    #[tactic(auto, using(crate::proofs::ScanLemmas::greatest_end_size))]
     pub fn bound<const ROOM: usize>(&self, opens: &[Open; ROOM]) -> u64
         requires order { IsInOrder ROOM self.now }
-        ensures { result ≡ top (map size_frame (stacked self.now.nesting opens.now)) self.now.here.size }
+        ensures { result ≡ greatest_of (map size_frame (innermost_first self.now.nesting opens.now)) self.now.here.size }
     {
         u64::from(self.end(opens).size)
     }
@@ -247,20 +246,20 @@ impl Scan {
     /// How far any path has come, were this the end.
     fn end<const ROOM: usize>(&self, opens: &[Open; ROOM]) -> Extent
         requires order { IsInOrder ROOM self.now }
-        ensures { result ≡ ended (stacked self.now.nesting opens.now) self.now.here }
+        ensures { result ≡ greatest_end (innermost_first self.now.nesting opens.now) self.now.here }
     {
         opens[..self.nesting]
             .iter()
             .rev()
             .fold(self.here, |here, open| {
-                here.joined(open.failed).joined(open.done)
+                here.max_with(open.failed).max_with(open.done)
             })
     }
 
     /// Whether a conditional is still in its first test.
     pub fn is_in_first_test<const ROOM: usize>(&self, opens: &[Open; ROOM]) -> bool
         requires order { IsInOrder ROOM self.now }
-        ensures { result ≡ are_in_test (map height_frame (stacked self.now.nesting opens.now)) }
+        ensures { result ≡ are_in_test (map height_frame (innermost_first self.now.nesting opens.now)) }
     {
         opens[..self.nesting]
             .iter()

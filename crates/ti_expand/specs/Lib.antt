@@ -5,8 +5,5 @@ pub mod Meaning
 pub mod Mode
 pub mod Flat
 pub mod Sound
-pub mod Machine
 pub mod Expands
-pub mod Running
-pub mod Underway
-pub mod Decimal
+pub mod inner

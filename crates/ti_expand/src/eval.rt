@@ -4,10 +4,10 @@ ghost use Rattle.std.specs.Prelude.{◌≡◌, ◌+◌, ◌-◌, ◌<◌, ◌≤
 ghost use Rattle.ti_base.specs.Limits.{most_text_bytes};
 ghost use Rattle.ti_cap.specs.Tree.{IsSimple};
 ghost use Rattle.ti_cap.specs.Height.{next_height};
-ghost use Rattle.ti_expand.specs.State.{popped, text_on};
-ghost use Rattle.ti_expand.specs.Machine.{held, machine};
+ghost use Rattle.ti_expand.specs.State.{without_top, text_on};
+ghost use Rattle.ti_expand.specs.inner.Machine.{stack_in, machine};
 ghost use Rattle.ti_expand.specs.Sound.{IsSound};
-ghost use Rattle.ti_expand.specs.Effect.{effect, computed, print_for};
+ghost use Rattle.ti_expand.specs.Effect.{effect, after_operation, print_for};
 
 use crate::operation::{apply, byte_of, inverted, negated};
 use crate::parameters::Parameters;
@@ -25,7 +25,7 @@ fn compute(op: Op, stack: &mut Stack<'_, '_>)
     ensures room { length stack.new.slots.now ≡ length stack.old.slots.now }
     ensures height { stack.new.height ≡ next_height stack.old.height (Token.Compute op) }
     ensures highest { stack.new.highest ≡ max stack.old.highest stack.new.height }
-    ensures held { held stack.new.slots.now stack.new.height ≡ computed op (held stack.old.slots.now stack.old.height) }
+    ensures held { stack_in stack.new.slots.now stack.new.height ≡ after_operation op (stack_in stack.old.slots.now stack.old.height) }
 {
     let right = stack.pop_number();
     let number = match op {
@@ -42,13 +42,13 @@ fn compute(op: Op, stack: &mut Stack<'_, '_>)
 /// Prints what lies on the stack, from a place on, and returns the place after it.
 #[inline(always)]
 fn print(format: &Format, stack: &mut Stack<'_, '_>, out: &mut [u8], written: usize) -> usize
-    requires { written + length (print_for format.now.conversion format.now (held stack.old.slots.now stack.old.height)) ≤ length out.old }
+    requires { written + length (print_for format.now.conversion format.now (stack_in stack.old.slots.now stack.old.height)) ≤ length out.old }
     ensures room { length stack.new.slots.now ≡ length stack.old.slots.now }
     ensures height { stack.new.height ≡ stack.old.height - 1 }
     ensures highest { stack.new.highest ≡ stack.old.highest }
-    ensures held { held stack.new.slots.now stack.new.height ≡ popped (held stack.old.slots.now stack.old.height) }
-    ensures written { take result out.new ≡ take written out.old ++ print_for format.now.conversion format.now (held stack.old.slots.now stack.old.height) }
-    ensures end { result ≡ written + length (print_for format.now.conversion format.now (held stack.old.slots.now stack.old.height)) }
+    ensures held { stack_in stack.new.slots.now stack.new.height ≡ without_top (stack_in stack.old.slots.now stack.old.height) }
+    ensures written { take result out.new ≡ take written out.old ++ print_for format.now.conversion format.now (stack_in stack.old.slots.now stack.old.height) }
+    ensures end { result ≡ written + length (print_for format.now.conversion format.now (stack_in stack.old.slots.now stack.old.height)) }
     ensures rest { drop result out.new ≡ drop result out.old }
 {
     match format.conversion {
@@ -59,7 +59,7 @@ fn print(format: &Format, stack: &mut Stack<'_, '_>, out: &mut [u8], written: us
 
 /// Does what a simple token does, and returns where the output ends.
 #[inline(always)]
-#[tactic(auto, using(crate::proofs::Soundness::text_on_sound))]
+#[tactic(auto, using(crate::proofs::SoundLemmas::text_on_sound))]
 pub fn act<'a>(
     token: &Token,
     parameters: &mut Parameters<'_, 'a>,

@@ -5,13 +5,14 @@
 //! once. Where a parameter is a text, one more pass over the tape computes the bound for its length.
 
 ghost use Rattle.std.specs.Prelude.{◌≡◌, ℕ, ◌+◌, ◌≤◌, ◌↔◌, [], length, take, drop, vec_len, IfOk, IfErr, OnOk, OnErr};
+ghost use Rattle.ti_base.specs.Limits.{most_values};
 ghost use Rattle.ti_cap.specs.Tree.{tokens};
 ghost use Rattle.ti_cap.specs.Height.{height};
 ghost use Rattle.ti_cap.specs.Capability.{HasDepth, HasBound, IsWellFormed};
 ghost use Rattle.ti_expand.specs.State.{start};
-ghost use Rattle.ti_expand.specs.Meaning.{meaning, taken};
-ghost use Rattle.ti_expand.specs.Expands.{ForTree, longest_text, IsFirstTooLong, IsFault, IsTextOrMemory};
-ghost use Rattle.ti_expand.specs.Running.{IsReady};
+ghost use Rattle.ti_expand.specs.Meaning.{meaning, taken_path};
+ghost use Rattle.ti_expand.specs.Expands.{ForTree, longest_text, IsFirstTooLong, IsExpandFault, IsTextOrMemory};
+ghost use Rattle.ti_expand.specs.inner.Running.{IsReady, CanRun};
 
 use crate::counts::Run;
 use crate::fault::ExpandFault;
@@ -23,6 +24,9 @@ use std::alloc::Allocator;
 use ti_base::MOST_VALUES;
 use ti_cap::{Capability, Tape};
 
+/// Nearly all capabilities have no greater depth, and less room takes less time to make.
+const FEW_VALUES: usize = 4;
+
 /// The first fault that holds, or else the length of the longest text.
 #[inline(always)]
 fn check(
@@ -32,7 +36,7 @@ fn check(
     room: usize,
 ) -> Result<u16, ExpandFault>
     requires { tape.now.taken ≡ [] }
-    ensures faults { (fault : ExpandFault) → (result ≡ Err fault) ↔ IsFault tape.now.left parameters.now places room fault }
+    ensures faults { (fault : ExpandFault) → (result ≡ Err fault) ↔ IsExpandFault tape.now.left parameters.now places room fault }
     ensures ready { IfOk result (IsReady tape.now.left parameters.now places room) }
 {
     let longest = longest_text(parameters)?;
@@ -64,7 +68,7 @@ pub fn expand_into<'a>(
 ) -> Result<Run, ExpandFault>
     requires { tape.taken ≡ [] }
     // each fault comes exactly where it is so, and changes nothing
-    ensures faults { (fault : ExpandFault) → (result ≡ Err fault) ↔ IsFault tape.entry.left parameters.now (length stack.old) (length out.old) fault }
+    ensures faults { (fault : ExpandFault) → (result ≡ Err fault) ↔ IsExpandFault tape.entry.left parameters.now (length stack.old) (length out.old) fault }
     ensures kept_variables { OnErr result (vars.new ≡ vars.old) }
     ensures kept_stack { OnErr result (stack.new ≡ stack.old) }
     ensures kept_output { OnErr result (out.new ≡ out.old) }
@@ -77,9 +81,9 @@ pub fn expand_into<'a>(
 
     // and the counts are those of the path that its tests choose
     ensures written { IfOk result (λ run. ForTree tape.entry.left (λ tree. run.written ≡ length (meaning tree (start vars.old parameters.now)).output)) }
-    ensures ran { IfOk result (λ run. ForTree tape.entry.left (λ tree. run.ran ≡ length (taken tree (start vars.old parameters.now)))) }
+    ensures ran { IfOk result (λ run. ForTree tape.entry.left (λ tree. run.ran ≡ length (taken_path tree (start vars.old parameters.now)))) }
     ensures all { IfOk result (λ run. ForTree tape.entry.left (λ tree. run.ran + run.passed ≡ length (tokens tree))) }
-    ensures peak { IfOk result (λ run. ForTree tape.entry.left (λ tree. run.peak ≡ height (taken tree (start vars.old parameters.now)))) }
+    ensures peak { IfOk result (λ run. ForTree tape.entry.left (λ tree. run.peak ≡ height (taken_path tree (start vars.old parameters.now)))) }
 
     // which keep to the limits
     ensures steps_low { IfOk result (λ run. run.ran + run.passed ≤ length tape.entry.left) }
@@ -117,18 +121,27 @@ pub fn expand<'a, A: Allocator + Copy>(
 {
     let longest = longest_text(parameters)?;
     let bound = capability.bound(longest) as usize;
-    let depth = capability.depth();
     let mut out = Vec::from_elem(alloc, 0, bound)?;
-    let mut stack = [Value::Num(0); MOST_VALUES];
     // Each variable fits 32 bits, on which the bound rests.
     let _numbers = vars.numbers();
-    let run = run_tape(
-        capability.tape(),
-        parameters,
-        vars,
-        &mut stack[..depth],
-        out.as_mut_slice(),
-    );
+    let run = if capability.depth() <= FEW_VALUES {
+        let mut stack = [Value::Num(0); FEW_VALUES];
+        let out = out.as_mut_slice();
+        run_tape(capability.tape(), parameters, vars, &mut stack, out)
+    } else {
+        run_deep(capability.tape(), parameters, vars, out.as_mut_slice())
+    };
     out.truncate(run.written);
     Ok(out)
+}
+
+/// Runs a tape from its start, with room for the most values.
+fn run_deep<'a>(tape: Tape<'_>, parameters: &[Value<'a>; 9], vars: &mut Vars, out: &mut [u8]) -> Run
+    requires { CanRun tape.left (start vars.old parameters.now) most_values (length out.old) }
+    ensures output { ForTree tape.entry.left (λ tree. take result.written out.new ≡ (meaning tree (start vars.old parameters.now)).output) }
+    ensures variables { ForTree tape.entry.left (λ tree. vars.new ≡ (meaning tree (start vars.old parameters.now)).variables) }
+    ensures written { ForTree tape.entry.left (λ tree. result.written ≡ length (meaning tree (start vars.old parameters.now)).output) }
+{
+    let mut stack = [Value::Num(0); MOST_VALUES];
+    run_tape(tape, parameters, vars, &mut stack, out)
 }

@@ -1,7 +1,7 @@
 //! The operations on numbers.
 
 ghost use Rattle.std.specs.Prelude.{◌≡◌, ◌+ℤ◌, pos};
-ghost use Rattle.ti_expand.specs.Effect.{combine, complement, is_zero, flag_number, wrapped, char_byte};
+ghost use Rattle.ti_expand.specs.Effect.{combine, complement, is_zero, flag_number, wrap, char_byte};
 
 use ti_cap::Op;
 
@@ -45,7 +45,7 @@ pub fn negated(number: i32) -> i32
 
 /// One more, wrapping.
 pub fn next_number(number: i32) -> i32
-    ensures { result ≡ wrapped (number +ℤ pos 1) }
+    ensures { result ≡ wrap (number +ℤ pos 1) }
 {
     number.wrapping_add(1)
 }

@@ -1,9 +1,9 @@
 //! The nine parameters while a capability runs. `%i` changes the first two alone, so only these are copied.
 
 ghost use Rattle.std.specs.Prelude.{◌≡◌, ◌+◌, ◌<◌, ◌∷◌, length, max};
-ghost use Rattle.ti_expand.specs.Machine.{held};
+ghost use Rattle.ti_expand.specs.inner.Machine.{stack_in};
 ghost use Rattle.ti_expand.specs.State.{parameter};
-ghost use Rattle.ti_expand.specs.Effect.{incremented, with_increments};
+ghost use Rattle.ti_expand.specs.Effect.{one_more, with_increments};
 
 use crate::operation::next_number;
 use crate::stack::Stack;
@@ -49,7 +49,7 @@ impl<'p, 'a> Parameters<'p, 'a> {
         ensures room { length stack.new.slots.now ≡ length stack.old.slots.now }
         ensures height { stack.new.height ≡ stack.old.height + 1 }
         ensures highest { stack.new.highest ≡ max stack.old.highest stack.new.height }
-        ensures held { held stack.new.slots.now stack.new.height ≡ parameter self.now k ∷ held stack.old.slots.now stack.old.height }
+        ensures held { stack_in stack.new.slots.now stack.new.height ≡ parameter self.now k ∷ stack_in stack.old.slots.now stack.old.height }
     {
         match k {
             1 => stack.push(self.first),
@@ -72,7 +72,7 @@ impl<'p, 'a> Parameters<'p, 'a> {
 /// 1 more where the value is a number.
 #[inline(always)]
 fn one_more(value: Value<'_>) -> Value<'_>
-    ensures { result ≡ incremented value.entry }
+    ensures { result ≡ one_more value.entry }
 {
     match value {
         Value::Num(number) => Value::Num(next_number(number)),

@@ -7,14 +7,14 @@ ghost use Rattle.ti_cap.specs.Tree.{tokens};
 ghost use Rattle.ti_cap.specs.Height.{height};
 ghost use Rattle.ti_cap.specs.Pass.{next_mode};
 ghost use Rattle.ti_expand.specs.State.{start};
-ghost use Rattle.ti_expand.specs.Machine.{machine};
+ghost use Rattle.ti_expand.specs.inner.Machine.{machine};
 ghost use Rattle.ti_expand.specs.Sound.{IsSound};
-ghost use Rattle.ti_expand.specs.Mode.{seen};
-ghost use Rattle.ti_expand.specs.Meaning.{meaning, taken, tests_zero};
-ghost use Rattle.ti_expand.specs.Flat.{moved};
+ghost use Rattle.ti_expand.specs.Mode.{mode_of};
+ghost use Rattle.ti_expand.specs.Meaning.{meaning, taken_path, tests_zero};
+ghost use Rattle.ti_expand.specs.Flat.{next_state};
 ghost use Rattle.ti_expand.specs.Expands.{ForTree};
-ghost use Rattle.ti_expand.specs.Running.{CanRun};
-ghost use Rattle.ti_expand.specs.Underway.{IsOnTheWay, GoesOn};
+ghost use Rattle.ti_expand.specs.inner.Running.{CanRun};
+ghost use Rattle.ti_expand.specs.inner.Underway.{IsOnTheWay, GoesOn};
 
 use crate::counts::Run;
 use crate::eval::act;
@@ -25,7 +25,7 @@ use crate::values::Value;
 use crate::variables::Vars;
 use ti_cap::{Tape, Token};
 
-/// Meets a token in `Run`: returns the mode and where the output ends after it.
+/// Meets a token in `Running`: returns the mode and where the output ends after it.
 #[inline(always)]
 fn meet<'a>(
     token: &Token,
@@ -36,12 +36,12 @@ fn meet<'a>(
     written: usize,
 ) -> (Mode, usize)
     requires sound { IsSound most_text_bytes (machine stack.old.slots.now stack.old.height vars.old parameters.old out.old written) }
-    requires height { length (moved (seen Mode.Run) token.now (machine stack.old.slots.now stack.old.height vars.old parameters.old out.old written)).stack ≤ length stack.old.slots.now }
+    requires height { length (next_state (mode_of Mode.Running) token.now (machine stack.old.slots.now stack.old.height vars.old parameters.old out.old written)).stack ≤ length stack.old.slots.now }
     requires within { written ≤ length out.old }
-    requires room { length (moved (seen Mode.Run) token.now (machine stack.old.slots.now stack.old.height vars.old parameters.old out.old written)).output ≤ length out.old }
-    ensures mode { seen result.0 ≡ next_mode (seen Mode.Run) token.now (tests_zero (machine stack.old.slots.now stack.old.height vars.old parameters.old out.old written)) }
+    requires room { length (next_state (mode_of Mode.Running) token.now (machine stack.old.slots.now stack.old.height vars.old parameters.old out.old written)).output ≤ length out.old }
+    ensures mode { mode_of result.0 ≡ next_mode (mode_of Mode.Running) token.now (tests_zero (machine stack.old.slots.now stack.old.height vars.old parameters.old out.old written)) }
     ensures state { machine stack.new.slots.now stack.new.height vars.new parameters.new out.new result.1
-        ≡ moved (seen Mode.Run) token.now (machine stack.old.slots.now stack.old.height vars.old parameters.old out.old written) }
+        ≡ next_state (mode_of Mode.Running) token.now (machine stack.old.slots.now stack.old.height vars.old parameters.old out.old written) }
     ensures slots { length stack.new.slots.now ≡ length stack.old.slots.now }
     ensures highest { stack.new.highest ≡ max stack.old.highest stack.new.height }
     ensures within { result.1 ≤ length out.new }
@@ -51,14 +51,14 @@ fn meet<'a>(
     match token {
         Token::CondThen => {
             let zero = stack.pop_number() == 0;
-            (Mode::Run.next(token, zero), written)
+            (Mode::Running.next(token, zero), written)
         }
-        Token::CondOpen => (Mode::Run.next(token, false), written),
-        Token::CondElse => (Mode::Run.next(token, false), written),
-        Token::CondClose => (Mode::Run.next(token, false), written),
+        Token::CondOpen => (Mode::Running.next(token, false), written),
+        Token::CondElse => (Mode::Running.next(token, false), written),
+        Token::CondClose => (Mode::Running.next(token, false), written),
         _ => {
             let end = act(token, parameters, vars, stack, out, written);
-            (Mode::Run.next(token, false), end)
+            (Mode::Running.next(token, false), end)
         }
     }
 }
@@ -66,18 +66,18 @@ fn meet<'a>(
 /// Passes tokens over from a mode on, up to the one that ends that, which ran.
 #[inline(always)]
 fn pass_over(tape: &mut Tape<'_>, from: Mode, run: &mut Run)
-    requires { IsOnTheWay tape.old.left (seen from) run.old.ran run.old.passed }
-    ensures onward { GoesOn tape.old.left (seen from) run.old.ran run.old.passed tape.new.left (seen Mode.Run) run.new.ran run.new.passed }
+    requires { IsOnTheWay tape.old.left (mode_of from) run.old.ran run.old.passed }
+    ensures onward { GoesOn tape.old.left (mode_of from) run.old.ran run.old.passed tape.new.left (mode_of Mode.Running) run.new.ran run.new.passed }
     ensures written { run.new.written ≡ run.old.written }
     ensures forward { length tape.new.left ≤ length tape.old.left }
 {
     let mut mode = from;
-    while !mode.is_run() {
+    while !mode.is_running() {
         let Some(token) = tape.token() else {
             return;
         };
         mode = mode.next(&token, false);
-        if mode.is_run() {
+        if mode.is_running() {
             run.ran += 1;
         } else {
             run.passed += 1;
@@ -98,9 +98,9 @@ pub(crate) fn run_tape<'a>(
     ensures rest { drop result.written out.new ≡ drop result.written out.old }
     ensures variables { ForTree tape.entry.left (λ tree. vars.new ≡ (meaning tree (start vars.old parameters.now)).variables) }
     ensures written { ForTree tape.entry.left (λ tree. result.written ≡ length (meaning tree (start vars.old parameters.now)).output) }
-    ensures ran { ForTree tape.entry.left (λ tree. result.ran ≡ length (taken tree (start vars.old parameters.now))) }
+    ensures ran { ForTree tape.entry.left (λ tree. result.ran ≡ length (taken_path tree (start vars.old parameters.now))) }
     ensures all { ForTree tape.entry.left (λ tree. result.ran + result.passed ≡ length (tokens tree)) }
-    ensures peak { ForTree tape.entry.left (λ tree. result.peak ≡ height (taken tree (start vars.old parameters.now))) }
+    ensures peak { ForTree tape.entry.left (λ tree. result.peak ≡ height (taken_path tree (start vars.old parameters.now))) }
 {
     let mut parameters = Parameters::new(parameters);
     let mut stack = Stack::new(stack);

@@ -6,8 +6,8 @@ ghost use Rattle.std.specs.Bool.{OnTrue};
 ghost use Rattle.ti_base.specs.Letters.{letter};
 ghost use Rattle.ti_base.specs.Limits.{most_text_bytes};
 ghost use Rattle.ti_cap.specs.Sizes.{format_size};
-ghost use Rattle.ti_expand.specs.Decimal.{IsPlainDecimal, decimal_digits};
-ghost use Rattle.ti_expand.specs.Printed.{magnitude, least_count, front_for, joined, fill, printed, printed_text};
+ghost use Rattle.ti_expand.specs.inner.Decimal.{IsPlainDecimal, decimal_digits};
+ghost use Rattle.ti_expand.specs.Printed.{magnitude, least_count, front_for, with_front, fill, print_of_number, print_of_text};
 
 use crate::digits::Digits;
 use crate::write::{put, put_repeated};
@@ -40,7 +40,7 @@ fn front_bytes(format: &Format, number: i32, zeros: usize) -> &'static [u8]
 }
 
 /// Puts the front, zeros and the digits.
-#[tactic(auto, using(crate::proofs::Rest::drop_further))]
+#[tactic(auto, using(crate::proofs::RestLemmas::drop_further))]
 fn put_body(digits: &Digits, out: &mut [u8], at: usize, front: &[u8], zeros: usize) -> usize
     requires { at + (length front.now + (zeros + length digits.now)) ≤ length out.old }
     ensures end { result ≡ at + (length front.now + (zeros + length digits.now)) }
@@ -53,7 +53,7 @@ fn put_body(digits: &Digits, out: &mut [u8], at: usize, front: &[u8], zeros: usi
 }
 
 /// Puts the front, zeros and the digits, filled to the width.
-#[tactic(auto, using(crate::proofs::Rest::drop_further))]
+#[tactic(auto, using(crate::proofs::RestLemmas::drop_further))]
 fn put_filled(
     format: &Format,
     digits: &Digits,
@@ -62,9 +62,9 @@ fn put_filled(
     front: &[u8],
     zeros: usize,
 ) -> usize
-    requires { at + length (fill format.now (joined format.now front.now (replicate zeros (letter (codes "0")) ++ digits.now))) ≤ length out.old }
-    ensures end { result ≡ at + length (fill format.now (joined format.now front.now (replicate zeros (letter (codes "0")) ++ digits.now))) }
-    ensures written { take result out.new ≡ take at out.old ++ fill format.now (joined format.now front.now (replicate zeros (letter (codes "0")) ++ digits.now)) }
+    requires { at + length (fill format.now (with_front format.now front.now (replicate zeros (letter (codes "0")) ++ digits.now))) ≤ length out.old }
+    ensures end { result ≡ at + length (fill format.now (with_front format.now front.now (replicate zeros (letter (codes "0")) ++ digits.now))) }
+    ensures written { take result out.new ≡ take at out.old ++ fill format.now (with_front format.now front.now (replicate zeros (letter (codes "0")) ++ digits.now)) }
     ensures rest { drop result out.new ≡ drop result out.old }
 {
     let body = front.len() + (zeros + digits.len());
@@ -120,9 +120,9 @@ fn put_decimal(amount: u32, out: &mut [u8], at: usize) -> usize
 #[inline(never)]
 pub(crate) fn print_number(format: Format, number: i32, out: &mut [u8], at: usize) -> usize
     requires numeric { format.conversion ≢ Conversion.Text }
-    requires room { at + length (printed format number) ≤ length out.old }
-    ensures end { result ≡ at + length (printed format number) }
-    ensures written { take result out.new ≡ take at out.old ++ printed format number }
+    requires room { at + length (print_of_number format number) ≤ length out.old }
+    ensures end { result ≡ at + length (print_of_number format number) }
+    ensures written { take result out.new ≡ take at out.old ++ print_of_number format number }
     ensures rest { drop result out.new ≡ drop result out.old }
 {
     let amount = number.cast_unsigned();
@@ -136,9 +136,9 @@ pub(crate) fn print_number(format: Format, number: i32, out: &mut [u8], at: usiz
 #[inline(never)]
 fn print_by_parts(format: &Format, number: i32, out: &mut [u8], at: usize) -> usize
     requires numeric { format.now.conversion ≢ Conversion.Text }
-    requires room { at + length (printed format.now number) ≤ length out.old }
-    ensures end { result ≡ at + length (printed format.now number) }
-    ensures written { take result out.new ≡ take at out.old ++ printed format.now number }
+    requires room { at + length (print_of_number format.now number) ≤ length out.old }
+    ensures end { result ≡ at + length (print_of_number format.now number) }
+    ensures written { take result out.new ≡ take at out.old ++ print_of_number format.now number }
     ensures rest { drop result out.new ≡ drop result out.old }
 {
     let digits = Digits::new(format.conversion, number);
@@ -152,8 +152,8 @@ fn print_by_parts(format: &Format, number: i32, out: &mut [u8], at: usize) -> us
 pub fn format_number(format: &Format, number: i32, out: &mut [u8]) -> usize
     requires numeric { format.now.conversion ≢ Conversion.Text }
     requires room { format_size format.now 0 ≤ length out.old }
-    ensures count { result ≡ length (printed format.now number) }
-    ensures written { take result out.new ≡ printed format.now number }
+    ensures count { result ≡ length (print_of_number format.now number) }
+    ensures written { take result out.new ≡ print_of_number format.now number }
     ensures rest { drop result out.new ≡ drop result out.old }
 {
     print_number(*format, number, out, 0)
@@ -166,8 +166,8 @@ pub fn format_text(format: &Format, text: &[u8], out: &mut [u8]) -> usize
     requires textual { format.now.conversion ≡ Conversion.Text }
     requires short { length text.now ≤ most_text_bytes }
     requires room { format_size format.now (length text.now) ≤ length out.old }
-    ensures count { result ≡ length (printed_text format.now text.now) }
-    ensures written { take result out.new ≡ printed_text format.now text.now }
+    ensures count { result ≡ length (print_of_text format.now text.now) }
+    ensures written { take result out.new ≡ print_of_text format.now text.now }
     ensures rest { drop result out.new ≡ drop result out.old }
 {
     print_text(*format, text, out, 0)
@@ -175,11 +175,11 @@ pub fn format_text(format: &Format, text: &[u8], out: &mut [u8]) -> usize
 
 /// Prints a text from a place on, and returns the place after it.
 #[inline(never)]
-#[tactic(auto, using(crate::proofs::Rest::drop_further))]
+#[tactic(auto, using(crate::proofs::RestLemmas::drop_further))]
 pub(crate) fn print_text(format: Format, text: &[u8], out: &mut [u8], at: usize) -> usize
-    requires room { at + length (printed_text format text.now) ≤ length out.old }
-    ensures end { result ≡ at + length (printed_text format text.now) }
-    ensures written { take result out.new ≡ take at out.old ++ printed_text format text.now }
+    requires room { at + length (print_of_text format text.now) ≤ length out.old }
+    ensures end { result ≡ at + length (print_of_text format text.now) }
+    ensures written { take result out.new ≡ take at out.old ++ print_of_text format text.now }
     ensures rest { drop result out.new ≡ drop result out.old }
 {
     let shown = match format.precision {

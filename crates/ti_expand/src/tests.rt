@@ -14,7 +14,7 @@ struct Case {
     run: Run,
 }
 
-fn counted(written: usize, ran: usize, passed: usize, peak: usize) -> Run {
+fn counts(written: usize, ran: usize, passed: usize, peak: usize) -> Run {
     Run {
         written,
         ran,
@@ -42,61 +42,61 @@ fn writes_what_the_tree_means(rt: HostRuntime) -> Result<(), Fail> {
             bytes: b"\x1b[%i%p1%d;%p2%dH",
             parameters: [4, 9, 0],
             output: b"\x1b[5;10H",
-            run: counted(7, 9, 0, 1),
+            run: counts(7, 9, 0, 1),
         },
         Case {
             bytes: SETAF,
             parameters: [1, 0, 0],
             output: b"\x1b[31m",
-            run: counted(5, 13, 17, 2),
+            run: counts(5, 13, 17, 2),
         },
         Case {
             bytes: SETAF,
             parameters: [9, 0, 0],
             output: b"\x1b[91m",
-            run: counted(5, 20, 10, 2),
+            run: counts(5, 20, 10, 2),
         },
         Case {
             bytes: SETAF,
             parameters: [200, 0, 0],
             output: b"\x1b[38;5;200m",
-            run: counted(11, 22, 8, 2),
+            run: counts(11, 22, 8, 2),
         },
         Case {
             bytes: b"%?%p1%t%?%p2%tA%eB%;%eC",
             parameters: [0, 1, 0],
             output: b"C",
-            run: counted(1, 5, 7, 1),
+            run: counts(1, 5, 7, 1),
         },
         Case {
             bytes: b"%?%p1%t%?%p2%tA%eB%;%eC",
             parameters: [1, 0, 0],
             output: b"B",
-            run: counted(1, 10, 2, 1),
+            run: counts(1, 10, 2, 1),
         },
         Case {
             bytes: INNER,
             parameters: [0, 0, 0],
             output: b"ef",
-            run: counted(2, 11, 9, 1),
+            run: counts(2, 11, 9, 1),
         },
         Case {
             bytes: INNER,
             parameters: [1, 0, 0],
             output: b"bcf",
-            run: counted(3, 13, 7, 1),
+            run: counts(3, 13, 7, 1),
         },
         Case {
             bytes: b"%p1%#06x,%p2%:-5d|",
             parameters: [255, 7, 0],
             output: b"0x00ff,7    |",
-            run: counted(13, 6, 0, 1),
+            run: counts(13, 6, 0, 1),
         },
         Case {
             bytes: b"",
             parameters: [0, 0, 0],
             output: b"",
-            run: counted(0, 0, 0, 0),
+            run: counts(0, 0, 0, 0),
         },
     ];
     for case in &cases {

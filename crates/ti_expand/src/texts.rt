@@ -4,7 +4,7 @@ ghost use Rattle.std.specs.Prelude.{◌≡◌, IfOk, IfErr};
 ghost use Rattle.std.specs.Bool.{OnFalse};
 ghost use Rattle.ti_expand.specs.Sound.{IsSoundValue};
 ghost use Rattle.ti_expand.specs.Expands.{text_len, IsTooLongFault};
-ghost use Rattle.ti_expand.specs.Running.{AreShort};
+ghost use Rattle.ti_expand.specs.inner.Running.{AreShort};
 
 use crate::fault::ExpandFault;
 use crate::values::Value;

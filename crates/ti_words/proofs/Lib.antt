@@ -1,2 +1,2 @@
-pub mod Rows
-pub mod Naming
+pub mod NamesLemmas
+pub mod RowsLemmas

@@ -47,7 +47,7 @@ pub enum Text<'a> {
     Absent,
     /// The entry takes it back.
     Cancelled,
-    /// Its bytes, without the NUL behind them. There may be none.
+    /// Its bytes, without the NUL after them. There may be none.
     Value(&'a [u8]),
 }
 

@@ -1,4 +1,4 @@
-use Rattle.ti_cap.proofs.Cutting.{one_cutting}
+use Rattle.ti_cap.proofs.WrittenLemmas.{one_cutting}
 use Rattle.ti_cap.proofs.laws.one_cutting.Goals as goal
 
 pub returns : goal.returns

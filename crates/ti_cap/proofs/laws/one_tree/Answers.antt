@@ -1,6 +1,6 @@
 use Rattle.ti_cap.specs.Tree.{tokens}
-use Rattle.ti_cap.proofs.Cutting.{one_cutting}
-use Rattle.ti_cap.proofs.OneTree.{one_tree}
+use Rattle.ti_cap.proofs.WrittenLemmas.{one_cutting}
+use Rattle.ti_cap.proofs.OneTreeLemmas.{one_tree}
 use Rattle.ti_cap.proofs.laws.one_tree.Goals as goal
 
 pub returns : goal.returns

@@ -1,6 +1,6 @@
 use Rattle.std.proofs.Common.{[], ◌++◌, sym}
 use Rattle.std.proofs.lemmas.List.{append-nil}
-use Rattle.ti_cap.proofs.Cutting.{Same, one_form}
+use Rattle.ti_cap.proofs.WrittenLemmas.{Same, one_form}
 use Rattle.ti_cap.proofs.laws.spellings_stand_apart.Goals as goal
 
 pub returns : goal.returns

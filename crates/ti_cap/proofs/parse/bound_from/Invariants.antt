@@ -1,5 +1,5 @@
 use Rattle.std.proofs.Common.{length}
-use Rattle.ti_cap.proofs.Bounded.{Summed}
+use Rattle.ti_cap.proofs.HasBoundLemmas.{Summed}
 use Rattle.ti_cap.proofs.parse.bound_from.Given as goal
 
 abbrev pub invariant-loop-token : goal.invariant-loop-token

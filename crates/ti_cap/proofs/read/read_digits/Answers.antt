@@ -1,8 +1,8 @@
 use Rattle.std.proofs.Common.{◌+◌, drop-cons, add-one, arith, ◌∙◌, sym, ap, w32, Ok}
 use Rattle.std.proofs.lemmas.List.{drop_all}
 use Rattle.std.proofs.lemmas.Int.{to_z_pos}
-use Rattle.ti_cap.specs.Reading.{digits_read}
-use Rattle.ti_cap.proofs.Digits.{digit_step, digit_large, brace_step, other_step, digit_end}
+use Rattle.ti_cap.specs.inner.Reading.{digits_read}
+use Rattle.ti_cap.proofs.DigitsReadLemmas.{digit_step, digit_large, brace_step, other_step, digit_end}
 use Rattle.ti_cap.specs.declared.language.Token.TheVariants.{Constant}
 use Rattle.ti_cap.proofs.read.read_digits.Goals as goal
 

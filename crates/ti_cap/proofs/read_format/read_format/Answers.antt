@@ -1,6 +1,6 @@
 use Rattle.std.proofs.Common.{sym, ◌∙◌, ap, Ok}
 use Rattle.ti_cap.specs.declared.language.Token.TheVariants.{Print}
-use Rattle.ti_cap.proofs.PlainFormats.{plain_first}
+use Rattle.ti_cap.proofs.PlainFormatLemmas.{plain_first}
 use Rattle.ti_cap.proofs.read_format.read_format.Goals as goal
 
 pub returns-in-Some : goal.returns-in-Some

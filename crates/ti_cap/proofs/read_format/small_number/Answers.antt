@@ -1,8 +1,8 @@
 use Rattle.std.proofs.Common.{◌≡◌, ◌+◌, ◌-◌, ◌*◌, ◌∙◌, length, drop, get_or, ap, arith, ◌∷◌}
 use Rattle.ti_cap.specs.Spelling.{number_from}
-use Rattle.ti_cap.specs.Reading.{front, is_digit}
-use Rattle.ti_cap.proofs.Digits.{number_from-ge, front_digit, front_other}
-use Rattle.ti_cap.proofs.Fronts.{front_within, rest_behind}
+use Rattle.ti_cap.specs.inner.Reading.{front, is_digit}
+use Rattle.ti_cap.proofs.DigitsReadLemmas.{number_from-ge, front_digit, front_other}
+use Rattle.ti_cap.proofs.FrontLemmas.{front_within, rest_behind}
 use Rattle.ti_cap.proofs.read_format.small_number.Goals as goal
 
 pub returns-then-not-is_ascii_digit-clause-left : goal.returns-then-not-is_ascii_digit-clause-left

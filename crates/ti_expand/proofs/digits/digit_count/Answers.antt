@@ -1,5 +1,5 @@
 use Rattle.std.proofs.Common.{arith}
-use Rattle.ti_expand.proofs.DigitLoops.{counting_step}
+use Rattle.ti_expand.proofs.DigitLoopLemmas.{counting_step}
 use Rattle.ti_expand.proofs.digits.digit_count.Goals as goal
 
 pub loop-left-preserved : goal.loop-left-preserved

@@ -1,4 +1,4 @@
-use Rattle.ti_expand.proofs.DigitLoops.{IsCounting}
+use Rattle.ti_expand.proofs.DigitLoopLemmas.{IsCounting}
 use Rattle.ti_expand.proofs.digits.digit_count.Given as goal
 
 abbrev pub invariant-loop-left : goal.invariant-loop-left

@@ -1,5 +1,5 @@
 use Rattle.std.proofs.Common.{◌≤◌, arith}
-use Rattle.ti_expand.proofs.DigitLoops.{writing_room, writing_step}
+use Rattle.ti_expand.proofs.DigitLoopLemmas.{writing_room, writing_step}
 use Rattle.ti_expand.proofs.digits.write_radix.Goals as goal
 
 pub overflow_sub-at : goal.overflow_sub-at

@@ -1,4 +1,4 @@
-use Rattle.ti_expand.proofs.DigitLoops.{IsWriting}
+use Rattle.ti_expand.proofs.DigitLoopLemmas.{IsWriting}
 use Rattle.ti_expand.proofs.digits.write_radix.Given as goal
 
 abbrev pub invariant-loop-left : goal.invariant-loop-left

@@ -3,7 +3,7 @@ use Rattle.std.proofs.lemmas.Result.{err_from_is_err_and}
 use Rattle.ti_cap.specs.Capability.{HasDepth, HasBound, IsWellFormed}
 use Rattle.ti_expand.specs.declared.fault.ExpandFault.TheVariants.{StackTooSmall, OutTooSmall}
 use Rattle.ti_expand.specs.Expands.{longest_text, HasStack}
-use Rattle.ti_expand.proofs.Faults.{too_long, refused, accepted}
+use Rattle.ti_expand.proofs.IsExpandFaultLemmas.{too_long, refused, accepted}
 use Rattle.ti_expand.proofs.expansion.check.Goals as goal
 
 pub returns-in_err-longest-clause-faults : goal.returns-in_err-longest-clause-faults

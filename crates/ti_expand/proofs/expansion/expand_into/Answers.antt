@@ -1,8 +1,8 @@
 use Rattle.std.proofs.Common.{ℕ, length, sym, subst}
 use Rattle.ti_cap.specs.Capability.{HasBound}
 use Rattle.ti_expand.specs.State.{start}
-use Rattle.ti_expand.specs.Running.{IsReady}
-use Rattle.ti_expand.proofs.Bound.{can_run, steps_within, peak_within, written_within}
+use Rattle.ti_expand.specs.inner.Running.{IsReady}
+use Rattle.ti_expand.proofs.CanRunLemmas.{can_run, steps_within, peak_within, written_within}
 use Rattle.ti_expand.proofs.expansion.expand_into.Goals as goal
 
 pub run_tape-requires : goal.run_tape-requires

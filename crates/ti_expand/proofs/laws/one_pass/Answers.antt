@@ -1,4 +1,4 @@
-use Rattle.ti_expand.proofs.OnePass.{one_pass_follows}
+use Rattle.ti_expand.proofs.OnePassLemmas.{one_pass_follows}
 use Rattle.ti_expand.proofs.laws.one_pass.Goals as goal
 
 pub returns : goal.returns

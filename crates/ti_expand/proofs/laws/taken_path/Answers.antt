@@ -1,4 +1,4 @@
-use Rattle.ti_expand.proofs.Taken.{taken_is_path}
+use Rattle.ti_expand.proofs.TakenIsPathLemmas.{taken_is_path}
 use Rattle.ti_expand.proofs.laws.taken_path.Goals as goal
 
 pub returns : goal.returns

@@ -1,21 +1,21 @@
 use Rattle.std.proofs.Common.{◌<◌, ◌≤◌, length, arith, ap, refl, ◌∙◌}
 use Rattle.std.proofs.lemmas.List.{length-take}
-use Rattle.ti_cap.specs.Pass.{Run}
+use Rattle.ti_cap.specs.Pass.{Running}
 use Rattle.ti_expand.specs.State.{State, start}
-use Rattle.ti_expand.specs.Machine.{machine}
-use Rattle.ti_expand.specs.Mode.{seen}
-use Rattle.ti_expand.specs.Flat.{moved}
-use Rattle.ti_expand.proofs.Rest.{drop_further}
-use Rattle.ti_expand.specs.Underway.{IsUnderway}
-use Rattle.ti_expand.proofs.Loop.{underway_start, underway_height, underway_output, underway_ran, underway_end}
-use Rattle.ti_expand.proofs.Spellings.{less_left}
+use Rattle.ti_expand.specs.inner.Machine.{machine}
+use Rattle.ti_expand.specs.Mode.{mode_of}
+use Rattle.ti_expand.specs.Flat.{next_state}
+use Rattle.ti_expand.proofs.RestLemmas.{drop_further}
+use Rattle.ti_expand.specs.inner.Underway.{IsUnderway}
+use Rattle.ti_expand.proofs.UnderwayLemmas.{underway_start, underway_height, underway_output, underway_ran, underway_end}
+use Rattle.ti_expand.proofs.WrittenLemmas.{less_left}
 use Rattle.ti_expand.proofs.pass.run_tape.Goals as goal
 
 pub loop-token-init : goal.loop-token-init
 loop-token-init c =
     let a = c.args in
     let initial : State = start a.vars.now a.parameters.now in
-    let first : IsUnderway a.tape.left initial (length a.stack.now) (length a.out.now) a.tape.left Run initial 0 0 0 =
+    let first : IsUnderway a.tape.left initial (length a.stack.now) (length a.out.now) a.tape.left Running initial 0 0 0 =
     underway_start a.tape.left initial (length a.stack.now) (length a.out.now) refl c.requires in
     record { underway = rw (c.new-parameters.ensures, c.new-stack.ensures.empty, c.new-stack.ensures.low, c.start-run.ensures) first; slots = c.new-stack.ensures.room; within = rw c.start-run.ensures (omega arith); rest = refl }
 
@@ -23,7 +23,7 @@ pub meet-after-requires-clause-height : goal.meet-after-requires-clause-height
 meet-after-requires-clause-height c =
     let l = c.loop-token in
     let s : State = machine l.stack.slots.now l.stack.height l.vars l.parameters l.out l.run.written in
-    let high : length (moved Run c.in-Some.token s).stack ≤ length c.args.stack.now =
+    let high : length (next_state Running c.in-Some.token s).stack ≤ length c.args.stack.now =
     underway_height _ _ _ _ _ _ _ _ _ _ _ _ l.invariant.underway c.in-Some.ensures.order in
     omega (arith, high, l.invariant.slots)
 
@@ -31,7 +31,7 @@ pub meet-after-requires-clause-room : goal.meet-after-requires-clause-room
 meet-after-requires-clause-room c =
     let l = c.loop-token in
     let s : State = machine l.stack.slots.now l.stack.height l.vars l.parameters l.out l.run.written in
-    let long : length (moved Run c.in-Some.token s).output ≤ length c.args.out.now =
+    let long : length (next_state Running c.in-Some.token s).output ≤ length c.args.out.now =
     underway_output _ _ _ _ _ _ _ _ _ _ _ _ l.invariant.underway c.in-Some.ensures.order in
     omega (arith, long)
 
@@ -47,7 +47,7 @@ pass_over-requires c =
       state = _;
       highest = _;
       underway =
-          underway_ran _ _ _ _ _ _ _ _ _ _ _ m.new.stack.slots.now m.new.stack.height m.new.vars m.new.parameters m.new.out m.result.1 (seen m.result.0) m.new.stack.highest
+          underway_ran _ _ _ _ _ _ _ _ _ _ _ m.new.stack.slots.now m.new.stack.height m.new.vars m.new.parameters m.new.out m.result.1 (mode_of m.result.0) m.new.stack.highest
           l.invariant.underway c.in-Some.ensures.order m.ensures.mode m.ensures.state m.ensures.highest;
     }
 
@@ -62,7 +62,7 @@ loop-token-preserved c =
     let l = c.loop-token in
     let m = c.meet-after in
     let met =
-    underway_ran _ _ _ _ _ _ _ _ _ _ _ m.new.stack.slots.now m.new.stack.height m.new.vars m.new.parameters m.new.out m.result.1 (seen m.result.0) m.new.stack.highest
+    underway_ran _ _ _ _ _ _ _ _ _ _ _ m.new.stack.slots.now m.new.stack.height m.new.vars m.new.parameters m.new.out m.result.1 (mode_of m.result.0) m.new.stack.highest
     l.invariant.underway c.in-Some.ensures.order m.ensures.mode m.ensures.state m.ensures.highest in
     record {
       underway = rw c.pass_over.ensures.written (c.pass_over.ensures.onward _ _ _ _ _ _ met);

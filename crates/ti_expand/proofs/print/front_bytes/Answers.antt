@@ -1,4 +1,4 @@
-use Rattle.ti_expand.proofs.Fronts.{octal_front}
+use Rattle.ti_expand.proofs.OctalPrefixLemmas.{octal_front}
 use Rattle.ti_expand.proofs.print.front_bytes.Goals as goal
 
 pub returns-in-Octal : goal.returns-in-Octal

@@ -1,5 +1,5 @@
 use Rattle.std.proofs.Common.{length, ap, arith}
-use Rattle.ti_expand.proofs.Decimals.{decimal_digits-one, decimal_digits-two, decimal_digits-three}
+use Rattle.ti_expand.proofs.DecimalLemmas.{decimal_digits-one, decimal_digits-two, decimal_digits-three}
 use Rattle.ti_expand.proofs.print.put_decimal.Goals as goal
 
 pub returns-then-amount-lt10-clause-end : goal.returns-then-amount-lt10-clause-end

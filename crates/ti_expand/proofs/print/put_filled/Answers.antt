@@ -1,5 +1,5 @@
 use Rattle.std.proofs.Common.{rules, arith, ◌++◌, take, ap, sym, ◌∙◌}
-use Rattle.ti_expand.proofs.Fill.{zero_filled}
+use Rattle.ti_expand.proofs.FillLemmas.{zero_filled}
 use Rattle.ti_expand.proofs.print.put_filled.Goals as goal
 
 pub returns-then-is_none-clause-written : goal.returns-then-is_none-clause-written

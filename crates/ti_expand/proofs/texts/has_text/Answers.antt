@@ -1,6 +1,6 @@
 use Rattle.std.proofs.Common.{arith, sym}
 use Rattle.std.proofs.lemmas.Bool.{OnFalse_at}
-use Rattle.ti_expand.proofs.ParameterTexts.{short_more}
+use Rattle.ti_expand.proofs.AreShortLemmas.{short_more}
 use Rattle.ti_expand.proofs.texts.has_text.Goals as goal
 
 pub loop-value-preserved : goal.loop-value-preserved

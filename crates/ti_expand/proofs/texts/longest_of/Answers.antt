@@ -1,5 +1,5 @@
 use Rattle.std.proofs.Common.{arith}
-use Rattle.ti_expand.proofs.ParameterTexts.{short_more, first_too_long}
+use Rattle.ti_expand.proofs.AreShortLemmas.{short_more, first_too_long}
 use Rattle.ti_expand.proofs.texts.longest_of.Goals as goal
 
 pub loop-i-preserved : goal.loop-i-preserved

@@ -1,4 +1,4 @@
-use Rattle.ti_words.proofs.Naming.{inverse, one_name, one_place}
+use Rattle.ti_words.proofs.NamesLemmas.{inverse, one_name, one_place}
 use Rattle.ti_words.proofs.laws.names_stand_once.Goals as goal
 
 pub returns-clause-one_name : goal.returns-clause-one_name

@@ -1,5 +1,5 @@
 use Rattle.std.proofs.Common.{◌∙◌, sym}
-use Rattle.ti_words.proofs.Naming.{in_flags, in_numbers, in_texts, place_found_by, place_only_by}
+use Rattle.ti_words.proofs.NamesLemmas.{in_flags, in_numbers, in_texts, place_found_by, place_only_by}
 use Rattle.ti_words.proofs.names.find.Goals as goal
 
 -- among the flags

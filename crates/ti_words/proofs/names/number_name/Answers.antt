@@ -1,6 +1,6 @@
 use Rattle.std.proofs.Common.{◌∙◌}
 use Rattle.ti_words.specs.declared.Kind.TheVariants as kinds
-use Rattle.ti_words.proofs.Naming.{found_by, name_only}
+use Rattle.ti_words.proofs.NamesLemmas.{found_by, name_only}
 use Rattle.ti_words.proofs.names.number_name.Goals as goal
 
 pub returns-clause-found : goal.returns-clause-found

@@ -1,6 +1,6 @@
 use Rattle.std.proofs.Common.{ℕ, List, sym, subst}
 use Rattle.ti_cap.specs.Capability.{Spot, whole, IsWellFormed}
-use Rattle.ti_cap.proofs.Taped.{well_formed}
+use Rattle.ti_cap.proofs.IsTapeLemmas.{well_formed}
 use Rattle.ti_cap.proofs.parse.Capability.bound.Goals as goal
 
 pub bound_from-requires-clause-tree : goal.bound_from-requires-clause-tree

@@ -1,4 +1,4 @@
-use Rattle.ti_cap.proofs.Taped.{tape_start}
+use Rattle.ti_cap.proofs.IsTapeLemmas.{tape_start}
 use Rattle.ti_cap.proofs.parse.Tape.fresh.Goals as goal
 
 pub invariant_of-result : goal.invariant_of-result

@@ -1,7 +1,7 @@
 use Rattle.std.proofs.Common.{◌++◌, ◌+◌, drop, sym, ◌∙◌, ap, arith}
-use Rattle.ti_cap.specs.Reading.{token_read}
-use Rattle.ti_cap.proofs.Parsed.{from_place}
-use Rattle.ti_cap.proofs.Taped.{Next, tape_step, tape_never, tape_first}
+use Rattle.ti_cap.specs.inner.Reading.{token_read}
+use Rattle.ti_cap.proofs.IsRefusalLemmas.{from_place}
+use Rattle.ti_cap.proofs.IsTapeLemmas.{Next, tape_step, tape_never, tape_first}
 use Rattle.ti_cap.proofs.parse.Tape.token.Goals as goal
 
 pub overflow_add-self : goal.overflow_add-self

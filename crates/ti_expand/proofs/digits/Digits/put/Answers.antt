@@ -1,6 +1,6 @@
 use Rattle.std.proofs.Common.{◌≡◌, ◌+◌, length}
 use Rattle.ti_expand.specs.Printed.{digits_of}
-use Rattle.ti_expand.proofs.Rest.{drop_after}
+use Rattle.ti_expand.proofs.RestLemmas.{drop_after}
 use Rattle.ti_expand.proofs.digits.Digits.put.Goals as goal
 
 pub returns-clause-rest : goal.returns-clause-rest

@@ -1,0 +1,216 @@
+-- The greatest measure over the paths of a tree is the one that is kept in one pass over its tokens.
+use Rattle.std.proofs.Common.{◌≡◌, ℕ, zero, suc, ◌<◌, ◌≤◌, ◌⊎◌, inl, inr, max, List, [], ◌∷◌, ◌++◌, refl, sym, ◌∙◌, ap, subst, arith, Bool, true, false, cond}
+use Rattle.std.proofs.lemmas.List.{append-nil}
+use Rattle.std.specs.Prelude.{Some}
+use Rattle.ti_cap.specs.declared.language.Token.{Token}
+use Rattle.ti_cap.specs.declared.language.Token.TheVariants.{CondThen, CondElse}
+use Rattle.ti_cap.specs.Tree.{Sequence, tokens, IsTree}
+use Rattle.ti_cap.specs.Path.{Walk, path_of}
+use Rattle.ti_cap.specs.Pass.{Mode, Running, Past, next_mode, is_running, Passes, Until, ElseOrEnd, EndOnly}
+use Rattle.ti_cap.specs.Height.{IsGreatest, IsDepth, height, height_from, next_height}
+use Rattle.ti_cap.specs.declared.frame.Frame.{Frame}
+use Rattle.ti_cap.specs.inner.Analysis.{Progress, greater_of, greatest_of}
+use Rattle.ti_cap.proofs.PassesLemmas.{Over, walk_passes, Split, passes_split, passes-append}
+use Rattle.ti_cap.proofs.IsWalkLemmas.{Walked, walk_of}
+use Rattle.ti_cap.proofs.ProgressLemmas.{Act, value_of, Comes, comes_on, IsBest, Sums, waiting, greater_of-left, greater_of-right, greater_of_is, best_above, best_comes, is_met, after, path_of-snoc}
+
+top-above : (fs : List Frame) (y : ℕ) → y ≤ greatest_of fs y
+top-above [] y = omega arith
+top-above (f ∷ fs) y = omega (arith, top-above fs (greater_of f.done (greater_of f.failed y)), greater_of-right f.done (greater_of f.failed y), greater_of-right f.failed y)
+
+top_waiting : (b : Until) (fs : List Frame) (n x y : ℕ) → waiting b fs n ≡ Some x → x ≤ greatest_of fs y
+top_waiting b [] n x y e = absurd (cc)
+top_waiting b (f ∷ fs) (suc n) x y e = top_waiting b fs n x (greater_of f.done (greater_of f.failed y)) e
+top_waiting ElseOrEnd (f ∷ fs) zero x y e = omega (arith, top-above fs (greater_of f.done (greater_of f.failed y)), greater_of-right f.done (greater_of f.failed y), greater_of-left f.failed x y e)
+top_waiting EndOnly (f ∷ fs) zero x y e = omega (arith, top-above fs (greater_of f.done (greater_of f.failed y)), greater_of-left f.done x (greater_of f.failed y) e)
+
+-- the top is what runs or something that waits
+top_is : (fs : List Frame) (y : ℕ) → (greatest_of fs y ≡ y) ⊎ ((b : Until) × (n : ℕ) × (waiting b fs n ≡ Some (greatest_of fs y)))
+top_is [] y = inl refl
+top_is (f ∷ fs) y = elim (top_is fs (greater_of f.done (greater_of f.failed y))) [
+  | inr w ↦ inr (w.0, suc w.1, w.2)
+  | inl e ↦ elim (greater_of_is f.done (greater_of f.failed y)) [
+    | inr d ↦ inr (EndOnly, 0, d ∙ some (sym e))
+    | inl d ↦ elim (greater_of_is f.failed y) [
+      | inr g ↦ inr (ElseOrEnd, 0, g ∙ some (sym d ∙ sym e))
+      | inl g ↦ inl (e ∙ d ∙ g)
+    ]
+  ]
+]
+  where
+    some : {a b : ℕ} → a ≡ b → Some a ≡ Some b
+    some p = cc
+
+pub top_above : (act : Act) (before : List Token) (s : Progress) → Sums act before s → (m : Mode) (x : ℕ) → Comes act before m x → x ≤ greatest_of s.frames s.running
+top_above act before s sums Running x c = let h : IsBest act before Running (Some s.running) = sums Running in omega (arith, h.0 x c, top-above s.frames s.running)
+top_above act before s sums (Past b n) x c =
+    let r : (y : ℕ) × (waiting b s.frames n ≡ Some y) × (x ≤ y) = best_above act before (Past b n) (waiting b s.frames n) x (sums (Past b n)) c in
+    omega (arith, r.2, top_waiting b s.frames n r.0 s.running r.1)
+
+pub top_comes : (act : Act) (before : List Token) (s : Progress) → Sums act before s → (m : Mode) × Comes act before m (greatest_of s.frames s.running)
+top_comes act before s sums = elim (top_is s.frames s.running) [
+  | inl e ↦ let h : IsBest act before Running (Some s.running) = sums Running in (Running, (let P : ℕ → Type 0 = λ x. Comes act before Running x in subst P (sym e) h.1))
+  | inr w ↦ (Past w.0 w.1, best_comes act before (Past w.0 w.1) (waiting w.0 s.frames w.1) _ w.2 (sums (Past w.0 w.1)))
+]
+
+-- the greatest final value over the paths
+pub greatest_value : (act : Act) (tree : Sequence) (s : Progress) (measure : List Token → ℕ) → IsTree tree → ((path : List Token) → value_of act 0 path ≡ measure path)
+    → Sums act (tokens tree) s → IsGreatest tree measure (greatest_of s.frames s.running)
+greatest_value act tree s measure formed is sums = record {
+  above_all = λ path p.
+      let o : Over true Running (tokens tree) p.0 = walk_passes true tree p.0 formed p.1 in
+      let low : value_of act 0 (path_of p.0 (tokens tree)) ≤ greatest_of s.frames s.running = top_above act (tokens tree) s sums o.to _ (record { walk = p.0; passes = o.passes; value = refl }) in
+      let e : measure path ≡ value_of act 0 (path_of p.0 (tokens tree)) = ap measure p.2 ∙ sym (is _) in
+      omega arith;
+  reached =
+      let c : (m : Mode) × Comes act (tokens tree) m (greatest_of s.frames s.running) = top_comes act (tokens tree) s sums in
+      let w : Walked true tree c.1.walk c.0 = walk_of true tree c.1.walk c.0 formed c.1.passes in
+      (path_of c.1.walk (tokens tree), (c.1.walk, w.walk, refl), sym (is _) ∙ c.1.value);
+}
+
+-- the greatest value on the way
+abbrev pub peak : Act → ℕ → List Token → ℕ
+peak act x [] = x
+peak act x (k ∷ ks) = max x (peak act (act x k) ks)
+
+peak-snoc : (act : Act) (x : ℕ) (a : List Token) (k : Token) → peak act x (a ++ k ∷ []) ≡ max (peak act x a) (act (value_of act x a) k)
+peak-snoc act x [] k = refl
+peak-snoc act x (l ∷ a) k = ap (λ y. max x y) (peak-snoc act (act x l) a k) ∙ omega arith
+
+pub value-le : (act : Act) (x : ℕ) (a : List Token) → value_of act x a ≤ peak act x a
+value-le act x [] = omega arith
+value-le act x (k ∷ a) = omega (arith, value-le act (act x k) a)
+
+-- no pass climbs above the height, and one climbs to it
+pub record Peaks (act : Act) (before : List Token) (d : ℕ) : Type 0 where
+  pub above_all : (m : Mode) (w : Walk) → Passes Running before w m → peak act 0 (path_of w before) ≤ d
+  pub mode : Mode
+  pub walk : Walk
+  pub passes : Passes Running before walk mode
+  pub is : peak act 0 (path_of walk before) ≡ d
+
+-- a token of a conditional raises no value
+abbrev pub IsFlat : Act → Type 0
+IsFlat act = ((x : ℕ) → act x CondThen ≤ x) × ((x : ℕ) → act x CondElse ≤ x)
+
+falls : (act : Act) (k : Token) (f : Bool) (x : ℕ) → IsFlat act → (next_mode Running k f ≡ Running) ⊎ (act x k ≤ x)
+falls act CondThen true x flat = inr (flat.0 x)
+falls act CondElse f x flat = inr (flat.1 x)
+falls act CondThen false x flat = inl refl
+falls act _ f x flat = inl refl
+
+peak-mark : (act : Act) (a : List Token) (k : Token) (b : Bool) → peak act 0 (a ++ cond b (k ∷ []) []) ≡ cond b (max (peak act 0 a) (act (value_of act 0 a) k)) (peak act 0 a)
+peak-mark act a k true = peak-snoc act 0 a k
+peak-mark act a k false = ap (λ x. peak act 0 x) (append-nil a)
+
+pub peaks_start : (act : Act) → Peaks act [] 0
+peaks_start act = record {
+  above_all = λ m w p. nothing w;
+  mode = Running;
+  walk = [];
+  passes = (refl, refl);
+  is = refl;
+}
+  where
+    nothing : (w : Walk) → peak act 0 (path_of w []) ≤ 0
+    nothing [] = omega arith
+    nothing (b ∷ w) = omega arith
+
+pub peaks_step : (act : Act) (before : List Token) (k : Token) (d : ℕ) (s : Progress) → IsFlat act → Peaks act before d → Sums act (before ++ k ∷ []) s
+    → Peaks act (before ++ k ∷ []) (max d s.running)
+peaks_step act before k d s flat p sums = record {
+  above_all = above;
+  mode = (best_walk (low_or_high d s.running)).0;
+  walk = (best_walk (low_or_high d s.running)).1;
+  passes = (best_walk (low_or_high d s.running)).2;
+  is = (best_walk (low_or_high d s.running)).3;
+}
+  where
+    low_or_high : (a b : ℕ) → (b ≤ a) ⊎ (a < b)
+    low_or_high a b = grind arith
+
+    closes : (old new d now : ℕ) → now ≤ d → old ≡ d → {c : ℕ} → old ≤ c → new ≡ c → new ≤ max d now → new ≡ max d now
+    closes old new d now h e {c} low is high = omega arith
+
+    here : IsBest act (before ++ k ∷ []) Running (Some s.running)
+    here = sums Running
+
+    is_run_true : (m : Mode) → is_running m ≡ true → m ≡ Running
+    is_run_true Running e = refl
+    is_run_true (Past b n) e = absurd (cc)
+
+    to_run : (source : Mode) (f : Bool) (v : ℕ) → Comes act before source v → is_met source k f ≡ true → next_mode source k f ≡ Running → act v k ≤ s.running
+    to_run source f v c b e =
+        let P : Mode → Type 0 = λ y. Comes act (before ++ k ∷ []) y (after act source k f v) in
+        let up : after act source k f v ≤ s.running = here.0 _ (subst P e (comes_on act before k source f v c)) in
+        let is : after act source k f v ≡ act v k = ap (λ y. cond y (act v k) v) b in
+        omega arith
+
+    met_low : (source : Mode) (f : Bool) (v : ℕ) → Comes act before source v → v ≤ d → is_met source k f ≡ true → act v k ≤ max d s.running
+    met_low Running f v c h b = elim (falls act k f v flat) [ inl e ↦ omega (arith, to_run Running f v c b e) | inr le ↦ omega arith ]
+    met_low (Past x n) f v c h b = omega (arith, to_run (Past x n) f v c b (is_run_true (next_mode (Past x n) k f) b))
+
+    cond-le : (b : Bool) (x y z : ℕ) → x ≤ z → (b ≡ true → y ≤ z) → cond b (max x y) x ≤ z
+    cond-le true x y z h g = let q : y ≤ z = g refl in omega arith
+    cond-le false x y z h g = h
+
+    cond-ge : (b : Bool) (x y : ℕ) → x ≤ cond b (max x y) x
+    cond-ge true x y = omega arith
+    cond-ge false x y = omega arith
+
+    above : (m : Mode) (w : Walk) → Passes Running (before ++ k ∷ []) w m → peak act 0 (path_of w (before ++ k ∷ [])) ≤ max d s.running
+    above m w q =
+        let c : Split before (k ∷ []) Running m w = passes_split before (k ∷ []) Running m w q in
+        let f : Bool = c.second.0 in
+        let back : c.back ≡ is_met c.between k f ∷ [] = c.second.2 ∙ ap (λ y. is_met c.between k f ∷ y) c.second.3.0 in
+        let e : path_of w (before ++ k ∷ []) ≡ path_of c.front before ++ cond (is_met c.between k f) (k ∷ []) [] =
+        ap (λ y. path_of y (before ++ k ∷ [])) (c.joined ∙ ap (λ y. c.front ++ y) back) ∙ path_of-snoc before Running c.between c.front k (is_met c.between k f) c.first in
+        let old : peak act 0 (path_of c.front before) ≤ d = p.above_all c.between c.front c.first in
+        let low : value_of act 0 (path_of c.front before) ≤ d = omega (arith, value-le act 0 (path_of c.front before), old) in
+        let all : cond (is_met c.between k f) (max (peak act 0 (path_of c.front before)) (act (value_of act 0 (path_of c.front before)) k)) (peak act 0 (path_of c.front before)) ≤ max d s.running =
+        cond-le (is_met c.between k f) _ _ _ (omega arith)
+        (λ b. met_low c.between f (value_of act 0 (path_of c.front before)) (record { walk = c.front; passes = c.first; value = refl }) low b) in
+        rw e (rw (peak-mark act (path_of c.front before) k (is_met c.between k f)) all)
+
+    best_walk : (s.running ≤ d) ⊎ (d < s.running) → (m : Mode) × (w : Walk) × Passes Running (before ++ k ∷ []) w m × (peak act 0 (path_of w (before ++ k ∷ [])) ≡ max d s.running)
+    best_walk (inl h) =
+        let w : Walk = p.walk ++ is_met p.mode k false ∷ [] in
+        let q : Passes Running (before ++ k ∷ []) w (next_mode p.mode k false) =
+        passes-append before (k ∷ []) Running p.mode (next_mode p.mode k false) p.walk (is_met p.mode k false ∷ []) p.passes (false, [], refl, (refl, refl)) in
+        let e : peak act 0 (path_of w (before ++ k ∷ [])) ≡ cond (is_met p.mode k false) (max (peak act 0 (path_of p.walk before)) (act (value_of act 0 (path_of p.walk before)) k)) (peak act 0 (path_of p.walk before)) =
+        ap (λ y. peak act 0 y) (path_of-snoc before Running p.mode p.walk k (is_met p.mode k false) p.passes) ∙ peak-mark act (path_of p.walk before) k (is_met p.mode k false) in
+        let low : peak act 0 (path_of p.walk before) ≤ cond (is_met p.mode k false) (max (peak act 0 (path_of p.walk before)) (act (value_of act 0 (path_of p.walk before)) k)) (peak act 0 (path_of p.walk before)) =
+        cond-ge (is_met p.mode k false) _ _ in
+        let high : peak act 0 (path_of w (before ++ k ∷ [])) ≤ max d s.running = above _ w q in
+        (next_mode p.mode k false, w, q, closes _ _ d s.running h p.is low e high)
+    best_walk (inr h) =
+        let c : Comes act (before ++ k ∷ []) Running s.running = here.1 in
+        let high : peak act 0 (path_of c.walk (before ++ k ∷ [])) ≤ max d s.running = above Running c.walk c.passes in
+        let low : value_of act 0 (path_of c.walk (before ++ k ∷ [])) ≤ peak act 0 (path_of c.walk (before ++ k ∷ [])) = value-le act 0 _ in
+        (Running, c.walk, c.passes, tops _ _ d s.running h c.value low high)
+      where
+        tops : (v u d now : ℕ) → d < now → v ≡ now → v ≤ u → u ≤ max d now → u ≡ max d now
+        tops v u d now h e low high = omega arith
+
+height-peak : (x : ℕ) (path : List Token) → peak next_height x path ≡ height_from x path
+height-peak x [] = refl
+height-peak x (k ∷ path) = ap (λ y. max x y) (height-peak (next_height x k) path)
+
+-- the depth of a tree
+pub depth_is : (tree : Sequence) (d : ℕ) → IsTree tree → Peaks next_height (tokens tree) d → IsDepth tree d
+depth_is tree d formed p = record {
+  above_all = λ path q.
+      let o : Over true Running (tokens tree) q.0 = walk_passes true tree q.0 formed q.1 in
+      let low : peak next_height 0 (path_of q.0 (tokens tree)) ≤ d = p.above_all o.to q.0 o.passes in
+      let e : height path ≡ peak next_height 0 (path_of q.0 (tokens tree)) = ap height q.2 ∙ sym (height-peak 0 (path_of q.0 (tokens tree))) in
+      omega arith;
+  reached =
+      let w : Walked true tree p.walk p.mode = walk_of true tree p.walk p.mode formed p.passes in
+      (path_of p.walk (tokens tree), (p.walk, w.walk, refl), sym (height-peak 0 (path_of p.walk (tokens tree))) ∙ p.is);
+}
+
+pub height_rising : (k : Token) (x y : ℕ) → x ≤ y → next_height x k ≤ next_height y k
+height_rising k x y h = omega arith
+
+pub height_flat : IsFlat next_height
+height_flat = ((λ x. omega arith), (λ x. omega arith))

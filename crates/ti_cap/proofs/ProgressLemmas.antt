@@ -1,0 +1,408 @@
+-- The greatest value with which a pass can come to each mode, kept for the modes of the open conditionals.
+use Rattle.std.proofs.Common.{◌≡◌, ℕ, zero, suc, ◌≤◌, ◌⊎◌, inl, inr, max, List, [], ◌∷◌, ◌++◌, refl, sym, ◌∙◌, ap, subst, arith, Bool, true, false, ◌||◌, cond}
+use Rattle.std.specs.Prelude.{Option, Some, None}
+use Rattle.ti_cap.specs.declared.language.Token.{Token}
+use Rattle.ti_cap.specs.declared.language.Token.TheVariants.{CondOpen, CondThen, CondElse, CondClose}
+use Rattle.ti_cap.specs.Tree.{IsSimple}
+use Rattle.ti_cap.specs.Path.{Walk, path_of}
+use Rattle.ti_cap.specs.Pass.{Mode, Running, Past, next_mode, is_running, Passes, Until, ElseOrEnd, EndOnly}
+use Rattle.ti_cap.specs.declared.frame.Frame.{Frame}
+use Rattle.ti_cap.specs.inner.Analysis.{Progress, greater_of}
+use Rattle.ti_cap.proofs.PassesLemmas.{Split, passes_split, passes-append}
+
+-- how a token that is met changes a value
+abbrev pub Act : Type 0
+Act = ℕ → Token → ℕ
+
+-- the value after the tokens
+abbrev pub value_of : Act → ℕ → List Token → ℕ
+value_of act x [] = x
+value_of act x (k ∷ ks) = value_of act (act x k) ks
+
+abbrev pub is_met : Mode → Token → Bool → Bool
+is_met m k fails = is_running m || is_running (next_mode m k fails)
+
+-- the value after a token that is met or passed over
+abbrev pub after : Act → Mode → Token → Bool → ℕ → ℕ
+after act m k fails x = cond (is_met m k fails) (act x k) x
+
+-- some pass over the tokens comes to the mode with the value
+pub record Comes (act : Act) (before : List Token) (m : Mode) (x : ℕ) : Type 0 where
+  pub walk : Walk
+  pub passes : Passes Running before walk m
+  pub value : value_of act 0 (path_of walk before) ≡ x
+
+-- where a token more comes from
+pub record From (act : Act) (before : List Token) (k : Token) (m : Mode) (x : ℕ) : Type 0 where
+  pub source : Mode
+  pub fails : Bool
+  pub old : ℕ
+  pub comes : Comes act before source old
+  pub leads : next_mode source k fails ≡ m
+  pub gives : x ≡ after act source k fails old
+
+pub value_of-append : (act : Act) (x : ℕ) (a b : List Token) → value_of act x (a ++ b) ≡ value_of act (value_of act x a) b
+value_of-append act x [] b = refl
+value_of-append act x (k ∷ a) b = value_of-append act (act x k) a b
+
+-- what a walk and one mark more meet of the tokens and one more
+pub path_of-snoc : (ks : List Token) (m o : Mode) (w : Walk) (k : Token) (mark : Bool) → Passes m ks w o
+    → path_of (w ++ mark ∷ []) (ks ++ k ∷ []) ≡ path_of w ks ++ cond mark (k ∷ []) []
+path_of-snoc [] m o w k mark p = rw p.0 (one mark)
+  where
+    one : (mark : Bool) → path_of (mark ∷ []) (k ∷ []) ≡ cond mark (k ∷ []) []
+    one true = refl
+    one false = refl
+path_of-snoc (l ∷ ks) m o w k mark (fails, more, e, p) =
+    rw e (both (is_running m || is_running (next_mode m l fails)) (path_of-snoc ks (next_mode m l fails) o more k mark p))
+  where
+    both : (b : Bool) → path_of (more ++ mark ∷ []) (ks ++ k ∷ []) ≡ path_of more ks ++ cond mark (k ∷ []) []
+        → path_of (b ∷ (more ++ mark ∷ [])) (l ∷ (ks ++ k ∷ [])) ≡ path_of (b ∷ more) (l ∷ ks) ++ cond mark (k ∷ []) []
+    both true h = ap (λ x. l ∷ x) h
+    both false h = h
+
+value-mark : (act : Act) (x : ℕ) (k : Token) (mark : Bool) → value_of act x (cond mark (k ∷ []) []) ≡ cond mark (act x k) x
+value-mark act x k true = refl
+value-mark act x k false = refl
+
+pub comes_on : (act : Act) (before : List Token) (k : Token) (m : Mode) (fails : Bool) (x : ℕ) → Comes act before m x
+    → Comes act (before ++ k ∷ []) (next_mode m k fails) (after act m k fails x)
+comes_on act before k m fails x c = record {
+  walk = c.walk ++ is_met m k fails ∷ [];
+  passes = passes-append before (k ∷ []) Running m (next_mode m k fails) c.walk (is_met m k fails ∷ []) c.passes (fails, [], refl, (refl, refl));
+  value = ap (λ y. value_of act 0 y) (path_of-snoc before Running m c.walk k (is_met m k fails) c.passes)
+      ∙ value_of-append act 0 (path_of c.walk before) (cond (is_met m k fails) (k ∷ []) [])
+      ∙ value-mark act (value_of act 0 (path_of c.walk before)) k (is_met m k fails)
+      ∙ ap (λ y. cond (is_met m k fails) (act y k) y) c.value;
+}
+
+pub comes_from : (act : Act) (before : List Token) (k : Token) (m : Mode) (x : ℕ) → Comes act (before ++ k ∷ []) m x → From act before k m x
+comes_from act before k m x c =
+    let s : Split before (k ∷ []) Running m c.walk = passes_split before (k ∷ []) Running m c.walk c.passes in
+    let fails : Bool = s.second.0 in
+    let back : s.back ≡ is_met s.between k fails ∷ [] = s.second.2 ∙ ap (λ y. is_met s.between k fails ∷ y) s.second.3.0 in
+    record {
+      source = s.between;
+      fails = fails;
+      old = value_of act 0 (path_of s.front before);
+      comes = record { walk = s.front; passes = s.first; value = refl };
+      leads = sym s.second.3.1;
+      gives = sym c.value
+          ∙ ap (λ y. value_of act 0 (path_of y (before ++ k ∷ []))) (s.joined ∙ ap (λ y. s.front ++ y) back)
+          ∙ ap (λ y. value_of act 0 y) (path_of-snoc before Running s.between s.front k (is_met s.between k fails) s.first)
+          ∙ value_of-append act 0 (path_of s.front before) (cond (is_met s.between k fails) (k ∷ []) [])
+          ∙ value-mark act (value_of act 0 (path_of s.front before)) k (is_met s.between k fails);
+    }
+
+-- the greatest value that comes, or none where none does
+abbrev pub IsBest : Act → List Token → Mode → Option ℕ → Type 0
+IsBest act before m None = (x : ℕ) → ¬ Comes act before m x
+IsBest act before m (Some v) = ((x : ℕ) → Comes act before m x → x ≤ v) × Comes act before m v
+
+abbrev pub waiting : Until → List Frame → ℕ → Option ℕ
+waiting b [] n = None
+waiting b (f ∷ fs) (suc n) = waiting b fs n
+waiting ElseOrEnd (f ∷ fs) zero = f.failed
+waiting EndOnly (f ∷ fs) zero = f.done
+
+abbrev pub best : Progress → Mode → Option ℕ
+best s Running = Some s.running
+best s (Past b n) = waiting b s.frames n
+
+-- the state is the greatest value of each mode
+abbrev pub Sums : Act → List Token → Progress → Type 0
+Sums act before s = (m : Mode) → IsBest act before m (best s m)
+
+-- an action that keeps the order
+abbrev pub IsRising : Act → Type 0
+IsRising act = (k : Token) (x y : ℕ) → x ≤ y → act x k ≤ act y k
+
+-- a mode that is reached from one mode alone, whose tokens are passed over
+keep : (act : Act) (before : List Token) (k : Token) (m n : Mode) (fails : Bool) → next_mode m k fails ≡ n → is_running m ≡ false → is_running n ≡ false
+    → ((source : Mode) (f : Bool) → next_mode source k f ≡ n → source ≡ m)
+    → (v : Option ℕ) → IsBest act before m v → IsBest act (before ++ k ∷ []) n v
+keep act before k m n fails leads past past' only v h = all v h
+  where
+    unmet : (f : Bool) → next_mode m k f ≡ n → (x : ℕ) → after act m k f x ≡ x
+    unmet f e x = ap (λ b. cond (b || is_running (next_mode m k f)) (act x k) x) past ∙ ap (λ b. cond b (act x k) x) (ap is_running e ∙ past')
+
+    back : (x : ℕ) → Comes act (before ++ k ∷ []) n x → Comes act before m x
+    back x c =
+        let r : From act before k n x = comes_from act before k n x c in
+        let is : r.source ≡ m = only r.source r.fails r.leads in
+        let P : Mode → Type 0 = λ y. Comes act before y r.old in
+        let Q : ℕ → Type 0 = λ y. Comes act before m y in
+        let L : Mode → Type 0 = λ y. next_mode y k r.fails ≡ n in
+        subst Q (sym (r.gives ∙ ap (λ y. after act y k r.fails r.old) is ∙ unmet r.fails (subst L is r.leads) r.old)) (subst P is r.comes)
+
+    on : (x : ℕ) → Comes act before m x → Comes act (before ++ k ∷ []) n x
+    on x c =
+        let P : Mode → Type 0 = λ y. Comes act (before ++ k ∷ []) y x in
+        let Q : ℕ → Type 0 = λ y. Comes act (before ++ k ∷ []) (next_mode m k fails) y in
+        subst P leads (subst Q (unmet fails leads x) (comes_on act before k m fails x c))
+
+    all : (v : Option ℕ) → IsBest act before m v → IsBest act (before ++ k ∷ []) n v
+    all None h = λ x c. h x (back x c)
+    all (Some y) h = ((λ x c. h.0 x (back x c)), on y h.1)
+
+-- a mode that is not reached
+dead : (act : Act) (before : List Token) (k : Token) (n : Mode) → ((source : Mode) (f : Bool) → next_mode source k f ≡ n → ⊥)
+    → IsBest act (before ++ k ∷ []) n None
+dead act before k n never = λ x c. let r : From act before k n x = comes_from act before k n x c in never r.source r.fails r.leads
+
+-- a mode that is reached from one mode alone, by a token that is met
+move : (act : Act) (before : List Token) (k : Token) (m n : Mode) (fails : Bool) (v : ℕ) → IsRising act → next_mode m k fails ≡ n
+    → ((f : Bool) → next_mode m k f ≡ n → is_met m k f ≡ true)
+    → ((source : Mode) (f : Bool) (x : ℕ) → Comes act before source x → next_mode source k f ≡ n → source ≡ m)
+    → IsBest act before m (Some v) → IsBest act (before ++ k ∷ []) n (Some (act v k))
+move act before k m n fails v rising leads meets only h = (upper, reach)
+  where
+    acts : (f : Bool) → next_mode m k f ≡ n → (x : ℕ) → after act m k f x ≡ act x k
+    acts f e x = ap (λ b. cond b (act x k) x) (meets f e)
+
+    upper : (x : ℕ) → Comes act (before ++ k ∷ []) n x → x ≤ act v k
+    upper x c =
+        let r : From act before k n x = comes_from act before k n x c in
+        let is : r.source ≡ m = only r.source r.fails r.old r.comes r.leads in
+        let P : Mode → Type 0 = λ y. Comes act before y r.old in
+        let L : Mode → Type 0 = λ y. next_mode y k r.fails ≡ n in
+        let low : act r.old k ≤ act v k = rising k r.old v (h.0 r.old (subst P is r.comes)) in
+        let e : x ≡ act r.old k = r.gives ∙ ap (λ y. after act y k r.fails r.old) is ∙ acts r.fails (subst L is r.leads) r.old in
+        omega arith
+
+    reach : Comes act (before ++ k ∷ []) n (act v k)
+    reach =
+        let P : Mode → Type 0 = λ y. Comes act (before ++ k ∷ []) y (act v k) in
+        let Q : ℕ → Type 0 = λ y. Comes act (before ++ k ∷ []) (next_mode m k fails) y in
+        subst P leads (subst Q (acts fails leads v) (comes_on act before k m fails v h.1))
+
+run_simple : (k : Token) (f : Bool) → IsSimple k → next_mode Running k f ≡ Running
+run_simple CondOpen f h = absurd h
+run_simple CondThen f h = absurd h
+run_simple CondElse f h = absurd h
+run_simple CondClose f h = absurd h
+run_simple _ f h = refl
+
+past_simple : (b : Until) (n : ℕ) (k : Token) (f : Bool) → IsSimple k → next_mode (Past b n) k f ≡ Past b n
+past_simple b n CondOpen f h = absurd h
+past_simple b n CondThen f h = absurd h
+past_simple b n CondElse f h = absurd h
+past_simple b n CondClose f h = absurd h
+past_simple b n _ f h = refl
+
+simple_only : (m : Mode) (k : Token) (f : Bool) → IsSimple k → next_mode m k f ≡ m
+simple_only Running k f h = run_simple k f h
+simple_only (Past b n) k f h = past_simple b n k f h
+
+pub sums_simple : (act : Act) (before : List Token) (s : Progress) (k : Token) → IsRising act → IsSimple k → Sums act before s
+    → Sums act (before ++ k ∷ []) (record { running = act s.running k; frames = s.frames })
+sums_simple act before s k rising h sums Running =
+    move act before k Running Running false s.running rising (run_simple k false h) (λ f e. refl)
+    (λ source f x c e. sym (simple_only source k f h) ∙ e) (sums Running)
+sums_simple act before s k rising h sums (Past b n) =
+    keep act before k (Past b n) (Past b n) false (past_simple b n k false h) refl refl
+    (λ source f e. sym (simple_only source k f h) ∙ e) (waiting b s.frames n) (sums (Past b n))
+
+pub sums_open : (act : Act) (before : List Token) (s : Progress) → IsRising act → Sums act before s
+    → Sums act (before ++ CondOpen ∷ []) (record { running = act s.running CondOpen; frames = record { failed = None; done = None } ∷ s.frames })
+sums_open act before s rising sums Running =
+    move act before CondOpen Running Running false s.running rising refl (λ f e. refl) (λ source f x c e. only source f e) (sums Running)
+  where
+    only : (source : Mode) (f : Bool) → next_mode source CondOpen f ≡ Running → source ≡ Running
+    only Running f e = refl
+    only (Past b n) f e = absurd (cc)
+sums_open act before s rising sums (Past b (suc n)) =
+    keep act before CondOpen (Past b n) (Past b (suc n)) false refl refl refl only (waiting b s.frames n) (sums (Past b n))
+  where
+    only : (source : Mode) (f : Bool) → next_mode source CondOpen f ≡ Past b (suc n) → source ≡ Past b n
+    only Running f e = absurd (cc)
+    only (Past c i) f e = cc
+sums_open act before s rising sums (Past ElseOrEnd zero) = dead act before CondOpen (Past ElseOrEnd zero) never
+  where
+    never : (source : Mode) (f : Bool) → next_mode source CondOpen f ≡ Past ElseOrEnd zero → ⊥
+    never Running f e = absurd (cc)
+    never (Past c i) f e = absurd (cc)
+sums_open act before s rising sums (Past EndOnly zero) = dead act before CondOpen (Past EndOnly zero) never
+  where
+    never : (source : Mode) (f : Bool) → next_mode source CondOpen f ≡ Past EndOnly zero → ⊥
+    never Running f e = absurd (cc)
+    never (Past c i) f e = absurd (cc)
+
+-- a `%t` where no test has failed at this level
+pub sums_then : (act : Act) (before : List Token) (now : ℕ) (f : Frame) (fs : List Frame) → IsRising act → f.failed ≡ None
+    → Sums act before (record { running = now; frames = f ∷ fs })
+    → Sums act (before ++ CondThen ∷ []) (record { running = act now CondThen; frames = record { failed = Some (act now CondThen); done = f.done } ∷ fs })
+sums_then act before now f fs rising none sums Running =
+    move act before CondThen Running Running false now rising refl (λ g e. refl) (λ source g x c e. only source g e) (sums Running)
+  where
+    only : (source : Mode) (g : Bool) → next_mode source CondThen g ≡ Running → source ≡ Running
+    only Running g e = refl
+    only (Past b n) g e = absurd (cc)
+sums_then act before now f fs rising none sums (Past b (suc n)) =
+    keep act before CondThen (Past b (suc n)) (Past b (suc n)) false refl refl refl only (waiting b fs n) (sums (Past b (suc n)))
+  where
+    only : (source : Mode) (g : Bool) → next_mode source CondThen g ≡ Past b (suc n) → source ≡ Past b (suc n)
+    only Running true e = absurd (cc)
+    only Running false e = absurd (cc)
+    only (Past c i) g e = e
+sums_then act before now f fs rising none sums (Past EndOnly zero) =
+    keep act before CondThen (Past EndOnly zero) (Past EndOnly zero) false refl refl refl only f.done (sums (Past EndOnly zero))
+  where
+    only : (source : Mode) (g : Bool) → next_mode source CondThen g ≡ Past EndOnly zero → source ≡ Past EndOnly zero
+    only Running true e = absurd (cc)
+    only Running false e = absurd (cc)
+    only (Past c i) g e = e
+sums_then act before now f fs rising none sums (Past ElseOrEnd zero) =
+    move act before CondThen Running (Past ElseOrEnd zero) true now rising refl (λ g e. refl) only (sums Running)
+  where
+    absent : IsBest act before (Past ElseOrEnd zero) None
+    absent = let P : Option ℕ → Type 0 = λ y. IsBest act before (Past ElseOrEnd zero) y in subst P none (sums (Past ElseOrEnd zero))
+
+    only : (source : Mode) (g : Bool) (x : ℕ) → Comes act before source x → next_mode source CondThen g ≡ Past ElseOrEnd zero → source ≡ Running
+    only Running g x c e = refl
+    only (Past d i) g x c e = let P : Mode → Type 0 = λ y. Comes act before y x in absurd (absent x (subst P e c))
+
+pub greater_of-right : (o : Option ℕ) (y : ℕ) → y ≤ greater_of o y
+greater_of-right None y = omega arith
+greater_of-right (Some x) y = omega arith
+
+pub greater_of-left : (o : Option ℕ) (x y : ℕ) → o ≡ Some x → x ≤ greater_of o y
+greater_of-left None x y e = absurd (cc)
+greater_of-left (Some z) x y e = let q : z ≡ x = cc in omega arith
+
+pub greater_of_is : (o : Option ℕ) (y : ℕ) → (greater_of o y ≡ y) ⊎ (o ≡ Some (greater_of o y))
+greater_of_is None y = inl refl
+greater_of_is (Some x) y = pick (max_is x y)
+  where
+    max_is : (a b : ℕ) → (max a b ≡ b) ⊎ (max a b ≡ a)
+    max_is a b = grind arith
+
+    pick : (max x y ≡ y) ⊎ (max x y ≡ x) → (max x y ≡ y) ⊎ (Some x ≡ Some (max x y))
+    pick (inl e) = inl e
+    pick (inr e) = inr (ap (λ z. some z) (sym e))
+      where
+        some : ℕ → Option ℕ
+        some z = Some z
+
+-- what comes is at most the best
+pub best_above : (act : Act) (before : List Token) (m : Mode) (v : Option ℕ) (x : ℕ) → IsBest act before m v → Comes act before m x → (y : ℕ) × (v ≡ Some y) × (x ≤ y)
+best_above act before m None x h c = absurd (h x c)
+best_above act before m (Some y) x h c = (y, refl, h.0 x c)
+
+pub best_comes : (act : Act) (before : List Token) (m : Mode) (v : Option ℕ) (y : ℕ) → v ≡ Some y → IsBest act before m v → Comes act before m y
+best_comes act before m v y e h = let P : Option ℕ → Type 0 = λ o. IsBest act before m o in let b : IsBest act before m (Some y) = subst P e h in b.1
+
+arrive : (act : Act) (before : List Token) (k : Token) (m n : Mode) (fails : Bool) (x y : ℕ) → next_mode m k fails ≡ n → after act m k fails x ≡ y
+    → Comes act before m x → Comes act (before ++ k ∷ []) n y
+arrive act before k m n fails x y leads gives c =
+    let P : Mode → Type 0 = λ z. Comes act (before ++ k ∷ []) z y in
+    let Q : ℕ → Type 0 = λ z. Comes act (before ++ k ∷ []) (next_mode m k fails) z in
+    subst P leads (subst Q gives (comes_on act before k m fails x c))
+
+-- a `%e` after a body: the test that failed goes on, and the body waits for the end
+pub sums_else : (act : Act) (before : List Token) (now x : ℕ) (f : Frame) (fs : List Frame) → IsRising act → f.failed ≡ Some x
+    → Sums act before (record { running = now; frames = f ∷ fs })
+    → Sums act (before ++ CondElse ∷ []) (record { running = act x CondElse; frames = record { failed = None; done = Some (greater_of f.done (act now CondElse)) } ∷ fs })
+sums_else act before now x f fs rising some sums Running =
+    move act before CondElse (Past ElseOrEnd zero) Running false x rising refl (λ g e. refl) (λ source g y c e. only source g e)
+    (let P : Option ℕ → Type 0 = λ y. IsBest act before (Past ElseOrEnd zero) y in subst P some (sums (Past ElseOrEnd zero)))
+  where
+    only : (source : Mode) (g : Bool) → next_mode source CondElse g ≡ Running → source ≡ Past ElseOrEnd zero
+    only Running g e = absurd (cc)
+    only (Past b (suc n)) g e = absurd (cc)
+    only (Past ElseOrEnd zero) g e = refl
+    only (Past EndOnly zero) g e = absurd (cc)
+sums_else act before now x f fs rising some sums (Past b (suc n)) =
+    keep act before CondElse (Past b (suc n)) (Past b (suc n)) false refl refl refl only (waiting b fs n) (sums (Past b (suc n)))
+  where
+    only : (source : Mode) (g : Bool) → next_mode source CondElse g ≡ Past b (suc n) → source ≡ Past b (suc n)
+    only Running g e = absurd (cc)
+    only (Past c (suc i)) g e = e
+    only (Past ElseOrEnd zero) g e = absurd (cc)
+    only (Past EndOnly zero) g e = absurd (cc)
+sums_else act before now x f fs rising some sums (Past ElseOrEnd zero) = dead act before CondElse (Past ElseOrEnd zero) never
+  where
+    never : (source : Mode) (g : Bool) → next_mode source CondElse g ≡ Past ElseOrEnd zero → ⊥
+    never Running g e = absurd (cc)
+    never (Past c (suc i)) g e = absurd (cc)
+    never (Past ElseOrEnd zero) g e = absurd (cc)
+    never (Past EndOnly zero) g e = absurd (cc)
+sums_else act before now x f fs rising some sums (Past EndOnly zero) = (upper, reach)
+  where
+    bounded : (source : Mode) (g : Bool) (old y : ℕ) → Comes act before source old → next_mode source CondElse g ≡ Past EndOnly zero → y ≡ after act source CondElse g old → y ≤ greater_of f.done (act now CondElse)
+    bounded Running g old y c e gives =
+        let h : IsBest act before Running (Some now) = sums Running in
+        let low : act old CondElse ≤ act now CondElse = rising CondElse old now (h.0 old c) in
+        omega (arith, greater_of-right f.done (act now CondElse))
+    bounded (Past b (suc i)) g old y c e gives = absurd (cc)
+    bounded (Past ElseOrEnd zero) g old y c e gives = absurd (cc)
+    bounded (Past EndOnly zero) g old y c e gives =
+        let r : (z : ℕ) × (f.done ≡ Some z) × (old ≤ z) = best_above act before (Past EndOnly zero) f.done old (sums (Past EndOnly zero)) c in
+        omega (arith, r.2, greater_of-left f.done r.0 (act now CondElse) r.1)
+
+    upper : (y : ℕ) → Comes act (before ++ CondElse ∷ []) (Past EndOnly zero) y → y ≤ greater_of f.done (act now CondElse)
+    upper y c =
+        let r : From act before CondElse (Past EndOnly zero) y = comes_from act before CondElse (Past EndOnly zero) y c in
+        bounded r.source r.fails r.old y r.comes r.leads r.gives
+
+    reach : Comes act (before ++ CondElse ∷ []) (Past EndOnly zero) (greater_of f.done (act now CondElse))
+    reach = elim (greater_of_is f.done (act now CondElse)) [
+      | inl e ↦ let h : IsBest act before Running (Some now) = sums Running in arrive act before CondElse Running (Past EndOnly zero) false now _ refl (sym e) h.1
+      | inr e ↦ arrive act before CondElse (Past EndOnly zero) (Past EndOnly zero) false _ _ refl refl (best_comes act before (Past EndOnly zero) f.done _ e (sums (Past EndOnly zero)))
+    ]
+
+-- a `%;`: what ran, what failed last and what waits go on together
+pub sums_close : (act : Act) (before : List Token) (now : ℕ) (f : Frame) (fs : List Frame) → IsRising act
+    → Sums act before (record { running = now; frames = f ∷ fs })
+    → Sums act (before ++ CondClose ∷ []) (record { running = act (greater_of f.done (greater_of f.failed now)) CondClose; frames = fs })
+sums_close act before now f fs rising sums (Past b n) =
+    keep act before CondClose (Past b (suc n)) (Past b n) false refl refl refl only (waiting b fs n) (sums (Past b (suc n)))
+  where
+    only : (source : Mode) (g : Bool) → next_mode source CondClose g ≡ Past b n → source ≡ Past b (suc n)
+    only Running g e = absurd (cc)
+    only (Past c (suc i)) g e = cc
+    only (Past c zero) g e = absurd (cc)
+sums_close act before now f fs rising sums Running = (upper, reach)
+  where
+    all : ℕ
+    all = greater_of f.done (greater_of f.failed now)
+
+    bounded : (source : Mode) (g : Bool) (old y : ℕ) → Comes act before source old → next_mode source CondClose g ≡ Running → y ≡ after act source CondClose g old → y ≤ act (greater_of f.done (greater_of f.failed now)) CondClose
+    bounded Running g old y c e gives =
+        let h : IsBest act before Running (Some now) = sums Running in
+        let low : act old CondClose ≤ act (greater_of f.done (greater_of f.failed now)) CondClose =
+        rising CondClose old _ (omega (arith, h.0 old c, greater_of-right f.failed now, greater_of-right f.done (greater_of f.failed now))) in
+        omega arith
+    bounded (Past b (suc i)) g old y c e gives = absurd (cc)
+    bounded (Past ElseOrEnd zero) g old y c e gives =
+        let r : (z : ℕ) × (f.failed ≡ Some z) × (old ≤ z) = best_above act before (Past ElseOrEnd zero) f.failed old (sums (Past ElseOrEnd zero)) c in
+        let low : act old CondClose ≤ act (greater_of f.done (greater_of f.failed now)) CondClose =
+        rising CondClose old _ (omega (arith, r.2, greater_of-left f.failed r.0 now r.1, greater_of-right f.done (greater_of f.failed now))) in
+        omega arith
+    bounded (Past EndOnly zero) g old y c e gives =
+        let r : (z : ℕ) × (f.done ≡ Some z) × (old ≤ z) = best_above act before (Past EndOnly zero) f.done old (sums (Past EndOnly zero)) c in
+        let low : act old CondClose ≤ act (greater_of f.done (greater_of f.failed now)) CondClose =
+        rising CondClose old _ (omega (arith, r.2, greater_of-left f.done r.0 (greater_of f.failed now) r.1)) in
+        omega arith
+
+    upper : (y : ℕ) → Comes act (before ++ CondClose ∷ []) Running y → y ≤ act (greater_of f.done (greater_of f.failed now)) CondClose
+    upper y c =
+        let r : From act before CondClose Running y = comes_from act before CondClose Running y c in
+        bounded r.source r.fails r.old y r.comes r.leads r.gives
+
+    reach : Comes act (before ++ CondClose ∷ []) Running (act (greater_of f.done (greater_of f.failed now)) CondClose)
+    reach = elim (greater_of_is f.done (greater_of f.failed now)) [
+      | inr e ↦ arrive act before CondClose (Past EndOnly zero) Running false _ _ refl refl (best_comes act before (Past EndOnly zero) f.done _ e (sums (Past EndOnly zero)))
+      | inl d ↦ elim (greater_of_is f.failed now) [
+        | inr e ↦ arrive act before CondClose (Past ElseOrEnd zero) Running false _ _ refl (ap (λ x. act x CondClose) (sym d)) (best_comes act before (Past ElseOrEnd zero) f.failed _ e (sums (Past ElseOrEnd zero)))
+        | inl e ↦ let h : IsBest act before Running (Some now) = sums Running in arrive act before CondClose Running Running false now _ refl (ap (λ x. act x CondClose) (sym e ∙ sym d)) h.1
+      ]
+    ]
+
+pub sums_start : (act : Act) → Sums act [] (record { running = 0; frames = [] })
+sums_start act Running = ((λ x c. omega (arith, sym c.value, nothing c.walk)), record { walk = []; passes = (refl, refl); value = refl })
+  where
+    nothing : (w : Walk) → value_of act 0 (path_of w []) ≡ 0
+    nothing [] = refl
+    nothing (b ∷ w) = refl
+sums_start act (Past b n) = λ x c. let e : Past b n ≡ Running = c.passes.1 in absurd (cc)

@@ -1,0 +1,4 @@
+-- What private clauses alone cite.
+pub mod Analysis
+pub mod Scan
+pub mod Reading

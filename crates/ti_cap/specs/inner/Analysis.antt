@@ -1,0 +1,129 @@
+-- How the analysis goes on with each token; proofs/ ties it to the paths of a tree.
+use Rattle.std.specs.Prelude.{ℕ, ◌+◌, max, map, List, [], ◌∷◌, length, Option, Some, None, Bool, false, is_none, ◌&&◌, ◌||◌, nat_le, nat_lt, unwrap_or, if◌then◌else◌, fold}
+use Rattle.ti_base.specs.Limits.{most_open, most_values}
+use Rattle.ti_cap.specs.declared.language.Token.{Token}
+use Rattle.ti_cap.specs.declared.language.Token.TheVariants.{CondOpen, CondThen, CondElse, CondClose}
+use Rattle.ti_cap.specs.declared.language.CapFault.{CapFault}
+use Rattle.ti_cap.specs.declared.language.CapFault.TheVariants.{StrayThen, StrayElse, StrayEnd, NoThen, NestTooDeep, StackTooDeep}
+use Rattle.ti_cap.specs.declared.frame.Frame.{Frame}
+use Rattle.ti_cap.specs.Sizes.{token_size}
+use Rattle.ti_cap.specs.Height.{next_height}
+use Rattle.ti_cap.specs.Refusal.{Part, FirstTest, Body, Otherwise}
+
+-- the greatest value with which a pass runs here, and what waits in the open conditionals, innermost first
+pub record Progress : Type 0 where
+  pub running : ℕ
+  pub frames : List Frame
+
+-- the greater of what waits, if anything does, and another value
+abbrev pub greater_of : Option ℕ → ℕ → ℕ
+greater_of None y = y
+greater_of (Some x) y = max x y
+
+-- ---- parts
+
+abbrev pub part_by : Option ℕ → Option ℕ → Part
+part_by (Some x) other = Body
+part_by None None = FirstTest
+part_by None (Some y) = Otherwise
+
+-- the part of its conditional in which a frame's place lies
+abbrev pub part_of : Frame → Part
+part_of f = part_by f.failed f.done
+
+abbrev pub parts_of : List Frame → List Part
+parts_of frames = map part_of frames
+
+-- ---- one token more; `after` is what it makes of the value that runs
+
+abbrev pub progress_then : ℕ → List Frame → Progress
+progress_then after [] = record { running = after; frames = [] }
+progress_then after (f ∷ fs) = record { running = after; frames = record { failed = Some after; done = f.done } ∷ fs }
+
+abbrev pub progress_else : ℕ → List Frame → Progress
+progress_else after [] = record { running = after; frames = [] }
+progress_else after (f ∷ fs) =
+    record { running = unwrap_or f.failed after; frames = record { failed = None; done = Some (greater_of f.done after) } ∷ fs }
+
+abbrev pub progress_close : ℕ → List Frame → Progress
+progress_close after [] = record { running = after; frames = [] }
+progress_close after (f ∷ fs) = record { running = greater_of f.done (greater_of f.failed after); frames = fs }
+
+abbrev pub progress_open : ℕ → List Frame → Progress
+progress_open after fs = record { running = after; frames = record { failed = None; done = None } ∷ fs }
+
+abbrev pub next_progress : Progress → Token → ℕ → Progress
+next_progress s CondOpen after = progress_open after s.frames
+next_progress s CondThen after = progress_then after s.frames
+next_progress s CondElse after = progress_else after s.frames
+next_progress s CondClose after = progress_close after s.frames
+next_progress s token after = record { running = after; frames = s.frames }
+
+-- the greatest of what runs and what waits
+abbrev pub greatest_of : List Frame → ℕ → ℕ
+greatest_of frames y = fold (λ z f. greater_of f.done (greater_of f.failed z)) y frames
+
+-- whether some open conditional is in its first test
+abbrev pub is_in_test : Frame → Bool
+is_in_test f = is_none f.failed && is_none f.done
+
+abbrev pub are_in_test : List Frame → Bool
+are_in_test frames = fold (λ found f. found || is_in_test f) false frames
+
+-- ---- faults of a token by its place
+
+abbrev pub then_fault : List Part → Option CapFault
+then_fault (FirstTest ∷ parts) = None
+then_fault (Otherwise ∷ parts) = None
+then_fault _ = Some StrayThen
+
+abbrev pub else_fault : List Part → Option CapFault
+else_fault (Body ∷ parts) = None
+else_fault (FirstTest ∷ parts) = Some NoThen
+else_fault _ = Some StrayElse
+
+abbrev pub close_fault : List Part → Option CapFault
+close_fault [] = Some StrayEnd
+close_fault (FirstTest ∷ parts) = Some NoThen
+close_fault _ = None
+
+-- the fault of a token that may not stand in these parts
+abbrev pub place_fault : Token → List Part → Option CapFault
+place_fault CondOpen parts = if nat_lt (length parts) most_open then None else Some NestTooDeep
+place_fault CondThen parts = then_fault parts
+place_fault CondElse parts = else_fault parts
+place_fault CondClose parts = close_fault parts
+place_fault token parts = None
+
+-- ---- what parsing has found so far
+
+pub record Findings : Type 0 where
+  -- the heights of the stack
+  pub heights : Progress
+  -- the bytes written, where no text has any
+  pub sizes : Progress
+  pub depth : ℕ
+  pub nest : ℕ
+
+abbrev pub no_findings : Findings
+no_findings = record { heights = record { running = 0; frames = [] }; sizes = record { running = 0; frames = [] }; depth = 0; nest = 0 }
+
+abbrev pub findings_after : Findings → Token → Findings
+findings_after found token =
+    let heights = next_progress found.heights token (next_height found.heights.running token) in
+    record {
+      heights = heights;
+      sizes = next_progress found.sizes token (found.sizes.running + token_size 0 token);
+      depth = max found.depth heights.running;
+      nest = max found.nest (length heights.frames);
+    }
+
+abbrev pub first_fault : Option CapFault → Option CapFault → Option CapFault
+first_fault (Some fault) other = Some fault
+first_fault None other = other
+
+-- the fault of a token where parsing has come so far: by its place, or a height above the limit
+abbrev pub fault_of : Findings → Token → Option CapFault
+fault_of found token =
+    first_fault (place_fault token (parts_of found.heights.frames))
+    (if nat_le (next_height found.heights.running token) most_values then None else Some StackTooDeep)

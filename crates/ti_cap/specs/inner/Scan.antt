@@ -1,0 +1,62 @@
+-- What a scan has found, by its counts and the open conditionals.
+use Rattle.std.specs.Prelude.{ℕ, ◌≡◌, ◌+◌, ◌-◌, ◌≤◌, max, map, List, take, reverse, fold, Option, Some, None}
+use Rattle.ti_base.specs.Limits.{most_open}
+use Rattle.ti_cap.specs.declared.extent.Extent.{Extent}
+use Rattle.ti_cap.specs.declared.frame.Frame.{Frame}
+use Rattle.ti_cap.specs.declared.language.CapFault.{CapFault}
+use Rattle.ti_cap.specs.declared.language.CapFault.TheVariants.{NestTooDeep}
+use Rattle.ti_cap.specs.declared.scan.Open.{Open}
+use Rattle.ti_cap.specs.declared.scan.Scan.{Scan}
+use Rattle.ti_cap.specs.inner.Analysis.{Findings}
+
+abbrev pub height_of : Option Extent → Option ℕ
+height_of None = None
+height_of (Some e) = Some e.height
+
+abbrev pub size_of : Option Extent → Option ℕ
+size_of None = None
+size_of (Some e) = Some e.size
+
+-- the greater of what waits, if anything does, and another
+abbrev pub greater_extent : Option Extent → Extent → Extent
+greater_extent None e = e
+greater_extent (Some w) e = record { height = max w.height e.height; size = max w.size e.size }
+
+abbrev pub height_frame : Open → Frame
+height_frame o = record { failed = height_of o.failed; done = height_of o.done }
+
+abbrev pub size_frame : Open → Frame
+size_frame o = record { failed = size_of o.failed; done = size_of o.done }
+
+-- the open conditionals, innermost first
+abbrev pub innermost_first : ℕ → List Open → List Open
+innermost_first n opens = reverse (take n opens)
+
+abbrev pub findings_of : Scan → List Open → Findings
+findings_of s opens = record {
+  heights = record { running = s.here.height; frames = map height_frame (innermost_first s.nesting opens) };
+  sizes = record { running = s.here.size; frames = map size_frame (innermost_first s.nesting opens) };
+  depth = s.depth;
+  nest = s.nest;
+}
+
+-- the greatest of how far the paths have come and of what waits
+abbrev pub greatest_end : List Open → Extent → Extent
+greatest_end opens e = fold (λ here o. greater_extent o.done (greater_extent o.failed here)) e opens
+
+-- the greatest counts are no less than those of here, and there is room for the open conditionals
+pub record IsInOrder (room : ℕ) (s : Scan) : Type 0 where
+  pub high : s.here.height ≤ s.depth
+  pub many : s.nesting ≤ s.nest
+  pub few : s.nest ≤ room
+
+-- a fault that more room for open conditionals does not cure
+abbrev pub IsSure : ℕ → CapFault → Type 0
+IsSure room fault = fault ≡ NestTooDeep → room ≡ most_open
+
+-- the counts after values are popped and one is pushed
+abbrev pub after_push : Scan → ℕ → Scan
+after_push s popped = record s {
+  here = record s.here { height = s.here.height - popped + 1 };
+  depth = max s.depth (s.here.height - popped + 1);
+}

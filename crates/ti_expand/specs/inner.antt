@@ -1,0 +1,5 @@
+-- What private clauses alone cite.
+pub mod Underway
+pub mod Decimal
+pub mod Machine
+pub mod Running
