@@ -16,7 +16,7 @@ use Rattle.ti_words.specs.declared.Width.{Width}
 use Rattle.ti_words.specs.Texts.{TextValue, AbsentText, CancelledText, TextOf}
 use Rattle.ti_base.specs.Limits.{most_padded_bytes}
 use Rattle.ti_pad.specs.Setting.{Setting}
-use Rattle.ti_pad.specs.Padded.{padded}
+use Rattle.ti_pad.specs.Padded.{padded_text}
 use Rattle.ti_entry.specs.Canonical.{canonical}
 use Rattle.ti_entry.specs.Unfit.{encode_fault}
 use Rattle.ti_tool.specs.Checked.{AreVerdicts}
@@ -52,10 +52,10 @@ IsCapped parameters hex input (Err e) = IsUnexpanded input parameters e
 abbrev pub IsPadded : List ℕ → List Value → Setting → Bool → Result (List ℕ) ToolFault → Type 0
 IsPadded text parameters setting hex (Ok out) =
     (plain : List ℕ) × IsFaultless text × IsExpansion text parameters plain
-    × (length (padded plain setting) ≤ most_padded_bytes) × (out ≡ output_bytes hex (padded plain setting))
+    × (length (padded_text plain setting) ≤ most_padded_bytes) × (out ≡ output_bytes hex (padded_text plain setting))
 IsPadded text parameters setting hex (Err (fault.TooMuch need)) =
     (plain : List ℕ) × IsFaultless text × IsExpansion text parameters plain
-    × (need ≡ length (padded plain setting)) × (most_padded_bytes < need)
+    × (need ≡ length (padded_text plain setting)) × (most_padded_bytes < need)
 IsPadded text parameters setting hex (Err e) = IsUnexpanded text parameters e
 
 -- what is due for a text, or for none

@@ -7,18 +7,19 @@ use Rattle.std.specs.Str.{bytes_eq}
 use Rattle.std.proofs.lemmas.Bool.{and_from, and_parts, ne_eqb, not-true}
 use Rattle.std.proofs.lemmas.List.{drop_more, get_or_append_left}
 use Rattle.std.proofs.lemmas.List.Folds.{list_all-append}
+use Rattle.ti_base.specs.Letters.{letter}
 use Rattle.ti_pad.specs.Laws.{MarksLieApart}
-use Rattle.ti_pad.specs.Marks.{IsMark, Mark, all_flags, decimals_text, mark_at, spelled}
-use Rattle.ti_pad.specs.Written.{is_plain}
-use Rattle.ti_pad.proofs.Digits.{digit_bounds, list_all_get}
-use Rattle.ti_pad.proofs.Grammar.{listed}
-use Rattle.ti_pad.proofs.Stretches.{mark_at-plain}
+use Rattle.ti_pad.specs.Marks.{IsMark, Mark, all_flags, decimals_text, mark_at, mark_bytes}
+use Rattle.ti_pad.specs.inner.Stretch.{is_plain}
+use Rattle.ti_pad.proofs.DigitsValueLemmas.{digit_bounds, list_all_get}
+use Rattle.ti_pad.proofs.FindsMarksLemmas.{listed}
+use Rattle.ti_pad.proofs.PaddedTextLemmas.{mark_at-plain}
 
 plain_digits : (xs : List ℕ) → list_all is_ascii_digit xs ≡ true → list_all is_plain xs ≡ true
 plain_digits [] all = refl
 plain_digits (x ∷ xs) all =
     let (first, more) = and_parts (is_ascii_digit x) (list_all is_ascii_digit xs) all in
-    let other : eqb x 36 ≡ false = ne_eqb x 36 (λ e. let low : 48 ≤ x = (digit_bounds x first).0 in absurd (omega arith)) in
+    let other : eqb x (letter (codes "$")) ≡ false = ne_eqb x (letter (codes "$")) (λ e. let low : 48 ≤ x = (digit_bounds x first).0 in absurd (omega arith)) in
     rw other (plain_digits xs more)
 
 plain_decimals : (decimals : Option (List ℕ)) → list_all is_ascii_digit (unwrap_or decimals []) ≡ true → list_all is_plain (decimals_text decimals) ≡ true
@@ -31,20 +32,20 @@ plain_append xs ys p q = list_all-append is_plain xs ys ∙ and_from (list_all i
 plain_flags : (flags : List ℕ) → is_some (find (bytes_eq flags) all_flags) ≡ true → list_all is_plain (flags ++ codes ">") ≡ true
 plain_flags flags = listed (λ flags. list_all is_plain (flags ++ codes ">") ≡ true) flags refl refl refl refl refl
 
-plain_after : (m : Mark) → IsMark m → list_all is_plain (drop 1 (spelled m)) ≡ true
+plain_after : (m : Mark) → IsMark m → list_all is_plain (drop 1 (mark_bytes m)) ≡ true
 plain_after m is =
     plain_append m.whole _ (plain_digits m.whole is.whole) (plain_append (decimals_text m.decimals) _ (plain_decimals m.decimals is.decimals) (plain_flags m.flags is.flags))
 
-none_at : (m : Mark) (rest : List ℕ) (k : ℕ) → IsMark m → 0 < k → k < length (spelled m) → mark_at (drop k (spelled m ++ rest)) ≡ None
+none_at : (m : Mark) (rest : List ℕ) (k : ℕ) → IsMark m → 0 < k → k < length (mark_bytes m) → mark_at (drop k (mark_bytes m ++ rest)) ≡ None
 none_at m rest zero is some short = absurd (omega arith)
 none_at m rest (suc j) is some short =
-    let text : List ℕ = spelled m ++ rest in
-    let within : suc j < length text = omega (arith, length-append (spelled m) rest) in
-    let byte : get_or text (suc j) 0 ≡ get_or (spelled m) (suc j) 0 = get_or_append_left (spelled m) rest 0 (suc j) short in
-    let plain : is_plain (get_or (drop 1 (spelled m)) j 0) ≡ true = list_all_get is_plain (drop 1 (spelled m)) j (plain_after m is) (omega arith) in
+    let text : List ℕ = mark_bytes m ++ rest in
+    let within : suc j < length text = omega (arith, length-append (mark_bytes m) rest) in
+    let byte : get_or text (suc j) 0 ≡ get_or (mark_bytes m) (suc j) 0 = get_or_append_left (mark_bytes m) rest 0 (suc j) short in
+    let plain : is_plain (get_or (drop 1 (mark_bytes m)) j 0) ≡ true = list_all_get is_plain (drop 1 (mark_bytes m)) j (plain_after m is) (omega arith) in
     ap mark_at (drop_more text (suc j) 0 within)
-    ∙ mark_at-plain (get_or text (suc j) 0) (drop (suc j + 1) text) (ap (λ b. eqb b 36) byte ∙ not-true _ plain)
+    ∙ mark_at-plain (get_or text (suc j) 0) (drop (suc j + 1) text) (ap (λ b. eqb b (letter (codes "$"))) byte ∙ not-true _ plain)
 
 pub marks_lie_apart : MarksLieApart
-marks_lie_apart m bytes k begins some short =
-    ap (λ l. mark_at (drop k l)) begins.bytes_are ∙ none_at m begins.rest k begins.is_mark some short
+marks_lie_apart m bytes k stands some short =
+    ap (λ l. mark_at (drop k l)) stands.bytes_are ∙ none_at m stands.rest k stands.is_mark some short

@@ -1,4 +1,4 @@
--- A mark is found exactly where one begins.
+-- A mark is found exactly where one stands.
 use Rattle.std.proofs.Common.{◌≡◌, ◌∙◌, ◌+◌, ℕ, Bool, true, false, cond, List, [], ◌∷◌, ◌++◌, ap, sym, refl, subst, length, drop, append_assoc}
 use Rattle.std.specs.Prelude.{Option, Some, None, codes, find, is_some, option_map, take_while, unwrap_or, nat_le, nat_lt}
 use Rattle.std.specs.Char.{is_ascii_digit}
@@ -7,10 +7,10 @@ use Rattle.std.specs.Str.{bytes_eq}
 use Rattle.std.proofs.lemmas.Bool.{and_from, and_parts, le-leb, leb-true, lt-ltb, ltb-true}
 use Rattle.std.proofs.lemmas.List.{drop_at}
 use Rattle.std.proofs.lemmas.Slice.Eq.{bytes_eq-Decides}
-use Rattle.ti_pad.specs.Marks.{Begins, IsMark, Mark, all_flags, decimals_at, decimals_text, flags_at, has_number, mark_at, mark_after_front, mark_after_number, mark_after_whole, spelled, starts_with}
+use Rattle.ti_pad.specs.Marks.{StandsAtFront, IsMark, Mark, all_flags, decimals_at, decimals_text, flags_at, has_number, mark_at, mark_after_front, mark_after_number, mark_after_whole, mark_bytes, starts_with}
 use Rattle.ti_pad.specs.Laws.{FindsMarks}
-use Rattle.ti_pad.proofs.Fronts.{find_some, starts, take_while-rest, take_while-run}
-use Rattle.ti_pad.proofs.Longest.{list_all-take_while}
+use Rattle.ti_pad.proofs.StartsWithLemmas.{find_some, starts, take_while-rest, take_while-run}
+use Rattle.ti_pad.proofs.TakeWhileLemmas.{list_all-take_while}
 
 -- ---- from a mark that is found to the grammar
 
@@ -57,22 +57,22 @@ parts_assoc : (a b c d : List ℕ) → (a ++ (b ++ c)) ++ d ≡ a ++ (b ++ (c ++
 parts_assoc a b c d = append_assoc a (b ++ c) d ∙ ap (λ l. a ++ l) (append_assoc b c d)
 
 -- the parts after the `$<`, and what stands after the mark
-record IsBehindFront (bytes : List ℕ) (m : Mark) : Type 0 where
+record IsAfterFront (bytes : List ℕ) (m : Mark) : Type 0 where
   is_mark : IsMark m
   rest : List ℕ
   bytes_are : bytes ≡ (m.whole ++ (decimals_text m.decimals ++ (m.flags ++ codes ">"))) ++ rest
 
-mark_after_front-some : (bytes : List ℕ) (m : Mark) → mark_after_front bytes ≡ Some m → IsBehindFront bytes m
+mark_after_front-some : (bytes : List ℕ) (m : Mark) → mark_after_front bytes ≡ Some m → IsAfterFront bytes m
 mark_after_front-some bytes m e =
     let whole : List ℕ = take_while is_ascii_digit bytes in
-    let behind_whole : List ℕ = drop (length whole) bytes in
-    let decimals : Option (List ℕ) = decimals_at behind_whole in
-    let behind_number : List ℕ = drop (length (decimals_text decimals)) behind_whole in
-    let parts : IsNumbered whole decimals behind_number m = numbered_by whole decimals behind_number m (has_number whole decimals) refl e in
-    let (flags, listed) = flags_at-some behind_number m.flags parts.flags in
-    let (digits, point) = decimals_by behind_whole (starts_with behind_whole (codes ".")) refl in
+    let after_whole : List ℕ = drop (length whole) bytes in
+    let decimals : Option (List ℕ) = decimals_at after_whole in
+    let after_number : List ℕ = drop (length (decimals_text decimals)) after_whole in
+    let parts : IsNumbered whole decimals after_number m = numbered_by whole decimals after_number m (has_number whole decimals) refl e in
+    let (flags, listed) = flags_at-some after_number m.flags parts.flags in
+    let (digits, point) = decimals_by after_whole (starts_with after_whole (codes ".")) refl in
     let (few, some) = and_parts (nat_le (length whole) 5) (nat_lt 0 (length whole + length (unwrap_or decimals []))) parts.number in
-    let rest : List ℕ = drop (length (m.flags ++ codes ">")) behind_number in
+    let rest : List ℕ = drop (length (m.flags ++ codes ">")) after_number in
     record {
       is_mark = record {
         whole = rw parts.same_whole (list_all-take_while is_ascii_digit bytes);
@@ -87,10 +87,10 @@ mark_after_front-some bytes m e =
           ∙ sym (parts_assoc whole (decimals_text decimals) (m.flags ++ codes ">") rest));
     }
 
-begins_by : (bytes : List ℕ) (m : Mark) (b : Bool) → starts_with bytes (codes "$<") ≡ b → cond b (mark_after_front (drop 2 bytes)) None ≡ Some m → Begins m bytes
-begins_by bytes m false s e = cc
-begins_by bytes m true s e =
-    let parts : IsBehindFront (drop 2 bytes) m = mark_after_front-some (drop 2 bytes) m e in
+stands_by : (bytes : List ℕ) (m : Mark) (b : Bool) → starts_with bytes (codes "$<") ≡ b → cond b (mark_after_front (drop 2 bytes)) None ≡ Some m → StandsAtFront m bytes
+stands_by bytes m false s e = cc
+stands_by bytes m true s e =
+    let parts : IsAfterFront (drop 2 bytes) m = mark_after_front-some (drop 2 bytes) m e in
     record { is_mark = parts.is_mark; rest = parts.rest; bytes_are = starts bytes (codes "$<") s ∙ ap (λ l. codes "$<" ++ l) parts.bytes_are }
 
 -- ---- from the grammar to a mark that is found
@@ -174,10 +174,10 @@ mark_after_front-found m rest is =
     ∙ ap (mark_after_whole m.whole) (drop_at m.whole later (length m.whole) refl)
     ∙ mark_after_whole-found m rest is
 
-mark_at-spelled : (m : Mark) (rest : List ℕ) → IsMark m → mark_at (spelled m ++ rest) ≡ Some m
-mark_at-spelled m rest is =
+mark_at-mark_bytes : (m : Mark) (rest : List ℕ) → IsMark m → mark_at (mark_bytes m ++ rest) ≡ Some m
+mark_at-mark_bytes m rest is =
     ap mark_after_front (parts_assoc m.whole (decimals_text m.decimals) (m.flags ++ codes ">") rest) ∙ mark_after_front-found m rest is
 
 pub finds_marks : FindsMarks
 finds_marks m bytes =
-    (λ e. begins_by bytes m (starts_with bytes (codes "$<")) refl e, λ begins. ap mark_at begins.bytes_are ∙ mark_at-spelled m begins.rest begins.is_mark)
+    (λ e. stands_by bytes m (starts_with bytes (codes "$<")) refl e, λ stands. ap mark_at stands.bytes_are ∙ mark_at-mark_bytes m stands.rest stands.is_mark)

@@ -39,7 +39,7 @@ Appends-run a b c text run rest i n left is p q =
     let whole : take n run ≡ run = take_all n run (omega arith) in
     Appends-part a b c text run rest i n left (omega arith) p (rw whole q)
 
--- a run that begins the rest of a text lies within the text
+-- a run that starts the rest of a text lies within the text
 pub part_within : (text run rest : List ℕ) (i : ℕ) → drop i text ≡ run ++ rest → i ≤ length text → i + length run ≤ length text
 part_within text run rest i left h =
     omega (arith, ap length left, length-drop i text, length-append run rest)

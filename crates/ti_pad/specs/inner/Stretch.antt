@@ -5,9 +5,9 @@ use Rattle.ti_pad.specs.declared.stretch.Stretch.{Stretch}
 use Rattle.ti_pad.specs.declared.stretch.Stretch.TheVariants.{Literal, Pads}
 
 -- the bytes of a stretch
-abbrev pub written : ℕ → Stretch → List ℕ
-written pad (Literal bytes) = bytes.now
-written pad (Pads count) = replicate count pad
+abbrev pub stretch_bytes : ℕ → Stretch → List ℕ
+stretch_bytes pad (Literal bytes) = bytes.now
+stretch_bytes pad (Pads count) = replicate count pad
 
 -- no mark starts at such a byte
 abbrev pub is_plain : ℕ → Bool
