@@ -1,8 +1,8 @@
 -- The verdict of the code on a text.
-use Rattle.std.specs.Prelude.{ℕ, Bool, true, false, List, ◌++◌, codes, decimal}
+use Rattle.std.specs.Prelude.{◌≡◌, ℕ, Bool, true, false, List, ◌++◌}
 use Rattle.ti_cap.specs.Capability.{HasDepth, HasBound}
 use Rattle.ti_cap.specs.Refusal.{IsFaultless, IsRefusal}
-use Rattle.ti_cap.specs.Word.{name_of}
+use Rattle.ti_tool.specs.Verdicts.{AreLines, fault_verdict, sound_verdict}
 use Rattle.ti_tool.specs.declared.verdict.Verdict.{Verdict}
 use Rattle.ti_tool.specs.declared.verdict.Verdict.TheVariants.{Sound, Faulty}
 
@@ -17,5 +17,11 @@ is_sound (Faulty refused) = false
 
 -- the end of the line of a text
 abbrev pub verdict_line : Verdict → List ℕ
-verdict_line (Sound depth bound) = codes " ok depth " ++ decimal depth ++ codes " bound " ++ decimal bound ++ codes "\n"
-verdict_line (Faulty refused) = codes " fault " ++ name_of refused.fault ++ codes " at " ++ decimal refused.place ++ codes "\n"
+verdict_line (Sound depth bound) = sound_verdict depth bound
+verdict_line (Faulty refused) = fault_verdict refused
+
+-- lines of all the items come after what was there
+abbrev pub AddsLines : {X : Type 0} → (ℕ → X → List ℕ → Bool → Type 0) → List X
+    → List ℕ → List ℕ → Bool → Type 0
+AddsLines IsLineOf items old new sound =
+    (lines : List ℕ) × AreLines IsLineOf 0 items lines sound × (new ≡ old ++ lines)

@@ -4,19 +4,19 @@ use Rattle.std.specs.Prelude.{Option}
 use Rattle.std.specs.Io.KnownBytes.{Consumes}
 use Rattle.std.proofs.KnownBytes.{Consumes-nil, Consumes-trans}
 use Rattle.ti_base.specs.Limits.{most_capability_bytes}
-use Rattle.ti_tool.specs.Reading.{Takes}
+use Rattle.ti_tool.specs.inner.ReadsInto.{ReadsInto}
 
-pub Takes-nil : (a : Option (List ℕ)) (xs : List ℕ) → Takes a a xs xs
-Takes-nil a xs = ([], Consumes-nil a, sym (append-nil xs))
+pub ReadsInto-nil : (a : Option (List ℕ)) (xs : List ℕ) → ReadsInto a a xs xs
+ReadsInto-nil a xs = ([], Consumes-nil a, sym (append-nil xs))
 
-pub Takes-next : (a b c : Option (List ℕ)) (xs ys zs piece : List ℕ) → Takes a b xs ys → Consumes b c piece → zs ≡ ys ++ piece → Takes a c xs zs
-Takes-next a b c xs ys zs piece before took e =
+pub ReadsInto-next : (a b c : Option (List ℕ)) (xs ys zs piece : List ℕ) → ReadsInto a b xs ys → Consumes b c piece → zs ≡ ys ++ piece → ReadsInto a c xs zs
+ReadsInto-next a b c xs ys zs piece before took e =
     let (bytes, taken, is) = before in
     (bytes ++ piece, Consumes-trans a b c bytes piece taken took, e ∙ ap (λ l. l ++ piece) is ∙ append_assoc xs bytes piece)
 
 -- what an empty buffer took is all that the source lost
-pub Takes-empty : (a b : Option (List ℕ)) (old new x : List ℕ) → Takes a b old new → old ≡ [] → x ≡ new → Consumes a b x
-Takes-empty a b old new x (bytes, took, is) e s =
+pub ReadsInto-empty : (a b : Option (List ℕ)) (old new x : List ℕ) → ReadsInto a b old new → old ≡ [] → x ≡ new → Consumes a b x
+ReadsInto-empty a b old new x (bytes, took, is) e s =
     let P : List ℕ → Type 0 = λ l. Consumes a b l in
     subst P (sym (s ∙ is ∙ ap (λ l. l ++ bytes) e)) took
 

@@ -7,20 +7,19 @@ use Rattle.ti_words.specs.Texts.{TextValue, AbsentText, TextOf, text_value}
 use Rattle.ti_words.specs.declared.Text.{Text}
 use Rattle.ti_words.specs.declared.Text.TheVariants as texts
 use denote.Bor.{Bor}
-use Rattle.ti_entry.specs.Value.{EntryValue}
 use Rattle.ti_cap.specs.Capability.{HasDepth, HasBound}
 use Rattle.ti_cap.specs.Refusal.{IsFaultless}
 use Rattle.ti_tool.specs.Labels.{label_of}
 use Rattle.ti_tool.specs.declared.verdict.Verdict.{Verdict}
 use Rattle.ti_tool.specs.declared.verdict.Verdict.TheVariants.{Sound, Faulty}
-use Rattle.ti_tool.specs.Judged.{IsJudged, is_sound, verdict_line}
-use Rattle.ti_tool.specs.Checked.{AreLines, AreVerdicts, IsLine, IsStandardLine}
+use Rattle.ti_tool.specs.inner.Verdict.{IsJudged, is_sound, verdict_line}
+use Rattle.ti_tool.specs.Verdicts.{AreLines, IsLine, IsStandardLine}
 
 -- what was written so far goes on to lines of the whole, however the items from an index on are told
 abbrev pub GoesOn : {X : Type 0} → (ℕ → X → List ℕ → Bool → Type 0) → List X → List ℕ → ℕ → List ℕ → Bool → Type 0
-GoesOn L xs begin i out sound =
+GoesOn L xs before i out sound =
     (more : List ℕ) (rest : Bool) → AreLines L i (drop i xs) more rest
-    → (lines : List ℕ) × AreLines L 0 xs lines (sound && rest) × (out ++ more ≡ begin ++ lines)
+    → (lines : List ℕ) × AreLines L 0 xs lines (sound && rest) × (out ++ more ≡ before ++ lines)
 
 and_assoc : (a b c : Bool) → (a && (b && c)) ≡ ((a && b) && c)
 and_assoc true b c = refl
@@ -33,9 +32,9 @@ and_true false = refl
 pub goes_first : {X : Type 0} (L : ℕ → X → List ℕ → Bool → Type 0) (xs : List X) (out : List ℕ) → GoesOn L xs out 0 out true
 goes_first L xs out more rest h = (more, h, refl)
 
-pub goes_next : {X : Type 0} (L : ℕ → X → List ℕ → Bool → Type 0) (xs : List X) (i : ℕ) (d : X) (begin out new line : List ℕ) (sound one : Bool) → i < length xs
-    → GoesOn L xs begin i out sound → L i (get_or xs i d) line one → new ≡ out ++ line → GoesOn L xs begin (i + 1) new (sound && one)
-goes_next L xs i d begin out new line sound one h goes is n more rest later =
+pub goes_next : {X : Type 0} (L : ℕ → X → List ℕ → Bool → Type 0) (xs : List X) (i : ℕ) (d : X) (before out new line : List ℕ) (sound one : Bool) → i < length xs
+    → GoesOn L xs before i out sound → L i (get_or xs i d) line one → new ≡ out ++ line → GoesOn L xs before (i + 1) new (sound && one)
+goes_next L xs i d before out new line sound one h goes is n more rest later =
     let P : ℕ → Type 0 = λ k. AreLines L k (drop k xs) more rest in
     let Q : List _ → Type 0 = λ l. AreLines L i l (line ++ more) (one && rest) in
     let front : AreLines L i (get_or xs i d ∷ drop (suc i) xs) (line ++ more) (one && rest) =
@@ -44,22 +43,22 @@ goes_next L xs i d begin out new line sound one h goes is n more rest later =
     let R : Bool → Type 0 = λ b. AreLines L 0 xs lines b in
     (lines, subst R (and_assoc sound one rest) are, ap (λ l. l ++ more) n ∙ append_assoc out line more ∙ e)
 
-pub goes_end : {X : Type 0} (L : ℕ → X → List ℕ → Bool → Type 0) (xs : List X) (i : ℕ) (begin out : List ℕ) (sound : Bool) → length xs ≤ i
-    → GoesOn L xs begin i out sound → (lines : List ℕ) × AreLines L 0 xs lines sound × (out ≡ begin ++ lines)
-goes_end L xs i begin out sound h goes =
+pub goes_end : {X : Type 0} (L : ℕ → X → List ℕ → Bool → Type 0) (xs : List X) (i : ℕ) (before out : List ℕ) (sound : Bool) → length xs ≤ i
+    → GoesOn L xs before i out sound → (lines : List ℕ) × AreLines L 0 xs lines sound × (out ≡ before ++ lines)
+goes_end L xs i before out sound h goes =
     let P : List _ → Type 0 = λ l. AreLines L i l [] true in
     let (lines, are, e) = goes [] true (subst P (sym (drop_all i xs h)) (refl, refl)) in
     let R : Bool → Type 0 = λ b. AreLines L 0 xs lines b in
     (lines, subst R (and_true sound) are, sym (append-nil out) ∙ e)
 
 -- the same over the texts of an entry
-pub standard_next : (texts : List TextValue) (i : ℕ) (label : List ℕ) (text : TextValue) (begin out new : List ℕ) (sound one : Bool) → i < length texts
-    → label ≡ label_of kinds.Text i → text ≡ get_or texts i AbsentText → GoesOn IsStandardLine texts begin i out sound
-    → (line : List ℕ) × IsLine (codes "text ") label text line one × (new ≡ out ++ line) → GoesOn IsStandardLine texts begin (i + 1) new (sound && one)
-standard_next texts i label text begin out new sound one h l t goes (line, is, n) =
+pub standard_next : (texts : List TextValue) (i : ℕ) (label : List ℕ) (text : TextValue) (before out new : List ℕ) (sound one : Bool) → i < length texts
+    → label ≡ label_of kinds.Text i → text ≡ get_or texts i AbsentText → GoesOn IsStandardLine texts before i out sound
+    → (line : List ℕ) × IsLine (codes "text ") label text line one × (new ≡ out ++ line) → GoesOn IsStandardLine texts before (i + 1) new (sound && one)
+standard_next texts i label text before out new sound one h l t goes (line, is, n) =
     let P : List ℕ → Type 0 = λ x. IsLine (codes "text ") x text line one in
     let Q : TextValue → Type 0 = λ x. IsLine (codes "text ") (label_of kinds.Text i) x line one in
-    goes_next IsStandardLine texts i AbsentText begin out new line sound one h goes (subst Q t (subst P l is)) n
+    goes_next IsStandardLine texts i AbsentText before out new line sound one h goes (subst Q t (subst P l is)) n
 
 -- the verdict on a text that parsing accepted
 pub sound_judged : (text capability : List ℕ) (verdict : Verdict) (depth bound : ℕ) → verdict ≡ Sound depth bound → capability ≡ text → IsFaultless text
@@ -88,9 +87,3 @@ pub line_of_none : (word label out new : List ℕ) (text : Text) → ((bytes : B
 line_of_none word label out new texts.Absent none n = ([], (refl, refl), n ∙ sym (append-nil out))
 line_of_none word label out new texts.Cancelled none n = ([], (refl, refl), n ∙ sym (append-nil out))
 line_of_none word label out new (texts.Value bytes) none n = absurd (none bytes refl)
-
--- what was written to a new vector is all of the lines
-pub all_verdicts : (v : EntryValue) (old new : List ℕ) (sound : Bool) → old ≡ [] → (lines : List ℕ) × AreVerdicts v lines sound × (new ≡ old ++ lines) → AreVerdicts v new sound
-all_verdicts v old new sound o (lines, are, e) =
-    let P : List ℕ → Type 0 = λ x. AreVerdicts v x sound in
-    subst P (sym (e ∙ ap (λ z. z ++ lines) o)) are

@@ -8,8 +8,9 @@ use Rattle.ti_tool.specs.declared.fault.ToolFault.TheVariants as fault
 use Rattle.ti_entry.specs.declared.fault.Refused.{Refused}
 use Rattle.ti_entry.specs.Refusal.{refusal, failure}
 use Rattle.ti_entry.specs.Reading.{Reading, new_reading, fed}
-use Rattle.ti_tool.specs.Reading.{Takes}
-use Rattle.ti_tool.specs.Calls.{Wrote, Ended, DidCall, HasFailed, StoppedAt}
+use Rattle.ti_tool.specs.inner.ReadsInto.{ReadsInto}
+use Rattle.ti_tool.specs.Calls.{Wrote, HasReadEnough, DidCall, HasFailed}
+use Rattle.ti_tool.specs.inner.Kept.{StopsReading}
 
 -- a writer's own fault is due to nothing
 abbrev pub NeverWrite : (Result (List ℕ) ToolFault → Type 0) → Type 0
@@ -33,7 +34,7 @@ failed due held fault.NoSuchText never (inr d) = (d, Keeps-refl held)
 failed due held (fault.TooMuch need) never (inl e) = absurd (cc)
 failed due held (fault.TooMuch need) never (inr d) = (d, Keeps-refl held)
 
-ended : (enough : Type 0) (left : Option (List ℕ)) (answer : Result (Unit {0}) ToolFault) → enough ⊎ IsAtEnd left → Ended enough left answer
+ended : (enough : Type 0) (left : Option (List ℕ)) (answer : Result (Unit {0}) ToolFault) → enough ⊎ IsAtEnd left → HasReadEnough enough left answer
 ended enough left (Ok u) h = h
 ended enough left (Err fault.Read) h = tt
 ended enough left (Err fault.Memory) h = tt
@@ -75,11 +76,11 @@ did_write due enough left0 left1 held0 held1 input out written answer read at d 
 
 -- a call whose reader failed
 pub did_not_read : (due : List ℕ → Result (List ℕ) ToolFault → Type 0) (enough : List ℕ → Type 0) (left0 left1 held : Option (List ℕ)) (old new : List ℕ)
-    → Takes left0 left1 old new → DidCall due enough left0 left1 held held (Err fault.Read)
+    → ReadsInto left0 left1 old new → DidCall due enough left0 left1 held held (Err fault.Read)
 did_not_read due enough left0 left1 held old new (bytes, took, is) = record { input = bytes; read = took; ended = tt; wrote = Keeps-refl held }
 
 -- a call whose reading stopped
-pub did_stop : (due : List ℕ → Result (List ℕ) ToolFault → Type 0) (left0 left1 held : Option (List ℕ)) (e : ToolFault) → StoppedAt left0 left1 e
+pub did_stop : (due : List ℕ → Result (List ℕ) ToolFault → Type 0) (left0 left1 held : Option (List ℕ)) (e : ToolFault) → StopsReading left0 left1 e
     → ((bytes : List ℕ) (refused : Refused) → refusal bytes ≡ Some refused → due bytes (Err (fault.Entry refused))) → DidCall due HasFailed left0 left1 held held (Err e)
 did_stop due left0 left1 held fault.Read (bytes, took) h = record { input = bytes; read = took; ended = tt; wrote = Keeps-refl held }
 did_stop due left0 left1 held (fault.Entry refused) (bytes, took, failed, is) h =

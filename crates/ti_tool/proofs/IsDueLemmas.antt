@@ -9,7 +9,7 @@ use Rattle.ti_entry.specs.Value.{EntryValue}
 use Rattle.ti_entry.specs.Spelling.{Spells}
 use Rattle.ti_tool.specs.declared.fault.ToolFault.{ToolFault}
 use Rattle.ti_tool.specs.declared.fault.ToolFault.TheVariants as fault
-use Rattle.ti_tool.specs.Results.{IsConverted, IsDue, IsDueFor, IsEncoding, IsNamed, in_width}
+use Rattle.ti_tool.specs.Results.{IsConverted, IsDue, IsDueFor, IsEncoding, IsExpanded, in_width}
 
 due_never : (text : TextValue) (parameters : List Value) (setting : Setting) (hex : Bool) (gone : ℕ) → ¬ IsDue text parameters setting hex (Err (fault.Write gone))
 due_never AbsentText parameters setting hex gone d = absurd (cc)
@@ -17,13 +17,13 @@ due_never CancelledText parameters setting hex gone d = absurd (cc)
 due_never (TextOf text) parameters setting hex gone d = d
 
 -- a writer's fault is due to no name
-pub named_never : (name : List ℕ) (parameters : List Value) (setting : Setting) (hex : Bool) (input : List ℕ) (gone : ℕ) → ¬ IsNamed name parameters setting hex input (Err (fault.Write gone))
+pub named_never : (name : List ℕ) (parameters : List Value) (setting : Setting) (hex : Bool) (input : List ℕ) (gone : ℕ) → ¬ IsExpanded name parameters setting hex input (Err (fault.Write gone))
 named_never name parameters setting hex input gone (inl (refused, is, e)) = absurd (cc)
 named_never name parameters setting hex input gone (inr (v, spells, d)) = let (text, called, due) = d in due_never text parameters setting hex gone due
 
 -- what is due for an entry is due for the bytes that spell it
 pub named_due : (name : List ℕ) (parameters : List Value) (setting : Setting) (hex : Bool) (input : List ℕ) (v : EntryValue) (e : ToolFault) → Spells input v
-    → (e ≡ fault.Memory) ⊎ IsDueFor name parameters setting hex v (Err e) → (e ≡ fault.Memory) ⊎ IsNamed name parameters setting hex input (Err e)
+    → (e ≡ fault.Memory) ⊎ IsDueFor name parameters setting hex v (Err e) → (e ≡ fault.Memory) ⊎ IsExpanded name parameters setting hex input (Err e)
 named_due name parameters setting hex input v e spells (inl is) = inl is
 named_due name parameters setting hex input v e spells (inr d) = inr (inr (v, spells, d))
 

@@ -13,7 +13,7 @@ use Rattle.ti_words.specs.Texts.{TextValue, AbsentText, CancelledText, TextOf}
 use Rattle.ti_entry.specs.Value.{EntryValue}
 use Rattle.ti_tool.specs.Labels.{label_of}
 
--- a word and a label, and behind the label nothing, or a blank and a word; No has no line
+-- a word and a label, and after the label nothing, or a blank and a word; No has no line
 abbrev pub flag_line : List ℕ → List ℕ → Flag → List ℕ
 flag_line word label flags.No = []
 flag_line word label flags.Yes = word ++ label ++ codes "\n"
@@ -23,7 +23,8 @@ flag_line word label flags.Missing = word ++ label ++ codes " missing\n"
 abbrev pub number_line : List ℕ → List ℕ → Number → List ℕ
 number_line word label numbers.Absent = []
 number_line word label numbers.Cancelled = word ++ label ++ codes " cancelled\n"
-number_line word label (numbers.Value n) = word ++ label ++ codes " " ++ signed_decimal n ++ codes "\n"
+number_line word label (numbers.Value n) =
+    word ++ label ++ codes " " ++ signed_decimal n ++ codes "\n"
 
 -- a text in lower-case hex, or `-` in place of no bytes
 abbrev pub hex_or_dash : List ℕ → List ℕ
@@ -62,7 +63,9 @@ lines_from line index (x ∷ xs) = line index x ++ lines_from line (suc index) x
 
 -- flags, numbers and texts in the order of their indices
 abbrev pub standard_lines : EntryValue → List ℕ
-standard_lines v = lines_from standard_flag 0 v.flags ++ lines_from standard_number 0 v.numbers ++ lines_from standard_text 0 v.texts
+standard_lines v =
+    lines_from standard_flag 0 v.flags ++ lines_from standard_number 0 v.numbers
+    ++ lines_from standard_text 0 v.texts
 
 abbrev pub extended_lines : EntryValue → List ℕ
 extended_lines v =
@@ -70,11 +73,12 @@ extended_lines v =
     ++ lines_from extended_text 0 v.extended_texts
 
 -- the name of a format
-abbrev pub format_word : Width → List ℕ
-format_word Legacy = codes "legacy"
-format_word Wide = codes "wide"
+abbrev pub format_name : Width → List ℕ
+format_name Legacy = codes "legacy"
+format_name Wide = codes "wide"
 
 -- the format and the names, then the standard capabilities and those of the extended part
 abbrev pub entry_lines : EntryValue → List ℕ
 entry_lines v =
-    codes "format: " ++ format_word v.width ++ codes "\nnames: " ++ v.names ++ codes "\n" ++ standard_lines v ++ extended_lines v
+    codes "format: " ++ format_name v.width ++ codes "\nnames: " ++ v.names ++ codes "\n"
+    ++ standard_lines v ++ extended_lines v

@@ -2,7 +2,7 @@
 use Rattle.std.proofs.Common.{◌≡◌, ℕ, ◌+◌, ◌<◌, ◌≤◌, List, [], ◌∷◌, ◌++◌, length, drop, get_or, sym, ◌∙◌, ap, append_assoc, add-one, drop-cons}
 use Rattle.std.proofs.lemmas.List.{append-nil, drop_all}
 use Rattle.hex.specs.Hex.{encode_lower, encode_with}
-use Rattle.ti_tool.specs.Shown.{lines_from}
+use Rattle.ti_tool.specs.Listing.{lines_from}
 
 -- what is written and what is still to come make the whole, one item further
 pub lines_next : {X : Type 0} (line : ℕ → X → List ℕ) (xs : List X) (i : ℕ) (d : X) (out new whole : List ℕ) → i < length xs
