@@ -1,4 +1,5 @@
-pub mod Simple
-pub mod Getters
-pub mod Answered
-pub mod Worked
+pub mod TiAppLemmas
+pub mod ValuesLemmas
+pub mod LawsLemmas
+pub mod ExplainsLemmas
+pub mod Examples

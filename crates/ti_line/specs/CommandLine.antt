@@ -1,5 +1,6 @@
--- The command line of `ti`: the command that is handed to `clap`, what words ask for by it, and the words that it
--- refuses or answers with help. `fault_of` and `subcommand_of` are `clap`'s own definition of a simple command.
+-- The command line of `ti`: the command that is handed to `clap`, what words ask for by it, and the
+-- words that it refuses or answers with help. `fault_of` and `subcommand_of` are `clap`'s own
+-- definition of a simple command.
 use Rattle.std.specs.Prelude.{◌≡◌, ◌⊎◌, ◌^◌, ◌&&◌, ℕ, Bool, true, false, not, List, [], ◌∷◌, fold, Option, Some, None, codes, pos, unwrap_or, option_and_then, if◌then◌else◌, nat_lt, nat_le, length}
 use Rattle.std.specs.List.{list_all, list_any}
 use Rattle.std.specs.Option.{option_map_or}
@@ -58,7 +59,10 @@ wide_rule = record (new_rule (codes "wide")) { long = Some (codes "wide"); actio
 
 -- `--narrow`
 abbrev pub narrow_rule : Rule
-narrow_rule = record (new_rule (codes "narrow")) { long = Some (codes "narrow"); action = Some SetTrue }
+narrow_rule = record (new_rule (codes "narrow")) {
+  long = Some (codes "narrow");
+  action = Some SetTrue;
+}
 
 -- a command with these arguments too, in their order
 abbrev pub with_rules : App → List Rule → App
@@ -83,7 +87,8 @@ check_app = new_app (codes "check")
 -- `expand NAME [--hex] [--rate N] [--lines N] [--xon] [PARAM..]`
 abbrev pub expand_app : App
 expand_app =
-    with_rules (new_app (codes "expand")) (name_rule ∷ hex_rule ∷ rate_rule ∷ lines_rule ∷ xon_rule ∷ params_rule ∷ [])
+    with_rules (new_app (codes "expand"))
+    (name_rule ∷ hex_rule ∷ rate_rule ∷ lines_rule ∷ xon_rule ∷ params_rule ∷ [])
 
 -- `convert [--wide] [--narrow]`
 abbrev pub convert_app : App
@@ -91,7 +96,8 @@ convert_app = with_rules (new_app (codes "convert")) (wide_rule ∷ narrow_rule 
 
 -- `ti` with a version, which wants a subcommand
 abbrev pub start_app : App
-start_app = on_top (λ s. record s { has_version = true; subcommand_required = true }) (new_app (codes "ti"))
+start_app =
+    on_top (λ s. record s { has_version = true; subcommand_required = true }) (new_app (codes "ti"))
 
 -- `ti` whole
 abbrev pub ti_app : App
@@ -107,7 +113,8 @@ flag_in id rows = option_map_or (λ t. bytes_eq t (codes "true")) (one_of id row
 abbrev pub number_or : ℕ → Text → ℕ
 number_or default text =
     let ds = without_leading_plus text in
-    if nat_lt 0 (length ds) && list_all (λ d. nat_lt (digit_value d) 10) ds && nat_lt (digits_value 10 ds) (2 ^ 32)
+    if nat_lt 0 (length ds) && list_all (λ d. nat_lt (digit_value d) 10) ds
+    && nat_lt (digits_value 10 ds) (2 ^ 32)
     then digits_value 10 ds else default
 
 -- the number of an option, `default` where it was not given
@@ -120,34 +127,41 @@ params_in rows = unwrap_or (all_of (codes "PARAM") rows) []
 
 -- ---- what a command line asks for
 
-pub data Asked : Type 0 where
-  Cap : (hex : Bool) → (params : List Text) → Asked
-  Show : Asked
-  Check : Asked
-  Expand : (name : Text) → (hex : Bool) → (rate lines : ℕ) → (xon : Bool) → (params : List Text) → Asked
-  Convert : (wide narrow : Bool) → Asked
+-- what a line asks for, of which parameters are the words as they were given
+pub data Request : Type 0 where
+  Cap : (hex : Bool) → (params : List Text) → Request
+  Show : Request
+  Check : Request
+  Expand : (name : Text) → (hex : Bool) → (rate lines : ℕ) → (xon : Bool) → (params : List Text)
+      → Request
+  Convert : (wide narrow : Bool) → Request
 
 -- `expand` with a name and numbers within their ranges
-abbrev pub expand_by : List Row → Text → Option Asked
+abbrev pub expand_by : List Row → Text → Option Request
 expand_by rows name =
     let rate = number_in (codes "rate") 0 rows in
     let lines = number_in (codes "lines") 1 rows in
     if nat_le rate greatest_rate && nat_le lines most_lines
-    then Some (Expand name (flag_in (codes "hex") rows) rate lines (flag_in (codes "xon") rows) (params_in rows))
+    then Some (Expand name (flag_in (codes "hex") rows) rate lines
+    (flag_in (codes "xon") rows) (params_in rows))
     else None
 
 -- what a subcommand and its values ask for
-abbrev pub asked_by : Text → List Row → Option Asked
-asked_by command rows =
-    if bytes_eq command (codes "cap") then Some (Cap (flag_in (codes "hex") rows) (params_in rows))
+abbrev pub request_by : Text → List Row → Option Request
+request_by command rows =
+    if bytes_eq command (codes "cap")
+    then Some (Cap (flag_in (codes "hex") rows) (params_in rows))
     else (if bytes_eq command (codes "show") then Some Show
     else (if bytes_eq command (codes "check") then Some Check
-    else (if bytes_eq command (codes "expand") then option_and_then (expand_by rows) (first_of (codes "NAME") rows)
-    else (if bytes_eq command (codes "convert") then Some (Convert (flag_in (codes "wide") rows) (flag_in (codes "narrow") rows))
+    else (if bytes_eq command (codes "expand")
+    then option_and_then (expand_by rows) (first_of (codes "NAME") rows)
+    else (if bytes_eq command (codes "convert")
+    then Some (Convert (flag_in (codes "wide") rows) (flag_in (codes "narrow") rows))
     else None))))
 
-abbrev pub asked : Option (Text × List Row) → Option Asked
-asked found = option_and_then (λ p. asked_by p.0 p.1) found
+-- what the subcommand that was found asks for
+abbrev pub request_in : Option (Text × List Row) → Option Request
+request_in found = option_and_then (λ p. request_by p.0 p.1) found
 
 -- ---- which words are a command line
 
@@ -156,9 +170,10 @@ abbrev pub faults : List Text → Kinds
 faults words = fault_of ti_app words
 
 -- the words, of which the first is the program's own name, are read as this line
-abbrev pub Reads : List Text → Asked → Type 0
-Reads words line = (faults words ≡ []) × (asked (subcommand_of ti_app words) ≡ Some line)
+abbrev pub Reads : List Text → Request → Type 0
+Reads words line = (faults words ≡ []) × (request_in (subcommand_of ti_app words) ≡ Some line)
 
+-- help or the version
 abbrev pub is_help : ErrorKind → Bool
 is_help kind.DisplayHelp = true
 is_help kind.DisplayVersion = true
@@ -172,4 +187,4 @@ AsksForHelp words = list_any is_help (faults words) ≡ true
 abbrev pub IsRefused : List Text → Type 0
 IsRefused words =
     (list_any (λ k. not (is_help k)) (faults words) ≡ true)
-    ⊎ ((faults words ≡ []) × (asked (subcommand_of ti_app words) ≡ None))
+    ⊎ ((faults words ≡ []) × (request_in (subcommand_of ti_app words) ≡ None))

@@ -2,27 +2,31 @@
 use Rattle.std.specs.Prelude.{◌≡◌, ◌⊎◌, ◌≤◌, List}
 use Rattle.clap.specs.Words.{Text}
 use Rattle.ti_base.specs.Limits.{greatest_rate, most_lines}
-use Rattle.ti_line.specs.CommandLine.{Asked, Cap, Show, Check, Expand, Convert, AsksForHelp, IsRefused, Reads}
+use Rattle.ti_line.specs.CommandLine.{Request, Cap, Show, Check, Expand, Convert, AsksForHelp, IsRefused, Reads}
 
 -- words are read as one line
 abbrev pub ReadsOneLine : Type 0
-ReadsOneLine = (words : List Text) (line other : Asked) → Reads words line → Reads words other → line ≡ other
+ReadsOneLine = (words : List Text) (line other : Request)
+    → Reads words line → Reads words other → line ≡ other
 
 -- words that are read neither ask for help nor are refused
 abbrev pub StandApart : Type 0
-StandApart = (words : List Text) (line : Asked) → Reads words line → (AsksForHelp words ⊎ IsRefused words) → ⊥
+StandApart = (words : List Text) (line : Request)
+    → Reads words line → (AsksForHelp words ⊎ IsRefused words) → ⊥
 
 -- words are read, ask for help or are refused
 abbrev pub IsOneOfThree : Type 0
-IsOneOfThree = (words : List Text) → ((line : Asked) × Reads words line) ⊎ (AsksForHelp words ⊎ IsRefused words)
+IsOneOfThree = (words : List Text)
+    → ((line : Request) × Reads words line) ⊎ (AsksForHelp words ⊎ IsRefused words)
 
 -- the numbers of a line are within their ranges
-abbrev pub IsWithin : Asked → Type 0
+abbrev pub IsWithin : Request → Type 0
 IsWithin (Cap hex params) = Unit {0}
 IsWithin Show = Unit {0}
 IsWithin Check = Unit {0}
 IsWithin (Expand name hex rate lines xon params) = (rate ≤ greatest_rate) × (lines ≤ most_lines)
 IsWithin (Convert wide narrow) = Unit {0}
 
+-- of each line that is read
 abbrev pub HasNumbersWithin : Type 0
-HasNumbersWithin = (words : List Text) (line : Asked) → Reads words line → IsWithin line
+HasNumbersWithin = (words : List Text) (line : Request) → Reads words line → IsWithin line

@@ -1,3 +1,4 @@
 pub mod CommandLine
+pub mod inner
 pub mod Line
 pub mod Laws

@@ -1,9 +1,9 @@
 //! The command that is handed to `clap`: subcommands of one level, options, positionals, and the texts of help.
 
 ghost use Rattle.std.specs.Prelude.{◌≡◌, [], ◌∷◌, IfOk, false};
-ghost use Rattle.clap.specs.Words.{app_of, new_app, rule_of, with_rule};
-ghost use Rattle.clap.specs.declared.builder.command.Command.TheViews.{out-Command as fields_of};
-ghost use Rattle.ti_line.specs.CommandLine.{cap_app, check_app, convert_app, expand_app, hex_rule, lines_rule, name_rule, narrow_rule, params_rule, rate_rule, show_app, start_app, ti_app, wide_rule, with_commands, xon_rule};
+ghost use Rattle.clap.specs.Words.{app_of, new_app, rule_of};
+ghost use Rattle.ti_line.specs.CommandLine.{cap_app, check_app, convert_app, expand_app, hex_rule, lines_rule, name_rule, narrow_rule, params_rule, rate_rule, show_app, start_app, ti_app, wide_rule, with_commands, with_rules, xon_rule};
+ghost use Rattle.ti_line.specs.inner.Command.{HasNoGlobals};
 
 use clap::{Arg, ArgAction, Command, value_parser};
 use std::alloc::{AllocError, Global};
@@ -97,9 +97,9 @@ fn narrow<'a>(alloc: Global) -> Arg<'a>
 }
 
 /// A command with its name, a line on what it does, and what its long help has at its end.
-fn titled<'a>(alloc: Global, name: &'a str, about: &'a str, example: &'a str) -> Command<'a>
+fn new_command<'a>(alloc: Global, name: &'a str, about: &'a str, example: &'a str) -> Command<'a>
     ensures shape { app_of result ≡ new_app name.entry.now }
-    ensures local { (fields_of result).has_globals ≡ false }
+    ensures local { HasNoGlobals result }
 {
     Command::new(alloc, name)
         .about(about)
@@ -108,9 +108,9 @@ fn titled<'a>(alloc: Global, name: &'a str, about: &'a str, example: &'a str) ->
 
 fn cap<'a>(alloc: Global) -> Result<Command<'a>, AllocError>
     ensures shape { IfOk result (λ c. app_of c ≡ cap_app) }
-    ensures local { IfOk result (λ c. (fields_of c).has_globals ≡ false) }
+    ensures local { IfOk result HasNoGlobals }
 {
-    titled(
+    new_command(
         alloc,
         "cap",
         "Expand standard input as one capability; padding marks stay as they are",
@@ -122,9 +122,9 @@ fn cap<'a>(alloc: Global) -> Result<Command<'a>, AllocError>
 
 fn show<'a>(alloc: Global) -> Command<'a>
     ensures shape { app_of result ≡ show_app }
-    ensures local { (fields_of result).has_globals ≡ false }
+    ensures local { HasNoGlobals result }
 {
-    titled(
+    new_command(
         alloc,
         "show",
         "List the compiled entry on standard input, one line an item",
@@ -134,9 +134,9 @@ fn show<'a>(alloc: Global) -> Command<'a>
 
 fn check<'a>(alloc: Global) -> Command<'a>
     ensures shape { app_of result ≡ check_app }
-    ensures local { (fields_of result).has_globals ≡ false }
+    ensures local { HasNoGlobals result }
 {
-    titled(
+    new_command(
         alloc,
         "check",
         "Analyse each text of the entry on standard input; status 1 where one has a fault",
@@ -145,17 +145,18 @@ fn check<'a>(alloc: Global) -> Command<'a>
 }
 
 fn with_numbers<'a>(alloc: Global, command: Command<'a>) -> Result<Command<'a>, AllocError>
-    ensures shape { IfOk result (λ c. app_of c ≡ with_rule (with_rule (app_of command.entry) rate_rule) lines_rule) }
-    ensures local { (fields_of command.entry).has_globals ≡ false → IfOk result (λ c. (fields_of c).has_globals ≡ false) }
+    ensures shape { IfOk result (λ c. app_of c
+        ≡ with_rules (app_of command.entry) (rate_rule ∷ lines_rule ∷ [])) }
+    ensures local { HasNoGlobals command.entry → IfOk result HasNoGlobals }
 {
     command.arg(rate(alloc))?.arg(lines(alloc))
 }
 
 fn expand<'a>(alloc: Global) -> Result<Command<'a>, AllocError>
     ensures shape { IfOk result (λ c. app_of c ≡ expand_app) }
-    ensures local { IfOk result (λ c. (fields_of c).has_globals ≡ false) }
+    ensures local { IfOk result HasNoGlobals }
 {
-    let command = titled(
+    let command = new_command(
         alloc,
         "expand",
         "Expand and pad one text of the entry on standard input",
@@ -170,9 +171,9 @@ fn expand<'a>(alloc: Global) -> Result<Command<'a>, AllocError>
 
 fn convert<'a>(alloc: Global) -> Result<Command<'a>, AllocError>
     ensures shape { IfOk result (λ c. app_of c ≡ convert_app) }
-    ensures local { IfOk result (λ c. (fields_of c).has_globals ≡ false) }
+    ensures local { IfOk result HasNoGlobals }
 {
-    titled(
+    new_command(
         alloc,
         "convert",
         "Write the entry on standard input in its canonical layout",
@@ -195,7 +196,7 @@ const STATUSES: &str = "Status:
 /// `ti` itself, before its subcommands.
 fn start<'a>(alloc: Global) -> Command<'a>
     ensures shape { app_of result ≡ start_app }
-    ensures local { (fields_of result).has_globals ≡ false }
+    ensures local { HasNoGlobals result }
 {
     Command::new(alloc, "ti")
         .about("Reads, analyses, expands and writes compiled terminfo entries")
@@ -205,9 +206,10 @@ fn start<'a>(alloc: Global) -> Command<'a>
 }
 
 /// `ti` with its first three subcommands.
-fn reading<'a>(alloc: Global) -> Result<Command<'a>, AllocError>
-    ensures shape { IfOk result (λ c. app_of c ≡ with_commands start_app (cap_app ∷ show_app ∷ check_app ∷ [])) }
-    ensures local { IfOk result (λ c. (fields_of c).has_globals ≡ false) }
+fn first_commands<'a>(alloc: Global) -> Result<Command<'a>, AllocError>
+    ensures shape { IfOk result (λ c. app_of c
+        ≡ with_commands start_app (cap_app ∷ show_app ∷ check_app ∷ [])) }
+    ensures local { IfOk result HasNoGlobals }
 {
     start(alloc)
         .subcommand(cap(alloc)?)?
@@ -219,7 +221,7 @@ fn reading<'a>(alloc: Global) -> Result<Command<'a>, AllocError>
 pub(crate) fn program<'a>(alloc: Global) -> Result<Command<'a>, AllocError>
     ensures { IfOk result (λ c. app_of c ≡ ti_app) }
 {
-    reading(alloc)?
+    first_commands(alloc)?
         .subcommand(expand(alloc)?)?
         .subcommand(convert(alloc)?)
 }

@@ -18,5 +18,5 @@ mod line;
 mod read;
 mod values;
 
-pub use line::{Line, Message, NoLine};
+pub use line::{Expand, Line, Message, NoLine};
 pub use read::read_line;

@@ -1,5 +1,8 @@
 //! What a command line asks for, and why words may be none.
 
+ghost use Rattle.std.specs.Prelude.{◌≤◌};
+ghost use Rattle.ti_base.specs.Limits.{greatest_rate, most_lines};
+
 use std::fmt;
 use thiserror::Error;
 
@@ -18,20 +21,7 @@ pub enum Line<'a> {
     /// Analyse each text of the entry.
     Check,
     /// Expand and pad one text of the entry.
-    Expand {
-        /// The text: `#` and an index, or a name.
-        name: &'a str,
-        /// Write the output as lower-case hex and a newline.
-        hex: bool,
-        /// Bytes per second, at most [`GREATEST_RATE`](ti_base::GREATEST_RATE); 0 where none was given.
-        rate: u32,
-        /// Affected lines, at most [`MOST_LINES`](ti_base::MOST_LINES); 1 where none were given.
-        lines: u32,
-        /// The line has flow control, so only mandatory padding is written.
-        xon: bool,
-        /// The words of the parameters.
-        params: Vec<&'a str>,
-    },
+    Expand(Expand<'a>),
     /// Write the entry in its canonical layout.
     Convert {
         /// Write it with numbers of 32 bits.
@@ -39,6 +29,25 @@ pub enum Line<'a> {
         /// Write it with numbers of 16 bits. That both are given is the caller's to refuse.
         narrow: bool,
     },
+}
+
+/// What `expand` asks for.
+#[derive(Debug, Drop)]
+pub struct Expand<'a> {
+    /// The text: `#` and an index, or a name.
+    pub name: &'a str,
+    /// Write the output as lower-case hex and a newline.
+    pub hex: bool,
+    /// Bytes per second, at most [`GREATEST_RATE`](ti_base::GREATEST_RATE); 0 where none was given.
+    pub rate: u32,
+    /// Affected lines, at most [`MOST_LINES`](ti_base::MOST_LINES); 1 where none were given.
+    pub lines: u32,
+    /// The line has flow control, so only mandatory padding is written.
+    pub xon: bool,
+    /// The words of the parameters.
+    pub params: Vec<&'a str>,
+    ghost rate_within: { rate ≤ greatest_rate },
+    ghost lines_within: { lines ≤ most_lines },
 }
 
 /// Why there is no line. Its `Display` is the text for the user, in full lines but for the one of [`NoLine::Memory`].
@@ -61,7 +70,7 @@ pub struct Message(Option<clap::Error>);
 
 impl Message {
     /// What `clap` says of words that it refuses, or answers with help.
-    pub(crate) fn said(error: clap::Error) -> Message {
+    pub(crate) fn new(error: clap::Error) -> Message {
         Message(Some(error))
     }
 

@@ -1,9 +1,10 @@
 //! Words as a command line.
 
-ghost use Rattle.std.specs.Prelude.{◌≡◌, IfErr, IfOk, map, option_map};
+ghost use Rattle.std.specs.Prelude.{◌≡◌, IfErr, IfOk, option_map};
 ghost use Rattle.clap.specs.Words.{FailsBy, kind_of, subcommand_of};
-ghost use Rattle.ti_line.specs.CommandLine.{Asked, Reads, asked, faults, ti_app};
-ghost use Rattle.ti_line.specs.Line.{Explains, IsReadAs, TellsOf, asked_of};
+ghost use Rattle.ti_line.specs.CommandLine.{Request, Reads, request_in, faults, ti_app};
+ghost use Rattle.ti_line.specs.Line.{Explains, IsReadAs, request_of, texts_of};
+ghost use Rattle.ti_line.specs.inner.Errors.{TellsOf};
 
 use crate::command::program;
 use crate::line::{Line, Message, NoLine};
@@ -14,8 +15,9 @@ use std::alloc::Global;
 
 /// Reads the words by `clap`. There is no line where what `clap` found has no value.
 fn read_words<'a>(alloc: Global, words: &'a [&'a str]) -> Result<Option<Line<'a>>, Error>
-    ensures read { IfOk result (λ line. option_map asked_of line ≡ asked (subcommand_of ti_app (map (λ w. w.now) words.entry.now))) }
-    ensures kinds { FailsBy (faults (map (λ w. w.now) words.entry.now)) result }
+    ensures read { IfOk result (λ line. option_map request_of line
+        ≡ request_in (subcommand_of ti_app (texts_of words.entry.now))) }
+    ensures kinds { FailsBy (faults (texts_of words.entry.now)) result }
 {
     let matches = program(alloc)?.try_get_matches_from(words)?;
     match matches.subcommand() {
@@ -30,24 +32,24 @@ fn no_line(error: Error) -> NoLine
 {
     match error.kind() {
         ErrorKind::OutOfMemory => NoLine::Memory,
-        ErrorKind::DisplayHelp | ErrorKind::DisplayVersion => NoLine::Help(Message::said(error)),
-        _ => NoLine::Refused(Message::said(error)),
+        ErrorKind::DisplayHelp | ErrorKind::DisplayVersion => NoLine::Help(Message::new(error)),
+        _ => NoLine::Refused(Message::new(error)),
     }
 }
 
 /// Reads `words`, of which the first is the program's own name, as a command line.
 ///
-/// Options may stand before, between and behind the parameters. Behind `--` each word is a parameter, or the name of
-/// `expand`, also one that begins with a hyphen. Words are text, so what is no UTF-8 is the caller's to refuse.
+/// Options may stand before, between and after the parameters. After `--` each word is a parameter, or the name of
+/// `expand`, also one that starts with a hyphen. Words are text, so what is no UTF-8 is the caller's to refuse.
 ///
 /// # Errors
 ///
 /// [`NoLine::Help`] where help or the version is asked for, [`NoLine::Refused`] where the words are no command line,
 /// and [`NoLine::Memory`] where a growth was refused.
 pub fn read_line<'a>(alloc: Global, words: &'a [&'a str]) -> Result<Line<'a>, NoLine>
-    ensures read { IfOk result (λ line. Reads (map (λ w. w.now) words.entry.now) (asked_of line)) }
-    ensures only { (line : Asked) → Reads (map (λ w. w.now) words.entry.now) line → IsReadAs line result }
-    ensures none { IfErr result (Explains (map (λ w. w.now) words.entry.now)) }
+    ensures read { IfOk result (λ line. Reads (texts_of words.entry.now) (request_of line)) }
+    ensures only { (line : Request) → Reads (texts_of words.entry.now) line → IsReadAs line result }
+    ensures none { IfErr result (Explains (texts_of words.entry.now)) }
 {
     match read_words(alloc, words) {
         Ok(Some(line)) => Ok(line),

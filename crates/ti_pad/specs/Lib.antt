@@ -1,7 +1,6 @@
 pub mod Setting
 pub mod Marks
 pub mod Padded
-pub mod Shown
-pub mod Written
-pub mod Stopped
+pub mod Stops
 pub mod Laws
+pub mod inner

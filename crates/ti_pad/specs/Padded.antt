@@ -21,7 +21,8 @@ lines_of s m = if has_flag (letter (codes "*")) m then s.lines else 1
 abbrev pub is_passed_over : Setting → Mark → Bool
 is_passed_over s m = s.xon && not (has_flag (letter (codes "/")) m)
 
--- so many pad bytes take the time of the mark: `tenths / 10000` seconds a line, at `rate` bytes a second
+-- so many pad bytes take the time of the mark: `tenths / 10000` seconds a line, at `rate` bytes a
+-- second
 abbrev pub TakesTheTime : Setting → Mark → ℕ → Type 0
 TakesTheTime s m count = tenths m * lines_of s m * s.rate ≤ 10000 * count
 
@@ -29,9 +30,11 @@ TakesTheTime s m count = tenths m * lines_of s m * s.rate ≤ 10000 * count
 abbrev pub count_of : Setting → Mark → ℕ
 count_of s m = if is_passed_over s m then 0 else (tenths m * lines_of s m * s.rate + 9999) / 10000
 
-abbrev pub written_for : Setting → Piece → List ℕ
-written_for s (literal byte) = byte ∷ []
-written_for s (marked m) = replicate (count_of s m) s.pad
+-- what a piece becomes
+abbrev pub padded_piece : Setting → Piece → List ℕ
+padded_piece s (literal byte) = byte ∷ []
+padded_piece s (marked m) = replicate (count_of s m) s.pad
 
-abbrev pub padded : List ℕ → Setting → List ℕ
-padded bytes s = flat_map (written_for s) (pieces bytes)
+-- what a text becomes
+abbrev pub padded_text : List ℕ → Setting → List ℕ
+padded_text bytes s = flat_map (padded_piece s) (pieces bytes)

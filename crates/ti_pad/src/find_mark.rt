@@ -3,11 +3,12 @@
 //! Each function is one part of the grammar and looks forward only, at each byte once. No byte after the first of a
 //! mark is a `$`, so that asking at each place of a text is linear in the text. No memory is taken.
 
-ghost use Rattle.std.specs.Prelude.{true, ◌≡◌, ◌≤◌, length, option_map, take_while, drop, codes, ◌++◌, unwrap_or, [], IfSome};
+ghost use Rattle.std.specs.Prelude.{true, ◌≡◌, ◌≤◌, length, option_map, take_while, IfSome};
 ghost use Rattle.std.specs.Char.{is_ascii_digit};
 ghost use Rattle.std.specs.List.{list_all, prefix_len};
-ghost use Rattle.ti_pad.specs.Marks.{decimals_at, decimals_text, flags_at, mark_after_number as the_mark_after_number, mark_after_whole as the_mark_after_whole, mark_after_front as the_mark_after_front, mark_at, spelled};
-ghost use Rattle.ti_pad.specs.Shown.{shown};
+ghost use Rattle.ti_pad.specs.Marks.{bytes_after_front, bytes_after_number, bytes_after_whole, decimals_at, flags_at, mark_after_number as the_mark_after_number, mark_after_whole as the_mark_after_whole, mark_after_front as the_mark_after_front, mark_at, mark_bytes};
+ghost use Rattle.ti_pad.specs.inner.Decimals.{AreDecimals, decimals_of};
+ghost use Rattle.ti_pad.specs.inner.Mark.{LeavesAfter, found_mark};
 
 use crate::mark::{Found, Mark};
 
@@ -32,8 +33,8 @@ fn digits(bytes: &[u8]) -> &[u8]
 
 /// The decimals at the front, where a point is there.
 fn decimals(bytes: &[u8]) -> Option<&[u8]>
-    ensures value { option_map (λ s. s.now) result ≡ decimals_at bytes.now }
-    ensures digits { list_all is_ascii_digit (unwrap_or (option_map (λ s. s.now) result) []) ≡ true }
+    ensures value { decimals_of result ≡ decimals_at bytes.now }
+    ensures digits { AreDecimals result }
 {
     let rest = bytes.strip_prefix(b".")?;
     Some(digits(rest))
@@ -41,7 +42,7 @@ fn decimals(bytes: &[u8]) -> Option<&[u8]>
 
 /// The flags at the front, where a `>` follows them.
 fn flags(bytes: &[u8]) -> Option<&'static [u8]>
-    ensures { option_map (λ s. s.now) result ≡ flags_at bytes.now }
+    ensures { option_map (λ f. f.now) result ≡ flags_at bytes.now }
 {
     if bytes.starts_with(b">") {
         Some(b"")
@@ -65,9 +66,10 @@ fn mark_after_number<'a>(
     bytes: &'a [u8],
 ) -> Option<Found<'a>>
     requires whole { list_all is_ascii_digit whole.now ≡ true }
-    requires decimals { list_all is_ascii_digit (unwrap_or (option_map (λ s. s.now) decimals) []) ≡ true }
-    ensures mark { option_map (λ f. shown f.mark) result ≡ the_mark_after_number whole.now (option_map (λ s. s.now) decimals.entry) bytes.now }
-    ensures rest { IfSome result (λ f. f.rest.now ≡ drop (length (f.mark.flags.now ++ codes ">")) bytes.now) }
+    requires decimals { AreDecimals decimals }
+    ensures mark { found_mark result
+        ≡ the_mark_after_number whole.now (decimals_of decimals.entry) bytes.now }
+    ensures rest { IfSome result (LeavesAfter bytes_after_number bytes.now) }
     ensures decimals { IfSome result (λ f. f.mark.decimals ≡ decimals.entry) }
     ensures whole { IfSome result (λ f. f.mark.whole.now ≡ whole.now) }
 {
@@ -90,8 +92,8 @@ fn mark_after_number<'a>(
 /// The mark after its whole milliseconds.
 fn mark_after_whole<'a>(whole: &'a [u8], bytes: &'a [u8]) -> Option<Found<'a>>
     requires { list_all is_ascii_digit whole.now ≡ true }
-    ensures mark { option_map (λ f. shown f.mark) result ≡ the_mark_after_whole whole.now bytes.now }
-    ensures rest { IfSome result (λ f. f.rest.now ≡ drop (length (decimals_text (shown f.mark).decimals ++ (f.mark.flags.now ++ codes ">"))) bytes.now) }
+    ensures mark { found_mark result ≡ the_mark_after_whole whole.now bytes.now }
+    ensures rest { IfSome result (LeavesAfter bytes_after_whole bytes.now) }
     ensures whole { IfSome result (λ f. f.mark.whole.now ≡ whole.now) }
 {
     match decimals(bytes) {
@@ -102,8 +104,8 @@ fn mark_after_whole<'a>(whole: &'a [u8], bytes: &'a [u8]) -> Option<Found<'a>>
 
 /// The mark after its `$<`.
 fn mark_after_front(bytes: &[u8]) -> Option<Found<'_>>
-    ensures mark { option_map (λ f. shown f.mark) result ≡ the_mark_after_front bytes.now }
-    ensures rest { IfSome result (λ f. f.rest.now ≡ drop (length (f.mark.whole.now ++ (decimals_text (shown f.mark).decimals ++ (f.mark.flags.now ++ codes ">")))) bytes.now) }
+    ensures mark { found_mark result ≡ the_mark_after_front bytes.now }
+    ensures rest { IfSome result (LeavesAfter bytes_after_front bytes.now) }
 {
     let whole = digits(bytes);
     mark_after_whole(whole, &bytes[whole.len()..])
@@ -111,8 +113,8 @@ fn mark_after_front(bytes: &[u8]) -> Option<Found<'_>>
 
 /// The mark at the front.
 pub fn mark_at_front(bytes: &[u8]) -> Option<Found<'_>>
-    ensures mark { option_map (λ f. shown f.mark) result ≡ mark_at bytes.now }
-    ensures rest { IfSome result (λ f. f.rest.now ≡ drop (length (spelled (shown f.mark))) bytes.now) }
+    ensures mark { found_mark result ≡ mark_at bytes.now }
+    ensures rest { IfSome result (LeavesAfter mark_bytes bytes.now) }
 {
     let rest = bytes.strip_prefix(b"$<")?;
     mark_after_front(rest)

@@ -1,8 +1,9 @@
 //! A padding mark as its spelled parts, which it lends from the text.
 
-ghost use Rattle.std.specs.Prelude.{true, ◌≡◌, ◌≤◌, length, option_map, unwrap_or, []};
+ghost use Rattle.std.specs.Prelude.{true, ◌≡◌, ◌≤◌, length};
 ghost use Rattle.std.specs.Char.{is_ascii_digit};
 ghost use Rattle.std.specs.List.{list_all};
+ghost use Rattle.ti_pad.specs.inner.Decimals.{AreDecimals};
 
 /// A mark: its whole milliseconds, its decimals where it has a point, and its flags.
 #[derive(Clone, Copy, Debug)]
@@ -12,7 +13,7 @@ pub struct Mark<'a> {
     pub flags: &'a [u8],
     ghost few: { length whole.now ≤ 5 },
     ghost digits: { list_all is_ascii_digit whole.now ≡ true },
-    ghost more_digits: { list_all is_ascii_digit (unwrap_or (option_map (λ s. s.now) decimals) []) ≡ true },
+    ghost more_digits: { AreDecimals decimals },
 }
 
 /// A mark at the front of some bytes, and what stands after it.

@@ -4,8 +4,8 @@
 
 ghost use Rattle.std.specs.Prelude.{◌≡◌, ◌≤◌, ◌<◌, ◌+◌, ◌⊎◌, ◌↔◌, ◌++◌, length, Err, IfOk, IfErr, OnOk};
 ghost use Rattle.ti_base.specs.Limits.{most_padded_bytes};
-ghost use Rattle.ti_pad.specs.Padded.{padded};
-ghost use Rattle.ti_pad.specs.Written.{written};
+ghost use Rattle.ti_pad.specs.Padded.{padded_text};
+ghost use Rattle.ti_pad.specs.inner.Stretch.{stretch_bytes};
 ghost use Rattle.ti_pad.specs.declared.memory.PadFault.TheVariants as fault;
 
 use crate::length::padded_len;
@@ -40,27 +40,29 @@ pub fn pad<A: Allocator + Copy>(
     bytes: &[u8],
     padding: &Padding,
 ) -> Result<Vec<u8, A>, PadFault>
-    ensures text { IfOk result (λ v. v.items ≡ padded bytes.now padding.now) }
-    ensures faults { IfErr result (λ e. (e ≡ fault.Memory) ⊎ (e ≡ fault.TooMuch (length (padded bytes.now padding.now)))) }
-    ensures limit { (result ≡ Err (fault.TooMuch (length (padded bytes.now padding.now)))) ↔ (most_padded_bytes < length (padded bytes.now padding.now)) }
+    ensures text { IfOk result (λ v. v.items ≡ padded_text bytes.now padding.now) }
+    ensures faults { IfErr result (λ e. (e ≡ fault.Memory)
+        ⊎ (e ≡ fault.TooMuch (length (padded_text bytes.now padding.now)))) }
+    ensures limit { (result ≡ Err (fault.TooMuch (length (padded_text bytes.now padding.now))))
+        ↔ (most_padded_bytes < length (padded_text bytes.now padding.now)) }
 {
     let need = padded_len(bytes, padding);
     if need > MOST_PADDED_BYTES {
         return Err(PadFault::TooMuch { need });
     }
-    Ok(padded_text(alloc, need as usize, bytes, padding)?)
+    Ok(padded_copy(alloc, need as usize, bytes, padding)?)
 }
 
 /// The padded text, which has this many bytes.
-fn padded_text<A: Allocator + Copy>(
+fn padded_copy<A: Allocator + Copy>(
     alloc: A,
     len: usize,
     bytes: &[u8],
     padding: &Padding,
 ) -> Result<Vec<u8, A>, AllocError>
-    requires len { len ≡ length (padded bytes.now padding.now) }
+    requires len { len ≡ length (padded_text bytes.now padding.now) }
     requires few { len ≤ most_padded_bytes }
-    ensures { IfOk result (λ v. v.items ≡ padded bytes.now padding.now) }
+    ensures { IfOk result (λ v. v.items ≡ padded_text bytes.now padding.now) }
 {
     let mut rest = bytes;
     let mut out = Vec::with_capacity(alloc, len)?;
@@ -78,8 +80,8 @@ fn append<A: Allocator + Copy>(
     stretch: &Stretch<'_>,
     pad: u8,
 ) -> Result<(), AllocError>
-    requires { length out.old.items + length (written pad stretch.now) ≤ most_padded_bytes }
-    ensures { OnOk result (out.new.items ≡ out.old.items ++ written pad stretch.now) }
+    requires { length out.old.items + length (stretch_bytes pad stretch.now) ≤ most_padded_bytes }
+    ensures { OnOk result (out.new.items ≡ out.old.items ++ stretch_bytes pad stretch.now) }
 {
     match stretch {
         Stretch::Literal(bytes) => out.extend_from_slice(bytes),

@@ -2,9 +2,10 @@
 //!
 //! One write call of the writer a piece that it takes; no memory is taken.
 
-ghost use Rattle.std.specs.Prelude.{◌≡◌, ◌≤◌, ◌<◌, length, take, OnOk, IfErr};
+ghost use Rattle.std.specs.Prelude.{◌≡◌, ◌≤◌, ◌<◌, length, OnOk, IfErr};
 ghost use Rattle.std.specs.Io.KnownBytes.{Appends};
 ghost use Rattle.ti_base.specs.Limits.{most_interruptions};
+ghost use Rattle.ti_pad.specs.Stops.{AppendsFirst};
 
 use std::io::{ErrorKind, Write};
 use ti_base::MOST_INTERRUPTIONS;
@@ -14,9 +15,11 @@ use ti_base::MOST_INTERRUPTIONS;
 /// Interrupted writes are tried again, at most [`MOST_INTERRUPTIONS`] of them; the next one, any other error, and a
 /// write that takes no byte stop it. Nothing is written where there is no byte, and nothing is flushed.
 pub fn write_out<W: Write>(writer: &mut W, bytes: &[u8]) -> Result<(), u64>
-    ensures written { OnOk result (Appends (W.contents writer.old) (W.contents writer.new) bytes.now) }
+    ensures written { OnOk result
+        (Appends (W.contents writer.old) (W.contents writer.new) bytes.now) }
     ensures short { IfErr result (λ gone. gone < length bytes.now) }
-    ensures gone { IfErr result (λ gone. Appends (W.contents writer.old) (W.contents writer.new) (take gone bytes.now)) }
+    ensures gone { IfErr result
+        (AppendsFirst (W.contents writer.old) (W.contents writer.new) bytes.now) }
 {
     let mut interruptions = 0;
     write_some(writer, bytes, &mut interruptions)
@@ -30,9 +33,11 @@ pub(crate) fn write_some<W: Write>(
 ) -> Result<(), u64>
     requires { interruptions.old ≤ most_interruptions }
     ensures tries { interruptions.new ≤ most_interruptions }
-    ensures written { OnOk result (Appends (W.contents writer.old) (W.contents writer.new) bytes.now) }
+    ensures written { OnOk result
+        (Appends (W.contents writer.old) (W.contents writer.new) bytes.now) }
     ensures short { IfErr result (λ gone. gone < length bytes.now) }
-    ensures gone { IfErr result (λ gone. Appends (W.contents writer.old) (W.contents writer.new) (take gone bytes.now)) }
+    ensures gone { IfErr result
+        (AppendsFirst (W.contents writer.old) (W.contents writer.new) bytes.now) }
 {
     let mut written = 0;
     'writes: while written < bytes.len() {

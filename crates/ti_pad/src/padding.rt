@@ -3,7 +3,7 @@
 ghost use Rattle.std.specs.Prelude.{◌≡◌, ◌≤◌, ◌↔◌, ◌+◌, ◌*◌, ◌/◌, IsSome, IfSome};
 ghost use Rattle.ti_base.specs.Limits.{greatest_rate, most_lines};
 ghost use Rattle.ti_pad.specs.Padded.{count_of, tenths};
-ghost use Rattle.ti_pad.specs.Shown.{shown};
+ghost use Rattle.ti_pad.specs.inner.Mark.{mark_of};
 
 use crate::mark::Mark;
 use crate::number::{first_digit, number};
@@ -44,7 +44,8 @@ impl Padding {
     /// [`MOST_LINES`].
     pub fn new(rate: u32, lines: u32, xon: bool, pad: u8) -> Option<Padding>
         ensures within { IsSome result ↔ ((rate ≤ greatest_rate) × (lines ≤ most_lines)) }
-        ensures value { IfSome result (λ p. (p.rate ≡ rate) × (p.lines ≡ lines) × (p.xon ≡ xon) × (p.pad ≡ pad)) }
+        ensures value { IfSome result
+            (λ p. (p.rate ≡ rate) × (p.lines ≡ lines) × (p.xon ≡ xon) × (p.pad ≡ pad)) }
     {
         if rate > GREATEST_RATE || lines > MOST_LINES {
             return None;
@@ -66,7 +67,7 @@ impl Padding {
 
     /// How many pad bytes stand for a mark.
     pub(crate) fn count(&self, mark: &Mark<'_>) -> u64
-        ensures value { result ≡ count_of self.now (shown mark.now) }
+        ensures value { result ≡ count_of self.now (mark_of mark.now) }
         ensures most { result ≤ MOST_COUNT }
     {
         if self.xon && !mark.flags.contains(&b'/') {
@@ -77,13 +78,13 @@ impl Padding {
         } else {
             1
         };
-        rounded_up(tenths_of(mark), lines, self.rate)
+        byte_count(tenths_of(mark), lines, self.rate)
     }
 }
 
 /// The time of a mark in tenths of a millisecond.
 fn tenths_of(mark: &Mark<'_>) -> u32
-    ensures value { result ≡ tenths (shown mark.now) }
+    ensures value { result ≡ tenths (mark_of mark.now) }
     ensures most { result ≤ MOST_TENTHS }
 {
     10 * number(mark.whole) + first_digit(mark.decimals.unwrap_or(&[]))
@@ -91,7 +92,7 @@ fn tenths_of(mark: &Mark<'_>) -> u32
 
 /// The smallest count of bytes that takes so many tenths of a millisecond for each line. A tenth of a millisecond is
 /// the 10000th part of a second.
-fn rounded_up(tenths: u32, lines: u32, rate: u32) -> u64
+fn byte_count(tenths: u32, lines: u32, rate: u32) -> u64
     requires tenths { tenths ≤ MOST_TENTHS }
     requires lines { lines ≤ most_lines }
     requires rate { rate ≤ greatest_rate }

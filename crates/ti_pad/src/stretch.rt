@@ -4,8 +4,8 @@
 
 ghost use Rattle.std.specs.Prelude.{◌≡◌, ◌≤◌, ◌<◌, ◌+◌, ◌*◌, ◌++◌, ℕ, length};
 ghost use Rattle.std.specs.List.{prefix_len};
-ghost use Rattle.ti_pad.specs.Padded.{padded};
-ghost use Rattle.ti_pad.specs.Written.{is_plain, written};
+ghost use Rattle.ti_pad.specs.Padded.{padded_text};
+ghost use Rattle.ti_pad.specs.inner.Stretch.{is_plain, stretch_bytes};
 
 use crate::find_mark::mark_at_front;
 use crate::padding::{MOST_COUNT, Padding};
@@ -27,7 +27,7 @@ pub struct Front<'a> {
 impl Stretch<'_> {
     /// The number of its bytes.
     pub fn len(&self) -> u64
-        ensures { (pad : ℕ) → result ≡ length (written pad self.now) }
+        ensures { (pad : ℕ) → result ≡ length (stretch_bytes pad self.now) }
     {
         match self {
             Stretch::Literal(bytes) => bytes.len() as u64,
@@ -47,9 +47,11 @@ fn plain_len(bytes: &[u8]) -> usize
 /// The stretch at the front: the pad bytes of a mark, or else the bytes up to the next place where a mark may start.
 pub fn first_stretch<'a>(bytes: &'a [u8], padding: &Padding) -> Front<'a>
     requires { 0 < length bytes.now }
-    ensures text { padded bytes.now padding.now ≡ written padding.now.pad result.stretch ++ padded result.rest.now padding.now }
+    ensures text { padded_text bytes.now padding.now
+        ≡ stretch_bytes padding.now.pad result.stretch ++ padded_text result.rest.now padding.now }
     ensures shorter { length result.rest.now < length bytes.now }
-    ensures few { length (written padding.now.pad result.stretch) + MOST_COUNT * length result.rest.now ≤ MOST_COUNT * length bytes.now }
+    ensures few { length (stretch_bytes padding.now.pad result.stretch)
+        + MOST_COUNT * length result.rest.now ≤ MOST_COUNT * length bytes.now }
 {
     match mark_at_front(bytes) {
         Some(found) => Front {

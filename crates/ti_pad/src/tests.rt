@@ -7,8 +7,8 @@ use std::io::{ErrorKind, Write};
 use std::process::Abort;
 use std::test::Fail;
 
-/// Takes at most `step` bytes a write. The first write comes behind `interruptions` interrupted ones, each later one
-/// behind `interruptions_each`. Write `fails_at`, counted from 1, fails.
+/// Takes at most `step` bytes a write. The first write comes after `interruptions` interrupted ones, each later one
+/// after `interruptions_each`. Write `fails_at`, counted from 1, fails.
 #[derive(Drop)]
 struct Sink {
     taken: Vec<u8>,

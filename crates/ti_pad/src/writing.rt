@@ -2,12 +2,12 @@
 //!
 //! Bytes that stand for themselves are written as they lie in the text, pad bytes in blocks. No memory is taken.
 
-ghost use Rattle.std.specs.Prelude.{◌≡◌, ◌≤◌, ◌<◌, ◌↔◌, length, take, replicate, Err, OnOk, IfErr};
+ghost use Rattle.std.specs.Prelude.{◌≡◌, ◌≤◌, ◌<◌, ◌↔◌, length, replicate, Err, OnOk, IfErr};
 ghost use Rattle.std.specs.Io.KnownBytes.{Appends};
 ghost use Rattle.ti_base.specs.Limits.{most_interruptions, most_padded_bytes};
-ghost use Rattle.ti_pad.specs.Padded.{padded};
-ghost use Rattle.ti_pad.specs.Stopped.{StopsAt};
-ghost use Rattle.ti_pad.specs.Written.{written};
+ghost use Rattle.ti_pad.specs.Padded.{padded_text};
+ghost use Rattle.ti_pad.specs.Stops.{AppendsFirst, StopsAt};
+ghost use Rattle.ti_pad.specs.inner.Stretch.{stretch_bytes};
 ghost use Rattle.ti_pad.specs.declared.writing.PadStop.TheVariants as stop;
 
 use crate::length::padded_len;
@@ -42,9 +42,12 @@ pub fn write_padded<W: Write>(
     bytes: &[u8],
     padding: &Padding,
 ) -> Result<(), PadStop>
-    ensures written { OnOk result (Appends (W.contents writer.old) (W.contents writer.new) (padded bytes.now padding.now)) }
-    ensures stops { IfErr result (StopsAt (W.contents writer.old) (W.contents writer.new) (padded bytes.now padding.now)) }
-    ensures limit { (result ≡ Err (stop.TooMuch (length (padded bytes.now padding.now)))) ↔ (most_padded_bytes < length (padded bytes.now padding.now)) }
+    ensures written { OnOk result (Appends
+        (W.contents writer.old) (W.contents writer.new) (padded_text bytes.now padding.now)) }
+    ensures stops { IfErr result (StopsAt
+        (W.contents writer.old) (W.contents writer.new) (padded_text bytes.now padding.now)) }
+    ensures limit { (result ≡ Err (stop.TooMuch (length (padded_text bytes.now padding.now))))
+        ↔ (most_padded_bytes < length (padded_text bytes.now padding.now)) }
 {
     let need = padded_len(bytes, padding);
     if need > MOST_PADDED_BYTES {
@@ -55,10 +58,12 @@ pub fn write_padded<W: Write>(
 
 /// Writes the padded text to its end. An error is the number of bytes that the writer took.
 fn write_stretches<W: Write>(writer: &mut W, bytes: &[u8], padding: &Padding) -> Result<(), u64>
-    requires { length (padded bytes.now padding.now) ≤ most_padded_bytes }
-    ensures written { OnOk result (Appends (W.contents writer.old) (W.contents writer.new) (padded bytes.now padding.now)) }
-    ensures short { IfErr result (λ gone. gone < length (padded bytes.now padding.now)) }
-    ensures gone { IfErr result (λ gone. Appends (W.contents writer.old) (W.contents writer.new) (take gone (padded bytes.now padding.now))) }
+    requires { length (padded_text bytes.now padding.now) ≤ most_padded_bytes }
+    ensures written { OnOk result (Appends
+        (W.contents writer.old) (W.contents writer.new) (padded_text bytes.now padding.now)) }
+    ensures short { IfErr result (λ gone. gone < length (padded_text bytes.now padding.now)) }
+    ensures gone { IfErr result (AppendsFirst
+        (W.contents writer.old) (W.contents writer.new) (padded_text bytes.now padding.now)) }
 {
     let mut rest = bytes;
     let mut gone = 0;
@@ -83,9 +88,14 @@ fn write_stretch<W: Write>(
 ) -> Result<(), u64>
     requires { interruptions.old ≤ most_interruptions }
     ensures tries { interruptions.new ≤ most_interruptions }
-    ensures written { OnOk result (Appends (W.contents writer.old) (W.contents writer.new) (written padding.now.pad stretch.now)) }
-    ensures short { IfErr result (λ gone. gone < length (written padding.now.pad stretch.now)) }
-    ensures gone { IfErr result (λ gone. Appends (W.contents writer.old) (W.contents writer.new) (take gone (written padding.now.pad stretch.now))) }
+    ensures written { OnOk result (Appends
+        (W.contents writer.old) (W.contents writer.new)
+        (stretch_bytes padding.now.pad stretch.now)) }
+    ensures short { IfErr result
+        (λ gone. gone < length (stretch_bytes padding.now.pad stretch.now)) }
+    ensures gone { IfErr result (AppendsFirst
+        (W.contents writer.old) (W.contents writer.new)
+        (stretch_bytes padding.now.pad stretch.now)) }
 {
     match stretch {
         Stretch::Literal(bytes) => write_some(writer, bytes, interruptions),
@@ -102,9 +112,11 @@ fn write_pads<W: Write>(
 ) -> Result<(), u64>
     requires { interruptions.old ≤ most_interruptions }
     ensures tries { interruptions.new ≤ most_interruptions }
-    ensures written { OnOk result (Appends (W.contents writer.old) (W.contents writer.new) (replicate count pad)) }
+    ensures written { OnOk result (Appends
+        (W.contents writer.old) (W.contents writer.new) (replicate count pad)) }
     ensures short { IfErr result (λ gone. gone < count) }
-    ensures gone { IfErr result (λ gone. Appends (W.contents writer.old) (W.contents writer.new) (replicate gone pad)) }
+    ensures gone { IfErr result (λ gone. Appends
+        (W.contents writer.old) (W.contents writer.new) (replicate gone pad)) }
 {
     let mut gone = 0;
     'writes: while gone < count {
@@ -127,9 +139,11 @@ fn write_block<W: Write>(
     requires size { size ≤ BLOCK }
     requires tries { interruptions.old ≤ most_interruptions }
     ensures tries { interruptions.new ≤ most_interruptions }
-    ensures written { OnOk result (Appends (W.contents writer.old) (W.contents writer.new) (replicate size pad)) }
+    ensures written { OnOk result (Appends
+        (W.contents writer.old) (W.contents writer.new) (replicate size pad)) }
     ensures short { IfErr result (λ gone. gone < size) }
-    ensures gone { IfErr result (λ gone. Appends (W.contents writer.old) (W.contents writer.new) (take gone (replicate size pad))) }
+    ensures gone { IfErr result (AppendsFirst
+        (W.contents writer.old) (W.contents writer.new) (replicate size pad)) }
 {
     let block = [pad; BLOCK];
     write_some(writer, &block[..size], interruptions)

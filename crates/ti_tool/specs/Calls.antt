@@ -1,16 +1,16 @@
 -- What the calls of the program do to their reader and writer.
-use Rattle.std.specs.Prelude.{◌≡◌, ◌<◌, ◌⊎◌, ◌+◌, ℕ, Bool, List, IfOk, Option, Some, None, Result, Ok, Err, length, take}
+use Rattle.std.specs.Prelude.{◌≡◌, ◌<◌, ◌⊎◌, ◌+◌, ℕ, Bool, List, IfOk, Option, Some, Result, Ok, Err, length, take}
 use Rattle.std.specs.Io.KnownBytes.{Appends, Consumes, IsAtEnd, Keeps}
 use Rattle.ti_base.specs.Limits.{most_capability_bytes}
 use Rattle.ti_layout.specs.declared.fault.Refused.{Refused}
-use Rattle.ti_entry.specs.Reading.{Reading}
-use Rattle.ti_layout.specs.Refusal.{refusal, failure}
+use Rattle.ti_layout.specs.Refusal.{failure}
 use Rattle.ti_tool.specs.declared.fault.ToolFault.{ToolFault}
 use Rattle.ti_tool.specs.declared.fault.ToolFault.TheVariants as fault
 
--- What was written, where `due` says which result or fault is due. Nothing is written but a part of the due result:
--- all of it, or the first `gone` bytes where the writer failed.
-abbrev pub Wrote : (Result (List ℕ) ToolFault → Type 0) → Option (List ℕ) → Option (List ℕ) → Result (Unit {0}) ToolFault → Type 0
+-- What was written, where `due` says which result or fault is due. Nothing is written but a part of
+-- the due result: all of it, or the first `gone` bytes where the writer failed.
+abbrev pub Wrote : (Result (List ℕ) ToolFault → Type 0) → Option (List ℕ) → Option (List ℕ)
+    → Result (Unit {0}) ToolFault → Type 0
 Wrote due before after (Ok u) = (out : List ℕ) × due (Ok out) × Appends before after out
 Wrote due before after (Err (fault.Write gone)) =
     (out : List ℕ) × due (Ok out) × (gone < length out) × Appends before after (take gone out)
@@ -19,17 +19,18 @@ Wrote due before after (Err fault.Memory) = Keeps before after
 Wrote due before after (Err other) = due (Err other) × Keeps before after
 
 -- the answer rests on all that there is to read, or on as much as is enough
-abbrev pub Ended : Type 0 → Option (List ℕ) → Result (Unit {0}) ToolFault → Type 0
-Ended enough left (Err fault.Read) = Unit {0}
-Ended enough left (Err fault.Memory) = Unit {0}
-Ended enough left _ = enough ⊎ IsAtEnd left
+abbrev pub HasReadEnough : Type 0 → Option (List ℕ) → Result (Unit {0}) ToolFault → Type 0
+HasReadEnough enough left (Err fault.Read) = Unit {0}
+HasReadEnough enough left (Err fault.Memory) = Unit {0}
+HasReadEnough enough left _ = enough ⊎ IsAtEnd left
 
 -- a call read an input, and wrote what is due for it
 pub record DidCall (due : List ℕ → Result (List ℕ) ToolFault → Type 0) (enough : List ℕ → Type 0)
-    (left0 left1 held0 held1 : Option (List ℕ)) (answer : Result (Unit {0}) ToolFault) : Type 0 where
+    (left0 left1 held0 held1 : Option (List ℕ)) (answer : Result (Unit {0}) ToolFault)
+    : Type 0 where
   pub input : List ℕ
   pub read : Consumes left0 left1 input
-  pub ended : Ended (enough input) left1 answer
+  pub ended : HasReadEnough (enough input) left1 answer
   pub wrote : Wrote (due input) held0 held1 answer
 
 -- as many bytes as `cap` keeps
@@ -40,25 +41,14 @@ IsFull input = length input ≡ most_capability_bytes + 1
 abbrev pub HasFailed : List ℕ → Type 0
 HasFailed input = (refused : Refused) × (failure input ≡ Some refused)
 
--- why reading an entry stopped: a read failed, or the bytes that came are refused
-abbrev pub StoppedAt : Option (List ℕ) → Option (List ℕ) → ToolFault → Type 0
-StoppedAt before after fault.Read = (bytes : List ℕ) × Consumes before after bytes
-StoppedAt before after (fault.Entry refused) =
-    (bytes : List ℕ) × Consumes before after bytes × (failure bytes ≡ Some refused) × (refusal bytes ≡ Some refused)
-StoppedAt before after _ = ⊥
-
--- all that there was to read is kept, and nothing is refused so far
-pub record KeepsAll (before after : Option (List ℕ)) (reading : Reading) : Type 0 where
-  pub read : Consumes before after reading.kept
-  pub end : IsAtEnd after
-  pub unrefused : reading.refusal ≡ None
-
 -- an answer without its value
 abbrev pub without_value : {V : Type 0} → Result V ToolFault → Result (Unit {0}) ToolFault
 without_value (Ok v) = Ok tt
 without_value (Err e) = Err e
 
 -- a call on an entry did its work, and answered whether its texts are sound
-abbrev pub DidCheck : (Bool → List ℕ → Result (List ℕ) ToolFault → Type 0) → Option (List ℕ) → Option (List ℕ) → Option (List ℕ) → Option (List ℕ) → Result Bool ToolFault → Type 0
+abbrev pub DidCheck : (Bool → List ℕ → Result (List ℕ) ToolFault → Type 0) → Option (List ℕ)
+    → Option (List ℕ) → Option (List ℕ) → Option (List ℕ) → Result Bool ToolFault → Type 0
 DidCheck due left0 left1 held0 held1 answer =
-    (sound : Bool) × IfOk answer (λ s. s ≡ sound) × DidCall (due sound) HasFailed left0 left1 held0 held1 (without_value answer)
+    (sound : Bool) × IfOk answer (λ s. s ≡ sound)
+    × DidCall (due sound) HasFailed left0 left1 held0 held1 (without_value answer)

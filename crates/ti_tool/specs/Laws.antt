@@ -6,7 +6,9 @@ use Rattle.ti_words.specs.Spelling.{Spells}
 use Rattle.ti_draft.specs.Canonical.{canonical}
 use Rattle.ti_tool.specs.Results.{IsConverted}
 
--- where an entry of the legacy format is widened, and what is written narrowed again, its canonical bytes come out
+-- where an entry of the legacy format is widened, and what is written narrowed again, its canonical
+-- bytes come out
 abbrev pub WideAndBack : Type 0
 WideAndBack = (input wide back : List ℕ) (v : EntryValue) → Spells input v → v.width ≡ Legacy
-    → IsConverted (Some Wide) input (Ok wide) → IsConverted (Some Legacy) wide (Ok back) → back ≡ canonical v
+    → IsConverted (Some Wide) input (Ok wide) → IsConverted (Some Legacy) wide (Ok back)
+    → back ≡ canonical v

@@ -1,11 +1,10 @@
 pub mod Params
-pub mod Reading
 pub mod Labels
-pub mod Shown
+pub mod Listing
 pub mod Names
-pub mod Checked
-pub mod Judged
+pub mod Verdicts
 pub mod Results
 pub mod Calls
 pub mod Runs
 pub mod Laws
+pub mod inner

@@ -11,7 +11,8 @@ use Rattle.ti_entry.specs.Finding.{IsFirst, names_of}
 -- `#` and one to five digits
 abbrev pub IsLabel : List ℕ → ℕ → Type 0
 IsLabel name index =
-    (digits : List ℕ) × (name ≡ codes "#" ++ digits) × IsNumeral 10 digits × (length digits ≤ 5) × (index ≡ digits_value 10 digits)
+    (digits : List ℕ) × (name ≡ codes "#" ++ digits) × IsNumeral 10 digits × (length digits ≤ 5)
+    × (index ≡ digits_value 10 digits)
 
 -- the extended text at an index
 abbrev pub text_found : Option ℕ → EntryValue → TextValue
@@ -20,7 +21,8 @@ text_found (Some index) v = get_or (map mark_in v.extended_texts) index AbsentTe
 
 -- the first extended text with the name
 abbrev pub IsExtendedCalled : List ℕ → EntryValue → TextValue → Type 0
-IsExtendedCalled name v text = (found : Option ℕ) × IsFirst (names_of v kinds.Text) name found × (text ≡ text_found found v)
+IsExtendedCalled name v text =
+    (found : Option ℕ) × IsFirst (names_of v kinds.Text) name found × (text ≡ text_found found v)
 
 -- the text at the place that the table of names tells, or else the extended text of the name
 abbrev pub IsNamedText : Option Place → List ℕ → EntryValue → TextValue → Type 0

@@ -11,21 +11,22 @@ abbrev pub IsNumber : List ℕ → ℤ → Type 0
 IsNumber text z =
     FitsSigned w32 z
     × ((IsNumeral 10 text × (z ≡ pos (digits_value 10 text)))
-    ⊎ ((digits : List ℕ) × (text ≡ codes "-" ++ digits) × IsNumeral 10 digits × (z ≡ neg_ℤ (pos (digits_value 10 digits)))))
+    ⊎ ((digits : List ℕ) × (text ≡ codes "-" ++ digits) × IsNumeral 10 digits
+    × (z ≡ neg_ℤ (pos (digits_value 10 digits)))))
 
 -- `n:` and a number, or `s:` and the text itself
-abbrev pub IsWord : List ℕ → Value → Type 0
-IsWord word (Num z) = (text : List ℕ) × (word ≡ codes "n:" ++ text) × IsNumber text z
-IsWord word (Text t) = word ≡ codes "s:" ++ t.now
+abbrev pub IsParam : List ℕ → Value → Type 0
+IsParam word (Num z) = (text : List ℕ) × (word ≡ codes "n:" ++ text) × IsNumber text z
+IsParam word (Text t) = word ≡ codes "s:" ++ t.now
 
 abbrev pub IsZero : Value → Type 0
 IsZero value = value ≡ Num (pos 0)
 
--- each word stands for the value in its place, and behind the words the values are 0
+-- each word stands for the value in its place, and after the words the values are 0
 abbrev pub Stand : List (List ℕ) → List Value → Type 0
 Stand [] values = AllByRecursion IsZero values
 Stand (word ∷ words) [] = ⊥
-Stand (word ∷ words) (value ∷ values) = IsWord word value × Stand words values
+Stand (word ∷ words) (value ∷ values) = IsParam word value × Stand words values
 
 -- the words stand for nine parameters
 abbrev pub AreParams : List (List ℕ) → List Value → Type 0
@@ -35,5 +36,5 @@ AreParams words values = (length values ≡ 9) × Stand words values
 abbrev pub IsFirstBad : ℕ → List (List ℕ) → Type 0
 IsFirstBad which [] = ⊥
 IsFirstBad which (word ∷ words) =
-    ((which ≡ 1) × ((value : Value) → ¬ IsWord word value))
-    ⊎ ((1 < which) × ((value : Value) × IsWord word value) × IsFirstBad (which - 1) words)
+    ((which ≡ 1) × ((value : Value) → ¬ IsParam word value))
+    ⊎ ((1 < which) × ((value : Value) × IsParam word value) × IsFirstBad (which - 1) words)

@@ -1,5 +1,5 @@
 -- What each call of the program makes of the bytes that it read.
-use Rattle.std.specs.Prelude.{◌≡◌, ◌≤◌, ◌<◌, ◌⊎◌, ℕ, Bool, length, List, [], ◌∷◌, ◌++◌, Result, Ok, Err, Some, None, pos, replicate, Option, if◌then◌else◌}
+use Rattle.std.specs.Prelude.{◌≡◌, ◌≤◌, ◌<◌, ◌⊎◌, ℕ, Bool, codes, length, List, ◌++◌, Result, Ok, Err, Some, None, pos, replicate, Option, if◌then◌else◌}
 use Rattle.hex.specs.Hex.{encode_lower}
 use Rattle.ti_cap.specs.Tree.{Sequence}
 use Rattle.ti_cap.specs.Spelling.{Writes}
@@ -16,18 +16,18 @@ use Rattle.ti_words.specs.declared.Width.{Width}
 use Rattle.ti_words.specs.Texts.{TextValue, AbsentText, CancelledText, TextOf}
 use Rattle.ti_base.specs.Limits.{most_padded_bytes}
 use Rattle.ti_pad.specs.Setting.{Setting}
-use Rattle.ti_pad.specs.Padded.{padded}
+use Rattle.ti_pad.specs.Padded.{padded_text}
 use Rattle.ti_draft.specs.Canonical.{canonical}
 use Rattle.ti_draft.specs.Unfit.{encode_fault}
-use Rattle.ti_tool.specs.Checked.{AreVerdicts}
-use Rattle.ti_tool.specs.Shown.{entry_lines}
+use Rattle.ti_tool.specs.Verdicts.{AreVerdicts}
+use Rattle.ti_tool.specs.Listing.{entry_lines}
 use Rattle.ti_tool.specs.Names.{IsCalled}
 use Rattle.ti_tool.specs.declared.fault.ToolFault.{ToolFault}
 use Rattle.ti_tool.specs.declared.fault.ToolFault.TheVariants as fault
 
 -- the bytes, or the same in lower-case hex with a newline
 abbrev pub output_bytes : Bool → List ℕ → List ℕ
-output_bytes hex bytes = if hex then encode_lower bytes ++ 10 ∷ [] else bytes
+output_bytes hex bytes = if hex then encode_lower bytes ++ codes "\n" else bytes
 
 -- the bytes that a capability writes with these parameters, where each variable starts as 0
 pub record IsExpansion (capability : List ℕ) (parameters : List Value) (out : List ℕ) : Type 0 where
@@ -39,23 +39,26 @@ pub record IsExpansion (capability : List ℕ) (parameters : List Value) (out : 
 -- why a capability is not expanded
 abbrev pub IsUnexpanded : List ℕ → List Value → ToolFault → Type 0
 IsUnexpanded capability parameters (fault.Cap refused) = IsRefusal capability refused
-IsUnexpanded capability parameters (fault.TextTooLong k) = IsFaultless capability × IsFirstTooLong parameters k
+IsUnexpanded capability parameters (fault.TextTooLong k) =
+    IsFaultless capability × IsFirstTooLong parameters k
 IsUnexpanded capability parameters _ = ⊥
 
 -- the result of `cap`, or the first fault
 abbrev pub IsCapped : List Value → Bool → List ℕ → Result (List ℕ) ToolFault → Type 0
 IsCapped parameters hex input (Ok out) =
-    (plain : List ℕ) × IsFaultless input × IsExpansion input parameters plain × (out ≡ output_bytes hex plain)
+    (plain : List ℕ) × IsFaultless input × IsExpansion input parameters plain
+    × (out ≡ output_bytes hex plain)
 IsCapped parameters hex input (Err e) = IsUnexpanded input parameters e
 
 -- a text of an entry, expanded and then padded, or the first fault
 abbrev pub IsPadded : List ℕ → List Value → Setting → Bool → Result (List ℕ) ToolFault → Type 0
 IsPadded text parameters setting hex (Ok out) =
     (plain : List ℕ) × IsFaultless text × IsExpansion text parameters plain
-    × (length (padded plain setting) ≤ most_padded_bytes) × (out ≡ output_bytes hex (padded plain setting))
+    × (length (padded_text plain setting) ≤ most_padded_bytes)
+    × (out ≡ output_bytes hex (padded_text plain setting))
 IsPadded text parameters setting hex (Err (fault.TooMuch need)) =
     (plain : List ℕ) × IsFaultless text × IsExpansion text parameters plain
-    × (need ≡ length (padded plain setting)) × (most_padded_bytes < need)
+    × (need ≡ length (padded_text plain setting)) × (most_padded_bytes < need)
 IsPadded text parameters setting hex (Err e) = IsUnexpanded text parameters e
 
 -- what is due for a text, or for none
@@ -65,12 +68,15 @@ IsDue AbsentText parameters setting hex answer = answer ≡ Err fault.NoSuchText
 IsDue CancelledText parameters setting hex answer = answer ≡ Err fault.NoSuchText
 
 -- what is due for the text of an entry that a name stands for
-abbrev pub IsDueFor : List ℕ → List Value → Setting → Bool → EntryValue → Result (List ℕ) ToolFault → Type 0
-IsDueFor name parameters setting hex v answer = (text : TextValue) × IsCalled name v text × IsDue text parameters setting hex answer
+abbrev pub IsDueFor : List ℕ → List Value → Setting → Bool → EntryValue
+    → Result (List ℕ) ToolFault → Type 0
+IsDueFor name parameters setting hex v answer =
+    (text : TextValue) × IsCalled name v text × IsDue text parameters setting hex answer
 
 -- the result of `expand`, or the first fault
-abbrev pub IsNamed : List ℕ → List Value → Setting → Bool → List ℕ → Result (List ℕ) ToolFault → Type 0
-IsNamed name parameters setting hex input answer =
+abbrev pub IsExpanded : List ℕ → List Value → Setting → Bool → List ℕ
+    → Result (List ℕ) ToolFault → Type 0
+IsExpanded name parameters setting hex input answer =
     ((refused : Refused) × (refusal input ≡ Some refused) × (answer ≡ Err (fault.Entry refused)))
     ⊎ ((v : EntryValue) × Spells input v × IsDueFor name parameters setting hex v answer)
 

@@ -5,13 +5,11 @@ use Rattle.ti_words.specs.declared.Width.{Width}
 use Rattle.ti_words.specs.declared.Width.TheVariants.{Legacy, Wide}
 use Rattle.ti_expand.specs.declared.values.Value.{Value}
 use Rattle.ti_pad.specs.Setting.{Setting}
-use Rattle.ti_line.specs.CommandLine.{Asked, AsksForHelp, Cap, Show, Check, Expand, Convert, IsRefused}
-use Rattle.ti_line.specs.declared.line.NoLine.{NoLine}
-use Rattle.ti_line.specs.declared.line.NoLine.TheVariants as no_line
+use Rattle.ti_line.specs.CommandLine.{Request, AsksForHelp, Cap, Show, Check, Expand, Convert, IsRefused}
 use Rattle.ti_tool.specs.declared.fault.ToolFault.{ToolFault}
 use Rattle.ti_tool.specs.declared.fault.ToolFault.TheVariants as fault
 use Rattle.ti_tool.specs.Params.{AreParams}
-use Rattle.ti_tool.specs.Results.{IsCapped, IsChecked, IsConverted, IsNamed, IsShown}
+use Rattle.ti_tool.specs.Results.{IsCapped, IsChecked, IsConverted, IsExpanded, IsShown}
 use Rattle.ti_tool.specs.Calls.{DidCall, DidCheck, IsFull, HasFailed}
 
 -- the status of a call's answer
@@ -34,21 +32,24 @@ check_status (Ok false) = 1
 check_status (Err e) = status_for (Err e)
 
 -- what is known of the bytes that a reader has left, or that a writer holds
-abbrev pub Known : Type 0
-Known = Option (List ℕ)
+abbrev pub Stream : Type 0
+Stream = Option (List ℕ)
 
--- In what follows `left0` and `left1` are what the reader has left before and after, and `held0` and `held1` what the
--- writer of the results holds.
+-- In what follows `left0` and `left1` are what the reader has left before and after, and `held0`
+-- and `held1` what the writer of the results holds.
 
 -- a run that refuses its words reads nothing, and writes nothing to the results
-abbrev pub RefusesWords : Known → Known → Known → Known → ℕ → Type 0
+abbrev pub RefusesWords : Stream → Stream → Stream → Stream → ℕ → Type 0
 RefusesWords left0 left1 held0 held1 status = (status ≡ 2) × (left1 ≡ left0) × Keeps held0 held1
 
 -- the words of the parameters stand for none, or a call did its work with them
-abbrev pub RanWith : (List Value → Result (Unit {0}) ToolFault → Type 0) → List (List ℕ) → Known → Known → Known → Known → ℕ → Type 0
+abbrev pub RanWith : (List Value → Result (Unit {0}) ToolFault → Type 0) → List (List ℕ)
+    → Stream → Stream → Stream → Stream → ℕ → Type 0
 RanWith Did words left0 left1 held0 held1 status =
-    (((values : List Value) → ¬ AreParams words values) × RefusesWords left0 left1 held0 held1 status)
-    ⊎ ((values : List Value) × (answer : Result (Unit {0}) ToolFault) × AreParams words values × Did values answer × (status ≡ status_for answer))
+    (((values : List Value) → ¬ AreParams words values)
+    × RefusesWords left0 left1 held0 held1 status)
+    ⊎ ((values : List Value) × (answer : Result (Unit {0}) ToolFault)
+    × AreParams words values × Did values answer × (status ≡ status_for answer))
 
 -- the padding of the options of `expand`; the pad byte is 0
 abbrev pub setting_of : ℕ → ℕ → Bool → Setting
@@ -61,43 +62,46 @@ width_asked false true = Some Legacy
 width_asked false false = None
 
 -- a line did what it asks for; both flags of `convert` together are refused as bad parameters are
-abbrev pub RanLine : Asked → Known → Known → Known → Known → ℕ → Type 0
+abbrev pub RanLine : Request → Stream → Stream → Stream → Stream → ℕ → Type 0
 RanLine (Cap hex words) left0 left1 held0 held1 status =
-    RanWith (λ values answer. DidCall (IsCapped values hex) IsFull left0 left1 held0 held1 answer) words left0 left1 held0 held1 status
+    RanWith
+    (λ values answer. DidCall (IsCapped values hex) IsFull left0 left1 held0 held1 answer)
+    words left0 left1 held0 held1 status
 RanLine Show left0 left1 held0 held1 status =
-    (answer : Result (Unit {0}) ToolFault) × DidCall IsShown HasFailed left0 left1 held0 held1 answer × (status ≡ status_for answer)
+    (answer : Result (Unit {0}) ToolFault)
+    × DidCall IsShown HasFailed left0 left1 held0 held1 answer × (status ≡ status_for answer)
 RanLine Check left0 left1 held0 held1 status =
-    (answer : Result Bool ToolFault) × DidCheck IsChecked left0 left1 held0 held1 answer × (status ≡ check_status answer)
+    (answer : Result Bool ToolFault)
+    × DidCheck IsChecked left0 left1 held0 held1 answer × (status ≡ check_status answer)
 RanLine (Expand name hex rate lines xon words) left0 left1 held0 held1 status =
-    RanWith (λ values answer. DidCall (IsNamed name values (setting_of rate lines xon) hex) HasFailed left0 left1 held0 held1 answer) words left0 left1 held0 held1 status
+    RanWith
+    (λ values answer. DidCall (IsExpanded name values (setting_of rate lines xon) hex) HasFailed
+    left0 left1 held0 held1 answer)
+    words left0 left1 held0 held1 status
 RanLine (Convert wide narrow) left0 left1 held0 held1 status =
     ((wide && narrow ≡ true) × RefusesWords left0 left1 held0 held1 status)
     ⊎ ((wide && narrow ≡ false)
     × ((answer : Result (Unit {0}) ToolFault)
-    × DidCall (IsConverted (width_asked wide narrow)) HasFailed left0 left1 held0 held1 answer × (status ≡ status_for answer)))
+    × DidCall (IsConverted (width_asked wide narrow)) HasFailed left0 left1 held0 held1 answer
+    × (status ≡ status_for answer)))
 
 -- memory was refused, and nothing is done
-abbrev pub HadNoMemory : Known → Known → Known → Known → ℕ → Type 0
+abbrev pub HadNoMemory : Stream → Stream → Stream → Stream → ℕ → Type 0
 HadNoMemory left0 left1 held0 held1 status = (status ≡ 6) × (left1 ≡ left0) × Keeps held0 held1
 
--- words that are no line: they ask for help, which is all that is written, or they are refused; nothing is read
-abbrev pub RanNoLine : List (List ℕ) → Known → Known → Known → Known → ℕ → Type 0
+-- words that are no line: they ask for help, which is all that is written, or they are refused;
+-- nothing is read
+abbrev pub RanNoLine : List (List ℕ) → Stream → Stream → Stream → Stream → ℕ → Type 0
 RanNoLine words left0 left1 held0 held1 status =
     (AsksForHelp words × (left1 ≡ left0) × ((status ≡ 0) ⊎ (status ≡ 5)))
     ⊎ (IsRefused words × RefusesWords left0 left1 held0 held1 status)
 
 -- a line did what it asks for, unless memory was refused before
-abbrev pub DidLine : Asked → Known → Known → Known → Known → ℕ → Type 0
+abbrev pub DidLine : Request → Stream → Stream → Stream → Stream → ℕ → Type 0
 DidLine line left0 left1 held0 held1 status =
     RanLine line left0 left1 held0 held1 status ⊎ HadNoMemory left0 left1 held0 held1 status
 
 -- words that are no line were answered, unless memory was refused before
-abbrev pub DidNoLine : List (List ℕ) → Known → Known → Known → Known → ℕ → Type 0
+abbrev pub DidNoLine : List (List ℕ) → Stream → Stream → Stream → Stream → ℕ → Type 0
 DidNoLine words left0 left1 held0 held1 status =
     RanNoLine words left0 left1 held0 held1 status ⊎ HadNoMemory left0 left1 held0 held1 status
-
--- how the program ends where there is no line, by the reason
-abbrev pub EndsWords : NoLine → Known → Known → ℕ → Type 0
-EndsWords (no_line.Help message) held0 held1 status = (status ≡ 0) ⊎ (status ≡ 5)
-EndsWords (no_line.Refused message) held0 held1 status = (status ≡ 2) × Keeps held0 held1
-EndsWords no_line.Memory held0 held1 status = (status ≡ 6) × Keeps held0 held1

@@ -10,7 +10,7 @@ use std::alloc::Allocator;
 use ti_cap::Capability;
 use ti_expand::{ExpandFault, Value, Vars, expand};
 
-/// What a capability writes with these parameters, where each variable begins as 0.
+/// What a capability writes with these parameters, where each variable starts as 0.
 pub fn expansion_of<A: Allocator + Copy>(
     alloc: A,
     bytes: &[u8],
@@ -18,7 +18,8 @@ pub fn expansion_of<A: Allocator + Copy>(
 ) -> Result<Vec<u8, A>, ToolFault>
     ensures accepted { IfOk result (λ v. IsFaultless bytes.now) }
     ensures output { IfOk result (λ v. IsExpansion bytes.now parameters.now v.items) }
-    ensures refused { IfErr result (λ e. (e ≡ fault.Memory) ⊎ IsUnexpanded bytes.now parameters.now e) }
+    ensures refused { IfErr result
+        (λ e. (e ≡ fault.Memory) ⊎ IsUnexpanded bytes.now parameters.now e) }
 {
     let capability = Capability::parse(bytes)?;
     let mut vars = Vars::new();

@@ -2,7 +2,8 @@
 
 ghost use Rattle.std.specs.Prelude.{◌≡◌, ◌++◌, [], get_or, OnOk};
 ghost use Rattle.ti_entry.specs.Finding.{names_of};
-ghost use Rattle.ti_tool.specs.Labels.{label_bytes, label_of};
+ghost use Rattle.ti_tool.specs.Labels.{label_of};
+ghost use Rattle.ti_tool.specs.inner.Label.{label_bytes};
 
 use itoa::Buffer;
 use std::alloc::{AllocError, Allocator};

@@ -3,22 +3,23 @@
 ghost use Rattle.std.specs.Prelude.{◌≡◌, ◌++◌, ◌∷◌, [], OnOk};
 ghost use Rattle.hex.specs.Hex.{encode_lower};
 ghost use Rattle.ti_words.specs.Texts.{text_value};
-ghost use Rattle.ti_tool.specs.Labels.{label_bytes};
-ghost use Rattle.ti_tool.specs.Shown.{flag_line, number_line, text_line, hex_or_dash};
+ghost use Rattle.ti_tool.specs.inner.Label.{label_bytes};
+ghost use Rattle.ti_tool.specs.Listing.{flag_line, number_line, text_line, hex_or_dash};
 
 use crate::label::{Label, push_label};
 use itoa::Buffer;
 use std::alloc::{AllocError, Allocator};
 use ti_words::{Flag, Number, Text};
 
-/// Writes a line of a word, a label and what stands behind it.
+/// Writes a line of a word, a label and what stands after it.
 fn push_line<A: Allocator>(
     out: &mut Vec<u8, A>,
     word: &[u8],
     label: Label<'_>,
     end: &[u8],
 ) -> Result<(), AllocError>
-    ensures { OnOk result (out.new.items ≡ out.old.items ++ (word.now ++ label_bytes label.entry ++ end.now)) }
+    ensures { OnOk result (out.new.items
+        ≡ out.old.items ++ (word.now ++ label_bytes label.entry ++ end.now)) }
 {
     out.extend_from_slice(word)?;
     push_label(out, label)?;
@@ -32,7 +33,8 @@ pub fn push_flag<A: Allocator>(
     label: Label<'_>,
     flag: Flag,
 ) -> Result<(), AllocError>
-    ensures { OnOk result (out.new.items ≡ out.old.items ++ flag_line word.now (label_bytes label.entry) flag) }
+    ensures { OnOk result (out.new.items
+        ≡ out.old.items ++ flag_line word.now (label_bytes label.entry) flag) }
 {
     let end: &[u8] = match flag {
         Flag::No => return Ok(()),
@@ -50,7 +52,8 @@ pub fn push_number<A: Allocator>(
     label: Label<'_>,
     number: Number,
 ) -> Result<(), AllocError>
-    ensures { OnOk result (out.new.items ≡ out.old.items ++ number_line word.now (label_bytes label.entry) number) }
+    ensures { OnOk result (out.new.items
+        ≡ out.old.items ++ number_line word.now (label_bytes label.entry) number) }
 {
     match number {
         Number::Absent => Ok(()),
@@ -103,7 +106,8 @@ pub fn push_text<A: Allocator>(
     label: Label<'_>,
     text: Text<'_>,
 ) -> Result<(), AllocError>
-    ensures { OnOk result (out.new.items ≡ out.old.items ++ text_line word.now (label_bytes label.entry) (text_value text.entry)) }
+    ensures { OnOk result (out.new.items
+        ≡ out.old.items ++ text_line word.now (label_bytes label.entry) (text_value text.entry)) }
 {
     match text {
         Text::Absent => Ok(()),

@@ -3,7 +3,7 @@
 //! One line an item, in one pass over the entry; the whole listing is built before the first byte of it is written.
 
 ghost use Rattle.std.specs.Prelude.{◌≡◌, ◌++◌, OnOk, IfOk};
-ghost use Rattle.ti_tool.specs.Shown.{standard_flag, standard_number, standard_text, standard_lines, extended_flag, extended_number, extended_text, extended_lines, lines_from, format_word as the_format_word, entry_lines};
+ghost use Rattle.ti_tool.specs.Listing.{standard_flag, standard_number, standard_text, standard_lines, extended_flag, extended_number, extended_text, extended_lines, lines_from, format_name as the_format_name, entry_lines};
 
 use crate::label::{extended_label, label_at};
 use crate::line::{push_flag, push_number, push_text};
@@ -13,7 +13,8 @@ use ti_words::{Kind, Width};
 
 /// Writes the lines of the flags.
 fn push_flags<A: Allocator>(out: &mut Vec<u8, A>, entry: &Entry<'_>) -> Result<(), AllocError>
-    ensures { OnOk result (out.new.items ≡ out.old.items ++ lines_from standard_flag 0 entry.now.flags) }
+    ensures { OnOk result (out.new.items
+        ≡ out.old.items ++ lines_from standard_flag 0 entry.now.flags) }
 {
     for i in 0..entry.flag_count() {
         push_flag(out, b"flag ", label_at(Kind::Flag, i), entry.flag(i))?;
@@ -23,7 +24,8 @@ fn push_flags<A: Allocator>(out: &mut Vec<u8, A>, entry: &Entry<'_>) -> Result<(
 
 /// Writes the lines of the numbers.
 fn push_numbers<A: Allocator>(out: &mut Vec<u8, A>, entry: &Entry<'_>) -> Result<(), AllocError>
-    ensures { OnOk result (out.new.items ≡ out.old.items ++ lines_from standard_number 0 entry.now.numbers) }
+    ensures { OnOk result (out.new.items
+        ≡ out.old.items ++ lines_from standard_number 0 entry.now.numbers) }
 {
     for i in 0..entry.number_count() {
         push_number(out, b"number ", label_at(Kind::Number, i), entry.number(i))?;
@@ -33,7 +35,8 @@ fn push_numbers<A: Allocator>(out: &mut Vec<u8, A>, entry: &Entry<'_>) -> Result
 
 /// Writes the lines of the texts.
 fn push_texts<A: Allocator>(out: &mut Vec<u8, A>, entry: &Entry<'_>) -> Result<(), AllocError>
-    ensures { OnOk result (out.new.items ≡ out.old.items ++ lines_from standard_text 0 entry.now.texts) }
+    ensures { OnOk result (out.new.items
+        ≡ out.old.items ++ lines_from standard_text 0 entry.now.texts) }
 {
     for i in 0..entry.text_count() {
         push_text(out, b"text ", label_at(Kind::Text, i), entry.text(i))?;
@@ -55,7 +58,8 @@ fn push_extended_flags<A: Allocator>(
     out: &mut Vec<u8, A>,
     extended: &Extended<'_>,
 ) -> Result<(), AllocError>
-    ensures { OnOk result (out.new.items ≡ out.old.items ++ lines_from extended_flag 0 extended.now.extended_flags) }
+    ensures { OnOk result (out.new.items
+        ≡ out.old.items ++ lines_from extended_flag 0 extended.now.extended_flags) }
 {
     for i in 0..extended.flag_count() {
         let label = extended_label(extended, Kind::Flag, i);
@@ -69,7 +73,8 @@ fn push_extended_numbers<A: Allocator>(
     out: &mut Vec<u8, A>,
     extended: &Extended<'_>,
 ) -> Result<(), AllocError>
-    ensures { OnOk result (out.new.items ≡ out.old.items ++ lines_from extended_number 0 extended.now.extended_numbers) }
+    ensures { OnOk result (out.new.items
+        ≡ out.old.items ++ lines_from extended_number 0 extended.now.extended_numbers) }
 {
     for i in 0..extended.number_count() {
         let label = extended_label(extended, Kind::Number, i);
@@ -83,7 +88,8 @@ fn push_extended_texts<A: Allocator>(
     out: &mut Vec<u8, A>,
     extended: &Extended<'_>,
 ) -> Result<(), AllocError>
-    ensures { OnOk result (out.new.items ≡ out.old.items ++ lines_from extended_text 0 extended.now.extended_texts) }
+    ensures { OnOk result (out.new.items
+        ≡ out.old.items ++ lines_from extended_text 0 extended.now.extended_texts) }
 {
     for i in 0..extended.text_count() {
         let label = extended_label(extended, Kind::Text, i);
@@ -105,8 +111,8 @@ fn push_extended<A: Allocator>(
 }
 
 /// The name of a format.
-fn format_word(width: Width) -> &'static str
-    ensures { result.now ≡ the_format_word width }
+fn format_name(width: Width) -> &'static str
+    ensures { result.now ≡ the_format_name width }
 {
     match width {
         Width::Legacy => "legacy",
@@ -119,7 +125,7 @@ pub fn lines_of<A: Allocator + Copy>(alloc: A, entry: &Entry<'_>) -> Result<Vec<
     ensures { IfOk result (λ out. out.items ≡ entry_lines entry.now) }
 {
     let mut out = Vec::from_slice(alloc, b"format: ")?;
-    out.extend_from_slice(format_word(entry.width()).as_bytes())?;
+    out.extend_from_slice(format_name(entry.width()).as_bytes())?;
     out.extend_from_slice(b"\nnames: ")?;
     out.extend_from_slice(entry.names())?;
     out.push(b'\n')?;

@@ -39,7 +39,8 @@ pub fn output_bytes<A: Allocator + Copy>(
 
 /// Writes a result. Its fault says how many of its bytes the writer took.
 pub fn write_result<W: Write>(writer: &mut W, bytes: &[u8]) -> Result<(), ToolFault>
-    ensures { Wrote (λ due. due ≡ Ok bytes.now) (W.contents writer.old) (W.contents writer.new) result }
+    ensures { Wrote (λ due. due ≡ Ok bytes.now)
+        (W.contents writer.old) (W.contents writer.new) result }
 {
     match write_out(writer, bytes) {
         Ok(()) => Ok(()),

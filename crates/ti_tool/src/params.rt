@@ -1,9 +1,10 @@
 //! The parameters of a capability, from the words of a command line.
 
-ghost use Rattle.std.specs.Prelude.{◌≡◌, ℕ, ℤ, ◌<◌, ◌↔◌, map, length, IfSome, IfNone, IfOk, OnOk, MatchResult};
+ghost use Rattle.std.specs.Prelude.{◌≡◌, ℕ, ℤ, ◌<◌, ◌↔◌, length, IfSome, IfNone, IfOk, OnOk, MatchResult};
 ghost use Rattle.std.specs.List.{AllByRecursion};
 ghost use Rattle.ti_expand.specs.declared.values.Value.{Value};
-ghost use Rattle.ti_tool.specs.Params.{IsNumber, IsWord, IsZero, AreParams, IsFirstBad};
+ghost use Rattle.ti_line.specs.Line.{texts_of};
+ghost use Rattle.ti_tool.specs.Params.{IsNumber, IsParam, IsZero, AreParams, IsFirstBad};
 
 use thiserror::Error;
 use ti_expand::Value;
@@ -38,8 +39,8 @@ fn number(text: &str) -> Option<i32>
 
 /// What a word stands for.
 fn value_of(word: &str) -> Option<Value<'_>>
-    ensures some { IfSome result (λ value. IsWord word.now value) }
-    ensures none { IfNone result ((value : Value) → ¬ IsWord word.now value) }
+    ensures some { IfSome result (λ value. IsParam word.now value) }
+    ensures none { IfNone result ((value : Value) → ¬ IsParam word.now value) }
 {
     if let Some(text) = word.strip_prefix("s:") {
         return Some(Value::Text(text.as_bytes()));
@@ -56,9 +57,10 @@ fn value_of(word: &str) -> Option<Value<'_>>
 /// Puts what the words stand for into the first places.
 fn read_into<'a>(words: &[&'a str], values: &mut [Value<'a>; COUNT]) -> Result<(), WordFault>
     requires { AllByRecursion IsZero values.old }
-    ensures values { OnOk result (AreParams (map (λ w. w.now) words.now) values.new) }
+    ensures values { OnOk result (AreParams (texts_of words.now) values.new) }
     ensures many { (result ≡ Err WordFault.TooMany) ↔ (9 < length words.now) }
-    ensures bad { (which : ℕ) → result ≡ Err (WordFault.BadWord which) → IsFirstBad which (map (λ w. w.now) words.now) }
+    ensures bad { (which : ℕ) → result ≡ Err (WordFault.BadWord which)
+        → IsFirstBad which (texts_of words.now) }
 {
     if words.len() > COUNT {
         return Err(WordFault::TooMany);
@@ -87,9 +89,10 @@ fn with<T: Drop, E>(done: Result<(), E>, value: T) -> Result<T, E>
 ///
 /// More than nine words are refused before anything else, and else the first word that stands for nothing.
 pub fn read_params<'a>(words: &[&'a str]) -> Result<[Value<'a>; 9], WordFault>
-    ensures values { IfOk result (λ values. AreParams (map (λ w. w.now) words.now) values) }
+    ensures values { IfOk result (λ values. AreParams (texts_of words.now) values) }
     ensures many { (result ≡ Err WordFault.TooMany) ↔ (9 < length words.now) }
-    ensures bad { (which : ℕ) → result ≡ Err (WordFault.BadWord which) → IsFirstBad which (map (λ w. w.now) words.now) }
+    ensures bad { (which : ℕ) → result ≡ Err (WordFault.BadWord which)
+        → IsFirstBad which (texts_of words.now) }
 {
     let mut values = [Value::Num(0); COUNT];
     let read = read_into(words, &mut values);

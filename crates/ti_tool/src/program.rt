@@ -1,11 +1,10 @@
 //! The program over its words, a reader and two writers.
 
-ghost use Rattle.std.specs.Prelude.{◌≡◌, ◌≤◌, ◌⊎◌, map};
-ghost use Rattle.ti_base.specs.Limits.{greatest_rate, most_lines};
-ghost use Rattle.ti_line.specs.CommandLine.{Asked, Cap, Show, Check, Expand, Convert, Reads};
-ghost use Rattle.ti_line.specs.Laws.{IsWithin};
-ghost use Rattle.ti_line.specs.Line.{asked_of};
-ghost use Rattle.ti_tool.specs.Runs.{DidLine, DidNoLine, EndsWords, RanLine, status_for, width_asked as the_width_asked};
+ghost use Rattle.std.specs.Prelude.{◌≡◌};
+ghost use Rattle.ti_line.specs.CommandLine.{Request, Cap, Show, Check, Convert, Reads};
+ghost use Rattle.ti_line.specs.Line.{expand_of, request_of, texts_of};
+ghost use Rattle.ti_tool.specs.inner.Ends.{EndsWords};
+ghost use Rattle.ti_tool.specs.Runs.{DidLine, DidNoLine, RanLine, status_for, width_asked as the_width_asked};
 
 use crate::command::cap::cap_run;
 use crate::command::check::check;
@@ -17,13 +16,12 @@ use crate::params::read_params;
 use crate::status::{status, status_of_check, tell, tell_both_widths, tell_words};
 use std::alloc::{Allocator, Global};
 use std::io::{Read, Write};
-use ti_line::laws::words_are_read_once;
-use ti_line::{Line, NoLine, read_line};
+use ti_line::{Expand, Line, NoLine, read_line};
 use ti_pad::Padding;
 use ti_words::Width;
 
 /// The status of a call's answer, whose fault is told.
-fn ended<E: Write>(errors: &mut E, answer: Result<(), ToolFault>) -> u8
+fn finish<E: Write>(errors: &mut E, answer: Result<(), ToolFault>) -> u8
     ensures { result ≡ status_for answer }
 {
     if let Err(fault) = &answer {
@@ -41,13 +39,14 @@ fn run_cap<A: Allocator + Copy, R: Read, W: Write, E: Write>(
     output: &mut W,
     errors: &mut E,
 ) -> u8
-    ensures { RanLine (Cap hex (map (λ w. w.now) words.now)) (R.remaining input.old) (R.remaining input.new)
+    ensures { RanLine (Cap hex (texts_of words.now))
+        (R.remaining input.old) (R.remaining input.new)
         (W.contents output.old) (W.contents output.new) result }
 {
     match read_params(words) {
         Ok(parameters) => {
             let answer = cap_run(alloc, input, &parameters, hex, output);
-            ended(errors, answer)
+            finish(errors, answer)
         }
         Err(fault) => {
             tell_words(errors, fault);
@@ -63,11 +62,12 @@ fn run_show<A: Allocator + Copy, R: Read, W: Write, E: Write>(
     output: &mut W,
     errors: &mut E,
 ) -> u8
-    ensures { RanLine Show (R.remaining input.old) (R.remaining input.new)
+    ensures { RanLine Show
+        (R.remaining input.old) (R.remaining input.new)
         (W.contents output.old) (W.contents output.new) result }
 {
     let answer = show(alloc, input, output);
-    ended(errors, answer)
+    finish(errors, answer)
 }
 
 /// `check`.
@@ -77,7 +77,8 @@ fn run_check<A: Allocator + Copy, R: Read, W: Write, E: Write>(
     output: &mut W,
     errors: &mut E,
 ) -> u8
-    ensures { RanLine Check (R.remaining input.old) (R.remaining input.new)
+    ensures { RanLine Check
+        (R.remaining input.old) (R.remaining input.new)
         (W.contents output.old) (W.contents output.new) result }
 {
     let answer = check(alloc, input, output);
@@ -87,35 +88,23 @@ fn run_check<A: Allocator + Copy, R: Read, W: Write, E: Write>(
     status_of_check(answer)
 }
 
-/// What `expand` is to do.
-#[derive(Drop)]
-struct Expansion<'a> {
-    name: &'a str,
-    hex: bool,
-    rate: u32,
-    lines: u32,
-    xon: bool,
-    words: &'a [&'a str],
-}
-
 /// `expand` with its values.
 fn run_expand<A: Allocator + Copy, R: Read, W: Write, E: Write>(
     alloc: A,
-    asked: Expansion<'_>,
+    asked: &Expand<'_>,
     input: &mut R,
     output: &mut W,
     errors: &mut E,
 ) -> u8
-    requires rate { asked.rate ≤ greatest_rate }
-    requires lines { asked.lines ≤ most_lines }
-    ensures { RanLine (Expand asked.entry.name.now asked.entry.hex asked.entry.rate asked.entry.lines asked.entry.xon (map (λ w. w.now) asked.entry.words.now)) (R.remaining input.old) (R.remaining input.new)
+    ensures { RanLine (expand_of asked.now)
+        (R.remaining input.old) (R.remaining input.new)
         (W.contents output.old) (W.contents output.new) result }
 {
     let padding = match Padding::new(asked.rate, asked.lines, asked.xon, 0) {
         Some(padding) => padding,
         None => unreachable!(),
     };
-    match read_params(asked.words) {
+    match read_params(asked.params.as_slice()) {
         Ok(parameters) => {
             let answer = expand_named(
                 alloc,
@@ -126,7 +115,7 @@ fn run_expand<A: Allocator + Copy, R: Read, W: Write, E: Write>(
                 asked.hex,
                 output,
             );
-            ended(errors, answer)
+            finish(errors, answer)
         }
         Err(fault) => {
             tell_words(errors, fault);
@@ -155,7 +144,8 @@ fn run_convert<A: Allocator + Copy, R: Read, W: Write, E: Write>(
     output: &mut W,
     errors: &mut E,
 ) -> u8
-    ensures { RanLine (Convert wide narrow) (R.remaining input.old) (R.remaining input.new)
+    ensures { RanLine (Convert wide narrow)
+        (R.remaining input.old) (R.remaining input.new)
         (W.contents output.old) (W.contents output.new) result }
 {
     if wide && narrow {
@@ -163,7 +153,7 @@ fn run_convert<A: Allocator + Copy, R: Read, W: Write, E: Write>(
         return 2;
     }
     let answer = convert(alloc, input, width_asked(wide, narrow), output);
-    ended(errors, answer)
+    finish(errors, answer)
 }
 
 /// A line that was read.
@@ -174,8 +164,8 @@ fn run_line<A: Allocator + Copy, R: Read, W: Write, E: Write>(
     output: &mut W,
     errors: &mut E,
 ) -> u8
-    requires { IsWithin (asked_of line.now) }
-    ensures { RanLine (asked_of line.now) (R.remaining input.old) (R.remaining input.new)
+    ensures { RanLine (request_of line.now)
+        (R.remaining input.old) (R.remaining input.new)
         (W.contents output.old) (W.contents output.new) result }
 {
     match line {
@@ -184,24 +174,7 @@ fn run_line<A: Allocator + Copy, R: Read, W: Write, E: Write>(
         }
         Line::Show => run_show(alloc, input, output, errors),
         Line::Check => run_check(alloc, input, output, errors),
-        Line::Expand {
-            name,
-            hex,
-            rate,
-            lines,
-            xon,
-            params,
-        } => {
-            let asked = Expansion {
-                name,
-                hex: *hex,
-                rate: *rate,
-                lines: *lines,
-                xon: *xon,
-                words: params.as_slice(),
-            };
-            run_expand(alloc, asked, input, output, errors)
-        }
+        Line::Expand(asked) => run_expand(alloc, asked, input, output, errors),
         Line::Convert { wide, narrow } => {
             run_convert(alloc, *wide, *narrow, input, output, errors)
         }
@@ -254,13 +227,15 @@ pub fn run<A: Allocator + Copy, R: Read, W: Write, E: Write>(
     errors: &mut E,
 ) -> u8
     // Where `clap` reads the words, the named call did its work, unless memory was refused.
-    ensures read { (line : Asked) → Reads (map (λ w. w.now) words.now) line → DidLine line (R.remaining input.old) (R.remaining input.new)
+    ensures read { (line : Request) → Reads (texts_of words.now) line → DidLine line
+        (R.remaining input.old) (R.remaining input.new)
         (W.contents output.old) (W.contents output.new) result }
     // Where it does not, help was written, or the words are refused, unless memory was refused.
-    ensures unread { ((line : Asked) → ¬ Reads (map (λ w. w.now) words.now) line) → DidNoLine (map (λ w. w.now) words.now) (R.remaining input.old) (R.remaining input.new)
+    ensures unread { ((line : Request) → ¬ Reads (texts_of words.now) line)
+        → DidNoLine (texts_of words.now)
+        (R.remaining input.old) (R.remaining input.new)
         (W.contents output.old) (W.contents output.new) result }
 {
-    words_are_read_once();
     match read_line(global, words) {
         Ok(line) => run_line(alloc, &line, input, output, errors),
         Err(why) => run_no_line(&why, output, errors),

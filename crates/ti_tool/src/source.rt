@@ -2,10 +2,10 @@
 //!
 //! At most 512 bytes are asked for at a time, and put into a buffer of a fixed size; no memory is taken.
 
-ghost use Rattle.std.specs.Prelude.{◌≡◌, ◌⊎◌, ◌+◌, length, OnOk};
+ghost use Rattle.std.specs.Prelude.{◌⊎◌, OnOk};
 ghost use Rattle.std.specs.Io.KnownBytes.{IsAtEnd};
-ghost use Rattle.ti_base.specs.Limits.{most_capability_bytes};
-ghost use Rattle.ti_tool.specs.Reading.{Takes};
+ghost use Rattle.ti_tool.specs.Calls.{IsFull};
+ghost use Rattle.ti_tool.specs.inner.ReadsInto.{ReadsInto};
 
 use arrayvec::ArrayVec;
 use std::io::{ErrorKind, Read};
@@ -28,8 +28,9 @@ pub fn read_up_to<R: Read>(
     bytes: &mut ArrayVec<u8, MOST_BYTES>,
     source: &mut R,
 ) -> Result<(), ReadFailed>
-    ensures taken { Takes (R.remaining source.old) (R.remaining source.new) bytes.old.items bytes.new.items }
-    ensures end { OnOk result ((length bytes.new.items ≡ most_capability_bytes + 1) ⊎ IsAtEnd (R.remaining source.new)) }
+    ensures taken { ReadsInto
+        (R.remaining source.old) (R.remaining source.new) bytes.old.items bytes.new.items }
+    ensures end { OnOk result (IsFull bytes.new.items ⊎ IsAtEnd (R.remaining source.new)) }
 {
     let mut piece = [0; PIECE];
     let mut interruptions = 0;

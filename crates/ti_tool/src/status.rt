@@ -54,10 +54,8 @@ pub fn tell<E: Write>(errors: &mut E, fault: &ToolFault) {
             writeln!(errors, "capability: {word} at {place}")
         }
         ToolFault::NoSuchText => writeln!(errors, "capability: absent"),
-        ToolFault::TextTooLong(parameter) => {
-            writeln!(errors, "capability: TextTooLong {parameter}")
-        }
-        ToolFault::TooMuch(need) => writeln!(errors, "capability: TooMuch {need}"),
+        ToolFault::TextTooLong(parameter) => { writeln!(errors, "capability: {fault} {parameter}") }
+        ToolFault::TooMuch(need) => writeln!(errors, "capability: {fault} {need}"),
         ToolFault::Read => writeln!(errors, "input: failed"),
         ToolFault::Write(_) => writeln!(errors, "output: failed"),
         ToolFault::Memory => writeln!(errors, "memory"),

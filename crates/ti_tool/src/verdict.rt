@@ -2,10 +2,10 @@
 //!
 //! A text is analysed once for each run of equal texts, since texts of an entry may share a long slice.
 
-ghost use Rattle.std.specs.Prelude.{◌≡◌, ◌++◌, List, ℕ, codes, decimal, IfOk, OnOk};
-ghost use Rattle.ti_cap.specs.Word.{name_of};
-ghost use Rattle.ti_tool.specs.Labels.{label_bytes};
-ghost use Rattle.ti_tool.specs.Judged.{IsJudged, is_sound, verdict_line};
+ghost use Rattle.std.specs.Prelude.{◌≡◌, ◌++◌, OnOk};
+ghost use Rattle.ti_tool.specs.Verdicts.{fault_verdict, sound_verdict};
+ghost use Rattle.ti_tool.specs.inner.Label.{label_bytes};
+ghost use Rattle.ti_tool.specs.inner.Verdict.{IsJudged, is_sound, verdict_line};
 
 use crate::label::{Label, push_label};
 use itoa::Buffer;
@@ -72,7 +72,7 @@ fn push_sound<A: Allocator>(
     depth: usize,
     bound: u64,
 ) -> Result<(), AllocError>
-    ensures { OnOk result (out.new.items ≡ out.old.items ++ (codes " ok depth " ++ decimal depth ++ codes " bound " ++ decimal bound ++ codes "\n")) }
+    ensures { OnOk result (out.new.items ≡ out.old.items ++ sound_verdict depth bound) }
 {
     let mut digits = Buffer::new();
     out.extend_from_slice(b" ok depth ")?;
@@ -84,7 +84,7 @@ fn push_sound<A: Allocator>(
 
 /// Writes the verdict on a text that is no capability.
 fn push_fault<A: Allocator>(out: &mut Vec<u8, A>, refused: CapRefused) -> Result<(), AllocError>
-    ensures { OnOk result (out.new.items ≡ out.old.items ++ (codes " fault " ++ name_of refused.fault ++ codes " at " ++ decimal refused.place ++ codes "\n")) }
+    ensures { OnOk result (out.new.items ≡ out.old.items ++ fault_verdict refused) }
 {
     let mut digits = Buffer::new();
     out.extend_from_slice(b" fault ")?;
@@ -111,7 +111,8 @@ pub fn push_line<A: Allocator>(
     label: Label<'_>,
     verdict: Verdict,
 ) -> Result<(), AllocError>
-    ensures { OnOk result (out.new.items ≡ out.old.items ++ (word.now ++ label_bytes label.entry ++ verdict_line verdict)) }
+    ensures { OnOk result (out.new.items
+        ≡ out.old.items ++ (word.now ++ label_bytes label.entry ++ verdict_line verdict)) }
 {
     out.extend_from_slice(word)?;
     push_label(out, label)?;

@@ -3,7 +3,7 @@ use std::alloc::Global;
 use std::io;
 use std::io::{ErrorKind, Read, Write};
 
-/// Gives its bytes `step` at a time, each behind `interruptions` interrupted reads, and fails at call `fails_at`,
+/// Gives its bytes `step` at a time, each after `interruptions` interrupted reads, and fails at call `fails_at`,
 /// counted from 1. `pending` reads are interrupted before the next one that gives bytes.
 #[derive(Drop)]
 pub struct Source<'a> {

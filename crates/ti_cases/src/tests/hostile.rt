@@ -310,7 +310,7 @@ fn a_command_whose_source_fails_writes_nothing(rt: HostRuntime) {
     }
 }
 
-/// Behind the small entry come bytes 0 without end: an extended part of ten bytes, and one byte too many.
+/// After the small entry come bytes 0 without end: an extended part of ten bytes, and one byte too many.
 #[test]
 fn a_source_is_not_read_past_the_byte_that_decides(rt: HostRuntime) -> Result<(), Fail> {
     let mut bytes = SMALL.to_vec(rt.alloc())?;

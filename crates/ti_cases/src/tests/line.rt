@@ -43,7 +43,7 @@ const READ: [(&[&str], &str); 16] = [
     ),
     (
         &["ti", "expand", "cup"],
-        "Expand { name: \"cup\", hex: false, rate: 0, lines: 1, xon: false, params: [] }",
+        "Expand(Expand { name: \"cup\", hex: false, rate: 0, lines: 1, xon: false, params: [] })",
     ),
     (
         &[
@@ -58,15 +58,15 @@ const READ: [(&[&str], &str); 16] = [
             "s:$<5>",
             "n:1",
         ],
-        "Expand { name: \"#0\", hex: true, rate: 1000000, lines: 65535, xon: true, params: [\"s:$<5>\", \"n:1\"] }",
+        "Expand(Expand { name: \"#0\", hex: true, rate: 1000000, lines: 65535, xon: true, params: [\"s:$<5>\", \"n:1\"] })",
     ),
     (
         &["ti", "expand", "bel", "n:1", "--lines", "0", "--rate=0"],
-        "Expand { name: \"bel\", hex: false, rate: 0, lines: 0, xon: false, params: [\"n:1\"] }",
+        "Expand(Expand { name: \"bel\", hex: false, rate: 0, lines: 0, xon: false, params: [\"n:1\"] })",
     ),
     (
         &["ti", "expand", "--", "-X"],
-        "Expand { name: \"-X\", hex: false, rate: 0, lines: 1, xon: false, params: [] }",
+        "Expand(Expand { name: \"-X\", hex: false, rate: 0, lines: 1, xon: false, params: [] })",
     ),
 ];
 

@@ -3,10 +3,10 @@
 //! The whole result is built before the first byte of it is written; its memory grows once, and once more where it is
 //! written in hex.
 
-ghost use Rattle.std.specs.Prelude.{◌≡◌, ◌⊎◌, Ok, Err, MatchResult};
-ghost use Rattle.ti_tool.specs.declared.fault.ToolFault.TheVariants as fault;
+ghost use Rattle.std.specs.Prelude.{Ok, MatchResult};
 ghost use Rattle.ti_tool.specs.Results.{IsCapped};
 ghost use Rattle.ti_tool.specs.Calls.{DidCall, IsFull};
+ghost use Rattle.ti_tool.specs.inner.Dues.{FailsAsDue};
 
 use crate::expansion::expansion_of;
 use crate::fault::ToolFault;
@@ -24,14 +24,16 @@ fn cap_result<A: Allocator + Copy>(
     parameters: &[Value<'_>; 9],
     hex: bool,
 ) -> Result<Vec<u8, A>, ToolFault>
-    ensures { MatchResult result (λ v. IsCapped parameters.now hex input.now (Ok v.items)) (λ e. (e ≡ fault.Memory) ⊎ IsCapped parameters.now hex input.now (Err e)) }
+    ensures { MatchResult result
+        (λ v. IsCapped parameters.now hex input.now (Ok v.items))
+        (FailsAsDue (IsCapped parameters.now hex input.now)) }
 {
     let plain = expansion_of(alloc, input, parameters)?;
     output_bytes(alloc, plain, hex)
 }
 
 /// Expands what the reader gives as one capability, each byte of it as it stands, and writes the result: its bytes, or
-/// with `hex` the same in lower-case hex and a newline. Marks of padding stay as they are. Each variable begins as 0.
+/// with `hex` the same in lower-case hex and a newline. Marks of padding stay as they are. Each variable starts as 0.
 ///
 /// At most 32768 bytes of the input are kept, which is one more than a capability may have. Nothing is written before
 /// the whole result is there: after a fault other than `Write` the writer is as it was.
@@ -42,7 +44,9 @@ pub fn cap_run<A: Allocator + Copy, R: Read, W: Write>(
     hex: bool,
     writer: &mut W,
 ) -> Result<(), ToolFault>
-    ensures { DidCall (IsCapped parameters.now hex) IsFull (R.remaining reader.old) (R.remaining reader.new) (W.contents writer.old) (W.contents writer.new) result }
+    ensures { DidCall (IsCapped parameters.now hex) IsFull
+        (R.remaining reader.old) (R.remaining reader.new)
+        (W.contents writer.old) (W.contents writer.new) result }
 {
     let mut input = ArrayVec::new();
     read_up_to(&mut input, reader)?;

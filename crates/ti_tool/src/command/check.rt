@@ -2,10 +2,11 @@
 //!
 //! One pass over the texts, of which equal ones in a row are analysed once; the whole listing is built before the first byte of it is written.
 
-ghost use Rattle.std.specs.Prelude.{◌≡◌, ◌++◌, List, ℕ, IfOk};
-ghost use Rattle.ti_tool.specs.Checked.{AreLines, AreVerdicts, IsExtendedLine, IsStandardLine};
+ghost use Rattle.std.specs.Prelude.{IfOk};
+ghost use Rattle.ti_tool.specs.Verdicts.{AreVerdicts, IsExtendedLine, IsStandardLine};
 ghost use Rattle.ti_tool.specs.Calls.{DidCheck, without_value};
 ghost use Rattle.ti_tool.specs.Results.{IsChecked};
+ghost use Rattle.ti_tool.specs.inner.Verdict.{AddsLines};
 
 use crate::entry::read_entry;
 use crate::fault::ToolFault;
@@ -19,7 +20,8 @@ use ti_words::{Kind, Text};
 
 /// Writes the lines of the standard texts, and answers whether none has a fault.
 fn push_standard<A: Allocator>(out: &mut Vec<u8, A>, entry: &Entry<'_>) -> Result<bool, AllocError>
-    ensures { IfOk result (λ sound. (lines : List ℕ) × AreLines IsStandardLine 0 entry.now.texts lines sound × (out.new.items ≡ out.old.items ++ lines)) }
+    ensures { IfOk result
+        (AddsLines IsStandardLine entry.now.texts out.old.items out.new.items) }
 {
     let mut sound = true;
     let mut last = judge(b"");
@@ -38,7 +40,8 @@ fn push_extended<A: Allocator>(
     out: &mut Vec<u8, A>,
     extended: &Extended<'_>,
 ) -> Result<bool, AllocError>
-    ensures { IfOk result (λ sound. (lines : List ℕ) × AreLines IsExtendedLine 0 extended.now.extended_texts lines sound × (out.new.items ≡ out.old.items ++ lines)) }
+    ensures { IfOk result
+        (AddsLines IsExtendedLine extended.now.extended_texts out.old.items out.new.items) }
 {
     let mut sound = true;
     let mut last = judge(b"");
@@ -89,7 +92,9 @@ pub fn check<A: Allocator + Copy, R: Read, W: Write>(
     reader: &mut R,
     writer: &mut W,
 ) -> Result<bool, ToolFault>
-    ensures { DidCheck IsChecked (R.remaining reader.old) (R.remaining reader.new) (W.contents writer.old) (W.contents writer.new) result }
+    ensures { DidCheck IsChecked
+        (R.remaining reader.old) (R.remaining reader.new)
+        (W.contents writer.old) (W.contents writer.new) result }
 {
     let mut kept = EntryReader::new();
     read_entry(&mut kept, reader)?;

@@ -1,9 +1,9 @@
 //! `convert`: an entry in its canonical layout, in its own format or in the one that is asked for.
 
-ghost use Rattle.std.specs.Prelude.{◌≡◌, ◌⊎◌, Ok, Err, IfOk, MatchResult};
-ghost use Rattle.ti_tool.specs.declared.fault.ToolFault.TheVariants as fault;
+ghost use Rattle.std.specs.Prelude.{◌≡◌, Ok, IfOk, MatchResult};
 ghost use Rattle.ti_tool.specs.Results.{IsConverted, IsEncoding, in_width};
 ghost use Rattle.ti_tool.specs.Calls.{DidCall, HasFailed};
+ghost use Rattle.ti_tool.specs.inner.Dues.{FailsAsDue};
 
 use crate::entry::read_entry;
 use crate::fault::ToolFault;
@@ -15,7 +15,9 @@ use ti_words::Width;
 
 /// The canonical bytes of a draft.
 fn encoding_of<A: Allocator + Copy>(alloc: A, draft: &Draft<'_, A>) -> Result<Vec<u8, A>, ToolFault>
-    ensures { MatchResult result (λ v. IsEncoding draft.now (Ok v.items)) (λ e. (e ≡ fault.Memory) ⊎ IsEncoding draft.now (Err e)) }
+    ensures { MatchResult result
+        (λ v. IsEncoding draft.now (Ok v.items))
+        (FailsAsDue (IsEncoding draft.now)) }
 {
     match encode(alloc, draft) {
         Ok(bytes) => Ok(bytes),
@@ -45,7 +47,9 @@ fn convert_result<A: Allocator + Copy>(
     entry: &Entry<'_>,
     width: Option<Width>,
 ) -> Result<Vec<u8, A>, ToolFault>
-    ensures { MatchResult result (λ v. IsEncoding (in_width width entry.now) (Ok v.items)) (λ e. (e ≡ fault.Memory) ⊎ IsEncoding (in_width width entry.now) (Err e)) }
+    ensures { MatchResult result
+        (λ v. IsEncoding (in_width width entry.now) (Ok v.items))
+        (FailsAsDue (IsEncoding (in_width width entry.now))) }
 {
     let draft = draft_of(alloc, entry, width)?;
     encoding_of(alloc, &draft)
@@ -69,7 +73,9 @@ pub fn convert<A: Allocator + Copy, R: Read, W: Write>(
     width: Option<Width>,
     writer: &mut W,
 ) -> Result<(), ToolFault>
-    ensures { DidCall (IsConverted width) HasFailed (R.remaining reader.old) (R.remaining reader.new) (W.contents writer.old) (W.contents writer.new) result }
+    ensures { DidCall (IsConverted width) HasFailed
+        (R.remaining reader.old) (R.remaining reader.new)
+        (W.contents writer.old) (W.contents writer.new) result }
 {
     let mut kept = EntryReader::new();
     read_entry(&mut kept, reader)?;

@@ -3,11 +3,11 @@
 //! The text is found, expanded and padded, and only then written: each fault comes before the first byte. The memory
 //! grows once for the expansion, once for the padded text, and once more where it is written in hex.
 
-ghost use Rattle.std.specs.Prelude.{◌≡◌, ◌⊎◌, Ok, Err, MatchResult};
+ghost use Rattle.std.specs.Prelude.{Ok, MatchResult};
 ghost use Rattle.ti_words.specs.Texts.{text_value};
-ghost use Rattle.ti_tool.specs.declared.fault.ToolFault.TheVariants as fault;
-ghost use Rattle.ti_tool.specs.Results.{IsDue, IsDueFor, IsNamed, IsPadded};
+ghost use Rattle.ti_tool.specs.Results.{IsDue, IsDueFor, IsExpanded, IsPadded};
 ghost use Rattle.ti_tool.specs.Calls.{DidCall, HasFailed};
+ghost use Rattle.ti_tool.specs.inner.Dues.{FailsAsDue};
 
 use crate::entry::read_entry;
 use crate::expansion::expansion_of;
@@ -22,14 +22,16 @@ use ti_pad::{PadFault, Padding, pad};
 use ti_words::Text;
 
 /// A text, expanded and then padded.
-fn padded_text<A: Allocator + Copy>(
+fn expand_and_pad<A: Allocator + Copy>(
     alloc: A,
     text: &[u8],
     parameters: &[Value<'_>; 9],
     padding: &Padding,
     hex: bool,
 ) -> Result<Vec<u8, A>, ToolFault>
-    ensures { MatchResult result (λ v. IsPadded text.now parameters.now padding.now hex (Ok v.items)) (λ e. (e ≡ fault.Memory) ⊎ IsPadded text.now parameters.now padding.now hex (Err e)) }
+    ensures { MatchResult result
+        (λ v. IsPadded text.now parameters.now padding.now hex (Ok v.items))
+        (FailsAsDue (IsPadded text.now parameters.now padding.now hex)) }
 {
     let plain = expansion_of(alloc, text, parameters)?;
     match pad(alloc, plain.as_slice(), padding) {
@@ -48,16 +50,18 @@ fn expand_result<A: Allocator + Copy>(
     padding: &Padding,
     hex: bool,
 ) -> Result<Vec<u8, A>, ToolFault>
-    ensures { MatchResult result (λ v. IsDueFor name.now parameters.now padding.now hex entry.now (Ok v.items)) (λ e. (e ≡ fault.Memory) ⊎ IsDueFor name.now parameters.now padding.now hex entry.now (Err e)) }
+    ensures { MatchResult result
+        (λ v. IsDueFor name.now parameters.now padding.now hex entry.now (Ok v.items))
+        (FailsAsDue (IsDueFor name.now parameters.now padding.now hex entry.now)) }
 {
     match text_called(entry, name) {
-        Text::Value(bytes) => padded_text(alloc, bytes, parameters, padding, hex),
+        Text::Value(bytes) => expand_and_pad(alloc, bytes, parameters, padding, hex),
         Text::Absent | Text::Cancelled => Err(ToolFault::NoSuchText),
     }
 }
 
 /// Expands one text of the entry that the reader gives, pads it, and writes the result: its bytes, or with `hex` the same
-/// in lower-case hex and a newline. Each variable begins as 0. Padding marks are looked for in the expanded bytes, so
+/// in lower-case hex and a newline. Each variable starts as 0. Padding marks are looked for in the expanded bytes, so
 /// one in a text parameter counts too (terminfo(5), "Delays and Padding").
 ///
 /// A name is `#` and one to five digits, which is the index of a text; else the name of a text in the table of names; else
@@ -79,7 +83,9 @@ pub fn expand_named<A: Allocator + Copy, R: Read, W: Write>(
     hex: bool,
     writer: &mut W,
 ) -> Result<(), ToolFault>
-    ensures { DidCall (IsNamed name.now parameters.now padding.now hex) HasFailed (R.remaining reader.old) (R.remaining reader.new) (W.contents writer.old) (W.contents writer.new) result }
+    ensures { DidCall (IsExpanded name.now parameters.now padding.now hex) HasFailed
+        (R.remaining reader.old) (R.remaining reader.new)
+        (W.contents writer.old) (W.contents writer.new) result }
 {
     let mut kept = EntryReader::new();
     read_entry(&mut kept, reader)?;

@@ -22,7 +22,9 @@ pub fn show<A: Allocator + Copy, R: Read, W: Write>(
     reader: &mut R,
     writer: &mut W,
 ) -> Result<(), ToolFault>
-    ensures { DidCall IsShown HasFailed (R.remaining reader.old) (R.remaining reader.new) (W.contents writer.old) (W.contents writer.new) result }
+    ensures { DidCall IsShown HasFailed
+        (R.remaining reader.old) (R.remaining reader.new)
+        (W.contents writer.old) (W.contents writer.new) result }
 {
     let mut kept = EntryReader::new();
     read_entry(&mut kept, reader)?;

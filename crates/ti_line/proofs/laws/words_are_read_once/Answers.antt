@@ -1,23 +1,23 @@
 use Rattle.std.proofs.Common.{inl, inr, true≢false, sym}
 use Rattle.clap.specs.Words.{subcommand_of}
-use Rattle.ti_line.specs.CommandLine.{asked, faults, ti_app}
-use Rattle.ti_line.proofs.Answered.{none_any, none_some, same, three, within_asked}
+use Rattle.ti_line.specs.CommandLine.{request_in, faults, ti_app}
+use Rattle.ti_line.proofs.LawsLemmas.{none_any, none_some, same, three, within_request}
 use Rattle.ti_line.proofs.laws.words_are_read_once.Goals as goal
 
 pub returns-clause-one : goal.returns-clause-one
-returns-clause-one c = λ words line other a b. same (asked (subcommand_of ti_app words)) line other a.1 b.1
+returns-clause-one c = λ words line other a b. same (request_in (subcommand_of ti_app words)) line other a.1 b.1
 
 pub returns-clause-apart : goal.returns-clause-apart
 returns-clause-apart c = λ words line read other. elim other [
   | inl help ↦ true≢false (sym (none_any _ (faults words) read.0 help))
   | inr refused ↦ elim refused [
     | inl fault ↦ true≢false (sym (none_any _ (faults words) read.0 fault))
-    | inr none ↦ none_some (asked (subcommand_of ti_app words)) line none.1 read.1
+    | inr none ↦ none_some (request_in (subcommand_of ti_app words)) line none.1 read.1
   ]
 ]
 
 pub returns-clause-whole : goal.returns-clause-whole
-returns-clause-whole c = λ words. three (faults words) (asked (subcommand_of ti_app words))
+returns-clause-whole c = λ words. three (faults words) (request_in (subcommand_of ti_app words))
 
 pub returns-clause-within : goal.returns-clause-within
-returns-clause-within c = λ words line read. within_asked (subcommand_of ti_app words) line read.1
+returns-clause-within c = λ words line read. within_request (subcommand_of ti_app words) line read.1

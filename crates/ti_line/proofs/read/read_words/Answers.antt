@@ -1,6 +1,6 @@
 use Rattle.std.proofs.Common.{◌∙◌, Ok, Err, sym}
 use Rattle.clap.specs.Words.{found_of, rows_of}
-use Rattle.ti_line.proofs.Simple.{fails_again, ti_asks, ti_fails}
+use Rattle.ti_line.proofs.TiAppLemmas.{fails_again, ti_asks, ti_fails}
 use Rattle.ti_line.proofs.read.read_words.Goals as goal
 
 pub returns-in_err-matches-clause-kinds : goal.returns-in_err-matches-clause-kinds

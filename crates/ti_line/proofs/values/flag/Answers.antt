@@ -1,6 +1,6 @@
 use Rattle.std.proofs.Common.{◌∙◌}
 use Rattle.clap.specs.Words.{found_of}
-use Rattle.ti_line.proofs.Getters.{flag_read}
+use Rattle.ti_line.proofs.ValuesLemmas.{flag_read}
 use Rattle.ti_line.proofs.values.flag.Goals as goal
 
 pub returns : goal.returns

@@ -1,7 +1,7 @@
 use Rattle.std.proofs.Common.{◌∙◌}
 use Rattle.clap.specs.Words.{found_of}
 use Rattle.std.specs.Str.Parse.{ExplainsUnsignedError, HasUnsignedDigitsIfOk, ParsesUnsigned}
-use Rattle.ti_line.proofs.Getters.{number_read}
+use Rattle.ti_line.proofs.ValuesLemmas.{number_read}
 use Rattle.ti_line.proofs.values.number.Goals as goal
 
 pub returns : goal.returns

@@ -1,5 +1,5 @@
 use Rattle.std.specs.Char.{is_ascii_digit}
-use Rattle.ti_pad.proofs.Longest.{list_all-take_while}
+use Rattle.ti_pad.proofs.TakeWhileLemmas.{list_all-take_while}
 use Rattle.ti_pad.proofs.find_mark.digits.Goals as goal
 
 pub returns-clause-digits : goal.returns-clause-digits

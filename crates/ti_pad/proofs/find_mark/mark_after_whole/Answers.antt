@@ -1,5 +1,5 @@
 use Rattle.std.proofs.Common.{◌∙◌, sym}
-use Rattle.ti_pad.proofs.Decimals.{mark_after_whole-some}
+use Rattle.ti_pad.proofs.MarkAfterWholeLemmas.{mark_after_whole-some}
 use Rattle.ti_pad.proofs.find_mark.mark_after_whole.Goals as goal
 
 pub returns-in-Some-clause-mark : goal.returns-in-Some-clause-mark

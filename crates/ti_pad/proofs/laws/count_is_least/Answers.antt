@@ -1,4 +1,4 @@
-use Rattle.ti_pad.proofs.Least.{counts_enough, counts_least, passes_over}
+use Rattle.ti_pad.proofs.CountOfLemmas.{counts_enough, counts_least, passes_over}
 use Rattle.ti_pad.proofs.laws.count_is_least.Goals as goal
 
 pub returns : goal.returns

@@ -1,5 +1,5 @@
-use Rattle.ti_pad.proofs.Apart.{marks_lie_apart}
-use Rattle.ti_pad.proofs.Grammar.{finds_marks}
+use Rattle.ti_pad.proofs.MarksLieApartLemmas.{marks_lie_apart}
+use Rattle.ti_pad.proofs.FindsMarksLemmas.{finds_marks}
 use Rattle.ti_pad.proofs.laws.marks_are_found.Goals as goal
 
 pub returns : goal.returns

@@ -1,4 +1,4 @@
-use Rattle.ti_pad.proofs.Joined.{pieces_join}
+use Rattle.ti_pad.proofs.PiecesJoinLemmas.{pieces_join}
 use Rattle.ti_pad.proofs.laws.pieces_join.Goals as goal
 
 pub returns : goal.returns

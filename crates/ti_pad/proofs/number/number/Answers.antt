@@ -1,5 +1,5 @@
 use Rattle.std.proofs.Common.{rules, arith}
-use Rattle.ti_pad.proofs.Digits.{number_more, number_small}
+use Rattle.ti_pad.proofs.DigitsValueLemmas.{number_more, number_small}
 use Rattle.ti_pad.proofs.number.number.Goals as goal
 
 pub overflow_mul-value : goal.overflow_mul-value

@@ -1,5 +1,5 @@
 use Rattle.std.proofs.Common.{rules}
-use Rattle.ti_pad.proofs.Taken.{Appends-next}
+use Rattle.ti_pad.proofs.AppendsLemmas.{Appends-next}
 use Rattle.ti_pad.proofs.output.write_some.Goals as goal
 
 pub writes-preserved-in-Ok : goal.writes-preserved-in-Ok

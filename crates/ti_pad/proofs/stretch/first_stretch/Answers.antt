@@ -1,10 +1,10 @@
-use Rattle.ti_pad.specs.Shown.{shown}
-use Rattle.ti_pad.proofs.Stretches.{text-literal, text-marked}
+use Rattle.ti_pad.specs.inner.Mark.{mark_of}
+use Rattle.ti_pad.proofs.PaddedTextLemmas.{text-literal, text-marked}
 use Rattle.ti_pad.proofs.stretch.first_stretch.Goals as goal
 
 pub returns-in-Some-clause-text : goal.returns-in-Some-clause-text
 returns-in-Some-clause-text c =
-    text-marked c.args.bytes.now c.in-Some.found.rest.now (shown c.in-Some.found.mark) c.args.padding.now c.count.result
+    text-marked c.args.bytes.now c.in-Some.found.rest.now (mark_of c.in-Some.found.mark) c.args.padding.now c.count.result
     c.in-Some.ensures.mark c.in-Some.ensures.rest c.count.ensures.value
 
 pub returns-in-None-clause-text : goal.returns-in-None-clause-text

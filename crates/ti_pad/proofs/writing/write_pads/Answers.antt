@@ -1,5 +1,5 @@
 use Rattle.std.proofs.Common.{◌≤◌, rules, arith}
-use Rattle.ti_pad.proofs.Taken.{Appends-pads, Appends-pads-part}
+use Rattle.ti_pad.proofs.AppendsLemmas.{Appends-pads, Appends-pads-part}
 use Rattle.ti_pad.proofs.writing.write_pads.Goals as goal
 
 pub writes-preserved : goal.writes-preserved

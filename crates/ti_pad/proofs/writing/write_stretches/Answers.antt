@@ -1,8 +1,8 @@
 use Rattle.std.proofs.Common.{◌∙◌, ◌≤◌, length, rules, arith}
-use Rattle.ti_pad.specs.Padded.{padded}
-use Rattle.ti_pad.specs.Written.{written}
-use Rattle.ti_pad.proofs.Taken.{Appends-part, Appends-run, drop-run, part_within}
-use Rattle.ti_pad.proofs.Stretches.{Appends-whole}
+use Rattle.ti_pad.specs.Padded.{padded_text}
+use Rattle.ti_pad.specs.inner.Stretch.{stretch_bytes}
+use Rattle.ti_pad.proofs.AppendsLemmas.{Appends-part, Appends-run, drop-run, part_within}
+use Rattle.ti_pad.proofs.PaddedTextLemmas.{Appends-whole}
 use Rattle.ti_pad.proofs.writing.write_stretches.Goals as goal
 
 pub overflow_add-gone : goal.overflow_add-gone
@@ -10,7 +10,7 @@ overflow_add-gone g c =
     let i = c.stretches.invariant in
     omega (
       arith,
-      part_within (padded c.args.bytes.now c.args.padding.now) (written c.args.padding.now.pad c.first_stretch-front.result.stretch) (padded c.first_stretch-front.result.rest.now c.args.padding.now) c.stretches.gone
+      part_within (padded_text c.args.bytes.now c.args.padding.now) (stretch_bytes c.args.padding.now.pad c.first_stretch-front.result.stretch) (padded_text c.first_stretch-front.result.rest.now c.args.padding.now) c.stretches.gone
           (i.left ∙ c.first_stretch-front.ensures.text) i.within,
       c.len-gone.ensures c.args.padding.now.pad,
     )
@@ -20,7 +20,7 @@ overflow_add-result g c =
     let i = c.stretches.invariant in
     omega (
       arith,
-      part_within (padded c.args.bytes.now c.args.padding.now) (written c.args.padding.now.pad c.first_stretch-front.result.stretch) (padded c.first_stretch-front.result.rest.now c.args.padding.now) c.stretches.gone
+      part_within (padded_text c.args.bytes.now c.args.padding.now) (stretch_bytes c.args.padding.now.pad c.first_stretch-front.result.stretch) (padded_text c.first_stretch-front.result.rest.now c.args.padding.now) c.stretches.gone
           (i.left ∙ c.first_stretch-front.ensures.text) i.within,
       c.in-Err.ensures.short,
     )
@@ -30,7 +30,7 @@ returns-in-Err-clause-short g c =
     let i = c.stretches.invariant in
     omega (
       arith,
-      part_within (padded c.args.bytes.now c.args.padding.now) (written c.args.padding.now.pad c.first_stretch-front.result.stretch) (padded c.first_stretch-front.result.rest.now c.args.padding.now) c.stretches.gone
+      part_within (padded_text c.args.bytes.now c.args.padding.now) (stretch_bytes c.args.padding.now.pad c.first_stretch-front.result.stretch) (padded_text c.first_stretch-front.result.rest.now c.args.padding.now) c.stretches.gone
           (i.left ∙ c.first_stretch-front.ensures.text) i.within,
       c.in-Err.ensures.short,
     )
@@ -38,7 +38,7 @@ returns-in-Err-clause-short g c =
 pub returns-in-Err-clause-gone : goal.returns-in-Err-clause-gone
 returns-in-Err-clause-gone g c =
     let i = c.stretches.invariant in
-    let within : c.in-Err.more ≤ length (written c.args.padding.now.pad c.first_stretch-front.result.stretch) = omega (arith, c.in-Err.ensures.short) in
+    let within : c.in-Err.more ≤ length (stretch_bytes c.args.padding.now.pad c.first_stretch-front.result.stretch) = omega (arith, c.in-Err.ensures.short) in
     Appends-part _ _ _ _ _ _ _ _ (i.left ∙ c.first_stretch-front.ensures.text) within i.taken c.in-Err.ensures.gone
 
 pub stretches-preserved : goal.stretches-preserved
@@ -50,7 +50,7 @@ stretches-preserved g c =
       tries = search rules;
       within = omega (
         arith,
-        part_within (padded c.args.bytes.now c.args.padding.now) (written c.args.padding.now.pad c.first_stretch-front.result.stretch) (padded c.first_stretch-front.result.rest.now c.args.padding.now) c.stretches.gone
+        part_within (padded_text c.args.bytes.now c.args.padding.now) (stretch_bytes c.args.padding.now.pad c.first_stretch-front.result.stretch) (padded_text c.first_stretch-front.result.rest.now c.args.padding.now) c.stretches.gone
             left i.within,
         len,
       );

@@ -2,15 +2,15 @@
 use Rattle.std.proofs.Common.{◌≡◌, ◌≤◌, length, take, drop}
 use Rattle.ti_base.specs.Limits.{most_interruptions}
 use Rattle.std.specs.Io.KnownBytes.{Appends}
-use Rattle.ti_pad.specs.Padded.{padded}
+use Rattle.ti_pad.specs.Padded.{padded_text}
 use Rattle.ti_pad.proofs.writing.write_stretches.Given as goal
 
 abbrev pub invariant-stretches : goal.invariant-stretches
 invariant-stretches g l = record {
   tries : l.interruptions ≤ most_interruptions;
-  within : l.gone ≤ length (padded l.fn.bytes l.padding);
-  left : drop l.gone (padded l.fn.bytes l.padding) ≡ padded l.rest l.padding;
-  taken : Appends (g.W.Write.contents l.initial.writer) (g.W.Write.contents l.writer) (take l.gone (padded l.fn.bytes l.padding));
+  within : l.gone ≤ length (padded_text l.fn.bytes l.padding);
+  left : drop l.gone (padded_text l.fn.bytes l.padding) ≡ padded_text l.rest l.padding;
+  taken : Appends (g.W.Write.contents l.initial.writer) (g.W.Write.contents l.writer) (take l.gone (padded_text l.fn.bytes l.padding));
 }
 
 abbrev pub decreases-stretches : goal.decreases-stretches

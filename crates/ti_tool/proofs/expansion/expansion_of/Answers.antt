@@ -1,4 +1,4 @@
-use Rattle.ti_tool.proofs.Capped.{expansion, none_too_long}
+use Rattle.ti_tool.proofs.IsExpansionLemmas.{expansion, none_too_long}
 use Rattle.ti_tool.proofs.expansion.expansion_of.Goals as goal
 
 pub returns-in-Ok-clause-output : goal.returns-in-Ok-clause-output

@@ -1,4 +1,4 @@
-use Rattle.ti_tool.proofs.Widened.{wide_and_back}
+use Rattle.ti_tool.proofs.WideAndBackLemmas.{wide_and_back}
 use Rattle.ti_tool.proofs.laws.wide_and_back.Goals as goal
 
 pub returns : goal.returns

@@ -1,5 +1,5 @@
 use Rattle.std.proofs.Common.{refl}
-use Rattle.ti_tool.proofs.Lines.{hex_next, hex_end}
+use Rattle.ti_tool.proofs.LinesFromLemmas.{hex_next, hex_end}
 use Rattle.ti_tool.proofs.line.push_digits.Goals as goal
 
 pub loop-byte-preserved : goal.loop-byte-preserved

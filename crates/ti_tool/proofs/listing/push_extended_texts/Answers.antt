@@ -1,10 +1,10 @@
 use Rattle.std.proofs.Common.{arith}
 use Rattle.std.specs.Prelude.{codes}
 use Rattle.ti_words.specs.Texts.{AbsentText, text_value}
-use Rattle.ti_tool.specs.Labels.{label_bytes}
-use Rattle.ti_tool.specs.Shown.{extended_text, text_line}
-use Rattle.ti_tool.proofs.Lines.{lines_end}
-use Rattle.ti_tool.proofs.Marked.{extended_next}
+use Rattle.ti_tool.specs.inner.Label.{label_bytes}
+use Rattle.ti_tool.specs.Listing.{extended_text, text_line}
+use Rattle.ti_tool.proofs.LinesFromLemmas.{lines_end}
+use Rattle.ti_tool.proofs.IsExtendedLineLemmas.{extended_next}
 use Rattle.ti_tool.proofs.listing.push_extended_texts.Goals as goal
 
 pub loop-i-preserved : goal.loop-i-preserved

@@ -1,5 +1,5 @@
 use Rattle.std.proofs.Common.{◌≡◌, ◌++◌, drop}
-use Rattle.ti_tool.specs.Shown.{lines_from, extended_text}
+use Rattle.ti_tool.specs.Listing.{lines_from, extended_text}
 use Rattle.ti_tool.proofs.listing.push_extended_texts.Given as goal
 
 abbrev pub invariant-loop-i : goal.invariant-loop-i

@@ -1,5 +1,5 @@
 use Rattle.std.proofs.Common.{rules}
-use Rattle.ti_tool.proofs.Labels.{label_fits}
+use Rattle.ti_tool.proofs.IsLabelLemmas.{label_fits}
 use Rattle.ti_tool.proofs.names.index_of.Goals as goal
 
 pub returns-else-starts_with-clause-none : goal.returns-else-starts_with-clause-none

@@ -1,11 +1,12 @@
 use Rattle.std.proofs.Common.{◌≡◌, ℕ, ◌+◌, rules, subst}
 use Rattle.ti_tool.specs.Params.{IsFirstBad}
-use Rattle.ti_tool.proofs.Standing.{texts, stand_next, bad_here}
+use Rattle.ti_line.specs.Line.{texts_of}
+use Rattle.ti_tool.proofs.AreParamsLemmas.{stand_next, bad_here}
 use Rattle.ti_tool.proofs.params.read_into.Goals as goal
 
 pub returns-in-None-clause-bad : goal.returns-in-None-clause-bad
 returns-in-None-clause-bad c = λ which e.
-    let P : ℕ → Type 0 = λ x. IsFirstBad x (texts c.args.words.now) in
+    let P : ℕ → Type 0 = λ x. IsFirstBad x (texts_of c.args.words.now) in
     let same : c.loop-i.i + 1 ≡ which = cc (e) in
     subst P same (bad_here c.args.words.now c.loop-i.i _ c.loop-i.values c.loop-i-test.true c.loop-i.invariant.stand c.in-None.ensures.none)
 

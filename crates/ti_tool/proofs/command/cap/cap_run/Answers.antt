@@ -1,8 +1,8 @@
 use Rattle.std.proofs.lemmas.Result.{err_from_is_err_and}
 use Rattle.ti_tool.specs.Results.{IsCapped}
 use Rattle.ti_tool.specs.Calls.{IsFull}
-use Rattle.ti_tool.proofs.Calling.{did_fail, did_write, did_not_read}
-use Rattle.ti_tool.proofs.Takings.{Takes-empty, at_end}
+use Rattle.ti_tool.proofs.DidCallLemmas.{did_fail, did_write, did_not_read}
+use Rattle.ti_tool.proofs.ReadsIntoLemmas.{ReadsInto-empty, at_end}
 use Rattle.ti_tool.proofs.command.cap.cap_run.Goals as goal
 
 pub returns-in_err-read_up_to : goal.returns-in_err-read_up_to
@@ -15,14 +15,14 @@ returns-in_err-result g c =
     let p = err_from_is_err_and c.from_residual-in_err-result.result c.from_residual-in_err-result.ensures.1 in
     rw (p.1, p.2)
     (did_fail (IsCapped c.args.parameters.now c.args.hex) IsFull _ _ _ c.as_slice.result.now c.in_err-result.field-0.0
-    (Takes-empty _ _ _ _ c.as_slice.result.now c.read_up_to.ensures.taken c.new-input.ensures c.as_slice.ensures.value)
+    (ReadsInto-empty _ _ _ _ c.as_slice.result.now c.read_up_to.ensures.taken c.new-input.ensures c.as_slice.ensures.value)
     (at_end _ c.read_up_to.new.bytes.items c.as_slice.result.now c.as_slice.ensures.value c.in_ok-read_up_to.ensures.end)
     (λ gone h. h) c.in_err-result.ensures)
 
 pub returns : goal.returns
 returns g c =
     did_write (IsCapped c.args.parameters.now c.args.hex) IsFull _ _ _ _ c.as_slice.result.now c.in_ok-result.result.items c.as_slice-2.result.now c.write_result.result
-    (Takes-empty _ _ _ _ c.as_slice.result.now c.read_up_to.ensures.taken c.new-input.ensures c.as_slice.ensures.value)
+    (ReadsInto-empty _ _ _ _ c.as_slice.result.now c.read_up_to.ensures.taken c.new-input.ensures c.as_slice.ensures.value)
     (at_end _ c.read_up_to.new.bytes.items c.as_slice.result.now c.as_slice.ensures.value c.in_ok-read_up_to.ensures.end)
     c.in_ok-result.ensures
     c.as_slice-2.ensures.value c.write_result.ensures

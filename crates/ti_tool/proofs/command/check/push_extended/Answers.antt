@@ -2,12 +2,12 @@ use Rattle.std.proofs.Common.{◌∙◌, ◌+◌, ◌<◌, Bool, true, [], ap, a
 use Rattle.std.specs.Prelude.{codes}
 use Rattle.ti_words.specs.Texts.{text_value}
 use Rattle.ti_words.specs.Spelling.{name_in}
-use Rattle.ti_tool.specs.Labels.{label_bytes}
+use Rattle.ti_tool.specs.inner.Label.{label_bytes}
 use Rattle.ti_tool.specs.declared.verdict.JudgedText.{JudgedText}
-use Rattle.ti_tool.specs.Judged.{IsJudged}
-use Rattle.ti_tool.specs.Checked.{IsExtendedLine}
-use Rattle.ti_tool.proofs.Marked.{verdict_next}
-use Rattle.ti_tool.proofs.Verdicts.{GoesOn, and_true, goes_end, line_of_none, line_of_text}
+use Rattle.ti_tool.specs.inner.Verdict.{IsJudged}
+use Rattle.ti_tool.specs.Verdicts.{IsExtendedLine}
+use Rattle.ti_tool.proofs.IsExtendedLineLemmas.{verdict_next}
+use Rattle.ti_tool.proofs.AreLinesLemmas.{GoesOn, and_true, goes_end, line_of_none, line_of_text}
 use Rattle.ti_tool.proofs.command.check.push_extended.Goals.{in-Value+in_ok-push_line, in_default}
 use Rattle.ti_tool.proofs.command.check.push_extended.Goals as goal
 

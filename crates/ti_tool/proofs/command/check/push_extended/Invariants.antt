@@ -1,6 +1,6 @@
-use Rattle.ti_tool.specs.Checked.{IsExtendedLine}
-use Rattle.ti_tool.specs.Judged.{IsJudged}
-use Rattle.ti_tool.proofs.Verdicts.{GoesOn}
+use Rattle.ti_tool.specs.Verdicts.{IsExtendedLine}
+use Rattle.ti_tool.specs.inner.Verdict.{IsJudged}
+use Rattle.ti_tool.proofs.AreLinesLemmas.{GoesOn}
 use Rattle.ti_tool.proofs.command.check.push_extended.Given as goal
 
 abbrev pub invariant-loop-i : goal.invariant-loop-i

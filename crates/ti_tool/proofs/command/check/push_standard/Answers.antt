@@ -2,11 +2,12 @@ use Rattle.std.proofs.Common.{◌∙◌, ◌+◌, ◌<◌, Bool, true, ap, arith
 use Rattle.std.specs.Prelude.{codes}
 use Rattle.ti_words.specs.Texts.{text_value}
 use Rattle.ti_words.specs.declared.Kind.TheVariants as kinds
-use Rattle.ti_tool.specs.Labels.{label_bytes, label_of}
+use Rattle.ti_tool.specs.Labels.{label_of}
+use Rattle.ti_tool.specs.inner.Label.{label_bytes}
 use Rattle.ti_tool.specs.declared.verdict.JudgedText.{JudgedText}
-use Rattle.ti_tool.specs.Judged.{IsJudged}
-use Rattle.ti_tool.specs.Checked.{IsStandardLine}
-use Rattle.ti_tool.proofs.Verdicts.{GoesOn, and_true, goes_end, line_of_none, line_of_text, standard_next}
+use Rattle.ti_tool.specs.inner.Verdict.{IsJudged}
+use Rattle.ti_tool.specs.Verdicts.{IsStandardLine}
+use Rattle.ti_tool.proofs.AreLinesLemmas.{GoesOn, and_true, goes_end, line_of_none, line_of_text, standard_next}
 use Rattle.ti_tool.proofs.command.check.push_standard.Goals.{in-Value+in_ok-push_line, in_default}
 use Rattle.ti_tool.proofs.command.check.push_standard.Goals as goal
 

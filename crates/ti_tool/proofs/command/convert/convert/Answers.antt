@@ -2,8 +2,8 @@ use Rattle.std.proofs.Common.{inl, inr, refl}
 use Rattle.std.proofs.lemmas.Result.{err_from_is_err_and}
 use Rattle.ti_tool.specs.Results.{IsConverted}
 use Rattle.ti_tool.specs.Calls.{HasFailed}
-use Rattle.ti_tool.proofs.Calling.{did_fail, did_stop, did_write}
-use Rattle.ti_tool.proofs.Dues.{converted_due, converted_never}
+use Rattle.ti_tool.proofs.DidCallLemmas.{did_fail, did_stop, did_write}
+use Rattle.ti_tool.proofs.IsDueLemmas.{converted_due, converted_never}
 use Rattle.ti_tool.proofs.command.convert.convert.Goals as goal
 
 pub returns-in_err-read_entry : goal.returns-in_err-read_entry

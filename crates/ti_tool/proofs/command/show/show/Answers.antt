@@ -2,7 +2,7 @@ use Rattle.std.proofs.Common.{inl, inr, refl}
 use Rattle.std.proofs.lemmas.Result.{err_from_is_err_and}
 use Rattle.ti_tool.specs.Results.{IsShown}
 use Rattle.ti_tool.specs.Calls.{HasFailed}
-use Rattle.ti_tool.proofs.Calling.{did_fail, did_stop, did_write}
+use Rattle.ti_tool.proofs.DidCallLemmas.{did_fail, did_stop, did_write}
 use Rattle.ti_tool.proofs.command.show.show.Goals as goal
 
 pub returns-in_err-read_entry : goal.returns-in_err-read_entry

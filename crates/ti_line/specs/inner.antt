@@ -1,0 +1,4 @@
+-- What private clauses alone cite.
+pub mod Command
+pub mod Errors
+pub mod Values

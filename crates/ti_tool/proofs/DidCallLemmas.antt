@@ -1,0 +1,98 @@
+-- What a call has done, from what it read and what it wrote.
+use Rattle.std.proofs.Common.{◌≡◌, ℕ, ◌⊎◌, inl, inr, List, Ok, Err, Some, subst, sym, ap, ◌∙◌}
+use Rattle.std.specs.Prelude.{Option, Result}
+use Rattle.std.specs.Io.KnownBytes.{Consumes, IsAtEnd}
+use Rattle.std.proofs.KnownBytes.{Keeps-refl}
+use Rattle.ti_tool.specs.declared.fault.ToolFault.{ToolFault}
+use Rattle.ti_tool.specs.declared.fault.ToolFault.TheVariants as fault
+use Rattle.ti_layout.specs.declared.fault.Refused.{Refused}
+use Rattle.ti_layout.specs.Refusal.{refusal, failure}
+use Rattle.ti_entry.specs.Reading.{Reading, new_reading, fed}
+use Rattle.ti_tool.specs.inner.ReadsInto.{ReadsInto}
+use Rattle.ti_tool.specs.Calls.{Wrote, HasReadEnough, DidCall, HasFailed}
+use Rattle.ti_tool.specs.inner.Kept.{StopsReading}
+
+-- a writer's own fault is due to nothing
+abbrev pub NeverWrite : (Result (List ℕ) ToolFault → Type 0) → Type 0
+NeverWrite due = (gone : ℕ) → ¬ due (Err (fault.Write gone))
+
+failed : (due : Result (List ℕ) ToolFault → Type 0) (held : Option (List ℕ)) (e : ToolFault) → NeverWrite due → (e ≡ fault.Memory) ⊎ due (Err e) → Wrote due held held (Err e)
+failed due held fault.Read never h = Keeps-refl held
+failed due held fault.Memory never h = Keeps-refl held
+failed due held (fault.Write gone) never (inl e) = absurd (cc)
+failed due held (fault.Write gone) never (inr d) = absurd (never gone d)
+failed due held (fault.Entry refused) never (inl e) = absurd (cc)
+failed due held (fault.Entry refused) never (inr d) = (d, Keeps-refl held)
+failed due held (fault.Cap refused) never (inl e) = absurd (cc)
+failed due held (fault.Cap refused) never (inr d) = (d, Keeps-refl held)
+failed due held (fault.TextTooLong k) never (inl e) = absurd (cc)
+failed due held (fault.TextTooLong k) never (inr d) = (d, Keeps-refl held)
+failed due held (fault.Encode unfit) never (inl e) = absurd (cc)
+failed due held (fault.Encode unfit) never (inr d) = (d, Keeps-refl held)
+failed due held fault.NoSuchText never (inl e) = absurd (cc)
+failed due held fault.NoSuchText never (inr d) = (d, Keeps-refl held)
+failed due held (fault.TooMuch need) never (inl e) = absurd (cc)
+failed due held (fault.TooMuch need) never (inr d) = (d, Keeps-refl held)
+
+ended : (enough : Type 0) (left : Option (List ℕ)) (answer : Result (Unit {0}) ToolFault) → enough ⊎ IsAtEnd left → HasReadEnough enough left answer
+ended enough left (Ok u) h = h
+ended enough left (Err fault.Read) h = tt
+ended enough left (Err fault.Memory) h = tt
+ended enough left (Err (fault.Write gone)) h = h
+ended enough left (Err (fault.Entry refused)) h = h
+ended enough left (Err (fault.Cap refused)) h = h
+ended enough left (Err (fault.TextTooLong k)) h = h
+ended enough left (Err (fault.Encode unfit)) h = h
+ended enough left (Err fault.NoSuchText) h = h
+ended enough left (Err (fault.TooMuch need)) h = h
+
+-- a call that found a fault before it wrote
+pub did_fail : (due : List ℕ → Result (List ℕ) ToolFault → Type 0) (enough : List ℕ → Type 0) (left0 left1 held : Option (List ℕ)) (input : List ℕ) (e : ToolFault)
+    → Consumes left0 left1 input → enough input ⊎ IsAtEnd left1 → NeverWrite (due input) → (e ≡ fault.Memory) ⊎ due input (Err e)
+    → DidCall due enough left0 left1 held held (Err e)
+did_fail due enough left0 left1 held input e read at never h =
+    record { input = input; read = read; ended = ended (enough input) left1 (Err e) at; wrote = failed (due input) held e never h }
+
+wrote_due : (due : Result (List ℕ) ToolFault → Type 0) (out : List ℕ) (held0 held1 : Option (List ℕ)) (answer : Result (Unit {0}) ToolFault) → due (Ok out)
+    → Wrote (λ d. d ≡ Ok out) held0 held1 answer → Wrote due held0 held1 answer
+wrote_due due out held0 held1 (Ok u) d (x, is, a) = (x, (let P : Result (List ℕ) ToolFault → Type 0 = λ r. due r in subst P (sym is) d), a)
+wrote_due due out held0 held1 (Err (fault.Write gone)) d (x, is, l, a) = (x, (let P : Result (List ℕ) ToolFault → Type 0 = λ r. due r in subst P (sym is) d), l, a)
+wrote_due due out held0 held1 (Err fault.Read) d w = w
+wrote_due due out held0 held1 (Err fault.Memory) d w = w
+wrote_due due out held0 held1 (Err (fault.Entry refused)) d w = absurd (cc (w.0))
+wrote_due due out held0 held1 (Err (fault.Cap refused)) d w = absurd (cc (w.0))
+wrote_due due out held0 held1 (Err (fault.TextTooLong k)) d w = absurd (cc (w.0))
+wrote_due due out held0 held1 (Err (fault.Encode unfit)) d w = absurd (cc (w.0))
+wrote_due due out held0 held1 (Err fault.NoSuchText) d w = absurd (cc (w.0))
+wrote_due due out held0 held1 (Err (fault.TooMuch need)) d w = absurd (cc (w.0))
+
+-- a call that wrote what is due
+pub did_write : (due : List ℕ → Result (List ℕ) ToolFault → Type 0) (enough : List ℕ → Type 0) (left0 left1 held0 held1 : Option (List ℕ)) (input out written : List ℕ) (answer : Result (Unit {0}) ToolFault)
+    → Consumes left0 left1 input → enough input ⊎ IsAtEnd left1 → due input (Ok out) → written ≡ out → Wrote (λ d. d ≡ Ok written) held0 held1 answer
+    → DidCall due enough left0 left1 held0 held1 answer
+did_write due enough left0 left1 held0 held1 input out written answer read at d e w =
+    let P : List ℕ → Type 0 = λ x. due input (Ok x) in
+    record { input = input; read = read; ended = ended (enough input) left1 answer at; wrote = wrote_due (due input) written held0 held1 answer (subst P (sym e) d) w }
+
+-- a call whose reader failed
+pub did_not_read : (due : List ℕ → Result (List ℕ) ToolFault → Type 0) (enough : List ℕ → Type 0) (left0 left1 held : Option (List ℕ)) (old new : List ℕ)
+    → ReadsInto left0 left1 old new → DidCall due enough left0 left1 held held (Err fault.Read)
+did_not_read due enough left0 left1 held old new (bytes, took, is) = record { input = bytes; read = took; ended = tt; wrote = Keeps-refl held }
+
+-- a call whose reading stopped
+pub did_stop : (due : List ℕ → Result (List ℕ) ToolFault → Type 0) (left0 left1 held : Option (List ℕ)) (e : ToolFault) → StopsReading left0 left1 e
+    → ((bytes : List ℕ) (refused : Refused) → refusal bytes ≡ Some refused → due bytes (Err (fault.Entry refused))) → DidCall due HasFailed left0 left1 held held (Err e)
+did_stop due left0 left1 held fault.Read (bytes, took) h = record { input = bytes; read = took; ended = tt; wrote = Keeps-refl held }
+did_stop due left0 left1 held (fault.Entry refused) (bytes, took, failed, is) h =
+    record { input = bytes; read = took; ended = inl (refused, failed); wrote = (h bytes refused is, Keeps-refl held) }
+did_stop due left0 left1 held fault.Memory s h = absurd s
+did_stop due left0 left1 held (fault.Write gone) s h = absurd s
+did_stop due left0 left1 held (fault.Cap refused) s h = absurd s
+did_stop due left0 left1 held (fault.TextTooLong k) s h = absurd s
+did_stop due left0 left1 held (fault.Encode unfit) s h = absurd s
+did_stop due left0 left1 held fault.NoSuchText s h = absurd s
+did_stop due left0 left1 held (fault.TooMuch need) s h = absurd s
+
+-- what a new reader refused is why the bytes fail
+pub stopped_on : (bytes : List ℕ) (old new : Reading) (r : Refused) → old ≡ new_reading → new ≡ fed old bytes → new.refusal ≡ Some r → failure bytes ≡ Some r
+stopped_on bytes old new r o n h = ap (λ x. (fed x bytes).refusal) (sym o) ∙ ap (λ x. x.refusal) (sym n) ∙ h

@@ -1,0 +1,84 @@
+-- The lines that `show` writes of an entry.
+use Rattle.std.specs.Prelude.{ℕ, suc, List, [], ◌∷◌, ◌++◌, codes}
+use Rattle.std.specs.Fmt.{signed_decimal}
+use Rattle.hex.specs.Hex.{encode_lower}
+use Rattle.ti_words.specs.declared.Flag.{Flag}
+use Rattle.ti_words.specs.declared.Flag.TheVariants as flags
+use Rattle.ti_words.specs.declared.Kind.TheVariants as kinds
+use Rattle.ti_words.specs.declared.Number.{Number}
+use Rattle.ti_words.specs.declared.Number.TheVariants as numbers
+use Rattle.ti_words.specs.declared.Width.{Width}
+use Rattle.ti_words.specs.declared.Width.TheVariants.{Legacy, Wide}
+use Rattle.ti_words.specs.Texts.{TextValue, AbsentText, CancelledText, TextOf}
+use Rattle.ti_words.specs.Value.{EntryValue}
+use Rattle.ti_tool.specs.Labels.{label_of}
+
+-- a word and a label, and after the label nothing, or a blank and a word; No has no line
+abbrev pub flag_line : List ℕ → List ℕ → Flag → List ℕ
+flag_line word label flags.No = []
+flag_line word label flags.Yes = word ++ label ++ codes "\n"
+flag_line word label flags.Cancelled = word ++ label ++ codes " cancelled\n"
+flag_line word label flags.Missing = word ++ label ++ codes " missing\n"
+
+abbrev pub number_line : List ℕ → List ℕ → Number → List ℕ
+number_line word label numbers.Absent = []
+number_line word label numbers.Cancelled = word ++ label ++ codes " cancelled\n"
+number_line word label (numbers.Value n) =
+    word ++ label ++ codes " " ++ signed_decimal n ++ codes "\n"
+
+-- a text in lower-case hex, or `-` in place of no bytes
+abbrev pub hex_or_dash : List ℕ → List ℕ
+hex_or_dash [] = codes "-"
+hex_or_dash (byte ∷ bytes) = encode_lower (byte ∷ bytes)
+
+abbrev pub text_line : List ℕ → List ℕ → TextValue → List ℕ
+text_line word label AbsentText = []
+text_line word label CancelledText = word ++ label ++ codes " cancelled\n"
+text_line word label (TextOf bytes) = word ++ label ++ codes " " ++ hex_or_dash bytes ++ codes "\n"
+
+-- the lines of standard capabilities, from their index
+abbrev pub standard_flag : ℕ → Flag → List ℕ
+standard_flag index flag = flag_line (codes "flag ") (label_of kinds.Flag index) flag
+
+abbrev pub standard_number : ℕ → Number → List ℕ
+standard_number index number = number_line (codes "number ") (label_of kinds.Number index) number
+
+abbrev pub standard_text : ℕ → TextValue → List ℕ
+standard_text index text = text_line (codes "text ") (label_of kinds.Text index) text
+
+-- those of the extended part have a name of their own, whatever their index
+abbrev pub extended_flag : ℕ → List ℕ × Flag → List ℕ
+extended_flag index (name, flag) = flag_line (codes "flag+ ") name flag
+
+abbrev pub extended_number : ℕ → List ℕ × Number → List ℕ
+extended_number index (name, number) = number_line (codes "number+ ") name number
+
+abbrev pub extended_text : ℕ → List ℕ × TextValue → List ℕ
+extended_text index (name, text) = text_line (codes "text+ ") name text
+
+-- a line for each item from an index on
+abbrev pub lines_from : {X : Type 0} → (ℕ → X → List ℕ) → ℕ → List X → List ℕ
+lines_from line index [] = []
+lines_from line index (x ∷ xs) = line index x ++ lines_from line (suc index) xs
+
+-- flags, numbers and texts in the order of their indices
+abbrev pub standard_lines : EntryValue → List ℕ
+standard_lines v =
+    lines_from standard_flag 0 v.flags ++ lines_from standard_number 0 v.numbers
+    ++ lines_from standard_text 0 v.texts
+
+abbrev pub extended_lines : EntryValue → List ℕ
+extended_lines v =
+    lines_from extended_flag 0 v.extended_flags ++ lines_from extended_number 0 v.extended_numbers
+    ++ lines_from extended_text 0 v.extended_texts
+
+-- the name of a format
+abbrev pub format_name : Width → List ℕ
+format_name Legacy = codes "legacy"
+format_name Wide = codes "wide"
+
+-- the format and the names, then the standard capabilities and those of the extended part
+abbrev pub entry_lines : EntryValue → List ℕ
+entry_lines v =
+    codes "format: " ++ format_name v.width ++ codes "\nnames: " ++ v.names ++ codes "\n"
+    ++ standard_lines v ++ extended_lines v

@@ -1,0 +1,7 @@
+-- What private clauses alone cite.
+pub mod Dues
+pub mod Ends
+pub mod Kept
+pub mod Label
+pub mod ReadsInto
+pub mod Verdict
