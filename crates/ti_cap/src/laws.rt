@@ -7,15 +7,18 @@ ghost use Rattle.ti_cap.specs.Spelling.{Spells, Written, Writes};
 
 /// No spelling of a token is a proper front of another's: where it begins a spelling, it is the whole of it.
 pub fn spellings_stand_apart()
-    ensures { (one other : Token) → (spelling more : List ℕ) → Spells one spelling → Spells other (spelling ++ more) → (more ≡ []) × (one ≡ other) }
+    ensures { (one other : Token) → (spelling more : List ℕ) → Spells one spelling
+        → Spells other (spelling ++ more) → (more ≡ []) × (one ≡ other) }
 {}
 
 /// Bytes have at most one cutting into tokens.
 pub fn one_cutting()
-    ensures { (ones others : List Token) → (bytes : List ℕ) → Written ones bytes → Written others bytes → ones ≡ others }
+    ensures { (ones others : List Token) → (bytes : List ℕ) → Written ones bytes
+        → Written others bytes → ones ≡ others }
 {}
 
 /// Bytes are written by at most one tree.
 pub fn one_tree()
-    ensures { (one other : Sequence) → (bytes : List ℕ) → Writes one bytes → Writes other bytes → one ≡ other }
+    ensures { (one other : Sequence) → (bytes : List ℕ) → Writes one bytes → Writes other bytes
+        → one ≡ other }
 {}

@@ -91,7 +91,8 @@ fn limits_of<const ROOM: usize>(bytes: &[u8]) -> Result<Limits, CapRefused>
     requires room { ROOM ≤ most_open }
     requires short { length bytes.now ≤ most_capability_bytes }
     ensures accepted { IfOk result (λ limits. IsCapability bytes.now limits) }
-    ensures refused { IfErr result (λ refused. IsSure ROOM refused.fault → IsRefusal bytes.now refused) }
+    ensures refused { IfErr result
+        (λ refused. IsSure ROOM refused.fault → IsRefusal bytes.now refused) }
 {
     let mut scan = Scan::new();
     let mut opens = [Open::FRESH; ROOM];

@@ -215,10 +215,12 @@ fn conversion(letter: u8) -> Option<Conversion>
 #[tactic(auto, using(crate::proofs::FrontLemmas::front_within, crate::proofs::FrontLemmas::rest_behind))]
 fn small_number(bytes: &[u8]) -> Option<(u8, usize)>
     ensures none { IfNone result (greatest_width < number_of (front is_digit bytes.now)) }
-    ensures number { IfSome result (λ (number, count). number ≡ number_of (front is_digit bytes.now)) }
+    ensures number { IfSome result
+        (λ (number, count). number ≡ number_of (front is_digit bytes.now)) }
     ensures count { IfSome result (λ (number, count). count ≡ length (front is_digit bytes.now)) }
     ensures within { IfSome result (λ (number, count). count ≤ length bytes.now) }
-    ensures left { IfSome result (λ (number, count). drop count bytes.now ≡ rest is_digit bytes.now) }
+    ensures left { IfSome result
+        (λ (number, count). drop count bytes.now ≡ rest is_digit bytes.now) }
 {
     let mut number: u16 = 0;
     for (count, byte) in bytes.iter().enumerate() {

@@ -46,8 +46,8 @@ impl Scan {
     ghost use Rattle.ti_cap.specs.declared.language.Token.{Token};
     ghost use Rattle.ti_cap.specs.declared.language.CapFault.{CapFault};
     ghost use Rattle.ti_cap.specs.declared.scan.Open.{Open};
-    ghost use Rattle.ti_cap.specs.inner.Analysis.{no_findings, findings_after, fault_of, greatest_of, are_in_test};
-    ghost use Rattle.ti_cap.specs.inner.Scan.{findings_of, IsInOrder, IsSure, after_push, innermost_first, height_frame, size_frame, greatest_end};
+    ghost use Rattle.ti_cap.specs.inner.Analysis.{no_findings, greatest_of, are_in_test};
+    ghost use Rattle.ti_cap.specs.inner.Scan.{findings_of, fault_at, Brings, IsInOrder, IsSure, after_push, innermost_first, height_frame, size_frame, greatest_end};
 
     /// No token yet.
     pub fn new() -> Self
@@ -73,9 +73,10 @@ impl Scan {
         requires low { self.old.here.height ≤ most_values }
         requires small { self.old.here.size < 2 ^ 31 }
         requires order { IsInOrder ROOM self.old }
-        ensures refused { IfErr result (λ fault. IsSure ROOM fault → fault_of (findings_of self.old opens.old) token ≡ Some fault) }
-        ensures taken { OnOk result (findings_of self.new opens.new ≡ findings_after (findings_of self.old opens.old) token) }
-        ensures fine { OnOk result (fault_of (findings_of self.old opens.old) token ≡ None) }
+        ensures refused { IfErr result
+            (λ fault. IsSure ROOM fault → fault_at self.old opens.old token ≡ Some fault) }
+        ensures taken { OnOk result (Brings token self.old opens.old self.new opens.new) }
+        ensures fine { OnOk result (fault_at self.old opens.old token ≡ None) }
         ensures order { OnOk result (IsInOrder ROOM self.new) }
     {
         match token {
@@ -99,7 +100,9 @@ impl Scan {
     #[inline(always)]
     fn write(&mut self, popped: u32, size: u32)
         requires { self.old.here.size + size < 2 ^ 32 }
-        ensures { self.new ≡ record self.old { here = record { height = self.old.here.height - popped; size = self.old.here.size + size } } }
+        ensures { self.new ≡ record self.old {
+          here = record { height = self.old.here.height - popped; size = self.old.here.size + size };
+        } }
     {
         self.here.height = self.here.height.saturating_sub(popped);
         self.here.size += size;
@@ -109,7 +112,9 @@ impl Scan {
     #[inline(always)]
     fn push(&mut self, popped: u32) -> Result<(), CapFault>
         requires { self.old.here.height ≤ most_values }
-        ensures refused { IfErr result (λ fault. (fault ≡ CapFault.StackTooDeep) × (most_values < self.old.here.height - popped + 1)) }
+        ensures refused { IfErr result
+            (λ fault. (fault ≡ CapFault.StackTooDeep)
+            × (most_values < self.old.here.height - popped + 1)) }
         ensures taken { OnOk result (self.new ≡ after_push self.old popped) }
         ensures fine { OnOk result (self.old.here.height - popped + 1 ≤ most_values) }
     {
@@ -128,9 +133,10 @@ impl Scan {
         requires room { ROOM ≤ most_open }
         requires low { self.old.here.height ≤ most_values }
         requires order { IsInOrder ROOM self.old }
-        ensures refused { IfErr result (λ fault. IsSure ROOM fault → fault_of (findings_of self.old opens.old) Token.CondOpen ≡ Some fault) }
-        ensures taken { OnOk result (findings_of self.new opens.new ≡ findings_after (findings_of self.old opens.old) Token.CondOpen) }
-        ensures fine { OnOk result (fault_of (findings_of self.old opens.old) Token.CondOpen ≡ None) }
+        ensures refused { IfErr result
+            (λ fault. IsSure ROOM fault → fault_at self.old opens.old Token.CondOpen ≡ Some fault) }
+        ensures taken { OnOk result (Brings Token.CondOpen self.old opens.old self.new opens.new) }
+        ensures fine { OnOk result (fault_at self.old opens.old Token.CondOpen ≡ None) }
         ensures order { OnOk result (IsInOrder ROOM self.new) }
     {
         if self.nesting >= ROOM {
@@ -147,9 +153,10 @@ impl Scan {
     fn test<const ROOM: usize>(&mut self, opens: &mut [Open; ROOM]) -> Result<(), CapFault>
         requires low { self.old.here.height ≤ most_values }
         requires order { IsInOrder ROOM self.old }
-        ensures refused { IfErr result (λ fault. fault_of (findings_of self.old opens.old) Token.CondThen ≡ Some fault) }
-        ensures taken { OnOk result (findings_of self.new opens.new ≡ findings_after (findings_of self.old opens.old) Token.CondThen) }
-        ensures fine { OnOk result (fault_of (findings_of self.old opens.old) Token.CondThen ≡ None) }
+        ensures refused { IfErr result
+            (λ fault. fault_at self.old opens.old Token.CondThen ≡ Some fault) }
+        ensures taken { OnOk result (Brings Token.CondThen self.old opens.old self.new opens.new) }
+        ensures fine { OnOk result (fault_at self.old opens.old Token.CondThen ≡ None) }
         ensures order { OnOk result (IsInOrder ROOM self.new) }
     {
         if self.nesting == 0 {
@@ -172,9 +179,10 @@ impl Scan {
     fn turn<const ROOM: usize>(&mut self, opens: &mut [Open; ROOM]) -> Result<(), CapFault>
         requires low { self.old.here.height ≤ most_values }
         requires order { IsInOrder ROOM self.old }
-        ensures refused { IfErr result (λ fault. fault_of (findings_of self.old opens.old) Token.CondElse ≡ Some fault) }
-        ensures taken { OnOk result (findings_of self.new opens.new ≡ findings_after (findings_of self.old opens.old) Token.CondElse) }
-        ensures fine { OnOk result (fault_of (findings_of self.old opens.old) Token.CondElse ≡ None) }
+        ensures refused { IfErr result
+            (λ fault. fault_at self.old opens.old Token.CondElse ≡ Some fault) }
+        ensures taken { OnOk result (Brings Token.CondElse self.old opens.old self.new opens.new) }
+        ensures fine { OnOk result (fault_at self.old opens.old Token.CondElse ≡ None) }
         ensures order { OnOk result (IsInOrder ROOM self.new) }
     {
         if self.nesting == 0 {
@@ -202,9 +210,10 @@ impl Scan {
     fn leave<const ROOM: usize>(&mut self, opens: &[Open; ROOM]) -> Result<(), CapFault>
         requires low { self.old.here.height ≤ most_values }
         requires order { IsInOrder ROOM self.old }
-        ensures refused { IfErr result (λ fault. fault_of (findings_of self.old opens.now) Token.CondClose ≡ Some fault) }
-        ensures taken { OnOk result (findings_of self.new opens.now ≡ findings_after (findings_of self.old opens.now) Token.CondClose) }
-        ensures fine { OnOk result (fault_of (findings_of self.old opens.now) Token.CondClose ≡ None) }
+        ensures refused { IfErr result
+            (λ fault. fault_at self.old opens.now Token.CondClose ≡ Some fault) }
+        ensures taken { OnOk result (Brings Token.CondClose self.old opens.now self.new opens.now) }
+        ensures fine { OnOk result (fault_at self.old opens.now Token.CondClose ≡ None) }
         ensures order { OnOk result (IsInOrder ROOM self.new) }
     {
         if self.nesting == 0 {
@@ -238,7 +247,8 @@ impl Scan {
     #[tactic(auto, using(crate::proofs::ScanLemmas::greatest_end_size))]
     pub fn bound<const ROOM: usize>(&self, opens: &[Open; ROOM]) -> u64
         requires order { IsInOrder ROOM self.now }
-        ensures { result ≡ greatest_of (map size_frame (innermost_first self.now.nesting opens.now)) self.now.here.size }
+        ensures { result
+            ≡ greatest_of (map size_frame (innermost_first self.now.nesting opens.now)) self.now.here.size }
     {
         u64::from(self.end(opens).size)
     }
@@ -259,7 +269,8 @@ impl Scan {
     /// Whether a conditional is still in its first test.
     pub fn is_in_first_test<const ROOM: usize>(&self, opens: &[Open; ROOM]) -> bool
         requires order { IsInOrder ROOM self.now }
-        ensures { result ≡ are_in_test (map height_frame (innermost_first self.now.nesting opens.now)) }
+        ensures { result
+            ≡ are_in_test (map height_frame (innermost_first self.now.nesting opens.now)) }
     {
         opens[..self.nesting]
             .iter()

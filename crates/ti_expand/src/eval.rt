@@ -5,7 +5,7 @@ ghost use Rattle.ti_base.specs.Limits.{most_text_bytes};
 ghost use Rattle.ti_cap.specs.Tree.{IsSimple};
 ghost use Rattle.ti_cap.specs.Height.{next_height};
 ghost use Rattle.ti_expand.specs.State.{without_top, text_on};
-ghost use Rattle.ti_expand.specs.inner.Machine.{stack_in, machine};
+ghost use Rattle.ti_expand.specs.inner.Machine.{values_on, state_of};
 ghost use Rattle.ti_expand.specs.Sound.{IsSound};
 ghost use Rattle.ti_expand.specs.Effect.{effect, after_operation, print_for};
 
@@ -25,7 +25,7 @@ fn compute(op: Op, stack: &mut Stack<'_, '_>)
     ensures room { length stack.new.slots.now ≡ length stack.old.slots.now }
     ensures height { stack.new.height ≡ next_height stack.old.height (Token.Compute op) }
     ensures highest { stack.new.highest ≡ max stack.old.highest stack.new.height }
-    ensures held { stack_in stack.new.slots.now stack.new.height ≡ after_operation op (stack_in stack.old.slots.now stack.old.height) }
+    ensures held { values_on stack.new ≡ after_operation op (values_on stack.old) }
 {
     let right = stack.pop_number();
     let number = match op {
@@ -42,13 +42,16 @@ fn compute(op: Op, stack: &mut Stack<'_, '_>)
 /// Prints what lies on the stack, from a place on, and returns the place after it.
 #[inline(always)]
 fn print(format: &Format, stack: &mut Stack<'_, '_>, out: &mut [u8], written: usize) -> usize
-    requires { written + length (print_for format.now.conversion format.now (stack_in stack.old.slots.now stack.old.height)) ≤ length out.old }
+    requires { written + length (print_for format.now.conversion format.now (values_on stack.old))
+        ≤ length out.old }
     ensures room { length stack.new.slots.now ≡ length stack.old.slots.now }
     ensures height { stack.new.height ≡ stack.old.height - 1 }
     ensures highest { stack.new.highest ≡ stack.old.highest }
-    ensures held { stack_in stack.new.slots.now stack.new.height ≡ without_top (stack_in stack.old.slots.now stack.old.height) }
-    ensures written { take result out.new ≡ take written out.old ++ print_for format.now.conversion format.now (stack_in stack.old.slots.now stack.old.height) }
-    ensures end { result ≡ written + length (print_for format.now.conversion format.now (stack_in stack.old.slots.now stack.old.height)) }
+    ensures held { values_on stack.new ≡ without_top (values_on stack.old) }
+    ensures written { take result out.new
+        ≡ take written out.old ++ print_for format.now.conversion format.now (values_on stack.old) }
+    ensures end { result
+        ≡ written + length (print_for format.now.conversion format.now (values_on stack.old)) }
     ensures rest { drop result out.new ≡ drop result out.old }
 {
     match format.conversion {
@@ -69,12 +72,14 @@ pub fn act<'a>(
     written: usize,
 ) -> usize
     requires simple { IsSimple token.now }
-    requires sound { IsSound most_text_bytes (machine stack.old.slots.now stack.old.height vars.old parameters.old out.old written) }
+    requires sound { IsSound most_text_bytes
+        (state_of stack.old vars.old parameters.old out.old written) }
     requires height { next_height stack.old.height token.now ≤ length stack.old.slots.now }
     requires within { written ≤ length out.old }
-    requires room { length (effect token.now (machine stack.old.slots.now stack.old.height vars.old parameters.old out.old written)).output ≤ length out.old }
-    ensures state { machine stack.new.slots.now stack.new.height vars.new parameters.new out.new result
-        ≡ effect token.now (machine stack.old.slots.now stack.old.height vars.old parameters.old out.old written) }
+    requires room { length (effect token.now
+        (state_of stack.old vars.old parameters.old out.old written)).output ≤ length out.old }
+    ensures state { state_of stack.new vars.new parameters.new out.new result
+        ≡ effect token.now (state_of stack.old vars.old parameters.old out.old written) }
     ensures height { stack.new.height ≡ next_height stack.old.height token.now }
     ensures highest { stack.new.highest ≡ max stack.old.highest stack.new.height }
     ensures slots { length stack.new.slots.now ≡ length stack.old.slots.now }

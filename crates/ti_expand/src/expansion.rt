@@ -11,7 +11,7 @@ ghost use Rattle.ti_cap.specs.Height.{height};
 ghost use Rattle.ti_cap.specs.Capability.{HasDepth, HasBound, IsWellFormed};
 ghost use Rattle.ti_expand.specs.State.{start};
 ghost use Rattle.ti_expand.specs.Meaning.{meaning, taken_path};
-ghost use Rattle.ti_expand.specs.Expands.{ForTree, longest_text, IsFirstTooLong, IsExpandFault, IsTextOrMemory};
+ghost use Rattle.ti_expand.specs.Expands.{ForTree, ForMeaning, ForPath, longest_text, IsFirstTooLong, IsExpandFault, IsTextOrMemory};
 ghost use Rattle.ti_expand.specs.inner.Running.{IsReady, CanRun};
 
 use crate::counts::Run;
@@ -36,7 +36,8 @@ fn check(
     room: usize,
 ) -> Result<u16, ExpandFault>
     requires { tape.now.taken ≡ [] }
-    ensures faults { (fault : ExpandFault) → (result ≡ Err fault) ↔ IsExpandFault tape.now.left parameters.now places room fault }
+    ensures faults { (fault : ExpandFault) → (result ≡ Err fault)
+        ↔ IsExpandFault tape.now.left parameters.now places room fault }
     ensures ready { IfOk result (IsReady tape.now.left parameters.now places room) }
 {
     let longest = longest_text(parameters)?;
@@ -68,27 +69,37 @@ pub fn expand_into<'a>(
 ) -> Result<Run, ExpandFault>
     requires { tape.taken ≡ [] }
     // each fault comes exactly where it is so, and changes nothing
-    ensures faults { (fault : ExpandFault) → (result ≡ Err fault) ↔ IsExpandFault tape.entry.left parameters.now (length stack.old) (length out.old) fault }
+    ensures faults { (fault : ExpandFault) → (result ≡ Err fault)
+        ↔ IsExpandFault tape.entry.left parameters.now (length stack.old) (length out.old) fault }
     ensures kept_variables { OnErr result (vars.new ≡ vars.old) }
     ensures kept_stack { OnErr result (stack.new ≡ stack.old) }
     ensures kept_output { OnErr result (out.new ≡ out.old) }
 
     // else the output and the variables are those of the meaning of the tree that writes the tape, and there is one
     ensures tree { OnOk result (IsWellFormed tape.entry.left) }
-    ensures output { IfOk result (λ run. ForTree tape.entry.left (λ tree. take run.written out.new ≡ (meaning tree (start vars.old parameters.now)).output)) }
+    ensures output { IfOk result (λ run. ForMeaning tape.entry.left vars.old parameters.now
+        (λ end. take run.written out.new ≡ end.output)) }
     ensures rest { IfOk result (λ run. drop run.written out.new ≡ drop run.written out.old) }
-    ensures variables { OnOk result (ForTree tape.entry.left (λ tree. vars.new ≡ (meaning tree (start vars.old parameters.now)).variables)) }
+    ensures variables { OnOk result (ForMeaning tape.entry.left vars.old parameters.now
+        (λ end. vars.new ≡ end.variables)) }
 
     // and the counts are those of the path that its tests choose
-    ensures written { IfOk result (λ run. ForTree tape.entry.left (λ tree. run.written ≡ length (meaning tree (start vars.old parameters.now)).output)) }
-    ensures ran { IfOk result (λ run. ForTree tape.entry.left (λ tree. run.ran ≡ length (taken_path tree (start vars.old parameters.now)))) }
-    ensures all { IfOk result (λ run. ForTree tape.entry.left (λ tree. run.ran + run.passed ≡ length (tokens tree))) }
-    ensures peak { IfOk result (λ run. ForTree tape.entry.left (λ tree. run.peak ≡ height (taken_path tree (start vars.old parameters.now)))) }
+    ensures written { IfOk result (λ run. ForMeaning tape.entry.left vars.old parameters.now
+        (λ end. run.written ≡ length end.output)) }
+    ensures ran { IfOk result (λ run. ForPath tape.entry.left vars.old parameters.now
+        (λ path. run.ran ≡ length path)) }
+    ensures all { IfOk result (λ run. ForTree tape.entry.left
+        (λ tree. run.ran + run.passed ≡ length (tokens tree))) }
+    ensures peak { IfOk result (λ run. ForPath tape.entry.left vars.old parameters.now
+        (λ path. run.peak ≡ height path)) }
 
     // which keep to the limits
     ensures steps_low { IfOk result (λ run. run.ran + run.passed ≤ length tape.entry.left) }
-    ensures peak_low { IfOk result (λ run. (depth : ℕ) → HasDepth tape.entry.left depth → run.peak ≤ depth) }
-    ensures written_low { IfOk result (λ run. (bound : ℕ) → HasBound tape.entry.left (longest_text parameters.now) bound → run.written ≤ bound) }
+    ensures peak_low { IfOk result
+        (λ run. (depth : ℕ) → HasDepth tape.entry.left depth → run.peak ≤ depth) }
+    ensures written_low { IfOk result
+        (λ run. (bound : ℕ) → HasBound tape.entry.left (longest_text parameters.now) bound
+        → run.written ≤ bound) }
 {
     // Each variable fits 32 bits, on which the bound rests.
     let _numbers = vars.numbers();
@@ -109,15 +120,20 @@ pub fn expand<'a, A: Allocator + Copy>(
     vars: &mut Vars,
 ) -> Result<Vec<u8, A>, ExpandFault>
     // a text is too long, exactly where it is so, or memory was refused
-    ensures too_long { (k : ℕ) → (result ≡ Err (ExpandFault.TextTooLong k)) ↔ IsFirstTooLong parameters.now k }
+    ensures too_long { (k : ℕ) → (result ≡ Err (ExpandFault.TextTooLong k))
+        ↔ IsFirstTooLong parameters.now k }
     ensures only { IfErr result IsTextOrMemory }
     ensures kept { OnErr result (vars.new ≡ vars.old) }
 
     // else the output and the variables are those of the meaning of the tree that writes the capability, and there is one
     ensures tree { OnOk result (IsWellFormed capability.now) }
-    ensures output { IfOk result (λ out. ForTree capability.now (λ tree. out.items ≡ (meaning tree (start vars.old parameters.now)).output)) }
-    ensures variables { OnOk result (ForTree capability.now (λ tree. vars.new ≡ (meaning tree (start vars.old parameters.now)).variables)) }
-    ensures output_low { IfOk result (λ out. (bound : ℕ) → HasBound capability.now (longest_text parameters.now) bound → vec_len out ≤ bound) }
+    ensures output { IfOk result (λ out. ForMeaning capability.now vars.old parameters.now
+        (λ end. out.items ≡ end.output)) }
+    ensures variables { OnOk result (ForMeaning capability.now vars.old parameters.now
+        (λ end. vars.new ≡ end.variables)) }
+    ensures output_low { IfOk result
+        (λ out. (bound : ℕ) → HasBound capability.now (longest_text parameters.now) bound
+        → vec_len out ≤ bound) }
 {
     let longest = longest_text(parameters)?;
     let bound = capability.bound(longest) as usize;
@@ -138,9 +154,12 @@ pub fn expand<'a, A: Allocator + Copy>(
 /// Runs a tape from its start, with room for the most values.
 fn run_deep<'a>(tape: Tape<'_>, parameters: &[Value<'a>; 9], vars: &mut Vars, out: &mut [u8]) -> Run
     requires { CanRun tape.left (start vars.old parameters.now) most_values (length out.old) }
-    ensures output { ForTree tape.entry.left (λ tree. take result.written out.new ≡ (meaning tree (start vars.old parameters.now)).output) }
-    ensures variables { ForTree tape.entry.left (λ tree. vars.new ≡ (meaning tree (start vars.old parameters.now)).variables) }
-    ensures written { ForTree tape.entry.left (λ tree. result.written ≡ length (meaning tree (start vars.old parameters.now)).output) }
+    ensures output { ForMeaning tape.entry.left vars.old parameters.now
+        (λ end. take result.written out.new ≡ end.output) }
+    ensures variables { ForMeaning tape.entry.left vars.old parameters.now
+        (λ end. vars.new ≡ end.variables) }
+    ensures written { ForMeaning tape.entry.left vars.old parameters.now
+        (λ end. result.written ≡ length end.output) }
 {
     let mut stack = [Value::Num(0); MOST_VALUES];
     run_tape(tape, parameters, vars, &mut stack, out)

@@ -1,7 +1,7 @@
 //! The nine parameters while a capability runs. `%i` changes the first two alone, so only these are copied.
 
 ghost use Rattle.std.specs.Prelude.{◌≡◌, ◌+◌, ◌<◌, ◌∷◌, length, max};
-ghost use Rattle.ti_expand.specs.inner.Machine.{stack_in};
+ghost use Rattle.ti_expand.specs.inner.Machine.{values_on};
 ghost use Rattle.ti_expand.specs.State.{parameter};
 ghost use Rattle.ti_expand.specs.Effect.{one_more, with_increments};
 
@@ -49,7 +49,7 @@ impl<'p, 'a> Parameters<'p, 'a> {
         ensures room { length stack.new.slots.now ≡ length stack.old.slots.now }
         ensures height { stack.new.height ≡ stack.old.height + 1 }
         ensures highest { stack.new.highest ≡ max stack.old.highest stack.new.height }
-        ensures held { stack_in stack.new.slots.now stack.new.height ≡ parameter self.now k ∷ stack_in stack.old.slots.now stack.old.height }
+        ensures held { values_on stack.new ≡ parameter self.now k ∷ values_on stack.old }
     {
         match k {
             1 => stack.push(self.first),

@@ -7,12 +7,12 @@ ghost use Rattle.ti_cap.specs.Tree.{tokens};
 ghost use Rattle.ti_cap.specs.Height.{height};
 ghost use Rattle.ti_cap.specs.Pass.{next_mode};
 ghost use Rattle.ti_expand.specs.State.{start};
-ghost use Rattle.ti_expand.specs.inner.Machine.{machine};
+ghost use Rattle.ti_expand.specs.inner.Machine.{state_of};
 ghost use Rattle.ti_expand.specs.Sound.{IsSound};
 ghost use Rattle.ti_expand.specs.Mode.{mode_of};
 ghost use Rattle.ti_expand.specs.Meaning.{meaning, taken_path, tests_zero};
 ghost use Rattle.ti_expand.specs.Flat.{next_state};
-ghost use Rattle.ti_expand.specs.Expands.{ForTree};
+ghost use Rattle.ti_expand.specs.Expands.{ForTree, ForMeaning, ForPath};
 ghost use Rattle.ti_expand.specs.inner.Running.{CanRun};
 ghost use Rattle.ti_expand.specs.inner.Underway.{IsOnTheWay, GoesOn};
 
@@ -35,13 +35,20 @@ fn meet<'a>(
     out: &mut [u8],
     written: usize,
 ) -> (Mode, usize)
-    requires sound { IsSound most_text_bytes (machine stack.old.slots.now stack.old.height vars.old parameters.old out.old written) }
-    requires height { length (next_state (mode_of Mode.Running) token.now (machine stack.old.slots.now stack.old.height vars.old parameters.old out.old written)).stack ≤ length stack.old.slots.now }
+    requires sound { IsSound most_text_bytes
+        (state_of stack.old vars.old parameters.old out.old written) }
+    requires height { length (next_state (mode_of Mode.Running) token.now
+        (state_of stack.old vars.old parameters.old out.old written)).stack
+        ≤ length stack.old.slots.now }
     requires within { written ≤ length out.old }
-    requires room { length (next_state (mode_of Mode.Running) token.now (machine stack.old.slots.now stack.old.height vars.old parameters.old out.old written)).output ≤ length out.old }
-    ensures mode { mode_of result.0 ≡ next_mode (mode_of Mode.Running) token.now (tests_zero (machine stack.old.slots.now stack.old.height vars.old parameters.old out.old written)) }
-    ensures state { machine stack.new.slots.now stack.new.height vars.new parameters.new out.new result.1
-        ≡ next_state (mode_of Mode.Running) token.now (machine stack.old.slots.now stack.old.height vars.old parameters.old out.old written) }
+    requires room { length (next_state (mode_of Mode.Running) token.now
+        (state_of stack.old vars.old parameters.old out.old written)).output
+        ≤ length out.old }
+    ensures mode { mode_of result.0 ≡ next_mode (mode_of Mode.Running) token.now
+        (tests_zero (state_of stack.old vars.old parameters.old out.old written)) }
+    ensures state { state_of stack.new vars.new parameters.new out.new result.1
+        ≡ next_state (mode_of Mode.Running) token.now
+        (state_of stack.old vars.old parameters.old out.old written) }
     ensures slots { length stack.new.slots.now ≡ length stack.old.slots.now }
     ensures highest { stack.new.highest ≡ max stack.old.highest stack.new.height }
     ensures within { result.1 ≤ length out.new }
@@ -67,7 +74,8 @@ fn meet<'a>(
 #[inline(always)]
 fn pass_over(tape: &mut Tape<'_>, from: Mode, run: &mut Run)
     requires { IsOnTheWay tape.old.left (mode_of from) run.old.ran run.old.passed }
-    ensures onward { GoesOn tape.old.left (mode_of from) run.old.ran run.old.passed tape.new.left (mode_of Mode.Running) run.new.ran run.new.passed }
+    ensures onward { GoesOn tape.old.left (mode_of from) run.old.ran run.old.passed
+        tape.new.left (mode_of Mode.Running) run.new.ran run.new.passed }
     ensures written { run.new.written ≡ run.old.written }
     ensures forward { length tape.new.left ≤ length tape.old.left }
 {
@@ -93,14 +101,21 @@ pub(crate) fn run_tape<'a>(
     stack: &mut [Value<'a>],
     out: &mut [u8],
 ) -> Run
-    requires { CanRun tape.left (start vars.old parameters.now) (length stack.old) (length out.old) }
-    ensures output { ForTree tape.entry.left (λ tree. take result.written out.new ≡ (meaning tree (start vars.old parameters.now)).output) }
+    requires { CanRun tape.left (start vars.old parameters.now)
+        (length stack.old) (length out.old) }
+    ensures output { ForMeaning tape.entry.left vars.old parameters.now
+        (λ end. take result.written out.new ≡ end.output) }
     ensures rest { drop result.written out.new ≡ drop result.written out.old }
-    ensures variables { ForTree tape.entry.left (λ tree. vars.new ≡ (meaning tree (start vars.old parameters.now)).variables) }
-    ensures written { ForTree tape.entry.left (λ tree. result.written ≡ length (meaning tree (start vars.old parameters.now)).output) }
-    ensures ran { ForTree tape.entry.left (λ tree. result.ran ≡ length (taken_path tree (start vars.old parameters.now))) }
-    ensures all { ForTree tape.entry.left (λ tree. result.ran + result.passed ≡ length (tokens tree)) }
-    ensures peak { ForTree tape.entry.left (λ tree. result.peak ≡ height (taken_path tree (start vars.old parameters.now))) }
+    ensures variables { ForMeaning tape.entry.left vars.old parameters.now
+        (λ end. vars.new ≡ end.variables) }
+    ensures written { ForMeaning tape.entry.left vars.old parameters.now
+        (λ end. result.written ≡ length end.output) }
+    ensures ran { ForPath tape.entry.left vars.old parameters.now
+        (λ path. result.ran ≡ length path) }
+    ensures all { ForTree tape.entry.left
+        (λ tree. result.ran + result.passed ≡ length (tokens tree)) }
+    ensures peak { ForPath tape.entry.left vars.old parameters.now
+        (λ path. result.peak ≡ height path) }
 {
     let mut parameters = Parameters::new(parameters);
     let mut stack = Stack::new(stack);

@@ -1,5 +1,5 @@
 //! What `%d`, `%o`, `%x`, `%X` and `%s` print, written straight into the caller's slice: the bytes are those of
-//! `printed` and `printed_text`, and no value needs more of them than the format's size.
+//! `print_of_number` and `print_of_text`, and no value needs more of them than the format's size.
 
 ghost use Rattle.std.specs.Prelude.{◌≡◌, ◌≢◌, ◌+◌, ◌<◌, ◌≤◌, ◌++◌, length, take, drop, replicate, codes};
 ghost use Rattle.std.specs.Bool.{OnTrue};
@@ -7,7 +7,7 @@ ghost use Rattle.ti_base.specs.Letters.{letter};
 ghost use Rattle.ti_base.specs.Limits.{most_text_bytes};
 ghost use Rattle.ti_cap.specs.Sizes.{format_size};
 ghost use Rattle.ti_expand.specs.inner.Decimal.{IsPlainDecimal, decimal_digits};
-ghost use Rattle.ti_expand.specs.Printed.{magnitude, least_count, front_for, with_front, fill, print_of_number, print_of_text};
+ghost use Rattle.ti_expand.specs.Printed.{magnitude, least_count, front_for, print_of_number, print_of_text, after_zeros, field};
 
 use crate::digits::Digits;
 use crate::write::{put, put_repeated};
@@ -26,7 +26,8 @@ fn least_digits(precision: Option<u8>) -> usize
 /// The sign, or the prefix that `#` asks for. The digits of a number but 0 start with no `0`, so that the octal prefix
 /// is wanted exactly where no zeros stand before them.
 fn front_bytes(format: &Format, number: i32, zeros: usize) -> &'static [u8]
-    ensures { result.now ≡ front_for format.now.conversion format.now number (replicate zeros (letter (codes "0")) ++ magnitude format.now.conversion number) }
+    ensures { result.now ≡ front_for format.now.conversion format.now number
+        (after_zeros zeros (magnitude format.now.conversion number)) }
 {
     match format.conversion {
         Conversion::Signed if number < 0 => b"-",
@@ -44,7 +45,8 @@ fn front_bytes(format: &Format, number: i32, zeros: usize) -> &'static [u8]
 fn put_body(digits: &Digits, out: &mut [u8], at: usize, front: &[u8], zeros: usize) -> usize
     requires { at + (length front.now + (zeros + length digits.now)) ≤ length out.old }
     ensures end { result ≡ at + (length front.now + (zeros + length digits.now)) }
-    ensures written { take result out.new ≡ take at out.old ++ (front.now ++ (replicate zeros (letter (codes "0")) ++ digits.now)) }
+    ensures written { take result out.new
+        ≡ take at out.old ++ (front.now ++ (after_zeros zeros digits.now)) }
     ensures rest { drop result out.new ≡ drop result out.old }
 {
     let after_front = put(out, at, front);
@@ -62,9 +64,11 @@ fn put_filled(
     front: &[u8],
     zeros: usize,
 ) -> usize
-    requires { at + length (fill format.now (with_front format.now front.now (replicate zeros (letter (codes "0")) ++ digits.now))) ≤ length out.old }
-    ensures end { result ≡ at + length (fill format.now (with_front format.now front.now (replicate zeros (letter (codes "0")) ++ digits.now))) }
-    ensures written { take result out.new ≡ take at out.old ++ fill format.now (with_front format.now front.now (replicate zeros (letter (codes "0")) ++ digits.now)) }
+    requires { at + length (field format.now front.now (after_zeros zeros digits.now))
+        ≤ length out.old }
+    ensures end { result ≡ at + length (field format.now front.now (after_zeros zeros digits.now)) }
+    ensures written { take result out.new ≡ take at out.old
+        ++ field format.now front.now (after_zeros zeros digits.now) }
     ensures rest { drop result out.new ≡ drop result out.old }
 {
     let body = front.len() + (zeros + digits.len());

@@ -57,7 +57,8 @@ impl Vars {
     /// The number of a letter's variable; none for what is no ASCII letter.
     pub fn get(&self, letter: u8) -> Option<i32>
         ensures letter { IsSome result ↔ IsSome (variable_index letter) }
-        ensures value { IfSome result (λ number. number ≡ number_at self.now (variable_index letter)) }
+        ensures value { IfSome result
+            (λ number. number ≡ number_at self.now (variable_index letter)) }
         ensures numbers { AreVariables self.now }
     {
         let values = &self.values;
