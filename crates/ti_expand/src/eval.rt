@@ -9,7 +9,7 @@ ghost use Rattle.ti_expand.specs.inner.Machine.{values_on, state_of};
 ghost use Rattle.ti_expand.specs.Sound.{IsSound};
 ghost use Rattle.ti_expand.specs.Effect.{effect, after_operation, print_for};
 
-use crate::operation::{apply, byte_of, inverted, negated};
+use crate::operation::{apply, byte_of, complement, logical_not};
 use crate::parameters::Parameters;
 use crate::print::{print_number, print_text};
 use crate::stack::Stack;
@@ -29,8 +29,8 @@ fn compute(op: Op, stack: &mut Stack<'_, '_>)
 {
     let right = stack.pop_number();
     let number = match op {
-        Op::Not => negated(right),
-        Op::BitNot => inverted(right),
+        Op::Not => logical_not(right),
+        Op::BitNot => complement(right),
         _ => {
             let left = stack.pop_number();
             apply(op, left, right)

@@ -30,14 +30,14 @@ pub fn apply(op: Op, left: i32, right: i32) -> i32
 }
 
 /// Each bit the other way round.
-pub fn inverted(number: i32) -> i32
+pub fn complement(number: i32) -> i32
     ensures { result ≡ complement number }
 {
     !number
 }
 
 /// 1 for 0, else 0.
-pub fn negated(number: i32) -> i32
+pub fn logical_not(number: i32) -> i32
     ensures { result ≡ flag_number (is_zero number) }
 {
     i32::from(number == 0)
