@@ -42,8 +42,5 @@ pub fn write_result<W: Write>(writer: &mut W, bytes: &[u8]) -> Result<(), ToolFa
     ensures { Wrote (λ due. due ≡ Ok bytes.now)
         (W.contents writer.old) (W.contents writer.new) result }
 {
-    match write_out(writer, bytes) {
-        Ok(()) => Ok(()),
-        Err(gone) => Err(ToolFault::Write(gone)),
-    }
+    write_out(writer, bytes).map_err(ToolFault::Write)
 }

@@ -39,22 +39,11 @@ pub fn status_of_check(answer: Result<bool, ToolFault>) -> u8
 /// Tells of a fault in one line. That it can't be told changes nothing.
 pub fn tell<E: Write>(errors: &mut E, fault: &ToolFault) {
     let _ = match fault {
-        ToolFault::Entry(refused) => {
-            let word = refused.fault.word();
-            let place = refused.place;
-            writeln!(errors, "entry: {word} at {place}")
-        }
-        ToolFault::Encode(unfit) => {
-            let word = unfit.word();
-            writeln!(errors, "entry: {word}")
-        }
-        ToolFault::Cap(refused) => {
-            let word = refused.fault.word();
-            let place = refused.place;
-            writeln!(errors, "capability: {word} at {place}")
-        }
+        ToolFault::Entry(refused) => writeln!(errors, "entry: {refused}"),
+        ToolFault::Encode(unfit) => writeln!(errors, "entry: {unfit}"),
+        ToolFault::Cap(refused) => writeln!(errors, "capability: {refused}"),
         ToolFault::NoSuchText => writeln!(errors, "capability: absent"),
-        ToolFault::TextTooLong(parameter) => { writeln!(errors, "capability: {fault} {parameter}") }
+        ToolFault::TextTooLong(parameter) => writeln!(errors, "capability: {fault} {parameter}"),
         ToolFault::TooMuch(need) => writeln!(errors, "capability: {fault} {need}"),
         ToolFault::Read => writeln!(errors, "input: failed"),
         ToolFault::Write(_) => writeln!(errors, "output: failed"),
