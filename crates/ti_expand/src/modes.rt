@@ -11,7 +11,7 @@ use ti_cap::Token;
 #[derive(Clone, Copy, PartialEq, Eq, Debug)]
 pub enum Mode {
     /// Tokens run.
-    Running,
+    Run,
     /// Tokens are passed over up to the next `%e` or `%;` of the same conditional.
     ToElse(u8),
     /// Tokens are passed over up to the `%;` of the same conditional.
@@ -19,20 +19,20 @@ pub enum Mode {
 }
 
 impl Mode {
-    /// The mode after the token; `zero` says whether a `CondThen` met in `Running` popped 0.
+    /// The mode after the token; `zero` says whether a `CondThen` met in `Run` popped 0.
     #[inline(always)]
     pub fn next(self, token: &Token, zero: bool) -> Mode
         requires { open_count self < 255 }
         ensures { mode_of result ≡ next_mode (mode_of self) token.now zero }
     {
         match (self, token) {
-            (Mode::Running, Token::CondThen) if zero => Mode::ToElse(0),
-            (Mode::Running, Token::CondElse) => Mode::ToEnd(0),
+            (Mode::Run, Token::CondThen) if zero => Mode::ToElse(0),
+            (Mode::Run, Token::CondElse) => Mode::ToEnd(0),
             (Mode::ToElse(n), Token::CondOpen) => Mode::ToElse(n + 1),
-            (Mode::ToElse(0), Token::CondElse | Token::CondClose) => Mode::Running,
+            (Mode::ToElse(0), Token::CondElse | Token::CondClose) => Mode::Run,
             (Mode::ToElse(n), Token::CondClose) => Mode::ToElse(n - 1),
             (Mode::ToEnd(n), Token::CondOpen) => Mode::ToEnd(n + 1),
-            (Mode::ToEnd(0), Token::CondClose) => Mode::Running,
+            (Mode::ToEnd(0), Token::CondClose) => Mode::Run,
             (Mode::ToEnd(n), Token::CondClose) => Mode::ToEnd(n - 1),
             (mode, _) => mode,
         }
@@ -43,6 +43,6 @@ impl Mode {
     pub(crate) fn is_running(self) -> bool
         ensures { result ≡ is_running (mode_of self) }
     {
-        matches!(self, Mode::Running)
+        matches!(self, Mode::Run)
     }
 }

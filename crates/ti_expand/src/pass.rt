@@ -25,7 +25,7 @@ use crate::values::Value;
 use crate::variables::Vars;
 use ti_cap::{Tape, Token};
 
-/// Meets a token in `Running`: returns the mode and where the output ends after it.
+/// Meets a token in `Run`: returns the mode and where the output ends after it.
 #[inline(always)]
 fn meet<'a>(
     token: &Token,
@@ -37,17 +37,17 @@ fn meet<'a>(
 ) -> (Mode, usize)
     requires sound { IsSound most_text_bytes
         (state_of stack.old vars.old parameters.old out.old written) }
-    requires height { length (next_state (mode_of Mode.Running) token.now
+    requires height { length (next_state (mode_of Mode.Run) token.now
         (state_of stack.old vars.old parameters.old out.old written)).stack
         ≤ length stack.old.slots.now }
     requires within { written ≤ length out.old }
-    requires room { length (next_state (mode_of Mode.Running) token.now
+    requires room { length (next_state (mode_of Mode.Run) token.now
         (state_of stack.old vars.old parameters.old out.old written)).output
         ≤ length out.old }
-    ensures mode { mode_of result.0 ≡ next_mode (mode_of Mode.Running) token.now
+    ensures mode { mode_of result.0 ≡ next_mode (mode_of Mode.Run) token.now
         (tests_zero (state_of stack.old vars.old parameters.old out.old written)) }
     ensures state { state_of stack.new vars.new parameters.new out.new result.1
-        ≡ next_state (mode_of Mode.Running) token.now
+        ≡ next_state (mode_of Mode.Run) token.now
         (state_of stack.old vars.old parameters.old out.old written) }
     ensures slots { length stack.new.slots.now ≡ length stack.old.slots.now }
     ensures highest { stack.new.highest ≡ max stack.old.highest stack.new.height }
@@ -58,14 +58,14 @@ fn meet<'a>(
     match token {
         Token::CondThen => {
             let zero = stack.pop_number() == 0;
-            (Mode::Running.next(token, zero), written)
+            (Mode::Run.next(token, zero), written)
         }
-        Token::CondOpen => (Mode::Running.next(token, false), written),
-        Token::CondElse => (Mode::Running.next(token, false), written),
-        Token::CondClose => (Mode::Running.next(token, false), written),
+        Token::CondOpen => (Mode::Run.next(token, false), written),
+        Token::CondElse => (Mode::Run.next(token, false), written),
+        Token::CondClose => (Mode::Run.next(token, false), written),
         _ => {
             let end = act(token, parameters, vars, stack, out, written);
-            (Mode::Running.next(token, false), end)
+            (Mode::Run.next(token, false), end)
         }
     }
 }
@@ -75,7 +75,7 @@ fn meet<'a>(
 fn pass_over(tape: &mut Tape<'_>, from: Mode, run: &mut Run)
     requires { IsOnTheWay tape.old.left (mode_of from) run.old.ran run.old.passed }
     ensures onward { GoesOn tape.old.left (mode_of from) run.old.ran run.old.passed
-        tape.new.left (mode_of Mode.Running) run.new.ran run.new.passed }
+        tape.new.left (mode_of Mode.Run) run.new.ran run.new.passed }
     ensures written { run.new.written ≡ run.old.written }
     ensures forward { length tape.new.left ≤ length tape.old.left }
 {

@@ -6,7 +6,7 @@ use Rattle.ti_words.specs.Value.{EntryValue}
 use Rattle.ti_cap.specs.declared.language.CapRefused.{CapRefused}
 use Rattle.ti_cap.specs.Capability.{HasDepth, HasBound}
 use Rattle.ti_cap.specs.Refusal.{IsFaultless, IsRefusal}
-use Rattle.ti_cap.specs.Word.{name_of}
+use Rattle.ti_cap.specs.FaultNames.{name_of}
 use Rattle.ti_tool.specs.Labels.{label_of}
 
 -- what the line of a text says of it: its depth and bound, or its fault and the place
