@@ -15,6 +15,6 @@ text_value texts.Absent = AbsentText
 text_value texts.Cancelled = CancelledText
 text_value (texts.Value bytes) = TextOf bytes.now
 
--- the byte behind a text in its table
+-- the byte after a text in its table
 abbrev pub is_nul : ℕ → Bool
 is_nul b = b == 0
