@@ -117,45 +117,33 @@ pub enum Token {
 
 /// Why bytes are no capability. As an error it prints its name.
 #[derive(Clone, Copy, Debug, PartialEq, Eq, Error)]
+#[error("{}", self.word())]
 pub enum CapFault {
     /// More bytes than [`ti_base::MOST_CAPABILITY_BYTES`].
-    #[error("TooLong")]
     TooLong,
     /// The bytes end within an escape.
-    #[error("CutShort")]
     CutShort,
     /// No escape begins with the byte after the `%`.
-    #[error("UnknownEscape")]
     UnknownEscape,
     /// `%p` without a digit from 1 to 9.
-    #[error("BadParameter")]
     BadParameter,
     /// `%P` or `%g` without an ASCII letter.
-    #[error("BadVariable")]
     BadVariable,
     /// Another fault of `%'` or `%{`, as a number above [`ti_base::GREATEST_CONSTANT`].
-    #[error("BadConstant")]
     BadConstant,
     /// Another fault of a format, as a width above [`ti_base::GREATEST_WIDTH`].
-    #[error("BadFormat")]
     BadFormat,
     /// `%t` where no conditional is open, or in a body.
-    #[error("StrayThen")]
     StrayThen,
     /// `%e` where no conditional is open, or in an otherwise part.
-    #[error("StrayElse")]
     StrayElse,
     /// `%;` where no conditional is open.
-    #[error("StrayEnd")]
     StrayEnd,
     /// `%e`, `%;` or the end in a first test.
-    #[error("NoThen")]
     NoThen,
     /// One open conditional more than [`ti_base::MOST_OPEN`].
-    #[error("NestTooDeep")]
     NestTooDeep,
     /// Some path has more values on the stack after this token than [`ti_base::MOST_VALUES`].
-    #[error("StackTooDeep")]
     StackTooDeep,
 }
 

@@ -17,22 +17,18 @@ use ti_words::{Number, Text, Width};
 
 /// Why a draft has no bytes.
 #[derive(Clone, Copy, Debug, PartialEq, Eq, Error)]
+#[error("{}", self.word())]
 pub enum EncodeFault {
     /// The names are empty or hold a NUL, or an extended name holds one.
-    #[error("BadName")]
     BadName,
     /// A text holds a NUL.
-    #[error("NulInText")]
     NulInText,
     /// A number is negative, or too great for the format: above [`GREATEST_WORD`](ti_base::GREATEST_WORD) in a
     /// legacy draft.
-    #[error("NumberOutOfRange")]
     NumberOutOfRange,
     /// The bytes would be more than [`MOST_ENTRY_BYTES`](ti_base::MOST_ENTRY_BYTES).
-    #[error("TooManyOrLong")]
     TooManyOrLong,
     /// Memory was refused.
-    #[error("Memory")]
     Memory,
 }
 

@@ -9,48 +9,35 @@ use thiserror::Error;
 
 /// What is wrong with the bytes of an entry.
 #[derive(Clone, Copy, Debug, PartialEq, Eq, Error)]
+#[error("{}", self.word())]
 pub enum Fault {
     /// The bytes end before a section does.
-    #[error("Truncated")]
     Truncated,
     /// The first two bytes are neither 1a 01 nor 1e 02.
-    #[error("BadMagic")]
     BadMagic,
     /// A size or a count of the header is negative.
-    #[error("BadHeader")]
     BadHeader,
     /// By its header the entry has more than [`MOST_ENTRY_BYTES`](ti_base::MOST_ENTRY_BYTES).
-    #[error("HeaderTooBig")]
     HeaderTooBig,
     /// The names are empty, hold a NUL or do not end with one.
-    #[error("BadNames")]
     BadNames,
     /// A byte stands for no flag.
-    #[error("BadFlag")]
     BadFlag,
     /// The byte after an odd count is not 0.
-    #[error("BadPad")]
     BadPad,
     /// A number is below -2.
-    #[error("BadNumber")]
     BadNumber,
     /// The offset of a text is below -2, or past its table.
-    #[error("BadOffset")]
     BadOffset,
     /// A text or an extended name runs to the end of its table with no NUL.
-    #[error("Unterminated")]
     Unterminated,
     /// A size or a count of the extended header is negative.
-    #[error("BadExtendedHeader")]
     BadExtendedHeader,
     /// With its extended part the entry has more than [`MOST_ENTRY_BYTES`](ti_base::MOST_ENTRY_BYTES).
-    #[error("ExtendedTooBig")]
     ExtendedTooBig,
     /// The offset of an extended name is negative, or past its table.
-    #[error("BadExtendedName")]
     BadExtendedName,
     /// Bytes stand behind the end of the entry.
-    #[error("Trailing")]
     Trailing,
 }
 
