@@ -1,6 +1,6 @@
-pub mod Beside
-pub mod Capped
-pub mod LengthLaws
-pub mod Room
-pub mod Fit
-pub mod Joined
+pub mod NamedLemmas
+pub mod CappedCountLemmas
+pub mod LengthLemmas
+pub mod TableRoomLemmas
+pub mod EncodeFaultLemmas
+pub mod CanonicalLemmas

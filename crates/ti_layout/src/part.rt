@@ -77,7 +77,7 @@ fn check_names_from(bytes: &[u8], extended: &ExtendedHeader, base: usize) -> Res
 }
 
 /// The base of the names, where each text and each name has its NUL in the table.
-#[tactic(auto, using(crate::proofs::Sections::verdict_append))]
+#[tactic(auto, using(crate::proofs::VerdictLemmas::verdict_append))]
 pub(crate) fn check_texts(bytes: &[u8], extended: &ExtendedHeader) -> Result<usize, Stop>
     requires { extended_end_of extended.now ≤ most_entry_bytes }
     ensures verdict { verdict_of result

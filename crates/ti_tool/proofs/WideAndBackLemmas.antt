@@ -5,8 +5,8 @@ use Rattle.ti_words.specs.declared.Width.TheVariants.{Legacy, Wide}
 use Rattle.ti_words.specs.Value.{EntryValue}
 use Rattle.ti_words.specs.Spelling.{Spells}
 use Rattle.ti_draft.specs.Canonical.{canonical}
-use Rattle.ti_entry.proofs.AtMostOne.{at_most_one}
-use Rattle.ti_entry.proofs.Encoded.{canonical_spells}
+use Rattle.ti_entry.proofs.SpellsAtMostOneLemmas.{at_most_one}
+use Rattle.ti_entry.proofs.EncodedSpellsLemmas.{canonical_spells}
 use Rattle.ti_tool.specs.Results.{IsConverted, IsEncoding, in_width}
 use Rattle.ti_tool.specs.Laws.{WideAndBack}
 

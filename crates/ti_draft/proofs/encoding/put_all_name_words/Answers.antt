@@ -2,9 +2,9 @@ use Rattle.std.proofs.Common.{◌≡◌, ◌+◌, ◌++◌, length, map, ap, ◌
 use Rattle.std.proofs.lemmas.List.{length-append}
 use Rattle.ti_words.specs.Spelling.{name_in, words_of}
 use Rattle.ti_draft.specs.Canonical.{names_table, name_words}
-use Rattle.ti_draft.proofs.Fit.{small_extended}
-use Rattle.ti_draft.proofs.Joined.{after_as, words_behind}
-use Rattle.ti_draft.proofs.LengthLaws.{length_names_tables, names_table_append}
+use Rattle.ti_draft.proofs.EncodeFaultLemmas.{small_extended}
+use Rattle.ti_draft.proofs.CanonicalLemmas.{after_as, words_behind}
+use Rattle.ti_draft.proofs.LengthLemmas.{length_names_tables, names_table_append}
 use Rattle.ti_draft.proofs.encoding.put_all_name_words.Goals as goal
 
 pub put_name_words-requires : goal.put_name_words-requires

@@ -1,8 +1,8 @@
 use Rattle.std.proofs.Common.{◌≡◌, ◌++◌, map, ap, sym, ◌∙◌}
 use Rattle.ti_words.specs.Spelling.{name_in}
 use Rattle.ti_draft.specs.Canonical.{names_table}
-use Rattle.ti_draft.proofs.Joined.{after_as}
-use Rattle.ti_draft.proofs.LengthLaws.{names_table_append}
+use Rattle.ti_draft.proofs.CanonicalLemmas.{after_as}
+use Rattle.ti_draft.proofs.LengthLemmas.{names_table_append}
 use Rattle.ti_draft.proofs.encoding.put_all_names.Goals as goal
 
 pub returns : goal.returns

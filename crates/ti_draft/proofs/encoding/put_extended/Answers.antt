@@ -2,7 +2,7 @@ use Rattle.std.proofs.Common.{◌++◌, length, ap, ◌∙◌}
 use Rattle.std.proofs.lemmas.List.{length-map}
 use Rattle.ti_words.specs.Spelling.{mark_in, flags_of, pad, numbers_of, words_of}
 use Rattle.ti_draft.specs.Canonical.{text_words, texts_table}
-use Rattle.ti_draft.proofs.Joined.{after, after_as, both_tables}
+use Rattle.ti_draft.proofs.CanonicalLemmas.{after, after_as, both_tables}
 use Rattle.ti_draft.proofs.encoding.put_extended.Goals as goal
 
 pub returns : goal.returns

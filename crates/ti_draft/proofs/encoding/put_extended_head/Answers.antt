@@ -4,10 +4,10 @@ use Rattle.ti_words.specs.Texts.{text_value}
 use Rattle.ti_words.specs.Spelling.{mark_in, pad, count_word, extended_names}
 use Rattle.ti_draft.specs.Canonical.{texts_table, names_table, present}
 use Rattle.ti_draft.specs.Lengths.{capped}
-use Rattle.ti_draft.proofs.Capped.{whole}
-use Rattle.ti_draft.proofs.Fit.{small, small_extended}
-use Rattle.ti_draft.proofs.Joined.{after_as}
-use Rattle.ti_draft.proofs.LengthLaws.{length_extended_names}
+use Rattle.ti_draft.proofs.CappedCountLemmas.{whole}
+use Rattle.ti_draft.proofs.EncodeFaultLemmas.{small, small_extended}
+use Rattle.ti_draft.proofs.CanonicalLemmas.{after_as}
+use Rattle.ti_draft.proofs.LengthLemmas.{length_extended_names}
 use Rattle.ti_draft.proofs.encoding.put_extended_head.Goals as goal
 
 pub put_count-requires : goal.put_count-requires

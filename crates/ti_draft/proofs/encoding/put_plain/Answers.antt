@@ -2,7 +2,7 @@ use Rattle.std.proofs.Common.{◌≡◌, ◌+◌, ◌++◌, ◌∷◌, [], lengt
 use Rattle.ti_words.specs.Spelling.{flags_of, pad, numbers_of, words_of}
 use Rattle.ti_draft.specs.Canonical.{text_words, texts_table}
 use Rattle.ti_draft.specs.Lengths.{plain_head}
-use Rattle.ti_draft.proofs.Joined.{after, after_as}
+use Rattle.ti_draft.proofs.CanonicalLemmas.{after, after_as}
 use Rattle.ti_draft.proofs.encoding.put_plain.Goals as goal
 
 pub returns : goal.returns

@@ -5,9 +5,9 @@ use Rattle.ti_words.specs.Widths.{magic_number}
 use Rattle.ti_words.specs.Spelling.{magic, count_word}
 use Rattle.ti_draft.specs.Canonical.{texts_table}
 use Rattle.ti_draft.specs.Lengths.{capped}
-use Rattle.ti_draft.proofs.Capped.{whole}
-use Rattle.ti_draft.proofs.Fit.{small}
-use Rattle.ti_draft.proofs.Joined.{after_as}
+use Rattle.ti_draft.proofs.CappedCountLemmas.{whole}
+use Rattle.ti_draft.proofs.EncodeFaultLemmas.{small}
+use Rattle.ti_draft.proofs.CanonicalLemmas.{after_as}
 use Rattle.ti_draft.proofs.encoding.put_plain_head.Goals as goal
 
 pub put_count-requires-4 : goal.put_count-requires-4

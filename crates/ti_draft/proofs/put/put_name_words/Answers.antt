@@ -1,5 +1,5 @@
 use Rattle.std.proofs.Common.{arith}
-use Rattle.ti_draft.proofs.Room.{name_begins}
+use Rattle.ti_draft.proofs.TableRoomLemmas.{name_begins}
 use Rattle.ti_draft.proofs.put.put_name_words.Goals as goal
 
 pub put_count-requires : goal.put_count-requires

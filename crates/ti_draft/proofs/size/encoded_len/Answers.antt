@@ -2,8 +2,8 @@ use Rattle.std.proofs.Common.{◌≡◌, ◌+◌, ◌-◌, ◌%◌, ◌^◌, ◌
 use Rattle.ti_words.specs.Spelling.{extended_names}
 use Rattle.ti_draft.specs.Canonical.{texts_table, plain_bytes}
 use Rattle.ti_draft.specs.Lengths.{capped, extended_length}
-use Rattle.ti_draft.proofs.Capped.{twice, padded}
-use Rattle.ti_draft.proofs.LengthLaws.{length_both, table_within}
+use Rattle.ti_draft.proofs.CappedCountLemmas.{twice, padded}
+use Rattle.ti_draft.proofs.LengthLemmas.{length_both, table_within}
 use Rattle.ti_draft.proofs.size.encoded_len.Goals as goal
 
 pub returns : goal.returns

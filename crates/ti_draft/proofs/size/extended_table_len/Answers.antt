@@ -2,8 +2,8 @@ use Rattle.std.proofs.Common.{◌≡◌, ◌+◌, ◌-◌, ◌^◌, length, map,
 use Rattle.ti_words.specs.Spelling.{mark_in, name_in, extended_names}
 use Rattle.ti_draft.specs.Canonical.{texts_table, names_table}
 use Rattle.ti_draft.specs.Lengths.{capped}
-use Rattle.ti_draft.proofs.Capped.{twice}
-use Rattle.ti_draft.proofs.LengthLaws.{length_names_tables}
+use Rattle.ti_draft.proofs.CappedCountLemmas.{twice}
+use Rattle.ti_draft.proofs.LengthLemmas.{length_names_tables}
 use Rattle.ti_draft.proofs.size.extended_table_len.Goals as goal
 
 pub returns : goal.returns

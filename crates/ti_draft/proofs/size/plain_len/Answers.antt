@@ -5,8 +5,8 @@ use Rattle.ti_words.specs.Widths.{number_size}
 use Rattle.ti_words.specs.Spelling.{pad_len}
 use Rattle.ti_draft.specs.Canonical.{texts_table}
 use Rattle.ti_draft.specs.Lengths.{capped}
-use Rattle.ti_draft.proofs.Capped.{once, twice, odd_sum}
-use Rattle.ti_draft.proofs.LengthLaws.{length_plain}
+use Rattle.ti_draft.proofs.CappedCountLemmas.{once, twice, odd_sum}
+use Rattle.ti_draft.proofs.LengthLemmas.{length_plain}
 use Rattle.ti_draft.proofs.size.plain_len.Goals as goal
 
 pub returns : goal.returns

@@ -3,7 +3,7 @@ use Rattle.std.specs.Option.{option_map}
 use Rattle.ti_words.specs.declared.Flag.TheVariants.{No}
 use Rattle.ti_words.specs.Value.{EntryValue}
 use Rattle.ti_words.specs.Spelling.{name_in}
-use Rattle.ti_entry.proofs.Drafted.{taken, missing, one_flag}
+use Rattle.ti_entry.proofs.DraftOfEntryLemmas.{taken, missing, one_flag}
 use Rattle.ti_entry.proofs.drafting.add_extended_flags.Goals as goal
 use Rattle.ti_entry.proofs.drafting.add_extended_flags.Goals.{in-Some+in_ok-push_extended_flag, in_default}
 

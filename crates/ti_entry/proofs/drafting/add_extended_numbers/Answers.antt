@@ -3,7 +3,7 @@ use Rattle.std.specs.Option.{option_map}
 use Rattle.ti_words.specs.declared.Number.TheVariants.{Absent}
 use Rattle.ti_words.specs.Value.{EntryValue}
 use Rattle.ti_words.specs.Spelling.{name_in}
-use Rattle.ti_entry.proofs.Drafted.{taken, missing, one_number}
+use Rattle.ti_entry.proofs.DraftOfEntryLemmas.{taken, missing, one_number}
 use Rattle.ti_entry.proofs.drafting.add_extended_numbers.Goals as goal
 use Rattle.ti_entry.proofs.drafting.add_extended_numbers.Goals.{in-Some+in_ok-push_extended_number, in_default}
 

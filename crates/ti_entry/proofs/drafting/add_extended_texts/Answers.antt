@@ -3,7 +3,7 @@ use Rattle.std.specs.Option.{option_map}
 use Rattle.ti_words.specs.Texts.{AbsentText, text_value}
 use Rattle.ti_words.specs.Value.{EntryValue}
 use Rattle.ti_words.specs.Spelling.{name_in}
-use Rattle.ti_entry.proofs.Drafted.{taken, missing, one_text}
+use Rattle.ti_entry.proofs.DraftOfEntryLemmas.{taken, missing, one_text}
 use Rattle.ti_entry.proofs.drafting.add_extended_texts.Goals as goal
 use Rattle.ti_entry.proofs.drafting.add_extended_texts.Goals.{in-Some+in_ok-push_extended_text, in_default}
 

@@ -3,10 +3,10 @@ use Rattle.std.specs.Prelude.{Ok}
 use Rattle.ti_layout.specs.Checks.{Passes, EndsEarly}
 use Rattle.ti_words.specs.Spelling.{Spells}
 use Rattle.ti_layout.specs.Stages.{is_whole}
-use Rattle.ti_entry.proofs.FoundExtended.{found}
-use Rattle.ti_entry.proofs.SpelledExtended.{only}
-use Rattle.ti_layout.proofs.StageSteps.{stands_now}
-use Rattle.ti_entry.proofs.StageEnds.{part_ends_early, truncated, answer_truncated, answer_content, whole_passes, whole_is_view}
+use Rattle.ti_entry.proofs.FoundExtendedLemmas.{found}
+use Rattle.ti_entry.proofs.SpelledExtendedLemmas.{only}
+use Rattle.ti_layout.proofs.StageStepLemmas.{stands_now}
+use Rattle.ti_entry.proofs.WholeStageLemmas.{part_ends_early, truncated, answer_truncated, answer_content, whole_passes, whole_is_view}
 use Rattle.ti_entry.proofs.entry.entry_at.Goals as goal
 
 -- ---- bytes that end early

@@ -3,8 +3,8 @@ use Rattle.std.specs.Prelude.{None}
 use Rattle.std.proofs.lemmas.Result.{err_from_is_err_and}
 use Rattle.ti_layout.specs.Checks.{failure_of}
 use Rattle.ti_layout.specs.Refusal.{failure}
-use Rattle.ti_entry.proofs.Feeding.{failure_refuses}
-use Rattle.ti_entry.proofs.SpelledExtended.{only}
+use Rattle.ti_entry.proofs.FeedLemmas.{failure_refuses}
+use Rattle.ti_entry.proofs.SpelledExtendedLemmas.{only}
 use Rattle.ti_entry.proofs.entry.read.Goals as goal
 
 pub returns-in_err-advance-clause-only : goal.returns-in_err-advance-clause-only

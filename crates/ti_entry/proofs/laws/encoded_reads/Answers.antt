@@ -3,8 +3,8 @@ use Rattle.ti_layout.specs.Checks.{Verdict, refusal_of}
 use Rattle.ti_entry.specs.Content.{content}
 use Rattle.ti_draft.specs.Canonical.{canonical}
 use Rattle.ti_entry.specs.Reading.{answer_under}
-use Rattle.ti_entry.proofs.SpelledExtended.{only}
-use Rattle.ti_entry.proofs.Encoded.{canonical_spells}
+use Rattle.ti_entry.proofs.SpelledExtendedLemmas.{only}
+use Rattle.ti_entry.proofs.EncodedSpellsLemmas.{canonical_spells}
 use Rattle.ti_entry.proofs.laws.encoded_reads.Goals as goal
 
 pub returns : goal.returns

@@ -1,4 +1,4 @@
-use Rattle.ti_entry.proofs.Feeding.{failure_lasts}
+use Rattle.ti_entry.proofs.FeedLemmas.{failure_lasts}
 use Rattle.ti_entry.proofs.laws.failure_lasts.Goals as goal
 
 pub returns : goal.returns

@@ -1,4 +1,4 @@
-use Rattle.ti_entry.proofs.Feeding.{failure_refuses}
+use Rattle.ti_entry.proofs.FeedLemmas.{failure_refuses}
 use Rattle.ti_entry.proofs.laws.failure_refuses.Goals as goal
 
 pub returns : goal.returns

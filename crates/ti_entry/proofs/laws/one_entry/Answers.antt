@@ -1,4 +1,4 @@
-use Rattle.ti_entry.proofs.AtMostOne.{at_most_one}
+use Rattle.ti_entry.proofs.SpellsAtMostOneLemmas.{at_most_one}
 use Rattle.ti_entry.proofs.laws.one_entry.Goals as goal
 
 pub returns : goal.returns

@@ -1,8 +1,8 @@
 use Rattle.std.proofs.Common.{◌∙◌, length, Some, sym, ap, arith}
 use Rattle.ti_layout.specs.declared.fault.Fault.{Fault}
 use Rattle.ti_layout.specs.Checks.{refused, failure_of}
-use Rattle.ti_layout.proofs.Full.{full_decides, then_refused}
-use Rattle.ti_entry.proofs.StageEnds.{full_passes}
+use Rattle.ti_layout.proofs.MostEntryBytesLemmas.{full_decides, then_refused}
+use Rattle.ti_entry.proofs.WholeStageLemmas.{full_passes}
 use Rattle.ti_entry.proofs.reader.overfull.Goals as goal
 
 pub returns : goal.returns

@@ -1,6 +1,6 @@
 use Rattle.std.proofs.Common.{◌≡◌, None, ◌∙◌, sym, take, arith}
-use Rattle.ti_entry.proofs.Feeding.{fed-longer, answer_under-ok}
-use Rattle.ti_entry.proofs.Sources.{FeedsFrom-nil, FeedsFrom-refused, FeedsFrom-end, FeedsFrom-kept, FeedsFrom-next}
+use Rattle.ti_entry.proofs.FeedLemmas.{fed-longer, answer_under-ok}
+use Rattle.ti_entry.proofs.FeedsFromLemmas.{FeedsFrom-nil, FeedsFrom-refused, FeedsFrom-end, FeedsFrom-kept, FeedsFrom-next}
 use Rattle.ti_entry.proofs.source.read_from.Goals as goal
 
 pub returns-in-Some-clause-fed : goal.returns-in-Some-clause-fed

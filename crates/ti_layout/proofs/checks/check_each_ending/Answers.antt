@@ -1,7 +1,7 @@
 use Rattle.std.proofs.Common.{◌+◌, ◌*◌, length, refl}
 use Rattle.std.proofs.lemmas.Result.{err_from_is_err_and}
 use Rattle.ti_layout.specs.Reach.{reach_check}
-use Rattle.ti_layout.proofs.Sections.{goes_on, stops}
+use Rattle.ti_layout.proofs.VerdictLemmas.{goes_on, stops}
 use Rattle.ti_layout.proofs.checks.check_each_ending.Goals as goal
 
 pub loop-i-preserved : goal.loop-i-preserved

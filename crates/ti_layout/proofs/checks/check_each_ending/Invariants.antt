@@ -2,7 +2,7 @@ use Rattle.std.proofs.Common.{◌≡◌, length, map}
 use Rattle.ti_layout.specs.Layout.{places}
 use Rattle.ti_layout.specs.Checks.{verdict}
 use Rattle.ti_layout.specs.Reach.{reach_check}
-use Rattle.ti_layout.proofs.Sections.{rest_of}
+use Rattle.ti_layout.proofs.VerdictLemmas.{rest_of}
 use Rattle.ti_layout.proofs.checks.check_each_ending.Given as goal
 
 abbrev pub invariant-loop-i : goal.invariant-loop-i

@@ -1,6 +1,6 @@
 use Rattle.std.proofs.Common.{◌≡◌, length}
 use Rattle.ti_layout.specs.Checks.{verdict, flag_check, flag_checks}
-use Rattle.ti_layout.proofs.Sections.{rest_of}
+use Rattle.ti_layout.proofs.VerdictLemmas.{rest_of}
 use Rattle.ti_layout.proofs.checks.check_flags.Given as goal
 
 abbrev pub invariant-loop-i : goal.invariant-loop-i

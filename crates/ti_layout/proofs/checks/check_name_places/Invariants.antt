@@ -2,7 +2,7 @@ use Rattle.std.proofs.Common.{◌≡◌, length}
 use Rattle.ti_layout.specs.Layout.{places}
 use Rattle.ti_layout.specs.Checks.{verdict}
 use Rattle.ti_layout.specs.Reach.{name_reach_checks, all_name_reach_checks}
-use Rattle.ti_layout.proofs.Sections.{rest_of_each}
+use Rattle.ti_layout.proofs.VerdictLemmas.{rest_of_each}
 use Rattle.ti_layout.proofs.checks.check_name_places.Given as goal
 
 abbrev pub invariant-loop-i : goal.invariant-loop-i

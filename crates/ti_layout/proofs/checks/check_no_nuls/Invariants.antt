@@ -1,7 +1,7 @@
 use Rattle.std.proofs.Common.{◌≡◌, length, map}
 use Rattle.ti_layout.specs.Layout.{places}
 use Rattle.ti_layout.specs.Checks.{verdict, name_check}
-use Rattle.ti_layout.proofs.Sections.{rest_of}
+use Rattle.ti_layout.proofs.VerdictLemmas.{rest_of}
 use Rattle.ti_layout.proofs.checks.check_no_nuls.Given as goal
 
 abbrev pub invariant-loop-i : goal.invariant-loop-i

@@ -2,8 +2,8 @@ use Rattle.std.proofs.Common.{◌+◌, length, ap, arith}
 use Rattle.std.proofs.lemmas.Result.{err_from_is_err_and}
 use Rattle.ti_words.specs.Widths.{number_size}
 use Rattle.ti_layout.specs.Checks.{number_check}
-use Rattle.ti_layout.proofs.Places.{within}
-use Rattle.ti_layout.proofs.Sections.{goes_on, stops}
+use Rattle.ti_layout.proofs.PlacesLemmas.{within}
+use Rattle.ti_layout.proofs.VerdictLemmas.{goes_on, stops}
 use Rattle.ti_layout.proofs.checks.check_numbers.Goals as goal
 
 pub numbers_size-requires : goal.numbers_size-requires

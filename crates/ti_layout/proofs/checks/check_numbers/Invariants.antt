@@ -1,7 +1,7 @@
 use Rattle.std.proofs.Common.{◌≡◌, length}
 use Rattle.ti_words.specs.Widths.{number_size}
 use Rattle.ti_layout.specs.Checks.{verdict, number_check, number_checks}
-use Rattle.ti_layout.proofs.Sections.{rest_of}
+use Rattle.ti_layout.proofs.VerdictLemmas.{rest_of}
 use Rattle.ti_layout.proofs.checks.check_numbers.Given as goal
 
 abbrev pub invariant-loop-i : goal.invariant-loop-i

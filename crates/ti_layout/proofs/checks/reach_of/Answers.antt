@@ -1,6 +1,6 @@
 use Rattle.std.proofs.Common.{◌≡◌, ap, ◌∙◌, arith}
 use Rattle.ti_layout.specs.Table.{ends_in}
-use Rattle.ti_layout.proofs.Reach.{reach_is, no_reach}
+use Rattle.ti_layout.proofs.IsReachLemmas.{reach_is, no_reach}
 use Rattle.ti_layout.proofs.checks.reach_of.Goals as goal
 
 pub returns-then-table-reach-eq0 : goal.returns-then-table-reach-eq0

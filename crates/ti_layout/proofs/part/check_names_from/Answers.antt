@@ -3,7 +3,7 @@ use Rattle.std.proofs.lemmas.Result.{err_from_is_err_and}
 use Rattle.ti_layout.specs.Layout.{places, extended_names_from, extended_name_count, extended_end_of}
 use Rattle.ti_layout.specs.Table.{extended_table_of, base_of}
 use Rattle.ti_layout.specs.Checks.{Passes, verdict, all_name_place_checks}
-use Rattle.ti_layout.proofs.NamePlaces.{names_decide, base_exact}
+use Rattle.ti_layout.proofs.NamePlaceChecksLemmas.{names_decide, base_exact}
 use Rattle.ti_layout.proofs.part.check_names_from.Goals as goal
 
 pub returns-clause-verdict : goal.returns-clause-verdict

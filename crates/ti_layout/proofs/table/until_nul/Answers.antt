@@ -1,4 +1,4 @@
-use Rattle.ti_layout.proofs.Nuls.{until_first, until_end}
+use Rattle.ti_layout.proofs.UntilNulLemmas.{until_first, until_end}
 use Rattle.ti_layout.proofs.table.until_nul.Goals as goal
 
 pub returns-in-Some : goal.returns-in-Some

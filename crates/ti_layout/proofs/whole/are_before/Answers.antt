@@ -1,5 +1,5 @@
 use Rattle.std.proofs.Common.{arith}
-use Rattle.ti_layout.proofs.Greatest.{endings_pass}
+use Rattle.ti_layout.proofs.WholeSectionLemmas.{endings_pass}
 use Rattle.ti_layout.proofs.whole.are_before.Goals as goal
 
 pub returns : goal.returns

@@ -1,6 +1,6 @@
 use Rattle.std.proofs.Common.{arith}
 use Rattle.std.proofs.lemmas.Bool.{ltb-true}
-use Rattle.ti_layout.proofs.Greatest.{flags_pass}
+use Rattle.ti_layout.proofs.WholeSectionLemmas.{flags_pass}
 use Rattle.ti_layout.proofs.whole.are_flags.Goals as goal
 
 pub returns : goal.returns

@@ -1,6 +1,6 @@
 use Rattle.std.proofs.Common.{◌+◌, ◌<◌, arith}
 use Rattle.std.proofs.lemmas.Bool.{ltb-true}
-use Rattle.ti_layout.proofs.Greatest.{name_places_pass}
+use Rattle.ti_layout.proofs.WholeSectionLemmas.{name_places_pass}
 use Rattle.ti_layout.proofs.whole.are_names.Goals as goal
 
 pub returns : goal.returns

@@ -1,6 +1,6 @@
 use Rattle.std.proofs.Common.{arith}
 use Rattle.std.proofs.lemmas.Bool.{ltb-true}
-use Rattle.ti_layout.proofs.Greatest.{names_pass}
+use Rattle.ti_layout.proofs.WholeSectionLemmas.{names_pass}
 use Rattle.ti_layout.proofs.whole.are_no_nuls.Goals as goal
 
 pub returns : goal.returns

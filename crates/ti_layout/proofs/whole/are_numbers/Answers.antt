@@ -1,7 +1,7 @@
 use Rattle.std.proofs.Common.{◌≡◌, ◌*◌, ◌∙◌, ap, arith}
 use Rattle.std.proofs.lemmas.Bool.{ltb-true}
 use Rattle.ti_words.specs.Widths.{number_size}
-use Rattle.ti_layout.proofs.Greatest.{legacy_pass, wide_pass}
+use Rattle.ti_layout.proofs.WholeSectionLemmas.{legacy_pass, wide_pass}
 use Rattle.ti_layout.proofs.whole.are_numbers.Goals as goal
 
 pub returns-in-Legacy : goal.returns-in-Legacy

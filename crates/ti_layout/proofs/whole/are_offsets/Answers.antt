@@ -1,5 +1,5 @@
 use Rattle.std.proofs.Common.{arith}
-use Rattle.ti_layout.proofs.Greatest.{offsets_pass}
+use Rattle.ti_layout.proofs.WholeSectionLemmas.{offsets_pass}
 use Rattle.ti_layout.proofs.whole.are_offsets.Goals as goal
 
 pub returns : goal.returns

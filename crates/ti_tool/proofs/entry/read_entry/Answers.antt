@@ -1,6 +1,6 @@
 use Rattle.std.proofs.Common.{ap, ◌∙◌}
 use Rattle.ti_entry.specs.Reading.{refusal_behind}
-use Rattle.ti_entry.proofs.Feeding.{failure_refuses}
+use Rattle.ti_entry.proofs.FeedLemmas.{failure_refuses}
 use Rattle.ti_tool.proofs.DidCallLemmas.{stopped_on}
 use Rattle.ti_tool.proofs.entry.read_entry.Goals as goal
 

@@ -2,7 +2,7 @@ use Rattle.std.proofs.Common.{map, ap, ◌∙◌}
 use Rattle.ti_words.specs.Texts.{text_value}
 use Rattle.ti_words.specs.Value.{EntryValue}
 use Rattle.ti_words.specs.Spelling.{mark_in}
-use Rattle.ti_draft.proofs.Beside.{seconds_through}
+use Rattle.ti_draft.proofs.NamedLemmas.{seconds_through}
 use Rattle.ti_draft.proofs.draft.Draft.extended_texts.Goals as goal
 
 pub returns : goal.returns

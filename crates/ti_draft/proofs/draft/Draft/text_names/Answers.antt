@@ -2,7 +2,7 @@ use Rattle.std.proofs.Common.{map, ap, ◌∙◌}
 use Rattle.ti_words.specs.Texts.{text_value}
 use Rattle.ti_words.specs.Value.{EntryValue}
 use Rattle.ti_words.specs.Spelling.{name_in}
-use Rattle.ti_draft.proofs.Beside.{firsts_through}
+use Rattle.ti_draft.proofs.NamedLemmas.{firsts_through}
 use Rattle.ti_draft.proofs.draft.Draft.text_names.Goals as goal
 
 pub returns : goal.returns

@@ -1,6 +1,6 @@
 use Rattle.std.proofs.Common.{map, sym, ap, ◌∙◌}
 use Rattle.ti_words.specs.Spelling.{mark_in}
-use Rattle.ti_draft.proofs.Beside.{lent_marks}
+use Rattle.ti_draft.proofs.NamedLemmas.{lent_marks}
 use Rattle.ti_draft.proofs.named.Named.marks.Goals as goal
 
 pub returns : goal.returns

@@ -1,5 +1,5 @@
 use Rattle.std.proofs.Common.{◌++◌, ◌∷◌, [], ap, ◌∙◌}
-use Rattle.ti_draft.proofs.Beside.{pushed}
+use Rattle.ti_draft.proofs.NamedLemmas.{pushed}
 use Rattle.ti_draft.proofs.named.Named.push.Goals as goal
 
 pub returns-in-Ok-clause-added : goal.returns-in-Ok-clause-added

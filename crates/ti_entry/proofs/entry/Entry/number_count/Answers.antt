@@ -3,7 +3,7 @@ use Rattle.ti_words.specs.Value.{EntryValue}
 use Rattle.ti_words.specs.Widths.{number_size}
 use Rattle.ti_layout.specs.Layout.{numbers_from}
 use Rattle.ti_entry.specs.Content.{number_at}
-use Rattle.ti_layout.proofs.Places.{length_places}
+use Rattle.ti_layout.proofs.PlacesLemmas.{length_places}
 use Rattle.ti_entry.proofs.entry.Entry.number_count.Goals as goal
 
 pub returns : goal.returns

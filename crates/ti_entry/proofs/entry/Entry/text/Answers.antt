@@ -4,7 +4,7 @@ use Rattle.ti_words.specs.Value.{EntryValue}
 use Rattle.ti_layout.specs.Layout.{offsets_from, table_from}
 use Rattle.ti_layout.specs.Table.{table_of}
 use Rattle.ti_entry.specs.Content.{text_at}
-use Rattle.ti_layout.proofs.Places.{item_at, no_item_at}
+use Rattle.ti_layout.proofs.PlacesLemmas.{item_at, no_item_at}
 use Rattle.ti_entry.proofs.entry.Entry.text.Goals as goal
 
 pub returns-then-i-self : goal.returns-then-i-self

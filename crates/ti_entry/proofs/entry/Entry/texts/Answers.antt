@@ -3,7 +3,7 @@ use Rattle.ti_words.specs.Value.{EntryValue}
 use Rattle.ti_layout.specs.Layout.{places, offsets_from}
 use Rattle.ti_layout.specs.Table.{table_of}
 use Rattle.ti_entry.specs.Content.{text_at}
-use Rattle.ti_layout.proofs.Places.{length_places}
+use Rattle.ti_layout.proofs.PlacesLemmas.{length_places}
 use Rattle.ti_entry.proofs.entry.Entry.texts.Goals as goal
 
 pub texts_of-requires : goal.texts_of-requires

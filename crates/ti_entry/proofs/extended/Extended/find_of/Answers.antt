@@ -3,7 +3,7 @@ use Rattle.ti_words.specs.Value.{EntryValue}
 use Rattle.ti_layout.specs.Layout.{places, kind_names_from}
 use Rattle.ti_entry.specs.Content.{name_at}
 use Rattle.ti_entry.specs.Finding.{IsFirst, names_of}
-use Rattle.ti_entry.proofs.Finding.{names_are}
+use Rattle.ti_entry.proofs.IsFirstLemmas.{names_are}
 use Rattle.ti_entry.proofs.extended.Extended.find_of.Goals as goal
 
 pub returns : goal.returns

@@ -3,7 +3,7 @@ use Rattle.ti_words.specs.declared.Flag.TheVariants.{No}
 use Rattle.ti_words.specs.Value.{EntryValue}
 use Rattle.ti_entry.specs.Content.{flag_at}
 use Rattle.ti_words.specs.Spelling.{mark_in}
-use Rattle.ti_entry.proofs.NamedItems.{flag_item, no_flag_item}
+use Rattle.ti_entry.proofs.NamedItemsLemmas.{flag_item, no_flag_item}
 use Rattle.ti_entry.proofs.extended.Extended.flag.Goals as goal
 
 pub returns-then-i-header : goal.returns-then-i-header

@@ -2,7 +2,7 @@ use Rattle.std.proofs.Common.{◌∙◌, length, sym, ap}
 use Rattle.ti_words.specs.Value.{EntryValue}
 use Rattle.ti_layout.specs.Layout.{extended_names_from, extended_flags_from}
 use Rattle.ti_entry.specs.Content.{name_at, flag_at}
-use Rattle.ti_entry.proofs.NamedItems.{length_named}
+use Rattle.ti_entry.proofs.NamedItemsLemmas.{length_named}
 use Rattle.ti_entry.proofs.extended.Extended.flag_count.Goals as goal
 
 pub returns : goal.returns

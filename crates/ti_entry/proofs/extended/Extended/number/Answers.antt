@@ -5,8 +5,8 @@ use Rattle.ti_words.specs.Widths.{number_size}
 use Rattle.ti_layout.specs.Layout.{extended_numbers_from}
 use Rattle.ti_entry.specs.Content.{number_at}
 use Rattle.ti_words.specs.Spelling.{mark_in}
-use Rattle.ti_layout.proofs.Places.{within}
-use Rattle.ti_entry.proofs.NamedItems.{number_item, no_number_item}
+use Rattle.ti_layout.proofs.PlacesLemmas.{within}
+use Rattle.ti_entry.proofs.NamedItemsLemmas.{number_item, no_number_item}
 use Rattle.ti_entry.proofs.extended.Extended.number.Goals as goal
 
 pub numbers_size-requires : goal.numbers_size-requires

@@ -3,7 +3,7 @@ use Rattle.ti_words.specs.Value.{EntryValue}
 use Rattle.ti_words.specs.Widths.{number_size}
 use Rattle.ti_layout.specs.Layout.{extended_names_from, extended_numbers_from}
 use Rattle.ti_entry.specs.Content.{name_at, number_at}
-use Rattle.ti_entry.proofs.NamedItems.{length_named}
+use Rattle.ti_entry.proofs.NamedItemsLemmas.{length_named}
 use Rattle.ti_entry.proofs.extended.Extended.number_count.Goals as goal
 
 pub returns : goal.returns

@@ -4,7 +4,7 @@ use Rattle.ti_words.specs.Value.{EntryValue}
 use Rattle.ti_layout.specs.Table.{extended_table_of}
 use Rattle.ti_entry.specs.Content.{text_at}
 use Rattle.ti_words.specs.Spelling.{mark_in}
-use Rattle.ti_entry.proofs.NamedItems.{text_item, no_text_item}
+use Rattle.ti_entry.proofs.NamedItemsLemmas.{text_item, no_text_item}
 use Rattle.ti_entry.proofs.extended.Extended.text.Goals as goal
 
 pub returns-then-i-header : goal.returns-then-i-header

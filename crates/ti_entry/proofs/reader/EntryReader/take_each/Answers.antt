@@ -3,7 +3,7 @@ use Rattle.std.specs.Prelude.{ℕ}
 use Rattle.std.proofs.lemmas.List.{take-append-drop, take_more}
 use Rattle.ti_layout.specs.declared.fault.Refused.{Refused}
 use Rattle.ti_entry.specs.Reading.{Reading, fed}
-use Rattle.ti_entry.proofs.Feeding.{fed-append, fed-nothing, fed-refused, answer_under-ok, answer_under-err}
+use Rattle.ti_entry.proofs.FeedLemmas.{fed-append, fed-nothing, fed-refused, answer_under-ok, answer_under-err}
 use Rattle.ti_entry.proofs.reader.EntryReader.take_each.Goals as goal
 
 -- one byte more is fed

@@ -4,9 +4,9 @@ use Rattle.std.proofs.Math.Seq.{take-append_seam}
 use Rattle.ti_entry.specs.Reading.{Reading}
 use Rattle.ti_layout.specs.Refusal.{failure}
 use Rattle.ti_layout.specs.Stages.{Stands, Waits}
-use Rattle.ti_entry.proofs.Feeding.{held, same_fed, fed-passes}
-use Rattle.ti_layout.proofs.StageSteps.{stands_on, stands_now}
-use Rattle.ti_entry.proofs.StageEnds.{waits_unfailed}
+use Rattle.ti_entry.proofs.FeedLemmas.{held, same_fed, fed-passes}
+use Rattle.ti_layout.proofs.StageStepLemmas.{stands_on, stands_now}
+use Rattle.ti_entry.proofs.WholeStageLemmas.{waits_unfailed}
 use Rattle.ti_entry.proofs.reader.EntryReader.take_whole.Goals as goal
 
 pub advance-requires : goal.advance-requires

@@ -2,8 +2,8 @@ use Rattle.std.proofs.Common.{◌∙◌, get_or, sym, ap, List}
 use Rattle.ti_words.specs.Texts.{TextValue, AbsentText, TextOf}
 use Rattle.ti_layout.specs.Table.{text_of_word}
 use Rattle.ti_entry.specs.Content.{text_at}
-use Rattle.ti_layout.proofs.Places.{item_at, no_item_at}
-use Rattle.ti_entry.proofs.TextLaws.{tail_is}
+use Rattle.ti_layout.proofs.PlacesLemmas.{item_at, no_item_at}
+use Rattle.ti_entry.proofs.TextLemmas.{tail_is}
 use Rattle.ti_entry.proofs.texts.Texts.text.Goals as goal
 
 pub returns-then-i-self-clause-value : goal.returns-then-i-self-clause-value

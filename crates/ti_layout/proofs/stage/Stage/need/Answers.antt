@@ -1,6 +1,6 @@
 use Rattle.std.proofs.Common.{arith}
 use Rattle.ti_layout.specs.declared.section.Section.TheVariants.{Offsets, Behind, ExtendedNames, End}
-use Rattle.ti_layout.proofs.StageSteps.{item_awaited, table_awaited}
+use Rattle.ti_layout.proofs.StageStepLemmas.{item_awaited, table_awaited}
 use Rattle.ti_layout.proofs.stage.Stage.need.Goals as goal
 
 pub returns-then-self-gt0 : goal.returns-then-self-gt0

@@ -4,7 +4,7 @@ use Rattle.ti_layout.specs.declared.fault.Stop.TheVariants.{Early}
 use Rattle.ti_layout.specs.Checks.{stopped}
 use Rattle.ti_layout.specs.declared.stage.Stage.{Stage}
 use Rattle.ti_layout.specs.Stages.{entered, next}
-use Rattle.ti_layout.proofs.StageSteps.{stands_now, item_stopped, item_awaited, items_pass, items_stop, items_wait, entered_now, at_front, between_stops, between_waits, fewer_sections}
+use Rattle.ti_layout.proofs.StageStepLemmas.{stands_now, item_stopped, item_awaited, items_pass, items_stop, items_wait, entered_now, at_front, between_stops, between_waits, fewer_sections}
 use Rattle.ti_layout.proofs.stage.Stage.step.Goals as goal
 
 pub overflow_add-self : goal.overflow_add-self

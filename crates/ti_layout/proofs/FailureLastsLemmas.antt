@@ -19,9 +19,9 @@ use Rattle.ti_words.specs.Texts.{is_nul}
 use Rattle.ti_layout.specs.Table.{ends_in, table_of, size_at, sizes_at, extended_table_of, base_of}
 use Rattle.ti_layout.specs.Checks.{Check, check, Verdict, Passes, EndsEarly, Fails, verdict, refused, is_number_word, is_not_negative, is_offset_below, is_ended, sign_check, sign_checks, name_check, nul_check, name_checks, flag_check, flag_checks, pad_checks, number_check, number_checks, offset_check, offset_checks, ending_check, ending_checks, name_place_checks, all_name_place_checks, end_check, end_checks}
 use Rattle.ti_layout.specs.Refusal.{magic_check, size_check, named_check, magic_checks, size_checks, front_checks, section_checks, room_checks, extended_word_checks, extended_size_check, extended_size_checks, extended_front_checks, extended_section_checks, extended_checks, behind_checks, checks}
-use Rattle.ti_layout.proofs.Sections.{then, verdict_append}
-use Rattle.ti_layout.proofs.Passing.{first_passes}
-use Rattle.ti_layout.proofs.SectionLaws.{both_pass, each_item}
+use Rattle.ti_layout.proofs.VerdictLemmas.{then, verdict_append}
+use Rattle.ti_layout.proofs.PassesLemmas.{first_passes}
+use Rattle.ti_layout.proofs.SectionReadLemmas.{both_pass, each_item}
 
 -- two checks that are one where their front is there
 pub record Alike (len : ℕ) (c d : Check) : Type 0 where

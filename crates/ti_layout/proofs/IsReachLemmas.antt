@@ -5,7 +5,7 @@ use Rattle.std.proofs.lemmas.Bool.{cases_lt, le-ltb, lt-ltb, ltb-true, ne_eqb}
 use Rattle.std.specs.List.{list_any}
 use Rattle.std.specs.Prelude.{min}
 use Rattle.std.proofs.lemmas.List.Concat.{flat_map-cons}
-use Rattle.ti_layout.proofs.Passing.{first_passes}
+use Rattle.ti_layout.proofs.PassesLemmas.{first_passes}
 use Rattle.ti_layout.specs.Layout.{places}
 use Rattle.ti_words.specs.Word.{unsigned_at, word_at}
 use Rattle.ti_words.specs.Texts.{is_nul}

@@ -11,7 +11,7 @@ use Rattle.ti_words.specs.Widths.{number_size}
 use Rattle.ti_words.specs.Spelling.{mark_in, extended_names}
 use Rattle.ti_draft.specs.Canonical.{canonical, plain_bytes, extended_bytes, texts_table, names_table, present}
 use Rattle.ti_draft.specs.Unfit.{encode_fault, has_bad_name, has_bad_text, has_bad_number, is_too_long}
-use Rattle.ti_draft.proofs.LengthLaws.{length_plain, length_both, length_extended_names}
+use Rattle.ti_draft.proofs.LengthLemmas.{length_plain, length_both, length_extended_names}
 
 pub record Fit (v : EntryValue) : Type 0 where
   pub good_names : has_bad_name v ≡ false

@@ -12,9 +12,9 @@ use Rattle.ti_layout.specs.Layout.{places}
 use Rattle.ti_words.specs.Texts.{is_nul}
 use Rattle.ti_layout.specs.Checks.{Check, Verdict, Passes, EndsEarly, Fails, verdict}
 use Rattle.ti_words.specs.Spelling.{HasNoNul, Each}
-use Rattle.ti_layout.proofs.Sections.{then, verdict_append}
-use Rattle.ti_layout.proofs.Passing.{first_passes}
-use Rattle.ti_layout.proofs.WordLaws.{one_byte}
+use Rattle.ti_layout.proofs.VerdictLemmas.{then, verdict_append}
+use Rattle.ti_layout.proofs.PassesLemmas.{first_passes}
+use Rattle.ti_layout.proofs.WordLemmas.{one_byte}
 
 then_passes : (v w : Verdict) → Passes ≡ then v w → (Passes ≡ v) × (Passes ≡ w)
 then_passes Passes w h = (refl, h)

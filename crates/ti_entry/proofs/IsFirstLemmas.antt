@@ -12,8 +12,8 @@ use Rattle.ti_words.specs.Texts.{is_nul}
 use Rattle.ti_layout.specs.Table.{until_nul}
 use Rattle.ti_entry.specs.Content.{name_at, content_with}
 use Rattle.ti_entry.specs.Finding.{names_of, Lacks, IsFirst}
-use Rattle.ti_layout.proofs.SectionLaws.{all_items}
-use Rattle.ti_entry.proofs.NamedItems.{names_in}
+use Rattle.ti_layout.proofs.SectionReadLemmas.{all_items}
+use Rattle.ti_entry.proofs.NamedItemsLemmas.{names_in}
 
 -- ---- one name
 

@@ -23,12 +23,12 @@ use Rattle.ti_layout.specs.Table.{table_of, extended_table_of, base_of}
 use Rattle.ti_layout.specs.Checks.{Check, Passes, EndsEarly, Fails, verdict, stopped, refused, sign_checks, name_check, nul_check, flag_checks, pad_checks, number_checks, offset_checks, table_check, ending_check, ending_checks, all_name_place_checks, end_checks}
 use Rattle.ti_layout.specs.Refusal.{magic_checks, size_check, named_check, size_checks, section_checks, room_check, room_checks, extended_size_check, extended_size_checks, extended_section_checks, extended_checks, behind_checks, checks}
 use Rattle.ti_layout.specs.Stages.{item_check, item_size, items_checks, first_items, items_after, items_of, next, between, counts_checks, no_more_check, after, after_words, after_counts, left, Knows, StandsAt, Stands, new_stage, part_behind, left_behind, entered, is_whole, awaited, Waits, sections_left, steps_left}
-use Rattle.ti_layout.proofs.Passing.{first_passes}
-use Rattle.ti_layout.proofs.Places.{places_append}
-use Rattle.ti_layout.proofs.SectionLaws.{all_items, each_item}
-use Rattle.ti_layout.proofs.Growing.{Alike, header_same, extended_same, base_same}
-use Rattle.ti_layout.proofs.Full.{Reaches, no_early}
-use Rattle.ti_layout.proofs.Stages.{item_alike, between_alike, passes_on, goes, halts, none_left, regroup_front, regroup_sections, regroup_behind, regroup_extended}
+use Rattle.ti_layout.proofs.PassesLemmas.{first_passes}
+use Rattle.ti_layout.proofs.PlacesLemmas.{places_append}
+use Rattle.ti_layout.proofs.SectionReadLemmas.{all_items, each_item}
+use Rattle.ti_layout.proofs.FailureLastsLemmas.{Alike, header_same, extended_same, base_same}
+use Rattle.ti_layout.proofs.MostEntryBytesLemmas.{Reaches, no_early}
+use Rattle.ti_layout.proofs.StageLemmas.{item_alike, between_alike, passes_on, goes, halts, none_left, regroup_front, regroup_sections, regroup_behind, regroup_extended}
 
 -- ---- the first stage
 

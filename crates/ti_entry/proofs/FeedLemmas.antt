@@ -9,7 +9,7 @@ use Rattle.ti_layout.specs.Checks.{Verdict, Passes, EndsEarly, Fails, verdict, r
 use Rattle.ti_layout.specs.Refusal.{checks, failure}
 use Rattle.ti_entry.specs.Reading.{Reading, unfailed_up_to, unfailed, met, fed, answer_under}
 use Rattle.ti_entry.specs.Laws.{FailureLasts, FailureRefuses, AnyCutting}
-use Rattle.ti_layout.proofs.Growing.{failure_stays}
+use Rattle.ti_layout.proofs.FailureLastsLemmas.{failure_stays}
 
 -- ---- failures
 

@@ -19,10 +19,10 @@ use Rattle.ti_layout.specs.Table.{table_of, extended_table_of, base_of}
 use Rattle.ti_layout.specs.Checks.{Check, Verdict, Passes, verdict, stopped, is_not_negative, is_offset_below, nul_check, ending_check, ending_checks, all_name_place_checks}
 use Rattle.ti_layout.specs.Refusal.{size_check, named_check, extended_size_check}
 use Rattle.ti_layout.specs.Stages.{item_check, items_checks, between}
-use Rattle.ti_layout.proofs.Sections.{then, verdict_append, then-stopped}
-use Rattle.ti_layout.proofs.SectionLaws.{each_item}
-use Rattle.ti_layout.proofs.Growing.{Alike, stays, each_append, by_byte, by_word, by_number, by_header, magic_alike, ending_alike, extended_same, extended_ending_alike, names_alike}
-use Rattle.ti_layout.proofs.Full.{kept_passes}
+use Rattle.ti_layout.proofs.VerdictLemmas.{then, verdict_append, then-stopped}
+use Rattle.ti_layout.proofs.SectionReadLemmas.{each_item}
+use Rattle.ti_layout.proofs.FailureLastsLemmas.{Alike, stays, each_append, by_byte, by_word, by_number, by_header, magic_alike, ending_alike, extended_same, extended_ending_alike, names_alike}
+use Rattle.ti_layout.proofs.MostEntryBytesLemmas.{kept_passes}
 
 -- ---- alike on every continuation
 

@@ -15,14 +15,14 @@ use Rattle.ti_layout.specs.Table.{ends_in, table_of, extended_table_of, base_of}
 use Rattle.ti_layout.specs.Checks.{check, Passes, verdict, is_not_negative, sign_check, sign_checks, flag_checks, pad_checks, number_checks, offset_checks, ending_checks, name_place_checks, all_name_place_checks, end_check, end_checks}
 use Rattle.ti_layout.specs.Refusal.{room_checks, extended_size_check, extended_size_checks, extended_front_checks, extended_section_checks, extended_checks, behind_checks, front_checks, section_checks, checks}
 use Rattle.ti_entry.specs.Content.{flag_at, number_at, text_at, name_at, plain_content, content_with, content}
-use Rattle.ti_layout.proofs.Passing.{first_passes}
-use Rattle.ti_layout.proofs.WordLaws.{IsBytes, below, above}
-use Rattle.ti_entry.proofs.TextLaws.{ends}
-use Rattle.ti_layout.proofs.SectionLaws.{both_pass, Passed, each_passed, each_item}
-use Rattle.ti_entry.proofs.KindsFound.{IsCount, count_is, flags_are, pad_is, numbers_are, numbers_fit, words_are, texts_are}
-use Rattle.ti_entry.proofs.NamedItems.{marks_in, length_named, all_names_in, sizes_are_base}
-use Rattle.ti_layout.proofs.NamePlaces.{table_length}
-use Rattle.ti_entry.proofs.Found.{HasPlain, sections_found}
+use Rattle.ti_layout.proofs.PassesLemmas.{first_passes}
+use Rattle.ti_layout.proofs.WordLemmas.{IsBytes, below, above}
+use Rattle.ti_entry.proofs.TextLemmas.{ends}
+use Rattle.ti_layout.proofs.SectionReadLemmas.{both_pass, Passed, each_passed, each_item}
+use Rattle.ti_entry.proofs.KindsFoundLemmas.{IsCount, count_is, flags_are, pad_is, numbers_are, numbers_fit, words_are, texts_are}
+use Rattle.ti_entry.proofs.NamedItemsLemmas.{marks_in, length_named, all_names_in, sizes_are_base}
+use Rattle.ti_layout.proofs.NamePlaceChecksLemmas.{table_length}
+use Rattle.ti_entry.proofs.FoundLemmas.{HasPlain, sections_found}
 use Rattle.std.proofs.lemmas.List.Concat.{flat_map-cons}
 
 -- one section more at the end of a front that begins behind some bytes

@@ -15,12 +15,12 @@ use Rattle.ti_layout.specs.Table.{text_from, extended_table_of, base_of}
 use Rattle.ti_layout.specs.Checks.{Passes, verdict, sign_check, sign_checks, flag_checks, pad_checks, number_checks, offset_checks, ending_checks, all_name_place_checks, end_check, end_checks}
 use Rattle.ti_layout.specs.Refusal.{room_check, room_checks, extended_size_check, extended_size_checks, extended_front_checks, extended_item_checks, extended_text_checks, extended_section_checks, extended_checks, behind_checks, front_checks, section_checks, checks}
 use Rattle.ti_entry.specs.Content.{flag_at, number_at, text_at, name_at, plain_content, content_with, content}
-use Rattle.ti_entry.proofs.Items.{passes_one}
-use Rattle.ti_draft.proofs.LengthLaws.{length_word}
-use Rattle.ti_entry.proofs.KindsSpelled.{append_pass, length_flat, count_read, sign_passed, flags_read, pad_read, numbers_read, texts_read, names_read}
-use Rattle.ti_entry.proofs.NamedItems.{marks_in, all_names_in, sizes_are_base, names_length}
-use Rattle.ti_entry.proofs.AtMostOne.{SameExtended, grouped_part, same_sizes, same_extended, same_value}
-use Rattle.ti_entry.proofs.Spelled.{PlainRead, plain_read}
+use Rattle.ti_entry.proofs.SpelledItemsLemmas.{passes_one}
+use Rattle.ti_draft.proofs.LengthLemmas.{length_word}
+use Rattle.ti_entry.proofs.KindsSpelledLemmas.{append_pass, length_flat, count_read, sign_passed, flags_read, pad_read, numbers_read, texts_read, names_read}
+use Rattle.ti_entry.proofs.NamedItemsLemmas.{marks_in, all_names_in, sizes_are_base, names_length}
+use Rattle.ti_entry.proofs.SpellsAtMostOneLemmas.{SameExtended, grouped_part, same_sizes, same_extended, same_value}
+use Rattle.ti_entry.proofs.SpelledLemmas.{PlainRead, plain_read}
 
 pub record IsRead (bytes : List ℕ) (v : EntryValue) : Type 0 where
   pub passes : Passes ≡ verdict (length bytes) (checks bytes)

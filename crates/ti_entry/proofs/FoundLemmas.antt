@@ -16,11 +16,11 @@ use Rattle.ti_layout.specs.Table.{table_of}
 use Rattle.ti_layout.specs.Checks.{Passes, verdict, sign_check, sign_checks, name_check, nul_check, name_checks, flag_checks, pad_checks, number_checks, offset_checks, ending_check, ending_checks, table_check}
 use Rattle.ti_layout.specs.Refusal.{magic_check, size_check, named_check, magic_checks, size_checks, front_checks, section_checks}
 use Rattle.ti_entry.specs.Content.{flag_at, number_at, text_at, plain_content}
-use Rattle.ti_layout.proofs.Places.{length_places}
-use Rattle.ti_layout.proofs.Passing.{first_passes}
-use Rattle.ti_layout.proofs.WordLaws.{IsBytes, bytes_again, one_byte}
-use Rattle.ti_entry.proofs.KindsFound.{IsCount, count_is, front, flags_are, pad_is, numbers_are, numbers_fit, words_are, texts_are}
-use Rattle.ti_layout.proofs.SectionLaws.{both_pass, each_passed, no_nuls}
+use Rattle.ti_layout.proofs.PlacesLemmas.{length_places}
+use Rattle.ti_layout.proofs.PassesLemmas.{first_passes}
+use Rattle.ti_layout.proofs.WordLemmas.{IsBytes, bytes_again, one_byte}
+use Rattle.ti_entry.proofs.KindsFoundLemmas.{IsCount, count_is, front, flags_are, pad_is, numbers_are, numbers_fit, words_are, texts_are}
+use Rattle.ti_layout.proofs.SectionReadLemmas.{both_pass, each_passed, no_nuls}
 
 -- the width of a magic number
 abbrev width_under : ℕ → Option Width

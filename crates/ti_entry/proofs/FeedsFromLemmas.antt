@@ -7,7 +7,7 @@ use Rattle.ti_layout.specs.declared.fault.Refused.{Refused}
 use Rattle.ti_layout.specs.Refusal.{failure}
 use Rattle.ti_entry.specs.Content.{content}
 use Rattle.ti_entry.specs.Reading.{Reading, new_reading, met, fed, answer_under, answer_for, FeedsFrom}
-use Rattle.ti_entry.proofs.Feeding.{met-passed, met-none, fed-none, failure_refuses}
+use Rattle.ti_entry.proofs.FeedLemmas.{met-passed, met-none, fed-none, failure_refuses}
 
 pub FeedsFrom-nil : (a : Option (List ℕ)) (r : Reading) → r.refusal ≡ None → failure r.kept ≡ None → FeedsFrom a a r r
 FeedsFrom-nil a r none passes =

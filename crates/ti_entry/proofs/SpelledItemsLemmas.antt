@@ -21,9 +21,9 @@ use Rattle.ti_layout.specs.Layout.{places}
 use Rattle.ti_layout.specs.Table.{text_of_word, until_nul}
 use Rattle.ti_layout.specs.Checks.{Check, Passes, verdict, is_number_word, is_offset_below, is_ended}
 use Rattle.ti_words.specs.Spelling.{HasNoNul, FitsWidth, IsText, Has, Each, numbers_of}
-use Rattle.ti_layout.proofs.WordLaws.{below, above}
-use Rattle.ti_draft.proofs.LengthLaws.{length_word}
-use Rattle.ti_layout.proofs.SectionLaws.{Passed}
+use Rattle.ti_layout.proofs.WordLemmas.{below, above}
+use Rattle.ti_draft.proofs.LengthLemmas.{length_word}
+use Rattle.ti_layout.proofs.SectionReadLemmas.{Passed}
 
 -- each item of a list, at the place where it stands
 abbrev pub EachAt : {X : Type 0} → (ℕ → X → Type 0) → ℕ → ℕ → List X → Type 0

@@ -14,7 +14,7 @@ use Rattle.ti_words.specs.Widths.{number_size}
 use Rattle.ti_layout.specs.Table.{text_of_word, size_at, sizes_at, extended_table_of, base_of}
 use Rattle.ti_entry.specs.Content.{flag_at, number_at, text_at, name_at, named_items, plain_content, content_with}
 use Rattle.ti_entry.specs.Held.{held_header}
-use Rattle.ti_layout.proofs.Places.{item_at, no_item_at, places_append}
+use Rattle.ti_layout.proofs.PlacesLemmas.{item_at, no_item_at, places_append}
 use Rattle.ti_words.specs.Spelling.{text_size, texts_size, name_in, mark_in, extended_names}
 
 pub marks_in : {A : Type 0} (name : ℕ → List ℕ) (item : ℕ → A) (names_from from size count : ℕ)

@@ -8,7 +8,7 @@ use Rattle.ti_layout.specs.Layout.{places, extended_values_from, extended_names_
 use Rattle.ti_layout.specs.Table.{extended_table_of, sizes_at, base_of}
 use Rattle.ti_layout.specs.Checks.{Passes, verdict, all_name_place_checks}
 use Rattle.ti_layout.specs.Reach.{IsReach, all_name_reach_checks}
-use Rattle.ti_layout.proofs.Reach.{IsNameTable, named_by_reach, exact}
+use Rattle.ti_layout.proofs.IsReachLemmas.{IsNameTable, named_by_reach, exact}
 
 pub table_length : (bytes : List ℕ) (x : ExtendedHeader) → extended_end_of x ≤ length bytes → length (extended_table_of bytes x) ≡ x.table
 table_length bytes x le = length-take-le x.table (drop (extended_table_from x) bytes) (omega (arith, length-drop (extended_table_from x) bytes))

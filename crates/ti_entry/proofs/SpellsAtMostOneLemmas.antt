@@ -18,10 +18,10 @@ use Rattle.ti_words.specs.Widths.{number_size}
 use Rattle.ti_layout.specs.Table.{text_from, text_of_word}
 use Rattle.ti_words.specs.Spelling.{FitsWidth, IsText, IsName, Each, magic, count_word, words_of, numbers_of, flags_of, pad, text_size, texts_size, name_in, mark_in, extended_names, HasSections, HasExtendedPart, HasNoExtendedPart}
 use Rattle.ti_entry.specs.Laws.{SpellsAtMostOne}
-use Rattle.ti_entry.proofs.NamedItems.{names_length}
-use Rattle.ti_layout.proofs.WordLaws.{reads_count}
-use Rattle.ti_draft.proofs.LengthLaws.{length_word}
-use Rattle.ti_entry.proofs.Items.{IsShort, word_read, IsGood, placed, all_good, short_number, read_again, flag_read}
+use Rattle.ti_entry.proofs.NamedItemsLemmas.{names_length}
+use Rattle.ti_layout.proofs.WordLemmas.{reads_count}
+use Rattle.ti_draft.proofs.LengthLemmas.{length_word}
+use Rattle.ti_entry.proofs.SpelledItemsLemmas.{IsShort, word_read, IsGood, placed, all_good, short_number, read_again, flag_read}
 
 -- ---- lists
 

@@ -12,8 +12,8 @@ use Rattle.ti_words.specs.Value.{EntryValue}
 use Rattle.ti_words.specs.Spelling.{Spells, HasSections, HasExtendedPart, HasNoNul, FitsWidth, Has, IsText, IsName, Each, mark_in, text_size, texts_size, extended_names}
 use Rattle.ti_draft.specs.Canonical.{canonical, plain_bytes, extended_bytes, text_bytes, texts_table, text_words, names_table, name_words}
 use Rattle.ti_draft.specs.Unfit.{encode_fault, has_nul, text_has_nul, is_out_of_range}
-use Rattle.ti_draft.proofs.LengthLaws.{is_plain_bytes, is_both, length_extended_names}
-use Rattle.ti_draft.proofs.Fit.{fit, small, small_extended}
+use Rattle.ti_draft.proofs.LengthLemmas.{is_plain_bytes, is_both, length_extended_names}
+use Rattle.ti_draft.proofs.EncodeFaultLemmas.{fit, small, small_extended}
 
 -- ---- what has no fault
 

@@ -19,11 +19,11 @@ use Rattle.ti_layout.specs.Table.{table_of}
 use Rattle.ti_layout.specs.Checks.{Passes, verdict, sign_check, sign_checks, name_check, nul_check, name_checks, flag_checks, pad_checks, number_checks, offset_checks, ending_checks}
 use Rattle.ti_layout.specs.Refusal.{magic_check, size_check, named_check, magic_checks, size_checks, front_checks, section_checks}
 use Rattle.ti_entry.specs.Content.{text_at, plain_content}
-use Rattle.ti_layout.proofs.SectionLaws.{Passed}
-use Rattle.ti_layout.proofs.WordLaws.{reads_count}
-use Rattle.ti_entry.proofs.KindsSpelled.{append_pass, moved, length_flat, byte, bytes_flat, sign_passed, flags_read, pad_read, numbers_read, texts_read}
-use Rattle.ti_entry.proofs.Items.{EachAt, each_at, passes_one, passes_at, at_each, all_good, ByteAt, byte_at_is}
-use Rattle.ti_draft.proofs.LengthLaws.{length_word}
+use Rattle.ti_layout.proofs.SectionReadLemmas.{Passed}
+use Rattle.ti_layout.proofs.WordLemmas.{reads_count}
+use Rattle.ti_entry.proofs.KindsSpelledLemmas.{append_pass, moved, length_flat, byte, bytes_flat, sign_passed, flags_read, pad_read, numbers_read, texts_read}
+use Rattle.ti_entry.proofs.SpelledItemsLemmas.{EachAt, each_at, passes_one, passes_at, at_each, all_good, ByteAt, byte_at_is}
+use Rattle.ti_draft.proofs.LengthLemmas.{length_word}
 
 starts : (w : Width) → width_of (magic w) ≡ Some w
 starts Legacy = refl

@@ -13,9 +13,9 @@ use Rattle.ti_layout.specs.Layout.{places}
 use Rattle.ti_words.specs.Texts.{is_nul}
 use Rattle.ti_layout.specs.Checks.{Check, Passes, verdict, is_not_negative, is_number_word, is_offset_below, sign_check, sign_checks, name_check, flag_check, flag_checks, number_check, number_checks, offset_check, offset_checks}
 use Rattle.ti_layout.specs.Reach.{is_before, reach_check, name_reach_checks, all_name_reach_checks}
-use Rattle.ti_layout.proofs.Sections.{then, verdict_append}
-use Rattle.ti_layout.proofs.SectionLaws.{Passed}
-use Rattle.ti_layout.proofs.WordLaws.{IsBytes, below, above, unsigned_fits}
+use Rattle.ti_layout.proofs.VerdictLemmas.{then, verdict_append}
+use Rattle.ti_layout.proofs.SectionReadLemmas.{Passed}
+use Rattle.ti_layout.proofs.WordLemmas.{IsBytes, below, above, unsigned_fits}
 
 -- ---- checks that pass one by one
 

@@ -22,11 +22,11 @@ use Rattle.ti_words.specs.Spelling.{pad_len, FitsWidth, IsText, IsName, Each, co
 use Rattle.ti_layout.specs.Table.{ends_in, text_from, text_of_word}
 use Rattle.ti_layout.specs.Checks.{Check, check, Passes, verdict, is_number_word, is_not_negative, is_offset_below, is_ended, sign_check, sign_checks, nul_check, flag_check, flag_checks, pad_checks, number_check, number_checks, offset_check, offset_checks, ending_check, ending_checks, table_check, all_name_place_checks}
 use Rattle.ti_entry.specs.Content.{flag_at, number_at, text_at}
-use Rattle.ti_layout.proofs.Sections.{then, verdict_append}
-use Rattle.ti_layout.proofs.SectionLaws.{Passed, one_by_one}
-use Rattle.ti_layout.proofs.WordLaws.{below}
-use Rattle.ti_draft.proofs.LengthLaws.{length_word}
-use Rattle.ti_entry.proofs.Items.{EachAt, each_at, values_at, passes_one, passes_at, at_each, IsGood, all_good, WordAt, ByteAt, byte_at_is, read_again, is_number, flag_read, numbers_at, offsets_at, short_number, placed, place_read}
+use Rattle.ti_layout.proofs.VerdictLemmas.{then, verdict_append}
+use Rattle.ti_layout.proofs.SectionReadLemmas.{Passed, one_by_one}
+use Rattle.ti_layout.proofs.WordLemmas.{below}
+use Rattle.ti_draft.proofs.LengthLemmas.{length_word}
+use Rattle.ti_entry.proofs.SpelledItemsLemmas.{EachAt, each_at, values_at, passes_one, passes_at, at_each, IsGood, all_good, WordAt, ByteAt, byte_at_is, read_again, is_number, flag_read, numbers_at, offsets_at, short_number, placed, place_read}
 
 pub append_pass : (len : ℕ) (xs ys : List Check) → Passes ≡ verdict len xs → Passes ≡ verdict len ys → Passes ≡ verdict len (xs ++ ys)
 append_pass len xs ys p q = q ∙ ap (λ v. then v (verdict len ys)) p ∙ sym (verdict_append len xs ys)

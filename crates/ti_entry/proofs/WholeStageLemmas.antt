@@ -18,7 +18,7 @@ use Rattle.ti_entry.specs.Content.{content, content_with}
 use Rattle.ti_entry.specs.Held.{held_header, held, IsPart, IsHeld}
 use Rattle.ti_entry.specs.Reading.{answer_under, answer_for}
 use Rattle.ti_layout.specs.Stages.{KnowsPlain, KnowsAll, Knows, StandsAt, Waits, is_whole}
-use Rattle.ti_entry.proofs.NamedItems.{held_is}
+use Rattle.ti_entry.proofs.NamedItemsLemmas.{held_is}
 
 -- no check has failed on what waits for more
 pub waits_unfailed : (xs : List ℕ) (s : Stage) → Waits xs s → failure xs ≡ None

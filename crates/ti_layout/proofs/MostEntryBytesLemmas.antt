@@ -14,11 +14,11 @@ use Rattle.ti_words.specs.Spelling.{pad_len}
 use Rattle.ti_layout.specs.Table.{table_of, extended_table_of, base_of}
 use Rattle.ti_layout.specs.Checks.{Check, Verdict, Passes, EndsEarly, Fails, verdict, refused, sign_check, sign_checks, name_check, nul_check, name_checks, flag_check, flag_checks, pad_checks, number_check, number_checks, offset_check, offset_checks, ending_check, ending_checks, name_place_checks, all_name_place_checks, end_check, end_checks}
 use Rattle.ti_layout.specs.Refusal.{size_check, named_check, magic_checks, size_checks, front_checks, section_checks, room_check, extended_word_checks, extended_size_check, extended_size_checks, extended_front_checks, extended_section_checks, extended_checks, behind_checks, checks, fault_behind}
-use Rattle.ti_layout.proofs.Sections.{then}
-use Rattle.ti_layout.proofs.Passing.{first_passes}
-use Rattle.ti_layout.proofs.Places.{within}
-use Rattle.ti_layout.proofs.SectionLaws.{both_pass, all_items}
-use Rattle.ti_layout.proofs.Growing.{stays, front_alike, section_alike, header_same, split, extended_same, extended_split, extended_long, extended_front_alike, extended_section_alike}
+use Rattle.ti_layout.proofs.VerdictLemmas.{then}
+use Rattle.ti_layout.proofs.PassesLemmas.{first_passes}
+use Rattle.ti_layout.proofs.PlacesLemmas.{within}
+use Rattle.ti_layout.proofs.SectionReadLemmas.{both_pass, all_items}
+use Rattle.ti_layout.proofs.FailureLastsLemmas.{stays, front_alike, section_alike, header_same, split, extended_same, extended_split, extended_long, extended_front_alike, extended_section_alike}
 
 -- the fronts that these checks read are there
 abbrev pub Reaches : ℕ → Check → Type 0
