@@ -308,8 +308,8 @@ pub(crate) fn check_endings(
 ) -> Result<(), Stop>
     requires before { from + 2 * count ≤ table_from }
     requires fits { table_from + table_size < 2 ^ 32 }
-    ensures verdict { let table = take table_size (drop table_from bytes.now) in
-        verdict_of result ≡ verdict (length bytes.now) (ending_checks bytes.now table (table_from + table_size) from count) }
+    ensures verdict { verdict_of result ≡ verdict (length bytes.now) (ending_checks bytes.now
+        (take table_size (drop table_from bytes.now)) (table_from + table_size) from count) }
     ensures there { OnOk result (table_from + table_size ≤ length bytes.now) }
 {
     let end = table_from + table_size;

@@ -55,6 +55,10 @@ rows kinds.Text = text_rows
 abbrev pub IsNamed : Kind → ℕ → List ℕ → Type 0
 IsNamed kind index name = Contains (rows kind) (index, name)
 
+-- the capability of the kind at the index has no name but this one, and no name at all where this is None
+abbrev pub IsOnlyName : Kind → ℕ → Option (List ℕ) → Type 0
+IsOnlyName kind index only = (name : List ℕ) → IsNamed kind index name → only ≡ Some name
+
 -- ---- the table as two functions
 
 -- the name of the capability of a kind at an index, where it has one
@@ -65,7 +69,7 @@ name_of kind index = lookup (nat_eq index) (rows kind)
 abbrev pub Place : Type 0
 Place = Kind × ℕ
 
--- a row of a kind, as a name and the place that it has
+-- the name of a row of a kind, and the place that it has
 abbrev pub named_place : Kind → Row → List ℕ × Place
 named_place kind r = (r.1, (kind, r.0))
 

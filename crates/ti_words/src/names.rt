@@ -2,11 +2,11 @@
 //!
 //! Each call looks through its part of the table, of 114 rows in all, and takes no memory.
 
-ghost use Rattle.std.specs.Prelude.{◌≡◌, ℕ, List, Some, IfSome, map, option_map};
+ghost use Rattle.std.specs.Prelude.{◌≡◌, Some, IfSome, map, option_map};
 ghost use Rattle.std.specs.Map.{lookup};
 ghost use Rattle.std.specs.Str.{bytes_eq};
 ghost use Rattle.ti_words.specs.declared.Kind.TheVariants as kinds;
-ghost use Rattle.ti_words.specs.Names.{IsNamed, Place, name_of, named_place, place_of, row_of, rows};
+ghost use Rattle.ti_words.specs.Names.{IsNamed, IsOnlyName, Place, name_of, named_place, place_of, row_of, rows};
 
 use crate::Kind;
 use crate::table::{FLAG_NAMES, NUMBER_NAMES, TEXT_NAMES};
@@ -46,29 +46,29 @@ fn place_in(kind: Kind, name: &str) -> Option<(Kind, usize)>
     None
 }
 
-/// The name of the flag at an index of an entry, as `bw` at 0, where the table has one.
+/// The name of the flag at an index of an entry, such as `bw` at 0, where the table has one.
 pub fn flag_name(index: usize) -> Option<&'static str>
     ensures value { option_map (λ name. name.now) result ≡ name_of kinds.Flag index }
     ensures found { IfSome result (λ name. IsNamed kinds.Flag index name.now) }
-    ensures only { (name : List ℕ) → IsNamed kinds.Flag index name → option_map (λ name. name.now) result ≡ Some name }
+    ensures only { IsOnlyName kinds.Flag index (option_map (λ name. name.now) result) }
 {
     name_at(Kind::Flag, index)
 }
 
-/// The name of the number at an index of an entry, as `cols` at 0, where the table has one.
+/// The name of the number at an index of an entry, such as `cols` at 0, where the table has one.
 pub fn number_name(index: usize) -> Option<&'static str>
     ensures value { option_map (λ name. name.now) result ≡ name_of kinds.Number index }
     ensures found { IfSome result (λ name. IsNamed kinds.Number index name.now) }
-    ensures only { (name : List ℕ) → IsNamed kinds.Number index name → option_map (λ name. name.now) result ≡ Some name }
+    ensures only { IsOnlyName kinds.Number index (option_map (λ name. name.now) result) }
 {
     name_at(Kind::Number, index)
 }
 
-/// The name of the text at an index of an entry, as `cup` at 10, where the table has one.
+/// The name of the text at an index of an entry, such as `cup` at 10, where the table has one.
 pub fn text_name(index: usize) -> Option<&'static str>
     ensures value { option_map (λ name. name.now) result ≡ name_of kinds.Text index }
     ensures found { IfSome result (λ name. IsNamed kinds.Text index name.now) }
-    ensures only { (name : List ℕ) → IsNamed kinds.Text index name → option_map (λ name. name.now) result ≡ Some name }
+    ensures only { IsOnlyName kinds.Text index (option_map (λ name. name.now) result) }
 {
     name_at(Kind::Text, index)
 }
