@@ -26,7 +26,7 @@ name_words_append from (x ∷ xs) ys =
     ap (λ l. pos from ∷ l) (name_words_append (from + length x + 1) xs ys ∙ ap (λ n. name_words (from + length x + 1) xs ++ name_words n ys) k)
 
 -- the words of names behind others
-pub words_behind : (xs ys : List (List ℕ)) → words_of (name_words 0 xs) ++ words_of (name_words (length (names_table xs)) ys) ≡ words_of (name_words 0 (xs ++ ys))
-words_behind xs ys =
+pub words_after : (xs ys : List (List ℕ)) → words_of (name_words 0 xs) ++ words_of (name_words (length (names_table xs)) ys) ≡ words_of (name_words 0 (xs ++ ys))
+words_after xs ys =
     sym (ap words_of (name_words_append 0 xs ys ∙ ap (λ n. name_words 0 xs ++ name_words n ys) (omega arith))
     ∙ flat_map-append (word 2) (name_words 0 xs) (name_words (length (names_table xs)) ys))

@@ -1,7 +1,7 @@
 -- Sums that stop at a greatest number.
 use Rattle.std.proofs.Common.{◌≡◌, ℕ, ◌+◌, ◌%◌, ◌^◌, ◌≤◌, ◌<◌, Bool, true, false, ltb, min, refl, ap, ◌∙◌, arith}
 use Rattle.std.proofs.lemmas.Bool.{ltb-true, ltb-false}
-use Rattle.ti_draft.specs.Lengths.{capped}
+use Rattle.ti_draft.specs.Lengths.{capped_count}
 
 -- a part that stopped early does no harm
 pub once : (m x a b : ℕ) → x ≡ min a m → min (x + b) m ≡ min (a + b) m
@@ -29,5 +29,5 @@ pub odd_sum : (a b : ℕ) → (a % 2 + b % 2 + 1) % 2 ≡ (a + 1 + b) % 2
 odd_sum a b = omega arith
 
 -- a few are not stopped
-pub whole : (t x : ℕ) → t < 2 ^ 15 → x ≡ capped t → x ≡ t
+pub whole : (t x : ℕ) → t < 2 ^ 15 → x ≡ capped_count t → x ≡ t
 whole t x few e = omega arith

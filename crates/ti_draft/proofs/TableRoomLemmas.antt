@@ -11,8 +11,8 @@ some_name (name ∷ names) h =
     let first = length-append name (0 ∷ []) in
     omega (arith, whole, first)
 
-pub name_begins : (names : List (Bor (List ℕ))) (i place : ℕ) → i < length names → place + length (names_table (lent (drop i names))) ≤ 2 ^ 15 → place < 2 ^ 15
-name_begins names i place lt fits =
+pub name_starts : (names : List (Bor (List ℕ))) (i place : ℕ) → i < length names → place + length (names_table (lent (drop i names))) ≤ 2 ^ 15 → place < 2 ^ 15
+name_starts names i place lt fits =
     let count : length (lent (drop i names)) ≡ length names - i = length-map (drop i names) (λ (n : Bor (List ℕ)). n.now) ∙ length-drop i names in
     let some = some_name (lent (drop i names)) (omega (arith, count)) in
     omega (arith, some)

@@ -8,8 +8,8 @@ use Rattle.ti_words.specs.Spelling.{pad_len, magic, count_word, pad, mark_in, ex
 use Rattle.ti_draft.specs.Canonical.{texts_table, names_table, present}
 
 -- the number, or the greatest one of 64 bits
-abbrev pub capped : ℕ → ℕ
-capped n = min n (2 ^ 64 - 1)
+abbrev pub capped_count : ℕ → ℕ
+capped_count n = min n (2 ^ 64 - 1)
 
 -- the extended part behind its first pad
 abbrev pub extended_length : EntryValue → ℕ

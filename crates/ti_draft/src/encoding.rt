@@ -147,9 +147,9 @@ fn put_all_name_words<A: Allocator, D: Allocator>(
     ensures { OnOk result
         (out.new.items ≡ out.old.items ++ words_of (name_words 0 (extended_names draft.now))) }
 {
-    let behind_flags = put_name_words(out, 0, draft.flag_names())?;
-    let behind_numbers = put_name_words(out, behind_flags, draft.number_names())?;
-    put_name_words(out, behind_numbers, draft.text_names())?;
+    let after_flags = put_name_words(out, 0, draft.flag_names())?;
+    let after_numbers = put_name_words(out, after_flags, draft.number_names())?;
+    put_name_words(out, after_numbers, draft.text_names())?;
     Ok(())
 }
 

@@ -7,7 +7,7 @@ ghost use Rattle.std.specs.Prelude.{◌≡◌, ◌+◌, ◌*◌, ◌%◌, length
 ghost use Rattle.ti_words.specs.Texts.{text_value};
 ghost use Rattle.ti_words.specs.Spelling.{pad_len as the_pad_len, mark_in, extended_names};
 ghost use Rattle.ti_draft.specs.Canonical.{canonical, text_bytes, texts_table, names_table, plain_bytes};
-ghost use Rattle.ti_draft.specs.Lengths.{capped, extended_length};
+ghost use Rattle.ti_draft.specs.Lengths.{capped_count, extended_length};
 
 use crate::draft::Draft;
 use std::alloc::Allocator;
@@ -32,7 +32,7 @@ fn text_len(text: Text<'_>) -> u64
 
 /// The bytes of texts, each with its NUL.
 pub(crate) fn texts_len(texts: &[Text<'_>]) -> u64
-    ensures { result ≡ capped (length (texts_table (map text_value texts.now))) }
+    ensures { result ≡ capped_count (length (texts_table (map text_value texts.now))) }
 {
     let mut total = 0u64;
     for text in texts {
@@ -43,7 +43,7 @@ pub(crate) fn texts_len(texts: &[Text<'_>]) -> u64
 
 /// The bytes of names, each with its NUL.
 fn names_len(names: &[&[u8]]) -> u64
-    ensures { result ≡ capped (length (names_table (map (λ name. name.now) names.now))) }
+    ensures { result ≡ capped_count (length (names_table (map (λ name. name.now) names.now))) }
 {
     let mut total = 0u64;
     for name in names {
@@ -54,15 +54,15 @@ fn names_len(names: &[&[u8]]) -> u64
 
 /// The bytes of this many items of a size.
 fn items_len(count: usize, size: usize) -> u64
-    ensures { result ≡ capped (count * size) }
+    ensures { result ≡ capped_count (count * size) }
 {
     (count as u64).saturating_mul(size as u64)
 }
 
 /// The bytes up to the end of a string table of this size.
 fn plain_len<A: Allocator>(draft: &Draft<'_, A>, table: u64) -> u64
-    requires { table ≡ capped (length (texts_table draft.now.texts)) }
-    ensures { result ≡ capped (length (plain_bytes draft.now)) }
+    requires { table ≡ capped_count (length (texts_table draft.now.texts)) }
+    ensures { result ≡ capped_count (length (plain_bytes draft.now)) }
 {
     let names = draft.names().len();
     let flags = draft.flags().len();
@@ -76,7 +76,7 @@ fn plain_len<A: Allocator>(draft: &Draft<'_, A>, table: u64) -> u64
 
 /// The bytes of the tables of the extended part, of its values and of its names.
 pub(crate) fn extended_table_len<A: Allocator>(draft: &Draft<'_, A>) -> u64
-    ensures { result ≡ capped (length (texts_table (map mark_in draft.now.extended_texts))
+    ensures { result ≡ capped_count (length (texts_table (map mark_in draft.now.extended_texts))
         + length (names_table (extended_names draft.now))) }
 {
     texts_len(draft.extended_texts())
@@ -87,7 +87,7 @@ pub(crate) fn extended_table_len<A: Allocator>(draft: &Draft<'_, A>) -> u64
 
 /// The bytes of the extended part behind its first pad.
 fn extended_len<A: Allocator>(draft: &Draft<'_, A>) -> u64
-    ensures { result ≡ capped (extended_length draft.now) }
+    ensures { result ≡ capped_count (extended_length draft.now) }
 {
     let flags = draft.extended_flags().len();
     let numbers = draft.extended_numbers().len();

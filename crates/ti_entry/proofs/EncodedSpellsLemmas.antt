@@ -153,7 +153,7 @@ spells_under v true e h =
       table = texts_table v.texts;
       rest = [];
       sections = sections_of v [] h;
-      behind = inl record {
+      extended = inl record {
         ends = refl;
         no_flags = nothing v.extended_flags (omega (arith, none, each));
         no_numbers = nothing v.extended_numbers (omega (arith, none, each));
@@ -168,7 +168,7 @@ spells_under v false e h =
       table = texts_table v.texts;
       rest = extended_bytes v;
       sections = sections_of v (extended_bytes v) h;
-      behind = inr (extended_of v h e);
+      extended = inr (extended_of v h e);
     }
 
 pub canonical_spells : (v : EntryValue) → encode_fault v ≡ None → Spells (canonical v) v

@@ -7,7 +7,7 @@ use Rattle.ti_words.specs.Texts.{AbsentText, TextOf}
 use Rattle.ti_layout.specs.declared.fault.Fault.TheVariants.{Truncated, BadMagic, BadHeader, HeaderTooBig, BadNames, BadFlag, BadPad, BadNumber, BadOffset, Unterminated, BadExtendedHeader, ExtendedTooBig, BadExtendedName, Trailing}
 use Rattle.ti_words.specs.Value.{EntryValue}
 use Rattle.ti_layout.specs.Layout.{places, header_of}
-use Rattle.ti_layout.specs.Checks.{refused}
+use Rattle.ti_layout.specs.Checks.{refusal_at}
 use Rattle.ti_layout.specs.Refusal.{refusal}
 use Rattle.ti_entry.specs.Content.{plain_content, content}
 use Rattle.ti_words.specs.Spelling.{Spells}
@@ -132,7 +132,7 @@ small_spells = record {
     numbers_fit = (omega arith, tt);
     texts_there = (refl, ((0, refl, (omega arith, tt), record { found = refl }), tt));
   };
-  behind = inl (record { ends = refl; no_flags = refl; no_numbers = refl; no_texts = refl });
+  extended = inl (record { ends = refl; no_flags = refl; no_numbers = refl; no_texts = refl });
 }
 
 shared_spells : Spells shared shared_entry
@@ -149,7 +149,7 @@ shared_spells = record {
     numbers_fit = tt;
     texts_there = ((0, refl, (omega arith, tt), record { found = refl }), ((0, refl, (omega arith, tt), record { found = refl }), tt));
   };
-  behind = inl (record { ends = refl; no_flags = refl; no_numbers = refl; no_texts = refl });
+  extended = inl (record { ends = refl; no_flags = refl; no_numbers = refl; no_texts = refl });
 }
 
 wide_spells : Spells wide wide_entry
@@ -166,7 +166,7 @@ wide_spells = record {
     numbers_fit = (omega arith, tt);
     texts_there = (refl, ((0, refl, (omega arith, tt), record { found = refl }), tt));
   };
-  behind = inl (record { ends = refl; no_flags = refl; no_numbers = refl; no_texts = refl });
+  extended = inl (record { ends = refl; no_flags = refl; no_numbers = refl; no_texts = refl });
 }
 
 -- with each word items
@@ -187,7 +187,7 @@ extended_spells low high = record {
     numbers_fit = (omega arith, tt);
     texts_there = (refl, ((0, refl, (omega arith, tt), record { found = refl }), tt));
   };
-  behind = inr (record {
+  extended = inr (record {
     values = pos 0 ∷ [];
     names = pos 0 ∷ pos 3 ∷ [];
     items = low ∷ high ∷ [];
@@ -251,43 +251,43 @@ accepted : map refusal (small ∷ extended ∷ shared ∷ unshared ∷ long ∷ 
 accepted = refl
 
 -- each proper prefix ends too early
-small_prefixes : map (λ n. refusal (take n small)) (places 0 1 24) ≡ map (λ n. Some (refused Truncated n)) (places 0 1 24)
+small_prefixes : map (λ n. refusal (take n small)) (places 0 1 24) ≡ map (λ n. Some (refusal_at Truncated n)) (places 0 1 24)
 small_prefixes = refl
 
-extended_prefixes : map (λ n. refusal (take n extended)) (places 25 1 28) ≡ map (λ n. Some (refused Truncated n)) (places 25 1 28)
+extended_prefixes : map (λ n. refusal (take n extended)) (places 25 1 28) ≡ map (λ n. Some (refusal_at Truncated n)) (places 25 1 28)
 extended_prefixes = refl
 
-wide_prefixes : map (λ n. refusal (take n wide)) (places 0 1 26) ≡ map (λ n. Some (refused Truncated n)) (places 0 1 26)
+wide_prefixes : map (λ n. refusal (take n wide)) (places 0 1 26) ≡ map (λ n. Some (refusal_at Truncated n)) (places 0 1 26)
 wide_prefixes = refl
 
-small_behind : refusal (small ++ 0x00 ∷ []) ≡ Some (refused Truncated 25)
-small_behind = refl
+small_longer : refusal (small ++ 0x00 ∷ []) ≡ Some (refusal_at Truncated 25)
+small_longer = refl
 
-extended_behind : refusal (extended ++ 0x00 ∷ []) ≡ Some (refused Trailing 53)
-extended_behind = refl
+extended_longer : refusal (extended ++ 0x00 ∷ []) ≡ Some (refusal_at Trailing 53)
+extended_longer = refl
 
-odd_behind : map (λ b. refusal (odd ++ b ∷ [])) (0x01 ∷ 0x00 ∷ []) ≡ Some (refused BadPad 25) ∷ Some (refused Truncated 26) ∷ []
-odd_behind = refl
+odd_longer : map (λ b. refusal (odd ++ b ∷ [])) (0x01 ∷ 0x00 ∷ []) ≡ Some (refusal_at BadPad 25) ∷ Some (refusal_at Truncated 26) ∷ []
+odd_longer = refl
 
-magic_changed : refusal (slice_set small 0 0x1b) ≡ Some (refused BadMagic 0)
+magic_changed : refusal (slice_set small 0 0x1b) ≡ Some (refusal_at BadMagic 0)
 magic_changed = refl
 
-magic_mixed : map refusal ((0x1e ∷ 0x01 ∷ []) ∷ (0x1a ∷ 0x02 ∷ []) ∷ []) ≡ replicate 2 (Some (refused BadMagic 0))
+magic_mixed : map refusal ((0x1e ∷ 0x01 ∷ []) ∷ (0x1a ∷ 0x02 ∷ []) ∷ []) ≡ replicate 2 (Some (refusal_at BadMagic 0))
 magic_mixed = refl
 
-size_negative : refusal (slice_set small 3 0x80) ≡ Some (refused BadHeader 2)
+size_negative : refusal (slice_set small 3 0x80) ≡ Some (refusal_at BadHeader 2)
 size_negative = refl
 
-all_sizes_great : refusal (0x1a ∷ 0x01 ∷ 0xff ∷ 0x7f ∷ 0xff ∷ 0x7f ∷ 0xff ∷ 0x7f ∷ 0xff ∷ 0x7f ∷ 0xff ∷ 0x7f ∷ drop 12 small) ≡ Some (refused HeaderTooBig 0)
+all_sizes_great : refusal (0x1a ∷ 0x01 ∷ 0xff ∷ 0x7f ∷ 0xff ∷ 0x7f ∷ 0xff ∷ 0x7f ∷ 0xff ∷ 0x7f ∷ 0xff ∷ 0x7f ∷ drop 12 small) ≡ Some (refusal_at HeaderTooBig 0)
 all_sizes_great = refl
 
-names_empty : refusal (slice_set small 2 0x01) ≡ Some (refused BadNames 12)
+names_empty : refusal (slice_set small 2 0x01) ≡ Some (refusal_at BadNames 12)
 names_empty = refl
 
-names_unended : refusal (slice_set small 13 0x75) ≡ Some (refused BadNames 13)
+names_unended : refusal (slice_set small 13 0x75) ≡ Some (refusal_at BadNames 13)
 names_unended = refl
 
-flag_wrong : refusal (slice_set small 14 0x02) ≡ Some (refused BadFlag 14)
+flag_wrong : refusal (slice_set small 14 0x02) ≡ Some (refusal_at BadFlag 14)
 flag_wrong = refl
 
 flag_cancelled : plain_content (slice_set small 14 0xfe) (header_of small) ≡ record small_entry { flags = flags.Cancelled ∷ [] }
@@ -296,17 +296,17 @@ flag_cancelled = refl
 flag_cancelled_accepted : refusal (slice_set small 14 0xfe) ≡ None
 flag_cancelled_accepted = refl
 
-pad_wrong : refusal (slice_set small 15 0x01) ≡ Some (refused BadPad 15)
+pad_wrong : refusal (slice_set small 15 0x01) ≡ Some (refusal_at BadPad 15)
 pad_wrong = refl
 
-number_below : refusal (slice_set (slice_set small 16 0xfd) 17 0xff) ≡ Some (refused BadNumber 16)
+number_below : refusal (slice_set (slice_set small 16 0xfd) 17 0xff) ≡ Some (refusal_at BadNumber 16)
 number_below = refl
 
-wide_number_below : refusal (with_number 0xfd 0xff 0xff 0xff) ≡ Some (refused BadNumber 16)
+wide_number_below : refusal (with_number 0xfd 0xff 0xff 0xff) ≡ Some (refusal_at BadNumber 16)
 wide_number_below = refl
 
 -- it is looked at when its fourth byte is there
-wide_number_cut : refusal (take 19 (with_number 0xfd 0xff 0xff 0xff)) ≡ Some (refused Truncated 19)
+wide_number_cut : refusal (take 19 (with_number 0xfd 0xff 0xff 0xff)) ≡ Some (refusal_at Truncated 19)
 wide_number_cut = refl
 
 number_cancelled : content (slice_set (slice_set small 16 0xfe) 17 0xff) ≡ record small_entry { numbers = numbers.Cancelled ∷ [] }
@@ -315,16 +315,16 @@ number_cancelled = refl
 number_cancelled_accepted : refusal (slice_set (slice_set small 16 0xfe) 17 0xff) ≡ None
 number_cancelled_accepted = refl
 
-offset_beyond : refusal (slice_set small 20 0x02) ≡ Some (refused BadOffset 20)
+offset_beyond : refusal (slice_set small 20 0x02) ≡ Some (refusal_at BadOffset 20)
 offset_beyond = refl
 
-text_unended : refusal (slice_set small 23 0x01) ≡ Some (refused Unterminated 20)
+text_unended : refusal (slice_set small 23 0x01) ≡ Some (refusal_at Unterminated 20)
 text_unended = refl
 
-extended_count_negative : refusal (slice_set extended 25 0x80) ≡ Some (refused BadExtendedHeader 24)
+extended_count_negative : refusal (slice_set extended 25 0x80) ≡ Some (refusal_at BadExtendedHeader 24)
 extended_count_negative = refl
 
-extended_table_great : refusal (slice_set (slice_set extended 32 0xff) 33 0x7f) ≡ Some (refused ExtendedTooBig 24)
+extended_table_great : refusal (slice_set (slice_set extended 32 0xff) 33 0x7f) ≡ Some (refusal_at ExtendedTooBig 24)
 extended_table_great = refl
 
 items_unread : content (with_items 0xff 0xff) ≡ extended_entry
@@ -333,11 +333,11 @@ items_unread = refl
 items_unread_accepted : refusal (with_items 0xff 0xff) ≡ None
 items_unread_accepted = refl
 
-name_negative : refusal (slice_set (slice_set extended 38 0xff) 39 0xff) ≡ Some (refused BadExtendedName 38)
+name_negative : refusal (slice_set (slice_set extended 38 0xff) 39 0xff) ≡ Some (refusal_at BadExtendedName 38)
 name_negative = refl
 
-name_beyond : refusal (slice_set extended 40 0x06) ≡ Some (refused BadExtendedName 40)
+name_beyond : refusal (slice_set extended 40 0x06) ≡ Some (refusal_at BadExtendedName 40)
 name_beyond = refl
 
-name_unended : refusal (slice_set extended 52 0x01) ≡ Some (refused Unterminated 40)
+name_unended : refusal (slice_set extended 52 0x01) ≡ Some (refusal_at Unterminated 40)
 name_unended = refl

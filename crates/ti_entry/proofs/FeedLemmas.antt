@@ -7,7 +7,7 @@ use Rattle.std.proofs.lemmas.List.{take-append-le, take_all}
 use Rattle.ti_layout.specs.declared.fault.Refused.{Refused}
 use Rattle.ti_layout.specs.Checks.{Verdict, Passes, EndsEarly, Fails, verdict, refusal_of, failure_of}
 use Rattle.ti_layout.specs.Refusal.{checks, failure}
-use Rattle.ti_entry.specs.Reading.{Reading, unfailed_up_to, unfailed, met, fed, answer_under}
+use Rattle.ti_entry.specs.Reading.{Reading, length_before_failure, front_before_failure, reading_of, reading_after, answer_under}
 use Rattle.ti_entry.specs.Laws.{FailureLasts, FailureRefuses, AnyCutting}
 use Rattle.ti_layout.proofs.FailureLastsLemmas.{failure_stays}
 
@@ -32,99 +32,99 @@ failure_refuses bytes r h = refuses (length bytes) (verdict (length bytes) (chec
 -- ---- the longest front on which no check has failed
 
 -- the front of one byte more, where a check fails on it and where none does
-one_less : (bytes : List ℕ) (n : ℕ) (r : Refused) → failure (take (suc n) bytes) ≡ Some r → unfailed_up_to bytes (suc n) ≡ unfailed_up_to bytes n
-one_less bytes n r some = ap (λ (o : Option Refused). cond (is_some o) (unfailed_up_to bytes n) (suc n)) some
+one_less : (bytes : List ℕ) (n : ℕ) (r : Refused) → failure (take (suc n) bytes) ≡ Some r → length_before_failure bytes (suc n) ≡ length_before_failure bytes n
+one_less bytes n r some = ap (λ (o : Option Refused). cond (is_some o) (length_before_failure bytes n) (suc n)) some
 
-all_of_it : (bytes : List ℕ) (n : ℕ) → failure (take n bytes) ≡ None → unfailed_up_to bytes n ≡ n
+all_of_it : (bytes : List ℕ) (n : ℕ) → failure (take n bytes) ≡ None → length_before_failure bytes n ≡ n
 all_of_it bytes zero none = refl
-all_of_it bytes (suc n) none = ap (λ (o : Option Refused). cond (is_some o) (unfailed_up_to bytes n) (suc n)) none
+all_of_it bytes (suc n) none = ap (λ (o : Option Refused). cond (is_some o) (length_before_failure bytes n) (suc n)) none
 
 -- what is kept where the last byte is the first with which a check fails
-pub unfailed-last : (kept : List ℕ) (b : ℕ) (r : Refused) → failure kept ≡ None → failure (kept ++ b ∷ []) ≡ Some r → unfailed (kept ++ b ∷ []) ≡ kept
-unfolding unfailed
-unfailed-last kept b r none some =
+pub front_before_failure-last : (kept : List ℕ) (b : ℕ) (r : Refused) → failure kept ≡ None → failure (kept ++ b ∷ []) ≡ Some r → front_before_failure (kept ++ b ∷ []) ≡ kept
+unfolding front_before_failure
+front_before_failure-last kept b r none some =
     let bytes = kept ++ b ∷ [] in
     let n = length kept in
     let long : length bytes ≡ suc n = omega (arith, length-append kept (b ∷ [])) in
     let front : take n bytes ≡ kept = take-append-le n kept (b ∷ []) (omega arith) ∙ take_all n kept (omega arith) in
     let whole : take (suc n) bytes ≡ bytes = take_all (suc n) bytes (omega arith) in
-    let stops : unfailed_up_to bytes (suc n) ≡ n = one_less bytes n r (ap failure whole ∙ some) ∙ all_of_it bytes n (ap failure front ∙ none) in
-    ap (λ m. take (unfailed_up_to bytes m) bytes) long ∙ ap (λ m. take m bytes) stops ∙ front
+    let stops : length_before_failure bytes (suc n) ≡ n = one_less bytes n r (ap failure whole ∙ some) ∙ all_of_it bytes n (ap failure front ∙ none) in
+    ap (λ m. take (length_before_failure bytes m) bytes) long ∙ ap (λ m. take m bytes) stops ∙ front
 
 by_test : (b : Bool) (m n : ℕ) → m ≤ n → cond b m (suc n) ≤ suc n
 by_test true m n le = omega arith
 by_test false m n le = omega arith
 
-unfailed_up_to-most : (bytes : List ℕ) (n : ℕ) → unfailed_up_to bytes n ≤ n
-unfailed_up_to-most bytes zero = omega arith
-unfailed_up_to-most bytes (suc n) = by_test (is_some (failure (take (suc n) bytes))) (unfailed_up_to bytes n) n (unfailed_up_to-most bytes n)
+length_before_failure-most : (bytes : List ℕ) (n : ℕ) → length_before_failure bytes n ≤ n
+length_before_failure-most bytes zero = omega arith
+length_before_failure-most bytes (suc n) = by_test (is_some (failure (take (suc n) bytes))) (length_before_failure bytes n) n (length_before_failure-most bytes n)
 
-unfailed_up_to-front : (xs ys : List ℕ) (n : ℕ) → n ≤ length xs → unfailed_up_to (xs ++ ys) n ≡ unfailed_up_to xs n
-unfailed_up_to-front xs ys zero le = refl
-unfailed_up_to-front xs ys (suc n) le =
+length_before_failure-front : (xs ys : List ℕ) (n : ℕ) → n ≤ length xs → length_before_failure (xs ++ ys) n ≡ length_before_failure xs n
+length_before_failure-front xs ys zero le = refl
+length_before_failure-front xs ys (suc n) le =
     let same : take (suc n) (xs ++ ys) ≡ take (suc n) xs = take-append-le (suc n) xs ys le in
-    ap (λ (t : List ℕ). cond (is_some (failure t)) (unfailed_up_to (xs ++ ys) n) (suc n)) same
-    ∙ ap (λ m. cond (is_some (failure (take (suc n) xs))) m (suc n)) (unfailed_up_to-front xs ys n (omega arith))
+    ap (λ (t : List ℕ). cond (is_some (failure t)) (length_before_failure (xs ++ ys) n) (suc n)) same
+    ∙ ap (λ m. cond (is_some (failure (take (suc n) xs))) m (suc n)) (length_before_failure-front xs ys n (omega arith))
 
-unfailed_up_to-past : (xs ys : List ℕ) (k : ℕ) (r : Refused) → failure xs ≡ Some r → unfailed_up_to (xs ++ ys) (length xs + k) ≡ unfailed_up_to xs (length xs)
-unfailed_up_to-past xs ys zero r some =
+length_before_failure-past : (xs ys : List ℕ) (k : ℕ) (r : Refused) → failure xs ≡ Some r → length_before_failure (xs ++ ys) (length xs + k) ≡ length_before_failure xs (length xs)
+length_before_failure-past xs ys zero r some =
     let none : length xs + 0 ≡ length xs = omega arith in
-    ap (unfailed_up_to (xs ++ ys)) none ∙ unfailed_up_to-front xs ys (length xs) (omega arith)
-unfailed_up_to-past xs ys (suc k) r some =
+    ap (length_before_failure (xs ++ ys)) none ∙ length_before_failure-front xs ys (length xs) (omega arith)
+length_before_failure-past xs ys (suc k) r some =
     let e : length xs + suc k ≡ suc (length xs + k) = omega arith in
     let more : take (suc (length xs + k)) (xs ++ ys) ≡ xs ++ take (suc k) ys = ap (λ m. take m (xs ++ ys)) (sym e) ∙ take-append-add xs ys (suc k) in
     let failed : failure (take (suc (length xs + k)) (xs ++ ys)) ≡ Some r = ap failure more ∙ failure_lasts xs (take (suc k) ys) r some in
-    ap (unfailed_up_to (xs ++ ys)) e ∙ one_less (xs ++ ys) (length xs + k) r failed ∙ unfailed_up_to-past xs ys k r some
+    ap (length_before_failure (xs ++ ys)) e ∙ one_less (xs ++ ys) (length xs + k) r failed ∙ length_before_failure-past xs ys k r some
 
 -- bytes behind a failure change nothing
-unfailed-append : (xs ys : List ℕ) (r : Refused) → failure xs ≡ Some r → unfailed (xs ++ ys) ≡ unfailed xs
-unfolding unfailed
-unfailed-append xs ys r some =
-    let most = unfailed_up_to-most xs (length xs) in
-    ap (λ m. take (unfailed_up_to (xs ++ ys) m) (xs ++ ys)) (length-append xs ys)
-    ∙ ap (λ m. take m (xs ++ ys)) (unfailed_up_to-past xs ys (length ys) r some)
-    ∙ take-append-le (unfailed_up_to xs (length xs)) xs ys (omega arith)
+front_before_failure-append : (xs ys : List ℕ) (r : Refused) → failure xs ≡ Some r → front_before_failure (xs ++ ys) ≡ front_before_failure xs
+unfolding front_before_failure
+front_before_failure-append xs ys r some =
+    let most = length_before_failure-most xs (length xs) in
+    ap (λ m. take (length_before_failure (xs ++ ys) m) (xs ++ ys)) (length-append xs ys)
+    ∙ ap (λ m. take m (xs ++ ys)) (length_before_failure-past xs ys (length ys) r some)
+    ∙ take-append-le (length_before_failure xs (length xs)) xs ys (omega arith)
 
 -- ---- what a reader holds
 
-pub met-refused : (bytes : List ℕ) (r : Refused) → failure bytes ≡ Some r → met bytes ≡ record { kept = unfailed bytes; refusal = Some r }
-met-refused bytes r e = rw e refl
+pub reading_of-refused : (bytes : List ℕ) (r : Refused) → failure bytes ≡ Some r → reading_of bytes ≡ record { kept = front_before_failure bytes; refusal = Some r }
+reading_of-refused bytes r e = rw e refl
 
-pub met-passed : (bytes : List ℕ) → failure bytes ≡ None → met bytes ≡ record { kept = bytes; refusal = None }
-met-passed bytes e = rw e refl
+pub reading_of-passed : (bytes : List ℕ) → failure bytes ≡ None → reading_of bytes ≡ record { kept = bytes; refusal = None }
+reading_of-passed bytes e = rw e refl
 
-pub met-none : (bytes : List ℕ) → (met bytes).refusal ≡ None → met bytes ≡ record { kept = bytes; refusal = None }
-met-none bytes e = met-passed bytes e
+pub reading_of-none : (bytes : List ℕ) → (reading_of bytes).refusal ≡ None → reading_of bytes ≡ record { kept = bytes; refusal = None }
+reading_of-none bytes e = reading_of-passed bytes e
 
-pub fed-none : (r : Reading) (piece : List ℕ) → r.refusal ≡ None → fed r piece ≡ met (r.kept ++ piece)
-fed-none r piece e = rw e refl
+pub reading_after-none : (r : Reading) (piece : List ℕ) → r.refusal ≡ None → reading_after r piece ≡ reading_of (r.kept ++ piece)
+reading_after-none r piece e = rw e refl
 
-pub fed-refused : (r : Reading) (piece : List ℕ) (refused : Refused) → r.refusal ≡ Some refused → fed r piece ≡ r
-fed-refused r piece refused e = rw e refl
+pub reading_after-refused : (r : Reading) (piece : List ℕ) (refused : Refused) → r.refusal ≡ Some refused → reading_after r piece ≡ r
+reading_after-refused r piece refused e = rw e refl
 
 -- a piece with which no check fails
-pub fed-passes : (kept piece : List ℕ) → failure (kept ++ piece) ≡ None
-    → ◌≡◌ {A = Reading} (record { kept = kept ++ piece; refusal = None }) (fed (record { kept = kept; refusal = None }) piece)
-fed-passes kept piece none = sym (met-passed (kept ++ piece) none)
+pub reading_after-passes : (kept piece : List ℕ) → failure (kept ++ piece) ≡ None
+    → ◌≡◌ {A = Reading} (record { kept = kept ++ piece; refusal = None }) (reading_after (record { kept = kept; refusal = None }) piece)
+reading_after-passes kept piece none = sym (reading_of-passed (kept ++ piece) none)
 
 -- a byte with which one fails
-pub fed-fails : (kept : List ℕ) (b : ℕ) (r : Refused) → failure kept ≡ None → failure (kept ++ b ∷ []) ≡ Some r
-    → ◌≡◌ {A = Reading} (record { kept = kept; refusal = Some r }) (fed (record { kept = kept; refusal = None }) (b ∷ []))
-fed-fails kept b r none some =
-    ap (λ (k : List ℕ). let s : Reading = record { kept = k; refusal = Some r } in s) (sym (unfailed-last kept b r none some)) ∙ sym (met-refused (kept ++ b ∷ []) r some)
+pub reading_after-fails : (kept : List ℕ) (b : ℕ) (r : Refused) → failure kept ≡ None → failure (kept ++ b ∷ []) ≡ Some r
+    → ◌≡◌ {A = Reading} (record { kept = kept; refusal = Some r }) (reading_after (record { kept = kept; refusal = None }) (b ∷ []))
+reading_after-fails kept b r none some =
+    ap (λ (k : List ℕ). let s : Reading = record { kept = k; refusal = Some r } in s) (sym (front_before_failure-last kept b r none some)) ∙ sym (reading_of-refused (kept ++ b ∷ []) r some)
 
 -- a reader by its parts
-abbrev pub held : List ℕ → Option Refused → Reading
-held kept refusal = record { kept = kept; refusal = refusal }
+abbrev pub reading_with : List ℕ → Option Refused → Reading
+reading_with kept refusal = record { kept = kept; refusal = refusal }
 
 -- nothing more
-pub fed-nothing : (r : Reading) → r.refusal ≡ None → failure r.kept ≡ None → r ≡ fed r []
-fed-nothing r first none =
-    sym (fed-none r [] first ∙ ap met (append-nil r.kept) ∙ met-passed r.kept none ∙ ap (held r.kept) (sym first))
+pub reading_after-nothing : (r : Reading) → r.refusal ≡ None → failure r.kept ≡ None → r ≡ reading_after r []
+reading_after-nothing r first none =
+    sym (reading_after-none r [] first ∙ ap reading_of (append-nil r.kept) ∙ reading_of-passed r.kept none ∙ ap (reading_with r.kept) (sym first))
 
-pub same_fed : (kept : List ℕ) (old new : Reading) (piece : List ℕ) (refusal : Option Refused) → held kept refusal ≡ old → refusal ≡ None → new ≡ fed (held kept None) piece → new ≡ fed old piece
-same_fed kept old new piece refusal is none e =
-    let same : held kept None ≡ old = ap (held kept) (sym none) ∙ is in e ∙ ap (λ r. fed r piece) same
+pub same_reading : (kept : List ℕ) (old new : Reading) (piece : List ℕ) (refusal : Option Refused) → reading_with kept refusal ≡ old → refusal ≡ None → new ≡ reading_after (reading_with kept None) piece → new ≡ reading_after old piece
+same_reading kept old new piece refusal is none e =
+    let same : reading_with kept None ≡ old = ap (reading_with kept) (sym none) ∙ is in e ∙ ap (λ r. reading_after r piece) same
 
 -- ---- any cutting
 
@@ -132,34 +132,34 @@ by_cases : {A : Type 0} (o : Option Refused) → (o ≡ None → A) → ((r : Re
 by_cases None passed failed = passed refl
 by_cases (Some r) passed failed = failed r refl
 
-pub fed-met : (bytes piece : List ℕ) → fed (met bytes) piece ≡ met (bytes ++ piece)
-fed-met bytes piece =
+pub reading_after-of : (bytes piece : List ℕ) → reading_after (reading_of bytes) piece ≡ reading_of (bytes ++ piece)
+reading_after-of bytes piece =
     by_cases (failure bytes)
-    (λ none. ap (λ r. fed r piece) (met-passed bytes none))
+    (λ none. ap (λ r. reading_after r piece) (reading_of-passed bytes none))
     (λ r some.
-    ap (λ r. fed r piece) (met-refused bytes r some)
-    ∙ ap (λ (k : List ℕ). let s : Reading = record { kept = k; refusal = Some r } in s) (sym (unfailed-append bytes piece r some))
-    ∙ sym (met-refused (bytes ++ piece) r (failure_lasts bytes piece r some)))
+    ap (λ r. reading_after r piece) (reading_of-refused bytes r some)
+    ∙ ap (λ (k : List ℕ). let s : Reading = record { kept = k; refusal = Some r } in s) (sym (front_before_failure-append bytes piece r some))
+    ∙ sym (reading_of-refused (bytes ++ piece) r (failure_lasts bytes piece r some)))
 
 -- two pieces are one
-pub fed-append : (r : Reading) (xs ys : List ℕ) → r.refusal ≡ None → fed (fed r xs) ys ≡ fed r (xs ++ ys)
-fed-append r xs ys none =
-    ap (λ s. fed s ys) (fed-none r xs none) ∙ fed-met (r.kept ++ xs) ys ∙ ap met (append_assoc r.kept xs ys) ∙ sym (fed-none r (xs ++ ys) none)
+pub reading_after-append : (r : Reading) (xs ys : List ℕ) → r.refusal ≡ None → reading_after (reading_after r xs) ys ≡ reading_after r (xs ++ ys)
+reading_after-append r xs ys none =
+    ap (λ s. reading_after s ys) (reading_after-none r xs none) ∙ reading_after-of (r.kept ++ xs) ys ∙ ap reading_of (append_assoc r.kept xs ys) ∙ sym (reading_after-none r (xs ++ ys) none)
 
-fed-all : (pieces : List (List ℕ)) (bytes : List ℕ) → fold fed (met bytes) pieces ≡ met (bytes ++ concat pieces)
-fed-all [] bytes = ap met (sym (append-nil bytes))
-fed-all (piece ∷ pieces) bytes =
-    ap (λ r. fold fed r pieces) (fed-met bytes piece) ∙ fed-all pieces (bytes ++ piece) ∙ ap met (append_assoc bytes piece (concat pieces))
+reading_after-all : (pieces : List (List ℕ)) (bytes : List ℕ) → fold reading_after (reading_of bytes) pieces ≡ reading_of (bytes ++ concat pieces)
+reading_after-all [] bytes = ap reading_of (sym (append-nil bytes))
+reading_after-all (piece ∷ pieces) bytes =
+    ap (λ r. fold reading_after r pieces) (reading_after-of bytes piece) ∙ reading_after-all pieces (bytes ++ piece) ∙ ap reading_of (append_assoc bytes piece (concat pieces))
 
 pub any_cutting : AnyCutting
-any_cutting pieces = fed-all pieces []
+any_cutting pieces = reading_after-all pieces []
 
 -- where a piece is taken, so many bytes more are kept
-pub fed-longer : (old new : Reading) (piece : List ℕ) → old.refusal ≡ None → new ≡ fed old piece → new.refusal ≡ None → length new.kept ≡ length old.kept + length piece
-fed-longer old new piece first e none =
-    let m : new ≡ met (old.kept ++ piece) = e ∙ fed-none old piece first in
+pub reading_after-longer : (old new : Reading) (piece : List ℕ) → old.refusal ≡ None → new ≡ reading_after old piece → new.refusal ≡ None → length new.kept ≡ length old.kept + length piece
+reading_after-longer old new piece first e none =
+    let m : new ≡ reading_of (old.kept ++ piece) = e ∙ reading_after-none old piece first in
     let passes : failure (old.kept ++ piece) ≡ None = sym (ap (λ r. r.refusal) m) ∙ none in
-    ap (λ r. length r.kept) (m ∙ met-none (old.kept ++ piece) passes) ∙ length-append old.kept piece
+    ap (λ r. length r.kept) (m ∙ reading_of-none (old.kept ++ piece) passes) ∙ length-append old.kept piece
 
 -- a call that answers `Ok` has left no refusal
 pub answer_under-ok : (o : Option Refused) (r : Result (Unit {0}) Refused) (u : Unit {0}) → r ≡ Ok u → r ≡ answer_under o tt → o ≡ None

@@ -13,7 +13,7 @@ use Rattle.ti_words.specs.Widths.{number_size}
 use Rattle.ti_words.specs.Spelling.{pad_len, Spells, HasExtendedPart, IsText, IsName, Each, count_word, words_of, numbers_of, flags_of, pad, extended_names, mark_in}
 use Rattle.ti_layout.specs.Table.{ends_in, table_of, extended_table_of, base_of}
 use Rattle.ti_layout.specs.Checks.{check, Passes, verdict, is_not_negative, sign_check, sign_checks, flag_checks, pad_checks, number_checks, offset_checks, ending_checks, name_place_checks, all_name_place_checks, end_check, end_checks}
-use Rattle.ti_layout.specs.Refusal.{room_checks, extended_size_check, extended_size_checks, extended_front_checks, extended_section_checks, extended_checks, behind_checks, front_checks, section_checks, checks}
+use Rattle.ti_layout.specs.Refusal.{room_checks, extended_size_check, extended_size_checks, extended_front_checks, extended_section_checks, extended_checks, checks_after_table, front_checks, section_checks, checks}
 use Rattle.ti_entry.specs.Content.{flag_at, number_at, text_at, name_at, plain_content, content_with, content}
 use Rattle.ti_layout.proofs.PassesLemmas.{first_passes}
 use Rattle.ti_layout.proofs.WordLemmas.{IsBytes, below, above}
@@ -26,8 +26,8 @@ use Rattle.ti_entry.proofs.FoundLemmas.{HasPlain, sections_found}
 use Rattle.std.proofs.lemmas.List.Concat.{flat_map-cons}
 
 -- one section more at the end of a front that begins behind some bytes
-front_behind : (bytes : List ℕ) (e n p k : ℕ) (x s : List ℕ) → e + n ≡ p → take n (drop e bytes) ≡ x → take k (drop p bytes) ≡ s → take (n + k) (drop e bytes) ≡ x ++ s
-front_behind bytes e n p k x s at f g =
+front_after : (bytes : List ℕ) (e n p k : ℕ) (x s : List ℕ) → e + n ≡ p → take n (drop e bytes) ≡ x → take k (drop p bytes) ≡ s → take (n + k) (drop e bytes) ≡ x ++ s
+front_after bytes e n p k x s at f g =
     take-add n k (drop e bytes) ∙ ap (λ t. t ++ take k (drop n (drop e bytes))) f
     ∙ ap (λ t. x ++ t) (ap (take k) (drop-drop n e bytes ∙ ap (λ m. drop m bytes) at) ∙ g)
 
@@ -170,17 +170,17 @@ part_found bytes h e t from xb xm xs xt fits from_is xb_is xm_is xs_is xt_is k =
     let n8 = n6 + xb + pad_len xb in
     let n10 = n8 + size_of * xm + 2 * xs in
     let t0 : take n0 (drop e bytes) ≡ y0 = pad_is bytes e t k.outer_pad in
-    let t1 : take (n0 + 2) (drop e bytes) ≡ y1 = front_behind bytes e n0 from 2 y0 (count_word (length v.extended_flags)) (sym from_is) t0 (c0.bytes_are ∙ ap count_word (sym (flags_len ∙ xb_is))) in
-    let t2 : take (n0 + 2 + 2) (drop e bytes) ≡ y2 = front_behind bytes e (n0 + 2) (from + 2) 2 y1 (count_word (length v.extended_numbers)) (omega arith) t1 (c1.bytes_are ∙ ap count_word (sym (numbers_len ∙ xm_is))) in
-    let t3 : take (n0 + 2 + 2 + 2) (drop e bytes) ≡ y3 = front_behind bytes e (n0 + 2 + 2) (from + 4) 2 y2 (count_word (length v.extended_texts)) (omega arith) t2 (c2.bytes_are ∙ ap count_word (sym (texts_len ∙ xs_is))) in
-    let t4 : take (n0 + 2 + 2 + 2 + 2) (drop e bytes) ≡ y4 = front_behind bytes e (n0 + 2 + 2 + 2) (from + 6) 2 y3 items (omega arith) t3 refl in
-    let t5 : take n6 (drop e bytes) ≡ y5 = front_behind bytes e (n0 + 2 + 2 + 2 + 2) (from + 8) 2 y4 (count_word (length table)) (omega arith) t4 (c3.bytes_are ∙ ap count_word (sym (size ∙ xt_is))) in
-    let t6 : take (n6 + xb) (drop e bytes) ≡ y6 = front_behind bytes e n6 (extended_flags_from x) xb y5 (flags_of (map mark_in v.extended_flags)) (omega arith) t5 (flags_are bytes (extended_flags_from x) xb k.flags ∙ ap flags_of (sym ef)) in
-    let t7 : take n8 (drop e bytes) ≡ y7 = front_behind bytes e (n6 + xb) (extended_pad_from x) (pad_len xb) y6 (pad (length v.extended_flags)) (omega arith) t6 (pad_is bytes (extended_pad_from x) xb k.inner_pad ∙ ap pad (sym flags_len)) in
-    let t8 : take (n8 + size_of * xm) (drop e bytes) ≡ y8 = front_behind bytes e n8 (extended_numbers_from x) (size_of * xm) y7 (numbers_of w (map mark_in v.extended_numbers)) (omega arith) t7 (numbers_are w bytes (extended_numbers_from x) xm fits k.numbers ∙ ap (numbers_of w) (sym en)) in
-    let t9 : take n10 (drop e bytes) ≡ y9 = front_behind bytes e (n8 + size_of * xm) (extended_values_from x) (2 * xs) y8 (words_of values) (omega arith) t8 (words_are bytes (extended_values_from x) xs fits (omega arith)) in
-    let t10 : take (n10 + 2 * count) (drop e bytes) ≡ y10 = front_behind bytes e n10 (extended_names_from x) (2 * count) y9 (words_of names) (omega arith) t9 (words_are bytes (extended_names_from x) count fits (omega arith)) in
-    let t11 : take (n10 + 2 * count + xt) (drop e bytes) ≡ y11 = front_behind bytes e (n10 + 2 * count) (extended_table_from x) xt y10 table (omega arith) t10 refl in
+    let t1 : take (n0 + 2) (drop e bytes) ≡ y1 = front_after bytes e n0 from 2 y0 (count_word (length v.extended_flags)) (sym from_is) t0 (c0.bytes_are ∙ ap count_word (sym (flags_len ∙ xb_is))) in
+    let t2 : take (n0 + 2 + 2) (drop e bytes) ≡ y2 = front_after bytes e (n0 + 2) (from + 2) 2 y1 (count_word (length v.extended_numbers)) (omega arith) t1 (c1.bytes_are ∙ ap count_word (sym (numbers_len ∙ xm_is))) in
+    let t3 : take (n0 + 2 + 2 + 2) (drop e bytes) ≡ y3 = front_after bytes e (n0 + 2 + 2) (from + 4) 2 y2 (count_word (length v.extended_texts)) (omega arith) t2 (c2.bytes_are ∙ ap count_word (sym (texts_len ∙ xs_is))) in
+    let t4 : take (n0 + 2 + 2 + 2 + 2) (drop e bytes) ≡ y4 = front_after bytes e (n0 + 2 + 2 + 2) (from + 6) 2 y3 items (omega arith) t3 refl in
+    let t5 : take n6 (drop e bytes) ≡ y5 = front_after bytes e (n0 + 2 + 2 + 2 + 2) (from + 8) 2 y4 (count_word (length table)) (omega arith) t4 (c3.bytes_are ∙ ap count_word (sym (size ∙ xt_is))) in
+    let t6 : take (n6 + xb) (drop e bytes) ≡ y6 = front_after bytes e n6 (extended_flags_from x) xb y5 (flags_of (map mark_in v.extended_flags)) (omega arith) t5 (flags_are bytes (extended_flags_from x) xb k.flags ∙ ap flags_of (sym ef)) in
+    let t7 : take n8 (drop e bytes) ≡ y7 = front_after bytes e (n6 + xb) (extended_pad_from x) (pad_len xb) y6 (pad (length v.extended_flags)) (omega arith) t6 (pad_is bytes (extended_pad_from x) xb k.inner_pad ∙ ap pad (sym flags_len)) in
+    let t8 : take (n8 + size_of * xm) (drop e bytes) ≡ y8 = front_after bytes e n8 (extended_numbers_from x) (size_of * xm) y7 (numbers_of w (map mark_in v.extended_numbers)) (omega arith) t7 (numbers_are w bytes (extended_numbers_from x) xm fits k.numbers ∙ ap (numbers_of w) (sym en)) in
+    let t9 : take n10 (drop e bytes) ≡ y9 = front_after bytes e (n8 + size_of * xm) (extended_values_from x) (2 * xs) y8 (words_of values) (omega arith) t8 (words_are bytes (extended_values_from x) xs fits (omega arith)) in
+    let t10 : take (n10 + 2 * count) (drop e bytes) ≡ y10 = front_after bytes e n10 (extended_names_from x) (2 * count) y9 (words_of names) (omega arith) t9 (words_are bytes (extended_names_from x) count fits (omega arith)) in
+    let t11 : take (n10 + 2 * count + xt) (drop e bytes) ≡ y11 = front_after bytes e (n10 + 2 * count) (extended_table_from x) xt y10 table (omega arith) t10 refl in
     let joined : drop e bytes ≡ y11 = sym (take_all (n10 + 2 * count + xt) (drop e bytes) (omega (arith, length-drop e bytes))) ∙ t11 in
     let base = base_of bytes x in
     let signed_names = each_passed (sign_check bytes BadExtendedName) len (extended_names_from x) 2 count k.names in
@@ -218,7 +218,7 @@ pub found : (bytes : List ℕ) → IsBytes bytes → Passes ≡ verdict (length 
 found bytes fits h =
     let len = length bytes in
     let hd = header_of bytes in
-    let a = both_pass len (front_checks bytes hd ++ section_checks bytes hd) (behind_checks bytes hd) h in
+    let a = both_pass len (front_checks bytes hd ++ section_checks bytes hd) (checks_after_table bytes hd) h in
     let b = both_pass len (front_checks bytes hd) (section_checks bytes hd) a.0 in
     by_end (leb len (end_of hd)) refl (sections_found bytes fits b.0 b.1) a.1
   where
@@ -233,7 +233,7 @@ found bytes fits h =
           table = table_of bytes (header_of bytes);
           rest = drop (end_of (header_of bytes)) bytes;
           sections = plain.sections;
-          behind = inl (record { ends = drop_all (end_of (header_of bytes)) bytes le; no_flags = refl; no_numbers = refl; no_texts = refl });
+          extended = inl (record { ends = drop_all (end_of (header_of bytes)) bytes le; no_flags = refl; no_numbers = refl; no_texts = refl });
         }
     by_end false e plain k =
         let hd = header_of bytes in
@@ -249,5 +249,5 @@ found bytes fits h =
           table = table_of bytes hd;
           rest = drop (end_of hd) bytes;
           sections = record { offsets = s.offsets; joined = s.joined; counts = s.counts; named = s.named; names_fit = s.names_fit; numbers_fit = s.numbers_fit; texts_there = s.texts_there };
-          behind = inr (subst (λ n. HasExtendedPart v n (drop (end_of hd) bytes)) (sym plain.table_size) part);
+          extended = inr (subst (λ n. HasExtendedPart v n (drop (end_of hd) bytes)) (sym plain.table_size) part);
         }

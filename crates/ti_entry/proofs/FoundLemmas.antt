@@ -27,8 +27,8 @@ abbrev width_under : ℕ → Option Width
 width_under u = cond (eqb u 282) (Some Legacy) (cond (eqb u 542) (Some Wide) None)
 
 -- an input that begins with some magic number begins with that of its width
-begins : (u : ℕ) → is_some (width_under u) ≡ true → u ≡ magic_number (unwrap_or (width_under u) Legacy)
-begins u h = first (eqb u 282) refl
+starts : (u : ℕ) → is_some (width_under u) ≡ true → u ≡ magic_number (unwrap_or (width_under u) Legacy)
+starts u h = first (eqb u 282) refl
   where
     second : (b : Bool) → eqb u 542 ≡ b → eqb u 282 ≡ false → u ≡ magic_number (unwrap_or (width_under u) Legacy)
     second true e f = rw (f, e) (eqb-true u 542 e)
@@ -64,7 +64,7 @@ front_is bytes fits h =
     let s4 = signs 4 (omega arith) in
     let big = first_passes len (size_check (header_of bytes)) (named_check (header_of bytes) ∷ []) a.1 in
     let small = first_passes len (named_check (header_of bytes)) [] big.rest in
-    let start : take 2 bytes ≡ magic (header_of bytes).width = bytes_again 2 bytes 0 fits m.long ∙ ap count_word (begins (unsigned_at 2 bytes 0) m.holds) in
+    let start : take 2 bytes ≡ magic (header_of bytes).width = bytes_again 2 bytes 0 fits m.long ∙ ap count_word (starts (unsigned_at 2 bytes 0) m.holds) in
     record {
       long = s4.long;
       starts = start;

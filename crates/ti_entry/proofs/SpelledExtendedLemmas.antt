@@ -13,7 +13,7 @@ use Rattle.ti_words.specs.Widths.{number_size}
 use Rattle.ti_words.specs.Spelling.{pad_len, Spells, HasExtendedPart, HasNoExtendedPart, IsText, IsName, Each, count_word, words_of, numbers_of, flags_of, pad, texts_size, extended_names, mark_in}
 use Rattle.ti_layout.specs.Table.{text_from, extended_table_of, base_of}
 use Rattle.ti_layout.specs.Checks.{Passes, verdict, sign_check, sign_checks, flag_checks, pad_checks, number_checks, offset_checks, ending_checks, all_name_place_checks, end_check, end_checks}
-use Rattle.ti_layout.specs.Refusal.{room_check, room_checks, extended_size_check, extended_size_checks, extended_front_checks, extended_item_checks, extended_text_checks, extended_section_checks, extended_checks, behind_checks, front_checks, section_checks, checks}
+use Rattle.ti_layout.specs.Refusal.{room_check, room_checks, extended_size_check, extended_size_checks, extended_front_checks, extended_item_checks, extended_text_checks, extended_section_checks, extended_checks, checks_after_table, front_checks, section_checks, checks}
 use Rattle.ti_entry.specs.Content.{flag_at, number_at, text_at, name_at, plain_content, content_with, content}
 use Rattle.ti_entry.proofs.SpelledItemsLemmas.{passes_one}
 use Rattle.ti_draft.proofs.LengthLemmas.{length_word}
@@ -42,7 +42,7 @@ each_length R (x ∷ xs) (y ∷ ys) h = ap suc (each_length R xs ys h.1)
 -- what a reading makes of an extended part
 record PartRead (bytes : List ℕ) (v : EntryValue) (h : Header) : Type 0 where
   passes : Passes ≡ verdict (length bytes) (extended_checks bytes h (extended_header_of h bytes))
-  behind : end_of h < length bytes
+  follows : end_of h < length bytes
   same : SameExtended v (content_with bytes h (extended_header_of h bytes))
 
 part_read : (bytes front rest : List ℕ) (v : EntryValue) (h : Header) → h.width ≡ v.width → bytes ≡ front ++ rest → length front ≡ end_of h → length bytes ≤ 32768 → HasExtendedPart v h.table rest → PartRead bytes v h
@@ -195,7 +195,7 @@ part_read bytes front rest v h width split l0 short s =
     (append_pass len (extended_front_checks bytes h x) (extended_section_checks bytes x) ahead (append_pass len (extended_item_checks bytes x) (extended_text_checks bytes x) items texts)) last in
     record {
       passes = subst (λ y. Passes ≡ verdict len (extended_checks bytes h y)) (sym header) total;
-      behind = omega arith;
+      follows = omega arith;
       same = subst (λ y. SameExtended v (content_with bytes h y)) (sym header) (same_extended v c mf mn mt names_same);
     }
   where
@@ -204,7 +204,7 @@ part_read bytes front rest v h width split l0 short s =
         let fields : ◌≡◌ {A = ExtendedHeader} (record { width = y.width; from = y.from; flags = y.flags; numbers = y.numbers; texts = y.texts; table = y.table }) x = rw (a, b, c, d, e, f) refl in fields
 
 pub only : (bytes : List ℕ) (v : EntryValue) → Spells bytes v → IsRead bytes v
-only bytes v s = by_rest s.behind
+only bytes v s = by_rest s.extended
   where
     plain : PlainRead bytes v s.table s.rest
     plain = plain_read bytes v s.table s.rest s.sections s.fits
@@ -220,7 +220,7 @@ only bytes v s = by_rest s.behind
         let at_end : leb len (end_of h) ≡ true = le-leb _ _ (omega arith) in
         let same : SameExtended v (plain_content bytes h) = record { flags = none.no_flags; numbers = none.no_numbers; texts = none.no_texts } in
         record {
-          passes = append_pass len (front_checks bytes h ++ section_checks bytes h) (behind_checks bytes h) ahead (rw at_end refl);
+          passes = append_pass len (front_checks bytes h ++ section_checks bytes h) (checks_after_table bytes h) ahead (rw at_end refl);
           same = same_value v (plain_content bytes h) (sym plain.width) (sym plain.names) (sym plain.flags) (sym plain.numbers) (sym plain.texts) same ∙ (let is : plain_content bytes h ≡ content bytes = rw at_end refl in is);
         }
     by_rest (inr part) =
@@ -228,10 +228,10 @@ only bytes v s = by_rest s.behind
         let h = header_of bytes in
         let x = extended_header_of h bytes in
         let p = part_read bytes plain.front s.rest v h plain.width plain.split plain.end s.fits (subst (λ n. HasExtendedPart v n s.rest) (sym plain.table_size) part) in
-        let behind : leb len (end_of h) ≡ false = lt-leb _ _ p.behind in
-        let checked : Passes ≡ verdict len (behind_checks bytes h) = p.passes ∙ ap (λ b. verdict len (cond b [] (extended_checks bytes h x))) (sym behind) in
-        let is : content_with bytes h x ≡ content bytes = ap (λ b. cond b (plain_content bytes h) (content_with bytes h x)) (sym behind) in
+        let follows : leb len (end_of h) ≡ false = lt-leb _ _ p.follows in
+        let checked : Passes ≡ verdict len (checks_after_table bytes h) = p.passes ∙ ap (λ b. verdict len (cond b [] (extended_checks bytes h x))) (sym follows) in
+        let is : content_with bytes h x ≡ content bytes = ap (λ b. cond b (plain_content bytes h) (content_with bytes h x)) (sym follows) in
         record {
-          passes = append_pass len (front_checks bytes h ++ section_checks bytes h) (behind_checks bytes h) ahead checked;
+          passes = append_pass len (front_checks bytes h ++ section_checks bytes h) (checks_after_table bytes h) ahead checked;
           same = same_value v (content_with bytes h x) (sym plain.width) (sym plain.names) (sym plain.flags) (sym plain.numbers) (sym plain.texts) p.same ∙ is;
         }

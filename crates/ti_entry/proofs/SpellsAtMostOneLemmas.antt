@@ -418,17 +418,17 @@ names_again v w size size' q s z h =
 some_part : (v : EntryValue) (size : ℕ) (q : List ℕ) → HasExtendedPart v size q → q ≡ [] → ⊥
 some_part v size q s e =
     let words = numbers_of v.width (map mark_in v.extended_numbers) in
-    let behind = count_word (length v.extended_numbers) ++ (count_word (length v.extended_texts) ++ (s.items ++ (count_word (length s.table) ++ (flags_of (map mark_in v.extended_flags) ++ (pad (length v.extended_flags) ++ (words ++ (words_of s.values ++ (words_of s.names ++ s.table)))))))) in
-    let j : q ≡ pad size ++ (count_word (length v.extended_flags) ++ behind) =
+    let others = count_word (length v.extended_numbers) ++ (count_word (length v.extended_texts) ++ (s.items ++ (count_word (length s.table) ++ (flags_of (map mark_in v.extended_flags) ++ (pad (length v.extended_flags) ++ (words ++ (words_of s.values ++ (words_of s.names ++ s.table)))))))) in
+    let j : q ≡ pad size ++ (count_word (length v.extended_flags) ++ others) =
     s.joined ∙ grouped_part (pad size) (count_word (length v.extended_flags)) (count_word (length v.extended_numbers)) (count_word (length v.extended_texts)) s.items (count_word (length s.table)) (flags_of (map mark_in v.extended_flags)) (pad (length v.extended_flags)) words (words_of s.values) (words_of s.names) s.table in
-    let n : 0 ≡ length (pad size) + suc (suc (length behind)) = ap length (sym e ∙ j) ∙ length-append (pad size) (count_word (length v.extended_flags) ++ behind) in
+    let n : 0 ≡ length (pad size) + suc (suc (length others)) = ap length (sym e ∙ j) ∙ length-append (pad size) (count_word (length v.extended_flags) ++ others) in
     omega arith
 
-behind_again : (v w : EntryValue) (t u : List ℕ) (r : List ℕ) → v.width ≡ w.width → t ≡ u → HasNoExtendedPart v r ⊎ HasExtendedPart v (length t) r → HasNoExtendedPart w r ⊎ HasExtendedPart w (length u) r → SameExtended v w
-behind_again v w t u r width e (inl s) (inl z) = record { flags = s.no_flags ∙ sym z.no_flags; numbers = s.no_numbers ∙ sym z.no_numbers; texts = s.no_texts ∙ sym z.no_texts }
-behind_again v w t u r width e (inl s) (inr z) = absurd (some_part w (length u) r z s.ends)
-behind_again v w t u r width e (inr s) (inl z) = absurd (some_part v (length t) r s z.ends)
-behind_again v w t u r width e (inr s) (inr z) = names_again v w (length t) (length u) r s z (part_again v w (length t) (length u) r s z width (ap length e))
+extended_again : (v w : EntryValue) (t u : List ℕ) (r : List ℕ) → v.width ≡ w.width → t ≡ u → HasNoExtendedPart v r ⊎ HasExtendedPart v (length t) r → HasNoExtendedPart w r ⊎ HasExtendedPart w (length u) r → SameExtended v w
+extended_again v w t u r width e (inl s) (inl z) = record { flags = s.no_flags ∙ sym z.no_flags; numbers = s.no_numbers ∙ sym z.no_numbers; texts = s.no_texts ∙ sym z.no_texts }
+extended_again v w t u r width e (inl s) (inr z) = absurd (some_part w (length u) r z s.ends)
+extended_again v w t u r width e (inr s) (inl z) = absurd (some_part v (length t) r s z.ends)
+extended_again v w t u r width e (inr s) (inr z) = names_again v w (length t) (length u) r s z (part_again v w (length t) (length u) r s z width (ap length e))
 
 pub same_value : (v w : EntryValue) → v.width ≡ w.width → v.names ≡ w.names → v.flags ≡ w.flags → v.numbers ≡ w.numbers → v.texts ≡ w.texts → SameExtended v w → v ≡ w
 same_value v w width names flags numbers texts more =
@@ -440,5 +440,5 @@ same_value v w width names flags numbers texts more =
 pub at_most_one : SpellsAtMostOne
 at_most_one bytes v w s z =
     let same = same_sections v w s.table z.table s.rest z.rest bytes s.sections z.sections in
-    let more = behind_again v w s.table z.table z.rest same.width same.table (subst (λ r. HasNoExtendedPart v r ⊎ HasExtendedPart v (length s.table) r) same.rest s.behind) z.behind in
+    let more = extended_again v w s.table z.table z.rest same.width same.table (subst (λ r. HasNoExtendedPart v r ⊎ HasExtendedPart v (length s.table) r) same.rest s.extended) z.extended in
     same_value v w same.width same.names same.flags same.numbers same.texts more

@@ -7,7 +7,7 @@ use Rattle.ti_words.specs.Spelling.{Spells}
 use Rattle.ti_layout.specs.Refusal.{refusal, failure}
 use Rattle.ti_draft.specs.Canonical.{canonical}
 use Rattle.ti_draft.specs.Unfit.{encode_fault}
-use Rattle.ti_entry.specs.Reading.{new_reading, met, fed, answer_for}
+use Rattle.ti_entry.specs.Reading.{new_reading, reading_of, reading_after, answer_for}
 
 -- bytes spell at most one entry
 abbrev pub SpellsAtMostOne : Type 0
@@ -25,19 +25,19 @@ FailureRefuses = (bytes : List ℕ) (refused : Refused)
 
 -- however an input is cut into pieces, the reader holds what the whole makes of it
 abbrev pub AnyCutting : Type 0
-AnyCutting = (pieces : List (List ℕ)) → fold fed new_reading pieces ≡ met (concat pieces)
+AnyCutting = (pieces : List (List ℕ)) → fold reading_after new_reading pieces ≡ reading_of (concat pieces)
 
 -- what is written of an entry without a fault spells it
 abbrev pub EncodedSpells : Type 0
 EncodedSpells = (v : EntryValue) → encode_fault v ≡ None → Spells (canonical v) v
 
 -- an entry is written in one way
-abbrev pub EncodedAlike : Type 0
-EncodedAlike = (v w : EntryValue) → v ≡ w → canonical v ≡ canonical w
+abbrev pub EqualEntriesHaveEqualBytes : Type 0
+EqualEntriesHaveEqualBytes = (v w : EntryValue) → v ≡ w → canonical v ≡ canonical w
 
 -- two entries that are written alike are one
-abbrev pub EncodedOnce : Type 0
-EncodedOnce = (v w : EntryValue) → encode_fault v ≡ None → encode_fault w ≡ None → canonical v ≡ canonical w → v ≡ w
+abbrev pub EqualBytesAreOfEqualEntries : Type 0
+EqualBytesAreOfEqualEntries = (v w : EntryValue) → encode_fault v ≡ None → encode_fault w ≡ None → canonical v ≡ canonical w → v ≡ w
 
 -- what is written of an entry without a fault is read as it
 abbrev pub EncodedReads : Type 0

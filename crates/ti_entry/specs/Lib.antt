@@ -1,5 +1,5 @@
 pub mod Content
-pub mod Held
+pub mod Views
 pub mod Finding
 pub mod Reading
 pub mod Laws

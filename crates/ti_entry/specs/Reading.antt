@@ -28,38 +28,38 @@ abbrev pub new_reading : Reading
 new_reading = record { kept = []; refusal = None }
 
 -- the greatest length, up to a given one, of a front of the bytes on which no check has failed
-abbrev pub unfailed_up_to : List ℕ → ℕ → ℕ
-unfailed_up_to bytes zero = zero
-unfailed_up_to bytes (suc len) = if is_some (failure (take (suc len) bytes)) then unfailed_up_to bytes len else suc len
+abbrev pub length_before_failure : List ℕ → ℕ → ℕ
+length_before_failure bytes zero = zero
+length_before_failure bytes (suc len) = if is_some (failure (take (suc len) bytes)) then length_before_failure bytes len else suc len
 
 -- the longest front of the bytes on which no check has failed
-unfoldable pub unfailed : List ℕ → List ℕ
-unfailed bytes = take (unfailed_up_to bytes (length bytes)) bytes
+unfoldable pub front_before_failure : List ℕ → List ℕ
+front_before_failure bytes = take (length_before_failure bytes (length bytes)) bytes
 
 -- what is kept of bytes that are refused, or are not
 abbrev pub kept_under : Option Refused → List ℕ → List ℕ
 kept_under None bytes = bytes
-kept_under (Some refused) bytes = unfailed bytes
+kept_under (Some refused) bytes = front_before_failure bytes
 
 -- what a reader holds that has met these bytes
-abbrev pub met : List ℕ → Reading
-met bytes = record { kept = kept_under (failure bytes) bytes; refusal = failure bytes }
+abbrev pub reading_of : List ℕ → Reading
+reading_of bytes = record { kept = kept_under (failure bytes) bytes; refusal = failure bytes }
 
-abbrev pub fed_under : Option Refused → Reading → List ℕ → Reading
-fed_under None r piece = met (r.kept ++ piece)
-fed_under (Some refused) r piece = r
+abbrev pub reading_under : Option Refused → Reading → List ℕ → Reading
+reading_under None r piece = reading_of (r.kept ++ piece)
+reading_under (Some refused) r piece = r
 
 -- what a reader holds after one more piece: a refusal lasts
-abbrev pub fed : Reading → List ℕ → Reading
-fed r piece = fed_under r.refusal r piece
+abbrev pub reading_after : Reading → List ℕ → Reading
+reading_after r piece = reading_under r.refusal r piece
 
 -- ---- reading from a source
 
 -- the bytes that a source lost were all fed, in their order
 abbrev pub FeedsFrom : Option (List ℕ) → Option (List ℕ) → Reading → Reading → Type 0
-FeedsFrom before after old new = (bytes : List ℕ) × Consumes before after bytes × (new ≡ fed old bytes)
+FeedsFrom before after old new = (bytes : List ℕ) × Consumes before after bytes × (new ≡ reading_after old bytes)
 
 -- the refusal that a read stopped at, where it stopped at one
-abbrev pub refusal_behind : ReadStop → Option Refused
-refusal_behind (stop.Refused refused) = Some refused
-refusal_behind stop.Io = None
+abbrev pub refusal_after : ReadStop → Option Refused
+refusal_after (stop.Refused refused) = Some refused
+refusal_after stop.Io = None

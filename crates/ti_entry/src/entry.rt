@@ -28,13 +28,13 @@ pub struct Entry<'a> {
 
 impl<'a> Model for Entry<'a> {
     ghost use Rattle.ti_words.specs.Value.{EntryValue};
-    ghost use Rattle.ti_entry.specs.Held.{held, IsHeld};
+    ghost use Rattle.ti_entry.specs.Views.{shown_entry, IsLaidOut};
 
     ghost Value = { EntryValue };
 
-    ghost view = { λ e. held e.bytes.now e.header e.part };
+    ghost view = { λ e. shown_entry e.bytes.now e.header e.part };
 
-    ghost invariant = { λ e. IsHeld e.bytes.now e.header e.part };
+    ghost invariant = { λ e. IsLaidOut e.bytes.now e.header e.part };
 }
 
 /// Reads an entry, which has to be all of the bytes.

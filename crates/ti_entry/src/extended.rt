@@ -10,7 +10,7 @@ ghost use Rattle.ti_base.specs.Limits.{most_entry_bytes};
 ghost use Rattle.ti_words.specs.Texts.{text_value, AbsentText};
 ghost use Rattle.ti_layout.specs.Layout.{places};
 ghost use Rattle.ti_entry.specs.Content.{name_at as the_name_at};
-ghost use Rattle.ti_entry.specs.Held.{held, IsHeld, IsPart};
+ghost use Rattle.ti_entry.specs.Views.{shown_entry, IsLaidOut, IsPart};
 ghost use Rattle.ti_words.specs.Spelling.{mark_in};
 ghost use Rattle.ti_entry.specs.Finding.{IsFirst, IsFirstNamed, names_of};
 
@@ -30,19 +30,19 @@ pub struct Extended<'a> {
 
 impl<'a> Model for Extended<'a> {
     ghost use Rattle.ti_words.specs.Value.{EntryValue};
-    ghost use Rattle.ti_entry.specs.Held.{held, IsHeld};
+    ghost use Rattle.ti_entry.specs.Views.{shown_entry, IsLaidOut};
 
     ghost Value = { EntryValue };
 
-    ghost view = { λ e. held e.bytes.now e.header e.part };
+    ghost view = { λ e. shown_entry e.bytes.now e.header e.part };
 
-    ghost invariant = { λ e. IsHeld e.bytes.now e.header e.part };
+    ghost invariant = { λ e. IsLaidOut e.bytes.now e.header e.part };
 }
 
 /// The extended part of an entry with these sections.
 pub(crate) fn extended_of<'a>(bytes: &'a [u8], header: Header, part: Part) -> Extended<'a>
-    requires { IsHeld bytes.now header part }
-    ensures { result ≡ held bytes.now header part }
+    requires { IsLaidOut bytes.now header part }
+    ensures { result ≡ shown_entry bytes.now header part }
 {
     Extended {
         bytes,

@@ -1,6 +1,6 @@
 //! Laws of the definitions, each the contract of a function that does nothing.
 
-ghost use Rattle.ti_entry.specs.Laws.{SpellsAtMostOne, FailureLasts, FailureRefuses, AnyCutting, EncodedSpells, EncodedAlike, EncodedOnce, EncodedReads};
+ghost use Rattle.ti_entry.specs.Laws.{SpellsAtMostOne, FailureLasts, FailureRefuses, AnyCutting, EncodedSpells, EqualEntriesHaveEqualBytes, EqualBytesAreOfEqualEntries, EncodedReads};
 
 /// Bytes spell at most one entry.
 pub fn one_entry()
@@ -29,8 +29,8 @@ pub fn encoded_spells()
 
 /// Equal entries have the same bytes, and two entries that have no fault and the same bytes are the same.
 pub fn encoded_once()
-    ensures alike { EncodedAlike }
-    ensures once { EncodedOnce }
+    ensures alike { EqualEntriesHaveEqualBytes }
+    ensures once { EqualBytesAreOfEqualEntries }
 {}
 
 /// Reading the bytes of an entry that has no fault gives it back.

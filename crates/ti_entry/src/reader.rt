@@ -11,7 +11,7 @@ ghost use Rattle.arrayvec.specs.ArrayVec.{array_vec_len};
 ghost use Rattle.ti_layout.specs.declared.fault.Refused.{Refused};
 ghost use Rattle.ti_words.specs.Value.{EntryValue};
 ghost use Rattle.ti_words.specs.Spelling.{Spells};
-ghost use Rattle.ti_layout.specs.Refusal.{refusal, failure, fault_behind as the_fault_behind};
+ghost use Rattle.ti_layout.specs.Refusal.{refusal, failure, fault_after as the_fault_after};
 
 use crate::entry::{Entry, entry_at};
 use arrayvec::ArrayVec;
@@ -29,7 +29,7 @@ pub struct EntryReader {
 
 impl Model for EntryReader {
     ghost use Rattle.ti_entry.specs.Reading.{Reading};
-    ghost use Rattle.ti_entry.specs.Held.{IsReading};
+    ghost use Rattle.ti_entry.specs.Views.{IsReading};
 
     ghost Value = { Reading };
 
@@ -39,7 +39,7 @@ impl Model for EntryReader {
 }
 
 impl EntryReader {
-    ghost use Rattle.ti_entry.specs.Reading.{new_reading, fed, answer_under, answer_for};
+    ghost use Rattle.ti_entry.specs.Reading.{new_reading, reading_after, answer_under, answer_for};
 
     /// A reader that has met nothing.
     pub fn new() -> Self
@@ -60,7 +60,7 @@ impl EntryReader {
     /// refusal is answered to every piece, and nothing changes.
     pub fn feed(&mut self, piece: &[u8]) -> Result<(), Refused>
         // What the piece makes of the reader.
-        ensures fed { self.new ≡ fed self.old piece.now }
+        ensures fed { self.new ≡ reading_after self.old piece.now }
         // The refusal that it then holds, if any.
         ensures answer { result ≡ answer_under self.new.refusal tt }
         ensures most { length self.new.kept ≤ most_entry_bytes }
@@ -77,7 +77,7 @@ impl EntryReader {
     /// Takes a piece at once. Where it has no room, or a check fails on it, nothing changes and the answer is no.
     fn take_whole(&mut self, piece: &[u8]) -> bool
         requires { self.old.refusal ≡ None }
-        ensures taken { result ≡ true → self.new ≡ fed self.old piece.now }
+        ensures taken { result ≡ true → self.new ≡ reading_after self.old piece.now }
         ensures unrefused { result ≡ true → self.new.refusal ≡ None }
         ensures same { result ≡ false → self.new ≡ self.old }
         ensures most { length self.new.kept ≤ most_entry_bytes }
@@ -101,9 +101,9 @@ impl EntryReader {
     /// Takes a piece byte by byte, up to the one at which a check fails.
     fn take_each(&mut self, piece: &[u8]) -> Result<(), Refused>
         requires unrefused { self.old.refusal ≡ None }
-        requires unfailed { failure self.old.kept ≡ None }
+        requires none_failed { failure self.old.kept ≡ None }
         requires most { length self.old.kept ≤ most_entry_bytes }
-        ensures fed { self.new ≡ fed self.old piece.now }
+        ensures fed { self.new ≡ reading_after self.old piece.now }
         ensures answer { result ≡ answer_under self.new.refusal tt }
         ensures most { length self.new.kept ≤ most_entry_bytes }
     {
@@ -116,7 +116,7 @@ impl EntryReader {
     /// Takes one byte.
     fn take(&mut self, byte: u8) -> Result<(), Refused>
         requires { self.old.refusal ≡ None }
-        ensures fed { self.new ≡ fed self.old (byte ∷ []) }
+        ensures fed { self.new ≡ reading_after self.old (byte ∷ []) }
         ensures answer { result ≡ answer_under self.new.refusal tt }
         ensures most { length self.new.kept ≤ most_entry_bytes }
     {
@@ -181,19 +181,19 @@ impl EntryReader {
 /// Why a byte behind as many as an entry may have is refused.
 fn overfull(kept: &[u8]) -> Refused
     requires full { length kept.now ≡ most_entry_bytes }
-    requires unfailed { failure kept.now ≡ None }
+    requires none_failed { failure kept.now ≡ None }
     ensures { (byte : ℕ) → (more : List ℕ) → failure (kept.now ++ byte ∷ more) ≡ Some result }
 {
     Refused {
-        fault: fault_behind(kept),
+        fault: fault_after(kept),
         place: kept.len(),
     }
 }
 
 /// The fault of a byte behind an entry of the greatest length: no extended part has room behind its string table.
-fn fault_behind(kept: &[u8]) -> Fault
+fn fault_after(kept: &[u8]) -> Fault
     requires { length kept.now ≡ most_entry_bytes }
-    ensures { result ≡ the_fault_behind kept.now }
+    ensures { result ≡ the_fault_after kept.now }
 {
     if header_words(kept).end() == kept.len() {
         Fault::ExtendedTooBig

@@ -5,7 +5,7 @@
 
 ghost use Rattle.std.specs.Prelude.{◌≡◌, ◌≢◌, None, OnOk, IfErr};
 ghost use Rattle.std.specs.Io.KnownBytes.{IsAtEnd};
-ghost use Rattle.ti_entry.specs.Reading.{FeedsFrom, refusal_behind};
+ghost use Rattle.ti_entry.specs.Reading.{FeedsFrom, refusal_after};
 
 use crate::reader::EntryReader;
 use std::io::{ErrorKind, Read};
@@ -41,7 +41,7 @@ pub fn read_from<R: Read>(reader: &mut EntryReader, source: &mut R) -> Result<()
     ensures end { OnOk result (IsAtEnd (R.remaining source.new)) }
     ensures accepted { OnOk result (reader.new.refusal ≡ None) }
     // Refused answers the refusal that the reader then holds; after Io it holds none.
-    ensures refused { IfErr result (λ stop. reader.new.refusal ≡ refusal_behind stop) }
+    ensures refused { IfErr result (λ stop. reader.new.refusal ≡ refusal_after stop) }
     // After an earlier refusal nothing is read.
     ensures again { reader.old.refusal ≢ None → source.new ≡ source.old }
 {

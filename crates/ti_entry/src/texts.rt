@@ -70,7 +70,7 @@ impl<'a> Texts<'a> {
         let Some(place) = place_at(self.bytes, at) else {
             return text_at(self.table, self.bytes, at);
         };
-        let (start, in_mind) = minded(self.table, self.start, self.in_mind, place);
+        let (start, in_mind) = bytes_in_mind(self.table, self.start, self.in_mind, place);
         self.start = start;
         self.in_mind = in_mind;
         Text::Value(&in_mind[place - start..])
@@ -78,7 +78,12 @@ impl<'a> Texts<'a> {
 }
 
 /// The bytes in mind and where they start, so that the text at a place starts within them.
-fn minded<'a>(table: &'a [u8], start: usize, in_mind: &'a [u8], place: usize) -> (usize, &'a [u8])
+fn bytes_in_mind<'a>(
+    table: &'a [u8],
+    start: usize,
+    in_mind: &'a [u8],
+    place: usize,
+) -> (usize, &'a [u8])
     requires { in_mind.now ≡ the_text_from table.now start }
     ensures text { result.1.now ≡ the_text_from table.now result.0 }
     ensures low { result.0 ≤ place }

@@ -17,8 +17,8 @@ use Rattle.ti_words.specs.Widths.{number_size}
 use Rattle.ti_words.specs.Spelling.{pad_len, Each}
 use Rattle.ti_words.specs.Texts.{is_nul}
 use Rattle.ti_layout.specs.Table.{ends_in, table_of, size_at, sizes_at, extended_table_of, base_of}
-use Rattle.ti_layout.specs.Checks.{Check, check, Verdict, Passes, EndsEarly, Fails, verdict, refused, is_number_word, is_not_negative, is_offset_below, is_ended, sign_check, sign_checks, name_check, nul_check, name_checks, flag_check, flag_checks, pad_checks, number_check, number_checks, offset_check, offset_checks, ending_check, ending_checks, name_place_checks, all_name_place_checks, end_check, end_checks}
-use Rattle.ti_layout.specs.Refusal.{magic_check, size_check, named_check, magic_checks, size_checks, front_checks, section_checks, room_checks, extended_word_checks, extended_size_check, extended_size_checks, extended_front_checks, extended_section_checks, extended_checks, behind_checks, checks}
+use Rattle.ti_layout.specs.Checks.{Check, check, Verdict, Passes, EndsEarly, Fails, verdict, refusal_at, is_number_word, is_not_negative, is_offset_below, is_ended, sign_check, sign_checks, name_check, nul_check, name_checks, flag_check, flag_checks, pad_checks, number_check, number_checks, offset_check, offset_checks, ending_check, ending_checks, name_place_checks, all_name_place_checks, end_check, end_checks}
+use Rattle.ti_layout.specs.Refusal.{magic_check, size_check, named_check, magic_checks, size_checks, front_checks, section_checks, room_checks, extended_word_checks, extended_size_check, extended_size_checks, extended_front_checks, extended_section_checks, extended_checks, checks_after_table, checks}
 use Rattle.ti_layout.proofs.VerdictLemmas.{then, verdict_append}
 use Rattle.ti_layout.proofs.PassesLemmas.{first_passes}
 use Rattle.ti_layout.proofs.SectionReadLemmas.{both_pass, each_item}
@@ -47,13 +47,13 @@ stays len more (c ∷ cs) (d ∷ ds) h =
     elim (cases_lt len c.prefix) [
       | inl lt ↦ inl (rw (lt-ltb len c.prefix lt) refl)
       | inr le ↦
-          let first : verdict len (c ∷ cs) ≡ cond c.holds (verdict len cs) (Fails (refused c.fault c.place)) = rw (le-ltb len c.prefix le) refl in
+          let first : verdict len (c ∷ cs) ≡ cond c.holds (verdict len cs) (Fails (refusal_at c.fault c.place)) = rw (le-ltb len c.prefix le) refl in
           let e : c ≡ d = h.0.same le in
           let le2 : d.prefix ≤ len + more = (let f = h.0.same_front in omega arith) in
-          let second : verdict (len + more) (d ∷ ds) ≡ cond c.holds (verdict (len + more) ds) (Fails (refused c.fault c.place)) =
-          (let g : verdict (len + more) (d ∷ ds) ≡ cond d.holds (verdict (len + more) ds) (Fails (refused d.fault d.place)) = rw (le-ltb (len + more) d.prefix le2) refl in
-          g ∙ ap (λ (k : Check). cond k.holds (verdict (len + more) ds) (Fails (refused k.fault k.place))) (sym e)) in
-          elim (decided len more c.holds (refused c.fault c.place) (verdict len cs) (verdict (len + more) ds) (stays len more cs ds h.1)) [
+          let second : verdict (len + more) (d ∷ ds) ≡ cond c.holds (verdict (len + more) ds) (Fails (refusal_at c.fault c.place)) =
+          (let g : verdict (len + more) (d ∷ ds) ≡ cond d.holds (verdict (len + more) ds) (Fails (refusal_at d.fault d.place)) = rw (le-ltb (len + more) d.prefix le2) refl in
+          g ∙ ap (λ (k : Check). cond k.holds (verdict (len + more) ds) (Fails (refusal_at k.fault k.place))) (sym e)) in
+          elim (decided len more c.holds (refusal_at c.fault c.place) (verdict len cs) (verdict (len + more) ds) (stays len more cs ds h.1)) [
             | inl early ↦ inl (first ∙ early)
             | inr equal ↦ inr (first ∙ equal ∙ sym second)
           ]
@@ -311,20 +311,20 @@ end_fails : (len more end : ℕ) (bytes longer : List ℕ) (r : Refused) → len
 end_fails len more end bytes longer r el em h =
     elim (cases_lt len end) [
       | inl lt ↦ absurd (early_fails r (sym (let e : verdict len (end_check bytes end ∷ []) ≡ EndsEarly = rw (lt-ltb len end lt) refl in e) ∙ h))
-      | inr le ↦ behind (leb (length bytes) end) refl le
+      | inr le ↦ past_end (leb (length bytes) end) refl le
     ]
   where
-    behind : (b : Bool) → leb (length bytes) end ≡ b → end ≤ len → verdict (len + more) (end_check longer end ∷ []) ≡ Fails r
-    behind true e le = absurd (passes_fails (sym (let k : verdict len (end_check bytes end ∷ []) ≡ Passes = rw (le-ltb len end le, e) refl in k) ∙ h))
+    past_end : (b : Bool) → leb (length bytes) end ≡ b → end ≤ len → verdict (len + more) (end_check longer end ∷ []) ≡ Fails r
+    past_end true e le = absurd (passes_fails (sym (let k : verdict len (end_check bytes end ∷ []) ≡ Passes = rw (le-ltb len end le, e) refl in k) ∙ h))
       where
         passes_fails : Passes ≡ Fails r → ⊥
         passes_fails e = cc
-    behind false e le =
+    past_end false e le =
         let above : end < length bytes = omega (arith, leb-false (length bytes) end e) in
         let longer_above : leb (length longer) end ≡ false = lt-leb (length longer) end (omega arith) in
         let long : ltb (len + more) end ≡ false = le-ltb (len + more) end (omega arith) in
-        let was : verdict len (end_check bytes end ∷ []) ≡ Fails (refused Trailing end) = rw (le-ltb len end le, e) refl in
-        let now : verdict (len + more) (end_check longer end ∷ []) ≡ Fails (refused Trailing end) = rw (long, longer_above) refl in
+        let was : verdict len (end_check bytes end ∷ []) ≡ Fails (refusal_at Trailing end) = rw (le-ltb len end le, e) refl in
+        let now : verdict (len + more) (end_check longer end ∷ []) ≡ Fails (refusal_at Trailing end) = rw (long, longer_above) refl in
         now ∙ sym was ∙ h
 
 -- the three lists of an extended part
@@ -357,10 +357,10 @@ extended_stays xs ys h r k =
     (sym (extended_split xs h xx len) ∙ k) (stays len (length ys) (extended_front_checks xs h xx) (extended_front_checks zs h xz) (extended_front_alike xs ys h)) sections last
 
 -- what fails behind the string table fails there on every continuation
-behind_stays : (xs ys : List ℕ) (h : Header) (r : Refused) → verdict (length xs) (behind_checks xs h) ≡ Fails r → verdict (length xs + length ys) (behind_checks (xs ++ ys) h) ≡ Fails r
-behind_stays xs ys h r = by_end (leb (length xs) (end_of h)) refl
+after_table_stays : (xs ys : List ℕ) (h : Header) (r : Refused) → verdict (length xs) (checks_after_table xs h) ≡ Fails r → verdict (length xs + length ys) (checks_after_table (xs ++ ys) h) ≡ Fails r
+after_table_stays xs ys h r = by_end (leb (length xs) (end_of h)) refl
   where
-    by_end : (b : Bool) → leb (length xs) (end_of h) ≡ b → verdict (length xs) (cond b [] (extended_checks xs h (extended_header_of h xs))) ≡ Fails r → verdict (length xs + length ys) (behind_checks (xs ++ ys) h) ≡ Fails r
+    by_end : (b : Bool) → leb (length xs) (end_of h) ≡ b → verdict (length xs) (cond b [] (extended_checks xs h (extended_header_of h xs))) ≡ Fails r → verdict (length xs + length ys) (checks_after_table (xs ++ ys) h) ≡ Fails r
     by_end true e k = absurd (passes_fails k)
       where
         passes_fails : Passes ≡ Fails r → ⊥
@@ -371,8 +371,8 @@ behind_stays xs ys h r = by_end (leb (length xs) (end_of h)) refl
         let longer : leb (length (xs ++ ys)) (end_of h) ≡ false = lt-leb (length (xs ++ ys)) (end_of h) (omega arith) in
         ap (λ b. verdict (length xs + length ys) (cond b [] (extended_checks (xs ++ ys) h (extended_header_of h (xs ++ ys))))) longer ∙ extended_stays xs ys h r k
 
-pub split : (bytes : List ℕ) (k : ℕ) → verdict k (checks bytes) ≡ then (then (verdict k (front_checks bytes (header_of bytes))) (verdict k (section_checks bytes (header_of bytes)))) (verdict k (behind_checks bytes (header_of bytes)))
-split bytes k = verdict_append k (front_checks bytes (header_of bytes) ++ section_checks bytes (header_of bytes)) (behind_checks bytes (header_of bytes)) ∙ ap (λ v. then v (verdict k (behind_checks bytes (header_of bytes)))) (verdict_append k (front_checks bytes (header_of bytes)) (section_checks bytes (header_of bytes)))
+pub split : (bytes : List ℕ) (k : ℕ) → verdict k (checks bytes) ≡ then (then (verdict k (front_checks bytes (header_of bytes))) (verdict k (section_checks bytes (header_of bytes)))) (verdict k (checks_after_table bytes (header_of bytes)))
+split bytes k = verdict_append k (front_checks bytes (header_of bytes) ++ section_checks bytes (header_of bytes)) (checks_after_table bytes (header_of bytes)) ∙ ap (λ v. then v (verdict k (checks_after_table bytes (header_of bytes)))) (verdict_append k (front_checks bytes (header_of bytes)) (section_checks bytes (header_of bytes)))
 
 pub failure_stays : (xs ys : List ℕ) (r : Refused) → verdict (length xs) (checks xs) ≡ Fails r → verdict (length (xs ++ ys)) (checks (xs ++ ys)) ≡ Fails r
 failure_stays xs ys r h =
@@ -387,8 +387,8 @@ failure_stays xs ys r h =
     let sections : verdict len (front_checks xs hx) ≡ Passes → (verdict len (section_checks xs hx) ≡ EndsEarly) ⊎ (verdict len (section_checks xs hx) ≡ verdict (len + length ys) (section_checks zs hz)) = λ p.
     subst (λ k. (verdict len (section_checks xs hx) ≡ EndsEarly) ⊎ (verdict len (section_checks xs hx) ≡ verdict (len + length ys) (section_checks zs k))) (same p)
     (stays len (length ys) (section_checks xs hx) (section_checks zs hx) (section_alike xs ys hx)) in
-    let last : verdict len (front_checks xs hx) ≡ Passes → verdict len (behind_checks xs hx) ≡ Fails r → verdict (len + length ys) (behind_checks zs hz) ≡ Fails r = λ p f.
-    subst (λ k. verdict (len + length ys) (behind_checks zs k) ≡ Fails r) (same p) (behind_stays xs ys hx r f) in
+    let last : verdict len (front_checks xs hx) ≡ Passes → verdict len (checks_after_table xs hx) ≡ Fails r → verdict (len + length ys) (checks_after_table zs hz) ≡ Fails r = λ p f.
+    subst (λ k. verdict (len + length ys) (checks_after_table zs k) ≡ Fails r) (same p) (after_table_stays xs ys hx r f) in
     ap (λ k. verdict k (checks zs)) n ∙ split zs (len + length ys)
-    ∙ three (verdict len (front_checks xs hx)) (verdict len (section_checks xs hx)) (verdict len (behind_checks xs hx)) (verdict (len + length ys) (front_checks zs hz)) (verdict (len + length ys) (section_checks zs hz)) (verdict (len + length ys) (behind_checks zs hz)) r
+    ∙ three (verdict len (front_checks xs hx)) (verdict len (section_checks xs hx)) (verdict len (checks_after_table xs hx)) (verdict (len + length ys) (front_checks zs hz)) (verdict (len + length ys) (section_checks zs hz)) (verdict (len + length ys) (checks_after_table zs hz)) r
     (sym (split xs len) ∙ h) (stays len (length ys) (front_checks xs hx) (front_checks zs hz) (front_alike xs ys)) sections last

@@ -26,12 +26,12 @@ second_of false b h = h
 opened : (table : List ℕ) (place : ℕ) → place < length table → ends_in table place ≡ (is_nul (get_or table place 0) || ends_in table (place + 1))
 opened table place lt = ap (list_any is_nul) (drop_more table place 0 lt)
 
-behind : (table : List ℕ) (place : ℕ) → length table ≤ place → ends_in table place ≡ false
-behind table place le = ap (list_any is_nul) (drop_all place table le)
+past_table : (table : List ℕ) (place : ℕ) → length table ≤ place → ends_in table place ≡ false
+past_table table place le = ap (list_any is_nul) (drop_all place table le)
 
 -- at the end of the table there is none
 pub none_at_end : (table : List ℕ) → ends_in table (length table) ≡ false
-none_at_end table = behind table (length table) (omega arith)
+none_at_end table = past_table table (length table) (omega arith)
 
 -- one byte further to the front that is no NUL
 pub none_before : (table : List ℕ) (reach place : ℕ) → reach ≡ place + 1 → reach ≤ length table → get_or table place 0 ≢ 0 → ends_in table reach ≡ false → ends_in table place ≡ false
@@ -48,7 +48,7 @@ none_later table reach (suc more) none =
     let e : reach + suc more ≡ reach + more + 1 = omega arith in
     elim (cases_lt (reach + more) (length table)) [
       | inl lt ↦ ap (ends_in table) e ∙ second_of (is_nul (get_or table (reach + more) 0)) (ends_in table (reach + more + 1)) (sym (opened table (reach + more) lt) ∙ before)
-      | inr le ↦ behind table (reach + suc more) (omega arith)
+      | inr le ↦ past_table table (reach + suc more) (omega arith)
     ]
 
 -- a NUL is at or after each place up to it

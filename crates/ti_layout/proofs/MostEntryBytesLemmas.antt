@@ -12,8 +12,8 @@ use Rattle.ti_layout.specs.Layout.{header_of, places, flags_from, pad_from, numb
 use Rattle.ti_words.specs.Widths.{number_size}
 use Rattle.ti_words.specs.Spelling.{pad_len}
 use Rattle.ti_layout.specs.Table.{table_of, extended_table_of, base_of}
-use Rattle.ti_layout.specs.Checks.{Check, Verdict, Passes, EndsEarly, Fails, verdict, refused, sign_check, sign_checks, name_check, nul_check, name_checks, flag_check, flag_checks, pad_checks, number_check, number_checks, offset_check, offset_checks, ending_check, ending_checks, name_place_checks, all_name_place_checks, end_check, end_checks}
-use Rattle.ti_layout.specs.Refusal.{size_check, named_check, magic_checks, size_checks, front_checks, section_checks, room_check, extended_word_checks, extended_size_check, extended_size_checks, extended_front_checks, extended_section_checks, extended_checks, behind_checks, checks, fault_behind}
+use Rattle.ti_layout.specs.Checks.{Check, Verdict, Passes, EndsEarly, Fails, verdict, refusal_at, sign_check, sign_checks, name_check, nul_check, name_checks, flag_check, flag_checks, pad_checks, number_check, number_checks, offset_check, offset_checks, ending_check, ending_checks, name_place_checks, all_name_place_checks, end_check, end_checks}
+use Rattle.ti_layout.specs.Refusal.{size_check, named_check, magic_checks, size_checks, front_checks, section_checks, room_check, extended_word_checks, extended_size_check, extended_size_checks, extended_front_checks, extended_section_checks, extended_checks, checks_after_table, checks, fault_after}
 use Rattle.ti_layout.proofs.VerdictLemmas.{then}
 use Rattle.ti_layout.proofs.PassesLemmas.{first_passes}
 use Rattle.ti_layout.proofs.PlacesLemmas.{within}
@@ -30,9 +30,9 @@ all_append P (x ∷ xs) ys h k = (h.0, all_append P xs ys h.1 k)
 
 pub no_early : (len : ℕ) (cs : List Check) → AllByRecursion (Reaches len) cs → verdict len cs ≡ EndsEarly → ⊥
 no_early len [] h e = cc
-no_early len (c ∷ cs) h e = by_holds c.holds (no_early len cs h.1) (sym (let k : verdict len (c ∷ cs) ≡ cond c.holds (verdict len cs) (Fails (refused c.fault c.place)) = rw (le-ltb len c.prefix h.0) refl in k) ∙ e)
+no_early len (c ∷ cs) h e = by_holds c.holds (no_early len cs h.1) (sym (let k : verdict len (c ∷ cs) ≡ cond c.holds (verdict len cs) (Fails (refusal_at c.fault c.place)) = rw (le-ltb len c.prefix h.0) refl in k) ∙ e)
   where
-    by_holds : (b : Bool) → (verdict len cs ≡ EndsEarly → ⊥) → cond b (verdict len cs) (Fails (refused c.fault c.place)) ≡ EndsEarly → ⊥
+    by_holds : (b : Bool) → (verdict len cs ≡ EndsEarly → ⊥) → cond b (verdict len cs) (Fails (refusal_at c.fault c.place)) ≡ EndsEarly → ⊥
     by_holds true f e = f e
     by_holds false f e = cc
 
@@ -87,9 +87,9 @@ sized xs p =
 
 -- where the first check decides what the others may read
 no_early_after : (len : ℕ) (c : Check) (cs : List Check) → c.prefix ≤ len → (c.holds ≡ true → AllByRecursion (Reaches len) cs) → verdict len (c ∷ cs) ≡ EndsEarly → ⊥
-no_early_after len c cs le f e = by_holds c.holds refl (sym (let k : verdict len (c ∷ cs) ≡ cond c.holds (verdict len cs) (Fails (refused c.fault c.place)) = rw (le-ltb len c.prefix le) refl in k) ∙ e)
+no_early_after len c cs le f e = by_holds c.holds refl (sym (let k : verdict len (c ∷ cs) ≡ cond c.holds (verdict len cs) (Fails (refusal_at c.fault c.place)) = rw (le-ltb len c.prefix le) refl in k) ∙ e)
   where
-    by_holds : (b : Bool) → c.holds ≡ b → cond b (verdict len cs) (Fails (refused c.fault c.place)) ≡ EndsEarly → ⊥
+    by_holds : (b : Bool) → c.holds ≡ b → cond b (verdict len cs) (Fails (refusal_at c.fault c.place)) ≡ EndsEarly → ⊥
     by_holds true h e = no_early len cs (f h) e
     by_holds false h e = cc
 
@@ -146,8 +146,8 @@ extended_fits xs h x len p =
     let b = first_passes len (extended_size_check x) [] a.1 in leb-true _ _ b.holds
 
 -- no check behind the string table of a full input waits for more
-behind_decides : (xs : List ℕ) (h : Header) → 32768 ≤ length xs → verdict (length xs) (behind_checks xs h) ≡ EndsEarly → ⊥
-behind_decides xs h long = by_end (leb (length xs) (end_of h)) refl
+after_table_decides : (xs : List ℕ) (h : Header) → 32768 ≤ length xs → verdict (length xs) (checks_after_table xs h) ≡ EndsEarly → ⊥
+after_table_decides xs h long = by_end (leb (length xs) (end_of h)) refl
   where
     by_end : (b : Bool) → leb (length xs) (end_of h) ≡ b → verdict (length xs) (cond b [] (extended_checks xs h (extended_header_of h xs))) ≡ EndsEarly → ⊥
     by_end true e k = cc
@@ -167,10 +167,10 @@ pub full_decides : (xs : List ℕ) → 32768 ≤ length xs → verdict (length x
 full_decides xs long h =
     let len = length xs in
     let hx = header_of xs in
-    no_early_in_three (verdict len (front_checks xs hx)) (verdict len (section_checks xs hx)) (verdict len (behind_checks xs hx)) (sym (split xs len) ∙ h)
+    no_early_in_three (verdict len (front_checks xs hx)) (verdict len (section_checks xs hx)) (verdict len (checks_after_table xs hx)) (sym (split xs len) ∙ h)
     (no_early len (front_checks xs hx) (front_reaches xs len (omega arith)))
     (λ p. (let s = sized xs p in no_early len (section_checks xs hx) (section_reaches xs hx len s.some (let f = s.fits in omega arith))))
-    (λ p. behind_decides xs hx long)
+    (λ p. after_table_decides xs hx long)
 
 pub kept_passes : (v w : Verdict) → (v ≡ EndsEarly) ⊎ (v ≡ w) → Passes ≡ v → w ≡ Passes
 kept_passes v w (inl e) p = absurd (apart (p ∙ e))
@@ -181,7 +181,7 @@ kept_passes v w (inr e) p = sym e ∙ sym p
 
 -- a full extended part is refused where a byte follows it
 extended_then_trailing : (xs ys : List ℕ) (h : Header) → 0 < length ys → Passes ≡ verdict (length xs) (extended_checks xs h (extended_header_of h xs))
-    → verdict (length xs + length ys) (extended_checks (xs ++ ys) h (extended_header_of h (xs ++ ys))) ≡ Fails (refused Trailing (length xs))
+    → verdict (length xs + length ys) (extended_checks (xs ++ ys) h (extended_header_of h (xs ++ ys))) ≡ Fails (refusal_at Trailing (length xs))
 extended_then_trailing xs ys h some k =
     let len = length xs in
     let zs = xs ++ ys in
@@ -200,48 +200,48 @@ extended_then_trailing xs ys h some k =
     let reach : ltb (len + length ys) len ≡ false = le-ltb (len + length ys) len (omega arith) in
     let over : leb (length zs) len ≡ false = lt-leb (length zs) len (omega arith) in
     let e : extended_end_of z ≡ len = ap extended_end_of (sym same) ∙ ends in
-    let at_len : verdict (len + length ys) (end_checks zs len) ≡ Fails (refused Trailing len) = rw (reach, over) refl in
-    let wE : verdict (len + length ys) (end_checks zs (extended_end_of z)) ≡ Fails (refused Trailing len) = ap (λ m. verdict (len + length ys) (end_checks zs m)) e ∙ at_len in
+    let at_len : verdict (len + length ys) (end_checks zs len) ≡ Fails (refusal_at Trailing len) = rw (reach, over) refl in
+    let wE : verdict (len + length ys) (end_checks zs (extended_end_of z)) ≡ Fails (refusal_at Trailing len) = ap (λ m. verdict (len + length ys) (end_checks zs m)) e ∙ at_len in
     extended_split zs h z (len + length ys) ∙ rw (wF, wS) wE
 
 -- where a full entry ends with its string table, an extended part has no room
-no_room : (xs ys : List ℕ) (h : Header) (rest : List Check) → end_of h ≡ length xs → length xs ≡ 32768 → 0 < length ys → verdict (length xs + length ys) (room_check h ∷ rest) ≡ Fails (refused ExtendedTooBig (length xs))
+no_room : (xs ys : List ℕ) (h : Header) (rest : List Check) → end_of h ≡ length xs → length xs ≡ 32768 → 0 < length ys → verdict (length xs + length ys) (room_check h ∷ rest) ≡ Fails (refusal_at ExtendedTooBig (length xs))
 no_room xs ys h rest ends full some =
     let reach : ltb (length xs + length ys) (end_of h + 1) ≡ false = le-ltb (length xs + length ys) (end_of h + 1) (omega arith) in
     let over : leb (extended_from h + 10) 32768 ≡ false = lt-leb (extended_from h + 10) 32768 (omega arith) in
-    let fails : verdict (length xs + length ys) (room_check h ∷ rest) ≡ Fails (refused ExtendedTooBig (end_of h)) = rw (reach, over) refl in
-    fails ∙ ap (λ n. Fails (refused ExtendedTooBig n)) ends
+    let fails : verdict (length xs + length ys) (room_check h ∷ rest) ≡ Fails (refusal_at ExtendedTooBig (end_of h)) = rw (reach, over) refl in
+    fails ∙ ap (λ n. Fails (refusal_at ExtendedTooBig n)) ends
 
-behind_full : (xs : List ℕ) (b : ℕ) (more : List ℕ) (h : Header) → h ≡ header_of xs → length xs ≡ 32768 → end_of h ≤ length xs → Passes ≡ verdict (length xs) (behind_checks xs h)
-    → verdict (length xs + length (b ∷ more)) (behind_checks (xs ++ b ∷ more) h) ≡ Fails (refused (fault_behind xs) (length xs))
-behind_full xs b more h is full there = by_end (leb (length xs) (end_of h)) refl
+after_table_full : (xs : List ℕ) (b : ℕ) (more : List ℕ) (h : Header) → h ≡ header_of xs → length xs ≡ 32768 → end_of h ≤ length xs → Passes ≡ verdict (length xs) (checks_after_table xs h)
+    → verdict (length xs + length (b ∷ more)) (checks_after_table (xs ++ b ∷ more) h) ≡ Fails (refusal_at (fault_after xs) (length xs))
+after_table_full xs b more h is full there = by_end (leb (length xs) (end_of h)) refl
   where
     longer : leb (length (xs ++ b ∷ more)) (end_of h) ≡ false
     longer = let n : length (xs ++ b ∷ more) ≡ length xs + length (b ∷ more) = length-append xs (b ∷ more) in lt-leb (length (xs ++ b ∷ more)) (end_of h) (omega arith)
 
-    opened : verdict (length xs + length (b ∷ more)) (behind_checks (xs ++ b ∷ more) h) ≡ verdict (length xs + length (b ∷ more)) (extended_checks (xs ++ b ∷ more) h (extended_header_of h (xs ++ b ∷ more)))
+    opened : verdict (length xs + length (b ∷ more)) (checks_after_table (xs ++ b ∷ more) h) ≡ verdict (length xs + length (b ∷ more)) (extended_checks (xs ++ b ∷ more) h (extended_header_of h (xs ++ b ∷ more)))
     opened = ap (λ t. verdict (length xs + length (b ∷ more)) (cond t [] (extended_checks (xs ++ b ∷ more) h (extended_header_of h (xs ++ b ∷ more))))) longer
 
-    by_end : (t : Bool) → leb (length xs) (end_of h) ≡ t → Passes ≡ verdict (length xs) (cond t [] (extended_checks xs h (extended_header_of h xs))) → verdict (length xs + length (b ∷ more)) (behind_checks (xs ++ b ∷ more) h) ≡ Fails (refused (fault_behind xs) (length xs))
+    by_end : (t : Bool) → leb (length xs) (end_of h) ≡ t → Passes ≡ verdict (length xs) (cond t [] (extended_checks xs h (extended_header_of h xs))) → verdict (length xs + length (b ∷ more)) (checks_after_table (xs ++ b ∷ more) h) ≡ Fails (refusal_at (fault_after xs) (length xs))
     by_end true e k =
         let zs = xs ++ b ∷ more in
         let z = extended_header_of h zs in
         let at_most : length xs ≤ end_of h = leb-true _ _ e in
         let ends : end_of h ≡ length xs = omega arith in
         let same : end_of (header_of xs) ≡ length xs = ap end_of (sym is) ∙ ends in
-        let fault : fault_behind xs ≡ ExtendedTooBig = ap (λ n. cond (eqb n (length xs)) ExtendedTooBig Trailing) same ∙ rw (eq-eqb (length xs) (length xs) refl) refl in
+        let fault : fault_after xs ≡ ExtendedTooBig = ap (λ n. cond (eqb n (length xs)) ExtendedTooBig Trailing) same ∙ rw (eq-eqb (length xs) (length xs) refl) refl in
         opened
         ∙ no_room xs (b ∷ more) h ((words_then_size zs h z ++ extended_section_checks zs z) ++ end_checks zs (extended_end_of z)) ends full (omega arith)
-        ∙ ap (λ (f : Fault). Fails (refused f (length xs))) (sym fault)
+        ∙ ap (λ (f : Fault). Fails (refusal_at f (length xs))) (sym fault)
     by_end false e k =
         let above : end_of h < length xs = omega (arith, leb-false (length xs) (end_of h) e) in
         let same : end_of (header_of xs) ≡ end_of h = ap end_of (sym is) in
         let differs : eqb (end_of (header_of xs)) (length xs) ≡ false = ne_eqb _ _ (λ q. (let r : end_of h ≡ length xs = sym same ∙ q in omega arith)) in
-        let fault : fault_behind xs ≡ Trailing = rw differs refl in
-        opened ∙ extended_then_trailing xs (b ∷ more) h (omega arith) k ∙ ap (λ (f : Fault). Fails (refused f (length xs))) (sym fault)
+        let fault : fault_after xs ≡ Trailing = rw differs refl in
+        opened ∙ extended_then_trailing xs (b ∷ more) h (omega arith) k ∙ ap (λ (f : Fault). Fails (refusal_at f (length xs))) (sym fault)
 
 -- a full input that passes is refused where a byte follows it
-pub then_refused : (xs : List ℕ) (b : ℕ) (more : List ℕ) → length xs ≡ 32768 → Passes ≡ verdict (length xs) (checks xs) → verdict (length (xs ++ b ∷ more)) (checks (xs ++ b ∷ more)) ≡ Fails (refused (fault_behind xs) (length xs))
+pub then_refused : (xs : List ℕ) (b : ℕ) (more : List ℕ) → length xs ≡ 32768 → Passes ≡ verdict (length xs) (checks xs) → verdict (length (xs ++ b ∷ more)) (checks (xs ++ b ∷ more)) ≡ Fails (refusal_at (fault_after xs) (length xs))
 then_refused xs b more full h =
     let len = length xs in
     let ys = b ∷ more in
@@ -249,7 +249,7 @@ then_refused xs b more full h =
     let hx = header_of xs in
     let hz = header_of zs in
     let n : length zs ≡ len + length ys = length-append xs ys in
-    let a = both_pass len (front_checks xs hx ++ section_checks xs hx) (behind_checks xs hx) h in
+    let a = both_pass len (front_checks xs hx ++ section_checks xs hx) (checks_after_table xs hx) h in
     let c = both_pass len (front_checks xs hx) (section_checks xs hx) a.0 in
     let s = sized xs (sym c.0) in
     let fit = s.fits in
@@ -257,6 +257,6 @@ then_refused xs b more full h =
     let wF : verdict (len + length ys) (front_checks zs hz) ≡ Passes = kept_passes _ _ (stays len (length ys) (front_checks xs hx) (front_checks zs hz) (front_alike xs ys)) c.0 in
     let wS : verdict (len + length ys) (section_checks zs hz) ≡ Passes =
     subst (λ k. verdict (len + length ys) (section_checks zs k) ≡ Passes) same (kept_passes _ _ (stays len (length ys) (section_checks xs hx) (section_checks zs hx) (section_alike xs ys hx)) c.1) in
-    let wB : verdict (len + length ys) (behind_checks zs hz) ≡ Fails (refused (fault_behind xs) len) =
-    subst (λ k. verdict (len + length ys) (behind_checks zs k) ≡ Fails (refused (fault_behind xs) len)) same (behind_full xs b more hx refl full (omega arith) a.1) in
+    let wB : verdict (len + length ys) (checks_after_table zs hz) ≡ Fails (refusal_at (fault_after xs) len) =
+    subst (λ k. verdict (len + length ys) (checks_after_table zs k) ≡ Fails (refusal_at (fault_after xs) len)) same (after_table_full xs b more hx refl full (omega arith) a.1) in
     ap (λ k. verdict k (checks zs)) n ∙ split zs (len + length ys) ∙ rw (wF, wS) wB

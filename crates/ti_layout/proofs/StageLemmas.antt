@@ -10,16 +10,16 @@ use Rattle.ti_layout.specs.declared.section.Item.{Item}
 use Rattle.ti_layout.specs.declared.section.Item.TheVariants.{Sign, Name, Flag, Number, Offset}
 use Rattle.ti_layout.specs.declared.section.Items.{Items}
 use Rattle.ti_layout.specs.declared.section.Section.{Section}
-use Rattle.ti_layout.specs.declared.section.Section.TheVariants.{Magic, Words, Names, Flags, Numbers, Offsets, Behind, Counts, ExtendedFlags, ExtendedNumbers, ExtendedValues, ExtendedNames, End}
+use Rattle.ti_layout.specs.declared.section.Section.TheVariants.{Magic, Words, Names, Flags, Numbers, Offsets, TableEnd, Counts, ExtendedFlags, ExtendedNumbers, ExtendedValues, ExtendedNames, End}
 use Rattle.ti_words.specs.Widths.{number_size}
 use Rattle.ti_layout.specs.Layout.{places, pad_from, offsets_from, end_of, extended_from, extended_pad_from, extended_values_from, extended_names_from, extended_name_count, extended_end_of}
 use Rattle.ti_words.specs.Spelling.{pad_len, Each}
 use Rattle.ti_words.specs.Texts.{is_nul}
 use Rattle.ti_layout.specs.Table.{table_of, extended_table_of, base_of}
-use Rattle.ti_layout.specs.Checks.{Check, Verdict, Passes, verdict, stopped, is_not_negative, is_offset_below, nul_check, ending_check, ending_checks, all_name_place_checks}
+use Rattle.ti_layout.specs.Checks.{Check, Verdict, Passes, verdict, stop_verdict, is_not_negative, is_offset_below, nul_check, ending_check, ending_checks, all_name_place_checks}
 use Rattle.ti_layout.specs.Refusal.{size_check, named_check, extended_size_check}
-use Rattle.ti_layout.specs.Stages.{item_check, items_checks, between}
-use Rattle.ti_layout.proofs.VerdictLemmas.{then, verdict_append, then-stopped}
+use Rattle.ti_layout.specs.Stages.{item_check, items_checks, checks_between}
+use Rattle.ti_layout.proofs.VerdictLemmas.{then, verdict_append, then-stop_verdict}
 use Rattle.ti_layout.proofs.SectionReadLemmas.{each_item}
 use Rattle.ti_layout.proofs.FailureLastsLemmas.{Alike, stays, each_append, by_byte, by_word, by_number, by_header, magic_alike, ending_alike, extended_same, extended_ending_alike, names_alike}
 use Rattle.ti_layout.proofs.MostEntryBytesLemmas.{kept_passes}
@@ -48,14 +48,14 @@ extended_endings_alike xs ys x = (
   each_item (Alike (length xs)) (ending_check xs (extended_table_of xs x) (extended_end_of x)) (ending_check (xs ++ ys) (extended_table_of (xs ++ ys) x) (extended_end_of x)) (extended_values_from x) 2 x.texts (λ i lt. extended_ending_alike xs ys x i lt),
 )
 
-pub between_alike : (s : Section) (xs ys : List ℕ) (h : Header) (x : ExtendedHeader) → Each (Alike (length xs)) (between s h x xs) (between s h x (xs ++ ys))
+pub between_alike : (s : Section) (xs ys : List ℕ) (h : Header) (x : ExtendedHeader) → Each (Alike (length xs)) (checks_between s h x xs) (checks_between s h x (xs ++ ys))
 between_alike Magic xs ys h x = (magic_alike xs ys, tt)
 between_alike Words xs ys h x = (by_header xs ys size_check (λ h. refl), (by_header xs ys named_check (λ h. refl), tt))
 between_alike Names xs ys h x = (by_byte xs ys is_nul BadNames (11 + h.names), tt)
 between_alike Flags xs ys h x = pads_alike xs ys (pad_from h) (h.names + h.flags)
 between_alike Numbers xs ys h x = tt
 between_alike Offsets xs ys h x = endings_alike xs ys h
-between_alike Behind xs ys h x = (record { same_front = refl; same = λ le. refl }, pads_alike xs ys (end_of h) h.table)
+between_alike TableEnd xs ys h x = (record { same_front = refl; same = λ le. refl }, pads_alike xs ys (end_of h) h.table)
 between_alike Counts xs ys h x = (
   by_word xs ys is_not_negative BadExtendedHeader (extended_from h + 8),
   (record { same_front = refl; same = λ le. ap extended_size_check (extended_same xs ys h le) }, tt),
@@ -83,8 +83,8 @@ passes_on xs ys cs ds alike p = ap (λ n. verdict n ds) (length-append xs ys) �
 pub goes : (len : ℕ) (v : Verdict) (cs rest : List Check) → v ≡ verdict len (cs ++ rest) → verdict len cs ≡ Passes → v ≡ verdict len rest
 goes len v cs rest e p = e ∙ verdict_append len cs rest ∙ ap (λ t. then t (verdict len rest)) p
 
-pub halts : (len : ℕ) (v : Verdict) (cs rest : List Check) (stop : Stop) → v ≡ verdict len (cs ++ rest) → stopped stop ≡ verdict len cs → v ≡ stopped stop
-halts len v cs rest stop e p = e ∙ verdict_append len cs rest ∙ ap (λ t. then t (verdict len rest)) (sym p) ∙ then-stopped stop (verdict len rest)
+pub halts : (len : ℕ) (v : Verdict) (cs rest : List Check) (stop : Stop) → v ≡ verdict len (cs ++ rest) → stop_verdict stop ≡ verdict len cs → v ≡ stop_verdict stop
+halts len v cs rest stop e p = e ∙ verdict_append len cs rest ∙ ap (λ t. then t (verdict len rest)) (sym p) ∙ then-stop_verdict stop (verdict len rest)
 
 pub none_left : (bytes : List ℕ) (it : Items) (rest : List Check) → it.left ≡ 0 → items_checks bytes it ++ rest ≡ rest
 none_left bytes it rest e = rw e refl
@@ -95,8 +95,8 @@ regroup_front a b c d e = simp append_assoc
 pub regroup_sections : (n m f p k o e z : List Check) → ((((((n ++ m) ++ f) ++ p) ++ k) ++ o) ++ e) ++ z ≡ n ++ (m ++ (f ++ (p ++ (k ++ (o ++ (e ++ z))))))
 regroup_sections n m f p k o e z = simp append_assoc
 
-pub regroup_behind : (r p c s k e z : List Check) → (((((r ++ p) ++ c) ++ s) ++ k) ++ e) ++ z ≡ (r ++ p) ++ (c ++ ((s ++ k) ++ (e ++ z)))
-regroup_behind r p c s k e z = simp append_assoc
+pub regroup_after_table : (r p c s k e z : List Check) → (((((r ++ p) ++ c) ++ s) ++ k) ++ e) ++ z ≡ (r ++ p) ++ (c ++ ((s ++ k) ++ (e ++ z)))
+regroup_after_table r p c s k e z = simp append_assoc
 
 pub regroup_extended : (f p n v s e t z : List Check) → (((((f ++ p) ++ n) ++ v) ++ s) ++ (e ++ t)) ++ z ≡ f ++ (p ++ (n ++ (v ++ (s ++ ((e ++ t) ++ z)))))
 regroup_extended f p n v s e t z = simp append_assoc

@@ -14,29 +14,29 @@ use Rattle.ti_layout.specs.declared.section.Item.{Item}
 use Rattle.ti_layout.specs.declared.section.Item.TheVariants.{Sign, Name, Flag, Number, Offset}
 use Rattle.ti_layout.specs.declared.section.Items.{Items}
 use Rattle.ti_layout.specs.declared.section.Section.{Section}
-use Rattle.ti_layout.specs.declared.section.Section.TheVariants.{Magic, Words, Names, Flags, Numbers, Offsets, Behind, Counts, ExtendedFlags, ExtendedNumbers, ExtendedValues, ExtendedNames, End}
+use Rattle.ti_layout.specs.declared.section.Section.TheVariants.{Magic, Words, Names, Flags, Numbers, Offsets, TableEnd, Counts, ExtendedFlags, ExtendedNumbers, ExtendedValues, ExtendedNames, End}
 use Rattle.ti_layout.specs.declared.stage.Stage.{Stage}
 use Rattle.ti_layout.specs.Layout.{header_of, places, flags_from, pad_from, numbers_from, offsets_from, end_of, extended_from, extended_header_of, extended_flags_from, extended_pad_from, extended_numbers_from, extended_values_from, extended_names_from, extended_name_count, extended_end_of}
 use Rattle.ti_words.specs.Widths.{number_size}
 use Rattle.ti_words.specs.Spelling.{pad_len, Each}
 use Rattle.ti_layout.specs.Table.{table_of, extended_table_of, base_of}
-use Rattle.ti_layout.specs.Checks.{Check, Passes, EndsEarly, Fails, verdict, stopped, refused, sign_checks, name_check, nul_check, flag_checks, pad_checks, number_checks, offset_checks, table_check, ending_check, ending_checks, all_name_place_checks, end_checks}
-use Rattle.ti_layout.specs.Refusal.{magic_checks, size_check, named_check, size_checks, section_checks, room_check, room_checks, extended_size_check, extended_size_checks, extended_section_checks, extended_checks, behind_checks, checks}
-use Rattle.ti_layout.specs.Stages.{item_check, item_size, items_checks, first_items, items_after, items_of, next, between, counts_checks, no_more_check, after, after_words, after_counts, left, Knows, StandsAt, Stands, new_stage, part_behind, left_behind, entered, is_whole, awaited, Waits, sections_left, steps_left}
+use Rattle.ti_layout.specs.Checks.{Check, Passes, EndsEarly, Fails, verdict, stop_verdict, refusal_at, sign_checks, name_check, nul_check, flag_checks, pad_checks, number_checks, offset_checks, table_check, ending_check, ending_checks, all_name_place_checks, end_checks}
+use Rattle.ti_layout.specs.Refusal.{magic_checks, size_check, named_check, size_checks, section_checks, room_check, room_checks, extended_size_check, extended_size_checks, extended_section_checks, extended_checks, checks_after_table, checks}
+use Rattle.ti_layout.specs.Stages.{item_check, item_size, items_checks, first_items, items_after, items_of, next, checks_between, counts_checks, no_more_check, checks_after, after_words, after_counts, checks_left, Knows, StandsAt, Stands, new_stage, part_after, stage_after, at_next_section, is_whole, verdict_at_stop, Waits, sections_left, steps_left}
 use Rattle.ti_layout.proofs.PassesLemmas.{first_passes}
 use Rattle.ti_layout.proofs.PlacesLemmas.{places_append}
 use Rattle.ti_layout.proofs.SectionReadLemmas.{all_items, each_item}
 use Rattle.ti_layout.proofs.FailureLastsLemmas.{Alike, header_same, extended_same, base_same}
 use Rattle.ti_layout.proofs.MostEntryBytesLemmas.{Reaches, no_early}
-use Rattle.ti_layout.proofs.StageLemmas.{item_alike, between_alike, passes_on, goes, halts, none_left, regroup_front, regroup_sections, regroup_behind, regroup_extended}
+use Rattle.ti_layout.proofs.StageLemmas.{item_alike, between_alike, passes_on, goes, halts, none_left, regroup_front, regroup_sections, regroup_after_table, regroup_extended}
 
 -- ---- the first stage
 
 pub stands_first : Stands [] new_stage
 stands_first more =
     let h = header_of more in
-    let order : checks more ≡ left more new_stage =
-    regroup_front (magic_checks more) (sign_checks more BadHeader 2 5) (size_checks h) (section_checks more h) (behind_checks more h) in
+    let order : checks more ≡ checks_left more new_stage =
+    regroup_front (magic_checks more) (sign_checks more BadHeader 2 5) (size_checks h) (section_checks more h) (checks_after_table more h) in
     record {
       decides = ap (verdict (length more)) order;
       within = omega arith;
@@ -76,7 +76,7 @@ knows_after Names b it n h part lt k = k
 knows_after Flags b it n h part lt k = k
 knows_after Numbers b it n h part lt k = k
 knows_after Offsets b it n h part lt k = k
-knows_after Behind b it n h part lt k = let none = k.none in absurd (omega arith)
+knows_after TableEnd b it n h part lt k = let none = k.none in absurd (omega arith)
 knows_after Counts b it n h part lt k = k
 knows_after ExtendedFlags b it n h part lt k = k
 knows_after ExtendedNumbers b it n h part lt k = k
@@ -85,7 +85,7 @@ knows_after ExtendedNames b it n h part lt k = k
 knows_after End b it n h part lt k = let none = k.none in absurd (omega arith)
 
 not_whole : (section : Section) (bytes : List ℕ) (it : Items) (h : Header) (part : Part) → 0 < it.left → Knows section bytes it h part → is_whole section ≡ false
-not_whole Behind b it h part lt k = let none = k.none in absurd (omega arith)
+not_whole TableEnd b it h part lt k = let none = k.none in absurd (omega arith)
 not_whole End b it h part lt k = let none = k.none in absurd (omega arith)
 not_whole Magic b it h part lt k = refl
 not_whole Words b it h part lt k = refl
@@ -99,7 +99,7 @@ not_whole ExtendedNumbers b it h part lt k = refl
 not_whole ExtendedValues b it h part lt k = refl
 not_whole ExtendedNames b it h part lt k = refl
 
-awaits : (section : Section) (stop : Stop) → is_whole section ≡ false → stopped stop ≡ awaited section stop
+awaits : (section : Section) (stop : Stop) → is_whole section ≡ false → stop_verdict stop ≡ verdict_at_stop section stop
 awaits section Early e = sym (ap (λ b. cond b Passes EndsEarly) e)
 awaits section (Failed r) e = refl
 
@@ -113,7 +113,7 @@ items_pass xs s n h lt le p ys =
     let zs = xs ++ ys in
     let k = h ys in
     let it = s.items in
-    let rest = after s.section zs s.header s.part.header in
+    let rest = checks_after s.section zs s.header s.part.header in
     let passed : verdict (length zs) (items_checks zs (first_items n it)) ≡ Passes = passes_on xs ys (items_checks xs (first_items n it)) (items_checks zs (first_items n it)) (items_alike it.item xs ys it.at n) p in
     record {
       decides = goes (length zs) _ (items_checks zs (first_items n it)) (items_checks zs (items_after n it) ++ rest) (k.decides ∙ ap (verdict (length zs)) (split_items zs it n rest le)) passed;
@@ -129,19 +129,19 @@ items_pass xs s n h lt le p ys =
         let m : left ≡ n + (left - n) = omega arith in
         let e : size * left ≡ size * n + size * (left - n) = ap (λ k. size * k) m ∙ mul-add size n (left - n) in omega arith
 
-pub items_stop : (xs : List ℕ) (s : Stage) (n : ℕ) (stop : Stop) → StandsAt xs s → 0 < s.items.left → n ≤ s.items.left → stopped stop ≡ verdict (length xs) (items_checks xs (first_items n s.items))
-    → verdict (length xs) (checks xs) ≡ awaited s.section stop
+pub items_stop : (xs : List ℕ) (s : Stage) (n : ℕ) (stop : Stop) → StandsAt xs s → 0 < s.items.left → n ≤ s.items.left → stop_verdict stop ≡ verdict (length xs) (items_checks xs (first_items n s.items))
+    → verdict (length xs) (checks xs) ≡ verdict_at_stop s.section stop
 items_stop xs s n stop k lt le e =
     let it = s.items in
-    let rest = after s.section xs s.header s.part.header in
+    let rest = checks_after s.section xs s.header s.part.header in
     halts (length xs) _ (items_checks xs (first_items n it)) (items_checks xs (items_after n it) ++ rest) stop (k.decides ∙ ap (verdict (length xs)) (split_items xs it n rest le)) e
     ∙ awaits s.section stop (not_whole s.section xs it s.header s.part lt k.known)
 
 -- ---- from a section to the next
 
 -- what is left where no item is
-bare : (bytes : List ℕ) (s : Stage) → StandsAt bytes s → s.items.left ≡ 0 → verdict (length bytes) (checks bytes) ≡ verdict (length bytes) (after s.section bytes s.header s.part.header)
-bare bytes s k e = k.decides ∙ ap (verdict (length bytes)) (none_left bytes s.items (after s.section bytes s.header s.part.header) e)
+bare : (bytes : List ℕ) (s : Stage) → StandsAt bytes s → s.items.left ≡ 0 → verdict (length bytes) (checks bytes) ≡ verdict (length bytes) (checks_after s.section bytes s.header s.part.header)
+bare bytes s k e = k.decides ∙ ap (verdict (length bytes)) (none_left bytes s.items (checks_after s.section bytes s.header s.part.header) e)
 
 record SizesPass (len : ℕ) (h : Header) : Type 0 where
   pub long : 12 ≤ len
@@ -165,37 +165,37 @@ counts_pass xs h p =
     record { long = b.long; fits = leb-true _ _ b.holds }
 
 -- behind the string table, where a byte follows it
-behind_opened : (zs : List ℕ) (h : Header) → end_of h < length zs
-    → behind_checks zs h ≡ (room_checks h ++ pad_checks zs (end_of h) h.table) ++ (sign_checks zs BadExtendedHeader (extended_from h) 3 ++ after_counts zs h (extended_header_of h zs))
-behind_opened zs h lt =
+after_table_opened : (zs : List ℕ) (h : Header) → end_of h < length zs
+    → checks_after_table zs h ≡ (room_checks h ++ pad_checks zs (end_of h) h.table) ++ (sign_checks zs BadExtendedHeader (extended_from h) 3 ++ after_counts zs h (extended_header_of h zs))
+after_table_opened zs h lt =
     let x = extended_header_of h zs in
     let longer : leb (length zs) (end_of h) ≡ false = lt-leb (length zs) (end_of h) lt in
     ap (λ b. cond b [] (extended_checks zs h x)) longer
-    ∙ regroup_behind (room_checks h) (pad_checks zs (end_of h) h.table) (sign_checks zs BadExtendedHeader (extended_from h) 3) (sign_checks zs BadExtendedHeader (extended_from h + 8) 1) (extended_size_checks x) (extended_section_checks zs x) (end_checks zs (extended_end_of x))
+    ∙ regroup_after_table (room_checks h) (pad_checks zs (end_of h) h.table) (sign_checks zs BadExtendedHeader (extended_from h) 3) (sign_checks zs BadExtendedHeader (extended_from h + 8) 1) (extended_size_checks x) (extended_section_checks zs x) (end_checks zs (extended_end_of x))
 
-sections_opened : (zs : List ℕ) (h : Header) → section_checks zs h ++ behind_checks zs h ≡ items_checks zs (items_of Names h (extended_header_of h zs)) ++ after Names zs h (extended_header_of h zs)
+sections_opened : (zs : List ℕ) (h : Header) → section_checks zs h ++ checks_after_table zs h ≡ items_checks zs (items_of Names h (extended_header_of h zs)) ++ checks_after Names zs h (extended_header_of h zs)
 sections_opened zs h =
-    regroup_sections (map (name_check zs) (places 12 1 (h.names - 1))) (nul_check zs BadNames (11 + h.names) ∷ []) (flag_checks zs (flags_from h) h.flags) (pad_checks zs (pad_from h) (h.names + h.flags)) (number_checks zs (number_size h.width) (numbers_from h) h.numbers) (offset_checks zs h.table (offsets_from h) h.texts) (ending_checks zs (table_of zs h) (end_of h) (offsets_from h) h.texts) (behind_checks zs h)
+    regroup_sections (map (name_check zs) (places 12 1 (h.names - 1))) (nul_check zs BadNames (11 + h.names) ∷ []) (flag_checks zs (flags_from h) h.flags) (pad_checks zs (pad_from h) (h.names + h.flags)) (number_checks zs (number_size h.width) (numbers_from h) h.numbers) (offset_checks zs h.table (offsets_from h) h.texts) (ending_checks zs (table_of zs h) (end_of h) (offsets_from h) h.texts) (checks_after_table zs h)
 
-extended_opened : (zs : List ℕ) (h : Header) (x : ExtendedHeader) → extended_section_checks zs x ++ end_checks zs (extended_end_of x) ≡ items_checks zs (items_of ExtendedFlags h x) ++ after ExtendedFlags zs h x
+extended_opened : (zs : List ℕ) (h : Header) (x : ExtendedHeader) → extended_section_checks zs x ++ end_checks zs (extended_end_of x) ≡ items_checks zs (items_of ExtendedFlags h x) ++ checks_after ExtendedFlags zs h x
 extended_opened zs h x =
     regroup_extended (flag_checks zs (extended_flags_from x) x.flags) (pad_checks zs (extended_pad_from x) x.flags) (number_checks zs (number_size x.width) (extended_numbers_from x) x.numbers) (offset_checks zs x.table (extended_values_from x) x.texts) (sign_checks zs BadExtendedName (extended_names_from x) (extended_name_count x)) (ending_checks zs (extended_table_of zs x) (extended_end_of x) (extended_values_from x) x.texts) (all_name_place_checks zs (extended_table_of zs x) (base_of zs x) (extended_end_of x) (places (extended_names_from x) 2 (extended_name_count x))) (end_checks zs (extended_end_of x))
 
 -- What is left of the checks behind those between two sections, which pass.
 goes_between : (xs ys : List ℕ) (section : Section) (it : Items) (h : Header) (part : Part) (rest : List Check) → StandsAt (xs ++ ys) (stage section it h part) → it.left ≡ 0
-    → Passes ≡ verdict (length xs) (between section h part.header xs)
-    → after section (xs ++ ys) h part.header ≡ between section h part.header (xs ++ ys) ++ rest
+    → Passes ≡ verdict (length xs) (checks_between section h part.header xs)
+    → checks_after section (xs ++ ys) h part.header ≡ checks_between section h part.header (xs ++ ys) ++ rest
     → verdict (length (xs ++ ys)) (checks (xs ++ ys)) ≡ verdict (length (xs ++ ys)) rest
 goes_between xs ys section it h part rest k none p e =
     let zs = xs ++ ys in
-    goes (length zs) _ (between section h part.header zs) rest
+    goes (length zs) _ (checks_between section h part.header zs) rest
     (bare zs (stage section it h part) k none ∙ ap (verdict (length zs)) e)
-    (passes_on xs ys (between section h part.header xs) (between section h part.header zs) (between_alike section xs ys h part.header) p)
+    (passes_on xs ys (checks_between section h part.header xs) (checks_between section h part.header zs) (between_alike section xs ys h part.header) p)
 
 -- The next section is entered.
 enters : (section : Section) (xs ys : List ℕ) (it : Items) (h : Header) (part : Part) → StandsAt (xs ++ ys) (stage section it h part) → it.left ≡ 0
-    → Passes ≡ verdict (length xs) (between section h part.header xs) → (part_behind section h part xs).base ≤ 32768
-    → StandsAt (xs ++ ys) (entered (left_behind (stage section it h part) xs))
+    → Passes ≡ verdict (length xs) (checks_between section h part.header xs) → (part_after section h part xs).base ≤ 32768
+    → StandsAt (xs ++ ys) (at_next_section (stage_after (stage section it h part) xs))
 enters Magic xs ys it h part k none p most = record {
   decides = goes_between xs ys Magic it h part (sign_checks (xs ++ ys) BadHeader 2 5 ++ after_words (xs ++ ys) (header_of (xs ++ ys))) k none p refl;
   within = omega arith;
@@ -211,8 +211,8 @@ enters Words xs ys it h part k none p most =
     let fits = sizes.fits in
     let same : hx ≡ header_of zs = header_same xs ys sizes.long in
     record {
-      decides = goes_between xs ys Words it h part (section_checks zs (header_of zs) ++ behind_checks zs (header_of zs)) k none p refl
-          ∙ ap (λ g. verdict (length zs) (section_checks zs g ++ behind_checks zs g)) (sym same)
+      decides = goes_between xs ys Words it h part (section_checks zs (header_of zs) ++ checks_after_table zs (header_of zs)) k none p refl
+          ∙ ap (λ g. verdict (length zs) (section_checks zs g ++ checks_after_table zs g)) (sym same)
           ∙ ap (verdict (length zs)) (sections_opened zs hx);
       within = omega arith;
       fits = fits;
@@ -223,7 +223,7 @@ enters Words xs ys it h part k none p most =
 enters Names xs ys it h part k none p most =
     let fits = k.fits in
     record {
-      decides = goes_between xs ys Names it h part (flag_checks (xs ++ ys) (flags_from h) h.flags ++ after Flags (xs ++ ys) h part.header) k none p refl;
+      decides = goes_between xs ys Names it h part (flag_checks (xs ++ ys) (flags_from h) h.flags ++ checks_after Flags (xs ++ ys) h part.header) k none p refl;
       within = omega arith;
       fits = fits;
       extended_fits = k.extended_fits;
@@ -233,7 +233,7 @@ enters Names xs ys it h part k none p most =
 enters Flags xs ys it h part k none p most =
     let fits = k.fits in
     record {
-      decides = goes_between xs ys Flags it h part (number_checks (xs ++ ys) (number_size h.width) (numbers_from h) h.numbers ++ after Numbers (xs ++ ys) h part.header) k none p refl;
+      decides = goes_between xs ys Flags it h part (number_checks (xs ++ ys) (number_size h.width) (numbers_from h) h.numbers ++ checks_after Numbers (xs ++ ys) h part.header) k none p refl;
       within = omega arith;
       fits = fits;
       extended_fits = k.extended_fits;
@@ -243,7 +243,7 @@ enters Flags xs ys it h part k none p most =
 enters Numbers xs ys it h part k none p most =
     let fits = k.fits in
     record {
-      decides = goes_between xs ys Numbers it h part (offset_checks (xs ++ ys) h.table (offsets_from h) h.texts ++ after Offsets (xs ++ ys) h part.header) k none p refl;
+      decides = goes_between xs ys Numbers it h part (offset_checks (xs ++ ys) h.table (offsets_from h) h.texts ++ checks_after Offsets (xs ++ ys) h part.header) k none p refl;
       within = omega arith;
       fits = fits;
       extended_fits = k.extended_fits;
@@ -255,21 +255,21 @@ enters Offsets xs ys it h part k none p most =
     let first = first_passes (length xs) (table_check (end_of h)) (map (ending_check xs (table_of xs h) (end_of h)) (places (offsets_from h) 2 h.texts)) p in
     let long = first.long in
     record {
-      decides = goes_between xs ys Offsets it h part (behind_checks (xs ++ ys) h) k none p refl;
+      decides = goes_between xs ys Offsets it h part (checks_after_table (xs ++ ys) h) k none p refl;
       within = omega arith;
       fits = k.fits;
       extended_fits = k.extended_fits;
       base_fits = k.base_fits;
       known = record { none = refl; there = omega arith; headers = k.known };
     }
-enters Behind xs ys it h part k none p most =
+enters TableEnd xs ys it h part k none p most =
     let zs = xs ++ ys in
     let n = length-append xs ys in
     let first = first_passes (length xs) (room_check h) (pad_checks xs (end_of h) h.table) p in
     let long = first.long in
     let room : extended_from h + 10 ≤ 32768 = leb-true _ _ first.holds in
     record {
-      decides = goes_between xs ys Behind it h part (sign_checks zs BadExtendedHeader (extended_from h) 3 ++ after_counts zs h (extended_header_of h zs)) k none p (behind_opened zs h (omega arith));
+      decides = goes_between xs ys TableEnd it h part (sign_checks zs BadExtendedHeader (extended_from h) 3 ++ after_counts zs h (extended_header_of h zs)) k none p (after_table_opened zs h (omega arith));
       within = omega arith;
       fits = k.fits;
       extended_fits = k.extended_fits;
@@ -296,7 +296,7 @@ enters ExtendedFlags xs ys it h part k none p most =
     let x = part.header in
     let fits = k.extended_fits in
     record {
-      decides = goes_between xs ys ExtendedFlags it h part (number_checks (xs ++ ys) (number_size x.width) (extended_numbers_from x) x.numbers ++ after ExtendedNumbers (xs ++ ys) h x) k none p refl;
+      decides = goes_between xs ys ExtendedFlags it h part (number_checks (xs ++ ys) (number_size x.width) (extended_numbers_from x) x.numbers ++ checks_after ExtendedNumbers (xs ++ ys) h x) k none p refl;
       within = omega arith;
       fits = k.fits;
       extended_fits = fits;
@@ -307,7 +307,7 @@ enters ExtendedNumbers xs ys it h part k none p most =
     let x = part.header in
     let fits = k.extended_fits in
     record {
-      decides = goes_between xs ys ExtendedNumbers it h part (offset_checks (xs ++ ys) x.table (extended_values_from x) x.texts ++ after ExtendedValues (xs ++ ys) h x) k none p refl;
+      decides = goes_between xs ys ExtendedNumbers it h part (offset_checks (xs ++ ys) x.table (extended_values_from x) x.texts ++ checks_after ExtendedValues (xs ++ ys) h x) k none p refl;
       within = omega arith;
       fits = k.fits;
       extended_fits = fits;
@@ -318,7 +318,7 @@ enters ExtendedValues xs ys it h part k none p most =
     let x = part.header in
     let fits = k.extended_fits in
     record {
-      decides = goes_between xs ys ExtendedValues it h part (sign_checks (xs ++ ys) BadExtendedName (extended_names_from x) (extended_name_count x) ++ after ExtendedNames (xs ++ ys) h x) k none p refl;
+      decides = goes_between xs ys ExtendedValues it h part (sign_checks (xs ++ ys) BadExtendedName (extended_names_from x) (extended_name_count x) ++ checks_after ExtendedNames (xs ++ ys) h x) k none p refl;
       within = omega arith;
       fits = k.fits;
       extended_fits = fits;
@@ -343,50 +343,50 @@ enters End xs ys it h part k none p most =
     let first = first_passes (length xs) (no_more_check (extended_end_of part.header)) [] p in
     let fails = first.holds in absurd (cc)
 
-pub leaves : (xs : List ℕ) (s : Stage) → Stands xs s → s.items.left ≡ 0 → Passes ≡ verdict (length xs) (between s.section s.header s.part.header xs) → (left_behind s xs).part.base ≤ 32768
-    → Stands xs (entered (left_behind s xs))
+pub leaves : (xs : List ℕ) (s : Stage) → Stands xs s → s.items.left ≡ 0 → Passes ≡ verdict (length xs) (checks_between s.section s.header s.part.header xs) → (stage_after s xs).part.base ≤ 32768
+    → Stands xs (at_next_section (stage_after s xs))
 leaves xs s h none p most ys = enters s.section xs ys s.items s.header s.part (h ys) none p most
 
 -- ---- where the checks between two sections stop
 
 halts_between : (xs : List ℕ) (section : Section) (it : Items) (h : Header) (part : Part) (rest : List Check) (stop : Stop) → StandsAt xs (stage section it h part) → it.left ≡ 0
-    → stopped stop ≡ verdict (length xs) (between section h part.header xs) → is_whole section ≡ false
-    → after section xs h part.header ≡ between section h part.header xs ++ rest
-    → verdict (length xs) (checks xs) ≡ awaited section stop
+    → stop_verdict stop ≡ verdict (length xs) (checks_between section h part.header xs) → is_whole section ≡ false
+    → checks_after section xs h part.header ≡ checks_between section h part.header xs ++ rest
+    → verdict (length xs) (checks xs) ≡ verdict_at_stop section stop
 halts_between xs section it h part rest stop k none p part_of e =
-    halts (length xs) _ (between section h part.header xs) rest stop
+    halts (length xs) _ (checks_between section h part.header xs) rest stop
     (bare xs (stage section it h part) k none ∙ ap (verdict (length xs)) e) p
     ∙ awaits section stop part_of
 
 -- the pad stands where the first byte behind the string table does
-behind_decides : (xs : List ℕ) (h : Header) → end_of h < length xs → verdict (length xs) (room_checks h ++ pad_checks xs (end_of h) h.table) ≡ EndsEarly → ⊥
-behind_decides xs h lt =
+after_table_decides : (xs : List ℕ) (h : Header) → end_of h < length xs → verdict (length xs) (room_checks h ++ pad_checks xs (end_of h) h.table) ≡ EndsEarly → ⊥
+after_table_decides xs h lt =
     no_early (length xs) (room_checks h ++ pad_checks xs (end_of h) h.table)
     (let le : end_of h + 1 ≤ length xs = omega arith in
     (le, all_items (Reaches (length xs)) (nul_check xs BadPad) (end_of h) 1 (pad_len h.table) (λ i less. omega arith)))
 
 record Halts (xs : List ℕ) (section : Section) (h : Header) (stop : Stop) : Type 0 where
-  pub decides : verdict (length xs) (checks xs) ≡ awaited section stop
-  pub ends : stop ≡ Early → section ≡ Behind → length xs ≤ end_of h
+  pub decides : verdict (length xs) (checks xs) ≡ verdict_at_stop section stop
+  pub ends : stop ≡ Early → section ≡ TableEnd → length xs ≤ end_of h
 
-behind_stops : (xs : List ℕ) (it : Items) (h : Header) (part : Part) (stop : Stop) → StandsAt xs (stage Behind it h part) → stopped stop ≡ verdict (length xs) (between Behind h part.header xs) → Halts xs Behind h stop
-behind_stops xs it h part stop k p =
+table_end_stops : (xs : List ℕ) (it : Items) (h : Header) (part : Part) (stop : Stop) → StandsAt xs (stage TableEnd it h part) → stop_verdict stop ≡ verdict (length xs) (checks_between TableEnd h part.header xs) → Halts xs TableEnd h stop
+table_end_stops xs it h part stop k p =
     elim (cases_lt (end_of h) (length xs)) [
       | inl lt ↦ longer stop p lt
       | inr le ↦ ended stop p le
     ]
   where
-    here : verdict (length xs) (checks xs) ≡ verdict (length xs) (behind_checks xs h)
-    here = bare xs (stage Behind it h part) k k.known.none
+    here : verdict (length xs) (checks xs) ≡ verdict (length xs) (checks_after_table xs h)
+    here = bare xs (stage TableEnd it h part) k k.known.none
 
-    longer : (stop : Stop) → stopped stop ≡ verdict (length xs) (between Behind h part.header xs) → end_of h < length xs → Halts xs Behind h stop
-    longer Early p lt = absurd (behind_decides xs h lt (sym p))
+    longer : (stop : Stop) → stop_verdict stop ≡ verdict (length xs) (checks_between TableEnd h part.header xs) → end_of h < length xs → Halts xs TableEnd h stop
+    longer Early p lt = absurd (after_table_decides xs h lt (sym p))
     longer (Failed r) p lt = record {
-      decides = halts (length xs) _ (between Behind h part.header xs) (sign_checks xs BadExtendedHeader (extended_from h) 3 ++ after_counts xs h (extended_header_of h xs)) (Failed r) (here ∙ ap (verdict (length xs)) (behind_opened xs h lt)) p;
+      decides = halts (length xs) _ (checks_between TableEnd h part.header xs) (sign_checks xs BadExtendedHeader (extended_from h) 3 ++ after_counts xs h (extended_header_of h xs)) (Failed r) (here ∙ ap (verdict (length xs)) (after_table_opened xs h lt)) p;
       ends = λ e f. absurd (cc);
     }
 
-    ended : (stop : Stop) → stopped stop ≡ verdict (length xs) (between Behind h part.header xs) → length xs ≤ end_of h → Halts xs Behind h stop
+    ended : (stop : Stop) → stop_verdict stop ≡ verdict (length xs) (checks_between TableEnd h part.header xs) → length xs ≤ end_of h → Halts xs TableEnd h stop
     ended Early p le = record {
       decides = here ∙ ap (λ b. verdict (length xs) (cond b [] (extended_checks xs h (extended_header_of h xs)))) (le-leb (length xs) (end_of h) le);
       ends = λ e f. le;
@@ -395,7 +395,7 @@ behind_stops xs it h part stop k p =
         let early : verdict (length xs) (room_check h ∷ pad_checks xs (end_of h) h.table) ≡ EndsEarly = rw (lt-ltb (length xs) (end_of h + 1) (omega arith)) refl in
         let never : Fails r ≡ EndsEarly = p ∙ early in absurd (cc)
 
-end_stops : (xs : List ℕ) (it : Items) (h : Header) (part : Part) (stop : Stop) → StandsAt xs (stage End it h part) → stopped stop ≡ verdict (length xs) (between End h part.header xs) → Halts xs End h stop
+end_stops : (xs : List ℕ) (it : Items) (h : Header) (part : Part) (stop : Stop) → StandsAt xs (stage End it h part) → stop_verdict stop ≡ verdict (length xs) (checks_between End h part.header xs) → Halts xs End h stop
 end_stops xs it h part stop k p = record { decides = by_stop stop p; ends = λ e f. absurd (cc) }
   where
     f : ℕ
@@ -407,7 +407,7 @@ end_stops xs it h part stop k p = record { decides = by_stop stop p; ends = λ e
     reach : leb f (length xs) ≡ true
     reach = let there = k.known.there in le-leb f (length xs) (omega arith)
 
-    by_stop : (stop : Stop) → stopped stop ≡ verdict (length xs) (no_more_check f ∷ []) → verdict (length xs) (checks xs) ≡ awaited End stop
+    by_stop : (stop : Stop) → stop_verdict stop ≡ verdict (length xs) (no_more_check f ∷ []) → verdict (length xs) (checks xs) ≡ verdict_at_stop End stop
     by_stop stop q =
         let there = k.known.there in
         elim (cases_lt (length xs) (f + 1)) [
@@ -416,48 +416,48 @@ end_stops xs it h part stop k p = record { decides = by_stop stop p; ends = λ e
               let passes : verdict (length xs) (end_checks xs f) ≡ Passes = rw (le-ltb (length xs) f there, le-leb (length xs) f (omega arith)) refl in
               waits stop (q ∙ early) (here ∙ passes)
           | inr le ↦
-              let fails : verdict (length xs) (no_more_check f ∷ []) ≡ Fails (refused Trailing f) = rw (le-ltb (length xs) (f + 1) le) refl in
-              let trailing : verdict (length xs) (end_checks xs f) ≡ Fails (refused Trailing f) = rw (le-ltb (length xs) f there, lt-leb (length xs) f (omega arith)) refl in
+              let fails : verdict (length xs) (no_more_check f ∷ []) ≡ Fails (refusal_at Trailing f) = rw (le-ltb (length xs) (f + 1) le) refl in
+              let trailing : verdict (length xs) (end_checks xs f) ≡ Fails (refusal_at Trailing f) = rw (le-ltb (length xs) f there, lt-leb (length xs) f (omega arith)) refl in
               stopped_so stop (q ∙ fails) (here ∙ trailing)
         ]
       where
-        waits : (stop : Stop) → stopped stop ≡ EndsEarly → verdict (length xs) (checks xs) ≡ Passes → verdict (length xs) (checks xs) ≡ awaited End stop
+        waits : (stop : Stop) → stop_verdict stop ≡ EndsEarly → verdict (length xs) (checks xs) ≡ Passes → verdict (length xs) (checks xs) ≡ verdict_at_stop End stop
         waits Early a b = b
         waits (Failed r) a b = absurd (cc)
 
-        stopped_so : (stop : Stop) → stopped stop ≡ Fails (refused Trailing f) → verdict (length xs) (checks xs) ≡ Fails (refused Trailing f) → verdict (length xs) (checks xs) ≡ awaited End stop
+        stopped_so : (stop : Stop) → stop_verdict stop ≡ Fails (refusal_at Trailing f) → verdict (length xs) (checks xs) ≡ Fails (refusal_at Trailing f) → verdict (length xs) (checks xs) ≡ verdict_at_stop End stop
         stopped_so Early a b = absurd (cc)
         stopped_so (Failed r) a b = b ∙ sym a
 
 halts_in : (section : Section) (xs : List ℕ) (it : Items) (h : Header) (part : Part) (stop : Stop) → StandsAt xs (stage section it h part) → it.left ≡ 0
-    → stopped stop ≡ verdict (length xs) (between section h part.header xs) → Halts xs section h stop
+    → stop_verdict stop ≡ verdict (length xs) (checks_between section h part.header xs) → Halts xs section h stop
 halts_in Magic xs it h part stop k none p = record { decides = halts_between xs Magic it h part _ stop k none p refl refl; ends = λ e f. absurd (cc) }
-halts_in Words xs it h part stop k none p = record { decides = halts_between xs Words it h part (section_checks xs (header_of xs) ++ behind_checks xs (header_of xs)) stop k none p refl refl; ends = λ e f. absurd (cc) }
-halts_in Names xs it h part stop k none p = record { decides = halts_between xs Names it h part (flag_checks xs (flags_from h) h.flags ++ after Flags xs h part.header) stop k none p refl refl; ends = λ e f. absurd (cc) }
-halts_in Flags xs it h part stop k none p = record { decides = halts_between xs Flags it h part (number_checks xs (number_size h.width) (numbers_from h) h.numbers ++ after Numbers xs h part.header) stop k none p refl refl; ends = λ e f. absurd (cc) }
-halts_in Numbers xs it h part stop k none p = record { decides = halts_between xs Numbers it h part (offset_checks xs h.table (offsets_from h) h.texts ++ after Offsets xs h part.header) stop k none p refl refl; ends = λ e f. absurd (cc) }
-halts_in Offsets xs it h part stop k none p = record { decides = halts_between xs Offsets it h part (behind_checks xs h) stop k none p refl refl; ends = λ e f. absurd (cc) }
-halts_in Behind xs it h part stop k none p = behind_stops xs it h part stop k p
+halts_in Words xs it h part stop k none p = record { decides = halts_between xs Words it h part (section_checks xs (header_of xs) ++ checks_after_table xs (header_of xs)) stop k none p refl refl; ends = λ e f. absurd (cc) }
+halts_in Names xs it h part stop k none p = record { decides = halts_between xs Names it h part (flag_checks xs (flags_from h) h.flags ++ checks_after Flags xs h part.header) stop k none p refl refl; ends = λ e f. absurd (cc) }
+halts_in Flags xs it h part stop k none p = record { decides = halts_between xs Flags it h part (number_checks xs (number_size h.width) (numbers_from h) h.numbers ++ checks_after Numbers xs h part.header) stop k none p refl refl; ends = λ e f. absurd (cc) }
+halts_in Numbers xs it h part stop k none p = record { decides = halts_between xs Numbers it h part (offset_checks xs h.table (offsets_from h) h.texts ++ checks_after Offsets xs h part.header) stop k none p refl refl; ends = λ e f. absurd (cc) }
+halts_in Offsets xs it h part stop k none p = record { decides = halts_between xs Offsets it h part (checks_after_table xs h) stop k none p refl refl; ends = λ e f. absurd (cc) }
+halts_in TableEnd xs it h part stop k none p = table_end_stops xs it h part stop k p
 halts_in Counts xs it h part stop k none p = record { decides = halts_between xs Counts it h part (extended_section_checks xs (extended_header_of h xs) ++ end_checks xs (extended_end_of (extended_header_of h xs))) stop k none p refl refl; ends = λ e f. absurd (cc) }
-halts_in ExtendedFlags xs it h part stop k none p = record { decides = halts_between xs ExtendedFlags it h part (number_checks xs (number_size part.header.width) (extended_numbers_from part.header) part.header.numbers ++ after ExtendedNumbers xs h part.header) stop k none p refl refl; ends = λ e f. absurd (cc) }
-halts_in ExtendedNumbers xs it h part stop k none p = record { decides = halts_between xs ExtendedNumbers it h part (offset_checks xs part.header.table (extended_values_from part.header) part.header.texts ++ after ExtendedValues xs h part.header) stop k none p refl refl; ends = λ e f. absurd (cc) }
-halts_in ExtendedValues xs it h part stop k none p = record { decides = halts_between xs ExtendedValues it h part (sign_checks xs BadExtendedName (extended_names_from part.header) (extended_name_count part.header) ++ after ExtendedNames xs h part.header) stop k none p refl refl; ends = λ e f. absurd (cc) }
+halts_in ExtendedFlags xs it h part stop k none p = record { decides = halts_between xs ExtendedFlags it h part (number_checks xs (number_size part.header.width) (extended_numbers_from part.header) part.header.numbers ++ checks_after ExtendedNumbers xs h part.header) stop k none p refl refl; ends = λ e f. absurd (cc) }
+halts_in ExtendedNumbers xs it h part stop k none p = record { decides = halts_between xs ExtendedNumbers it h part (offset_checks xs part.header.table (extended_values_from part.header) part.header.texts ++ checks_after ExtendedValues xs h part.header) stop k none p refl refl; ends = λ e f. absurd (cc) }
+halts_in ExtendedValues xs it h part stop k none p = record { decides = halts_between xs ExtendedValues it h part (sign_checks xs BadExtendedName (extended_names_from part.header) (extended_name_count part.header) ++ checks_after ExtendedNames xs h part.header) stop k none p refl refl; ends = λ e f. absurd (cc) }
 halts_in ExtendedNames xs it h part stop k none p = record { decides = halts_between xs ExtendedNames it h part (end_checks xs (extended_end_of part.header)) stop k none p refl refl; ends = λ e f. absurd (cc) }
 halts_in End xs it h part stop k none p = end_stops xs it h part stop k p
 
-pub between_stops : (xs : List ℕ) (s : Stage) (stop : Stop) → StandsAt xs s → s.items.left ≡ 0 → stopped stop ≡ verdict (length xs) (between s.section s.header s.part.header xs)
-    → verdict (length xs) (checks xs) ≡ awaited s.section stop
+pub between_stops : (xs : List ℕ) (s : Stage) (stop : Stop) → StandsAt xs s → s.items.left ≡ 0 → stop_verdict stop ≡ verdict (length xs) (checks_between s.section s.header s.part.header xs)
+    → verdict (length xs) (checks xs) ≡ verdict_at_stop s.section stop
 between_stops xs s stop k none p = (halts_in s.section xs s.items s.header s.part stop k none p).decides
 
 -- no check waits for less
-pub between_waits : (xs : List ℕ) (s : Stage) → StandsAt xs s → s.items.left ≡ 0 → EndsEarly ≡ verdict (length xs) (between s.section s.header s.part.header xs) → Waits xs s
+pub between_waits : (xs : List ℕ) (s : Stage) → StandsAt xs s → s.items.left ≡ 0 → EndsEarly ≡ verdict (length xs) (checks_between s.section s.header s.part.header xs) → Waits xs s
 between_waits xs s k none p =
     let halted = halts_in s.section xs s.items s.header s.part Early k none p in record { decides = halted.decides; ends = halted.ends refl }
 
 pub items_wait : (xs : List ℕ) (s : Stage) (n : ℕ) → StandsAt xs s → 0 < s.items.left → n ≤ s.items.left → EndsEarly ≡ verdict (length xs) (items_checks xs (first_items n s.items)) → Waits xs s
 items_wait xs s n k lt le p = record { decides = items_stop xs s n Early k lt le p; ends = λ e. no_items s.section s.items s.header s.part k.known lt e }
   where
-    no_items : (section : Section) (it : Items) (h : Header) (part : Part) → Knows section xs it h part → 0 < it.left → section ≡ Behind → length xs ≤ end_of h
+    no_items : (section : Section) (it : Items) (h : Header) (part : Part) → Knows section xs it h part → 0 < it.left → section ≡ TableEnd → length xs ≤ end_of h
     no_items section it h part known lt e =
         let whole : is_whole section ≡ true = ap is_whole e in
         let other : is_whole section ≡ false = not_whole section xs it h part lt known in absurd (cc)
@@ -467,7 +467,7 @@ items_wait xs s n k lt le p = record { decides = items_stop xs s n Early k lt le
 -- so many bytes have come where the checks after a section are made
 abbrev pub Needs : Section → Header → ExtendedHeader → ℕ → Type 0
 Needs Offsets h x need = need ≡ end_of h
-Needs Behind h x need = need ≡ end_of h + 1
+Needs TableEnd h x need = need ≡ end_of h + 1
 Needs ExtendedNames h x need = need ≡ extended_end_of x
 Needs End h x need = need ≡ extended_end_of x + 1
 Needs _ h x need = ⊥
@@ -479,16 +479,16 @@ item_early bytes Flag p lt = sym (rw (lt-ltb (length bytes) (p + 1) lt) refl)
 item_early bytes (Number width) p lt = sym (rw (lt-ltb (length bytes) (p + number_size width) lt) refl)
 item_early bytes (Offset table_size) p lt = sym (rw (lt-ltb (length bytes) (p + 2) lt) refl)
 
-pub item_stopped : (xs : List ℕ) (s : Stage) → StandsAt xs s → 0 < s.items.left → length xs < s.items.at + item_size s.items.item → verdict (length xs) (checks xs) ≡ awaited s.section Early
+pub item_stopped : (xs : List ℕ) (s : Stage) → StandsAt xs s → 0 < s.items.left → length xs < s.items.at + item_size s.items.item → verdict (length xs) (checks xs) ≡ verdict_at_stop s.section Early
 item_stopped xs s k lt short = items_stop xs s 1 Early k lt (omega arith) (item_early xs s.items.item s.items.at short)
 
 -- an item is awaited
 pub item_awaited : (xs : List ℕ) (s : Stage) → StandsAt xs s → 0 < s.items.left → length xs < s.items.at + item_size s.items.item → Waits xs s
 item_awaited xs s k lt short = items_wait xs s 1 k lt (omega arith) (item_early xs s.items.item s.items.at short)
 
-between_early : (xs : List ℕ) (section : Section) (h : Header) (x : ExtendedHeader) (need : ℕ) → Needs section h x need → length xs < need → EndsEarly ≡ verdict (length xs) (between section h x xs)
+between_early : (xs : List ℕ) (section : Section) (h : Header) (x : ExtendedHeader) (need : ℕ) → Needs section h x need → length xs < need → EndsEarly ≡ verdict (length xs) (checks_between section h x xs)
 between_early xs Offsets h x need e lt = let short : length xs < end_of h = omega arith in sym (rw (lt-ltb (length xs) (end_of h) short) refl)
-between_early xs Behind h x need e lt = let short : length xs < end_of h + 1 = omega arith in sym (rw (lt-ltb (length xs) (end_of h + 1) short) refl)
+between_early xs TableEnd h x need e lt = let short : length xs < end_of h + 1 = omega arith in sym (rw (lt-ltb (length xs) (end_of h + 1) short) refl)
 between_early xs ExtendedNames h x need e lt = let short : length xs < extended_end_of x = omega arith in sym (rw (lt-ltb (length xs) (extended_end_of x) short) refl)
 between_early xs End h x need e lt = let short : length xs < extended_end_of x + 1 = omega arith in sym (rw (lt-ltb (length xs) (extended_end_of x + 1) short) refl)
 between_early xs Magic h x need e lt = absurd e
@@ -504,7 +504,7 @@ between_early xs ExtendedValues h x need e lt = absurd e
 -- a table is awaited, or a byte after it
 pub table_awaited : (xs : List ℕ) (s : Stage) (section : Section) (need : ℕ) → s.section ≡ section → StandsAt xs s → s.items.left ≡ 0 → Needs section s.header s.part.header need → length xs < need → Waits xs s
 table_awaited xs s section need e k none needs lt =
-    between_waits xs s k none (between_early xs section s.header s.part.header need needs lt ∙ ap (λ t. verdict (length xs) (between t s.header s.part.header xs)) (sym e))
+    between_waits xs s k none (between_early xs section s.header s.part.header need needs lt ∙ ap (λ t. verdict (length xs) (checks_between t s.header s.part.header xs)) (sym e))
 
 -- ---- the measure
 
@@ -516,14 +516,14 @@ most_left (Number Legacy) at n le = omega arith
 most_left (Number Wide) at n le = omega arith
 most_left (Offset table_size) at n le = omega arith
 
-one_fewer : (section : Section) (xs : List ℕ) (h : Header) (x : ExtendedHeader) → Passes ≡ verdict (length xs) (between section h x xs) → sections_left (next section) + 1 ≡ sections_left section
+one_fewer : (section : Section) (xs : List ℕ) (h : Header) (x : ExtendedHeader) → Passes ≡ verdict (length xs) (checks_between section h x xs) → sections_left (next section) + 1 ≡ sections_left section
 one_fewer Magic xs h x p = refl
 one_fewer Words xs h x p = refl
 one_fewer Names xs h x p = refl
 one_fewer Flags xs h x p = refl
 one_fewer Numbers xs h x p = refl
 one_fewer Offsets xs h x p = refl
-one_fewer Behind xs h x p = refl
+one_fewer TableEnd xs h x p = refl
 one_fewer Counts xs h x p = refl
 one_fewer ExtendedFlags xs h x p = refl
 one_fewer ExtendedNumbers xs h x p = refl
@@ -533,7 +533,7 @@ one_fewer End xs h x p =
     let first = first_passes (length xs) (no_more_check (extended_end_of x)) [] p in
     let fails = first.holds in absurd (cc)
 
-pub fewer_sections : (xs : List ℕ) (s : Stage) (new : Stage) → Passes ≡ verdict (length xs) (between s.section s.header s.part.header xs) → new.section ≡ next s.section → StandsAt xs new → steps_left new < steps_left s
+pub fewer_sections : (xs : List ℕ) (s : Stage) (new : Stage) → Passes ≡ verdict (length xs) (checks_between s.section s.header s.part.header xs) → new.section ≡ next s.section → StandsAt xs new → steps_left new < steps_left s
 fewer_sections xs s new p e k =
     let within = k.within in
     let most = most_left new.items.item new.items.at new.items.left within in
@@ -543,13 +543,13 @@ fewer_sections xs s new p e k =
 
 -- ---- the next section, as the code comes to it
 
-pub entered_now : (xs : List ℕ) (s new : Stage) → Stands xs s → s.items.left ≡ 0 → Passes ≡ verdict (length xs) (between s.section s.header s.part.header xs) → new ≡ left_behind s xs → new.part.base ≤ 32768
-    → Stands xs (entered new)
-entered_now xs s new h none p e most =
-    let base : (left_behind s xs).part.base ≤ 32768 = subst (λ (t : Stage). t.part.base ≤ 32768) e most in
-    subst (λ (t : Stage). Stands xs (entered t)) (sym e) (leaves xs s h none p base)
+pub stands_at_next : (xs : List ℕ) (s new : Stage) → Stands xs s → s.items.left ≡ 0 → Passes ≡ verdict (length xs) (checks_between s.section s.header s.part.header xs) → new ≡ stage_after s xs → new.part.base ≤ 32768
+    → Stands xs (at_next_section new)
+stands_at_next xs s new h none p e most =
+    let base : (stage_after s xs).part.base ≤ 32768 = subst (λ (t : Stage). t.part.base ≤ 32768) e most in
+    subst (λ (t : Stage). Stands xs (at_next_section t)) (sym e) (leaves xs s h none p base)
 
-pub at_front : (xs : List ℕ) (new : Stage) (section : Section) (it : Items) → Stands xs (entered new) → section ≡ next new.section → it ≡ items_of section new.header new.part.header
+pub at_front : (xs : List ℕ) (new : Stage) (section : Section) (it : Items) → Stands xs (at_next_section new) → section ≡ next new.section → it ≡ items_of section new.header new.part.header
     → Stands xs (stage section it new.header new.part)
 at_front xs new section it h e f =
     subst (λ (i : Items). Stands xs (stage section i new.header new.part)) (sym f)

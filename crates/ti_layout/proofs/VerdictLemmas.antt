@@ -5,7 +5,7 @@ use Rattle.std.proofs.lemmas.List.Concat.{flat_map-cons}
 use Rattle.ti_layout.specs.declared.fault.Stop.{Stop}
 use Rattle.ti_layout.specs.declared.fault.Stop.TheVariants.{Early, Failed}
 use Rattle.ti_layout.specs.Layout.{places}
-use Rattle.ti_layout.specs.Checks.{Check, Verdict, Passes, EndsEarly, Fails, refused, verdict, stopped}
+use Rattle.ti_layout.specs.Checks.{Check, Verdict, Passes, EndsEarly, Fails, refusal_at, verdict, stop_verdict}
 
 -- what is left of a section after i items
 abbrev pub rest_of : (ℕ → Check) → ℕ → ℕ → ℕ → ℕ → ℕ → Verdict
@@ -29,9 +29,9 @@ then (Fails r) v = Fails r
 pub verdict_append : (len : ℕ) (xs ys : List Check) → verdict len (xs ++ ys) ≡ then (verdict len xs) (verdict len ys)
 verdict_append len [] ys = refl
 verdict_append len (c ∷ cs) ys =
-    elim (ltb len c.prefix) as (λ b. cond b EndsEarly (cond c.holds (verdict len (cs ++ ys)) (Fails (refused c.fault c.place))) ≡ then (cond b EndsEarly (cond c.holds (verdict len cs) (Fails (refused c.fault c.place)))) (verdict len ys)) [
+    elim (ltb len c.prefix) as (λ b. cond b EndsEarly (cond c.holds (verdict len (cs ++ ys)) (Fails (refusal_at c.fault c.place))) ≡ then (cond b EndsEarly (cond c.holds (verdict len cs) (Fails (refusal_at c.fault c.place)))) (verdict len ys)) [
       | true ↦ refl
-      | false ↦ elim c.holds as (λ b. cond b (verdict len (cs ++ ys)) (Fails (refused c.fault c.place)) ≡ then (cond b (verdict len cs) (Fails (refused c.fault c.place))) (verdict len ys)) [
+      | false ↦ elim c.holds as (λ b. cond b (verdict len (cs ++ ys)) (Fails (refusal_at c.fault c.place)) ≡ then (cond b (verdict len cs) (Fails (refusal_at c.fault c.place))) (verdict len ys)) [
         | true ↦ verdict_append len cs ys
         | false ↦ refl
       ]
@@ -40,12 +40,12 @@ verdict_append len (c ∷ cs) ys =
 first_holds : (len : ℕ) (c : Check) (cs : List Check) → Passes ≡ verdict len (c ∷ []) → verdict len (c ∷ cs) ≡ verdict len cs
 first_holds len c cs h = verdict_append len (c ∷ []) cs ∙ ap (λ v. then v (verdict len cs)) (sym h)
 
-pub then-stopped : (stop : Stop) (v : Verdict) → then (stopped stop) v ≡ stopped stop
-then-stopped Early v = refl
-then-stopped (Failed r) v = refl
+pub then-stop_verdict : (stop : Stop) (v : Verdict) → then (stop_verdict stop) v ≡ stop_verdict stop
+then-stop_verdict Early v = refl
+then-stop_verdict (Failed r) v = refl
 
-first_fails : (len : ℕ) (c : Check) (cs : List Check) (stop : Stop) → stopped stop ≡ verdict len (c ∷ []) → verdict len (c ∷ cs) ≡ stopped stop
-first_fails len c cs stop h = verdict_append len (c ∷ []) cs ∙ ap (λ v. then v (verdict len cs)) (sym h) ∙ then-stopped stop _
+first_fails : (len : ℕ) (c : Check) (cs : List Check) (stop : Stop) → stop_verdict stop ≡ verdict len (c ∷ []) → verdict len (c ∷ cs) ≡ stop_verdict stop
+first_fails len c cs stop h = verdict_append len (c ∷ []) cs ∙ ap (λ v. then v (verdict len cs)) (sym h) ∙ then-stop_verdict stop _
 
 pub goes_on : (f : ℕ → Check) (len from size count i place : ℕ) (total : Verdict) → i < count → place ≡ from + size * i
     → Passes ≡ verdict len (f place ∷ []) → rest_of f len from size count i ≡ total → rest_of f len from size count (i + 1) ≡ total
@@ -53,7 +53,7 @@ goes_on f len from size count i place total lt e holds so_far =
     sym (opened f len from size count i place lt e ∙ first_holds len (f place) _ holds) ∙ so_far
 
 pub stops : (f : ℕ → Check) (len from size count i place : ℕ) (total : Verdict) (stop : Stop) → i < count → place ≡ from + size * i
-    → stopped stop ≡ verdict len (f place ∷ []) → rest_of f len from size count i ≡ total → stopped stop ≡ total
+    → stop_verdict stop ≡ verdict len (f place ∷ []) → rest_of f len from size count i ≡ total → stop_verdict stop ≡ total
 stops f len from size count i place total stop lt e fails so_far =
     sym (opened f len from size count i place lt e ∙ first_fails len (f place) _ stop fails) ∙ so_far
 
@@ -85,6 +85,6 @@ goes_on_each f len from size count i place total lt e holds so_far =
     sym (opened_each f len from size count i place lt e ∙ ap (λ v. then v (rest_of_each f len from size count (i + 1))) (sym holds)) ∙ so_far
 
 pub stops_each : (f : ℕ → List Check) (len from size count i place : ℕ) (total : Verdict) (stop : Stop) → i < count → place ≡ from + size * i
-    → stopped stop ≡ verdict len (f place) → rest_of_each f len from size count i ≡ total → stopped stop ≡ total
+    → stop_verdict stop ≡ verdict len (f place) → rest_of_each f len from size count i ≡ total → stop_verdict stop ≡ total
 stops_each f len from size count i place total stop lt e fails so_far =
-    sym (opened_each f len from size count i place lt e ∙ ap (λ v. then v (rest_of_each f len from size count (i + 1))) (sym fails) ∙ then-stopped stop _) ∙ so_far
+    sym (opened_each f len from size count i place lt e ∙ ap (λ v. then v (rest_of_each f len from size count (i + 1))) (sym fails) ∙ then-stop_verdict stop _) ∙ so_far

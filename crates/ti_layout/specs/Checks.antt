@@ -23,8 +23,8 @@ pub record Check : Type 0 where
 abbrev pub check : ℕ → Bool → Fault → ℕ → Check
 check prefix holds fault place = record { prefix = prefix; holds = holds; fault = fault; place = place }
 
-abbrev pub refused : Fault → ℕ → Refused
-refused fault place = record { fault = fault; place = place }
+abbrev pub refusal_at : Fault → ℕ → Refused
+refusal_at fault place = record { fault = fault; place = place }
 
 -- what a list of checks says of an input
 pub data Verdict : Type 0 where
@@ -38,12 +38,12 @@ verdict len [] = Passes
 verdict len (c ∷ cs) =
     if nat_lt len c.prefix then EndsEarly
     else (if c.holds then verdict len cs
-    else Fails (refused c.fault c.place))
+    else Fails (refusal_at c.fault c.place))
 
 -- the refusal: where the input ends before the prefix of a check, it is Truncated at its length
 abbrev pub refusal_of : ℕ → Verdict → Option Refused
 refusal_of len Passes = None
-refusal_of len EndsEarly = Some (refused Truncated len)
+refusal_of len EndsEarly = Some (refusal_at Truncated len)
 refusal_of len (Fails r) = Some r
 
 -- the check that has failed: its prefix is there, it does not hold, and no earlier one fails
@@ -53,13 +53,13 @@ failure_of EndsEarly = None
 failure_of (Fails r) = Some r
 
 -- the verdict that a call answers
-abbrev pub stopped : Stop → Verdict
-stopped Early = EndsEarly
-stopped (Failed r) = Fails r
+abbrev pub stop_verdict : Stop → Verdict
+stop_verdict Early = EndsEarly
+stop_verdict (Failed r) = Fails r
 
-abbrev pub verdict_of : {A : Type 0} → Result A Stop → Verdict
-verdict_of (Ok x) = Passes
-verdict_of (Err stop) = stopped stop
+abbrev pub result_verdict : {A : Type 0} → Result A Stop → Verdict
+result_verdict (Ok x) = Passes
+result_verdict (Err stop) = stop_verdict stop
 
 -- ---- what must hold
 

@@ -99,14 +99,14 @@ extended_checks bytes h x =
     extended_front_checks bytes h x ++ extended_section_checks bytes x ++ end_checks bytes (extended_end_of x)
 
 -- what is checked behind the string table: nothing where the input ends there
-abbrev pub behind_checks : List ℕ → Header → List Check
-behind_checks bytes h =
+abbrev pub checks_after_table : List ℕ → Header → List Check
+checks_after_table bytes h =
     if nat_le (length bytes) (end_of h) then [] else extended_checks bytes h (extended_header_of h bytes)
 
 -- ---- the whole
 
 abbrev pub checks : List ℕ → List Check
-checks bytes = let h = header_of bytes in front_checks bytes h ++ section_checks bytes h ++ behind_checks bytes h
+checks bytes = let h = header_of bytes in front_checks bytes h ++ section_checks bytes h ++ checks_after_table bytes h
 
 -- why the bytes are refused, where they are
 abbrev pub refusal : List ℕ → Option Refused
@@ -117,5 +117,5 @@ abbrev pub failure : List ℕ → Option Refused
 failure bytes = failure_of (verdict (length bytes) (checks bytes))
 
 -- the fault of a byte behind an entry of the greatest length
-abbrev pub fault_behind : List ℕ → Fault
-fault_behind bytes = if end_of (header_of bytes) == length bytes then ExtendedTooBig else Trailing
+abbrev pub fault_after : List ℕ → Fault
+fault_after bytes = if end_of (header_of bytes) == length bytes then ExtendedTooBig else Trailing

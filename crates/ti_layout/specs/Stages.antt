@@ -13,13 +13,13 @@ use Rattle.ti_layout.specs.declared.section.Item.{Item}
 use Rattle.ti_layout.specs.declared.section.Item.TheVariants.{Sign, Name, Flag, Number, Offset}
 use Rattle.ti_layout.specs.declared.section.Items.{Items}
 use Rattle.ti_layout.specs.declared.section.Section.{Section}
-use Rattle.ti_layout.specs.declared.section.Section.TheVariants.{Magic, Words, Names, Flags, Numbers, Offsets, Behind, Counts, ExtendedFlags, ExtendedNumbers, ExtendedValues, ExtendedNames, End}
+use Rattle.ti_layout.specs.declared.section.Section.TheVariants.{Magic, Words, Names, Flags, Numbers, Offsets, TableEnd, Counts, ExtendedFlags, ExtendedNumbers, ExtendedValues, ExtendedNames, End}
 use Rattle.ti_layout.specs.declared.stage.Stage.{Stage}
 use Rattle.ti_layout.specs.Layout.{header_of, places, flags_from, pad_from, numbers_from, offsets_from, end_of, extended_from, extended_header_of, extended_flags_from, extended_pad_from, extended_numbers_from, extended_values_from, extended_names_from, extended_name_count, extended_end_of, no_capability}
 use Rattle.ti_words.specs.Widths.{number_size}
 use Rattle.ti_layout.specs.Table.{table_of, base_of}
 use Rattle.ti_layout.specs.Checks.{Check, check, Verdict, Passes, EndsEarly, Fails, verdict, sign_check, sign_checks, name_check, nul_check, flag_check, flag_checks, pad_checks, number_check, number_checks, offset_check, offset_checks, ending_checks, end_checks}
-use Rattle.ti_layout.specs.Refusal.{magic_checks, size_checks, section_checks, room_checks, extended_size_checks, extended_section_checks, extended_text_checks, behind_checks, checks}
+use Rattle.ti_layout.specs.Refusal.{magic_checks, size_checks, section_checks, room_checks, extended_size_checks, extended_section_checks, extended_text_checks, checks_after_table, checks}
 
 -- ---- items
 
@@ -64,7 +64,7 @@ items_of ExtendedNumbers h x = items (Number x.width) (extended_numbers_from x) 
 items_of ExtendedValues h x = items (Offset x.table) (extended_values_from x) x.texts
 items_of ExtendedNames h x = items (Sign BadExtendedName) (extended_names_from x) (extended_name_count x)
 items_of Magic h x = items Flag 0 0
-items_of Behind h x = items Flag 0 0
+items_of TableEnd h x = items Flag 0 0
 items_of End h x = items Flag 0 0
 
 -- ---- sections
@@ -75,8 +75,8 @@ next Words = Names
 next Names = Flags
 next Flags = Numbers
 next Numbers = Offsets
-next Offsets = Behind
-next Behind = Counts
+next Offsets = TableEnd
+next TableEnd = Counts
 next Counts = ExtendedFlags
 next ExtendedFlags = ExtendedNumbers
 next ExtendedNumbers = ExtendedValues
@@ -94,20 +94,20 @@ abbrev pub no_more_check : ℕ → Check
 no_more_check end = check (end + 1) false Trailing end
 
 -- what is checked between the items of a section and those of the next
-abbrev pub between : Section → Header → ExtendedHeader → List ℕ → List Check
-between Magic h x b = magic_checks b
-between Words h x b = size_checks (header_of b)
-between Names h x b = nul_check b BadNames (11 + h.names) ∷ []
-between Flags h x b = pad_checks b (pad_from h) (h.names + h.flags)
-between Numbers h x b = []
-between Offsets h x b = ending_checks b (table_of b h) (end_of h) (offsets_from h) h.texts
-between Behind h x b = room_checks h ++ pad_checks b (end_of h) h.table
-between Counts h x b = counts_checks b h
-between ExtendedFlags h x b = pad_checks b (extended_pad_from x) x.flags
-between ExtendedNumbers h x b = []
-between ExtendedValues h x b = []
-between ExtendedNames h x b = extended_text_checks b x
-between End h x b = no_more_check (extended_end_of x) ∷ []
+abbrev pub checks_between : Section → Header → ExtendedHeader → List ℕ → List Check
+checks_between Magic h x b = magic_checks b
+checks_between Words h x b = size_checks (header_of b)
+checks_between Names h x b = nul_check b BadNames (11 + h.names) ∷ []
+checks_between Flags h x b = pad_checks b (pad_from h) (h.names + h.flags)
+checks_between Numbers h x b = []
+checks_between Offsets h x b = ending_checks b (table_of b h) (end_of h) (offsets_from h) h.texts
+checks_between TableEnd h x b = room_checks h ++ pad_checks b (end_of h) h.table
+checks_between Counts h x b = counts_checks b h
+checks_between ExtendedFlags h x b = pad_checks b (extended_pad_from x) x.flags
+checks_between ExtendedNumbers h x b = []
+checks_between ExtendedValues h x b = []
+checks_between ExtendedNames h x b = extended_text_checks b x
+checks_between End h x b = no_more_check (extended_end_of x) ∷ []
 
 -- ---- the checks behind the items of a section
 
@@ -130,7 +130,7 @@ abbrev pub after_counts : List ℕ → Header → ExtendedHeader → List Check
 after_counts b h x = counts_checks b h ++ (extended_section_checks b x ++ end_checks b (extended_end_of x))
 
 abbrev pub after_offsets : List ℕ → Header → List Check
-after_offsets b h = ending_checks b (table_of b h) (end_of h) (offsets_from h) h.texts ++ behind_checks b h
+after_offsets b h = ending_checks b (table_of b h) (end_of h) (offsets_from h) h.texts ++ checks_after_table b h
 
 abbrev pub after_numbers : List ℕ → Header → List Check
 after_numbers b h = offset_checks b h.table (offsets_from h) h.texts ++ after_offsets b h
@@ -144,28 +144,28 @@ abbrev pub after_names : List ℕ → Header → List Check
 after_names b h = (nul_check b BadNames (11 + h.names) ∷ []) ++ (flag_checks b (flags_from h) h.flags ++ after_flags b h)
 
 abbrev pub after_words : List ℕ → Header → List Check
-after_words b h = size_checks h ++ (section_checks b h ++ behind_checks b h)
+after_words b h = size_checks h ++ (section_checks b h ++ checks_after_table b h)
 
-abbrev pub after : Section → List ℕ → Header → ExtendedHeader → List Check
-after Magic b h x = magic_checks b ++ (sign_checks b BadHeader 2 5 ++ after_words b (header_of b))
-after Words b h x = after_words b (header_of b)
-after Names b h x = after_names b h
-after Flags b h x = after_flags b h
-after Numbers b h x = after_numbers b h
-after Offsets b h x = after_offsets b h
-after Behind b h x = behind_checks b h
-after Counts b h x = after_counts b h (extended_header_of h b)
-after ExtendedFlags b h x = after_extended_flags b x
-after ExtendedNumbers b h x = after_extended_numbers b x
-after ExtendedValues b h x = after_extended_values b x
-after ExtendedNames b h x = after_extended_names b x
-after End b h x = end_checks b (extended_end_of x)
+abbrev pub checks_after : Section → List ℕ → Header → ExtendedHeader → List Check
+checks_after Magic b h x = magic_checks b ++ (sign_checks b BadHeader 2 5 ++ after_words b (header_of b))
+checks_after Words b h x = after_words b (header_of b)
+checks_after Names b h x = after_names b h
+checks_after Flags b h x = after_flags b h
+checks_after Numbers b h x = after_numbers b h
+checks_after Offsets b h x = after_offsets b h
+checks_after TableEnd b h x = checks_after_table b h
+checks_after Counts b h x = after_counts b h (extended_header_of h b)
+checks_after ExtendedFlags b h x = after_extended_flags b x
+checks_after ExtendedNumbers b h x = after_extended_numbers b x
+checks_after ExtendedValues b h x = after_extended_values b x
+checks_after ExtendedNames b h x = after_extended_names b x
+checks_after End b h x = end_checks b (extended_end_of x)
 
 -- ---- stages
 
 -- the checks that are left at a stage
-abbrev pub left : List ℕ → Stage → List Check
-left bytes s = items_checks bytes s.items ++ after s.section bytes s.header s.part.header
+abbrev pub checks_left : List ℕ → Stage → List Check
+checks_left bytes s = items_checks bytes s.items ++ checks_after s.section bytes s.header s.part.header
 
 -- the header is that of the bytes, and no extended part is known
 pub record KnowsHeader (b : List ℕ) (h : Header) (part : Part) : Type 0 where
@@ -201,7 +201,7 @@ Knows Names b s h part = KnowsHeader b h part
 Knows Flags b s h part = KnowsHeader b h part
 Knows Numbers b s h part = KnowsHeader b h part
 Knows Offsets b s h part = KnowsHeader b h part
-Knows Behind b s h part = KnowsPlain b s h part
+Knows TableEnd b s h part = KnowsPlain b s h part
 Knows Counts b s h part = KnowsHeader b h part
 Knows ExtendedFlags b s h part = KnowsBoth b h part
 Knows ExtendedNumbers b s h part = KnowsBoth b h part
@@ -211,7 +211,7 @@ Knows End b s h part = KnowsAll b s h part
 
 -- A stage and bytes: what is left to check decides, and no section lies past the limit.
 pub record StandsAt (bytes : List ℕ) (s : Stage) : Type 0 where
-  pub decides : verdict (length bytes) (checks bytes) ≡ verdict (length bytes) (left bytes s)
+  pub decides : verdict (length bytes) (checks bytes) ≡ verdict (length bytes) (checks_left bytes s)
   pub within : s.items.at + item_size s.items.item * s.items.left ≤ most_entry_bytes
   pub fits : end_of s.header ≤ most_entry_bytes
   pub extended_fits : extended_end_of s.part.header ≤ most_entry_bytes
@@ -233,42 +233,42 @@ new_stage =
     }
 
 -- the headers behind the checks between two sections
-abbrev pub header_behind : Section → Header → List ℕ → Header
-header_behind Words h b = header_of b
-header_behind _ h b = h
+abbrev pub header_after : Section → Header → List ℕ → Header
+header_after Words h b = header_of b
+header_after _ h b = h
 
-abbrev pub part_behind : Section → Header → Part → List ℕ → Part
-part_behind Words h part b = record { header = no_capability (header_of b).width; base = 0 }
-part_behind Counts h part b = record part { header = extended_header_of h b }
-part_behind ExtendedNames h part b = record part { base = base_of b part.header }
-part_behind _ h part b = part
+abbrev pub part_after : Section → Header → Part → List ℕ → Part
+part_after Words h part b = record { header = no_capability (header_of b).width; base = 0 }
+part_after Counts h part b = record part { header = extended_header_of h b }
+part_after ExtendedNames h part b = record part { base = base_of b part.header }
+part_after _ h part b = part
 
 -- behind the checks that follow a section
-abbrev pub left_behind : Stage → List ℕ → Stage
-left_behind s b = record s {
-  header = header_behind s.section s.header b;
-  part = part_behind s.section s.header s.part b;
+abbrev pub stage_after : Stage → List ℕ → Stage
+stage_after s b = record s {
+  header = header_after s.section s.header b;
+  part = part_after s.section s.header s.part b;
 }
 
 -- at the front of the next section
-abbrev pub entered : Stage → Stage
-entered s = record s { section = next s.section; items = items_of (next s.section) s.header s.part.header }
+abbrev pub at_next_section : Stage → Stage
+at_next_section s = record s { section = next s.section; items = items_of (next s.section) s.header s.part.header }
 
 -- the bytes that came may be a whole entry
 abbrev pub is_whole : Section → Bool
-is_whole Behind = true
+is_whole TableEnd = true
 is_whole End = true
 is_whole _ = false
 
 -- what the bytes that came are worth where the next check stops
-abbrev pub awaited : Section → Stop → Verdict
-awaited s Early = if is_whole s then Passes else EndsEarly
-awaited s (Failed r) = Fails r
+abbrev pub verdict_at_stop : Section → Stop → Verdict
+verdict_at_stop s Early = if is_whole s then Passes else EndsEarly
+verdict_at_stop s (Failed r) = Fails r
 
 -- the bytes that came decide no more checks than were made
 pub record Waits (bytes : List ℕ) (s : Stage) : Type 0 where
-  pub decides : verdict (length bytes) (checks bytes) ≡ awaited s.section Early
-  pub ends : s.section ≡ Behind → length bytes ≤ end_of s.header
+  pub decides : verdict (length bytes) (checks bytes) ≡ verdict_at_stop s.section Early
+  pub ends : s.section ≡ TableEnd → length bytes ≤ end_of s.header
 
 -- the sections that are still to come, for the measure
 abbrev pub sections_left : Section → ℕ
@@ -278,7 +278,7 @@ sections_left Names = 10
 sections_left Flags = 9
 sections_left Numbers = 8
 sections_left Offsets = 7
-sections_left Behind = 6
+sections_left TableEnd = 6
 sections_left Counts = 5
 sections_left ExtendedFlags = 4
 sections_left ExtendedNumbers = 3

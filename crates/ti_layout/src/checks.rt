@@ -7,7 +7,7 @@
 ghost use Rattle.std.specs.Prelude.{◌≡◌, ◌+◌, ◌*◌, ◌<◌, ◌≤◌, ◌^◌, ◌∷◌, [], length, map, take, drop, OnOk};
 ghost use Rattle.ti_words.specs.Widths.{number_size as the_number_size};
 ghost use Rattle.ti_layout.specs.Layout.{places};
-ghost use Rattle.ti_layout.specs.Checks.{verdict, verdict_of, sign_check, name_check, nul_check, flag_check, number_check, offset_check, flag_checks, pad_checks, number_checks, offset_checks, ending_checks, sign_checks, is_offset_below as the_is_offset_below};
+ghost use Rattle.ti_layout.specs.Checks.{verdict, result_verdict, sign_check, name_check, nul_check, flag_check, number_check, offset_check, flag_checks, pad_checks, number_checks, offset_checks, ending_checks, sign_checks, is_offset_below as the_is_offset_below};
 ghost use Rattle.ti_layout.specs.Reach.{IsReach, reach_check, name_reach_checks, all_name_reach_checks, is_before as the_is_before};
 
 use crate::fault::{Fault, Refused, Stop};
@@ -61,7 +61,7 @@ pub(crate) fn reach_of(table: &[u8]) -> usize
 /// The word at a place is not negative.
 pub(crate) fn check_sign(bytes: &[u8], fault: Fault, place: usize) -> Result<(), Stop>
     requires { place < 2 ^ 33 }
-    ensures { verdict_of result
+    ensures { result_verdict result
         ≡ verdict (length bytes.now) (sign_check bytes.now fault place ∷ []) }
 {
     if bytes.len() < place + 2 {
@@ -76,7 +76,7 @@ pub(crate) fn check_sign(bytes: &[u8], fault: Fault, place: usize) -> Result<(),
 /// No NUL stands at a place.
 pub(crate) fn check_name(bytes: &[u8], place: usize) -> Result<(), Stop>
     requires { place < 2 ^ 33 }
-    ensures { verdict_of result ≡ verdict (length bytes.now) (name_check bytes.now place ∷ []) }
+    ensures { result_verdict result ≡ verdict (length bytes.now) (name_check bytes.now place ∷ []) }
 {
     if bytes.len() < place + 1 {
         return Err(Stop::Early);
@@ -93,7 +93,7 @@ pub(crate) fn check_name(bytes: &[u8], place: usize) -> Result<(), Stop>
 /// A NUL stands at a place.
 pub(crate) fn check_nul(bytes: &[u8], fault: Fault, place: usize) -> Result<(), Stop>
     requires { place < 2 ^ 33 }
-    ensures { verdict_of result
+    ensures { result_verdict result
         ≡ verdict (length bytes.now) (nul_check bytes.now fault place ∷ []) }
 {
     if bytes.len() < place + 1 {
@@ -108,7 +108,7 @@ pub(crate) fn check_nul(bytes: &[u8], fault: Fault, place: usize) -> Result<(), 
 /// The byte at a place is a flag.
 pub(crate) fn check_flag(bytes: &[u8], place: usize) -> Result<(), Stop>
     requires { place < 2 ^ 33 }
-    ensures { verdict_of result ≡ verdict (length bytes.now) (flag_check bytes.now place ∷ []) }
+    ensures { result_verdict result ≡ verdict (length bytes.now) (flag_check bytes.now place ∷ []) }
 {
     if bytes.len() < place + 1 {
         return Err(Stop::Early);
@@ -125,7 +125,7 @@ pub(crate) fn check_flag(bytes: &[u8], place: usize) -> Result<(), Stop>
 /// The number at a place is at least -2.
 pub(crate) fn check_number(bytes: &[u8], width: Width, place: usize) -> Result<(), Stop>
     requires { place < 2 ^ 33 }
-    ensures { verdict_of result
+    ensures { result_verdict result
         ≡ verdict (length bytes.now) (number_check bytes.now (the_number_size width) place ∷ []) }
 {
     if bytes.len() < place + number_size(width) {
@@ -143,7 +143,7 @@ pub(crate) fn check_number(bytes: &[u8], width: Width, place: usize) -> Result<(
 /// The offset at a place is a mark, or a place of the table.
 pub(crate) fn check_offset(bytes: &[u8], table_size: usize, place: usize) -> Result<(), Stop>
     requires { place < 2 ^ 33 }
-    ensures { verdict_of result
+    ensures { result_verdict result
         ≡ verdict (length bytes.now) (offset_check bytes.now table_size place ∷ []) }
 {
     if bytes.len() < place + 2 {
@@ -162,7 +162,7 @@ pub(crate) fn check_offset(bytes: &[u8], table_size: usize, place: usize) -> Res
 /// The text whose offset stands at a place begins before the reach of the table.
 fn check_ending(bytes: &[u8], reach: usize, end: usize, place: usize) -> Result<(), Stop>
     requires { place + 2 ≤ end }
-    ensures { verdict_of result
+    ensures { result_verdict result
         ≡ verdict (length bytes.now) (reach_check bytes.now reach end place ∷ []) }
 {
     if bytes.len() < end {
@@ -181,7 +181,7 @@ fn check_ending(bytes: &[u8], reach: usize, end: usize, place: usize) -> Result<
 fn check_name_place(bytes: &[u8], table: &NameTable, place: usize) -> Result<(), Stop>
     requires within { place + 2 ≤ table.now.end }
     requires small { table.now.base < 2 ^ 32 }
-    ensures { verdict_of result
+    ensures { result_verdict result
         ≡ verdict (length bytes.now) (name_reach_checks bytes.now table.now place) }
 {
     if bytes.len() < table.end {
@@ -206,7 +206,7 @@ fn check_name_place(bytes: &[u8], table: &NameTable, place: usize) -> Result<(),
 /// No word of a section is negative.
 pub(crate) fn check_signs(bytes: &[u8], fault: Fault, from: usize, count: usize) -> Result<(), Stop>
     requires { from + 2 * count < 2 ^ 32 }
-    ensures { verdict_of result
+    ensures { result_verdict result
         ≡ verdict (length bytes.now) (sign_checks bytes.now fault from count) }
 {
     if are_not_negative(bytes, fault, from, count) {
@@ -221,7 +221,7 @@ pub(crate) fn check_signs(bytes: &[u8], fault: Fault, from: usize, count: usize)
 /// No NUL stands in a section.
 pub(crate) fn check_no_nuls(bytes: &[u8], from: usize, count: usize) -> Result<(), Stop>
     requires { from + count < 2 ^ 32 }
-    ensures { verdict_of result
+    ensures { result_verdict result
         ≡ verdict (length bytes.now) (map (name_check bytes.now) (places from 1 count)) }
 {
     if are_no_nuls(bytes, from, count) {
@@ -236,7 +236,7 @@ pub(crate) fn check_no_nuls(bytes: &[u8], from: usize, count: usize) -> Result<(
 /// Each byte of a section is a flag.
 pub(crate) fn check_flags(bytes: &[u8], from: usize, count: usize) -> Result<(), Stop>
     requires { from + count < 2 ^ 32 }
-    ensures { verdict_of result ≡ verdict (length bytes.now) (flag_checks bytes.now from count) }
+    ensures { result_verdict result ≡ verdict (length bytes.now) (flag_checks bytes.now from count) }
 {
     if are_flags(bytes, from, count) {
         return Ok(());
@@ -250,7 +250,7 @@ pub(crate) fn check_flags(bytes: &[u8], from: usize, count: usize) -> Result<(),
 /// The byte after an odd count is 0.
 pub(crate) fn check_pad(bytes: &[u8], from: usize, count: usize) -> Result<(), Stop>
     requires { from < 2 ^ 32 }
-    ensures { verdict_of result ≡ verdict (length bytes.now) (pad_checks bytes.now from count) }
+    ensures { result_verdict result ≡ verdict (length bytes.now) (pad_checks bytes.now from count) }
 {
     if count % 2 == 0 {
         return Ok(());
@@ -266,7 +266,7 @@ pub(crate) fn check_numbers(
     count: usize,
 ) -> Result<(), Stop>
     requires { from + the_number_size width * count < 2 ^ 32 }
-    ensures { verdict_of result
+    ensures { result_verdict result
         ≡ verdict (length bytes.now) (number_checks bytes.now (the_number_size width) from count) }
 {
     if are_numbers(bytes, width, from, count) {
@@ -286,7 +286,7 @@ pub(crate) fn check_offsets(
     count: usize,
 ) -> Result<(), Stop>
     requires { from + 2 * count < 2 ^ 32 }
-    ensures { verdict_of result
+    ensures { result_verdict result
         ≡ verdict (length bytes.now) (offset_checks bytes.now table_size from count) }
 {
     if are_offsets(bytes, table_size, from, count) {
@@ -308,7 +308,7 @@ pub(crate) fn check_endings(
 ) -> Result<(), Stop>
     requires before { from + 2 * count ≤ table_from }
     requires fits { table_from + table_size < 2 ^ 32 }
-    ensures verdict { verdict_of result ≡ verdict (length bytes.now) (ending_checks bytes.now
+    ensures verdict { result_verdict result ≡ verdict (length bytes.now) (ending_checks bytes.now
         (take table_size (drop table_from bytes.now)) (table_from + table_size) from count) }
     ensures there { OnOk result (table_from + table_size ≤ length bytes.now) }
 {
@@ -331,7 +331,7 @@ fn check_each_ending(
     requires before { from + 2 * count ≤ end }
     requires there { end ≤ length bytes.now }
     requires fits { end < 2 ^ 32 }
-    ensures { verdict_of result
+    ensures { result_verdict result
         ≡ verdict (length bytes.now) (map (reach_check bytes.now reach end) (places from 2 count)) }
 {
     if are_before(bytes, reach, end, from, count) {
@@ -354,7 +354,7 @@ pub(crate) fn check_name_places(
     requires there { table.now.end ≤ length bytes.now }
     requires fits { table.now.end < 2 ^ 32 }
     requires small { table.now.base < 2 ^ 32 }
-    ensures { verdict_of result ≡ verdict (length bytes.now)
+    ensures { result_verdict result ≡ verdict (length bytes.now)
         (all_name_reach_checks bytes.now table.now (places from 2 count)) }
 {
     if are_names(bytes, table, from, count) {

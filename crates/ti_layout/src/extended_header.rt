@@ -4,7 +4,7 @@
 
 ghost use Rattle.std.specs.Prelude.{◌≡◌, ◌+◌, ◌*◌, ◌<◌, ◌≤◌, ◌^◌, ◌++◌, length, OnOk};
 ghost use Rattle.ti_base.specs.Limits.{most_entry_bytes};
-ghost use Rattle.ti_layout.specs.Checks.{verdict, verdict_of, pad_checks};
+ghost use Rattle.ti_layout.specs.Checks.{verdict, result_verdict, pad_checks};
 ghost use Rattle.ti_layout.specs.Refusal.{room_checks, extended_size_checks};
 ghost use Rattle.ti_layout.specs.Layout.{kind_count, kind_names_from, end_of, extended_from, extended_header_of, extended_flags_from, extended_pad_from, extended_numbers_from, extended_values_from, extended_names_from, extended_name_count, extended_table_from, extended_end_of};
 
@@ -140,7 +140,7 @@ pub(crate) fn extended_words(bytes: &[u8], header: &Header) -> ExtendedHeader
 /// A byte follows the string table, and the limit leaves room for the extended header.
 fn check_room(len: usize, header: &Header) -> Result<(), Stop>
     requires { end_of header.now ≤ most_entry_bytes }
-    ensures { verdict_of result ≡ verdict len (room_checks header.now) }
+    ensures { result_verdict result ≡ verdict len (room_checks header.now) }
 {
     if len < header.end() + 1 {
         return Err(Stop::Early);
@@ -157,7 +157,7 @@ fn check_room(len: usize, header: &Header) -> Result<(), Stop>
 /// There is room, and the pad is 0.
 pub(crate) fn check_start(bytes: &[u8], header: &Header) -> Result<(), Stop>
     requires { end_of header.now ≤ most_entry_bytes }
-    ensures { verdict_of result ≡ verdict (length bytes.now)
+    ensures { result_verdict result ≡ verdict (length bytes.now)
         (room_checks header.now ++ pad_checks bytes.now (end_of header.now) header.now.table) }
 {
     check_room(bytes.len(), header)?;
@@ -167,7 +167,7 @@ pub(crate) fn check_start(bytes: &[u8], header: &Header) -> Result<(), Stop>
 /// With its extended part the entry has at most as many bytes as an entry may have.
 pub(crate) fn check_extended_size(len: usize, extended: &ExtendedHeader) -> Result<(), Stop>
     requires { extended_end_of extended.now < 2 ^ 32 }
-    ensures verdict { verdict_of result ≡ verdict len (extended_size_checks extended.now) }
+    ensures verdict { result_verdict result ≡ verdict len (extended_size_checks extended.now) }
     ensures fits { OnOk result (extended_end_of extended.now ≤ most_entry_bytes) }
 {
     if len < extended.flags_from() {

@@ -4,7 +4,7 @@
 
 ghost use Rattle.std.specs.Prelude.{◌≡◌, ◌<◌, ◌≤◌, ◌^◌, length, OnOk};
 ghost use Rattle.ti_base.specs.Limits.{most_entry_bytes};
-ghost use Rattle.ti_layout.specs.Checks.{verdict, verdict_of};
+ghost use Rattle.ti_layout.specs.Checks.{verdict, result_verdict};
 ghost use Rattle.ti_layout.specs.Refusal.{magic_checks, size_checks};
 ghost use Rattle.ti_layout.specs.Layout.{header_of, end_of, width_of as the_width_of, flags_from as the_flags_from, pad_from as the_pad_from, numbers_from as the_numbers_from, offsets_from as the_offsets_from, table_from as the_table_from, extended_from as the_extended_from};
 
@@ -115,7 +115,7 @@ pub fn header_words(bytes: &[u8]) -> Header
 
 /// The first two bytes are the magic number of a format.
 pub(crate) fn check_magic(bytes: &[u8]) -> Result<(), Stop>
-    ensures { verdict_of result ≡ verdict (length bytes.now) (magic_checks bytes.now) }
+    ensures { result_verdict result ≡ verdict (length bytes.now) (magic_checks bytes.now) }
 {
     if bytes.len() < 2 {
         return Err(Stop::Early);
@@ -132,7 +132,7 @@ pub(crate) fn check_magic(bytes: &[u8]) -> Result<(), Stop>
 /// The whole has at most as many bytes as an entry may have, and the names have one byte beside their NUL.
 pub(crate) fn check_sizes(len: usize, header: &Header) -> Result<(), Stop>
     requires { end_of header.now < 2 ^ 32 }
-    ensures verdict { verdict_of result ≡ verdict len (size_checks header.now) }
+    ensures verdict { result_verdict result ≡ verdict len (size_checks header.now) }
     ensures named { OnOk result (2 ≤ header.now.names) }
     ensures fits { OnOk result (end_of header.now ≤ most_entry_bytes) }
 {

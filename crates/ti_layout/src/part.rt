@@ -5,7 +5,7 @@
 
 ghost use Rattle.std.specs.Prelude.{◌≡◌, ◌+◌, ◌*◌, ◌<◌, ◌≤◌, ◌^◌, length, min, IfOk, OnOk};
 ghost use Rattle.ti_base.specs.Limits.{most_entry_bytes};
-ghost use Rattle.ti_layout.specs.Checks.{verdict, verdict_of};
+ghost use Rattle.ti_layout.specs.Checks.{verdict, result_verdict};
 ghost use Rattle.ti_layout.specs.Refusal.{extended_name_checks, extended_text_checks};
 ghost use Rattle.ti_layout.specs.Layout.{places, extended_names_from, extended_name_count, extended_end_of, no_capability};
 ghost use Rattle.ti_layout.specs.Table.{sizes_at, extended_table_of, base_of as the_base_of};
@@ -61,7 +61,7 @@ fn check_names_from(bytes: &[u8], extended: &ExtendedHeader, base: usize) -> Res
     requires fits { extended_end_of extended.now ≤ most_entry_bytes }
     requires there { extended_end_of extended.now ≤ length bytes.now }
     requires base { base ≡ min (the_base_of bytes.now extended.now) extended.now.table }
-    ensures verdict { verdict_of result
+    ensures verdict { result_verdict result
         ≡ verdict (length bytes.now) (extended_name_checks bytes.now extended.now) }
     ensures exact { OnOk result (base ≡ the_base_of bytes.now extended.now) }
 {
@@ -80,7 +80,7 @@ fn check_names_from(bytes: &[u8], extended: &ExtendedHeader, base: usize) -> Res
 #[tactic(auto, using(crate::proofs::VerdictLemmas::verdict_append))]
 pub(crate) fn check_texts(bytes: &[u8], extended: &ExtendedHeader) -> Result<usize, Stop>
     requires { extended_end_of extended.now ≤ most_entry_bytes }
-    ensures verdict { verdict_of result
+    ensures verdict { result_verdict result
         ≡ verdict (length bytes.now) (extended_text_checks bytes.now extended.now) }
     ensures base { IfOk result (λ base. base ≡ the_base_of bytes.now extended.now) }
     ensures most { IfOk result (λ base. base ≤ most_entry_bytes) }

@@ -3,7 +3,7 @@
 ghost use Rattle.std.specs.Prelude.{◌≡◌, ◌+◌, ◌*◌, ◌<◌, ◌≤◌, length};
 ghost use Rattle.ti_base.specs.Limits.{most_entry_bytes};
 ghost use Rattle.ti_layout.specs.Layout.{end_of, extended_end_of};
-ghost use Rattle.ti_layout.specs.Checks.{verdict, verdict_of};
+ghost use Rattle.ti_layout.specs.Checks.{verdict, result_verdict};
 ghost use Rattle.ti_layout.specs.Stages.{item_size, items_checks, first_items, items_after, items_of, next};
 
 use crate::checks::{check_flags, check_no_nuls, check_numbers, check_offsets, check_signs};
@@ -43,7 +43,7 @@ pub(crate) enum Section {
     Flags,
     Numbers,
     Offsets,
-    Behind,
+    TableEnd,
     Counts,
     ExtendedFlags,
     ExtendedNumbers,
@@ -85,7 +85,7 @@ impl Items {
     pub(crate) fn check(self, bytes: &[u8], count: usize) -> Result<(), Stop>
         requires most { count ≤ self.left }
         requires within { self.at + item_size self.item * self.left ≤ most_entry_bytes }
-        ensures { verdict_of result
+        ensures { result_verdict result
             ≡ verdict (length bytes.now) (items_checks bytes.now (first_items count self)) }
     {
         match self.item {
@@ -121,8 +121,8 @@ impl Section {
             Section::Names => Section::Flags,
             Section::Flags => Section::Numbers,
             Section::Numbers => Section::Offsets,
-            Section::Offsets => Section::Behind,
-            Section::Behind => Section::Counts,
+            Section::Offsets => Section::TableEnd,
+            Section::TableEnd => Section::Counts,
             Section::Counts => Section::ExtendedFlags,
             Section::ExtendedFlags => Section::ExtendedNumbers,
             Section::ExtendedNumbers => Section::ExtendedValues,
@@ -145,7 +145,7 @@ impl Section {
             Section::ExtendedValues => Item::Offset(extended.table),
             Section::ExtendedNames => Item::Sign(Fault::BadExtendedName),
             Section::Flags | Section::ExtendedFlags => Item::Flag,
-            Section::Magic | Section::Behind | Section::End => Item::Flag,
+            Section::Magic | Section::TableEnd | Section::End => Item::Flag,
         }
     }
 
@@ -166,7 +166,7 @@ impl Section {
             Section::ExtendedNumbers => extended.numbers_from(),
             Section::ExtendedValues => extended.values_from(),
             Section::ExtendedNames => extended.names_from(),
-            Section::Magic | Section::Behind | Section::End => 0,
+            Section::Magic | Section::TableEnd | Section::End => 0,
         }
     }
 
@@ -186,7 +186,7 @@ impl Section {
             Section::ExtendedNumbers => extended.numbers,
             Section::ExtendedValues => extended.texts,
             Section::ExtendedNames => extended.name_count(),
-            Section::Magic | Section::Behind | Section::End => 0,
+            Section::Magic | Section::TableEnd | Section::End => 0,
         }
     }
 

@@ -7,9 +7,9 @@
 ghost use Rattle.std.specs.Prelude.{◌≡◌, ◌≢◌, ℕ, List, ◌+◌, ◌*◌, ◌<◌, ◌≤◌, ◌^◌, ◌++◌, ◌∷◌, [], length, IfOk, IfErr, OnOk, Err, Some};
 ghost use Rattle.ti_base.specs.Limits.{most_entry_bytes};
 ghost use Rattle.ti_layout.specs.Layout.{header_of, end_of, extended_header_of, extended_end_of};
-ghost use Rattle.ti_layout.specs.Checks.{verdict, verdict_of};
+ghost use Rattle.ti_layout.specs.Checks.{verdict, result_verdict};
 ghost use Rattle.ti_layout.specs.Refusal.{size_checks, checks, failure};
-ghost use Rattle.ti_layout.specs.Stages.{item_size, between, StandsAt, Stands, Waits, new_stage, left_behind, entered, awaited, steps_left, counts_checks, no_more_check, is_whole};
+ghost use Rattle.ti_layout.specs.Stages.{item_size, checks_between, StandsAt, Stands, Waits, new_stage, stage_after, at_next_section, verdict_at_stop, steps_left, counts_checks, no_more_check, is_whole};
 ghost use Rattle.ti_layout.specs.declared.fault.Stop.TheVariants.{Early};
 
 use crate::checks::{check_endings, check_nul, check_pad, check_sign};
@@ -31,7 +31,7 @@ pub struct Stage {
 
 /// The header, where the checks of the sizes in it pass.
 fn sized_header(bytes: &[u8]) -> Result<Header, Stop>
-    ensures verdict { verdict_of result
+    ensures verdict { result_verdict result
         ≡ verdict (length bytes.now) (size_checks (header_of bytes.now)) }
     ensures words { IfOk result (λ h. h ≡ header_of bytes.now) }
 {
@@ -46,7 +46,7 @@ fn sized_header(bytes: &[u8]) -> Result<Header, Stop>
 /// The extended header, where its last word and the sizes in it pass.
 fn sized_extended_header(bytes: &[u8], header: &Header) -> Result<ExtendedHeader, Stop>
     requires { end_of header.now ≤ most_entry_bytes }
-    ensures verdict { verdict_of result
+    ensures verdict { result_verdict result
         ≡ verdict (length bytes.now) (counts_checks bytes.now header.now) }
     ensures words { IfOk result (λ x. x ≡ extended_header_of header.now bytes.now) }
 {
@@ -59,7 +59,7 @@ fn sized_extended_header(bytes: &[u8], header: &Header) -> Result<ExtendedHeader
 /// No byte stands behind the end, where one is asked for.
 fn check_no_more(len: usize, end: usize) -> Result<(), Stop>
     requires { end < 2 ^ 32 }
-    ensures { verdict_of result ≡ verdict len (no_more_check end ∷ []) }
+    ensures { result_verdict result ≡ verdict len (no_more_check end ∷ []) }
 {
     if len <= end {
         return Err(Stop::Early);
@@ -100,9 +100,9 @@ impl Stage {
         requires fits { end_of self.old.header ≤ most_entry_bytes }
         requires extended_fits { extended_end_of self.old.part.header ≤ most_entry_bytes }
         requires base_fits { self.old.part.base ≤ most_entry_bytes }
-        ensures verdict { verdict_of result ≡ verdict (length bytes.now)
-            (between self.old.section self.old.header self.old.part.header bytes.now) }
-        ensures kept { OnOk result (self.new ≡ left_behind self.old bytes.now) }
+        ensures verdict { result_verdict result ≡ verdict (length bytes.now)
+            (checks_between self.old.section self.old.header self.old.part.header bytes.now) }
+        ensures kept { OnOk result (self.new ≡ stage_after self.old bytes.now) }
         ensures base_fits { OnOk result (self.new.part.base ≤ most_entry_bytes) }
         ensures same { IfErr result (λ stop. self.new ≡ self.old) }
     {
@@ -123,7 +123,7 @@ impl Stage {
                 header.offsets_from(),
                 header.texts,
             )?,
-            Section::Behind => check_start(bytes, &header)?,
+            Section::TableEnd => check_start(bytes, &header)?,
             Section::Counts => self.part.header = sized_extended_header(bytes, &header)?,
             Section::ExtendedFlags => check_pad(bytes, extended.pad_from(), extended.flags)?,
             Section::ExtendedNames => self.part.base = check_texts(bytes, &extended)?,
@@ -139,7 +139,7 @@ impl Stage {
         ensures stands { OnOk result (Stands bytes.now self.new) }
         ensures less { OnOk result (steps_left self.new < steps_left self.old) }
         ensures verdict { IfErr result (λ stop. verdict (length bytes.now) (checks bytes.now)
-            ≡ awaited self.old.section stop) }
+            ≡ verdict_at_stop self.old.section stop) }
         ensures waits { result ≡ Err Early → Waits bytes.now self.old }
         ensures same { IfErr result (λ stop. self.new ≡ self.old) }
     {
@@ -172,7 +172,7 @@ impl Stage {
         }
         match self.section {
             Section::Offsets => self.header.end(),
-            Section::Behind => self.header.end() + 1,
+            Section::TableEnd => self.header.end() + 1,
             Section::ExtendedNames => self.part.header.end(),
             Section::End => self.part.header.end() + 1,
             _ => 0,
@@ -217,6 +217,6 @@ impl Stage {
     pub fn is_whole(&self) -> bool
         ensures { result ≡ is_whole self.now.section }
     {
-        matches!(self.section, Section::Behind | Section::End)
+        matches!(self.section, Section::TableEnd | Section::End)
     }
 }

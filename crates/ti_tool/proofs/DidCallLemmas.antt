@@ -7,7 +7,7 @@ use Rattle.ti_tool.specs.declared.fault.ToolFault.{ToolFault}
 use Rattle.ti_tool.specs.declared.fault.ToolFault.TheVariants as fault
 use Rattle.ti_layout.specs.declared.fault.Refused.{Refused}
 use Rattle.ti_layout.specs.Refusal.{refusal, failure}
-use Rattle.ti_entry.specs.Reading.{Reading, new_reading, fed}
+use Rattle.ti_entry.specs.Reading.{Reading, new_reading, reading_after}
 use Rattle.ti_tool.specs.inner.ReadsInto.{ReadsInto}
 use Rattle.ti_tool.specs.Calls.{Wrote, HasReadEnough, DidCall, HasFailed}
 use Rattle.ti_tool.specs.inner.Kept.{StopsReading}
@@ -94,5 +94,5 @@ did_stop due left0 left1 held fault.NoSuchText s h = absurd s
 did_stop due left0 left1 held (fault.TooMuch need) s h = absurd s
 
 -- what a new reader refused is why the bytes fail
-pub stopped_on : (bytes : List ℕ) (old new : Reading) (r : Refused) → old ≡ new_reading → new ≡ fed old bytes → new.refusal ≡ Some r → failure bytes ≡ Some r
-stopped_on bytes old new r o n h = ap (λ x. (fed x bytes).refusal) (sym o) ∙ ap (λ x. x.refusal) (sym n) ∙ h
+pub stopped_on : (bytes : List ℕ) (old new : Reading) (r : Refused) → old ≡ new_reading → new ≡ reading_after old bytes → new.refusal ≡ Some r → failure bytes ≡ Some r
+stopped_on bytes old new r o n h = ap (λ x. (reading_after x bytes).refusal) (sym o) ∙ ap (λ x. x.refusal) (sym n) ∙ h

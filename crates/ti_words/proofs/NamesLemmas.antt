@@ -29,16 +29,16 @@ names_differ = IsDistinct-from_count nat_list_eq_equiv (keys_of places) refl
 -- ---- from rows to places and back
 
 -- the places of numbers and texts
-abbrev behind_flags : List (List ℕ × Place)
-behind_flags = map (named_place kinds.Number) number_rows ++ map (named_place kinds.Text) text_rows
+abbrev after_flags : List (List ℕ × Place)
+after_flags = map (named_place kinds.Number) number_rows ++ map (named_place kinds.Text) text_rows
 
 to_places : (kind : Kind) (row : Row) → Has (rows kind) row → Has places (named_place kind row)
-to_places kinds.Flag row h = has_left (map (named_place kinds.Flag) flag_rows) behind_flags _ (has_mapped (named_place kinds.Flag) flag_rows row h)
+to_places kinds.Flag row h = has_left (map (named_place kinds.Flag) flag_rows) after_flags _ (has_mapped (named_place kinds.Flag) flag_rows row h)
 to_places kinds.Number row h =
-    has_right (map (named_place kinds.Flag) flag_rows) behind_flags _
+    has_right (map (named_place kinds.Flag) flag_rows) after_flags _
     (has_left (map (named_place kinds.Number) number_rows) (map (named_place kinds.Text) text_rows) _ (has_mapped (named_place kinds.Number) number_rows row h))
 to_places kinds.Text row h =
-    has_right (map (named_place kinds.Flag) flag_rows) behind_flags _
+    has_right (map (named_place kinds.Flag) flag_rows) after_flags _
     (has_right (map (named_place kinds.Number) number_rows) (map (named_place kinds.Text) text_rows) _ (has_mapped (named_place kinds.Text) text_rows row h))
 
 -- a name and a place that a row of the kind makes
@@ -48,7 +48,7 @@ from_rows kind name place h =
     subst (λ (p : List ℕ × Place). Has (rows p.1.0) (p.1.1, p.0)) m.2 m.1
 
 from_places : (name : List ℕ) (place : Place) → Has places (name, place) → Has (rows place.0) (place.1, name)
-from_places name place h = elim (has_either (map (named_place kinds.Flag) flag_rows) behind_flags (name, place) h) [
+from_places name place h = elim (has_either (map (named_place kinds.Flag) flag_rows) after_flags (name, place) h) [
   | inl a ↦ from_rows kinds.Flag name place a
   | inr b ↦ elim (has_either (map (named_place kinds.Number) number_rows) (map (named_place kinds.Text) text_rows) (name, place) b) [
     | inl c ↦ from_rows kinds.Number name place c
@@ -127,19 +127,19 @@ lookup_right t [] ys e = refl
 lookup_right t (x ∷ xs) ys e = lookup_right_by (t x.0) x.1 (lookup t xs) (lookup t (xs ++ ys)) (lookup t ys) e (lookup_right t xs ys)
 
 pub in_flags : (name : List ℕ) (place : Place) → lookup (bytes_eq name) (map (named_place kinds.Flag) flag_rows) ≡ Some place → place_of name ≡ Some place
-in_flags name place e = lookup_left (bytes_eq name) (map (named_place kinds.Flag) flag_rows) behind_flags place e
+in_flags name place e = lookup_left (bytes_eq name) (map (named_place kinds.Flag) flag_rows) after_flags place e
 
 pub in_numbers : (name : List ℕ) (place : Place) → lookup (bytes_eq name) (map (named_place kinds.Flag) flag_rows) ≡ None
     → lookup (bytes_eq name) (map (named_place kinds.Number) number_rows) ≡ Some place → place_of name ≡ Some place
 in_numbers name place none e =
-    lookup_right (bytes_eq name) (map (named_place kinds.Flag) flag_rows) behind_flags none
+    lookup_right (bytes_eq name) (map (named_place kinds.Flag) flag_rows) after_flags none
     ∙ lookup_left (bytes_eq name) (map (named_place kinds.Number) number_rows) (map (named_place kinds.Text) text_rows) place e
 
 pub in_texts : (name : List ℕ) → lookup (bytes_eq name) (map (named_place kinds.Flag) flag_rows) ≡ None
     → lookup (bytes_eq name) (map (named_place kinds.Number) number_rows) ≡ None
     → lookup (bytes_eq name) (map (named_place kinds.Text) text_rows) ≡ place_of name
 in_texts name none none' = sym
-    (lookup_right (bytes_eq name) (map (named_place kinds.Flag) flag_rows) behind_flags none
+    (lookup_right (bytes_eq name) (map (named_place kinds.Flag) flag_rows) after_flags none
     ∙ lookup_right (bytes_eq name) (map (named_place kinds.Number) number_rows) (map (named_place kinds.Text) text_rows) none')
 
 -- what `find` answers, by its value

@@ -158,4 +158,4 @@ pub record Spells (bytes : List ℕ) (v : EntryValue) : Type 0 where
   pub table : List ℕ
   pub rest : List ℕ
   pub sections : HasSections v table rest bytes
-  pub behind : HasNoExtendedPart v rest ⊎ HasExtendedPart v (length table) rest
+  pub extended : HasNoExtendedPart v rest ⊎ HasExtendedPart v (length table) rest

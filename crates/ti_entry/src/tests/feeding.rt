@@ -21,13 +21,13 @@ fn assert_decided(rt: &impl Abort, bytes: &[u8], want: Refused, kept: usize) {
     let mut whole = EntryReader::new();
     assert_eq!(rt; whole.feed(bytes).err(), Some(want), "at {kept}");
     assert_refused(rt, &mut whole, want, kept);
-    let (before, behind) = bytes.split_at(kept.min(bytes.len()));
+    let (before, after) = bytes.split_at(kept.min(bytes.len()));
     let mut single = EntryReader::new();
     for byte in before {
         assert!(rt; single.feed(&[*byte]).is_ok());
     }
     assert_eq!(rt; single.kept(), kept);
-    let deciding = &behind[..behind.len().min(1)];
+    let deciding = &after[..after.len().min(1)];
     assert_eq!(rt; single.feed(deciding).err(), Some(want), "at {kept}");
     assert_refused(rt, &mut single, want, kept);
 }
@@ -99,7 +99,7 @@ fn decided_at_a_wide_number(rt: HostRuntime) {
 }
 
 #[test]
-fn decided_behind_the_end(rt: HostRuntime) -> Result<(), Fail> {
+fn decided_after_the_end(rt: HostRuntime) -> Result<(), Fail> {
     let trailing = Refused {
         fault: Fault::Trailing,
         place: 53,

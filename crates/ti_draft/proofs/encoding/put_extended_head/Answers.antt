@@ -3,7 +3,7 @@ use Rattle.std.proofs.lemmas.List.{length-append, length-map}
 use Rattle.ti_words.specs.Texts.{text_value}
 use Rattle.ti_words.specs.Spelling.{mark_in, pad, count_word, extended_names}
 use Rattle.ti_draft.specs.Canonical.{texts_table, names_table, present}
-use Rattle.ti_draft.specs.Lengths.{capped}
+use Rattle.ti_draft.specs.Lengths.{capped_count}
 use Rattle.ti_draft.proofs.CappedCountLemmas.{whole}
 use Rattle.ti_draft.proofs.EncodeFaultLemmas.{small, small_extended}
 use Rattle.ti_draft.proofs.CanonicalLemmas.{after_as}
@@ -48,7 +48,7 @@ returns g c =
     let out = c.args.out.now.items in
     let t = length (texts_table v.texts) in
     let few = (small_extended v c.requires.fit c.requires.extended).table in
-    let plain = whole t c.texts_len.result (small v c.requires.fit).table (c.texts_len.ensures ∙ ap (λ ts. capped (length (texts_table ts))) c.texts.ensures) in
+    let plain = whole t c.texts_len.result (small v c.requires.fit).table (c.texts_len.ensures ∙ ap (λ ts. capped_count (length (texts_table ts))) c.texts.ensures) in
     let table = whole (length (texts_table (map mark_in v.extended_texts)) + length (names_table (extended_names v))) c.extended_table_len.result few c.extended_table_len.ensures in
     let flags : length c.extended_flags-flags.result.now ≡ length v.extended_flags = ap length c.extended_flags-flags.ensures ∙ length-map v.extended_flags mark_in in
     let numbers : length c.extended_numbers-numbers.result.now ≡ length v.extended_numbers = ap length c.extended_numbers-numbers.ensures ∙ length-map v.extended_numbers mark_in in

@@ -1,7 +1,7 @@
 use Rattle.std.proofs.Common.{arith}
-use Rattle.ti_draft.proofs.TableRoomLemmas.{name_begins}
+use Rattle.ti_draft.proofs.TableRoomLemmas.{name_starts}
 use Rattle.ti_draft.proofs.put.put_name_words.Goals as goal
 
 pub put_count-requires : goal.put_count-requires
 put_count-requires g c =
-    name_begins c.args.names.now c.loop-name.name-index c.loop-name.place c.loop-name-test.true (omega arith)
+    name_starts c.args.names.now c.loop-name.name-index c.loop-name.place c.loop-name-test.true (omega arith)

@@ -1,7 +1,7 @@
 use Rattle.std.proofs.Common.{◌≡◌, ◌+◌, ◌-◌, ◌%◌, ◌^◌, ◌==◌, false, length, min, ap, sym, ◌∙◌}
 use Rattle.ti_words.specs.Spelling.{extended_names}
 use Rattle.ti_draft.specs.Canonical.{texts_table, plain_bytes}
-use Rattle.ti_draft.specs.Lengths.{capped, extended_length}
+use Rattle.ti_draft.specs.Lengths.{capped_count, extended_length}
 use Rattle.ti_draft.proofs.CappedCountLemmas.{twice, padded}
 use Rattle.ti_draft.proofs.LengthLemmas.{length_both, table_within}
 use Rattle.ti_draft.proofs.size.encoded_len.Goals as goal
@@ -12,11 +12,11 @@ returns g c =
     let m = 2 ^ 64 - 1 in
     let plain = length (plain_bytes v) in
     let t = length (texts_table v.texts) in
-    let table : c.texts_len-table.result ≡ capped t = c.texts_len-table.ensures ∙ ap (λ ts. capped (length (texts_table ts))) c.texts.ensures in
-    let a : c.saturating_add.result ≡ capped (plain + t % 2) =
+    let table : c.texts_len-table.result ≡ capped_count t = c.texts_len-table.ensures ∙ ap (λ ts. capped_count (length (texts_table ts))) c.texts.ensures in
+    let a : c.saturating_add.result ≡ capped_count (plain + t % 2) =
     c.saturating_add.ensures ∙ ap (λ n. min (n + c.texts_len-table.result % 2) m) c.plain_len-plain.ensures
     ∙ padded m t plain c.texts_len-table.result table (table_within v) in
     let e : (length (extended_names v) == 0) ≡ false = sym c.is_plain.ensures ∙ c.if-is_plain.false in
     c.saturating_add-2.ensures
     ∙ twice m c.saturating_add.result c.extended_len.result (plain + t % 2) (extended_length v) a c.extended_len.ensures
-    ∙ ap capped (sym (length_both v e))
+    ∙ ap capped_count (sym (length_both v e))

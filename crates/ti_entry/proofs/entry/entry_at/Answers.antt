@@ -34,7 +34,7 @@ invariant_of-result c =
     let bytes = c.args.bytes.now in
     let stage = c.args.stage.now in
     let whole : is_whole stage.section ≡ true = sym c.is_whole.ensures ∙ c.if-not-is_whole.false in
-    rw (c.header.ensures, c.part.ensures) (whole_is_view bytes stage (stands_now bytes stage c.requires.stands) c.requires.waits whole).is_held
+    rw (c.header.ensures, c.part.ensures) (whole_is_view bytes stage (stands_now bytes stage c.requires.stands) c.requires.waits whole).laid_out
 
 pub returns-clause-found : goal.returns-clause-found
 returns-clause-found c =

@@ -1,5 +1,5 @@
 use Rattle.std.proofs.Common.{◌≡◌, None, ◌∙◌, sym, take, arith}
-use Rattle.ti_entry.proofs.FeedLemmas.{fed-longer, answer_under-ok}
+use Rattle.ti_entry.proofs.FeedLemmas.{reading_after-longer, answer_under-ok}
 use Rattle.ti_entry.proofs.FeedsFromLemmas.{FeedsFrom-nil, FeedsFrom-refused, FeedsFrom-end, FeedsFrom-kept, FeedsFrom-next}
 use Rattle.ti_entry.proofs.source.read_from.Goals as goal
 
@@ -28,7 +28,7 @@ returns-in-Err-feed-clause-fed g c =
 pub source-smaller-in_default-feed : goal.source-smaller-in_default-feed
 source-smaller-in_default-feed g c =
     let none : c.feed.new.self.refusal ≡ None = answer_under-ok _ _ _ c.in_default-feed.is c.feed.ensures.answer in
-    let longer = fed-longer c.source.reader c.feed.new.self (take c.in-Ok.count c.read.new.buf) c.source.invariant.unrefused c.feed.ensures.fed none in
+    let longer = reading_after-longer c.source.reader c.feed.new.self (take c.in-Ok.count c.read.new.buf) c.source.invariant.unrefused c.feed.ensures.fed none in
     let most = c.feed.ensures.most in
     let taken = c.in-Ok.ensures.bound.1 in
     let some = c.in-Ok.count-test.1 in

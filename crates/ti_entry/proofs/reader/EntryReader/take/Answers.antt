@@ -4,9 +4,9 @@ use Rattle.std.proofs.Math.Seq.{take-append_seam}
 use Rattle.ti_entry.specs.Reading.{Reading}
 use Rattle.ti_layout.specs.Refusal.{failure}
 use Rattle.ti_layout.specs.Stages.{Stands, Waits}
-use Rattle.ti_entry.proofs.FeedLemmas.{held, same_fed, fed-passes, fed-fails}
+use Rattle.ti_entry.proofs.FeedLemmas.{reading_with, same_reading, reading_after-passes, reading_after-fails}
 use Rattle.ti_layout.proofs.StageStepLemmas.{stands_on, stands_now}
-use Rattle.ti_entry.proofs.WholeStageLemmas.{waits_unfailed}
+use Rattle.ti_entry.proofs.WholeStageLemmas.{waits_none_failed}
 use Rattle.ti_entry.proofs.reader.EntryReader.take.Goals as goal
 
 -- ---- no room
@@ -17,8 +17,8 @@ returns-then-is_full-clause-fed c =
     let none : c.self.inside.refusal ≡ None = ap (λ (r : Reading). r.refusal) c.self.view_is ∙ c.requires in
     let failed : failure (kept ++ c.args.byte ∷ []) ≡ Some c.overfull-refused.result =
     ap (λ (k : List ℕ). failure (k ++ c.args.byte ∷ [])) (sym c.as_slice.ensures.value) ∙ c.overfull-refused.ensures c.args.byte [] in
-    same_fed kept c.args.self.now _ (c.args.byte ∷ []) c.self.inside.refusal c.self.view_is none
-    (fed-fails kept c.args.byte c.overfull-refused.result c.self.invariant.unfailed failed)
+    same_reading kept c.args.self.now _ (c.args.byte ∷ []) c.self.inside.refusal c.self.view_is none
+    (reading_after-fails kept c.args.byte c.overfull-refused.result c.self.invariant.none_failed failed)
 
 -- ---- a byte more
 
@@ -39,7 +39,7 @@ invariant_of-self-then-as_slice-need c =
     let waits = c.need.ensures now (stands_now now c.self.inside.stage stands) (omega arith) in
     record {
       most = subst (λ (k : List ℕ). length k ≤ 32768) c.as_slice-2.ensures.value c.as_slice-2.ensures.fits;
-      unfailed = waits_unfailed now c.self.inside.stage waits;
+      none_failed = waits_none_failed now c.self.inside.stage waits;
       stands = λ e. stands;
       waits = λ e. waits;
     }
@@ -52,9 +52,9 @@ returns-then-as_slice-need-clause-fed c =
     let stands = subst (λ (k : List ℕ). Stands k c.self.inside.stage) (sym c.push.ensures.items) (stands_on kept (c.args.byte ∷ []) c.self.inside.stage (c.self.invariant.stands none)) in
     let long : length c.as_slice-2.result.now ≡ length now = ap length c.as_slice-2.ensures.value in
     let waits = c.need.ensures now (stands_now now c.self.inside.stage stands) (omega arith) in
-    let passes : failure (kept ++ c.args.byte ∷ []) ≡ None = ap failure (sym c.push.ensures.items) ∙ waits_unfailed now c.self.inside.stage waits in
-    same_fed kept c.args.self.now _ (c.args.byte ∷ []) c.self.inside.refusal c.self.view_is none
-    (ap (λ (k : List ℕ). held k c.self.inside.refusal) c.push.ensures.items ∙ ap (held (kept ++ c.args.byte ∷ [])) none ∙ fed-passes kept (c.args.byte ∷ []) passes)
+    let passes : failure (kept ++ c.args.byte ∷ []) ≡ None = ap failure (sym c.push.ensures.items) ∙ waits_none_failed now c.self.inside.stage waits in
+    same_reading kept c.args.self.now _ (c.args.byte ∷ []) c.self.inside.refusal c.self.view_is none
+    (ap (λ (k : List ℕ). reading_with k c.self.inside.refusal) c.push.ensures.items ∙ ap (reading_with (kept ++ c.args.byte ∷ [])) none ∙ reading_after-passes kept (c.args.byte ∷ []) passes)
 
 -- ---- a byte that completes one
 
@@ -69,7 +69,7 @@ invariant_of-self-in-Err c =
     let same = popped c.self.inside.kept.items c.pop.new.self.items c.push.new.self.items c.args.byte _ c.push.ensures.items c.push.ensures.len c.pop.ensures.rest in
     record {
       most = subst (λ (k : List ℕ). length k ≤ 32768) (sym same) c.self.invariant.most;
-      unfailed = ap failure same ∙ c.self.invariant.unfailed;
+      none_failed = ap failure same ∙ c.self.invariant.none_failed;
       stands = λ e. absurd (cc);
       waits = λ e. absurd (cc);
     }
@@ -81,8 +81,8 @@ returns-in-Err-clause-fed c =
     let same = popped kept c.pop.new.self.items c.push.new.self.items c.args.byte _ c.push.ensures.items c.push.ensures.len c.pop.ensures.rest in
     let failed : failure (kept ++ c.args.byte ∷ []) ≡ Some c.in-Err.refused =
     ap failure (sym (c.as_slice-3.ensures.value ∙ c.push.ensures.items)) ∙ c.in-Err.ensures.failed in
-    same_fed kept c.args.self.now _ (c.args.byte ∷ []) c.self.inside.refusal c.self.view_is none
-    (ap (λ (k : List ℕ). held k (Some c.in-Err.refused)) same ∙ fed-fails kept c.args.byte c.in-Err.refused c.self.invariant.unfailed failed)
+    same_reading kept c.args.self.now _ (c.args.byte ∷ []) c.self.inside.refusal c.self.view_is none
+    (ap (λ (k : List ℕ). reading_with k (Some c.in-Err.refused)) same ∙ reading_after-fails kept c.args.byte c.in-Err.refused c.self.invariant.none_failed failed)
 
 pub invariant_of-self-in_default : goal.invariant_of-self-in_default
 invariant_of-self-in_default c =
@@ -92,7 +92,7 @@ invariant_of-self-in_default c =
     let fits = c.as_slice-3.ensures.fits in
     record {
       most = omega arith;
-      unfailed = waits_unfailed c.push.new.self.items c.advance.new.self waits;
+      none_failed = waits_none_failed c.push.new.self.items c.advance.new.self waits;
       stands = λ e. subst (λ (k : List ℕ). Stands k c.advance.new.self) items c.in_default.ensures.stands;
       waits = λ e. waits;
     }
@@ -103,6 +103,6 @@ returns-clause-fed c =
     let none : c.self.inside.refusal ≡ None = ap (λ (r : Reading). r.refusal) c.self.view_is ∙ c.requires in
     let items = c.as_slice-3.ensures.value ∙ c.push.ensures.items in
     let waits = subst (λ (k : List ℕ). Waits k c.advance.new.self) items c.in_default.ensures.waits in
-    let passes : failure (kept ++ c.args.byte ∷ []) ≡ None = waits_unfailed (kept ++ c.args.byte ∷ []) c.advance.new.self waits in
-    same_fed kept c.args.self.now _ (c.args.byte ∷ []) c.self.inside.refusal c.self.view_is none
-    (ap (λ (k : List ℕ). held k c.self.inside.refusal) c.push.ensures.items ∙ ap (held (kept ++ c.args.byte ∷ [])) none ∙ fed-passes kept (c.args.byte ∷ []) passes)
+    let passes : failure (kept ++ c.args.byte ∷ []) ≡ None = waits_none_failed (kept ++ c.args.byte ∷ []) c.advance.new.self waits in
+    same_reading kept c.args.self.now _ (c.args.byte ∷ []) c.self.inside.refusal c.self.view_is none
+    (ap (λ (k : List ℕ). reading_with k c.self.inside.refusal) c.push.ensures.items ∙ ap (reading_with (kept ++ c.args.byte ∷ [])) none ∙ reading_after-passes kept (c.args.byte ∷ []) passes)

@@ -2,26 +2,26 @@ use Rattle.std.proofs.Common.{◌≡◌, ◌+◌, ◌<◌, ◌∷◌, [], ◌∙
 use Rattle.std.specs.Prelude.{ℕ}
 use Rattle.std.proofs.lemmas.List.{take-append-drop, take_more}
 use Rattle.ti_layout.specs.declared.fault.Refused.{Refused}
-use Rattle.ti_entry.specs.Reading.{Reading, fed}
-use Rattle.ti_entry.proofs.FeedLemmas.{fed-append, fed-nothing, fed-refused, answer_under-ok, answer_under-err}
+use Rattle.ti_entry.specs.Reading.{Reading, reading_after}
+use Rattle.ti_entry.proofs.FeedLemmas.{reading_after-append, reading_after-nothing, reading_after-refused, answer_under-ok, answer_under-err}
 use Rattle.ti_entry.proofs.reader.EntryReader.take_each.Goals as goal
 
 -- one byte more is fed
-one_more : (old mid new : Reading) (piece : List ℕ) (i : ℕ) → i < length piece → old.refusal ≡ None → mid ≡ fed old (take i piece) → new ≡ fed mid (get_or piece i 0 ∷ []) → new ≡ fed old (take (i + 1) piece)
+one_more : (old mid new : Reading) (piece : List ℕ) (i : ℕ) → i < length piece → old.refusal ≡ None → mid ≡ reading_after old (take i piece) → new ≡ reading_after mid (get_or piece i 0 ∷ []) → new ≡ reading_after old (take (i + 1) piece)
 one_more old mid new piece i lt none so_far e =
-    e ∙ ap (λ r. fed r (get_or piece i 0 ∷ [])) so_far ∙ fed-append old (take i piece) (get_or piece i 0 ∷ []) none ∙ ap (fed old) (sym (take_more piece i 0 lt))
+    e ∙ ap (λ r. reading_after r (get_or piece i 0 ∷ [])) so_far ∙ reading_after-append old (take i piece) (get_or piece i 0 ∷ []) none ∙ ap (reading_after old) (sym (take_more piece i 0 lt))
 
 -- what is refused stays so for the rest of the piece
-rest_too : (old new : Reading) (piece : List ℕ) (k : ℕ) (r : Refused) → old.refusal ≡ None → new ≡ fed old (take k piece) → new.refusal ≡ Some r → new ≡ fed old piece
+rest_too : (old new : Reading) (piece : List ℕ) (k : ℕ) (r : Refused) → old.refusal ≡ None → new ≡ reading_after old (take k piece) → new.refusal ≡ Some r → new ≡ reading_after old piece
 rest_too old new piece k r none e some =
-    sym (fed-refused new (drop k piece) r some) ∙ ap (λ s. fed s (drop k piece)) e ∙ fed-append old (take k piece) (drop k piece) none ∙ ap (fed old) (take-append-drop k piece)
+    sym (reading_after-refused new (drop k piece) r some) ∙ ap (λ s. reading_after s (drop k piece)) e ∙ reading_after-append old (take k piece) (drop k piece) none ∙ ap (reading_after old) (take-append-drop k piece)
 
 pub bytes-init : goal.bytes-init
 bytes-init c = record {
   first = c.requires.unrefused;
   unrefused = c.requires.unrefused;
   within = c.requires.most;
-  fed = fed-nothing c.args.self.now c.requires.unrefused c.requires.unfailed;
+  fed = reading_after-nothing c.args.self.now c.requires.unrefused c.requires.none_failed;
 }
 
 pub returns-in_err-take-clause-fed : goal.returns-in_err-take-clause-fed

@@ -1,6 +1,6 @@
 -- The bytes before this one were fed, and none was refused.
 use Rattle.std.proofs.Common.{◌≡◌, None, ◌≤◌, length, take}
-use Rattle.ti_entry.specs.Reading.{fed}
+use Rattle.ti_entry.specs.Reading.{reading_after}
 use Rattle.ti_entry.proofs.reader.EntryReader.take_each.Given as goal
 
 abbrev pub invariant-bytes : goal.invariant-bytes
@@ -8,5 +8,5 @@ invariant-bytes l = record {
   first : l.initial.self.refusal ≡ None;
   unrefused : l.self.refusal ≡ None;
   within : length l.self.kept ≤ 32768;
-  fed : l.self ≡ fed l.initial.self (take l.byte-index l.piece);
+  fed : l.self ≡ reading_after l.initial.self (take l.byte-index l.piece);
 }

@@ -4,9 +4,9 @@ use Rattle.std.proofs.Math.Seq.{take-append_seam}
 use Rattle.ti_entry.specs.Reading.{Reading}
 use Rattle.ti_layout.specs.Refusal.{failure}
 use Rattle.ti_layout.specs.Stages.{Stands, Waits}
-use Rattle.ti_entry.proofs.FeedLemmas.{held, same_fed, fed-passes}
+use Rattle.ti_entry.proofs.FeedLemmas.{reading_with, same_reading, reading_after-passes}
 use Rattle.ti_layout.proofs.StageStepLemmas.{stands_on, stands_now}
-use Rattle.ti_entry.proofs.WholeStageLemmas.{waits_unfailed}
+use Rattle.ti_entry.proofs.WholeStageLemmas.{waits_none_failed}
 use Rattle.ti_entry.proofs.reader.EntryReader.take_whole.Goals as goal
 
 pub advance-requires : goal.advance-requires
@@ -26,7 +26,7 @@ invariant_of-self-then-as_slice-need c =
     let waits = c.need.ensures now (stands_now now c.self.inside.stage stands) (omega arith) in
     record {
       most = subst (λ (k : List ℕ). length k ≤ 32768) c.as_slice.ensures.value c.as_slice.ensures.fits;
-      unfailed = waits_unfailed now c.self.inside.stage waits;
+      none_failed = waits_none_failed now c.self.inside.stage waits;
       stands = λ e. stands;
       waits = λ e. waits;
     }
@@ -40,9 +40,9 @@ returns-then-as_slice-need-clause-taken c = λ e.
     let stands = subst (λ (k : List ℕ). Stands k c.self.inside.stage) (sym c.in-Ok.ensures.ok) (stands_on kept piece c.self.inside.stage (c.self.invariant.stands none)) in
     let long : length c.as_slice.result.now ≡ length now = ap length c.as_slice.ensures.value in
     let waits = c.need.ensures now (stands_now now c.self.inside.stage stands) (omega arith) in
-    let passes : failure (kept ++ piece) ≡ None = ap failure (sym c.in-Ok.ensures.ok) ∙ waits_unfailed now c.self.inside.stage waits in
-    same_fed kept c.args.self.now _ piece c.self.inside.refusal c.self.view_is none
-    (ap (λ (k : List ℕ). held k c.self.inside.refusal) c.in-Ok.ensures.ok ∙ ap (held (kept ++ piece)) none ∙ fed-passes kept piece passes)
+    let passes : failure (kept ++ piece) ≡ None = ap failure (sym c.in-Ok.ensures.ok) ∙ waits_none_failed now c.self.inside.stage waits in
+    same_reading kept c.args.self.now _ piece c.self.inside.refusal c.self.view_is none
+    (ap (λ (k : List ℕ). reading_with k c.self.inside.refusal) c.in-Ok.ensures.ok ∙ ap (reading_with (kept ++ piece)) none ∙ reading_after-passes kept piece passes)
 
 -- ---- a check fails
 
@@ -55,7 +55,7 @@ invariant_of-self-in_default-advance c =
     let same = restored c.self.inside.kept.items c.truncate.new.self.items c.try_extend_from_slice.new.self.items c.args.piece.now c.kept-count.result c.in-Ok.ensures.ok count c.truncate.ensures.items in
     record {
       most = subst (λ (k : List ℕ). length k ≤ 32768) (sym same) c.self.invariant.most;
-      unfailed = ap failure same ∙ c.self.invariant.unfailed;
+      none_failed = ap failure same ∙ c.self.invariant.none_failed;
       stands = λ e. subst (λ (k : List ℕ). Stands k c.self.inside.stage) (sym same) (c.self.invariant.stands e);
       waits = λ e. subst (λ (k : List ℕ). Waits k c.self.inside.stage) (sym same) (c.self.invariant.waits e);
     }
@@ -68,7 +68,7 @@ invariant_of-self-2 c =
     let waits = subst (λ (k : List ℕ). Waits k c.advance.new.self) items c.in-Ok-advance.ensures.waits in
     record {
       most = subst (λ (k : List ℕ). length k ≤ 32768) items c.as_slice-2.ensures.fits;
-      unfailed = waits_unfailed c.try_extend_from_slice.new.self.items c.advance.new.self waits;
+      none_failed = waits_none_failed c.try_extend_from_slice.new.self.items c.advance.new.self waits;
       stands = λ e. subst (λ (k : List ℕ). Stands k c.advance.new.self) items c.in-Ok-advance.ensures.stands;
       waits = λ e. waits;
     }
@@ -80,6 +80,6 @@ returns-clause-taken c = λ e.
     let none : c.self.inside.refusal ≡ None = ap (λ (r : Reading). r.refusal) c.self.view_is ∙ c.requires in
     let items = c.as_slice-2.ensures.value ∙ c.in-Ok.ensures.ok in
     let waits = subst (λ (k : List ℕ). Waits k c.advance.new.self) items c.in-Ok-advance.ensures.waits in
-    let passes : failure (kept ++ piece) ≡ None = waits_unfailed (kept ++ piece) c.advance.new.self waits in
-    same_fed kept c.args.self.now _ piece c.self.inside.refusal c.self.view_is none
-    (ap (λ (k : List ℕ). held k c.self.inside.refusal) c.in-Ok.ensures.ok ∙ ap (held (kept ++ piece)) none ∙ fed-passes kept piece passes)
+    let passes : failure (kept ++ piece) ≡ None = waits_none_failed (kept ++ piece) c.advance.new.self waits in
+    same_reading kept c.args.self.now _ piece c.self.inside.refusal c.self.view_is none
+    (ap (λ (k : List ℕ). reading_with k c.self.inside.refusal) c.in-Ok.ensures.ok ∙ ap (reading_with (kept ++ piece)) none ∙ reading_after-passes kept piece passes)

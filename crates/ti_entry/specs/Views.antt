@@ -14,12 +14,12 @@ use Rattle.ti_layout.specs.Refusal.{failure}
 use Rattle.ti_layout.specs.Stages.{Stands, Waits}
 use Rattle.ti_entry.specs.Content.{content_with}
 
-abbrev pub held_header : List ℕ → Header → ExtendedHeader
-held_header bytes h = if nat_le (length bytes) (end_of h) then no_capability h.width else extended_header_of h bytes
+abbrev pub extended_header_or_none : List ℕ → Header → ExtendedHeader
+extended_header_or_none bytes h = if nat_le (length bytes) (end_of h) then no_capability h.width else extended_header_of h bytes
 
 -- the entry that a view shows
-abbrev pub held : List ℕ → Header → Part → EntryValue
-held bytes h part = content_with bytes h part.header
+abbrev pub shown_entry : List ℕ → Header → Part → EntryValue
+shown_entry bytes h part = content_with bytes h part.header
 
 -- the sections lie within the bytes, and the base of the names is known
 abbrev pub IsPart : List ℕ → Part → Type 0
@@ -29,8 +29,8 @@ IsPart bytes part =
     × (part.base ≤ most_entry_bytes)
     × (part.base ≡ base_of bytes part.header)
 
-abbrev pub IsHeld : List ℕ → Header → Part → Type 0
-IsHeld bytes h part =
+abbrev pub IsLaidOut : List ℕ → Header → Part → Type 0
+IsLaidOut bytes h part =
     (2 ≤ h.names) × (end_of h ≤ most_entry_bytes) × (end_of h ≤ length bytes) × IsPart bytes part
 
 -- ---- a reader
@@ -38,6 +38,6 @@ IsHeld bytes h part =
 -- what a reader holds beside its bytes: no check has failed on them, and without a refusal the next one waits for more
 pub record IsReading (kept : List ℕ) (stage : Stage) (refusal : Option Refused) : Type 0 where
   pub most : length kept ≤ most_entry_bytes
-  pub unfailed : failure kept ≡ None
+  pub none_failed : failure kept ≡ None
   pub stands : refusal ≡ None → Stands kept stage
   pub waits : refusal ≡ None → Waits kept stage
