@@ -25,7 +25,7 @@ name_words_append from (x ∷ xs) ys =
     let k : from + length x + 1 + length (names_table xs) ≡ from + length (names_table (x ∷ xs)) = omega (arith, one, two) in
     ap (λ l. pos from ∷ l) (name_words_append (from + length x + 1) xs ys ∙ ap (λ n. name_words (from + length x + 1) xs ++ name_words n ys) k)
 
--- the words of names behind others
+-- the words of names after others
 pub words_after : (xs ys : List (List ℕ)) → words_of (name_words 0 xs) ++ words_of (name_words (length (names_table xs)) ys) ≡ words_of (name_words 0 (xs ++ ys))
 words_after xs ys =
     sym (ap words_of (name_words_append 0 xs ys ∙ ap (λ n. name_words 0 xs ++ name_words n ys) (omega arith))

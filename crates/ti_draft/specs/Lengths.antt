@@ -11,7 +11,7 @@ use Rattle.ti_draft.specs.Canonical.{texts_table, names_table, present}
 abbrev pub capped_count : ℕ → ℕ
 capped_count n = min n (2 ^ 64 - 1)
 
--- the extended part behind its first pad
+-- the extended part after its first pad
 abbrev pub extended_length : EntryValue → ℕ
 extended_length v =
     10 + pad_len (length v.extended_flags)

@@ -72,11 +72,11 @@ impl<'a, A: Allocator> Draft<'a, A> {
         self.width = width;
     }
 
-    /// Adds a flag behind the others.
+    /// Adds a flag after the others.
     ///
     /// # Errors
     ///
-    /// Memory was refused, and the draft is as before; so of each push.
+    /// Memory was refused, and the draft is as before. The same holds for each push.
     pub fn push_flag(&mut self, flag: Flag) -> Result<(), AllocError>
         ensures added { OnOk result (self.new ≡ record self.old {
           flags = self.old.flags ++ flag ∷ [];
@@ -87,7 +87,7 @@ impl<'a, A: Allocator> Draft<'a, A> {
         Ok(())
     }
 
-    /// Adds a number behind the others.
+    /// Adds a number after the others.
     pub fn push_number(&mut self, number: Number) -> Result<(), AllocError>
         ensures added { OnOk result (self.new ≡ record self.old {
           numbers = self.old.numbers ++ number ∷ [];
@@ -98,7 +98,7 @@ impl<'a, A: Allocator> Draft<'a, A> {
         Ok(())
     }
 
-    /// Adds a text behind the others.
+    /// Adds a text after the others.
     pub fn push_text(&mut self, text: Text<'a>) -> Result<(), AllocError>
         ensures added { OnOk result (self.new ≡ record self.old {
           texts = self.old.texts ++ text_value text.entry ∷ [];
@@ -109,7 +109,7 @@ impl<'a, A: Allocator> Draft<'a, A> {
         Ok(())
     }
 
-    /// Adds a flag with its name behind the other extended flags.
+    /// Adds a flag with its name after the other extended flags.
     pub fn push_extended_flag(&mut self, name: &'a [u8], flag: Flag) -> Result<(), AllocError>
         ensures added { OnOk result (self.new ≡ record self.old {
           extended_flags = self.old.extended_flags ++ (name.now, flag) ∷ [];
@@ -119,7 +119,7 @@ impl<'a, A: Allocator> Draft<'a, A> {
         self.extended_flags.push(name, flag)
     }
 
-    /// Adds a number with its name behind the other extended numbers.
+    /// Adds a number with its name after the other extended numbers.
     pub fn push_extended_number(&mut self, name: &'a [u8], number: Number) -> Result<(), AllocError>
         ensures added { OnOk result (self.new ≡ record self.old {
           extended_numbers = self.old.extended_numbers ++ (name.now, number) ∷ [];
@@ -129,7 +129,7 @@ impl<'a, A: Allocator> Draft<'a, A> {
         self.extended_numbers.push(name, number)
     }
 
-    /// Adds a text with its name behind the other extended texts.
+    /// Adds a text with its name after the other extended texts.
     pub fn push_extended_text(&mut self, name: &'a [u8], text: Text<'a>) -> Result<(), AllocError>
         ensures added { OnOk result (self.new ≡ record self.old {
           extended_texts = self.old.extended_texts ++ (name.now, text_value text.entry) ∷ [];
@@ -169,7 +169,7 @@ impl<'a, A: Allocator> Draft<'a, A> {
         self.width
     }
 
-    /// The names, without a NUL behind them.
+    /// The names, without a NUL after them.
     pub(crate) fn names(&self) -> &'a [u8]
         ensures { result.now ≡ self.now.names }
     {

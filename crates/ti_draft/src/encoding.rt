@@ -137,7 +137,7 @@ fn put_extended_head<A: Allocator, D: Allocator>(
     Ok(())
 }
 
-/// Where the names of the extended part are put, counted from behind its values.
+/// Where the names of the extended part are put, counted from the end of its values.
 fn put_all_name_words<A: Allocator, D: Allocator>(
     out: &mut Vec<u8, A>,
     draft: &Draft<'_, D>,

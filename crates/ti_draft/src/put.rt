@@ -1,7 +1,7 @@
 //! Appending the sections of an entry, each in one pass.
 //!
-//! What is appended is told exactly where there was memory for it. Words are written by `byteorder`, texts and names as
-//! whole slices.
+//! Where there was memory, the clauses say exactly what was appended. Words are written by `byteorder`, texts and names
+//! as whole slices.
 
 ghost use Rattle.std.specs.Prelude.{◌≡◌, ◌++◌, ◌+◌, ◌<◌, ◌≤◌, ◌^◌, false, length, map, pos, OnOk, IfOk};
 ghost use Rattle.std.specs.List.{list_any};
@@ -98,7 +98,7 @@ pub(crate) fn put_numbers<A: Allocator>(
     Ok(())
 }
 
-/// The word of a text that is put at a place, or of its mark, and the place behind the text.
+/// The word of a text that is put at a place, or of its mark, and the place after the text.
 fn put_text_word<A: Allocator>(
     out: &mut Vec<u8, A>,
     place: usize,
@@ -166,7 +166,7 @@ pub(crate) fn put_texts<A: Allocator>(
     Ok(())
 }
 
-/// Where names are put, from a place on; answers the place behind them.
+/// Where names are put, from a place on; answers the place after them.
 pub(crate) fn put_name_words<A: Allocator>(
     out: &mut Vec<u8, A>,
     from: usize,

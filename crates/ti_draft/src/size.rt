@@ -85,7 +85,7 @@ pub(crate) fn extended_table_len<A: Allocator>(draft: &Draft<'_, A>) -> u64
         .saturating_add(names_len(draft.text_names()))
 }
 
-/// The bytes of the extended part behind its first pad.
+/// The bytes of the extended part after its first pad.
 fn extended_len<A: Allocator>(draft: &Draft<'_, A>) -> u64
     ensures { result ≡ capped_count (extended_length draft.now) }
 {

@@ -76,7 +76,7 @@ length_before_failure-past xs ys (suc k) r some =
     let failed : failure (take (suc (length xs + k)) (xs ++ ys)) ≡ Some r = ap failure more ∙ failure_lasts xs (take (suc k) ys) r some in
     ap (length_before_failure (xs ++ ys)) e ∙ one_less (xs ++ ys) (length xs + k) r failed ∙ length_before_failure-past xs ys k r some
 
--- bytes behind a failure change nothing
+-- bytes after a failure change nothing
 front_before_failure-append : (xs ys : List ℕ) (r : Refused) → failure xs ≡ Some r → front_before_failure (xs ++ ys) ≡ front_before_failure xs
 unfolding front_before_failure
 front_before_failure-append xs ys r some =

@@ -25,7 +25,7 @@ use Rattle.ti_layout.proofs.NamePlaceChecksLemmas.{table_length}
 use Rattle.ti_entry.proofs.FoundLemmas.{HasPlain, sections_found}
 use Rattle.std.proofs.lemmas.List.Concat.{flat_map-cons}
 
--- one section more at the end of a front that begins behind some bytes
+-- one section more at the end of a front that starts after some bytes
 front_after : (bytes : List ℕ) (e n p k : ℕ) (x s : List ℕ) → e + n ≡ p → take n (drop e bytes) ≡ x → take k (drop p bytes) ≡ s → take (n + k) (drop e bytes) ≡ x ++ s
 front_after bytes e n p k x s at f g =
     take-add n k (drop e bytes) ∙ ap (λ t. t ++ take k (drop n (drop e bytes))) f
@@ -62,7 +62,7 @@ is_place bytes p fits h =
           absurd (let f : true ≡ false = sym h ∙ e in cc)
     ]
 
--- what the checks of an extended part say that lies behind a string table of size t, which ends at e
+-- what the checks of an extended part say that lies after a string table of size t, which ends at e
 pub record PartPasses (bytes : List ℕ) (e t : ℕ) (x : ExtendedHeader) : Type 0 where
   pub outer_pad : Passes ≡ verdict (length bytes) (pad_checks bytes e t)
   pub signs : (i : ℕ) → i < 3 → Passed (length bytes) (sign_check bytes BadExtendedHeader (x.from + 2 * i))

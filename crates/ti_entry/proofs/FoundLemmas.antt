@@ -26,7 +26,7 @@ use Rattle.ti_layout.proofs.SectionReadLemmas.{both_pass, each_passed, no_nuls}
 abbrev width_under : ℕ → Option Width
 width_under u = cond (eqb u 282) (Some Legacy) (cond (eqb u 542) (Some Wide) None)
 
--- an input that begins with some magic number begins with that of its width
+-- an input that starts with some magic number starts with that of its width
 starts : (u : ℕ) → is_some (width_under u) ≡ true → u ≡ magic_number (unwrap_or (width_under u) Legacy)
 starts u h = first (eqb u 282) refl
   where
@@ -90,7 +90,7 @@ names_are bytes size some le nul =
 pub names_length : (bytes : List ℕ) (size : ℕ) → 2 ≤ size → 12 + size ≤ length bytes → length (slice_range bytes 12 (11 + size)) + 1 ≡ size
 names_length bytes size some le = omega (arith, length-take-le (11 + size - 12) (drop 12 bytes) (omega (arith, length-drop 12 bytes)))
 
--- the sections up to the end of the string table, and what stands behind
+-- the sections up to the end of the string table, and what follows
 pub record HasPlain (bytes : List ℕ) : Type 0 where
   pub fits : end_of (header_of bytes) ≤ 32768
   pub there : end_of (header_of bytes) ≤ length bytes

@@ -57,7 +57,7 @@ all_units (f ∷ fs) = (tt, all_units fs)
 
 -- ---- counts
 
--- a count behind some bytes
+-- a count after some bytes
 pub count_read : (bytes x p : List ℕ) (from n : ℕ) → bytes ≡ x ++ (count_word n ++ p) → length x ≡ from → n < 2 ^ 15 → unsigned_at 2 bytes from ≡ n
 count_read bytes x p from n e l lt = ap (λ b. unsigned_at 2 b from) e ∙ ap (unsigned_at 2 (x ++ (count_word n ++ p))) (sym l) ∙ place_read x p n (omega arith)
 

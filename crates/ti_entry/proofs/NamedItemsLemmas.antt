@@ -13,7 +13,6 @@ use Rattle.ti_layout.specs.Layout.{places, end_of, extended_header_of, extended_
 use Rattle.ti_words.specs.Widths.{number_size}
 use Rattle.ti_layout.specs.Table.{text_of_word, size_at, sizes_at, extended_table_of, base_of}
 use Rattle.ti_entry.specs.Content.{flag_at, number_at, text_at, name_at, named_items, plain_content, content_with}
-use Rattle.ti_entry.specs.Views.{extended_header_or_none}
 use Rattle.ti_layout.proofs.PlacesLemmas.{item_at, no_item_at, places_append}
 use Rattle.ti_words.specs.Spelling.{text_size, texts_size, name_in, mark_in, extended_names}
 
@@ -66,7 +65,11 @@ all_names_in bytes h x =
 pub sizes_are_base : (bytes : List ℕ) (h : Header) (x : ExtendedHeader) → texts_size (content_with bytes h x).extended_texts ≡ base_of bytes x
 sizes_are_base bytes h x = sizes_in (name_at bytes x) (extended_table_of bytes x) bytes (extended_names_from x + 2 * (x.flags + x.numbers)) (extended_values_from x) x.texts
 
--- what is held of the extended part is what the bytes say
+-- the header of the extended part, or that of no capability where the bytes end with the string table
+abbrev pub extended_header_or_none : List ℕ → Header → ExtendedHeader
+extended_header_or_none bytes h = cond (nat_le (length bytes) (end_of h)) (no_capability h.width) (extended_header_of h bytes)
+
+-- what a view shows is what the bytes say
 pub content_is : (bytes : List ℕ) (h : Header) → content_with bytes h (extended_header_or_none bytes h) ≡ cond (nat_le (length bytes) (end_of h)) (plain_content bytes h) (content_with bytes h (extended_header_of h bytes))
 content_is bytes h =
     elim (nat_le (length bytes) (end_of h)) as (λ b. content_with bytes h (cond b (no_capability h.width) (extended_header_of h bytes)) ≡ cond b (plain_content bytes h) (content_with bytes h (extended_header_of h bytes))) [

@@ -68,7 +68,7 @@ abbrev pub IsShort : Width → ℤ → Type 0
 IsShort w (pos n) = 2 * n < 256 ^ number_size w
 IsShort w (negsuc n) = n < 2
 
--- an unsigned number behind some bytes
+-- an unsigned number after some bytes
 pub unsigned_read : (size n : ℕ) (pre post : List ℕ) → n < 256 ^ size → unsigned_at size (pre ++ (low_bytes size n ++ post)) (length pre) ≡ n
 unsigned_read zero n pre post lt = omega arith
 unsigned_read (suc size) n pre post lt =
@@ -96,7 +96,7 @@ word_read Wide pre post (negsuc n) lt =
     ap (λ u. word_at 4 (pre ++ (low_bytes 4 u ++ post)) (length pre)) back
     ∙ ap (signed 4) (unsigned_read 4 (4294967295 - n) pre post (omega arith)) ∙ above Wide (4294967295 - n) n (omega arith) (omega arith)
 
--- a place behind some bytes
+-- a place after some bytes
 pub place_read : (pre post : List ℕ) (n : ℕ) → 2 * n < 65536 → unsigned_at 2 (pre ++ (word 2 (pos n) ++ post)) (length pre) ≡ n
 place_read pre post n lt = unsigned_read 2 n pre post (omega arith)
 

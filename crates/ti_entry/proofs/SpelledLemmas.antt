@@ -29,7 +29,7 @@ starts : (w : Width) → width_of (magic w) ≡ Some w
 starts Legacy = refl
 starts Wide = refl
 
--- what a reading makes of the sections up to the end of the string table, and where the rest begins
+-- what a reading makes of the sections up to the end of the string table, and where the rest starts
 pub record PlainRead (bytes : List ℕ) (v : EntryValue) (table rest : List ℕ) : Type 0 where
   pub ahead : Passes ≡ verdict (length bytes) (front_checks bytes (header_of bytes))
   pub sections : Passes ≡ verdict (length bytes) (section_checks bytes (header_of bytes))

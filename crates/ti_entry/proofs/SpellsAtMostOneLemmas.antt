@@ -100,7 +100,7 @@ length_flat g size len (x ∷ xs) (y ∷ ys) n =
 
 -- ---- sections
 
--- what of two entries must agree, and what stands behind
+-- what of two entries must agree, and what follows
 pub record SameSections (v w : EntryValue) (t u r q : List ℕ) : Type 0 where
   pub width : v.width ≡ w.width
   pub names : v.names ≡ w.names

@@ -15,10 +15,10 @@ use Rattle.ti_layout.specs.Layout.{header_of, end_of, extended_from, extended_he
 use Rattle.ti_layout.specs.Checks.{Verdict, Passes, EndsEarly, Fails, verdict, refusal_of, failure_of, refusal_at}
 use Rattle.ti_layout.specs.Refusal.{checks, refusal, failure}
 use Rattle.ti_entry.specs.Content.{content, content_with}
-use Rattle.ti_entry.specs.Views.{extended_header_or_none, shown_entry, IsPart, IsLaidOut}
+use Rattle.ti_entry.specs.Views.{shown_entry, IsPart, IsLaidOut}
 use Rattle.ti_entry.specs.Reading.{answer_under, answer_for}
 use Rattle.ti_layout.specs.Stages.{KnowsPlain, KnowsAll, Knows, StandsAt, Waits, is_whole}
-use Rattle.ti_entry.proofs.NamedItemsLemmas.{content_is}
+use Rattle.ti_entry.proofs.NamedItemsLemmas.{extended_header_or_none, content_is}
 
 -- no check has failed on what waits for more
 pub waits_none_failed : (xs : List ℕ) (s : Stage) → Waits xs s → failure xs ≡ None

@@ -31,11 +31,11 @@ AnyCutting = (pieces : List (List ℕ)) → fold reading_after new_reading piece
 abbrev pub EncodedSpells : Type 0
 EncodedSpells = (v : EntryValue) → encode_fault v ≡ None → Spells (canonical v) v
 
--- an entry is written in one way
+-- equal entries have equal bytes
 abbrev pub EqualEntriesHaveEqualBytes : Type 0
 EqualEntriesHaveEqualBytes = (v w : EntryValue) → v ≡ w → canonical v ≡ canonical w
 
--- two entries that are written alike are one
+-- two entries without a fault that have equal bytes are equal
 abbrev pub EqualBytesAreOfEqualEntries : Type 0
 EqualBytesAreOfEqualEntries = (v w : EntryValue) → encode_fault v ≡ None → encode_fault w ≡ None → canonical v ≡ canonical w → v ≡ w
 

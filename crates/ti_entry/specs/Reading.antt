@@ -41,7 +41,7 @@ abbrev pub kept_under : Option Refused → List ℕ → List ℕ
 kept_under None bytes = bytes
 kept_under (Some refused) bytes = front_before_failure bytes
 
--- what a reader holds that has met these bytes
+-- what a reader holds that was fed these bytes and no others
 abbrev pub reading_of : List ℕ → Reading
 reading_of bytes = record { kept = kept_under (failure bytes) bytes; refusal = failure bytes }
 

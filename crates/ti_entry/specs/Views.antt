@@ -1,27 +1,24 @@
--- How an entry that was read holds its extended part, where none is held as one with no capability; and what a reader holds.
+-- What a view shows of an entry that was read, and what a reader holds. An entry without an extended part is shown with
+-- one of no capability.
 -- Only the views and private functions of the crate cite this.
-use Rattle.std.specs.Prelude.{◌≡◌, ℕ, ◌≤◌, List, length, Option, None, nat_le, if◌then◌else◌}
+use Rattle.std.specs.Prelude.{◌≡◌, ℕ, ◌≤◌, List, length, Option, None}
 use Rattle.ti_base.specs.Limits.{most_entry_bytes}
 use Rattle.ti_layout.specs.declared.header.Header.{Header}
-use Rattle.ti_layout.specs.declared.extended_header.ExtendedHeader.{ExtendedHeader}
 use Rattle.ti_layout.specs.declared.part.Part.{Part}
 use Rattle.ti_layout.specs.declared.fault.Refused.{Refused}
 use Rattle.ti_layout.specs.declared.stage.Stage.{Stage}
 use Rattle.ti_words.specs.Value.{EntryValue}
-use Rattle.ti_layout.specs.Layout.{end_of, extended_header_of, extended_end_of, no_capability}
+use Rattle.ti_layout.specs.Layout.{end_of, extended_end_of}
 use Rattle.ti_layout.specs.Table.{base_of}
 use Rattle.ti_layout.specs.Refusal.{failure}
 use Rattle.ti_layout.specs.Stages.{Stands, Waits}
 use Rattle.ti_entry.specs.Content.{content_with}
 
-abbrev pub extended_header_or_none : List ℕ → Header → ExtendedHeader
-extended_header_or_none bytes h = if nat_le (length bytes) (end_of h) then no_capability h.width else extended_header_of h bytes
-
 -- the entry that a view shows
 abbrev pub shown_entry : List ℕ → Header → Part → EntryValue
 shown_entry bytes h part = content_with bytes h part.header
 
--- the sections lie within the bytes, and the base of the names is known
+-- the extended part lies within the bytes, and the base of its names is known
 abbrev pub IsPart : List ℕ → Part → Type 0
 IsPart bytes part =
     (extended_end_of part.header ≤ most_entry_bytes)
@@ -29,6 +26,7 @@ IsPart bytes part =
     × (part.base ≤ most_entry_bytes)
     × (part.base ≡ base_of bytes part.header)
 
+-- the bytes have these sections and this part
 abbrev pub IsLaidOut : List ℕ → Header → Part → Type 0
 IsLaidOut bytes h part =
     (2 ≤ h.names) × (end_of h ≤ most_entry_bytes) × (end_of h ≤ length bytes) × IsPart bytes part

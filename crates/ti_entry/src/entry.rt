@@ -58,7 +58,7 @@ pub fn read(bytes: &[u8]) -> Result<Entry<'_>, Refused>
     entry_at(bytes, &stage)
 }
 
-/// The entry that bytes spell which came to a stage and wait there for more.
+/// The entry that bytes spell, where their checks have come to a stage that waits for more.
 ///
 /// # Errors
 ///
@@ -92,7 +92,7 @@ impl<'a> Entry<'a> {
         self.header.width
     }
 
-    /// The names, separated by `|`, without the NUL behind them.
+    /// The names, separated by `|`, without the NUL after them.
     pub fn names(&self) -> &'a [u8]
         ensures { result.now ≡ self.now.names }
     {

@@ -36,7 +36,7 @@ pub(crate) fn text_at<'a>(table: &'a [u8], bytes: &[u8], place: usize) -> Text<'
     text_of(table, word_at(bytes, place))
 }
 
-/// The place in its table that the offset at a place is; none where it is a mark.
+/// The place in its table that an offset says; none where the offset is a mark.
 pub(crate) fn place_at(bytes: &[u8], at: usize) -> Option<usize>
     requires { at + 2 ≤ length bytes.now }
     ensures { IfSome result (λ place. the_word_at 2 bytes.now at ≡ pos place) }

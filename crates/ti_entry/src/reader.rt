@@ -1,8 +1,8 @@
 //! A reader that keeps the pieces of an entry as they come, and makes each check at the byte that completes its prefix.
 //!
-//! It keeps at most [`MOST_ENTRY_BYTES`] in a buffer of its own and takes no other memory. A piece is refused at the byte with
-//! which a check fails, and that refusal lasts. A piece is copied whole and its checks are made in one go; only where one
-//! fails is the byte looked for at which it does. A piece that brings too few bytes for the next check is only copied.
+//! It keeps at most [`MOST_ENTRY_BYTES`] in a buffer of its own and takes no other memory. A piece is refused at the byte
+//! with which a check fails, and that refusal lasts. A piece is copied whole and its checks are made in one go. Where one
+//! fails, the piece is taken again byte by byte. A piece that brings too few bytes for the next check is only copied.
 //! Over all pieces the time is linear in their bytes.
 
 ghost use Rattle.std.specs.Prelude.{◌≡◌, ℕ, List, ◌∷◌, ◌+◌, ◌≤◌, ◌++◌, [], length, true, false, IfOk, IfErr, IsOkAnd, Some, None, Err};
@@ -41,7 +41,7 @@ impl Model for EntryReader {
 impl EntryReader {
     ghost use Rattle.ti_entry.specs.Reading.{new_reading, reading_after, answer_under, answer_for};
 
-    /// A reader that has met nothing.
+    /// A reader that was fed nothing.
     pub fn new() -> Self
         ensures { result ≡ new_reading }
     {
@@ -52,7 +52,7 @@ impl EntryReader {
         }
     }
 
-    /// Takes a piece of any length behind the bytes that are kept.
+    /// Takes a piece of any length after the bytes that are kept.
     ///
     /// # Errors
     ///
@@ -178,7 +178,7 @@ impl EntryReader {
     }
 }
 
-/// Why a byte behind as many as an entry may have is refused.
+/// Why a byte after as many as an entry may have is refused.
 fn overfull(kept: &[u8]) -> Refused
     requires full { length kept.now ≡ most_entry_bytes }
     requires none_failed { failure kept.now ≡ None }
@@ -190,7 +190,8 @@ fn overfull(kept: &[u8]) -> Refused
     }
 }
 
-/// The fault of a byte behind an entry of the greatest length: no extended part has room behind its string table.
+/// The fault of a byte after an entry of the greatest length: where its string table ends there, an extended part has no
+/// room.
 fn fault_after(kept: &[u8]) -> Fault
     requires { length kept.now ≡ most_entry_bytes }
     ensures { result ≡ the_fault_after kept.now }

@@ -306,7 +306,7 @@ three (Fails q) vS vE wF wS wE r h f s e =
     let a : wF ≡ Fails q = kept_early (Fails q) wF f (λ x. cc) in
     rw a h
 
--- behind the end more bytes are still too many
+-- after the end more bytes are still too many
 end_fails : (len more end : ℕ) (bytes longer : List ℕ) (r : Refused) → length bytes ≡ len → length longer ≡ len + more → verdict len (end_check bytes end ∷ []) ≡ Fails r → verdict (len + more) (end_check longer end ∷ []) ≡ Fails r
 end_fails len more end bytes longer r el em h =
     elim (cases_lt len end) [
@@ -356,7 +356,7 @@ extended_stays xs ys h r k =
     ∙ three F S (verdict len (end_checks xs (extended_end_of xx))) (verdict (len + length ys) (extended_front_checks zs h xz)) (verdict (len + length ys) (extended_section_checks zs xz)) (verdict (len + length ys) (end_checks zs (extended_end_of xz))) r
     (sym (extended_split xs h xx len) ∙ k) (stays len (length ys) (extended_front_checks xs h xx) (extended_front_checks zs h xz) (extended_front_alike xs ys h)) sections last
 
--- what fails behind the string table fails there on every continuation
+-- what fails after the string table fails there on every continuation
 after_table_stays : (xs ys : List ℕ) (h : Header) (r : Refused) → verdict (length xs) (checks_after_table xs h) ≡ Fails r → verdict (length xs + length ys) (checks_after_table (xs ++ ys) h) ≡ Fails r
 after_table_stays xs ys h r = by_end (leb (length xs) (end_of h)) refl
   where

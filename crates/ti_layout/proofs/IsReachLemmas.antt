@@ -1,4 +1,4 @@
--- The place behind the last NUL of a table tells which texts and names have theirs.
+-- The place after the last NUL of a table tells which texts and names have theirs.
 use Rattle.std.proofs.Common.{◌≡◌, ◌≢◌, ℕ, zero, suc, ◌+◌, ◌-◌, ◌<◌, ◌≤◌, ltb, ℤ, pos, negsuc, Bool, true, false, ◌||◌, eqb, List, [], ◌∷◌, ◌++◌, map, length, get_or, inl, inr, refl, sym, ap, ◌∙◌, arith}
 use Rattle.std.proofs.lemmas.List.{drop_more, drop_all}
 use Rattle.std.proofs.lemmas.Bool.{cases_lt, le-ltb, lt-ltb, ltb-true, ne_eqb}
@@ -94,7 +94,7 @@ same_below base size o = elim (cases_lt (base + o) size) [
   | inr ge ↦ le-ltb _ _ ge ∙ sym (le-ltb (min base size + o) size (omega arith))
 ]
 
--- no text ends behind the table
+-- no text ends after the table
 within : (table : List ℕ) (reach : ℕ) → IsReach table reach → reach ≤ length table
 within table reach h = elim (cases_lt (length table) reach) [
   | inl lt ↦ absurd (let e : false ≡ true = sym (none_at_end table) ∙ h (length table) ∙ lt-ltb _ _ lt in cc)

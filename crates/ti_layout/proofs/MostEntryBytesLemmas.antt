@@ -93,7 +93,7 @@ no_early_after len c cs le f e = by_holds c.holds refl (sym (let k : verdict len
     by_holds true h e = no_early len cs (f h) e
     by_holds false h e = cc
 
--- the checks behind the first one of the extended part
+-- the checks after the first one of the extended part
 abbrev words_then_size : List ℕ → Header → ExtendedHeader → List Check
 words_then_size xs h x =
     pad_checks xs (end_of h) h.table ++ sign_checks xs BadExtendedHeader (extended_from h) 3 ++ sign_checks xs BadExtendedHeader (extended_from h + 8) 1 ++ extended_size_checks x
@@ -145,7 +145,7 @@ extended_fits xs h x len p =
     let a = both_pass len (extended_word_checks xs h) (extended_size_checks x) (sym p) in
     let b = first_passes len (extended_size_check x) [] a.1 in leb-true _ _ b.holds
 
--- no check behind the string table of a full input waits for more
+-- no check after the string table of a full input waits for more
 after_table_decides : (xs : List ℕ) (h : Header) → 32768 ≤ length xs → verdict (length xs) (checks_after_table xs h) ≡ EndsEarly → ⊥
 after_table_decides xs h long = by_end (leb (length xs) (end_of h)) refl
   where

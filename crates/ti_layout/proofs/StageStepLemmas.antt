@@ -164,7 +164,7 @@ counts_pass xs h p =
     let b = first_passes (length xs) (extended_size_check (extended_header_of h xs)) [] a.rest in
     record { long = b.long; fits = leb-true _ _ b.holds }
 
--- behind the string table, where a byte follows it
+-- after the string table, where a byte follows it
 after_table_opened : (zs : List ℕ) (h : Header) → end_of h < length zs
     → checks_after_table zs h ≡ (room_checks h ++ pad_checks zs (end_of h) h.table) ++ (sign_checks zs BadExtendedHeader (extended_from h) 3 ++ after_counts zs h (extended_header_of h zs))
 after_table_opened zs h lt =
@@ -181,7 +181,7 @@ extended_opened : (zs : List ℕ) (h : Header) (x : ExtendedHeader) → extended
 extended_opened zs h x =
     regroup_extended (flag_checks zs (extended_flags_from x) x.flags) (pad_checks zs (extended_pad_from x) x.flags) (number_checks zs (number_size x.width) (extended_numbers_from x) x.numbers) (offset_checks zs x.table (extended_values_from x) x.texts) (sign_checks zs BadExtendedName (extended_names_from x) (extended_name_count x)) (ending_checks zs (extended_table_of zs x) (extended_end_of x) (extended_values_from x) x.texts) (all_name_place_checks zs (extended_table_of zs x) (base_of zs x) (extended_end_of x) (places (extended_names_from x) 2 (extended_name_count x))) (end_checks zs (extended_end_of x))
 
--- What is left of the checks behind those between two sections, which pass.
+-- What is left of the checks after those between two sections, which pass.
 goes_between : (xs ys : List ℕ) (section : Section) (it : Items) (h : Header) (part : Part) (rest : List Check) → StandsAt (xs ++ ys) (stage section it h part) → it.left ≡ 0
     → Passes ≡ verdict (length xs) (checks_between section h part.header xs)
     → checks_after section (xs ++ ys) h part.header ≡ checks_between section h part.header (xs ++ ys) ++ rest
@@ -358,7 +358,7 @@ halts_between xs section it h part rest stop k none p part_of e =
     (bare xs (stage section it h part) k none ∙ ap (verdict (length xs)) e) p
     ∙ awaits section stop part_of
 
--- the pad stands where the first byte behind the string table does
+-- the pad stands where the first byte after the string table does
 after_table_decides : (xs : List ℕ) (h : Header) → end_of h < length xs → verdict (length xs) (room_checks h ++ pad_checks xs (end_of h) h.table) ≡ EndsEarly → ⊥
 after_table_decides xs h lt =
     no_early (length xs) (room_checks h ++ pad_checks xs (end_of h) h.table)
@@ -541,7 +541,7 @@ fewer_sections xs s new p e k =
     let same : sections_left new.section ≡ sections_left (next s.section) = ap sections_left e in
     omega arith
 
--- ---- the next section, as the code comes to it
+-- ---- how the code comes to the next section
 
 pub stands_at_next : (xs : List ℕ) (s new : Stage) → Stands xs s → s.items.left ≡ 0 → Passes ≡ verdict (length xs) (checks_between s.section s.header s.part.header xs) → new ≡ stage_after s xs → new.part.base ≤ 32768
     → Stands xs (at_next_section new)

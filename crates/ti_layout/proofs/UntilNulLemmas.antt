@@ -1,4 +1,4 @@
--- The first NUL of some bytes, as a search finds it.
+-- The first NUL of some bytes is the one that a search finds.
 use Rattle.std.proofs.Common.{◌≡◌, ℕ, zero, suc, ◌<◌, Bool, true, false, not, eqb, List, [], ◌∷◌, length, take, refl, sym, ap, ◌∙◌, arith}
 use Rattle.std.proofs.lemmas.List.Sums.{take_while-cons}
 use Rattle.memchr.specs.Find.{Nowhere, Passes, is_byte}

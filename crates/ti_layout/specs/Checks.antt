@@ -52,7 +52,7 @@ failure_of Passes = None
 failure_of EndsEarly = None
 failure_of (Fails r) = Some r
 
--- the verdict that a call answers
+-- the verdict that a stop tells, and the one that a result tells
 abbrev pub stop_verdict : Stop → Verdict
 stop_verdict Early = EndsEarly
 stop_verdict (Failed r) = Fails r

@@ -10,20 +10,20 @@ use Rattle.ti_words.specs.Word.{unsigned_at}
 use Rattle.ti_words.specs.Widths.{number_size, magic_number}
 use Rattle.ti_words.specs.Spelling.{pad_len}
 
--- the format whose magic number an input begins with, where it begins with one
+-- the format whose magic number an input starts with, where it starts with one
 abbrev pub width_of : List ℕ → Option Width
 width_of bytes =
     if unsigned_at 2 bytes 0 == magic_number Legacy then Some Legacy
     else (if unsigned_at 2 bytes 0 == magic_number Wide then Some Wide else None)
 
--- where count items of a size begin that lie one after the other from a place on
+-- where count items of a size start that lie one after the other from a place on
 abbrev pub places : ℕ → ℕ → ℕ → List ℕ
 places from size zero = []
 places from size (suc count) = from ∷ places (from + size) size count
 
 -- ---- the entry up to the end of its string table
 
--- of an input that begins with no magic number the header says nothing of use
+-- of an input that starts with no magic number the header says nothing of use
 abbrev pub header_of : List ℕ → Header
 header_of bytes = record {
   width = unwrap_or (width_of bytes) Legacy;
@@ -55,7 +55,7 @@ end_of h = table_from h + h.table
 
 -- ---- the extended part (term(5), extended storage format)
 
--- The words of the extended header, and where it begins. The word items is not among them, as nothing reads it.
+-- The words of the extended header, and where it starts. The word items is not among them: nothing reads it.
 abbrev pub extended_from : Header → ℕ
 extended_from h = end_of h + pad_len h.table
 

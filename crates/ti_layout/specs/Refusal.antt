@@ -93,12 +93,12 @@ extended_text_checks bytes x =
 abbrev pub extended_section_checks : List ℕ → ExtendedHeader → List Check
 extended_section_checks bytes x = extended_item_checks bytes x ++ extended_text_checks bytes x
 
--- the extended part, and no byte behind it
+-- the extended part, and no byte after it
 abbrev pub extended_checks : List ℕ → Header → ExtendedHeader → List Check
 extended_checks bytes h x =
     extended_front_checks bytes h x ++ extended_section_checks bytes x ++ end_checks bytes (extended_end_of x)
 
--- what is checked behind the string table: nothing where the input ends there
+-- what is checked after the string table: nothing where the input ends there
 abbrev pub checks_after_table : List ℕ → Header → List Check
 checks_after_table bytes h =
     if nat_le (length bytes) (end_of h) then [] else extended_checks bytes h (extended_header_of h bytes)
@@ -116,6 +116,6 @@ refusal bytes = refusal_of (length bytes) (verdict (length bytes) (checks bytes)
 abbrev pub failure : List ℕ → Option Refused
 failure bytes = failure_of (verdict (length bytes) (checks bytes))
 
--- the fault of a byte behind an entry of the greatest length
+-- the fault of a byte after an entry of the greatest length
 abbrev pub fault_after : List ℕ → Fault
 fault_after bytes = if end_of (header_of bytes) == length bytes then ExtendedTooBig else Trailing

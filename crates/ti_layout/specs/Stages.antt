@@ -109,7 +109,7 @@ checks_between ExtendedValues h x b = []
 checks_between ExtendedNames h x b = extended_text_checks b x
 checks_between End h x b = no_more_check (extended_end_of x) ∷ []
 
--- ---- the checks behind the items of a section
+-- ---- the checks after the items of a section
 
 abbrev pub after_extended_names : List ℕ → ExtendedHeader → List Check
 after_extended_names b x = extended_text_checks b x ++ end_checks b (extended_end_of x)
@@ -232,7 +232,7 @@ new_stage =
       part = record { header = no_capability Legacy; base = 0 };
     }
 
--- the headers behind the checks between two sections
+-- the header that is known after the checks between two sections
 abbrev pub header_after : Section → Header → List ℕ → Header
 header_after Words h b = header_of b
 header_after _ h b = h
@@ -243,14 +243,14 @@ part_after Counts h part b = record part { header = extended_header_of h b }
 part_after ExtendedNames h part b = record part { base = base_of b part.header }
 part_after _ h part b = part
 
--- behind the checks that follow a section
+-- the stage after the checks that follow a section
 abbrev pub stage_after : Stage → List ℕ → Stage
 stage_after s b = record s {
   header = header_after s.section s.header b;
   part = part_after s.section s.header s.part b;
 }
 
--- at the front of the next section
+-- the stage at the front of the next section
 abbrev pub at_next_section : Stage → Stage
 at_next_section s = record s { section = next s.section; items = items_of (next s.section) s.header s.part.header }
 
@@ -260,7 +260,7 @@ is_whole TableEnd = true
 is_whole End = true
 is_whole _ = false
 
--- what the bytes that came are worth where the next check stops
+-- the verdict on the bytes that came, where the next check stops
 abbrev pub verdict_at_stop : Section → Stop → Verdict
 verdict_at_stop s Early = if is_whole s then Passes else EndsEarly
 verdict_at_stop s (Failed r) = Fails r

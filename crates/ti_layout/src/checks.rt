@@ -1,8 +1,8 @@
 //! The checks of single items and of whole sections.
 //!
-//! Each function answers as the list of checks does that its clause names. A section is tested at once, and gone over item
-//! by item only where that test leaves it open. Whether its texts have their NULs is decided for all of them from one look
-//! for the last NUL of the table.
+//! What each function answers is the verdict of the checks that its clause names. A section is tested at once, and gone
+//! over item by item only where that test leaves it open. Whether its texts have their NULs is decided for all of them
+//! from one look for the last NUL of the table.
 
 ghost use Rattle.std.specs.Prelude.{◌≡◌, ◌+◌, ◌*◌, ◌<◌, ◌≤◌, ◌^◌, ◌∷◌, [], length, map, take, drop, OnOk};
 ghost use Rattle.ti_words.specs.Widths.{number_size as the_number_size};
@@ -17,7 +17,7 @@ use crate::whole::{
 use crate::word::{count_at, number_word_at, numbers_size, word_at};
 use ti_words::{Width, flag_of, number_size};
 
-/// A table of names: where it ends, its size, the place behind its last NUL, and what offsets are counted from.
+/// A table of names: where it ends, its size, the place after its last NUL, and what offsets are counted from.
 #[derive(Clone, Copy, Debug)]
 pub(crate) struct NameTable {
     pub(crate) end: usize,
@@ -44,7 +44,7 @@ fn is_before(reach: usize, offset: i16) -> bool
     offset < 0 || (offset as usize) < reach
 }
 
-/// The place behind the last NUL of a table: the texts that begin before it end in the table.
+/// The place after the last NUL of a table: the texts that start before it end in the table.
 pub(crate) fn reach_of(table: &[u8]) -> usize
     ensures { IsReach table.now result }
 {
@@ -159,7 +159,7 @@ pub(crate) fn check_offset(bytes: &[u8], table_size: usize, place: usize) -> Res
     Ok(())
 }
 
-/// The text whose offset stands at a place begins before the reach of the table.
+/// The text whose offset stands at a place starts before the reach of the table.
 fn check_ending(bytes: &[u8], reach: usize, end: usize, place: usize) -> Result<(), Stop>
     requires { place + 2 ≤ end }
     ensures { result_verdict result
@@ -177,7 +177,7 @@ fn check_ending(bytes: &[u8], reach: usize, end: usize, place: usize) -> Result<
     Ok(())
 }
 
-/// The name whose offset stands at a place begins in the table, and before its reach.
+/// The name whose offset stands at a place starts in the table, and before its reach.
 fn check_name_place(bytes: &[u8], table: &NameTable, place: usize) -> Result<(), Stop>
     requires within { place + 2 ≤ table.now.end }
     requires small { table.now.base < 2 ^ 32 }
@@ -320,7 +320,7 @@ pub(crate) fn check_endings(
     check_each_ending(bytes, reach, end, from, count)
 }
 
-/// Each text that is there begins before the reach of the table.
+/// Each text that is there starts before the reach of the table.
 fn check_each_ending(
     bytes: &[u8],
     reach: usize,
@@ -343,7 +343,7 @@ fn check_each_ending(
     Ok(())
 }
 
-/// Each name begins in the table, and before its reach.
+/// Each name starts in the table, and before its reach.
 pub(crate) fn check_name_places(
     bytes: &[u8],
     table: &NameTable,

@@ -15,7 +15,7 @@ use crate::word::{count_at, numbers_size};
 use ti_base::MOST_ENTRY_BYTES;
 use ti_words::{Kind, Width};
 
-/// The words of the extended header, and where it begins. Its word `items` is not read.
+/// The words of the extended header, and where it starts. Its word `items` is not read.
 #[derive(Clone, Copy, Debug, PartialEq, Eq)]
 pub struct ExtendedHeader {
     pub width: Width,
@@ -29,7 +29,7 @@ pub struct ExtendedHeader {
 }
 
 impl ExtendedHeader {
-    /// Where the flags begin, behind the header.
+    /// Where the flags start, after the header.
     pub fn flags_from(&self) -> usize
         requires { extended_end_of self.now < 2 ^ 32 }
         ensures { result ≡ extended_flags_from self.now }
@@ -37,7 +37,7 @@ impl ExtendedHeader {
         self.from + 10
     }
 
-    /// Where the pad stands, behind the flags, if there is one.
+    /// Where the pad after the flags stands, if there is one.
     pub fn pad_from(&self) -> usize
         requires { extended_end_of self.now < 2 ^ 32 }
         ensures { result ≡ extended_pad_from self.now }
@@ -45,7 +45,7 @@ impl ExtendedHeader {
         self.flags_from() + self.flags
     }
 
-    /// Where the numbers begin.
+    /// Where the numbers start.
     pub fn numbers_from(&self) -> usize
         requires { extended_end_of self.now < 2 ^ 32 }
         ensures { result ≡ extended_numbers_from self.now }
@@ -53,7 +53,7 @@ impl ExtendedHeader {
         self.pad_from() + self.flags % 2
     }
 
-    /// Where the offsets of the texts begin.
+    /// Where the offsets of the texts start.
     pub fn values_from(&self) -> usize
         requires { extended_end_of self.now < 2 ^ 32 }
         ensures { result ≡ extended_values_from self.now }
@@ -61,7 +61,7 @@ impl ExtendedHeader {
         self.numbers_from() + numbers_size(self.width, self.numbers)
     }
 
-    /// Where the offsets of the names begin.
+    /// Where the offsets of the names start.
     pub fn names_from(&self) -> usize
         requires { extended_end_of self.now < 2 ^ 32 }
         ensures { result ≡ extended_names_from self.now }
@@ -80,7 +80,7 @@ impl ExtendedHeader {
         }
     }
 
-    /// Where the offsets of the names of a kind begin.
+    /// Where the offsets of the names of a kind start.
     pub fn names_of(&self, kind: Kind) -> usize
         requires { extended_end_of self.now < 2 ^ 32 }
         ensures place { result ≡ kind_names_from self.now kind }
@@ -102,7 +102,7 @@ impl ExtendedHeader {
         self.flags + self.numbers + self.texts
     }
 
-    /// Where the extended table begins.
+    /// Where the extended table starts.
     pub fn table_from(&self) -> usize
         requires { extended_end_of self.now < 2 ^ 32 }
         ensures { result ≡ extended_table_from self.now }

@@ -37,7 +37,7 @@ pub enum Fault {
     ExtendedTooBig,
     /// The offset of an extended name is negative, or past its table.
     BadExtendedName,
-    /// Bytes stand behind the end of the entry.
+    /// Bytes follow the end of the entry.
     Trailing,
 }
 

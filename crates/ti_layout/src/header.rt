@@ -28,7 +28,7 @@ pub struct Header {
 }
 
 impl Header {
-    /// Where the flags begin, behind the names.
+    /// Where the flags start, after the names.
     pub fn flags_from(&self) -> usize
         requires { end_of self.now < 2 ^ 32 }
         ensures { result ≡ the_flags_from self.now }
@@ -36,7 +36,7 @@ impl Header {
         12 + self.names
     }
 
-    /// Where the pad stands, behind the flags, if there is one.
+    /// Where the pad after the flags stands, if there is one.
     pub fn pad_from(&self) -> usize
         requires { end_of self.now < 2 ^ 32 }
         ensures { result ≡ the_pad_from self.now }
@@ -44,7 +44,7 @@ impl Header {
         self.flags_from() + self.flags
     }
 
-    /// Where the numbers begin.
+    /// Where the numbers start.
     pub fn numbers_from(&self) -> usize
         requires { end_of self.now < 2 ^ 32 }
         ensures { result ≡ the_numbers_from self.now }
@@ -52,7 +52,7 @@ impl Header {
         self.pad_from() + (self.names + self.flags) % 2
     }
 
-    /// Where the offsets of the texts begin.
+    /// Where the offsets of the texts start.
     pub fn offsets_from(&self) -> usize
         requires { end_of self.now < 2 ^ 32 }
         ensures { result ≡ the_offsets_from self.now }
@@ -60,7 +60,7 @@ impl Header {
         self.numbers_from() + numbers_size(self.width, self.numbers)
     }
 
-    /// Where the string table begins.
+    /// Where the string table starts.
     pub fn table_from(&self) -> usize
         requires { end_of self.now < 2 ^ 32 }
         ensures { result ≡ the_table_from self.now }
@@ -76,7 +76,7 @@ impl Header {
         self.table_from() + self.table
     }
 
-    /// Where the extended part begins behind its pad, if there is one.
+    /// Where the extended part starts, after its pad, if there is one.
     pub fn extended_from(&self) -> usize
         requires { end_of self.now < 2 ^ 32 }
         ensures { result ≡ the_extended_from self.now }

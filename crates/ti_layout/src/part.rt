@@ -1,7 +1,7 @@
 //! The texts and names of the extended part, checked.
 //!
-//! The base of the names is summed in one pass that stops at the size of the table, from which on no name can lie in it:
-//! so it is linear also where texts share their bytes.
+//! The base of the names is summed in one pass that stops at the size of the table: from there on no name can lie in it.
+//! So it is linear also where texts share their bytes.
 
 ghost use Rattle.std.specs.Prelude.{◌≡◌, ◌+◌, ◌*◌, ◌<◌, ◌≤◌, ◌^◌, length, min, IfOk, OnOk};
 ghost use Rattle.ti_base.specs.Limits.{most_entry_bytes};
@@ -56,7 +56,7 @@ fn base_of(bytes: &[u8], table: &[u8], from: usize, count: usize) -> usize
     base.min(table.len())
 }
 
-/// Each name begins in the extended table, counted from the base, and has its NUL there.
+/// Each name starts in the extended table, counted from the base, and has its NUL there.
 fn check_names_from(bytes: &[u8], extended: &ExtendedHeader, base: usize) -> Result<(), Stop>
     requires fits { extended_end_of extended.now ≤ most_entry_bytes }
     requires there { extended_end_of extended.now ≤ length bytes.now }

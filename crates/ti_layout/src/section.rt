@@ -25,7 +25,7 @@ pub(crate) enum Item {
     Offset(usize),
 }
 
-/// Items of one kind that lie one after the other: where the first begins, and how many are left.
+/// Items of one kind that lie one after the other: where the first starts, and how many are left.
 #[derive(Clone, Copy)]
 pub(crate) struct Items {
     pub(crate) item: Item,
@@ -33,7 +33,7 @@ pub(crate) struct Items {
     pub(crate) left: usize,
 }
 
-/// The sections with items to check, in their order. `Magic` stands before the first, `Behind` at the end of the string
+/// The sections with items to check, in their order. `Magic` stands before the first, `TableEnd` at the end of the string
 /// table and `End` at that of the extended one, each without items.
 #[derive(Clone, Copy)]
 pub(crate) enum Section {
@@ -53,7 +53,7 @@ pub(crate) enum Section {
 }
 
 impl Item {
-    /// How many bytes one has.
+    /// How many bytes one item has.
     pub(crate) fn size(self) -> usize
         ensures value { result ≡ item_size self }
         ensures small { result ≤ 4 }
@@ -97,7 +97,7 @@ impl Items {
         }
     }
 
-    /// Those after so many.
+    /// The items after so many.
     pub(crate) fn after(self, count: usize) -> Items
         requires most { count ≤ self.left }
         requires within { self.at + item_size self.item * self.left ≤ most_entry_bytes }
@@ -131,7 +131,7 @@ impl Section {
         }
     }
 
-    /// What its items are. A section without items is held as one with no flag.
+    /// What its items are. A section without items counts as one with no flag.
     fn item(self, header: &Header, extended: &ExtendedHeader) -> Item
         ensures { result ≡ (items_of self header.now extended.now).item }
     {
@@ -149,7 +149,7 @@ impl Section {
         }
     }
 
-    /// Where its items begin.
+    /// Where its items start.
     fn from(self, header: &Header, extended: &ExtendedHeader) -> usize
         requires fits { end_of header.now ≤ most_entry_bytes }
         requires extended_fits { extended_end_of extended.now ≤ most_entry_bytes }

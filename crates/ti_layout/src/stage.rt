@@ -1,8 +1,8 @@
 //! The one checker of entries: how far the checks of bytes are made, and which one is next.
 //!
 //! A stage says in which section the next check is and which of its items are left, and keeps the headers that the checks
-//! met. It goes on over all the bytes that have come: a step checks the items of a section that lie within them, in one
-//! loop, or makes the few checks between two sections. Bytes that come whole take two steps a section.
+//! have read. It goes on over all the bytes that have come: a step checks the items of a section that lie within them,
+//! in one loop, or makes the few checks between two sections. Bytes that come whole take two steps a section.
 
 ghost use Rattle.std.specs.Prelude.{◌≡◌, ◌≢◌, ℕ, List, ◌+◌, ◌*◌, ◌<◌, ◌≤◌, ◌^◌, ◌++◌, ◌∷◌, [], length, IfOk, IfErr, OnOk, Err, Some};
 ghost use Rattle.ti_base.specs.Limits.{most_entry_bytes};
@@ -56,7 +56,7 @@ fn sized_extended_header(bytes: &[u8], header: &Header) -> Result<ExtendedHeader
     Ok(extended)
 }
 
-/// No byte stands behind the end, where one is asked for.
+/// No byte follows the end; asked where one does.
 fn check_no_more(len: usize, end: usize) -> Result<(), Stop>
     requires { end < 2 ^ 32 }
     ensures { result_verdict result ≡ verdict len (no_more_check end ∷ []) }
@@ -158,7 +158,7 @@ impl Stage {
         Ok(())
     }
 
-    /// With fewer bytes no check more is made.
+    /// With fewer bytes no further check is made.
     pub fn need(&self) -> usize
         requires within { self.now.items.at + item_size self.now.items.item * self.now.items.left
             ≤ most_entry_bytes }

@@ -146,7 +146,7 @@ pub(crate) fn are_before(bytes: &[u8], reach: usize, end: usize, from: usize, co
     are_below(bytes, reach, from, count)
 }
 
-/// Whether each name of a section begins in the table, and before its reach.
+/// Whether each name of a section starts in the table, and before its reach.
 pub(crate) fn are_names(bytes: &[u8], table: &NameTable, from: usize, count: usize) -> bool
     requires before { from + 2 * count ≤ table.now.end }
     requires there { table.now.end ≤ length bytes.now }

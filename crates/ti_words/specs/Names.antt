@@ -89,7 +89,7 @@ place_of name = lookup (bytes_eq name) places
 abbrev pub HasOneName : Type 0
 HasOneName = (kind : Kind) (index : ℕ) (name other : List ℕ) → IsNamed kind index name → IsNamed kind index other → name ≡ other
 
--- no name stands twice, also not under two kinds
+-- no name stands twice, not even under two kinds
 abbrev pub HasOnePlace : Type 0
 HasOnePlace =
     (kind kind' : Kind) (index index' : ℕ) (name : List ℕ) → IsNamed kind index name → IsNamed kind' index' name

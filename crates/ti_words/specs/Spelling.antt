@@ -119,7 +119,7 @@ mark_in x = x.1
 abbrev pub extended_names : EntryValue → List (List ℕ)
 extended_names v = map name_in v.extended_flags ++ map name_in v.extended_numbers ++ map name_in v.extended_texts
 
--- the bytes behind a string table of this size are the extended part; its word items may be anything
+-- the bytes after a string table of this size are the extended part; its word items may be anything
 pub record HasExtendedPart (v : EntryValue) (table_size : ℕ) (bytes : List ℕ) : Type 0 where
   pub values : List ℤ
   pub names : List ℤ

@@ -15,7 +15,7 @@ fn assert_refused(rt: &impl Abort, reader: &mut EntryReader, want: Refused, kept
     assert_eq!(rt; reader.kept(), kept);
 }
 
-/// Bytes that are refused at the byte behind the first `kept`: in one piece, and fed one by one.
+/// Bytes that are refused at the byte after the first `kept`: in one piece, and fed one by one.
 fn assert_decided(rt: &impl Abort, bytes: &[u8], want: Refused, kept: usize) {
     assert_eq!(rt; read(bytes).err(), Some(want));
     let mut whole = EntryReader::new();

@@ -1,4 +1,4 @@
--- No NUL stands behind the place that was reached.
+-- No NUL stands after the place that was reached.
 use Rattle.std.proofs.Common.{◌≡◌, ◌≤◌, false, length}
 use Rattle.ti_layout.specs.Table.{ends_in}
 use Rattle.ti_layout.proofs.checks.reach_of.Given as goal
