@@ -9,7 +9,7 @@ use Rattle.ti_words.specs.Value.{EntryValue}
 use Rattle.ti_base.specs.Limits.{most_entry_bytes}
 use Rattle.ti_words.specs.Widths.{number_size}
 use Rattle.ti_words.specs.Spelling.{mark_in, extended_names}
-use Rattle.ti_draft.specs.Canonical.{canonical, plain_bytes, extended_bytes, texts_table, names_table, present}
+use Rattle.ti_draft.specs.Canonical.{canonical, plain_bytes, extended_bytes, texts_table, names_table, present_count}
 use Rattle.ti_draft.specs.Unfit.{encode_fault, has_bad_name, has_bad_text, has_bad_number, is_too_long}
 use Rattle.ti_draft.proofs.LengthLemmas.{length_plain, length_both, length_extended_names}
 
@@ -69,10 +69,10 @@ pub record SmallExtended (v : EntryValue) : Type 0 where
   pub flags : length v.extended_flags < 2 ^ 15
   pub numbers : length v.extended_numbers < 2 ^ 15
   pub texts : length v.extended_texts < 2 ^ 15
-  pub items : present (map mark_in v.extended_texts) + length (extended_names v) < 2 ^ 15
+  pub items : present_count (map mark_in v.extended_texts) + length (extended_names v) < 2 ^ 15
   pub table : length (texts_table (map mark_in v.extended_texts)) + length (names_table (extended_names v)) < 2 ^ 15
 
-present_within : (ts : List TextValue) → present ts ≤ length (texts_table ts)
+present_within : (ts : List TextValue) → present_count ts ≤ length (texts_table ts)
 present_within [] = omega arith
 present_within (AbsentText ∷ ts) = present_within ts
 present_within (CancelledText ∷ ts) = present_within ts

@@ -1,4 +1,4 @@
--- Names and texts that are put into a table of at most 32768 bytes each start below that.
+-- Names and texts that are put into a table of at most 2 ^ 15 bytes each start below that.
 use Rattle.std.proofs.Common.{◌≡◌, ℕ, ◌+◌, ◌-◌, ◌<◌, ◌≤◌, ◌^◌, List, [], ◌∷◌, ◌++◌, length, drop, Bor, ◌∙◌, arith}
 use Rattle.std.proofs.lemmas.List.{length-append, length-map, length-drop}
 use Rattle.ti_draft.specs.Canonical.{names_table}

@@ -30,11 +30,11 @@ name_words from [] = []
 name_words from (name ∷ names) = pos from ∷ name_words (from + length name + 1) names
 
 -- how many texts are there
-abbrev pub present : List TextValue → ℕ
-present [] = 0
-present (TextOf text ∷ ts) = 1 + present ts
-present (AbsentText ∷ ts) = present ts
-present (CancelledText ∷ ts) = present ts
+abbrev pub present_count : List TextValue → ℕ
+present_count [] = 0
+present_count (TextOf text ∷ ts) = 1 + present_count ts
+present_count (AbsentText ∷ ts) = present_count ts
+present_count (CancelledText ∷ ts) = present_count ts
 
 -- the sections up to the end of the string table
 abbrev pub plain_bytes : EntryValue → List ℕ
@@ -63,7 +63,7 @@ extended_bytes v =
     ++ count_word (length v.extended_flags)
     ++ count_word (length v.extended_numbers)
     ++ count_word (length v.extended_texts)
-    ++ count_word (present texts + length names)
+    ++ count_word (present_count texts + length names)
     ++ count_word (length table)
     ++ flags_of (map mark_in v.extended_flags)
     ++ pad (length v.extended_flags)

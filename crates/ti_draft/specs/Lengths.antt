@@ -5,7 +5,7 @@ use Rattle.ti_words.specs.Texts.{TextValue, AbsentText, CancelledText, TextOf}
 use Rattle.ti_words.specs.Value.{EntryValue}
 use Rattle.ti_words.specs.Widths.{number_size}
 use Rattle.ti_words.specs.Spelling.{pad_len, magic, count_word, pad, mark_in, extended_names}
-use Rattle.ti_draft.specs.Canonical.{texts_table, names_table, present}
+use Rattle.ti_draft.specs.Canonical.{texts_table, names_table, present_count}
 
 -- the number, or the greatest one of 64 bits
 abbrev pub capped_count : ℕ → ℕ
@@ -42,5 +42,5 @@ extended_head v =
     ++ count_word (length v.extended_flags)
     ++ count_word (length v.extended_numbers)
     ++ count_word (length v.extended_texts)
-    ++ count_word (present (map mark_in v.extended_texts) + length (extended_names v))
+    ++ count_word (present_count (map mark_in v.extended_texts) + length (extended_names v))
     ++ count_word (length (texts_table (map mark_in v.extended_texts) ++ names_table (extended_names v)))

@@ -6,7 +6,7 @@
 ghost use Rattle.std.specs.Prelude.{◌≡◌, ◌++◌, ◌≤◌, ◌⊎◌, ◌==◌, false, length, map, Some, None, IfOk, IfErr, OnOk};
 ghost use Rattle.ti_words.specs.Texts.{text_value};
 ghost use Rattle.ti_words.specs.Spelling.{words_of, extended_names};
-ghost use Rattle.ti_draft.specs.Canonical.{canonical, plain_bytes, extended_bytes, names_table, name_words, present};
+ghost use Rattle.ti_draft.specs.Canonical.{canonical, plain_bytes, extended_bytes, names_table, name_words, present_count as the_present_count};
 ghost use Rattle.ti_draft.specs.Unfit.{encode_fault};
 ghost use Rattle.ti_draft.specs.Lengths.{plain_head, extended_head};
 
@@ -101,7 +101,7 @@ fn put_plain<A: Allocator, D: Allocator>(
 
 /// How many texts are there.
 fn present_count(texts: &[Text<'_>]) -> usize
-    ensures value { result ≡ present (map text_value texts.now) }
+    ensures value { result ≡ the_present_count (map text_value texts.now) }
     ensures few { result ≤ length texts.now }
 {
     let mut count = 0;

@@ -3,6 +3,7 @@ use Rattle.std.proofs.Common.{◌≡◌, ◌≢◌, ℕ, ◌+◌, ◌^◌, ◌<�
 use Rattle.std.proofs.lemmas.Bool.{ltb-false, eqb-false, eqb-true}
 use Rattle.std.proofs.lemmas.List.{append-nil, length-append, take_at, drop_at}
 use Rattle.std.specs.List.{AllByRecursion, list_any}
+use Rattle.ti_base.specs.Limits.{greatest_word, greatest_wide_word}
 use Rattle.ti_words.specs.declared.Number.{Number}
 use Rattle.ti_words.specs.declared.Number.TheVariants as numbers
 use Rattle.ti_words.specs.declared.Width.{Width}
@@ -42,8 +43,8 @@ clean_text (TextOf text) h = clean text h
 fits_width : (w : Width) (n : Number) → is_out_of_range w n ≡ false → FitsWidth w n
 fits_width w numbers.Absent h = tt
 fits_width w numbers.Cancelled h = tt
-fits_width Legacy (numbers.Value (pos n)) h = let le = ltb-false 32767 n h in omega arith
-fits_width Wide (numbers.Value (pos n)) h = let le = ltb-false 2147483647 n h in omega arith
+fits_width Legacy (numbers.Value (pos n)) h = let le = ltb-false greatest_word n h in omega arith
+fits_width Wide (numbers.Value (pos n)) h = let le = ltb-false greatest_wide_word n h in omega arith
 fits_width w (numbers.Value (negsuc n)) h = absurd cc
 
 -- ---- tables

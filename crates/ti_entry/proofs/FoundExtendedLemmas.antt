@@ -24,6 +24,7 @@ use Rattle.ti_entry.proofs.NamedItemsLemmas.{marks_in, length_named, all_names_i
 use Rattle.ti_layout.proofs.NamePlaceChecksLemmas.{table_length}
 use Rattle.ti_entry.proofs.FoundLemmas.{HasPlain, sections_found}
 use Rattle.std.proofs.lemmas.List.Concat.{flat_map-cons}
+use Rattle.ti_base.specs.Limits.{most_entry_bytes}
 
 -- one section more at the end of a front that starts after some bytes
 front_after : (bytes : List ℕ) (e n p k : ℕ) (x s : List ℕ) → e + n ≡ p → take n (drop e bytes) ≡ x → take k (drop p bytes) ≡ s → take (n + k) (drop e bytes) ≡ x ++ s
@@ -67,7 +68,7 @@ pub record PartPasses (bytes : List ℕ) (e t : ℕ) (x : ExtendedHeader) : Type
   pub outer_pad : Passes ≡ verdict (length bytes) (pad_checks bytes e t)
   pub signs : (i : ℕ) → i < 3 → Passed (length bytes) (sign_check bytes BadExtendedHeader (x.from + 2 * i))
   pub last_sign : Passed (length bytes) (sign_check bytes BadExtendedHeader (x.from + 8 + 2 * 0))
-  pub fits : extended_end_of x ≤ 32768
+  pub fits : extended_end_of x ≤ most_entry_bytes
   pub flags : Passes ≡ verdict (length bytes) (flag_checks bytes (extended_flags_from x) x.flags)
   pub inner_pad : Passes ≡ verdict (length bytes) (pad_checks bytes (extended_pad_from x) x.flags)
   pub numbers : Passes ≡ verdict (length bytes) (number_checks bytes (number_size x.width) (extended_numbers_from x) x.numbers)

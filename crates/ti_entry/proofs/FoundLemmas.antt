@@ -4,6 +4,7 @@ use Rattle.std.proofs.Math.Seq.{take-add}
 use Rattle.std.proofs.lemmas.List.{drop-drop, take-append-drop, length-take-le, length-drop}
 use Rattle.std.proofs.lemmas.Bool.{eqb-true, leb-true}
 use Rattle.std.specs.Prelude.{Option, Some, None, slice_range, is_some, unwrap_or}
+use Rattle.ti_base.specs.Limits.{most_entry_bytes}
 use Rattle.ti_words.specs.declared.Width.{Width}
 use Rattle.ti_words.specs.declared.Width.TheVariants.{Legacy, Wide}
 use Rattle.ti_layout.specs.declared.fault.Fault.TheVariants.{BadHeader, BadNames}
@@ -47,7 +48,7 @@ pub record HasFront (bytes : List ℕ) : Type 0 where
   pub numbers : IsCount bytes 6
   pub texts : IsCount bytes 8
   pub table : IsCount bytes 10
-  pub fits : end_of (header_of bytes) ≤ 32768
+  pub fits : end_of (header_of bytes) ≤ most_entry_bytes
   pub named : 2 ≤ unsigned_at 2 bytes 2
 
 pub front_is : (bytes : List ℕ) → IsBytes bytes → Passes ≡ verdict (length bytes) (front_checks bytes (header_of bytes)) → HasFront bytes
@@ -92,7 +93,7 @@ names_length bytes size some le = omega (arith, length-take-le (11 + size - 12) 
 
 -- the sections up to the end of the string table, and what follows
 pub record HasPlain (bytes : List ℕ) : Type 0 where
-  pub fits : end_of (header_of bytes) ≤ 32768
+  pub fits : end_of (header_of bytes) ≤ most_entry_bytes
   pub there : end_of (header_of bytes) ≤ length bytes
   pub table_size : length (table_of bytes (header_of bytes)) ≡ (header_of bytes).table
   pub sections : HasSections (plain_content bytes (header_of bytes)) (table_of bytes (header_of bytes)) (drop (end_of (header_of bytes)) bytes) bytes

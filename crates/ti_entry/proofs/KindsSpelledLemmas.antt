@@ -125,7 +125,7 @@ pub record TextsRead (bytes table : List ℕ) (from : ℕ) (ts : List TextValue)
   pub ended : (end : ℕ) → end ≤ length bytes → Passes ≡ verdict (length bytes) (ending_checks bytes table end from (length ts))
   pub same : map (text_at table bytes) (places from 2 (length ts)) ≡ ts
 
-pub texts_read : (bytes x p table : List ℕ) (from : ℕ) (zs : List ℤ) (ts : List TextValue) → bytes ≡ x ++ (words_of zs ++ p) → length x ≡ from → length table < 32768 → Each (IsText table) zs ts → TextsRead bytes table from ts
+pub texts_read : (bytes x p table : List ℕ) (from : ℕ) (zs : List ℤ) (ts : List TextValue) → bytes ≡ x ++ (words_of zs ++ p) → length x ≡ from → length table < 2 ^ 15 → Each (IsText table) zs ts → TextsRead bytes table from ts
 texts_read bytes x p table from zs ts e l small texts =
     let len = length bytes in
     let goods = all_good table zs ts small texts in
@@ -173,7 +173,7 @@ name_of_word table base (negsuc n) = []
 text_again : (s t : List ℕ) → TextOf s ≡ TextOf t → s ≡ t
 text_again s t e = cc
 
-good_name : (table : List ℕ) (base : ℕ) (z : ℤ) (name : List ℕ) → length table < 32768 → IsName table base z name → IsGoodName table base z × (name_of_word table base z ≡ name)
+good_name : (table : List ℕ) (base : ℕ) (z : ℤ) (name : List ℕ) → length table < 2 ^ 15 → IsName table base z name → IsGoodName table base z × (name_of_word table base z ≡ name)
 unfolding name_of_word
 good_name table base z name small h =
     let is = h.1 in
@@ -182,7 +182,7 @@ good_name table base z name small h =
     let same : text_from table (base + h.0) ≡ name = text_again _ _ t.1 in
     (record { number = h.0; is = is; short = omega arith; below_size = t.0.below_size; ended = t.0.ended }, ap (name_of_word table base) is ∙ same)
 
-all_good_names : (table : List ℕ) (base : ℕ) (zs : List ℤ) (names : List (List ℕ)) → length table < 32768 → Each (IsName table base) zs names
+all_good_names : (table : List ℕ) (base : ℕ) (zs : List ℤ) (names : List (List ℕ)) → length table < 2 ^ 15 → Each (IsName table base) zs names
     → AllByRecursion (IsGoodName table base) zs × (map (name_of_word table base) zs ≡ names) × (length zs ≡ length names)
 all_good_names table base [] [] small h = (tt, refl, refl)
 all_good_names table base [] (n ∷ ns) small h = absurd h
@@ -219,7 +219,7 @@ pub record NamesRead (bytes table : List ℕ) (base from : ℕ) (names : List (L
   pub placed_so : (end : ℕ) → end ≤ length bytes → Passes ≡ verdict (length bytes) (all_name_place_checks bytes table base end (places from 2 (length names)))
   pub same : map (λ p. text_from table (base + unsigned_at 2 bytes p)) (places from 2 (length names)) ≡ names
 
-pub names_read : (bytes x p table : List ℕ) (base from : ℕ) (zs : List ℤ) (names : List (List ℕ)) → bytes ≡ x ++ (words_of zs ++ p) → length x ≡ from → length table < 32768 → Each (IsName table base) zs names → NamesRead bytes table base from names
+pub names_read : (bytes x p table : List ℕ) (base from : ℕ) (zs : List ℤ) (names : List (List ℕ)) → bytes ≡ x ++ (words_of zs ++ p) → length x ≡ from → length table < 2 ^ 15 → Each (IsName table base) zs names → NamesRead bytes table base from names
 unfolding name_of_word
 names_read bytes x p table base from zs names e l small are =
     let len = length bytes in

@@ -1,7 +1,8 @@
 -- The whole: bytes that spell an entry pass the checks, and are read as it.
-use Rattle.std.proofs.Common.{◌≡◌, ℕ, suc, ◌+◌, ◌*◌, ◌<◌, ◌≤◌, ◌⊎◌, true, false, cond, leb, List, [], ◌∷◌, ◌++◌, map, length, take, drop, inl, inr, refl, sym, ap, subst, ◌∙◌, arith, append_assoc}
+use Rattle.std.proofs.Common.{◌≡◌, ℕ, suc, ◌+◌, ◌*◌, ◌<◌, ◌≤◌, ◌⊎◌, true, false, cond, leb, List, [], ◌∷◌, ◌++◌, map, length, take, drop, inl, inr, refl, sym, ap, subst, ◌∙◌, arith, append_assoc, ◌^◌}
 use Rattle.std.proofs.lemmas.List.{length-append, length-map, length-replicate, take_all, drop_at}
 use Rattle.std.proofs.lemmas.Bool.{le-leb, lt-leb}
+use Rattle.ti_base.specs.Limits.{most_entry_bytes}
 use Rattle.ti_words.specs.Marks.{byte_of_flag, word_of_number}
 use Rattle.ti_layout.specs.declared.fault.Fault.TheVariants.{BadExtendedHeader, BadExtendedName}
 use Rattle.ti_layout.specs.declared.header.Header.{Header}
@@ -45,7 +46,7 @@ record PartRead (bytes : List ℕ) (v : EntryValue) (h : Header) : Type 0 where
   follows : end_of h < length bytes
   same : SameExtended v (content_with bytes h (extended_header_of h bytes))
 
-part_read : (bytes front rest : List ℕ) (v : EntryValue) (h : Header) → h.width ≡ v.width → bytes ≡ front ++ rest → length front ≡ end_of h → length bytes ≤ 32768 → HasExtendedPart v h.table rest → PartRead bytes v h
+part_read : (bytes front rest : List ℕ) (v : EntryValue) (h : Header) → h.width ≡ v.width → bytes ≡ front ++ rest → length front ≡ end_of h → length bytes ≤ most_entry_bytes → HasExtendedPart v h.table rest → PartRead bytes v h
 part_read bytes front rest v h width split l0 short s =
     let len = length bytes in
     let w = v.width in
@@ -58,7 +59,7 @@ part_read bytes front rest v h width split l0 short s =
     let nt : length et ≡ length v.extended_texts = length-map v.extended_texts mark_in in
     let from = extended_from h in
     let x : ExtendedHeader = record { width = w; from = from; flags = length v.extended_flags; numbers = length v.extended_numbers; texts = length v.extended_texts; table = length s.table } in
-    let small : length s.table < 32768 = omega (arith, s.counts.1.1.1.0) in
+    let small : length s.table < 2 ^ 15 = omega (arith, s.counts.1.1.1.0) in
     let count = extended_name_count x in
     let base = texts_size v.extended_texts in
     let nv : length s.values ≡ length v.extended_texts = each_length (IsText s.table) s.values et s.texts_there ∙ nt in

@@ -122,7 +122,7 @@ pub record IsGood (table : List ℕ) (z : ℤ) : Type 0 where
   pub below_size : is_offset_below (length table) z ≡ true
   pub ended : is_ended table z ≡ true
 
-pub placed : (table : List ℕ) (place : ℕ) (text : List ℕ) → length table < 32768 → HasNoNul text → Has table place (text ++ 0 ∷ []) → IsGood table (pos place) × (text_of_word table (pos place) ≡ TextOf text)
+pub placed : (table : List ℕ) (place : ℕ) (text : List ℕ) → length table < 2 ^ 15 → HasNoNul text → Has table place (text ++ 0 ∷ []) → IsGood table (pos place) × (text_of_word table (pos place) ≡ TextOf text)
 placed table place text small clean has =
     let k = length (text ++ 0 ∷ []) in
     let rest = drop k (drop place table) in
@@ -137,12 +137,12 @@ placed table place text small clean has =
       ap TextOf (ap until_nul split ∙ clean_until text rest clean),
     )
 
-pub good : (table : List ℕ) (z : ℤ) (t : TextValue) → length table < 32768 → IsText table z t → IsGood table z × (text_of_word table z ≡ t)
+pub good : (table : List ℕ) (z : ℤ) (t : TextValue) → length table < 2 ^ 15 → IsText table z t → IsGood table z × (text_of_word table z ≡ t)
 good table z AbsentText small h = rw h (record { short = omega arith; below_size = refl; ended = refl }, refl)
 good table z CancelledText small h = rw h (record { short = omega arith; below_size = refl; ended = refl }, refl)
 good table z (TextOf text) small h = let e = h.1 in rw e (placed table h.0 text small h.2 h.3)
 
-pub all_good : (table : List ℕ) (zs : List ℤ) (ts : List TextValue) → length table < 32768 → Each (IsText table) zs ts → AllByRecursion (IsGood table) zs × (map (text_of_word table) zs ≡ ts) × (length zs ≡ length ts)
+pub all_good : (table : List ℕ) (zs : List ℤ) (ts : List TextValue) → length table < 2 ^ 15 → Each (IsText table) zs ts → AllByRecursion (IsGood table) zs × (map (text_of_word table) zs ≡ ts) × (length zs ≡ length ts)
 all_good table [] [] small h = (tt, refl, refl)
 all_good table [] (t ∷ ts) small h = absurd h
 all_good table (z ∷ zs) [] small h = absurd h

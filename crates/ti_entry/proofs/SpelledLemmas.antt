@@ -1,9 +1,10 @@
 -- Bytes that have the sections of an entry pass the checks up to the end of the string table, and are read so.
-use Rattle.std.proofs.Common.{◌≡◌, ◌≢◌, ℕ, ◌+◌, ◌-◌, ◌*◌, ◌<◌, ◌≤◌, false, not, eqb, List, [], ◌∷◌, ◌++◌, map, length, take, drop, Some, refl, sym, ap, subst, ◌∙◌, arith, append_assoc}
+use Rattle.std.proofs.Common.{◌≡◌, ◌≢◌, ℕ, ◌+◌, ◌-◌, ◌*◌, ◌<◌, ◌≤◌, false, not, eqb, List, [], ◌∷◌, ◌++◌, map, length, take, drop, Some, refl, sym, ap, subst, ◌∙◌, arith, append_assoc, ◌^◌}
 use Rattle.std.proofs.lemmas.List.{length-append, length-map, length-replicate, take_at, drop_at}
 use Rattle.std.proofs.lemmas.Bool.{le-leb, ne_eqb}
 use Rattle.std.specs.List.{flat_map}
 use Rattle.std.specs.Prelude.{slice_range, is_some}
+use Rattle.ti_base.specs.Limits.{most_entry_bytes}
 use Rattle.ti_words.specs.declared.Width.{Width}
 use Rattle.ti_words.specs.declared.Width.TheVariants.{Legacy, Wide}
 use Rattle.ti_words.specs.Marks.{byte_of_flag, word_of_number}
@@ -43,7 +44,7 @@ pub record PlainRead (bytes : List ℕ) (v : EntryValue) (table rest : List ℕ)
   pub split : bytes ≡ front ++ rest
   pub end : length front ≡ end_of (header_of bytes)
 
-pub plain_read : (bytes : List ℕ) (v : EntryValue) (table rest : List ℕ) → HasSections v table rest bytes → length bytes ≤ 32768 → PlainRead bytes v table rest
+pub plain_read : (bytes : List ℕ) (v : EntryValue) (table rest : List ℕ) → HasSections v table rest bytes → length bytes ≤ most_entry_bytes → PlainRead bytes v table rest
 plain_read bytes v table rest s short =
     let w = v.width in
     let size = number_size w in
@@ -56,7 +57,7 @@ plain_read bytes v table rest s short =
     let some = s.named in
     let len = length bytes in
     let hv : Header = record { width = w; names = length names + 1; flags = length fs; numbers = length ns; texts = length ts; table = length table } in
-    let small_table : length table < 32768 = omega (arith, counts.1.1.1.1.0) in
+    let small_table : length table < 2 ^ 15 = omega (arith, counts.1.1.1.1.0) in
     let goods = all_good table offsets ts small_table s.texts_there in
     let x5 = magic w ++ count_word (length names + 1) ++ count_word (length fs) ++ count_word (length ns) ++ count_word (length ts) ++ count_word (length table) in
     let x6 = x5 ++ (names ++ 0 ∷ []) in

@@ -54,7 +54,7 @@ flat_again g size ok len one (x ∷ xs) (y ∷ ys) n p q e =
 
 -- ---- items
 
-count_again : (m n : ℕ) → m < 32768 → n < 32768 → count_word m ≡ count_word n → m ≡ n
+count_again : (m n : ℕ) → m < 2 ^ 15 → n < 2 ^ 15 → count_word m ≡ count_word n → m ≡ n
 count_again m n p q e = sym (reads_count m p) ∙ ap (λ l. unsigned_at 2 l 0) e ∙ reads_count n q
 
 word_determined : (w : Width) (a b : ℤ) → IsShort w a → IsShort w b → word (number_size w) a ≡ word (number_size w) b → a ≡ b
@@ -221,7 +221,7 @@ name_of_word : List ℕ → ℕ → ℤ → List ℕ
 name_of_word table base (pos place) = text_from table (base + place)
 name_of_word table base (negsuc n) = []
 
-good_name : (table : List ℕ) (base : ℕ) (z : ℤ) (name : List ℕ) → length table < 32768 → IsName table base z name → IsShort Legacy z × (name_of_word table base z ≡ name)
+good_name : (table : List ℕ) (base : ℕ) (z : ℤ) (name : List ℕ) → length table < 2 ^ 15 → IsName table base z name → IsShort Legacy z × (name_of_word table base z ≡ name)
 unfolding name_of_word
 good_name table base z name small h =
     let is = h.1 in
@@ -231,7 +231,7 @@ good_name table base z name small h =
     let same : text_from table (base + h.0) ≡ name = cc in
     rw is (omega arith, same)
 
-all_names : (table : List ℕ) (base : ℕ) (zs : List ℤ) (names : List (List ℕ)) → length table < 32768 → Each (IsName table base) zs names
+all_names : (table : List ℕ) (base : ℕ) (zs : List ℤ) (names : List (List ℕ)) → length table < 2 ^ 15 → Each (IsName table base) zs names
     → AllByRecursion (IsShort Legacy) zs × (map (name_of_word table base) zs ≡ names) × (length zs ≡ length names)
 all_names table base [] [] small h = (tt, refl, refl)
 all_names table base [] (n ∷ ns) small h = absurd h

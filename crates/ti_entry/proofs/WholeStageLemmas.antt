@@ -2,6 +2,7 @@
 use Rattle.std.proofs.Common.{◌≡◌, ℕ, ◌≤◌, ◌<◌, Bool, true, false, cond, List, length, refl, sym, ap, subst, ◌∙◌, arith}
 use Rattle.std.proofs.lemmas.Bool.{le-leb, lt-leb}
 use Rattle.std.specs.Prelude.{Some, None, Ok, Err}
+use Rattle.ti_base.specs.Limits.{most_entry_bytes}
 use Rattle.ti_words.specs.declared.Width.{Width}
 use Rattle.ti_layout.specs.declared.fault.Fault.TheVariants.{Truncated}
 use Rattle.ti_layout.specs.declared.header.Header.{Header}
@@ -55,7 +56,7 @@ view_of : (xs : List ℕ) (h : Header) (x : ExtendedHeader) → h ≡ header_of 
 view_of xs h x e f =
     ap (content_with xs h) f ∙ ap (λ g. content_with xs g (extended_header_or_none xs g)) e ∙ content_is xs (header_of xs)
 
-plain_view : (xs : List ℕ) (it : Items) (h : Header) (part : Part) → KnowsPlain xs it h part → end_of h ≤ 32768 → length xs ≤ end_of h → IsView xs h part
+plain_view : (xs : List ℕ) (it : Items) (h : Header) (part : Part) → KnowsPlain xs it h part → end_of h ≤ most_entry_bytes → length xs ≤ end_of h → IsView xs h part
 plain_view xs it h part k fits ends =
     let there = k.there in
     let e : part ≡ record { header = no_capability h.width; base = 0 } = parts_alike part k.headers.extended k.headers.base in
@@ -68,7 +69,7 @@ plain_view xs it h part k fits ends =
     parts_alike : (part : Part) → part.header ≡ no_capability h.width → part.base ≡ 0 → part ≡ record { header = no_capability h.width; base = 0 }
     parts_alike part a b = let fields : ◌≡◌ {A = Part} (record { header = part.header; base = part.base }) (record { header = no_capability h.width; base = 0 }) = rw (a, b) refl in fields
 
-whole_view : (xs : List ℕ) (it : Items) (h : Header) (part : Part) → KnowsAll xs it h part → end_of h ≤ 32768 → extended_end_of part.header ≤ 32768 → part.base ≤ 32768 → IsView xs h part
+whole_view : (xs : List ℕ) (it : Items) (h : Header) (part : Part) → KnowsAll xs it h part → end_of h ≤ most_entry_bytes → extended_end_of part.header ≤ most_entry_bytes → part.base ≤ most_entry_bytes → IsView xs h part
 whole_view xs it h part k fits extended_fits most =
     let there = k.there in
     let from : part.header.from ≡ extended_from h = ap (λ (x : ExtendedHeader). x.from) k.headers.extended in
@@ -79,7 +80,7 @@ whole_view xs it h part k fits extended_fits most =
       content = view_of xs h part.header k.headers.header some;
     }
 
-views : (section : Section) (xs : List ℕ) (it : Items) (h : Header) (part : Part) → Knows section xs it h part → is_whole section ≡ true → end_of h ≤ 32768 → extended_end_of part.header ≤ 32768 → part.base ≤ 32768
+views : (section : Section) (xs : List ℕ) (it : Items) (h : Header) (part : Part) → Knows section xs it h part → is_whole section ≡ true → end_of h ≤ most_entry_bytes → extended_end_of part.header ≤ most_entry_bytes → part.base ≤ most_entry_bytes
     → (section ≡ TableEnd → length xs ≤ end_of h) → IsView xs h part
 views TableEnd xs it h part k e fits extended_fits most ends = plain_view xs it h part k fits (ends refl)
 views End xs it h part k e fits extended_fits most ends = whole_view xs it h part k fits extended_fits most

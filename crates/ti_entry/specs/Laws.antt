@@ -37,7 +37,8 @@ EqualEntriesHaveEqualBytes = (v w : EntryValue) → v ≡ w → canonical v ≡ 
 
 -- two entries without a fault that have equal bytes are equal
 abbrev pub EqualBytesAreOfEqualEntries : Type 0
-EqualBytesAreOfEqualEntries = (v w : EntryValue) → encode_fault v ≡ None → encode_fault w ≡ None → canonical v ≡ canonical w → v ≡ w
+EqualBytesAreOfEqualEntries = (v w : EntryValue)
+    → encode_fault v ≡ None → encode_fault w ≡ None → canonical v ≡ canonical w → v ≡ w
 
 -- what is written of an entry without a fault is read as it
 abbrev pub EncodedReads : Type 0

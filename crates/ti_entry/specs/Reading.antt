@@ -30,7 +30,8 @@ new_reading = record { kept = []; refusal = None }
 -- the greatest length, up to a given one, of a front of the bytes on which no check has failed
 abbrev pub length_before_failure : List ℕ → ℕ → ℕ
 length_before_failure bytes zero = zero
-length_before_failure bytes (suc len) = if is_some (failure (take (suc len) bytes)) then length_before_failure bytes len else suc len
+length_before_failure bytes (suc len) =
+    if is_some (failure (take (suc len) bytes)) then length_before_failure bytes len else suc len
 
 -- the longest front of the bytes on which no check has failed
 unfoldable pub front_before_failure : List ℕ → List ℕ

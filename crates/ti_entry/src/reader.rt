@@ -121,7 +121,7 @@ impl EntryReader {
         ensures most { length self.new.kept ≤ most_entry_bytes }
     {
         if self.kept.is_full() {
-            let refused = overfull(self.kept.as_slice());
+            let refused = refusal_when_full(self.kept.as_slice());
             self.refusal = Some(refused);
             return Err(refused);
         }
@@ -179,7 +179,7 @@ impl EntryReader {
 }
 
 /// Why a byte after as many as an entry may have is refused.
-fn overfull(kept: &[u8]) -> Refused
+fn refusal_when_full(kept: &[u8]) -> Refused
     requires full { length kept.now ≡ most_entry_bytes }
     requires none_failed { failure kept.now ≡ None }
     ensures { (byte : ℕ) → (more : List ℕ) → failure (kept.now ++ byte ∷ more) ≡ Some result }

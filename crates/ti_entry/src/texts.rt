@@ -36,7 +36,8 @@ impl<'a> Model for Texts<'a> {
 
     ghost view = { λ t. map (text_at t.table.now t.bytes.now) (places t.from 2 t.count) };
 
-    ghost invariant = { λ t. (t.from + 2 * t.count ≤ length t.bytes.now) × (t.in_mind.now ≡ text_from t.table.now t.start) };
+    ghost invariant = { λ t. (t.from + 2 * t.count ≤ length t.bytes.now)
+        × (t.in_mind.now ≡ text_from t.table.now t.start) };
 }
 
 /// The texts of a table, whose offsets stand one after the other from a place on.

@@ -4,6 +4,7 @@ use Rattle.std.proofs.lemmas.List.{length-append}
 use Rattle.std.proofs.lemmas.Bool.{le-ltb, leb-true, leb-false, lt-leb, ne_eqb, eq-eqb}
 use Rattle.std.proofs.lemmas.List.Concat.{flat_map-cons}
 use Rattle.std.specs.List.{AllByRecursion}
+use Rattle.ti_base.specs.Limits.{most_entry_bytes}
 use Rattle.ti_layout.specs.declared.fault.Fault.TheVariants.{BadHeader, BadNames, BadPad, BadExtendedHeader, BadExtendedName, ExtendedTooBig, Trailing}
 use Rattle.ti_layout.specs.declared.fault.Fault.{Fault}
 use Rattle.ti_layout.specs.declared.header.Header.{Header}
@@ -71,7 +72,7 @@ no_early_in_three (Fails q) vS vE h f s e = cc
 
 pub record Sized (xs : List ℕ) : Type 0 where
   pub some : 2 ≤ (header_of xs).names
-  pub fits : end_of (header_of xs) ≤ 32768
+  pub fits : end_of (header_of xs) ≤ most_entry_bytes
   pub long : 12 ≤ length xs
 
 sized : (xs : List ℕ) → verdict (length xs) (front_checks xs (header_of xs)) ≡ Passes → Sized xs
@@ -140,13 +141,13 @@ extended_section_reaches xs x len le =
     (all_append P (c0 ++ c1) c2 (all_append P c0 c1 flags pads) numbers) values) names)
     (all_append P c5 c6 endings name_places)
 
-extended_fits : (xs : List ℕ) (h : Header) (x : ExtendedHeader) (len : ℕ) → verdict len (extended_front_checks xs h x) ≡ Passes → extended_end_of x ≤ 32768
+extended_fits : (xs : List ℕ) (h : Header) (x : ExtendedHeader) (len : ℕ) → verdict len (extended_front_checks xs h x) ≡ Passes → extended_end_of x ≤ most_entry_bytes
 extended_fits xs h x len p =
     let a = both_pass len (extended_word_checks xs h) (extended_size_checks x) (sym p) in
     let b = first_passes len (extended_size_check x) [] a.1 in leb-true _ _ b.holds
 
 -- no check after the string table of a full input waits for more
-after_table_decides : (xs : List ℕ) (h : Header) → 32768 ≤ length xs → verdict (length xs) (checks_after_table xs h) ≡ EndsEarly → ⊥
+after_table_decides : (xs : List ℕ) (h : Header) → most_entry_bytes ≤ length xs → verdict (length xs) (checks_after_table xs h) ≡ EndsEarly → ⊥
 after_table_decides xs h long = by_end (leb (length xs) (end_of h)) refl
   where
     by_end : (b : Bool) → leb (length xs) (end_of h) ≡ b → verdict (length xs) (cond b [] (extended_checks xs h (extended_header_of h xs))) ≡ EndsEarly → ⊥
@@ -156,14 +157,14 @@ after_table_decides xs h long = by_end (leb (length xs) (end_of h)) refl
         let x = extended_header_of h xs in
         let above : end_of h < len = omega (arith, leb-false len (end_of h) e) in
         no_early_in_three (verdict len (extended_front_checks xs h x)) (verdict len (extended_section_checks xs x)) (verdict len (end_checks xs (extended_end_of x))) (sym (extended_split xs h x len) ∙ k)
-        (no_early_after len (room_check h) (words_then_size xs h x) (omega arith) (λ room. words_reach xs h x len refl (let fit : extended_from h + 10 ≤ 32768 = leb-true _ _ room in omega arith)))
+        (no_early_after len (room_check h) (words_then_size xs h x) (omega arith) (λ room. words_reach xs h x len refl (let fit : extended_from h + 10 ≤ most_entry_bytes = leb-true _ _ room in omega arith)))
         (λ p. no_early len (extended_section_checks xs x) (extended_section_reaches xs x len (let f = extended_fits xs h x len p in omega arith)))
         (λ p. no_early len (end_checks xs (extended_end_of x)) ((let f = extended_fits xs h x len p in omega arith), tt))
 
 -- ---- the whole
 
 -- no check of a full input waits for more
-pub full_decides : (xs : List ℕ) → 32768 ≤ length xs → verdict (length xs) (checks xs) ≡ EndsEarly → ⊥
+pub full_decides : (xs : List ℕ) → most_entry_bytes ≤ length xs → verdict (length xs) (checks xs) ≡ EndsEarly → ⊥
 full_decides xs long h =
     let len = length xs in
     let hx = header_of xs in
@@ -205,14 +206,14 @@ extended_then_trailing xs ys h some k =
     extended_split zs h z (len + length ys) ∙ rw (wF, wS) wE
 
 -- where a full entry ends with its string table, an extended part has no room
-no_room : (xs ys : List ℕ) (h : Header) (rest : List Check) → end_of h ≡ length xs → length xs ≡ 32768 → 0 < length ys → verdict (length xs + length ys) (room_check h ∷ rest) ≡ Fails (refusal_at ExtendedTooBig (length xs))
+no_room : (xs ys : List ℕ) (h : Header) (rest : List Check) → end_of h ≡ length xs → length xs ≡ most_entry_bytes → 0 < length ys → verdict (length xs + length ys) (room_check h ∷ rest) ≡ Fails (refusal_at ExtendedTooBig (length xs))
 no_room xs ys h rest ends full some =
     let reach : ltb (length xs + length ys) (end_of h + 1) ≡ false = le-ltb (length xs + length ys) (end_of h + 1) (omega arith) in
-    let over : leb (extended_from h + 10) 32768 ≡ false = lt-leb (extended_from h + 10) 32768 (omega arith) in
+    let over : leb (extended_from h + 10) most_entry_bytes ≡ false = lt-leb (extended_from h + 10) most_entry_bytes (omega arith) in
     let fails : verdict (length xs + length ys) (room_check h ∷ rest) ≡ Fails (refusal_at ExtendedTooBig (end_of h)) = rw (reach, over) refl in
     fails ∙ ap (λ n. Fails (refusal_at ExtendedTooBig n)) ends
 
-after_table_full : (xs : List ℕ) (b : ℕ) (more : List ℕ) (h : Header) → h ≡ header_of xs → length xs ≡ 32768 → end_of h ≤ length xs → Passes ≡ verdict (length xs) (checks_after_table xs h)
+after_table_full : (xs : List ℕ) (b : ℕ) (more : List ℕ) (h : Header) → h ≡ header_of xs → length xs ≡ most_entry_bytes → end_of h ≤ length xs → Passes ≡ verdict (length xs) (checks_after_table xs h)
     → verdict (length xs + length (b ∷ more)) (checks_after_table (xs ++ b ∷ more) h) ≡ Fails (refusal_at (fault_after xs) (length xs))
 after_table_full xs b more h is full there = by_end (leb (length xs) (end_of h)) refl
   where
@@ -241,7 +242,7 @@ after_table_full xs b more h is full there = by_end (leb (length xs) (end_of h))
         opened ∙ extended_then_trailing xs (b ∷ more) h (omega arith) k ∙ ap (λ (f : Fault). Fails (refusal_at f (length xs))) (sym fault)
 
 -- a full input that passes is refused where a byte follows it
-pub then_refused : (xs : List ℕ) (b : ℕ) (more : List ℕ) → length xs ≡ 32768 → Passes ≡ verdict (length xs) (checks xs) → verdict (length (xs ++ b ∷ more)) (checks (xs ++ b ∷ more)) ≡ Fails (refusal_at (fault_after xs) (length xs))
+pub then_refused : (xs : List ℕ) (b : ℕ) (more : List ℕ) → length xs ≡ most_entry_bytes → Passes ≡ verdict (length xs) (checks xs) → verdict (length (xs ++ b ∷ more)) (checks (xs ++ b ∷ more)) ≡ Fails (refusal_at (fault_after xs) (length xs))
 then_refused xs b more full h =
     let len = length xs in
     let ys = b ∷ more in

@@ -3,6 +3,7 @@ use Rattle.std.proofs.Common.{◌≡◌, ℕ, ◌+◌, ◌-◌, ◌*◌, ◌<◌
 use Rattle.std.proofs.Math.Nat.{mul-add}
 use Rattle.std.proofs.lemmas.List.{map-append}
 use Rattle.std.proofs.lemmas.Bool.{cases_lt, le-ltb, lt-ltb, leb-true, lt-leb, le-leb}
+use Rattle.ti_base.specs.Limits.{most_entry_bytes}
 use Rattle.ti_layout.specs.declared.fault.Fault.TheVariants.{BadHeader, BadNames, BadPad, BadExtendedHeader, BadExtendedName, Trailing}
 use Rattle.ti_layout.specs.declared.fault.Stop.{Stop}
 use Rattle.ti_layout.specs.declared.fault.Stop.TheVariants.{Early, Failed}
@@ -124,7 +125,7 @@ items_pass xs s n h lt le p ys =
       known = knows_after s.section zs it n s.header s.part lt k.known;
     }
   where
-    fewer : (at size left n : ℕ) → n ≤ left → at + size * left ≤ 32768 → (at + size * n) + size * (left - n) ≤ 32768
+    fewer : (at size left n : ℕ) → n ≤ left → at + size * left ≤ most_entry_bytes → (at + size * n) + size * (left - n) ≤ most_entry_bytes
     fewer at size left n le within =
         let m : left ≡ n + (left - n) = omega arith in
         let e : size * left ≡ size * n + size * (left - n) = ap (λ k. size * k) m ∙ mul-add size n (left - n) in omega arith
@@ -145,7 +146,7 @@ bare bytes s k e = k.decides ∙ ap (verdict (length bytes)) (none_left bytes s.
 
 record SizesPass (len : ℕ) (h : Header) : Type 0 where
   pub long : 12 ≤ len
-  pub fits : end_of h ≤ 32768
+  pub fits : end_of h ≤ most_entry_bytes
   pub named : 2 ≤ h.names
 
 sizes_pass : (len : ℕ) (h : Header) → Passes ≡ verdict len (size_checks h) → SizesPass len h
@@ -156,7 +157,7 @@ sizes_pass len h p =
 
 record CountsPass (xs : List ℕ) (h : Header) : Type 0 where
   pub long : extended_from h + 10 ≤ length xs
-  pub fits : extended_end_of (extended_header_of h xs) ≤ 32768
+  pub fits : extended_end_of (extended_header_of h xs) ≤ most_entry_bytes
 
 counts_pass : (xs : List ℕ) (h : Header) → Passes ≡ verdict (length xs) (counts_checks xs h) → CountsPass xs h
 counts_pass xs h p =
@@ -194,7 +195,7 @@ goes_between xs ys section it h part rest k none p e =
 
 -- The next section is entered.
 enters : (section : Section) (xs ys : List ℕ) (it : Items) (h : Header) (part : Part) → StandsAt (xs ++ ys) (stage section it h part) → it.left ≡ 0
-    → Passes ≡ verdict (length xs) (checks_between section h part.header xs) → (part_after section h part xs).base ≤ 32768
+    → Passes ≡ verdict (length xs) (checks_between section h part.header xs) → (part_after section h part xs).base ≤ most_entry_bytes
     → StandsAt (xs ++ ys) (at_next_section (stage_after (stage section it h part) xs))
 enters Magic xs ys it h part k none p most = record {
   decides = goes_between xs ys Magic it h part (sign_checks (xs ++ ys) BadHeader 2 5 ++ after_words (xs ++ ys) (header_of (xs ++ ys))) k none p refl;
@@ -267,7 +268,7 @@ enters TableEnd xs ys it h part k none p most =
     let n = length-append xs ys in
     let first = first_passes (length xs) (room_check h) (pad_checks xs (end_of h) h.table) p in
     let long = first.long in
-    let room : extended_from h + 10 ≤ 32768 = leb-true _ _ first.holds in
+    let room : extended_from h + 10 ≤ most_entry_bytes = leb-true _ _ first.holds in
     record {
       decides = goes_between xs ys TableEnd it h part (sign_checks zs BadExtendedHeader (extended_from h) 3 ++ after_counts zs h (extended_header_of h zs)) k none p (after_table_opened zs h (omega arith));
       within = omega arith;
@@ -343,7 +344,7 @@ enters End xs ys it h part k none p most =
     let first = first_passes (length xs) (no_more_check (extended_end_of part.header)) [] p in
     let fails = first.holds in absurd (cc)
 
-pub leaves : (xs : List ℕ) (s : Stage) → Stands xs s → s.items.left ≡ 0 → Passes ≡ verdict (length xs) (checks_between s.section s.header s.part.header xs) → (stage_after s xs).part.base ≤ 32768
+pub leaves : (xs : List ℕ) (s : Stage) → Stands xs s → s.items.left ≡ 0 → Passes ≡ verdict (length xs) (checks_between s.section s.header s.part.header xs) → (stage_after s xs).part.base ≤ most_entry_bytes
     → Stands xs (at_next_section (stage_after s xs))
 leaves xs s h none p most ys = enters s.section xs ys s.items s.header s.part (h ys) none p most
 
@@ -508,7 +509,7 @@ table_awaited xs s section need e k none needs lt =
 
 -- ---- the measure
 
-most_left : (item : Item) (at n : ℕ) → at + item_size item * n ≤ 32768 → n ≤ 32768
+most_left : (item : Item) (at n : ℕ) → at + item_size item * n ≤ most_entry_bytes → n ≤ most_entry_bytes
 most_left (Sign fault) at n le = omega arith
 most_left Name at n le = omega arith
 most_left Flag at n le = omega arith
@@ -543,10 +544,10 @@ fewer_sections xs s new p e k =
 
 -- ---- how the code comes to the next section
 
-pub stands_at_next : (xs : List ℕ) (s new : Stage) → Stands xs s → s.items.left ≡ 0 → Passes ≡ verdict (length xs) (checks_between s.section s.header s.part.header xs) → new ≡ stage_after s xs → new.part.base ≤ 32768
+pub stands_at_next : (xs : List ℕ) (s new : Stage) → Stands xs s → s.items.left ≡ 0 → Passes ≡ verdict (length xs) (checks_between s.section s.header s.part.header xs) → new ≡ stage_after s xs → new.part.base ≤ most_entry_bytes
     → Stands xs (at_next_section new)
 stands_at_next xs s new h none p e most =
-    let base : (stage_after s xs).part.base ≤ 32768 = subst (λ (t : Stage). t.part.base ≤ 32768) e most in
+    let base : (stage_after s xs).part.base ≤ most_entry_bytes = subst (λ (t : Stage). t.part.base ≤ most_entry_bytes) e most in
     subst (λ (t : Stage). Stands xs (at_next_section t)) (sym e) (leaves xs s h none p base)
 
 pub at_front : (xs : List ℕ) (new : Stage) (section : Section) (it : Items) → Stands xs (at_next_section new) → section ≡ next new.section → it ≡ items_of section new.header new.part.header

@@ -4,6 +4,7 @@ use Rattle.std.proofs.lemmas.Bool.{cases_lt, le-ltb, lt-ltb, ne_eqb}
 use Rattle.std.specs.List.{flat_map}
 use Rattle.std.proofs.lemmas.List.Concat.{flat_map-cons}
 use Rattle.std.specs.Prelude.{is_some}
+use Rattle.ti_base.specs.Limits.{greatest_word, greatest_wide_word}
 use Rattle.ti_words.specs.Marks.{flag_of_byte}
 use Rattle.ti_words.specs.declared.Width.TheVariants.{Legacy, Wide}
 use Rattle.ti_layout.specs.declared.fault.Fault.{Fault}
@@ -57,10 +58,10 @@ is_flag (suc (suc b)) g fits most small =
       ])
     ]
 
-not_negative : (u g : ℕ) → u < 65536 → (u + 0) % 65536 ≤ g → g < 32768 → is_not_negative (signed 2 u) ≡ true
+not_negative : (u g : ℕ) → u < 65536 → (u + 0) % 65536 ≤ g → g < greatest_word + 1 → is_not_negative (signed 2 u) ≡ true
 not_negative u g fits most small = ap is_not_negative (below Legacy u (omega arith))
 
-legacy_number : (u g : ℕ) → u < 65536 → (u + 2) % 65536 ≤ g → g < 32770 → is_number_word (signed 2 u) ≡ true
+legacy_number : (u g : ℕ) → u < 65536 → (u + 2) % 65536 ≤ g → g < greatest_word + 3 → is_number_word (signed 2 u) ≡ true
 legacy_number u g fits most small =
     elim (cases_lt (2 * u) 65536) [
       | inl lt ↦ ap is_number_word (below Legacy u lt)
@@ -70,7 +71,7 @@ legacy_number u g fits most small =
           ap is_number_word (above Legacy u k (omega arith) le) ∙ lt-ltb k 2 two
     ]
 
-wide_number : (u g : ℕ) → u < 4294967296 → (u + 2) % 4294967296 ≤ g → g < 2147483650 → is_number_word (signed 4 u) ≡ true
+wide_number : (u g : ℕ) → u < 4294967296 → (u + 2) % 4294967296 ≤ g → g < greatest_wide_word + 3 → is_number_word (signed 4 u) ≡ true
 wide_number u g fits most small =
     elim (cases_lt (2 * u) 4294967296) [
       | inl lt ↦ ap is_number_word (below Wide u lt)
@@ -80,7 +81,7 @@ wide_number u g fits most small =
           ap is_number_word (above Wide u k (omega arith) le) ∙ lt-ltb k 2 two
     ]
 
-offset_below : (u limit : ℕ) → u < 65536 → (u + 2) % 65536 < limit + 2 → (u + 2) % 65536 < 32770 → is_offset_below limit (signed 2 u) ≡ true
+offset_below : (u limit : ℕ) → u < 65536 → (u + 2) % 65536 < limit + 2 → (u + 2) % 65536 < greatest_word + 3 → is_offset_below limit (signed 2 u) ≡ true
 offset_below u limit fits low small =
     elim (cases_lt (2 * u) 65536) [
       | inl lt ↦ ap (is_offset_below limit) (below Legacy u lt) ∙ lt-ltb u limit (omega arith)
@@ -90,7 +91,7 @@ offset_below u limit fits low small =
           ap (is_offset_below limit) (above Legacy u k (omega arith) le) ∙ lt-ltb k 2 two
     ]
 
-before : (u reach : ℕ) → u < 65536 → (u + 2) % 65536 < reach + 2 → (u + 2) % 65536 < 32770 → is_before reach (signed 2 u) ≡ true
+before : (u reach : ℕ) → u < 65536 → (u + 2) % 65536 < reach + 2 → (u + 2) % 65536 < greatest_word + 3 → is_before reach (signed 2 u) ≡ true
 before u reach fits low small =
     elim (cases_lt (2 * u) 65536) [
       | inl lt ↦ ap (is_before reach) (below Legacy u lt) ∙ lt-ltb u reach (omega arith)
@@ -113,35 +114,35 @@ flags_pass bytes from count g fits there most small = all_pass (flag_check bytes
   holds = is_flag (get_or bytes (from + 1 * i) 0) g (fits (from + 1 * i)) (most i lt) small;
 })
 
-pub signs_pass : (bytes : List ℕ) (fault : Fault) (from count g : ℕ) → IsBytes bytes → from + 2 * count ≤ length bytes → ((i : ℕ) → i < count → (unsigned_at 2 bytes (from + 2 * i) + 0) % 65536 ≤ g) → g < 32768
+pub signs_pass : (bytes : List ℕ) (fault : Fault) (from count g : ℕ) → IsBytes bytes → from + 2 * count ≤ length bytes → ((i : ℕ) → i < count → (unsigned_at 2 bytes (from + 2 * i) + 0) % 65536 ≤ g) → g < greatest_word + 1
     → Passes ≡ verdict (length bytes) (sign_checks bytes fault from count)
 signs_pass bytes fault from count g fits there most small = all_pass (sign_check bytes fault) (length bytes) from 2 count (λ i lt. record {
   long = omega arith;
   holds = not_negative (unsigned_at 2 bytes (from + 2 * i)) g (unsigned_fits Legacy bytes (from + 2 * i) fits) (most i lt) small;
 })
 
-pub legacy_pass : (bytes : List ℕ) (from count g : ℕ) → IsBytes bytes → from + 2 * count ≤ length bytes → ((i : ℕ) → i < count → (unsigned_at 2 bytes (from + 2 * i) + 2) % 65536 ≤ g) → g < 32770
+pub legacy_pass : (bytes : List ℕ) (from count g : ℕ) → IsBytes bytes → from + 2 * count ≤ length bytes → ((i : ℕ) → i < count → (unsigned_at 2 bytes (from + 2 * i) + 2) % 65536 ≤ g) → g < greatest_word + 3
     → Passes ≡ verdict (length bytes) (number_checks bytes 2 from count)
 legacy_pass bytes from count g fits there most small = all_pass (number_check bytes 2) (length bytes) from 2 count (λ i lt. record {
   long = omega arith;
   holds = legacy_number (unsigned_at 2 bytes (from + 2 * i)) g (unsigned_fits Legacy bytes (from + 2 * i) fits) (most i lt) small;
 })
 
-pub wide_pass : (bytes : List ℕ) (from count g : ℕ) → IsBytes bytes → from + 4 * count ≤ length bytes → ((i : ℕ) → i < count → (unsigned_at 4 bytes (from + 4 * i) + 2) % 4294967296 ≤ g) → g < 2147483650
+pub wide_pass : (bytes : List ℕ) (from count g : ℕ) → IsBytes bytes → from + 4 * count ≤ length bytes → ((i : ℕ) → i < count → (unsigned_at 4 bytes (from + 4 * i) + 2) % 4294967296 ≤ g) → g < greatest_wide_word + 3
     → Passes ≡ verdict (length bytes) (number_checks bytes 4 from count)
 wide_pass bytes from count g fits there most small = all_pass (number_check bytes 4) (length bytes) from 4 count (λ i lt. record {
   long = omega arith;
   holds = wide_number (unsigned_at 4 bytes (from + 4 * i)) g (unsigned_fits Wide bytes (from + 4 * i) fits) (most i lt) small;
 })
 
-pub offsets_pass : (bytes : List ℕ) (limit from count : ℕ) → IsBytes bytes → from + 2 * count ≤ length bytes → ((i : ℕ) → i < count → (unsigned_at 2 bytes (from + 2 * i) + 2) % 65536 < limit + 2) → ((i : ℕ) → i < count → (unsigned_at 2 bytes (from + 2 * i) + 2) % 65536 < 32770)
+pub offsets_pass : (bytes : List ℕ) (limit from count : ℕ) → IsBytes bytes → from + 2 * count ≤ length bytes → ((i : ℕ) → i < count → (unsigned_at 2 bytes (from + 2 * i) + 2) % 65536 < limit + 2) → ((i : ℕ) → i < count → (unsigned_at 2 bytes (from + 2 * i) + 2) % 65536 < greatest_word + 3)
     → Passes ≡ verdict (length bytes) (offset_checks bytes limit from count)
 offsets_pass bytes limit from count fits there low small = all_pass (offset_check bytes limit) (length bytes) from 2 count (λ i lt. record {
   long = omega arith;
   holds = offset_below (unsigned_at 2 bytes (from + 2 * i)) limit (unsigned_fits Legacy bytes (from + 2 * i) fits) (low i lt) (small i lt);
 })
 
-pub endings_pass : (bytes : List ℕ) (reach end from count : ℕ) → IsBytes bytes → end ≤ length bytes → ((i : ℕ) → i < count → (unsigned_at 2 bytes (from + 2 * i) + 2) % 65536 < reach + 2) → ((i : ℕ) → i < count → (unsigned_at 2 bytes (from + 2 * i) + 2) % 65536 < 32770)
+pub endings_pass : (bytes : List ℕ) (reach end from count : ℕ) → IsBytes bytes → end ≤ length bytes → ((i : ℕ) → i < count → (unsigned_at 2 bytes (from + 2 * i) + 2) % 65536 < reach + 2) → ((i : ℕ) → i < count → (unsigned_at 2 bytes (from + 2 * i) + 2) % 65536 < greatest_word + 3)
     → Passes ≡ verdict (length bytes) (map (reach_check bytes reach end) (places from 2 count))
 endings_pass bytes reach end from count fits there low small = all_pass (reach_check bytes reach end) (length bytes) from 2 count (λ i lt. record {
   long = there;

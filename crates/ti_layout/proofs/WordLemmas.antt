@@ -66,7 +66,7 @@ signed_again Wide u fits =
     ]
 
 -- what the bytes of a number stand for
-pub reads_count : (n : ℕ) → n < 32768 → n % 256 + 256 * (n / 256 % 256 + 256 * 0) ≡ n
+pub reads_count : (n : ℕ) → n < 2 ^ 15 → n % 256 + 256 * (n / 256 % 256 + 256 * 0) ≡ n
 reads_count n lt = omega arith
 
 pub one_byte : (bytes : List ℕ) (p : ℕ) → p + 1 ≤ length bytes → take 1 (drop p bytes) ≡ get_or bytes p 0 ∷ []

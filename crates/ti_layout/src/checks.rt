@@ -236,7 +236,8 @@ pub(crate) fn check_no_nuls(bytes: &[u8], from: usize, count: usize) -> Result<(
 /// Each byte of a section is a flag.
 pub(crate) fn check_flags(bytes: &[u8], from: usize, count: usize) -> Result<(), Stop>
     requires { from + count < 2 ^ 32 }
-    ensures { result_verdict result ≡ verdict (length bytes.now) (flag_checks bytes.now from count) }
+    ensures { result_verdict result
+        ≡ verdict (length bytes.now) (flag_checks bytes.now from count) }
 {
     if are_flags(bytes, from, count) {
         return Ok(());

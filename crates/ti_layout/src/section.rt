@@ -68,7 +68,7 @@ impl Item {
 
 impl Items {
     /// How many of them lie within so many bytes, or one where none does.
-    pub(crate) fn come(self, len: usize) -> usize
+    pub(crate) fn count_within(self, len: usize) -> usize
         requires some { 0 < self.left }
         requires within { self.at + item_size self.item * self.left ≤ most_entry_bytes }
         ensures some { 0 < result }

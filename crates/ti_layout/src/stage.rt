@@ -147,7 +147,7 @@ impl Stage {
             if bytes.len() < self.items.at + self.items.item.size() {
                 return Err(Stop::Early);
             }
-            let count = self.items.come(bytes.len());
+            let count = self.items.count_within(bytes.len());
             self.items.check(bytes, count)?;
             self.items = self.items.after(count);
             return Ok(());

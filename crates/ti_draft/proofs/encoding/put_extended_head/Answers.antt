@@ -2,7 +2,7 @@ use Rattle.std.proofs.Common.{◌≡◌, ◌+◌, ◌++◌, length, map, ap, sym
 use Rattle.std.proofs.lemmas.List.{length-append, length-map}
 use Rattle.ti_words.specs.Texts.{text_value}
 use Rattle.ti_words.specs.Spelling.{mark_in, pad, count_word, extended_names}
-use Rattle.ti_draft.specs.Canonical.{texts_table, names_table, present}
+use Rattle.ti_draft.specs.Canonical.{texts_table, names_table, present_count}
 use Rattle.ti_draft.specs.Lengths.{capped_count}
 use Rattle.ti_draft.proofs.CappedCountLemmas.{whole}
 use Rattle.ti_draft.proofs.EncodeFaultLemmas.{small, small_extended}
@@ -33,7 +33,7 @@ put_count-requires-4 g c =
     let numbers : length c.extended_numbers-numbers.result.now ≡ length v.extended_numbers = ap length c.extended_numbers-numbers.ensures ∙ length-map v.extended_numbers mark_in in
     let texts : length c.extended_texts-texts.result.now ≡ length v.extended_texts =
     sym (length-map c.extended_texts-texts.result.now text_value) ∙ ap length c.extended_texts-texts.ensures ∙ length-map v.extended_texts mark_in in
-    omega (arith, few, c.present_count.ensures.value, ap present c.extended_texts.ensures, flags, numbers, texts, length_extended_names v)
+    omega (arith, few, c.present_count.ensures.value, ap present_count c.extended_texts.ensures, flags, numbers, texts, length_extended_names v)
 
 pub put_count-requires-5 : goal.put_count-requires-5
 put_count-requires-5 g c =
@@ -55,8 +55,8 @@ returns g c =
     let texts : length c.extended_texts-texts.result.now ≡ length v.extended_texts =
     sym (length-map c.extended_texts-texts.result.now text_value) ∙ ap length c.extended_texts-texts.ensures ∙ length-map v.extended_texts mark_in in
     let items : c.present_count.result + length c.extended_flags-flags.result.now + length c.extended_numbers-numbers.result.now + length c.extended_texts-texts.result.now
-    ≡ present (map mark_in v.extended_texts) + length (extended_names v) =
-    omega (arith, c.present_count.ensures.value, ap present c.extended_texts.ensures, flags, numbers, texts, length_extended_names v) in
+    ≡ present_count (map mark_in v.extended_texts) + length (extended_names v) =
+    omega (arith, c.present_count.ensures.value, ap present_count c.extended_texts.ensures, flags, numbers, texts, length_extended_names v) in
     let tables : c.extended_table_len.result ≡ length (texts_table (map mark_in v.extended_texts) ++ names_table (extended_names v)) =
     table ∙ sym (length-append (texts_table (map mark_in v.extended_texts)) (names_table (extended_names v))) in
     let a : c.put_pad.new.out.items ≡ out ++ pad t = c.in_ok-put_pad.ensures ∙ ap (λ n. out ++ pad n) plain in

@@ -1,6 +1,7 @@
 use Rattle.std.proofs.Common.{◌≡◌, ◌+◌, ◌-◌, ◌≤◌, ◌∙◌, ap, sym, subst, length, take, List, ◌++◌, ◌∷◌, [], arith}
 use Rattle.std.specs.Prelude.{ℕ, None, Some}
 use Rattle.std.proofs.Math.Seq.{take-append_seam}
+use Rattle.ti_base.specs.Limits.{most_entry_bytes}
 use Rattle.ti_entry.specs.Reading.{Reading}
 use Rattle.ti_layout.specs.Refusal.{failure}
 use Rattle.ti_layout.specs.Stages.{Stands, Waits}
@@ -15,10 +16,10 @@ pub returns-then-is_full-clause-fed : goal.returns-then-is_full-clause-fed
 returns-then-is_full-clause-fed c =
     let kept = c.self.inside.kept.items in
     let none : c.self.inside.refusal ≡ None = ap (λ (r : Reading). r.refusal) c.self.view_is ∙ c.requires in
-    let failed : failure (kept ++ c.args.byte ∷ []) ≡ Some c.overfull-refused.result =
-    ap (λ (k : List ℕ). failure (k ++ c.args.byte ∷ [])) (sym c.as_slice.ensures.value) ∙ c.overfull-refused.ensures c.args.byte [] in
+    let failed : failure (kept ++ c.args.byte ∷ []) ≡ Some c.refusal_when_full-refused.result =
+    ap (λ (k : List ℕ). failure (k ++ c.args.byte ∷ [])) (sym c.as_slice.ensures.value) ∙ c.refusal_when_full-refused.ensures c.args.byte [] in
     same_reading kept c.args.self.now _ (c.args.byte ∷ []) c.self.inside.refusal c.self.view_is none
-    (reading_after-fails kept c.args.byte c.overfull-refused.result c.self.invariant.none_failed failed)
+    (reading_after-fails kept c.args.byte c.refusal_when_full-refused.result c.self.invariant.none_failed failed)
 
 -- ---- a byte more
 
@@ -38,7 +39,7 @@ invariant_of-self-then-as_slice-need c =
     let long : length c.as_slice-2.result.now ≡ length now = ap length c.as_slice-2.ensures.value in
     let waits = c.need.ensures now (stands_now now c.self.inside.stage stands) (omega arith) in
     record {
-      most = subst (λ (k : List ℕ). length k ≤ 32768) c.as_slice-2.ensures.value c.as_slice-2.ensures.fits;
+      most = subst (λ (k : List ℕ). length k ≤ most_entry_bytes) c.as_slice-2.ensures.value c.as_slice-2.ensures.fits;
       none_failed = waits_none_failed now c.self.inside.stage waits;
       stands = λ e. stands;
       waits = λ e. waits;
@@ -68,7 +69,7 @@ pub invariant_of-self-in-Err : goal.invariant_of-self-in-Err
 invariant_of-self-in-Err c =
     let same = popped c.self.inside.kept.items c.pop.new.self.items c.push.new.self.items c.args.byte _ c.push.ensures.items c.push.ensures.len c.pop.ensures.rest in
     record {
-      most = subst (λ (k : List ℕ). length k ≤ 32768) (sym same) c.self.invariant.most;
+      most = subst (λ (k : List ℕ). length k ≤ most_entry_bytes) (sym same) c.self.invariant.most;
       none_failed = ap failure same ∙ c.self.invariant.none_failed;
       stands = λ e. absurd (cc);
       waits = λ e. absurd (cc);

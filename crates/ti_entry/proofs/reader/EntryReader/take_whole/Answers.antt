@@ -1,6 +1,7 @@
 use Rattle.std.proofs.Common.{◌≡◌, ◌≤◌, ◌∙◌, ap, sym, subst, length, take, List, ◌++◌, arith}
 use Rattle.std.specs.Prelude.{ℕ, None}
 use Rattle.std.proofs.Math.Seq.{take-append_seam}
+use Rattle.ti_base.specs.Limits.{most_entry_bytes}
 use Rattle.ti_entry.specs.Reading.{Reading}
 use Rattle.ti_layout.specs.Refusal.{failure}
 use Rattle.ti_layout.specs.Stages.{Stands, Waits}
@@ -25,7 +26,7 @@ invariant_of-self-then-as_slice-need c =
     let long : length c.as_slice.result.now ≡ length now = ap length c.as_slice.ensures.value in
     let waits = c.need.ensures now (stands_now now c.self.inside.stage stands) (omega arith) in
     record {
-      most = subst (λ (k : List ℕ). length k ≤ 32768) c.as_slice.ensures.value c.as_slice.ensures.fits;
+      most = subst (λ (k : List ℕ). length k ≤ most_entry_bytes) c.as_slice.ensures.value c.as_slice.ensures.fits;
       none_failed = waits_none_failed now c.self.inside.stage waits;
       stands = λ e. stands;
       waits = λ e. waits;
@@ -54,7 +55,7 @@ invariant_of-self-in_default-advance c =
     let count = c.kept-count.ensures.count ∙ ap (λ (r : Reading). length r.kept) (sym c.self.view_is) in
     let same = restored c.self.inside.kept.items c.truncate.new.self.items c.try_extend_from_slice.new.self.items c.args.piece.now c.kept-count.result c.in-Ok.ensures.ok count c.truncate.ensures.items in
     record {
-      most = subst (λ (k : List ℕ). length k ≤ 32768) (sym same) c.self.invariant.most;
+      most = subst (λ (k : List ℕ). length k ≤ most_entry_bytes) (sym same) c.self.invariant.most;
       none_failed = ap failure same ∙ c.self.invariant.none_failed;
       stands = λ e. subst (λ (k : List ℕ). Stands k c.self.inside.stage) (sym same) (c.self.invariant.stands e);
       waits = λ e. subst (λ (k : List ℕ). Waits k c.self.inside.stage) (sym same) (c.self.invariant.waits e);
@@ -67,7 +68,7 @@ invariant_of-self-2 c =
     let items = c.as_slice-2.ensures.value in
     let waits = subst (λ (k : List ℕ). Waits k c.advance.new.self) items c.in-Ok-advance.ensures.waits in
     record {
-      most = subst (λ (k : List ℕ). length k ≤ 32768) items c.as_slice-2.ensures.fits;
+      most = subst (λ (k : List ℕ). length k ≤ most_entry_bytes) items c.as_slice-2.ensures.fits;
       none_failed = waits_none_failed c.try_extend_from_slice.new.self.items c.advance.new.self waits;
       stands = λ e. subst (λ (k : List ℕ). Stands k c.advance.new.self) items c.in-Ok-advance.ensures.stands;
       waits = λ e. waits;

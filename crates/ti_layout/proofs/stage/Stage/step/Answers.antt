@@ -18,8 +18,8 @@ pub returns-then-bytes-self-clause-waits : goal.returns-then-bytes-self-clause-w
 returns-then-bytes-self-clause-waits c = λ e.
     item_awaited c.args.bytes.now c.args.self.now (stands_now c.args.bytes.now c.args.self.now c.requires) c.if-self-gt0.true (omega arith)
 
-pub come-count-requires-clause-within : goal.come-count-requires-clause-within
-come-count-requires-clause-within c = (stands_now c.args.bytes.now c.args.self.now c.requires).within
+pub count_within-count-requires-clause-within : goal.count_within-count-requires-clause-within
+count_within-count-requires-clause-within c = (stands_now c.args.bytes.now c.args.self.now c.requires).within
 
 pub check-requires-clause-within : goal.check-requires-clause-within
 check-requires-clause-within c = (stands_now c.args.bytes.now c.args.self.now c.requires).within
@@ -27,19 +27,19 @@ check-requires-clause-within c = (stands_now c.args.bytes.now c.args.self.now c.
 pub returns-in_err-check-clause-verdict : goal.returns-in_err-check-clause-verdict
 returns-in_err-check-clause-verdict c =
     let p = err_from_is_err_and c.from_residual.result c.from_residual.ensures.1 in
-    rw (p.1, p.2) (items_stop c.args.bytes.now c.args.self.now c.come-count.result c.in_err-check.field-0.0 (stands_now c.args.bytes.now c.args.self.now c.requires) c.if-self-gt0.true c.come-count.ensures.most c.in_err-check.ensures)
+    rw (p.1, p.2) (items_stop c.args.bytes.now c.args.self.now c.count_within-count.result c.in_err-check.field-0.0 (stands_now c.args.bytes.now c.args.self.now c.requires) c.if-self-gt0.true c.count_within-count.ensures.most c.in_err-check.ensures)
 
 pub returns-in_err-check-clause-waits : goal.returns-in_err-check-clause-waits
 returns-in_err-check-clause-waits c = λ e.
     let p = err_from_is_err_and c.from_residual.result c.from_residual.ensures.1 in
     let early : c.in_err-check.field-0.0 ≡ Early = cc in
-    items_wait c.args.bytes.now c.args.self.now c.come-count.result (stands_now c.args.bytes.now c.args.self.now c.requires) c.if-self-gt0.true c.come-count.ensures.most (sym (ap stop_verdict early) ∙ c.in_err-check.ensures)
+    items_wait c.args.bytes.now c.args.self.now c.count_within-count.result (stands_now c.args.bytes.now c.args.self.now c.requires) c.if-self-gt0.true c.count_within-count.ensures.most (sym (ap stop_verdict early) ∙ c.in_err-check.ensures)
 
 pub after-self-requires-clause-within : goal.after-self-requires-clause-within
 after-self-requires-clause-within c = (stands_now c.args.bytes.now c.args.self.now c.requires).within
 
 pub returns-then-self-gt0-clause-stands : goal.returns-then-self-gt0-clause-stands
-returns-then-self-gt0-clause-stands c = rw c.after-self.ensures (items_pass c.args.bytes.now c.args.self.now c.come-count.result c.requires c.if-self-gt0.true c.come-count.ensures.most c.in_ok-check.ensures)
+returns-then-self-gt0-clause-stands c = rw c.after-self.ensures (items_pass c.args.bytes.now c.args.self.now c.count_within-count.result c.requires c.if-self-gt0.true c.count_within-count.ensures.most c.in_ok-check.ensures)
 
 pub leave-requires-clause-fits : goal.leave-requires-clause-fits
 leave-requires-clause-fits c = (stands_now c.args.bytes.now c.args.self.now c.requires).fits

@@ -3,7 +3,7 @@ use Rattle.ti_layout.specs.declared.fault.Fault.{Fault}
 use Rattle.ti_layout.specs.Checks.{refusal_at, failure_of}
 use Rattle.ti_layout.proofs.MostEntryBytesLemmas.{full_decides, then_refused}
 use Rattle.ti_entry.proofs.WholeStageLemmas.{full_passes}
-use Rattle.ti_entry.proofs.reader.overfull.Goals as goal
+use Rattle.ti_entry.proofs.reader.refusal_when_full.Goals as goal
 
 pub returns : goal.returns
 returns c = λ byte more.
