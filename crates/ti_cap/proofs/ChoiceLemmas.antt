@@ -5,7 +5,7 @@ use Rattle.std.specs.List.{AllByRecursion}
 use Rattle.std.proofs.lemmas.Bool.{eqb-true}
 use Rattle.ti_cap.specs.declared.language.Token.{Token}
 use Rattle.ti_cap.specs.declared.language.CapFault.{CapFault}
-use Rattle.ti_cap.specs.inner.Reading.{Reading, with_letter}
+use Rattle.ti_cap.specs.inner.Lexer.{Lexeme, with_letter}
 
 -- which way a test went
 pub chosen : {A : Type 0} (v : Bool) {x y z : A} → cond v x y ≡ z → ((v ≡ true) × (x ≡ z)) ⊎ ((v ≡ false) × (y ≡ z))
@@ -13,7 +13,7 @@ chosen true e = inl (refl, e)
 chosen false e = inr (refl, e)
 
 -- an error stays where it stays in both cases
-pub still : (v : Bool) (x y x' y' : Reading) (f : CapFault) → (x ≡ Err f → x' ≡ Err f) → (y ≡ Err f → y' ≡ Err f)
+pub still : (v : Bool) (x y x' y' : Lexeme) (f : CapFault) → (x ≡ Err f → x' ≡ Err f) → (y ≡ Err f → y' ≡ Err f)
     → cond v x y ≡ Err f → cond v x' y' ≡ Err f
 still true x y x' y' f p q e = p e
 still false x y x' y' f p q e = q e
@@ -51,5 +51,5 @@ letter_missed letter p [] c h all = refl
 letter_missed letter p (y ∷ ys) c h all = ap (λ b. cond b (Some y) (with_letter letter ys c)) (apart p c (letter y) h all.0) ∙ letter_missed letter p ys c h all.1
 
 -- what two equal readings are of
-pub pair_of : (a b : Token × ℕ) (x y : Reading) → x ≡ Ok a → y ≡ Ok b → x ≡ y → a ≡ b
+pub pair_of : (a b : Token × ℕ) (x y : Lexeme) → x ≡ Ok a → y ≡ Ok b → x ≡ y → a ≡ b
 pair_of a b x y p q e = cc

@@ -5,7 +5,7 @@ use Rattle.ti_base.specs.Limits.{greatest_constant}
 use Rattle.ti_cap.specs.declared.language.Token.TheVariants.{Constant}
 use Rattle.ti_cap.specs.declared.language.CapFault.TheVariants.{CutShort, BadConstant}
 use Rattle.ti_cap.specs.Spelling.{number_from, with_digit}
-use Rattle.ti_cap.specs.inner.Reading.{digits_read, front, is_digit}
+use Rattle.ti_cap.specs.inner.Lexer.{digits_read, front, is_digit}
 
 -- a number grows with each digit
 pub number_from-ge : (n : ℕ) (ds : List ℕ) → n ≤ number_from n ds

@@ -7,7 +7,7 @@ use Rattle.ti_base.specs.Limits.{greatest_width}
 use Rattle.ti_cap.specs.declared.language.Format.{Format}
 use Rattle.ti_cap.specs.declared.language.Conversion.{Conversion}
 use Rattle.ti_cap.specs.Spelling.{IsDigit, number_of, IsPlainFlag, IsFlag, SpellsWidth}
-use Rattle.ti_cap.specs.inner.Reading.{front, rest, is_digit, is_plain_flag, is_flag}
+use Rattle.ti_cap.specs.inner.Lexer.{front, rest, is_digit, is_plain_flag, is_flag}
 use Rattle.ti_cap.proofs.FrontLemmas.{Stops, AllPass, front_passes, rest_ends}
 
 -- the format so far, with what is read after it
@@ -43,8 +43,8 @@ abbrev pub NoZero : List ℕ → Type 0
 NoZero [] = Unit {0}
 NoZero (c ∷ cs) = c ≢ 48
 
-pub behind_flags : (p : ℕ → Bool) → ((c : ℕ) → p c ≡ false → c ≢ 48) → (bytes : List ℕ) → NoZero (rest p bytes)
-behind_flags p other bytes =
+pub flags_follow : (p : ℕ → Bool) → ((c : ℕ) → p c ≡ false → c ≢ 48) → (bytes : List ℕ) → NoZero (rest p bytes)
+flags_follow p other bytes =
     elim (rest_ends p bytes) [
       | inl e ↦ let P : List ℕ → Type 0 = λ x. NoZero x in subst P (sym e) tt
       | inr h ↦ stopped (rest p bytes) h

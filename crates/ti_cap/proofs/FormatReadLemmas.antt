@@ -8,10 +8,10 @@ use Rattle.ti_cap.specs.declared.language.Token.TheVariants.{Print}
 use Rattle.ti_cap.specs.declared.language.Format.{Format}
 use Rattle.ti_cap.specs.declared.language.Conversion.{Conversion}
 use Rattle.ti_cap.specs.Spelling.{number_of, AreFlags, SpellsWidth, SpellsPrecision, SpellsFormat, conversion_letter}
-use Rattle.ti_cap.specs.inner.Reading.{front, rest, is_digit, is_plain_flag, is_flag, is_colon, conversions, conversion_of, with_conversion, with_flags, letter_read, precision_read, width_read, format_read}
+use Rattle.ti_cap.specs.inner.Lexer.{front, rest, is_digit, is_plain_flag, is_flag, is_colon, conversions, conversion_of, with_conversion, with_flags, letter_read, precision_read, width_read, format_read}
 use Rattle.ti_cap.proofs.ChoiceLemmas.{chosen, letter_found, pair_of}
 use Rattle.ti_cap.proofs.FrontLemmas.{front_and_rest, front_passes}
-use Rattle.ti_cap.proofs.FormatPartsLemmas.{with_precision, with_width, fits, NoZero, behind_flags, plain_flag_other, flag_other, width_spelled, passes_digits, passes_plain_flags, passes_flags}
+use Rattle.ti_cap.proofs.FormatPartsLemmas.{with_precision, with_width, fits, NoZero, flags_follow, plain_flag_other, flag_other, width_spelled, passes_digits, passes_plain_flags, passes_flags}
 
 -- what is read as a letter
 record LetterFront (f : Format) (n : ℕ) (bytes : List ℕ) (token : Token) (len : ℕ) : Type 0 where
@@ -161,10 +161,10 @@ format_sound (c ∷ cs) token len e =
           let fl : List ℕ = front is_flag cs in
           flags_front (c ∷ cs) (58 ∷ fl) (rest is_flag cs) (2 + length fl) token len (inr (fl, passes_flags fl (front_passes is_flag cs), refl))
           (ap (λ x. x ∷ cs) (eqb-true c 58 t) ∙ ap (λ x. 58 ∷ x) (front_and_rest is_flag cs)) (omega arith)
-          (width_sound (with_flags fl) (2 + length fl) (rest is_flag cs) token len refl (behind_flags is_flag flag_other cs) e)
+          (width_sound (with_flags fl) (2 + length fl) (rest is_flag cs) token len refl (flags_follow is_flag flag_other cs) e)
       | inr (t, e) ↦
           let fl : List ℕ = front is_plain_flag (c ∷ cs) in
           flags_front (c ∷ cs) fl (rest is_plain_flag (c ∷ cs)) (1 + length fl) token len (inl (passes_plain_flags fl (front_passes is_plain_flag (c ∷ cs))))
           (front_and_rest is_plain_flag (c ∷ cs)) refl
-          (width_sound (with_flags fl) (1 + length fl) (rest is_plain_flag (c ∷ cs)) token len refl (behind_flags is_plain_flag plain_flag_other (c ∷ cs)) e)
+          (width_sound (with_flags fl) (1 + length fl) (rest is_plain_flag (c ∷ cs)) token len refl (flags_follow is_plain_flag plain_flag_other (c ∷ cs)) e)
     ]

@@ -11,11 +11,11 @@ use Rattle.ti_cap.specs.declared.language.Conversion.TheVariants.{Signed}
 use Rattle.ti_cap.specs.declared.language.CapFault.{CapFault}
 use Rattle.ti_cap.specs.declared.language.CapFault.TheVariants.{CutShort, BadFormat}
 use Rattle.ti_cap.specs.Spelling.{number_of, AreFlags, SpellsWidth, SpellsPrecision, SpellsFormat}
-use Rattle.ti_cap.specs.inner.Reading.{Reading, front, rest, is_digit, is_plain_flag, is_flag, is_colon, conversion_of, with_conversion, with_flags, letter_read, precision_read, width_read, format_read}
+use Rattle.ti_cap.specs.inner.Lexer.{Lexeme, front, rest, is_digit, is_plain_flag, is_flag, is_colon, conversion_of, with_conversion, with_flags, letter_read, precision_read, width_read, format_read}
 use Rattle.ti_cap.proofs.ChoiceLemmas.{chosen, still}
 use Rattle.ti_cap.proofs.FrontLemmas.{front_and_rest, front_passes, rest_ends, front_more, rest_more, front_grows}
 use Rattle.ti_cap.proofs.DigitsReadLemmas.{number_from-ge, number_from-append}
-use Rattle.ti_cap.proofs.FormatPartsLemmas.{with_width, fits, NoZero, behind_flags, plain_flag_other, flag_other, width_spelled, passes_digits, passes_plain_flags, passes_flags}
+use Rattle.ti_cap.proofs.FormatPartsLemmas.{with_width, fits, NoZero, flags_follow, plain_flag_other, flag_other, width_spelled, passes_digits, passes_plain_flags, passes_flags}
 
 -- an error other than the end stays, whatever follows
 letter_final : (f : Format) (n : ℕ) (bytes more : List ℕ) (fault : CapFault) → fault ≢ CutShort → letter_read f n bytes ≡ Err fault → letter_read f n (bytes ++ more) ≡ Err fault
@@ -23,7 +23,7 @@ letter_final f n [] more fault uncut e = absurd (uncut (cc))
 letter_final f n (c ∷ cs) more fault uncut e = e
 
 -- an error after a front stays, as the front stays
-front_final : (p : ℕ → Bool) (go : List ℕ → List ℕ → Reading) (bytes more : List ℕ) (fault : CapFault) → fault ≢ CutShort
+front_final : (p : ℕ → Bool) (go : List ℕ → List ℕ → Lexeme) (bytes more : List ℕ) (fault : CapFault) → fault ≢ CutShort
     → ((ds : List ℕ) → go ds [] ≡ Err CutShort) → ((ds left : List ℕ) → go ds left ≡ Err fault → go ds (left ++ more) ≡ Err fault)
     → go (front p bytes) (rest p bytes) ≡ Err fault
     → (front p (bytes ++ more) ≡ front p bytes) × (go (front p bytes) (rest p (bytes ++ more)) ≡ Err fault)
@@ -51,10 +51,10 @@ large_more bytes more large =
     grown m n h le = grind (arith, common_steps, h, le)
 
 -- a number, and what is read after it
-abbrev numbered : (List ℕ → List ℕ → Reading) → List ℕ → Reading
+abbrev numbered : (List ℕ → List ℕ → Lexeme) → List ℕ → Lexeme
 numbered go bytes = cond (nat_lt greatest_width (number_of (front is_digit bytes))) (Err BadFormat) (go (front is_digit bytes) (rest is_digit bytes))
 
-numbered_final : (go : List ℕ → List ℕ → Reading) (bytes more : List ℕ) (fault : CapFault) → fault ≢ CutShort
+numbered_final : (go : List ℕ → List ℕ → Lexeme) (bytes more : List ℕ) (fault : CapFault) → fault ≢ CutShort
     → ((ds : List ℕ) → go ds [] ≡ Err CutShort) → ((ds left : List ℕ) → go ds left ≡ Err fault → go ds (left ++ more) ≡ Err fault)
     → numbered go bytes ≡ Err fault → numbered go (bytes ++ more) ≡ Err fault
 numbered_final go bytes more fault uncut ends keeps e =
@@ -75,14 +75,14 @@ precision_final f n (c ∷ cs) more fault uncut e =
     (numbered_final go cs more fault uncut (λ ds. refl) (λ ds left. letter_final (record f { precision = Some (number_of ds) }) (n + 1 + length ds) left more fault uncut))
     (λ e. e) e
   where
-    go : List ℕ → List ℕ → Reading
+    go : List ℕ → List ℕ → Lexeme
     go ds left = letter_read (record f { precision = Some (number_of ds) }) (n + 1 + length ds) left
 
 width_final : (f : Format) (n : ℕ) (bytes more : List ℕ) (fault : CapFault) → fault ≢ CutShort → width_read f n bytes ≡ Err fault → width_read f n (bytes ++ more) ≡ Err fault
 width_final f n bytes more fault uncut e =
     numbered_final go bytes more fault uncut (λ ds. refl) (λ ds left. precision_final (record f { width = number_of ds }) (n + length ds) left more fault uncut) e
   where
-    go : List ℕ → List ℕ → Reading
+    go : List ℕ → List ℕ → Lexeme
     go ds left = precision_read (record f { width = number_of ds }) (n + length ds) left
 
 -- what is read after `k` bytes and the flags at the front
@@ -94,7 +94,7 @@ flags_final p k bytes more fault uncut e =
     front_final p go bytes more fault uncut (λ ds. refl) (λ ds left. width_final (with_flags ds) (k + length ds) left more fault uncut) e in
     ap (λ x. go x (rest p (bytes ++ more))) r.0 ∙ r.1
   where
-    go : List ℕ → List ℕ → Reading
+    go : List ℕ → List ℕ → Lexeme
     go ds left = width_read (with_flags ds) (k + length ds) left
 
 pub format_final : (bytes more : List ℕ) (fault : CapFault) → fault ≢ CutShort → format_read bytes ≡ Err fault → format_read (bytes ++ more) ≡ Err fault
@@ -186,12 +186,12 @@ format_cut (c ∷ cs) e =
           let fl : List ℕ = front is_flag cs in
           flags_cut (c ∷ cs) (58 ∷ fl) (rest is_flag cs) (inr (fl, passes_flags fl (front_passes is_flag cs), refl))
           (ap (λ x. x ∷ cs) (eqb-true c 58 t) ∙ ap (λ x. 58 ∷ x) (front_and_rest is_flag cs))
-          (width_cut (with_flags fl) (2 + length fl) (rest is_flag cs) (behind_flags is_flag flag_other cs) e)
+          (width_cut (with_flags fl) (2 + length fl) (rest is_flag cs) (flags_follow is_flag flag_other cs) e)
       | inr (t, e) ↦
           let fl : List ℕ = front is_plain_flag (c ∷ cs) in
           flags_cut (c ∷ cs) fl (rest is_plain_flag (c ∷ cs)) (inl (passes_plain_flags fl (front_passes is_plain_flag (c ∷ cs))))
           (front_and_rest is_plain_flag (c ∷ cs))
-          (width_cut (with_flags fl) (1 + length fl) (rest is_plain_flag (c ∷ cs)) (behind_flags is_plain_flag plain_flag_other (c ∷ cs)) e)
+          (width_cut (with_flags fl) (1 + length fl) (rest is_plain_flag (c ∷ cs)) (flags_follow is_plain_flag plain_flag_other (c ∷ cs)) e)
     ]
 
 -- a format that does not end short is at fault in one way

@@ -1,7 +1,7 @@
 -- The front of a list that passes a test, and what stands after it.
 use Rattle.std.proofs.Common.{◌≡◌, ℕ, ◌+◌, ◌≤◌, ◌⊎◌, inl, inr, List, [], ◌∷◌, ◌++◌, length, take, drop, one-add, refl, ◌∙◌, ap, arith, append_assoc, cond, Bool, true, false}
 use Rattle.std.specs.List.{AllByRecursion, prefix_len}
-use Rattle.ti_cap.specs.inner.Reading.{front, rest}
+use Rattle.ti_cap.specs.inner.Lexer.{front, rest}
 
 -- the first byte fails the test
 abbrev pub Stops : (ℕ → Bool) → List ℕ → Type 0
@@ -58,8 +58,8 @@ pub front_within : (p : ℕ → Bool) (xs : List ℕ) → length (front p xs) �
 front_within p xs = omega (arith, length-front p xs, prefix_len_within p xs)
 
 -- what stands after the front, by its length
-pub rest_behind : (p : ℕ → Bool) (xs : List ℕ) → drop (length (front p xs)) xs ≡ rest p xs
-rest_behind p xs = ap (λ n. drop n xs) (length-front p xs) ∙ rest_drop p xs
+pub rest_after_front : (p : ℕ → Bool) (xs : List ℕ) → drop (length (front p xs)) xs ≡ rest p xs
+rest_after_front p xs = ap (λ n. drop n xs) (length-front p xs) ∙ rest_drop p xs
 
 pub front_and_rest : (p : ℕ → Bool) (xs : List ℕ) → xs ≡ front p xs ++ rest p xs
 front_and_rest p [] = refl

@@ -75,7 +75,7 @@ summed_small bytes longest spot sizes h p =
 record Goes (longest : ℕ) (k : Token) (done todo : List Token) (parts end : List Part) (sizes : Progress) (left : List ℕ) : Type 0 where
   rest : List Token
   first : todo ≡ k ∷ rest
-  behind : Written rest left
+  after_it : Written rest left
   after : List Part
   may : allowed k parts ≡ Some after
   leads : Leads after rest end
@@ -94,7 +94,7 @@ goes bytes longest old new sizes k p first =
     record {
       rest = f.0;
       first = f.1;
-      behind = f.2;
+      after_it = f.2;
       after = l.0;
       may = l.1;
       leads = l.2;
@@ -122,7 +122,7 @@ summed_step bytes longest old new sizes k p (s, spells, left, taken) first =
         splits = p.splits ∙ ap (λ x. p.done ++ x) g.first ∙ sym (append_assoc p.done (k ∷ []) g.rest);
         spans = ap (λ x. x ++ new.left) taken ∙ append_assoc old.taken s new.left ∙ ap (λ x. old.taken ++ x) (sym left) ∙ p.spans;
         written = let P : List ℕ → Type 0 = λ x. Written (p.done ++ k ∷ []) x in subst P (sym taken) (written-append p.done (k ∷ []) old.taken s p.written (written_one k s spells));
-        left = g.behind;
+        left = g.after_it;
         parts = g.after;
         end = p.end;
         leads = g.leads;

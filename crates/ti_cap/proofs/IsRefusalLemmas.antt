@@ -15,7 +15,7 @@ use Rattle.ti_cap.specs.Height.{pushes, next_height, size, IsDepth, IsBound}
 use Rattle.ti_cap.specs.Path.{path_of}
 use Rattle.ti_cap.specs.Pass.{Mode, Running, next_mode}
 use Rattle.ti_cap.specs.Spelling.{Spells, Written}
-use Rattle.ti_cap.specs.inner.Reading.{token_read}
+use Rattle.ti_cap.specs.inner.Lexer.{token_read}
 use Rattle.ti_cap.specs.Refusal.{Begins, Climbs, Part, open_parts, IsNext, IsFaultBetween, IsUnreadable, IsSoundBelow, HasFault, escape_fault, IsRefusal, opens_format}
 use Rattle.ti_cap.specs.inner.Analysis.{Progress, parts_of, are_in_test, place_fault, next_progress, greatest_of, Findings, no_findings, findings_after, first_fault, fault_of}
 use Rattle.ti_cap.specs.Capability.{IsCapability}

@@ -7,7 +7,7 @@ use Rattle.ti_cap.specs.declared.language.CapFault.{CapFault}
 use Rattle.ti_cap.specs.declared.limits.Limits.{Limits}
 use Rattle.ti_cap.specs.Tree.{tokens}
 use Rattle.ti_cap.specs.Spelling.{Spells, Written}
-use Rattle.ti_cap.specs.inner.Reading.{token_read}
+use Rattle.ti_cap.specs.inner.Lexer.{token_read}
 use Rattle.ti_cap.specs.Capability.{whole, IsWellFormed, IsCapability, IsTape}
 use Rattle.ti_cap.proofs.SpellsLemmas.{read_token_is, read_length_is, token_again}
 use Rattle.ti_cap.proofs.WrittenLemmas.{Same, one_form, spelled_long, written-append, written_one}

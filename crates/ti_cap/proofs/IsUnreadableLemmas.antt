@@ -14,7 +14,7 @@ use Rattle.ti_cap.specs.declared.language.Conversion.TheVariants.{Signed, Octal,
 use Rattle.ti_cap.specs.declared.language.CapFault.{CapFault}
 use Rattle.ti_cap.specs.declared.language.CapFault.TheVariants.{CutShort, UnknownEscape, BadParameter, BadVariable, BadConstant, BadFormat}
 use Rattle.ti_cap.specs.Spelling.{IsDigit, IsLetter, number_from, number_of, conversion_letter, SpellsEscape, SpellsFormat, with_digit}
-use Rattle.ti_cap.specs.inner.Reading.{Reading, token_read, escape_read, parameter_read, is_letter, variable_of, variable_read, quoted_read, digits_read, conversions, conversion_of, begins_format, format_read, lone_of, lone_or}
+use Rattle.ti_cap.specs.inner.Lexer.{Lexeme, token_read, escape_read, parameter_read, is_letter, variable_of, variable_read, quoted_read, digits_read, conversions, conversion_of, begins_format, format_read, lone_of, lone_or}
 use Rattle.ti_cap.specs.Refusal.{IsCut, IsNext, IsUnreadable, escape_fault, opens_format}
 use Rattle.ti_cap.proofs.ChoiceLemmas.{chosen, apart, letter_found}
 use Rattle.ti_cap.proofs.FormatUnreadLemmas.{format_cut, format_fault}
@@ -253,5 +253,5 @@ unreadable bytes f fits some e =
       ];
     }
   where
-    failed : CapFault → Reading
+    failed : CapFault → Lexeme
     failed f = Err f

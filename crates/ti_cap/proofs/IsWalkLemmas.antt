@@ -66,15 +66,15 @@ past_walks : (a : List Token) (k : Token) (r : List Token) (u v x : Walk) → u 
 past_walks a k r u v x p q t = rw (p, q, t) (sym (map-append (λ _. false) a (k ∷ r)))
 
 -- a part and a token after it, both passed over, then the rest
-pub record Behind (b : Until) (n : ℕ) (a : List Token) (k : Token) (r : List Token) (w : Walk) (o : Mode) : Type 0 where
+pub record AfterIt (b : Until) (n : ℕ) (a : List Token) (k : Token) (r : List Token) (w : Walk) (o : Mode) : Type 0 where
   pub more : Walk
   pub passes : Passes (Past b n) r more o
   pub walk : more ≡ none_met r → w ≡ none_met (a ++ k ∷ r)
 
-behind : (b : Until) (n : ℕ) (a : List Token) (k : Token) (r : List Token) (w : Walk) (o : Mode) → from_past b n k ≡ Past b n
+after_it : (b : Until) (n : ℕ) (a : List Token) (k : Token) (r : List Token) (w : Walk) (o : Mode) → from_past b n k ≡ Past b n
     → ((v : Walk) (x : Mode) → Passes (Past b n) a v x → Skipped false (Past b n) a v x)
-    → Passes (Past b n) (a ++ k ∷ r) w o → Behind b n a k r w o
-behind b n a k r w o stays skips p =
+    → Passes (Past b n) (a ++ k ∷ r) w o → AfterIt b n a k r w o
+after_it b n a k r w o stays skips p =
     let c : Split a (k ∷ r) (Past b n) o w = passes_split a (k ∷ r) (Past b n) o w p in
     let q : Skipped false (Past b n) a c.front c.between = skips c.front c.between c.first in
     let s : Step false (Past b n) r c.back o = past_step_only b n k r c.back c.between o b n (q.back refl) stays c.second in
@@ -108,17 +108,17 @@ mutual
   pub skip_arms_only : (loose : Bool) (b : Until) (n : ℕ) (arms : Arms) (w : Walk) (o : Mode) → at_else b n ≡ Past b n → AreFormed loose arms
       → Passes (Past b n) (arm_tokens arms) w o → Skipped loose (Past b n) (arm_tokens arms) w o
   skip_arms_only loose b n (Lone t s) w o stays h p =
-      let q : Behind b n (tokens t) CondThen (tokens s) w o = behind b n (tokens t) CondThen (tokens s) w o refl (λ v x. skip_only false b n t v x h.0) p in
+      let q : AfterIt b n (tokens t) CondThen (tokens s) w o = after_it b n (tokens t) CondThen (tokens s) w o refl (λ v x. skip_only false b n t v x h.0) p in
       let r : Skipped loose (Past b n) (tokens s) q.more o = skip_only loose b n s q.more o h.1 q.passes in
       record { walk = q.walk r.walk; back = r.back }
   skip_arms_only loose b n (Else t s e) w o stays h p =
-      let q : Behind b n (tokens t) CondThen (tokens s ++ CondElse ∷ tokens e) w o = behind b n (tokens t) CondThen _ w o refl (λ v x. skip_only false b n t v x h.0) p in
-      let u : Behind b n (tokens s) CondElse (tokens e) q.more o = behind b n (tokens s) CondElse (tokens e) q.more o stays (λ v x. skip_only false b n s v x h.1) q.passes in
+      let q : AfterIt b n (tokens t) CondThen (tokens s ++ CondElse ∷ tokens e) w o = after_it b n (tokens t) CondThen _ w o refl (λ v x. skip_only false b n t v x h.0) p in
+      let u : AfterIt b n (tokens s) CondElse (tokens e) q.more o = after_it b n (tokens s) CondElse (tokens e) q.more o stays (λ v x. skip_only false b n s v x h.1) q.passes in
       let r : Skipped loose (Past b n) (tokens e) u.more o = skip_only loose b n e u.more o h.2 u.passes in
       record { walk = q.walk (u.walk r.walk); back = r.back }
   skip_arms_only loose b n (ElseIf t s arms) w o stays h p =
-      let q : Behind b n (tokens t) CondThen (tokens s ++ CondElse ∷ arm_tokens arms) w o = behind b n (tokens t) CondThen _ w o refl (λ v x. skip_only false b n t v x h.0) p in
-      let u : Behind b n (tokens s) CondElse (arm_tokens arms) q.more o = behind b n (tokens s) CondElse (arm_tokens arms) q.more o stays (λ v x. skip_only false b n s v x h.1) q.passes in
+      let q : AfterIt b n (tokens t) CondThen (tokens s ++ CondElse ∷ arm_tokens arms) w o = after_it b n (tokens t) CondThen _ w o refl (λ v x. skip_only false b n t v x h.0) p in
+      let u : AfterIt b n (tokens s) CondElse (arm_tokens arms) q.more o = after_it b n (tokens s) CondElse (arm_tokens arms) q.more o stays (λ v x. skip_only false b n s v x h.1) q.passes in
       let r : Skipped loose (Past b n) (arm_tokens arms) u.more o = skip_arms_only loose b n arms u.more o stays h.2 u.passes in
       record { walk = q.walk (u.walk r.walk); back = r.back }
 

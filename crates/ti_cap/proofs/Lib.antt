@@ -15,6 +15,7 @@ pub mod IsUnreadableLemmas
 pub mod IsWalkLemmas
 pub mod NestLemmas
 pub mod NextProgressLemmas
+pub mod OneRefusalLemmas
 pub mod OneTreeLemmas
 pub mod PartsLemmas
 pub mod PassesLemmas

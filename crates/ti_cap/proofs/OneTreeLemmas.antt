@@ -58,12 +58,12 @@ first (Lone t s) = t
 first (Else t s o) = t
 first (ElseIf t s a) = t
 
-abbrev behind : Arms → List Token
-behind (Lone t s) = tokens s
-behind (Else t s o) = tokens s ++ CondElse ∷ tokens o
-behind (ElseIf t s a) = tokens s ++ CondElse ∷ arm_tokens a
+abbrev after_it : Arms → List Token
+after_it (Lone t s) = tokens s
+after_it (Else t s o) = tokens s ++ CondElse ∷ tokens o
+after_it (ElseIf t s a) = tokens s ++ CondElse ∷ arm_tokens a
 
-opened : (a : Arms) (y : List Token) → arm_tokens a ++ y ≡ tokens (first a) ++ CondThen ∷ (behind a ++ y)
+opened : (a : Arms) (y : List Token) → arm_tokens a ++ y ≡ tokens (first a) ++ CondThen ∷ (after_it a ++ y)
 opened (Lone t s) y = append_assoc (tokens t) (CondThen ∷ tokens s) y
 opened (Else t s o) y = append_assoc (tokens t) (CondThen ∷ (tokens s ++ CondElse ∷ tokens o)) y
 opened (ElseIf t s a) y = append_assoc (tokens t) (CondThen ∷ (tokens s ++ CondElse ∷ arm_tokens a)) y
@@ -125,84 +125,84 @@ mutual
 
   unique_arms : (l m : Bool) (a b : Arms) (x y : List Token) → AreFormed l a → AreFormed m b → Ends x → Left l x → Ends y → Left m y → arm_tokens a ++ x ≡ arm_tokens b ++ y → SameArms a b x y
   unique_arms l m (Lone t s) (Lone t' s') x y h g ex lx ey ly e =
-      let r : SameSeq t t' (CondThen ∷ (behind (Lone t s) ++ x)) (CondThen ∷ (behind (Lone t' s') ++ y)) =
+      let r : SameSeq t t' (CondThen ∷ (after_it (Lone t s) ++ x)) (CondThen ∷ (after_it (Lone t' s') ++ y)) =
       unique false false t t' _ _ h.0 g.0 tt (closed_left _) tt (closed_left _) (sym (opened (Lone t s) x) ∙ e ∙ opened (Lone t' s') y) in
-      let d : behind (Lone t s) ++ x ≡ behind (Lone t' s') ++ y = tail_is CondThen CondThen _ _ r.rest in
+      let d : after_it (Lone t s) ++ x ≡ after_it (Lone t' s') ++ y = tail_is CondThen CondThen _ _ r.rest in
       let q : SameSeq s s' x y = unique l m s s' x y h.1 g.1 (ends_stops x ex) lx (ends_stops y ey) ly d in
       record { arms = cc (r.seq, q.seq); rest = q.rest }
   unique_arms l m (Lone t s) (Else t' s' o') x y h g ex lx ey ly e =
-      let r : SameSeq t t' (CondThen ∷ (behind (Lone t s) ++ x)) (CondThen ∷ (behind (Else t' s' o') ++ y)) =
+      let r : SameSeq t t' (CondThen ∷ (after_it (Lone t s) ++ x)) (CondThen ∷ (after_it (Else t' s' o') ++ y)) =
       unique false false t t' _ _ h.0 g.0 tt (closed_left _) tt (closed_left _) (sym (opened (Lone t s) x) ∙ e ∙ opened (Else t' s' o') y) in
-      let d : behind (Lone t s) ++ x ≡ behind (Else t' s' o') ++ y = tail_is CondThen CondThen _ _ r.rest in
+      let d : after_it (Lone t s) ++ x ≡ after_it (Else t' s' o') ++ y = tail_is CondThen CondThen _ _ r.rest in
       let q : SameSeq s s' x (CondElse ∷ (tokens o' ++ y)) = unique l false s s' x _ h.1 g.1 (ends_stops x ex) lx tt (closed_left _) (d ∙ append_assoc (tokens s') (CondElse ∷ tokens o') y) in
       absurd (ends_as x _ q.rest ex)
   unique_arms l m (Lone t s) (ElseIf t' s' b) x y h g ex lx ey ly e =
-      let r : SameSeq t t' (CondThen ∷ (behind (Lone t s) ++ x)) (CondThen ∷ (behind (ElseIf t' s' b) ++ y)) =
+      let r : SameSeq t t' (CondThen ∷ (after_it (Lone t s) ++ x)) (CondThen ∷ (after_it (ElseIf t' s' b) ++ y)) =
       unique false false t t' _ _ h.0 g.0 tt (closed_left _) tt (closed_left _) (sym (opened (Lone t s) x) ∙ e ∙ opened (ElseIf t' s' b) y) in
-      let d : behind (Lone t s) ++ x ≡ behind (ElseIf t' s' b) ++ y = tail_is CondThen CondThen _ _ r.rest in
+      let d : after_it (Lone t s) ++ x ≡ after_it (ElseIf t' s' b) ++ y = tail_is CondThen CondThen _ _ r.rest in
       let q : SameSeq s s' x (CondElse ∷ (arm_tokens b ++ y)) = unique l false s s' x _ h.1 g.1 (ends_stops x ex) lx tt (closed_left _) (d ∙ append_assoc (tokens s') (CondElse ∷ arm_tokens b) y) in
       absurd (ends_as x _ q.rest ex)
   unique_arms l m (Else t s o) (Lone t' s') x y h g ex lx ey ly e =
-      let r : SameSeq t t' (CondThen ∷ (behind (Else t s o) ++ x)) (CondThen ∷ (behind (Lone t' s') ++ y)) =
+      let r : SameSeq t t' (CondThen ∷ (after_it (Else t s o) ++ x)) (CondThen ∷ (after_it (Lone t' s') ++ y)) =
       unique false false t t' _ _ h.0 g.0 tt (closed_left _) tt (closed_left _) (sym (opened (Else t s o) x) ∙ e ∙ opened (Lone t' s') y) in
-      let d : behind (Else t s o) ++ x ≡ behind (Lone t' s') ++ y = tail_is CondThen CondThen _ _ r.rest in
+      let d : after_it (Else t s o) ++ x ≡ after_it (Lone t' s') ++ y = tail_is CondThen CondThen _ _ r.rest in
       let q : SameSeq s s' (CondElse ∷ (tokens o ++ x)) y = unique false m s s' _ y h.1 g.1 tt (closed_left _) (ends_stops y ey) ly (sym (append_assoc (tokens s) (CondElse ∷ tokens o) x) ∙ d) in
       absurd (ends_as y _ (sym q.rest) ey)
   unique_arms l m (Else t s o) (Else t' s' o') x y h g ex lx ey ly e =
-      let r : SameSeq t t' (CondThen ∷ (behind (Else t s o) ++ x)) (CondThen ∷ (behind (Else t' s' o') ++ y)) =
+      let r : SameSeq t t' (CondThen ∷ (after_it (Else t s o) ++ x)) (CondThen ∷ (after_it (Else t' s' o') ++ y)) =
       unique false false t t' _ _ h.0 g.0 tt (closed_left _) tt (closed_left _) (sym (opened (Else t s o) x) ∙ e ∙ opened (Else t' s' o') y) in
-      let d : behind (Else t s o) ++ x ≡ behind (Else t' s' o') ++ y = tail_is CondThen CondThen _ _ r.rest in
+      let d : after_it (Else t s o) ++ x ≡ after_it (Else t' s' o') ++ y = tail_is CondThen CondThen _ _ r.rest in
       let q : SameSeq s s' (CondElse ∷ (tokens o ++ x)) (CondElse ∷ (tokens o' ++ y)) = unique false false s s' _ _ h.1 g.1 tt (closed_left _) tt (closed_left _)
       (sym (append_assoc (tokens s) (CondElse ∷ tokens o) x) ∙ d ∙ append_assoc (tokens s') (CondElse ∷ tokens o') y) in
       let f : tokens o ++ x ≡ tokens o' ++ y = tail_is CondElse CondElse _ _ q.rest in
       let v : SameSeq o o' x y = unique l m o o' x y h.2 g.2 (ends_stops x ex) lx (ends_stops y ey) ly f in
       record { arms = cc (r.seq, q.seq, v.seq); rest = v.rest }
   unique_arms l m (Else t s o) (ElseIf t' s' b) x y h g ex lx ey ly e =
-      let r : SameSeq t t' (CondThen ∷ (behind (Else t s o) ++ x)) (CondThen ∷ (behind (ElseIf t' s' b) ++ y)) =
+      let r : SameSeq t t' (CondThen ∷ (after_it (Else t s o) ++ x)) (CondThen ∷ (after_it (ElseIf t' s' b) ++ y)) =
       unique false false t t' _ _ h.0 g.0 tt (closed_left _) tt (closed_left _) (sym (opened (Else t s o) x) ∙ e ∙ opened (ElseIf t' s' b) y) in
-      let d : behind (Else t s o) ++ x ≡ behind (ElseIf t' s' b) ++ y = tail_is CondThen CondThen _ _ r.rest in
+      let d : after_it (Else t s o) ++ x ≡ after_it (ElseIf t' s' b) ++ y = tail_is CondThen CondThen _ _ r.rest in
       let q : SameSeq s s' (CondElse ∷ (tokens o ++ x)) (CondElse ∷ (arm_tokens b ++ y)) = unique false false s s' _ _ h.1 g.1 tt (closed_left _) tt (closed_left _)
       (sym (append_assoc (tokens s) (CondElse ∷ tokens o) x) ∙ d ∙ append_assoc (tokens s') (CondElse ∷ arm_tokens b) y) in
       let f : tokens o ++ x ≡ arm_tokens b ++ y = tail_is CondElse CondElse _ _ q.rest in
-      let v : SameSeq o (first b) x (CondThen ∷ (behind b ++ y)) = unique l false o (first b) x _ h.2 (first_formed m b g.2) (ends_stops x ex) lx tt (closed_left _) (f ∙ opened b y) in
+      let v : SameSeq o (first b) x (CondThen ∷ (after_it b ++ y)) = unique l false o (first b) x _ h.2 (first_formed m b g.2) (ends_stops x ex) lx tt (closed_left _) (f ∙ opened b y) in
       absurd (ends_as x _ v.rest ex)
   unique_arms l m (ElseIf t s a) (Lone t' s') x y h g ex lx ey ly e =
-      let r : SameSeq t t' (CondThen ∷ (behind (ElseIf t s a) ++ x)) (CondThen ∷ (behind (Lone t' s') ++ y)) =
+      let r : SameSeq t t' (CondThen ∷ (after_it (ElseIf t s a) ++ x)) (CondThen ∷ (after_it (Lone t' s') ++ y)) =
       unique false false t t' _ _ h.0 g.0 tt (closed_left _) tt (closed_left _) (sym (opened (ElseIf t s a) x) ∙ e ∙ opened (Lone t' s') y) in
-      let d : behind (ElseIf t s a) ++ x ≡ behind (Lone t' s') ++ y = tail_is CondThen CondThen _ _ r.rest in
+      let d : after_it (ElseIf t s a) ++ x ≡ after_it (Lone t' s') ++ y = tail_is CondThen CondThen _ _ r.rest in
       let q : SameSeq s s' (CondElse ∷ (arm_tokens a ++ x)) y = unique false m s s' _ y h.1 g.1 tt (closed_left _) (ends_stops y ey) ly (sym (append_assoc (tokens s) (CondElse ∷ arm_tokens a) x) ∙ d) in
       absurd (ends_as y _ (sym q.rest) ey)
   unique_arms l m (ElseIf t s (Lone t2 s2)) (Else t' s' o') x y h g ex lx ey ly e =
-      let r : SameSeq t t' (CondThen ∷ (behind (ElseIf t s (Lone t2 s2)) ++ x)) (CondThen ∷ (behind (Else t' s' o') ++ y)) =
+      let r : SameSeq t t' (CondThen ∷ (after_it (ElseIf t s (Lone t2 s2)) ++ x)) (CondThen ∷ (after_it (Else t' s' o') ++ y)) =
       unique false false t t' _ _ h.0 g.0 tt (closed_left _) tt (closed_left _) (sym (opened (ElseIf t s (Lone t2 s2)) x) ∙ e ∙ opened (Else t' s' o') y) in
-      let d : behind (ElseIf t s (Lone t2 s2)) ++ x ≡ behind (Else t' s' o') ++ y = tail_is CondThen CondThen _ _ r.rest in
+      let d : after_it (ElseIf t s (Lone t2 s2)) ++ x ≡ after_it (Else t' s' o') ++ y = tail_is CondThen CondThen _ _ r.rest in
       let q : SameSeq s s' (CondElse ∷ (arm_tokens (Lone t2 s2) ++ x)) (CondElse ∷ (tokens o' ++ y)) = unique false false s s' _ _ h.1 g.1 tt (closed_left _) tt (closed_left _)
       (sym (append_assoc (tokens s) (CondElse ∷ arm_tokens (Lone t2 s2)) x) ∙ d ∙ append_assoc (tokens s') (CondElse ∷ tokens o') y) in
       let f : arm_tokens (Lone t2 s2) ++ x ≡ tokens o' ++ y = tail_is CondElse CondElse _ _ q.rest in
-      let v : SameSeq t2 o' (CondThen ∷ (behind (Lone t2 s2) ++ x)) y = unique false m t2 o' _ y h.2.0 g.2 tt (closed_left _) (ends_stops y ey) ly (sym (opened (Lone t2 s2) x) ∙ f) in
+      let v : SameSeq t2 o' (CondThen ∷ (after_it (Lone t2 s2) ++ x)) y = unique false m t2 o' _ y h.2.0 g.2 tt (closed_left _) (ends_stops y ey) ly (sym (opened (Lone t2 s2) x) ∙ f) in
       absurd (ends_as y _ (sym v.rest) ey)
   unique_arms l m (ElseIf t s (Else t2 s2 o2)) (Else t' s' o') x y h g ex lx ey ly e =
-      let r : SameSeq t t' (CondThen ∷ (behind (ElseIf t s (Else t2 s2 o2)) ++ x)) (CondThen ∷ (behind (Else t' s' o') ++ y)) =
+      let r : SameSeq t t' (CondThen ∷ (after_it (ElseIf t s (Else t2 s2 o2)) ++ x)) (CondThen ∷ (after_it (Else t' s' o') ++ y)) =
       unique false false t t' _ _ h.0 g.0 tt (closed_left _) tt (closed_left _) (sym (opened (ElseIf t s (Else t2 s2 o2)) x) ∙ e ∙ opened (Else t' s' o') y) in
-      let d : behind (ElseIf t s (Else t2 s2 o2)) ++ x ≡ behind (Else t' s' o') ++ y = tail_is CondThen CondThen _ _ r.rest in
+      let d : after_it (ElseIf t s (Else t2 s2 o2)) ++ x ≡ after_it (Else t' s' o') ++ y = tail_is CondThen CondThen _ _ r.rest in
       let q : SameSeq s s' (CondElse ∷ (arm_tokens (Else t2 s2 o2) ++ x)) (CondElse ∷ (tokens o' ++ y)) = unique false false s s' _ _ h.1 g.1 tt (closed_left _) tt (closed_left _)
       (sym (append_assoc (tokens s) (CondElse ∷ arm_tokens (Else t2 s2 o2)) x) ∙ d ∙ append_assoc (tokens s') (CondElse ∷ tokens o') y) in
       let f : arm_tokens (Else t2 s2 o2) ++ x ≡ tokens o' ++ y = tail_is CondElse CondElse _ _ q.rest in
-      let v : SameSeq t2 o' (CondThen ∷ (behind (Else t2 s2 o2) ++ x)) y = unique false m t2 o' _ y h.2.0 g.2 tt (closed_left _) (ends_stops y ey) ly (sym (opened (Else t2 s2 o2) x) ∙ f) in
+      let v : SameSeq t2 o' (CondThen ∷ (after_it (Else t2 s2 o2) ++ x)) y = unique false m t2 o' _ y h.2.0 g.2 tt (closed_left _) (ends_stops y ey) ly (sym (opened (Else t2 s2 o2) x) ∙ f) in
       absurd (ends_as y _ (sym v.rest) ey)
   unique_arms l m (ElseIf t s (ElseIf t2 s2 a2)) (Else t' s' o') x y h g ex lx ey ly e =
-      let r : SameSeq t t' (CondThen ∷ (behind (ElseIf t s (ElseIf t2 s2 a2)) ++ x)) (CondThen ∷ (behind (Else t' s' o') ++ y)) =
+      let r : SameSeq t t' (CondThen ∷ (after_it (ElseIf t s (ElseIf t2 s2 a2)) ++ x)) (CondThen ∷ (after_it (Else t' s' o') ++ y)) =
       unique false false t t' _ _ h.0 g.0 tt (closed_left _) tt (closed_left _) (sym (opened (ElseIf t s (ElseIf t2 s2 a2)) x) ∙ e ∙ opened (Else t' s' o') y) in
-      let d : behind (ElseIf t s (ElseIf t2 s2 a2)) ++ x ≡ behind (Else t' s' o') ++ y = tail_is CondThen CondThen _ _ r.rest in
+      let d : after_it (ElseIf t s (ElseIf t2 s2 a2)) ++ x ≡ after_it (Else t' s' o') ++ y = tail_is CondThen CondThen _ _ r.rest in
       let q : SameSeq s s' (CondElse ∷ (arm_tokens (ElseIf t2 s2 a2) ++ x)) (CondElse ∷ (tokens o' ++ y)) = unique false false s s' _ _ h.1 g.1 tt (closed_left _) tt (closed_left _)
       (sym (append_assoc (tokens s) (CondElse ∷ arm_tokens (ElseIf t2 s2 a2)) x) ∙ d ∙ append_assoc (tokens s') (CondElse ∷ tokens o') y) in
       let f : arm_tokens (ElseIf t2 s2 a2) ++ x ≡ tokens o' ++ y = tail_is CondElse CondElse _ _ q.rest in
-      let v : SameSeq t2 o' (CondThen ∷ (behind (ElseIf t2 s2 a2) ++ x)) y = unique false m t2 o' _ y h.2.0 g.2 tt (closed_left _) (ends_stops y ey) ly (sym (opened (ElseIf t2 s2 a2) x) ∙ f) in
+      let v : SameSeq t2 o' (CondThen ∷ (after_it (ElseIf t2 s2 a2) ++ x)) y = unique false m t2 o' _ y h.2.0 g.2 tt (closed_left _) (ends_stops y ey) ly (sym (opened (ElseIf t2 s2 a2) x) ∙ f) in
       absurd (ends_as y _ (sym v.rest) ey)
   unique_arms l m (ElseIf t s a) (ElseIf t' s' b) x y h g ex lx ey ly e =
-      let r : SameSeq t t' (CondThen ∷ (behind (ElseIf t s a) ++ x)) (CondThen ∷ (behind (ElseIf t' s' b) ++ y)) =
+      let r : SameSeq t t' (CondThen ∷ (after_it (ElseIf t s a) ++ x)) (CondThen ∷ (after_it (ElseIf t' s' b) ++ y)) =
       unique false false t t' _ _ h.0 g.0 tt (closed_left _) tt (closed_left _) (sym (opened (ElseIf t s a) x) ∙ e ∙ opened (ElseIf t' s' b) y) in
-      let d : behind (ElseIf t s a) ++ x ≡ behind (ElseIf t' s' b) ++ y = tail_is CondThen CondThen _ _ r.rest in
+      let d : after_it (ElseIf t s a) ++ x ≡ after_it (ElseIf t' s' b) ++ y = tail_is CondThen CondThen _ _ r.rest in
       let q : SameSeq s s' (CondElse ∷ (arm_tokens a ++ x)) (CondElse ∷ (arm_tokens b ++ y)) = unique false false s s' _ _ h.1 g.1 tt (closed_left _) tt (closed_left _)
       (sym (append_assoc (tokens s) (CondElse ∷ arm_tokens a) x) ∙ d ∙ append_assoc (tokens s') (CondElse ∷ arm_tokens b) y) in
       let f : arm_tokens a ++ x ≡ arm_tokens b ++ y = tail_is CondElse CondElse _ _ q.rest in

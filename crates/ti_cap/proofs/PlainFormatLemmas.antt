@@ -5,7 +5,7 @@ use Rattle.ti_cap.specs.declared.language.Token.TheVariants.{Print}
 use Rattle.ti_cap.specs.declared.language.Conversion.{Conversion}
 use Rattle.ti_cap.specs.declared.language.Conversion.TheVariants.{Signed, Octal, LowerHex, UpperHex, Text}
 use Rattle.ti_cap.specs.Spelling.{conversion_letter}
-use Rattle.ti_cap.specs.inner.Reading.{conversions, conversion_of, plain_format, format_read, print_read}
+use Rattle.ti_cap.specs.inner.Lexer.{conversions, conversion_of, plain_format, format_read, print_read}
 use Rattle.ti_cap.proofs.ChoiceLemmas.{letter_found}
 
 at_letter : (c : Conversion) (cs : List ℕ) → print_read (conversion_letter c ∷ cs) ≡ Ok (Print (plain_format c), 2)

@@ -8,7 +8,7 @@ use Rattle.ti_cap.specs.declared.language.Conversion.{Conversion}
 use Rattle.ti_cap.specs.declared.language.Conversion.TheVariants.{Signed, Octal, LowerHex, UpperHex, Text}
 use Rattle.ti_cap.specs.declared.language.CapFault.TheVariants.{CutShort, UnknownEscape, BadParameter, BadVariable, BadConstant, BadFormat}
 use Rattle.ti_cap.specs.Spelling.{Spells}
-use Rattle.ti_cap.specs.inner.Reading.{token_read, digits_read, format_read, lone_of}
+use Rattle.ti_cap.specs.inner.Lexer.{token_read, digits_read, format_read, lone_of}
 
 -- a format without flags
 abbrev plain : Conversion → ℕ → Option ℕ → Format

@@ -10,11 +10,11 @@ use Rattle.ti_cap.specs.declared.language.Conversion.{Conversion}
 use Rattle.ti_cap.specs.declared.language.Conversion.TheVariants.{Signed, Octal, LowerHex, UpperHex, Text}
 use Rattle.ti_cap.specs.declared.language.CapFault.TheVariants.{BadFormat}
 use Rattle.ti_cap.specs.Spelling.{IsDigit, number_of, IsPlainFlag, IsFlag, AreFlags, HasFlags, SpellsWidth, SpellsPrecision, conversion_letter}
-use Rattle.ti_cap.specs.inner.Reading.{Reading, front, rest, is_digit, is_plain_flag, is_flag, is_colon, conversion_of, with_conversion, with_flags, letter_read, precision_read, width_read, format_read}
+use Rattle.ti_cap.specs.inner.Lexer.{Lexeme, front, rest, is_digit, is_plain_flag, is_flag, is_colon, conversion_of, with_conversion, with_flags, letter_read, precision_read, width_read, format_read}
 use Rattle.ti_cap.proofs.FrontLemmas.{Stops, AllPass, front_stops, rest_stops}
 use Rattle.ti_cap.proofs.FormatPartsLemmas.{with_precision, with_width}
 
-abbrev printed : Format → ℕ → Reading
+abbrev printed : Format → ℕ → Lexeme
 printed f n = Ok (Print f, n)
 
 digits_pass : (ds : List ℕ) → AllByRecursion IsDigit ds → AllPass is_digit ds
@@ -58,7 +58,7 @@ precision_again f None c pr t n none is =
     ∙ ap (λ m. printed (record f { conversion = c }) m) (omega arith)
     ∙ ap (λ o. printed (with_precision f o c) (n + length {A = ℕ} [] + 1)) none)
   where
-    read_on : List ℕ → Reading
+    read_on : List ℕ → Lexeme
     read_on cs =
         cond (nat_lt greatest_width (number_of (front is_digit cs))) (Err BadFormat)
         (letter_read (record f { precision = Some (number_of (front is_digit cs)) }) (n + 1 + length (front is_digit cs)) (rest is_digit cs))
@@ -71,7 +71,7 @@ precision_again f (Some p) c pr t n none (digits, all, value, le, is) =
     ∙ ap (λ q. printed (with_precision f (Some q) c) (n + 1 + length digits + 1)) value
     ∙ ap (λ m. printed (with_precision f (Some p) c) m) (omega arith))
   where
-    read_on : List ℕ → List ℕ → Reading
+    read_on : List ℕ → List ℕ → Lexeme
     read_on fr re = cond (nat_lt greatest_width (number_of fr)) (Err BadFormat) (letter_read (record f { precision = Some (number_of fr) }) (n + 1 + length fr) re)
 
 no_leading : (w : ℕ) (width : List ℕ) → SpellsWidth w width → AllByRecursion IsDigit width × (number_of width ≡ w) × (w ≤ greatest_width)
@@ -95,7 +95,7 @@ width_again f w o c width pr t n none sw sp =
     ∙ ap (λ x. precision_read (record f { width = x }) (n + length width) tail) d.1
     ∙ precision_again (record f { width = w }) o c pr t (n + length width) none sp
   where
-    read_on : List ℕ → List ℕ → Reading
+    read_on : List ℕ → List ℕ → Lexeme
     read_on fr re = cond (nat_lt greatest_width (number_of fr)) (Err BadFormat) (precision_read (record f { width = number_of fr }) (n + length fr) re)
 
 -- what stands after the flags begins with none of these
@@ -195,7 +195,7 @@ format_again f flags width pr t (inl plain) h sw sp =
     ∙ width_again (with_flags flags) f.width f.precision f.conversion width pr t (1 + length flags) refl sw sp
     ∙ ap (λ x. printed x (1 + length flags + length width + length pr + 1)) (same_format f flags h)
   where
-    read_on : List ℕ → List ℕ → Reading
+    read_on : List ℕ → List ℕ → Lexeme
     read_on fr re = width_read (with_flags fr) (1 + length fr) re
 format_again f flags width pr t (inr (fl, all, is)) h sw sp =
     let tail : List ℕ = width ++ (pr ++ conversion_letter f.conversion ∷ t) in
@@ -212,5 +212,5 @@ format_again f flags width pr t (inr (fl, all, is)) h sw sp =
     longer : (a b c d : ℕ) → b ≡ suc a → 2 + a + c + d + 1 ≡ 1 + b + c + d + 1
     longer a b c d e = omega arith
 
-    read_on : List ℕ → List ℕ → Reading
+    read_on : List ℕ → List ℕ → Lexeme
     read_on fr re = width_read (with_flags fr) (2 + length fr) re

@@ -15,7 +15,7 @@ use Rattle.ti_cap.specs.declared.language.Conversion.TheVariants.{Signed, Octal,
 use Rattle.ti_cap.specs.declared.language.CapFault.{CapFault}
 use Rattle.ti_cap.specs.declared.language.CapFault.TheVariants.{CutShort, UnknownEscape, BadVariable}
 use Rattle.ti_cap.specs.Spelling.{IsDigit, IsLetter, IsPlainFlag, AreFlags, number_from, number_of, op_letter, conversion_letter, Spells, SpellsEscape, SpellsConstant, SpellsFormat, SpellsWidth, SpellsPrecision, with_digit}
-use Rattle.ti_cap.specs.inner.Reading.{Reading, token_read, escape_read, parameter_read, is_letter, variable_of, variable_read, quoted_read, digits_read, begins_format, format_read, lone_letter, lone_tokens, lone_of, lone_or}
+use Rattle.ti_cap.specs.inner.Lexer.{Lexeme, token_read, escape_read, parameter_read, is_letter, variable_of, variable_read, quoted_read, digits_read, begins_format, format_read, lone_letter, lone_tokens, lone_of, lone_or}
 use Rattle.ti_cap.proofs.ChoiceLemmas.{chosen, still, letter_found, letter_holds, letter_missed, apart, pair_of}
 use Rattle.ti_cap.proofs.DigitsReadLemmas.{number_from-ge, digit_step, brace_step}
 use Rattle.ti_cap.proofs.SpellsFormatLemmas.{format_again}
@@ -33,7 +33,7 @@ digits_again n i (c ∷ cs) t all small some =
     ∙ digits_again (with_digit n c) (i + 1) cs t all.1 small (omega arith)
     ∙ ap (λ m. Ok (Constant (pos (number_from (with_digit n c) cs)), m + 3)) (omega arith)
 
-abbrev pub read_as : Token → ℕ → Reading
+abbrev pub read_as : Token → ℕ → Lexeme
 read_as token n = Ok (token, n)
 
 lengths : (ds : List ℕ) → 0 + length ds + 3 ≡ suc (suc (length (ds ++ 125 ∷ [])))
@@ -347,7 +347,7 @@ variable_final : (make : ℕ → Token) (cs more : List ℕ) (f : CapFault) → 
 variable_final make [] more f uncut e = absurd (uncut (cc))
 variable_final make (v ∷ vs) more f uncut e = e
 
-still_lone : (o : Option Token) (x x' : Reading) (f : CapFault) → (x ≡ Err f → x' ≡ Err f) → lone_or o x ≡ Err f → lone_or o x' ≡ Err f
+still_lone : (o : Option Token) (x x' : Lexeme) (f : CapFault) → (x ≡ Err f → x' ≡ Err f) → lone_or o x ≡ Err f → lone_or o x' ≡ Err f
 still_lone (Some k) x x' f p e = e
 still_lone None x x' f p e = p e
 

@@ -7,7 +7,7 @@ use Rattle.ti_cap.specs.declared.language.Token.TheVariants.{Byte, Param, Consta
 use Rattle.ti_cap.specs.declared.language.Format.{Format}
 use Rattle.ti_cap.specs.declared.language.Conversion.{Conversion}
 use Rattle.ti_cap.specs.declared.language.Conversion.TheVariants.{Signed, Octal, LowerHex, UpperHex, Text}
-use Rattle.ti_cap.specs.Sizes.{text_size, token_size}
+use Rattle.ti_cap.specs.Sizes.{printed_text_size, token_size}
 use Rattle.ti_cap.specs.Spelling.{Spells, SpellsWidth, SpellsPrecision}
 
 width_small : (w : ℕ) (s : List ℕ) → SpellsWidth w s → w ≤ greatest_width
@@ -22,7 +22,7 @@ hex_small : (b : Bool) (p : ℕ) → p ≤ greatest_width → (if b then 2 else 
 hex_small true p h = omega arith
 hex_small false p h = omega arith
 
-text_small : (c : Conversion) (f : Format) (longest : ℕ) → longest < 2 ^ 16 → unwrap_or f.precision 0 ≤ greatest_width → text_size c f longest ≤ 65535
+text_small : (c : Conversion) (f : Format) (longest : ℕ) → longest < 2 ^ 16 → unwrap_or f.precision 0 ≤ greatest_width → printed_text_size c f longest ≤ 65535
 text_small Signed f longest h p = omega arith
 text_small Octal f longest h p = by_flag f.alternate
   where
@@ -37,7 +37,7 @@ text_small Text f longest h p = omega arith
 pub spelled_size : (longest : ℕ) (k : Token) (s : List ℕ) → longest < 2 ^ 16 → Spells k s → token_size longest k ≤ 65535
 spelled_size longest k s h (inl (b, e, other, is)) = let q : token_size longest k ≡ 1 = ap (λ x. token_size longest x) e in omega arith
 spelled_size longest (Print f) s h (inr (x, (flags, width, pr, are, has, sw, sp, is), e)) =
-    let t : text_size f.conversion f longest ≤ 65535 = text_small f.conversion f longest h (precision_small f.precision pr sp) in
+    let t : printed_text_size f.conversion f longest ≤ 65535 = text_small f.conversion f longest h (precision_small f.precision pr sp) in
     let w : f.width ≤ greatest_width = width_small f.width width sw in
     omega arith
 spelled_size longest (Byte b) s h (inr (x, p, e)) = omega arith

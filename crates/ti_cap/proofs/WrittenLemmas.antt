@@ -3,7 +3,7 @@ use Rattle.std.proofs.Common.{◌≡◌, ℕ, ◌<◌, inl, inr, List, [], ◌�
 use Rattle.std.proofs.lemmas.List.{append-nil, take_at, drop_at}
 use Rattle.ti_cap.specs.declared.language.Token.{Token}
 use Rattle.ti_cap.specs.Spelling.{Spells, Written}
-use Rattle.ti_cap.specs.inner.Reading.{token_read}
+use Rattle.ti_cap.specs.inner.Lexer.{token_read}
 use Rattle.ti_cap.proofs.SpellsLemmas.{token_again, read_token_is, read_length_is}
 
 pub spelled_long : (k : Token) (s : List ℕ) → Spells k s → 0 < length s

@@ -3,17 +3,17 @@ use Rattle.std.specs.Prelude.{ℕ, List, codes}
 use Rattle.ti_cap.specs.declared.language.CapFault.{CapFault}
 use Rattle.ti_cap.specs.declared.language.CapFault.TheVariants.{TooLong, CutShort, UnknownEscape, BadParameter, BadVariable, BadConstant, BadFormat, StrayThen, StrayElse, StrayEnd, NoThen, NestTooDeep, StackTooDeep}
 
-abbrev pub name_of : CapFault → List ℕ
-name_of TooLong = codes "TooLong"
-name_of CutShort = codes "CutShort"
-name_of UnknownEscape = codes "UnknownEscape"
-name_of BadParameter = codes "BadParameter"
-name_of BadVariable = codes "BadVariable"
-name_of BadConstant = codes "BadConstant"
-name_of BadFormat = codes "BadFormat"
-name_of StrayThen = codes "StrayThen"
-name_of StrayElse = codes "StrayElse"
-name_of StrayEnd = codes "StrayEnd"
-name_of NoThen = codes "NoThen"
-name_of NestTooDeep = codes "NestTooDeep"
-name_of StackTooDeep = codes "StackTooDeep"
+abbrev pub cap_fault_word : CapFault → List ℕ
+cap_fault_word TooLong = codes "TooLong"
+cap_fault_word CutShort = codes "CutShort"
+cap_fault_word UnknownEscape = codes "UnknownEscape"
+cap_fault_word BadParameter = codes "BadParameter"
+cap_fault_word BadVariable = codes "BadVariable"
+cap_fault_word BadConstant = codes "BadConstant"
+cap_fault_word BadFormat = codes "BadFormat"
+cap_fault_word StrayThen = codes "StrayThen"
+cap_fault_word StrayElse = codes "StrayElse"
+cap_fault_word StrayEnd = codes "StrayEnd"
+cap_fault_word NoThen = codes "NoThen"
+cap_fault_word NestTooDeep = codes "NestTooDeep"
+cap_fault_word StackTooDeep = codes "StackTooDeep"

@@ -11,15 +11,15 @@ abbrev pub most_digits : Format → ℕ → ℕ
 most_digits f digits = max digits (unwrap_or f.precision 0)
 
 -- the most bytes that the value takes, before the width
-abbrev pub text_size : Conversion → Format → ℕ → ℕ
-text_size Signed f longest = 1 + most_digits f 10
-text_size Octal f longest = most_digits f (if f.alternate then 12 else 11)
-text_size LowerHex f longest = (if f.alternate then 2 else 0) + most_digits f 8
-text_size UpperHex f longest = (if f.alternate then 2 else 0) + most_digits f 8
-text_size Text f longest = min (unwrap_or f.precision longest) longest
+abbrev pub printed_text_size : Conversion → Format → ℕ → ℕ
+printed_text_size Signed f longest = 1 + most_digits f 10
+printed_text_size Octal f longest = most_digits f (if f.alternate then 12 else 11)
+printed_text_size LowerHex f longest = (if f.alternate then 2 else 0) + most_digits f 8
+printed_text_size UpperHex f longest = (if f.alternate then 2 else 0) + most_digits f 8
+printed_text_size Text f longest = min (unwrap_or f.precision longest) longest
 
 abbrev pub format_size : Format → ℕ → ℕ
-format_size f longest = max f.width (text_size f.conversion f longest)
+format_size f longest = max f.width (printed_text_size f.conversion f longest)
 
 -- the most bytes that a token writes where no text is longer than `longest`
 abbrev pub token_size : ℕ → Token → ℕ

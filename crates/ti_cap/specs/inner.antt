@@ -1,4 +1,4 @@
 -- What private clauses alone cite.
 pub mod Analysis
 pub mod Scan
-pub mod Reading
+pub mod Lexer

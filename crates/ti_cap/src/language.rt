@@ -5,7 +5,7 @@
 
 ghost use Rattle.std.specs.Prelude.{◌≡◌, ◌≤◌};
 ghost use Rattle.ti_cap.specs.Sizes.{format_size, token_size};
-ghost use Rattle.ti_cap.specs.FaultNames.{name_of};
+ghost use Rattle.ti_cap.specs.FaultNames.{cap_fault_word};
 
 use thiserror::Error;
 
@@ -150,7 +150,7 @@ pub enum CapFault {
 impl CapFault {
     /// The fault's name, as the error prints it.
     pub fn word(self) -> &'static str
-        ensures name { result.now ≡ name_of self }
+        ensures name { result.now ≡ cap_fault_word self }
     {
         match self {
             CapFault::TooLong => "TooLong",
@@ -184,7 +184,7 @@ impl Format {
     /// The most bytes that a print by this format writes, where no text is longer than `longest` bytes.
     pub fn size(&self, longest: u16) -> u64
         ensures exact { result ≡ format_size self.now longest }
-        ensures small { result ≤ 65535 }
+        ensures small { result ≤ u16.MAX }
     {
         let longest = u64::from(longest);
         let least = u64::from(self.precision.unwrap_or(0));
@@ -207,7 +207,7 @@ impl Token {
     /// The most bytes that it writes, where no text is longer than `longest`.
     pub(crate) fn size(&self, longest: u16) -> u64
         ensures exact { result ≡ token_size longest self.now }
-        ensures small { result ≤ 65535 }
+        ensures small { result ≤ u16.MAX }
     {
         match self {
             Token::Byte(_) | Token::Char => 1,

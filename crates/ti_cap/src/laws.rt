@@ -1,7 +1,9 @@
 //! Laws of the capability language, each the contract of a function that does nothing.
 
 ghost use Rattle.std.specs.Prelude.{◌≡◌, ℕ, List, [], ◌++◌};
+ghost use Rattle.ti_cap.specs.declared.language.CapRefused.{CapRefused};
 ghost use Rattle.ti_cap.specs.declared.language.Token.{Token};
+ghost use Rattle.ti_cap.specs.Refusal.{IsRefusal};
 ghost use Rattle.ti_cap.specs.Tree.{Sequence};
 ghost use Rattle.ti_cap.specs.Spelling.{Spells, Written, Writes};
 
@@ -21,4 +23,10 @@ pub fn one_cutting()
 pub fn one_tree()
     ensures { (one other : Sequence) → (bytes : List ℕ) → Writes one bytes → Writes other bytes
         → one ≡ other }
+{}
+
+/// Bytes have at most one refusal.
+pub fn one_refusal()
+    ensures { (one other : CapRefused) → (bytes : List ℕ) → IsRefusal bytes one
+        → IsRefusal bytes other → one ≡ other }
 {}

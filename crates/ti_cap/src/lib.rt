@@ -9,9 +9,9 @@ mod extent;
 mod frame;
 mod language;
 pub mod laws;
+mod lexer;
 mod limits;
 mod parse;
-mod read;
 mod read_format;
 mod scan;
 

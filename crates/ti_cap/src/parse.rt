@@ -8,8 +8,8 @@ ghost use Rattle.ti_cap.specs.Capability.{HasDepth, HasBound, HasNest, IsWellFor
 
 use crate::analysis::Analysis;
 use crate::language::{CapFault, CapRefused, Token};
+use crate::lexer::read_token;
 use crate::limits::Limits;
-use crate::read::read_token;
 use crate::scan::{Open, Scan};
 use std::marker::Model;
 use ti_base::{MOST_CAPABILITY_BYTES, MOST_OPEN};

@@ -9,7 +9,7 @@ ghost use Rattle.std.specs.List.{prefix_len};
 ghost use Rattle.ti_base.specs.Limits.{greatest_width};
 ghost use Rattle.ti_cap.specs.Spelling.{number_of};
 ghost use Rattle.ti_cap.specs.Refusal.{opens_format};
-ghost use Rattle.ti_cap.specs.inner.Reading.{format_read, width_read, precision_read, letter_read, with_flags, plain_format, conversion_of, is_flag, is_plain_flag, is_digit, print_read, front, rest};
+ghost use Rattle.ti_cap.specs.inner.Lexer.{format_read, width_read, precision_read, letter_read, with_flags, plain_format, conversion_of, is_flag, is_plain_flag, is_digit, print_read, front, rest};
 
 use crate::language::{CapFault, Conversion, Format, Token};
 use ti_base::GREATEST_WIDTH;
@@ -59,7 +59,7 @@ fn plain(conversion: Conversion) -> Format
 
 /// The format at the front, part by part.
 #[inline(never)]
-#[tactic(auto, unfolding(crate::specs::inner::Reading::format_read))]
+#[tactic(auto, unfolding(crate::specs::inner::Lexer::format_read))]
 fn read_parts(bytes: &[u8]) -> Result<(Token, usize), CapFault>
     ensures { result ≡ format_read bytes.now }
 {
@@ -212,7 +212,7 @@ fn conversion(letter: u8) -> Option<Conversion>
 }
 
 /// The number that the digits at the front stand for, and how many they are, or none where it is above the limit.
-#[tactic(auto, using(crate::proofs::FrontLemmas::front_within, crate::proofs::FrontLemmas::rest_behind))]
+#[tactic(auto, using(crate::proofs::FrontLemmas::front_within, crate::proofs::FrontLemmas::rest_after_front))]
 fn small_number(bytes: &[u8]) -> Option<(u8, usize)>
     ensures none { IfNone result (greatest_width < number_of (front is_digit bytes.now)) }
     ensures number { IfSome result

@@ -46,8 +46,8 @@ impl Scan {
     ghost use Rattle.ti_cap.specs.declared.language.Token.{Token};
     ghost use Rattle.ti_cap.specs.declared.language.CapFault.{CapFault};
     ghost use Rattle.ti_cap.specs.declared.scan.Open.{Open};
-    ghost use Rattle.ti_cap.specs.inner.Analysis.{no_findings, greatest_of, are_in_test};
-    ghost use Rattle.ti_cap.specs.inner.Scan.{findings_of, fault_at, Brings, IsInOrder, IsSure, after_push, innermost_first, height_frame, size_frame, greatest_end};
+    ghost use Rattle.ti_cap.specs.inner.Analysis.{no_findings, are_in_test};
+    ghost use Rattle.ti_cap.specs.inner.Scan.{findings_of, fault_at, Brings, IsInOrder, IsSure, after_write, after_push, innermost_first, height_frame, greatest_end, greatest_size};
 
     /// No token yet.
     pub fn new() -> Self
@@ -100,9 +100,7 @@ impl Scan {
     #[inline(always)]
     fn write(&mut self, popped: u32, size: u32)
         requires { self.old.here.size + size < 2 ^ 32 }
-        ensures { self.new ≡ record self.old {
-          here = record { height = self.old.here.height - popped; size = self.old.here.size + size };
-        } }
+        ensures { self.new ≡ after_write self.old popped size }
     {
         self.here.height = self.here.height.saturating_sub(popped);
         self.here.size += size;
@@ -247,8 +245,7 @@ impl Scan {
     #[tactic(auto, using(crate::proofs::ScanLemmas::greatest_end_size))]
     pub fn bound<const ROOM: usize>(&self, opens: &[Open; ROOM]) -> u64
         requires order { IsInOrder ROOM self.now }
-        ensures { result
-            ≡ greatest_of (map size_frame (innermost_first self.now.nesting opens.now)) self.now.here.size }
+        ensures { result ≡ greatest_size self.now opens.now }
     {
         u64::from(self.end(opens).size)
     }

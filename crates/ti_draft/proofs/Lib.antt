@@ -4,3 +4,4 @@ pub mod LengthLemmas
 pub mod TableRoomLemmas
 pub mod EncodeFaultLemmas
 pub mod CanonicalLemmas
+pub mod EncodedSpellsLemmas

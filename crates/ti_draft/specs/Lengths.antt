@@ -11,6 +11,11 @@ use Rattle.ti_draft.specs.Canonical.{texts_table, names_table, present_count}
 abbrev pub capped_count : ℕ → ℕ
 capped_count n = min n (2 ^ 64 - 1)
 
+-- the tables of the extended part, of its values and of its names
+abbrev pub extended_table_length : EntryValue → ℕ
+extended_table_length v =
+    length (texts_table (map mark_in v.extended_texts)) + length (names_table (extended_names v))
+
 -- the extended part after its first pad
 abbrev pub extended_length : EntryValue → ℕ
 extended_length v =
@@ -18,7 +23,7 @@ extended_length v =
     + length v.extended_flags * 3
     + length v.extended_numbers * (number_size v.width + 2)
     + length v.extended_texts * 4
-    + (length (texts_table (map mark_in v.extended_texts)) + length (names_table (extended_names v)))
+    + extended_table_length v
 
 -- the word of a text that is put at a place, or of its mark
 abbrev pub text_word : ℕ → TextValue → ℤ

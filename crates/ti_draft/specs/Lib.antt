@@ -1,3 +1,4 @@
 pub mod Canonical
 pub mod Lengths
 pub mod Unfit
+pub mod Sizes

@@ -3,7 +3,7 @@
 //! A draft lends its names and texts and copies none. A push takes memory as a vector does: now and then, and then for
 //! as many again as there are.
 
-ghost use Rattle.std.specs.Prelude.{◌≡◌, ◌==◌, ◌++◌, ◌∷◌, [], length, map, OnOk, OnErr};
+ghost use Rattle.std.specs.Prelude.{◌≡◌, ◌==◌, ◌+◌, ◌++◌, ◌∷◌, [], length, map, IsOk, OnOk, OnErr};
 ghost use Rattle.ti_words.specs.Texts.{text_value};
 ghost use Rattle.ti_words.specs.Spelling.{name_in, mark_in, extended_names};
 
@@ -139,23 +139,25 @@ impl<'a, A: Allocator> Draft<'a, A> {
         self.extended_texts.push(name, text)
     }
 
-    /// Takes memory at once for so many more flags, numbers and texts.
+    /// Takes memory at once for so many more flags, numbers and texts; for none it needs none.
     pub fn reserve(&mut self, flags: usize, numbers: usize, texts: usize) -> Result<(), AllocError>
-        ensures { self.new ≡ self.old }
+        ensures same { self.new ≡ self.old }
+        ensures no_memory { flags + numbers + texts ≡ 0 → IsOk result }
     {
         self.flags.reserve_exact(flags)?;
         self.numbers.reserve_exact(numbers)?;
         self.texts.reserve_exact(texts)
     }
 
-    /// Takes memory at once for so many more extended flags, numbers and texts.
+    /// Takes memory at once for so many more extended flags, numbers and texts; for none it needs none.
     pub fn reserve_extended(
         &mut self,
         flags: usize,
         numbers: usize,
         texts: usize,
     ) -> Result<(), AllocError>
-        ensures { self.new ≡ self.old }
+        ensures same { self.new ≡ self.old }
+        ensures no_memory { flags + numbers + texts ≡ 0 → IsOk result }
     {
         self.extended_flags.reserve(flags)?;
         self.extended_numbers.reserve(numbers)?;

@@ -3,19 +3,20 @@
 //! There is one layout in which an entry is written, so that two drafts of equal entries give equal bytes. The faults
 //! are asked for first; then memory is taken once, for exactly the bytes, and each section is written in one pass.
 
-ghost use Rattle.std.specs.Prelude.{◌≡◌, ◌++◌, ◌≤◌, ◌⊎◌, ◌==◌, false, length, map, Some, None, IfOk, IfErr, OnOk};
+ghost use Rattle.std.specs.Prelude.{◌≡◌, ◌++◌, ◌≤◌, ◌⊎◌, ◌==◌, false, length, map, Some, None, Err, IfOk, IfErr, OnOk};
 ghost use Rattle.ti_words.specs.Texts.{text_value};
-ghost use Rattle.ti_words.specs.Spelling.{words_of, extended_names};
+ghost use Rattle.ti_words.specs.Spelling.{Spells, words_of, extended_names};
 ghost use Rattle.ti_draft.specs.Canonical.{canonical, plain_bytes, extended_bytes, names_table, name_words, present_count as the_present_count};
 ghost use Rattle.ti_draft.specs.Unfit.{encode_fault};
 ghost use Rattle.ti_draft.specs.Lengths.{plain_head, extended_head};
+ghost use Rattle.ti_draft.specs.Sizes.{AreSizes};
 
 use crate::draft::Draft;
 use crate::put::{
     put_count, put_flags, put_name_words, put_names, put_numbers, put_pad, put_text_words,
     put_texts,
 };
-use crate::size::{encoded_len, extended_table_len, texts_len};
+use crate::size::{Sizes, sizes_of};
 use crate::unfit::{EncodeFault, first_fault};
 use std::alloc::{AllocError, Allocator};
 use ti_words::{Text, magic_number};
@@ -33,32 +34,38 @@ pub fn encode<A: Allocator + Copy, D: Allocator>(
     alloc: A,
     draft: &Draft<'_, D>,
 ) -> Result<Vec<u8, A>, EncodeFault>
-    // What is answered is the canonical bytes.
+    // What is answered is the canonical bytes, and they spell the draft's entry.
     ensures bytes { IfOk result (λ bytes. bytes.items ≡ canonical draft.now) }
+    ensures spells { IfOk result (λ bytes. Spells bytes.items draft.now) }
     // It is answered only where there is no fault.
     ensures fit { OnOk result (encode_fault draft.now ≡ None) }
     // A fault is the first that there is, or out of memory where there is none.
     ensures refused { IfErr result (λ fault. (encode_fault draft.now ≡ Some fault)
         ⊎ ((encode_fault draft.now ≡ None) × (fault ≡ EncodeFault.Memory))) }
+    // Out of memory is answered only where no other fault holds.
+    ensures memory { result ≡ Err EncodeFault.Memory → encode_fault draft.now ≡ None }
 {
-    if let Some(fault) = first_fault(draft) {
+    let sizes = sizes_of(draft);
+    if let Some(fault) = first_fault(draft, sizes.whole) {
         return Err(fault);
     }
-    Ok(canonical_bytes(alloc, draft)?)
+    Ok(canonical_bytes(alloc, draft, &sizes)?)
 }
 
 /// The bytes of a draft that has no fault.
 fn canonical_bytes<A: Allocator + Copy, D: Allocator>(
     alloc: A,
     draft: &Draft<'_, D>,
+    sizes: &Sizes,
 ) -> Result<Vec<u8, A>, AllocError>
-    requires { encode_fault draft.now ≡ None }
+    requires fit { encode_fault draft.now ≡ None }
+    requires sizes { AreSizes sizes.now draft.now }
     ensures { IfOk result (λ bytes. bytes.items ≡ canonical draft.now) }
 {
-    let mut out = Vec::with_capacity(alloc, encoded_len(draft) as usize)?;
-    put_plain(&mut out, draft)?;
+    let mut out = Vec::with_capacity(alloc, sizes.whole as usize)?;
+    put_plain(&mut out, draft, sizes)?;
     if !draft.is_plain() {
-        put_extended(&mut out, draft)?;
+        put_extended(&mut out, draft, sizes)?;
     }
     Ok(out)
 }
@@ -67,8 +74,10 @@ fn canonical_bytes<A: Allocator + Copy, D: Allocator>(
 fn put_plain_head<A: Allocator, D: Allocator>(
     out: &mut Vec<u8, A>,
     draft: &Draft<'_, D>,
+    sizes: &Sizes,
 ) -> Result<(), AllocError>
-    requires { encode_fault draft.now ≡ None }
+    requires fit { encode_fault draft.now ≡ None }
+    requires sizes { AreSizes sizes.now draft.now }
     ensures { OnOk result (out.new.items ≡ out.old.items ++ plain_head draft.now) }
 {
     put_count(out, magic_number(draft.width()))?;
@@ -76,7 +85,7 @@ fn put_plain_head<A: Allocator, D: Allocator>(
     put_count(out, draft.flags().len())?;
     put_count(out, draft.numbers().len())?;
     put_count(out, draft.texts().len())?;
-    put_count(out, texts_len(draft.texts()) as usize)?;
+    put_count(out, sizes.table as usize)?;
     Ok(())
 }
 
@@ -84,11 +93,13 @@ fn put_plain_head<A: Allocator, D: Allocator>(
 fn put_plain<A: Allocator, D: Allocator>(
     out: &mut Vec<u8, A>,
     draft: &Draft<'_, D>,
+    sizes: &Sizes,
 ) -> Result<(), AllocError>
-    requires { encode_fault draft.now ≡ None }
+    requires fit { encode_fault draft.now ≡ None }
+    requires sizes { AreSizes sizes.now draft.now }
     ensures { OnOk result (out.new.items ≡ out.old.items ++ plain_bytes draft.now) }
 {
-    put_plain_head(out, draft)?;
+    put_plain_head(out, draft, sizes)?;
     out.extend_from_slice(draft.names())?;
     out.push(0)?;
     put_flags(out, draft.flags())?;
@@ -117,15 +128,17 @@ fn present_count(texts: &[Text<'_>]) -> usize
 fn put_extended_head<A: Allocator, D: Allocator>(
     out: &mut Vec<u8, A>,
     draft: &Draft<'_, D>,
+    sizes: &Sizes,
 ) -> Result<(), AllocError>
     requires fit { encode_fault draft.now ≡ None }
+    requires sizes { AreSizes sizes.now draft.now }
     requires extended { (length (extended_names draft.now) == 0) ≡ false }
     ensures { OnOk result (out.new.items ≡ out.old.items ++ extended_head draft.now) }
 {
     let flags = draft.extended_flags().len();
     let numbers = draft.extended_numbers().len();
     let texts = draft.extended_texts().len();
-    put_pad(out, texts_len(draft.texts()) as usize)?;
+    put_pad(out, sizes.table as usize)?;
     put_count(out, flags)?;
     put_count(out, numbers)?;
     put_count(out, texts)?;
@@ -133,7 +146,7 @@ fn put_extended_head<A: Allocator, D: Allocator>(
         out,
         present_count(draft.extended_texts()) + flags + numbers + texts,
     )?;
-    put_count(out, extended_table_len(draft) as usize)?;
+    put_count(out, sizes.extended_table as usize)?;
     Ok(())
 }
 
@@ -171,12 +184,14 @@ fn put_all_names<A: Allocator, D: Allocator>(
 fn put_extended<A: Allocator, D: Allocator>(
     out: &mut Vec<u8, A>,
     draft: &Draft<'_, D>,
+    sizes: &Sizes,
 ) -> Result<(), AllocError>
     requires fit { encode_fault draft.now ≡ None }
+    requires sizes { AreSizes sizes.now draft.now }
     requires extended { (length (extended_names draft.now) == 0) ≡ false }
     ensures { OnOk result (out.new.items ≡ out.old.items ++ extended_bytes draft.now) }
 {
-    put_extended_head(out, draft)?;
+    put_extended_head(out, draft, sizes)?;
     put_flags(out, draft.extended_flags())?;
     put_pad(out, draft.extended_flags().len())?;
     put_numbers(out, draft.width(), draft.extended_numbers())?;

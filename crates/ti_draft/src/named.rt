@@ -3,7 +3,7 @@
 //! Contracts see one list of names with what they name. The names and the rest lie in two vectors, so that each is lent
 //! as a slice of its own.
 
-ghost use Rattle.std.specs.Prelude.{◌≡◌, ◌++◌, ◌∷◌, [], map, OnOk, OnErr};
+ghost use Rattle.std.specs.Prelude.{◌≡◌, ◌++◌, ◌∷◌, [], map, IsOk, OnOk, OnErr};
 ghost use Rattle.ti_words.specs.Spelling.{name_in, mark_in};
 
 use std::alloc::{AllocError, Allocator};
@@ -60,7 +60,8 @@ impl<'a, T, A: Allocator> Named<'a, T, A> {
 
     /// Takes memory for so many more at once.
     pub(crate) fn reserve(&mut self, more: usize) -> Result<(), AllocError>
-        ensures { self.new ≡ self.old }
+        ensures same { self.new ≡ self.old }
+        ensures no_memory { more ≡ 0 → IsOk result }
     {
         self.names.reserve_exact(more)?;
         self.marks.reserve_exact(more)

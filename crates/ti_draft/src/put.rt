@@ -3,7 +3,7 @@
 //! Where there was memory, the clauses say exactly what was appended. Words are written by `byteorder`, texts and names
 //! as whole slices.
 
-ghost use Rattle.std.specs.Prelude.{◌≡◌, ◌++◌, ◌+◌, ◌<◌, ◌≤◌, ◌^◌, false, length, map, pos, OnOk, IfOk};
+ghost use Rattle.std.specs.Prelude.{◌≡◌, ◌++◌, ◌+◌, ◌<◌, ◌≤◌, ◌^◌, false, length, map, OnOk, IfOk};
 ghost use Rattle.std.specs.List.{list_any};
 ghost use Rattle.ti_words.specs.Texts.{text_value};
 ghost use Rattle.ti_words.specs.Marks.{word_of_number};

@@ -1,13 +1,13 @@
 //! How many bytes a draft takes.
 //!
-//! Each collection is gone over at most once, and no memory is taken. Sums that 64 bits cannot hold stay at the greatest
+//! Each list is gone over once, and no memory is taken. Sums that 64 bits cannot hold stay at the greatest
 //! number.
 
 ghost use Rattle.std.specs.Prelude.{◌≡◌, ◌+◌, ◌*◌, ◌%◌, length, map, min};
 ghost use Rattle.ti_words.specs.Texts.{text_value};
-ghost use Rattle.ti_words.specs.Spelling.{pad_len as the_pad_len, mark_in, extended_names};
+ghost use Rattle.ti_words.specs.Spelling.{pad_len as the_pad_len};
 ghost use Rattle.ti_draft.specs.Canonical.{canonical, text_bytes, texts_table, names_table, plain_bytes};
-ghost use Rattle.ti_draft.specs.Lengths.{capped_count, extended_length};
+ghost use Rattle.ti_draft.specs.Lengths.{capped_count, extended_table_length, extended_length};
 
 use crate::draft::Draft;
 use std::alloc::Allocator;
@@ -75,9 +75,8 @@ fn plain_len<A: Allocator>(draft: &Draft<'_, A>, table: u64) -> u64
 }
 
 /// The bytes of the tables of the extended part, of its values and of its names.
-pub(crate) fn extended_table_len<A: Allocator>(draft: &Draft<'_, A>) -> u64
-    ensures { result ≡ capped_count (length (texts_table (map mark_in draft.now.extended_texts))
-        + length (names_table (extended_names draft.now))) }
+fn extended_table_len<A: Allocator>(draft: &Draft<'_, A>) -> u64
+    ensures { result ≡ capped_count (extended_table_length draft.now) }
 {
     texts_len(draft.extended_texts())
         .saturating_add(names_len(draft.flag_names()))
@@ -85,8 +84,9 @@ pub(crate) fn extended_table_len<A: Allocator>(draft: &Draft<'_, A>) -> u64
         .saturating_add(names_len(draft.text_names()))
 }
 
-/// The bytes of the extended part after its first pad.
-fn extended_len<A: Allocator>(draft: &Draft<'_, A>) -> u64
+/// The bytes of the extended part after its first pad, with a table of this size.
+fn extended_len<A: Allocator>(draft: &Draft<'_, A>, table: u64) -> u64
+    requires { table ≡ capped_count (extended_table_length draft.now) }
     ensures { result ≡ capped_count (extended_length draft.now) }
 {
     let flags = draft.extended_flags().len();
@@ -96,19 +96,53 @@ fn extended_len<A: Allocator>(draft: &Draft<'_, A>) -> u64
         .saturating_add(items_len(flags, 3))
         .saturating_add(items_len(numbers, number_size(draft.width()) + 2))
         .saturating_add(items_len(texts, 4))
-        .saturating_add(extended_table_len(draft))
+        .saturating_add(table)
 }
 
-/// The count of bytes that [`encode`](crate::encode) writes, or would write were there no limit; at most [`u64::MAX`].
-pub fn encoded_len<A: Allocator>(draft: &Draft<'_, A>) -> u64
-    ensures { result ≡ min (length (canonical draft.now)) u64.MAX }
+/// The sizes of a draft that stand in its headers, and of the whole.
+#[derive(Clone, Copy)]
+pub(crate) struct Sizes {
+    /// The string table.
+    pub(crate) table: u64,
+    /// The table of the extended part.
+    pub(crate) extended_table: u64,
+    /// All bytes.
+    pub(crate) whole: u64,
+}
+
+/// The sizes of a draft, for which each of its lists is gone over once.
+pub(crate) fn sizes_of<A: Allocator>(draft: &Draft<'_, A>) -> Sizes
+    ensures table { result.table ≡ capped_count (length (texts_table draft.now.texts)) }
+    ensures extended_table { result.extended_table ≡ capped_count (extended_table_length draft.now) }
+    ensures whole { result.whole ≡ capped_count (length (canonical draft.now)) }
 {
     let table = texts_len(draft.texts());
+    let extended_table = extended_table_len(draft);
+    Sizes {
+        table,
+        extended_table,
+        whole: whole_len(draft, table, extended_table),
+    }
+}
+
+/// All bytes, where the tables have these sizes.
+fn whole_len<A: Allocator>(draft: &Draft<'_, A>, table: u64, extended_table: u64) -> u64
+    requires table { table ≡ capped_count (length (texts_table draft.now.texts)) }
+    requires extended_table { extended_table ≡ capped_count (extended_table_length draft.now) }
+    ensures { result ≡ capped_count (length (canonical draft.now)) }
+{
     let plain = plain_len(draft, table);
     if draft.is_plain() {
         return plain;
     }
     plain
         .saturating_add(table % 2)
-        .saturating_add(extended_len(draft))
+        .saturating_add(extended_len(draft, extended_table))
+}
+
+/// The count of bytes that [`encode`](crate::encode) writes, or would write were there no limit; at most [`u64::MAX`].
+pub fn encoded_len<A: Allocator>(draft: &Draft<'_, A>) -> u64
+    ensures { result ≡ min (length (canonical draft.now)) u64.MAX }
+{
+    sizes_of(draft).whole
 }

@@ -3,13 +3,14 @@
 //! Four faults are asked for in a fixed order, each by one look at what it speaks of. The words of the faults are their
 //! names.
 
-ghost use Rattle.std.specs.Prelude.{◌≡◌, pos, map};
+ghost use Rattle.std.specs.Prelude.{◌≡◌, pos, map, length};
 ghost use Rattle.std.specs.List.{list_any};
 ghost use Rattle.ti_words.specs.Texts.{text_value};
+ghost use Rattle.ti_draft.specs.Canonical.{canonical};
+ghost use Rattle.ti_draft.specs.Lengths.{capped_count};
 ghost use Rattle.ti_draft.specs.Unfit.{has_nul as the_has_nul, text_has_nul as the_text_has_nul, greatest_number as the_greatest_number, is_out_of_range as the_is_out_of_range, has_bad_name as the_has_bad_name, has_bad_text as the_has_bad_text, has_bad_number as the_has_bad_number, encode_fault};
 
 use crate::draft::Draft;
-use crate::size::encoded_len;
 use std::alloc::{AllocError, Allocator};
 use thiserror::Error;
 use ti_base::{GREATEST_WIDE_WORD, GREATEST_WORD, MOST_ENTRY_BYTES};
@@ -158,8 +159,9 @@ fn has_bad_number<A: Allocator>(draft: &Draft<'_, A>) -> bool
         || any_out_of_range(draft.width(), draft.extended_numbers())
 }
 
-/// The first fault that a draft has.
-pub(crate) fn first_fault<A: Allocator>(draft: &Draft<'_, A>) -> Option<EncodeFault>
+/// The first fault that a draft of this size has.
+pub(crate) fn first_fault<A: Allocator>(draft: &Draft<'_, A>, size: u64) -> Option<EncodeFault>
+    requires { size ≡ capped_count (length (canonical draft.now)) }
     ensures { result ≡ encode_fault draft.now }
 {
     if has_bad_name(draft) {
@@ -171,7 +173,7 @@ pub(crate) fn first_fault<A: Allocator>(draft: &Draft<'_, A>) -> Option<EncodeFa
     if has_bad_number(draft) {
         return Some(EncodeFault::NumberOutOfRange);
     }
-    if encoded_len(draft) > MOST_ENTRY_BYTES as u64 {
+    if size > MOST_ENTRY_BYTES as u64 {
         return Some(EncodeFault::TooManyOrLong);
     }
     None

@@ -7,8 +7,9 @@ use Rattle.std.proofs.lemmas.List.{take-append-le, take_all}
 use Rattle.ti_layout.specs.declared.fault.Refused.{Refused}
 use Rattle.ti_layout.specs.Checks.{Verdict, Passes, EndsEarly, Fails, verdict, refusal_of, failure_of}
 use Rattle.ti_layout.specs.Refusal.{checks, failure}
-use Rattle.ti_entry.specs.Reading.{Reading, length_before_failure, front_before_failure, reading_of, reading_after, answer_under}
-use Rattle.ti_entry.specs.Laws.{FailureLasts, FailureRefuses, AnyCutting}
+use Rattle.ti_entry.specs.Reading.{Reading, length_before_failure, front_before_failure, reading_of, reading_after, final_answer, answer_under, answer_for}
+use Rattle.ti_entry.specs.Content.{content}
+use Rattle.ti_entry.specs.Laws.{FailureLasts, FailureRefuses, AnyCutting, AnyCuttingAnswersAlike}
 use Rattle.ti_layout.proofs.FailureLastsLemmas.{failure_stays}
 
 -- ---- failures
@@ -153,6 +154,18 @@ reading_after-all (piece ∷ pieces) bytes =
 
 pub any_cutting : AnyCutting
 any_cutting pieces = reading_after-all pieces []
+
+-- a reader that was fed these bytes and no others answers what a read of them answers
+final_answer-of : (bytes : List ℕ) → final_answer (reading_of bytes) ≡ answer_for bytes
+final_answer-of bytes =
+    by_cases (failure bytes)
+    (λ none. ap final_answer (reading_of-passed bytes none))
+    (λ r some.
+    ap final_answer (reading_of-refused bytes r some)
+    ∙ sym (ap (λ (o : Option Refused). answer_under o (content bytes)) (failure_refuses bytes r some)))
+
+pub any_cutting_answers_alike : AnyCuttingAnswersAlike
+any_cutting_answers_alike pieces = ap final_answer (any_cutting pieces) ∙ final_answer-of (concat pieces)
 
 -- where a piece is taken, so many bytes more are kept
 pub reading_after-longer : (old new : Reading) (piece : List ℕ) → old.refusal ≡ None → new ≡ reading_after old piece → new.refusal ≡ None → length new.kept ≡ length old.kept + length piece

@@ -1,7 +1,7 @@
 mod Examples
 pub mod TextLemmas
 pub mod NamedItemsLemmas
-pub mod IsFirstLemmas
+pub mod IsLeastIndexLemmas
 pub mod KindsFoundLemmas
 pub mod FoundLemmas
 pub mod FoundExtendedLemmas
@@ -13,5 +13,5 @@ pub mod SpelledExtendedLemmas
 pub mod FeedLemmas
 pub mod WholeStageLemmas
 pub mod FeedsFromLemmas
-pub mod EncodedSpellsLemmas
+pub mod EncodedReadsLemmas
 pub mod DraftOfEntryLemmas

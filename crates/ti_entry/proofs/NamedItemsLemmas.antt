@@ -5,8 +5,8 @@ use Rattle.std.specs.Prelude.{nat_le}
 use Rattle.ti_words.specs.Texts.{AbsentText}
 use Rattle.ti_words.specs.declared.Flag.TheVariants as flags
 use Rattle.ti_words.specs.declared.Number.TheVariants as numbers
-use Rattle.ti_layout.specs.declared.header.Header.{Header}
-use Rattle.ti_layout.specs.declared.extended_header.ExtendedHeader.{ExtendedHeader}
+use Rattle.ti_layout.specs.Headers.{Header}
+use Rattle.ti_layout.specs.Headers.{ExtendedHeader}
 use Rattle.ti_words.specs.Value.{EntryValue}
 use Rattle.ti_words.specs.Word.{word_at}
 use Rattle.ti_layout.specs.Layout.{places, end_of, extended_header_of, extended_flags_from, extended_numbers_from, extended_values_from, extended_names_from, extended_name_count, no_capability}

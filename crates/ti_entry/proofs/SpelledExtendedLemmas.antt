@@ -5,8 +5,8 @@ use Rattle.std.proofs.lemmas.Bool.{le-leb, lt-leb}
 use Rattle.ti_base.specs.Limits.{most_entry_bytes}
 use Rattle.ti_words.specs.Marks.{byte_of_flag, word_of_number}
 use Rattle.ti_layout.specs.declared.fault.Fault.TheVariants.{BadExtendedHeader, BadExtendedName}
-use Rattle.ti_layout.specs.declared.header.Header.{Header}
-use Rattle.ti_layout.specs.declared.extended_header.ExtendedHeader.{ExtendedHeader}
+use Rattle.ti_layout.specs.Headers.{Header}
+use Rattle.ti_layout.specs.Headers.{ExtendedHeader}
 use Rattle.ti_words.specs.Value.{EntryValue}
 use Rattle.ti_words.specs.Word.{unsigned_at, word}
 use Rattle.ti_layout.specs.Layout.{header_of, extended_header_of, places, end_of, extended_from, extended_flags_from, extended_pad_from, extended_numbers_from, extended_values_from, extended_names_from, extended_name_count, extended_table_from, extended_end_of}

@@ -9,7 +9,7 @@ use Rattle.ti_words.specs.declared.Width.{Width}
 use Rattle.ti_words.specs.declared.Width.TheVariants.{Legacy, Wide}
 use Rattle.ti_words.specs.Marks.{byte_of_flag, word_of_number}
 use Rattle.ti_layout.specs.declared.fault.Fault.TheVariants.{BadHeader, BadNames}
-use Rattle.ti_layout.specs.declared.header.Header.{Header}
+use Rattle.ti_layout.specs.Headers.{Header}
 use Rattle.ti_words.specs.Value.{EntryValue}
 use Rattle.ti_words.specs.Word.{unsigned_at, word}
 use Rattle.ti_layout.specs.Layout.{header_of, width_of, places, flags_from, pad_from, numbers_from, offsets_from, table_from, end_of}

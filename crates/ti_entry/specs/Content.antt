@@ -9,8 +9,8 @@ use Rattle.ti_words.specs.Marks.{flag_of_byte, number_of_word}
 use Rattle.ti_words.specs.Texts.{TextValue}
 use Rattle.ti_words.specs.Word.{unsigned_at, word_at}
 use Rattle.ti_words.specs.Value.{EntryValue}
-use Rattle.ti_layout.specs.declared.header.Header.{Header}
-use Rattle.ti_layout.specs.declared.extended_header.ExtendedHeader.{ExtendedHeader}
+use Rattle.ti_layout.specs.Headers.{Header}
+use Rattle.ti_layout.specs.Headers.{ExtendedHeader}
 use Rattle.ti_layout.specs.Layout.{header_of, places, flags_from, numbers_from, offsets_from, end_of, extended_header_of, extended_flags_from, extended_numbers_from, extended_values_from, extended_names_from}
 use Rattle.ti_words.specs.Widths.{number_size}
 use Rattle.ti_layout.specs.Table.{text_from, text_of_word, table_of, extended_table_of, base_of}

@@ -17,9 +17,9 @@ abbrev pub Lacks : List (List ℕ) → List ℕ → Type 0
 Lacks names name = AllByRecursion (λ n. n ≢ name) names
 
 -- the least index at which a list has the name, or none where no item is the name
-abbrev pub IsFirst : List (List ℕ) → List ℕ → Option ℕ → Type 0
-IsFirst names name None = Lacks names name
-IsFirst names name (Some i) = (slice_get names i ≡ Some name) × Lacks (take i names) name
+abbrev pub IsLeastIndex : List (List ℕ) → List ℕ → Option ℕ → Type 0
+IsLeastIndex names name None = Lacks names name
+IsLeastIndex names name (Some i) = (slice_get names i ≡ Some name) × Lacks (take i names) name
 
 -- the names before a capability's: flags stand before numbers before texts, and each by its index
 abbrev pub names_before : EntryValue → Kind → ℕ → List (List ℕ)

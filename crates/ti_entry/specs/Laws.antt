@@ -7,7 +7,7 @@ use Rattle.ti_words.specs.Spelling.{Spells}
 use Rattle.ti_layout.specs.Refusal.{refusal, failure}
 use Rattle.ti_draft.specs.Canonical.{canonical}
 use Rattle.ti_draft.specs.Unfit.{encode_fault}
-use Rattle.ti_entry.specs.Reading.{new_reading, reading_of, reading_after, answer_for}
+use Rattle.ti_entry.specs.Reading.{new_reading, reading_of, reading_after, final_answer, answer_for}
 
 -- bytes spell at most one entry
 abbrev pub SpellsAtMostOne : Type 0
@@ -22,6 +22,11 @@ FailureLasts = (bytes more : List ℕ) (refused : Refused)
 abbrev pub FailureRefuses : Type 0
 FailureRefuses = (bytes : List ℕ) (refused : Refused)
     → failure bytes ≡ Some refused → refusal bytes ≡ Some refused
+
+-- however an input is cut into pieces, a new reader that is fed them answers what a read of the whole answers
+abbrev pub AnyCuttingAnswersAlike : Type 0
+AnyCuttingAnswersAlike = (pieces : List (List ℕ))
+    → final_answer (fold reading_after new_reading pieces) ≡ answer_for (concat pieces)
 
 -- however an input is cut into pieces, the reader holds what the whole makes of it
 abbrev pub AnyCutting : Type 0

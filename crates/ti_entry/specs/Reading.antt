@@ -54,6 +54,14 @@ reading_under (Some refused) r piece = r
 abbrev pub reading_after : Reading → List ℕ → Reading
 reading_after r piece = reading_under r.refusal r piece
 
+-- what is answered where nothing more comes: the refusal that lasts, else what a read of the kept bytes answers
+abbrev pub final_answer_under : Option Refused → List ℕ → Result EntryValue Refused
+final_answer_under None kept = answer_for kept
+final_answer_under (Some refused) kept = Err refused
+
+abbrev pub final_answer : Reading → Result EntryValue Refused
+final_answer r = final_answer_under r.refusal r.kept
+
 -- ---- reading from a source
 
 -- the bytes that a source lost were all fed, in their order

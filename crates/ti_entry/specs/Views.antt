@@ -3,7 +3,7 @@
 -- Only the views and private functions of the crate cite this.
 use Rattle.std.specs.Prelude.{◌≡◌, ℕ, ◌≤◌, List, length, Option, None}
 use Rattle.ti_base.specs.Limits.{most_entry_bytes}
-use Rattle.ti_layout.specs.declared.header.Header.{Header}
+use Rattle.ti_layout.specs.Headers.{Header}
 use Rattle.ti_layout.specs.declared.part.Part.{Part}
 use Rattle.ti_layout.specs.declared.fault.Refused.{Refused}
 use Rattle.ti_layout.specs.declared.stage.Stage.{Stage}

@@ -3,7 +3,8 @@
 //! Each section is gone over once, and each list takes its memory at once. Names and texts stay where the entry has
 //! them.
 
-ghost use Rattle.std.specs.Prelude.{◌≡◌, ◌++◌, IfOk, OnOk};
+ghost use Rattle.std.specs.Prelude.{◌≡◌, ◌++◌, length, IsOk, IfOk, OnOk};
+ghost use Rattle.ti_words.specs.Value.{bare};
 
 use crate::entry::Entry;
 use crate::extended::Extended;
@@ -13,9 +14,10 @@ use ti_words::Kind;
 
 /// Adds the flags of an entry.
 fn add_flags<A: Allocator>(draft: &mut Draft<'_, A>, entry: &Entry<'_>) -> Result<(), AllocError>
-    ensures { OnOk result (draft.new ≡ record draft.old {
+    ensures added { OnOk result (draft.new ≡ record draft.old {
       flags = draft.old.flags ++ entry.now.flags;
     }) }
+    ensures no_memory { length entry.now.flags ≡ 0 → IsOk result }
 {
     for i in 0..entry.flag_count() {
         draft.push_flag(entry.flag(i))?;
@@ -25,9 +27,10 @@ fn add_flags<A: Allocator>(draft: &mut Draft<'_, A>, entry: &Entry<'_>) -> Resul
 
 /// Adds the numbers of an entry.
 fn add_numbers<A: Allocator>(draft: &mut Draft<'_, A>, entry: &Entry<'_>) -> Result<(), AllocError>
-    ensures { OnOk result (draft.new ≡ record draft.old {
+    ensures added { OnOk result (draft.new ≡ record draft.old {
       numbers = draft.old.numbers ++ entry.now.numbers;
     }) }
+    ensures no_memory { length entry.now.numbers ≡ 0 → IsOk result }
 {
     for i in 0..entry.number_count() {
         draft.push_number(entry.number(i))?;
@@ -40,9 +43,10 @@ fn add_texts<'a, A: Allocator>(
     draft: &mut Draft<'a, A>,
     entry: &Entry<'a>,
 ) -> Result<(), AllocError>
-    ensures { OnOk result (draft.new ≡ record draft.old {
+    ensures added { OnOk result (draft.new ≡ record draft.old {
       texts = draft.old.texts ++ entry.now.texts;
     }) }
+    ensures no_memory { length entry.now.texts ≡ 0 → IsOk result }
 {
     let mut texts = entry.texts();
     for i in 0..entry.text_count() {
@@ -56,9 +60,10 @@ fn add_extended_flags<'a, A: Allocator>(
     draft: &mut Draft<'a, A>,
     extended: &Extended<'a>,
 ) -> Result<(), AllocError>
-    ensures { OnOk result (draft.new ≡ record draft.old {
+    ensures added { OnOk result (draft.new ≡ record draft.old {
       extended_flags = draft.old.extended_flags ++ extended.now.extended_flags;
     }) }
+    ensures no_memory { length extended.now.extended_flags ≡ 0 → IsOk result }
 {
     for i in 0..extended.flag_count() {
         if let Some(name) = extended.name(Kind::Flag, i) {
@@ -73,9 +78,10 @@ fn add_extended_numbers<'a, A: Allocator>(
     draft: &mut Draft<'a, A>,
     extended: &Extended<'a>,
 ) -> Result<(), AllocError>
-    ensures { OnOk result (draft.new ≡ record draft.old {
+    ensures added { OnOk result (draft.new ≡ record draft.old {
       extended_numbers = draft.old.extended_numbers ++ extended.now.extended_numbers;
     }) }
+    ensures no_memory { length extended.now.extended_numbers ≡ 0 → IsOk result }
 {
     for i in 0..extended.number_count() {
         if let Some(name) = extended.name(Kind::Number, i) {
@@ -90,9 +96,10 @@ fn add_extended_texts<'a, A: Allocator>(
     draft: &mut Draft<'a, A>,
     extended: &Extended<'a>,
 ) -> Result<(), AllocError>
-    ensures { OnOk result (draft.new ≡ record draft.old {
+    ensures added { OnOk result (draft.new ≡ record draft.old {
       extended_texts = draft.old.extended_texts ++ extended.now.extended_texts;
     }) }
+    ensures no_memory { length extended.now.extended_texts ≡ 0 → IsOk result }
 {
     for i in 0..extended.text_count() {
         if let Some(name) = extended.name(Kind::Text, i) {
@@ -103,13 +110,15 @@ fn add_extended_texts<'a, A: Allocator>(
 }
 
 impl<'a> Entry<'a> {
-    /// A draft that says what the entry says.
+    /// A draft that says what the entry says. An entry with no capability needs no memory.
     ///
     /// # Errors
     ///
     /// Memory was refused.
     pub fn draft<A: Allocator + Copy>(&self, alloc: A) -> Result<Draft<'a, A>, AllocError>
-        ensures { IfOk result (λ draft. draft ≡ self.now) }
+        ensures draft { IfOk result (λ draft. draft ≡ self.now) }
+        // Without a capability it needs no memory.
+        ensures no_memory { self.now ≡ bare self.now.width self.now.names → IsOk result }
     {
         let mut draft = Draft::new(alloc, self.names(), self.width());
         draft.reserve(self.flag_count(), self.number_count(), self.text_count())?;

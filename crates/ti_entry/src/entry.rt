@@ -3,7 +3,7 @@
 //! The view holds the slice and the headers, which say where the sections lie. Each accessor takes a few instructions
 //! and no memory; `text` looks once for its NUL. Reading is the checker of `stage` over all the bytes at once.
 
-ghost use Rattle.std.specs.Prelude.{◌≡◌, ◌+◌, ◌<◌, ◌≤◌, length, get_or, IfOk, IfErr, IsOkAnd, Some};
+ghost use Rattle.std.specs.Prelude.{◌≡◌, ◌+◌, ◌<◌, length, get_or, IfOk, IfErr, IsOkAnd, Some};
 ghost use Rattle.ti_words.specs.Texts.{text_value, AbsentText};
 ghost use Rattle.ti_layout.specs.Refusal.{refusal};
 ghost use Rattle.ti_words.specs.Value.{EntryValue};
@@ -16,7 +16,7 @@ use crate::item::{flag_at, number_at, text_at};
 use crate::texts::{Texts, texts_of};
 use std::marker::Model;
 use ti_layout::{Fault, Header, Part, Refused, Stage, numbers_size};
-use ti_words::{Flag, Number, Text, Width};
+use ti_words::{Flag, Kind, Number, Text, Width};
 
 /// A compiled entry (term(5)). What it gives is lent from the bytes that it was read from.
 #[derive(Drop)]
@@ -89,42 +89,42 @@ impl<'a> Entry<'a> {
     pub fn width(&self) -> Width
         ensures { result ≡ self.now.width }
     {
-        self.header.width
+        self.header.width()
     }
 
     /// The names, separated by `|`, without the NUL after them.
     pub fn names(&self) -> &'a [u8]
         ensures { result.now ≡ self.now.names }
     {
-        &self.bytes[12..11 + self.header.names]
+        &self.bytes[12..self.header.flags_from() - 1]
     }
 
     /// How many flags it has.
     pub fn flag_count(&self) -> usize
         ensures { result ≡ length self.now.flags }
     {
-        self.header.flags
+        self.header.count(Kind::Flag)
     }
 
     /// How many numbers it has.
     pub fn number_count(&self) -> usize
         ensures { result ≡ length self.now.numbers }
     {
-        self.header.numbers
+        self.header.count(Kind::Number)
     }
 
     /// How many texts it has.
     pub fn text_count(&self) -> usize
         ensures { result ≡ length self.now.texts }
     {
-        self.header.texts
+        self.header.count(Kind::Text)
     }
 
     /// The flag at an index; at or above the count No.
     pub fn flag(&self, i: usize) -> Flag
         ensures { result ≡ get_or self.now.flags i Flag.No }
     {
-        if i < self.header.flags {
+        if i < self.header.count(Kind::Flag) {
             flag_at(self.bytes, self.header.flags_from() + i)
         } else {
             Flag::No
@@ -135,8 +135,8 @@ impl<'a> Entry<'a> {
     pub fn number(&self, i: usize) -> Number
         ensures { result ≡ get_or self.now.numbers i Number.Absent }
     {
-        if i < self.header.numbers {
-            let width = self.header.width;
+        if i < self.header.count(Kind::Number) {
+            let width = self.header.width();
             let place = self.header.numbers_from() + numbers_size(width, i);
             number_at(self.bytes, width, place)
         } else {
@@ -148,7 +148,7 @@ impl<'a> Entry<'a> {
     pub fn text(&self, i: usize) -> Text<'a>
         ensures { text_value result ≡ get_or self.now.texts i AbsentText }
     {
-        if i < self.header.texts {
+        if i < self.header.count(Kind::Text) {
             let table = &self.bytes[self.header.table_from()..self.header.end()];
             text_at(table, self.bytes, self.header.offsets_from() + 2 * i)
         } else {

@@ -4,7 +4,7 @@
 //! the names in their order and stops at the first that is equal; a name is compared in place, up to its first difference
 //! or one byte past the length that is asked for.
 
-ghost use Rattle.std.specs.Prelude.{◌≡◌, ℕ, ◌+◌, ◌*◌, ◌<◌, ◌≤◌, ◌^◌, ◌↔◌, List, map, length, get_or, slice_get, IsTrue};
+ghost use Rattle.std.specs.Prelude.{◌≡◌, ◌+◌, ◌*◌, ◌<◌, ◌≤◌, ◌↔◌, map, length, get_or, slice_get, IsTrue};
 ghost use Rattle.std.specs.Option.{option_map};
 ghost use Rattle.ti_base.specs.Limits.{most_entry_bytes};
 ghost use Rattle.ti_words.specs.Texts.{text_value, AbsentText};
@@ -12,7 +12,7 @@ ghost use Rattle.ti_layout.specs.Layout.{places};
 ghost use Rattle.ti_entry.specs.Content.{name_at as the_name_at};
 ghost use Rattle.ti_entry.specs.Views.{shown_entry, IsLaidOut, IsPart};
 ghost use Rattle.ti_words.specs.Spelling.{mark_in};
-ghost use Rattle.ti_entry.specs.Finding.{IsFirst, IsFirstNamed, names_of};
+ghost use Rattle.ti_entry.specs.Finding.{IsLeastIndex, IsFirstNamed, names_of};
 
 use crate::item::{flag_at, is_text, number_at, text_at};
 use std::marker::Model;
@@ -56,21 +56,21 @@ impl<'a> Extended<'a> {
     pub fn flag_count(&self) -> usize
         ensures { result ≡ length self.now.extended_flags }
     {
-        self.part.header.flags
+        self.part.header.count(Kind::Flag)
     }
 
     /// How many numbers it has.
     pub fn number_count(&self) -> usize
         ensures { result ≡ length self.now.extended_numbers }
     {
-        self.part.header.numbers
+        self.part.header.count(Kind::Number)
     }
 
     /// How many texts it has.
     pub fn text_count(&self) -> usize
         ensures { result ≡ length self.now.extended_texts }
     {
-        self.part.header.texts
+        self.part.header.count(Kind::Text)
     }
 
     /// The flag at an index; at or above the count No.
@@ -78,7 +78,7 @@ impl<'a> Extended<'a> {
         ensures { result ≡ get_or (map mark_in self.now.extended_flags) i Flag.No }
     {
         let header = &self.part.header;
-        if i < header.flags {
+        if i < header.count(Kind::Flag) {
             flag_at(self.bytes, header.flags_from() + i)
         } else {
             Flag::No
@@ -90,9 +90,10 @@ impl<'a> Extended<'a> {
         ensures { result ≡ get_or (map mark_in self.now.extended_numbers) i Number.Absent }
     {
         let header = &self.part.header;
-        if i < header.numbers {
-            let place = header.numbers_from() + numbers_size(header.width, i);
-            number_at(self.bytes, header.width, place)
+        if i < header.count(Kind::Number) {
+            let width = header.width();
+            let place = header.numbers_from() + numbers_size(width, i);
+            number_at(self.bytes, width, place)
         } else {
             Number::Absent
         }
@@ -103,7 +104,7 @@ impl<'a> Extended<'a> {
         ensures { text_value result ≡ get_or (map mark_in self.now.extended_texts) i AbsentText }
     {
         let header = &self.part.header;
-        if i < header.texts {
+        if i < header.count(Kind::Text) {
             let table = &self.bytes[header.table_from()..header.end()];
             text_at(table, self.bytes, header.values_from() + 2 * i)
         } else {
@@ -141,14 +142,14 @@ impl<'a> Extended<'a> {
 
     /// The least index of a text with a name.
     pub fn find_text(&self, name: &[u8]) -> Option<usize>
-        ensures { IsFirst (names_of self.now Kind.Text) name.now result }
+        ensures { IsLeastIndex (names_of self.now Kind.Text) name.now result }
     {
         self.find_of(Kind::Text, name)
     }
 
     /// The least index of a capability of a kind with a name.
     fn find_of(&self, kind: Kind, name: &[u8]) -> Option<usize>
-        ensures { IsFirst (names_of self.now kind) name.now result }
+        ensures { IsLeastIndex (names_of self.now kind) name.now result }
     {
         let header = &self.part.header;
         first_named(
@@ -186,7 +187,7 @@ fn first_named(bytes: &[u8], part: &Part, from: usize, count: usize, name: &[u8]
     requires part { IsPart bytes.now part.now }
     requires within { from + 2 * count ≤ length bytes.now }
     requires fits { from + 2 * count ≤ most_entry_bytes }
-    ensures { IsFirst
+    ensures { IsLeastIndex
         (map (the_name_at bytes.now part.now.header) (places from 2 count)) name.now result }
 {
     for i in 0..count {

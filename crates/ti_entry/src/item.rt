@@ -6,7 +6,7 @@ ghost use Rattle.std.specs.Prelude.{◌≡◌, ◌+◌, ◌<◌, ◌≤◌, ◌�
 ghost use Rattle.ti_words.specs.Texts.{text_value};
 ghost use Rattle.ti_words.specs.Word.{word_at as the_word_at};
 ghost use Rattle.ti_words.specs.Widths.{number_size};
-ghost use Rattle.ti_layout.specs.Table.{text_from as the_text_from, until_nul as the_until_nul, text_of_word, size_at as the_size_at};
+ghost use Rattle.ti_layout.specs.Table.{text_from as the_text_from, until_nul as the_until_nul, text_of_word};
 ghost use Rattle.ti_entry.specs.Content.{flag_at as the_flag_at, number_at as the_number_at, text_at as the_text_at};
 
 use ti_layout::{number_word_at, text_from, until_nul, word_at};

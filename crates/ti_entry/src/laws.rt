@@ -1,6 +1,6 @@
 //! Laws of the definitions, each the contract of a function that does nothing.
 
-ghost use Rattle.ti_entry.specs.Laws.{SpellsAtMostOne, FailureLasts, FailureRefuses, AnyCutting, EncodedSpells, EqualEntriesHaveEqualBytes, EqualBytesAreOfEqualEntries, EncodedReads};
+ghost use Rattle.ti_entry.specs.Laws.{SpellsAtMostOne, FailureLasts, FailureRefuses, AnyCutting, AnyCuttingAnswersAlike, EncodedSpells, EqualEntriesHaveEqualBytes, EqualBytesAreOfEqualEntries, EncodedReads};
 
 /// Bytes spell at most one entry.
 pub fn one_entry()
@@ -17,9 +17,12 @@ pub fn failure_refuses()
     ensures { FailureRefuses }
 {}
 
-/// However an input is cut into pieces, a reader that is fed them holds what their joining makes of it.
+/// However an input is cut into pieces, a new reader that is fed them answers at the end what [`read`](crate::read)
+/// answers of their joining: its `finish` is the `final_answer` of what it then holds.
 pub fn any_cutting()
-    ensures { AnyCutting }
+    ensures answer { AnyCuttingAnswersAlike }
+    // It holds what the joining makes of it.
+    ensures reading { AnyCutting }
 {}
 
 /// The bytes of an entry that has no fault spell it.

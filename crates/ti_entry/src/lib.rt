@@ -9,6 +9,7 @@
 #![tactic(auto)]
 
 mod drafting;
+mod encoding;
 mod entry;
 mod extended;
 mod item;
@@ -17,11 +18,12 @@ mod reader;
 mod source;
 mod texts;
 
+pub use encoding::encode;
 pub use entry::{Entry, read};
 pub use extended::Extended;
 pub use reader::EntryReader;
 pub use source::{ReadStop, read_from};
-pub use ti_draft::{Draft, EncodeFault, encode, encoded_len};
+pub use ti_draft::{Draft, EncodeFault, encoded_len};
 pub use ti_layout::{Fault, Refused};
 
 #[cfg(test)]

@@ -7,7 +7,6 @@
 
 ghost use Rattle.std.specs.Prelude.{◌≡◌, ℕ, List, ◌∷◌, ◌+◌, ◌≤◌, ◌++◌, [], length, true, false, IfOk, IfErr, IsOkAnd, Some, None, Err};
 ghost use Rattle.ti_base.specs.Limits.{most_entry_bytes};
-ghost use Rattle.arrayvec.specs.ArrayVec.{array_vec_len};
 ghost use Rattle.ti_layout.specs.declared.fault.Refused.{Refused};
 ghost use Rattle.ti_words.specs.Value.{EntryValue};
 ghost use Rattle.ti_words.specs.Spelling.{Spells};
@@ -39,7 +38,7 @@ impl Model for EntryReader {
 }
 
 impl EntryReader {
-    ghost use Rattle.ti_entry.specs.Reading.{new_reading, reading_after, answer_under, answer_for};
+    ghost use Rattle.ti_entry.specs.Reading.{new_reading, reading_after, final_answer, answer_under};
 
     /// A reader that was fed nothing.
     pub fn new() -> Self
@@ -78,7 +77,7 @@ impl EntryReader {
     fn take_whole(&mut self, piece: &[u8]) -> bool
         requires { self.old.refusal ≡ None }
         ensures taken { result ≡ true → self.new ≡ reading_after self.old piece.now }
-        ensures unrefused { result ≡ true → self.new.refusal ≡ None }
+        ensures no_refusal { result ≡ true → self.new.refusal ≡ None }
         ensures same { result ≡ false → self.new ≡ self.old }
         ensures most { length self.new.kept ≤ most_entry_bytes }
     {
@@ -100,7 +99,7 @@ impl EntryReader {
 
     /// Takes a piece byte by byte, up to the one at which a check fails.
     fn take_each(&mut self, piece: &[u8]) -> Result<(), Refused>
-        requires unrefused { self.old.refusal ≡ None }
+        requires no_refusal { self.old.refusal ≡ None }
         requires none_failed { failure self.old.kept ≡ None }
         requires most { length self.old.kept ≤ most_entry_bytes }
         ensures fed { self.new ≡ reading_after self.old piece.now }
@@ -151,6 +150,9 @@ impl EntryReader {
     ///
     /// The refusal of an earlier `feed`; else `Truncated` at the number of bytes kept, where these end before an entry does.
     pub fn finish(&self) -> Result<Entry<'_>, Refused>
+        // The answer in one equation: after a refusal that refusal, else what `read` answers of the kept bytes.
+        ensures answer { result ≡ final_answer self.now }
+
         // After a refusal, that refusal.
         ensures lasting { (r : Refused) → self.now.refusal ≡ Some r → result ≡ Err r }
 
@@ -160,7 +162,6 @@ impl EntryReader {
             → IsOkAnd result (λ e. e ≡ v) }
         ensures refused { self.now.refusal ≡ None
             → IfErr result (λ r. refusal self.now.kept ≡ Some r) }
-        ensures answer { self.now.refusal ≡ None → result ≡ answer_for self.now.kept }
     {
         if let Some(refused) = self.refusal {
             return Err(refused);

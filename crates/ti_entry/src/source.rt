@@ -6,11 +6,12 @@
 ghost use Rattle.std.specs.Prelude.{◌≡◌, ◌≢◌, None, OnOk, IfErr};
 ghost use Rattle.std.specs.Io.KnownBytes.{IsAtEnd};
 ghost use Rattle.ti_entry.specs.Reading.{FeedsFrom, refusal_after};
+ghost use Rattle.ti_entry.specs.declared.source.ReadStop.TheVariants as why;
 
 use crate::reader::EntryReader;
-use std::io::{ErrorKind, Read};
+use std::io::Read;
 use thiserror::Error;
-use ti_base::MOST_INTERRUPTIONS;
+use ti_base::{MOST_INTERRUPTIONS, ReadFailed, read_piece};
 use ti_layout::Refused;
 
 /// Why reading from a source stopped before its end.
@@ -22,6 +23,22 @@ pub enum ReadStop {
     /// A read failed, or was interrupted too often.
     #[error("Io")]
     Io,
+}
+
+impl From<Refused> for ReadStop {
+    ghost from_gives = { λ refused stop. stop ≡ why.Refused refused };
+
+    fn from(refused: Refused) -> ReadStop {
+        ReadStop::Refused(refused)
+    }
+}
+
+impl From<ReadFailed> for ReadStop {
+    ghost from_gives = { λ _ stop. stop ≡ why.Io };
+
+    fn from(_failed: ReadFailed) -> ReadStop {
+        ReadStop::Io
+    }
 }
 
 /// The most bytes of one read.
@@ -49,21 +66,12 @@ pub fn read_from<R: Read>(reader: &mut EntryReader, source: &mut R) -> Result<()
         return Err(ReadStop::Refused(refused));
     }
     let mut piece = [0; PIECE];
-    let mut interruptions = 0;
+    let mut retries = MOST_INTERRUPTIONS;
     'source: loop {
-        match source.read(&mut piece) {
-            Ok(0) => return Ok(()),
-            Ok(count) => {
-                if let Err(refused) = reader.feed(&piece[..count]) {
-                    return Err(ReadStop::Refused(refused));
-                }
-            }
-            Err(error) => {
-                if error.kind() != ErrorKind::Interrupted || interruptions == MOST_INTERRUPTIONS {
-                    return Err(ReadStop::Io);
-                }
-                interruptions += 1;
-            }
+        let count = read_piece(source, &mut piece, &mut retries)?;
+        if count == 0 {
+            return Ok(());
         }
+        reader.feed(&piece[..count])?;
     }
 }

@@ -5,8 +5,6 @@ mod feeding;
 mod wide;
 
 use super::*;
-use std::io;
-use std::io::{ErrorKind, Read};
 use std::process::Abort;
 use std::test::Fail;
 use ti_words::{Flag, Kind, Number, Text, Width};
@@ -294,63 +292,6 @@ fn many_texts(rt: HostRuntime) -> Result<(), Fail> {
         Err(_) => assert!(rt; false),
     }
     Ok(())
-}
-
-/// Gives its bytes ten at a time, after some interruptions, and fails at one call.
-#[derive(Drop)]
-struct Source<'a> {
-    bytes: &'a [u8],
-    interruptions: u32,
-    calls: usize,
-    fails_at: usize,
-}
-
-impl Read for Source<'_> {
-    fn read(&mut self, buf: &mut [u8]) -> io::Result<usize> {
-        if self.interruptions > 0 {
-            self.interruptions -= 1;
-            return Err(io::Error::from(ErrorKind::Interrupted));
-        }
-        self.calls = self.calls.saturating_add(1);
-        if self.calls == self.fails_at {
-            return Err(io::Error::from(ErrorKind::ConnectionReset));
-        }
-        let count = self.bytes.len().min(buf.len()).min(10);
-        let (now, later) = self.bytes.split_at(count);
-        buf[..count].copy_from_slice(now);
-        self.bytes = later;
-        Ok(count)
-    }
-}
-
-#[test]
-fn sources(rt: HostRuntime) {
-    for (interruptions, fails_at, want, kept) in [
-        (0, 0, Ok(()), 24),
-        (1000, 0, Ok(()), 24),
-        (1001, 0, Err(ReadStop::Io), 0),
-        (0, 3, Err(ReadStop::Io), 20),
-    ] {
-        let mut source = Source {
-            bytes: &SMALL,
-            interruptions,
-            calls: 0,
-            fails_at,
-        };
-        let mut reader = EntryReader::new();
-        assert_eq!(rt;
-            read_from(&mut reader, &mut source),
-            want,
-            "after {interruptions}, failing at {fails_at}"
-        );
-        assert_eq!(rt; reader.kept(), kept);
-        // A later call goes on from there.
-        assert_eq!(rt; read_from(&mut reader, &mut source), Ok(()));
-        match reader.finish() {
-            Ok(entry) => assert_small(&rt, &entry),
-            Err(_) => assert!(rt; false),
-        }
-    }
 }
 
 #[test]

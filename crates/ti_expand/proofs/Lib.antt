@@ -6,6 +6,7 @@ pub mod DigitLoopLemmas
 pub mod Examples
 pub mod FillLemmas
 pub mod FlatGrowsLemmas
+pub mod FlatLemmas
 pub mod HeightLemmas
 pub mod IsExpandFaultLemmas
 pub mod OctalPrefixLemmas
@@ -15,6 +16,7 @@ pub mod RoomLemmas
 pub mod SignificantLemmas
 pub mod SoundLemmas
 pub mod StackInLemmas
+pub mod StackHeightLemmas
 pub mod TakenIsPathLemmas
 pub mod UnderwayLemmas
 pub mod WrittenLemmas

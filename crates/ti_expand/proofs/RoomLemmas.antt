@@ -8,7 +8,7 @@ use Rattle.ti_cap.specs.declared.language.Format.{Format}
 use Rattle.ti_cap.specs.declared.language.Conversion.{Conversion}
 use Rattle.ti_cap.specs.declared.language.Conversion.TheVariants.{Signed, Octal, LowerHex, UpperHex, Text}
 use Rattle.std.specs.Prelude.{unwrap_or}
-use Rattle.ti_cap.specs.Sizes.{text_size, format_size}
+use Rattle.ti_cap.specs.Sizes.{printed_text_size, format_size}
 use Rattle.ti_expand.specs.Printed.{significant, least_count, magnitude, sign, octal_prefix, front_for, fill, with_front, fills_with_zeros, up_to_precision, print_of_number, print_of_text}
 use Rattle.ti_expand.proofs.SignificantLemmas.{length-significant-le}
 
@@ -54,7 +54,7 @@ hex_fits true true two count least p ds w l d e = omega arith
 hex_fits true false two count least p ds w l d e = omega arith
 
 body_fits : (c : Conversion) (f : Format) (n : ℤ) (count : ℕ) → c ≢ Text → FitsSigned w32 n → count ≡ least_count f.precision - length (magnitude c n)
-    → length (front_for c f n (replicate count 48 ++ magnitude c n)) + (count + length (magnitude c n)) ≤ text_size c f 0
+    → length (front_for c f n (replicate count 48 ++ magnitude c n)) + (count + length (magnitude c n)) ≤ printed_text_size c f 0
 body_fits Signed f n count k h e =
     let ds : length (significant 10 false (unsigned_abs n)) ≤ 10 = (let a : unsigned_abs n < 10 ^ 10 = abs_small n h in length-significant-le 10 false (omega arith) 10 (unsigned_abs n) (omega arith) a) in
     let least : least_count f.precision ≤ max 1 (unwrap_or f.precision 0) = least_small f.precision in
@@ -90,7 +90,7 @@ length-print_of_number-le f n k h =
     let ds = magnitude f.conversion n in
     let count = least_count f.precision - length ds in
     let front = front_for f.conversion f n (replicate count 48 ++ ds) in
-    let body : length front + (count + length ds) ≤ text_size f.conversion f 0 = body_fits f.conversion f n count k h refl in
+    let body : length front + (count + length ds) ≤ printed_text_size f.conversion f 0 = body_fits f.conversion f n count k h refl in
     let both : length (replicate count 48 ++ ds) ≡ count + length ds = simp (length-append, length-replicate) in
     let join : length (with_front f front (replicate count 48 ++ ds)) ≤ max f.width (length front + length (replicate count 48 ++ ds)) = with_front_by (fills_with_zeros f) f.width front (replicate count 48 ++ ds) in
     let all : length (print_of_number f n) ≡ max f.width (length (with_front f front (replicate count 48 ++ ds))) = length-fill f (with_front f front (replicate count 48 ++ ds)) in
@@ -105,7 +105,7 @@ pub length-print_of_text-le : (f : Format) (text : List ℕ) → f.conversion �
 length-print_of_text-le f text k =
     let short = length-up_to_precision f.precision text in
     let all = length-fill f (up_to_precision f.precision text) in
-    let size : text_size f.conversion f (length text) ≡ min (unwrap_or f.precision (length text)) (length text) = ap (λ (c : Conversion). text_size c f (length text)) k in
+    let size : printed_text_size f.conversion f (length text) ≡ min (unwrap_or f.precision (length text)) (length text) = ap (λ (c : Conversion). printed_text_size c f (length text)) k in
     omega arith
 
 -- nor does a text up to a length
@@ -117,6 +117,6 @@ pub print_of_text-longer : (f : Format) (text : List ℕ) (m : ℕ) → f.conver
 print_of_text-longer f text m k h =
     let here : length (print_of_text f text) ≤ format_size f (length text) = length-print_of_text-le f text k in
     let longer : min (unwrap_or f.precision (length text)) (length text) ≤ min (unwrap_or f.precision m) m = cut_longer f.precision (length text) m h in
-    let short : text_size f.conversion f (length text) ≡ min (unwrap_or f.precision (length text)) (length text) = ap (λ (c : Conversion). text_size c f (length text)) k in
-    let long : text_size f.conversion f m ≡ min (unwrap_or f.precision m) m = ap (λ (c : Conversion). text_size c f m) k in
+    let short : printed_text_size f.conversion f (length text) ≡ min (unwrap_or f.precision (length text)) (length text) = ap (λ (c : Conversion). printed_text_size c f (length text)) k in
+    let long : printed_text_size f.conversion f m ≡ min (unwrap_or f.precision m) m = ap (λ (c : Conversion). printed_text_size c f m) k in
     omega arith

@@ -3,3 +3,4 @@ pub mod Underway
 pub mod Decimal
 pub mod Machine
 pub mod Running
+pub mod Unlimited

@@ -5,7 +5,7 @@
 //! once. Where a parameter is a text, one more pass over the tape computes the bound for its length.
 
 ghost use Rattle.std.specs.Prelude.{◌≡◌, ℕ, ◌+◌, ◌≤◌, ◌↔◌, [], length, take, drop, vec_len, IfOk, IfErr, OnOk, OnErr};
-ghost use Rattle.ti_base.specs.Limits.{most_values};
+ghost use Rattle.ti_base.specs.Limits.{most_values, most_text_bytes};
 ghost use Rattle.ti_cap.specs.Tree.{tokens};
 ghost use Rattle.ti_cap.specs.Height.{height};
 ghost use Rattle.ti_cap.specs.Capability.{HasDepth, HasBound, IsWellFormed};
@@ -17,7 +17,7 @@ ghost use Rattle.ti_expand.specs.inner.Running.{IsReady, CanRun};
 use crate::counts::Run;
 use crate::fault::ExpandFault;
 use crate::pass::run_tape;
-use crate::texts::longest_text;
+use crate::text_lengths::longest_text;
 use crate::values::Value;
 use crate::variables::Vars;
 use std::alloc::Allocator;
@@ -112,16 +112,18 @@ pub fn expand_into<'a>(
 ///
 /// # Errors
 /// `TextTooLong` with the lowest parameter whose text has more bytes than [`ti_base::MOST_TEXT_BYTES`], or `Memory`
-/// where the growth was refused. After either the variables are as before.
+/// where no text is too long and the growth was refused. After either the variables are as before.
 pub fn expand<'a, A: Allocator + Copy>(
     alloc: A,
     capability: &Capability<'a>,
     parameters: &[Value<'a>; 9],
     vars: &mut Vars,
 ) -> Result<Vec<u8, A>, ExpandFault>
-    // a text is too long, exactly where it is so, or memory was refused
+    // a text is too long, exactly where it is so, or memory was refused, where none is
     ensures too_long { (k : ℕ) → (result ≡ Err (ExpandFault.TextTooLong k))
         ↔ IsFirstTooLong parameters.now k }
+    ensures memory { (result ≡ Err ExpandFault.Memory)
+        → longest_text parameters.now ≤ most_text_bytes }
     ensures only { IfErr result IsTextOrMemory }
     ensures kept { OnErr result (vars.new ≡ vars.old) }
 

@@ -6,18 +6,18 @@ ghost use Rattle.ti_expand.specs.declared.fault.ExpandFault.TheVariants as fault
 use std::alloc::AllocError;
 use thiserror::Error;
 
-/// Why a capability is not expanded.
+/// Why a capability is not expanded. As an error it prints its name, and its number after a blank.
 #[derive(Clone, Copy, PartialEq, Eq, Debug, Error)]
 pub enum ExpandFault {
     /// The text of this parameter, counted from 1, has more bytes than [`ti_base::MOST_TEXT_BYTES`]; it is the lowest
     /// such parameter.
-    #[error("TextTooLong")]
+    #[error("TextTooLong {parameter}")]
     TextTooLong { parameter: u8 },
     /// The stack slice has fewer places than the depth of the capability, which is `need`.
-    #[error("StackTooSmall")]
+    #[error("StackTooSmall {need}")]
     StackTooSmall { need: usize },
     /// The output slice has fewer bytes than the capability's bound for the longest text, which is `need`.
-    #[error("OutTooSmall")]
+    #[error("OutTooSmall {need}")]
     OutTooSmall { need: u64 },
     /// Memory for the output was refused.
     #[error("Memory")]

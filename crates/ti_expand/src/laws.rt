@@ -1,14 +1,25 @@
 //! The laws of the flat pass, each the contract of a function that does nothing.
 
-ghost use Rattle.ti_expand.specs.Flat.{OnePassFollows, TakenIsPath};
+ghost use Rattle.ti_expand.specs.Flat.{OnePassFollows, CountsStayLow, TakenIsPath};
+ghost use Rattle.ti_expand.specs.StackHeight.{TokenHeightIsStack, PathHeightIsStack, TakenPathIsMeaning};
 
-/// One flat pass whose control is a `Mode` alone ends in the state that the tree means, and what ran is the path that
-/// the tests choose; for every nesting that a capability may have, and for conditionals that the end closes.
+/// One flat pass whose control is a `Mode` alone, moved by [`crate::Mode::next`] at each token, ends in the state that the
+/// tree means, and what ran is the path that the tests choose; for every nesting that a capability may have, and for
+/// conditionals that the end closes. The count of the mode stays so low that `next` may be called each time.
 pub fn one_pass()
-    ensures { OnePassFollows }
+    ensures follows { OnePassFollows }
+    ensures counts { CountsStayLow }
 {}
 
 /// The path that the tests choose is a path of the tree: some walk of it meets exactly these tokens.
 pub fn taken_path()
     ensures { TakenIsPath }
+{}
+
+/// The height that the table of pops and pushes tells after a token is the number of values on the stack, and so after
+/// each token of the path that the tests choose, which leads to the state that the tree means.
+pub fn stack_height()
+    ensures token { TokenHeightIsStack }
+    ensures path { PathHeightIsStack }
+    ensures meaning { TakenPathIsMeaning }
 {}

@@ -19,7 +19,7 @@ mod parameters;
 mod pass;
 mod print;
 mod stack;
-mod texts;
+mod text_lengths;
 mod values;
 mod variables;
 mod write;

@@ -2,7 +2,7 @@
 
 ghost use Rattle.std.specs.Prelude.{◌≡◌, ◌<◌};
 ghost use Rattle.ti_cap.specs.Pass.{next_mode, is_running};
-ghost use Rattle.ti_expand.specs.Mode.{mode_of, open_count};
+ghost use Rattle.ti_expand.specs.Mode.{mode_of, open_count, greatest_count};
 
 use ti_cap::Token;
 
@@ -22,7 +22,7 @@ impl Mode {
     /// The mode after the token; `zero` says whether a `CondThen` met in `Run` popped 0.
     #[inline(always)]
     pub fn next(self, token: &Token, zero: bool) -> Mode
-        requires { open_count self < 255 }
+        requires { open_count self < greatest_count }
         ensures { mode_of result ≡ next_mode (mode_of self) token.now zero }
     {
         match (self, token) {

@@ -11,7 +11,7 @@ ghost use Rattle.ti_expand.specs.inner.Machine.{state_of};
 ghost use Rattle.ti_expand.specs.Sound.{IsSound};
 ghost use Rattle.ti_expand.specs.Mode.{mode_of};
 ghost use Rattle.ti_expand.specs.Meaning.{meaning, taken_path, tests_zero};
-ghost use Rattle.ti_expand.specs.Flat.{next_state};
+ghost use Rattle.ti_expand.specs.Flat.{act};
 ghost use Rattle.ti_expand.specs.Expands.{ForTree, ForMeaning, ForPath};
 ghost use Rattle.ti_expand.specs.inner.Running.{CanRun};
 ghost use Rattle.ti_expand.specs.inner.Underway.{IsOnTheWay, GoesOn};
@@ -37,18 +37,17 @@ fn meet<'a>(
 ) -> (Mode, usize)
     requires sound { IsSound most_text_bytes
         (state_of stack.old vars.old parameters.old out.old written) }
-    requires height { length (next_state (mode_of Mode.Run) token.now
+    requires height { length (act token.now
         (state_of stack.old vars.old parameters.old out.old written)).stack
         ≤ length stack.old.slots.now }
     requires within { written ≤ length out.old }
-    requires room { length (next_state (mode_of Mode.Run) token.now
+    requires room { length (act token.now
         (state_of stack.old vars.old parameters.old out.old written)).output
         ≤ length out.old }
     ensures mode { mode_of result.0 ≡ next_mode (mode_of Mode.Run) token.now
         (tests_zero (state_of stack.old vars.old parameters.old out.old written)) }
     ensures state { state_of stack.new vars.new parameters.new out.new result.1
-        ≡ next_state (mode_of Mode.Run) token.now
-        (state_of stack.old vars.old parameters.old out.old written) }
+        ≡ act token.now (state_of stack.old vars.old parameters.old out.old written) }
     ensures slots { length stack.new.slots.now ≡ length stack.old.slots.now }
     ensures highest { stack.new.highest ≡ max stack.old.highest stack.new.height }
     ensures within { result.1 ≤ length out.new }

@@ -151,26 +151,28 @@ fn print_by_parts(format: &Format, number: i32, out: &mut [u8], at: usize) -> us
     put_filled(format, &digits, out, at, front, zeros)
 }
 
-/// Prints a number from the front of a slice on, and returns how many bytes that took; the bytes after them stay. The
-/// conversion is not `Text`, and the slice has the format's size for texts of no bytes.
+/// Prints a number from the front of a slice on, and returns how many bytes that took, at most the format's size; the
+/// bytes after them stay. The conversion is not `Text`, and the slice has the format's size for texts of no bytes.
 pub fn format_number(format: &Format, number: i32, out: &mut [u8]) -> usize
     requires numeric { format.now.conversion ≢ Conversion.Text }
     requires room { format_size format.now 0 ≤ length out.old }
     ensures count { result ≡ length (print_of_number format.now number) }
+    ensures low { result ≤ format_size format.now 0 }
     ensures written { take result out.new ≡ print_of_number format.now number }
     ensures rest { drop result out.new ≡ drop result out.old }
 {
     print_number(*format, number, out, 0)
 }
 
-/// Prints a text from the front of a slice on, and returns how many bytes that took; the bytes after them stay. The
-/// conversion is `Text`, the text has at most [`ti_base::MOST_TEXT_BYTES`] bytes, and the slice has the format's size
-/// for its length.
+/// Prints a text from the front of a slice on, and returns how many bytes that took, at most the format's size; the
+/// bytes after them stay. The conversion is `Text`, the text has at most [`ti_base::MOST_TEXT_BYTES`] bytes, and the
+/// slice has the format's size for its length.
 pub fn format_text(format: &Format, text: &[u8], out: &mut [u8]) -> usize
     requires textual { format.now.conversion ≡ Conversion.Text }
     requires short { length text.now ≤ most_text_bytes }
     requires room { format_size format.now (length text.now) ≤ length out.old }
     ensures count { result ≡ length (print_of_text format.now text.now) }
+    ensures low { result ≤ format_size format.now (length text.now) }
     ensures written { take result out.new ≡ print_of_text format.now text.now }
     ensures rest { drop result out.new ≡ drop result out.old }
 {

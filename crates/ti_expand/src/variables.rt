@@ -1,14 +1,15 @@
 //! The variables `a` to `z` and `A` to `Z`: 52 numbers that last from one expansion to the next.
 
 ghost use Rattle.std.specs.Prelude.{◌≡◌, pos, replicate, ◌↔◌, ◌<◌, IsTrue, IsSome, IfSome};
-ghost use Rattle.ti_expand.specs.State.{variable_index, number_at, with_number_at};
+ghost use Rattle.ti_expand.specs.State.{variable_index, variable_at, with_variable_at};
 ghost use Rattle.ti_expand.specs.Sound.{AreVariables};
 
 use std::marker::Model;
 
 const COUNT: usize = 52;
 
-/// A number for each ASCII letter.
+/// A number for each ASCII letter, `a` to `z` before `A` to `Z`. C sees it as an array of 52 numbers.
+#[repr(C)]
 #[derive(Drop)]
 pub struct Vars {
     values: [i32; COUNT],
@@ -23,6 +24,8 @@ impl Model for Vars {
     ghost view = { λ vars. vars.values };
 
     ghost invariant = { λ vars. AreVariables vars.values };
+
+    ghost inverse = { λ values. record { values = values } };
 }
 
 /// Where a letter's variable stands: `a` to `z` before `A` to `Z`.
@@ -58,7 +61,7 @@ impl Vars {
     pub fn get(&self, letter: u8) -> Option<i32>
         ensures letter { IsSome result ↔ IsSome (variable_index letter) }
         ensures value { IfSome result
-            (λ number. number ≡ number_at self.now (variable_index letter)) }
+            (λ number. number ≡ variable_at self.now (variable_index letter)) }
         ensures numbers { AreVariables self.now }
     {
         let values = &self.values;
@@ -71,7 +74,7 @@ impl Vars {
     /// Changes a letter's variable and no other; false, and nothing changed, for what is no ASCII letter.
     pub fn set(&mut self, letter: u8, number: i32) -> bool
         ensures letter { IsTrue result ↔ IsSome (variable_index letter) }
-        ensures after { self.new ≡ with_number_at self.old (variable_index letter) number }
+        ensures after { self.new ≡ with_variable_at self.old (variable_index letter) number }
         ensures numbers { AreVariables self.new }
     {
         let values = &mut self.values;

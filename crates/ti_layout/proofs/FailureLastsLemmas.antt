@@ -9,8 +9,8 @@ use Rattle.ti_words.specs.Marks.{flag_of_byte}
 use Rattle.ti_layout.specs.declared.fault.Fault.{Fault}
 use Rattle.ti_layout.specs.declared.fault.Fault.TheVariants.{BadHeader, BadNames, BadPad, BadFlag, BadNumber, BadOffset, Unterminated, BadExtendedHeader, BadExtendedName, Trailing}
 use Rattle.ti_layout.specs.declared.fault.Refused.{Refused}
-use Rattle.ti_layout.specs.declared.header.Header.{Header}
-use Rattle.ti_layout.specs.declared.extended_header.ExtendedHeader.{ExtendedHeader}
+use Rattle.ti_layout.specs.Headers.{Header}
+use Rattle.ti_layout.specs.Headers.{ExtendedHeader}
 use Rattle.ti_words.specs.Word.{unsigned_at, word_at, signed}
 use Rattle.ti_layout.specs.Layout.{header_of, places, flags_from, pad_from, numbers_from, offsets_from, table_from, end_of, extended_from, extended_header_of, extended_flags_from, extended_pad_from, extended_numbers_from, extended_values_from, extended_names_from, extended_name_count, extended_table_from, extended_end_of}
 use Rattle.ti_words.specs.Widths.{number_size}

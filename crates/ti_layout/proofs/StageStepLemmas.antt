@@ -8,8 +8,8 @@ use Rattle.ti_layout.specs.declared.fault.Fault.TheVariants.{BadHeader, BadNames
 use Rattle.ti_layout.specs.declared.fault.Stop.{Stop}
 use Rattle.ti_layout.specs.declared.fault.Stop.TheVariants.{Early, Failed}
 use Rattle.ti_words.specs.declared.Width.TheVariants.{Legacy, Wide}
-use Rattle.ti_layout.specs.declared.header.Header.{Header}
-use Rattle.ti_layout.specs.declared.extended_header.ExtendedHeader.{ExtendedHeader}
+use Rattle.ti_layout.specs.Headers.{Header}
+use Rattle.ti_layout.specs.Headers.{ExtendedHeader}
 use Rattle.ti_layout.specs.declared.part.Part.{Part}
 use Rattle.ti_layout.specs.declared.section.Item.{Item}
 use Rattle.ti_layout.specs.declared.section.Item.TheVariants.{Sign, Name, Flag, Number, Offset}
@@ -23,7 +23,7 @@ use Rattle.ti_words.specs.Spelling.{pad_len, Each}
 use Rattle.ti_layout.specs.Table.{table_of, extended_table_of, base_of}
 use Rattle.ti_layout.specs.Checks.{Check, Passes, EndsEarly, Fails, verdict, stop_verdict, refusal_at, sign_checks, name_check, nul_check, flag_checks, pad_checks, number_checks, offset_checks, table_check, ending_check, ending_checks, all_name_place_checks, end_checks}
 use Rattle.ti_layout.specs.Refusal.{magic_checks, size_check, named_check, size_checks, section_checks, room_check, room_checks, extended_size_check, extended_size_checks, extended_section_checks, extended_checks, checks_after_table, checks}
-use Rattle.ti_layout.specs.Stages.{item_check, item_size, items_checks, first_items, items_after, items_of, next, checks_between, counts_checks, no_more_check, checks_after, after_words, after_counts, checks_left, Knows, StandsAt, Stands, new_stage, part_after, stage_after, at_next_section, is_whole, verdict_at_stop, Waits, sections_left, steps_left}
+use Rattle.ti_layout.specs.Stages.{item_check, item_size, items_checks, first_items, items_after, items_of, next, checks_between, counts_checks, no_more_check, checks_after, checks_after_words, checks_after_counts, checks_left, Knows, StandsAt, Stands, new_stage, part_after, stage_after, at_next_section, is_whole, verdict_at_stop, Waits, sections_left, steps_left}
 use Rattle.ti_layout.proofs.PassesLemmas.{first_passes}
 use Rattle.ti_layout.proofs.PlacesLemmas.{places_append}
 use Rattle.ti_layout.proofs.SectionReadLemmas.{all_items, each_item}
@@ -167,7 +167,7 @@ counts_pass xs h p =
 
 -- after the string table, where a byte follows it
 after_table_opened : (zs : List ℕ) (h : Header) → end_of h < length zs
-    → checks_after_table zs h ≡ (room_checks h ++ pad_checks zs (end_of h) h.table) ++ (sign_checks zs BadExtendedHeader (extended_from h) 3 ++ after_counts zs h (extended_header_of h zs))
+    → checks_after_table zs h ≡ (room_checks h ++ pad_checks zs (end_of h) h.table) ++ (sign_checks zs BadExtendedHeader (extended_from h) 3 ++ checks_after_counts zs h (extended_header_of h zs))
 after_table_opened zs h lt =
     let x = extended_header_of h zs in
     let longer : leb (length zs) (end_of h) ≡ false = lt-leb (length zs) (end_of h) lt in
@@ -198,7 +198,7 @@ enters : (section : Section) (xs ys : List ℕ) (it : Items) (h : Header) (part 
     → Passes ≡ verdict (length xs) (checks_between section h part.header xs) → (part_after section h part xs).base ≤ most_entry_bytes
     → StandsAt (xs ++ ys) (at_next_section (stage_after (stage section it h part) xs))
 enters Magic xs ys it h part k none p most = record {
-  decides = goes_between xs ys Magic it h part (sign_checks (xs ++ ys) BadHeader 2 5 ++ after_words (xs ++ ys) (header_of (xs ++ ys))) k none p refl;
+  decides = goes_between xs ys Magic it h part (sign_checks (xs ++ ys) BadHeader 2 5 ++ checks_after_words (xs ++ ys) (header_of (xs ++ ys))) k none p refl;
   within = omega arith;
   fits = k.fits;
   extended_fits = k.extended_fits;
@@ -270,7 +270,7 @@ enters TableEnd xs ys it h part k none p most =
     let long = first.long in
     let room : extended_from h + 10 ≤ most_entry_bytes = leb-true _ _ first.holds in
     record {
-      decides = goes_between xs ys TableEnd it h part (sign_checks zs BadExtendedHeader (extended_from h) 3 ++ after_counts zs h (extended_header_of h zs)) k none p (after_table_opened zs h (omega arith));
+      decides = goes_between xs ys TableEnd it h part (sign_checks zs BadExtendedHeader (extended_from h) 3 ++ checks_after_counts zs h (extended_header_of h zs)) k none p (after_table_opened zs h (omega arith));
       within = omega arith;
       fits = k.fits;
       extended_fits = k.extended_fits;
@@ -383,7 +383,7 @@ table_end_stops xs it h part stop k p =
     longer : (stop : Stop) → stop_verdict stop ≡ verdict (length xs) (checks_between TableEnd h part.header xs) → end_of h < length xs → Halts xs TableEnd h stop
     longer Early p lt = absurd (after_table_decides xs h lt (sym p))
     longer (Failed r) p lt = record {
-      decides = halts (length xs) _ (checks_between TableEnd h part.header xs) (sign_checks xs BadExtendedHeader (extended_from h) 3 ++ after_counts xs h (extended_header_of h xs)) (Failed r) (here ∙ ap (verdict (length xs)) (after_table_opened xs h lt)) p;
+      decides = halts (length xs) _ (checks_between TableEnd h part.header xs) (sign_checks xs BadExtendedHeader (extended_from h) 3 ++ checks_after_counts xs h (extended_header_of h xs)) (Failed r) (here ∙ ap (verdict (length xs)) (after_table_opened xs h lt)) p;
       ends = λ e f. absurd (cc);
     }
 

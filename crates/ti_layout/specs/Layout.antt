@@ -4,8 +4,8 @@ use Rattle.ti_words.specs.declared.Kind.{Kind}
 use Rattle.ti_words.specs.declared.Kind.TheVariants as kinds
 use Rattle.ti_words.specs.declared.Width.{Width}
 use Rattle.ti_words.specs.declared.Width.TheVariants.{Legacy, Wide}
-use Rattle.ti_layout.specs.declared.header.Header.{Header}
-use Rattle.ti_layout.specs.declared.extended_header.ExtendedHeader.{ExtendedHeader}
+use Rattle.ti_layout.specs.Headers.{Header}
+use Rattle.ti_layout.specs.Headers.{ExtendedHeader}
 use Rattle.ti_words.specs.Word.{unsigned_at}
 use Rattle.ti_words.specs.Widths.{number_size, magic_number}
 use Rattle.ti_words.specs.Spelling.{pad_len}
@@ -33,6 +33,12 @@ header_of bytes = record {
   texts = unsigned_at 2 bytes 8;
   table = unsigned_at 2 bytes 10;
 }
+
+-- how many capabilities of a kind there are
+abbrev pub count_of_kind : Header → Kind → ℕ
+count_of_kind h kinds.Flag = h.flags
+count_of_kind h kinds.Number = h.numbers
+count_of_kind h kinds.Text = h.texts
 
 abbrev pub flags_from : Header → ℕ
 flags_from h = 12 + h.names

@@ -1,3 +1,4 @@
+pub mod Headers
 pub mod Layout
 pub mod Table
 pub mod Checks

@@ -6,8 +6,8 @@ use Rattle.ti_words.specs.declared.Width.TheVariants.{Legacy}
 use Rattle.ti_layout.specs.declared.fault.Fault.TheVariants.{BadHeader, BadNames, BadExtendedHeader, BadExtendedName, Trailing}
 use Rattle.ti_layout.specs.declared.fault.Stop.{Stop}
 use Rattle.ti_layout.specs.declared.fault.Stop.TheVariants.{Early, Failed}
-use Rattle.ti_layout.specs.declared.header.Header.{Header}
-use Rattle.ti_layout.specs.declared.extended_header.ExtendedHeader.{ExtendedHeader}
+use Rattle.ti_layout.specs.Headers.{Header}
+use Rattle.ti_layout.specs.Headers.{ExtendedHeader}
 use Rattle.ti_layout.specs.declared.part.Part.{Part}
 use Rattle.ti_layout.specs.declared.section.Item.{Item}
 use Rattle.ti_layout.specs.declared.section.Item.TheVariants.{Sign, Name, Flag, Number, Offset}
@@ -93,7 +93,7 @@ counts_checks b h =
 abbrev pub no_more_check : ℕ → Check
 no_more_check end = check (end + 1) false Trailing end
 
--- what is checked between the items of a section and those of the next
+-- the checks between the items of a section and those of the next
 abbrev pub checks_between : Section → Header → ExtendedHeader → List ℕ → List Check
 checks_between Magic h x b = magic_checks b
 checks_between Words h x b = size_checks (header_of b)
@@ -111,54 +111,54 @@ checks_between End h x b = no_more_check (extended_end_of x) ∷ []
 
 -- ---- the checks after the items of a section
 
-abbrev pub after_extended_names : List ℕ → ExtendedHeader → List Check
-after_extended_names b x = extended_text_checks b x ++ end_checks b (extended_end_of x)
+abbrev pub checks_after_extended_names : List ℕ → ExtendedHeader → List Check
+checks_after_extended_names b x = extended_text_checks b x ++ end_checks b (extended_end_of x)
 
-abbrev pub after_extended_values : List ℕ → ExtendedHeader → List Check
-after_extended_values b x =
-    sign_checks b BadExtendedName (extended_names_from x) (extended_name_count x) ++ after_extended_names b x
+abbrev pub checks_after_extended_values : List ℕ → ExtendedHeader → List Check
+checks_after_extended_values b x =
+    sign_checks b BadExtendedName (extended_names_from x) (extended_name_count x) ++ checks_after_extended_names b x
 
-abbrev pub after_extended_numbers : List ℕ → ExtendedHeader → List Check
-after_extended_numbers b x = offset_checks b x.table (extended_values_from x) x.texts ++ after_extended_values b x
+abbrev pub checks_after_extended_numbers : List ℕ → ExtendedHeader → List Check
+checks_after_extended_numbers b x = offset_checks b x.table (extended_values_from x) x.texts ++ checks_after_extended_values b x
 
-abbrev pub after_extended_flags : List ℕ → ExtendedHeader → List Check
-after_extended_flags b x =
+abbrev pub checks_after_extended_flags : List ℕ → ExtendedHeader → List Check
+checks_after_extended_flags b x =
     pad_checks b (extended_pad_from x) x.flags
-    ++ (number_checks b (number_size x.width) (extended_numbers_from x) x.numbers ++ after_extended_numbers b x)
+    ++ (number_checks b (number_size x.width) (extended_numbers_from x) x.numbers ++ checks_after_extended_numbers b x)
 
-abbrev pub after_counts : List ℕ → Header → ExtendedHeader → List Check
-after_counts b h x = counts_checks b h ++ (extended_section_checks b x ++ end_checks b (extended_end_of x))
+abbrev pub checks_after_counts : List ℕ → Header → ExtendedHeader → List Check
+checks_after_counts b h x = counts_checks b h ++ (extended_section_checks b x ++ end_checks b (extended_end_of x))
 
-abbrev pub after_offsets : List ℕ → Header → List Check
-after_offsets b h = ending_checks b (table_of b h) (end_of h) (offsets_from h) h.texts ++ checks_after_table b h
+abbrev pub checks_after_offsets : List ℕ → Header → List Check
+checks_after_offsets b h = ending_checks b (table_of b h) (end_of h) (offsets_from h) h.texts ++ checks_after_table b h
 
-abbrev pub after_numbers : List ℕ → Header → List Check
-after_numbers b h = offset_checks b h.table (offsets_from h) h.texts ++ after_offsets b h
+abbrev pub checks_after_numbers : List ℕ → Header → List Check
+checks_after_numbers b h = offset_checks b h.table (offsets_from h) h.texts ++ checks_after_offsets b h
 
-abbrev pub after_flags : List ℕ → Header → List Check
-after_flags b h =
+abbrev pub checks_after_flags : List ℕ → Header → List Check
+checks_after_flags b h =
     pad_checks b (pad_from h) (h.names + h.flags)
-    ++ (number_checks b (number_size h.width) (numbers_from h) h.numbers ++ after_numbers b h)
+    ++ (number_checks b (number_size h.width) (numbers_from h) h.numbers ++ checks_after_numbers b h)
 
-abbrev pub after_names : List ℕ → Header → List Check
-after_names b h = (nul_check b BadNames (11 + h.names) ∷ []) ++ (flag_checks b (flags_from h) h.flags ++ after_flags b h)
+abbrev pub checks_after_names : List ℕ → Header → List Check
+checks_after_names b h = (nul_check b BadNames (11 + h.names) ∷ []) ++ (flag_checks b (flags_from h) h.flags ++ checks_after_flags b h)
 
-abbrev pub after_words : List ℕ → Header → List Check
-after_words b h = size_checks h ++ (section_checks b h ++ checks_after_table b h)
+abbrev pub checks_after_words : List ℕ → Header → List Check
+checks_after_words b h = size_checks h ++ (section_checks b h ++ checks_after_table b h)
 
 abbrev pub checks_after : Section → List ℕ → Header → ExtendedHeader → List Check
-checks_after Magic b h x = magic_checks b ++ (sign_checks b BadHeader 2 5 ++ after_words b (header_of b))
-checks_after Words b h x = after_words b (header_of b)
-checks_after Names b h x = after_names b h
-checks_after Flags b h x = after_flags b h
-checks_after Numbers b h x = after_numbers b h
-checks_after Offsets b h x = after_offsets b h
+checks_after Magic b h x = magic_checks b ++ (sign_checks b BadHeader 2 5 ++ checks_after_words b (header_of b))
+checks_after Words b h x = checks_after_words b (header_of b)
+checks_after Names b h x = checks_after_names b h
+checks_after Flags b h x = checks_after_flags b h
+checks_after Numbers b h x = checks_after_numbers b h
+checks_after Offsets b h x = checks_after_offsets b h
 checks_after TableEnd b h x = checks_after_table b h
-checks_after Counts b h x = after_counts b h (extended_header_of h b)
-checks_after ExtendedFlags b h x = after_extended_flags b x
-checks_after ExtendedNumbers b h x = after_extended_numbers b x
-checks_after ExtendedValues b h x = after_extended_values b x
-checks_after ExtendedNames b h x = after_extended_names b x
+checks_after Counts b h x = checks_after_counts b h (extended_header_of h b)
+checks_after ExtendedFlags b h x = checks_after_extended_flags b x
+checks_after ExtendedNumbers b h x = checks_after_extended_numbers b x
+checks_after ExtendedValues b h x = checks_after_extended_values b x
+checks_after ExtendedNames b h x = checks_after_extended_names b x
 checks_after End b h x = end_checks b (extended_end_of x)
 
 -- ---- stages

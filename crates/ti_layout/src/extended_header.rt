@@ -12,23 +12,55 @@ use crate::checks::check_pad;
 use crate::fault::{Fault, Refused, Stop};
 use crate::header::Header;
 use crate::word::{count_at, numbers_size};
+use std::marker::Model;
 use ti_base::MOST_ENTRY_BYTES;
 use ti_words::{Kind, Width};
 
 /// The words of the extended header, and where it starts. Its word `items` is not read.
 #[derive(Clone, Copy, Debug, PartialEq, Eq)]
 pub struct ExtendedHeader {
-    pub width: Width,
-    pub from: usize,
+    pub(crate) width: Width,
+    pub(crate) from: usize,
     /// The counts of flags, numbers and texts.
-    pub flags: usize,
-    pub numbers: usize,
-    pub texts: usize,
+    pub(crate) flags: usize,
+    pub(crate) numbers: usize,
+    pub(crate) texts: usize,
     /// The size of the extended table.
-    pub table: usize,
+    pub(crate) table: usize,
+}
+
+impl Model for ExtendedHeader {
+    ghost use Rattle.ti_layout.specs.Headers as headers;
+
+    ghost Value = { headers.ExtendedHeader };
+
+    ghost view = { λ h. record {
+      width = h.width;
+      from = h.from;
+      flags = h.flags;
+      numbers = h.numbers;
+      texts = h.texts;
+      table = h.table;
+    } };
+
+    ghost inverse = { λ h. record {
+      width = h.width;
+      from = h.from;
+      flags = h.flags;
+      numbers = h.numbers;
+      texts = h.texts;
+      table = h.table;
+    } };
 }
 
 impl ExtendedHeader {
+    /// The format of the entry.
+    pub fn width(&self) -> Width
+        ensures { result ≡ self.now.width }
+    {
+        self.width
+    }
+
     /// Where the flags start, after the header.
     pub fn flags_from(&self) -> usize
         requires { extended_end_of self.now < 2 ^ 32 }

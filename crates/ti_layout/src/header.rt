@@ -6,28 +6,71 @@ ghost use Rattle.std.specs.Prelude.{◌≡◌, ◌<◌, ◌≤◌, ◌^◌, leng
 ghost use Rattle.ti_base.specs.Limits.{most_entry_bytes};
 ghost use Rattle.ti_layout.specs.Checks.{verdict, result_verdict};
 ghost use Rattle.ti_layout.specs.Refusal.{magic_checks, size_checks};
-ghost use Rattle.ti_layout.specs.Layout.{header_of, end_of, width_of as the_width_of, flags_from as the_flags_from, pad_from as the_pad_from, numbers_from as the_numbers_from, offsets_from as the_offsets_from, table_from as the_table_from, extended_from as the_extended_from};
+ghost use Rattle.ti_layout.specs.Layout.{header_of, count_of_kind, end_of, width_of as the_width_of, flags_from as the_flags_from, pad_from as the_pad_from, numbers_from as the_numbers_from, offsets_from as the_offsets_from, table_from as the_table_from, extended_from as the_extended_from};
 
 use crate::fault::{Fault, Refused, Stop};
 use crate::word::{count_at, numbers_size};
+use std::marker::Model;
 use ti_base::MOST_ENTRY_BYTES;
-use ti_words::Width;
+use ti_words::{Kind, Width};
 
 /// The words of the header.
 #[derive(Clone, Copy, Debug, PartialEq, Eq)]
 pub struct Header {
-    pub width: Width,
+    pub(crate) width: Width,
     /// The size of the names with their NUL.
-    pub names: usize,
+    pub(crate) names: usize,
     /// The counts of flags, numbers and texts.
-    pub flags: usize,
-    pub numbers: usize,
-    pub texts: usize,
+    pub(crate) flags: usize,
+    pub(crate) numbers: usize,
+    pub(crate) texts: usize,
     /// The size of the string table.
-    pub table: usize,
+    pub(crate) table: usize,
+}
+
+impl Model for Header {
+    ghost use Rattle.ti_layout.specs.Headers as headers;
+
+    ghost Value = { headers.Header };
+
+    ghost view = { λ h. record {
+      width = h.width;
+      names = h.names;
+      flags = h.flags;
+      numbers = h.numbers;
+      texts = h.texts;
+      table = h.table;
+    } };
+
+    ghost inverse = { λ h. record {
+      width = h.width;
+      names = h.names;
+      flags = h.flags;
+      numbers = h.numbers;
+      texts = h.texts;
+      table = h.table;
+    } };
 }
 
 impl Header {
+    /// The format.
+    pub fn width(&self) -> Width
+        ensures { result ≡ self.now.width }
+    {
+        self.width
+    }
+
+    /// How many capabilities of a kind there are.
+    pub fn count(&self, kind: Kind) -> usize
+        ensures { result ≡ count_of_kind self.now kind }
+    {
+        match kind {
+            Kind::Flag => self.flags,
+            Kind::Number => self.numbers,
+            Kind::Text => self.texts,
+        }
+    }
+
     /// Where the flags start, after the names.
     pub fn flags_from(&self) -> usize
         requires { end_of self.now < 2 ^ 32 }

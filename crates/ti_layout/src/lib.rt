@@ -12,7 +12,7 @@ mod header;
 mod part;
 mod section;
 mod stage;
-mod table;
+mod string_table;
 mod whole;
 mod word;
 
@@ -21,5 +21,5 @@ pub use fault::{Fault, Refused};
 pub use header::{Header, header_words};
 pub use part::Part;
 pub use stage::Stage;
-pub use table::{text_from, until_nul};
+pub use string_table::{text_from, until_nul};
 pub use word::{count_at, number_word_at, numbers_size, word_at};

@@ -7,13 +7,13 @@ ghost use Rattle.std.specs.Prelude.{◌≡◌, ◌+◌, ◌*◌, ◌<◌, ◌≤
 ghost use Rattle.ti_base.specs.Limits.{most_entry_bytes};
 ghost use Rattle.ti_layout.specs.Checks.{verdict, result_verdict};
 ghost use Rattle.ti_layout.specs.Refusal.{extended_name_checks, extended_text_checks};
-ghost use Rattle.ti_layout.specs.Layout.{places, extended_names_from, extended_name_count, extended_end_of, no_capability};
-ghost use Rattle.ti_layout.specs.Table.{sizes_at, extended_table_of, base_of as the_base_of};
+ghost use Rattle.ti_layout.specs.Layout.{places, extended_end_of, no_capability};
+ghost use Rattle.ti_layout.specs.Table.{sizes_at, base_of as the_base_of};
 
 use crate::checks::{NameTable, check_endings, check_name_places, reach_of};
 use crate::extended_header::ExtendedHeader;
 use crate::fault::Stop;
-use crate::table::size_at;
+use crate::string_table::size_at;
 use ti_words::Width;
 
 /// An extended part, and what the offsets of its names are counted from.

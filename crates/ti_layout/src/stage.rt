@@ -4,12 +4,12 @@
 //! have read. It goes on over all the bytes that have come: a step checks the items of a section that lie within them,
 //! in one loop, or makes the few checks between two sections. Bytes that come whole take two steps a section.
 
-ghost use Rattle.std.specs.Prelude.{◌≡◌, ◌≢◌, ℕ, List, ◌+◌, ◌*◌, ◌<◌, ◌≤◌, ◌^◌, ◌++◌, ◌∷◌, [], length, IfOk, IfErr, OnOk, Err, Some};
+ghost use Rattle.std.specs.Prelude.{◌≡◌, ℕ, List, ◌+◌, ◌*◌, ◌<◌, ◌≤◌, ◌^◌, ◌∷◌, [], length, IfOk, IfErr, OnOk, Err, Some};
 ghost use Rattle.ti_base.specs.Limits.{most_entry_bytes};
 ghost use Rattle.ti_layout.specs.Layout.{header_of, end_of, extended_header_of, extended_end_of};
 ghost use Rattle.ti_layout.specs.Checks.{verdict, result_verdict};
 ghost use Rattle.ti_layout.specs.Refusal.{size_checks, checks, failure};
-ghost use Rattle.ti_layout.specs.Stages.{item_size, checks_between, StandsAt, Stands, Waits, new_stage, stage_after, at_next_section, verdict_at_stop, steps_left, counts_checks, no_more_check, is_whole};
+ghost use Rattle.ti_layout.specs.Stages.{item_size, checks_between, StandsAt, Stands, Waits, new_stage, stage_after, verdict_at_stop, steps_left, counts_checks, no_more_check, is_whole};
 ghost use Rattle.ti_layout.specs.declared.fault.Stop.TheVariants.{Early};
 
 use crate::checks::{check_endings, check_nul, check_pad, check_sign};

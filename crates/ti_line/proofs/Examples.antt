@@ -1,5 +1,5 @@
 -- Worked rows of the command line.
-use Rattle.std.proofs.Common.{[], ◌∷◌, true, false, refl, inl}
+use Rattle.std.proofs.Common.{[], ◌∷◌, true, false, refl}
 use Rattle.std.specs.Prelude.{codes}
 use Rattle.clap.proofs.OnLiterals.{clap_on_literals}
 use Rattle.ti_line.specs.CommandLine.{AsksForHelp, Cap, Convert, Expand, IsRefused, Reads, Show}
@@ -32,12 +32,12 @@ expand_row = (refl, refl)
 -- `ti expand --rate 1000001 bel`
 rate_row : IsRefused (codes "ti" ∷ codes "expand" ∷ codes "--rate" ∷ codes "1000001" ∷ codes "bel" ∷ [])
 unfolding clap_on_literals
-rate_row = inl refl
+rate_row = refl
 
 -- `ti`
 alone_row : IsRefused (codes "ti" ∷ [])
 unfolding clap_on_literals
-alone_row = inl refl
+alone_row = refl
 
 -- `ti --help`
 help_row : AsksForHelp (codes "ti" ∷ codes "--help" ∷ [])

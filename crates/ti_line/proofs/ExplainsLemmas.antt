@@ -24,5 +24,5 @@ explains words ks k (no_line.Help message) e (inl m) t = absurd (true≢false (s
 explains words ks k (no_line.Help message) e (inr a) t = subst (λ (l : Kinds). list_any is_help l ≡ true) e (any_of is_help k ks a t)
 explains words ks k (no_line.Refused message) e (inl m) t = absurd (t.1 m)
 explains words ks k (no_line.Refused message) e (inr a) t =
-    inl (subst (λ (l : Kinds). list_any (λ x. not (is_help x)) l ≡ true) e (any_of (λ x. not (is_help x)) k ks a (ap not t.0)))
+    subst (λ (l : Kinds). list_any (λ x. not (is_help x)) l ≡ true) e (any_of (λ x. not (is_help x)) k ks a (ap not t.0))
 explains words ks k no_line.Memory e h t = tt

@@ -32,13 +32,11 @@ help_or_not : (b x y : Bool) → (b || x ≡ true) ⊎ (not b || y ≡ true)
 help_or_not true x y = inl refl
 help_or_not false x y = inr refl
 
--- the three answers, of any kinds and any value
-pub three : (ks : Kinds) (a : Option Request)
-    → ((line : Request) × ((ks ≡ []) × (a ≡ Some line)))
-    ⊎ ((list_any is_help ks ≡ true) ⊎ ((list_any (λ k. not (is_help k)) ks ≡ true) ⊎ ((ks ≡ []) × (a ≡ None))))
-three [] None = inr (inr (inr (refl, refl)))
-three [] (Some line) = inl (line, (refl, refl))
-three (k ∷ ks) a = inr (elim (help_or_not (is_help k) (list_any is_help ks) (list_any (λ x. not (is_help x)) ks)) [ inl h ↦ inl h | inr r ↦ inr (inl r) ])
+-- the three answers, of any kinds and what words without a fault make
+pub three : {Line : Type 0} (ks : Kinds) → (ks ≡ [] → Line)
+    → Line ⊎ ((list_any is_help ks ≡ true) ⊎ (list_any (λ k. not (is_help k)) ks ≡ true))
+three [] line = inl (line refl)
+three (k ∷ ks) line = inr (help_or_not (is_help k) (list_any is_help ks) (list_any (λ x. not (is_help x)) ks))
 
 -- ---- numbers
 

@@ -1,5 +1,7 @@
 pub mod TiAppLemmas
-pub mod ValuesLemmas
+pub mod MatchesLemmas
 pub mod LawsLemmas
+pub mod RowsLemmas
+pub mod FaultlessLemmas
 pub mod ExplainsLemmas
 pub mod Examples

@@ -1,7 +1,7 @@
 -- The command line of `ti`: the command that is handed to `clap`, what words ask for by it, and the
 -- words that it refuses or answers with help. `fault_of` and `subcommand_of` are `clap`'s own
 -- definition of a simple command.
-use Rattle.std.specs.Prelude.{◌≡◌, ◌⊎◌, ◌^◌, ◌&&◌, ℕ, Bool, true, false, not, List, [], ◌∷◌, fold, Option, Some, None, codes, pos, unwrap_or, option_and_then, if◌then◌else◌, nat_lt, nat_le, length}
+use Rattle.std.specs.Prelude.{◌≡◌, ◌^◌, ◌&&◌, ℕ, Bool, true, false, not, List, [], ◌∷◌, fold, Option, Some, None, codes, pos, unwrap_or, option_and_then, if◌then◌else◌, nat_lt, nat_le, length}
 use Rattle.std.specs.List.{list_all, list_any}
 use Rattle.std.specs.Option.{option_map_or}
 use Rattle.std.specs.Str.{bytes_eq}
@@ -183,8 +183,6 @@ is_help _ = false
 abbrev pub AsksForHelp : List Text → Type 0
 AsksForHelp words = list_any is_help (faults words) ≡ true
 
--- `clap` finds a fault in the words, or they have no value
+-- `clap` finds a fault in the words
 abbrev pub IsRefused : List Text → Type 0
-IsRefused words =
-    (list_any (λ k. not (is_help k)) (faults words) ≡ true)
-    ⊎ ((faults words ≡ []) × (request_in (subcommand_of ti_app words) ≡ None))
+IsRefused words = list_any (λ k. not (is_help k)) (faults words) ≡ true

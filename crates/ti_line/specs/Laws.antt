@@ -1,8 +1,12 @@
 -- What holds of all words.
-use Rattle.std.specs.Prelude.{◌≡◌, ◌⊎◌, ◌≤◌, List}
+use Rattle.std.specs.Prelude.{◌≡◌, ◌⊎◌, ◌≤◌, List, []}
 use Rattle.clap.specs.Words.{Text}
 use Rattle.ti_base.specs.Limits.{greatest_rate, most_lines}
-use Rattle.ti_line.specs.CommandLine.{Request, Cap, Show, Check, Expand, Convert, AsksForHelp, IsRefused, Reads}
+use Rattle.ti_line.specs.CommandLine.{Request, Cap, Show, Check, Expand, Convert, AsksForHelp, IsRefused, Reads, faults}
+
+-- words on which `clap` finds no fault make a line
+abbrev pub MakesLine : Type 0
+MakesLine = (words : List Text) → faults words ≡ [] → (line : Request) × Reads words line
 
 -- words are read as one line
 abbrev pub ReadsOneLine : Type 0

@@ -1,4 +1,5 @@
 pub mod CommandLine
 pub mod inner
 pub mod Line
+pub mod Message
 pub mod Laws

@@ -1,4 +1,4 @@
 -- What private clauses alone cite.
 pub mod Command
 pub mod Errors
-pub mod Values
+pub mod Matches

@@ -1,6 +1,6 @@
 //! Laws of the command line, each proved of all words and with nothing to run.
 
-ghost use Rattle.ti_line.specs.Laws.{HasNumbersWithin, IsOneOfThree, ReadsOneLine, StandApart};
+ghost use Rattle.ti_line.specs.Laws.{HasNumbersWithin, IsOneOfThree, MakesLine, ReadsOneLine, StandApart};
 
 /// Words are read as one line, or ask for help, or are refused; what is read is neither of the others, and its numbers
 /// are within their ranges.
@@ -9,4 +9,9 @@ pub fn words_are_read_once()
     ensures apart { StandApart }
     ensures whole { IsOneOfThree }
     ensures within { HasNumbersWithin }
+{}
+
+/// Words on which `clap` finds no fault make a line, so nothing is refused but what it refuses.
+pub fn faultless_words_are_a_line()
+    ensures { MakesLine }
 {}

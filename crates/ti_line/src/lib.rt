@@ -15,8 +15,10 @@
 mod command;
 pub mod laws;
 mod line;
+mod matches;
+mod message;
 mod read;
-mod values;
 
-pub use line::{Expand, Line, Message, NoLine};
+pub use line::{Expand, Line, NoLine};
+pub use message::Message;
 pub use read::read_line;

@@ -3,7 +3,7 @@
 ghost use Rattle.std.specs.Prelude.{◌≤◌};
 ghost use Rattle.ti_base.specs.Limits.{greatest_rate, most_lines};
 
-use std::fmt;
+use crate::message::Message;
 use thiserror::Error;
 
 /// What a command line asks for. Parameters are the words as they were given, in their order.
@@ -60,32 +60,6 @@ pub enum NoLine {
     #[error("{0}")]
     Refused(Message),
     /// Out of memory.
-    #[error("memory")]
+    #[error("Memory")]
     Memory,
-}
-
-/// What `clap` says to the user.
-#[derive(Debug, Drop)]
-pub struct Message(Option<clap::Error>);
-
-impl Message {
-    /// What `clap` says of words that it refuses, or answers with help.
-    pub(crate) fn new(error: clap::Error) -> Message {
-        Message(Some(error))
-    }
-
-    /// The words have no value. `clap` refuses such words itself, but says so of its top level alone; here it is no
-    /// matter of trust.
-    pub(crate) fn no_value() -> Message {
-        Message(None)
-    }
-}
-
-impl fmt::Display for Message {
-    fn fmt<W: fmt::Write>(&self, f: &mut fmt::Formatter<W>) -> fmt::Result {
-        match &self.0 {
-            Some(error) => fmt::Display::fmt(error, f),
-            None => f.write_str("error: the words are no command line\n"),
-        }
-    }
 }

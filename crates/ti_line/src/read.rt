@@ -1,39 +1,44 @@
 //! Words as a command line.
 
-ghost use Rattle.std.specs.Prelude.{◌≡◌, IfErr, IfOk, option_map};
+ghost use Rattle.std.specs.Prelude.{◌≡◌, IfErr, IfOk, Some};
 ghost use Rattle.clap.specs.Words.{FailsBy, kind_of, subcommand_of};
 ghost use Rattle.ti_line.specs.CommandLine.{Request, Reads, request_in, faults, ti_app};
 ghost use Rattle.ti_line.specs.Line.{Explains, IsReadAs, request_of, texts_of};
 ghost use Rattle.ti_line.specs.inner.Errors.{TellsOf};
 
 use crate::command::program;
-use crate::line::{Line, Message, NoLine};
-use crate::values::line_of;
+use crate::line::{Line, NoLine};
+use crate::matches::line_of;
+use crate::message::Message;
 use clap::Error;
 use clap::error::ErrorKind;
-use std::alloc::Global;
+use std::alloc::{AllocError, Global};
 
-/// Reads the words by `clap`. There is no line where what `clap` found has no value.
-fn read_words<'a>(alloc: Global, words: &'a [&'a str]) -> Result<Option<Line<'a>>, Error>
-    ensures read { IfOk result (λ line. option_map request_of line
-        ≡ request_in (subcommand_of ti_app (texts_of words.entry.now))) }
+/// Reads the words by `clap`. Words in which it finds no fault make a line.
+fn read_words<'a>(alloc: Global, words: &'a [&'a str]) -> Result<Line<'a>, Error>
+    ensures read { IfOk result (λ line.
+        request_in (subcommand_of ti_app (texts_of words.entry.now)) ≡ Some (request_of line)) }
     ensures kinds { FailsBy (faults (texts_of words.entry.now)) result }
 {
     let matches = program(alloc)?.try_get_matches_from(words)?;
     match matches.subcommand() {
         Some((command, given)) => Ok(line_of(alloc, command, given)?),
-        None => Ok(None),
+        None => unreachable!(),
     }
 }
 
 /// What an error of `clap` tells of the words.
-fn no_line(error: Error) -> NoLine
-    ensures { TellsOf (kind_of error) result }
+fn no_line(alloc: Global, error: &Error) -> NoLine
+    ensures { TellsOf (kind_of error.now) result }
 {
+    let message = match Message::new(alloc, error) {
+        Ok(message) => message,
+        Err(AllocError) => return NoLine::Memory,
+    };
     match error.kind() {
         ErrorKind::OutOfMemory => NoLine::Memory,
-        ErrorKind::DisplayHelp | ErrorKind::DisplayVersion => NoLine::Help(Message::new(error)),
-        _ => NoLine::Refused(Message::new(error)),
+        ErrorKind::DisplayHelp | ErrorKind::DisplayVersion => NoLine::Help(message),
+        _ => NoLine::Refused(message),
     }
 }
 
@@ -52,8 +57,7 @@ pub fn read_line<'a>(alloc: Global, words: &'a [&'a str]) -> Result<Line<'a>, No
     ensures none { IfErr result (Explains (texts_of words.entry.now)) }
 {
     match read_words(alloc, words) {
-        Ok(Some(line)) => Ok(line),
-        Ok(None) => Err(NoLine::Refused(Message::no_value())),
-        Err(error) => Err(no_line(error)),
+        Ok(line) => Ok(line),
+        Err(error) => Err(no_line(alloc, &error)),
     }
 }

@@ -1,5 +1,5 @@
 -- A write that goes on where earlier ones stopped.
-use Rattle.std.proofs.Common.{◌≡◌, ℕ, ◌+◌, ◌-◌, ◌≤◌, List, ◌++◌, length, take, drop, replicate, subst, sym, ap, ◌∙◌, arith, length-append, length-drop, take_all}
+use Rattle.std.proofs.Common.{◌≡◌, refl, ℕ, ◌+◌, ◌-◌, ◌≤◌, List, [], ◌∷◌, ◌++◌, length, take, drop, replicate, subst, sym, ap, ◌∙◌, arith, length-append, length-drop, take_all}
 use Rattle.std.specs.Prelude.{Option}
 use Rattle.std.proofs.Math.Seq.{take-add}
 use Rattle.std.proofs.lemmas.List.{drop-drop, drop_at, replicate-append-replicate, take-append-le, take-replicate, take_rest}
@@ -47,3 +47,11 @@ part_within text run rest i left h =
 -- what stands after the run
 pub drop-run : (text run rest : List ℕ) (i n : ℕ) → drop i text ≡ run ++ rest → n ≡ length run → drop (i + n) text ≡ rest
 drop-run text run rest i n left is = sym (drop-drop n i text) ∙ ap (drop n) left ∙ drop_at run rest n (sym is)
+
+-- an empty text has no run
+no_bytes : (xs : List ℕ) → length xs ≡ 0 → xs ≡ []
+no_bytes [] e = refl
+no_bytes (x ∷ xs) e = absurd (omega arith)
+
+pub no_run : (text run rest : List ℕ) (i : ℕ) → drop i text ≡ run ++ rest → text ≡ [] → run ≡ []
+no_run text run rest i left none = no_bytes run (omega (arith, ap length left, length-drop i text, length-append run rest, ap length none))

@@ -15,11 +15,11 @@ use std::alloc::{AllocError, Allocator};
 use thiserror::Error;
 use ti_base::MOST_PADDED_BYTES;
 
-/// Why a text is not padded.
+/// Why a text is not padded. As an error it prints its name, and its number after a blank.
 #[derive(Clone, Copy, Debug, PartialEq, Eq, Error)]
 pub enum PadFault {
     /// The padded text would have this many bytes, more than [`MOST_PADDED_BYTES`].
-    #[error("TooMuch")]
+    #[error("TooMuch {need}")]
     TooMuch { need: u128 },
     /// Memory was refused.
     #[error("Memory")]
@@ -34,7 +34,8 @@ impl From<AllocError> for PadFault {
     }
 }
 
-/// The padded text. [`PadFault::TooMuch`] is answered exactly where it has more than [`MOST_PADDED_BYTES`].
+/// The padded text. [`PadFault::TooMuch`] is answered exactly where it has more than [`MOST_PADDED_BYTES`], and that
+/// memory was refused only where it has no more.
 pub fn pad<A: Allocator + Copy>(
     alloc: A,
     bytes: &[u8],
@@ -45,6 +46,8 @@ pub fn pad<A: Allocator + Copy>(
         ⊎ (e ≡ fault.TooMuch (length (padded_text bytes.now padding.now)))) }
     ensures limit { (result ≡ Err (fault.TooMuch (length (padded_text bytes.now padding.now))))
         ↔ (most_padded_bytes < length (padded_text bytes.now padding.now)) }
+    ensures memory { (result ≡ Err fault.Memory)
+        → length (padded_text bytes.now padding.now) ≤ most_padded_bytes }
 {
     let need = padded_len(bytes, padding);
     if need > MOST_PADDED_BYTES {

@@ -2,9 +2,9 @@
 //!
 //! Bytes that stand for themselves are written as they lie in the text, pad bytes in blocks. No memory is taken.
 
-ghost use Rattle.std.specs.Prelude.{◌≡◌, ◌≤◌, ◌<◌, ◌↔◌, length, replicate, Err, OnOk, IfErr};
+ghost use Rattle.std.specs.Prelude.{◌≡◌, ◌≤◌, ◌<◌, ◌↔◌, [], length, replicate, Err, OnOk, IfErr};
 ghost use Rattle.std.specs.Io.KnownBytes.{Appends};
-ghost use Rattle.ti_base.specs.Limits.{most_interruptions, most_padded_bytes};
+ghost use Rattle.ti_base.specs.Limits.{most_padded_bytes};
 ghost use Rattle.ti_pad.specs.Padded.{padded_text};
 ghost use Rattle.ti_pad.specs.Stops.{AppendsFirst, StopsAt};
 ghost use Rattle.ti_pad.specs.inner.Stretch.{stretch_bytes};
@@ -16,19 +16,19 @@ use crate::padding::Padding;
 use crate::stretch::{Stretch, first_stretch};
 use std::io::Write;
 use thiserror::Error;
-use ti_base::MOST_PADDED_BYTES;
+use ti_base::{MOST_INTERRUPTIONS, MOST_PADDED_BYTES};
 
 /// The most pad bytes of one write.
 const BLOCK: usize = 512;
 
-/// Why a padded text is not written to its end.
+/// Why a padded text is not written to its end. As an error it prints its name, and its number after a blank.
 #[derive(Clone, Copy, Debug, PartialEq, Eq, Error)]
 pub enum PadStop {
     /// The padded text would have this many bytes, more than [`MOST_PADDED_BYTES`]. Nothing was written.
-    #[error("TooMuch")]
+    #[error("TooMuch {need}")]
     TooMuch { need: u128 },
     /// The writer took the first `gone` bytes of the padded text, and no more.
-    #[error("Failed")]
+    #[error("Failed {gone}")]
     Failed { gone: u64 },
 }
 
@@ -36,7 +36,7 @@ pub enum PadStop {
 ///
 /// [`PadStop::TooMuch`] is answered exactly where it has more than [`MOST_PADDED_BYTES`], before anything is written.
 /// Interrupted writes are tried again, at most [`MOST_INTERRUPTIONS`] of them; the next one, any other error, and a
-/// write that takes no byte stop it. Nothing is flushed.
+/// write that takes no byte stop it. Nothing is written where the padded text has no byte, and nothing is flushed.
 pub fn write_padded<W: Write>(
     writer: &mut W,
     bytes: &[u8],
@@ -48,6 +48,9 @@ pub fn write_padded<W: Write>(
         (W.contents writer.old) (W.contents writer.new) (padded_text bytes.now padding.now)) }
     ensures limit { (result ≡ Err (stop.TooMuch (length (padded_text bytes.now padding.now))))
         ↔ (most_padded_bytes < length (padded_text bytes.now padding.now)) }
+    ensures untouched { most_padded_bytes < length (padded_text bytes.now padding.now)
+        → writer.new ≡ writer.old }
+    ensures nothing { padded_text bytes.now padding.now ≡ [] → writer.new ≡ writer.old }
 {
     let need = padded_len(bytes, padding);
     if need > MOST_PADDED_BYTES {
@@ -64,13 +67,14 @@ fn write_stretches<W: Write>(writer: &mut W, bytes: &[u8], padding: &Padding) ->
     ensures short { IfErr result (λ gone. gone < length (padded_text bytes.now padding.now)) }
     ensures gone { IfErr result (AppendsFirst
         (W.contents writer.old) (W.contents writer.new) (padded_text bytes.now padding.now)) }
+    ensures nothing { padded_text bytes.now padding.now ≡ [] → writer.new ≡ writer.old }
 {
     let mut rest = bytes;
     let mut gone = 0;
-    let mut interruptions = 0;
+    let mut retries = MOST_INTERRUPTIONS;
     'stretches: while !rest.is_empty() {
         let front = first_stretch(rest, padding);
-        match write_stretch(writer, &front.stretch, padding, &mut interruptions) {
+        match write_stretch(writer, &front.stretch, padding, &mut retries) {
             Ok(()) => gone += front.stretch.len(),
             Err(more) => return Err(gone + more),
         }
@@ -84,10 +88,8 @@ fn write_stretch<W: Write>(
     writer: &mut W,
     stretch: &Stretch<'_>,
     padding: &Padding,
-    interruptions: &mut u32,
+    retries: &mut u32,
 ) -> Result<(), u64>
-    requires { interruptions.old ≤ most_interruptions }
-    ensures tries { interruptions.new ≤ most_interruptions }
     ensures written { OnOk result (Appends
         (W.contents writer.old) (W.contents writer.new)
         (stretch_bytes padding.now.pad stretch.now)) }
@@ -96,32 +98,27 @@ fn write_stretch<W: Write>(
     ensures gone { IfErr result (AppendsFirst
         (W.contents writer.old) (W.contents writer.new)
         (stretch_bytes padding.now.pad stretch.now)) }
+    ensures nothing { stretch_bytes padding.now.pad stretch.now ≡ [] → writer.new ≡ writer.old }
 {
     match stretch {
-        Stretch::Literal(bytes) => write_some(writer, bytes, interruptions),
-        Stretch::Pads(count) => write_pads(writer, padding.pad_byte(), *count, interruptions),
+        Stretch::Literal(bytes) => write_some(writer, bytes, retries),
+        Stretch::Pads(count) => write_pads(writer, padding.pad_byte(), *count, retries),
     }
 }
 
 /// Writes so many pad bytes, as [`write_some`] does.
-fn write_pads<W: Write>(
-    writer: &mut W,
-    pad: u8,
-    count: u64,
-    interruptions: &mut u32,
-) -> Result<(), u64>
-    requires { interruptions.old ≤ most_interruptions }
-    ensures tries { interruptions.new ≤ most_interruptions }
+fn write_pads<W: Write>(writer: &mut W, pad: u8, count: u64, retries: &mut u32) -> Result<(), u64>
     ensures written { OnOk result (Appends
         (W.contents writer.old) (W.contents writer.new) (replicate count pad)) }
     ensures short { IfErr result (λ gone. gone < count) }
     ensures gone { IfErr result (λ gone. Appends
         (W.contents writer.old) (W.contents writer.new) (replicate gone pad)) }
+    ensures nothing { count ≡ 0 → writer.new ≡ writer.old }
 {
     let mut gone = 0;
     'writes: while gone < count {
         let size = (count - gone).min(BLOCK as u64);
-        match write_block(writer, pad, size as usize, interruptions) {
+        match write_block(writer, pad, size as usize, retries) {
             Ok(()) => gone += size,
             Err(more) => return Err(gone + more),
         }
@@ -130,15 +127,8 @@ fn write_pads<W: Write>(
 }
 
 /// Writes a block of so many pad bytes, as [`write_some`] does.
-fn write_block<W: Write>(
-    writer: &mut W,
-    pad: u8,
-    size: usize,
-    interruptions: &mut u32,
-) -> Result<(), u64>
-    requires size { size ≤ BLOCK }
-    requires tries { interruptions.old ≤ most_interruptions }
-    ensures tries { interruptions.new ≤ most_interruptions }
+fn write_block<W: Write>(writer: &mut W, pad: u8, size: usize, retries: &mut u32) -> Result<(), u64>
+    requires { size ≤ BLOCK }
     ensures written { OnOk result (Appends
         (W.contents writer.old) (W.contents writer.new) (replicate size pad)) }
     ensures short { IfErr result (λ gone. gone < size) }
@@ -146,5 +136,5 @@ fn write_block<W: Write>(
         (W.contents writer.old) (W.contents writer.new) (replicate size pad)) }
 {
     let block = [pad; BLOCK];
-    write_some(writer, &block[..size], interruptions)
+    write_some(writer, &block[..size], retries)
 }

@@ -2,13 +2,14 @@
 use Rattle.std.proofs.Common.{◌≡◌, ℕ, suc, ◌+◌, ◌-◌, ◌<◌, ◌≤◌, inl, inr, List, [], ◌∷◌, ◌++◌, length, refl, sym, ◌∙◌, ap, subst, arith, set, take, drop, get_or, Bor, add-one, drop-cons}
 use Rattle.std.specs.Prelude.{slice_set, Result, Ok, Err, OnOk, IfOk, MatchResult}
 use Rattle.std.specs.List.{AllByRecursion}
+use Rattle.std.proofs.lemmas.Bool.{cases_lt}
 use Rattle.std.proofs.Math.Seq.{take-suc}
 use Rattle.std.proofs.lemmas.List.{map-append, length-map, length-take-le, take-append-drop}
 use Rattle.ti_tool.specs.declared.params.WordFault.{WordFault}
 use Rattle.ti_tool.specs.declared.params.WordFault.TheVariants.{TooMany, BadWord}
 use Rattle.ti_expand.specs.declared.values.Value.{Value}
 use Rattle.ti_line.specs.Line.{texts_of}
-use Rattle.ti_tool.specs.Params.{IsParam, Stand, AreParams, IsFirstBad}
+use Rattle.ti_tool.specs.Params.{IsParam, Stand, AreParams, IsFirstBad, IsWordFault}
 
 -- the first words stand for the first values, and the values after them are 0
 pub stand_more : (words : List (List ℕ)) (word : List ℕ) (values : List Value) (value : Value) → Stand words values → length words < length values → IsParam word value
@@ -82,3 +83,12 @@ pub no_params : (ws : List (List ℕ)) (fault : WordFault) (r : Result (List Val
     → ((which : ℕ) → r ≡ Err (BadWord which) → IsFirstBad which ws) → (values : List Value) → ¬ AreParams ws values
 no_params ws TooMany r e many bad values p = omega (arith, many e, stand_few ws values p.1)
 no_params ws (BadWord which) r e many bad values p = bad_none which ws values (bad which e) p.1
+
+-- why they are refused
+pub params_refused : (ws : List (Bor (List ℕ))) (fault : WordFault) (r : Result (List Value) WordFault) → r ≡ Err fault → (r ≡ Err TooMany → 9 < length ws) → (9 < length ws → r ≡ Err TooMany)
+    → ((which : ℕ) → r ≡ Err (BadWord which) → IsFirstBad which (texts_of ws)) → IsWordFault (texts_of ws) fault
+params_refused ws TooMany r e many few bad = omega (arith, many e, length-map ws (λ w. w.now))
+params_refused ws (BadWord which) r e many few bad = elim (cases_lt 9 (length ws)) [
+  | inl past ↦ absurd (cc (few past, e))
+  | inr within ↦ (omega (arith, length-map ws (λ w. w.now)), bad which e)
+]

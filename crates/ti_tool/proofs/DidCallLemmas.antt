@@ -1,6 +1,6 @@
 -- What a call has done, from what it read and what it wrote.
 use Rattle.std.proofs.Common.{◌≡◌, ℕ, ◌⊎◌, inl, inr, List, Ok, Err, Some, subst, sym, ap, ◌∙◌}
-use Rattle.std.specs.Prelude.{Option, Result}
+use Rattle.std.specs.Prelude.{Option, Result, IfErr}
 use Rattle.std.specs.Io.KnownBytes.{Consumes, IsAtEnd}
 use Rattle.std.proofs.KnownBytes.{Keeps-refl}
 use Rattle.ti_tool.specs.declared.fault.ToolFault.{ToolFault}
@@ -9,35 +9,34 @@ use Rattle.ti_layout.specs.declared.fault.Refused.{Refused}
 use Rattle.ti_layout.specs.Refusal.{refusal, failure}
 use Rattle.ti_entry.specs.Reading.{Reading, new_reading, reading_after}
 use Rattle.ti_tool.specs.inner.ReadsInto.{ReadsInto}
-use Rattle.ti_tool.specs.Calls.{Wrote, HasReadEnough, DidCall, HasFailed}
+use Rattle.ti_tool.specs.Calls.{Wrote, HasReadEnough, DidCall, HasFailed, IsFailedWrite}
+use Rattle.ti_tool.specs.inner.Dues.{FailsAsDue}
+use Rattle.ti_tool.proofs.IsDueLemmas.{IsNeverOwn}
 use Rattle.ti_tool.specs.inner.Kept.{StopsReading}
 
--- a writer's own fault is due to nothing
-abbrev pub NeverWrite : (Result (List ℕ) ToolFault → Type 0) → Type 0
-NeverWrite due = (gone : ℕ) → ¬ due (Err (fault.Write gone))
-
-failed : (due : Result (List ℕ) ToolFault → Type 0) (held : Option (List ℕ)) (e : ToolFault) → NeverWrite due → (e ≡ fault.Memory) ⊎ due (Err e) → Wrote due held held (Err e)
+failed : (due : Result (List ℕ) ToolFault → Type 0) (held : Option (List ℕ)) (e : ToolFault) → IsNeverOwn due → FailsAsDue due e → Wrote due held held (Err e)
 failed due held fault.Read never h = Keeps-refl held
-failed due held fault.Memory never h = Keeps-refl held
-failed due held (fault.Write gone) never (inl e) = absurd (cc)
-failed due held (fault.Write gone) never (inr d) = absurd (never gone d)
-failed due held (fault.Entry refused) never (inl e) = absurd (cc)
+failed due held fault.Memory never (inl (e, needs)) = (needs, Keeps-refl held)
+failed due held fault.Memory never (inr d) = absurd (never.no_memory d)
+failed due held (fault.Write gone) never (inl (e, needs)) = absurd (cc)
+failed due held (fault.Write gone) never (inr d) = absurd (never.no_write gone d)
+failed due held (fault.Entry refused) never (inl (e, needs)) = absurd (cc)
 failed due held (fault.Entry refused) never (inr d) = (d, Keeps-refl held)
-failed due held (fault.Cap refused) never (inl e) = absurd (cc)
+failed due held (fault.Cap refused) never (inl (e, needs)) = absurd (cc)
 failed due held (fault.Cap refused) never (inr d) = (d, Keeps-refl held)
-failed due held (fault.TextTooLong k) never (inl e) = absurd (cc)
+failed due held (fault.TextTooLong k) never (inl (e, needs)) = absurd (cc)
 failed due held (fault.TextTooLong k) never (inr d) = (d, Keeps-refl held)
-failed due held (fault.Encode unfit) never (inl e) = absurd (cc)
+failed due held (fault.Encode unfit) never (inl (e, needs)) = absurd (cc)
 failed due held (fault.Encode unfit) never (inr d) = (d, Keeps-refl held)
-failed due held fault.NoSuchText never (inl e) = absurd (cc)
+failed due held fault.NoSuchText never (inl (e, needs)) = absurd (cc)
 failed due held fault.NoSuchText never (inr d) = (d, Keeps-refl held)
-failed due held (fault.TooMuch need) never (inl e) = absurd (cc)
+failed due held (fault.TooMuch need) never (inl (e, needs)) = absurd (cc)
 failed due held (fault.TooMuch need) never (inr d) = (d, Keeps-refl held)
 
 ended : (enough : Type 0) (left : Option (List ℕ)) (answer : Result (Unit {0}) ToolFault) → enough ⊎ IsAtEnd left → HasReadEnough enough left answer
 ended enough left (Ok u) h = h
 ended enough left (Err fault.Read) h = tt
-ended enough left (Err fault.Memory) h = tt
+ended enough left (Err fault.Memory) h = h
 ended enough left (Err (fault.Write gone)) h = h
 ended enough left (Err (fault.Entry refused)) h = h
 ended enough left (Err (fault.Cap refused)) h = h
@@ -48,31 +47,32 @@ ended enough left (Err (fault.TooMuch need)) h = h
 
 -- a call that found a fault before it wrote
 pub did_fail : (due : List ℕ → Result (List ℕ) ToolFault → Type 0) (enough : List ℕ → Type 0) (left0 left1 held : Option (List ℕ)) (input : List ℕ) (e : ToolFault)
-    → Consumes left0 left1 input → enough input ⊎ IsAtEnd left1 → NeverWrite (due input) → (e ≡ fault.Memory) ⊎ due input (Err e)
+    → Consumes left0 left1 input → enough input ⊎ IsAtEnd left1 → IsNeverOwn (due input) → FailsAsDue (due input) e
     → DidCall due enough left0 left1 held held (Err e)
 did_fail due enough left0 left1 held input e read at never h =
     record { input = input; read = read; ended = ended (enough input) left1 (Err e) at; wrote = failed (due input) held e never h }
 
+-- only a failed write leaves a result that is not written whole
 wrote_due : (due : Result (List ℕ) ToolFault → Type 0) (out : List ℕ) (held0 held1 : Option (List ℕ)) (answer : Result (Unit {0}) ToolFault) → due (Ok out)
-    → Wrote (λ d. d ≡ Ok out) held0 held1 answer → Wrote due held0 held1 answer
-wrote_due due out held0 held1 (Ok u) d (x, is, a) = (x, (let P : Result (List ℕ) ToolFault → Type 0 = λ r. due r in subst P (sym is) d), a)
-wrote_due due out held0 held1 (Err (fault.Write gone)) d (x, is, l, a) = (x, (let P : Result (List ℕ) ToolFault → Type 0 = λ r. due r in subst P (sym is) d), l, a)
-wrote_due due out held0 held1 (Err fault.Read) d w = w
-wrote_due due out held0 held1 (Err fault.Memory) d w = w
-wrote_due due out held0 held1 (Err (fault.Entry refused)) d w = absurd (cc (w.0))
-wrote_due due out held0 held1 (Err (fault.Cap refused)) d w = absurd (cc (w.0))
-wrote_due due out held0 held1 (Err (fault.TextTooLong k)) d w = absurd (cc (w.0))
-wrote_due due out held0 held1 (Err (fault.Encode unfit)) d w = absurd (cc (w.0))
-wrote_due due out held0 held1 (Err fault.NoSuchText) d w = absurd (cc (w.0))
-wrote_due due out held0 held1 (Err (fault.TooMuch need)) d w = absurd (cc (w.0))
+    → Wrote (λ d. d ≡ Ok out) held0 held1 answer → IfErr answer IsFailedWrite → Wrote due held0 held1 answer
+wrote_due due out held0 held1 (Ok u) d (x, is, a) fails = (x, (let P : Result (List ℕ) ToolFault → Type 0 = λ r. due r in subst P (sym is) d), a)
+wrote_due due out held0 held1 (Err (fault.Write gone)) d (x, is, l, a) fails = (x, (let P : Result (List ℕ) ToolFault → Type 0 = λ r. due r in subst P (sym is) d), l, a)
+wrote_due due out held0 held1 (Err fault.Read) d w fails = absurd fails
+wrote_due due out held0 held1 (Err fault.Memory) d w fails = absurd fails
+wrote_due due out held0 held1 (Err (fault.Entry refused)) d w fails = absurd fails
+wrote_due due out held0 held1 (Err (fault.Cap refused)) d w fails = absurd fails
+wrote_due due out held0 held1 (Err (fault.TextTooLong k)) d w fails = absurd fails
+wrote_due due out held0 held1 (Err (fault.Encode unfit)) d w fails = absurd fails
+wrote_due due out held0 held1 (Err fault.NoSuchText) d w fails = absurd fails
+wrote_due due out held0 held1 (Err (fault.TooMuch need)) d w fails = absurd fails
 
 -- a call that wrote what is due
 pub did_write : (due : List ℕ → Result (List ℕ) ToolFault → Type 0) (enough : List ℕ → Type 0) (left0 left1 held0 held1 : Option (List ℕ)) (input out written : List ℕ) (answer : Result (Unit {0}) ToolFault)
     → Consumes left0 left1 input → enough input ⊎ IsAtEnd left1 → due input (Ok out) → written ≡ out → Wrote (λ d. d ≡ Ok written) held0 held1 answer
-    → DidCall due enough left0 left1 held0 held1 answer
-did_write due enough left0 left1 held0 held1 input out written answer read at d e w =
+    → IfErr answer IsFailedWrite → DidCall due enough left0 left1 held0 held1 answer
+did_write due enough left0 left1 held0 held1 input out written answer read at d e w fails =
     let P : List ℕ → Type 0 = λ x. due input (Ok x) in
-    record { input = input; read = read; ended = ended (enough input) left1 answer at; wrote = wrote_due (due input) written held0 held1 answer (subst P (sym e) d) w }
+    record { input = input; read = read; ended = ended (enough input) left1 answer at; wrote = wrote_due (due input) written held0 held1 answer (subst P (sym e) d) w fails }
 
 -- a call whose reader failed
 pub did_not_read : (due : List ℕ → Result (List ℕ) ToolFault → Type 0) (enough : List ℕ → Type 0) (left0 left1 held : Option (List ℕ)) (old new : List ℕ)

@@ -1,38 +1,42 @@
--- What is due for a named text.
-use Rattle.std.proofs.Common.{◌≡◌, ◌⊎◌, ℕ, inl, inr, Bool, List, Err}
-use Rattle.std.specs.Prelude.{Option}
+-- What is never due: that a write failed, and that memory was refused.
+use Rattle.std.proofs.Common.{ℕ, inl, inr, Bool, List, Err}
+use Rattle.std.specs.Prelude.{Option, Result}
 use Rattle.ti_words.specs.declared.Width.{Width}
 use Rattle.ti_words.specs.Texts.{TextValue, AbsentText, CancelledText, TextOf}
 use Rattle.ti_expand.specs.declared.values.Value.{Value}
 use Rattle.ti_pad.specs.Setting.{Setting}
-use Rattle.ti_words.specs.Value.{EntryValue}
-use Rattle.ti_words.specs.Spelling.{Spells}
 use Rattle.ti_tool.specs.declared.fault.ToolFault.{ToolFault}
 use Rattle.ti_tool.specs.declared.fault.ToolFault.TheVariants as fault
-use Rattle.ti_tool.specs.Results.{IsConverted, IsDue, IsDueFor, IsEncoding, IsExpanded, in_width}
+use Rattle.ti_tool.specs.Results.{IsConverted, IsDue, IsExpanded}
 
-due_never : (text : TextValue) (parameters : List Value) (setting : Setting) (hex : Bool) (gone : ℕ) → ¬ IsDue text parameters setting hex (Err (fault.Write gone))
-due_never AbsentText parameters setting hex gone d = absurd (cc)
-due_never CancelledText parameters setting hex gone d = absurd (cc)
-due_never (TextOf text) parameters setting hex gone d = d
+-- the faults of a call itself are not due
+pub record IsNeverOwn (due : Result (List ℕ) ToolFault → Type 0) : Type 0 where
+  pub no_write : (gone : ℕ) → ¬ due (Err (fault.Write gone))
+  pub no_memory : ¬ due (Err fault.Memory)
 
--- a writer's fault is due to no name
-pub named_never : (name : List ℕ) (parameters : List Value) (setting : Setting) (hex : Bool) (input : List ℕ) (gone : ℕ) → ¬ IsExpanded name parameters setting hex input (Err (fault.Write gone))
-named_never name parameters setting hex input gone (inl (refused, is, e)) = absurd (cc)
-named_never name parameters setting hex input gone (inr (v, spells, d)) = let (text, called, due) = d in due_never text parameters setting hex gone due
+text_never : (text : TextValue) (parameters : List Value) (setting : Setting) (hex : Bool) → IsNeverOwn (IsDue text parameters setting hex)
+text_never AbsentText parameters setting hex = record { no_write = λ gone d. cc; no_memory = λ d. cc }
+text_never CancelledText parameters setting hex = record { no_write = λ gone d. cc; no_memory = λ d. cc }
+text_never (TextOf text) parameters setting hex = record { no_write = λ gone d. d; no_memory = λ d. d }
 
--- what is due for an entry is due for the bytes that spell it
-pub named_due : (name : List ℕ) (parameters : List Value) (setting : Setting) (hex : Bool) (input : List ℕ) (v : EntryValue) (e : ToolFault) → Spells input v
-    → (e ≡ fault.Memory) ⊎ IsDueFor name parameters setting hex v (Err e) → (e ≡ fault.Memory) ⊎ IsExpanded name parameters setting hex input (Err e)
-named_due name parameters setting hex input v e spells (inl is) = inl is
-named_due name parameters setting hex input v e spells (inr d) = inr (inr (v, spells, d))
+pub named_never : (name : List ℕ) (parameters : List Value) (setting : Setting) (hex : Bool) (input : List ℕ) → IsNeverOwn (IsExpanded name parameters setting hex input)
+named_never name parameters setting hex input = record { no_write = writes; no_memory = takes }
+  where
+    writes : (gone : ℕ) → ¬ IsExpanded name parameters setting hex input (Err (fault.Write gone))
+    writes gone (inl (refused, is, e)) = absurd (cc)
+    writes gone (inr (v, spells, (text, called, d))) = (text_never text parameters setting hex).no_write gone d
 
--- a writer's fault is due to no conversion
-pub converted_never : (width : Option Width) (input : List ℕ) (gone : ℕ) → ¬ IsConverted width input (Err (fault.Write gone))
-converted_never width input gone (inl (refused, is, e)) = absurd (cc)
-converted_never width input gone (inr (v, spells, h)) = h
+    takes : ¬ IsExpanded name parameters setting hex input (Err fault.Memory)
+    takes (inl (refused, is, e)) = absurd (cc)
+    takes (inr (v, spells, (text, called, d))) = (text_never text parameters setting hex).no_memory d
 
--- what an entry is encoded as is due for the bytes that spell it
-pub converted_due : (width : Option Width) (input : List ℕ) (v : EntryValue) (e : ToolFault) → Spells input v → (e ≡ fault.Memory) ⊎ IsEncoding (in_width width v) (Err e) → (e ≡ fault.Memory) ⊎ IsConverted width input (Err e)
-converted_due width input v e spells (inl is) = inl is
-converted_due width input v e spells (inr h) = inr (inr (v, spells, h))
+pub converted_never : (width : Option Width) (input : List ℕ) → IsNeverOwn (IsConverted width input)
+converted_never width input = record { no_write = writes; no_memory = takes }
+  where
+    writes : (gone : ℕ) → ¬ IsConverted width input (Err (fault.Write gone))
+    writes gone (inl (refused, is, e)) = absurd (cc)
+    writes gone (inr (v, spells, h)) = h
+
+    takes : ¬ IsConverted width input (Err fault.Memory)
+    takes (inl (refused, is, e)) = absurd (cc)
+    takes (inr (v, spells, h)) = h

@@ -2,7 +2,7 @@
 use Rattle.std.proofs.Common.{◌≡◌, ℕ, List, subst, pos}
 use Rattle.std.specs.Prelude.{replicate, Result, Ok, Err, ℤ, ◌↔◌}
 use Rattle.ti_expand.specs.declared.fault.ExpandFault.{ExpandFault}
-use Rattle.ti_expand.specs.declared.fault.ExpandFault.TheVariants.{TextTooLong}
+use Rattle.ti_expand.specs.declared.fault.ExpandFault.TheVariants.{TextTooLong, Memory}
 use Rattle.ti_cap.specs.Capability.{IsWellFormed}
 use Rattle.ti_expand.specs.declared.values.Value.{Value}
 use Rattle.ti_expand.specs.State.{start}
@@ -21,3 +21,8 @@ expansion input capability parameters zeros out e z formed short is =
 pub none_too_long : {V : Type 0} (r : Result V ExpandFault) (v : V) (parameters : List Value) → ((k : ℕ) → (r ≡ Err (TextTooLong k)) ↔ IsFirstTooLong parameters k) → r ≡ Ok v
     → (k : ℕ) → ¬ IsFirstTooLong parameters k
 none_too_long r v parameters h is k first = let e : r ≡ Err (TextTooLong k) = (h k).1 first in absurd (cc)
+
+-- nor has what was refused its memory
+pub none_too_long_before : {V : Type 0} (r : Result V ExpandFault) (parameters : List Value) → ((k : ℕ) → (r ≡ Err (TextTooLong k)) ↔ IsFirstTooLong parameters k) → r ≡ Err Memory
+    → (k : ℕ) → ¬ IsFirstTooLong parameters k
+none_too_long_before r parameters h is k first = let e : r ≡ Err (TextTooLong k) = (h k).1 first in absurd (cc)

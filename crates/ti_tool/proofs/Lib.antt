@@ -1,6 +1,9 @@
-pub mod DidCallLemmas
-pub mod IsExpansionLemmas
 pub mod IsDueLemmas
+pub mod DidCallLemmas
+pub mod ToldLemmas
+pub mod IsExpansionLemmas
+pub mod IsCalledLemmas
+pub mod NeedsMemoryLemmas
 pub mod IsLabelLemmas
 pub mod LinesFromLemmas
 pub mod IsExtendedLineLemmas
@@ -9,3 +12,4 @@ pub mod AreParamsLemmas
 pub mod ReadsIntoLemmas
 pub mod AreLinesLemmas
 pub mod WideAndBackLemmas
+pub mod OneResultLemmas

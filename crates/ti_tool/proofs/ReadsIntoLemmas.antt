@@ -1,13 +1,10 @@
 -- Pieces that a source gave one after another.
-use Rattle.std.proofs.Common.{◌≡◌, ◌∙◌, ◌⊎◌, ◌+◌, ℕ, length, List, [], ◌++◌, sym, ap, subst, append-nil, append_assoc}
+use Rattle.std.proofs.Common.{◌≡◌, ◌∙◌, ◌⊎◌, ◌+◌, ℕ, length, List, [], ◌++◌, sym, ap, subst, append_assoc}
 use Rattle.std.specs.Prelude.{Option}
 use Rattle.std.specs.Io.KnownBytes.{Consumes}
-use Rattle.std.proofs.KnownBytes.{Consumes-nil, Consumes-trans}
+use Rattle.std.proofs.KnownBytes.{Consumes-trans}
 use Rattle.ti_base.specs.Limits.{most_capability_bytes}
 use Rattle.ti_tool.specs.inner.ReadsInto.{ReadsInto}
-
-pub ReadsInto-nil : (a : Option (List ℕ)) (xs : List ℕ) → ReadsInto a a xs xs
-ReadsInto-nil a xs = ([], Consumes-nil a, sym (append-nil xs))
 
 pub ReadsInto-next : (a b c : Option (List ℕ)) (xs ys zs piece : List ℕ) → ReadsInto a b xs ys → Consumes b c piece → zs ≡ ys ++ piece → ReadsInto a c xs zs
 ReadsInto-next a b c xs ys zs piece before took e =

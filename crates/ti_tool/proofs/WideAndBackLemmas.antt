@@ -6,7 +6,7 @@ use Rattle.ti_words.specs.Value.{EntryValue}
 use Rattle.ti_words.specs.Spelling.{Spells}
 use Rattle.ti_draft.specs.Canonical.{canonical}
 use Rattle.ti_entry.proofs.SpellsAtMostOneLemmas.{at_most_one}
-use Rattle.ti_entry.proofs.EncodedSpellsLemmas.{canonical_spells}
+use Rattle.ti_draft.proofs.EncodedSpellsLemmas.{canonical_spells}
 use Rattle.ti_tool.specs.Results.{IsConverted, IsEncoding, in_width}
 use Rattle.ti_tool.specs.Laws.{WideAndBack}
 

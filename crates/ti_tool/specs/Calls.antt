@@ -7,22 +7,37 @@ use Rattle.ti_layout.specs.Refusal.{failure}
 use Rattle.ti_tool.specs.declared.fault.ToolFault.{ToolFault}
 use Rattle.ti_tool.specs.declared.fault.ToolFault.TheVariants as fault
 
+-- a fault that is found only once memory was taken, for an expansion or a draft
+abbrev pub ComesAfterMemory : ToolFault → Type 0
+ComesAfterMemory (fault.TooMuch need) = Unit {0}
+ComesAfterMemory (fault.Encode unfit) = Unit {0}
+ComesAfterMemory _ = ⊥
+
+-- what is due needs memory: no fault is due but one that comes after it
+abbrev pub NeedsMemory : (Result (List ℕ) ToolFault → Type 0) → Type 0
+NeedsMemory due = (e : ToolFault) → due (Err e) → ComesAfterMemory e
+
 -- What was written, where `due` says which result or fault is due. Nothing is written but a part of
--- the due result: all of it, or the first `gone` bytes where the writer failed.
+-- the due result: all of it, or the first `gone` bytes where the writer failed. Out of memory is
+-- answered only where what is due needs memory.
 abbrev pub Wrote : (Result (List ℕ) ToolFault → Type 0) → Option (List ℕ) → Option (List ℕ)
     → Result (Unit {0}) ToolFault → Type 0
 Wrote due before after (Ok u) = (out : List ℕ) × due (Ok out) × Appends before after out
 Wrote due before after (Err (fault.Write gone)) =
     (out : List ℕ) × due (Ok out) × (gone < length out) × Appends before after (take gone out)
 Wrote due before after (Err fault.Read) = Keeps before after
-Wrote due before after (Err fault.Memory) = Keeps before after
+Wrote due before after (Err fault.Memory) = NeedsMemory due × Keeps before after
 Wrote due before after (Err other) = due (Err other) × Keeps before after
 
--- the answer rests on all that there is to read, or on as much as is enough
+-- the answer rests on all that there is to read, or on as much as is enough, unless reading failed
 abbrev pub HasReadEnough : Type 0 → Option (List ℕ) → Result (Unit {0}) ToolFault → Type 0
 HasReadEnough enough left (Err fault.Read) = Unit {0}
-HasReadEnough enough left (Err fault.Memory) = Unit {0}
 HasReadEnough enough left _ = enough ⊎ IsAtEnd left
+
+-- a failed write, which is the only fault that may leave something written
+abbrev pub IsFailedWrite : ToolFault → Type 0
+IsFailedWrite (fault.Write gone) = Unit {0}
+IsFailedWrite _ = ⊥
 
 -- a call read an input, and wrote what is due for it
 pub record DidCall (due : List ℕ → Result (List ℕ) ToolFault → Type 0) (enough : List ℕ → Type 0)

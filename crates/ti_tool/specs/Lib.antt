@@ -5,6 +5,7 @@ pub mod Names
 pub mod Verdicts
 pub mod Results
 pub mod Calls
+pub mod FaultLines
 pub mod Runs
 pub mod Laws
 pub mod inner

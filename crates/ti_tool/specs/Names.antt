@@ -6,7 +6,7 @@ use Rattle.ti_words.specs.Names.{Place, place_of}
 use Rattle.ti_words.specs.Texts.{TextValue, AbsentText}
 use Rattle.ti_words.specs.Value.{EntryValue}
 use Rattle.ti_words.specs.Spelling.{mark_in}
-use Rattle.ti_entry.specs.Finding.{IsFirst, names_of}
+use Rattle.ti_entry.specs.Finding.{IsLeastIndex, names_of}
 
 -- `#` and one to five digits
 abbrev pub IsLabel : List ℕ → ℕ → Type 0
@@ -22,7 +22,7 @@ text_found (Some index) v = get_or (map mark_in v.extended_texts) index AbsentTe
 -- the first extended text with the name
 abbrev pub IsExtendedCalled : List ℕ → EntryValue → TextValue → Type 0
 IsExtendedCalled name v text =
-    (found : Option ℕ) × IsFirst (names_of v kinds.Text) name found × (text ≡ text_found found v)
+    (found : Option ℕ) × IsLeastIndex (names_of v kinds.Text) name found × (text ≡ text_found found v)
 
 -- the text at the place that the table of names tells, or else the extended text of the name
 abbrev pub IsNamedText : Option Place → List ℕ → EntryValue → TextValue → Type 0

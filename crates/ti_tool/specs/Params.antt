@@ -1,10 +1,12 @@
 -- What the words of a command line stand for as parameters of a capability.
-use Rattle.std.specs.Prelude.{◌≡◌, ℕ, ◌<◌, ◌-◌, List, [], ◌∷◌, ◌++◌, length, codes, ℤ, pos, neg_ℤ, FitsSigned, ◌⊎◌}
+use Rattle.std.specs.Prelude.{◌≡◌, ℕ, ◌<◌, ◌≤◌, ◌-◌, List, [], ◌∷◌, ◌++◌, length, codes, ℤ, pos, neg_ℤ, FitsSigned, ◌⊎◌}
 use Rattle.std.specs.List.{AllByRecursion}
 use Rattle.std.specs.Int.{w32}
 use Rattle.std.specs.Str.Parse.{IsNumeral, digits_value}
 use Rattle.ti_expand.specs.declared.values.Value.{Value}
 use Rattle.ti_expand.specs.declared.values.Value.TheVariants.{Num, Text}
+use Rattle.ti_tool.specs.declared.params.WordFault.{WordFault}
+use Rattle.ti_tool.specs.declared.params.WordFault.TheVariants as faults
 
 -- decimal digits, one or more, with a `-` before them or none, that stand for a number of 32 bits
 abbrev pub IsNumber : List ℕ → ℤ → Type 0
@@ -38,3 +40,8 @@ IsFirstBad which [] = ⊥
 IsFirstBad which (word ∷ words) =
     ((which ≡ 1) × ((value : Value) → ¬ IsParam word value))
     ⊎ ((1 < which) × ((value : Value) × IsParam word value) × IsFirstBad (which - 1) words)
+
+-- why words stand for no parameters
+abbrev pub IsWordFault : List (List ℕ) → WordFault → Type 0
+IsWordFault words faults.TooMany = 9 < length words
+IsWordFault words (faults.BadWord which) = (length words ≤ 9) × IsFirstBad which words

@@ -1,6 +1,6 @@
 -- What a run of the program does.
-use Rattle.std.specs.Prelude.{◌≡◌, ◌⊎◌, ℕ, Bool, true, false, ◌&&◌, List, Option, Some, None, Result, Ok, Err}
-use Rattle.std.specs.Io.KnownBytes.{Keeps}
+use Rattle.std.specs.Prelude.{◌≡◌, ◌<◌, ◌⊎◌, ℕ, Bool, true, false, ◌&&◌, List, Option, Some, None, Result, Ok, Err, length, take}
+use Rattle.std.specs.Io.KnownBytes.{Appends, Keeps}
 use Rattle.ti_words.specs.declared.Width.{Width}
 use Rattle.ti_words.specs.declared.Width.TheVariants.{Legacy, Wide}
 use Rattle.ti_expand.specs.declared.values.Value.{Value}
@@ -8,7 +8,9 @@ use Rattle.ti_pad.specs.Setting.{Setting}
 use Rattle.ti_line.specs.CommandLine.{Request, AsksForHelp, Cap, Show, Check, Expand, Convert, IsRefused}
 use Rattle.ti_tool.specs.declared.fault.ToolFault.{ToolFault}
 use Rattle.ti_tool.specs.declared.fault.ToolFault.TheVariants as fault
-use Rattle.ti_tool.specs.Params.{AreParams}
+use Rattle.ti_tool.specs.declared.params.WordFault.{WordFault}
+use Rattle.ti_tool.specs.FaultLines.{Told, answer_line, fault_line, widths_line, words_line}
+use Rattle.ti_tool.specs.Params.{AreParams, IsWordFault}
 use Rattle.ti_tool.specs.Results.{IsCapped, IsChecked, IsConverted, IsExpanded, IsShown}
 use Rattle.ti_tool.specs.Calls.{DidCall, DidCheck, IsFull, HasFailed}
 
@@ -35,21 +37,37 @@ check_status (Err e) = status_for (Err e)
 abbrev pub Stream : Type 0
 Stream = Option (List ℕ)
 
--- In what follows `left0` and `left1` are what the reader has left before and after, and `held0`
--- and `held1` what the writer of the results holds.
+-- the reader and the writer of the results are what they were
+abbrev pub Untouched : {R W : Type 0} → R → R → W → W → Type 0
+Untouched input0 input1 output0 output1 = (input1 ≡ input0) × (output1 ≡ output0)
 
--- a run that refuses its words reads nothing, and writes nothing to the results
-abbrev pub RefusesWords : Stream → Stream → Stream → Stream → ℕ → Type 0
-RefusesWords left0 left1 held0 held1 status = (status ≡ 2) × (left1 ≡ left0) × Keeps held0 held1
+-- In what follows `left0` and `left1` are what the reader has left before and after, `held0` and
+-- `held1` what the writer of the results holds, `told0` and `told1` what the writer of the lines on
+-- faults holds; `untouched` says that the first two are what they were.
+
+-- the status is that of the answer, and its line was written
+abbrev pub Ends : Result (Unit {0}) ToolFault → Stream → Stream → ℕ → Type 0
+Ends answer told0 told1 status =
+    (status ≡ status_for answer) × Told (answer_line answer) told0 told1
+
+-- and of an answer of `check`
+abbrev pub EndsCheck : Result Bool ToolFault → Stream → Stream → ℕ → Type 0
+EndsCheck answer told0 told1 status =
+    (status ≡ check_status answer) × Told (answer_line answer) told0 told1
+
+-- a run that refuses its words reads nothing, and writes nothing but a text on them
+abbrev pub RefusesWords : List ℕ → Type 0 → Stream → Stream → ℕ → Type 0
+RefusesWords text untouched told0 told1 status =
+    (status ≡ 2) × untouched × Told text told0 told1
 
 -- the words of the parameters stand for none, or a call did its work with them
 abbrev pub RanWith : (List Value → Result (Unit {0}) ToolFault → Type 0) → List (List ℕ)
-    → Stream → Stream → Stream → Stream → ℕ → Type 0
-RanWith Did words left0 left1 held0 held1 status =
-    (((values : List Value) → ¬ AreParams words values)
-    × RefusesWords left0 left1 held0 held1 status)
+    → Type 0 → Stream → Stream → ℕ → Type 0
+RanWith Did words untouched told0 told1 status =
+    ((why : WordFault) × IsWordFault words why × ((values : List Value) → ¬ AreParams words values)
+    × RefusesWords (words_line why) untouched told0 told1 status)
     ⊎ ((values : List Value) × (answer : Result (Unit {0}) ToolFault)
-    × AreParams words values × Did values answer × (status ≡ status_for answer))
+    × AreParams words values × Did values answer × Ends answer told0 told1 status)
 
 -- the padding of the options of `expand`; the pad byte is 0
 abbrev pub setting_of : ℕ → ℕ → Bool → Setting
@@ -62,46 +80,63 @@ width_asked false true = Some Legacy
 width_asked false false = None
 
 -- a line did what it asks for; both flags of `convert` together are refused as bad parameters are
-abbrev pub RanLine : Request → Stream → Stream → Stream → Stream → ℕ → Type 0
-RanLine (Cap hex words) left0 left1 held0 held1 status =
+abbrev pub RanLine : Request → Type 0 → Stream → Stream → Stream → Stream → Stream → Stream → ℕ
+    → Type 0
+RanLine (Cap hex words) untouched left0 left1 held0 held1 told0 told1 status =
     RanWith
     (λ values answer. DidCall (IsCapped values hex) IsFull left0 left1 held0 held1 answer)
-    words left0 left1 held0 held1 status
-RanLine Show left0 left1 held0 held1 status =
+    words untouched told0 told1 status
+RanLine Show untouched left0 left1 held0 held1 told0 told1 status =
     (answer : Result (Unit {0}) ToolFault)
-    × DidCall IsShown HasFailed left0 left1 held0 held1 answer × (status ≡ status_for answer)
-RanLine Check left0 left1 held0 held1 status =
+    × DidCall IsShown HasFailed left0 left1 held0 held1 answer × Ends answer told0 told1 status
+RanLine Check untouched left0 left1 held0 held1 told0 told1 status =
     (answer : Result Bool ToolFault)
-    × DidCheck IsChecked left0 left1 held0 held1 answer × (status ≡ check_status answer)
-RanLine (Expand name hex rate lines xon words) left0 left1 held0 held1 status =
+    × DidCheck IsChecked left0 left1 held0 held1 answer × EndsCheck answer told0 told1 status
+RanLine (Expand name hex rate lines xon words)
+    untouched left0 left1 held0 held1 told0 told1 status =
     RanWith
     (λ values answer. DidCall (IsExpanded name values (setting_of rate lines xon) hex) HasFailed
     left0 left1 held0 held1 answer)
-    words left0 left1 held0 held1 status
-RanLine (Convert wide narrow) left0 left1 held0 held1 status =
-    ((wide && narrow ≡ true) × RefusesWords left0 left1 held0 held1 status)
+    words untouched told0 told1 status
+RanLine (Convert wide narrow) untouched left0 left1 held0 held1 told0 told1 status =
+    ((wide && narrow ≡ true) × RefusesWords widths_line untouched told0 told1 status)
     ⊎ ((wide && narrow ≡ false)
     × ((answer : Result (Unit {0}) ToolFault)
     × DidCall (IsConverted (width_asked wide narrow)) HasFailed left0 left1 held0 held1 answer
-    × (status ≡ status_for answer)))
+    × Ends answer told0 told1 status))
 
 -- memory was refused, and nothing is done
-abbrev pub HadNoMemory : Stream → Stream → Stream → Stream → ℕ → Type 0
-HadNoMemory left0 left1 held0 held1 status = (status ≡ 6) × (left1 ≡ left0) × Keeps held0 held1
+abbrev pub HadNoMemory : Type 0 → Stream → Stream → ℕ → Type 0
+HadNoMemory untouched told0 told1 status =
+    (status ≡ 6) × untouched × Told (fault_line fault.Memory) told0 told1
 
--- words that are no line: they ask for help, which is all that is written, or they are refused;
--- nothing is read
-abbrev pub RanNoLine : List (List ℕ) → Stream → Stream → Stream → Stream → ℕ → Type 0
-RanNoLine words left0 left1 held0 held1 status =
-    (AsksForHelp words × (left1 ≡ left0) × ((status ≡ 0) ⊎ (status ≡ 5)))
-    ⊎ (IsRefused words × RefusesWords left0 left1 held0 held1 status)
+-- a text was written as the result: with status 0 all of it, and nothing is told of a fault; with
+-- status 5 its first bytes and not all of them, and the line on that
+abbrev pub Answers : List ℕ → Stream → Stream → Stream → Stream → ℕ → Type 0
+Answers text held0 held1 told0 told1 status =
+    ((status ≡ 0) × Appends held0 held1 text × Keeps told0 told1)
+    ⊎ ((gone : ℕ) × (status ≡ 5) × (gone < length text) × Appends held0 held1 (take gone text)
+    × Told (fault_line (fault.Write gone)) told0 told1)
+
+-- words that are no line: they ask for help, and a text answers them, or they are refused with a
+-- text; nothing is read. What the texts say is `clap`'s, which states nothing of it.
+abbrev pub RanNoLine : List (List ℕ) → Type 0 → Type 0 → Stream → Stream → Stream → Stream → ℕ
+    → Type 0
+RanNoLine words unread untouched held0 held1 told0 told1 status =
+    (AsksForHelp words × unread
+    × ((text : List ℕ) × Answers text held0 held1 told0 told1 status))
+    ⊎ (IsRefused words × ((text : List ℕ) × RefusesWords text untouched told0 told1 status))
 
 -- a line did what it asks for, unless memory was refused before
-abbrev pub DidLine : Request → Stream → Stream → Stream → Stream → ℕ → Type 0
-DidLine line left0 left1 held0 held1 status =
-    RanLine line left0 left1 held0 held1 status ⊎ HadNoMemory left0 left1 held0 held1 status
+abbrev pub DidLine : Request → Type 0 → Stream → Stream → Stream → Stream → Stream → Stream → ℕ
+    → Type 0
+DidLine line untouched left0 left1 held0 held1 told0 told1 status =
+    RanLine line untouched left0 left1 held0 held1 told0 told1 status
+    ⊎ HadNoMemory untouched told0 told1 status
 
 -- words that are no line were answered, unless memory was refused before
-abbrev pub DidNoLine : List (List ℕ) → Stream → Stream → Stream → Stream → ℕ → Type 0
-DidNoLine words left0 left1 held0 held1 status =
-    RanNoLine words left0 left1 held0 held1 status ⊎ HadNoMemory left0 left1 held0 held1 status
+abbrev pub DidNoLine : List (List ℕ) → Type 0 → Type 0 → Stream → Stream → Stream → Stream → ℕ
+    → Type 0
+DidNoLine words unread untouched held0 held1 told0 told1 status =
+    RanNoLine words unread untouched held0 held1 told0 told1 status
+    ⊎ HadNoMemory untouched told0 told1 status

@@ -6,7 +6,7 @@ use Rattle.ti_words.specs.Value.{EntryValue}
 use Rattle.ti_cap.specs.declared.language.CapRefused.{CapRefused}
 use Rattle.ti_cap.specs.Capability.{HasDepth, HasBound}
 use Rattle.ti_cap.specs.Refusal.{IsFaultless, IsRefusal}
-use Rattle.ti_cap.specs.FaultNames.{name_of}
+use Rattle.ti_cap.specs.FaultNames.{cap_fault_word}
 use Rattle.ti_tool.specs.Labels.{label_of}
 
 -- what the line of a text says of it: its depth and bound, or its fault and the place
@@ -16,7 +16,7 @@ sound_verdict depth bound =
 
 abbrev pub fault_verdict : CapRefused → List ℕ
 fault_verdict refused =
-    codes " fault " ++ name_of refused.fault ++ codes " at " ++ decimal refused.place ++ codes "\n"
+    codes " fault " ++ cap_fault_word refused.fault ++ codes " at " ++ decimal refused.place ++ codes "\n"
 
 -- a text without a fault: its depth, and its bound where texts among the parameters have no bytes
 abbrev pub IsSoundText : List ℕ → List ℕ → Type 0

@@ -4,6 +4,7 @@ ghost use Rattle.std.specs.Prelude.{◌≡◌, ◌⊎◌, IfOk, IfErr};
 ghost use Rattle.ti_cap.specs.Refusal.{IsFaultless};
 ghost use Rattle.ti_tool.specs.declared.fault.ToolFault.TheVariants as fault;
 ghost use Rattle.ti_tool.specs.Results.{IsExpansion, IsUnexpanded};
+ghost use Rattle.ti_tool.specs.inner.Dues.{IsExpandable};
 
 use crate::fault::ToolFault;
 use std::alloc::Allocator;
@@ -19,13 +20,17 @@ pub fn expansion_of<A: Allocator + Copy>(
     ensures accepted { IfOk result (λ v. IsFaultless bytes.now) }
     ensures output { IfOk result (λ v. IsExpansion bytes.now parameters.now v.items) }
     ensures refused { IfErr result
-        (λ e. (e ≡ fault.Memory) ⊎ IsUnexpanded bytes.now parameters.now e) }
+        (λ e. ((e ≡ fault.Memory) × IsExpandable bytes.now parameters.now)
+        ⊎ IsUnexpanded bytes.now parameters.now e) }
 {
     let capability = Capability::parse(bytes)?;
     let mut vars = Vars::new();
     match expand(alloc, &capability, parameters, &mut vars) {
         Ok(output) => Ok(output),
         Err(ExpandFault::TextTooLong { parameter }) => Err(ToolFault::TextTooLong(parameter)),
-        Err(_) => Err(ToolFault::Memory),
+        Err(ExpandFault::Memory) => Err(ToolFault::Memory),
+        // The stack and the output are its own, so that it answers neither of these.
+        Err(ExpandFault::StackTooSmall { .. }) => Err(ToolFault::Memory),
+        Err(ExpandFault::OutTooSmall { .. }) => Err(ToolFault::Memory),
     }
 }

@@ -3,9 +3,9 @@
 ghost use Rattle.std.specs.Prelude.{◌≡◌};
 ghost use Rattle.ti_tool.specs.declared.fault.ToolFault.TheVariants as fault;
 
-use crate::source::ReadFailed;
 use std::alloc::AllocError;
 use thiserror::Error;
+use ti_base::ReadFailed;
 use ti_cap::CapRefused;
 use ti_entry::{EncodeFault, Refused};
 
@@ -13,28 +13,28 @@ use ti_entry::{EncodeFault, Refused};
 #[derive(Clone, Copy, Debug, PartialEq, Eq, Error)]
 pub enum ToolFault {
     /// The bytes are no entry.
-    #[error("Entry")]
+    #[error("Entry {0}")]
     Entry(Refused),
     /// The entry can't be encoded; out of memory is [`ToolFault::Memory`].
-    #[error("Encode")]
+    #[error("Encode {0}")]
     Encode(EncodeFault),
     /// The bytes are no capability.
-    #[error("Cap")]
+    #[error("Cap {0}")]
     Cap(CapRefused),
     /// The entry has no such text: it is absent or cancelled.
     #[error("NoSuchText")]
     NoSuchText,
     /// The text of this parameter, counted from 1, has more than 32767 bytes; it is the first such.
-    #[error("TextTooLong")]
+    #[error("TextTooLong {0}")]
     TextTooLong(u8),
     /// The padded text would have this many bytes, more than 67108864.
-    #[error("TooMuch")]
+    #[error("TooMuch {0}")]
     TooMuch(u128),
     /// The input could not be read.
     #[error("Read")]
     Read,
     /// The writer took this many bytes of the result and then failed.
-    #[error("Write")]
+    #[error("Write {0}")]
     Write(u64),
     /// Memory was refused.
     #[error("Memory")]

@@ -2,19 +2,20 @@
 #![tactic(auto)]
 
 mod command;
-mod entry;
+mod entry_input;
 mod expansion;
 mod fault;
+mod fault_line;
+mod item_line;
 mod label;
 pub mod laws;
-mod line;
 mod listing;
-mod names;
-mod output;
 mod params;
 mod program;
+mod result;
 mod source;
 mod status;
+mod text_name;
 mod verdict;
 
 pub use command::cap::cap_run;

@@ -5,8 +5,8 @@
 ghost use Rattle.std.specs.Prelude.{◌≡◌, ◌++◌, OnOk, IfOk};
 ghost use Rattle.ti_tool.specs.Listing.{standard_flag, standard_number, standard_text, standard_lines, extended_flag, extended_number, extended_text, extended_lines, lines_from, format_name as the_format_name, entry_lines};
 
+use crate::item_line::{push_flag, push_number, push_text};
 use crate::label::{extended_label, label_at};
-use crate::line::{push_flag, push_number, push_text};
 use std::alloc::{AllocError, Allocator};
 use ti_entry::{Entry, Extended};
 use ti_words::{Kind, Width};

@@ -19,7 +19,7 @@ pub enum WordFault {
     #[error("TooMany")]
     TooMany,
     /// A word, counted from 1, stands for no value; each word before it does.
-    #[error("BadWord")]
+    #[error("BadWord {which}")]
     BadWord {
         /// Which word it is.
         which: usize,

@@ -1,10 +1,10 @@
 //! The program over its words, a reader and two writers.
 
-ghost use Rattle.std.specs.Prelude.{◌≡◌};
+ghost use Rattle.std.specs.Prelude.{◌≡◌, ◌≤◌};
 ghost use Rattle.ti_line.specs.CommandLine.{Request, Cap, Show, Check, Convert, Reads};
 ghost use Rattle.ti_line.specs.Line.{expand_of, request_of, texts_of};
 ghost use Rattle.ti_tool.specs.inner.Ends.{EndsWords};
-ghost use Rattle.ti_tool.specs.Runs.{DidLine, DidNoLine, RanLine, status_for, width_asked as the_width_asked};
+ghost use Rattle.ti_tool.specs.Runs.{DidLine, DidNoLine, Ends, EndsCheck, RanLine, Untouched, width_asked as the_width_asked};
 
 use crate::command::cap::cap_run;
 use crate::command::check::check;
@@ -12,22 +12,35 @@ use crate::command::convert::convert;
 use crate::command::expand::expand_named;
 use crate::command::show::show;
 use crate::fault::ToolFault;
+use crate::fault_line::{tell, tell_both_widths, tell_text, tell_words};
 use crate::params::read_params;
-use crate::status::{status, status_of_check, tell, tell_both_widths, tell_words};
+use crate::status::{status, status_of_check};
 use std::alloc::{Allocator, Global};
 use std::io::{Read, Write};
 use ti_line::{Expand, Line, NoLine, read_line};
-use ti_pad::Padding;
+use ti_pad::{Padding, write_out};
 use ti_words::Width;
 
 /// The status of a call's answer, whose fault is told.
 fn finish<E: Write>(errors: &mut E, answer: Result<(), ToolFault>) -> u8
-    ensures { result ≡ status_for answer }
+    ensures ends { Ends answer (E.contents errors.old) (E.contents errors.new) result }
+    ensures silent { result ≤ 1 → errors.new ≡ errors.old }
 {
     if let Err(fault) = &answer {
         tell(errors, fault);
     }
     status(&answer)
+}
+
+/// The status of an answer of `check`, whose fault is told.
+fn finish_check<E: Write>(errors: &mut E, answer: Result<bool, ToolFault>) -> u8
+    ensures ends { EndsCheck answer (E.contents errors.old) (E.contents errors.new) result }
+    ensures silent { result ≤ 1 → errors.new ≡ errors.old }
+{
+    if let Err(fault) = &answer {
+        tell(errors, fault);
+    }
+    status_of_check(answer)
 }
 
 /// `cap` with its values.
@@ -39,9 +52,12 @@ fn run_cap<A: Allocator + Copy, R: Read, W: Write, E: Write>(
     output: &mut W,
     errors: &mut E,
 ) -> u8
-    ensures { RanLine (Cap hex (texts_of words.now))
+    ensures ran { RanLine (Cap hex (texts_of words.now))
+        (Untouched input.old input.new output.old output.new)
         (R.remaining input.old) (R.remaining input.new)
-        (W.contents output.old) (W.contents output.new) result }
+        (W.contents output.old) (W.contents output.new)
+        (E.contents errors.old) (E.contents errors.new) result }
+    ensures silent { result ≤ 1 → errors.new ≡ errors.old }
 {
     match read_params(words) {
         Ok(parameters) => {
@@ -62,9 +78,12 @@ fn run_show<A: Allocator + Copy, R: Read, W: Write, E: Write>(
     output: &mut W,
     errors: &mut E,
 ) -> u8
-    ensures { RanLine Show
+    ensures ran { RanLine Show
+        (Untouched input.old input.new output.old output.new)
         (R.remaining input.old) (R.remaining input.new)
-        (W.contents output.old) (W.contents output.new) result }
+        (W.contents output.old) (W.contents output.new)
+        (E.contents errors.old) (E.contents errors.new) result }
+    ensures silent { result ≤ 1 → errors.new ≡ errors.old }
 {
     let answer = show(alloc, input, output);
     finish(errors, answer)
@@ -77,15 +96,15 @@ fn run_check<A: Allocator + Copy, R: Read, W: Write, E: Write>(
     output: &mut W,
     errors: &mut E,
 ) -> u8
-    ensures { RanLine Check
+    ensures ran { RanLine Check
+        (Untouched input.old input.new output.old output.new)
         (R.remaining input.old) (R.remaining input.new)
-        (W.contents output.old) (W.contents output.new) result }
+        (W.contents output.old) (W.contents output.new)
+        (E.contents errors.old) (E.contents errors.new) result }
+    ensures silent { result ≤ 1 → errors.new ≡ errors.old }
 {
     let answer = check(alloc, input, output);
-    if let Err(fault) = &answer {
-        tell(errors, fault);
-    }
-    status_of_check(answer)
+    finish_check(errors, answer)
 }
 
 /// `expand` with its values.
@@ -96,9 +115,12 @@ fn run_expand<A: Allocator + Copy, R: Read, W: Write, E: Write>(
     output: &mut W,
     errors: &mut E,
 ) -> u8
-    ensures { RanLine (expand_of asked.now)
+    ensures ran { RanLine (expand_of asked.now)
+        (Untouched input.old input.new output.old output.new)
         (R.remaining input.old) (R.remaining input.new)
-        (W.contents output.old) (W.contents output.new) result }
+        (W.contents output.old) (W.contents output.new)
+        (E.contents errors.old) (E.contents errors.new) result }
+    ensures silent { result ≤ 1 → errors.new ≡ errors.old }
 {
     let padding = match Padding::new(asked.rate, asked.lines, asked.xon, 0) {
         Some(padding) => padding,
@@ -144,9 +166,12 @@ fn run_convert<A: Allocator + Copy, R: Read, W: Write, E: Write>(
     output: &mut W,
     errors: &mut E,
 ) -> u8
-    ensures { RanLine (Convert wide narrow)
+    ensures ran { RanLine (Convert wide narrow)
+        (Untouched input.old input.new output.old output.new)
         (R.remaining input.old) (R.remaining input.new)
-        (W.contents output.old) (W.contents output.new) result }
+        (W.contents output.old) (W.contents output.new)
+        (E.contents errors.old) (E.contents errors.new) result }
+    ensures silent { result ≤ 1 → errors.new ≡ errors.old }
 {
     if wide && narrow {
         tell_both_widths(errors);
@@ -164,9 +189,12 @@ fn run_line<A: Allocator + Copy, R: Read, W: Write, E: Write>(
     output: &mut W,
     errors: &mut E,
 ) -> u8
-    ensures { RanLine (request_of line.now)
+    ensures ran { RanLine (request_of line.now)
+        (Untouched input.old input.new output.old output.new)
         (R.remaining input.old) (R.remaining input.new)
-        (W.contents output.old) (W.contents output.new) result }
+        (W.contents output.old) (W.contents output.new)
+        (E.contents errors.old) (E.contents errors.new) result }
+    ensures silent { result ≤ 1 → errors.new ≡ errors.old }
 {
     match line {
         Line::Cap { hex, params } => {
@@ -183,18 +211,21 @@ fn run_line<A: Allocator + Copy, R: Read, W: Write, E: Write>(
 
 /// Words that are no line: the text of help goes where results go, any other where faults go.
 fn run_no_line<W: Write, E: Write>(why: &NoLine, output: &mut W, errors: &mut E) -> u8
-    ensures { EndsWords why.now (W.contents output.old) (W.contents output.new) result }
+    ensures ends { EndsWords why.now (output.new ≡ output.old)
+        (W.contents output.old) (W.contents output.new)
+        (E.contents errors.old) (E.contents errors.new) result }
+    ensures silent { result ≤ 1 → errors.new ≡ errors.old }
 {
     match why {
-        NoLine::Help(text) => {
-            if write!(output, "{text}").is_ok() {
-                return 0;
+        NoLine::Help(message) => match write_out(output, message.as_str().as_bytes()) {
+            Ok(()) => 0,
+            Err(gone) => {
+                tell(errors, &ToolFault::Write(gone));
+                5
             }
-            tell(errors, &ToolFault::Write(0));
-            5
-        }
-        NoLine::Refused(text) => {
-            let _ = write!(errors, "{text}");
+        },
+        NoLine::Refused(message) => {
+            tell_text(errors, message.as_str().as_bytes());
             2
         }
         NoLine::Memory => {
@@ -228,13 +259,26 @@ pub fn run<A: Allocator + Copy, R: Read, W: Write, E: Write>(
 ) -> u8
     // Where `clap` reads the words, the named call did its work, unless memory was refused.
     ensures read { (line : Request) → Reads (texts_of words.now) line → DidLine line
+        (Untouched input.old input.new output.old output.new)
         (R.remaining input.old) (R.remaining input.new)
-        (W.contents output.old) (W.contents output.new) result }
+        (W.contents output.old) (W.contents output.new)
+        (E.contents errors.old) (E.contents errors.new) result }
     // Where it does not, help was written, or the words are refused, unless memory was refused.
     ensures unread { ((line : Request) → ¬ Reads (texts_of words.now) line)
         → DidNoLine (texts_of words.now)
-        (R.remaining input.old) (R.remaining input.new)
-        (W.contents output.old) (W.contents output.new) result }
+        (input.new ≡ input.old) (Untouched input.old input.new output.old output.new)
+        (W.contents output.old) (W.contents output.new)
+        (E.contents errors.old) (E.contents errors.new) result }
+    // Words that are refused are refused before anything is read or written.
+    ensures refused { result ≡ 2 → Untouched input.old input.new output.old output.new }
+    // Where the words are no line, nothing is read.
+    ensures no_input { ((line : Request) → ¬ Reads (texts_of words.now) line)
+        → input.new ≡ input.old }
+    // Where memory is refused while they are read, nothing is read or written.
+    ensures no_memory { ((line : Request) → ¬ Reads (texts_of words.now) line)
+        → result ≡ 6 → Untouched input.old input.new output.old output.new }
+    // Without a fault nothing is written to `errors`.
+    ensures silent { result ≤ 1 → errors.new ≡ errors.old }
 {
     match read_line(global, words) {
         Ok(line) => run_line(alloc, &line, input, output, errors),

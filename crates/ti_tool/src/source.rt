@@ -8,17 +8,13 @@ ghost use Rattle.ti_tool.specs.Calls.{IsFull};
 ghost use Rattle.ti_tool.specs.inner.ReadsInto.{ReadsInto};
 
 use arrayvec::ArrayVec;
-use std::io::{ErrorKind, Read};
-use ti_base::{MOST_CAPABILITY_BYTES, MOST_INTERRUPTIONS};
+use std::io::Read;
+use ti_base::{MOST_CAPABILITY_BYTES, MOST_INTERRUPTIONS, ReadFailed, read_piece};
 
 /// The most bytes of an input that are kept: one more than a capability may have.
 pub const MOST_BYTES: usize = MOST_CAPABILITY_BYTES + 1;
 
 const PIECE: usize = 512;
-
-/// A read that failed.
-#[derive(Clone, Copy, Debug, PartialEq, Eq)]
-pub struct ReadFailed;
 
 /// Reads to the end of the source or until the buffer is full, up to 512 bytes at a time.
 ///
@@ -33,21 +29,14 @@ pub fn read_up_to<R: Read>(
     ensures end { OnOk result (IsFull bytes.new.items ⊎ IsAtEnd (R.remaining source.new)) }
 {
     let mut piece = [0; PIECE];
-    let mut interruptions = 0;
+    let mut retries = MOST_INTERRUPTIONS;
     while !bytes.is_full() {
         let room = bytes.remaining_capacity().min(PIECE);
-        match source.read(&mut piece[..room]) {
-            Ok(0) => return Ok(()),
-            Ok(count) => {
-                let _ = bytes.try_extend_from_slice(&piece[..count]);
-            }
-            Err(error) => {
-                if error.kind() != ErrorKind::Interrupted || interruptions == MOST_INTERRUPTIONS {
-                    return Err(ReadFailed);
-                }
-                interruptions += 1;
-            }
+        let count = read_piece(source, &mut piece[..room], &mut retries)?;
+        if count == 0 {
+            return Ok(());
         }
+        let _ = bytes.try_extend_from_slice(&piece[..count]);
     }
     Ok(())
 }

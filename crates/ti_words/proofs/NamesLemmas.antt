@@ -11,7 +11,7 @@ use Rattle.std.proofs.lemmas.Map.Views.{IfSome-lookup, lookup-from_Contains}
 use Rattle.std.proofs.lemmas.Slice.Eq.{bytes_eq-Decides}
 use Rattle.ti_words.specs.declared.Kind.{Kind}
 use Rattle.ti_words.specs.declared.Kind.TheVariants as kinds
-use Rattle.ti_words.specs.Names.{HasOneName, HasOnePlace, IsNamed, NameAndPlaceAgree, Place, Row, flag_rows, name_of, named_place, number_rows, place_of, places, rows, text_rows}
+use Rattle.ti_words.specs.Names.{HasOneName, HasOnePlace, IsNamed, NameAndPlaceAgree, Place, Row, flag_rows, name_of, named_place, number_rows, place_of, name_places, rows, text_rows}
 use Rattle.ti_words.proofs.RowsLemmas.{Has, contains, has, has_either, has_left, has_mapped, has_right, mapped_has}
 
 -- ---- no index and no name stands twice
@@ -22,9 +22,9 @@ indices_differ kinds.Flag = IsDistinct-from_count nat_eq_equiv (keys_of flag_row
 indices_differ kinds.Number = IsDistinct-from_count nat_eq_equiv (keys_of number_rows) refl
 indices_differ kinds.Text = IsDistinct-from_count nat_eq_equiv (keys_of text_rows) refl
 
-names_differ : IsDistinct bytes_eq (keys_of places)
+names_differ : IsDistinct bytes_eq (keys_of name_places)
 unfolding flag_rows number_rows text_rows
-names_differ = IsDistinct-from_count nat_list_eq_equiv (keys_of places) refl
+names_differ = IsDistinct-from_count nat_list_eq_equiv (keys_of name_places) refl
 
 -- ---- from rows to places and back
 
@@ -32,7 +32,7 @@ names_differ = IsDistinct-from_count nat_list_eq_equiv (keys_of places) refl
 abbrev after_flags : List (List ℕ × Place)
 after_flags = map (named_place kinds.Number) number_rows ++ map (named_place kinds.Text) text_rows
 
-to_places : (kind : Kind) (row : Row) → Has (rows kind) row → Has places (named_place kind row)
+to_places : (kind : Kind) (row : Row) → Has (rows kind) row → Has name_places (named_place kind row)
 to_places kinds.Flag row h = has_left (map (named_place kinds.Flag) flag_rows) after_flags _ (has_mapped (named_place kinds.Flag) flag_rows row h)
 to_places kinds.Number row h =
     has_right (map (named_place kinds.Flag) flag_rows) after_flags _
@@ -47,7 +47,7 @@ from_rows kind name place h =
     let m = mapped_has (named_place kind) (rows kind) (name, place) h in
     subst (λ (p : List ℕ × Place). Has (rows p.1.0) (p.1.1, p.0)) m.2 m.1
 
-from_places : (name : List ℕ) (place : Place) → Has places (name, place) → Has (rows place.0) (place.1, name)
+from_places : (name : List ℕ) (place : Place) → Has name_places (name, place) → Has (rows place.0) (place.1, name)
 from_places name place h = elim (has_either (map (named_place kinds.Flag) flag_rows) after_flags (name, place) h) [
   | inl a ↦ from_rows kinds.Flag name place a
   | inr b ↦ elim (has_either (map (named_place kinds.Number) number_rows) (map (named_place kinds.Text) text_rows) (name, place) b) [
@@ -71,11 +71,11 @@ weaker (Some x) P Q f h = f x h
 pub place_found : (name : List ℕ) → IfSome (place_of name) (λ place. IsNamed place.0 place.1 name)
 place_found name =
     weaker (place_of name) _ _ (λ place c. contains _ _ (from_places name place (has _ _ c)))
-    (IfSome-lookup (λ x y e. (bytes_eq-Decides x y).0 e) name places)
+    (IfSome-lookup (λ x y e. (bytes_eq-Decides x y).0 e) name name_places)
 
 pub place_only : (name : List ℕ) (place : Place) → IsNamed place.0 place.1 name → place_of name ≡ Some place
 place_only name place named =
-    lookup-from_Contains nat_list_eq_equiv name place places names_differ (contains _ _ (to_places place.0 (place.1, name) (has _ _ named)))
+    lookup-from_Contains nat_list_eq_equiv name place name_places names_differ (contains _ _ (to_places place.0 (place.1, name) (has _ _ named)))
 
 -- ---- the laws
 

@@ -74,14 +74,14 @@ abbrev pub named_place : Kind → Row → List ℕ × Place
 named_place kind r = (r.1, (kind, r.0))
 
 -- each name of the table, and its place
-abbrev pub places : List (List ℕ × Place)
-places =
+abbrev pub name_places : List (List ℕ × Place)
+name_places =
     map (named_place kinds.Flag) flag_rows
     ++ (map (named_place kinds.Number) number_rows ++ map (named_place kinds.Text) text_rows)
 
 -- the place of the capability with a name, where the table has the name
 abbrev pub place_of : List ℕ → Option Place
-place_of name = lookup (bytes_eq name) places
+place_of name = lookup (bytes_eq name) name_places
 
 -- ---- the laws of the table
 

@@ -8,7 +8,7 @@ use Rattle.ti_cap.specs.declared.language.CapFault.TheVariants.{NestTooDeep}
 use Rattle.ti_cap.specs.declared.language.Token.{Token}
 use Rattle.ti_cap.specs.declared.scan.Open.{Open}
 use Rattle.ti_cap.specs.declared.scan.Scan.{Scan}
-use Rattle.ti_cap.specs.inner.Analysis.{Findings, findings_after, fault_of}
+use Rattle.ti_cap.specs.inner.Analysis.{Findings, findings_after, fault_of, greatest_of}
 
 abbrev pub height_of : Option Extent → Option ℕ
 height_of None = None
@@ -53,6 +53,10 @@ Brings token s opens next next_opens = findings_of next next_opens ≡ findings_
 abbrev pub greatest_end : List Open → Extent → Extent
 greatest_end opens e = fold (λ here o. greater_extent o.done (greater_extent o.failed here)) e opens
 
+-- the most bytes that a path writes, were this the end
+abbrev pub greatest_size : Scan → List Open → ℕ
+greatest_size s opens = greatest_of (map size_frame (innermost_first s.nesting opens)) s.here.size
+
 -- the greatest counts are no less than those of here, and there is room for the open conditionals
 pub record IsInOrder (room : ℕ) (s : Scan) : Type 0 where
   pub high : s.here.height ≤ s.depth
@@ -62,6 +66,12 @@ pub record IsInOrder (room : ℕ) (s : Scan) : Type 0 where
 -- a fault that more room for open conditionals does not cure
 abbrev pub IsSure : ℕ → CapFault → Type 0
 IsSure room fault = fault ≡ NestTooDeep → room ≡ most_open
+
+-- the counts after values are popped and bytes are written
+abbrev pub after_write : Scan → ℕ → ℕ → Scan
+after_write s popped size = record s {
+  here = record { height = s.here.height - popped; size = s.here.size + size };
+}
 
 -- the counts after values are popped and one is pushed
 abbrev pub after_push : Scan → ℕ → Scan

@@ -47,13 +47,14 @@ impl Read for Source<'_> {
     }
 }
 
-/// Takes `step` bytes at a time, and fails at write `fails_at`, counted from 1; at most `interruptions` writes are
-/// interrupted first.
+/// Takes `step` bytes at a time, and fails at write `fails_at`, counted from 1. The first write comes after
+/// `interruptions` interrupted ones, each later one after `interruptions_each`.
 #[derive(Drop)]
 pub struct Sink {
     pub taken: Vec<u8>,
     pub step: usize,
     pub interruptions: u32,
+    pub interruptions_each: u32,
     pub writes: usize,
     pub fails_at: usize,
 }
@@ -64,6 +65,7 @@ impl Sink {
             taken: Vec::new(alloc),
             step: usize::MAX,
             interruptions: 0,
+            interruptions_each: 0,
             writes: 0,
             fails_at: usize::MAX,
         }
@@ -76,6 +78,7 @@ impl Write for Sink {
             self.interruptions -= 1;
             return Err(io::Error::from(ErrorKind::Interrupted));
         }
+        self.interruptions = self.interruptions_each;
         self.writes = self.writes.saturating_add(1);
         if self.writes == self.fails_at {
             return Err(io::Error::from(ErrorKind::BrokenPipe));

@@ -2,20 +2,20 @@
 
 use super::entries::{EXTENDED, ODD, QUESTION, SHARED, SMALL, TEXT, WIDE, WIDE_EXTENDED};
 use super::fakes::{Sink, Source};
+use super::views::assert_equal;
 use std::alloc::Global;
 use std::process::Abort;
 use std::test::Fail;
 use ti_entry::{Entry, EntryReader, Fault, ReadStop, Refused, encode, read, read_from};
 use ti_tool::run;
 
-/// An entry written again is read as one that is written in the same way.
-fn assert_again(rt: &impl Abort, alloc: Global, entry: &Entry<'_>) -> Result<Vec<u8>, Fail> {
+/// An entry written again is read as an entry equal to it.
+fn assert_again(rt: &impl Abort, alloc: Global, entry: &Entry<'_>) -> Result<(), Fail> {
     let draft = entry.draft(alloc)?;
     let bytes = encode(alloc, &draft).ok().ok_or("encode")?;
     let again = read(bytes.as_slice()).ok().ok_or("read")?;
-    let same = encode(alloc, &again.draft(alloc)?).ok().ok_or("encode")?;
-    assert!(rt; same.as_slice() == bytes.as_slice());
-    Ok(bytes)
+    assert_equal(rt, entry, &again);
+    Ok(())
 }
 
 /// Feeds the bytes at once, or one by one, up to a refusal.
@@ -29,43 +29,36 @@ fn feed(reader: &mut EntryReader, bytes: &[u8], at_once: bool) -> Result<(), Ref
     Ok(())
 }
 
-/// Why a reader that is fed the bytes refuses them; else it has the entry that is written in this way.
-fn assert_fed(
-    rt: &impl Abort,
-    alloc: Global,
-    bytes: &[u8],
-    at_once: bool,
-    written: &[u8],
-) -> Result<Option<Refused>, Fail> {
+/// A reader that is fed the bytes answers with this entry, or with this refusal.
+fn assert_fed(rt: &impl Abort, bytes: &[u8], at_once: bool, want: &Result<Entry<'_>, Refused>) {
     let mut reader = EntryReader::new();
-    if let Err(refused) = feed(&mut reader, bytes, at_once) {
-        return Ok(Some(refused));
-    }
-    match reader.finish() {
-        Ok(entry) => {
-            let again = assert_again(rt, alloc, &entry)?;
-            assert!(rt; again.as_slice() == written);
-            Ok(None)
+    let refusal = feed(&mut reader, bytes, at_once).err();
+    match (reader.finish(), want) {
+        (Ok(entry), Ok(same)) => {
+            assert!(rt; refusal == None);
+            assert_equal(rt, &entry, same);
         }
-        Err(refused) => Ok(Some(refused)),
+        (Err(refused), Err(same)) => {
+            assert!(rt; refused == *same);
+            assert!(rt; refusal.unwrap_or(refused) == *same);
+        }
+        _ => assert!(rt; false),
     }
 }
 
 /// `read`, one `feed` and feeding byte by byte give one answer, which is this.
 fn answer(rt: &impl Abort, alloc: Global, bytes: &[u8]) -> Result<Option<Refused>, Fail> {
-    let mut written = Vec::new(alloc);
-    let refused = match read(bytes) {
-        Ok(entry) => {
-            written = assert_again(rt, alloc, &entry)?;
-            None
-        }
-        Err(refused) => Some(refused),
-    };
+    let want = read(bytes);
     for at_once in [true, false] {
-        let fed = assert_fed(rt, alloc, bytes, at_once, written.as_slice())?;
-        assert!(rt; fed == refused);
+        assert_fed(rt, bytes, at_once, &want);
     }
-    Ok(refused)
+    match want {
+        Ok(entry) => {
+            assert_again(rt, alloc, &entry)?;
+            Ok(None)
+        }
+        Err(refused) => Ok(Some(refused)),
+    }
 }
 
 /// Each entry, and the length of its front that is an entry too: the one without its extended part.

@@ -43,7 +43,7 @@ fn each_growth_of_a_call_is_refused_in_turn(rt: HostRuntime) -> Result<(), Fail>
     for step in 0..40usize {
         let heap = LocalHeap::new(rt.alloc(), 16 * step)?;
         let mut writer = Sink::new(rt.alloc());
-        let mut source = Source::new(b"\x1b[%i%p1%d;%p2%dH, and some more bytes behind it", 512);
+        let mut source = Source::new(b"\x1b[%i%p1%d;%p2%dH, and some more bytes after it", 512);
         match cap_run(&heap, &mut source, &NUMBERS, true, &mut writer) {
             Ok(()) => {
                 given = given.saturating_add(1);
@@ -97,7 +97,7 @@ const COMMANDS: [(&[&str], &[u8]); 5] = [
             "--rate",
             "960",
             "#0",
-            "s:a$<9> and some more bytes behind it, as many as sixty or so",
+            "s:a$<9> and some more bytes after it, as many as sixty or so",
         ],
         TEXT,
     ),

@@ -361,7 +361,7 @@ fn each_growth_of_an_expansion_is_refused_in_turn(rt: HostRuntime) -> Result<(),
 }
 
 #[test]
-fn a_failed_write_and_want_of_memory_have_their_status(rt: HostRuntime) -> Result<(), Fail> {
+fn a_failed_write_and_no_memory_have_their_status(rt: HostRuntime) -> Result<(), Fail> {
     let words = ["ti", "expand", "#1"];
     let mut output = Sink::new(rt.alloc());
     output.fails_at = 1;

@@ -1,7 +1,9 @@
 //! Readers and writers that go in small steps, are interrupted, and fail.
 
+use super::entries::SMALL;
 use super::fakes::{Sink, Source};
 use std::test::Fail;
+use ti_entry::{EntryReader, ReadStop, read_from};
 use ti_expand::Value;
 use ti_pad::write_out;
 use ti_tool::{ToolFault, cap_run};
@@ -73,6 +75,32 @@ fn interrupted_reads_are_tried_again(rt: HostRuntime) {
         cap_run(rt.alloc(), &mut source, &NUMBERS, true, &mut writer) == Err(ToolFault::Read)
     );
     assert!(rt; writer.taken.is_empty());
+}
+
+#[test]
+fn a_reader_goes_on_after_a_source_that_failed(rt: HostRuntime) {
+    for (interruptions, fails_at, answer, kept) in [
+        (0, usize::MAX, Ok(()), 24),
+        (1000, usize::MAX, Ok(()), 24),
+        (1001, usize::MAX, Err(ReadStop::Io), 0),
+        (0, 3, Err(ReadStop::Io), 20),
+    ] {
+        let mut source = Source::new(SMALL, 10);
+        source.pending = interruptions;
+        source.fails_at = fails_at;
+        let mut reader = EntryReader::new();
+        assert_eq!(rt;
+            read_from(&mut reader, &mut source),
+            answer,
+            "after {interruptions}"
+        );
+        assert_eq!(rt; reader.kept(), kept);
+        assert_eq!(rt; read_from(&mut reader, &mut source), Ok(()));
+        match reader.finish() {
+            Ok(entry) => assert_eq!(rt; entry.names(), b"t".as_slice()),
+            Err(_) => assert!(rt; false),
+        }
+    }
 }
 
 #[test]

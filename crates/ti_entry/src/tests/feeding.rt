@@ -1,8 +1,8 @@
 //! At which byte a reader refuses: bytes from outside, each in one piece, byte by byte, and cut in two.
 
 use super::wide::with_number;
-use super::{EXTENDED, ODD_AND_MORE, SMALL, Source, assert_extended, assert_small};
-use crate::{EntryReader, Fault, ReadStop, Refused, read, read_from};
+use super::{EXTENDED, ODD_AND_MORE, SMALL, assert_extended, assert_small};
+use crate::{EntryReader, Fault, Refused, read};
 use std::process::Abort;
 use std::test::Fail;
 
@@ -172,29 +172,4 @@ fn every_cut(rt: HostRuntime) {
             Err(_) => assert!(rt; false),
         }
     }
-}
-
-/// The byte that decides comes with the second read, and the third would fail.
-#[test]
-fn a_later_read_is_not_made(rt: HostRuntime) {
-    let mut changed = SMALL;
-    change(&mut changed, 14, &[0x02]);
-    let refused = Refused {
-        fault: Fault::BadFlag,
-        place: 14,
-    };
-    let mut source = Source {
-        bytes: &changed,
-        interruptions: 0,
-        calls: 0,
-        fails_at: 3,
-    };
-    let mut reader = EntryReader::new();
-    assert_eq!(rt;
-        read_from(&mut reader, &mut source),
-        Err(ReadStop::Refused(refused))
-    );
-    assert_eq!(rt; source.calls, 2);
-    assert_eq!(rt; source.bytes.len(), 4);
-    assert_refused(&rt, &mut reader, refused, 14);
 }

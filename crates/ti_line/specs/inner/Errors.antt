@@ -6,8 +6,8 @@ use Rattle.ti_line.specs.CommandLine.{is_help}
 use Rattle.ti_line.specs.declared.line.NoLine.{NoLine}
 use Rattle.ti_line.specs.declared.line.NoLine.TheVariants as no_line
 
--- what an error tells, by its kind
+-- what an error tells, by its kind; out of memory may be the answer to each, since its text is kept
 abbrev pub TellsOf : ErrorKind → NoLine → Type 0
 TellsOf k (no_line.Help message) = is_help k ≡ true
 TellsOf k (no_line.Refused message) = (is_help k ≡ false) × (k ≢ kind.OutOfMemory)
-TellsOf k no_line.Memory = k ≡ kind.OutOfMemory
+TellsOf k no_line.Memory = Unit {0}

@@ -3,14 +3,14 @@
 //! The whole result is built before the first byte of it is written; its memory grows once, and once more where it is
 //! written in hex.
 
-ghost use Rattle.std.specs.Prelude.{Ok, MatchResult};
+ghost use Rattle.std.specs.Prelude.{◌⊎◌, ◌≡◌, Ok, MatchResult, IfErr};
 ghost use Rattle.ti_tool.specs.Results.{IsCapped};
-ghost use Rattle.ti_tool.specs.Calls.{DidCall, IsFull};
+ghost use Rattle.ti_tool.specs.Calls.{DidCall, IsFull, IsFailedWrite};
 ghost use Rattle.ti_tool.specs.inner.Dues.{FailsAsDue};
 
 use crate::expansion::expansion_of;
 use crate::fault::ToolFault;
-use crate::output::{output_bytes, write_result};
+use crate::result::{output_bytes, write_result};
 use crate::source::read_up_to;
 use arrayvec::ArrayVec;
 use std::alloc::Allocator;
@@ -44,9 +44,11 @@ pub fn cap_run<A: Allocator + Copy, R: Read, W: Write>(
     hex: bool,
     writer: &mut W,
 ) -> Result<(), ToolFault>
-    ensures { DidCall (IsCapped parameters.now hex) IsFull
+    ensures did { DidCall (IsCapped parameters.now hex) IsFull
         (R.remaining reader.old) (R.remaining reader.new)
         (W.contents writer.old) (W.contents writer.new) result }
+    // After a fault other than `Write` the writer is as it was.
+    ensures unwritten { IfErr result (λ e. IsFailedWrite e ⊎ (writer.new ≡ writer.old)) }
 {
     let mut input = ArrayVec::new();
     read_up_to(&mut input, reader)?;

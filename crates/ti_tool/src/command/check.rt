@@ -2,16 +2,16 @@
 //!
 //! One pass over the texts, of which equal ones in a row are analysed once; the whole listing is built before the first byte of it is written.
 
-ghost use Rattle.std.specs.Prelude.{IfOk};
+ghost use Rattle.std.specs.Prelude.{◌⊎◌, ◌≡◌, IfOk, IfErr};
 ghost use Rattle.ti_tool.specs.Verdicts.{AreVerdicts, IsExtendedLine, IsStandardLine};
-ghost use Rattle.ti_tool.specs.Calls.{DidCheck, without_value};
+ghost use Rattle.ti_tool.specs.Calls.{DidCheck, without_value, IsFailedWrite};
 ghost use Rattle.ti_tool.specs.Results.{IsChecked};
 ghost use Rattle.ti_tool.specs.inner.Verdict.{AddsLines};
 
-use crate::entry::read_entry;
+use crate::entry_input::read_entry;
 use crate::fault::ToolFault;
 use crate::label::{extended_label, label_at};
-use crate::output::write_result;
+use crate::result::write_result;
 use crate::verdict::{judge, push_line};
 use std::alloc::{AllocError, Allocator};
 use std::io::{Read, Write};
@@ -92,9 +92,11 @@ pub fn check<A: Allocator + Copy, R: Read, W: Write>(
     reader: &mut R,
     writer: &mut W,
 ) -> Result<bool, ToolFault>
-    ensures { DidCheck IsChecked
+    ensures did { DidCheck IsChecked
         (R.remaining reader.old) (R.remaining reader.new)
         (W.contents writer.old) (W.contents writer.new) result }
+    // After a fault other than `Write` the writer is as it was.
+    ensures unwritten { IfErr result (λ e. IsFailedWrite e ⊎ (writer.new ≡ writer.old)) }
 {
     let mut kept = EntryReader::new();
     read_entry(&mut kept, reader)?;

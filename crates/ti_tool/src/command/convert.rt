@@ -1,13 +1,13 @@
 //! `convert`: an entry in its canonical layout, in its own format or in the one that is asked for.
 
-ghost use Rattle.std.specs.Prelude.{◌≡◌, Ok, IfOk, MatchResult};
+ghost use Rattle.std.specs.Prelude.{◌⊎◌, ◌≡◌, Ok, IfOk, MatchResult, IfErr};
 ghost use Rattle.ti_tool.specs.Results.{IsConverted, IsEncoding, in_width};
-ghost use Rattle.ti_tool.specs.Calls.{DidCall, HasFailed};
+ghost use Rattle.ti_tool.specs.Calls.{DidCall, HasFailed, IsFailedWrite};
 ghost use Rattle.ti_tool.specs.inner.Dues.{FailsAsDue};
 
-use crate::entry::read_entry;
+use crate::entry_input::read_entry;
 use crate::fault::ToolFault;
-use crate::output::write_result;
+use crate::result::write_result;
 use std::alloc::{AllocError, Allocator};
 use std::io::{Read, Write};
 use ti_entry::{Draft, EncodeFault, Entry, EntryReader, encode};
@@ -73,9 +73,11 @@ pub fn convert<A: Allocator + Copy, R: Read, W: Write>(
     width: Option<Width>,
     writer: &mut W,
 ) -> Result<(), ToolFault>
-    ensures { DidCall (IsConverted width) HasFailed
+    ensures did { DidCall (IsConverted width) HasFailed
         (R.remaining reader.old) (R.remaining reader.new)
         (W.contents writer.old) (W.contents writer.new) result }
+    // After a fault other than `Write` the writer is as it was.
+    ensures unwritten { IfErr result (λ e. IsFailedWrite e ⊎ (writer.new ≡ writer.old)) }
 {
     let mut kept = EntryReader::new();
     read_entry(&mut kept, reader)?;

@@ -3,17 +3,17 @@
 //! The text is found, expanded and padded, and only then written: each fault comes before the first byte. The memory
 //! grows once for the expansion, once for the padded text, and once more where it is written in hex.
 
-ghost use Rattle.std.specs.Prelude.{Ok, MatchResult};
+ghost use Rattle.std.specs.Prelude.{◌⊎◌, ◌≡◌, Ok, MatchResult, IfErr};
 ghost use Rattle.ti_words.specs.Texts.{text_value};
 ghost use Rattle.ti_tool.specs.Results.{IsDue, IsDueFor, IsExpanded, IsPadded};
-ghost use Rattle.ti_tool.specs.Calls.{DidCall, HasFailed};
+ghost use Rattle.ti_tool.specs.Calls.{DidCall, HasFailed, IsFailedWrite};
 ghost use Rattle.ti_tool.specs.inner.Dues.{FailsAsDue};
 
-use crate::entry::read_entry;
+use crate::entry_input::read_entry;
 use crate::expansion::expansion_of;
 use crate::fault::ToolFault;
-use crate::names::text_called;
-use crate::output::{output_bytes, write_result};
+use crate::result::{output_bytes, write_result};
+use crate::text_name::text_called;
 use std::alloc::Allocator;
 use std::io::{Read, Write};
 use ti_entry::{Entry, EntryReader};
@@ -83,9 +83,11 @@ pub fn expand_named<A: Allocator + Copy, R: Read, W: Write>(
     hex: bool,
     writer: &mut W,
 ) -> Result<(), ToolFault>
-    ensures { DidCall (IsExpanded name.now parameters.now padding.now hex) HasFailed
+    ensures did { DidCall (IsExpanded name.now parameters.now padding.now hex) HasFailed
         (R.remaining reader.old) (R.remaining reader.new)
         (W.contents writer.old) (W.contents writer.new) result }
+    // After a fault other than `Write` the writer is as it was.
+    ensures unwritten { IfErr result (λ e. IsFailedWrite e ⊎ (writer.new ≡ writer.old)) }
 {
     let mut kept = EntryReader::new();
     read_entry(&mut kept, reader)?;

@@ -1,13 +1,13 @@
 //! `show`: the listing of an entry.
 
-ghost use Rattle.std.specs.Prelude.{◌≡◌};
+ghost use Rattle.std.specs.Prelude.{◌⊎◌, ◌≡◌, IfErr};
 ghost use Rattle.ti_tool.specs.Results.{IsShown};
-ghost use Rattle.ti_tool.specs.Calls.{DidCall, HasFailed};
+ghost use Rattle.ti_tool.specs.Calls.{DidCall, HasFailed, IsFailedWrite};
 
-use crate::entry::read_entry;
+use crate::entry_input::read_entry;
 use crate::fault::ToolFault;
 use crate::listing::lines_of;
-use crate::output::write_result;
+use crate::result::write_result;
 use std::alloc::Allocator;
 use std::io::{Read, Write};
 use ti_entry::EntryReader;
@@ -22,9 +22,11 @@ pub fn show<A: Allocator + Copy, R: Read, W: Write>(
     reader: &mut R,
     writer: &mut W,
 ) -> Result<(), ToolFault>
-    ensures { DidCall IsShown HasFailed
+    ensures did { DidCall IsShown HasFailed
         (R.remaining reader.old) (R.remaining reader.new)
         (W.contents writer.old) (W.contents writer.new) result }
+    // After a fault other than `Write` the writer is as it was.
+    ensures unwritten { IfErr result (λ e. IsFailedWrite e ⊎ (writer.new ≡ writer.old)) }
 {
     let mut kept = EntryReader::new();
     read_entry(&mut kept, reader)?;

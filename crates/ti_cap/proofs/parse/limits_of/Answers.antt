@@ -1,5 +1,5 @@
 use Rattle.std.proofs.Common.{◌+◌, sym, ◌∙◌, ap, subst, arith}
-use Rattle.ti_cap.specs.inner.Reading.{token_read}
+use Rattle.ti_cap.specs.inner.Lexer.{token_read}
 use Rattle.ti_cap.specs.inner.Analysis.{Findings, findings_after}
 use Rattle.ti_cap.specs.inner.Scan.{findings_of}
 use Rattle.ti_cap.proofs.IsRefusalLemmas.{Parsed, Stepped, parse_start, parse_step, parse_fault, parse_misplaced, parse_no_then, parse_done, parsed_low, parsed_small, from_place}

@@ -2,7 +2,7 @@
 use Rattle.std.proofs.Common.{◌≡◌, ◌≤◌, ◌+◌, drop, length}
 use Rattle.ti_base.specs.Limits.{greatest_width}
 use Rattle.ti_cap.specs.Spelling.{number_from, number_of}
-use Rattle.ti_cap.specs.inner.Reading.{front, is_digit}
+use Rattle.ti_cap.specs.inner.Lexer.{front, is_digit}
 use Rattle.ti_cap.proofs.read_format.small_number.Given as goal
 
 abbrev pub invariant-loop-count : goal.invariant-loop-count

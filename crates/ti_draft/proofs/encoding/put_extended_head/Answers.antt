@@ -3,7 +3,6 @@ use Rattle.std.proofs.lemmas.List.{length-append, length-map}
 use Rattle.ti_words.specs.Texts.{text_value}
 use Rattle.ti_words.specs.Spelling.{mark_in, pad, count_word, extended_names}
 use Rattle.ti_draft.specs.Canonical.{texts_table, names_table, present_count}
-use Rattle.ti_draft.specs.Lengths.{capped_count}
 use Rattle.ti_draft.proofs.CappedCountLemmas.{whole}
 use Rattle.ti_draft.proofs.EncodeFaultLemmas.{small, small_extended}
 use Rattle.ti_draft.proofs.CanonicalLemmas.{after_as}
@@ -39,7 +38,7 @@ pub put_count-requires-5 : goal.put_count-requires-5
 put_count-requires-5 g c =
     let v = c.args.draft.now in
     let few = (small_extended v c.requires.fit c.requires.extended).table in
-    let table = whole (length (texts_table (map mark_in v.extended_texts)) + length (names_table (extended_names v))) c.extended_table_len.result few c.extended_table_len.ensures in
+    let table = whole (length (texts_table (map mark_in v.extended_texts)) + length (names_table (extended_names v))) c.args.sizes.now.extended_table few c.requires.sizes.extended_table in
     omega (arith, table, few)
 
 pub returns : goal.returns
@@ -48,8 +47,8 @@ returns g c =
     let out = c.args.out.now.items in
     let t = length (texts_table v.texts) in
     let few = (small_extended v c.requires.fit c.requires.extended).table in
-    let plain = whole t c.texts_len.result (small v c.requires.fit).table (c.texts_len.ensures ∙ ap (λ ts. capped_count (length (texts_table ts))) c.texts.ensures) in
-    let table = whole (length (texts_table (map mark_in v.extended_texts)) + length (names_table (extended_names v))) c.extended_table_len.result few c.extended_table_len.ensures in
+    let plain = whole t c.args.sizes.now.table (small v c.requires.fit).table c.requires.sizes.table in
+    let table = whole (length (texts_table (map mark_in v.extended_texts)) + length (names_table (extended_names v))) c.args.sizes.now.extended_table few c.requires.sizes.extended_table in
     let flags : length c.extended_flags-flags.result.now ≡ length v.extended_flags = ap length c.extended_flags-flags.ensures ∙ length-map v.extended_flags mark_in in
     let numbers : length c.extended_numbers-numbers.result.now ≡ length v.extended_numbers = ap length c.extended_numbers-numbers.ensures ∙ length-map v.extended_numbers mark_in in
     let texts : length c.extended_texts-texts.result.now ≡ length v.extended_texts =
@@ -57,7 +56,7 @@ returns g c =
     let items : c.present_count.result + length c.extended_flags-flags.result.now + length c.extended_numbers-numbers.result.now + length c.extended_texts-texts.result.now
     ≡ present_count (map mark_in v.extended_texts) + length (extended_names v) =
     omega (arith, c.present_count.ensures.value, ap present_count c.extended_texts.ensures, flags, numbers, texts, length_extended_names v) in
-    let tables : c.extended_table_len.result ≡ length (texts_table (map mark_in v.extended_texts) ++ names_table (extended_names v)) =
+    let tables : c.args.sizes.now.extended_table ≡ length (texts_table (map mark_in v.extended_texts) ++ names_table (extended_names v)) =
     table ∙ sym (length-append (texts_table (map mark_in v.extended_texts)) (names_table (extended_names v))) in
     let a : c.put_pad.new.out.items ≡ out ++ pad t = c.in_ok-put_pad.ensures ∙ ap (λ n. out ++ pad n) plain in
     let b = after_as out _ c.put_count.new.out.items _ _ _ a c.in_ok-put_count.ensures (ap count_word flags) in

@@ -1,6 +1,6 @@
 use Rattle.std.proofs.Common.{refl, arith}
 use Rattle.ti_entry.specs.Content.{name_at}
-use Rattle.ti_entry.proofs.IsFirstLemmas.{lacks_all, first_is}
+use Rattle.ti_entry.proofs.IsLeastIndexLemmas.{lacks_all, first_is}
 use Rattle.ti_entry.proofs.extended.first_named.Goals as goal
 
 pub returns-then-is_name_at : goal.returns-then-is_name_at

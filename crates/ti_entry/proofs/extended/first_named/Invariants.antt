@@ -1,5 +1,5 @@
 use Rattle.ti_entry.specs.Content.{name_at}
-use Rattle.ti_entry.proofs.IsFirstLemmas.{OthersBefore}
+use Rattle.ti_entry.proofs.IsLeastIndexLemmas.{OthersBefore}
 use Rattle.ti_entry.proofs.extended.first_named.Given as goal
 
 abbrev pub invariant-loop-i : goal.invariant-loop-i

@@ -1,6 +1,6 @@
 use Rattle.std.proofs.Common.{sym, ◌∙◌}
 use lib.Pointwise.{bytes_decides}
-use Rattle.ti_entry.proofs.IsFirstLemmas.{told_by_front}
+use Rattle.ti_entry.proofs.IsLeastIndexLemmas.{told_by_front}
 use Rattle.ti_entry.proofs.item.is_until_nul.Goals as goal
 
 pub returns : goal.returns

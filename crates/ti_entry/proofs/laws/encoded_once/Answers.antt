@@ -2,7 +2,7 @@ use Rattle.std.proofs.Common.{ℕ, List, ap, sym, subst}
 use Rattle.ti_words.specs.Spelling.{Spells}
 use Rattle.ti_draft.specs.Canonical.{canonical}
 use Rattle.ti_entry.proofs.SpellsAtMostOneLemmas.{at_most_one}
-use Rattle.ti_entry.proofs.EncodedSpellsLemmas.{canonical_spells}
+use Rattle.ti_draft.proofs.EncodedSpellsLemmas.{canonical_spells}
 use Rattle.ti_entry.proofs.laws.encoded_once.Goals as goal
 
 pub returns-clause-alike : goal.returns-clause-alike

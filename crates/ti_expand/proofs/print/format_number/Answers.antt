@@ -10,3 +10,9 @@ pub print_number-requires-clause-room : goal.print_number-requires-clause-room
 print_number-requires-clause-room c =
     let fits : length (print_of_number c.args.format.now c.args.number) ≤ format_size c.args.format.now 0 = length-print_of_number-le c.args.format.now c.args.number c.requires.numeric c.ranges.number in
     rw (to_z-of_z w32 c.args.number c.ranges.number) (omega (arith, fits, c.requires.room))
+
+pub returns-clause-low : goal.returns-clause-low
+returns-clause-low c =
+    let fits : length (print_of_number c.args.format.now c.args.number) ≤ format_size c.args.format.now 0 = length-print_of_number-le c.args.format.now c.args.number c.requires.numeric c.ranges.number in
+    let end = rw (to_z-of_z w32 c.args.number c.ranges.number) at c.print_number.ensures.end in
+    omega (arith, fits, end)

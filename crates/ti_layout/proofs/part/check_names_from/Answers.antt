@@ -9,7 +9,7 @@ use Rattle.ti_layout.proofs.part.check_names_from.Goals as goal
 pub returns-clause-verdict : goal.returns-clause-verdict
 returns-clause-verdict c =
     c.in_ok-check_name_places.ensures
-    ∙ ap (verdict (length c.args.bytes.now)) (names_decide c.args.bytes.now c.args.extended.now c.end-end.result c.table_from.result c.reach_of.result c.args.base c.names_from.result c.name_count.result c.end-end.ensures c.table_from.ensures c.names_from.ensures c.name_count.ensures c.requires.there c.requires.base c.reach_of.ensures)
+    ∙ ap (verdict (length c.args.bytes.now)) (names_decide c.args.bytes.now c.args.extended.now c.end-end.result c.table_from.result c.extended.inside.table c.reach_of.result c.args.base c.names_from.result c.name_count.result c.end-end.ensures c.table_from.ensures (ap (λ h. h.table) c.extended.view_is) c.names_from.ensures c.name_count.ensures c.requires.there c.requires.base c.reach_of.ensures)
 
 pub returns-clause-exact : goal.returns-clause-exact
 returns-clause-exact c =
@@ -17,11 +17,11 @@ returns-clause-exact c =
     let x = c.args.extended.now in
     let passes : Passes ≡ verdict (length bytes) (all_name_place_checks bytes (extended_table_of bytes x) (base_of bytes x) (extended_end_of x) (places (extended_names_from x) 2 (extended_name_count x))) =
     c.in_ok-check_name_places.ensures
-    ∙ ap (verdict (length bytes)) (names_decide bytes x c.end-end.result c.table_from.result c.reach_of.result c.args.base c.names_from.result c.name_count.result c.end-end.ensures c.table_from.ensures c.names_from.ensures c.name_count.ensures c.requires.there c.requires.base c.reach_of.ensures) in
+    ∙ ap (verdict (length bytes)) (names_decide bytes x c.end-end.result c.table_from.result c.extended.inside.table c.reach_of.result c.args.base c.names_from.result c.name_count.result c.end-end.ensures c.table_from.ensures (ap (λ h. h.table) c.extended.view_is) c.names_from.ensures c.name_count.ensures c.requires.there c.requires.base c.reach_of.ensures) in
     base_exact bytes x c.args.base (length bytes) c.requires.there c.requires.base passes
 
 pub returns-in_err-check_name_places-clause-verdict : goal.returns-in_err-check_name_places-clause-verdict
 returns-in_err-check_name_places-clause-verdict c =
     let p = err_from_is_err_and c.from_residual.result c.from_residual.ensures.1 in
     rw (p.1, p.2) (c.in_err-check_name_places.ensures
-    ∙ ap (verdict (length c.args.bytes.now)) (names_decide c.args.bytes.now c.args.extended.now c.end-end.result c.table_from.result c.reach_of.result c.args.base c.names_from.result c.name_count.result c.end-end.ensures c.table_from.ensures c.names_from.ensures c.name_count.ensures c.requires.there c.requires.base c.reach_of.ensures))
+    ∙ ap (verdict (length c.args.bytes.now)) (names_decide c.args.bytes.now c.args.extended.now c.end-end.result c.table_from.result c.extended.inside.table c.reach_of.result c.args.base c.names_from.result c.name_count.result c.end-end.ensures c.table_from.ensures (ap (λ h. h.table) c.extended.view_is) c.names_from.ensures c.name_count.ensures c.requires.there c.requires.base c.reach_of.ensures))

@@ -1,5 +1,7 @@
-use Rattle.std.proofs.Common.{◌∙◌, Ok, Err, sym}
+use Rattle.std.proofs.Common.{◌∙◌, Ok, Err, ap, is_some, sym}
 use Rattle.clap.specs.Words.{found_of, rows_of}
+use Rattle.ti_line.specs.Line.{texts_of}
+use Rattle.ti_line.proofs.FaultlessLemmas.{has_line}
 use Rattle.ti_line.proofs.TiAppLemmas.{fails_again, ti_asks, ti_fails}
 use Rattle.ti_line.proofs.read.read_words.Goals as goal
 
@@ -8,11 +10,18 @@ returns-in_err-matches-clause-kinds c =
     let failed = ti_fails {T = Unit {0}} _ _ (Err c.in_err-matches.field-0.0) c.in_ok-program.ensures c.in_err-matches.ensures.kinds in
     fails_again _ c.in_err-matches.field-0.0 c.from_residual-in_err-matches.result c.from_residual-in_err-matches.ensures.1 failed
 
-pub returns-in-Some-clause-kinds : goal.returns-in-Some-clause-kinds
-returns-in-Some-clause-kinds c = ti_fails _ _ (Ok c.in_ok-matches.matches) c.in_ok-program.ensures c.in_ok-matches.ensures.kinds
+pub line_of-requires : goal.line_of-requires
+line_of-requires c =
+    let asked = ti_asks _ _ c.in_ok-matches.matches c.in-Some.command.now (rows_of (found_of c.in-Some.given.now)) c.in_ok-program.ensures c.in_ok-matches.ensures.matches
+    (sym c.in-Some.ensures.name) (sym c.in-Some.ensures.rows) in
+    let line = has_line (texts_of c.args.words.now) (ti_fails _ _ (Ok c.in_ok-matches.matches) c.in_ok-program.ensures c.in_ok-matches.ensures.kinds) in
+    ap is_some (asked ∙ line.1)
 
-pub returns-in-Some-clause-read : goal.returns-in-Some-clause-read
-returns-in-Some-clause-read c =
-    c.in_ok-line_of-in-Some.ensures
-    ∙ ti_asks _ _ c.in_ok-matches.matches c.in-Some.command.now (rows_of (found_of c.in-Some.given.now)) c.in_ok-program.ensures c.in_ok-matches.ensures.matches
-    (sym c.in-Some.ensures.name) (sym c.in-Some.ensures.rows)
+pub returns-clause-kinds : goal.returns-clause-kinds
+returns-clause-kinds c = ti_fails _ _ (Ok c.in_ok-matches.matches) c.in_ok-program.ensures c.in_ok-matches.ensures.kinds
+
+pub returns-clause-read : goal.returns-clause-read
+returns-clause-read c =
+    sym (ti_asks _ _ c.in_ok-matches.matches c.in-Some.command.now (rows_of (found_of c.in-Some.given.now)) c.in_ok-program.ensures c.in_ok-matches.ensures.matches
+    (sym c.in-Some.ensures.name) (sym c.in-Some.ensures.rows))
+    ∙ c.in_ok-line_of-in-Some.ensures

@@ -1,10 +1,10 @@
-use Rattle.std.proofs.Common.{rules}
+use Rattle.std.proofs.Common.{rules, arith, ap, length}
 use Rattle.ti_pad.proofs.AppendsLemmas.{Appends-next}
 use Rattle.ti_pad.proofs.output.write_some.Goals as goal
 
 pub writes-preserved-in-Ok : goal.writes-preserved-in-Ok
 writes-preserved-in-Ok g c = record {
   within = search rules;
-  tries = search rules;
   taken = Appends-next _ _ _ _ _ _ c.writes.invariant.taken c.in-Ok.ensures.bytes;
+  nothing = λ none. absurd (omega (arith, ap length none));
 }

@@ -5,8 +5,8 @@ use Rattle.ti_pad.proofs.writing.write_pads.Goals as goal
 pub writes-preserved : goal.writes-preserved
 writes-preserved g c = record {
   within = search rules;
-  tries = search rules;
   taken = Appends-pads _ _ _ _ _ _ c.writes.invariant.taken c.in-Ok.ensures.written;
+  nothing = λ none. absurd (omega arith);
 }
 
 pub returns-in-Err-clause-gone : goal.returns-in-Err-clause-gone

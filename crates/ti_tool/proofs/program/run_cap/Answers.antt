@@ -1,13 +1,14 @@
 use Rattle.std.proofs.Common.{inl, refl, arith}
 use Rattle.std.proofs.lemmas.List.{length-map}
-use Rattle.std.proofs.KnownBytes.{Keeps-refl}
 use Rattle.ti_line.specs.Line.{texts_of}
-use Rattle.ti_tool.proofs.AreParamsLemmas.{no_params}
+use Rattle.ti_tool.proofs.AreParamsLemmas.{no_params, params_refused}
 use Rattle.ti_tool.proofs.program.run_cap.Goals as goal
 
-pub returns-in-Err : goal.returns-in-Err
-returns-in-Err g c = inl (
+pub returns-in-Err-clause-ran : goal.returns-in-Err-clause-ran
+returns-in-Err-clause-ran g c = inl (
+  c.in-Err.fault,
+  params_refused c.args.words.now c.in-Err.fault c.read_params.result c.in-Err.is c.read_params.ensures.many.0 c.read_params.ensures.many.1 c.read_params.ensures.bad,
   no_params (texts_of c.args.words.now) c.in-Err.fault c.read_params.result c.in-Err.is
       (λ e. omega (arith, length-map c.args.words.now (λ w. w.now), c.read_params.ensures.many.0 e)) c.read_params.ensures.bad,
-  (refl, refl, Keeps-refl _),
+  (refl, (refl, refl), c.tell_words.ensures),
 )

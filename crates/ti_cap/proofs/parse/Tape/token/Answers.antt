@@ -1,5 +1,5 @@
 use Rattle.std.proofs.Common.{◌++◌, ◌+◌, drop, sym, ◌∙◌, ap, arith}
-use Rattle.ti_cap.specs.inner.Reading.{token_read}
+use Rattle.ti_cap.specs.inner.Lexer.{token_read}
 use Rattle.ti_cap.proofs.IsRefusalLemmas.{from_place}
 use Rattle.ti_cap.proofs.IsTapeLemmas.{Next, tape_step, tape_never, tape_first}
 use Rattle.ti_cap.proofs.parse.Tape.token.Goals as goal

@@ -9,4 +9,4 @@ use Rattle.ti_entry.proofs.entry.Entry.number_count.Goals as goal
 pub returns : goal.returns
 returns c =
     let size = number_size c.self.inside.header.width in
-    sym (length_places (number_at size c.self.inside.bytes.now) (numbers_from c.self.inside.header) size c.self.inside.header.numbers) ∙ ap (λ (v : EntryValue). length v.numbers) c.self.view_is
+    c.count.ensures ∙ sym (length_places (number_at size c.self.inside.bytes.now) (numbers_from c.self.inside.header) size c.self.inside.header.numbers) ∙ ap (λ (v : EntryValue). length v.numbers) c.self.view_is

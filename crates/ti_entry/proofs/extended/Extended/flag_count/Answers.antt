@@ -9,4 +9,4 @@ pub returns : goal.returns
 returns c =
     let bytes = c.self.inside.bytes.now in
     let x = c.self.inside.part.header in
-    sym (length_named (name_at bytes x) (flag_at bytes) (extended_names_from x) (extended_flags_from x) 1 x.flags) ∙ ap (λ (v : EntryValue). length v.extended_flags) c.self.view_is
+    c.count.ensures ∙ sym (length_named (name_at bytes x) (flag_at bytes) (extended_names_from x) (extended_flags_from x) 1 x.flags) ∙ ap (λ (v : EntryValue). length v.extended_flags) c.self.view_is

@@ -4,7 +4,7 @@ use Rattle.ti_words.specs.Value.{EntryValue}
 use Rattle.ti_entry.specs.Content.{name_at}
 use Rattle.ti_entry.specs.Finding.{names_of}
 use Rattle.ti_layout.specs.Layout.{kind_count, kind_names_from}
-use Rattle.ti_entry.proofs.IsFirstLemmas.{names_are, get_named, get_none}
+use Rattle.ti_entry.proofs.IsLeastIndexLemmas.{names_are, get_named, get_none}
 use Rattle.ti_entry.proofs.extended.Extended.name.Goals as goal
 
 pub returns-then-i-count : goal.returns-then-i-count

@@ -12,23 +12,25 @@ use Rattle.ti_entry.proofs.extended.Extended.number.Goals as goal
 pub numbers_size-requires : goal.numbers_size-requires
 numbers_size-requires c =
     let x = c.self.inside.part.header in
-    omega (arith, within x.width c.args.i x.numbers c.if-i-header.true)
+    omega (arith, within x.width c.args.i x.numbers (omega (arith, c.if-i-count.true, c.count.ensures)), ap (λ w. number_size w * c.args.i) c.width-width.ensures)
 
 pub number_at-requires : goal.number_at-requires
 number_at-requires c =
     let x = c.self.inside.part.header in
-    omega (arith, within x.width c.args.i x.numbers c.if-i-header.true, c.numbers_from.ensures, c.numbers_size.ensures)
+    omega (arith, within x.width c.args.i x.numbers (omega (arith, c.if-i-count.true, c.count.ensures)), c.numbers_from.ensures, c.numbers_size.ensures, ap (λ w. number_size w * c.args.i) c.width-width.ensures, ap number_size c.width-width.ensures)
 
-pub returns-then-i-header : goal.returns-then-i-header
-returns-then-i-header c =
+pub returns-then-i-count : goal.returns-then-i-count
+returns-then-i-count c =
     let x = c.self.inside.part.header in
     let size = number_size x.width in
-    let place : c.numbers_from.result + c.numbers_size.result ≡ extended_numbers_from x + size * c.args.i = omega arith in
-    c.number_at.ensures ∙ ap (number_at size c.self.inside.bytes.now) place
-    ∙ sym (number_item c.self.inside.bytes.now c.self.inside.header c.self.inside.part.header c.args.i c.if-i-header.true)
+    let place : c.numbers_from.result + c.numbers_size.result ≡ extended_numbers_from x + size * c.args.i = omega (arith, ap (λ w. number_size w * c.args.i) c.width-width.ensures) in
+    c.number_at.ensures
+    ∙ ap (λ w. number_at (number_size w) c.self.inside.bytes.now (c.numbers_from.result + c.numbers_size.result)) c.width-width.ensures
+    ∙ ap (number_at size c.self.inside.bytes.now) place
+    ∙ sym (number_item c.self.inside.bytes.now c.self.inside.header c.self.inside.part.header c.args.i (omega (arith, c.if-i-count.true, c.count.ensures)))
     ∙ ap (λ (v : EntryValue). get_or (map mark_in v.extended_numbers) c.args.i Absent) c.self.view_is
 
-pub returns-else-i-header : goal.returns-else-i-header
-returns-else-i-header c =
-    sym (no_number_item c.self.inside.bytes.now c.self.inside.header c.self.inside.part.header c.args.i c.if-i-header.false)
+pub returns-else-i-count : goal.returns-else-i-count
+returns-else-i-count c =
+    sym (no_number_item c.self.inside.bytes.now c.self.inside.header c.self.inside.part.header c.args.i (omega (arith, c.if-i-count.false, c.count.ensures)))
     ∙ ap (λ (v : EntryValue). get_or (map mark_in v.extended_numbers) c.args.i Absent) c.self.view_is

@@ -10,4 +10,4 @@ pub returns : goal.returns
 returns c =
     let bytes = c.self.inside.bytes.now in
     let x = c.self.inside.part.header in
-    sym (length_named (name_at bytes x) (number_at (number_size x.width) bytes) (extended_names_from x + 2 * x.flags) (extended_numbers_from x) (number_size x.width) x.numbers) ∙ ap (λ (v : EntryValue). length v.extended_numbers) c.self.view_is
+    c.count.ensures ∙ sym (length_named (name_at bytes x) (number_at (number_size x.width) bytes) (extended_names_from x + 2 * x.flags) (extended_numbers_from x) (number_size x.width) x.numbers) ∙ ap (λ (v : EntryValue). length v.extended_numbers) c.self.view_is

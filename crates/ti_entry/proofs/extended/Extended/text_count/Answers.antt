@@ -10,4 +10,4 @@ pub returns : goal.returns
 returns c =
     let bytes = c.self.inside.bytes.now in
     let x = c.self.inside.part.header in
-    sym (length_named (name_at bytes x) (text_at (extended_table_of bytes x) bytes) (extended_names_from x + 2 * (x.flags + x.numbers)) (extended_values_from x) 2 x.texts) ∙ ap (λ (v : EntryValue). length v.extended_texts) c.self.view_is
+    c.count.ensures ∙ sym (length_named (name_at bytes x) (text_at (extended_table_of bytes x) bytes) (extended_names_from x + 2 * (x.flags + x.numbers)) (extended_values_from x) 2 x.texts) ∙ ap (λ (v : EntryValue). length v.extended_texts) c.self.view_is

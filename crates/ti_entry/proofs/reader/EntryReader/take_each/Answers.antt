@@ -18,10 +18,10 @@ rest_too old new piece k r none e some =
 
 pub bytes-init : goal.bytes-init
 bytes-init c = record {
-  first = c.requires.unrefused;
-  unrefused = c.requires.unrefused;
+  first = c.requires.no_refusal;
+  no_refusal = c.requires.no_refusal;
   within = c.requires.most;
-  fed = reading_after-nothing c.args.self.now c.requires.unrefused c.requires.none_failed;
+  fed = reading_after-nothing c.args.self.now c.requires.no_refusal c.requires.none_failed;
 }
 
 pub returns-in_err-take-clause-fed : goal.returns-in_err-take-clause-fed
@@ -38,7 +38,7 @@ bytes-preserved c =
     let i = c.bytes.invariant in
     record {
       first = i.first;
-      unrefused = answer_under-ok _ _ _ c.in_ok-take.was c.take.ensures.answer;
+      no_refusal = answer_under-ok _ _ _ c.in_ok-take.was c.take.ensures.answer;
       within = c.take.ensures.most;
       fed = one_more c.args.self.now c.bytes.self c.take.new.self c.args.piece.now c.bytes.byte-index c.bytes-test.true i.first i.fed c.take.ensures.fed;
     }

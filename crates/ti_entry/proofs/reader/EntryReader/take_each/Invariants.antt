@@ -7,7 +7,7 @@ use Rattle.ti_entry.proofs.reader.EntryReader.take_each.Given as goal
 abbrev pub invariant-bytes : goal.invariant-bytes
 invariant-bytes l = record {
   first : l.initial.self.refusal ≡ None;
-  unrefused : l.self.refusal ≡ None;
+  no_refusal : l.self.refusal ≡ None;
   within : length l.self.kept ≤ most_entry_bytes;
   fed : l.self ≡ reading_after l.initial.self (take l.byte-index l.piece);
 }

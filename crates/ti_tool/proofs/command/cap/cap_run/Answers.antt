@@ -5,24 +5,24 @@ use Rattle.ti_tool.proofs.DidCallLemmas.{did_fail, did_write, did_not_read}
 use Rattle.ti_tool.proofs.ReadsIntoLemmas.{ReadsInto-empty, at_end}
 use Rattle.ti_tool.proofs.command.cap.cap_run.Goals as goal
 
-pub returns-in_err-read_up_to : goal.returns-in_err-read_up_to
-returns-in_err-read_up_to g c =
+pub returns-in_err-read_up_to-clause-did : goal.returns-in_err-read_up_to-clause-did
+returns-in_err-read_up_to-clause-did g c =
     let p = err_from_is_err_and c.from_residual.result c.from_residual.ensures.1 in
     rw (p.1, p.2) (did_not_read (IsCapped c.args.parameters.now c.args.hex) IsFull _ _ _ _ _ c.read_up_to.ensures.taken)
 
-pub returns-in_err-result : goal.returns-in_err-result
-returns-in_err-result g c =
+pub returns-in_err-result-clause-did : goal.returns-in_err-result-clause-did
+returns-in_err-result-clause-did g c =
     let p = err_from_is_err_and c.from_residual-in_err-result.result c.from_residual-in_err-result.ensures.1 in
     rw (p.1, p.2)
     (did_fail (IsCapped c.args.parameters.now c.args.hex) IsFull _ _ _ c.as_slice.result.now c.in_err-result.field-0.0
     (ReadsInto-empty _ _ _ _ c.as_slice.result.now c.read_up_to.ensures.taken c.new-input.ensures c.as_slice.ensures.value)
     (at_end _ c.read_up_to.new.bytes.items c.as_slice.result.now c.as_slice.ensures.value c.in_ok-read_up_to.ensures.end)
-    (λ gone h. h) c.in_err-result.ensures)
+    (record { no_write = λ gone h. h; no_memory = λ h. h }) c.in_err-result.ensures)
 
-pub returns : goal.returns
-returns g c =
+pub returns-clause-did : goal.returns-clause-did
+returns-clause-did g c =
     did_write (IsCapped c.args.parameters.now c.args.hex) IsFull _ _ _ _ c.as_slice.result.now c.in_ok-result.result.items c.as_slice-2.result.now c.write_result.result
     (ReadsInto-empty _ _ _ _ c.as_slice.result.now c.read_up_to.ensures.taken c.new-input.ensures c.as_slice.ensures.value)
     (at_end _ c.read_up_to.new.bytes.items c.as_slice.result.now c.as_slice.ensures.value c.in_ok-read_up_to.ensures.end)
     c.in_ok-result.ensures
-    c.as_slice-2.ensures.value c.write_result.ensures
+    c.as_slice-2.ensures.value c.write_result.ensures.written c.write_result.ensures.fails

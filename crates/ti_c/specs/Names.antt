@@ -1,0 +1,16 @@
+-- Names and words by the numbers that C knows them by.
+use Rattle.std.specs.Prelude.{ℕ, List, Option, Some, None, nat_eq, if◌then◌else◌}
+use Rattle.ti_words.specs.declared.Kind.{Kind}
+use Rattle.ti_words.specs.declared.Kind.TheVariants.{Flag, Number, Text}
+use Rattle.ti_words.specs.Names.{name_of}
+
+-- the kind that a number stands for
+abbrev pub kind_at : ℕ → Option Kind
+kind_at number =
+    if nat_eq number 0 then Some Flag
+    else (if nat_eq number 1 then Some Number else (if nat_eq number 2 then Some Text else None))
+
+-- the name at an index of a kind, none where there is no such kind
+abbrev pub name_under : Option Kind → ℕ → Option (List ℕ)
+name_under None index = None
+name_under (Some kind) index = name_of kind index

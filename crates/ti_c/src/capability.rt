@@ -1,0 +1,46 @@
+//! Checking a capability for C.
+
+ghost use Rattle.std.specs.Prelude.{◌≡◌, ◌⊎◌};
+ghost use Rattle.ti_cap.specs.Capability.{HasDepth, HasBound, HasNest, IsWellFormed};
+ghost use Rattle.ti_c.specs.Numbers.{done};
+ghost use Rattle.ti_c.specs.Given.{IsRefusedAs};
+
+use crate::faults::{DONE, capability_number};
+use ti_cap::Capability;
+
+/// What a capability needs, or where its fault stands.
+#[repr(C)]
+#[derive(Clone, Copy, Debug, PartialEq, Eq)]
+pub struct Limits {
+    /// The greatest number of values on the stack.
+    pub depth: usize,
+    /// The greatest number of conditionals that are open at once.
+    pub nest: usize,
+    /// The most bytes that it writes, for texts up to the length that was asked for.
+    pub bound: u64,
+    /// Where the fault stands, in bytes from the start.
+    pub place: usize,
+}
+
+/// Checks bytes as a capability, and answers 0 with its limits, or the number of its fault with the place.
+#[unsafe(no_mangle)]
+pub extern "C" fn ti_check(capability: &[u8], longest_text: u16, limits: &mut Limits) -> u32
+    ensures answer { (result ≡ done) ⊎ IsRefusedAs capability.now result limits.new.place }
+    ensures tree { result ≡ done → IsWellFormed capability.now }
+    ensures depth { result ≡ done → HasDepth capability.now limits.new.depth }
+    ensures nest { result ≡ done → HasNest capability.now limits.new.nest }
+    ensures bound { result ≡ done → HasBound capability.now longest_text limits.new.bound }
+{
+    match Capability::parse(capability) {
+        Ok(capability) => {
+            limits.depth = capability.depth();
+            limits.nest = capability.nest();
+            limits.bound = capability.bound(longest_text);
+            DONE
+        }
+        Err(refused) => {
+            limits.place = refused.place;
+            capability_number(refused.fault)
+        }
+    }
+}

@@ -1,0 +1,178 @@
+//! Expanding a capability for C.
+
+ghost use Rattle.std.specs.Prelude.{◌≡◌, ◌≤◌, ◌<◌, ◌+◌, ◌⊎◌, ℕ, length, take, drop};
+ghost use Rattle.ti_cap.specs.Capability.{HasBound, HasDepth, IsWellFormed};
+ghost use Rattle.ti_cap.specs.Height.{height};
+ghost use Rattle.ti_cap.specs.Tree.{tokens};
+ghost use Rattle.ti_expand.specs.Expands.{ForMeaning, ForPath, ForTree, longest_text};
+ghost use Rattle.ti_c.specs.Numbers.{done};
+ghost use Rattle.ti_base.specs.Limits.{most_values};
+ghost use Rattle.ti_c.specs.Given.{value_at as the_value_at, value_given, values_given, HasNoFault, IsDeepEnough, IsExpansionFault, IsFaultOf};
+
+use crate::faults::{DONE, TOO_MANY_PARAMETERS, capability_number, expand_number, expand_place};
+use ti_base::MOST_VALUES;
+use ti_cap::Capability;
+use ti_expand::{Value, Vars, expand_into};
+
+/// Nearly all capabilities have no greater depth, and less room takes less time to make.
+const FEW_VALUES: usize = 4;
+
+/// A parameter: the number where `is_text` is 0, else the text.
+#[repr(C)]
+#[derive(Clone, Copy)]
+pub struct Parameter<'a> {
+    pub text: &'a [u8],
+    pub number: i32,
+    pub is_text: u8,
+}
+
+/// How an expansion went, or where its fault stands.
+#[repr(C)]
+#[derive(Clone, Copy)]
+pub struct Run {
+    /// The bytes of output.
+    pub written: usize,
+    /// The tokens that ran.
+    pub ran: usize,
+    /// The tokens that were passed over.
+    pub passed: usize,
+    /// The greatest number of values on the stack.
+    pub peak: usize,
+    /// Of a capability's fault the place in its bytes; else the parameter whose text is too long, counted from 1, or the
+    /// bytes that the output needs.
+    pub place: usize,
+}
+
+/// The value of a parameter.
+fn value_of<'a>(parameter: &Parameter<'a>) -> Value<'a>
+    ensures { result ≡ value_given parameter.now }
+{
+    if parameter.is_text == 0 {
+        Value::Num(parameter.number)
+    } else {
+        Value::Text(parameter.text)
+    }
+}
+
+/// The value of the parameter at an index, 0 where it is missing.
+fn value_at<'a>(parameters: &[Parameter<'a>], index: usize) -> Value<'a>
+    ensures { result ≡ the_value_at parameters.now index }
+{
+    match parameters.get(index) {
+        Some(parameter) => value_of(parameter),
+        None => Value::Num(0),
+    }
+}
+
+/// The values of the nine parameters.
+fn values_of<'a>(parameters: &[Parameter<'a>]) -> [Value<'a>; 9]
+    ensures { result ≡ values_given parameters.now }
+{
+    [
+        value_at(parameters, 0),
+        value_at(parameters, 1),
+        value_at(parameters, 2),
+        value_at(parameters, 3),
+        value_at(parameters, 4),
+        value_at(parameters, 5),
+        value_at(parameters, 6),
+        value_at(parameters, 7),
+        value_at(parameters, 8),
+    ]
+}
+
+/// Expands on a stack that is deep enough, as [`ti_expand`] does.
+fn expand_on<'a>(
+    capability: &Capability<'a>,
+    values: &[Value<'a>; 9],
+    variables: &mut Vars,
+    stack: &mut [Value<'a>],
+    out: &mut [u8],
+    run: &mut Run,
+) -> u32
+    requires deep { IsDeepEnough capability.now (length stack.old) }
+    requires few { length stack.old ≤ most_values }
+    ensures answer { (result ≡ done)
+        ⊎ IsFaultOf capability.now values.now (length out.old) result run.new.place }
+    ensures faultless { result ≡ done → HasNoFault capability.now values.now (length out.old) }
+    ensures kept { (result ≡ done) ⊎ ((variables.new ≡ variables.old) × (out.new ≡ out.old)) }
+    ensures tree { result ≡ done → IsWellFormed capability.now }
+    ensures output { result ≡ done → ForMeaning capability.now variables.old values.now
+        (λ end. take run.new.written out.new ≡ end.output) }
+    ensures rest { result ≡ done → drop run.new.written out.new ≡ drop run.new.written out.old }
+    ensures variables { result ≡ done → ForMeaning capability.now variables.old values.now
+        (λ end. variables.new ≡ end.variables) }
+    ensures written { result ≡ done → ForMeaning capability.now variables.old values.now
+        (λ end. run.new.written ≡ length end.output) }
+    ensures ran { result ≡ done → ForPath capability.now variables.old values.now
+        (λ path. run.new.ran ≡ length path) }
+    ensures all { result ≡ done → ForTree capability.now
+        (λ tree. run.new.ran + run.new.passed ≡ length (tokens tree)) }
+    ensures peak { result ≡ done → ForPath capability.now variables.old values.now
+        (λ path. run.new.peak ≡ height path) }
+{
+    match expand_into(capability.tape(), values, variables, stack, out) {
+        Ok(done) => {
+            run.written = done.written;
+            run.ran = done.ran;
+            run.passed = done.passed;
+            run.peak = done.peak;
+            DONE
+        }
+        Err(fault) => {
+            run.place = expand_place(fault);
+            expand_number(fault)
+        }
+    }
+}
+
+/// Expands a capability into the caller's bytes, and answers 0 with the counts, or the number of its fault with the place.
+///
+/// After a fault the variables and the output are as before.
+#[unsafe(no_mangle)]
+pub extern "C" fn ti_expand<'a>(
+    capability: &'a [u8],
+    parameters: &[Parameter<'a>],
+    variables: &mut Vars,
+    out: &mut [u8],
+    run: &mut Run,
+) -> u32
+    ensures answer { (result ≡ done) ⊎ IsExpansionFault capability.now (values_given parameters.now)
+        (length parameters.now) (length out.old) result run.new.place }
+    ensures few { result ≡ done → length parameters.now ≤ 9 }
+    ensures faultless { result ≡ done
+        → HasNoFault capability.now (values_given parameters.now) (length out.old) }
+    ensures kept { (result ≡ done) ⊎ ((variables.new ≡ variables.old) × (out.new ≡ out.old)) }
+    ensures tree { result ≡ done → IsWellFormed capability.now }
+    ensures output { result ≡ done → ForMeaning capability.now variables.old (values_given parameters.now)
+        (λ end. take run.new.written out.new ≡ end.output) }
+    ensures rest { result ≡ done → drop run.new.written out.new ≡ drop run.new.written out.old }
+    ensures variables { result ≡ done → ForMeaning capability.now variables.old (values_given parameters.now)
+        (λ end. variables.new ≡ end.variables) }
+    ensures written { result ≡ done → ForMeaning capability.now variables.old (values_given parameters.now)
+        (λ end. run.new.written ≡ length end.output) }
+    ensures ran { result ≡ done → ForPath capability.now variables.old (values_given parameters.now)
+        (λ path. run.new.ran ≡ length path) }
+    ensures all { result ≡ done → ForTree capability.now
+        (λ tree. run.new.ran + run.new.passed ≡ length (tokens tree)) }
+    ensures peak { result ≡ done → ForPath capability.now variables.old (values_given parameters.now)
+        (λ path. run.new.peak ≡ height path) }
+{
+    if parameters.len() > 9 {
+        return TOO_MANY_PARAMETERS;
+    }
+    let capability = match Capability::parse(capability) {
+        Ok(capability) => capability,
+        Err(refused) => {
+            run.place = refused.place;
+            return capability_number(refused.fault);
+        }
+    };
+    let values = values_of(parameters);
+    if capability.depth() <= FEW_VALUES {
+        let mut stack = [Value::Num(0); FEW_VALUES];
+        return expand_on(&capability, &values, variables, &mut stack, out, run);
+    }
+    let mut stack = [Value::Num(0); MOST_VALUES];
+    expand_on(&capability, &values, variables, &mut stack, out, run)
+}

@@ -1,0 +1,67 @@
+//! The numbers by which C knows the faults.
+
+ghost use Rattle.std.specs.Prelude.{◌≡◌};
+ghost use Rattle.ti_c.specs.Numbers.{capability_number, expand_number, expand_place};
+
+use ti_cap::CapFault;
+use ti_expand::ExpandFault;
+
+/// No fault.
+pub(crate) const DONE: u32 = 0;
+
+/// More than nine parameters.
+pub(crate) const TOO_MANY_PARAMETERS: u32 = 201;
+
+/// A rate or a count of lines above its limit.
+pub(crate) const BAD_PADDING: u32 = 301;
+
+/// A padded text above its limit.
+pub(crate) const TOO_MUCH: u32 = 302;
+
+/// No capability has the name, or none stands at the place.
+pub(crate) const NOT_NAMED: u32 = 401;
+
+/// The number of a capability's fault.
+pub(crate) fn capability_number(fault: CapFault) -> u32
+    ensures { result ≡ capability_number fault }
+{
+    match fault {
+        CapFault::TooLong => 101,
+        CapFault::CutShort => 102,
+        CapFault::UnknownEscape => 103,
+        CapFault::BadParameter => 104,
+        CapFault::BadVariable => 105,
+        CapFault::BadConstant => 106,
+        CapFault::BadFormat => 107,
+        CapFault::StrayThen => 108,
+        CapFault::StrayElse => 109,
+        CapFault::StrayEnd => 110,
+        CapFault::NoThen => 111,
+        CapFault::NestTooDeep => 112,
+        CapFault::StackTooDeep => 113,
+    }
+}
+
+/// The number of a fault of an expansion.
+pub(crate) fn expand_number(fault: ExpandFault) -> u32
+    ensures { result ≡ expand_number fault }
+{
+    match fault {
+        ExpandFault::TextTooLong { .. } => 202,
+        ExpandFault::OutTooSmall { .. } => 203,
+        ExpandFault::StackTooSmall { .. } => 204,
+        ExpandFault::Memory => 205,
+    }
+}
+
+/// What is told with it: the parameter, counted from 1, or what was needed.
+pub(crate) fn expand_place(fault: ExpandFault) -> usize
+    ensures { result ≡ expand_place fault }
+{
+    match fault {
+        ExpandFault::TextTooLong { parameter } => parameter as usize,
+        ExpandFault::OutTooSmall { need } => need as usize,
+        ExpandFault::StackTooSmall { need } => need,
+        ExpandFault::Memory => 0,
+    }
+}

@@ -1,6 +1,0 @@
-use Rattle.std.proofs.Common.{take}
-use Rattle.ti_expand.specs.inner.Running.{AreShort}
-use Rattle.ti_expand.proofs.texts.has_text.Given as goal
-
-abbrev pub invariant-loop-value : goal.invariant-loop-value
-invariant-loop-value l = AreShort (take l.value-index l.parameters) 0

@@ -1,6 +1,0 @@
-use Rattle.std.proofs.Common.{take}
-use Rattle.ti_expand.specs.inner.Running.{AreShort}
-use Rattle.ti_expand.proofs.texts.longest_of.Given as goal
-
-abbrev pub invariant-loop-i : goal.invariant-loop-i
-invariant-loop-i l = AreShort (take l.i l.parameters) l.longest

@@ -1,7 +1,0 @@
-use Rattle.std.proofs.Common.{◌∙◌}
-use Rattle.clap.specs.Words.{found_of}
-use Rattle.ti_line.proofs.ValuesLemmas.{flag_read}
-use Rattle.ti_line.proofs.values.flag.Goals as goal
-
-pub returns : goal.returns
-returns c = c.unwrap_or.ensures ∙ flag_read _ (found_of c.args.given.now) c.args.id.now c.get_one.result c.get_one.ensures.none c.get_one.ensures.value

@@ -1,0 +1,290 @@
+-- For given parameters and bytes at most one result is due.
+use Rattle.std.proofs.Common.{◌≡◌, ◌⊎◌, ℕ, zero, suc, ◌<◌, ◌≤◌, Bool, ◌&&◌, List, [], ◌∷◌, ◌++◌, length, Ok, Err, Some, inl, inr, refl, sym, ap, subst, ◌∙◌, arith, pos}
+use Rattle.std.specs.Prelude.{Option, Result, replicate, codes}
+use Rattle.ti_words.specs.declared.Kind.TheVariants as kinds
+use Rattle.ti_words.specs.declared.Width.{Width}
+use Rattle.ti_words.specs.Texts.{TextValue, AbsentText, CancelledText, TextOf}
+use Rattle.ti_words.specs.Value.{EntryValue}
+use Rattle.ti_words.specs.Spelling.{Spells}
+use Rattle.ti_layout.specs.declared.fault.Refused.{Refused}
+use Rattle.ti_layout.specs.Refusal.{refusal}
+use Rattle.ti_draft.specs.declared.unfit.EncodeFault.{EncodeFault}
+use Rattle.ti_draft.specs.Unfit.{encode_fault}
+use Rattle.ti_cap.specs.declared.language.Token.{Token}
+use Rattle.ti_cap.specs.declared.language.CapRefused.{CapRefused}
+use Rattle.ti_cap.specs.Tree.{Sequence, tokens}
+use Rattle.ti_cap.specs.Spelling.{Writes}
+use Rattle.ti_cap.specs.Height.{IsGreatest, height, size}
+use Rattle.ti_cap.specs.Capability.{HasDepth, HasBound}
+use Rattle.ti_cap.specs.Refusal.{IsFaultless, IsRefusal}
+use Rattle.ti_cap.proofs.WrittenLemmas.{one_cutting}
+use Rattle.ti_cap.proofs.OneTreeLemmas.{one_tree}
+use Rattle.ti_cap.proofs.OneRefusalLemmas.{one_refusal}
+use Rattle.ti_expand.specs.declared.values.Value.{Value}
+use Rattle.ti_expand.specs.State.{start}
+use Rattle.ti_expand.specs.Meaning.{meaning}
+use Rattle.ti_expand.specs.Expands.{IsFirstTooLong}
+use Rattle.ti_pad.specs.Setting.{Setting}
+use Rattle.ti_pad.specs.Padded.{padded_text}
+use Rattle.ti_base.specs.Limits.{most_padded_bytes}
+use Rattle.ti_entry.proofs.SpellsAtMostOneLemmas.{at_most_one}
+use Rattle.ti_tool.specs.declared.fault.ToolFault.{ToolFault}
+use Rattle.ti_tool.specs.declared.fault.ToolFault.TheVariants as fault
+use Rattle.ti_tool.specs.Labels.{label_of}
+use Rattle.ti_tool.specs.Listing.{entry_lines}
+use Rattle.ti_tool.specs.Laws.{IsOneResult}
+use Rattle.ti_tool.specs.Results.{output_bytes, IsExpansion, IsUnexpanded, IsCapped, IsPadded, IsDue, IsDueFor, IsExpanded, IsShown, IsChecked, IsEncoding, IsConverted, in_width}
+use Rattle.ti_tool.specs.Verdicts.{IsVerdict, IsLine, IsStandardLine, IsExtendedLine, AreLines, AreVerdicts, sound_verdict, fault_verdict}
+use Rattle.ti_tool.proofs.IsCalledLemmas.{one_called}
+use Rattle.ti_tool.proofs.NeedsMemoryLemmas.{expandable, faultless_passes, never_refused}
+
+-- ---- capabilities
+
+tree_once : (s t : Sequence) (bytes : List ℕ) → Writes s bytes → Writes t bytes → s ≡ t
+tree_once s t bytes p q = one_tree s t p.formed q.formed (one_cutting (tokens s) (tokens t) bytes p.written q.written)
+
+one_expansion : (text : List ℕ) (parameters : List Value) (out other : List ℕ) → IsExpansion text parameters out → IsExpansion text parameters other → out ≡ other
+one_expansion text parameters out other p q =
+    p.is ∙ ap (λ (t : Sequence). (meaning t (start (replicate 52 (pos 0)) parameters)).output) (tree_once p.tree q.tree text p.writes q.writes) ∙ sym q.is
+
+-- two numbers are in order, or equal
+in_order : (k l : ℕ) → (k < l) ⊎ ((l < k) ⊎ (k ≡ l))
+in_order zero zero = inr (inr refl)
+in_order zero (suc l) = inl (omega arith)
+in_order (suc k) zero = inr (inl (omega arith))
+in_order (suc k) (suc l) = one_more (in_order k l)
+  where
+    one_more : (k < l) ⊎ ((l < k) ⊎ (k ≡ l)) → (suc k < suc l) ⊎ ((suc l < suc k) ⊎ (suc k ≡ suc l))
+    one_more (inl lt) = inl (omega arith)
+    one_more (inr (inl lt)) = inr (inl (omega arith))
+    one_more (inr (inr e)) = inr (inr (ap suc e))
+
+one_too_long : (parameters : List Value) (k l : ℕ) → IsFirstTooLong parameters k → IsFirstTooLong parameters l → k ≡ l
+one_too_long parameters k l p q = by_order (in_order k l)
+  where
+    by_order : (k < l) ⊎ ((l < k) ⊎ (k ≡ l)) → k ≡ l
+    by_order (inl lt) = let short = q.lower k lt in let long = p.too_long in absurd (omega arith)
+    by_order (inr (inl lt)) = let short = p.lower l lt in let long = q.too_long in absurd (omega arith)
+    by_order (inr (inr e)) = e
+
+-- why a capability is not expanded, in two cases
+data Unexpanded (text : List ℕ) (parameters : List Value) (e : ToolFault) : Type 0 where
+  refused_as : (r : CapRefused) → e ≡ fault.Cap r → IsRefusal text r → Unexpanded text parameters e
+  too_long_at : (k : ℕ) → e ≡ fault.TextTooLong k → IsFaultless text → IsFirstTooLong parameters k → Unexpanded text parameters e
+
+unexpanded : (text : List ℕ) (parameters : List Value) (e : ToolFault) → IsUnexpanded text parameters e → Unexpanded text parameters e
+unexpanded text parameters (fault.Cap r) d = refused_as r refl d
+unexpanded text parameters (fault.TextTooLong k) d = too_long_at k refl d.0 d.1
+unexpanded text parameters (fault.Entry refused) d = absurd d
+unexpanded text parameters (fault.Encode unfit) d = absurd d
+unexpanded text parameters fault.NoSuchText d = absurd d
+unexpanded text parameters (fault.TooMuch need) d = absurd d
+unexpanded text parameters fault.Read d = absurd d
+unexpanded text parameters (fault.Write gone) d = absurd d
+unexpanded text parameters fault.Memory d = absurd d
+
+one_of_two : (text : List ℕ) (parameters : List Value) (e f : ToolFault) → Unexpanded text parameters e → Unexpanded text parameters f → e ≡ f
+one_of_two text parameters e f (refused_as r is d) (refused_as q same h) = is ∙ ap (λ (x : CapRefused). fault.Cap x) (one_refusal r q text d h) ∙ sym same
+one_of_two text parameters e f (refused_as r is d) (too_long_at k same sound long) = absurd (faultless_passes text r sound d)
+one_of_two text parameters e f (too_long_at k is sound long) (refused_as q same h) = absurd (faultless_passes text q sound h)
+one_of_two text parameters e f (too_long_at k is sound long) (too_long_at l same other longer) = is ∙ ap (λ x. fault.TextTooLong x) (one_too_long parameters k l long longer) ∙ sym same
+
+one_unexpanded : (text : List ℕ) (parameters : List Value) (e f : ToolFault) → IsUnexpanded text parameters e → IsUnexpanded text parameters f → e ≡ f
+one_unexpanded text parameters e f d h = one_of_two text parameters e f (unexpanded text parameters e d) (unexpanded text parameters f h)
+
+pub one_capped : (parameters : List Value) (hex : Bool) (input : List ℕ) → IsOneResult (IsCapped parameters hex input)
+one_capped parameters hex input (Ok a) (Ok b) (plain, sound, p, is) (other, again, q, same) = ap Ok (is ∙ ap (output_bytes hex) (one_expansion input parameters plain other p q) ∙ sym same)
+one_capped parameters hex input (Ok a) (Err e) (plain, sound, p, is) d = absurd (expandable input parameters sound p.short e d)
+one_capped parameters hex input (Err e) (Ok b) d (plain, sound, p, is) = absurd (expandable input parameters sound p.short e d)
+one_capped parameters hex input (Err e) (Err f) d h = ap Err (one_unexpanded input parameters e f d h)
+
+-- ---- padded texts
+
+-- why a text is not padded, in two cases
+data Unpadded (text : List ℕ) (parameters : List Value) (setting : Setting) (e : ToolFault) : Type 0 where
+  not_expanded : IsUnexpanded text parameters e → Unpadded text parameters setting e
+  too_much : (need : ℕ) (plain : List ℕ) → e ≡ fault.TooMuch need → IsFaultless text → IsExpansion text parameters plain → need ≡ length (padded_text plain setting) → most_padded_bytes < need
+      → Unpadded text parameters setting e
+
+unpadded : (text : List ℕ) (parameters : List Value) (setting : Setting) (hex : Bool) (e : ToolFault) → IsPadded text parameters setting hex (Err e) → Unpadded text parameters setting e
+unpadded text parameters setting hex (fault.TooMuch need) (plain, sound, p, is, over) = too_much need plain refl sound p is over
+unpadded text parameters setting hex (fault.Cap r) d = not_expanded d
+unpadded text parameters setting hex (fault.TextTooLong k) d = not_expanded d
+unpadded text parameters setting hex (fault.Entry refused) d = absurd d
+unpadded text parameters setting hex (fault.Encode unfit) d = absurd d
+unpadded text parameters setting hex fault.NoSuchText d = absurd d
+unpadded text parameters setting hex fault.Read d = absurd d
+unpadded text parameters setting hex (fault.Write gone) d = absurd d
+unpadded text parameters setting hex fault.Memory d = absurd d
+
+same_padded : (text : List ℕ) (parameters : List Value) (setting : Setting) (plain other : List ℕ) → IsExpansion text parameters plain → IsExpansion text parameters other → padded_text plain setting ≡ padded_text other setting
+same_padded text parameters setting plain other p q = ap (λ x. padded_text x setting) (one_expansion text parameters plain other p q)
+
+one_unpadded : (text : List ℕ) (parameters : List Value) (setting : Setting) (e f : ToolFault) → Unpadded text parameters setting e → Unpadded text parameters setting f → e ≡ f
+one_unpadded text parameters setting e f (not_expanded d) (not_expanded h) = one_unexpanded text parameters e f d h
+one_unpadded text parameters setting e f (not_expanded d) (too_much need plain is sound p long over) = absurd (expandable text parameters sound p.short e d)
+one_unpadded text parameters setting e f (too_much need plain is sound p long over) (not_expanded h) = absurd (expandable text parameters sound p.short f h)
+one_unpadded text parameters setting e f (too_much need plain is sound p long over) (too_much needs other same again q longer overs) =
+    is ∙ ap (λ x. fault.TooMuch x) (long ∙ ap length (same_padded text parameters setting plain other p q) ∙ sym longer) ∙ sym same
+
+padded_or_not : (text : List ℕ) (parameters : List Value) (setting : Setting) (plain : List ℕ) (e : ToolFault) → IsFaultless text → IsExpansion text parameters plain → length (padded_text plain setting) ≤ most_padded_bytes → Unpadded text parameters setting e → ⊥
+padded_or_not text parameters setting plain e sound p short (not_expanded d) = expandable text parameters sound p.short e d
+padded_or_not text parameters setting plain e sound p short (too_much need other is again q long over) =
+    let same : length (padded_text plain setting) ≡ length (padded_text other setting) = ap length (same_padded text parameters setting plain other p q) in absurd (omega arith)
+
+one_padded : (text : List ℕ) (parameters : List Value) (setting : Setting) (hex : Bool) → IsOneResult (IsPadded text parameters setting hex)
+one_padded text parameters setting hex (Ok a) (Ok b) (plain, sound, p, short, is) (other, again, q, shorts, same) =
+    ap Ok (is ∙ ap (output_bytes hex) (same_padded text parameters setting plain other p q) ∙ sym same)
+one_padded text parameters setting hex (Ok a) (Err e) (plain, sound, p, short, is) d = absurd (padded_or_not text parameters setting plain e sound p short (unpadded text parameters setting hex e d))
+one_padded text parameters setting hex (Err e) (Ok b) d (plain, sound, p, short, is) = absurd (padded_or_not text parameters setting plain e sound p short (unpadded text parameters setting hex e d))
+one_padded text parameters setting hex (Err e) (Err f) d h = ap Err (one_unpadded text parameters setting e f (unpadded text parameters setting hex e d) (unpadded text parameters setting hex f h))
+
+one_due : (text : TextValue) (parameters : List Value) (setting : Setting) (hex : Bool) → IsOneResult (IsDue text parameters setting hex)
+one_due AbsentText parameters setting hex r s d h = d ∙ sym h
+one_due CancelledText parameters setting hex r s d h = d ∙ sym h
+one_due (TextOf text) parameters setting hex r s d h = one_padded text parameters setting hex r s d h
+
+-- ---- results on entries
+
+-- what is due for bytes is their refusal, or something due for the entry that they spell
+one_on_entry : (input : List ℕ) (due : EntryValue → Result (List ℕ) ToolFault → Type 0) → ((v : EntryValue) → IsOneResult (due v))
+    → IsOneResult (λ answer. ((refused : Refused) × (refusal input ≡ Some refused) × (answer ≡ Err (fault.Entry refused))) ⊎ ((v : EntryValue) × Spells input v × due v answer))
+one_on_entry input due once r s (inl (a, is, e)) (inl (b, same, f)) =
+    let both : Some a ≡ Some b = sym is ∙ same in
+    let one : a ≡ b = cc in e ∙ ap (λ (x : Refused). Err (fault.Entry x)) one ∙ sym f
+one_on_entry input due once r s (inl (a, is, e)) (inr (v, spells, d)) = absurd (never_refused input v a spells is)
+one_on_entry input due once r s (inr (v, spells, d)) (inl (b, same, f)) = absurd (never_refused input v b spells same)
+one_on_entry input due once r s (inr (v, spells, d)) (inr (w, other, h)) =
+    once v r s d (subst (λ x. due x s) (at_most_one input w v other spells) h)
+
+one_due_for : (name : List ℕ) (parameters : List Value) (setting : Setting) (hex : Bool) (v : EntryValue) → IsOneResult (IsDueFor name parameters setting hex v)
+one_due_for name parameters setting hex v r s (text, called, d) (other, again, h) =
+    one_due text parameters setting hex r s d (subst (λ t. IsDue t parameters setting hex s) (one_called name v other text again called) h)
+
+pub one_expanded : (name : List ℕ) (parameters : List Value) (setting : Setting) (hex : Bool) (input : List ℕ) → IsOneResult (IsExpanded name parameters setting hex input)
+one_expanded name parameters setting hex input = one_on_entry input (IsDueFor name parameters setting hex) (one_due_for name parameters setting hex)
+
+encoding_fault : (v : EntryValue) (e : ToolFault) → IsEncoding v (Err e) → (unfit : EncodeFault) × (e ≡ fault.Encode unfit) × (encode_fault v ≡ Some unfit)
+encoding_fault v (fault.Encode unfit) d = (unfit, refl, d)
+encoding_fault v (fault.Entry refused) d = absurd d
+encoding_fault v (fault.Cap r) d = absurd d
+encoding_fault v (fault.TextTooLong k) d = absurd d
+encoding_fault v fault.NoSuchText d = absurd d
+encoding_fault v (fault.TooMuch need) d = absurd d
+encoding_fault v fault.Read d = absurd d
+encoding_fault v (fault.Write gone) d = absurd d
+encoding_fault v fault.Memory d = absurd d
+
+one_encoding : (v : EntryValue) → IsOneResult (IsEncoding v)
+one_encoding v (Ok a) (Ok b) (none, is) (neither, same) = ap Ok (is ∙ sym same)
+one_encoding v (Ok a) (Err e) (none, is) d = let (unfit, same, why) = encoding_fault v e d in absurd (cc)
+one_encoding v (Err e) (Ok b) d (none, is) = let (unfit, same, why) = encoding_fault v e d in absurd (cc)
+one_encoding v (Err e) (Err f) d h =
+    let (unfit, is, why) = encoding_fault v e d in
+    let (other, same, because) = encoding_fault v f h in
+    let both : Some unfit ≡ Some other = sym why ∙ because in
+    let one : unfit ≡ other = cc in ap Err (is ∙ ap (λ (x : EncodeFault). fault.Encode x) one ∙ sym same)
+
+pub one_converted : (width : Option Width) (input : List ℕ) → IsOneResult (IsConverted width input)
+one_converted width input = one_on_entry input (λ v. IsEncoding (in_width width v)) (λ v. one_encoding (in_width width v))
+
+entry_fault : (input : List ℕ) (e : ToolFault) → IsShown input (Err e) → (refused : Refused) × (e ≡ fault.Entry refused) × (refusal input ≡ Some refused)
+entry_fault input (fault.Entry refused) d = (refused, refl, d)
+entry_fault input (fault.Encode unfit) d = absurd d
+entry_fault input (fault.Cap r) d = absurd d
+entry_fault input (fault.TextTooLong k) d = absurd d
+entry_fault input fault.NoSuchText d = absurd d
+entry_fault input (fault.TooMuch need) d = absurd d
+entry_fault input fault.Read d = absurd d
+entry_fault input (fault.Write gone) d = absurd d
+entry_fault input fault.Memory d = absurd d
+
+one_entry_fault : (input : List ℕ) (e f : ToolFault) → IsShown input (Err e) → IsShown input (Err f) → e ≡ f
+one_entry_fault input e f d h =
+    let (refused, is, why) = entry_fault input e d in
+    let (other, same, because) = entry_fault input f h in
+    let both : Some refused ≡ Some other = sym why ∙ because in
+    let one : refused ≡ other = cc in is ∙ ap (λ (x : Refused). fault.Entry x) one ∙ sym same
+
+shown_or_refused : (input : List ℕ) (v : EntryValue) (e : ToolFault) → Spells input v → IsShown input (Err e) → ⊥
+shown_or_refused input v e spells d = let (refused, is, why) = entry_fault input e d in never_refused input v refused spells why
+
+pub one_shown : (input : List ℕ) → IsOneResult (IsShown input)
+one_shown input (Ok a) (Ok b) (v, spells, is) (w, other, same) = ap Ok (is ∙ ap entry_lines (at_most_one input v w spells other) ∙ sym same)
+one_shown input (Ok a) (Err e) (v, spells, is) d = absurd (shown_or_refused input v e spells d)
+one_shown input (Err e) (Ok b) d (v, spells, is) = absurd (shown_or_refused input v e spells d)
+one_shown input (Err e) (Err f) d h = ap Err (one_entry_fault input e f d h)
+
+-- ---- verdicts
+
+greatest_once : (tree : Sequence) (measure : List Token → ℕ) (a b : ℕ) → IsGreatest tree measure a → IsGreatest tree measure b → a ≡ b
+greatest_once tree measure a b p q =
+    let (path, on, is) = p.reached in
+    let (other, there, same) = q.reached in
+    let low = q.above_all path on in
+    let high = p.above_all other there in omega (arith, is, same, low, high)
+
+one_depth : (text : List ℕ) (a b : ℕ) → HasDepth text a → HasDepth text b → a ≡ b
+one_depth text a b (s, p, d) (t, q, e) = greatest_once s height a b d (subst (λ (x : Sequence). IsGreatest x height b) (tree_once t s text q p) e)
+
+one_bound : (text : List ℕ) (a b : ℕ) → HasBound text 0 a → HasBound text 0 b → a ≡ b
+one_bound text a b (s, p, d) (t, q, e) = greatest_once s (λ path. size path 0) a b d (subst (λ (x : Sequence). IsGreatest x (λ path. size path 0) b) (tree_once t s text q p) e)
+
+one_verdict : (text verdict other : List ℕ) (sound as_sound : Bool) → IsVerdict text verdict sound → IsVerdict text other as_sound → (verdict ≡ other) × (sound ≡ as_sound)
+one_verdict text verdict other sound as_sound (inl (s, (depth, bound, passes, deep, big, is))) (inl (t, (depths, bounds, again, deeper, bigger, same))) =
+    (is ∙ ap (λ d. sound_verdict d bound) (one_depth text depth depths deep deeper) ∙ ap (sound_verdict depths) (one_bound text bound bounds big bigger) ∙ sym same, s ∙ sym t)
+one_verdict text verdict other sound as_sound (inl (s, (depth, bound, passes, deep, big, is))) (inr (t, (refused, why, same))) = absurd (faultless_passes text refused passes why)
+one_verdict text verdict other sound as_sound (inr (s, (refused, why, is))) (inl (t, (depth, bound, passes, deep, big, same))) = absurd (faultless_passes text refused passes why)
+one_verdict text verdict other sound as_sound (inr (s, (refused, why, is))) (inr (t, (refuses, because, same))) =
+    (is ∙ ap fault_verdict (one_refusal refused refuses text why because) ∙ sym same, s ∙ sym t)
+
+one_line : (word label : List ℕ) (text : TextValue) (line other : List ℕ) (sound as_sound : Bool) → IsLine word label text line sound → IsLine word label text other as_sound → (line ≡ other) × (sound ≡ as_sound)
+one_line word label AbsentText line other sound as_sound d h = (d.0 ∙ sym h.0, d.1 ∙ sym h.1)
+one_line word label CancelledText line other sound as_sound d h = (d.0 ∙ sym h.0, d.1 ∙ sym h.1)
+one_line word label (TextOf text) line other sound as_sound (verdict, d, is) (verdicts, h, same) =
+    let one = one_verdict text verdict verdicts sound as_sound d h in (is ∙ ap (λ x. word ++ label ++ x) one.0 ∙ sym same, one.1)
+
+abbrev pub IsOneLine : {X : Type 0} → (ℕ → X → List ℕ → Bool → Type 0) → Type 0
+IsOneLine {X} IsLineOf = (index : ℕ) (x : X) (line other : List ℕ) (sound as_sound : Bool) → IsLineOf index x line sound → IsLineOf index x other as_sound → (line ≡ other) × (sound ≡ as_sound)
+
+one_lines : {X : Type 0} (IsLineOf : ℕ → X → List ℕ → Bool → Type 0) → IsOneLine IsLineOf → (index : ℕ) (xs : List X) (lines others : List ℕ) (sound as_sound : Bool)
+    → AreLines IsLineOf index xs lines sound → AreLines IsLineOf index xs others as_sound → (lines ≡ others) × (sound ≡ as_sound)
+one_lines IsLineOf once index [] lines others sound as_sound d h = (d.0 ∙ sym h.0, d.1 ∙ sym h.1)
+one_lines IsLineOf once index (x ∷ xs) lines others sound as_sound (line, more, one, rest, is_line, are_lines, joined, both) (line', more', one', rest', is_line', are_lines', joined', both') =
+    let front = once index x line line' one one' is_line is_line' in
+    let back = one_lines IsLineOf once (suc index) xs more more' rest rest' are_lines are_lines' in (
+      joined ∙ ap (λ l. l ++ more) front.0 ∙ ap (λ l. line' ++ l) back.0 ∙ sym joined',
+      both ∙ ap (λ b. b && rest) front.1 ∙ ap (λ b. one' && b) back.1 ∙ sym both',
+    )
+
+one_verdicts : (v : EntryValue) (lines others : List ℕ) (sound as_sound : Bool) → AreVerdicts v lines sound → AreVerdicts v others as_sound → (lines ≡ others) × (sound ≡ as_sound)
+one_verdicts v lines others sound as_sound (first, second, one, other, a, b, joined, both) (first', second', one', other', a', b', joined', both') =
+    let front = one_lines IsStandardLine (λ index x line lines s t. one_line (codes "text ") (label_of kinds.Text index) x line lines s t) 0 v.texts first first' one one' a a' in
+    let back = one_lines IsExtendedLine (λ index x line lines s t. one_line (codes "text+ ") x.0 x.1 line lines s t) 0 v.extended_texts second second' other other' b b' in (
+      joined ∙ ap (λ l. l ++ second) front.0 ∙ ap (λ l. first' ++ l) back.0 ∙ sym joined',
+      both ∙ ap (λ b. b && other) front.1 ∙ ap (λ b. one' && b) back.1 ∙ sym both',
+    )
+
+checked_fault : (sound : Bool) (input : List ℕ) (e : ToolFault) → IsChecked sound input (Err e) → IsShown input (Err e)
+checked_fault sound input (fault.Entry refused) d = d
+checked_fault sound input (fault.Encode unfit) d = d
+checked_fault sound input (fault.Cap r) d = d
+checked_fault sound input (fault.TextTooLong k) d = d
+checked_fault sound input fault.NoSuchText d = d
+checked_fault sound input (fault.TooMuch need) d = d
+checked_fault sound input fault.Read d = d
+checked_fault sound input (fault.Write gone) d = d
+checked_fault sound input fault.Memory d = d
+
+both_checked : (input lines others : List ℕ) (sound as_sound : Bool) → IsChecked sound input (Ok lines) → IsChecked as_sound input (Ok others) → (lines ≡ others) × (sound ≡ as_sound)
+both_checked input lines others sound as_sound (v, spells, d) (w, other, h) =
+    one_verdicts v lines others sound as_sound d (subst (λ x. AreVerdicts x others as_sound) (at_most_one input w v other spells) h)
+
+pub one_checked : (input : List ℕ) (sound as_sound : Bool) (r s : Result (List ℕ) ToolFault) → IsChecked sound input r → IsChecked as_sound input s → r ≡ s
+one_checked input sound as_sound (Ok a) (Ok b) d h = ap Ok (both_checked input a b sound as_sound d h).0
+one_checked input sound as_sound (Ok a) (Err e) (v, spells, d) h = absurd (shown_or_refused input v e spells (checked_fault as_sound input e h))
+one_checked input sound as_sound (Err e) (Ok b) d (v, spells, h) = absurd (shown_or_refused input v e spells (checked_fault sound input e d))
+one_checked input sound as_sound (Err e) (Err f) d h = ap Err (one_entry_fault input e f (checked_fault sound input e d) (checked_fault as_sound input f h))
+
+pub one_soundness : (input lines others : List ℕ) (sound as_sound : Bool) → IsChecked sound input (Ok lines) → IsChecked as_sound input (Ok others) → sound ≡ as_sound
+one_soundness input lines others sound as_sound d h = (both_checked input lines others sound as_sound d h).1
