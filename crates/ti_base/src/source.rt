@@ -21,7 +21,8 @@ pub fn read_piece<R: Read>(
     // At most as many bytes as the piece has.
     ensures bound { ReadsAtMost result piece.new }
     // The source lost the bytes that stand in the piece now, none only at its end, and nothing where reading failed.
-    ensures bytes { ReadConsumes (R.remaining source.old) (R.remaining source.new) result piece.new }
+    ensures bytes { ReadConsumes
+        (R.remaining source.old) (R.remaining source.new) result piece.new }
 {
     'tries: loop {
         match source.read(piece) {

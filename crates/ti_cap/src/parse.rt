@@ -133,7 +133,10 @@ impl<'a> Model for Tape<'a> {
 
     ghost Value = { Spot };
 
-    ghost view = { λ t. record { taken = take t.place t.bytes.now; left = drop t.place t.bytes.now } };
+    ghost view = { λ t. record {
+      taken = take t.place t.bytes.now;
+      left = drop t.place t.bytes.now;
+    } };
 
     ghost invariant = { λ t. IsTape t.bytes.now t.place t.maxima };
 }

@@ -113,7 +113,8 @@ pub(crate) struct Sizes {
 /// The sizes of a draft, for which each of its lists is gone over once.
 pub(crate) fn sizes_of<A: Allocator>(draft: &Draft<'_, A>) -> Sizes
     ensures table { result.table ≡ capped_count (length (texts_table draft.now.texts)) }
-    ensures extended_table { result.extended_table ≡ capped_count (extended_table_length draft.now) }
+    ensures extended_table { result.extended_table
+        ≡ capped_count (extended_table_length draft.now) }
     ensures whole { result.whole ≡ capped_count (length (canonical draft.now)) }
 {
     let table = texts_len(draft.texts());

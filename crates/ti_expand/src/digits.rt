@@ -118,7 +118,8 @@ impl Model for Digits {
 
     ghost view = { λ digits. digits_of digits.conversion digits.amount };
 
-    ghost invariant = { λ digits. digits.count ≡ length (digits_of digits.conversion digits.amount) };
+    ghost invariant = { λ digits.
+        digits.count ≡ length (digits_of digits.conversion digits.amount) };
 }
 
 impl Digits {

@@ -1,5 +1,7 @@
 -- The first NUL of some bytes is the one that a search finds.
-use Rattle.std.proofs.Common.{◌≡◌, ℕ, zero, suc, ◌<◌, Bool, true, false, not, eqb, List, [], ◌∷◌, length, take, refl, sym, ap, ◌∙◌, arith}
+use Rattle.std.proofs.Common.{◌≡◌, ℕ, zero, suc, ◌+◌, ◌*◌, ◌<◌, Bool, true, false, not, cond, eqb, map, List, [], ◌∷◌, length, take, refl, sym, ap, ◌∙◌, arith}
+use Rattle.std.specs.List.{position_or_len}
+use Rattle.std.specs.Simd.Lanes.{mask_l}
 use Rattle.std.proofs.lemmas.List.Sums.{take_while-cons}
 use Rattle.memchr.specs.Find.{Nowhere, Passes, is_byte}
 use Rattle.ti_words.specs.Texts.{is_nul}
@@ -29,3 +31,25 @@ until_end [] none = refl
 until_end (x ∷ xs) none =
     let e = front_is_none x xs (length xs) none in
     ap (λ t. x ∷ t) (until_end xs (rest_has_none x xs (length xs) none)) ∙ sym (take_while-cons (λ b. not (is_nul b)) x xs ∙ rw e refl)
+
+one_more : (b : Bool) (near all n : ℕ) → cond b (1 + near) 0 < suc n → (near < n → near ≡ all) → cond b (1 + near) 0 ≡ cond b (1 + all) 0
+one_more true near all n lt same = ap (λ k. 1 + k) (same (omega arith))
+one_more false near all n lt same = refl
+
+-- the first NUL of the first n bytes is the first of all
+same_place : (xs : List ℕ) (n : ℕ) → position_or_len is_nul (take n xs) < n → position_or_len is_nul (take n xs) ≡ position_or_len is_nul xs
+same_place xs zero lt = absurd (omega arith)
+same_place [] (suc n) lt = refl
+same_place (x ∷ xs) (suc n) lt = one_more (not (is_nul x)) (position_or_len is_nul (take n xs)) (position_or_len is_nul xs) n lt (same_place xs n)
+
+pub until_near : (xs : List ℕ) (n : ℕ) → position_or_len is_nul (take n xs) < n → take (position_or_len is_nul (take n xs)) xs ≡ until_nul xs
+until_near xs n lt = ap (λ k. take k xs) (same_place xs n lt)
+
+-- where a byte is marked as a NUL, the first NUL stands among the bytes
+pub below_marked : (xs : List ℕ) → 0 < mask_l (map is_nul xs) → position_or_len is_nul xs < length xs
+below_marked [] marked = absurd (omega arith)
+below_marked (x ∷ xs) marked = marked_more (is_nul x) (mask_l (map is_nul xs)) (position_or_len is_nul xs) (length xs) marked (below_marked xs)
+  where
+    marked_more : (b : Bool) (mask place size : ℕ) → 0 < cond b 1 0 + 2 * mask → (0 < mask → place < size) → cond (not b) (1 + place) 0 < suc size
+    marked_more true mask place size marked later = omega arith
+    marked_more false mask place size marked later = let more : place < size = later (omega arith) in omega arith

@@ -1,6 +1,6 @@
 -- Which checks are left at a stage of reading an entry, whose bytes are all there or still come.
 -- Only the stage itself, and the view and the reader of `ti_entry`, cite this.
-use Rattle.std.specs.Prelude.{◌≡◌, ℕ, ◌+◌, ◌-◌, ◌*◌, ◌≤◌, Bool, true, false, List, if◌then◌else◌, [], ◌∷◌, ◌++◌, length, map}
+use Rattle.std.specs.Prelude.{◌≡◌, ℕ, ◌+◌, ◌-◌, ◌*◌, ◌≤◌, Bool, true, false, List, if◌then◌else◌, [], ◌∷◌, ◌++◌, length, map, nat_lt}
 use Rattle.ti_base.specs.Limits.{most_entry_bytes}
 use Rattle.ti_words.specs.declared.Width.TheVariants.{Legacy}
 use Rattle.ti_layout.specs.declared.fault.Fault.TheVariants.{BadHeader, BadNames, BadExtendedHeader, BadExtendedName, Trailing}
@@ -253,6 +253,22 @@ stage_after s b = record s {
 -- the stage at the front of the next section
 abbrev pub at_next_section : Stage → Stage
 at_next_section s = record s { section = next s.section; items = items_of (next s.section) s.header s.part.header }
+
+-- the bytes without which no check between two sections is made; 0 where the first asks for what
+-- lies right after the items
+abbrev pub bytes_between : Section → Header → ExtendedHeader → ℕ
+bytes_between Offsets h x = end_of h
+bytes_between TableEnd h x = end_of h + 1
+bytes_between ExtendedNames h x = extended_end_of x
+bytes_between End h x = extended_end_of x + 1
+bytes_between _ h x = 0
+
+-- the bytes without which the next check is not made: those up to the end of the next item, or of a
+-- table, or one more where it asks what follows
+abbrev pub bytes_awaited : Stage → ℕ
+bytes_awaited s =
+    if nat_lt 0 s.items.left then s.items.at + item_size s.items.item
+    else bytes_between s.section s.header s.part.header
 
 -- the bytes that came may be a whole entry
 abbrev pub is_whole : Section → Bool

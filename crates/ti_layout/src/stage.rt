@@ -9,7 +9,7 @@ ghost use Rattle.ti_base.specs.Limits.{most_entry_bytes};
 ghost use Rattle.ti_layout.specs.Layout.{header_of, end_of, extended_header_of, extended_end_of};
 ghost use Rattle.ti_layout.specs.Checks.{verdict, result_verdict};
 ghost use Rattle.ti_layout.specs.Refusal.{size_checks, checks, failure};
-ghost use Rattle.ti_layout.specs.Stages.{item_size, checks_between, StandsAt, Stands, Waits, new_stage, stage_after, verdict_at_stop, steps_left, counts_checks, no_more_check, is_whole};
+ghost use Rattle.ti_layout.specs.Stages.{item_size, checks_between, StandsAt, Stands, Waits, new_stage, stage_after, verdict_at_stop, steps_left, counts_checks, no_more_check, bytes_awaited, is_whole};
 ghost use Rattle.ti_layout.specs.declared.fault.Stop.TheVariants.{Early};
 
 use crate::checks::{check_endings, check_nul, check_pad, check_sign};
@@ -164,7 +164,8 @@ impl Stage {
             ≤ most_entry_bytes }
         requires fits { end_of self.now.header ≤ most_entry_bytes }
         requires extended_fits { extended_end_of self.now.part.header ≤ most_entry_bytes }
-        ensures { (bytes : List ℕ) → StandsAt bytes self.now → length bytes < result
+        ensures value { result ≡ bytes_awaited self.now }
+        ensures waits { (bytes : List ℕ) → StandsAt bytes self.now → length bytes < result
             → Waits bytes self.now }
     {
         if self.items.left > 0 {

@@ -1,12 +1,15 @@
 //! The texts of a string table, each up to its NUL.
 
-ghost use Rattle.std.specs.Prelude.{◌≡◌, ◌+◌, ◌≤◌, length};
+ghost use Rattle.std.specs.Prelude.{◌≡◌, ◌+◌, ◌<◌, ◌≤◌, length, take, IfSome};
+ghost use Rattle.std.specs.List.{position_or_len};
 ghost use Rattle.ti_base.specs.Limits.{most_entry_bytes};
+ghost use Rattle.ti_words.specs.Texts.{is_nul};
 ghost use Rattle.ti_words.specs.Word.{word_at as the_word_at};
 ghost use Rattle.ti_layout.specs.Table.{text_from as the_text_from, until_nul as the_until_nul, size_at as the_size_at};
 
 use crate::word::word_at;
 use memchr::memchr;
+use std::simd::prelude::*;
 
 /// The bytes from a place up to the next NUL.
 pub fn text_from(table: &[u8], place: usize) -> &[u8]
@@ -18,8 +21,38 @@ pub fn text_from(table: &[u8], place: usize) -> &[u8]
     }
 }
 
-/// The bytes before the first NUL.
+/// The bytes before the first NUL. Most texts have less than 32, which one look at a vector finds.
+#[inline(always)]
 pub fn until_nul(bytes: &[u8]) -> &[u8]
+    ensures { result.now ≡ the_until_nul bytes.now }
+{
+    if bytes.len() >= 32 {
+        if let Some(end) = near_nul(bytes) {
+            return &bytes[..end];
+        }
+    }
+    until_far_nul(bytes)
+}
+
+/// The place of the first NUL among the first 32 bytes.
+#[inline(always)]
+fn near_nul(bytes: &[u8]) -> Option<usize>
+    requires { 32 ≤ length bytes.now }
+    ensures near { IfSome result (λ place. place < 32) }
+    ensures first { IfSome result (λ place. place ≡ position_or_len is_nul (take 32 bytes.now)) }
+{
+    let nuls = u8x32::from_slice(bytes)
+        .simd_eq(u8x32::splat(0))
+        .to_bitmask();
+    if nuls == 0 {
+        return None;
+    }
+    Some(nuls.trailing_zeros() as usize)
+}
+
+/// The bytes before the first NUL, however far it stands.
+#[inline(never)]
+fn until_far_nul(bytes: &[u8]) -> &[u8]
     ensures { result.now ≡ the_until_nul bytes.now }
 {
     match memchr(0, bytes) {

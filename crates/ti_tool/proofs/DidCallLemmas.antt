@@ -1,5 +1,5 @@
 -- What a call has done, from what it read and what it wrote.
-use Rattle.std.proofs.Common.{◌≡◌, ℕ, ◌⊎◌, inl, inr, List, Ok, Err, Some, subst, sym, ap, ◌∙◌}
+use Rattle.std.proofs.Common.{◌≡◌, ℕ, ◌⊎◌, inl, inr, List, Ok, Err, Some, None, subst, sym, ap, ◌∙◌}
 use Rattle.std.specs.Prelude.{Option, Result, IfErr}
 use Rattle.std.specs.Io.KnownBytes.{Consumes, IsAtEnd}
 use Rattle.std.proofs.KnownBytes.{Keeps-refl}
@@ -7,12 +7,15 @@ use Rattle.ti_tool.specs.declared.fault.ToolFault.{ToolFault}
 use Rattle.ti_tool.specs.declared.fault.ToolFault.TheVariants as fault
 use Rattle.ti_layout.specs.declared.fault.Refused.{Refused}
 use Rattle.ti_layout.specs.Refusal.{refusal, failure}
-use Rattle.ti_entry.specs.Reading.{Reading, new_reading, reading_after}
+use Rattle.ti_entry.specs.Reading.{Reading, FeedsFrom, new_reading, reading_after, refusal_after}
+use Rattle.ti_entry.specs.declared.source.ReadStop.{ReadStop}
+use Rattle.ti_entry.specs.declared.source.ReadStop.TheVariants as stop
+use Rattle.ti_entry.proofs.FeedLemmas.{failure_refuses}
+use Rattle.ti_entry.proofs.FeedsFromLemmas.{FeedsFrom-whole}
 use Rattle.ti_tool.specs.inner.ReadsInto.{ReadsInto}
-use Rattle.ti_tool.specs.Calls.{Wrote, HasReadEnough, DidCall, HasFailed, IsFailedWrite}
+use Rattle.ti_tool.specs.Calls.{Wrote, HasReadEnough, DidCall, HasFailed, IsFailedWrite, stop_fault}
 use Rattle.ti_tool.specs.inner.Dues.{FailsAsDue}
 use Rattle.ti_tool.proofs.IsDueLemmas.{IsNeverOwn}
-use Rattle.ti_tool.specs.inner.Kept.{StopsReading}
 
 failed : (due : Result (List ℕ) ToolFault → Type 0) (held : Option (List ℕ)) (e : ToolFault) → IsNeverOwn due → FailsAsDue due e → Wrote due held held (Err e)
 failed due held fault.Read never h = Keeps-refl held
@@ -79,20 +82,29 @@ pub did_not_read : (due : List ℕ → Result (List ℕ) ToolFault → Type 0) (
     → ReadsInto left0 left1 old new → DidCall due enough left0 left1 held held (Err fault.Read)
 did_not_read due enough left0 left1 held old new (bytes, took, is) = record { input = bytes; read = took; ended = tt; wrote = Keeps-refl held }
 
--- a call whose reading stopped
-pub did_stop : (due : List ℕ → Result (List ℕ) ToolFault → Type 0) (left0 left1 held : Option (List ℕ)) (e : ToolFault) → StopsReading left0 left1 e
-    → ((bytes : List ℕ) (refused : Refused) → refusal bytes ≡ Some refused → due bytes (Err (fault.Entry refused))) → DidCall due HasFailed left0 left1 held held (Err e)
-did_stop due left0 left1 held fault.Read (bytes, took) h = record { input = bytes; read = took; ended = tt; wrote = Keeps-refl held }
-did_stop due left0 left1 held (fault.Entry refused) (bytes, took, failed, is) h =
-    record { input = bytes; read = took; ended = inl (refused, failed); wrote = (h bytes refused is, Keeps-refl held) }
-did_stop due left0 left1 held fault.Memory s h = absurd s
-did_stop due left0 left1 held (fault.Write gone) s h = absurd s
-did_stop due left0 left1 held (fault.Cap refused) s h = absurd s
-did_stop due left0 left1 held (fault.TextTooLong k) s h = absurd s
-did_stop due left0 left1 held (fault.Encode unfit) s h = absurd s
-did_stop due left0 left1 held fault.NoSuchText s h = absurd s
-did_stop due left0 left1 held (fault.TooMuch need) s h = absurd s
-
 -- what a new reader refused is why the bytes fail
-pub stopped_on : (bytes : List ℕ) (old new : Reading) (r : Refused) → old ≡ new_reading → new ≡ reading_after old bytes → new.refusal ≡ Some r → failure bytes ≡ Some r
+stopped_on : (bytes : List ℕ) (old new : Reading) (r : Refused) → old ≡ new_reading → new ≡ reading_after old bytes → new.refusal ≡ Some r → failure bytes ≡ Some r
 stopped_on bytes old new r o n h = ap (λ x. (reading_after x bytes).refusal) (sym o) ∙ ap (λ x. x.refusal) (sym n) ∙ h
+
+-- a call whose reading stopped
+pub did_stop : (due : List ℕ → Result (List ℕ) ToolFault → Type 0) (left0 left1 held : Option (List ℕ)) (old new : Reading) (why : ReadStop) → old ≡ new_reading
+    → FeedsFrom left0 left1 old new → new.refusal ≡ refusal_after why
+    → ((bytes : List ℕ) (refused : Refused) → refusal bytes ≡ Some refused → due bytes (Err (fault.Entry refused)))
+    → DidCall due HasFailed left0 left1 held held (Err (stop_fault why))
+did_stop due left0 left1 held old new stop.Io first (bytes, took, fed) none h = record { input = bytes; read = took; ended = tt; wrote = Keeps-refl held }
+did_stop due left0 left1 held old new (stop.Refused refused) first (bytes, took, fed) some h =
+    let failed = stopped_on bytes old new refused first fed some in
+    record { input = bytes; read = took; ended = inl (refused, failed); wrote = (h bytes refused (failure_refuses bytes refused failed), Keeps-refl held) }
+
+-- all that there was to read is kept, and nothing is refused so far
+pub record KeepsAll (before after : Option (List ℕ)) (reading : Reading) : Type 0 where
+  pub read : Consumes before after reading.kept
+  pub end : IsAtEnd after
+  pub unrefused : reading.refusal ≡ None
+
+-- a new reader that read to the end
+pub keeps_all : (before after : Option (List ℕ)) (old new : Reading) → old ≡ new_reading → FeedsFrom before after old new → IsAtEnd after → new.refusal ≡ None
+    → KeepsAll before after new
+keeps_all before after old new first fed end none =
+    let Fed : Reading → Type 0 = λ r. FeedsFrom before after r new in
+    record { read = FeedsFrom-whole before after new (subst Fed first fed) none; end = end; unrefused = none }

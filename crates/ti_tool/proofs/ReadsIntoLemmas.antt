@@ -1,5 +1,6 @@
 -- Pieces that a source gave one after another.
-use Rattle.std.proofs.Common.{◌≡◌, ◌∙◌, ◌⊎◌, ◌+◌, ℕ, length, List, [], ◌++◌, sym, ap, subst, append_assoc}
+use Rattle.std.proofs.Common.{◌≡◌, ◌∙◌, ◌⊎◌, ◌+◌, ◌≤◌, ◌==◌, ℕ, true, length, List, [], ◌++◌, sym, ap, subst, arith, append_assoc, length-append}
+use Rattle.std.proofs.lemmas.Bool.{eq-eqb}
 use Rattle.std.specs.Prelude.{Option}
 use Rattle.std.specs.Io.KnownBytes.{Consumes}
 use Rattle.std.proofs.KnownBytes.{Consumes-trans}
@@ -20,3 +21,7 @@ ReadsInto-empty a b old new x (bytes, took, is) e s =
 -- the buffer is full, or the source is at its end
 pub at_end : (E : Type 0) (new x : List ℕ) → x ≡ new → (length new ≡ most_capability_bytes + 1) ⊎ E → (length x ≡ most_capability_bytes + 1) ⊎ E
 at_end E new x s h = let P : List ℕ → Type 0 = λ l. (length l ≡ most_capability_bytes + 1) ⊎ E in subst P (sym s) h
+
+-- a full buffer stays full
+pub full_stays : (a b : Option (List ℕ)) (old new : List ℕ) (most : ℕ) → ReadsInto a b old new → length old ≡ most → length new ≤ most → (length new == most) ≡ true
+full_stays a b old new most (bytes, took, is) full fits = eq-eqb (length new) most (omega (arith, ap length is, length-append old bytes))

@@ -4,6 +4,8 @@ use Rattle.std.specs.Io.KnownBytes.{Appends, Consumes, IsAtEnd, Keeps}
 use Rattle.ti_base.specs.Limits.{most_capability_bytes}
 use Rattle.ti_layout.specs.declared.fault.Refused.{Refused}
 use Rattle.ti_layout.specs.Refusal.{failure}
+use Rattle.ti_entry.specs.declared.source.ReadStop.{ReadStop}
+use Rattle.ti_entry.specs.declared.source.ReadStop.TheVariants as stop
 use Rattle.ti_tool.specs.declared.fault.ToolFault.{ToolFault}
 use Rattle.ti_tool.specs.declared.fault.ToolFault.TheVariants as fault
 
@@ -33,6 +35,11 @@ Wrote due before after (Err other) = due (Err other) × Keeps before after
 abbrev pub HasReadEnough : Type 0 → Option (List ℕ) → Result (Unit {0}) ToolFault → Type 0
 HasReadEnough enough left (Err fault.Read) = Unit {0}
 HasReadEnough enough left _ = enough ⊎ IsAtEnd left
+
+-- the fault of a call whose reading stopped
+abbrev pub stop_fault : ReadStop → ToolFault
+stop_fault (stop.Refused refused) = fault.Entry refused
+stop_fault stop.Io = fault.Read
 
 -- a failed write, which is the only fault that may leave something written
 abbrev pub IsFailedWrite : ToolFault → Type 0

@@ -1,7 +1,6 @@
 -- What private clauses alone cite.
 pub mod Dues
 pub mod Ends
-pub mod Kept
 pub mod Label
 pub mod ReadsInto
 pub mod Verdict

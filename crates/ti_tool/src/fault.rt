@@ -2,12 +2,13 @@
 
 ghost use Rattle.std.specs.Prelude.{◌≡◌};
 ghost use Rattle.ti_tool.specs.declared.fault.ToolFault.TheVariants as fault;
+ghost use Rattle.ti_tool.specs.Calls.{stop_fault};
 
 use std::alloc::AllocError;
 use thiserror::Error;
 use ti_base::ReadFailed;
 use ti_cap::CapRefused;
-use ti_entry::{EncodeFault, Refused};
+use ti_entry::{EncodeFault, ReadStop, Refused};
 
 /// Why a call of the program did not write its result, or not all of it.
 #[derive(Clone, Copy, Debug, PartialEq, Eq, Error)]
@@ -70,5 +71,16 @@ impl From<ReadFailed> for ToolFault {
 
     fn from(_failed: ReadFailed) -> ToolFault {
         ToolFault::Read
+    }
+}
+
+impl From<ReadStop> for ToolFault {
+    ghost from_gives = { λ stop e. e ≡ stop_fault stop };
+
+    fn from(stop: ReadStop) -> ToolFault {
+        match stop {
+            ReadStop::Refused(why) => ToolFault::Entry(why),
+            ReadStop::Io => ToolFault::Read,
+        }
     }
 }

@@ -1,109 +1,99 @@
-//! The lines on faults, and writing them. That a line can't be written changes nothing.
+//! The lines on faults.
+//!
+//! A line is put together before any byte of it is written. No memory is taken.
 
-ghost use Rattle.std.specs.Prelude.{◌++◌, codes, decimal, flat_map};
-ghost use Rattle.ti_tool.specs.FaultLines.{Told, fault_line, place_line, widths_line, words_line};
+ghost use Rattle.std.specs.Prelude.{◌≡◌, ◌≤◌, ◌+◌, ◌++◌, codes, decimal, flat_map, length};
+ghost use Rattle.ti_tool.specs.FaultLines.{fault_line, place_line, words_line};
 
 use crate::fault::ToolFault;
 use crate::params::WordFault;
+use arrayvec::ArrayVec;
 use itoa::Buffer;
-use std::io::Write;
-use ti_pad::write_out;
 
-/// Writes the pieces of a text one after another, until the writer fails.
-fn tell_pieces<E: Write>(errors: &mut E, pieces: &[&[u8]])
-    ensures { Told (flat_map (λ piece. piece.now) pieces.now)
-        (E.contents errors.old) (E.contents errors.new) }
+/// The most bytes of a line.
+const MOST_BYTES: usize = 80;
+
+/// The most bytes of the words of a line. Its number, ` at ` and a newline come beside them.
+const MOST_WORD_BYTES: usize = 30;
+
+/// A line on a fault.
+pub type FaultLine = ArrayVec<u8, MOST_BYTES>;
+
+/// The line on both flags of `convert`.
+pub const BOTH_WIDTHS: &[u8] = b"convert: both widths\n";
+
+/// The pieces of a line one after another.
+fn line_of(pieces: &[&[u8]]) -> FaultLine
+    requires { length (flat_map (λ piece. piece.now) pieces.now) ≤ MOST_BYTES }
+    ensures { result.items ≡ flat_map (λ piece. piece.now) pieces.now }
 {
+    let mut line = ArrayVec::new();
     for piece in pieces {
-        if write_out(errors, piece).is_err() {
-            return;
-        }
+        let _ = line.try_extend_from_slice(piece);
     }
+    line
 }
 
-/// Tells of a fault at a place.
-fn tell_place<E: Write>(errors: &mut E, subject: &[u8], name: &str, place: usize)
-    ensures { Told (place_line subject.now name.now place)
-        (E.contents errors.old) (E.contents errors.new) }
+/// The line on a fault at a place.
+fn place_line(subject: &[u8], name: &str, place: usize) -> FaultLine
+    requires { length subject.now + length name.now ≤ MOST_WORD_BYTES }
+    ensures { result.items ≡ place_line subject.now name.now place }
 {
     let mut digits = Buffer::new();
-    tell_pieces(
-        errors,
-        &[
-            subject,
-            name.as_bytes(),
-            b" at ",
-            digits.format(place).as_bytes(),
-            b"\n",
-        ],
-    );
+    line_of(&[
+        subject,
+        name.as_bytes(),
+        b" at ",
+        digits.format(place).as_bytes(),
+        b"\n",
+    ])
 }
 
-/// Tells a number, between what stands before and after it.
-fn tell_number<E: Write>(errors: &mut E, before: &[u8], number: u128, after: &[u8])
-    ensures { Told (before.now ++ decimal number ++ after.now)
-        (E.contents errors.old) (E.contents errors.new) }
+/// The line with a number, between what stands before and after it.
+fn number_line(before: &[u8], number: u128, after: &[u8]) -> FaultLine
+    requires { length before.now + length after.now ≤ MOST_WORD_BYTES }
+    ensures { result.items ≡ before.now ++ decimal number ++ after.now }
 {
     let mut digits = Buffer::new();
-    tell_pieces(errors, &[before, digits.format(number).as_bytes(), after]);
+    line_of(&[before, digits.format(number).as_bytes(), after])
 }
 
-/// Tells the name of a fault, after what is at fault.
-fn tell_name<E: Write>(errors: &mut E, subject: &[u8], name: &str)
-    ensures { Told (subject.now ++ name.now ++ codes "\n")
-        (E.contents errors.old) (E.contents errors.new) }
+/// The line with the name of a fault, after what is at fault.
+fn name_line(subject: &[u8], name: &str) -> FaultLine
+    requires { length subject.now + length name.now ≤ MOST_WORD_BYTES }
+    ensures { result.items ≡ subject.now ++ name.now ++ codes "\n" }
 {
-    tell_pieces(errors, &[subject, name.as_bytes(), b"\n"]);
+    line_of(&[subject, name.as_bytes(), b"\n"])
 }
 
-/// Tells a whole text.
-pub fn tell_text<E: Write>(errors: &mut E, text: &[u8])
-    ensures { Told text.now (E.contents errors.old) (E.contents errors.new) }
-{
-    tell_pieces(errors, &[text]);
-}
-
-/// Tells of the fault of a call.
-pub fn tell<E: Write>(errors: &mut E, fault: &ToolFault)
-    ensures { Told (fault_line fault.now) (E.contents errors.old) (E.contents errors.new) }
+/// The line on the fault of a call.
+pub fn fault_line(fault: &ToolFault) -> FaultLine
+    ensures { result.items ≡ fault_line fault.now }
 {
     match fault {
-        ToolFault::Entry(refused) => {
-            tell_place(errors, b"entry: ", refused.fault.word(), refused.place);
-        }
-        ToolFault::Encode(unfit) => tell_name(errors, b"entry: ", unfit.word()),
-        ToolFault::Cap(refused) => {
-            tell_place(errors, b"capability: ", refused.fault.word(), refused.place);
-        }
-        ToolFault::NoSuchText => tell_text(errors, b"capability: absent\n"),
+        ToolFault::Entry(refused) => place_line(b"entry: ", refused.fault.word(), refused.place),
+        ToolFault::Encode(unfit) => name_line(b"entry: ", unfit.word()),
+        ToolFault::Cap(refused) => place_line(b"capability: ", refused.fault.word(), refused.place),
+        ToolFault::NoSuchText => line_of(&[b"capability: absent\n"]),
         ToolFault::TextTooLong(parameter) => {
             let number = u128::from(*parameter);
-            tell_number(errors, b"capability: TextTooLong ", number, b"\n");
+            number_line(b"capability: TextTooLong ", number, b"\n")
         }
-        ToolFault::TooMuch(need) => {
-            tell_number(errors, b"capability: TooMuch ", *need, b"\n");
-        }
-        ToolFault::Read => tell_text(errors, b"input: failed\n"),
-        ToolFault::Write(_) => tell_text(errors, b"output: failed\n"),
-        ToolFault::Memory => tell_text(errors, b"memory\n"),
+        ToolFault::TooMuch(need) => number_line(b"capability: TooMuch ", *need, b"\n"),
+        ToolFault::Read => line_of(&[b"input: failed\n"]),
+        ToolFault::Write(_) => line_of(&[b"output: failed\n"]),
+        ToolFault::Memory => line_of(&[b"memory\n"]),
     }
 }
 
-/// Tells of words that are no parameters.
-pub fn tell_words<E: Write>(errors: &mut E, fault: WordFault)
-    ensures { Told (words_line fault) (E.contents errors.old) (E.contents errors.new) }
+/// The line on words that are no parameters.
+pub fn words_line(fault: WordFault) -> FaultLine
+    ensures { result.items ≡ words_line fault }
 {
     match fault {
-        WordFault::TooMany => tell_text(errors, b"parameters: more than nine\n"),
+        WordFault::TooMany => line_of(&[b"parameters: more than nine\n"]),
         WordFault::BadWord { which } => {
-            tell_number(errors, b"parameter ", which as u128, b": bad word\n");
+            number_line(b"parameter ", which as u128, b": bad word\n")
         }
     }
-}
-
-/// Tells that both flags of `convert` were given.
-pub fn tell_both_widths<E: Write>(errors: &mut E)
-    ensures { Told widths_line (E.contents errors.old) (E.contents errors.new) }
-{
-    tell_text(errors, b"convert: both widths\n");
 }

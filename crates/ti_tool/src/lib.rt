@@ -2,7 +2,6 @@
 #![tactic(auto)]
 
 mod command;
-mod entry_input;
 mod expansion;
 mod fault;
 mod fault_line;

@@ -12,7 +12,7 @@ use crate::command::convert::convert;
 use crate::command::expand::expand_named;
 use crate::command::show::show;
 use crate::fault::ToolFault;
-use crate::fault_line::{tell, tell_both_widths, tell_text, tell_words};
+use crate::fault_line::{BOTH_WIDTHS, fault_line, words_line};
 use crate::params::read_params;
 use crate::status::{status, status_of_check};
 use std::alloc::{Allocator, Global};
@@ -27,7 +27,8 @@ fn finish<E: Write>(errors: &mut E, answer: Result<(), ToolFault>) -> u8
     ensures silent { result ≤ 1 → errors.new ≡ errors.old }
 {
     if let Err(fault) = &answer {
-        tell(errors, fault);
+        let line = fault_line(fault);
+        let _ = write_out(errors, line.as_slice());
     }
     status(&answer)
 }
@@ -38,7 +39,8 @@ fn finish_check<E: Write>(errors: &mut E, answer: Result<bool, ToolFault>) -> u8
     ensures silent { result ≤ 1 → errors.new ≡ errors.old }
 {
     if let Err(fault) = &answer {
-        tell(errors, fault);
+        let line = fault_line(fault);
+        let _ = write_out(errors, line.as_slice());
     }
     status_of_check(answer)
 }
@@ -65,7 +67,8 @@ fn run_cap<A: Allocator + Copy, R: Read, W: Write, E: Write>(
             finish(errors, answer)
         }
         Err(fault) => {
-            tell_words(errors, fault);
+            let line = words_line(fault);
+            let _ = write_out(errors, line.as_slice());
             2
         }
     }
@@ -140,7 +143,8 @@ fn run_expand<A: Allocator + Copy, R: Read, W: Write, E: Write>(
             finish(errors, answer)
         }
         Err(fault) => {
-            tell_words(errors, fault);
+            let line = words_line(fault);
+            let _ = write_out(errors, line.as_slice());
             2
         }
     }
@@ -174,7 +178,7 @@ fn run_convert<A: Allocator + Copy, R: Read, W: Write, E: Write>(
     ensures silent { result ≤ 1 → errors.new ≡ errors.old }
 {
     if wide && narrow {
-        tell_both_widths(errors);
+        let _ = write_out(errors, BOTH_WIDTHS);
         return 2;
     }
     let answer = convert(alloc, input, width_asked(wide, narrow), output);
@@ -220,16 +224,18 @@ fn run_no_line<W: Write, E: Write>(why: &NoLine, output: &mut W, errors: &mut E)
         NoLine::Help(message) => match write_out(output, message.as_str().as_bytes()) {
             Ok(()) => 0,
             Err(gone) => {
-                tell(errors, &ToolFault::Write(gone));
+                let line = fault_line(&ToolFault::Write(gone));
+                let _ = write_out(errors, line.as_slice());
                 5
             }
         },
         NoLine::Refused(message) => {
-            tell_text(errors, message.as_str().as_bytes());
+            let _ = write_out(errors, message.as_str().as_bytes());
             2
         }
         NoLine::Memory => {
-            tell(errors, &ToolFault::Memory);
+            let line = fault_line(&ToolFault::Memory);
+            let _ = write_out(errors, line.as_slice());
             6
         }
     }

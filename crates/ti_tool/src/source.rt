@@ -2,7 +2,7 @@
 //!
 //! At most 512 bytes are asked for at a time, and put into a buffer of a fixed size; no memory is taken.
 
-ghost use Rattle.std.specs.Prelude.{◌⊎◌, OnOk};
+ghost use Rattle.std.specs.Prelude.{◌≡◌, ◌⊎◌, IsOk, OnOk};
 ghost use Rattle.std.specs.Io.KnownBytes.{IsAtEnd};
 ghost use Rattle.ti_tool.specs.Calls.{IsFull};
 ghost use Rattle.ti_tool.specs.inner.ReadsInto.{ReadsInto};
@@ -27,6 +27,8 @@ pub fn read_up_to<R: Read>(
     ensures taken { ReadsInto
         (R.remaining source.old) (R.remaining source.new) bytes.old.items bytes.new.items }
     ensures end { OnOk result (IsFull bytes.new.items ⊎ IsAtEnd (R.remaining source.new)) }
+    // Nothing is read into a full buffer.
+    ensures full { IsFull bytes.old.items → IsOk result × (source.new ≡ source.old) }
 {
     let mut piece = [0; PIECE];
     let mut retries = MOST_INTERRUPTIONS;

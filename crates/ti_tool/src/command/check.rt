@@ -8,14 +8,13 @@ ghost use Rattle.ti_tool.specs.Calls.{DidCheck, without_value, IsFailedWrite};
 ghost use Rattle.ti_tool.specs.Results.{IsChecked};
 ghost use Rattle.ti_tool.specs.inner.Verdict.{AddsLines};
 
-use crate::entry_input::read_entry;
 use crate::fault::ToolFault;
 use crate::label::{extended_label, label_at};
 use crate::result::write_result;
 use crate::verdict::{judge, push_line};
 use std::alloc::{AllocError, Allocator};
 use std::io::{Read, Write};
-use ti_entry::{Entry, EntryReader, Extended};
+use ti_entry::{Entry, EntryReader, Extended, read_from};
 use ti_words::{Kind, Text};
 
 /// Writes the lines of the standard texts, and answers whether none has a fault.
@@ -99,7 +98,7 @@ pub fn check<A: Allocator + Copy, R: Read, W: Write>(
     ensures unwritten { IfErr result (λ e. IsFailedWrite e ⊎ (writer.new ≡ writer.old)) }
 {
     let mut kept = EntryReader::new();
-    read_entry(&mut kept, reader)?;
+    read_from(&mut kept, reader)?;
     let entry = kept.finish()?;
     let verdicts = verdicts_of(alloc, &entry)?;
     write_result(writer, verdicts.lines.as_slice())?;

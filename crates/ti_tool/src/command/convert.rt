@@ -5,12 +5,11 @@ ghost use Rattle.ti_tool.specs.Results.{IsConverted, IsEncoding, in_width};
 ghost use Rattle.ti_tool.specs.Calls.{DidCall, HasFailed, IsFailedWrite};
 ghost use Rattle.ti_tool.specs.inner.Dues.{FailsAsDue};
 
-use crate::entry_input::read_entry;
 use crate::fault::ToolFault;
 use crate::result::write_result;
 use std::alloc::{AllocError, Allocator};
 use std::io::{Read, Write};
-use ti_entry::{Draft, EncodeFault, Entry, EntryReader, encode};
+use ti_entry::{Draft, EncodeFault, Entry, EntryReader, encode, read_from};
 use ti_words::Width;
 
 /// The canonical bytes of a draft.
@@ -80,7 +79,7 @@ pub fn convert<A: Allocator + Copy, R: Read, W: Write>(
     ensures unwritten { IfErr result (λ e. IsFailedWrite e ⊎ (writer.new ≡ writer.old)) }
 {
     let mut kept = EntryReader::new();
-    read_entry(&mut kept, reader)?;
+    read_from(&mut kept, reader)?;
     let entry = kept.finish()?;
     let bytes = convert_result(alloc, &entry, width)?;
     write_result(writer, bytes.as_slice())

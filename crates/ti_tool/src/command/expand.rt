@@ -9,14 +9,13 @@ ghost use Rattle.ti_tool.specs.Results.{IsDue, IsDueFor, IsExpanded, IsPadded};
 ghost use Rattle.ti_tool.specs.Calls.{DidCall, HasFailed, IsFailedWrite};
 ghost use Rattle.ti_tool.specs.inner.Dues.{FailsAsDue};
 
-use crate::entry_input::read_entry;
 use crate::expansion::expansion_of;
 use crate::fault::ToolFault;
 use crate::result::{output_bytes, write_result};
 use crate::text_name::text_called;
 use std::alloc::Allocator;
 use std::io::{Read, Write};
-use ti_entry::{Entry, EntryReader};
+use ti_entry::{Entry, EntryReader, read_from};
 use ti_expand::Value;
 use ti_pad::{PadFault, Padding, pad};
 use ti_words::Text;
@@ -90,7 +89,7 @@ pub fn expand_named<A: Allocator + Copy, R: Read, W: Write>(
     ensures unwritten { IfErr result (λ e. IsFailedWrite e ⊎ (writer.new ≡ writer.old)) }
 {
     let mut kept = EntryReader::new();
-    read_entry(&mut kept, reader)?;
+    read_from(&mut kept, reader)?;
     let entry = kept.finish()?;
     let result = expand_result(alloc, &entry, name, parameters, padding, hex)?;
     write_result(writer, result.as_slice())

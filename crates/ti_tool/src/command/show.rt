@@ -4,13 +4,12 @@ ghost use Rattle.std.specs.Prelude.{◌⊎◌, ◌≡◌, IfErr};
 ghost use Rattle.ti_tool.specs.Results.{IsShown};
 ghost use Rattle.ti_tool.specs.Calls.{DidCall, HasFailed, IsFailedWrite};
 
-use crate::entry_input::read_entry;
 use crate::fault::ToolFault;
 use crate::listing::lines_of;
 use crate::result::write_result;
 use std::alloc::Allocator;
 use std::io::{Read, Write};
-use ti_entry::EntryReader;
+use ti_entry::{EntryReader, read_from};
 
 /// Lists the entry that the reader gives, one line an item: the format, the names, then the flags, numbers and texts in
 /// the order of their indices. A flag that is No and what is absent is not listed. A text is in lower-case hex, `-`
@@ -29,7 +28,7 @@ pub fn show<A: Allocator + Copy, R: Read, W: Write>(
     ensures unwritten { IfErr result (λ e. IsFailedWrite e ⊎ (writer.new ≡ writer.old)) }
 {
     let mut kept = EntryReader::new();
-    read_entry(&mut kept, reader)?;
+    read_from(&mut kept, reader)?;
     let entry = kept.finish()?;
     let lines = lines_of(alloc, &entry)?;
     write_result(writer, lines.as_slice())

@@ -1,8 +1,9 @@
-use Rattle.ti_layout.proofs.UntilNulLemmas.{until_first, until_end}
+use Rattle.std.proofs.Common.{◌<◌, take, ap, subst, ◌∙◌}
+use Rattle.ti_layout.proofs.UntilNulLemmas.{until_near}
 use Rattle.ti_layout.proofs.string_table.until_nul.Goals as goal
 
 pub returns-in-Some : goal.returns-in-Some
-returns-in-Some c = let found = c.in-Some.ensures in until_first c.args.bytes.now c.in-Some.end found.0.high found.0.before found.1
-
-pub returns-in-None : goal.returns-in-None
-returns-in-None c = until_end c.args.bytes.now c.in-None.ensures
+returns-in-Some c =
+    let bytes = c.args.bytes.now in
+    let end = c.in-Some.ensures in
+    ap (λ k. take k bytes) end.first ∙ until_near bytes 32 (subst (λ k. k < 32) end.first end.near)

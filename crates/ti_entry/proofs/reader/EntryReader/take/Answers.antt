@@ -37,7 +37,7 @@ invariant_of-self-then-as_slice-need c =
     let none : c.self.inside.refusal ≡ None = ap (λ (r : Reading). r.refusal) c.self.view_is ∙ c.requires in
     let stands = subst (λ (k : List ℕ). Stands k c.self.inside.stage) (sym c.push.ensures.items) (stands_on c.self.inside.kept.items (c.args.byte ∷ []) c.self.inside.stage (c.self.invariant.stands none)) in
     let long : length c.as_slice-2.result.now ≡ length now = ap length c.as_slice-2.ensures.value in
-    let waits = c.need.ensures now (stands_now now c.self.inside.stage stands) (omega arith) in
+    let waits = c.need.ensures.waits now (stands_now now c.self.inside.stage stands) (omega arith) in
     record {
       most = subst (λ (k : List ℕ). length k ≤ most_entry_bytes) c.as_slice-2.ensures.value c.as_slice-2.ensures.fits;
       none_failed = waits_none_failed now c.self.inside.stage waits;
@@ -52,7 +52,7 @@ returns-then-as_slice-need-clause-fed c =
     let none : c.self.inside.refusal ≡ None = ap (λ (r : Reading). r.refusal) c.self.view_is ∙ c.requires in
     let stands = subst (λ (k : List ℕ). Stands k c.self.inside.stage) (sym c.push.ensures.items) (stands_on kept (c.args.byte ∷ []) c.self.inside.stage (c.self.invariant.stands none)) in
     let long : length c.as_slice-2.result.now ≡ length now = ap length c.as_slice-2.ensures.value in
-    let waits = c.need.ensures now (stands_now now c.self.inside.stage stands) (omega arith) in
+    let waits = c.need.ensures.waits now (stands_now now c.self.inside.stage stands) (omega arith) in
     let passes : failure (kept ++ c.args.byte ∷ []) ≡ None = ap failure (sym c.push.ensures.items) ∙ waits_none_failed now c.self.inside.stage waits in
     same_reading kept c.args.self.now _ (c.args.byte ∷ []) c.self.inside.refusal c.self.view_is none
     (ap (λ (k : List ℕ). reading_with k c.self.inside.refusal) c.push.ensures.items ∙ ap (reading_with (kept ++ c.args.byte ∷ [])) none ∙ reading_after-passes kept (c.args.byte ∷ []) passes)

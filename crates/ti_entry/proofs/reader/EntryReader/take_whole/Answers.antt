@@ -24,7 +24,7 @@ invariant_of-self-then-as_slice-need c =
     let none : c.self.inside.refusal ≡ None = ap (λ (r : Reading). r.refusal) c.self.view_is ∙ c.requires in
     let stands = subst (λ (k : List ℕ). Stands k c.self.inside.stage) (sym c.in-Ok.ensures.ok) (stands_on c.self.inside.kept.items c.args.piece.now c.self.inside.stage (c.self.invariant.stands none)) in
     let long : length c.as_slice.result.now ≡ length now = ap length c.as_slice.ensures.value in
-    let waits = c.need.ensures now (stands_now now c.self.inside.stage stands) (omega arith) in
+    let waits = c.need.ensures.waits now (stands_now now c.self.inside.stage stands) (omega arith) in
     record {
       most = subst (λ (k : List ℕ). length k ≤ most_entry_bytes) c.as_slice.ensures.value c.as_slice.ensures.fits;
       none_failed = waits_none_failed now c.self.inside.stage waits;
@@ -40,7 +40,7 @@ returns-then-as_slice-need-clause-taken c = λ e.
     let none : c.self.inside.refusal ≡ None = ap (λ (r : Reading). r.refusal) c.self.view_is ∙ c.requires in
     let stands = subst (λ (k : List ℕ). Stands k c.self.inside.stage) (sym c.in-Ok.ensures.ok) (stands_on kept piece c.self.inside.stage (c.self.invariant.stands none)) in
     let long : length c.as_slice.result.now ≡ length now = ap length c.as_slice.ensures.value in
-    let waits = c.need.ensures now (stands_now now c.self.inside.stage stands) (omega arith) in
+    let waits = c.need.ensures.waits now (stands_now now c.self.inside.stage stands) (omega arith) in
     let passes : failure (kept ++ piece) ≡ None = ap failure (sym c.in-Ok.ensures.ok) ∙ waits_none_failed now c.self.inside.stage waits in
     same_reading kept c.args.self.now _ piece c.self.inside.refusal c.self.view_is none
     (ap (λ (k : List ℕ). reading_with k c.self.inside.refusal) c.in-Ok.ensures.ok ∙ ap (reading_with (kept ++ piece)) none ∙ reading_after-passes kept piece passes)
