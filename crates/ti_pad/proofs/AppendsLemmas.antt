@@ -49,7 +49,7 @@ pub drop-run : (text run rest : List ℕ) (i n : ℕ) → drop i text ≡ run ++
 drop-run text run rest i n left is = sym (drop-drop n i text) ∙ ap (drop n) left ∙ drop_at run rest n (sym is)
 
 -- an empty text has no run
-no_bytes : (xs : List ℕ) → length xs ≡ 0 → xs ≡ []
+pub no_bytes : (xs : List ℕ) → length xs ≡ 0 → xs ≡ []
 no_bytes [] e = refl
 no_bytes (x ∷ xs) e = absurd (omega arith)
 

@@ -4,6 +4,7 @@ pub mod DigitsValueLemmas
 pub mod TakeWhileLemmas
 pub mod PiecesLemmas
 pub mod PaddedTextLemmas
+pub mod IntoLemmas
 pub mod StartsWithLemmas
 pub mod CountOfLemmas
 pub mod FindsMarksLemmas

@@ -2,5 +2,6 @@ pub mod Setting
 pub mod Marks
 pub mod Padded
 pub mod Stops
+pub mod Into
 pub mod Laws
 pub mod inner

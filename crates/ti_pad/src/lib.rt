@@ -13,6 +13,7 @@ mod memory;
 mod number;
 mod output;
 mod padding;
+mod slice;
 mod stretch;
 mod writing;
 
@@ -20,6 +21,7 @@ pub use length::padded_len;
 pub use memory::{PadFault, pad};
 pub use output::write_out;
 pub use padding::Padding;
+pub use slice::{PadIntoFault, pad_into};
 pub use writing::{PadStop, write_padded};
 
 #[cfg(test)]

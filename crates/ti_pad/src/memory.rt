@@ -1,16 +1,15 @@
 //! Padding a text in memory.
 //!
-//! The memory is taken once, for exactly the padded text. Pad bytes are put in as a block for each mark.
+//! The memory is taken once, for exactly the padded text.
 
-ghost use Rattle.std.specs.Prelude.{◌≡◌, ◌≤◌, ◌<◌, ◌+◌, ◌⊎◌, ◌↔◌, ◌++◌, length, Err, IfOk, IfErr, OnOk};
+ghost use Rattle.std.specs.Prelude.{◌≡◌, ◌≤◌, ◌<◌, ◌⊎◌, ◌↔◌, length, Err, IfOk, IfErr};
 ghost use Rattle.ti_base.specs.Limits.{most_padded_bytes};
 ghost use Rattle.ti_pad.specs.Padded.{padded_text};
-ghost use Rattle.ti_pad.specs.inner.Stretch.{stretch_bytes};
 ghost use Rattle.ti_pad.specs.declared.memory.PadFault.TheVariants as fault;
 
 use crate::length::padded_len;
 use crate::padding::Padding;
-use crate::stretch::{Stretch, first_stretch};
+use crate::slice::put_padded;
 use std::alloc::{AllocError, Allocator};
 use thiserror::Error;
 use ti_base::MOST_PADDED_BYTES;
@@ -53,44 +52,7 @@ pub fn pad<A: Allocator + Copy>(
     if need > MOST_PADDED_BYTES {
         return Err(PadFault::TooMuch { need });
     }
-    Ok(padded_copy(alloc, need as usize, bytes, padding)?)
-}
-
-/// The padded text, which has this many bytes.
-fn padded_copy<A: Allocator + Copy>(
-    alloc: A,
-    len: usize,
-    bytes: &[u8],
-    padding: &Padding,
-) -> Result<Vec<u8, A>, AllocError>
-    requires len { len ≡ length (padded_text bytes.now padding.now) }
-    requires few { len ≤ most_padded_bytes }
-    ensures { IfOk result (λ v. v.items ≡ padded_text bytes.now padding.now) }
-{
-    let mut rest = bytes;
-    let mut out = Vec::with_capacity(alloc, len)?;
-    'stretches: while !rest.is_empty() {
-        let front = first_stretch(rest, padding);
-        append(&mut out, &front.stretch, padding.pad_byte())?;
-        rest = front.rest;
-    }
+    let mut out = vec![in alloc; 0; need as usize]?;
+    put_padded(bytes, padding, &mut out);
     Ok(out)
-}
-
-/// Puts a stretch at the end of the bytes.
-fn append<A: Allocator + Copy>(
-    out: &mut Vec<u8, A>,
-    stretch: &Stretch<'_>,
-    pad: u8,
-) -> Result<(), AllocError>
-    requires { length out.old.items + length (stretch_bytes pad stretch.now) ≤ most_padded_bytes }
-    ensures { OnOk result (out.new.items ≡ out.old.items ++ stretch_bytes pad stretch.now) }
-{
-    match stretch {
-        Stretch::Literal(bytes) => out.extend_from_slice(bytes),
-        Stretch::Pads(count) => {
-            let len = out.len() + *count as usize;
-            out.resize(len, pad)
-        }
-    }
 }

@@ -37,6 +37,10 @@ fn worked_rows(rt: HostRuntime) -> Result<(), Fail> {
         let mut written = Vec::new(rt.alloc());
         assert_eq!(rt; write_padded(&mut written, text, &padding), Ok(()));
         assert_eq!(rt; written.as_slice(), padded);
+        let mut room = [b'~'; 32];
+        assert_eq!(rt; pad_into(text, &padding, &mut room), Ok(padded.len()));
+        assert_eq!(rt; &room[..padded.len()], padded);
+        assert!(rt; room[padded.len()..].iter().all(|byte| *byte == b'~'));
     }
     Ok(())
 }
@@ -58,7 +62,26 @@ fn limits(rt: HostRuntime) -> Result<(), Fail> {
         Err(PadStop::TooMuch { need: need + 1 })
     );
     assert!(rt; written.is_empty());
+    let mut room = [b'~'; 4];
+    assert_eq!(rt;
+        pad_into(b"a$<99999*>", &padding, &mut room),
+        Err(PadIntoFault::TooMuch { need: need + 1 })
+    );
+    assert_eq!(rt; room.as_slice(), b"~~~~".as_slice());
     Ok(())
+}
+
+#[test]
+fn a_slice_needs_the_whole_padded_text(rt: HostRuntime) {
+    let padding = padding(&rt, 1000, 1, false);
+    let mut room = [b'~'; 6];
+    assert_eq!(rt;
+        pad_into(b"ab$<3>cd", &padding, &mut room),
+        Err(PadIntoFault::OutTooSmall { need: 7 })
+    );
+    assert_eq!(rt; room.as_slice(), b"~~~~~~".as_slice());
+    assert_eq!(rt; pad_into(b"ab$<3>c", &padding, &mut room), Ok(6));
+    assert_eq!(rt; room.as_slice(), b"ab\0\0\0c".as_slice());
 }
 
 #[test]
@@ -80,6 +103,14 @@ fn messages_are_names_and_numbers(rt: HostRuntime) -> Result<(), Fail> {
     assert_eq!(rt;
         format!(in alloc; "{}", PadStop::Failed { gone: 2 })?.as_str(),
         "Failed 2"
+    );
+    assert_eq!(rt;
+        format!(in alloc; "{}", PadIntoFault::TooMuch { need })?.as_str(),
+        "TooMuch 6553434465000"
+    );
+    assert_eq!(rt;
+        format!(in alloc; "{}", PadIntoFault::OutTooSmall { need: 7 })?.as_str(),
+        "OutTooSmall 7"
     );
     Ok(())
 }
