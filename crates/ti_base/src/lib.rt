@@ -1,14 +1,16 @@
 //! What all crates share: the limits, each in one place, as a constant for the code and a number of the same name in
 //! `specs/Limits.antt`, which the contracts cite. [`limits_agree`] says that the two are the same. [`read_piece`] is the one
-//! way to read from a source.
+//! way to read from a source. [`VERSION`] is the version of them all.
 #![tactic(auto)]
 
 mod source;
+mod version;
 
 ghost use Rattle.std.specs.Prelude.{◌≡◌, pos};
 ghost use Rattle.ti_base.specs.Limits as limits;
 
 pub use source::{ReadFailed, read_piece};
+pub use version::{VERSION, VERSION_NUMBER};
 
 /// The most bytes of an entry, of either format.
 pub const MOST_ENTRY_BYTES: usize = 32768;

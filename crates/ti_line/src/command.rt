@@ -7,7 +7,7 @@ ghost use Rattle.ti_line.specs.inner.Command.{HasNoGlobals};
 
 use clap::{Arg, ArgAction, Command, value_parser};
 use std::alloc::{AllocError, Global};
-use ti_base::{GREATEST_RATE, MOST_LINES};
+use ti_base::{GREATEST_RATE, MOST_LINES, VERSION};
 
 fn hex<'a>(alloc: Global) -> Arg<'a>
     ensures rule { rule_of result ≡ hex_rule }
@@ -200,7 +200,7 @@ fn start<'a>(alloc: Global) -> Command<'a>
 {
     Command::new(alloc, "ti")
         .about("Reads, analyses, expands and writes compiled terminfo entries")
-        .version("0.1.0")
+        .version(VERSION)
         .subcommand_required(true)
         .after_help(STATUSES)
 }
