@@ -258,6 +258,220 @@ static void test_limits(void) {
     free(text);
 }
 
+/* ---- entries */
+
+#define WORD(n) (n) & 255, ((n) >> 8) & 255
+
+/* By hand from term(5): the flags yes, no and cancelled; the numbers 80, absent and cancelled; the texts abc, absent,
+ * cancelled and one of no byte. The extended part: the flag F, missing; the number N, 7; the texts S1, xyz, and S2,
+ * cancelled. The names stand after the value xyz, and their offsets are counted from there. */
+static const unsigned char ENTRY[] = {
+    0x1a, 0x01, WORD(7), WORD(3), WORD(3), WORD(4), WORD(5),
+    't', '|', 't', 'e', 's', 't', 0,
+    1, 0, 254,
+    WORD(80), WORD(0xffff), WORD(0xfffe),
+    WORD(0), WORD(0xffff), WORD(0xfffe), WORD(4),
+    'a', 'b', 'c', 0, 0,
+    0,
+    WORD(1), WORD(1), WORD(2), WORD(5), WORD(14),
+    255, 0,
+    WORD(7),
+    WORD(0), WORD(0xfffe),
+    WORD(0), WORD(2), WORD(4), WORD(7),
+    'x', 'y', 'z', 0, 'F', 0, 'N', 0, 'S', '1', 0, 'S', '2', 0
+};
+enum { TABLE_END = 41 };
+
+/* Numbers of 32 bits (70000, cancelled), and no text. */
+static const unsigned char WIDE[] = {
+    0x1e, 0x02, WORD(2), WORD(1), WORD(2), WORD(0), WORD(0),
+    'w', 0,
+    0,
+    0,
+    WORD(4464), WORD(1), WORD(0xfffe), WORD(0xffff)
+};
+
+static const size_t EXACT[4] = {4, 4, 6, 4};
+static const size_t AMPLE[4] = {6, 5, 9, 7};
+
+/* A reading of a copy of the bytes into arrays of their own, each of exactly the length that the call is told. */
+struct reading {
+    unsigned char *bytes;
+    size_t length;
+    int8_t *flags;
+    int32_t *numbers;
+    ti_text_item *texts;
+    ti_bytes *names;
+    ti_entry entry;
+    uint32_t answer;
+};
+
+static void *room_of(size_t size) {
+    void *room = malloc(size ? size : 1);
+    if (room == NULL) exit(2);
+    memset(room, '~', size);
+    return room;
+}
+
+static struct reading read_into(const unsigned char *bytes, size_t length, const size_t *rooms) {
+    struct reading own;
+    own.bytes = copy_of(bytes, length);
+    own.length = length;
+    own.flags = (int8_t *)room_of(rooms[0] * sizeof *own.flags);
+    own.numbers = (int32_t *)room_of(rooms[1] * sizeof *own.numbers);
+    own.texts = (ti_text_item *)room_of(rooms[2] * sizeof *own.texts);
+    own.names = (ti_bytes *)room_of(rooms[3] * sizeof *own.names);
+    own.entry.place = 987654321;
+    own.answer = ti_read(own.bytes, length, own.flags, rooms[0], own.numbers, rooms[1], own.texts, rooms[2], own.names,
+                         rooms[3], &own.entry);
+    return own;
+}
+
+static void release(struct reading *own) {
+    free(own->bytes);
+    free(own->flags);
+    free(own->numbers);
+    free(own->texts);
+    free(own->names);
+}
+
+/* No element of an array was written from one on. */
+static int is_kept(const void *room, size_t size, size_t from, size_t to) {
+    const unsigned char *bytes = (const unsigned char *)room;
+    for (size_t i = from * size; i < to * size; i++) {
+        if (bytes[i] != '~') return 0;
+    }
+    return 1;
+}
+
+static int are_kept(const struct reading *own, const size_t *from, const size_t *rooms) {
+    return is_kept(own->flags, sizeof *own->flags, from[0], rooms[0])
+        && is_kept(own->numbers, sizeof *own->numbers, from[1], rooms[1])
+        && is_kept(own->texts, sizeof *own->texts, from[2], rooms[2])
+        && is_kept(own->names, sizeof *own->names, from[3], rooms[3]);
+}
+
+static const size_t NONE[4] = {0, 0, 0, 0};
+
+/* The bytes are these, and lie in the entry's own. */
+static int is_lent(const struct reading *own, ti_bytes bytes, const char *wanted) {
+    return bytes.length == strlen(wanted) && memcmp(bytes.bytes, wanted, bytes.length) == 0
+        && own->bytes <= bytes.bytes && bytes.bytes + bytes.length <= own->bytes + own->length;
+}
+
+static int has_text(const struct reading *own, size_t index, const char *wanted) {
+    return own->texts[index].mark == 0 && is_lent(own, own->texts[index].text, wanted);
+}
+
+static int has_mark(const struct reading *own, size_t index, int8_t mark) {
+    return own->texts[index].mark == mark && own->texts[index].text.length == 0;
+}
+
+static int has_counts(const struct reading *own) {
+    const ti_entry *entry = &own->entry;
+    return is_lent(own, entry->names, "t|test") && entry->flags == 3 && entry->numbers == 3 && entry->texts == 4
+        && entry->extended_flags == 1 && entry->extended_numbers == 1 && entry->extended_texts == 2
+        && entry->number_bits == 16;
+}
+
+static void test_reading(void) {
+    const size_t *rooms[2] = {EXACT, AMPLE};
+    for (int i = 0; i < 2; i++) {
+        struct reading own = read_into(ENTRY, sizeof ENTRY, rooms[i]);
+        expect(own.answer == TI_DONE && has_counts(&own), "the counts of an entry");
+        expect(own.flags[0] == 1 && own.flags[1] == 0 && own.flags[2] == TI_CANCELLED && own.flags[3] == TI_ABSENT,
+               "flags, and an extended one");
+        expect(own.numbers[0] == 80 && own.numbers[1] == TI_ABSENT && own.numbers[2] == TI_CANCELLED
+               && own.numbers[3] == 7, "numbers, and an extended one");
+        expect(has_text(&own, 0, "abc") && has_mark(&own, 1, TI_ABSENT) && has_mark(&own, 2, TI_CANCELLED)
+               && has_text(&own, 3, ""), "texts");
+        expect(has_text(&own, 4, "xyz") && has_mark(&own, 5, TI_CANCELLED), "extended texts");
+        expect(is_lent(&own, own.names[0], "F") && is_lent(&own, own.names[1], "N") && is_lent(&own, own.names[2], "S1")
+               && is_lent(&own, own.names[3], "S2"), "extended names");
+        expect(are_kept(&own, EXACT, rooms[i]), "the rest of the arrays is kept");
+        release(&own);
+    }
+    struct reading own = read_into(WIDE, sizeof WIDE, AMPLE);
+    expect(own.answer == TI_DONE && own.entry.number_bits == 32 && own.entry.texts == 0, "a wide entry");
+    expect(own.flags[0] == 0 && own.numbers[0] == 70000 && own.numbers[1] == TI_CANCELLED, "numbers of 32 bits");
+    release(&own);
+}
+
+static void test_rooms(void) {
+    for (int i = 0; i < 4; i++) {
+        size_t rooms[4] = {4, 4, 6, 4};
+        rooms[i]--;
+        struct reading own = read_into(ENTRY, sizeof ENTRY, rooms);
+        expect(own.answer == TI_ROOM_TOO_SMALL && has_counts(&own), "an array one too short, and the counts");
+        expect(are_kept(&own, NONE, rooms), "arrays are kept where one is too short");
+        release(&own);
+    }
+    ti_entry entry;
+    expect(ti_read(ENTRY, sizeof ENTRY, NULL, 0, NULL, 0, NULL, 0, NULL, 0, &entry) == TI_ROOM_TOO_SMALL
+           && entry.texts == 4 && entry.extended_texts == 2, "no room, and null pointers");
+    static const unsigned char bare[] = {0x1a, 0x01, WORD(2), WORD(0), WORD(0), WORD(0), WORD(0), 'b', 0};
+    expect(ti_read(bare, sizeof bare, NULL, 0, NULL, 0, NULL, 0, NULL, 0, &entry) == TI_DONE && entry.names.length == 1,
+           "an entry that needs no room");
+    expect(ti_read(NULL, 0, NULL, 0, NULL, 0, NULL, 0, NULL, 0, &entry) == TI_TRUNCATED && entry.place == 0,
+           "no bytes, and null pointers");
+}
+
+/* The entry with one byte changed is refused. */
+static void refused_with(size_t at, unsigned char byte, uint32_t fault, size_t place, const char *words) {
+    unsigned char bytes[sizeof ENTRY];
+    memcpy(bytes, ENTRY, sizeof ENTRY);
+    bytes[at] = byte;
+    struct reading own = read_into(bytes, sizeof ENTRY, AMPLE);
+    expect(own.answer == fault && own.entry.place == place, words);
+    expect(are_kept(&own, NONE, AMPLE), "arrays are kept where an entry is refused");
+    release(&own);
+}
+
+static void test_entry_faults(void) {
+    refused_with(0, 0x1b, TI_BAD_MAGIC, 0, "BadMagic");
+    refused_with(5, 0x80, TI_BAD_HEADER, 4, "BadHeader");
+    refused_with(9, 0x7f, TI_HEADER_TOO_BIG, 0, "HeaderTooBig");
+    refused_with(13, 0, TI_BAD_NAMES, 13, "BadNames");
+    refused_with(20, 2, TI_BAD_FLAG, 20, "BadFlag");
+    refused_with(TABLE_END, 1, TI_BAD_PAD, TABLE_END, "BadPad");
+    refused_with(26, 0xfd, TI_BAD_NUMBER, 26, "BadNumber");
+    refused_with(28, 5, TI_BAD_OFFSET, 28, "BadOffset");
+    refused_with(40, 'd', TI_UNTERMINATED, 34, "Unterminated");
+    refused_with(43, 0x80, TI_BAD_EXTENDED_HEADER, 42, "BadExtendedHeader");
+    refused_with(47, 0x7f, TI_EXTENDED_TOO_BIG, 42, "ExtendedTooBig");
+    refused_with(60, 10, TI_BAD_EXTENDED_NAME, 60, "BadExtendedName");
+    refused_with(50, 13, TI_UNTERMINATED, 66, "an extended table one too short");
+    unsigned char longer[sizeof ENTRY + 1];
+    memcpy(longer, ENTRY, sizeof ENTRY);
+    longer[sizeof ENTRY] = 0;
+    struct reading own = read_into(longer, sizeof longer, AMPLE);
+    expect(own.answer == TI_TRAILING && own.entry.place == sizeof ENTRY, "Trailing");
+    release(&own);
+}
+
+/* Whatever the bytes are, the answer is 0, a fault of an entry, or that there is too little room. */
+static void test_broken_entries(void) {
+    for (size_t length = 0; length < sizeof ENTRY; length++) {
+        struct reading own = read_into(ENTRY, length, AMPLE);
+        int whole = length == TABLE_END;
+        expect(whole ? own.answer == TI_DONE : own.answer == TI_TRUNCATED && own.entry.place == length, "a cut entry");
+        release(&own);
+    }
+    unsigned char bytes[sizeof ENTRY];
+    memcpy(bytes, ENTRY, sizeof ENTRY);
+    int known = 1;
+    for (size_t at = 0; at < sizeof ENTRY; at++) {
+        for (int byte = 0; byte < 256; byte++) {
+            bytes[at] = (unsigned char)byte;
+            struct reading own = read_into(bytes, sizeof ENTRY, AMPLE);
+            known = known && (own.answer <= TI_TRAILING || own.answer == TI_ROOM_TOO_SMALL);
+            release(&own);
+        }
+        bytes[at] = ENTRY[at];
+    }
+    expect(known, "one changed byte");
+}
+
 /* ---- names and the version */
 
 static void named(uint32_t kind, size_t index, const char *wanted) {
@@ -287,6 +501,189 @@ static void test_names(void) {
     not_named(UINT32_MAX, 0, "the greatest kind");
 }
 
+/* ---- the way back: a name's kind and index */
+
+static uint32_t found_kind;
+static size_t found_index;
+
+static uint32_t find(const char *name, size_t length) {
+    unsigned char *own = copy_of(name, length);
+    found_kind = 77;
+    found_index = 88;
+    uint32_t answer = ti_find(own, length, &found_kind, &found_index);
+    free(own);
+    return answer;
+}
+
+static void found(const char *name, uint32_t kind, size_t index) {
+    expect(find(name, strlen(name)) == TI_DONE && found_kind == kind && found_index == index, name);
+}
+
+static void not_found(const char *name, size_t length, const char *words) {
+    expect(find(name, length) == TI_NOT_NAMED && found_kind == 77 && found_index == 88, words);
+}
+
+static void test_finding(void) {
+    found("bw", 0, 0);
+    found("bce", 0, 28);
+    found("cols", 1, 0);
+    found("ncv", 1, 15);
+    found("cbt", 2, 0);
+    found("cup", 2, 10);
+    found("setab", 2, 360);
+    not_found("zz", 2, "a name that no capability has");
+    not_found("cu", 2, "the front of a name");
+    not_found("cup", 4, "a name with its NUL");
+    not_found("CUP", 3, "a name in capitals");
+    not_found("\377", 1, "bytes that are no text");
+    not_found("", 0, "no byte");
+    expect(ti_find(NULL, 0, &found_kind, &found_index) == TI_NOT_NAMED, "no byte, and a null pointer");
+}
+
+/* ---- the words of faults */
+
+static const struct {
+    uint32_t number;
+    const char *word;
+} WORDS[] = {
+    {TI_TRUNCATED, "Truncated"},
+    {TI_BAD_MAGIC, "BadMagic"},
+    {TI_BAD_HEADER, "BadHeader"},
+    {TI_HEADER_TOO_BIG, "HeaderTooBig"},
+    {TI_BAD_NAMES, "BadNames"},
+    {TI_BAD_FLAG, "BadFlag"},
+    {TI_BAD_PAD, "BadPad"},
+    {TI_BAD_NUMBER, "BadNumber"},
+    {TI_BAD_OFFSET, "BadOffset"},
+    {TI_UNTERMINATED, "Unterminated"},
+    {TI_BAD_EXTENDED_HEADER, "BadExtendedHeader"},
+    {TI_EXTENDED_TOO_BIG, "ExtendedTooBig"},
+    {TI_BAD_EXTENDED_NAME, "BadExtendedName"},
+    {TI_TRAILING, "Trailing"},
+    {TI_TOO_LONG, "TooLong"},
+    {TI_CUT_SHORT, "CutShort"},
+    {TI_UNKNOWN_ESCAPE, "UnknownEscape"},
+    {TI_BAD_PARAMETER, "BadParameter"},
+    {TI_BAD_VARIABLE, "BadVariable"},
+    {TI_BAD_CONSTANT, "BadConstant"},
+    {TI_BAD_FORMAT, "BadFormat"},
+    {TI_STRAY_THEN, "StrayThen"},
+    {TI_STRAY_ELSE, "StrayElse"},
+    {TI_STRAY_END, "StrayEnd"},
+    {TI_NO_THEN, "NoThen"},
+    {TI_NEST_TOO_DEEP, "NestTooDeep"},
+    {TI_STACK_TOO_DEEP, "StackTooDeep"},
+    {TI_TOO_MANY_PARAMETERS, "TooManyParameters"},
+    {TI_TEXT_TOO_LONG, "TextTooLong"},
+    {TI_OUT_TOO_SMALL, "OutTooSmall"},
+    {TI_STACK_TOO_SMALL, "StackTooSmall"},
+    {205, "Memory"},
+    {TI_BAD_PADDING, "BadPadding"},
+    {TI_TOO_MUCH, "TooMuch"},
+    {TI_NOT_NAMED, "NotNamed"},
+    {TI_ROOM_TOO_SMALL, "RoomTooSmall"},
+};
+
+static void test_words(void) {
+    size_t count = sizeof WORDS / sizeof *WORDS;
+    for (size_t i = 0; i < count; i++) {
+        ti_bytes word = {NULL, 0};
+        uint32_t answer = ti_word(WORDS[i].number, &word);
+        expect(answer == TI_DONE && word.length == strlen(WORDS[i].word)
+                   && memcmp(word.bytes, WORDS[i].word, word.length) == 0,
+               WORDS[i].word);
+    }
+    size_t known = 0;
+    for (uint32_t number = 0; number < 1000; number++) {
+        ti_bytes word = {out, 7};
+        if (ti_word(number, &word) == TI_DONE) known++;
+        else if (word.bytes != out || word.length != 7) known = 1000;
+    }
+    expect(known == count, "no other number has a word, and then the word is kept");
+    ti_bytes word = {out, 7};
+    expect(ti_word(TI_DONE, &word) == TI_NOT_NAMED, "done is no fault");
+    expect(ti_word(UINT32_MAX, &word) == TI_NOT_NAMED, "the greatest number");
+}
+
+/* ---- padding */
+
+static size_t padded;
+
+static uint32_t pad_text(const char *text, size_t length, ti_padding padding, size_t room) {
+    unsigned char *own_text = copy_of(text, length);
+    unsigned char *own = copy_of(out, room);
+    padded = 987654321;
+    uint32_t answer = ti_pad(own_text, length, &padding, own, room, &padded);
+    memcpy(out, own, room);
+    free(own);
+    free(own_text);
+    return answer;
+}
+
+static ti_padding padding_of(uint32_t rate, uint32_t lines, uint8_t xon, uint8_t pad) {
+    ti_padding padding;
+    padding.rate = rate;
+    padding.lines = lines;
+    padding.xon = xon;
+    padding.pad = pad;
+    return padding;
+}
+
+/* The padded text: what stands before its pad bytes, how many there are, and what stands after them. */
+static void pads(const char *text, ti_padding padding, const char *before, size_t count, const char *after) {
+    memset(out, '~', sizeof out);
+    uint32_t answer = pad_text(text, strlen(text), padding, sizeof out);
+    size_t start = strlen(before), length = start + count + strlen(after);
+    size_t same = 0;
+    while (same < count && out[start + same] == padding.pad) same++;
+    expect(answer == TI_DONE && padded == length && memcmp(out, before, start) == 0 && same == count
+               && memcmp(out + start + count, after, strlen(after)) == 0 && out[length] == '~',
+           text);
+}
+
+static void test_padding(void) {
+    pads(E "[H$<5*/>", padding_of(960, 2, 1, 0), E "[H", 10, "");
+    pads("$<5>", padding_of(960, 1, 0, 0), "", 5, "");
+    pads("$<5>", padding_of(960, 1, 1, 0), "", 0, "");
+    pads("$<5>", padding_of(960, 1, 255, 0), "", 0, "");
+    pads("a$<5>b", padding_of(960, 1, 0, 127), "a", 5, "b");
+    pads("a$<5>b", padding_of(0, 1, 0, 127), "a", 0, "b");
+    pads("$<1.55>", padding_of(9600, 1, 0, 0), "", 15, "");
+    pads("$<x>$<100000>$", padding_of(960, 1, 0, 0), "$<x>$<100000>$", 0, "");
+    pads("", padding_of(1000000, 65535, 0, 0), "", 0, "");
+    padded = 7;
+    ti_padding padding = padding_of(960, 1, 0, 0);
+    expect(ti_pad(NULL, 0, &padding, NULL, 0, &padded) == TI_DONE && padded == 0, "no text into no room");
+}
+
+static void pad_fault(const char *text, ti_padding padding, size_t room, uint32_t fault, size_t told,
+                      const char *words) {
+    memset(out, '~', sizeof out);
+    expect(pad_text(text, strlen(text), padding, room) == fault && padded == told, words);
+    size_t kept = 0;
+    while (kept < ROOM && out[kept] == '~') kept++;
+    expect(kept == ROOM, "the room is kept");
+}
+
+static void test_padding_faults(void) {
+    ti_padding padding = padding_of(1000, 1, 0, 0), greatest = padding_of(1000000, 65535, 0, 0);
+    pad_fault("ab$<3>c", padding, 5, TI_OUT_TOO_SMALL, 6, "a room that is too small by one byte");
+    pad_fault("ab$<3>c", padding, 0, TI_OUT_TOO_SMALL, 6, "no room");
+    pads("ab$<3>c", padding, "ab", 3, "c");
+    pad_fault("a", padding_of(1000001, 1, 0, 0), ROOM, TI_BAD_PADDING, 987654321, "a rate above the greatest");
+    pad_fault("a", padding_of(1, 65536, 0, 0), ROOM, TI_BAD_PADDING, 987654321, "more lines than the most");
+    pad_fault("a$<99999*>", greatest, ROOM, TI_TOO_MUCH, 6553434465001, "the longest delay");
+    char *text = many("a", 75);
+    memcpy(text, "$<67108.8>", 10);
+    pad_fault(text, greatest, ROOM, TI_TOO_MUCH, 67108865, "one byte above the limit");
+    text[74] = 0;
+    pad_fault(text, greatest, ROOM, TI_OUT_TOO_SMALL, 67108864, "the longest padded text");
+    free(text);
+    text = many("$<99999*>", 2814900);
+    pad_fault(text, greatest, ROOM, TI_TOO_MUCH, SIZE_MAX, "a length above the greatest size");
+    free(text);
+}
+
 int main(void) {
     test_expansions();
     test_parameters();
@@ -295,7 +692,15 @@ int main(void) {
     test_checks();
     test_refusals();
     test_limits();
+    test_reading();
+    test_rooms();
+    test_entry_faults();
+    test_broken_entries();
     test_names();
+    test_finding();
+    test_words();
+    test_padding();
+    test_padding_faults();
     expect(ti_version() == 256, "version 0.1.0");
     printf("c: %d passed, %d failed\n", passed, failed);
     return failed != 0;

@@ -1,4 +1,4 @@
-/* ti.h: capabilities of terminfo entries, for C and C++ on x86-64. Link with libti_c.a.
+/* ti.h: terminfo entries and their capabilities, for C and C++ on x86-64. Link with libti_c.a.
  *
  * Each call answers TI_DONE, or the number of a fault. Nothing is allocated, nothing is kept between calls, and any
  * thread may call. The caller owes this: each pointer has as many elements as the length beside it says, and what is
@@ -11,6 +11,17 @@
  *     ti_run run;
  *     if (ti_expand(cup, cup_length, at, 2, &vars, out, sizeof out, &run) == TI_DONE)
  *         fwrite(out, 1, run.written, stdout);
+ *
+ * An entry's texts come as pointers into its bytes: the text with the index 10 is cup.
+ *
+ *     int8_t flags[64];
+ *     int32_t numbers[64];
+ *     ti_text_item texts[512];
+ *     ti_bytes names[256];
+ *     ti_entry entry;
+ *     if (ti_read(file, file_length, flags, 64, numbers, 64, texts, 512, names, 256, &entry) == TI_DONE
+ *         && entry.texts > 10 && texts[10].mark == 0)
+ *         answer = ti_expand(texts[10].text.bytes, texts[10].text.length, at, 2, &vars, out, sizeof out, &run);
  */
 #ifndef TI_H
 #define TI_H
@@ -24,6 +35,21 @@ extern "C" {
 
 enum {
     TI_DONE = 0,
+    /* Faults of an entry (term(5)): the first check that does not hold. The place is that of the item at fault. */
+    TI_TRUNCATED = 1,             /* the bytes end before a section does; the place is the length */
+    TI_BAD_MAGIC = 2,             /* the first two bytes are neither 1a 01 nor 1e 02 */
+    TI_BAD_HEADER = 3,            /* a size or a count of the header is negative */
+    TI_HEADER_TOO_BIG = 4,        /* by its header the entry has more than 32768 bytes; the place is 0 */
+    TI_BAD_NAMES = 5,             /* the names are empty, hold a NUL or do not end with one */
+    TI_BAD_FLAG = 6,              /* a byte stands for no flag */
+    TI_BAD_PAD = 7,               /* the byte after an odd count is not 0 */
+    TI_BAD_NUMBER = 8,            /* a number is below -2 */
+    TI_BAD_OFFSET = 9,            /* the offset of a text is below -2, or past its table */
+    TI_UNTERMINATED = 10,         /* a text or an extended name runs to the end of its table with no NUL */
+    TI_BAD_EXTENDED_HEADER = 11,  /* a size or a count of the extended header is negative */
+    TI_EXTENDED_TOO_BIG = 12,     /* with its extended part the entry has more than 32768 bytes */
+    TI_BAD_EXTENDED_NAME = 13,    /* the offset of an extended name is negative, or past its table */
+    TI_TRAILING = 14,             /* bytes follow the end of the entry */
     /* Faults of a capability; the place is where the offending escape starts. */
     TI_TOO_LONG = 101,            /* more than 32767 bytes; the place is 32767 */
     TI_CUT_SHORT = 102,           /* the bytes end inside an escape */
@@ -41,9 +67,20 @@ enum {
     /* Faults of an expansion. */
     TI_TOO_MANY_PARAMETERS = 201, /* more than nine; no place is told */
     TI_TEXT_TOO_LONG = 202,       /* a text of more than 32767 bytes; the place is its parameter, counted from 1 */
-    TI_OUT_TOO_SMALL = 203,       /* less room than the capability's bound; the place is the bound */
+    TI_OUT_TOO_SMALL = 203,       /* less room than the capability's bound, or than the padded text; that is told */
     TI_STACK_TOO_SMALL = 204,     /* never answered: each call brings a stack that is deep enough */
-    TI_NOT_NAMED = 401            /* no name is known for this kind and index */
+    /* Faults of padding. */
+    TI_BAD_PADDING = 301,         /* a rate above 1000000, or lines above 65535; no length is told */
+    TI_TOO_MUCH = 302,            /* the padded text would have more than 67108864 bytes */
+    /* Faults of a search. */
+    TI_NOT_NAMED = 401,           /* no capability has this kind and index, or this name, or no fault this number */
+    TI_ROOM_TOO_SMALL = 402       /* an array has less room than the entry asks for; the counts are told */
+};
+
+/* Marks of flags, numbers and texts (term(5)). */
+enum {
+    TI_ABSENT = -1,
+    TI_CANCELLED = -2
 };
 
 /* Bytes that are lent; no NUL ends them. */
@@ -51,6 +88,26 @@ typedef struct {
     const unsigned char *bytes;
     size_t length;
 } ti_bytes;
+
+/* A text of an entry: there where the mark is 0, and then its bytes, of which there may be none; else the mark is
+ * TI_ABSENT or TI_CANCELLED, and the length is 0. */
+typedef struct {
+    ti_bytes text;
+    int8_t mark;
+} ti_text_item;
+
+/* The names of an entry and how many capabilities it has, or where its fault stands. */
+typedef struct {
+    ti_bytes names; /* separated by |, in the entry's bytes */
+    size_t flags;
+    size_t numbers;
+    size_t texts;
+    size_t extended_flags;
+    size_t extended_numbers;
+    size_t extended_texts;
+    uint32_t number_bits; /* how wide its numbers are: 16 or 32 */
+    size_t place;         /* of a fault */
+} ti_entry;
 
 /* A parameter: the number where is_text is 0, else the text. A parameter that is missing is the number 0. */
 typedef struct {
@@ -81,18 +138,62 @@ typedef struct {
     size_t place;   /* of a fault */
 } ti_run;
 
-/* Checks a capability: TI_DONE with depth, nest and bound, or 101 to 113 with the place. The bound is for parameters
- * whose texts have at most longest_text bytes: 0 where all are numbers. So it is the room that ti_expand asks for. */
+/* What padding depends on. */
+typedef struct {
+    uint32_t rate;  /* of the line, in bytes per second, at most 1000000; with 0 there are no pad bytes */
+    uint32_t lines; /* that are affected, at most 65535: a mark with a * pads for each of them */
+    uint8_t xon;    /* not 0 where the terminal has flow control: then only a mark with a / is padded */
+    uint8_t pad;    /* the pad byte; 0 in nearly all terminals */
+} ti_padding;
+
+/* Reads a compiled entry, which has to be all of the bytes, into four arrays.
+ *
+ * TI_DONE: the arrays start with the flags, the numbers and the texts, in each the standard ones by their index and after
+ * them the extended ones, and with the names of the extended flags, then numbers, then texts. A flag is 1 or 0, or one of
+ * the marks; a number is its value, from 0, or one of the marks. Texts and names point into the entry's bytes. What lies
+ * in an array past these items is as it was.
+ * 1 to 14: the bytes are no entry; the place says where. The arrays are as they were.
+ * TI_ROOM_TOO_SMALL: an array has fewer elements than that. The names and the counts are told as after TI_DONE, so that the
+ * call may be made again with enough room: so it may first be made with no room at all. The arrays are as they were.
+ *
+ * Room for 32768 flags, 16384 numbers, 16384 texts and 10923 names is always enough. */
+uint32_t ti_read(const unsigned char *bytes, size_t length, int8_t *flags, size_t flag_room, int32_t *numbers,
+                 size_t number_room, ti_text_item *texts, size_t text_room, ti_bytes *names, size_t name_room,
+                 ti_entry *entry);
+
+/* Checks a capability: TI_DONE with depth, nest and bound, or 101 to 113 with the place, and no other field is written.
+ * The bound is for parameters whose texts have at most longest_text bytes: 0 where all are numbers. So it is the room
+ * that ti_expand asks for. */
 uint32_t ti_check(const unsigned char *capability, size_t length, uint16_t longest_text, ti_limits *limits);
 
 /* Expands a capability: TI_DONE with the counts, or 101 to 113, or 201 to 203, with the place. After a fault the
- * variables and the output are as they were. Marks of padding, as $<5>, are written as they stand. */
+ * variables and the output are as they were, and so are the counts. Marks of padding, as $<5>, are written as they
+ * stand. */
 uint32_t ti_expand(const unsigned char *capability, size_t length, const ti_parameter *parameters, size_t count,
                    ti_vars *vars, unsigned char *out, size_t room, ti_run *run);
+
+/* Pads a text, such as the output of ti_expand: each mark of padding, such as $<5> (terminfo(5), "Delays and Padding"),
+ * becomes the smallest number of pad bytes that takes its time.
+ *
+ * TI_DONE: the room starts with the padded text, and its length is told. What lies after it is as it was.
+ * TI_BAD_PADDING: the rate or the lines are above their limits. No length is told, and the room is as it was.
+ * TI_TOO_MUCH, TI_OUT_TOO_SMALL: the length that the padded text would have is told, or SIZE_MAX where it is greater
+ * still. So the call may first be made with no room at all. The room is as it was. */
+uint32_t ti_pad(const unsigned char *text, size_t length, const ti_padding *padding, unsigned char *out, size_t room,
+                size_t *padded);
 
 /* Finds the name of a flag (kind 0), a number (1) or a text (2) by its index in an entry: TI_DONE with the name, which
  * lasts as long as the program, or TI_NOT_NAMED, and the name is as it was. ti_name(2, 10, &name) is "cup". */
 uint32_t ti_name(uint32_t kind, size_t index, ti_bytes *name);
+
+/* Finds the kind and the index of the capability with a name: TI_DONE with both, as ti_name takes them, or
+ * TI_NOT_NAMED, and both are as they were. For "cup" they are 2 and 10. The names of extended capabilities are the
+ * entry's own: ti_read tells them. */
+uint32_t ti_find(const unsigned char *name, size_t length, uint32_t *kind, size_t *index);
+
+/* Finds the word of a fault by its number, to be printed: TI_DONE with the word, which lasts as long as the program, or
+ * TI_NOT_NAMED, and the word is as it was. The word of TI_STRAY_THEN is "StrayThen". */
+uint32_t ti_word(uint32_t number, ti_bytes *word);
 
 /* The version of the library: 65536 times its first number, 256 times its second, and its third. */
 uint32_t ti_version(void);
@@ -118,6 +219,12 @@ static inline ti_parameter ti_text(const void *bytes, size_t length) {
 #endif
 #ifdef TI_LAYOUT
 TI_LAYOUT(sizeof(ti_bytes) == 16 && offsetof(ti_bytes, bytes) == 0 && offsetof(ti_bytes, length) == 8);
+TI_LAYOUT(sizeof(ti_text_item) == 24 && offsetof(ti_text_item, text) == 0 && offsetof(ti_text_item, mark) == 16);
+TI_LAYOUT(sizeof(ti_entry) == 80 && offsetof(ti_entry, names) == 0 && offsetof(ti_entry, flags) == 16);
+TI_LAYOUT(offsetof(ti_entry, numbers) == 24 && offsetof(ti_entry, texts) == 32);
+TI_LAYOUT(offsetof(ti_entry, extended_flags) == 40 && offsetof(ti_entry, extended_numbers) == 48);
+TI_LAYOUT(offsetof(ti_entry, extended_texts) == 56 && offsetof(ti_entry, number_bits) == 64);
+TI_LAYOUT(offsetof(ti_entry, place) == 72);
 TI_LAYOUT(sizeof(ti_parameter) == 24 && offsetof(ti_parameter, text) == 0);
 TI_LAYOUT(offsetof(ti_parameter, number) == 16 && offsetof(ti_parameter, is_text) == 20);
 TI_LAYOUT(sizeof(ti_vars) == 208 && offsetof(ti_vars, values) == 0);
@@ -125,6 +232,8 @@ TI_LAYOUT(sizeof(ti_limits) == 32 && offsetof(ti_limits, depth) == 0 && offsetof
 TI_LAYOUT(offsetof(ti_limits, bound) == 16 && offsetof(ti_limits, place) == 24);
 TI_LAYOUT(sizeof(ti_run) == 40 && offsetof(ti_run, written) == 0 && offsetof(ti_run, ran) == 8);
 TI_LAYOUT(offsetof(ti_run, passed) == 16 && offsetof(ti_run, peak) == 24 && offsetof(ti_run, place) == 32);
+TI_LAYOUT(sizeof(ti_padding) == 12 && offsetof(ti_padding, rate) == 0 && offsetof(ti_padding, lines) == 4);
+TI_LAYOUT(offsetof(ti_padding, xon) == 8 && offsetof(ti_padding, pad) == 9);
 #undef TI_LAYOUT
 #endif
 

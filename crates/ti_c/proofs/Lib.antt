@@ -1,2 +1,10 @@
 pub mod NumbersLemmas
+pub mod FindingLemmas
+pub mod PaddingExamples
+pub mod PaddingLemmas
+pub mod WordsExamples
+pub mod WordsLemmas
 pub mod DeepEnoughLemmas
+pub mod StartsWithLemmas
+pub mod AmpleRoomLemmas
+pub mod EntryExamples

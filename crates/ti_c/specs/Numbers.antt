@@ -4,10 +4,29 @@ use Rattle.ti_cap.specs.declared.language.CapFault.{CapFault}
 use Rattle.ti_cap.specs.declared.language.CapFault.TheVariants as capability
 use Rattle.ti_expand.specs.declared.fault.ExpandFault.{ExpandFault}
 use Rattle.ti_expand.specs.declared.fault.ExpandFault.TheVariants as expansion
+use Rattle.ti_layout.specs.declared.fault.Fault.{Fault}
+use Rattle.ti_layout.specs.declared.fault.Fault.TheVariants as entry
 
 -- no fault
 abbrev pub done : ℕ
 done = 0
+
+-- the faults of an entry
+abbrev pub entry_number : Fault → ℕ
+entry_number entry.Truncated = 1
+entry_number entry.BadMagic = 2
+entry_number entry.BadHeader = 3
+entry_number entry.HeaderTooBig = 4
+entry_number entry.BadNames = 5
+entry_number entry.BadFlag = 6
+entry_number entry.BadPad = 7
+entry_number entry.BadNumber = 8
+entry_number entry.BadOffset = 9
+entry_number entry.Unterminated = 10
+entry_number entry.BadExtendedHeader = 11
+entry_number entry.ExtendedTooBig = 12
+entry_number entry.BadExtendedName = 13
+entry_number entry.Trailing = 14
 
 -- the faults of a capability
 abbrev pub capability_number : CapFault → ℕ
@@ -28,6 +47,10 @@ capability_number capability.StackTooDeep = 113
 -- more than nine parameters
 abbrev pub too_many_parameters : ℕ
 too_many_parameters = 201
+
+-- less room than the output needs, of an expansion as of padding
+abbrev pub out_too_small : ℕ
+out_too_small = 203
 
 -- the faults of an expansion; a call for C brings a stack that is large enough, and takes no memory
 abbrev pub expand_number : ExpandFault → ℕ
@@ -53,3 +76,7 @@ too_much = 302
 -- no capability has the name, or none stands at the place
 abbrev pub not_named : ℕ
 not_named = 401
+
+-- an array has less room than the entry asks for
+abbrev pub room_too_small : ℕ
+room_too_small = 402

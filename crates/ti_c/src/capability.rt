@@ -26,6 +26,8 @@ pub struct Limits {
 #[unsafe(no_mangle)]
 pub extern "C" fn ti_check(capability: &[u8], longest_text: u16, limits: &mut Limits) -> u32
     ensures answer { (result ≡ done) ⊎ IsRefusedAs capability.now result limits.new.place }
+    ensures place { (result ≡ done)
+        ⊎ (limits.new ≡ record limits.old { place = limits.new.place }) }
     ensures tree { result ≡ done → IsWellFormed capability.now }
     ensures depth { result ≡ done → HasDepth capability.now limits.new.depth }
     ensures nest { result ≡ done → HasNest capability.now limits.new.nest }

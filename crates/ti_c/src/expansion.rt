@@ -96,6 +96,7 @@ fn expand_on<'a>(
         ⊎ IsFaultOf capability.now values.now (length out.old) result run.new.place }
     ensures faultless { result ≡ done → HasNoFault capability.now values.now (length out.old) }
     ensures kept { (result ≡ done) ⊎ ((variables.new ≡ variables.old) × (out.new ≡ out.old)) }
+    ensures place { (result ≡ done) ⊎ (run.new ≡ record run.old { place = run.new.place }) }
     ensures tree { result ≡ done → IsWellFormed capability.now }
     ensures output { result ≡ done → ForMeaning capability.now variables.old values.now
         (λ end. take run.new.written out.new ≡ end.output) }
@@ -143,19 +144,25 @@ pub extern "C" fn ti_expand<'a>(
     ensures faultless { result ≡ done
         → HasNoFault capability.now (values_given parameters.now) (length out.old) }
     ensures kept { (result ≡ done) ⊎ ((variables.new ≡ variables.old) × (out.new ≡ out.old)) }
+    ensures place { (result ≡ done) ⊎ (run.new ≡ record run.old { place = run.new.place }) }
     ensures tree { result ≡ done → IsWellFormed capability.now }
-    ensures output { result ≡ done → ForMeaning capability.now variables.old (values_given parameters.now)
+    ensures output { result ≡ done
+        → ForMeaning capability.now variables.old (values_given parameters.now)
         (λ end. take run.new.written out.new ≡ end.output) }
     ensures rest { result ≡ done → drop run.new.written out.new ≡ drop run.new.written out.old }
-    ensures variables { result ≡ done → ForMeaning capability.now variables.old (values_given parameters.now)
+    ensures variables { result ≡ done
+        → ForMeaning capability.now variables.old (values_given parameters.now)
         (λ end. variables.new ≡ end.variables) }
-    ensures written { result ≡ done → ForMeaning capability.now variables.old (values_given parameters.now)
+    ensures written { result ≡ done
+        → ForMeaning capability.now variables.old (values_given parameters.now)
         (λ end. run.new.written ≡ length end.output) }
-    ensures ran { result ≡ done → ForPath capability.now variables.old (values_given parameters.now)
+    ensures ran { result ≡ done
+        → ForPath capability.now variables.old (values_given parameters.now)
         (λ path. run.new.ran ≡ length path) }
     ensures all { result ≡ done → ForTree capability.now
         (λ tree. run.new.ran + run.new.passed ≡ length (tokens tree)) }
-    ensures peak { result ≡ done → ForPath capability.now variables.old (values_given parameters.now)
+    ensures peak { result ≡ done
+        → ForPath capability.now variables.old (values_given parameters.now)
         (λ path. run.new.peak ≡ height path) }
 {
     if parameters.len() > 9 {

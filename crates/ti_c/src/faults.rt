@@ -1,9 +1,10 @@
 //! The numbers by which C knows the faults.
 
 ghost use Rattle.std.specs.Prelude.{◌≡◌};
-ghost use Rattle.ti_c.specs.Numbers.{capability_number, expand_number, expand_place};
+ghost use Rattle.ti_c.specs.Numbers.{entry_number, capability_number, expand_number, expand_place};
 
 use ti_cap::CapFault;
+use ti_entry::Fault;
 use ti_expand::ExpandFault;
 
 /// No fault.
@@ -11,6 +12,9 @@ pub(crate) const DONE: u32 = 0;
 
 /// More than nine parameters.
 pub(crate) const TOO_MANY_PARAMETERS: u32 = 201;
+
+/// Less room than the output needs.
+pub(crate) const OUT_TOO_SMALL: u32 = 203;
 
 /// A rate or a count of lines above its limit.
 pub(crate) const BAD_PADDING: u32 = 301;
@@ -20,6 +24,31 @@ pub(crate) const TOO_MUCH: u32 = 302;
 
 /// No capability has the name, or none stands at the place.
 pub(crate) const NOT_NAMED: u32 = 401;
+
+/// An array has less room than the entry asks for.
+pub(crate) const ROOM_TOO_SMALL: u32 = 402;
+
+/// The number of an entry's fault.
+pub(crate) fn entry_number(fault: Fault) -> u32
+    ensures { result ≡ entry_number fault }
+{
+    match fault {
+        Fault::Truncated => 1,
+        Fault::BadMagic => 2,
+        Fault::BadHeader => 3,
+        Fault::HeaderTooBig => 4,
+        Fault::BadNames => 5,
+        Fault::BadFlag => 6,
+        Fault::BadPad => 7,
+        Fault::BadNumber => 8,
+        Fault::BadOffset => 9,
+        Fault::Unterminated => 10,
+        Fault::BadExtendedHeader => 11,
+        Fault::ExtendedTooBig => 12,
+        Fault::BadExtendedName => 13,
+        Fault::Trailing => 14,
+    }
+}
 
 /// The number of a capability's fault.
 pub(crate) fn capability_number(fault: CapFault) -> u32

@@ -1,4 +1,5 @@
-//! Analysing and expanding capabilities for callers in C, and the names of those of an entry.
+//! Entries for callers in C: reading them, analysing, expanding, padding, naming and finding their capabilities, and the
+//! words of faults.
 //!
 //! Each export is a library call of the crates below, with its pointers and lengths as slices, and states that call's
 //! clauses again. No export allocates, keeps state or stops the process; what a caller owes is that its pointers and
@@ -6,16 +7,24 @@
 #![tactic(auto)]
 
 mod capability;
+mod entry;
 mod expansion;
 mod faults;
+mod finding;
 mod names;
+mod padding;
+mod word_table;
+mod words;
 
 ghost use Rattle.std.specs.Prelude.{◌≡◌};
+ghost use Rattle.ti_base.specs.Version.{version_number};
+
+use ti_base::VERSION_NUMBER;
 
 /// The version of the library: 65536 times its first number, 256 times its second, and its third.
 #[unsafe(no_mangle)]
 pub extern "C" fn ti_version() -> u32
-    ensures { result ≡ 256 }
+    ensures { result ≡ version_number }
 {
-    1 << 8
+    VERSION_NUMBER
 }

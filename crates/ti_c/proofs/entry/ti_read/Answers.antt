@@ -1,0 +1,61 @@
+use Rattle.std.proofs.Common.{inl, sym, ◌∙◌, subst, length, true≢false}
+use Rattle.ti_words.specs.Spelling.{extended_names}
+use Rattle.ti_words.specs.Value.{EntryValue}
+use Rattle.ti_c.specs.Entries.{text_held, bytes_held, itself, flag_marks, number_words, texts_shown, StartsWith, HasRoom, Tells}
+use Rattle.ti_c.proofs.AmpleRoomLemmas.{enough}
+use Rattle.ti_c.proofs.NumbersLemmas.{not_read}
+use Rattle.ti_c.proofs.entry.ti_read.Goals as goal
+
+pub returns-in-Err-clause-told : goal.returns-in-Err-clause-told
+returns-in-Err-clause-told c = λ is. absurd (not_read c.in-Err.refused.fault c.entry_number.result c.entry_number.ensures is)
+
+pub returns-in-Err-clause-room : goal.returns-in-Err-clause-room
+returns-in-Err-clause-room c = λ is. absurd (not_read c.in-Err.refused.fault c.entry_number.result c.entry_number.ensures (inl is))
+
+pub returns-then-not-has_room-clause-told : goal.returns-then-not-has_room-clause-told
+returns-then-not-has_room-clause-told c = λ _ v spelled.
+    let P : EntryValue → Type 0 = λ x. Tells c.counts_of.result x in
+    subst P (c.in-Ok.ensures.only v spelled) c.counts_of.ensures
+
+pub returns-then-not-has_room-clause-short : goal.returns-then-not-has_room-clause-short
+returns-then-not-has_room-clause-short c = λ _ v spelled room.
+    let P : EntryValue → Type 0 = λ x. HasRoom x (length c.args.flags.now) (length c.args.numbers.now) (length c.args.texts.now) (length c.args.names.now) in
+    true≢false (sym (c.has_room.ensures.1 (subst P (sym (c.in-Ok.ensures.only v spelled)) room)) ∙ c.if-not-has_room.true)
+
+pub fill-requires-clause-room : goal.fill-requires-clause-room
+fill-requires-clause-room c = c.has_room.ensures.0 c.if-not-has_room.false
+
+pub returns-clause-told : goal.returns-clause-told
+returns-clause-told c = λ _ v spelled.
+    let P : EntryValue → Type 0 = λ x. Tells c.counts_of.result x in
+    subst P (c.in-Ok.ensures.only v spelled) c.counts_of.ensures
+
+pub returns-clause-room : goal.returns-clause-room
+returns-clause-room c = λ _ v spelled.
+    let P : EntryValue → Type 0 = λ x. HasRoom x (length c.args.flags.now) (length c.args.numbers.now) (length c.args.texts.now) (length c.args.names.now) in
+    subst P (c.in-Ok.ensures.only v spelled) (c.has_room.ensures.0 c.if-not-has_room.false)
+
+pub returns-clause-flags : goal.returns-clause-flags
+returns-clause-flags c = λ _ v spelled.
+    let P : EntryValue → Type 0 = λ x. StartsWith itself c.args.flags.now c.fill.new.flags (flag_marks x) in
+    subst P (c.in-Ok.ensures.only v spelled) c.fill.ensures.flags
+
+pub returns-clause-numbers : goal.returns-clause-numbers
+returns-clause-numbers c = λ _ v spelled.
+    let P : EntryValue → Type 0 = λ x. StartsWith itself c.args.numbers.now c.fill.new.numbers (number_words x) in
+    subst P (c.in-Ok.ensures.only v spelled) c.fill.ensures.numbers
+
+pub returns-clause-texts : goal.returns-clause-texts
+returns-clause-texts c = λ _ v spelled.
+    let P : EntryValue → Type 0 = λ x. StartsWith text_held c.args.texts.now c.fill.new.texts (texts_shown x) in
+    subst P (c.in-Ok.ensures.only v spelled) c.fill.ensures.texts
+
+pub returns-clause-names : goal.returns-clause-names
+returns-clause-names c = λ _ v spelled.
+    let P : EntryValue → Type 0 = λ x. StartsWith bytes_held c.args.names.now c.fill.new.names (extended_names x) in
+    subst P (c.in-Ok.ensures.only v spelled) c.fill.ensures.names
+
+pub returns-then-not-has_room-clause-ample : goal.returns-then-not-has_room-clause-ample
+returns-then-not-has_room-clause-ample c = λ ample _.
+    let room = enough c.args.bytes.now c.in-Ok.found (length c.args.flags.now) (length c.args.numbers.now) (length c.args.texts.now) (length c.args.names.now) c.in-Ok.ensures.found ample in
+    true≢false (sym (c.has_room.ensures.1 room) ∙ c.if-not-has_room.true)

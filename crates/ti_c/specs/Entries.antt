@@ -1,0 +1,103 @@
+-- What C is told of an entry, and what it finds in the arrays that an entry was read into.
+use Rattle.std.specs.Prelude.{◌≡◌, ℕ, ◌+◌, ◌*◌, ◌≤◌, ℤ, pos, negsuc, List, [], ◌++◌, length, map, take, drop, ◌⊎◌, Some}
+use Rattle.ti_base.specs.Limits.{most_entry_bytes}
+use Rattle.ti_words.specs.declared.Flag.{Flag}
+use Rattle.ti_words.specs.declared.Flag.TheVariants as flags
+use Rattle.ti_words.specs.Marks.{word_of_number}
+use Rattle.ti_words.specs.Texts.{TextValue, AbsentText, CancelledText, TextOf}
+use Rattle.ti_words.specs.Value.{EntryValue}
+use Rattle.ti_words.specs.Widths.{number_size}
+use Rattle.ti_words.specs.Spelling.{Spells, mark_in}
+use Rattle.ti_layout.specs.declared.fault.Fault.{Fault}
+use Rattle.ti_layout.specs.Refusal.{refusal}
+use Rattle.ti_c.specs.declared.entry.TextItem.{TextItem}
+use Rattle.ti_c.specs.declared.entry.EntryCounts.{EntryCounts}
+use Rattle.ti_c.specs.declared.names.Bytes.{Bytes}
+use Rattle.ti_c.specs.Numbers.{done, room_too_small, entry_number}
+
+-- ---- items
+
+-- the mark of a flag
+abbrev pub flag_mark : Flag → ℤ
+flag_mark flags.No = pos 0
+flag_mark flags.Yes = pos 1
+flag_mark flags.Missing = negsuc 0
+flag_mark flags.Cancelled = negsuc 1
+
+-- the mark of a text, and its bytes
+abbrev pub text_shown : TextValue → ℤ × List ℕ
+text_shown (TextOf bytes) = (pos 0, bytes)
+text_shown AbsentText = (negsuc 0, [])
+text_shown CancelledText = (negsuc 1, [])
+
+-- the mark and the bytes that an item of an array holds
+abbrev pub text_held : TextItem → ℤ × List ℕ
+text_held item = (item.mark, item.text.now)
+
+abbrev pub bytes_held : Bytes → List ℕ
+bytes_held item = item.bytes.now
+
+-- an item that stands for itself
+abbrev pub itself : {A : Type 0} → A → A
+itself item = item
+
+-- ---- arrays: the standard items by index, and after them the extended ones
+
+abbrev pub flag_marks : EntryValue → List ℤ
+flag_marks v = map flag_mark v.flags ++ map flag_mark (map mark_in v.extended_flags)
+
+abbrev pub number_words : EntryValue → List ℤ
+number_words v = map word_of_number v.numbers ++ map word_of_number (map mark_in v.extended_numbers)
+
+abbrev pub texts_shown : EntryValue → List (ℤ × List ℕ)
+texts_shown v = map text_shown v.texts ++ map text_shown (map mark_in v.extended_texts)
+
+-- the array starts with what holds these items, and after them it is as before
+pub record StartsWith {A B : Type 0} (held : A → B) (before after : List A) (items : List B) : Type 0 where
+  pub front : map held (take (length items) after) ≡ items
+  pub rest : drop (length items) after ≡ drop (length items) before
+
+-- arrays of these lengths have room for the entry
+pub record HasRoom (v : EntryValue) (flag_room number_room text_room name_room : ℕ) : Type 0 where
+  pub flags : length v.flags + length v.extended_flags ≤ flag_room
+  pub numbers : length v.numbers + length v.extended_numbers ≤ number_room
+  pub texts : length v.texts + length v.extended_texts ≤ text_room
+  pub names : length v.extended_flags + length v.extended_numbers + length v.extended_texts ≤ name_room
+
+-- arrays of these lengths have room for every entry: a flag takes a byte of it or more, a number and a text two, a name
+-- with what it names three
+pub record IsAmple (flag_room number_room text_room name_room : ℕ) : Type 0 where
+  pub flags : most_entry_bytes ≤ flag_room
+  pub numbers : most_entry_bytes ≤ 2 * number_room
+  pub texts : most_entry_bytes ≤ 2 * text_room
+  pub names : most_entry_bytes ≤ 3 * name_room
+
+-- ---- what is told
+
+-- the names, the counts and the width are those of the entry
+pub record Tells (told : EntryCounts) (v : EntryValue) : Type 0 where
+  pub names : told.names.now ≡ v.names
+  pub flags : told.flags ≡ length v.flags
+  pub numbers : told.numbers ≡ length v.numbers
+  pub texts : told.texts ≡ length v.texts
+  pub extended_flags : told.extended_flags ≡ length v.extended_flags
+  pub extended_numbers : told.extended_numbers ≡ length v.extended_numbers
+  pub extended_texts : told.extended_texts ≡ length v.extended_texts
+  pub number_bits : told.number_bits ≡ 8 * number_size v.width
+
+-- the answer of a call that has read an entry
+abbrev pub IsRead : ℕ → Type 0
+IsRead answer = (answer ≡ done) ⊎ (answer ≡ room_too_small)
+
+-- the bytes spell an entry
+abbrev pub SpellsSome : List ℕ → Type 0
+SpellsSome bytes = (v : EntryValue) × Spells bytes v
+
+-- P holds of the entry that the bytes spell
+abbrev pub ForEntry : List ℕ → (EntryValue → Type 0) → Type 0
+ForEntry bytes P = (v : EntryValue) → Spells bytes v → P v
+
+-- the number is that of the fault of which the bytes are refused, at this place
+abbrev pub IsEntryRefusedAs : List ℕ → ℕ → ℕ → Type 0
+IsEntryRefusedAs bytes number place =
+    (fault : Fault) × (number ≡ entry_number fault) × (refusal bytes ≡ Some (record { fault = fault; place = place }))

@@ -1,0 +1,331 @@
+//! Reading an entry for C, into arrays of the caller's.
+//!
+//! The bytes are checked once, and each array is filled once, in the order of its items. A text and a name stay where the
+//! entry has them.
+
+ghost use Rattle.std.specs.Prelude.{◌≡◌, ◌≢◌, ◌+◌, ◌≤◌, ◌⊎◌, ◌++◌, ◌↔◌, IsTrue, length, map, take};
+ghost use Rattle.ti_words.specs.Marks.{word_of_number as the_word_of_number};
+ghost use Rattle.ti_words.specs.Spelling.{mark_in, extended_names};
+ghost use Rattle.ti_words.specs.Texts.{text_value};
+ghost use Rattle.ti_words.specs.Value.{EntryValue};
+ghost use Rattle.ti_entry.specs.Finding.{names_of};
+ghost use Rattle.ti_c.specs.Numbers.{done, room_too_small};
+ghost use Rattle.ti_c.specs.Entries.{flag_mark as the_flag_mark, text_shown, text_held, bytes_held, itself, flag_marks, number_words, texts_shown, StartsWith, HasRoom, IsAmple, Tells, IsRead, SpellsSome, ForEntry, IsEntryRefusedAs};
+
+use crate::faults::{DONE, ROOM_TOO_SMALL, entry_number};
+use crate::names::Bytes;
+use ti_entry::{Entry, Extended, read};
+use ti_words::{Flag, Kind, Number, Text, Width};
+
+/// A text of an entry: its bytes where the mark is 0; -1 is absent and -2 cancelled, with no bytes.
+#[repr(C)]
+#[derive(Clone, Copy)]
+pub struct TextItem<'a> {
+    pub text: &'a [u8],
+    pub mark: i8,
+}
+
+/// The names of an entry and how many capabilities it has, or where its fault stands.
+#[repr(C)]
+#[derive(Clone, Copy)]
+pub struct EntryCounts<'a> {
+    /// The names, separated by `|`, without the NUL after them.
+    pub names: &'a [u8],
+    pub flags: usize,
+    pub numbers: usize,
+    pub texts: usize,
+    pub extended_flags: usize,
+    pub extended_numbers: usize,
+    pub extended_texts: usize,
+    /// How wide its numbers are: 16 or 32.
+    pub number_bits: u32,
+    /// Where the fault stands, in bytes from the start.
+    pub place: usize,
+}
+
+/// The mark of a flag: 1 where the terminal has it, 0 where not, -1 missing, -2 cancelled.
+fn flag_mark(flag: Flag) -> i8
+    ensures { result ≡ the_flag_mark flag }
+{
+    match flag {
+        Flag::No => 0,
+        Flag::Yes => 1,
+        Flag::Missing => -1,
+        Flag::Cancelled => -2,
+    }
+}
+
+/// The value of a number; -1 is absent, -2 cancelled.
+fn number_word(number: Number) -> i32
+    ensures { result ≡ the_word_of_number number }
+{
+    match number {
+        Number::Absent => -1,
+        Number::Cancelled => -2,
+        Number::Value(value) => value,
+    }
+}
+
+/// Puts the mark and the bytes of a text into an item. Its fields are written one by one, since a whole item would be
+/// written with its padding.
+fn put_text<'a>(item: &mut TextItem<'a>, text: Text<'a>)
+    ensures { text_held item.new ≡ text_shown (text_value text.entry) }
+{
+    match text {
+        Text::Value(text) => {
+            item.text = text;
+            item.mark = 0;
+        }
+        Text::Absent => {
+            item.text = &[];
+            item.mark = -1;
+        }
+        Text::Cancelled => {
+            item.text = &[];
+            item.mark = -2;
+        }
+    }
+}
+
+/// Puts the flags of an entry at the front of an array.
+fn put_flags(entry: &Entry<'_>, flags: &mut [i8])
+    requires { length entry.now.flags ≤ length flags.old }
+    ensures { StartsWith itself flags.old flags.new (map the_flag_mark entry.now.flags) }
+{
+    for i in 0..entry.flag_count() {
+        flags[i] = flag_mark(entry.flag(i));
+    }
+}
+
+/// Puts the extended flags into an array, from a place on.
+fn put_extended_flags(extended: &Extended<'_>, flags: &mut [i8], from: usize)
+    requires { from + length extended.now.extended_flags ≤ length flags.old }
+    ensures { StartsWith itself flags.old flags.new
+        (map itself (take from flags.old)
+        ++ map the_flag_mark (map mark_in extended.now.extended_flags)) }
+{
+    for i in 0..extended.flag_count() {
+        flags[from + i] = flag_mark(extended.flag(i));
+    }
+}
+
+/// Puts the numbers of an entry at the front of an array.
+fn put_numbers(entry: &Entry<'_>, numbers: &mut [i32])
+    requires { length entry.now.numbers ≤ length numbers.old }
+    ensures { StartsWith itself numbers.old numbers.new
+        (map the_word_of_number entry.now.numbers) }
+{
+    for i in 0..entry.number_count() {
+        numbers[i] = number_word(entry.number(i));
+    }
+}
+
+/// Puts the extended numbers into an array, from a place on.
+fn put_extended_numbers(extended: &Extended<'_>, numbers: &mut [i32], from: usize)
+    requires { from + length extended.now.extended_numbers ≤ length numbers.old }
+    ensures { StartsWith itself numbers.old numbers.new
+        (map itself (take from numbers.old)
+        ++ map the_word_of_number (map mark_in extended.now.extended_numbers)) }
+{
+    for i in 0..extended.number_count() {
+        numbers[from + i] = number_word(extended.number(i));
+    }
+}
+
+/// Puts the texts of an entry at the front of an array.
+fn put_texts<'a>(entry: &Entry<'a>, texts: &mut [TextItem<'a>])
+    requires { length entry.now.texts ≤ length texts.old }
+    ensures { StartsWith text_held texts.old texts.new (map text_shown entry.now.texts) }
+{
+    for i in 0..entry.text_count() {
+        put_text(&mut texts[i], entry.text(i));
+    }
+}
+
+/// Puts the extended texts into an array, from a place on.
+fn put_extended_texts<'a>(extended: &Extended<'a>, texts: &mut [TextItem<'a>], from: usize)
+    requires { from + length extended.now.extended_texts ≤ length texts.old }
+    ensures { StartsWith text_held texts.old texts.new
+        (map text_held (take from texts.old)
+        ++ map text_shown (map mark_in extended.now.extended_texts)) }
+{
+    for i in 0..extended.text_count() {
+        put_text(&mut texts[from + i], extended.text(i));
+    }
+}
+
+/// How many extended capabilities of a kind there are.
+fn count_of(extended: &Extended<'_>, kind: Kind) -> usize
+    ensures { result ≡ length (names_of extended.now kind) }
+{
+    match kind {
+        Kind::Flag => extended.flag_count(),
+        Kind::Number => extended.number_count(),
+        Kind::Text => extended.text_count(),
+    }
+}
+
+/// Puts the names of the extended capabilities of a kind into an array, from a place on. Each call knows its kind, and a
+/// copy of the loop for it takes half the steps.
+#[inline(always)]
+fn put_names<'a>(extended: &Extended<'a>, kind: Kind, names: &mut [Bytes<'a>], from: usize)
+    requires { from + length (names_of extended.now kind) ≤ length names.old }
+    ensures { StartsWith bytes_held names.old names.new
+        (map bytes_held (take from names.old) ++ names_of extended.now kind) }
+{
+    for i in 0..count_of(extended, kind) {
+        if let Some(name) = extended.name(kind, i) {
+            names[from + i] = Bytes { bytes: name };
+        }
+    }
+}
+
+/// Whether a room holds so many standard items and so many extended ones.
+fn fits(room: usize, standard: usize, extended: usize) -> bool
+    ensures { IsTrue result ↔ (standard + extended ≤ room) }
+{
+    standard <= room && extended <= room - standard
+}
+
+/// Whether arrays of these lengths have room for an entry.
+fn has_room(
+    entry: &Entry<'_>,
+    extended: &Extended<'_>,
+    flags: usize,
+    numbers: usize,
+    texts: usize,
+    names: usize,
+) -> bool
+    requires { extended.now ≡ entry.now }
+    ensures { IsTrue result ↔ HasRoom entry.now flags numbers texts names }
+{
+    let flag_names = extended.flag_count();
+    let number_names = extended.number_count();
+    let text_names = extended.text_count();
+    fits(flags, entry.flag_count(), flag_names)
+        && fits(numbers, entry.number_count(), number_names)
+        && fits(texts, entry.text_count(), text_names)
+        && fits(names, flag_names, number_names)
+        && text_names <= names - flag_names - number_names
+}
+
+/// The names of an entry, and how many capabilities it has.
+fn counts_of<'a>(entry: &Entry<'a>, extended: &Extended<'a>) -> EntryCounts<'a>
+    requires { extended.now ≡ entry.now }
+    ensures { Tells result entry.now }
+{
+    EntryCounts {
+        names: entry.names(),
+        flags: entry.flag_count(),
+        numbers: entry.number_count(),
+        texts: entry.text_count(),
+        extended_flags: extended.flag_count(),
+        extended_numbers: extended.number_count(),
+        extended_texts: extended.text_count(),
+        number_bits: match entry.width() {
+            Width::Legacy => 16,
+            Width::Wide => 32,
+        },
+        place: 0,
+    }
+}
+
+/// Puts the names of all extended capabilities at the front of an array: of flags, then numbers, then texts.
+fn put_all_names<'a>(extended: &Extended<'a>, names: &mut [Bytes<'a>])
+    requires { length (extended_names extended.now) ≤ length names.old }
+    ensures { StartsWith bytes_held names.old names.new (extended_names extended.now) }
+{
+    let numbers_from = extended.flag_count();
+    let texts_from = numbers_from + extended.number_count();
+    put_names(extended, Kind::Flag, names, 0);
+    put_names(extended, Kind::Number, names, numbers_from);
+    put_names(extended, Kind::Text, names, texts_from);
+}
+
+/// Fills arrays that have room for an entry.
+fn fill<'a>(
+    entry: &Entry<'a>,
+    extended: &Extended<'a>,
+    flags: &mut [i8],
+    numbers: &mut [i32],
+    texts: &mut [TextItem<'a>],
+    names: &mut [Bytes<'a>],
+)
+    requires same { extended.now ≡ entry.now }
+    requires room { HasRoom entry.now (length flags.old) (length numbers.old) (length texts.old)
+        (length names.old) }
+    ensures flags { StartsWith itself flags.old flags.new (flag_marks entry.now) }
+    ensures numbers { StartsWith itself numbers.old numbers.new (number_words entry.now) }
+    ensures texts { StartsWith text_held texts.old texts.new (texts_shown entry.now) }
+    ensures names { StartsWith bytes_held names.old names.new (extended_names entry.now) }
+{
+    put_flags(entry, flags);
+    put_extended_flags(extended, flags, entry.flag_count());
+    put_numbers(entry, numbers);
+    put_extended_numbers(extended, numbers, entry.number_count());
+    put_texts(entry, texts);
+    put_extended_texts(extended, texts, entry.text_count());
+    put_all_names(extended, names);
+}
+
+/// Reads an entry into the caller's arrays, and answers 0, or the number of its fault with the place, or that an array is
+/// too short; then the counts say how long each has to be.
+///
+/// The arrays start with the standard items by index, and after them come the extended ones. After a fault they are as
+/// before.
+#[unsafe(no_mangle)]
+pub extern "C" fn ti_read<'a>(
+    bytes: &'a [u8],
+    flags: &mut [i8],
+    numbers: &mut [i32],
+    texts: &mut [TextItem<'a>],
+    names: &mut [Bytes<'a>],
+    entry: &mut EntryCounts<'a>,
+) -> u32
+    ensures answer { IsRead result ⊎ IsEntryRefusedAs bytes.now result entry.new.place }
+    // An entry was read where the bytes spell one, and then it is told.
+    ensures spelled { IsRead result → SpellsSome bytes.now }
+    ensures told { IsRead result → ForEntry bytes.now (λ v. Tells entry.new v) }
+    // The arrays have room for it, or have not.
+    ensures room { result ≡ done → ForEntry bytes.now (λ v. HasRoom v
+        (length flags.old) (length numbers.old) (length texts.old) (length names.old)) }
+    ensures short { result ≡ room_too_small → ForEntry bytes.now (λ v. ¬ HasRoom v
+        (length flags.old) (length numbers.old) (length texts.old) (length names.old)) }
+    // So much room is enough for every entry.
+    ensures ample { IsAmple (length flags.old) (length numbers.old) (length texts.old)
+        (length names.old) → result ≢ room_too_small }
+    ensures kept { (result ≡ done) ⊎ ((flags.new ≡ flags.old) × (numbers.new ≡ numbers.old)
+        × (texts.new ≡ texts.old) × (names.new ≡ names.old)) }
+    ensures flags { result ≡ done → ForEntry bytes.now (λ v.
+        StartsWith itself flags.old flags.new (flag_marks v)) }
+    ensures numbers { result ≡ done → ForEntry bytes.now (λ v.
+        StartsWith itself numbers.old numbers.new (number_words v)) }
+    ensures texts { result ≡ done → ForEntry bytes.now (λ v.
+        StartsWith text_held texts.old texts.new (texts_shown v)) }
+    ensures names { result ≡ done → ForEntry bytes.now (λ v.
+        StartsWith bytes_held names.old names.new (extended_names v)) }
+{
+    let found = match read(bytes) {
+        Ok(found) => found,
+        Err(refused) => {
+            entry.place = refused.place;
+            return entry_number(refused.fault);
+        }
+    };
+    let extended = found.extended();
+    *entry = counts_of(&found, &extended);
+    let (flag_room, number_room) = (flags.len(), numbers.len());
+    let (text_room, name_room) = (texts.len(), names.len());
+    if !has_room(
+        &found,
+        &extended,
+        flag_room,
+        number_room,
+        text_room,
+        name_room,
+    ) {
+        return ROOM_TOO_SMALL;
+    }
+    fill(&found, &extended, flags, numbers, texts, names);
+    DONE
+}

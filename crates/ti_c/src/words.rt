@@ -1,0 +1,52 @@
+//! The words of faults for C.
+//!
+//! A call looks through the table of words, and takes no memory.
+
+ghost use Rattle.std.specs.Prelude.{◌≡◌, ◌⊎◌, ℕ, List, map, nat_eq, option_map};
+ghost use Rattle.std.specs.Map.{lookup};
+ghost use Rattle.ti_words.specs.Names.{row_of};
+ghost use Rattle.ti_c.specs.Numbers.{done, not_named};
+ghost use Rattle.ti_c.specs.Words.{IsWord};
+ghost use Rattle.ti_c.specs.inner.WordRows.{word_rows};
+
+use crate::faults::{DONE, NOT_NAMED};
+use crate::names::Bytes;
+use crate::word_table::WORDS;
+
+/// The numbers and words of all faults.
+fn rows() -> &'static [(u32, &'static str)]
+    ensures { map row_of result.now ≡ word_rows }
+{
+    &WORDS
+}
+
+/// The word of the fault with a number.
+fn word_of(number: u32) -> Option<&'static str>
+    ensures { option_map (λ word. word.now) result ≡ lookup (nat_eq number) word_rows }
+{
+    for row in rows() {
+        if number == row.0 {
+            return Some(row.1);
+        }
+    }
+    None
+}
+
+/// Finds the word of the fault with a number: 0 and the word, or 401 where no fault has the number, and the word is as
+/// before.
+#[unsafe(no_mangle)]
+pub extern "C" fn ti_word(number: u32, word: &mut Bytes<'static>) -> u32
+    ensures answer { (result ≡ done) ⊎ (result ≡ not_named) }
+    ensures found { result ≡ done → IsWord number word.new.bytes.now }
+    ensures only { (bytes : List ℕ) → IsWord number bytes
+        → (result ≡ done) × (word.new.bytes.now ≡ bytes) }
+    ensures kept { result ≡ not_named → word.new ≡ word.old }
+{
+    match word_of(number) {
+        Some(found) => {
+            word.bytes = found.as_bytes();
+            DONE
+        }
+        None => NOT_NAMED,
+    }
+}
