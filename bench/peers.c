@@ -1,10 +1,12 @@
-/* The same work done by other libraries, for bench/run.
+/* The same work done by this library from C and by other libraries, for bench/run.
  *
  *     peers WORK TURNS GROUP < LIST
  *
  * reads the list that crates/ti_bench reads, does the work on each item of the group so many times in a row, and prints
  * `GROUP WORK ITEMS NANOSECONDS`, the processor time of all turns. The work `output` prints what `tiparm` makes of each
  * capability, in hex, a line each. Built with -DUNIBILIUM it knows that library's calls too. */
+#include "ti.h"
+
 #include <curses.h>
 #include <stdio.h>
 #include <stdlib.h>
@@ -67,6 +69,16 @@ static size_t run_tiparm(const struct item *item) { return by_tiparm(item) != NU
 
 static size_t run_tparm(const struct item *item) { return by_tparm(item) != NULL; }
 
+static size_t run_ti_expand(const struct item *item) {
+    static ti_vars vars;
+    static unsigned char out[ROOM];
+    ti_parameter parameters[MOST_NUMBERS];
+    ti_run run;
+    for (int k = 0; k < MOST_NUMBERS; k++) parameters[k] = ti_number(item->numbers[k]);
+    return ti_expand((const unsigned char *)item->bytes, item->length, parameters, MOST_NUMBERS, &vars, out, sizeof out, &run)
+           == TI_DONE;
+}
+
 #ifdef UNIBILIUM
 static size_t run_unibi_run(const struct item *item) {
     static char out[ROOM];
@@ -86,6 +98,7 @@ static const struct {
     const char *name;
     size_t (*run)(const struct item *item);
 } works[] = {
+    {"ti_expand", run_ti_expand},
     {"tiparm", run_tiparm},
     {"tparm", run_tparm},
 #ifdef UNIBILIUM

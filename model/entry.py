@@ -1,6 +1,7 @@
 """Compiled entries of term(5): reading with the first check that fails, the canonical bytes, and the listing of `show`.
 
-Written from the manual pages and the list of checks alone, to be compared with the proved program.
+Written from the manual pages, the list of checks and the choices of docs/DECISIONS.md, to be compared with the proved
+program.
 """
 import struct
 from dataclasses import dataclass, field

@@ -1,0 +1,19 @@
+# Completes the words of ti in bash.
+_ti() {
+    local word=${COMP_WORDS[COMP_CWORD]} words
+    COMPREPLY=()
+    if [ "$COMP_CWORD" -eq 1 ]; then
+        words='cap show check expand convert help --help --version'
+    else
+        case ${COMP_WORDS[1]} in
+            cap) words='--hex --help' ;;
+            expand) words='--hex --rate --lines --xon --help' ;;
+            convert) words='--wide --narrow --help' ;;
+            show | check) words='--help' ;;
+            help) words='cap show check expand convert' ;;
+            *) return ;;
+        esac
+    fi
+    mapfile -t COMPREPLY < <(compgen -W "$words" -- "$word")
+}
+complete -F _ti ti

@@ -1,0 +1,16 @@
+# Completes the words of ti in fish.
+complete -c ti -f
+complete -c ti -n __fish_use_subcommand -a cap -d 'Expand standard input as one capability'
+complete -c ti -n __fish_use_subcommand -a show -d 'List the compiled entry on standard input'
+complete -c ti -n __fish_use_subcommand -a check -d 'Analyse each text of the entry on standard input'
+complete -c ti -n __fish_use_subcommand -a expand -d 'Expand and pad one text of the entry on standard input'
+complete -c ti -n __fish_use_subcommand -a convert -d 'Write the entry on standard input in its canonical layout'
+complete -c ti -n __fish_use_subcommand -a help -d 'Print what a command does'
+complete -c ti -n __fish_use_subcommand -l version -d 'Print the version'
+complete -c ti -l help -d 'Print help'
+complete -c ti -n '__fish_seen_subcommand_from cap expand' -l hex -d 'Write lower-case hex and one newline'
+complete -c ti -n '__fish_seen_subcommand_from expand' -l rate -x -d 'Bytes per second of the line'
+complete -c ti -n '__fish_seen_subcommand_from expand' -l lines -x -d 'Lines that the text affects'
+complete -c ti -n '__fish_seen_subcommand_from expand' -l xon -d 'The line has flow control'
+complete -c ti -n '__fish_seen_subcommand_from convert' -l wide -d 'Numbers of 32 bits'
+complete -c ti -n '__fish_seen_subcommand_from convert' -l narrow -d 'Numbers of 16 bits'
