@@ -17,7 +17,7 @@
 #include <unibilium.h>
 #endif
 
-enum { MOST_ITEMS = 4096, LONGEST_LINE = 1 << 17, MOST_NUMBERS = 9, ROOM = 4096 };
+enum { MOST_ITEMS = 4096, LONGEST_LINE = 1 << 17, MOST_NUMBERS = 9, ROOM = 4096, MOST_CAPABILITIES = 16384 };
 
 struct item {
     char *bytes;
@@ -79,6 +79,17 @@ static size_t run_ti_expand(const struct item *item) {
            == TI_DONE;
 }
 
+static size_t run_ti_read(const struct item *item) {
+    static int8_t flags[MOST_CAPABILITIES];
+    static int32_t numbers[MOST_CAPABILITIES];
+    static ti_text_item texts[MOST_CAPABILITIES];
+    static ti_bytes names[MOST_CAPABILITIES];
+    ti_entry entry;
+    return ti_read((const unsigned char *)item->bytes, item->length, flags, MOST_CAPABILITIES, numbers, MOST_CAPABILITIES, texts,
+                   MOST_CAPABILITIES, names, MOST_CAPABILITIES, &entry)
+           == TI_DONE;
+}
+
 #ifdef UNIBILIUM
 static size_t run_unibi_run(const struct item *item) {
     static char out[ROOM];
@@ -99,6 +110,7 @@ static const struct {
     size_t (*run)(const struct item *item);
 } works[] = {
     {"ti_expand", run_ti_expand},
+    {"ti_read", run_ti_read},
     {"tiparm", run_tiparm},
     {"tparm", run_tparm},
 #ifdef UNIBILIUM

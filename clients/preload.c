@@ -16,9 +16,14 @@ char *_nc_tiparm(int expected, const char *capability, ...);
 char *tgoto(const char *capability, int column, int row);
 int tputs(const char *text, int lines, int (*put)(int));
 
+/* Bytes of the heap that grow as they have to. */
+typedef struct {
+    unsigned char *bytes;
+    size_t room;
+} buffer;
+
 static ti_vars variables;
-static unsigned char *output;
-static size_t room;
+static buffer output, padded;
 static unsigned long calls;
 
 __attribute__((destructor)) static void tell_calls(void) {
@@ -60,31 +65,36 @@ static unsigned texts_in(const char *capability) {
     return texts;
 }
 
-static int make_room(size_t bytes) {
-    unsigned char *more = (unsigned char *)realloc(output, bytes);
+static int make_room(buffer *buffer, size_t room) {
+    unsigned char *more = room <= buffer->room ? buffer->bytes : (unsigned char *)realloc(buffer->bytes, room);
     if (more == NULL)
         return 0;
-    output = more;
-    room = bytes;
+    if (buffer->room < room)
+        buffer->room = room;
+    buffer->bytes = more;
     return 1;
 }
 
+static uint32_t expand_into(const char *capability, const ti_parameter *parameters, ti_run *run) {
+    return ti_expand((const unsigned char *)capability, strlen(capability), parameters, PARAMETERS, &variables, output.bytes,
+                     output.room - 1, run);
+}
+
 static char *expand(const char *capability, const ti_parameter *parameters) {
-    size_t length = strlen(capability);
     ti_run run;
     uint32_t fault;
     calls++;
     /* ncurses starts the variables a to z anew in each call. */
     memset(variables.values, 0, 26 * sizeof variables.values[0]);
-    if (room == 0 && !make_room(FEW_BYTES))
+    if (!make_room(&output, FEW_BYTES))
         return NULL;
-    fault = ti_expand((const unsigned char *)capability, length, parameters, PARAMETERS, &variables, output, room - 1, &run);
-    if (fault == TI_OUT_TOO_SMALL && make_room(run.place + 1))
-        fault = ti_expand((const unsigned char *)capability, length, parameters, PARAMETERS, &variables, output, room - 1, &run);
+    fault = expand_into(capability, parameters, &run);
+    if (fault == TI_OUT_TOO_SMALL && make_room(&output, run.place + 1))
+        fault = expand_into(capability, parameters, &run);
     if (fault != TI_DONE)
         return NULL;
-    output[run.written] = 0;
-    return (char *)output;
+    output.bytes[run.written] = 0;
+    return (char *)output.bytes;
 }
 
 /* The first so many parameters of a list; a number is a long, as for tparm, or an int. */
@@ -152,4 +162,19 @@ char *tgoto(const char *capability, int column, int row) {
     parameters[0] = ti_number(row);
     parameters[1] = ti_number(column);
     return expand(capability, parameters);
+}
+
+/* At the rate 0 padding vanishes: what time a terminal needs is left to its flow control. */
+int tputs(const char *text, int lines, int (*put)(int)) {
+    ti_padding padding = {0, 1, 0, 0};
+    size_t length;
+    (void)lines;
+    calls++;
+    if (text == NULL || !make_room(&padded, strlen(text) + 1))
+        return -1;
+    if (ti_pad((const unsigned char *)text, strlen(text), &padding, padded.bytes, padded.room, &length) != TI_DONE)
+        return -1;
+    for (size_t i = 0; i < length; i++)
+        put(padded.bytes[i]);
+    return 0;
 }
