@@ -1,6 +1,8 @@
-//! Laws of the table of names, each proved and with nothing to run.
+//! Laws of the tables of names, each proved and with nothing to run.
 
+ghost use Rattle.ti_words.specs.AllNames.{CommonAnswersAlike, HasOneNameIn, HasOnePlaceIn, NameAndPlaceAgreeIn, TablesAgree};
 ghost use Rattle.ti_words.specs.Names.{HasOneName, HasOnePlace, NameAndPlaceAgree};
+ghost use Rattle.ti_words.specs.declared.all_names.NameTable.TheVariants as tables;
 
 /// A kind and index have at most one name, and a name stands once in the whole table, under one kind; so the calls on
 /// names are inverse to each other.
@@ -8,4 +10,19 @@ pub fn names_stand_once()
     ensures one_name { HasOneName }
     ensures one_place { HasOnePlace }
     ensures inverse { NameAndPlaceAgree }
+{}
+
+/// The same of the table of all names: a kind and index have at most one name there, a name stands once, and the calls on
+/// that table are inverse to each other.
+pub fn all_names_stand_once()
+    ensures one_name { HasOneNameIn tables.All }
+    ensures one_place { HasOnePlaceIn tables.All }
+    ensures inverse { NameAndPlaceAgreeIn tables.All }
+{}
+
+/// The table of common names is the one of the calls that ask no table, and a common name stands for the same kind and
+/// index among all names.
+pub fn tables_agree()
+    ensures common { CommonAnswersAlike }
+    ensures all { TablesAgree }
 {}

@@ -23,7 +23,7 @@ fn rows_of(kind: Kind) -> &'static [(usize, &'static str)]
 }
 
 /// The name of the capability of a kind at an index.
-fn name_at(kind: Kind, index: usize) -> Option<&'static str>
+pub(crate) fn name_at(kind: Kind, index: usize) -> Option<&'static str>
     ensures { option_map (λ name. name.now) result ≡ name_of kind index }
 {
     for row in rows_of(kind) {
@@ -35,7 +35,7 @@ fn name_at(kind: Kind, index: usize) -> Option<&'static str>
 }
 
 /// The place of the capability of a kind that has a name.
-fn place_in(kind: Kind, name: &str) -> Option<(Kind, usize)>
+pub(crate) fn place_in(kind: Kind, name: &str) -> Option<(Kind, usize)>
     ensures { result ≡ lookup (bytes_eq name.now) (map (named_place kind) (rows kind)) }
 {
     for row in rows_of(kind) {

@@ -1,40 +1,42 @@
 use Rattle.std.proofs.Common.{◌∙◌, sym}
-use Rattle.ti_words.proofs.NamesLemmas.{in_flags, in_numbers, in_texts, place_found_by, place_only_by}
+use Rattle.ti_words.specs.Names.{rows}
+use Rattle.ti_words.proofs.NamesLemmas.{names_differ}
+use Rattle.ti_words.proofs.TableLemmas.{in_flags, in_numbers, in_texts, place_found_by, place_only_by}
 use Rattle.ti_words.proofs.names.find.Goals as goal
 
 -- among the flags
 
 pub returns-in-Some-clause-value : goal.returns-in-Some-clause-value
-returns-in-Some-clause-value c = sym (in_flags c.args.name.now c.in-Some.place (sym c.place_in.ensures ∙ c.in-Some.is))
+returns-in-Some-clause-value c = sym (in_flags rows c.args.name.now c.in-Some.place (sym c.place_in.ensures ∙ c.in-Some.is))
 
 pub returns-in-Some-clause-found : goal.returns-in-Some-clause-found
-returns-in-Some-clause-found c = place_found_by c.args.name.now _ (returns-in-Some-clause-value c)
+returns-in-Some-clause-found c = place_found_by rows c.args.name.now _ (returns-in-Some-clause-value c)
 
 pub returns-in-Some-clause-only : goal.returns-in-Some-clause-only
-returns-in-Some-clause-only c = place_only_by c.args.name.now _ (returns-in-Some-clause-value c)
+returns-in-Some-clause-only c = place_only_by rows names_differ c.args.name.now _ (returns-in-Some-clause-value c)
 
 -- among the numbers
 
 pub returns-in-Some-place_in-clause-value : goal.returns-in-Some-place_in-clause-value
 returns-in-Some-place_in-clause-value c =
-    sym (in_numbers c.args.name.now c.in-Some-place_in.place (sym c.place_in.ensures ∙ c.in_default.is)
+    sym (in_numbers rows c.args.name.now c.in-Some-place_in.place (sym c.place_in.ensures ∙ c.in_default.is)
     (sym c.place_in-2.ensures ∙ c.in-Some-place_in.is))
 
 pub returns-in-Some-place_in-clause-found : goal.returns-in-Some-place_in-clause-found
-returns-in-Some-place_in-clause-found c = place_found_by c.args.name.now _ (returns-in-Some-place_in-clause-value c)
+returns-in-Some-place_in-clause-found c = place_found_by rows c.args.name.now _ (returns-in-Some-place_in-clause-value c)
 
 pub returns-in-Some-place_in-clause-only : goal.returns-in-Some-place_in-clause-only
-returns-in-Some-place_in-clause-only c = place_only_by c.args.name.now _ (returns-in-Some-place_in-clause-value c)
+returns-in-Some-place_in-clause-only c = place_only_by rows names_differ c.args.name.now _ (returns-in-Some-place_in-clause-value c)
 
 -- among the texts, or nowhere
 
 pub returns-clause-value : goal.returns-clause-value
 returns-clause-value c =
     c.place_in-3.ensures
-    ∙ in_texts c.args.name.now (sym c.place_in.ensures ∙ c.in_default.is) (sym c.place_in-2.ensures ∙ c.in_default-place_in.is)
+    ∙ in_texts rows c.args.name.now (sym c.place_in.ensures ∙ c.in_default.is) (sym c.place_in-2.ensures ∙ c.in_default-place_in.is)
 
 pub returns-clause-found : goal.returns-clause-found
-returns-clause-found c = place_found_by c.args.name.now _ (returns-clause-value c)
+returns-clause-found c = place_found_by rows c.args.name.now _ (returns-clause-value c)
 
 pub returns-clause-only : goal.returns-clause-only
-returns-clause-only c = place_only_by c.args.name.now _ (returns-clause-value c)
+returns-clause-only c = place_only_by rows names_differ c.args.name.now _ (returns-clause-value c)

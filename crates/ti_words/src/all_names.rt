@@ -1,0 +1,118 @@
+//! The names of capabilities by the table that is asked: the common ones, or all of `term.h`.
+//!
+//! The whole table has the name of an index at once; for a name a call looks through the table that it asks, of 114 or
+//! 497 names. None takes memory.
+
+ghost use Rattle.std.specs.Prelude.{◌≡◌, Some, IfSome, map, option_map};
+ghost use Rattle.std.specs.Map.{lookup};
+ghost use Rattle.std.specs.Str.{bytes_eq};
+ghost use Rattle.ti_words.specs.declared.Kind.TheVariants as kinds;
+ghost use Rattle.ti_words.specs.declared.all_names.NameTable.TheVariants as tables;
+ghost use Rattle.ti_words.specs.AllNames.{IsNamedIn, IsOnlyNameIn, all_names, all_rows, name_in, place_in, rows_in};
+ghost use Rattle.ti_words.specs.Names.{Place, named_place};
+
+use crate::all_table::{ALL_FLAG_NAMES, ALL_NUMBER_NAMES, ALL_TEXT_NAMES};
+use crate::{Kind, names};
+
+/// A table of names of capabilities.
+#[derive(Clone, Copy, Debug, PartialEq, Eq)]
+pub enum NameTable {
+    /// The 114 names that `flag_name`, `number_name`, `text_name` and `find` know.
+    Common,
+    /// The names of all 44 flags, 39 numbers and 414 texts of the header `term.h` of ncurses 6.4.
+    All,
+}
+
+impl NameTable {
+    /// The name of the flag at an index of an entry, such as `bw` at 0, where the table has one.
+    pub fn flag_name(self, index: usize) -> Option<&'static str>
+        ensures value { option_map (λ name. name.now) result ≡ name_in self kinds.Flag index }
+        ensures found { IfSome result (λ name. IsNamedIn self kinds.Flag index name.now) }
+        ensures only { IsOnlyNameIn self kinds.Flag index (option_map (λ name. name.now) result) }
+    {
+        self.name_at(Kind::Flag, index)
+    }
+
+    /// The name of the number at an index of an entry, such as `cols` at 0, where the table has one.
+    pub fn number_name(self, index: usize) -> Option<&'static str>
+        ensures value { option_map (λ name. name.now) result ≡ name_in self kinds.Number index }
+        ensures found { IfSome result (λ name. IsNamedIn self kinds.Number index name.now) }
+        ensures only { IsOnlyNameIn self kinds.Number index (option_map (λ name. name.now) result) }
+    {
+        self.name_at(Kind::Number, index)
+    }
+
+    /// The name of the text at an index of an entry, such as `cup` at 10, where the table has one.
+    pub fn text_name(self, index: usize) -> Option<&'static str>
+        ensures value { option_map (λ name. name.now) result ≡ name_in self kinds.Text index }
+        ensures found { IfSome result (λ name. IsNamedIn self kinds.Text index name.now) }
+        ensures only { IsOnlyNameIn self kinds.Text index (option_map (λ name. name.now) result) }
+    {
+        self.name_at(Kind::Text, index)
+    }
+
+    /// The kind and index of the capability that has a name, where the table has it: `cup` is the text at 10.
+    pub fn find(self, name: &str) -> Option<(Kind, usize)>
+        ensures value { result ≡ place_in self name.now }
+        ensures found { IfSome result (λ place. IsNamedIn self place.0 place.1 name.now) }
+        ensures only { (place : Place) → IsNamedIn self place.0 place.1 name.now → result ≡ Some place }
+    {
+        if let Some(place) = self.place_of(Kind::Flag, name) {
+            return Some(place);
+        }
+        if let Some(place) = self.place_of(Kind::Number, name) {
+            return Some(place);
+        }
+        self.place_of(Kind::Text, name)
+    }
+
+    /// The name of the capability of a kind at an index.
+    fn name_at(self, kind: Kind, index: usize) -> Option<&'static str>
+        ensures { option_map (λ name. name.now) result ≡ name_in self kind index }
+    {
+        match self {
+            NameTable::Common => names::name_at(kind, index),
+            NameTable::All => name_among_all(kind, index),
+        }
+    }
+
+    /// The place of the capability of a kind that has a name.
+    fn place_of(self, kind: Kind, name: &str) -> Option<(Kind, usize)>
+        ensures { result ≡ lookup (bytes_eq name.now) (map (named_place kind) (rows_in self kind)) }
+    {
+        match self {
+            NameTable::Common => names::place_in(kind, name),
+            NameTable::All => place_among_all(kind, name),
+        }
+    }
+}
+
+/// The whole table's names of a kind.
+fn names_of(kind: Kind) -> &'static [&'static str]
+    ensures { map (λ name. name.now) result.now ≡ all_names kind }
+{
+    match kind {
+        Kind::Flag => &ALL_FLAG_NAMES,
+        Kind::Number => &ALL_NUMBER_NAMES,
+        Kind::Text => &ALL_TEXT_NAMES,
+    }
+}
+
+/// The name of the capability of a kind at an index in the whole table.
+fn name_among_all(kind: Kind, index: usize) -> Option<&'static str>
+    ensures { option_map (λ name. name.now) result ≡ name_in tables.All kind index }
+{
+    names_of(kind).get(index).copied()
+}
+
+/// The place of the capability of a kind that has a name in the whole table.
+fn place_among_all(kind: Kind, name: &str) -> Option<(Kind, usize)>
+    ensures { result ≡ lookup (bytes_eq name.now) (map (named_place kind) (all_rows kind)) }
+{
+    for (index, known) in names_of(kind).iter().enumerate() {
+        if name == *known {
+            return Some((kind, index));
+        }
+    }
+    None
+}
