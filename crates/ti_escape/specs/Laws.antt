@@ -1,0 +1,37 @@
+-- What holds of the notation of every text.
+use Rattle.std.specs.Prelude.{◌≡◌, ◌≢◌, ◌-◌, ◌&&◌, ℕ, Bool, true, List, codes, length, nat_le, nat_lt, slice_index}
+use Rattle.std.specs.List.{list_all}
+use Rattle.ti_escape.specs.Notation.{notation}
+use Rattle.ti_escape.specs.Reading.{reading}
+
+abbrev pub is_byte : ℕ → Bool
+is_byte number = nat_lt number 256
+
+abbrev pub AreBytes : List ℕ → Type 0
+AreBytes text = list_all is_byte text ≡ true
+
+-- the notation of a text is read as the text
+abbrev pub IsReadBack : Type 0
+IsReadBack = (text : List ℕ) → AreBytes text → reading (notation text) ≡ text
+
+-- two texts that look the same are the same
+abbrev pub LooksLikeNoOther : Type 0
+LooksLikeNoOther = (a b : List ℕ) → AreBytes a → AreBytes b → notation a ≡ notation b → a ≡ b
+
+-- no text looks like what a listing writes in place of one
+abbrev pub LooksLikeNoWord : Type 0
+LooksLikeNoWord = (text : List ℕ) → AreBytes text
+    → (notation text ≢ codes "-") × (notation text ≢ codes "cancelled")
+
+-- the characters from the blank to `~`
+abbrev pub is_printable : ℕ → Bool
+is_printable char = nat_le 32 char && nat_lt char 127
+
+-- each character of a notation can be printed
+abbrev pub IsPrintable : Type 0
+IsPrintable = (text : List ℕ) → AreBytes text → list_all is_printable (notation text) ≡ true
+
+-- neither the first nor the last character of a notation is a blank
+abbrev pub HasNoBlankEnd : Type 0
+HasNoBlankEnd = (text : List ℕ) → (slice_index (notation text) 0 ≢ 32)
+    × (slice_index (notation text) (length (notation text) - 1) ≢ 32)

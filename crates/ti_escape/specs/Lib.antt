@@ -1,0 +1,5 @@
+pub mod Notation
+pub mod Reading
+pub mod Forms
+pub mod Laws
+pub mod inner

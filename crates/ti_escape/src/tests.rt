@@ -1,0 +1,115 @@
+//! Worked rows of the notation, from terminfo(5), `infocmp -1` and by hand.
+
+use super::*;
+use std::alloc::{AllocError, Allocator};
+use std::process::Abort;
+use std::test::Fail;
+
+/// A text of entries or of the rules, and its notation.
+const ROWS: [(&[u8], &[u8]); 20] = [
+    (b"", b""),
+    (b"\x1b[%i%p1%d;%p2%dH", b"\\E[%i%p1%d;%p2%dH"),
+    (b"\x07", b"^G"),
+    (b"\x7f", b"^?"),
+    (b"++,,--..00``aaff", b"++\\,\\,--..00``aaff"),
+    (
+        b"+>,<-^.v0\xdb`+a\xb1f\xf8",
+        b"+>\\,<-\\^.v0\\333`+a\\261f\\370",
+    ),
+    (b"\x1b[m\x0f$<2>", b"\\E[m^O$<2>"),
+    (b"\x1b[?5h$<200/>\x1b[?5l", b"\\E[?5h$<200/>\\E[?5l"),
+    (b"\x1bc\x1b]R", b"\\Ec\\E]R"),
+    (b"\x1b\t", b"\\E^I"),
+    (b"\\^,", b"\\\\\\^\\,"),
+    (b" ", b"\\s"),
+    (b"  ", b"\\s\\s"),
+    (b" a b ", b"\\sa b\\s"),
+    (b"\0\x01\x1f !", b"\\000^A^_ !"),
+    (b"~\x7f\x80\xff", b"~^?\\200\\377"),
+    (b"-", b"\\055"),
+    (b"--", b"--"),
+    (b"cancelled", b"\\143ancelled"),
+    (b"cancelled ", b"cancelled\\s"),
+];
+
+fn assert_in_slice(rt: &impl Abort, text: &[u8], notation: &[u8]) {
+    let mut room = [b'~'; 40];
+    assert_eq!(rt; notation_len(text), notation.len() as u128);
+    assert_eq!(rt; escape_into(text, &mut room), Some(notation.len()));
+    assert!(rt; room.starts_with(notation));
+    assert!(rt; room.iter().skip(notation.len()).all(|byte| *byte == b'~'));
+}
+
+#[test]
+fn worked_rows(rt: HostRuntime) -> Result<(), Fail> {
+    for (text, notation) in ROWS {
+        assert_in_slice(&rt, text, notation);
+        let mut made = Vec::from_slice(rt.alloc(), b"= ")?;
+        push_notation(&mut made, text)?;
+        assert!(rt; made.as_slice().strip_prefix(b"= ") == Some(notation));
+    }
+    Ok(())
+}
+
+#[test]
+fn a_slice_needs_the_whole_notation(rt: HostRuntime) {
+    let mut room = [b'~'; 4];
+    assert_eq!(rt; escape_into(b"\x1bH ", &mut room), None);
+    assert_eq!(rt; room.as_slice(), b"~~~~".as_slice());
+    assert_eq!(rt; escape_into(b"\x1bH,", &mut room), None);
+    assert_eq!(rt; escape_into(b"\x1b ", &mut room), Some(4));
+    assert_eq!(rt; room.as_slice(), b"\\E\\s".as_slice());
+}
+
+/// A line for which memory is taken once.
+fn line_of<A: Allocator>(alloc: A, text: &[u8]) -> Result<Vec<u8, A>, AllocError> {
+    let Ok(len) = usize::try_from(notation_len(text) + 1) else {
+        return Err(AllocError);
+    };
+    let mut line = Vec::with_capacity(alloc, len)?;
+    push_notation(&mut line, text)?;
+    line.push(b'\n')?;
+    Ok(line)
+}
+
+#[test]
+fn room_that_is_there_is_used(rt: HostRuntime) -> Result<(), Fail> {
+    let line = line_of(rt.alloc(), b"\x1b[?1;2c\0\x80 ")?;
+    assert_eq!(rt; line.as_slice(), b"\\E[?1;2c\\000\\200\\s\n".as_slice());
+    assert_eq!(rt; line.capacity(), line.len());
+    Ok(())
+}
+
+/// A text, and how a listing shows it in hex and in the notation.
+const SHOWN: [(&[u8], &[u8], &[u8]); 4] = [
+    (b"", b"-", b"-"),
+    (b"-", b"2d", b"\\055"),
+    (b"\x1b[H", b"1b5b48", b"\\E[H"),
+    (b"\0 \xff", b"0020ff", b"\\000 \\377"),
+];
+
+#[test]
+fn shown_rows(rt: HostRuntime) -> Result<(), Fail> {
+    for (text, hex, notation) in SHOWN {
+        for (form, shown) in [(Form::Hex, hex), (Form::Notation, notation)] {
+            let mut made = Vec::from_slice(rt.alloc(), b"= ")?;
+            push_shown(&mut made, form, text)?;
+            assert!(rt; made.as_slice().strip_prefix(b"= ") == Some(shown));
+        }
+    }
+    Ok(())
+}
+
+#[test]
+fn no_bytes_in_a_form_are_no_bytes(rt: HostRuntime) -> Result<(), Fail> {
+    let mut made = Vec::from_slice(rt.alloc(), b"= ")?;
+    push_formed(&mut made, Form::Hex, b"")?;
+    push_formed(&mut made, Form::Notation, b"")?;
+    assert_eq!(rt; made.as_slice(), b"= ".as_slice());
+    assert_eq!(rt; formed_len(Form::Hex, b"^"), 2);
+    assert_eq!(rt; formed_len(Form::Notation, b"^\0"), 6);
+    push_formed(&mut made, Form::Hex, b"^")?;
+    push_formed(&mut made, Form::Notation, b"^")?;
+    assert_eq!(rt; made.as_slice(), b"= 5e\\^".as_slice());
+    Ok(())
+}
