@@ -488,14 +488,18 @@ static void not_named(uint32_t kind, size_t index, const char *words) {
 static void test_names(void) {
     named(0, 0, "bw");
     named(0, 28, "bce");
+    named(0, 43, "OTxr");
     named(1, 0, "cols");
     named(1, 15, "ncv");
+    named(1, 38, "OTkn");
     named(2, 0, "cbt");
+    named(2, 9, "cmdch");
     named(2, 10, "cup");
     named(2, 360, "setab");
-    not_named(0, 29, "a flag with a high index");
-    not_named(1, 6, "a number without a name");
-    not_named(2, 9, "a text without a name");
+    named(2, 413, "box1");
+    not_named(0, 44, "a flag after the last");
+    not_named(1, 39, "a number after the last");
+    not_named(2, 414, "a text after the last");
     not_named(2, SIZE_MAX, "the greatest index");
     not_named(3, 0, "a kind that is none");
     not_named(UINT32_MAX, 0, "the greatest kind");
@@ -526,11 +530,15 @@ static void not_found(const char *name, size_t length, const char *words) {
 static void test_finding(void) {
     found("bw", 0, 0);
     found("bce", 0, 28);
+    found("OTxr", 0, 43);
     found("cols", 1, 0);
     found("ncv", 1, 15);
+    found("OTkn", 1, 38);
     found("cbt", 2, 0);
+    found("cmdch", 2, 9);
     found("cup", 2, 10);
     found("setab", 2, 360);
+    found("box1", 2, 413);
     not_found("zz", 2, "a name that no capability has");
     not_found("cu", 2, "the front of a name");
     not_found("cup", 4, "a name with its NUL");

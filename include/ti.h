@@ -163,7 +163,13 @@ uint32_t ti_read(const unsigned char *bytes, size_t length, int8_t *flags, size_
 
 /* Checks a capability: TI_DONE with depth, nest and bound, or 101 to 113 with the place, and no other field is written.
  * The bound is for parameters whose texts have at most longest_text bytes: 0 where all are numbers. So it is the room
- * that ti_expand asks for. */
+ * that ti_expand asks for.
+ *
+ *     ti_limits limits;
+ *     if (ti_check(cup, cup_length, 0, &limits) == TI_DONE)
+ *         out = malloc(limits.bound);
+ *     else
+ *         fprintf(stderr, "fault at byte %zu\n", limits.place); */
 uint32_t ti_check(const unsigned char *capability, size_t length, uint16_t longest_text, ti_limits *limits);
 
 /* Expands a capability: TI_DONE with the counts, or 101 to 113, or 201 to 203, with the place. After a fault the
@@ -178,15 +184,21 @@ uint32_t ti_expand(const unsigned char *capability, size_t length, const ti_para
  * TI_DONE: the room starts with the padded text, and its length is told. What lies after it is as it was.
  * TI_BAD_PADDING: the rate or the lines are above their limits. No length is told, and the room is as it was.
  * TI_TOO_MUCH, TI_OUT_TOO_SMALL: the length that the padded text would have is told, or SIZE_MAX where it is greater
- * still. So the call may first be made with no room at all. The room is as it was. */
+ * still. So the call may first be made with no room at all. The room is as it was.
+ *
+ *     ti_padding padding = {960, 1, 0, 0};
+ *     size_t padded;
+ *     if (ti_pad(out, run.written, &padding, more, sizeof more, &padded) == TI_DONE)
+ *         fwrite(more, 1, padded, stdout); */
 uint32_t ti_pad(const unsigned char *text, size_t length, const ti_padding *padding, unsigned char *out, size_t room,
                 size_t *padded);
 
-/* Finds the name of a flag (kind 0), a number (1) or a text (2) by its index in an entry: TI_DONE with the name, which
- * lasts as long as the program, or TI_NOT_NAMED, and the name is as it was. ti_name(2, 10, &name) is "cup". */
+/* Finds the name of a flag (kind 0), a number (1) or a text (2) by its index in an entry, among all names of the header
+ * term.h of ncurses 6.4, which are 44, 39 and 414: TI_DONE with the name, which lasts as long as the program, or
+ * TI_NOT_NAMED, and the name is as it was. ti_name(2, 10, &name) is "cup". */
 uint32_t ti_name(uint32_t kind, size_t index, ti_bytes *name);
 
-/* Finds the kind and the index of the capability with a name: TI_DONE with both, as ti_name takes them, or
+/* Finds the kind and the index of the capability with a name among these: TI_DONE with both, as ti_name takes them, or
  * TI_NOT_NAMED, and both are as they were. For "cup" they are 2 and 10. The names of extended capabilities are the
  * entry's own: ti_read tells them. */
 uint32_t ti_find(const unsigned char *name, size_t length, uint32_t *kind, size_t *index);
@@ -195,7 +207,7 @@ uint32_t ti_find(const unsigned char *name, size_t length, uint32_t *kind, size_
  * TI_NOT_NAMED, and the word is as it was. The word of TI_STRAY_THEN is "StrayThen". */
 uint32_t ti_word(uint32_t number, ti_bytes *word);
 
-/* The version of the library: 65536 times its first number, 256 times its second, and its third. */
+/* The version of the library: 65536 times its first number, 256 times its second, and its third. For 0.1.0 it is 256. */
 uint32_t ti_version(void);
 
 static inline ti_parameter ti_number(int32_t number) {

@@ -6,7 +6,10 @@ use Rattle.std.specs.Str.{IsAscii, IsUtf8, bytes_eq}
 use Rattle.std.proofs.lemmas.Bool.{and_parts, ltb-true}
 use Rattle.std.proofs.lemmas.Slice.Eq.{bytes_eq-Decides}
 use Rattle.std.proofs.lemmas.Str.{IsUtf8-from_ascii}
-use Rattle.ti_words.specs.Names.{Place, flag_rows, name_places, number_rows, place_of, text_rows}
+use Rattle.ti_words.specs.Names.{Place}
+use Rattle.ti_words.specs.declared.all_names.NameTable.TheVariants.{All}
+use Rattle.ti_words.specs.AllNames.{all_flags, all_numbers, all_texts, name_places_in}
+use Rattle.ti_c.specs.Names.{place_for}
 
 -- each byte is below 128
 abbrev is_ascii : List ℕ → Bool
@@ -21,8 +24,8 @@ ascii (byte ∷ bytes) e (suc i) = ascii bytes (and_parts _ _ e).1 i
 abbrev are_ascii : List (List ℕ × Place) → Bool
 are_ascii rows = list_all (λ (row : List ℕ × Place). is_ascii row.0) rows
 
-names_are_ascii : are_ascii name_places ≡ true
-unfolding flag_rows number_rows text_rows
+names_are_ascii : are_ascii (name_places_in All) ≡ true
+unfolding all_flags all_numbers all_texts
 names_are_ascii = refl
 
 ascii_by : (name key : List ℕ) (value place : Place) (rest : List (List ℕ × Place)) (b : Bool) → bytes_eq name key ≡ b → is_ascii key ≡ true
@@ -38,9 +41,9 @@ found_ascii name (row ∷ rows) place all e =
     let (first, rest) = and_parts _ _ all in
     ascii_by name row.0 row.1 place rows (bytes_eq name row.0) refl first (found_ascii name rows place rest) e
 
-none_by : (name : List ℕ) (o : Option Place) → place_of name ≡ o → ¬ (IsUtf8 name) → o ≡ None
+none_by : (name : List ℕ) (o : Option Place) → place_for name ≡ o → ¬ (IsUtf8 name) → o ≡ None
 none_by name None e not_utf8 = refl
-none_by name (Some place) e not_utf8 = absurd (not_utf8 (IsUtf8-from_ascii name (ascii name (found_ascii name name_places place names_are_ascii e))))
+none_by name (Some place) e not_utf8 = absurd (not_utf8 (IsUtf8-from_ascii name (ascii name (found_ascii name (name_places_in All) place names_are_ascii e))))
 
-pub no_text : (name : List ℕ) → ¬ (IsUtf8 name) → place_of name ≡ None
-no_text name not_utf8 = none_by name (place_of name) refl not_utf8
+pub no_text : (name : List ℕ) → ¬ (IsUtf8 name) → place_for name ≡ None
+no_text name not_utf8 = none_by name (place_for name) refl not_utf8

@@ -1,12 +1,11 @@
 //! Finding a capability by its name for C.
 
 ghost use Rattle.std.specs.Prelude.{◌≡◌, ◌⊎◌, Some, None};
-ghost use Rattle.ti_words.specs.Names.{place_of as the_place_of};
 ghost use Rattle.ti_c.specs.Numbers.{done, not_named};
-ghost use Rattle.ti_c.specs.Names.{kind_at, name_under};
+ghost use Rattle.ti_c.specs.Names.{kind_at, name_under, place_for};
 
 use crate::faults::{DONE, NOT_NAMED};
-use ti_words::{Kind, find};
+use ti_words::{Kind, NameTable};
 
 /// The number of a kind.
 fn kind_number(kind: Kind) -> u32
@@ -19,12 +18,12 @@ fn kind_number(kind: Kind) -> u32
     }
 }
 
-/// The kind and index of the capability with a name. Bytes that are no text are no name.
+/// The kind and index of the capability with a name, among all names. Bytes that are no text are no name.
 fn place_of(name: &[u8]) -> Option<(Kind, usize)>
-    ensures { result ≡ the_place_of name.now }
+    ensures { result ≡ place_for name.now }
 {
     match str::from_utf8(name) {
-        Ok(name) => find(name),
+        Ok(name) => NameTable::All.find(name),
         Err(_) => None,
     }
 }
@@ -34,7 +33,7 @@ fn place_of(name: &[u8]) -> Option<(Kind, usize)>
 pub extern "C" fn ti_find(name: &[u8], kind: &mut u32, index: &mut usize) -> u32
     ensures answer { (result ≡ done) ⊎ (result ≡ not_named) }
     ensures found { result ≡ done → name_under (kind_at kind.new) index.new ≡ Some name.now }
-    ensures none { result ≡ not_named → the_place_of name.now ≡ None }
+    ensures none { result ≡ not_named → place_for name.now ≡ None }
     ensures kept_kind { result ≡ not_named → kind.new ≡ kind.old }
     ensures kept_index { result ≡ not_named → index.new ≡ index.old }
 {

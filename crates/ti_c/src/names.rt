@@ -5,7 +5,7 @@ ghost use Rattle.ti_c.specs.Numbers.{done, not_named};
 ghost use Rattle.ti_c.specs.Names.{kind_at, name_under};
 
 use crate::faults::{DONE, NOT_NAMED};
-use ti_words::{flag_name, number_name, text_name};
+use ti_words::NameTable;
 
 /// Bytes that lie in something of the caller's, or in the library's own tables.
 #[repr(C)]
@@ -14,14 +14,14 @@ pub struct Bytes<'a> {
     pub bytes: &'a [u8],
 }
 
-/// The name of the capability at an index, of the kind with this number.
+/// The name of the capability at an index, of the kind with this number, among all names.
 fn name_of(kind: u32, index: usize) -> Option<&'static str>
     ensures { option_map (λ name. name.now) result ≡ name_under (kind_at kind) index }
 {
     match kind {
-        0 => flag_name(index),
-        1 => number_name(index),
-        2 => text_name(index),
+        0 => NameTable::All.flag_name(index),
+        1 => NameTable::All.number_name(index),
+        2 => NameTable::All.text_name(index),
         _ => None,
     }
 }
