@@ -11,12 +11,14 @@ pub mod HeightLemmas
 pub mod IsExpandFaultLemmas
 pub mod OctalPrefixLemmas
 pub mod OnePassLemmas
+pub mod PausedLemmas
 pub mod RestLemmas
 pub mod RoomLemmas
 pub mod SignificantLemmas
 pub mod SoundLemmas
 pub mod StackInLemmas
 pub mod StackHeightLemmas
+pub mod StepsLemmas
 pub mod TakenIsPathLemmas
 pub mod UnderwayLemmas
 pub mod WrittenLemmas

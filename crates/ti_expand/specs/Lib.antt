@@ -4,6 +4,7 @@ pub mod Effect
 pub mod Meaning
 pub mod Mode
 pub mod Flat
+pub mod Steps
 pub mod StackHeight
 pub mod Sound
 pub mod Expands

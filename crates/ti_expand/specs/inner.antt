@@ -1,5 +1,6 @@
 -- What private clauses alone cite.
 pub mod Underway
+pub mod Held
 pub mod Decimal
 pub mod Machine
 pub mod Running

@@ -1,6 +1,7 @@
 //! The laws of the flat pass, each the contract of a function that does nothing.
 
 ghost use Rattle.ti_expand.specs.Flat.{OnePassFollows, CountsStayLow, TakenIsPath};
+ghost use Rattle.ti_expand.specs.Steps.{StepsAreThePass};
 ghost use Rattle.ti_expand.specs.StackHeight.{TokenHeightIsStack, PathHeightIsStack, TakenPathIsMeaning};
 
 /// One flat pass whose control is a `Mode` alone, moved by [`crate::Mode::next`] at each token, ends in the state that the
@@ -22,4 +23,10 @@ pub fn stack_height()
     ensures token { TokenHeightIsStack }
     ensures path { PathHeightIsStack }
     ensures meaning { TakenPathIsMeaning }
+{}
+
+/// The pass taken a token at a time is that pass: its steps meet each token of the tree once and in order, those that ran
+/// are the path that the tests choose, and the last of them leaves the state that the tree means.
+pub fn steps_are_the_pass()
+    ensures { StepsAreThePass }
 {}

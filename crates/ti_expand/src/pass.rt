@@ -27,7 +27,7 @@ use ti_cap::{Tape, Token};
 
 /// Meets a token in `Run`: returns the mode and where the output ends after it.
 #[inline(always)]
-fn meet<'a>(
+pub(crate) fn meet<'a>(
     token: &Token,
     parameters: &mut Parameters<'_, 'a>,
     vars: &mut Vars,

@@ -1,6 +1,6 @@
 //! Capabilities with their numbers, expanded into slices of exactly the promised size; and faults, which change nothing.
 
-use crate::{ExpandFault, Run, Value, Vars, expand, expand_into};
+use crate::{Did, ExpandFault, Run, Steps, Value, Vars, expand, expand_into};
 use std::test::Fail;
 use ti_base::MOST_VALUES;
 use ti_cap::Capability;
@@ -186,5 +186,39 @@ fn messages_are_names_and_numbers(rt: HostRuntime) -> Result<(), Fail> {
     ] {
         assert_eq!(rt; fault.to_string(rt.alloc())?.as_str(), message);
     }
+    Ok(())
+}
+
+/// What became of each token of `%?%p1%t1%e2%;` with 0 for the parameter, and then the bytes taken, the values on the
+/// stack and what was written.
+const STEPS: [(Did, usize, usize, &[u8]); 7] = [
+    (Did::Ran, 2, 0, b""),
+    (Did::Ran, 5, 1, b""),
+    (Did::Ran, 7, 0, b""),
+    (Did::PassedOver, 8, 0, b""),
+    (Did::Ran, 10, 0, b""),
+    (Did::Ran, 11, 0, b"2"),
+    (Did::Ran, 13, 0, b"2"),
+];
+
+#[test]
+fn a_pass_stops_after_each_token(rt: HostRuntime) -> Result<(), Fail> {
+    let Ok(capability) = Capability::parse(b"%?%p1%t1%e2%;") else {
+        panic!(rt; "refused");
+    };
+    let parameters = parameters_of([0, 0, 0]);
+    let mut steps = Steps::new(rt.alloc(), &capability, &parameters, Vars::new())?;
+    for (did, at, values, output) in STEPS {
+        let Some(taken) = steps.step() else {
+            panic!(rt; "no token");
+        };
+        assert_eq!(rt; taken.did, did);
+        assert_eq!(rt; steps.at(), at);
+        assert_eq!(rt; steps.stack().len(), values);
+        assert_eq!(rt; steps.output(), output);
+    }
+    assert_eq!(rt; steps.step(), None);
+    assert_eq!(rt; steps.run(), counts(1, 6, 1, 1));
+    assert_eq!(rt; steps.vars().get(b'a'), Some(0));
     Ok(())
 }

@@ -4,7 +4,7 @@ use Rattle.ti_cap.specs.Pass.{Running}
 use Rattle.ti_expand.specs.State.{State, start}
 use Rattle.ti_expand.specs.inner.Machine.{machine}
 use Rattle.ti_expand.specs.Mode.{mode_of}
-use Rattle.ti_expand.specs.inner.Unlimited.{unlimited_state}
+use Rattle.ti_expand.specs.Steps.{step_state}
 use Rattle.ti_expand.proofs.RestLemmas.{drop_further}
 use Rattle.ti_expand.specs.inner.Underway.{IsUnderway}
 use Rattle.ti_expand.proofs.UnderwayLemmas.{underway_start, underway_height, underway_output, underway_ran, underway_end}
@@ -23,7 +23,7 @@ pub meet-after-requires-clause-height : goal.meet-after-requires-clause-height
 meet-after-requires-clause-height c =
     let l = c.loop-token in
     let s : State = machine l.stack.slots.now l.stack.height l.vars l.parameters l.out l.run.written in
-    let high : length (unlimited_state Running c.in-Some.token s).stack ≤ length c.args.stack.now =
+    let high : length (step_state Running c.in-Some.token s).stack ≤ length c.args.stack.now =
     underway_height _ _ _ _ _ _ _ _ _ _ _ _ l.invariant.underway c.in-Some.ensures.order in
     omega (arith, high, l.invariant.slots)
 
@@ -31,7 +31,7 @@ pub meet-after-requires-clause-room : goal.meet-after-requires-clause-room
 meet-after-requires-clause-room c =
     let l = c.loop-token in
     let s : State = machine l.stack.slots.now l.stack.height l.vars l.parameters l.out l.run.written in
-    let long : length (unlimited_state Running c.in-Some.token s).output ≤ length c.args.out.now =
+    let long : length (step_state Running c.in-Some.token s).output ≤ length c.args.out.now =
     underway_output _ _ _ _ _ _ _ _ _ _ _ _ l.invariant.underway c.in-Some.ensures.order in
     omega (arith, long)
 

@@ -1,0 +1,5 @@
+use Rattle.ti_expand.proofs.StepsLemmas.{steps_are_the_pass}
+use Rattle.ti_expand.proofs.laws.steps_are_the_pass.Goals as goal
+
+pub returns : goal.returns
+returns c = steps_are_the_pass

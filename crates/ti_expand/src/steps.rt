@@ -1,0 +1,188 @@
+//! The flat pass, a token at a time.
+//!
+//! It makes room once, for all that comes: the output as long as the capability's bound, the stack as high as a
+//! capability may ask. A token that runs copies the stack, so `expand` is faster where only the end matters.
+
+ghost use Rattle.std.specs.Prelude.{◌≡◌, ℕ, ◌+◌, ◌≤◌, ◌↔◌, [], length, max, reverse, if◌then◌else◌, IfOk, IfErr, IfSome, IfNone, OnOk};
+ghost use Rattle.ti_base.specs.Limits.{most_text_bytes};
+ghost use Rattle.ti_cap.specs.Pass.{next_mode};
+ghost use Rattle.ti_cap.specs.Capability.{IsWellFormed, Takes, IsFirst};
+ghost use Rattle.ti_expand.specs.Meaning.{tests_zero};
+ghost use Rattle.ti_expand.specs.Expands.{longest_text, IsFirstTooLong, IsTextOrMemory};
+ghost use Rattle.ti_expand.specs.Steps.{step_state, is_run_between, did_of, at_start};
+
+use crate::counts::Run;
+use crate::fault::ExpandFault;
+use crate::machine::Machine;
+use crate::modes::Mode;
+use crate::taken::{Did, Taken};
+use crate::text_lengths::longest_text;
+use crate::values::Value;
+use crate::variables::Vars;
+use std::alloc::{Allocator, Global};
+use std::marker::Model;
+use ti_cap::{Capability, Tape};
+
+/// A pass over a capability that stops after each token. It goes forward only.
+#[derive(Drop)]
+pub struct Steps<'p, 'a, A: Allocator = Global> {
+    tape: Tape<'a>,
+    machine: Machine<'p, 'a, A>,
+    mode: Mode,
+    ran: usize,
+    passed: usize,
+}
+
+impl<'p, 'a, A: Allocator> Model for Steps<'p, 'a, A> {
+    ghost use Rattle.ti_expand.specs.Mode.{mode_of};
+    ghost use Rattle.ti_expand.specs.Steps.{Underway};
+    ghost use Rattle.ti_expand.specs.inner.Held.{IsPaused};
+
+    ghost Value = { Underway };
+
+    ghost view = { λ s. record {
+      spot = s.tape;
+      mode = mode_of s.mode;
+      state = s.machine.state;
+      ran = s.ran;
+      passed = s.passed;
+      peak = s.machine.highest;
+    } };
+
+    ghost invariant = { λ s. IsPaused s.tape.left (mode_of s.mode) s.machine s.ran s.passed };
+}
+
+impl<'p, 'a, A: Allocator> Steps<'p, 'a, A> {
+    /// A pass at the first token, over these parameters and variables. It takes memory here alone: for the stack, and for
+    /// the output as many bytes as the capability's bound for the longest text among the parameters.
+    ///
+    /// # Errors
+    /// `TextTooLong` with the lowest parameter whose text has more bytes than [`ti_base::MOST_TEXT_BYTES`], or `Memory`
+    /// where no text is too long and memory was refused.
+    pub fn new(
+        alloc: A,
+        capability: &Capability<'a>,
+        parameters: &'p [Value<'a>; 9],
+        vars: Vars,
+    ) -> Result<Self, ExpandFault>
+    where
+        A: Copy,
+        // a text is too long, exactly where it is so, or memory was refused, where none is
+        ensures too_long { (k : ℕ) → (result ≡ Err (ExpandFault.TextTooLong k))
+            ↔ IsFirstTooLong parameters.now k }
+        ensures memory { (result ≡ Err ExpandFault.Memory)
+            → longest_text parameters.now ≤ most_text_bytes }
+        ensures only { IfErr result IsTextOrMemory }
+
+        // else the pass is at its start, and there is a tree that writes the capability
+        ensures start { IfOk result
+            (λ steps. steps ≡ at_start capability.now vars parameters.now) }
+        ensures tree { OnOk result (IsWellFormed capability.now) }
+    {
+        let longest = longest_text(parameters)?;
+        let room = capability.bound(longest) as usize;
+        // Each variable fits 32 bits, on which the bound rests.
+        let _numbers = vars.numbers();
+        let _deepest = capability.depth();
+        let machine = Machine::new(alloc, parameters, vars, room)?;
+        Ok(Steps {
+            tape: capability.tape(),
+            machine,
+            mode: Mode::Run,
+            ran: 0,
+            passed: 0,
+        })
+    }
+
+    /// Takes the next token, or none at the end.
+    pub fn step(&mut self) -> Option<Taken>
+        // none exactly where no bytes are left, and nothing changes
+        ensures none { IfNone result ((self.new ≡ self.old) × (self.old.spot.left ≡ [])) }
+
+        // else the first of the tokens that are left is taken, and the mode and the state move as in `steps`
+        ensures takes { IfSome result (λ taken. Takes taken.token self.old.spot self.new.spot) }
+        ensures order { IfSome result (λ taken. IsFirst taken.token self.old.spot self.new.spot) }
+        ensures mode { IfSome result (λ taken. self.new.mode
+            ≡ next_mode self.old.mode taken.token (tests_zero self.old.state)) }
+        ensures state { IfSome result (λ taken. self.new.state
+            ≡ step_state self.old.mode taken.token self.old.state) }
+        ensures did { IfSome result (λ taken. taken.did
+            ≡ did_of (is_run_between self.old.mode self.new.mode)) }
+
+        // and it is counted
+        ensures ran { IfSome result (λ _. self.new.ran
+            ≡ (if is_run_between self.old.mode self.new.mode
+            then self.old.ran + 1 else self.old.ran)) }
+        ensures passed { IfSome result (λ _. self.new.passed
+            ≡ (if is_run_between self.old.mode self.new.mode
+            then self.old.passed else self.old.passed + 1)) }
+        ensures peak { IfSome result (λ _. self.new.peak
+            ≡ max self.old.peak (length self.new.state.stack)) }
+    {
+        let token = self.tape.token()?;
+        if self.mode.is_running() {
+            self.mode = self.machine.meet(&token);
+            self.ran += 1;
+            return Some(Taken {
+                token,
+                did: Did::Ran,
+            });
+        }
+        self.mode = self.mode.next(&token, false);
+        if self.mode.is_running() {
+            self.ran += 1;
+            return Some(Taken {
+                token,
+                did: Did::Ran,
+            });
+        }
+        self.passed += 1;
+        Some(Taken {
+            token,
+            did: Did::PassedOver,
+        })
+    }
+
+    /// The bytes of the capability that were taken.
+    pub fn at(&self) -> usize
+        ensures { result ≡ length self.now.spot.taken }
+    {
+        self.tape.at()
+    }
+
+    /// The values on the stack, the top last.
+    pub fn stack(&self) -> &[Value<'a>]
+        ensures { reverse result.now ≡ self.now.state.stack }
+    {
+        self.machine.stack()
+    }
+
+    /// What was written so far.
+    pub fn output(&self) -> &[u8]
+        ensures { result.now ≡ self.now.state.output }
+    {
+        self.machine.output()
+    }
+
+    /// The variables.
+    pub fn vars(&self) -> &Vars
+        ensures { result.now ≡ self.now.state.variables }
+    {
+        self.machine.vars()
+    }
+
+    /// The counts so far.
+    pub fn run(&self) -> Run
+        ensures written { result.written ≡ length self.now.state.output }
+        ensures ran { result.ran ≡ self.now.ran }
+        ensures passed { result.passed ≡ self.now.passed }
+        ensures peak { result.peak ≡ self.now.peak }
+    {
+        Run {
+            written: self.machine.output().len(),
+            ran: self.ran,
+            passed: self.passed,
+            peak: self.machine.highest(),
+        }
+    }
+}
