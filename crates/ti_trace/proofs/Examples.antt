@@ -1,0 +1,111 @@
+-- Worked rows of a trace, computed.
+use Rattle.std.proofs.Common.{◌≡◌, ℕ, List, [], ◌∷◌, ◌++◌, refl, replicate, true, false, None}
+use Rattle.std.specs.Prelude.{codes, pos, negsuc}
+use Rattle.std.specs.Int.{int_wrap}
+use Rattle.std.specs.Fmt.{digits}
+use Rattle.hex.specs.Hex.{encode_with}
+use Rattle.ti_cap.specs.declared.language.Conversion.TheVariants.{Signed}
+use Rattle.ti_cap.specs.declared.language.Op.TheVariants.{Less}
+use Rattle.ti_cap.specs.declared.language.Token.{Token}
+use Rattle.ti_cap.specs.declared.language.Token.TheVariants.{Byte, Param, Constant, Compute, Print, CondOpen, CondThen, CondElse, CondClose}
+use Rattle.ti_cap.specs.Pass.{Running}
+use Rattle.ti_escape.specs.declared.form.Form.TheVariants.{Hex, Notation}
+use Rattle.ti_expand.specs.declared.values.Value.{Value}
+use Rattle.ti_expand.specs.declared.values.Value.TheVariants.{Num, Text}
+use Rattle.ti_expand.specs.declared.taken.Did.TheVariants.{Ran, PassedOver}
+use Rattle.ti_trace.specs.Columns.{at_left, at_right, header}
+use Rattle.ti_trace.specs.Footer.{footer}
+use Rattle.ti_trace.specs.Items.{item, items}
+use Rattle.ti_trace.specs.Lines.{token_line}
+use Rattle.ti_trace.specs.Trace.{Spelled, first_state, pass_lines}
+
+-- ---- columns
+
+header_row : header ≡ codes "place\ttoken          \trun    \tstack                  \twrote\n"
+header_row = refl
+
+left_rows : (at_left 3 (codes "a") ≡ codes "a  ") × (at_left 3 (codes "abc") ≡ codes "abc") × (at_left 3 (codes "abcd") ≡ codes "abcd")
+left_rows = (refl, refl, refl)
+
+right_rows : (at_right 3 (codes "7") ≡ codes "  7") × (at_right 3 (codes "1000") ≡ codes "1000")
+right_rows = (refl, refl)
+
+-- ---- values
+
+text : List ℕ → Value
+text bytes = Text (record { ref_ptr = (0, 0); now = bytes })
+
+number_rows : (item Hex (Num (pos 0)) ≡ codes "0") × (item Notation (Num (negsuc 11)) ≡ codes "-12")
+unfolding digits encode_with
+number_rows = (refl, refl)
+
+text_rows : (item Hex (text (codes "a,")) ≡ codes "s:612c") × (item Notation (text (codes "a,")) ≡ codes "s:a\\,") × (item Hex (text []) ≡ codes "s:")
+unfolding encode_with text
+text_rows = (refl, refl, refl)
+
+-- 16 bytes are shown, and of 17 the first 16
+whole_text : item Notation (text (codes "0123456789abcdef")) ≡ codes "s:0123456789abcdef"
+unfolding text
+whole_text = refl
+
+cut_text_row : item Notation (text (codes "0123456789abcdefg")) ≡ codes "s:0123456789abcdef,..17"
+unfolding digits encode_with text
+cut_text_row = refl
+
+stack_rows : (items Hex [] ≡ codes "-") × (items Hex (Num (pos 3) ∷ text (codes "H") ∷ Num (negsuc 0) ∷ []) ≡ codes "3,s:48,-1")
+unfolding digits encode_with text
+stack_rows = (refl, refl)
+
+-- ---- lines
+
+line_rows : (token_line Hex 12 (codes "%p1") Ran (Num (pos 3) ∷ []) [] ≡ codes "   12\t%p1            \tran    \t3                      \t-\n")
+    × (token_line Notation 0 (27 ∷ []) PassedOver [] (27 ∷ []) ≡ codes "    0\t\\E             \tpassed \t-                      \t\\E\n")
+unfolding digits encode_with
+line_rows = (refl, refl)
+
+footer_row : footer Hex (record { output = codes "9m"; ran = 13; passed = 1; height = 2; depth = 2; bound = 15 })
+    ≡ codes "output: 396d\nwritten: 2\nran: 13\npassed: 1\nheight: 2\ndepth: 2\nbound: 15\n"
+unfolding digits encode_with
+footer_row = refl
+
+-- ---- `%?%p1%{8}%<%t3%p1%d%e9%;` of 3 and of 9
+
+spelled : Token → List ℕ → Spelled
+spelled token spelling = record { token = token; spelling = spelling }
+
+choice : List Spelled
+choice =
+    spelled CondOpen (codes "%?") ∷ spelled (Param 1) (codes "%p1") ∷ spelled (Constant (pos 8)) (codes "%{8}") ∷ spelled (Compute Less) (codes "%<")
+    ∷ spelled CondThen (codes "%t") ∷ spelled (Byte 51) (codes "3") ∷ spelled (Param 1) (codes "%p1")
+    ∷ spelled (Print (record { conversion = Signed; left = false; plus = false; space = false; alternate = false; zero = false; width = 0; precision = None })) (codes "%d")
+    ∷ spelled CondElse (codes "%e") ∷ spelled (Byte 57) (codes "9") ∷ spelled CondClose (codes "%;") ∷ []
+
+first_body : pass_lines Hex 0 Running (first_state (Num (pos 3) ∷ replicate 8 (Num (pos 0)))) choice
+    ≡ codes "    0\t%?             \tran    \t-                      \t-\n"
+    ++ codes "    2\t%p1            \tran    \t3                      \t-\n"
+    ++ codes "    5\t%{8}           \tran    \t3,8                    \t-\n"
+    ++ codes "    9\t%<             \tran    \t1                      \t-\n"
+    ++ codes "   11\t%t             \tran    \t-                      \t-\n"
+    ++ codes "   13\t3              \tran    \t-                      \t33\n"
+    ++ codes "   14\t%p1            \tran    \t3                      \t-\n"
+    ++ codes "   17\t%d             \tran    \t-                      \t33\n"
+    ++ codes "   19\t%e             \tran    \t-                      \t-\n"
+    ++ codes "   21\t9              \tpassed \t-                      \t-\n"
+    ++ codes "   22\t%;             \tran    \t-                      \t-\n"
+unfolding int_wrap digits encode_with spelled choice
+first_body = refl
+
+other_body : pass_lines Notation 0 Running (first_state (Num (pos 9) ∷ replicate 8 (Num (pos 0)))) choice
+    ≡ codes "    0\t%?             \tran    \t-                      \t-\n"
+    ++ codes "    2\t%p1            \tran    \t9                      \t-\n"
+    ++ codes "    5\t%{8}           \tran    \t9,8                    \t-\n"
+    ++ codes "    9\t%<             \tran    \t0                      \t-\n"
+    ++ codes "   11\t%t             \tran    \t-                      \t-\n"
+    ++ codes "   13\t3              \tpassed \t-                      \t-\n"
+    ++ codes "   14\t%p1            \tpassed \t-                      \t-\n"
+    ++ codes "   17\t%d             \tpassed \t-                      \t-\n"
+    ++ codes "   19\t%e             \tran    \t-                      \t-\n"
+    ++ codes "   21\t9              \tran    \t-                      \t9\n"
+    ++ codes "   22\t%;             \tran    \t-                      \t-\n"
+unfolding int_wrap digits encode_with spelled choice
+other_body = refl

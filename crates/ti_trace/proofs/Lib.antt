@@ -1,0 +1,7 @@
+pub mod CutLemmas
+pub mod Examples
+pub mod FaultLemmas
+pub mod OneTraceLemmas
+pub mod RowLemmas
+pub mod ShortLemmas
+pub mod TracedLemmas

@@ -1,0 +1,9 @@
+use Rattle.std.proofs.Common.{ap, length}
+use Rattle.ti_trace.proofs.RowLemmas.{row_goes_on}
+use Rattle.ti_trace.proofs.tracing.push_next.Goals as goal
+
+pub returns-clause-lines : goal.returns-clause-lines
+returns-clause-lines g c =
+    let step = c.in-Some.ensures in
+    row_goes_on c.args.form c.args.bytes.now c.args.out.now.items c.push_row.new.out.items c.args.steps.now c.step.new.self c.in-Some.taken.token c.at-place.result c.at.result (length c.output-written.result.now) c.in-Some.taken.did c.stack.result.now c.output.result.now
+    c.requires step.takes step.mode step.state step.ran step.passed step.peak step.did c.at-place.ensures c.at.ensures c.stack.ensures (ap length c.output-written.ensures) c.output.ensures c.in_ok-push_row.ensures

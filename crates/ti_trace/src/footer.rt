@@ -1,0 +1,50 @@
+//! The lines after those of the tokens.
+
+ghost use Rattle.std.specs.Prelude.{◌≡◌, ◌++◌, OnOk};
+ghost use Rattle.ti_trace.specs.Footer.{footer, number_line};
+ghost use Rattle.ti_trace.specs.inner.Rows.{totals_of};
+
+use itoa::Buffer;
+use std::alloc::{AllocError, Allocator};
+use ti_escape::{Form, push_shown};
+
+/// What these lines tell.
+#[derive(Clone, Copy, Debug)]
+pub struct Facts<'r> {
+    pub output: &'r [u8],
+    pub ran: usize,
+    pub passed: usize,
+    pub height: usize,
+    pub depth: usize,
+    pub bound: u64,
+}
+
+/// Appends the line of a number.
+fn push_fact<A: Allocator>(out: &mut Vec<u8, A>, label: &str, number: u64) -> Result<(), AllocError>
+    ensures { OnOk result (out.new.items ≡ out.old.items ++ number_line label.now number) }
+{
+    let mut buffer = Buffer::new();
+    out.extend_from_slice(label.as_bytes())?;
+    out.extend_from_slice(b": ")?;
+    out.extend_from_slice(buffer.format(number).as_bytes())?;
+    out.extend_from_slice(b"\n")
+}
+
+/// Appends the lines.
+pub fn push_footer<A: Allocator>(
+    out: &mut Vec<u8, A>,
+    form: Form,
+    facts: &Facts<'_>,
+) -> Result<(), AllocError>
+    ensures { OnOk result (out.new.items ≡ out.old.items ++ footer form (totals_of facts.now)) }
+{
+    out.extend_from_slice(b"output: ")?;
+    push_shown(out, form, facts.output)?;
+    out.extend_from_slice(b"\n")?;
+    push_fact(out, "written", facts.output.len() as u64)?;
+    push_fact(out, "ran", facts.ran as u64)?;
+    push_fact(out, "passed", facts.passed as u64)?;
+    push_fact(out, "height", facts.height as u64)?;
+    push_fact(out, "depth", facts.depth as u64)?;
+    push_fact(out, "bound", facts.bound)
+}

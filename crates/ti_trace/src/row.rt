@@ -1,0 +1,83 @@
+//! The line of one token.
+
+ghost use Rattle.std.specs.Prelude.{◌≡◌, ◌++◌, codes, OnOk};
+ghost use Rattle.ti_escape.specs.Notation.{notation};
+ghost use Rattle.ti_trace.specs.Columns.{at_left, token_width, run_width, stack_width};
+ghost use Rattle.ti_trace.specs.Items.{items};
+ghost use Rattle.ti_trace.specs.Lines.{did_word};
+ghost use Rattle.ti_trace.specs.inner.Rows.{row_line};
+
+use crate::columns::{end_column, push_number};
+use crate::items::push_items;
+use std::alloc::{AllocError, Allocator};
+use ti_escape::{Form, push_notation, push_shown};
+use ti_expand::{Did, Value};
+
+const PLACE_WIDTH: usize = 5;
+
+const TOKEN_WIDTH: usize = 15;
+
+const STACK_WIDTH: usize = 23;
+
+/// What a line tells of a token.
+#[derive(Clone, Copy, Debug)]
+pub struct Row<'r, 'a> {
+    /// Where it starts.
+    pub place: usize,
+    pub spelling: &'r [u8],
+    pub did: Did,
+    /// The values after it, the bottom first.
+    pub stack: &'r [Value<'a>],
+    pub wrote: &'r [u8],
+}
+
+/// Appends the spelling of a token as a column.
+fn push_token<A: Allocator>(out: &mut Vec<u8, A>, spelling: &[u8]) -> Result<(), AllocError>
+    ensures { OnOk result (out.new.items
+        ≡ out.old.items ++ (at_left token_width (notation spelling.now) ++ codes "\t")) }
+{
+    let start = out.len();
+    push_notation(out, spelling)?;
+    end_column(out, start, TOKEN_WIDTH)
+}
+
+/// Appends what a token did as a column.
+fn push_did<A: Allocator>(out: &mut Vec<u8, A>, did: Did) -> Result<(), AllocError>
+    ensures { OnOk result (out.new.items
+        ≡ out.old.items ++ (at_left run_width (did_word did) ++ codes "\t")) }
+{
+    match did {
+        Did::Ran => out.extend_from_slice(b"ran    \t"),
+        Did::PassedOver => out.extend_from_slice(b"passed \t"),
+    }
+}
+
+/// Appends the values on the stack as a column.
+fn push_stack<A: Allocator>(
+    out: &mut Vec<u8, A>,
+    form: Form,
+    stack: &[Value<'_>],
+) -> Result<(), AllocError>
+    ensures { OnOk result (out.new.items
+        ≡ out.old.items ++ (at_left stack_width (items form stack.now) ++ codes "\t")) }
+{
+    let start = out.len();
+    push_items(out, form, stack)?;
+    end_column(out, start, STACK_WIDTH)
+}
+
+/// Appends the line of a token.
+pub fn push_row<A: Allocator>(
+    out: &mut Vec<u8, A>,
+    form: Form,
+    row: &Row<'_, '_>,
+) -> Result<(), AllocError>
+    ensures { OnOk result (out.new.items ≡ out.old.items ++ row_line form row.now) }
+{
+    push_number(out, PLACE_WIDTH, row.place)?;
+    push_token(out, row.spelling)?;
+    push_did(out, row.did)?;
+    push_stack(out, form, row.stack)?;
+    push_shown(out, form, row.wrote)?;
+    out.extend_from_slice(b"\n")
+}

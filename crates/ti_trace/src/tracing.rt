@@ -1,0 +1,157 @@
+//! The trace of a capability: the header, a line for each token, and the footer.
+//!
+//! One pass over the tokens, in time linear in the capability and in what is written.
+
+ghost use Rattle.std.specs.Prelude.{◌≡◌, ℕ, ◌<◌, ◌≤◌, ◌↔◌, [], true, false, pos, Ok, Err, length, replicate, IfOk, OnOk, IfErr};
+ghost use Rattle.ti_base.specs.Limits.{most_text_bytes};
+ghost use Rattle.ti_cap.specs.Capability.{IsWellFormed, whole};
+ghost use Rattle.ti_cap.specs.Refusal.{IsFaultless, IsRefusal};
+ghost use Rattle.ti_expand.specs.Expands.{IsFirstTooLong, longest_text as the_longest_text};
+ghost use Rattle.ti_expand.specs.Steps.{at_start};
+ghost use Rattle.ti_trace.specs.declared.fault.TraceFault.TheVariants as fault;
+ghost use Rattle.ti_trace.specs.Trace.{IsTrace};
+ghost use Rattle.ti_trace.specs.inner.Traced.{GoesOn, IsAfterReading, IsFresh, IsTraced};
+
+use crate::fault::TraceFault;
+use crate::footer::{Facts, push_footer};
+use crate::longest::longest_text;
+use crate::row::{Row, push_row};
+use std::alloc::{AllocError, Allocator};
+use ti_cap::{CapRefused, Capability};
+use ti_escape::Form;
+use ti_expand::{ExpandFault, Steps, Value, Vars};
+
+/// The names of the columns.
+const HEADER: &[u8] = b"place\ttoken          \trun    \tstack                  \twrote\n";
+
+/// Takes the next token and appends its line. False at the end, where nothing changes.
+fn push_next<A: Allocator>(
+    out: &mut Vec<u8, A>,
+    form: Form,
+    bytes: &[u8],
+    steps: &mut Steps<'_, '_, A>,
+) -> Result<bool, AllocError>
+    requires { whole steps.old.spot ≡ bytes.now }
+    ensures whole { OnOk result (whole steps.new.spot ≡ bytes.now) }
+    ensures lines { OnOk result
+        (GoesOn form bytes.now steps.old steps.new out.old.items out.new.items) }
+    ensures end { (result ≡ Ok false) → steps.new.spot.left ≡ [] }
+    ensures forward { (result ≡ Ok true)
+        → length steps.new.spot.left < length steps.old.spot.left }
+{
+    let place = steps.at();
+    let written = steps.output().len();
+    let Some(taken) = steps.step() else {
+        return Ok(false);
+    };
+    let row = Row {
+        place,
+        spelling: &bytes[place..steps.at()],
+        did: taken.did,
+        stack: steps.stack(),
+        wrote: &steps.output()[written..],
+    };
+    push_row(out, form, &row)?;
+    Ok(true)
+}
+
+/// Takes all tokens and appends their lines.
+fn push_lines<A: Allocator>(
+    out: &mut Vec<u8, A>,
+    form: Form,
+    bytes: &[u8],
+    steps: &mut Steps<'_, '_, A>,
+) -> Result<(), AllocError>
+    requires fresh { IsFresh bytes.now steps.old }
+    requires tree { IsWellFormed bytes.now }
+    ensures lines { OnOk result (IsTraced form bytes.now steps.old.state steps.new
+        out.old.items out.new.items) }
+    ensures end { OnOk result (steps.new.spot.left ≡ []) }
+{
+    'tokens: while push_next(out, form, bytes, steps)? {}
+    Ok(())
+}
+
+/// A pass over a capability at its first token, where each variable is 0.
+fn steps_of<'p, 'a, A: Allocator + Copy>(
+    alloc: A,
+    capability: &Capability<'a>,
+    parameters: &'p [Value<'a>; 9],
+) -> Result<Steps<'p, 'a, A>, TraceFault>
+    ensures too_long { (k : ℕ) → (result ≡ Err (fault.TextTooLong k))
+        ↔ IsFirstTooLong parameters.now k }
+    ensures memory { (result ≡ Err fault.Memory)
+        → the_longest_text parameters.now ≤ most_text_bytes }
+    ensures read { IfErr result (λ e. IsAfterReading e) }
+    ensures start { IfOk result (λ steps. steps
+        ≡ at_start capability.now (replicate 52 (pos 0)) parameters.now) }
+    ensures tree { OnOk result (IsWellFormed capability.now) }
+{
+    match Steps::new(alloc, capability, parameters, Vars::new()) {
+        Ok(steps) => Ok(steps),
+        Err(ExpandFault::TextTooLong { parameter }) => Err(TraceFault::TextTooLong(parameter)),
+        Err(ExpandFault::Memory) => Err(TraceFault::Memory),
+        // The stack and the output are its own, so that it answers neither of these.
+        Err(ExpandFault::StackTooSmall { .. }) => Err(TraceFault::Memory),
+        Err(ExpandFault::OutTooSmall { .. }) => Err(TraceFault::Memory),
+    }
+}
+
+/// The text of a trace, by a pass at its first token.
+fn text_of<A: Allocator + Copy>(
+    alloc: A,
+    bytes: &[u8],
+    capability: &Capability<'_>,
+    parameters: &[Value<'_>; 9],
+    mut steps: Steps<'_, '_, A>,
+    form: Form,
+) -> Result<Vec<u8, A>, AllocError>
+    requires bytes { capability.now ≡ bytes.now }
+    requires tree { IsWellFormed bytes.now }
+    requires start { steps ≡ at_start bytes.now (replicate 52 (pos 0)) parameters.now }
+    requires short { the_longest_text parameters.now ≤ most_text_bytes }
+    ensures { IfOk result (λ out. IsTrace bytes.now parameters.now form out.items) }
+{
+    let mut out = Vec::from_slice(alloc, HEADER)?;
+    push_lines(&mut out, form, bytes, &mut steps)?;
+    let run = steps.run();
+    let facts = Facts {
+        output: steps.output(),
+        ran: run.ran,
+        passed: run.passed,
+        height: run.peak,
+        depth: capability.depth(),
+        bound: capability.bound(longest_text(parameters) as u16),
+    };
+    push_footer(&mut out, form, &facts)?;
+    Ok(out)
+}
+
+/// What a capability does, token by token, as lines of text: a header, a line for each token, and the output with the
+/// counts. Each variable starts as 0. A spelling is in the notation of terminfo(5); texts on the stack and the output are in
+/// the form.
+///
+/// # Errors
+/// In this order: `Cap` where the bytes are no capability, `TextTooLong` with the lowest parameter whose text has more bytes
+/// than [`ti_base::MOST_TEXT_BYTES`]; `Memory` where a growth is refused.
+pub fn trace<A: Allocator + Copy>(
+    alloc: A,
+    capability: &[u8],
+    parameters: &[Value<'_>; 9],
+    form: Form,
+) -> Result<Vec<u8, A>, TraceFault>
+    ensures is { IfOk result (λ out. IsTrace capability.now parameters.now form out.items) }
+    ensures accepted { OnOk result (IsFaultless capability.now) }
+
+    // each fault of the arguments comes exactly where it is so
+    ensures refused { (refused : CapRefused) → (result ≡ Err (fault.Cap refused))
+        ↔ IsRefusal capability.now refused }
+    ensures too_long { (k : ℕ) → (result ≡ Err (fault.TextTooLong k))
+        ↔ (IsFaultless capability.now × IsFirstTooLong parameters.now k) }
+    ensures memory { (result ≡ Err fault.Memory)
+        → IsFaultless capability.now × (the_longest_text parameters.now ≤ most_text_bytes) }
+{
+    let parsed = Capability::parse(capability)?;
+    let steps = steps_of(alloc, &parsed, parameters)?;
+    Ok(text_of(alloc, capability, &parsed, parameters, steps, form)?)
+}
