@@ -2,17 +2,32 @@
 use Rattle.std.proofs.Common.{[], ◌∷◌, true, false, refl}
 use Rattle.std.specs.Prelude.{codes}
 use Rattle.clap.proofs.OnLiterals.{clap_on_literals}
-use Rattle.ti_line.specs.CommandLine.{AsksForHelp, Cap, Convert, Expand, IsRefused, Reads, Show}
+use Rattle.ti_line.specs.CommandLine.{AsksForHelp, Cap, Check, Convert, Expand, IsRefused, Reads, Show, Trace}
 
 -- `ti cap n:4 --hex n:9`
-cap_row : Reads (codes "ti" ∷ codes "cap" ∷ codes "n:4" ∷ codes "--hex" ∷ codes "n:9" ∷ []) (Cap true (codes "n:4" ∷ codes "n:9" ∷ []))
+cap_row : Reads (codes "ti" ∷ codes "cap" ∷ codes "n:4" ∷ codes "--hex" ∷ codes "n:9" ∷ []) (Cap true false (codes "n:4" ∷ codes "n:9" ∷ []))
 unfolding clap_on_literals
 cap_row = (refl, refl)
 
+-- `ti trace n:7 --escape`
+trace_row : Reads (codes "ti" ∷ codes "trace" ∷ codes "n:7" ∷ codes "--escape" ∷ []) (Trace true (codes "n:7" ∷ []))
+unfolding clap_on_literals
+trace_row = (refl, refl)
+
 -- `ti show`
-show_row : Reads (codes "ti" ∷ codes "show" ∷ []) Show
+show_row : Reads (codes "ti" ∷ codes "show" ∷ []) (Show false false)
 unfolding clap_on_literals
 show_row = (refl, refl)
+
+-- `ti show --escape`
+escape_row : Reads (codes "ti" ∷ codes "show" ∷ codes "--escape" ∷ []) (Show true false)
+unfolding clap_on_literals
+escape_row = (refl, refl)
+
+-- `ti check --all-names`
+names_row : Reads (codes "ti" ∷ codes "check" ∷ codes "--all-names" ∷ []) (Check true)
+unfolding clap_on_literals
+names_row = (refl, refl)
 
 -- `ti convert --wide`
 wide_row : Reads (codes "ti" ∷ codes "convert" ∷ codes "--wide" ∷ []) (Convert true false)
@@ -25,7 +40,7 @@ unfolding clap_on_literals
 both_row = (refl, refl)
 
 -- `ti expand --rate 960 cup`
-expand_row : Reads (codes "ti" ∷ codes "expand" ∷ codes "--rate" ∷ codes "960" ∷ codes "cup" ∷ []) (Expand (codes "cup") false 960 1 false [])
+expand_row : Reads (codes "ti" ∷ codes "expand" ∷ codes "--rate" ∷ codes "960" ∷ codes "cup" ∷ []) (Expand (codes "cup") false false false 960 1 false [])
 unfolding clap_on_literals
 expand_row = (refl, refl)
 

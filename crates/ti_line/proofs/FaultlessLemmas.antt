@@ -222,13 +222,13 @@ abbrev expand_shape : Shape
 expand_shape = built_leaf (inherited (built ti_app).top expand_app.top)
 
 all_name : Each (Gives (codes "NAME") Any) expand_shape.rules
-all_name = (name_gives, (other _ _ _ refl refl, (other _ _ _ refl refl, (other _ _ _ refl refl, (other _ _ _ refl refl, (other _ _ _ refl refl, (other _ _ _ refl refl, tt)))))))
+all_name = (name_gives, (other _ _ _ refl refl, (other _ _ _ refl refl, (other _ _ _ refl refl, (other _ _ _ refl refl, (other _ _ _ refl refl, (other _ _ _ refl refl, (other _ _ _ refl refl, (other _ _ _ refl refl, tt)))))))))
 
 all_rate : Each (Gives (codes "rate") (IsLow 0 greatest_rate)) expand_shape.rules
-all_rate = (other _ _ _ refl refl, (other _ _ _ refl refl, (rate_gives, (other _ _ _ refl refl, (other _ _ _ refl refl, (other _ _ _ refl refl, (other _ _ _ refl refl, tt)))))))
+all_rate = (other _ _ _ refl refl, (other _ _ _ refl refl, (other _ _ _ refl refl, (other _ _ _ refl refl, (rate_gives, (other _ _ _ refl refl, (other _ _ _ refl refl, (other _ _ _ refl refl, (other _ _ _ refl refl, tt)))))))))
 
 all_lines : Each (Gives (codes "lines") (IsLow 1 most_lines)) expand_shape.rules
-all_lines = (other _ _ _ refl refl, (other _ _ _ refl refl, (other _ _ _ refl refl, (lines_gives, (other _ _ _ refl refl, (other _ _ _ refl refl, (other _ _ _ refl refl, tt)))))))
+all_lines = (other _ _ _ refl refl, (other _ _ _ refl refl, (other _ _ _ refl refl, (other _ _ _ refl refl, (other _ _ _ refl refl, (lines_gives, (other _ _ _ refl refl, (other _ _ _ refl refl, (other _ _ _ refl refl, tt)))))))))
 
 -- ---- the line
 
@@ -303,10 +303,13 @@ all_ask p past = (
     (
       λ t e. (_, refl),
       (
-        λ t e. expand_line p.1 e,
+        λ t e. (_, refl),
         (
-          λ t e. (_, refl),
-          (λ t e. absurd (help t), tt),
+          λ t e. expand_line p.1 e,
+          (
+            λ t e. (_, refl),
+            (λ t e. absurd (help t), tt),
+          ),
         ),
       ),
     ),

@@ -57,10 +57,11 @@ named rows (Some name) =
 within : (command : Text) (rows : List Row) → IfSome (request_by command rows) IsWithin
 within command rows =
     chosen (bytes_eq command (codes "cap")) _ _ tt
+    (chosen (bytes_eq command (codes "trace")) _ _ tt
     (chosen (bytes_eq command (codes "show")) _ _ tt
     (chosen (bytes_eq command (codes "check")) _ _ tt
     (chosen (bytes_eq command (codes "expand")) _ _ (named rows (first_of (codes "NAME") rows))
-    (chosen (bytes_eq command (codes "convert")) _ _ tt tt))))
+    (chosen (bytes_eq command (codes "convert")) _ _ tt tt)))))
 
 pub within_request : (found : Option (Text × List Row)) (line : Request) → request_in found ≡ Some line → IsWithin line
 within_request None line e = absurd (none_some None line refl e)

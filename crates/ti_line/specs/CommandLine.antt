@@ -22,6 +22,20 @@ use Rattle.clap.specs.declared.error.kind.ErrorKind.TheVariants as kind
 abbrev pub hex_rule : Rule
 hex_rule = record (new_rule (codes "hex")) { long = Some (codes "hex"); action = Some SetTrue }
 
+-- `--escape`
+abbrev pub escape_rule : Rule
+escape_rule = record (new_rule (codes "escape")) {
+  long = Some (codes "escape");
+  action = Some SetTrue;
+}
+
+-- `--all-names`
+abbrev pub all_names_rule : Rule
+all_names_rule = record (new_rule (codes "all-names")) {
+  long = Some (codes "all-names");
+  action = Some SetTrue;
+}
+
 -- `PARAM..`: any number of words
 abbrev pub params_rule : Rule
 params_rule = record (new_rule (codes "PARAM")) {
@@ -72,23 +86,28 @@ with_rules = fold with_rule
 abbrev pub with_commands : App → List App → App
 with_commands = fold (λ a sub. with_subcommand a sub.top)
 
--- `cap [--hex] [PARAM..]`
+-- `cap [--hex] [--escape] [PARAM..]`
 abbrev pub cap_app : App
-cap_app = with_rules (new_app (codes "cap")) (hex_rule ∷ params_rule ∷ [])
+cap_app = with_rules (new_app (codes "cap")) (hex_rule ∷ escape_rule ∷ params_rule ∷ [])
 
--- `show`
+-- `trace [--escape] [PARAM..]`
+abbrev pub trace_app : App
+trace_app = with_rules (new_app (codes "trace")) (params_rule ∷ escape_rule ∷ [])
+
+-- `show [--escape] [--all-names]`
 abbrev pub show_app : App
-show_app = new_app (codes "show")
+show_app = with_rules (new_app (codes "show")) (escape_rule ∷ all_names_rule ∷ [])
 
--- `check`
+-- `check [--all-names]`
 abbrev pub check_app : App
-check_app = new_app (codes "check")
+check_app = with_rules (new_app (codes "check")) (all_names_rule ∷ [])
 
--- `expand NAME [--hex] [--rate N] [--lines N] [--xon] [PARAM..]`
+-- `expand NAME [--hex] [--escape] [--all-names] [--rate N] [--lines N] [--xon] [PARAM..]`
 abbrev pub expand_app : App
 expand_app =
     with_rules (new_app (codes "expand"))
-    (name_rule ∷ hex_rule ∷ rate_rule ∷ lines_rule ∷ xon_rule ∷ params_rule ∷ [])
+    (name_rule ∷ hex_rule ∷ escape_rule ∷ all_names_rule ∷ rate_rule ∷ lines_rule ∷ xon_rule
+    ∷ params_rule ∷ [])
 
 -- `convert [--wide] [--narrow]`
 abbrev pub convert_app : App
@@ -101,7 +120,9 @@ start_app =
 
 -- `ti` whole
 abbrev pub ti_app : App
-ti_app = with_commands start_app (cap_app ∷ show_app ∷ check_app ∷ expand_app ∷ convert_app ∷ [])
+ti_app =
+    with_commands start_app
+    (cap_app ∷ trace_app ∷ show_app ∷ check_app ∷ expand_app ∷ convert_app ∷ [])
 
 -- ---- the values that `clap` found
 
@@ -129,11 +150,12 @@ params_in rows = unwrap_or (all_of (codes "PARAM") rows) []
 
 -- what a line asks for, of which parameters are the words as they were given
 pub data Request : Type 0 where
-  Cap : (hex : Bool) → (params : List Text) → Request
-  Show : Request
-  Check : Request
-  Expand : (name : Text) → (hex : Bool) → (rate lines : ℕ) → (xon : Bool) → (params : List Text)
-      → Request
+  Cap : (hex escape : Bool) → (params : List Text) → Request
+  Trace : (escape : Bool) → (params : List Text) → Request
+  Show : (escape all_names : Bool) → Request
+  Check : (all_names : Bool) → Request
+  Expand : (name : Text) → (hex escape all_names : Bool) → (rate lines : ℕ) → (xon : Bool)
+      → (params : List Text) → Request
   Convert : (wide narrow : Bool) → Request
 
 -- `expand` with a name and numbers within their ranges
@@ -142,22 +164,26 @@ expand_by rows name =
     let rate = number_in (codes "rate") 0 rows in
     let lines = number_in (codes "lines") 1 rows in
     if nat_le rate greatest_rate && nat_le lines most_lines
-    then Some (Expand name (flag_in (codes "hex") rows) rate lines
-    (flag_in (codes "xon") rows) (params_in rows))
+    then Some (Expand name (flag_in (codes "hex") rows) (flag_in (codes "escape") rows)
+    (flag_in (codes "all-names") rows) rate lines (flag_in (codes "xon") rows) (params_in rows))
     else None
 
 -- what a subcommand and its values ask for
 abbrev pub request_by : Text → List Row → Option Request
 request_by command rows =
     if bytes_eq command (codes "cap")
-    then Some (Cap (flag_in (codes "hex") rows) (params_in rows))
-    else (if bytes_eq command (codes "show") then Some Show
-    else (if bytes_eq command (codes "check") then Some Check
+    then Some (Cap (flag_in (codes "hex") rows) (flag_in (codes "escape") rows) (params_in rows))
+    else (if bytes_eq command (codes "trace")
+    then Some (Trace (flag_in (codes "escape") rows) (params_in rows))
+    else (if bytes_eq command (codes "show")
+    then Some (Show (flag_in (codes "escape") rows) (flag_in (codes "all-names") rows))
+    else (if bytes_eq command (codes "check")
+    then Some (Check (flag_in (codes "all-names") rows))
     else (if bytes_eq command (codes "expand")
     then option_and_then (expand_by rows) (first_of (codes "NAME") rows)
     else (if bytes_eq command (codes "convert")
     then Some (Convert (flag_in (codes "wide") rows) (flag_in (codes "narrow") rows))
-    else None))))
+    else None)))))
 
 -- what the subcommand that was found asks for
 abbrev pub request_in : Option (Text × List Row) → Option Request

@@ -2,7 +2,7 @@
 use Rattle.std.specs.Prelude.{◌≡◌, ◌⊎◌, ◌≤◌, List, []}
 use Rattle.clap.specs.Words.{Text}
 use Rattle.ti_base.specs.Limits.{greatest_rate, most_lines}
-use Rattle.ti_line.specs.CommandLine.{Request, Cap, Show, Check, Expand, Convert, AsksForHelp, IsRefused, Reads, faults}
+use Rattle.ti_line.specs.CommandLine.{Request, Cap, Trace, Show, Check, Expand, Convert, AsksForHelp, IsRefused, Reads, faults}
 
 -- words on which `clap` finds no fault make a line
 abbrev pub MakesLine : Type 0
@@ -25,10 +25,12 @@ IsOneOfThree = (words : List Text)
 
 -- the numbers of a line are within their ranges
 abbrev pub IsWithin : Request → Type 0
-IsWithin (Cap hex params) = Unit {0}
-IsWithin Show = Unit {0}
-IsWithin Check = Unit {0}
-IsWithin (Expand name hex rate lines xon params) = (rate ≤ greatest_rate) × (lines ≤ most_lines)
+IsWithin (Cap hex escape params) = Unit {0}
+IsWithin (Trace escape params) = Unit {0}
+IsWithin (Show escape all_names) = Unit {0}
+IsWithin (Check all_names) = Unit {0}
+IsWithin (Expand name hex escape all_names rate lines xon params) =
+    (rate ≤ greatest_rate) × (lines ≤ most_lines)
 IsWithin (Convert wide narrow) = Unit {0}
 
 -- of each line that is read

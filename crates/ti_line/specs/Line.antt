@@ -2,7 +2,7 @@
 use Rattle.std.specs.Prelude.{◌≡◌, List, Result, Ok, Err, map}
 use Rattle.std.specs.Borrow.{Bor}
 use Rattle.clap.specs.Words.{Text}
-use Rattle.ti_line.specs.CommandLine.{Request, AsksForHelp, Cap, Show, Check, Expand, Convert, IsRefused}
+use Rattle.ti_line.specs.CommandLine.{Request, AsksForHelp, Cap, Trace, Show, Check, Expand, Convert, IsRefused}
 use Rattle.ti_line.specs.declared.line.Expand as code
 use Rattle.ti_line.specs.declared.line.Line.{Line}
 use Rattle.ti_line.specs.declared.line.Line.TheVariants as line
@@ -15,13 +15,15 @@ texts_of = map (λ t. t.now)
 
 -- what `expand` asks for
 abbrev pub expand_of : code.Expand → Request
-expand_of e = Expand e.name.now e.hex e.rate e.lines e.xon (texts_of e.params.items)
+expand_of e =
+    Expand e.name.now e.hex e.escape e.all_names e.rate e.lines e.xon (texts_of e.params.items)
 
 -- what a line asks for
 abbrev pub request_of : Line → Request
-request_of (line.Cap hex params) = Cap hex (texts_of params.items)
-request_of line.Show = Show
-request_of line.Check = Check
+request_of (line.Cap hex escape params) = Cap hex escape (texts_of params.items)
+request_of (line.Trace escape params) = Trace escape (texts_of params.items)
+request_of (line.Show escape all_names) = Show escape all_names
+request_of (line.Check all_names) = Check all_names
 request_of (line.Expand expand) = expand_of expand
 request_of (line.Convert wide narrow) = Convert wide narrow
 

@@ -2,7 +2,7 @@
 
 ghost use Rattle.std.specs.Prelude.{◌≡◌, [], ◌∷◌, IfOk, false};
 ghost use Rattle.clap.specs.Words.{app_of, new_app, rule_of};
-ghost use Rattle.ti_line.specs.CommandLine.{cap_app, check_app, convert_app, expand_app, hex_rule, lines_rule, name_rule, narrow_rule, params_rule, rate_rule, show_app, start_app, ti_app, wide_rule, with_commands, with_rules, xon_rule};
+ghost use Rattle.ti_line.specs.CommandLine.{all_names_rule, cap_app, check_app, convert_app, escape_rule, expand_app, hex_rule, lines_rule, name_rule, narrow_rule, params_rule, rate_rule, show_app, start_app, ti_app, trace_app, wide_rule, with_commands, with_rules, xon_rule};
 ghost use Rattle.ti_line.specs.inner.Command.{HasNoGlobals};
 
 use clap::{Arg, ArgAction, Command, value_parser};
@@ -17,6 +17,28 @@ fn hex<'a>(alloc: Global) -> Arg<'a>
         .long("hex")
         .action(ArgAction::SetTrue)
         .help("Write the output as lower-case hex and one newline")
+}
+
+fn escape<'a>(alloc: Global) -> Arg<'a>
+    ensures rule { rule_of result ≡ escape_rule }
+    ensures local { result.global ≡ false }
+{
+    Arg::new(alloc, "escape")
+        .long("escape")
+        .action(ArgAction::SetTrue)
+        .help(
+            "Write texts in the notation of terminfo(5), as \\E[H; an output ends with one newline",
+        )
+}
+
+fn all_names<'a>(alloc: Global) -> Arg<'a>
+    ensures rule { rule_of result ≡ all_names_rule }
+    ensures local { result.global ≡ false }
+{
+    Arg::new(alloc, "all-names")
+        .long("all-names")
+        .action(ArgAction::SetTrue)
+        .help("Use the names of all 497 capabilities, beside the common ones")
 }
 
 fn params<'a>(alloc: Global) -> Arg<'a>
@@ -106,23 +128,44 @@ fn new_command<'a>(alloc: Global, name: &'a str, about: &'a str, example: &'a st
         .after_long_help(example)
 }
 
+fn with_forms<'a>(alloc: Global, command: Command<'a>) -> Result<Command<'a>, AllocError>
+    ensures shape { IfOk result (λ c. app_of c
+        ≡ with_rules (app_of command.entry) (hex_rule ∷ escape_rule ∷ [])) }
+    ensures local { HasNoGlobals command.entry → IfOk result HasNoGlobals }
+{
+    command.arg(hex(alloc))?.arg(escape(alloc))
+}
+
 fn cap<'a>(alloc: Global) -> Result<Command<'a>, AllocError>
     ensures shape { IfOk result (λ c. app_of c ≡ cap_app) }
     ensures local { IfOk result HasNoGlobals }
 {
-    new_command(
+    let command = new_command(
         alloc,
         "cap",
         "Expand standard input as one capability; padding marks stay as they are",
         "Example, which writes ESC [ 7 G:\n  printf '\\033[%%p1%%dG' | ti cap n:7",
-    )
-    .arg(hex(alloc))?
-    .arg(params(alloc))
+    );
+    with_forms(alloc, command)?.arg(params(alloc))
 }
 
-fn show<'a>(alloc: Global) -> Command<'a>
-    ensures shape { app_of result ≡ show_app }
-    ensures local { HasNoGlobals result }
+fn trace<'a>(alloc: Global) -> Result<Command<'a>, AllocError>
+    ensures shape { IfOk result (λ c. app_of c ≡ trace_app) }
+    ensures local { IfOk result HasNoGlobals }
+{
+    new_command(
+        alloc,
+        "trace",
+        "Show what each token of one capability on standard input does; padding marks stay as they are",
+        "Example, which shows the stack and the output after each token:\n  printf '\\033[%%p1%%dG' | ti trace --escape n:7",
+    )
+    .arg(params(alloc))?
+    .arg(escape(alloc))
+}
+
+fn show<'a>(alloc: Global) -> Result<Command<'a>, AllocError>
+    ensures shape { IfOk result (λ c. app_of c ≡ show_app) }
+    ensures local { IfOk result HasNoGlobals }
 {
     new_command(
         alloc,
@@ -130,11 +173,13 @@ fn show<'a>(alloc: Global) -> Command<'a>
         "List the compiled entry on standard input, one line an item",
         "Example:\n  ti show < /usr/share/terminfo/x/xterm",
     )
+    .arg(escape(alloc))?
+    .arg(all_names(alloc))
 }
 
-fn check<'a>(alloc: Global) -> Command<'a>
-    ensures shape { app_of result ≡ check_app }
-    ensures local { HasNoGlobals result }
+fn check<'a>(alloc: Global) -> Result<Command<'a>, AllocError>
+    ensures shape { IfOk result (λ c. app_of c ≡ check_app) }
+    ensures local { IfOk result HasNoGlobals }
 {
     new_command(
         alloc,
@@ -142,6 +187,7 @@ fn check<'a>(alloc: Global) -> Command<'a>
         "Analyse each text of the entry on standard input; status 1 where one has a fault",
         "Example:\n  ti check < /usr/share/terminfo/x/xterm",
     )
+    .arg(all_names(alloc))
 }
 
 fn with_numbers<'a>(alloc: Global, command: Command<'a>) -> Result<Command<'a>, AllocError>
@@ -162,8 +208,8 @@ fn expand<'a>(alloc: Global) -> Result<Command<'a>, AllocError>
         "Expand and pad one text of the entry on standard input",
         "Example, which moves to line 5, column 10:\n  ti expand cup n:4 n:9 < /usr/share/terminfo/x/xterm",
     )
-    .arg(name(alloc))?
-    .arg(hex(alloc))?;
+    .arg(name(alloc))?;
+    let command = with_forms(alloc, command)?.arg(all_names(alloc))?;
     with_numbers(alloc, command)?
         .arg(xon(alloc))?
         .arg(params(alloc))
@@ -208,13 +254,13 @@ fn start<'a>(alloc: Global) -> Command<'a>
 /// `ti` with its first three subcommands.
 fn first_commands<'a>(alloc: Global) -> Result<Command<'a>, AllocError>
     ensures shape { IfOk result (λ c. app_of c
-        ≡ with_commands start_app (cap_app ∷ show_app ∷ check_app ∷ [])) }
+        ≡ with_commands start_app (cap_app ∷ trace_app ∷ show_app ∷ [])) }
     ensures local { IfOk result HasNoGlobals }
 {
     start(alloc)
         .subcommand(cap(alloc)?)?
-        .subcommand(show(alloc))?
-        .subcommand(check(alloc))
+        .subcommand(trace(alloc)?)?
+        .subcommand(show(alloc)?)
 }
 
 /// `ti` whole.
@@ -222,6 +268,7 @@ pub(crate) fn program<'a>(alloc: Global) -> Result<Command<'a>, AllocError>
     ensures { IfOk result (λ c. app_of c ≡ ti_app) }
 {
     first_commands(alloc)?
+        .subcommand(check(alloc)?)?
         .subcommand(expand(alloc)?)?
         .subcommand(convert(alloc)?)
 }

@@ -5,10 +5,11 @@
 //!
 //! | Command | Value |
 //! |---|---|
-//! | `cap [--hex] [PARAM..]` | [`Line::Cap`] |
-//! | `show` | [`Line::Show`] |
-//! | `check` | [`Line::Check`] |
-//! | `expand NAME [--hex] [--rate N] [--lines N] [--xon] [PARAM..]` | [`Line::Expand`] |
+//! | `cap [--hex] [--escape] [PARAM..]` | [`Line::Cap`] |
+//! | `trace [--escape] [PARAM..]` | [`Line::Trace`] |
+//! | `show [--escape] [--all-names]` | [`Line::Show`] |
+//! | `check [--all-names]` | [`Line::Check`] |
+//! | `expand NAME [--hex] [--escape] [--all-names] [--rate N] [--lines N] [--xon] [PARAM..]` | [`Line::Expand`] |
 //! | `convert [--wide] [--narrow]` | [`Line::Convert`] |
 #![tactic(auto)]
 

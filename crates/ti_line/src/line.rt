@@ -13,13 +13,30 @@ pub enum Line<'a> {
     Cap {
         /// Write the output as lower-case hex and a newline.
         hex: bool,
+        /// Write it in the notation of terminfo(5) and a newline. That both are given is the caller's to refuse.
+        escape: bool,
+        /// The words of the parameters.
+        params: Vec<&'a str>,
+    },
+    /// Show what each token of standard input, as one capability, does.
+    Trace {
+        /// Write texts in the notation of terminfo(5).
+        escape: bool,
         /// The words of the parameters.
         params: Vec<&'a str>,
     },
     /// List the entry.
-    Show,
+    Show {
+        /// Write texts in the notation of terminfo(5), in place of hex.
+        escape: bool,
+        /// Call capabilities by the table of all names, in place of the common ones.
+        all_names: bool,
+    },
     /// Analyse each text of the entry.
-    Check,
+    Check {
+        /// Call texts by the table of all names, in place of the common ones.
+        all_names: bool,
+    },
     /// Expand and pad one text of the entry.
     Expand(Expand<'a>),
     /// Write the entry in its canonical layout.
@@ -38,6 +55,10 @@ pub struct Expand<'a> {
     pub name: &'a str,
     /// Write the output as lower-case hex and a newline.
     pub hex: bool,
+    /// Write it in the notation of terminfo(5) and a newline. That both are given is the caller's to refuse.
+    pub escape: bool,
+    /// Look the name up in the table of all names, in place of the common ones.
+    pub all_names: bool,
     /// Bytes per second, at most [`GREATEST_RATE`](ti_base::GREATEST_RATE); 0 where none was given.
     pub rate: u32,
     /// Affected lines, at most [`MOST_LINES`](ti_base::MOST_LINES); 1 where none were given.

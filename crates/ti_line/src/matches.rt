@@ -58,6 +58,8 @@ fn expand_line<'a>(given: &ArgMatches<'a>, name: &'a str, params: Vec<&'a str>) 
     Expand {
         name,
         hex: flag(given, "hex"),
+        escape: flag(given, "escape"),
+        all_names: flag(given, "all-names"),
         rate: number(given, "rate", 0),
         lines: number(given, "lines", 1),
         xon: flag(given, "xon"),
@@ -79,10 +81,20 @@ pub(crate) fn line_of<'a>(
     let line = match command {
         "cap" => Line::Cap {
             hex: flag(given, "hex"),
+            escape: flag(given, "escape"),
             params,
         },
-        "show" => Line::Show,
-        "check" => Line::Check,
+        "trace" => Line::Trace {
+            escape: flag(given, "escape"),
+            params,
+        },
+        "show" => Line::Show {
+            escape: flag(given, "escape"),
+            all_names: flag(given, "all-names"),
+        },
+        "check" => Line::Check {
+            all_names: flag(given, "all-names"),
+        },
         "expand" => match text(given, "NAME") {
             Some(name) => Line::Expand(expand_line(given, name, params)),
             None => unreachable!(),

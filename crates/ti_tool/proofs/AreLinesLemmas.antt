@@ -3,6 +3,7 @@ use Rattle.std.proofs.Common.{◌≡◌, ℕ, inl, inr, suc, ◌+◌, ◌<◌, �
 use Rattle.std.proofs.lemmas.List.{append-nil, drop_all}
 use Rattle.std.specs.Prelude.{codes}
 use Rattle.ti_words.specs.declared.Kind.TheVariants as kinds
+use Rattle.ti_words.specs.declared.all_names.NameTable.{NameTable}
 use Rattle.ti_words.specs.Texts.{TextValue, AbsentText, TextOf, text_value}
 use Rattle.ti_words.specs.declared.Text.{Text}
 use Rattle.ti_words.specs.declared.Text.TheVariants as texts
@@ -52,13 +53,13 @@ goes_end L xs i before out sound h goes =
     (lines, subst R (and_true sound) are, sym (append-nil out) ∙ e)
 
 -- the same over the texts of an entry
-pub standard_next : (texts : List TextValue) (i : ℕ) (label : List ℕ) (text : TextValue) (before out new : List ℕ) (sound one : Bool) → i < length texts
-    → label ≡ label_of kinds.Text i → text ≡ get_or texts i AbsentText → GoesOn IsStandardLine texts before i out sound
-    → (line : List ℕ) × IsLine (codes "text ") label text line one × (new ≡ out ++ line) → GoesOn IsStandardLine texts before (i + 1) new (sound && one)
-standard_next texts i label text before out new sound one h l t goes (line, is, n) =
+pub standard_next : (names : NameTable) (texts : List TextValue) (i : ℕ) (label : List ℕ) (text : TextValue) (before out new : List ℕ) (sound one : Bool) → i < length texts
+    → label ≡ label_of names kinds.Text i → text ≡ get_or texts i AbsentText → GoesOn (IsStandardLine names) texts before i out sound
+    → (line : List ℕ) × IsLine (codes "text ") label text line one × (new ≡ out ++ line) → GoesOn (IsStandardLine names) texts before (i + 1) new (sound && one)
+standard_next names texts i label text before out new sound one h l t goes (line, is, n) =
     let P : List ℕ → Type 0 = λ x. IsLine (codes "text ") x text line one in
-    let Q : TextValue → Type 0 = λ x. IsLine (codes "text ") (label_of kinds.Text i) x line one in
-    goes_next IsStandardLine texts i AbsentText before out new line sound one h goes (subst Q t (subst P l is)) n
+    let Q : TextValue → Type 0 = λ x. IsLine (codes "text ") (label_of names kinds.Text i) x line one in
+    goes_next (IsStandardLine names) texts i AbsentText before out new line sound one h goes (subst Q t (subst P l is)) n
 
 -- the verdict on a text that parsing accepted
 pub sound_judged : (text capability : List ℕ) (verdict : Verdict) (depth bound : ℕ) → verdict ≡ Sound depth bound → capability ≡ text → IsFaultless text

@@ -2,7 +2,7 @@
 use Rattle.std.proofs.Common.{◌≡◌, ℕ, Bool, true, false, [], inl, inr, List, sym, subst, ◌∙◌}
 use Rattle.std.specs.Prelude.{Option, Result, Ok, Err}
 use Rattle.std.proofs.KnownBytes.{Appends-nil}
-use Rattle.ti_line.specs.CommandLine.{Request, Cap, Show, Check, Expand, Convert}
+use Rattle.ti_line.specs.CommandLine.{Request, Cap, Trace, Show, Check, Expand, Convert}
 use Rattle.ti_line.specs.Line.{Explains}
 use Rattle.ti_line.specs.Message.{message_text}
 use Rattle.ti_line.specs.declared.line.NoLine.{NoLine}
@@ -11,7 +11,7 @@ use Rattle.ti_expand.specs.declared.values.Value.{Value}
 use Rattle.ti_tool.specs.declared.fault.ToolFault.{ToolFault}
 use Rattle.ti_tool.specs.declared.fault.ToolFault.TheVariants as fault
 use Rattle.ti_tool.specs.FaultLines.{Told}
-use Rattle.ti_tool.specs.Runs.{DidLine, DidNoLine, RanLine, RanWith, Stream, check_status, status_for}
+use Rattle.ti_tool.specs.Runs.{DidLine, DidNoLine, RanLine, RanUnlessBoth, RanWith, Stream, check_status, status_for}
 use Rattle.ti_tool.specs.inner.Ends.{EndsWords}
 
 -- nothing is told where there is no fault
@@ -41,13 +41,20 @@ with_refused : (Did : List Value → Result (Unit {0}) ToolFault → Type 0) (wo
 with_refused Did words U told0 told1 status (inl (why, is, none, refuses)) e = refuses.1
 with_refused Did words U told0 told1 status (inr (values, answer, are, did, ends)) e = absurd (not_two answer (sym ends.0 ∙ e))
 
+unless_refused : (one other : Bool) (line : List ℕ) (Ran U : Type 0) (told0 told1 : Stream) (status : ℕ) → (Ran → status ≡ 2 → U) → RanUnlessBoth one other line Ran U told0 told1 status → status ≡ 2 → U
+unless_refused one other line Ran U told0 told1 status none (inl (both, refuses)) e = refuses.1
+unless_refused one other line Ran U told0 told1 status none (inr (apart, ran)) e = none ran e
+
 pub refused_first : (line : Request) (U : Type 0) (left0 left1 held0 held1 told0 told1 : Stream) (status : ℕ) → RanLine line U left0 left1 held0 held1 told0 told1 status → status ≡ 2 → U
-refused_first (Cap hex words) U left0 left1 held0 held1 told0 told1 status ran e = with_refused _ words U told0 told1 status ran e
-refused_first Show U left0 left1 held0 held1 told0 told1 status (answer, did, ends) e = absurd (not_two answer (sym ends.0 ∙ e))
-refused_first Check U left0 left1 held0 held1 told0 told1 status (answer, did, ends) e = absurd (check_not_two answer (sym ends.0 ∙ e))
-refused_first (Expand name hex rate lines xon words) U left0 left1 held0 held1 told0 told1 status ran e = with_refused _ words U told0 told1 status ran e
-refused_first (Convert wide narrow) U left0 left1 held0 held1 told0 told1 status (inl (both, refuses)) e = refuses.1
-refused_first (Convert wide narrow) U left0 left1 held0 held1 told0 told1 status (inr (one, (answer, did, ends))) e = absurd (not_two answer (sym ends.0 ∙ e))
+refused_first (Cap hex escape words) U left0 left1 held0 held1 told0 told1 status ran e =
+    unless_refused hex escape _ _ U told0 told1 status (with_refused _ words U told0 told1 status) ran e
+refused_first (Trace escape words) U left0 left1 held0 held1 told0 told1 status ran e = with_refused _ words U told0 told1 status ran e
+refused_first (Show escape all_names) U left0 left1 held0 held1 told0 told1 status (answer, did, ends) e = absurd (not_two answer (sym ends.0 ∙ e))
+refused_first (Check all_names) U left0 left1 held0 held1 told0 told1 status (answer, did, ends) e = absurd (check_not_two answer (sym ends.0 ∙ e))
+refused_first (Expand name hex escape all_names rate lines xon words) U left0 left1 held0 held1 told0 told1 status ran e =
+    unless_refused hex escape _ _ U told0 told1 status (with_refused _ words U told0 told1 status) ran e
+refused_first (Convert wide narrow) U left0 left1 held0 held1 told0 told1 status ran e =
+    unless_refused wide narrow _ _ U told0 told1 status (λ (answer, did, ends) two. absurd (not_two answer (sym ends.0 ∙ two))) ran e
 
 pub refused_words_first : (why : NoLine) (V : Type 0) (held0 held1 told0 told1 : Stream) (status : ℕ) → EndsWords why V held0 held1 told0 told1 status → status ≡ 2 → V
 refused_words_first (no_line.Help message) V held0 held1 told0 told1 status (inl done) e = absurd (cc (done.0, e))

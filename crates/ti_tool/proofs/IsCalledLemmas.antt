@@ -3,7 +3,9 @@ use Rattle.std.proofs.Common.{◌≡◌, ℕ, zero, suc, List, [], ◌∷◌, �
 use Rattle.std.specs.Prelude.{Option, Some, None, slice_get, codes}
 use Rattle.std.specs.Str.Parse.{digits_value}
 use Rattle.ti_words.specs.declared.Kind.TheVariants as kinds
-use Rattle.ti_words.specs.Names.{Place, place_of}
+use Rattle.ti_words.specs.declared.all_names.NameTable.{NameTable}
+use Rattle.ti_words.specs.Names.{Place}
+use Rattle.ti_words.specs.AllNames.{place_in}
 use Rattle.ti_words.specs.Texts.{TextValue, AbsentText}
 use Rattle.ti_words.specs.Value.{EntryValue}
 use Rattle.ti_entry.specs.Finding.{Lacks, IsLeastIndex, names_of}
@@ -47,9 +49,9 @@ one_label name i j (digits, is, numeral, few, value) (others, same, numerals, fe
     let one : digits ≡ others = cc in
     value ∙ ap (digits_value 10) one ∙ sym values
 
-pub one_called : (name : List ℕ) (v : EntryValue) (s t : TextValue) → IsCalled name v s → IsCalled name v t → s ≡ t
-one_called name v s t (inl (i, label, is)) (inl (j, other, same)) =
+pub one_called : (names : NameTable) (name : List ℕ) (v : EntryValue) (s t : TextValue) → IsCalled names name v s → IsCalled names name v t → s ≡ t
+one_called names name v s t (inl (i, label, is)) (inl (j, other, same)) =
     is ∙ ap (λ k. get_or v.texts k AbsentText) (one_label name i j label other) ∙ sym same
-one_called name v s t (inl (i, label, is)) (inr (none, named)) = absurd (none i label)
-one_called name v s t (inr (none, named)) (inl (j, other, same)) = absurd (none j other)
-one_called name v s t (inr (none, named)) (inr (neither, again)) = one_named (place_of name) name v s t named again
+one_called names name v s t (inl (i, label, is)) (inr (none, named)) = absurd (none i label)
+one_called names name v s t (inr (none, named)) (inl (j, other, same)) = absurd (none j other)
+one_called names name v s t (inr (none, named)) (inr (neither, again)) = one_named (place_in names name) name v s t named again

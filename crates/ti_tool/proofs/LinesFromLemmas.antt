@@ -1,7 +1,6 @@
 -- Lines that are written one item after another.
-use Rattle.std.proofs.Common.{◌≡◌, ℕ, ◌+◌, ◌<◌, ◌≤◌, List, [], ◌∷◌, ◌++◌, length, drop, get_or, sym, ◌∙◌, ap, append_assoc, add-one, drop-cons}
+use Rattle.std.proofs.Common.{◌≡◌, ℕ, ◌+◌, ◌<◌, ◌≤◌, List, ◌++◌, length, drop, get_or, sym, ◌∙◌, ap, append_assoc, add-one, drop-cons}
 use Rattle.std.proofs.lemmas.List.{append-nil, drop_all}
-use Rattle.hex.specs.Hex.{encode_lower, encode_with}
 use Rattle.ti_tool.specs.Listing.{lines_from}
 
 -- what is written and what is still to come make the whole, one item further
@@ -14,17 +13,3 @@ lines_next line xs i d out new whole h e n =
 
 pub lines_end : {X : Type 0} (line : ℕ → X → List ℕ) (xs : List X) (i : ℕ) (out whole : List ℕ) → length xs ≤ i → out ++ lines_from line i (drop i xs) ≡ whole → out ≡ whole
 lines_end line xs i out whole h e = sym (append-nil out) ∙ ap (λ l. out ++ lines_from line i l) (sym (drop_all i xs h)) ∙ e
-
--- one byte more in hex
-pub hex_next : (xs : List ℕ) (i : ℕ) (out new pair byte whole : List ℕ) → i < length xs → byte ≡ get_or xs i 0 ∷ [] → pair ≡ encode_lower byte
-    → out ++ encode_lower (drop i xs) ≡ whole → new ≡ out ++ pair → new ++ encode_lower (drop (i + 1) xs) ≡ whole
-unfolding encode_with
-hex_next xs i out new pair byte whole h b p e n =
-    ap (λ l. l ++ encode_lower (drop (i + 1) xs)) n ∙ append_assoc out pair (encode_lower (drop (i + 1) xs))
-    ∙ ap (λ l. out ++ (l ++ encode_lower (drop (i + 1) xs))) (p ∙ ap (λ l. encode_lower l) b)
-    ∙ ap (λ k. out ++ (encode_lower (get_or xs i 0 ∷ []) ++ encode_lower (drop k xs))) (add-one i)
-    ∙ ap (λ l. out ++ encode_lower l) (sym (drop-cons xs i 0 h)) ∙ e
-
-pub hex_end : (xs : List ℕ) (i : ℕ) (out whole : List ℕ) → length xs ≤ i → out ++ encode_lower (drop i xs) ≡ whole → out ≡ whole
-unfolding encode_with
-hex_end xs i out whole h e = sym (append-nil out) ∙ ap (λ l. out ++ encode_lower l) (sym (drop_all i xs h)) ∙ e

@@ -13,15 +13,22 @@ use Rattle.ti_cap.specs.declared.language.CapRefused.{CapRefused}
 use Rattle.ti_cap.specs.Refusal.{IsFaultless, IsRefusal}
 use Rattle.ti_expand.specs.declared.values.Value.{Value}
 use Rattle.ti_expand.specs.Expands.{IsFirstTooLong}
+use Rattle.ti_escape.specs.declared.form.Form.{Form}
+use Rattle.ti_trace.specs.declared.fault.TraceFault.{TraceFault}
+use Rattle.ti_trace.specs.declared.fault.TraceFault.TheVariants as trace_fault
 use Rattle.ti_pad.specs.Setting.{Setting}
 use Rattle.ti_pad.specs.Padded.{padded_text}
 use Rattle.ti_entry.proofs.SpellsAtMostOneLemmas.{at_most_one}
 use Rattle.ti_entry.proofs.SpelledExtendedLemmas.{only}
+use Rattle.ti_words.specs.declared.all_names.NameTable.{NameTable}
+use Rattle.ti_tool.specs.declared.look.Look.{Look}
+use Rattle.ti_tool.specs.declared.look.Output.{Output}
 use Rattle.ti_tool.specs.declared.fault.ToolFault.{ToolFault}
 use Rattle.ti_tool.specs.declared.fault.ToolFault.TheVariants as fault
 use Rattle.ti_tool.specs.Calls.{NeedsMemory}
 use Rattle.ti_tool.specs.Names.{IsCalled}
-use Rattle.ti_tool.specs.Results.{output_bytes, IsExpansion, IsUnexpanded, IsCapped, IsPadded, IsDue, IsDueFor, IsExpanded, IsShown, IsChecked, IsEncoding, IsConverted, in_width}
+use Rattle.ti_tool.specs.Looks.{output_bytes}
+use Rattle.ti_tool.specs.Results.{IsExpansion, IsUnexpanded, IsCappedAs, IsPadded, IsDue, IsDueFor, IsExpandedAs, IsShownAs, IsTraced, IsCheckedAs, IsEncoding, IsConverted, in_width}
 use Rattle.ti_tool.specs.inner.Dues.{FailsAsDue, IsExpandable}
 use Rattle.ti_tool.proofs.IsCalledLemmas.{one_called}
 
@@ -42,49 +49,58 @@ expandable text parameters sound short fault.Read d = d
 expandable text parameters sound short (fault.Write gone) d = d
 expandable text parameters sound short fault.Memory d = d
 
-pub capped_needs : (parameters : List Value) (hex : Bool) (input : List ℕ) → IsExpandable input parameters → NeedsMemory (IsCapped parameters hex input)
-capped_needs parameters hex input can e d = absurd (can e d)
+pub capped_needs : (parameters : List Value) (output : Output) (input : List ℕ) → IsExpandable input parameters → NeedsMemory (IsCappedAs parameters output input)
+capped_needs parameters output input can e d = absurd (can e d)
 
-pub padded_needs : (text : List ℕ) (parameters : List Value) (setting : Setting) (hex : Bool) → IsExpandable text parameters → NeedsMemory (IsPadded text parameters setting hex)
-padded_needs text parameters setting hex can (fault.TooMuch need) d = tt
-padded_needs text parameters setting hex can (fault.Cap refused) d = absurd (can (fault.Cap refused) d)
-padded_needs text parameters setting hex can (fault.TextTooLong k) d = absurd (can (fault.TextTooLong k) d)
-padded_needs text parameters setting hex can (fault.Entry refused) d = d
-padded_needs text parameters setting hex can (fault.Encode unfit) d = tt
-padded_needs text parameters setting hex can fault.NoSuchText d = d
-padded_needs text parameters setting hex can fault.Read d = d
-padded_needs text parameters setting hex can (fault.Write gone) d = d
-padded_needs text parameters setting hex can fault.Memory d = d
+pub padded_needs : (text : List ℕ) (parameters : List Value) (setting : Setting) (output : Output) → IsExpandable text parameters → NeedsMemory (IsPadded text parameters setting output)
+padded_needs text parameters setting output can (fault.TooMuch need) d = tt
+padded_needs text parameters setting output can (fault.Cap refused) d = absurd (can (fault.Cap refused) d)
+padded_needs text parameters setting output can (fault.TextTooLong k) d = absurd (can (fault.TextTooLong k) d)
+padded_needs text parameters setting output can (fault.Entry refused) d = d
+padded_needs text parameters setting output can (fault.Encode unfit) d = tt
+padded_needs text parameters setting output can fault.NoSuchText d = d
+padded_needs text parameters setting output can fault.Read d = d
+padded_needs text parameters setting output can (fault.Write gone) d = d
+padded_needs text parameters setting output can fault.Memory d = d
+
+pub traced_needs : (parameters : List Value) (form : Form) (input : List ℕ) → IsExpandable input parameters → NeedsMemory (IsTraced parameters form input)
+traced_needs parameters form input can e d = absurd (can e d)
 
 -- ---- what the parts of a call answer
 
+-- no text is too long where a trace was out of memory
+pub none_too_long_traced : {V : Type 0} (r : Result V TraceFault) (input : List ℕ) (parameters : List Value) → IsFaultless input
+    → ((k : ℕ) → (r ≡ Err (trace_fault.TextTooLong k)) ↔ (IsFaultless input × IsFirstTooLong parameters k)) → r ≡ Err trace_fault.Memory
+    → (k : ℕ) → ¬ IsFirstTooLong parameters k
+none_too_long_traced r input parameters sound h e k first = absurd (cc (e, (h k).1 (sound, first)))
+
 -- the output of a capability in the form that is asked for, or out of memory
-pub capped_of : {V : Type 0} (r : Result V ToolFault) (bytes_of : V → List ℕ) (parameters : List Value) (hex : Bool) (input plain : List ℕ) → IsFaultless input → IsExpansion input parameters plain
-    → IfOk r (λ v. bytes_of v ≡ output_bytes hex plain) → IfErr r (λ e. e ≡ fault.Memory)
-    → MatchResult r (λ v. IsCapped parameters hex input (Ok (bytes_of v))) (FailsAsDue (IsCapped parameters hex input))
-capped_of (Ok v) bytes_of parameters hex input plain sound expansion is fails = (plain, sound, expansion, is)
-capped_of (Err e) bytes_of parameters hex input plain sound expansion is fails = inl (fails, capped_needs parameters hex input (expandable input parameters sound expansion.short))
+pub capped_of : {V : Type 0} (r : Result V ToolFault) (bytes_of : V → List ℕ) (parameters : List Value) (output : Output) (input plain : List ℕ) → IsFaultless input → IsExpansion input parameters plain
+    → IfOk r (λ v. bytes_of v ≡ output_bytes output plain) → IfErr r (λ e. e ≡ fault.Memory)
+    → MatchResult r (λ v. IsCappedAs parameters output input (Ok (bytes_of v))) (FailsAsDue (IsCappedAs parameters output input))
+capped_of (Ok v) bytes_of parameters output input plain sound expansion is fails = (plain, sound, expansion, is)
+capped_of (Err e) bytes_of parameters output input plain sound expansion is fails = inl (fails, capped_needs parameters output input (expandable input parameters sound expansion.short))
 
 -- the same of a padded text
-pub padded_of : {V : Type 0} (r : Result V ToolFault) (bytes_of : V → List ℕ) (text : List ℕ) (parameters : List Value) (setting : Setting) (hex : Bool) (plain padded : List ℕ) → IsFaultless text → IsExpansion text parameters plain
+pub padded_of : {V : Type 0} (r : Result V ToolFault) (bytes_of : V → List ℕ) (text : List ℕ) (parameters : List Value) (setting : Setting) (output : Output) (plain padded : List ℕ) → IsFaultless text → IsExpansion text parameters plain
     → padded ≡ padded_text plain setting → length (padded_text plain setting) ≤ most_padded_bytes
-    → IfOk r (λ v. bytes_of v ≡ output_bytes hex padded) → IfErr r (λ e. e ≡ fault.Memory)
-    → MatchResult r (λ v. IsPadded text parameters setting hex (Ok (bytes_of v))) (FailsAsDue (IsPadded text parameters setting hex))
-padded_of (Ok v) bytes_of text parameters setting hex plain padded sound expansion e short is fails = (plain, sound, expansion, short, is ∙ ap (output_bytes hex) e)
-padded_of (Err f) bytes_of text parameters setting hex plain padded sound expansion e short is fails = inl (fails, padded_needs text parameters setting hex (expandable text parameters sound expansion.short))
+    → IfOk r (λ v. bytes_of v ≡ output_bytes output padded) → IfErr r (λ e. e ≡ fault.Memory)
+    → MatchResult r (λ v. IsPadded text parameters setting output (Ok (bytes_of v))) (FailsAsDue (IsPadded text parameters setting output))
+padded_of (Ok v) bytes_of text parameters setting output plain padded sound expansion e short is fails = (plain, sound, expansion, short, is ∙ ap (output_bytes output) e)
+padded_of (Err f) bytes_of text parameters setting output plain padded sound expansion e short is fails = inl (fails, padded_needs text parameters setting output (expandable text parameters sound expansion.short))
 
 -- why a text is not expanded is why it is not padded
-pub unexpanded_due : (text : List ℕ) (parameters : List Value) (setting : Setting) (hex : Bool) (e : ToolFault) → ((e ≡ fault.Memory) × IsExpandable text parameters) ⊎ IsUnexpanded text parameters e → FailsAsDue (IsPadded text parameters setting hex) e
-unexpanded_due text parameters setting hex e (inl (is, can)) = inl (is, padded_needs text parameters setting hex can)
-unexpanded_due text parameters setting hex (fault.Cap refused) (inr d) = inr d
-unexpanded_due text parameters setting hex (fault.TextTooLong k) (inr d) = inr d
-unexpanded_due text parameters setting hex (fault.Entry refused) (inr d) = absurd d
-unexpanded_due text parameters setting hex (fault.Encode unfit) (inr d) = absurd d
-unexpanded_due text parameters setting hex fault.NoSuchText (inr d) = absurd d
-unexpanded_due text parameters setting hex (fault.TooMuch need) (inr d) = absurd d
-unexpanded_due text parameters setting hex fault.Read (inr d) = absurd d
-unexpanded_due text parameters setting hex (fault.Write gone) (inr d) = absurd d
-unexpanded_due text parameters setting hex fault.Memory (inr d) = absurd d
+pub unexpanded_due : (text : List ℕ) (parameters : List Value) (setting : Setting) (output : Output) (e : ToolFault) → ((e ≡ fault.Memory) × IsExpandable text parameters) ⊎ IsUnexpanded text parameters e → FailsAsDue (IsPadded text parameters setting output) e
+unexpanded_due text parameters setting output e (inl (is, can)) = inl (is, padded_needs text parameters setting output can)
+unexpanded_due text parameters setting output (fault.Cap refused) (inr d) = inr d
+unexpanded_due text parameters setting output (fault.TextTooLong k) (inr d) = inr d
+unexpanded_due text parameters setting output (fault.Entry refused) (inr d) = absurd d
+unexpanded_due text parameters setting output (fault.Encode unfit) (inr d) = absurd d
+unexpanded_due text parameters setting output fault.NoSuchText (inr d) = absurd d
+unexpanded_due text parameters setting output (fault.TooMuch need) (inr d) = absurd d
+unexpanded_due text parameters setting output fault.Read (inr d) = absurd d
+unexpanded_due text parameters setting output (fault.Write gone) (inr d) = absurd d
+unexpanded_due text parameters setting output fault.Memory (inr d) = absurd d
 
 -- what is not above the limit is at most it
 pub within_limit : (n : ℕ) (faults : Type 0) → (faults ↔ (most_padded_bytes < n)) → ¬ faults → n ≤ most_padded_bytes
@@ -96,18 +112,18 @@ within_limit n faults h none = at_most n (λ lt. none (h.1 lt))
 -- ---- named texts
 
 -- what is due for a text is due for the name that stands for it
-pub due_for : (name : List ℕ) (parameters : List Value) (setting : Setting) (hex : Bool) (v : EntryValue) (text : TextValue) (e : ToolFault) → IsCalled name v text
-    → FailsAsDue (IsDue text parameters setting hex) e → FailsAsDue (IsDueFor name parameters setting hex v) e
-due_for name parameters setting hex v text e called (inl (is, needs)) =
-    inl (is, λ f (other, again, d). needs f (subst (λ t. IsDue t parameters setting hex (Err f)) (one_called name v other text again called) d))
-due_for name parameters setting hex v text e called (inr d) = inr (text, called, d)
+pub due_for : (names : NameTable) (name : List ℕ) (parameters : List Value) (setting : Setting) (output : Output) (v : EntryValue) (text : TextValue) (e : ToolFault) → IsCalled names name v text
+    → FailsAsDue (IsDue text parameters setting output) e → FailsAsDue (IsDueFor names name parameters setting output v) e
+due_for names name parameters setting output v text e called (inl (is, needs)) =
+    inl (is, λ f (other, again, d). needs f (subst (λ t. IsDue t parameters setting output (Err f)) (one_called names name v other text again called) d))
+due_for names name parameters setting output v text e called (inr d) = inr (text, called, d)
 
 -- the named text of an entry
-pub named_of : {V : Type 0} (r : Result V ToolFault) (bytes_of : V → List ℕ) (name : List ℕ) (parameters : List Value) (setting : Setting) (hex : Bool) (v : EntryValue) (text : List ℕ) → IsCalled name v (TextOf text)
-    → MatchResult r (λ w. IsPadded text parameters setting hex (Ok (bytes_of w))) (FailsAsDue (IsPadded text parameters setting hex))
-    → MatchResult r (λ w. IsDueFor name parameters setting hex v (Ok (bytes_of w))) (FailsAsDue (IsDueFor name parameters setting hex v))
-named_of (Ok w) bytes_of name parameters setting hex v text called h = (TextOf text, called, h)
-named_of (Err e) bytes_of name parameters setting hex v text called h = due_for name parameters setting hex v (TextOf text) e called h
+pub named_of : {V : Type 0} (r : Result V ToolFault) (bytes_of : V → List ℕ) (names : NameTable) (name : List ℕ) (parameters : List Value) (setting : Setting) (output : Output) (v : EntryValue) (text : List ℕ) → IsCalled names name v (TextOf text)
+    → MatchResult r (λ w. IsPadded text parameters setting output (Ok (bytes_of w))) (FailsAsDue (IsPadded text parameters setting output))
+    → MatchResult r (λ w. IsDueFor names name parameters setting output v (Ok (bytes_of w))) (FailsAsDue (IsDueFor names name parameters setting output v))
+named_of (Ok w) bytes_of names name parameters setting output v text called h = (TextOf text, called, h)
+named_of (Err e) bytes_of names name parameters setting output v text called h = due_for names name parameters setting output v (TextOf text) e called h
 
 -- ---- entries
 
@@ -117,27 +133,27 @@ unrefused input v spells = ap (refusal_of (length input)) (sym (only input v spe
 pub never_refused : (input : List ℕ) (v : EntryValue) (r : Refused) → Spells input v → refusal input ≡ Some r → ⊥
 never_refused input v r spells is = let e : None ≡ Some r = sym (unrefused input v spells) ∙ is in absurd cc
 
-pub shown_needs : (input : List ℕ) (v : EntryValue) → Spells input v → NeedsMemory (IsShown input)
-shown_needs input v spells (fault.Entry refused) d = never_refused input v refused spells d
-shown_needs input v spells (fault.Encode unfit) d = tt
-shown_needs input v spells (fault.TooMuch need) d = tt
-shown_needs input v spells (fault.Cap refused) d = d
-shown_needs input v spells (fault.TextTooLong k) d = d
-shown_needs input v spells fault.NoSuchText d = d
-shown_needs input v spells fault.Read d = d
-shown_needs input v spells (fault.Write gone) d = d
-shown_needs input v spells fault.Memory d = d
+pub shown_needs : (look : Look) (input : List ℕ) (v : EntryValue) → Spells input v → NeedsMemory (IsShownAs look input)
+shown_needs look input v spells (fault.Entry refused) d = never_refused input v refused spells d
+shown_needs look input v spells (fault.Encode unfit) d = tt
+shown_needs look input v spells (fault.TooMuch need) d = tt
+shown_needs look input v spells (fault.Cap refused) d = d
+shown_needs look input v spells (fault.TextTooLong k) d = d
+shown_needs look input v spells fault.NoSuchText d = d
+shown_needs look input v spells fault.Read d = d
+shown_needs look input v spells (fault.Write gone) d = d
+shown_needs look input v spells fault.Memory d = d
 
-pub checked_needs : (sound : Bool) (input : List ℕ) (v : EntryValue) → Spells input v → NeedsMemory (IsChecked sound input)
-checked_needs sound input v spells (fault.Entry refused) d = never_refused input v refused spells d
-checked_needs sound input v spells (fault.Encode unfit) d = tt
-checked_needs sound input v spells (fault.TooMuch need) d = tt
-checked_needs sound input v spells (fault.Cap refused) d = d
-checked_needs sound input v spells (fault.TextTooLong k) d = d
-checked_needs sound input v spells fault.NoSuchText d = d
-checked_needs sound input v spells fault.Read d = d
-checked_needs sound input v spells (fault.Write gone) d = d
-checked_needs sound input v spells fault.Memory d = d
+pub checked_needs : (names : NameTable) (sound : Bool) (input : List ℕ) (v : EntryValue) → Spells input v → NeedsMemory (IsCheckedAs names sound input)
+checked_needs names sound input v spells (fault.Entry refused) d = never_refused input v refused spells d
+checked_needs names sound input v spells (fault.Encode unfit) d = tt
+checked_needs names sound input v spells (fault.TooMuch need) d = tt
+checked_needs names sound input v spells (fault.Cap refused) d = d
+checked_needs names sound input v spells (fault.TextTooLong k) d = d
+checked_needs names sound input v spells fault.NoSuchText d = d
+checked_needs names sound input v spells fault.Read d = d
+checked_needs names sound input v spells (fault.Write gone) d = d
+checked_needs names sound input v spells fault.Memory d = d
 
 -- why an entry is not encoded is found once its draft is there
 pub encoding_needs : (v : EntryValue) → NeedsMemory (IsEncoding v)
@@ -161,11 +177,11 @@ converted_due width input v e spells (inl (is, needs)) = inl (is, needs_too)
 converted_due width input v e spells (inr h) = inr (inr (v, spells, h))
 
 -- what is due for an entry is due for the bytes that spell it
-pub named_due : (name : List ℕ) (parameters : List Value) (setting : Setting) (hex : Bool) (input : List ℕ) (v : EntryValue) (e : ToolFault) → Spells input v
-    → FailsAsDue (IsDueFor name parameters setting hex v) e → FailsAsDue (IsExpanded name parameters setting hex input) e
-named_due name parameters setting hex input v e spells (inl (is, needs)) = inl (is, needs_too)
+pub named_due : (names : NameTable) (name : List ℕ) (parameters : List Value) (setting : Setting) (output : Output) (input : List ℕ) (v : EntryValue) (e : ToolFault) → Spells input v
+    → FailsAsDue (IsDueFor names name parameters setting output v) e → FailsAsDue (IsExpandedAs names name parameters setting output input) e
+named_due names name parameters setting output input v e spells (inl (is, needs)) = inl (is, needs_too)
   where
-    needs_too : NeedsMemory (IsExpanded name parameters setting hex input)
+    needs_too : NeedsMemory (IsExpandedAs names name parameters setting output input)
     needs_too f (inl (refused, is, same)) = absurd (never_refused input v refused spells is)
-    needs_too f (inr (w, other, d)) = needs f (subst (λ x. IsDueFor name parameters setting hex x (Err f)) (at_most_one input w v other spells) d)
-named_due name parameters setting hex input v e spells (inr d) = inr (inr (v, spells, d))
+    needs_too f (inr (w, other, d)) = needs f (subst (λ x. IsDueFor names name parameters setting output x (Err f)) (at_most_one input w v other spells) d)
+named_due names name parameters setting output input v e spells (inr d) = inr (inr (v, spells, d))

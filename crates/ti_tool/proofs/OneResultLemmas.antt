@@ -1,5 +1,5 @@
 -- For given parameters and bytes at most one result is due.
-use Rattle.std.proofs.Common.{◌≡◌, ◌⊎◌, ℕ, zero, suc, ◌<◌, ◌≤◌, Bool, ◌&&◌, List, [], ◌∷◌, ◌++◌, length, Ok, Err, Some, inl, inr, refl, sym, ap, subst, ◌∙◌, arith, pos}
+use Rattle.std.proofs.Common.{◌≡◌, ◌⊎◌, ℕ, zero, suc, ◌<◌, ◌≤◌, Bool, false, ◌&&◌, List, [], ◌∷◌, ◌++◌, length, Ok, Err, Some, inl, inr, refl, sym, ap, subst, ◌∙◌, arith, pos}
 use Rattle.std.specs.Prelude.{Option, Result, replicate, codes}
 use Rattle.ti_words.specs.declared.Kind.TheVariants as kinds
 use Rattle.ti_words.specs.declared.Width.{Width}
@@ -24,16 +24,22 @@ use Rattle.ti_expand.specs.declared.values.Value.{Value}
 use Rattle.ti_expand.specs.State.{start}
 use Rattle.ti_expand.specs.Meaning.{meaning}
 use Rattle.ti_expand.specs.Expands.{IsFirstTooLong}
+use Rattle.ti_escape.specs.declared.form.Form.{Form}
+use Rattle.ti_trace.proofs.OneTraceLemmas.{is_one_trace}
 use Rattle.ti_pad.specs.Setting.{Setting}
 use Rattle.ti_pad.specs.Padded.{padded_text}
 use Rattle.ti_base.specs.Limits.{most_padded_bytes}
 use Rattle.ti_entry.proofs.SpellsAtMostOneLemmas.{at_most_one}
+use Rattle.ti_words.specs.declared.all_names.NameTable.{NameTable}
+use Rattle.ti_tool.specs.declared.look.Look.{Look}
+use Rattle.ti_tool.specs.declared.look.Output.{Output}
 use Rattle.ti_tool.specs.declared.fault.ToolFault.{ToolFault}
 use Rattle.ti_tool.specs.declared.fault.ToolFault.TheVariants as fault
 use Rattle.ti_tool.specs.Labels.{label_of}
 use Rattle.ti_tool.specs.Listing.{entry_lines}
 use Rattle.ti_tool.specs.Laws.{IsOneResult}
-use Rattle.ti_tool.specs.Results.{output_bytes, IsExpansion, IsUnexpanded, IsCapped, IsPadded, IsDue, IsDueFor, IsExpanded, IsShown, IsChecked, IsEncoding, IsConverted, in_width}
+use Rattle.ti_tool.specs.Looks.{look_asked, output_bytes}
+use Rattle.ti_tool.specs.Results.{IsExpansion, IsUnexpanded, IsCappedAs, IsPadded, IsDue, IsDueFor, IsExpandedAs, IsShown, IsShownAs, IsTraced, IsCheckedAs, IsEncoding, IsConverted, in_width}
 use Rattle.ti_tool.specs.Verdicts.{IsVerdict, IsLine, IsStandardLine, IsExtendedLine, AreLines, AreVerdicts, sound_verdict, fault_verdict}
 use Rattle.ti_tool.proofs.IsCalledLemmas.{one_called}
 use Rattle.ti_tool.proofs.NeedsMemoryLemmas.{expandable, faultless_passes, never_refused}
@@ -92,11 +98,17 @@ one_of_two text parameters e f (too_long_at k is sound long) (too_long_at l same
 one_unexpanded : (text : List ℕ) (parameters : List Value) (e f : ToolFault) → IsUnexpanded text parameters e → IsUnexpanded text parameters f → e ≡ f
 one_unexpanded text parameters e f d h = one_of_two text parameters e f (unexpanded text parameters e d) (unexpanded text parameters f h)
 
-pub one_capped : (parameters : List Value) (hex : Bool) (input : List ℕ) → IsOneResult (IsCapped parameters hex input)
-one_capped parameters hex input (Ok a) (Ok b) (plain, sound, p, is) (other, again, q, same) = ap Ok (is ∙ ap (output_bytes hex) (one_expansion input parameters plain other p q) ∙ sym same)
-one_capped parameters hex input (Ok a) (Err e) (plain, sound, p, is) d = absurd (expandable input parameters sound p.short e d)
-one_capped parameters hex input (Err e) (Ok b) d (plain, sound, p, is) = absurd (expandable input parameters sound p.short e d)
-one_capped parameters hex input (Err e) (Err f) d h = ap Err (one_unexpanded input parameters e f d h)
+pub one_capped : (parameters : List Value) (output : Output) (input : List ℕ) → IsOneResult (IsCappedAs parameters output input)
+one_capped parameters output input (Ok a) (Ok b) (plain, sound, p, is) (other, again, q, same) = ap Ok (is ∙ ap (output_bytes output) (one_expansion input parameters plain other p q) ∙ sym same)
+one_capped parameters output input (Ok a) (Err e) (plain, sound, p, is) d = absurd (expandable input parameters sound p.short e d)
+one_capped parameters output input (Err e) (Ok b) d (plain, sound, p, is) = absurd (expandable input parameters sound p.short e d)
+one_capped parameters output input (Err e) (Err f) d h = ap Err (one_unexpanded input parameters e f d h)
+
+pub one_traced : (parameters : List Value) (form : Form) (input : List ℕ) → IsOneResult (IsTraced parameters form input)
+one_traced parameters form input (Ok a) (Ok b) (sound, short, is) (again, low, same) = ap Ok (is_one_trace input parameters form a b is same)
+one_traced parameters form input (Ok a) (Err e) (sound, short, is) d = absurd (expandable input parameters sound short e d)
+one_traced parameters form input (Err e) (Ok b) d (sound, short, is) = absurd (expandable input parameters sound short e d)
+one_traced parameters form input (Err e) (Err f) d h = ap Err (one_unexpanded input parameters e f d h)
 
 -- ---- padded texts
 
@@ -106,16 +118,16 @@ data Unpadded (text : List ℕ) (parameters : List Value) (setting : Setting) (e
   too_much : (need : ℕ) (plain : List ℕ) → e ≡ fault.TooMuch need → IsFaultless text → IsExpansion text parameters plain → need ≡ length (padded_text plain setting) → most_padded_bytes < need
       → Unpadded text parameters setting e
 
-unpadded : (text : List ℕ) (parameters : List Value) (setting : Setting) (hex : Bool) (e : ToolFault) → IsPadded text parameters setting hex (Err e) → Unpadded text parameters setting e
-unpadded text parameters setting hex (fault.TooMuch need) (plain, sound, p, is, over) = too_much need plain refl sound p is over
-unpadded text parameters setting hex (fault.Cap r) d = not_expanded d
-unpadded text parameters setting hex (fault.TextTooLong k) d = not_expanded d
-unpadded text parameters setting hex (fault.Entry refused) d = absurd d
-unpadded text parameters setting hex (fault.Encode unfit) d = absurd d
-unpadded text parameters setting hex fault.NoSuchText d = absurd d
-unpadded text parameters setting hex fault.Read d = absurd d
-unpadded text parameters setting hex (fault.Write gone) d = absurd d
-unpadded text parameters setting hex fault.Memory d = absurd d
+unpadded : (text : List ℕ) (parameters : List Value) (setting : Setting) (output : Output) (e : ToolFault) → IsPadded text parameters setting output (Err e) → Unpadded text parameters setting e
+unpadded text parameters setting output (fault.TooMuch need) (plain, sound, p, is, over) = too_much need plain refl sound p is over
+unpadded text parameters setting output (fault.Cap r) d = not_expanded d
+unpadded text parameters setting output (fault.TextTooLong k) d = not_expanded d
+unpadded text parameters setting output (fault.Entry refused) d = absurd d
+unpadded text parameters setting output (fault.Encode unfit) d = absurd d
+unpadded text parameters setting output fault.NoSuchText d = absurd d
+unpadded text parameters setting output fault.Read d = absurd d
+unpadded text parameters setting output (fault.Write gone) d = absurd d
+unpadded text parameters setting output fault.Memory d = absurd d
 
 same_padded : (text : List ℕ) (parameters : List Value) (setting : Setting) (plain other : List ℕ) → IsExpansion text parameters plain → IsExpansion text parameters other → padded_text plain setting ≡ padded_text other setting
 same_padded text parameters setting plain other p q = ap (λ x. padded_text x setting) (one_expansion text parameters plain other p q)
@@ -132,17 +144,17 @@ padded_or_not text parameters setting plain e sound p short (not_expanded d) = e
 padded_or_not text parameters setting plain e sound p short (too_much need other is again q long over) =
     let same : length (padded_text plain setting) ≡ length (padded_text other setting) = ap length (same_padded text parameters setting plain other p q) in absurd (omega arith)
 
-one_padded : (text : List ℕ) (parameters : List Value) (setting : Setting) (hex : Bool) → IsOneResult (IsPadded text parameters setting hex)
-one_padded text parameters setting hex (Ok a) (Ok b) (plain, sound, p, short, is) (other, again, q, shorts, same) =
-    ap Ok (is ∙ ap (output_bytes hex) (same_padded text parameters setting plain other p q) ∙ sym same)
-one_padded text parameters setting hex (Ok a) (Err e) (plain, sound, p, short, is) d = absurd (padded_or_not text parameters setting plain e sound p short (unpadded text parameters setting hex e d))
-one_padded text parameters setting hex (Err e) (Ok b) d (plain, sound, p, short, is) = absurd (padded_or_not text parameters setting plain e sound p short (unpadded text parameters setting hex e d))
-one_padded text parameters setting hex (Err e) (Err f) d h = ap Err (one_unpadded text parameters setting e f (unpadded text parameters setting hex e d) (unpadded text parameters setting hex f h))
+one_padded : (text : List ℕ) (parameters : List Value) (setting : Setting) (output : Output) → IsOneResult (IsPadded text parameters setting output)
+one_padded text parameters setting output (Ok a) (Ok b) (plain, sound, p, short, is) (other, again, q, shorts, same) =
+    ap Ok (is ∙ ap (output_bytes output) (same_padded text parameters setting plain other p q) ∙ sym same)
+one_padded text parameters setting output (Ok a) (Err e) (plain, sound, p, short, is) d = absurd (padded_or_not text parameters setting plain e sound p short (unpadded text parameters setting output e d))
+one_padded text parameters setting output (Err e) (Ok b) d (plain, sound, p, short, is) = absurd (padded_or_not text parameters setting plain e sound p short (unpadded text parameters setting output e d))
+one_padded text parameters setting output (Err e) (Err f) d h = ap Err (one_unpadded text parameters setting e f (unpadded text parameters setting output e d) (unpadded text parameters setting output f h))
 
-one_due : (text : TextValue) (parameters : List Value) (setting : Setting) (hex : Bool) → IsOneResult (IsDue text parameters setting hex)
-one_due AbsentText parameters setting hex r s d h = d ∙ sym h
-one_due CancelledText parameters setting hex r s d h = d ∙ sym h
-one_due (TextOf text) parameters setting hex r s d h = one_padded text parameters setting hex r s d h
+one_due : (text : TextValue) (parameters : List Value) (setting : Setting) (output : Output) → IsOneResult (IsDue text parameters setting output)
+one_due AbsentText parameters setting output r s d h = d ∙ sym h
+one_due CancelledText parameters setting output r s d h = d ∙ sym h
+one_due (TextOf text) parameters setting output r s d h = one_padded text parameters setting output r s d h
 
 -- ---- results on entries
 
@@ -157,12 +169,12 @@ one_on_entry input due once r s (inr (v, spells, d)) (inl (b, same, f)) = absurd
 one_on_entry input due once r s (inr (v, spells, d)) (inr (w, other, h)) =
     once v r s d (subst (λ x. due x s) (at_most_one input w v other spells) h)
 
-one_due_for : (name : List ℕ) (parameters : List Value) (setting : Setting) (hex : Bool) (v : EntryValue) → IsOneResult (IsDueFor name parameters setting hex v)
-one_due_for name parameters setting hex v r s (text, called, d) (other, again, h) =
-    one_due text parameters setting hex r s d (subst (λ t. IsDue t parameters setting hex s) (one_called name v other text again called) h)
+one_due_for : (names : NameTable) (name : List ℕ) (parameters : List Value) (setting : Setting) (output : Output) (v : EntryValue) → IsOneResult (IsDueFor names name parameters setting output v)
+one_due_for names name parameters setting output v r s (text, called, d) (other, again, h) =
+    one_due text parameters setting output r s d (subst (λ t. IsDue t parameters setting output s) (one_called names name v other text again called) h)
 
-pub one_expanded : (name : List ℕ) (parameters : List Value) (setting : Setting) (hex : Bool) (input : List ℕ) → IsOneResult (IsExpanded name parameters setting hex input)
-one_expanded name parameters setting hex input = one_on_entry input (IsDueFor name parameters setting hex) (one_due_for name parameters setting hex)
+pub one_expanded : (names : NameTable) (name : List ℕ) (parameters : List Value) (setting : Setting) (output : Output) (input : List ℕ) → IsOneResult (IsExpandedAs names name parameters setting output input)
+one_expanded names name parameters setting output input = one_on_entry input (IsDueFor names name parameters setting output) (one_due_for names name parameters setting output)
 
 encoding_fault : (v : EntryValue) (e : ToolFault) → IsEncoding v (Err e) → (unfit : EncodeFault) × (e ≡ fault.Encode unfit) × (encode_fault v ≡ Some unfit)
 encoding_fault v (fault.Encode unfit) d = (unfit, refl, d)
@@ -188,32 +200,32 @@ one_encoding v (Err e) (Err f) d h =
 pub one_converted : (width : Option Width) (input : List ℕ) → IsOneResult (IsConverted width input)
 one_converted width input = one_on_entry input (λ v. IsEncoding (in_width width v)) (λ v. one_encoding (in_width width v))
 
-entry_fault : (input : List ℕ) (e : ToolFault) → IsShown input (Err e) → (refused : Refused) × (e ≡ fault.Entry refused) × (refusal input ≡ Some refused)
-entry_fault input (fault.Entry refused) d = (refused, refl, d)
-entry_fault input (fault.Encode unfit) d = absurd d
-entry_fault input (fault.Cap r) d = absurd d
-entry_fault input (fault.TextTooLong k) d = absurd d
-entry_fault input fault.NoSuchText d = absurd d
-entry_fault input (fault.TooMuch need) d = absurd d
-entry_fault input fault.Read d = absurd d
-entry_fault input (fault.Write gone) d = absurd d
-entry_fault input fault.Memory d = absurd d
+entry_fault : (look : Look) (input : List ℕ) (e : ToolFault) → IsShownAs look input (Err e) → (refused : Refused) × (e ≡ fault.Entry refused) × (refusal input ≡ Some refused)
+entry_fault look input (fault.Entry refused) d = (refused, refl, d)
+entry_fault look input (fault.Encode unfit) d = absurd d
+entry_fault look input (fault.Cap r) d = absurd d
+entry_fault look input (fault.TextTooLong k) d = absurd d
+entry_fault look input fault.NoSuchText d = absurd d
+entry_fault look input (fault.TooMuch need) d = absurd d
+entry_fault look input fault.Read d = absurd d
+entry_fault look input (fault.Write gone) d = absurd d
+entry_fault look input fault.Memory d = absurd d
 
-one_entry_fault : (input : List ℕ) (e f : ToolFault) → IsShown input (Err e) → IsShown input (Err f) → e ≡ f
-one_entry_fault input e f d h =
-    let (refused, is, why) = entry_fault input e d in
-    let (other, same, because) = entry_fault input f h in
+one_entry_fault : (look : Look) (input : List ℕ) (e f : ToolFault) → IsShownAs look input (Err e) → IsShownAs look input (Err f) → e ≡ f
+one_entry_fault look input e f d h =
+    let (refused, is, why) = entry_fault look input e d in
+    let (other, same, because) = entry_fault look input f h in
     let both : Some refused ≡ Some other = sym why ∙ because in
     let one : refused ≡ other = cc in is ∙ ap (λ (x : Refused). fault.Entry x) one ∙ sym same
 
-shown_or_refused : (input : List ℕ) (v : EntryValue) (e : ToolFault) → Spells input v → IsShown input (Err e) → ⊥
-shown_or_refused input v e spells d = let (refused, is, why) = entry_fault input e d in never_refused input v refused spells why
+shown_or_refused : (look : Look) (input : List ℕ) (v : EntryValue) (e : ToolFault) → Spells input v → IsShownAs look input (Err e) → ⊥
+shown_or_refused look input v e spells d = let (refused, is, why) = entry_fault look input e d in never_refused input v refused spells why
 
-pub one_shown : (input : List ℕ) → IsOneResult (IsShown input)
-one_shown input (Ok a) (Ok b) (v, spells, is) (w, other, same) = ap Ok (is ∙ ap entry_lines (at_most_one input v w spells other) ∙ sym same)
-one_shown input (Ok a) (Err e) (v, spells, is) d = absurd (shown_or_refused input v e spells d)
-one_shown input (Err e) (Ok b) d (v, spells, is) = absurd (shown_or_refused input v e spells d)
-one_shown input (Err e) (Err f) d h = ap Err (one_entry_fault input e f d h)
+pub one_shown : (look : Look) (input : List ℕ) → IsOneResult (IsShownAs look input)
+one_shown look input (Ok a) (Ok b) (v, spells, is) (w, other, same) = ap Ok (is ∙ ap (entry_lines look) (at_most_one input v w spells other) ∙ sym same)
+one_shown look input (Ok a) (Err e) (v, spells, is) d = absurd (shown_or_refused look input v e spells d)
+one_shown look input (Err e) (Ok b) d (v, spells, is) = absurd (shown_or_refused look input v e spells d)
+one_shown look input (Err e) (Err f) d h = ap Err (one_entry_fault look input e f d h)
 
 -- ---- verdicts
 
@@ -257,34 +269,34 @@ one_lines IsLineOf once index (x ∷ xs) lines others sound as_sound (line, more
       both ∙ ap (λ b. b && rest) front.1 ∙ ap (λ b. one' && b) back.1 ∙ sym both',
     )
 
-one_verdicts : (v : EntryValue) (lines others : List ℕ) (sound as_sound : Bool) → AreVerdicts v lines sound → AreVerdicts v others as_sound → (lines ≡ others) × (sound ≡ as_sound)
-one_verdicts v lines others sound as_sound (first, second, one, other, a, b, joined, both) (first', second', one', other', a', b', joined', both') =
-    let front = one_lines IsStandardLine (λ index x line lines s t. one_line (codes "text ") (label_of kinds.Text index) x line lines s t) 0 v.texts first first' one one' a a' in
+one_verdicts : (names : NameTable) (v : EntryValue) (lines others : List ℕ) (sound as_sound : Bool) → AreVerdicts names v lines sound → AreVerdicts names v others as_sound → (lines ≡ others) × (sound ≡ as_sound)
+one_verdicts names v lines others sound as_sound (first, second, one, other, a, b, joined, both) (first', second', one', other', a', b', joined', both') =
+    let front = one_lines (IsStandardLine names) (λ index x line lines s t. one_line (codes "text ") (label_of names kinds.Text index) x line lines s t) 0 v.texts first first' one one' a a' in
     let back = one_lines IsExtendedLine (λ index x line lines s t. one_line (codes "text+ ") x.0 x.1 line lines s t) 0 v.extended_texts second second' other other' b b' in (
       joined ∙ ap (λ l. l ++ second) front.0 ∙ ap (λ l. first' ++ l) back.0 ∙ sym joined',
       both ∙ ap (λ b. b && other) front.1 ∙ ap (λ b. one' && b) back.1 ∙ sym both',
     )
 
-checked_fault : (sound : Bool) (input : List ℕ) (e : ToolFault) → IsChecked sound input (Err e) → IsShown input (Err e)
-checked_fault sound input (fault.Entry refused) d = d
-checked_fault sound input (fault.Encode unfit) d = d
-checked_fault sound input (fault.Cap r) d = d
-checked_fault sound input (fault.TextTooLong k) d = d
-checked_fault sound input fault.NoSuchText d = d
-checked_fault sound input (fault.TooMuch need) d = d
-checked_fault sound input fault.Read d = d
-checked_fault sound input (fault.Write gone) d = d
-checked_fault sound input fault.Memory d = d
+checked_fault : (names : NameTable) (sound : Bool) (input : List ℕ) (e : ToolFault) → IsCheckedAs names sound input (Err e) → IsShown input (Err e)
+checked_fault names sound input (fault.Entry refused) d = d
+checked_fault names sound input (fault.Encode unfit) d = d
+checked_fault names sound input (fault.Cap r) d = d
+checked_fault names sound input (fault.TextTooLong k) d = d
+checked_fault names sound input fault.NoSuchText d = d
+checked_fault names sound input (fault.TooMuch need) d = d
+checked_fault names sound input fault.Read d = d
+checked_fault names sound input (fault.Write gone) d = d
+checked_fault names sound input fault.Memory d = d
 
-both_checked : (input lines others : List ℕ) (sound as_sound : Bool) → IsChecked sound input (Ok lines) → IsChecked as_sound input (Ok others) → (lines ≡ others) × (sound ≡ as_sound)
-both_checked input lines others sound as_sound (v, spells, d) (w, other, h) =
-    one_verdicts v lines others sound as_sound d (subst (λ x. AreVerdicts x others as_sound) (at_most_one input w v other spells) h)
+both_checked : (names : NameTable) (input lines others : List ℕ) (sound as_sound : Bool) → IsCheckedAs names sound input (Ok lines) → IsCheckedAs names as_sound input (Ok others) → (lines ≡ others) × (sound ≡ as_sound)
+both_checked names input lines others sound as_sound (v, spells, d) (w, other, h) =
+    one_verdicts names v lines others sound as_sound d (subst (λ x. AreVerdicts names x others as_sound) (at_most_one input w v other spells) h)
 
-pub one_checked : (input : List ℕ) (sound as_sound : Bool) (r s : Result (List ℕ) ToolFault) → IsChecked sound input r → IsChecked as_sound input s → r ≡ s
-one_checked input sound as_sound (Ok a) (Ok b) d h = ap Ok (both_checked input a b sound as_sound d h).0
-one_checked input sound as_sound (Ok a) (Err e) (v, spells, d) h = absurd (shown_or_refused input v e spells (checked_fault as_sound input e h))
-one_checked input sound as_sound (Err e) (Ok b) d (v, spells, h) = absurd (shown_or_refused input v e spells (checked_fault sound input e d))
-one_checked input sound as_sound (Err e) (Err f) d h = ap Err (one_entry_fault input e f (checked_fault sound input e d) (checked_fault as_sound input f h))
+pub one_checked : (names : NameTable) (input : List ℕ) (sound as_sound : Bool) (r s : Result (List ℕ) ToolFault) → IsCheckedAs names sound input r → IsCheckedAs names as_sound input s → r ≡ s
+one_checked names input sound as_sound (Ok a) (Ok b) d h = ap Ok (both_checked names input a b sound as_sound d h).0
+one_checked names input sound as_sound (Ok a) (Err e) (v, spells, d) h = absurd (shown_or_refused (look_asked false false) input v e spells (checked_fault names as_sound input e h))
+one_checked names input sound as_sound (Err e) (Ok b) d (v, spells, h) = absurd (shown_or_refused (look_asked false false) input v e spells (checked_fault names sound input e d))
+one_checked names input sound as_sound (Err e) (Err f) d h = ap Err (one_entry_fault (look_asked false false) input e f (checked_fault names sound input e d) (checked_fault names as_sound input f h))
 
-pub one_soundness : (input lines others : List ℕ) (sound as_sound : Bool) → IsChecked sound input (Ok lines) → IsChecked as_sound input (Ok others) → sound ≡ as_sound
-one_soundness input lines others sound as_sound d h = (both_checked input lines others sound as_sound d h).1
+pub one_soundness : (names : NameTable) (input lines others : List ℕ) (sound as_sound : Bool) → IsCheckedAs names sound input (Ok lines) → IsCheckedAs names as_sound input (Ok others) → sound ≡ as_sound
+one_soundness names input lines others sound as_sound d h = (both_checked names input lines others sound as_sound d h).1

@@ -37,6 +37,13 @@ words_line (words.BadWord which) = codes "parameter " ++ decimal which ++ codes 
 abbrev pub widths_line : List ℕ
 widths_line = codes "convert: both widths\n"
 
+-- the lines on both forms of an output
+abbrev pub cap_forms_line : List ℕ
+cap_forms_line = codes "cap: both forms\n"
+
+abbrev pub expand_forms_line : List ℕ
+expand_forms_line = codes "expand: both forms\n"
+
 -- the line on an answer, none where it has no fault
 abbrev pub answer_line : {V : Type 0} → Result V ToolFault → List ℕ
 answer_line (Ok v) = []

@@ -1,4 +1,5 @@
 pub mod Params
+pub mod Looks
 pub mod Labels
 pub mod Listing
 pub mod Names

@@ -1,16 +1,19 @@
 -- The lines that `show` writes of an entry.
 use Rattle.std.specs.Prelude.{ℕ, suc, List, [], ◌∷◌, ◌++◌, codes}
 use Rattle.std.specs.Fmt.{signed_decimal}
-use Rattle.hex.specs.Hex.{encode_lower}
+use Rattle.ti_escape.specs.declared.form.Form.{Form}
+use Rattle.ti_escape.specs.Forms.{shown}
 use Rattle.ti_words.specs.declared.Flag.{Flag}
 use Rattle.ti_words.specs.declared.Flag.TheVariants as flags
 use Rattle.ti_words.specs.declared.Kind.TheVariants as kinds
+use Rattle.ti_words.specs.declared.all_names.NameTable.{NameTable}
 use Rattle.ti_words.specs.declared.Number.{Number}
 use Rattle.ti_words.specs.declared.Number.TheVariants as numbers
 use Rattle.ti_words.specs.declared.Width.{Width}
 use Rattle.ti_words.specs.declared.Width.TheVariants.{Legacy, Wide}
 use Rattle.ti_words.specs.Texts.{TextValue, AbsentText, CancelledText, TextOf}
 use Rattle.ti_words.specs.Value.{EntryValue}
+use Rattle.ti_tool.specs.declared.look.Look.{Look}
 use Rattle.ti_tool.specs.Labels.{label_of}
 
 -- a word and a label, and after the label nothing, or a blank and a word; No has no line
@@ -26,25 +29,24 @@ number_line word label numbers.Cancelled = word ++ label ++ codes " cancelled\n"
 number_line word label (numbers.Value n) =
     word ++ label ++ codes " " ++ signed_decimal n ++ codes "\n"
 
--- a text in lower-case hex, or `-` in place of no bytes
-abbrev pub hex_or_dash : List ℕ → List ℕ
-hex_or_dash [] = codes "-"
-hex_or_dash (byte ∷ bytes) = encode_lower (byte ∷ bytes)
-
-abbrev pub text_line : List ℕ → List ℕ → TextValue → List ℕ
-text_line word label AbsentText = []
-text_line word label CancelledText = word ++ label ++ codes " cancelled\n"
-text_line word label (TextOf bytes) = word ++ label ++ codes " " ++ hex_or_dash bytes ++ codes "\n"
+-- a text is shown in the form that is asked for, `-` in place of no bytes
+abbrev pub text_line : Form → List ℕ → List ℕ → TextValue → List ℕ
+text_line form word label AbsentText = []
+text_line form word label CancelledText = word ++ label ++ codes " cancelled\n"
+text_line form word label (TextOf bytes) =
+    word ++ label ++ codes " " ++ shown form bytes ++ codes "\n"
 
 -- the lines of standard capabilities, from their index
-abbrev pub standard_flag : ℕ → Flag → List ℕ
-standard_flag index flag = flag_line (codes "flag ") (label_of kinds.Flag index) flag
+abbrev pub standard_flag : NameTable → ℕ → Flag → List ℕ
+standard_flag names index flag = flag_line (codes "flag ") (label_of names kinds.Flag index) flag
 
-abbrev pub standard_number : ℕ → Number → List ℕ
-standard_number index number = number_line (codes "number ") (label_of kinds.Number index) number
+abbrev pub standard_number : NameTable → ℕ → Number → List ℕ
+standard_number names index number =
+    number_line (codes "number ") (label_of names kinds.Number index) number
 
-abbrev pub standard_text : ℕ → TextValue → List ℕ
-standard_text index text = text_line (codes "text ") (label_of kinds.Text index) text
+abbrev pub standard_text : Look → ℕ → TextValue → List ℕ
+standard_text look index text =
+    text_line look.form (codes "text ") (label_of look.names kinds.Text index) text
 
 -- those of the extended part have a name of their own, whatever their index
 abbrev pub extended_flag : ℕ → List ℕ × Flag → List ℕ
@@ -53,8 +55,8 @@ extended_flag index (name, flag) = flag_line (codes "flag+ ") name flag
 abbrev pub extended_number : ℕ → List ℕ × Number → List ℕ
 extended_number index (name, number) = number_line (codes "number+ ") name number
 
-abbrev pub extended_text : ℕ → List ℕ × TextValue → List ℕ
-extended_text index (name, text) = text_line (codes "text+ ") name text
+abbrev pub extended_text : Form → ℕ → List ℕ × TextValue → List ℕ
+extended_text form index (name, text) = text_line form (codes "text+ ") name text
 
 -- a line for each item from an index on
 abbrev pub lines_from : {X : Type 0} → (ℕ → X → List ℕ) → ℕ → List X → List ℕ
@@ -62,15 +64,16 @@ lines_from line index [] = []
 lines_from line index (x ∷ xs) = line index x ++ lines_from line (suc index) xs
 
 -- flags, numbers and texts in the order of their indices
-abbrev pub standard_lines : EntryValue → List ℕ
-standard_lines v =
-    lines_from standard_flag 0 v.flags ++ lines_from standard_number 0 v.numbers
-    ++ lines_from standard_text 0 v.texts
+abbrev pub standard_lines : Look → EntryValue → List ℕ
+standard_lines look v =
+    lines_from (standard_flag look.names) 0 v.flags
+    ++ lines_from (standard_number look.names) 0 v.numbers
+    ++ lines_from (standard_text look) 0 v.texts
 
-abbrev pub extended_lines : EntryValue → List ℕ
-extended_lines v =
+abbrev pub extended_lines : Form → EntryValue → List ℕ
+extended_lines form v =
     lines_from extended_flag 0 v.extended_flags ++ lines_from extended_number 0 v.extended_numbers
-    ++ lines_from extended_text 0 v.extended_texts
+    ++ lines_from (extended_text form) 0 v.extended_texts
 
 -- the name of a format
 abbrev pub format_name : Width → List ℕ
@@ -78,7 +81,7 @@ format_name Legacy = codes "legacy"
 format_name Wide = codes "wide"
 
 -- the format and the names, then the standard capabilities and those of the extended part
-abbrev pub entry_lines : EntryValue → List ℕ
-entry_lines v =
+abbrev pub entry_lines : Look → EntryValue → List ℕ
+entry_lines look v =
     codes "format: " ++ format_name v.width ++ codes "\nnames: " ++ v.names ++ codes "\n"
-    ++ standard_lines v ++ extended_lines v
+    ++ standard_lines look v ++ extended_lines look.form v

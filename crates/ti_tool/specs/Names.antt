@@ -2,7 +2,9 @@
 use Rattle.std.specs.Prelude.{◌≡◌, ◌≤◌, ◌⊎◌, ℕ, List, ◌++◌, length, codes, get_or, map, Option, Some, None}
 use Rattle.std.specs.Str.Parse.{IsNumeral, digits_value}
 use Rattle.ti_words.specs.declared.Kind.TheVariants as kinds
-use Rattle.ti_words.specs.Names.{Place, place_of}
+use Rattle.ti_words.specs.declared.all_names.NameTable.{NameTable}
+use Rattle.ti_words.specs.Names.{Place}
+use Rattle.ti_words.specs.AllNames.{place_in}
 use Rattle.ti_words.specs.Texts.{TextValue, AbsentText}
 use Rattle.ti_words.specs.Value.{EntryValue}
 use Rattle.ti_words.specs.Spelling.{mark_in}
@@ -24,15 +26,16 @@ abbrev pub IsExtendedCalled : List ℕ → EntryValue → TextValue → Type 0
 IsExtendedCalled name v text =
     (found : Option ℕ) × IsLeastIndex (names_of v kinds.Text) name found × (text ≡ text_found found v)
 
--- the text at the place that the table of names tells, or else the extended text of the name
+-- the text at the place that a table of names tells, or else the extended text of the name
 abbrev pub IsNamedText : Option Place → List ℕ → EntryValue → TextValue → Type 0
 IsNamedText (Some (kinds.Text, index)) name v text = text ≡ get_or v.texts index AbsentText
 IsNamedText (Some (kinds.Flag, index)) name v text = IsExtendedCalled name v text
 IsNamedText (Some (kinds.Number, index)) name v text = IsExtendedCalled name v text
 IsNamedText None name v text = IsExtendedCalled name v text
 
--- the text at the index that the name tells, or the one that has the name
-abbrev pub IsCalled : List ℕ → EntryValue → TextValue → Type 0
-IsCalled name v text =
+-- the text at the index that the name tells, or the one that has the name, by the table of names that
+-- is asked
+abbrev pub IsCalled : NameTable → List ℕ → EntryValue → TextValue → Type 0
+IsCalled names name v text =
     ((index : ℕ) × IsLabel name index × (text ≡ get_or v.texts index AbsentText))
-    ⊎ (((index : ℕ) → ¬ IsLabel name index) × IsNamedText (place_of name) name v text)
+    ⊎ (((index : ℕ) → ¬ IsLabel name index) × IsNamedText (place_in names name) name v text)

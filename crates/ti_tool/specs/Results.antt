@@ -1,6 +1,5 @@
 -- What each call of the program makes of the bytes that it read.
-use Rattle.std.specs.Prelude.{◌≡◌, ◌≤◌, ◌<◌, ◌⊎◌, ℕ, Bool, codes, length, List, ◌++◌, Result, Ok, Err, Some, None, pos, replicate, Option, if◌then◌else◌}
-use Rattle.hex.specs.Hex.{encode_lower}
+use Rattle.std.specs.Prelude.{◌≡◌, ◌≤◌, ◌<◌, ◌⊎◌, ℕ, Bool, false, length, List, Result, Ok, Err, Some, None, pos, replicate, Option}
 use Rattle.ti_cap.specs.Tree.{Sequence}
 use Rattle.ti_cap.specs.Spelling.{Writes}
 use Rattle.ti_cap.specs.Refusal.{IsRefusal, IsFaultless}
@@ -12,22 +11,25 @@ use Rattle.ti_layout.specs.declared.fault.Refused.{Refused}
 use Rattle.ti_words.specs.Value.{EntryValue}
 use Rattle.ti_words.specs.Spelling.{Spells}
 use Rattle.ti_layout.specs.Refusal.{refusal}
+use Rattle.ti_words.specs.declared.all_names.NameTable.{NameTable}
+use Rattle.ti_words.specs.declared.all_names.NameTable.TheVariants as tables
 use Rattle.ti_words.specs.declared.Width.{Width}
 use Rattle.ti_words.specs.Texts.{TextValue, AbsentText, CancelledText, TextOf}
 use Rattle.ti_base.specs.Limits.{most_padded_bytes}
+use Rattle.ti_escape.specs.declared.form.Form.{Form}
+use Rattle.ti_trace.specs.Trace.{IsTrace}
 use Rattle.ti_pad.specs.Setting.{Setting}
 use Rattle.ti_pad.specs.Padded.{padded_text}
 use Rattle.ti_draft.specs.Canonical.{canonical}
 use Rattle.ti_draft.specs.Unfit.{encode_fault}
+use Rattle.ti_tool.specs.declared.look.Look.{Look}
+use Rattle.ti_tool.specs.declared.look.Output.{Output}
+use Rattle.ti_tool.specs.Looks.{look_asked, output_asked, output_bytes}
 use Rattle.ti_tool.specs.Verdicts.{AreVerdicts}
 use Rattle.ti_tool.specs.Listing.{entry_lines}
 use Rattle.ti_tool.specs.Names.{IsCalled}
 use Rattle.ti_tool.specs.declared.fault.ToolFault.{ToolFault}
 use Rattle.ti_tool.specs.declared.fault.ToolFault.TheVariants as fault
-
--- the bytes, or the same in lower-case hex with a newline
-abbrev pub output_bytes : Bool → List ℕ → List ℕ
-output_bytes hex bytes = if hex then encode_lower bytes ++ codes "\n" else bytes
 
 -- the bytes that a capability writes with these parameters, where each variable starts as 0
 pub record IsExpansion (capability : List ℕ) (parameters : List Value) (out : List ℕ) : Type 0 where
@@ -43,54 +45,81 @@ IsUnexpanded capability parameters (fault.TextTooLong k) =
     IsFaultless capability × IsFirstTooLong parameters k
 IsUnexpanded capability parameters _ = ⊥
 
--- the result of `cap`, or the first fault
-abbrev pub IsCapped : List Value → Bool → List ℕ → Result (List ℕ) ToolFault → Type 0
-IsCapped parameters hex input (Ok out) =
+-- the result of `cap` as it is asked for, or the first fault
+abbrev pub IsCappedAs : List Value → Output → List ℕ → Result (List ℕ) ToolFault → Type 0
+IsCappedAs parameters output input (Ok out) =
     (plain : List ℕ) × IsFaultless input × IsExpansion input parameters plain
-    × (out ≡ output_bytes hex plain)
-IsCapped parameters hex input (Err e) = IsUnexpanded input parameters e
+    × (out ≡ output_bytes output plain)
+IsCappedAs parameters output input (Err e) = IsUnexpanded input parameters e
+
+-- its bytes, or the same in hex
+abbrev pub IsCapped : List Value → Bool → List ℕ → Result (List ℕ) ToolFault → Type 0
+IsCapped parameters hex = IsCappedAs parameters (output_asked hex false)
+
+-- the trace of a capability, or the first fault
+abbrev pub IsTraced : List Value → Form → List ℕ → Result (List ℕ) ToolFault → Type 0
+IsTraced parameters form input (Ok out) =
+    IsFaultless input × ((k : ℕ) → ¬ IsFirstTooLong parameters k) × IsTrace input parameters form out
+IsTraced parameters form input (Err e) = IsUnexpanded input parameters e
 
 -- a text of an entry, expanded and then padded, or the first fault
-abbrev pub IsPadded : List ℕ → List Value → Setting → Bool → Result (List ℕ) ToolFault → Type 0
-IsPadded text parameters setting hex (Ok out) =
+abbrev pub IsPadded : List ℕ → List Value → Setting → Output → Result (List ℕ) ToolFault → Type 0
+IsPadded text parameters setting output (Ok out) =
     (plain : List ℕ) × IsFaultless text × IsExpansion text parameters plain
     × (length (padded_text plain setting) ≤ most_padded_bytes)
-    × (out ≡ output_bytes hex (padded_text plain setting))
-IsPadded text parameters setting hex (Err (fault.TooMuch need)) =
+    × (out ≡ output_bytes output (padded_text plain setting))
+IsPadded text parameters setting output (Err (fault.TooMuch need)) =
     (plain : List ℕ) × IsFaultless text × IsExpansion text parameters plain
     × (need ≡ length (padded_text plain setting)) × (most_padded_bytes < need)
-IsPadded text parameters setting hex (Err e) = IsUnexpanded text parameters e
+IsPadded text parameters setting output (Err e) = IsUnexpanded text parameters e
 
 -- what is due for a text, or for none
-abbrev pub IsDue : TextValue → List Value → Setting → Bool → Result (List ℕ) ToolFault → Type 0
-IsDue (TextOf text) parameters setting hex answer = IsPadded text parameters setting hex answer
-IsDue AbsentText parameters setting hex answer = answer ≡ Err fault.NoSuchText
-IsDue CancelledText parameters setting hex answer = answer ≡ Err fault.NoSuchText
+abbrev pub IsDue : TextValue → List Value → Setting → Output → Result (List ℕ) ToolFault → Type 0
+IsDue (TextOf text) parameters setting output answer =
+    IsPadded text parameters setting output answer
+IsDue AbsentText parameters setting output answer = answer ≡ Err fault.NoSuchText
+IsDue CancelledText parameters setting output answer = answer ≡ Err fault.NoSuchText
 
 -- what is due for the text of an entry that a name stands for
-abbrev pub IsDueFor : List ℕ → List Value → Setting → Bool → EntryValue
+abbrev pub IsDueFor : NameTable → List ℕ → List Value → Setting → Output → EntryValue
     → Result (List ℕ) ToolFault → Type 0
-IsDueFor name parameters setting hex v answer =
-    (text : TextValue) × IsCalled name v text × IsDue text parameters setting hex answer
+IsDueFor names name parameters setting output v answer =
+    (text : TextValue) × IsCalled names name v text × IsDue text parameters setting output answer
 
--- the result of `expand`, or the first fault
+-- the result of `expand` as it is asked for, or the first fault
+abbrev pub IsExpandedAs : NameTable → List ℕ → List Value → Setting → Output → List ℕ
+    → Result (List ℕ) ToolFault → Type 0
+IsExpandedAs names name parameters setting output input answer =
+    ((refused : Refused) × (refusal input ≡ Some refused) × (answer ≡ Err (fault.Entry refused)))
+    ⊎ ((v : EntryValue) × Spells input v
+    × IsDueFor names name parameters setting output v answer)
+
+-- of a common name: its bytes, or the same in hex
 abbrev pub IsExpanded : List ℕ → List Value → Setting → Bool → List ℕ
     → Result (List ℕ) ToolFault → Type 0
-IsExpanded name parameters setting hex input answer =
-    ((refused : Refused) × (refusal input ≡ Some refused) × (answer ≡ Err (fault.Entry refused)))
-    ⊎ ((v : EntryValue) × Spells input v × IsDueFor name parameters setting hex v answer)
+IsExpanded name parameters setting hex =
+    IsExpandedAs tables.Common name parameters setting (output_asked hex false)
 
--- the result of `show`, or the refusal of the entry
+-- the result of `show` as it is asked for, or the refusal of the entry
+abbrev pub IsShownAs : Look → List ℕ → Result (List ℕ) ToolFault → Type 0
+IsShownAs look input (Ok out) = (v : EntryValue) × Spells input v × (out ≡ entry_lines look v)
+IsShownAs look input (Err (fault.Entry refused)) = refusal input ≡ Some refused
+IsShownAs look input (Err _) = ⊥
+
+-- by the common names, with texts in hex
 abbrev pub IsShown : List ℕ → Result (List ℕ) ToolFault → Type 0
-IsShown input (Ok out) = (v : EntryValue) × Spells input v × (out ≡ entry_lines v)
-IsShown input (Err (fault.Entry refused)) = refusal input ≡ Some refused
-IsShown input (Err _) = ⊥
+IsShown = IsShownAs (look_asked false false)
 
 -- the lines of `check`, which are those of sound texts alone or not, or the refusal of the entry
+abbrev pub IsCheckedAs : NameTable → Bool → List ℕ → Result (List ℕ) ToolFault → Type 0
+IsCheckedAs names sound input (Ok out) =
+    (v : EntryValue) × Spells input v × AreVerdicts names v out sound
+IsCheckedAs names sound input (Err (fault.Entry refused)) = refusal input ≡ Some refused
+IsCheckedAs names sound input (Err _) = ⊥
+
+-- by the common names
 abbrev pub IsChecked : Bool → List ℕ → Result (List ℕ) ToolFault → Type 0
-IsChecked sound input (Ok out) = (v : EntryValue) × Spells input v × AreVerdicts v out sound
-IsChecked sound input (Err (fault.Entry refused)) = refusal input ≡ Some refused
-IsChecked sound input (Err _) = ⊥
+IsChecked = IsCheckedAs tables.Common
 
 -- the canonical bytes of an entry, or why it has none
 abbrev pub IsEncoding : EntryValue → Result (List ℕ) ToolFault → Type 0

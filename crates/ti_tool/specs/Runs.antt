@@ -5,13 +5,14 @@ use Rattle.ti_words.specs.declared.Width.{Width}
 use Rattle.ti_words.specs.declared.Width.TheVariants.{Legacy, Wide}
 use Rattle.ti_expand.specs.declared.values.Value.{Value}
 use Rattle.ti_pad.specs.Setting.{Setting}
-use Rattle.ti_line.specs.CommandLine.{Request, AsksForHelp, Cap, Show, Check, Expand, Convert, IsRefused}
+use Rattle.ti_line.specs.CommandLine.{Request, AsksForHelp, Cap, Trace, Show, Check, Expand, Convert, IsRefused}
 use Rattle.ti_tool.specs.declared.fault.ToolFault.{ToolFault}
 use Rattle.ti_tool.specs.declared.fault.ToolFault.TheVariants as fault
 use Rattle.ti_tool.specs.declared.params.WordFault.{WordFault}
-use Rattle.ti_tool.specs.FaultLines.{Told, answer_line, fault_line, widths_line, words_line}
+use Rattle.ti_tool.specs.FaultLines.{Told, answer_line, cap_forms_line, expand_forms_line, fault_line, widths_line, words_line}
+use Rattle.ti_tool.specs.Looks.{form_asked, look_asked, names_asked, output_asked}
 use Rattle.ti_tool.specs.Params.{AreParams, IsWordFault}
-use Rattle.ti_tool.specs.Results.{IsCapped, IsChecked, IsConverted, IsExpanded, IsShown}
+use Rattle.ti_tool.specs.Results.{IsCappedAs, IsCheckedAs, IsConverted, IsExpandedAs, IsShownAs, IsTraced}
 use Rattle.ti_tool.specs.Calls.{DidCall, DidCheck, IsFull, HasFailed}
 
 -- the status of a call's answer
@@ -79,31 +80,51 @@ width_asked true narrow = Some Wide
 width_asked false true = Some Legacy
 width_asked false false = None
 
--- a line did what it asks for; both flags of `convert` together are refused as bad parameters are
+-- of two flags that exclude each other both are given, and refused as bad parameters are; or the
+-- call ran
+abbrev pub RanUnlessBoth : Bool → Bool → List ℕ → Type 0 → Type 0 → Stream → Stream → ℕ → Type 0
+RanUnlessBoth one other line ran untouched told0 told1 status =
+    ((one && other ≡ true) × RefusesWords line untouched told0 told1 status)
+    ⊎ ((one && other ≡ false) × ran)
+
+-- a line did what it asks for
 abbrev pub RanLine : Request → Type 0 → Stream → Stream → Stream → Stream → Stream → Stream → ℕ
     → Type 0
-RanLine (Cap hex words) untouched left0 left1 held0 held1 told0 told1 status =
+RanLine (Cap hex escape words) untouched left0 left1 held0 held1 told0 told1 status =
+    RanUnlessBoth hex escape cap_forms_line
+    (RanWith
+    (λ values answer. DidCall (IsCappedAs values (output_asked hex escape)) IsFull
+    left0 left1 held0 held1 answer)
+    words untouched told0 told1 status)
+    untouched told0 told1 status
+RanLine (Trace escape words) untouched left0 left1 held0 held1 told0 told1 status =
     RanWith
-    (λ values answer. DidCall (IsCapped values hex) IsFull left0 left1 held0 held1 answer)
-    words untouched told0 told1 status
-RanLine Show untouched left0 left1 held0 held1 told0 told1 status =
-    (answer : Result (Unit {0}) ToolFault)
-    × DidCall IsShown HasFailed left0 left1 held0 held1 answer × Ends answer told0 told1 status
-RanLine Check untouched left0 left1 held0 held1 told0 told1 status =
-    (answer : Result Bool ToolFault)
-    × DidCheck IsChecked left0 left1 held0 held1 answer × EndsCheck answer told0 told1 status
-RanLine (Expand name hex rate lines xon words)
-    untouched left0 left1 held0 held1 told0 told1 status =
-    RanWith
-    (λ values answer. DidCall (IsExpanded name values (setting_of rate lines xon) hex) HasFailed
+    (λ values answer. DidCall (IsTraced values (form_asked escape)) IsFull
     left0 left1 held0 held1 answer)
     words untouched told0 told1 status
+RanLine (Show escape all_names) untouched left0 left1 held0 held1 told0 told1 status =
+    (answer : Result (Unit {0}) ToolFault)
+    × DidCall (IsShownAs (look_asked all_names escape)) HasFailed left0 left1 held0 held1 answer
+    × Ends answer told0 told1 status
+RanLine (Check all_names) untouched left0 left1 held0 held1 told0 told1 status =
+    (answer : Result Bool ToolFault)
+    × DidCheck (IsCheckedAs (names_asked all_names)) left0 left1 held0 held1 answer
+    × EndsCheck answer told0 told1 status
+RanLine (Expand name hex escape all_names rate lines xon words)
+    untouched left0 left1 held0 held1 told0 told1 status =
+    RanUnlessBoth hex escape expand_forms_line
+    (RanWith
+    (λ values answer. DidCall (IsExpandedAs (names_asked all_names) name values
+    (setting_of rate lines xon) (output_asked hex escape)) HasFailed
+    left0 left1 held0 held1 answer)
+    words untouched told0 told1 status)
+    untouched told0 told1 status
 RanLine (Convert wide narrow) untouched left0 left1 held0 held1 told0 told1 status =
-    ((wide && narrow ≡ true) × RefusesWords widths_line untouched told0 told1 status)
-    ⊎ ((wide && narrow ≡ false)
-    × ((answer : Result (Unit {0}) ToolFault)
+    RanUnlessBoth wide narrow widths_line
+    ((answer : Result (Unit {0}) ToolFault)
     × DidCall (IsConverted (width_asked wide narrow)) HasFailed left0 left1 held0 held1 answer
-    × Ends answer told0 told1 status))
+    × Ends answer told0 told1 status)
+    untouched told0 told1 status
 
 -- memory was refused, and nothing is done
 abbrev pub HadNoMemory : Type 0 → Stream → Stream → ℕ → Type 0

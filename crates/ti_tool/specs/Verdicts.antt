@@ -1,6 +1,7 @@
 -- The lines that `check` writes of the texts of an entry, and whether all of them are capabilities.
 use Rattle.std.specs.Prelude.{◌≡◌, ◌⊎◌, ℕ, suc, Bool, true, false, ◌&&◌, List, [], ◌∷◌, ◌++◌, codes, decimal}
 use Rattle.ti_words.specs.declared.Kind.TheVariants as kinds
+use Rattle.ti_words.specs.declared.all_names.NameTable.{NameTable}
 use Rattle.ti_words.specs.Texts.{TextValue, AbsentText, CancelledText, TextOf}
 use Rattle.ti_words.specs.Value.{EntryValue}
 use Rattle.ti_cap.specs.declared.language.CapRefused.{CapRefused}
@@ -42,9 +43,9 @@ IsLine word label CancelledText line sound = (line ≡ []) × (sound ≡ true)
 IsLine word label (TextOf text) line sound =
     (verdict : List ℕ) × IsVerdict text verdict sound × (line ≡ word ++ label ++ verdict)
 
-abbrev pub IsStandardLine : ℕ → TextValue → List ℕ → Bool → Type 0
-IsStandardLine index text line sound =
-    IsLine (codes "text ") (label_of kinds.Text index) text line sound
+abbrev pub IsStandardLine : NameTable → ℕ → TextValue → List ℕ → Bool → Type 0
+IsStandardLine names index text line sound =
+    IsLine (codes "text ") (label_of names kinds.Text index) text line sound
 
 abbrev pub IsExtendedLine : ℕ → List ℕ × TextValue → List ℕ → Bool → Type 0
 IsExtendedLine index (name, text) line sound = IsLine (codes "text+ ") name text line sound
@@ -59,9 +60,9 @@ AreLines IsLineOf index (x ∷ xs) lines sound =
     × (lines ≡ line ++ more) × (sound ≡ (one && rest))
 
 -- the texts in the order of their indices, then those of the extended part
-abbrev pub AreVerdicts : EntryValue → List ℕ → Bool → Type 0
-AreVerdicts v lines sound =
+abbrev pub AreVerdicts : NameTable → EntryValue → List ℕ → Bool → Type 0
+AreVerdicts names v lines sound =
     (first : List ℕ) × (second : List ℕ) × (one : Bool) × (other : Bool)
-    × AreLines IsStandardLine 0 v.texts first one
+    × AreLines (IsStandardLine names) 0 v.texts first one
     × AreLines IsExtendedLine 0 v.extended_texts second other
     × (lines ≡ first ++ second) × (sound ≡ (one && other))

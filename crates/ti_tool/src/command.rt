@@ -5,3 +5,4 @@ pub mod check;
 pub mod convert;
 pub mod expand;
 pub mod show;
+pub mod trace;

@@ -22,6 +22,12 @@ pub type FaultLine = ArrayVec<u8, MOST_BYTES>;
 /// The line on both flags of `convert`.
 pub const BOTH_WIDTHS: &[u8] = b"convert: both widths\n";
 
+/// The line on both forms of the output of `cap`.
+pub const CAP_BOTH_FORMS: &[u8] = b"cap: both forms\n";
+
+/// The line on both forms of the output of `expand`.
+pub const EXPAND_BOTH_FORMS: &[u8] = b"expand: both forms\n";
+
 /// The pieces of a line one after another.
 fn line_of(pieces: &[&[u8]]) -> FaultLine
     requires { length (flat_map (λ piece. piece.now) pieces.now) ≤ MOST_BYTES }

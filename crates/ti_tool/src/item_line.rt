@@ -1,14 +1,14 @@
 //! One line on one capability: a word, a label, and what is said of it.
 
-ghost use Rattle.std.specs.Prelude.{◌≡◌, ◌++◌, ◌∷◌, [], OnOk};
-ghost use Rattle.hex.specs.Hex.{encode_lower};
+ghost use Rattle.std.specs.Prelude.{◌≡◌, ◌++◌, OnOk};
 ghost use Rattle.ti_words.specs.Texts.{text_value};
 ghost use Rattle.ti_tool.specs.inner.Label.{label_bytes};
-ghost use Rattle.ti_tool.specs.Listing.{flag_line, number_line, text_line, hex_or_dash};
+ghost use Rattle.ti_tool.specs.Listing.{flag_line, number_line, text_line};
 
 use crate::label::{Label, push_label};
 use itoa::Buffer;
 use std::alloc::{AllocError, Allocator};
+use ti_escape::{Form, push_shown};
 use ti_words::{Flag, Number, Text};
 
 /// Writes a line of a word, a label and what stands after it.
@@ -67,54 +67,23 @@ pub fn push_number<A: Allocator>(
     }
 }
 
-/// The two hex digits of a byte.
-fn hex_pair(byte: u8) -> [u8; 2]
-    ensures { result ≡ encode_lower (byte ∷ []) }
-{
-    let mut pair = [0; 2];
-    let _ = hex::encode_to_slice([byte].as_slice(), &mut pair);
-    pair
-}
-
-/// Writes bytes in lower-case hex.
-fn push_digits<A: Allocator>(out: &mut Vec<u8, A>, bytes: &[u8]) -> Result<(), AllocError>
-    ensures { OnOk result (out.new.items ≡ out.old.items ++ encode_lower bytes.now) }
-{
-    for byte in bytes {
-        out.extend_from_slice(&hex_pair(*byte))?;
-    }
-    Ok(())
-}
-
-/// Writes bytes in lower-case hex, or `-` where there are none.
-fn push_hex<A: Allocator>(out: &mut Vec<u8, A>, bytes: &[u8]) -> Result<(), AllocError>
-    ensures { OnOk result (out.new.items ≡ out.old.items ++ hex_or_dash bytes.now) }
-{
-    match bytes {
-        [] => {
-            out.push(b'-')?;
-            Ok(())
-        }
-        _ => push_digits(out, bytes),
-    }
-}
-
-/// Writes the line of a text, or none.
+/// Writes the line of a text, or none. Its bytes are shown in a form.
 pub fn push_text<A: Allocator>(
     out: &mut Vec<u8, A>,
     word: &[u8],
     label: Label<'_>,
+    form: Form,
     text: Text<'_>,
 ) -> Result<(), AllocError>
-    ensures { OnOk result (out.new.items
-        ≡ out.old.items ++ text_line word.now (label_bytes label.entry) (text_value text.entry)) }
+    ensures { OnOk result (out.new.items ≡ out.old.items
+        ++ text_line form word.now (label_bytes label.entry) (text_value text.entry)) }
 {
     match text {
         Text::Absent => Ok(()),
         Text::Cancelled => push_line(out, word, label, b" cancelled\n"),
         Text::Value(bytes) => {
             push_line(out, word, label, b" ")?;
-            push_hex(out, bytes)?;
+            push_shown(out, form, bytes)?;
             out.extend_from_slice(b"\n")
         }
     }

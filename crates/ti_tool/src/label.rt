@@ -8,25 +8,25 @@ ghost use Rattle.ti_tool.specs.inner.Label.{label_bytes};
 use itoa::Buffer;
 use std::alloc::{AllocError, Allocator};
 use ti_entry::Extended;
-use ti_words::{Kind, flag_name, number_name, text_name};
+use ti_words::{Kind, NameTable};
 
 /// The label of a line.
 #[derive(Clone, Copy, Debug)]
 pub enum Label<'a> {
     /// The capability's name.
     Name(&'a [u8]),
-    /// `#` and the index of a capability that has no name here.
+    /// `#` and the index of a capability that has no name in the table that is asked.
     Index(usize),
 }
 
-/// The label of a standard capability.
-pub fn label_at(kind: Kind, index: usize) -> Label<'static>
-    ensures { label_bytes result ≡ label_of kind index }
+/// The label of a standard capability, by a table of names.
+pub fn label_at(names: NameTable, kind: Kind, index: usize) -> Label<'static>
+    ensures { label_bytes result ≡ label_of names kind index }
 {
     let name = match kind {
-        Kind::Flag => flag_name(index),
-        Kind::Number => number_name(index),
-        Kind::Text => text_name(index),
+        Kind::Flag => names.flag_name(index),
+        Kind::Number => names.number_name(index),
+        Kind::Text => names.text_name(index),
     };
     match name {
         Some(name) => Label::Name(name.as_bytes()),

@@ -1,6 +1,6 @@
 //! Laws of the program's results, each the contract of a function that does nothing.
 
-ghost use Rattle.ti_tool.specs.Laws.{CapHasOneResult, CheckHasOneResult, CheckHasOneVerdict, ConvertHasOneResult, ExpandHasOneResult, ShowHasOneResult, WideAndBack};
+ghost use Rattle.ti_tool.specs.Laws.{CapHasOneResult, CheckHasOneResult, CheckHasOneVerdict, ConvertHasOneResult, ExpandHasOneResult, ShowHasOneResult, TraceHasOneResult, WideAndBack};
 
 /// Where an entry of the legacy format is converted to the one with numbers of 32 bits and back, its canonical bytes
 /// come out.
@@ -11,6 +11,7 @@ pub fn wide_and_back()
 /// For given parameters and bytes that are read, each call has at most one result, or fault, that is due.
 pub fn results_are_one()
     ensures cap { CapHasOneResult }
+    ensures trace { TraceHasOneResult }
     ensures show { ShowHasOneResult }
     ensures check { CheckHasOneResult }
     ensures verdict { CheckHasOneVerdict }

@@ -1,6 +1,7 @@
 //! The program `ti` as functions from the bytes read to the bytes written.
 #![tactic(auto)]
 
+mod asked;
 mod command;
 mod expansion;
 mod fault;
@@ -9,6 +10,7 @@ mod item_line;
 mod label;
 pub mod laws;
 mod listing;
+mod look;
 mod params;
 mod program;
 mod result;
@@ -17,11 +19,14 @@ mod status;
 mod text_name;
 mod verdict;
 
-pub use command::cap::cap_run;
-pub use command::check::check;
+pub use command::cap::{cap_as, cap_run};
+pub use command::check::{check, check_as};
 pub use command::convert::convert;
-pub use command::expand::expand_named;
-pub use command::show::show;
+pub use command::expand::{expand_as, expand_named};
+pub use command::show::{show, show_as};
+pub use command::trace::trace_run;
 pub use fault::ToolFault;
+pub use look::{Look, Output};
 pub use params::{WordFault, read_params};
 pub use program::run;
+pub use text_name::TextName;

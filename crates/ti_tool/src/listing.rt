@@ -7,50 +7,70 @@ ghost use Rattle.ti_tool.specs.Listing.{standard_flag, standard_number, standard
 
 use crate::item_line::{push_flag, push_number, push_text};
 use crate::label::{extended_label, label_at};
+use crate::look::Look;
 use std::alloc::{AllocError, Allocator};
 use ti_entry::{Entry, Extended};
-use ti_words::{Kind, Width};
+use ti_escape::Form;
+use ti_words::{Kind, NameTable, Width};
 
 /// Writes the lines of the flags.
-fn push_flags<A: Allocator>(out: &mut Vec<u8, A>, entry: &Entry<'_>) -> Result<(), AllocError>
+fn push_flags<A: Allocator>(
+    out: &mut Vec<u8, A>,
+    names: NameTable,
+    entry: &Entry<'_>,
+) -> Result<(), AllocError>
     ensures { OnOk result (out.new.items
-        ≡ out.old.items ++ lines_from standard_flag 0 entry.now.flags) }
+        ≡ out.old.items ++ lines_from (standard_flag names) 0 entry.now.flags) }
 {
     for i in 0..entry.flag_count() {
-        push_flag(out, b"flag ", label_at(Kind::Flag, i), entry.flag(i))?;
+        push_flag(out, b"flag ", label_at(names, Kind::Flag, i), entry.flag(i))?;
     }
     Ok(())
 }
 
 /// Writes the lines of the numbers.
-fn push_numbers<A: Allocator>(out: &mut Vec<u8, A>, entry: &Entry<'_>) -> Result<(), AllocError>
+fn push_numbers<A: Allocator>(
+    out: &mut Vec<u8, A>,
+    names: NameTable,
+    entry: &Entry<'_>,
+) -> Result<(), AllocError>
     ensures { OnOk result (out.new.items
-        ≡ out.old.items ++ lines_from standard_number 0 entry.now.numbers) }
+        ≡ out.old.items ++ lines_from (standard_number names) 0 entry.now.numbers) }
 {
     for i in 0..entry.number_count() {
-        push_number(out, b"number ", label_at(Kind::Number, i), entry.number(i))?;
+        let label = label_at(names, Kind::Number, i);
+        push_number(out, b"number ", label, entry.number(i))?;
     }
     Ok(())
 }
 
 /// Writes the lines of the texts.
-fn push_texts<A: Allocator>(out: &mut Vec<u8, A>, entry: &Entry<'_>) -> Result<(), AllocError>
+fn push_texts<A: Allocator>(
+    out: &mut Vec<u8, A>,
+    look: Look,
+    entry: &Entry<'_>,
+) -> Result<(), AllocError>
     ensures { OnOk result (out.new.items
-        ≡ out.old.items ++ lines_from standard_text 0 entry.now.texts) }
+        ≡ out.old.items ++ lines_from (standard_text look) 0 entry.now.texts) }
 {
     for i in 0..entry.text_count() {
-        push_text(out, b"text ", label_at(Kind::Text, i), entry.text(i))?;
+        let label = label_at(look.names, Kind::Text, i);
+        push_text(out, b"text ", label, look.form, entry.text(i))?;
     }
     Ok(())
 }
 
 /// Writes the lines of the standard capabilities.
-fn push_standard<A: Allocator>(out: &mut Vec<u8, A>, entry: &Entry<'_>) -> Result<(), AllocError>
-    ensures { OnOk result (out.new.items ≡ out.old.items ++ standard_lines entry.now) }
+fn push_standard<A: Allocator>(
+    out: &mut Vec<u8, A>,
+    look: Look,
+    entry: &Entry<'_>,
+) -> Result<(), AllocError>
+    ensures { OnOk result (out.new.items ≡ out.old.items ++ standard_lines look entry.now) }
 {
-    push_flags(out, entry)?;
-    push_numbers(out, entry)?;
-    push_texts(out, entry)
+    push_flags(out, look.names, entry)?;
+    push_numbers(out, look.names, entry)?;
+    push_texts(out, look, entry)
 }
 
 /// Writes the lines of the extended flags.
@@ -86,14 +106,15 @@ fn push_extended_numbers<A: Allocator>(
 /// Writes the lines of the extended texts.
 fn push_extended_texts<A: Allocator>(
     out: &mut Vec<u8, A>,
+    form: Form,
     extended: &Extended<'_>,
 ) -> Result<(), AllocError>
     ensures { OnOk result (out.new.items
-        ≡ out.old.items ++ lines_from extended_text 0 extended.now.extended_texts) }
+        ≡ out.old.items ++ lines_from (extended_text form) 0 extended.now.extended_texts) }
 {
     for i in 0..extended.text_count() {
         let label = extended_label(extended, Kind::Text, i);
-        push_text(out, b"text+ ", label, extended.text(i))?;
+        push_text(out, b"text+ ", label, form, extended.text(i))?;
     }
     Ok(())
 }
@@ -101,13 +122,14 @@ fn push_extended_texts<A: Allocator>(
 /// Writes the lines of the extended capabilities.
 fn push_extended<A: Allocator>(
     out: &mut Vec<u8, A>,
+    form: Form,
     extended: &Extended<'_>,
 ) -> Result<(), AllocError>
-    ensures { OnOk result (out.new.items ≡ out.old.items ++ extended_lines extended.now) }
+    ensures { OnOk result (out.new.items ≡ out.old.items ++ extended_lines form extended.now) }
 {
     push_extended_flags(out, extended)?;
     push_extended_numbers(out, extended)?;
-    push_extended_texts(out, extended)
+    push_extended_texts(out, form, extended)
 }
 
 /// The name of a format.
@@ -120,16 +142,20 @@ fn format_name(width: Width) -> &'static str
     }
 }
 
-/// The listing of an entry.
-pub fn lines_of<A: Allocator + Copy>(alloc: A, entry: &Entry<'_>) -> Result<Vec<u8, A>, AllocError>
-    ensures { IfOk result (λ out. out.items ≡ entry_lines entry.now) }
+/// The listing of an entry, as it is asked for.
+pub fn lines_of<A: Allocator + Copy>(
+    alloc: A,
+    look: Look,
+    entry: &Entry<'_>,
+) -> Result<Vec<u8, A>, AllocError>
+    ensures { IfOk result (λ out. out.items ≡ entry_lines look entry.now) }
 {
     let mut out = Vec::from_slice(alloc, b"format: ")?;
     out.extend_from_slice(format_name(entry.width()).as_bytes())?;
     out.extend_from_slice(b"\nnames: ")?;
     out.extend_from_slice(entry.names())?;
     out.push(b'\n')?;
-    push_standard(&mut out, entry)?;
-    push_extended(&mut out, &entry.extended())?;
+    push_standard(&mut out, look, entry)?;
+    push_extended(&mut out, look.form, &entry.extended())?;
     Ok(out)
 }

@@ -1,40 +1,48 @@
 //! The whole result of a call, and writing it.
 
-ghost use Rattle.std.specs.Prelude.{◌≡◌, true, Ok, IfOk, IfErr};
+ghost use Rattle.std.specs.Prelude.{◌≡◌, ◌++◌, codes, Ok, IfOk, IfErr};
 ghost use Rattle.ti_tool.specs.declared.fault.ToolFault.TheVariants as fault;
-ghost use Rattle.ti_tool.specs.Results.{output_bytes as the_output_bytes};
+ghost use Rattle.ti_escape.specs.Forms.{formed};
+ghost use Rattle.ti_tool.specs.Looks.{output_bytes as the_output_bytes};
 ghost use Rattle.ti_tool.specs.Calls.{IsFailedWrite, Wrote};
 
 use crate::fault::ToolFault;
+use crate::look::Output;
 use std::alloc::{AllocError, Allocator};
 use std::io::Write;
+use ti_escape::{Form, formed_len, push_formed};
 use ti_pad::write_out;
 
-/// The bytes in lower-case hex, and a newline.
-fn hex_line<A: Allocator + Copy>(alloc: A, bytes: &[u8]) -> Result<Vec<u8, A>, AllocError>
-    ensures { IfOk result (λ line. line.items ≡ the_output_bytes true bytes.now) }
+/// The bytes in a form, and a newline.
+fn formed_line<A: Allocator + Copy>(
+    alloc: A,
+    form: Form,
+    bytes: &[u8],
+) -> Result<Vec<u8, A>, AllocError>
+    ensures { IfOk result (λ line. line.items ≡ formed form bytes.now ++ codes "\n") }
 {
-    let count = 2 * bytes.len();
-    let mut line = Vec::with_capacity(alloc, count + 1)?;
-    line.resize(count, 0)?;
-    let _ = hex::encode_to_slice(bytes, line.as_mut_slice());
+    let Ok(len) = usize::try_from(formed_len(form, bytes) + 1) else {
+        return Err(AllocError);
+    };
+    let mut line = Vec::with_capacity(alloc, len)?;
+    push_formed(&mut line, form, bytes)?;
     line.push(b'\n')?;
     Ok(line)
 }
 
-/// The bytes as they stand, or with `hex` in lower-case hex and a newline.
+/// The bytes as they stand, or in a form and a newline.
 pub fn output_bytes<A: Allocator + Copy>(
     alloc: A,
     plain: Vec<u8, A>,
-    hex: bool,
+    output: Output,
 ) -> Result<Vec<u8, A>, ToolFault>
-    ensures value { IfOk result (λ v. v.items ≡ the_output_bytes hex plain.items) }
+    ensures value { IfOk result (λ v. v.items ≡ the_output_bytes output plain.items) }
     ensures refused { IfErr result (λ e. e ≡ fault.Memory) }
 {
-    if !hex {
-        return Ok(plain);
+    match output {
+        Output::Raw => Ok(plain),
+        Output::Line(form) => Ok(formed_line(alloc, form, plain.as_slice())?),
     }
-    Ok(hex_line(alloc, plain.as_slice())?)
 }
 
 /// Writes a result. Its fault says how many of its bytes the writer took.

@@ -5,7 +5,16 @@ ghost use Rattle.ti_words.specs.Texts.{text_value};
 ghost use Rattle.ti_tool.specs.Names.{IsLabel, IsExtendedCalled, IsCalled};
 
 use ti_entry::{Entry, Extended};
-use ti_words::{Kind, Text, find};
+use ti_words::{Kind, NameTable, Text};
+
+/// The name of a text.
+#[derive(Clone, Copy, Debug)]
+pub struct TextName<'a> {
+    /// The name: `#` and an index, or a name.
+    pub name: &'a str,
+    /// The table in which it is looked up.
+    pub names: NameTable,
+}
 
 /// The most digits of an index.
 const MOST_DIGITS: usize = 5;
@@ -36,16 +45,16 @@ fn extended_text<'a>(extended: &Extended<'a>, name: &[u8]) -> Text<'a>
     }
 }
 
-/// The text that a name stands for: `#` and one to five digits is an index; else the name of a text in the table of
-/// names is its index; else it is the first extended text of that name.
-pub fn text_called<'a>(entry: &Entry<'a>, name: &str) -> Text<'a>
-    ensures { IsCalled name.now entry.now (text_value result) }
+/// The text that a name stands for: `#` and one to five digits is an index; else the name of a text in the table that is
+/// asked is its index; else it is the first extended text of that name.
+pub fn text_called<'a>(entry: &Entry<'a>, asked: TextName<'_>) -> Text<'a>
+    ensures { IsCalled asked.entry.names asked.entry.name.now entry.now (text_value result) }
 {
-    if let Some(index) = index_of(name) {
+    if let Some(index) = index_of(asked.name) {
         return entry.text(index);
     }
-    match find(name) {
+    match asked.names.find(asked.name) {
         Some((Kind::Text, index)) => entry.text(index),
-        _ => extended_text(&entry.extended(), name.as_bytes()),
+        _ => extended_text(&entry.extended(), asked.name.as_bytes()),
     }
 }

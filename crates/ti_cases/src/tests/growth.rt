@@ -121,6 +121,9 @@ fn a_deep_capability_goes_through_each_call(rt: HostRuntime) -> Result<(), Fail>
     let out = out.ok().ok_or("expand")?;
     assert!(rt; out.as_slice() == output);
     assert!(rt; written(alloc, &["ti", "cap", "n:12"], bytes)?.as_slice() == output);
+    let traced = written(alloc, &["ti", "trace", "n:12"], bytes)?;
+    let counts = b"\nwritten: 62\nran: 190\npassed: 0\nheight: 32\ndepth: 32\nbound: 341\n";
+    assert!(rt; traced.as_slice().ends_with(counts));
 
     let entry = entry_of(alloc, bytes)?;
     let entry = entry.as_slice();
@@ -147,6 +150,11 @@ fn a_large_capability_goes_through_each_call(rt: HostRuntime) -> Result<(), Fail
     output.extend_from_slice(b"12")?;
     let output = output.as_slice();
     assert!(rt; written(alloc, &["ti", "cap", "n:12"], bytes)?.as_slice() == output);
+    // a header of 60 bytes, 32000 lines of 57, one of 56 and one of 59, and 64081 after them
+    let traced = written(alloc, &["ti", "trace", "n:12"], bytes)?;
+    let counts = b"\nwritten: 32002\nran: 32002\npassed: 0\nheight: 1\ndepth: 1\nbound: 32011\n";
+    assert!(rt; traced.as_slice().ends_with(counts));
+    assert_eq!(rt; traced.len(), 1888256);
 
     let entry = entry_of(alloc, bytes)?;
     let entry = entry.as_slice();

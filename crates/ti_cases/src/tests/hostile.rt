@@ -273,7 +273,8 @@ fn a_source_that_fails_leaves_what_came(rt: HostRuntime) {
     assert!(rt; reader.finish().is_ok());
 }
 
-const COMMANDS: [&[&str]; 4] = [
+const COMMANDS: [&[&str]; 5] = [
+    &["ti", "trace"],
     &["ti", "show"],
     &["ti", "check"],
     &["ti", "convert"],

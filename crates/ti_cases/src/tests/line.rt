@@ -1,33 +1,69 @@
 //! The command line: what words are read as, and what the user is told of words that are none.
 
 use ti_line::{NoLine, read_line};
-use ti_words::{Kind, find, flag_name, number_name, text_name};
+use ti_words::{Kind, NameTable, find, flag_name, number_name, text_name};
 
 /// Words, and the line that they are read as.
-const READ: [(&[&str], &str); 16] = [
+const READ: [(&[&str], &str); 25] = [
     (
         &["ti", "cap", "n:7"],
-        "Cap { hex: false, params: [\"n:7\"] }",
+        "Cap { hex: false, escape: false, params: [\"n:7\"] }",
     ),
-    (&["ti", "cap"], "Cap { hex: false, params: [] }"),
+    (
+        &["ti", "cap"],
+        "Cap { hex: false, escape: false, params: [] }",
+    ),
     (
         &["ti", "cap", "n:4", "--hex", "n:9"],
-        "Cap { hex: true, params: [\"n:4\", \"n:9\"] }",
+        "Cap { hex: true, escape: false, params: [\"n:4\", \"n:9\"] }",
     ),
     (
         &["ti", "cap", "n:-5", "s:-x", "s:", "", "s:\u{e9}\u{1}"],
-        "Cap { hex: false, params: [\"n:-5\", \"s:-x\", \"s:\", \"\", \"s:\u{e9}\\u{1}\"] }",
+        "Cap { hex: false, escape: false, params: [\"n:-5\", \"s:-x\", \"s:\", \"\", \"s:\u{e9}\\u{1}\"] }",
     ),
     (
         &["ti", "cap", "--", "-5", "--hex"],
-        "Cap { hex: false, params: [\"-5\", \"--hex\"] }",
+        "Cap { hex: false, escape: false, params: [\"-5\", \"--hex\"] }",
     ),
     (
         &["ti", "cap", "help"],
-        "Cap { hex: false, params: [\"help\"] }",
+        "Cap { hex: false, escape: false, params: [\"help\"] }",
     ),
-    (&["ti", "show"], "Show"),
-    (&["ti", "check"], "Check"),
+    (
+        &["ti", "trace", "n:7"],
+        "Trace { escape: false, params: [\"n:7\"] }",
+    ),
+    (
+        &["ti", "trace", "n:4", "--escape", "s:-x"],
+        "Trace { escape: true, params: [\"n:4\", \"s:-x\"] }",
+    ),
+    (
+        &["ti", "trace", "--", "--escape"],
+        "Trace { escape: false, params: [\"--escape\"] }",
+    ),
+    (&["ti", "show"], "Show { escape: false, all_names: false }"),
+    (
+        &["ti", "show", "--escape"],
+        "Show { escape: true, all_names: false }",
+    ),
+    (
+        &["ti", "show", "--all-names"],
+        "Show { escape: false, all_names: true }",
+    ),
+    (&["ti", "check"], "Check { all_names: false }"),
+    (&["ti", "check", "--all-names"], "Check { all_names: true }"),
+    (
+        &["ti", "cap", "--escape", "n:1"],
+        "Cap { hex: false, escape: true, params: [\"n:1\"] }",
+    ),
+    (
+        &["ti", "cap", "--escape", "--hex"],
+        "Cap { hex: true, escape: true, params: [] }",
+    ),
+    (
+        &["ti", "expand", "--all-names", "--escape", "acsc"],
+        "Expand(Expand { name: \"acsc\", hex: false, escape: true, all_names: true, rate: 0, lines: 1, xon: false, params: [] })",
+    ),
     (&["ti", "convert"], "Convert { wide: false, narrow: false }"),
     (
         &["ti", "convert", "--wide"],
@@ -43,7 +79,7 @@ const READ: [(&[&str], &str); 16] = [
     ),
     (
         &["ti", "expand", "cup"],
-        "Expand(Expand { name: \"cup\", hex: false, rate: 0, lines: 1, xon: false, params: [] })",
+        "Expand(Expand { name: \"cup\", hex: false, escape: false, all_names: false, rate: 0, lines: 1, xon: false, params: [] })",
     ),
     (
         &[
@@ -58,20 +94,20 @@ const READ: [(&[&str], &str); 16] = [
             "s:$<5>",
             "n:1",
         ],
-        "Expand(Expand { name: \"#0\", hex: true, rate: 1000000, lines: 65535, xon: true, params: [\"s:$<5>\", \"n:1\"] })",
+        "Expand(Expand { name: \"#0\", hex: true, escape: false, all_names: false, rate: 1000000, lines: 65535, xon: true, params: [\"s:$<5>\", \"n:1\"] })",
     ),
     (
         &["ti", "expand", "bel", "n:1", "--lines", "0", "--rate=0"],
-        "Expand(Expand { name: \"bel\", hex: false, rate: 0, lines: 0, xon: false, params: [\"n:1\"] })",
+        "Expand(Expand { name: \"bel\", hex: false, escape: false, all_names: false, rate: 0, lines: 0, xon: false, params: [\"n:1\"] })",
     ),
     (
         &["ti", "expand", "--", "-X"],
-        "Expand(Expand { name: \"-X\", hex: false, rate: 0, lines: 1, xon: false, params: [] })",
+        "Expand(Expand { name: \"-X\", hex: false, escape: false, all_names: false, rate: 0, lines: 1, xon: false, params: [] })",
     ),
 ];
 
 /// Words that are refused, and what the text on them has.
-const REFUSED: [(&[&str], &str); 13] = [
+const REFUSED: [(&[&str], &str); 17] = [
     (&[], "subcommand"),
     (&["ti"], "subcommand"),
     (&["ti", "zap"], "'zap'"),
@@ -79,6 +115,10 @@ const REFUSED: [(&[&str], &str); 13] = [
     (&["ti", "cap", "--xon"], "'--xon'"),
     (&["ti", "cap", "-5"], "'-5'"),
     (&["ti", "cap", "--hex", "--hex"], "--hex"),
+    (&["ti", "cap", "--all-names"], "'--all-names'"),
+    (&["ti", "trace", "--hex"], "'--hex'"),
+    (&["ti", "trace", "--escape", "--escape"], "--escape"),
+    (&["ti", "check", "--escape"], "'--escape'"),
     (&["ti", "expand"], "<NAME>"),
     (&["ti", "expand", "bel", "--rate"], "--rate <N>"),
     (
@@ -97,11 +137,12 @@ const REFUSED: [(&[&str], &str); 13] = [
 ];
 
 /// Words that ask for help, and what the help has.
-const HELP: [(&[&str], &[&str]); 9] = [
+const HELP: [(&[&str], &[&str]); 10] = [
     (
         &["ti", "--help"],
         &[
             "cap",
+            "trace",
             "show",
             "check",
             "expand",
@@ -112,10 +153,24 @@ const HELP: [(&[&str], &[&str]); 9] = [
     ),
     (&["ti", "-h"], &["Usage: ti <COMMAND>"]),
     (&["ti", "help"], &["Usage: ti <COMMAND>"]),
-    (&["ti", "help", "show"], &["Usage: ti show"]),
+    (
+        &["ti", "help", "show"],
+        &["Usage: ti show", "--escape", "--all-names", "\\E[H"],
+    ),
     (
         &["ti", "cap", "--help"],
-        &["--hex", "[PARAM]...", "n:NUMBER", "s:TEXT", "Example"],
+        &[
+            "--hex",
+            "--escape",
+            "[PARAM]...",
+            "n:NUMBER",
+            "s:TEXT",
+            "Example",
+        ],
+    ),
+    (
+        &["ti", "trace", "--help"],
+        &["--escape", "[PARAM]...", "n:NUMBER", "s:TEXT", "Example"],
     ),
     (
         &["ti", "expand", "--help"],
@@ -177,4 +232,16 @@ fn names_are_those_of_ncurses(rt: HostRuntime) {
     assert_eq!(rt; find("cols"), Some((Kind::Number, 0)));
     assert_eq!(rt; find("xon"), Some((Kind::Flag, 20)));
     assert_eq!(rt; find(""), None);
+}
+
+#[test]
+fn all_names_are_those_of_ncurses(rt: HostRuntime) {
+    assert_eq!(rt; NameTable::All.flag_name(2), Some("xsb"));
+    assert_eq!(rt; NameTable::All.number_name(38), Some("OTkn"));
+    assert_eq!(rt; NameTable::All.text_name(146), Some("acsc"));
+    assert_eq!(rt; NameTable::All.text_name(414), None);
+    assert_eq!(rt; NameTable::All.find("box1"), Some((Kind::Text, 413)));
+    assert_eq!(rt; NameTable::Common.text_name(146), None);
+    assert_eq!(rt; NameTable::Common.find("acsc"), None);
+    assert_eq!(rt; NameTable::Common.find("cup"), Some((Kind::Text, 10)));
 }

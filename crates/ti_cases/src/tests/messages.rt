@@ -8,6 +8,7 @@ use ti_cap::{CapFault, CapRefused};
 use ti_entry::{EncodeFault, Fault, Refused};
 use ti_line::{NoLine, read_line};
 use ti_tool::{ToolFault, WordFault, run};
+use ti_trace::TraceFault;
 
 /// Each fault of a call, and its message.
 const FAULTS: [(ToolFault, &str); 9] = [
@@ -40,9 +41,26 @@ const FAULTS: [(ToolFault, &str); 9] = [
     (ToolFault::Memory, "Memory"),
 ];
 
+/// Each fault of a trace, and its message.
+const FAULTS_OF_TRACES: [(TraceFault, &str); 3] = [
+    (
+        TraceFault::Cap(CapRefused {
+            fault: CapFault::StrayEnd,
+            place: 0,
+        }),
+        "Cap StrayEnd at 0",
+    ),
+    (TraceFault::TextTooLong(3), "TextTooLong 3"),
+    (TraceFault::Memory, "Memory"),
+];
+
 #[test]
 fn a_message_is_the_name_and_its_numbers(rt: HostRuntime) {
     for (fault, message) in FAULTS.iter() {
+        let text = format!(in rt.alloc(); "{fault}").expect(&rt, "memory");
+        assert_eq!(rt; text.as_str(), *message);
+    }
+    for (fault, message) in FAULTS_OF_TRACES.iter() {
         let text = format!(in rt.alloc(); "{fault}").expect(&rt, "memory");
         assert_eq!(rt; text.as_str(), *message);
     }
@@ -118,7 +136,7 @@ fn padded_text_stops_where_the_writer_fails(rt: HostRuntime) {
 }
 
 /// Words, what is read, the status, and the line on the fault.
-const TOLD: [(&[&str], &[u8], u8, &[u8]); 8] = [
+const TOLD: [(&[&str], &[u8], u8, &[u8]); 12] = [
     (&["ti", "cap", "n:+1"], b"%d", 2, b"parameter 1: bad word\n"),
     (
         &[
@@ -134,6 +152,25 @@ const TOLD: [(&[&str], &[u8], u8, &[u8]); 8] = [
         2,
         b"convert: both widths\n",
     ),
+    (
+        &["ti", "cap", "--hex", "--escape"],
+        b"%d",
+        2,
+        b"cap: both forms\n",
+    ),
+    (
+        &["ti", "expand", "--hex", "--escape", "bel"],
+        SMALL,
+        2,
+        b"expand: both forms\n",
+    ),
+    (
+        &["ti", "trace", "n:1", "x"],
+        b"%d",
+        2,
+        b"parameter 2: bad word\n",
+    ),
+    (&["ti", "trace"], b"%;", 4, b"capability: StrayEnd at 0\n"),
     // the number is 32768
     (
         &["ti", "convert", "--narrow"],
@@ -231,7 +268,7 @@ fn help_is_the_text_of_the_command(rt: HostRuntime) -> Result<(), Fail> {
     let about = "Reads, analyses, expands and writes compiled terminfo entries\n";
     assert!(rt; text.starts_with(about), "{text}");
     assert!(rt; text.ends_with("\n"), "{text}");
-    for command in ["cap", "show", "check", "expand", "convert"] {
+    for command in ["cap", "trace", "show", "check", "expand", "convert"] {
         assert!(rt; text.contains(command), "{command}");
     }
     Ok(())

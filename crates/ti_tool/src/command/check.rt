@@ -5,7 +5,7 @@
 ghost use Rattle.std.specs.Prelude.{◌⊎◌, ◌≡◌, IfOk, IfErr};
 ghost use Rattle.ti_tool.specs.Verdicts.{AreVerdicts, IsExtendedLine, IsStandardLine};
 ghost use Rattle.ti_tool.specs.Calls.{DidCheck, without_value, IsFailedWrite};
-ghost use Rattle.ti_tool.specs.Results.{IsChecked};
+ghost use Rattle.ti_tool.specs.Results.{IsChecked, IsCheckedAs};
 ghost use Rattle.ti_tool.specs.inner.Verdict.{AddsLines};
 
 use crate::fault::ToolFault;
@@ -15,19 +15,23 @@ use crate::verdict::{judge, push_line};
 use std::alloc::{AllocError, Allocator};
 use std::io::{Read, Write};
 use ti_entry::{Entry, EntryReader, Extended, read_from};
-use ti_words::{Kind, Text};
+use ti_words::{Kind, NameTable, Text};
 
 /// Writes the lines of the standard texts, and answers whether none has a fault.
-fn push_standard<A: Allocator>(out: &mut Vec<u8, A>, entry: &Entry<'_>) -> Result<bool, AllocError>
+fn push_standard<A: Allocator>(
+    out: &mut Vec<u8, A>,
+    names: NameTable,
+    entry: &Entry<'_>,
+) -> Result<bool, AllocError>
     ensures { IfOk result
-        (AddsLines IsStandardLine entry.now.texts out.old.items out.new.items) }
+        (AddsLines (IsStandardLine names) entry.now.texts out.old.items out.new.items) }
 {
     let mut sound = true;
     let mut last = judge(b"");
     for i in 0..entry.text_count() {
         if let Text::Value(text) = entry.text(i) {
             last = last.next(text);
-            push_line(out, b"text ", label_at(Kind::Text, i), last.verdict)?;
+            push_line(out, b"text ", label_at(names, Kind::Text, i), last.verdict)?;
             sound &= last.verdict.is_sound();
         }
     }
@@ -63,11 +67,15 @@ struct Verdicts<A: Allocator> {
 }
 
 /// The lines of an entry.
-fn verdicts_of<A: Allocator + Copy>(alloc: A, entry: &Entry<'_>) -> Result<Verdicts<A>, AllocError>
-    ensures { IfOk result (λ v. AreVerdicts entry.now v.lines.items v.sound) }
+fn verdicts_of<A: Allocator + Copy>(
+    alloc: A,
+    names: NameTable,
+    entry: &Entry<'_>,
+) -> Result<Verdicts<A>, AllocError>
+    ensures { IfOk result (λ v. AreVerdicts names entry.now v.lines.items v.sound) }
 {
     let mut lines = Vec::new(alloc);
-    let standard = push_standard(&mut lines, entry)?;
+    let standard = push_standard(&mut lines, names, entry)?;
     let extended = push_extended(&mut lines, &entry.extended())?;
     Ok(Verdicts {
         lines,
@@ -76,8 +84,8 @@ fn verdicts_of<A: Allocator + Copy>(alloc: A, entry: &Entry<'_>) -> Result<Verdi
 }
 
 /// Analyses each text of the entry that the reader gives, and writes a line for each that is present, in the order of
-/// [`show`](crate::show): its depth and bound, or its fault with the place. The bound is the one where text
-/// parameters have no bytes. The answer is whether no text has a fault.
+/// [`show`](crate::show): its depth and bound, or its fault with the place. A standard text is called by the table `names`.
+/// The bound is the one where text parameters have no bytes. The answer is whether no text has a fault.
 ///
 /// A text that is no output string, such as a pattern of input, can have a fault in an entry that is right.
 ///
@@ -86,6 +94,27 @@ fn verdicts_of<A: Allocator + Copy>(alloc: A, entry: &Entry<'_>) -> Result<Verdi
 /// # Errors
 ///
 /// In this order: `Read` or `Entry` where there is no entry to be had, `Write`; `Memory` where a growth is refused.
+pub fn check_as<A: Allocator + Copy, R: Read, W: Write>(
+    alloc: A,
+    reader: &mut R,
+    names: NameTable,
+    writer: &mut W,
+) -> Result<bool, ToolFault>
+    ensures did { DidCheck (IsCheckedAs names)
+        (R.remaining reader.old) (R.remaining reader.new)
+        (W.contents writer.old) (W.contents writer.new) result }
+    // After a fault other than `Write` the writer is as it was.
+    ensures unwritten { IfErr result (λ e. IsFailedWrite e ⊎ (writer.new ≡ writer.old)) }
+{
+    let mut kept = EntryReader::new();
+    read_from(&mut kept, reader)?;
+    let entry = kept.finish()?;
+    let verdicts = verdicts_of(alloc, names, &entry)?;
+    write_result(writer, verdicts.lines.as_slice())?;
+    Ok(verdicts.sound)
+}
+
+/// [`check_as`] by the common names.
 pub fn check<A: Allocator + Copy, R: Read, W: Write>(
     alloc: A,
     reader: &mut R,
@@ -97,10 +126,5 @@ pub fn check<A: Allocator + Copy, R: Read, W: Write>(
     // After a fault other than `Write` the writer is as it was.
     ensures unwritten { IfErr result (λ e. IsFailedWrite e ⊎ (writer.new ≡ writer.old)) }
 {
-    let mut kept = EntryReader::new();
-    read_from(&mut kept, reader)?;
-    let entry = kept.finish()?;
-    let verdicts = verdicts_of(alloc, &entry)?;
-    write_result(writer, verdicts.lines.as_slice())?;
-    Ok(verdicts.sound)
+    check_as(alloc, reader, NameTable::Common, writer)
 }

@@ -4,5 +4,5 @@ use Rattle.ti_tool.proofs.listing.push_extended_texts.Given as goal
 
 abbrev pub invariant-loop-i : goal.invariant-loop-i
 invariant-loop-i g l =
-    l.out.items ++ lines_from extended_text l.i (drop l.i l.extended.extended_texts)
-    ≡ l.initial.out.items ++ lines_from extended_text 0 l.extended.extended_texts
+    l.out.items ++ lines_from (extended_text l.form) l.i (drop l.i l.extended.extended_texts)
+    ≡ l.initial.out.items ++ lines_from (extended_text l.form) 0 l.extended.extended_texts

@@ -1,15 +1,11 @@
-use Rattle.std.proofs.Common.{inl, refl, arith}
-use Rattle.std.proofs.lemmas.List.{length-map}
-use Rattle.ti_line.specs.Line.{texts_of}
-use Rattle.ti_tool.proofs.AreParamsLemmas.{no_params, params_refused}
-use Rattle.ti_tool.proofs.ToldLemmas.{told_line}
+use Rattle.std.proofs.Common.{inl, refl}
+use Rattle.std.proofs.lemmas.Bool.{and_from}
+use Rattle.ti_tool.specs.FaultLines.{cap_forms_line}
+use Rattle.ti_tool.proofs.ToldLemmas.{told_by}
 use Rattle.ti_tool.proofs.program.run_cap.Goals as goal
 
-pub returns-in-Err-clause-ran : goal.returns-in-Err-clause-ran
-returns-in-Err-clause-ran g c = inl (
-  c.in-Err.fault,
-  params_refused c.args.words.now c.in-Err.fault c.read_params.result c.in-Err.is c.read_params.ensures.many.0 c.read_params.ensures.many.1 c.read_params.ensures.bad,
-  no_params (texts_of c.args.words.now) c.in-Err.fault c.read_params.result c.in-Err.is
-      (λ e. omega (arith, length-map c.args.words.now (λ w. w.now), c.read_params.ensures.many.0 e)) c.read_params.ensures.bad,
-  (refl, (refl, refl), told_line _ _ c.as_slice.result.now _ _ c.write_out.result c.words_line-line.ensures c.as_slice.ensures.value c.write_out.ensures.written c.write_out.ensures.short c.write_out.ensures.gone),
+pub returns-then-escape-clause-ran : goal.returns-then-escape-clause-ran
+returns-then-escape-clause-ran g c = inl (
+  and_from c.args.hex c.args.escape c.if-hex.true c.if-escape.true,
+  (refl, (refl, refl), told_by cap_forms_line _ _ c.write_out.result c.write_out.ensures.written c.write_out.ensures.short c.write_out.ensures.gone),
 )

@@ -1,15 +1,11 @@
-use Rattle.std.proofs.Common.{inl, refl, arith}
-use Rattle.std.proofs.lemmas.List.{length-map}
-use Rattle.ti_line.specs.Line.{texts_of}
-use Rattle.ti_tool.proofs.AreParamsLemmas.{no_params, params_refused}
-use Rattle.ti_tool.proofs.ToldLemmas.{told_line}
+use Rattle.std.proofs.Common.{inl, refl}
+use Rattle.std.proofs.lemmas.Bool.{and_from}
+use Rattle.ti_tool.specs.FaultLines.{expand_forms_line}
+use Rattle.ti_tool.proofs.ToldLemmas.{told_by}
 use Rattle.ti_tool.proofs.program.run_expand.Goals as goal
 
-pub returns-in-Err-clause-ran : goal.returns-in-Err-clause-ran
-returns-in-Err-clause-ran g c = rw (← c.as_slice.ensures.value) (inl (
-  c.in-Err.fault,
-  params_refused c.as_slice.result.now c.in-Err.fault c.read_params.result c.in-Err.is c.read_params.ensures.many.0 c.read_params.ensures.many.1 c.read_params.ensures.bad,
-  no_params (texts_of c.as_slice.result.now) c.in-Err.fault c.read_params.result c.in-Err.is
-      (λ e. omega (arith, length-map c.as_slice.result.now (λ w. w.now), c.read_params.ensures.many.0 e)) c.read_params.ensures.bad,
-  (refl, (refl, refl), told_line _ _ c.as_slice-in-Err.result.now _ _ c.write_out.result c.words_line-line.ensures c.as_slice-in-Err.ensures.value c.write_out.ensures.written c.write_out.ensures.short c.write_out.ensures.gone),
-))
+pub returns-then-asked-2-clause-ran : goal.returns-then-asked-2-clause-ran
+returns-then-asked-2-clause-ran g c = inl (
+  and_from c.args.asked.now.hex c.args.asked.now.escape c.if-asked.true c.if-asked-2.true,
+  (refl, (refl, refl), told_by expand_forms_line _ _ c.write_out.result c.write_out.ensures.written c.write_out.ensures.short c.write_out.ensures.gone),
+)

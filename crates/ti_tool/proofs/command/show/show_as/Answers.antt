@@ -1,32 +1,32 @@
 use Rattle.std.proofs.Common.{inl, inr, refl}
 use Rattle.std.proofs.lemmas.Result.{err_from_is_err_and}
-use Rattle.ti_tool.specs.Results.{IsShown}
+use Rattle.ti_tool.specs.Results.{IsShownAs}
 use Rattle.ti_tool.specs.Calls.{HasFailed}
 use Rattle.ti_tool.proofs.NeedsMemoryLemmas.{shown_needs}
 use Rattle.ti_tool.proofs.DidCallLemmas.{did_fail, did_stop, did_write, keeps_all}
-use Rattle.ti_tool.proofs.command.show.show.Goals as goal
+use Rattle.ti_tool.proofs.command.show.show_as.Goals as goal
 
 pub returns-in_err-read_from-clause-did : goal.returns-in_err-read_from-clause-did
 returns-in_err-read_from-clause-did g c =
     let p = err_from_is_err_and c.from_residual.result c.from_residual.ensures.1 in
-    rw (p.1, p.2) (did_stop IsShown _ _ _ _ _ c.in_err-read_from.field-0.0 c.new-kept.ensures c.read_from.ensures.fed c.in_err-read_from.ensures.refused (λ bytes refused is. is))
+    rw (p.1, p.2) (did_stop (IsShownAs c.args.look) _ _ _ _ _ c.in_err-read_from.field-0.0 c.new-kept.ensures c.read_from.ensures.fed c.in_err-read_from.ensures.refused (λ bytes refused is. is))
 
 pub returns-in_err-entry-clause-did : goal.returns-in_err-entry-clause-did
 returns-in_err-entry-clause-did g c =
     let p = err_from_is_err_and c.from_residual-in_err-entry.result c.from_residual-in_err-entry.ensures.1 in
     let whole = keeps_all _ _ _ _ c.new-kept.ensures c.read_from.ensures.fed c.in_ok-read_from.ensures.end c.in_ok-read_from.ensures.accepted in
-    rw (p.1, p.2) (did_fail IsShown HasFailed _ _ _ c.read_from.new.reader.kept _ whole.read (inr whole.end) (record { no_write = λ gone h. h; no_memory = λ h. h }) (inr (c.in_err-entry.ensures.refused whole.unrefused)))
+    rw (p.1, p.2) (did_fail (IsShownAs c.args.look) HasFailed _ _ _ c.read_from.new.reader.kept _ whole.read (inr whole.end) (record { no_write = λ gone h. h; no_memory = λ h. h }) (inr (c.in_err-entry.ensures.refused whole.unrefused)))
 
 pub returns-in_err-lines-clause-did : goal.returns-in_err-lines-clause-did
 returns-in_err-lines-clause-did g c =
     let p = err_from_is_err_and c.from_residual-in_err-lines.result c.from_residual-in_err-lines.ensures.1 in
     let whole = keeps_all _ _ _ _ c.new-kept.ensures c.read_from.ensures.fed c.in_ok-read_from.ensures.end c.in_ok-read_from.ensures.accepted in
-    rw (p.1, p.2) (did_fail IsShown HasFailed _ _ _ c.read_from.new.reader.kept _ whole.read (inr whole.end) (record { no_write = λ gone h. h; no_memory = λ h. h }) (inl (refl, shown_needs _ _ (c.in_ok-entry.ensures.found whole.unrefused))))
+    rw (p.1, p.2) (did_fail (IsShownAs c.args.look) HasFailed _ _ _ c.read_from.new.reader.kept _ whole.read (inr whole.end) (record { no_write = λ gone h. h; no_memory = λ h. h }) (inl (refl, shown_needs c.args.look _ _ (c.in_ok-entry.ensures.found whole.unrefused))))
 
 pub returns-clause-did : goal.returns-clause-did
 returns-clause-did g c =
     let whole = keeps_all _ _ _ _ c.new-kept.ensures c.read_from.ensures.fed c.in_ok-read_from.ensures.end c.in_ok-read_from.ensures.accepted in
-    did_write IsShown HasFailed _ _ _ _ c.read_from.new.reader.kept c.in_ok-lines.lines.items c.as_slice.result.now c.write_result.result
+    did_write (IsShownAs c.args.look) HasFailed _ _ _ _ c.read_from.new.reader.kept c.in_ok-lines.lines.items c.as_slice.result.now c.write_result.result
     whole.read (inr whole.end)
     (_, c.in_ok-entry.ensures.found whole.unrefused, c.in_ok-lines.ensures)
     c.as_slice.ensures.value c.write_result.ensures.written c.write_result.ensures.fails

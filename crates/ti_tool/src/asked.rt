@@ -1,0 +1,47 @@
+//! The look that the flags of a line ask for.
+
+ghost use Rattle.std.specs.Prelude.{◌≡◌};
+ghost use Rattle.ti_tool.specs.Looks.{form_asked as the_form_asked, look_asked as the_look_asked, names_asked as the_names_asked, output_asked as the_output_asked};
+
+use crate::look::{Look, Output};
+use ti_escape::Form;
+use ti_words::NameTable;
+
+/// What `--hex` and `--escape` ask for of an output. That both are given is the caller's to refuse.
+pub fn output_asked(hex: bool, escape: bool) -> Output
+    ensures { result ≡ the_output_asked hex escape }
+{
+    match (hex, escape) {
+        (true, _) => Output::Line(Form::Hex),
+        (false, true) => Output::Line(Form::Notation),
+        (false, false) => Output::Raw,
+    }
+}
+
+/// What `--all-names` asks for.
+pub fn names_asked(all_names: bool) -> NameTable
+    ensures { result ≡ the_names_asked all_names }
+{
+    if all_names {
+        NameTable::All
+    } else {
+        NameTable::Common
+    }
+}
+
+/// What `--escape` asks for of the texts of a listing, or of a trace.
+pub fn form_asked(escape: bool) -> Form
+    ensures { result ≡ the_form_asked escape }
+{
+    if escape { Form::Notation } else { Form::Hex }
+}
+
+/// The look of a listing by its flags.
+pub fn look_asked(all_names: bool, escape: bool) -> Look
+    ensures { result ≡ the_look_asked all_names escape }
+{
+    Look {
+        names: names_asked(all_names),
+        form: form_asked(escape),
+    }
+}
