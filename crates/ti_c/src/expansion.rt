@@ -127,6 +127,41 @@ fn expand_on<'a>(
     }
 }
 
+/// Expands on a stack of the most values, as [`ti_expand`] does. It is a function of its own, since the stack of a function is
+/// cleared whether or not it is needed.
+#[inline(never)]
+fn expand_deep<'a>(
+    capability: &Capability<'a>,
+    values: &[Value<'a>; 9],
+    variables: &mut Vars,
+    out: &mut [u8],
+    run: &mut Run,
+) -> u32
+    requires { IsDeepEnough capability.now most_values }
+    ensures answer { (result ≡ done)
+        ⊎ IsFaultOf capability.now values.now (length out.old) result run.new.place }
+    ensures faultless { result ≡ done → HasNoFault capability.now values.now (length out.old) }
+    ensures kept { (result ≡ done) ⊎ ((variables.new ≡ variables.old) × (out.new ≡ out.old)) }
+    ensures place { (result ≡ done) ⊎ (run.new ≡ record run.old { place = run.new.place }) }
+    ensures tree { result ≡ done → IsWellFormed capability.now }
+    ensures output { result ≡ done → ForMeaning capability.now variables.old values.now
+        (λ end. take run.new.written out.new ≡ end.output) }
+    ensures rest { result ≡ done → drop run.new.written out.new ≡ drop run.new.written out.old }
+    ensures variables { result ≡ done → ForMeaning capability.now variables.old values.now
+        (λ end. variables.new ≡ end.variables) }
+    ensures written { result ≡ done → ForMeaning capability.now variables.old values.now
+        (λ end. run.new.written ≡ length end.output) }
+    ensures ran { result ≡ done → ForPath capability.now variables.old values.now
+        (λ path. run.new.ran ≡ length path) }
+    ensures all { result ≡ done → ForTree capability.now
+        (λ tree. run.new.ran + run.new.passed ≡ length (tokens tree)) }
+    ensures peak { result ≡ done → ForPath capability.now variables.old values.now
+        (λ path. run.new.peak ≡ height path) }
+{
+    let mut stack = [Value::Num(0); MOST_VALUES];
+    expand_on(capability, values, variables, &mut stack, out, run)
+}
+
 /// Expands a capability into the caller's bytes, and answers 0 with the counts, or the number of its fault with the place.
 ///
 /// After a fault the variables and the output are as before.
@@ -180,6 +215,5 @@ pub extern "C" fn ti_expand<'a>(
         let mut stack = [Value::Num(0); FEW_VALUES];
         return expand_on(&capability, &values, variables, &mut stack, out, run);
     }
-    let mut stack = [Value::Num(0); MOST_VALUES];
-    expand_on(&capability, &values, variables, &mut stack, out, run)
+    expand_deep(&capability, &values, variables, out, run)
 }
