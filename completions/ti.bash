@@ -3,14 +3,16 @@ _ti() {
     local word=${COMP_WORDS[COMP_CWORD]} words
     COMPREPLY=()
     if [ "$COMP_CWORD" -eq 1 ]; then
-        words='cap show check expand convert help --help --version'
+        words='cap trace show check expand convert help --help --version'
     else
         case ${COMP_WORDS[1]} in
-            cap) words='--hex --help' ;;
-            expand) words='--hex --rate --lines --xon --help' ;;
+            cap) words='--hex --escape --help' ;;
+            trace) words='--escape --help' ;;
+            show) words='--escape --all-names --help' ;;
+            check) words='--all-names --help' ;;
+            expand) words='--hex --escape --all-names --rate --lines --xon --help' ;;
             convert) words='--wide --narrow --help' ;;
-            show | check) words='--help' ;;
-            help) words='cap show check expand convert' ;;
+            help) words='cap trace show check expand convert' ;;
             *) return ;;
         esac
     fi

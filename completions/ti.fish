@@ -1,6 +1,7 @@
 # Completes the words of ti in fish.
 complete -c ti -f
 complete -c ti -n __fish_use_subcommand -a cap -d 'Expand standard input as one capability'
+complete -c ti -n __fish_use_subcommand -a trace -d 'Show what one capability does, token by token'
 complete -c ti -n __fish_use_subcommand -a show -d 'List the compiled entry on standard input'
 complete -c ti -n __fish_use_subcommand -a check -d 'Analyse each text of the entry on standard input'
 complete -c ti -n __fish_use_subcommand -a expand -d 'Expand and pad one text of the entry on standard input'
@@ -9,6 +10,8 @@ complete -c ti -n __fish_use_subcommand -a help -d 'Print what a command does'
 complete -c ti -n __fish_use_subcommand -l version -d 'Print the version'
 complete -c ti -l help -d 'Print help'
 complete -c ti -n '__fish_seen_subcommand_from cap expand' -l hex -d 'Write lower-case hex and one newline'
+complete -c ti -n '__fish_seen_subcommand_from cap trace show expand' -l escape -d 'Write texts in the notation of terminfo(5)'
+complete -c ti -n '__fish_seen_subcommand_from show check expand' -l all-names -d 'Use all names of term.h'
 complete -c ti -n '__fish_seen_subcommand_from expand' -l rate -x -d 'Bytes per second of the line'
 complete -c ti -n '__fish_seen_subcommand_from expand' -l lines -x -d 'Lines that the text affects'
 complete -c ti -n '__fish_seen_subcommand_from expand' -l xon -d 'The line has flow control'

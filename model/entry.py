@@ -3,8 +3,12 @@
 Written from the manual pages, the list of checks and the choices of docs/DECISIONS.md, to be compared with the proved
 program.
 """
+import re
 import struct
 from dataclasses import dataclass, field
+from pathlib import Path
+
+from notation import shown
 
 LIMIT = 32768
 FLAGS = {0: "no", 1: "yes", 254: "cancelled", 255: "missing"}
@@ -27,6 +31,14 @@ TEXT_NAMES = {
     110: "il", 111: "cub", 112: "cuf", 113: "rin", 114: "cuu", 126: "rc", 127: "vpa", 128: "sc", 129: "ind", 130: "ri",
     131: "sgr", 132: "hts", 134: "ht", 164: "kend", 216: "kf11", 217: "kf12", 359: "setaf", 360: "setab",
 }
+COMMON_NAMES = {"flag": FLAG_NAMES, "number": NUMBER_NAMES, "text": TEXT_NAMES}
+
+
+def all_names():
+    """The names of term.h by kind and index. They are data of the code, which model/names holds against libtinfo."""
+    table = (Path(__file__).resolve().parent.parent / "crates/ti_words/src/all_table.rt").read_text()
+    lists = {kind: re.search(rf"static ALL_{kind.upper()}_NAMES: [^=]*= \[(.*?)\];", table, re.S)[1] for kind in COMMON_NAMES}
+    return {kind: dict(enumerate(re.findall(r'"([^"]*)"', names))) for kind, names in lists.items()}
 
 
 class Refused(Exception):
@@ -262,19 +274,19 @@ def number_line(kind, name, number):
     return kind + name + (b" cancelled" if number == -2 else b" %d" % number) + b"\n"
 
 
-def text_line(kind, name, text):
+def text_line(kind, name, text, escape):
     if text == ABSENT:
         return b""
-    return kind + name + b" " + (b"cancelled" if text == CANCELLED else text.hex().encode() or b"-") + b"\n"
+    return kind + name + b" " + (b"cancelled" if text == CANCELLED else shown(text, escape)) + b"\n"
 
 
-def listing(entry):
-    """What `show` writes."""
+def listing(entry, names, escape):
+    """What `show` writes, with labels by these names, and texts in the notation or in hex."""
     lines = [b"format: " + (b"wide" if entry.wide else b"legacy") + b"\nnames: " + entry.names + b"\n"]
-    lines += [flag_line(b"flag ", label(FLAG_NAMES, i), flag) for i, flag in enumerate(entry.flags)]
-    lines += [number_line(b"number ", label(NUMBER_NAMES, i), number) for i, number in enumerate(entry.numbers)]
-    lines += [text_line(b"text ", label(TEXT_NAMES, i), text) for i, text in enumerate(entry.texts)]
+    lines += [flag_line(b"flag ", label(names["flag"], i), flag) for i, flag in enumerate(entry.flags)]
+    lines += [number_line(b"number ", label(names["number"], i), number) for i, number in enumerate(entry.numbers)]
+    lines += [text_line(b"text ", label(names["text"], i), text, escape) for i, text in enumerate(entry.texts)]
     lines += [flag_line(b"flag+ ", name, flag) for name, flag in entry.extended_flags]
     lines += [number_line(b"number+ ", name, number) for name, number in entry.extended_numbers]
-    lines += [text_line(b"text+ ", name, text) for name, text in entry.extended_texts]
+    lines += [text_line(b"text+ ", name, text, escape) for name, text in entry.extended_texts]
     return b"".join(lines)
