@@ -109,6 +109,46 @@ fn add_extended_texts<'a, A: Allocator>(
     Ok(())
 }
 
+/// Adds the standard capabilities of an entry.
+fn add_standard<'a, A: Allocator>(
+    draft: &mut Draft<'a, A>,
+    entry: &Entry<'a>,
+) -> Result<(), AllocError>
+    ensures added { OnOk result (draft.new ≡ record draft.old {
+      flags = draft.old.flags ++ entry.now.flags;
+      numbers = draft.old.numbers ++ entry.now.numbers;
+      texts = draft.old.texts ++ entry.now.texts;
+    }) }
+    ensures no_memory { entry.now ≡ bare entry.now.width entry.now.names → IsOk result }
+{
+    draft.reserve(entry.flag_count(), entry.number_count(), entry.text_count())?;
+    add_flags(draft, entry)?;
+    add_numbers(draft, entry)?;
+    add_texts(draft, entry)
+}
+
+/// Adds the extended capabilities of an entry.
+fn add_extended<'a, A: Allocator>(
+    draft: &mut Draft<'a, A>,
+    extended: &Extended<'a>,
+) -> Result<(), AllocError>
+    ensures added { OnOk result (draft.new ≡ record draft.old {
+      extended_flags = draft.old.extended_flags ++ extended.now.extended_flags;
+      extended_numbers = draft.old.extended_numbers ++ extended.now.extended_numbers;
+      extended_texts = draft.old.extended_texts ++ extended.now.extended_texts;
+    }) }
+    ensures no_memory { extended.now ≡ bare extended.now.width extended.now.names → IsOk result }
+{
+    draft.reserve_extended(
+        extended.flag_count(),
+        extended.number_count(),
+        extended.text_count(),
+    )?;
+    add_extended_flags(draft, extended)?;
+    add_extended_numbers(draft, extended)?;
+    add_extended_texts(draft, extended)
+}
+
 impl<'a> Entry<'a> {
     /// A draft that says what the entry says. An entry with no capability needs no memory.
     ///
@@ -121,19 +161,8 @@ impl<'a> Entry<'a> {
         ensures no_memory { self.now ≡ bare self.now.width self.now.names → IsOk result }
     {
         let mut draft = Draft::new(alloc, self.names(), self.width());
-        draft.reserve(self.flag_count(), self.number_count(), self.text_count())?;
-        add_flags(&mut draft, self)?;
-        add_numbers(&mut draft, self)?;
-        add_texts(&mut draft, self)?;
-        let extended = self.extended();
-        draft.reserve_extended(
-            extended.flag_count(),
-            extended.number_count(),
-            extended.text_count(),
-        )?;
-        add_extended_flags(&mut draft, &extended)?;
-        add_extended_numbers(&mut draft, &extended)?;
-        add_extended_texts(&mut draft, &extended)?;
+        add_standard(&mut draft, self)?;
+        add_extended(&mut draft, &self.extended())?;
         Ok(draft)
     }
 }

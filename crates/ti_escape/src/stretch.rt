@@ -10,7 +10,7 @@ ghost use Rattle.ti_escape.specs.inner.Stretch.{is_plain as the_is_plain, middle
 use std::slice;
 
 /// Bytes that stand for themselves, or how one byte is written.
-#[derive(Clone, Copy, Debug)]
+#[derive(Clone, Copy)]
 pub enum Stretch<'a> {
     /// As they are.
     Plain(&'a [u8]),
@@ -23,14 +23,14 @@ pub enum Stretch<'a> {
 }
 
 /// The stretch at the front of some bytes, and the bytes after it.
-#[derive(Clone, Copy, Debug)]
+#[derive(Clone, Copy)]
 pub struct Front<'a> {
     pub stretch: Stretch<'a>,
     pub rest: &'a [u8],
 }
 
 /// A text as its ends, which are written as such, and the bytes between them.
-#[derive(Clone, Copy, Debug)]
+#[derive(Clone, Copy)]
 pub struct Parts<'a> {
     pub first: Stretch<'a>,
     pub middle: &'a [u8],

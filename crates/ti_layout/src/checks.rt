@@ -18,7 +18,7 @@ use crate::word::{count_at, number_word_at, numbers_size, word_at};
 use ti_words::{Width, flag_of, number_size};
 
 /// A table of names: where it ends, its size, the place after its last NUL, and what offsets are counted from.
-#[derive(Clone, Copy, Debug)]
+#[derive(Clone, Copy)]
 pub(crate) struct NameTable {
     pub(crate) end: usize,
     pub(crate) size: usize,

@@ -77,7 +77,7 @@ pub struct Refused {
 }
 
 /// Why a list of checks is not passed.
-#[derive(Clone, Copy, Debug, PartialEq, Eq)]
+#[derive(Clone, Copy)]
 pub(crate) enum Stop {
     /// The bytes end before the prefix that a check reads.
     Early,

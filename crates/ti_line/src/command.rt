@@ -1,7 +1,7 @@
 //! The command that is handed to `clap`: subcommands of one level, options, positionals, and the texts of help.
 
 ghost use Rattle.std.specs.Prelude.{◌≡◌, [], ◌∷◌, IfOk, false};
-ghost use Rattle.clap.specs.Words.{app_of, new_app, rule_of};
+ghost use Rattle.clap.specs.Words.{App, app_of, new_app, rule_of};
 ghost use Rattle.ti_line.specs.CommandLine.{all_names_rule, cap_app, check_app, convert_app, escape_rule, expand_app, hex_rule, lines_rule, name_rule, narrow_rule, params_rule, rate_rule, show_app, start_app, ti_app, trace_app, wide_rule, with_commands, with_rules, xon_rule};
 ghost use Rattle.ti_line.specs.inner.Command.{HasNoGlobals};
 
@@ -251,24 +251,37 @@ fn start<'a>(alloc: Global) -> Command<'a>
         .after_help(STATUSES)
 }
 
+/// A program with one subcommand more, where that could be made.
+fn with_made<'a>(
+    program: Command<'a>,
+    made: Result<Command<'a>, AllocError>,
+) -> Result<Command<'a>, AllocError>
+    ensures shape { (app : App) → IfOk made.entry HasNoGlobals
+        → IfOk made.entry (λ c. app_of c ≡ app)
+        → IfOk result (λ c. app_of c ≡ with_commands (app_of program.entry) (app ∷ [])) }
+    ensures local { HasNoGlobals program.entry → IfOk made.entry HasNoGlobals
+        → IfOk result HasNoGlobals }
+{
+    program.subcommand(made?)
+}
+
 /// `ti` with its first three subcommands.
 fn first_commands<'a>(alloc: Global) -> Result<Command<'a>, AllocError>
     ensures shape { IfOk result (λ c. app_of c
         ≡ with_commands start_app (cap_app ∷ trace_app ∷ show_app ∷ [])) }
     ensures local { IfOk result HasNoGlobals }
 {
-    start(alloc)
-        .subcommand(cap(alloc)?)?
-        .subcommand(trace(alloc)?)?
-        .subcommand(show(alloc)?)
+    let capped = with_made(start(alloc), cap(alloc))?;
+    let traced = with_made(capped, trace(alloc))?;
+    with_made(traced, show(alloc))
 }
 
 /// `ti` whole.
 pub(crate) fn program<'a>(alloc: Global) -> Result<Command<'a>, AllocError>
     ensures { IfOk result (λ c. app_of c ≡ ti_app) }
 {
-    first_commands(alloc)?
-        .subcommand(check(alloc)?)?
-        .subcommand(expand(alloc)?)?
-        .subcommand(convert(alloc)?)
+    let first = first_commands(alloc)?;
+    let checked = with_made(first, check(alloc))?;
+    let expanded = with_made(checked, expand(alloc))?;
+    with_made(expanded, convert(alloc))
 }

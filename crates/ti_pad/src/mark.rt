@@ -6,7 +6,7 @@ ghost use Rattle.std.specs.List.{list_all};
 ghost use Rattle.ti_pad.specs.inner.Decimals.{AreDecimals};
 
 /// A mark: its whole milliseconds, its decimals where it has a point, and its flags.
-#[derive(Clone, Copy, Debug)]
+#[derive(Clone, Copy)]
 pub struct Mark<'a> {
     pub whole: &'a [u8],
     pub decimals: Option<&'a [u8]>,
@@ -17,7 +17,7 @@ pub struct Mark<'a> {
 }
 
 /// A mark at the front of some bytes, and what stands after it.
-#[derive(Clone, Copy, Debug)]
+#[derive(Clone, Copy)]
 pub struct Found<'a> {
     pub mark: Mark<'a>,
     pub rest: &'a [u8],

@@ -11,14 +11,14 @@ use crate::find_mark::mark_at_front;
 use crate::padding::{MOST_COUNT, Padding};
 
 /// Bytes that stand for themselves, or this many pad bytes.
-#[derive(Clone, Copy, Debug)]
+#[derive(Clone, Copy)]
 pub enum Stretch<'a> {
     Literal(&'a [u8]),
     Pads(u64),
 }
 
 /// The stretch at the front of some bytes, and the bytes after it.
-#[derive(Clone, Copy, Debug)]
+#[derive(Clone, Copy)]
 pub struct Front<'a> {
     pub stretch: Stretch<'a>,
     pub rest: &'a [u8],

@@ -11,7 +11,7 @@ use ti_entry::Extended;
 use ti_words::{Kind, NameTable};
 
 /// The label of a line.
-#[derive(Clone, Copy, Debug)]
+#[derive(Clone, Copy)]
 pub enum Label<'a> {
     /// The capability's name.
     Name(&'a [u8]),

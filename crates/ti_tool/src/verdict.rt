@@ -34,7 +34,7 @@ impl Verdict {
 }
 
 /// A text and the verdict on it.
-#[derive(Clone, Copy, Debug)]
+#[derive(Clone, Copy)]
 pub struct JudgedText<'a> {
     pub text: &'a [u8],
     pub verdict: Verdict,

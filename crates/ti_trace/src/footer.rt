@@ -9,7 +9,7 @@ use std::alloc::{AllocError, Allocator};
 use ti_escape::{Form, push_shown};
 
 /// What these lines tell.
-#[derive(Clone, Copy, Debug)]
+#[derive(Clone, Copy)]
 pub struct Facts<'r> {
     pub output: &'r [u8],
     pub ran: usize,

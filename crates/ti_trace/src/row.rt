@@ -20,7 +20,7 @@ const TOKEN_WIDTH: usize = 15;
 const STACK_WIDTH: usize = 23;
 
 /// What a line tells of a token.
-#[derive(Clone, Copy, Debug)]
+#[derive(Clone, Copy)]
 pub struct Row<'r, 'a> {
     /// Where it starts.
     pub place: usize,
