@@ -18,6 +18,9 @@ pub fn text_from(table: &[u8], place: usize) -> &[u8]
 {
     if place < (table.len() + 1).saturating_sub(32) {
         let rest = &table[place..];
+        if let Some(end) = first_nul(rest) {
+            return &rest[..end];
+        }
         if let Some(end) = near_nul(rest) {
             return &rest[..end];
         }
@@ -47,6 +50,22 @@ pub fn until_nul(bytes: &[u8]) -> &[u8]
         }
     }
     until_far_nul(bytes)
+}
+
+/// The place of the first NUL among the first 16 bytes, where nine texts of ten have theirs.
+#[inline(always)]
+fn first_nul(bytes: &[u8]) -> Option<usize>
+    requires { 16 ≤ length bytes.now }
+    ensures near { IfSome result (λ place. place < 16) }
+    ensures first { IfSome result (λ place. place ≡ position_or_len is_nul (take 16 bytes.now)) }
+{
+    let marks = u8x16::from_slice(bytes)
+        .simd_eq(u8x16::splat(0))
+        .to_bitmask();
+    if marks == 0 {
+        return None;
+    }
+    Some(marks.trailing_zeros() as usize)
 }
 
 /// The place of the first NUL among the first 32 bytes.
