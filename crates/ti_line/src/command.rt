@@ -128,12 +128,19 @@ fn new_command<'a>(alloc: Global, name: &'a str, about: &'a str, example: &'a st
         .after_long_help(example)
 }
 
-fn with_forms<'a>(alloc: Global, command: Command<'a>) -> Result<Command<'a>, AllocError>
+/// A command with two arguments more, in their order.
+fn with_two<'a>(
+    command: Command<'a>,
+    first: Arg<'a>,
+    second: Arg<'a>,
+) -> Result<Command<'a>, AllocError>
+    requires first_local { first.global ≡ false }
+    requires second_local { second.global ≡ false }
     ensures shape { IfOk result (λ c. app_of c
-        ≡ with_rules (app_of command.entry) (hex_rule ∷ escape_rule ∷ [])) }
+        ≡ with_rules (app_of command.entry) (rule_of first.entry ∷ rule_of second.entry ∷ [])) }
     ensures local { HasNoGlobals command.entry → IfOk result HasNoGlobals }
 {
-    command.arg(hex(alloc))?.arg(escape(alloc))
+    command.arg(first)?.arg(second)
 }
 
 fn cap<'a>(alloc: Global) -> Result<Command<'a>, AllocError>
@@ -146,35 +153,33 @@ fn cap<'a>(alloc: Global) -> Result<Command<'a>, AllocError>
         "Expand standard input as one capability; padding marks stay as they are",
         "Example, which writes ESC [ 7 G:\n  printf '\\033[%%p1%%dG' | ti cap n:7",
     );
-    with_forms(alloc, command)?.arg(params(alloc))
+    with_two(command, hex(alloc), escape(alloc))?.arg(params(alloc))
 }
 
 fn trace<'a>(alloc: Global) -> Result<Command<'a>, AllocError>
     ensures shape { IfOk result (λ c. app_of c ≡ trace_app) }
     ensures local { IfOk result HasNoGlobals }
 {
-    new_command(
+    let command = new_command(
         alloc,
         "trace",
         "Show what each token of one capability on standard input does; padding marks stay as they are",
         "Example, which shows the stack and the output after each token:\n  printf '\\033[%%p1%%dG' | ti trace --escape n:7",
-    )
-    .arg(params(alloc))?
-    .arg(escape(alloc))
+    );
+    with_two(command, params(alloc), escape(alloc))
 }
 
 fn show<'a>(alloc: Global) -> Result<Command<'a>, AllocError>
     ensures shape { IfOk result (λ c. app_of c ≡ show_app) }
     ensures local { IfOk result HasNoGlobals }
 {
-    new_command(
+    let command = new_command(
         alloc,
         "show",
         "List the compiled entry on standard input, one line an item",
         "Example:\n  ti show < /usr/share/terminfo/x/xterm",
-    )
-    .arg(escape(alloc))?
-    .arg(all_names(alloc))
+    );
+    with_two(command, escape(alloc), all_names(alloc))
 }
 
 fn check<'a>(alloc: Global) -> Result<Command<'a>, AllocError>
@@ -190,14 +195,6 @@ fn check<'a>(alloc: Global) -> Result<Command<'a>, AllocError>
     .arg(all_names(alloc))
 }
 
-fn with_numbers<'a>(alloc: Global, command: Command<'a>) -> Result<Command<'a>, AllocError>
-    ensures shape { IfOk result (λ c. app_of c
-        ≡ with_rules (app_of command.entry) (rate_rule ∷ lines_rule ∷ [])) }
-    ensures local { HasNoGlobals command.entry → IfOk result HasNoGlobals }
-{
-    command.arg(rate(alloc))?.arg(lines(alloc))
-}
-
 fn expand<'a>(alloc: Global) -> Result<Command<'a>, AllocError>
     ensures shape { IfOk result (λ c. app_of c ≡ expand_app) }
     ensures local { IfOk result HasNoGlobals }
@@ -207,26 +204,24 @@ fn expand<'a>(alloc: Global) -> Result<Command<'a>, AllocError>
         "expand",
         "Expand and pad one text of the entry on standard input",
         "Example, which moves to line 5, column 10:\n  ti expand cup n:4 n:9 < /usr/share/terminfo/x/xterm",
-    )
-    .arg(name(alloc))?;
-    let command = with_forms(alloc, command)?.arg(all_names(alloc))?;
-    with_numbers(alloc, command)?
-        .arg(xon(alloc))?
-        .arg(params(alloc))
+    );
+    let command = with_two(command, name(alloc), hex(alloc))?;
+    let command = with_two(command, escape(alloc), all_names(alloc))?;
+    let command = with_two(command, rate(alloc), lines(alloc))?;
+    with_two(command, xon(alloc), params(alloc))
 }
 
 fn convert<'a>(alloc: Global) -> Result<Command<'a>, AllocError>
     ensures shape { IfOk result (λ c. app_of c ≡ convert_app) }
     ensures local { IfOk result HasNoGlobals }
 {
-    new_command(
+    let command = new_command(
         alloc,
         "convert",
         "Write the entry on standard input in its canonical layout",
         "Example, which writes the entry with numbers of 32 bits:\n  ti convert --wide < entry > wide",
-    )
-    .arg(wide(alloc))?
-    .arg(narrow(alloc))
+    );
+    with_two(command, wide(alloc), narrow(alloc))
 }
 
 /// What help says of the exit status.
