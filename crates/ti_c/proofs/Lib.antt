@@ -6,5 +6,6 @@ pub mod WordsExamples
 pub mod WordsLemmas
 pub mod DeepEnoughLemmas
 pub mod StartsWithLemmas
+pub mod ValuesLemmas
 pub mod AmpleRoomLemmas
 pub mod EntryExamples

@@ -7,7 +7,7 @@ ghost use Rattle.ti_cap.specs.Tree.{tokens};
 ghost use Rattle.ti_expand.specs.Expands.{ForMeaning, ForPath, ForTree, longest_text};
 ghost use Rattle.ti_c.specs.Numbers.{done};
 ghost use Rattle.ti_base.specs.Limits.{most_values};
-ghost use Rattle.ti_c.specs.Given.{value_at as the_value_at, value_given, values_given, HasNoFault, IsDeepEnough, IsExpansionFault, IsFaultOf};
+ghost use Rattle.ti_c.specs.Given.{value_given, values_given, HasNoFault, IsDeepEnough, IsExpansionFault, IsFaultOf};
 
 use crate::faults::{DONE, TOO_MANY_PARAMETERS, capability_number, expand_number, expand_place};
 use ti_base::MOST_VALUES;
@@ -43,42 +43,27 @@ pub struct Run {
     pub place: usize,
 }
 
-/// The value of a parameter.
-fn value_of<'a>(parameter: &Parameter<'a>) -> Value<'a>
-    ensures { result ≡ value_given parameter.now }
+/// Puts the value of a parameter into a place. Each case writes there itself, since a value that is made first is copied.
+fn put_value<'a>(value: &mut Value<'a>, parameter: &Parameter<'a>)
+    ensures { value.new ≡ value_given parameter.now }
 {
     if parameter.is_text == 0 {
-        Value::Num(parameter.number)
+        *value = Value::Num(parameter.number);
     } else {
-        Value::Text(parameter.text)
+        *value = Value::Text(parameter.text);
     }
 }
 
-/// The value of the parameter at an index, 0 where it is missing.
-fn value_at<'a>(parameters: &[Parameter<'a>], index: usize) -> Value<'a>
-    ensures { result ≡ the_value_at parameters.now index }
-{
-    match parameters.get(index) {
-        Some(parameter) => value_of(parameter),
-        None => Value::Num(0),
-    }
-}
-
-/// The values of the nine parameters.
+/// The values of the nine parameters, 0 where one is missing.
 fn values_of<'a>(parameters: &[Parameter<'a>]) -> [Value<'a>; 9]
+    requires { length parameters.now ≤ 9 }
     ensures { result ≡ values_given parameters.now }
 {
-    [
-        value_at(parameters, 0),
-        value_at(parameters, 1),
-        value_at(parameters, 2),
-        value_at(parameters, 3),
-        value_at(parameters, 4),
-        value_at(parameters, 5),
-        value_at(parameters, 6),
-        value_at(parameters, 7),
-        value_at(parameters, 8),
-    ]
+    let mut values = [Value::Num(0); 9];
+    for i in 0..parameters.len() {
+        put_value(&mut values[i], &parameters[i]);
+    }
+    values
 }
 
 /// Expands on a stack that is deep enough, as [`ti_expand`] does.
