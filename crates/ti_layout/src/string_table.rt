@@ -11,31 +11,28 @@ use crate::word::word_at;
 use memchr::memchr;
 use std::simd::prelude::*;
 
-/// The bytes from a place up to the next NUL. Most texts have less than 32, and start as far before the end of their table.
+/// The bytes from a place up to the next NUL. Most texts have less than 16, and start as far before the end of their table.
 #[inline(always)]
 pub fn text_from(table: &[u8], place: usize) -> &[u8]
     ensures { result.now ≡ the_text_from table.now place }
 {
-    if place < (table.len() + 1).saturating_sub(32) {
+    if place < (table.len() + 1).saturating_sub(16) {
         let rest = &table[place..];
         if let Some(end) = first_nul(rest) {
             return &rest[..end];
         }
-        if let Some(end) = near_nul(rest) {
-            return &rest[..end];
-        }
     }
-    far_text_from(table, place)
+    longer_text_from(table, place)
 }
 
 /// The bytes from a place up to the next NUL, wherever both stand.
 #[inline(never)]
-fn far_text_from(table: &[u8], place: usize) -> &[u8]
+fn longer_text_from(table: &[u8], place: usize) -> &[u8]
     ensures { result.now ≡ the_text_from table.now place }
 {
     match table.get(place..) {
-        Some(rest) => until_far_nul(rest),
-        None => until_far_nul(&[]),
+        Some(rest) => until_nul(rest),
+        None => until_nul(&[]),
     }
 }
 

@@ -10,10 +10,3 @@ returns-in-Some c =
     let rest = take (length table - c.args.place) (drop c.args.place table) in
     let end = c.in-Some.ensures in
     ap (λ k. take k rest) end.first ∙ until_near rest 16 (subst (λ k. k < 16) end.first end.near) ∙ ap until_nul (take_rest table c.args.place)
-
-pub returns-in-Some-near_nul : goal.returns-in-Some-near_nul
-returns-in-Some-near_nul c =
-    let table = c.args.table.now in
-    let rest = take (length table - c.args.place) (drop c.args.place table) in
-    let end = c.in-Some-near_nul.ensures in
-    ap (λ k. take k rest) end.first ∙ until_near rest 32 (subst (λ k. k < 32) end.first end.near) ∙ ap until_nul (take_rest table c.args.place)
