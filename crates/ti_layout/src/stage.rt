@@ -190,6 +190,7 @@ impl Stage {
         ensures stands { OnOk result (Stands bytes.now self.new) }
         ensures waits { OnOk result (Waits bytes.now self.new) }
         ensures failed { IfErr result (λ refused. failure bytes.now ≡ Some refused) }
+        ensures stood { IfErr result (λ refused. Stands bytes.now self.new) }
     {
         'steps: loop {
             match self.step(bytes) {
