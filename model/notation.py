@@ -1,6 +1,6 @@
 """How texts are shown: in lower-case hex, or in the notation of terminfo(5).
 
-Written from the manual page and the choices of docs/DECISIONS.md, to be compared with the proved program.
+Written from the manual pages and the choices of docs/DECISIONS.md, to be compared with the proved program.
 """
 
 
@@ -8,16 +8,14 @@ def octal(byte):
     return b"\\%03o" % byte
 
 
-def spelled(byte, at_end):
-    """A byte in the notation; a blank would be lost at an end."""
+def spelled(byte, before, at_end):
+    """A byte in the notation, after the byte `before`; a space would be lost at an end, and `%^` is an operator."""
     if byte == 27:
         return b"\\E"
-    if byte == 127:
-        return b"^?"
-    if 0 < byte < 32:
-        return b"^" + bytes([byte + 64])
     if byte == 0 or byte > 127:
         return octal(byte)
+    if byte < 32 or byte == 127:
+        return octal(byte) if before == ord("%") else b"^" + bytes([byte ^ 64])
     if byte == ord(" ") and at_end:
         return b"\\s"
     return b"\\" + bytes([byte]) if byte in b"\\^," else bytes([byte])
@@ -26,7 +24,13 @@ def spelled(byte, at_end):
 def notation(text):
     if text in (b"-", b"cancelled"):
         return octal(text[0]) + text[1:]
-    return b"".join(spelled(byte, i in (0, len(text) - 1)) for i, byte in enumerate(text))
+    befores = b"\0" + text
+    return b"".join(spelled(byte, befores[i], i in (0, len(text) - 1)) for i, byte in enumerate(text))
+
+
+def label(name):
+    """A name without a space: each byte as at an end of a text."""
+    return b"".join(spelled(byte, before, True) for before, byte in zip(b"\0" + name, name))
 
 
 def formed(text, escape):
@@ -35,5 +39,5 @@ def formed(text, escape):
 
 
 def shown(text, escape):
-    """The same, and `-` where there is no byte."""
+    """The same, and `-` if there is no byte."""
     return formed(text, escape) or b"-"

@@ -25,38 +25,38 @@ first-append (x ∷ xs) ys some other = other
 octal_ends : (byte : ℕ) → HasEnds (octal byte)
 octal_ends byte = record { some = omega arith; first = λ e. absurd (cc e); last = λ e. absurd (omega arith) }
 
-byte_ends : (byte : ℕ) → eqb byte 32 ≡ false → HasEnds (byte_notation byte)
-byte_ends byte other =
-    byte_forms HasEnds byte
+byte_ends : (before byte : ℕ) → eqb byte 32 ≡ false → HasEnds (byte_notation before byte)
+byte_ends before byte other =
+    byte_forms HasEnds before byte
     (λ is. record { some = omega arith; first = λ e. absurd (cc e); last = λ e. absurd (cc e) })
     (λ has. meaning_forms (λ b. HasEnds (92 ∷ b ∷ [])) byte has
     (record { some = omega arith; first = λ e. absurd (cc e); last = λ e. absurd (cc e) })
     (record { some = omega arith; first = λ e. absurd (cc e); last = λ e. absurd (cc e) })
     (record { some = omega arith; first = λ e. absurd (cc e); last = λ e. absurd (cc e) }))
-    (λ low. record { some = omega arith; first = λ e. absurd (cc e); last = λ e. absurd (omega arith) })
-    (λ is. record { some = omega arith; first = λ e. absurd (cc e); last = λ e. absurd (cc e) })
     (λ none low high. record { some = omega arith; first = λ e. absurd (cc (eq-eqb byte 32 e)); last = λ e. absurd (cc (eq-eqb byte 32 e)) })
-    (octal_ends byte)
+    (λ other. octal_ends byte)
+    (λ none is. record { some = omega arith; first = λ e. absurd (cc e); last = λ e. absurd (cc e) })
+    (λ none low. record { some = omega arith; first = λ e. absurd (cc e); last = λ e. absurd (omega arith) })
 
-end_ends : (byte : ℕ) → HasEnds (end_notation byte)
-end_ends byte = end_forms HasEnds byte (λ is. record { some = omega arith; first = λ e. absurd (cc e); last = λ e. absurd (cc e) }) (byte_ends byte)
+end_ends : (before byte : ℕ) → HasEnds (end_notation before byte)
+end_ends before byte = end_forms HasEnds before byte (λ is. record { some = omega arith; first = λ e. absurd (cc e); last = λ e. absurd (cc e) }) (byte_ends before byte)
 
-first_by : (byte : ℕ) (b : Bool) → HasEnds (cond b (octal byte) (end_notation byte))
+first_by : (byte : ℕ) (b : Bool) → HasEnds (cond b (octal byte) (end_notation 0 byte))
 first_by byte true = octal_ends byte
-first_by byte false = end_ends byte
+first_by byte false = end_ends 0 byte
 
 -- characters of which the last is no blank
 record HasLast (chars : List ℕ) : Type 0 where
   some : 0 < length chars
   last : get_or chars (length chars - 1) 0 ≢ 32
 
-later_last : (byte : ℕ) (rest : List ℕ) → HasLast (later_notation (byte ∷ rest))
-later_last byte [] = let ends : HasEnds (end_notation byte) = end_ends byte in record { some = ends.some; last = ends.last }
-later_last byte (next ∷ rest) =
-    let more : HasLast (later_notation (next ∷ rest)) = later_last next rest in
+later_last : (before byte : ℕ) (rest : List ℕ) → HasLast (later_notation before (byte ∷ rest))
+later_last before byte [] = let ends : HasEnds (end_notation before byte) = end_ends before byte in record { some = ends.some; last = ends.last }
+later_last before byte (next ∷ rest) =
+    let more : HasLast (later_notation byte (next ∷ rest)) = later_last byte next rest in
     record {
-      some = omega (arith, more.some, length-append (byte_notation byte) (later_notation (next ∷ rest)));
-      last = last-append (byte_notation byte) (later_notation (next ∷ rest)) more.some more.last;
+      some = omega (arith, more.some, length-append (byte_notation before byte) (later_notation byte (next ∷ rest)));
+      last = last-append (byte_notation before byte) (later_notation byte (next ∷ rest)) more.some more.last;
     }
 
 pub has_no_blank_end : HasNoBlankEnd
@@ -66,7 +66,7 @@ has_no_blank_end (byte ∷ []) =
     rw (append-nil (first_notation byte [])) (ends.first, ends.last)
 has_no_blank_end (byte ∷ next ∷ rest) =
     let ends : HasEnds (first_notation byte (next ∷ rest)) = first_by byte (looks_like_a_word (byte ∷ next ∷ rest)) in
-    let more : HasLast (later_notation (next ∷ rest)) = later_last next rest in (
-      first-append (first_notation byte (next ∷ rest)) (later_notation (next ∷ rest)) ends.some ends.first,
-      last-append (first_notation byte (next ∷ rest)) (later_notation (next ∷ rest)) more.some more.last,
+    let more : HasLast (later_notation byte (next ∷ rest)) = later_last byte next rest in (
+      first-append (first_notation byte (next ∷ rest)) (later_notation byte (next ∷ rest)) ends.some ends.first,
+      last-append (first_notation byte (next ∷ rest)) (later_notation byte (next ∷ rest)) more.some more.last,
     )

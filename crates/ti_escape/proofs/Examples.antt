@@ -4,7 +4,7 @@ use Rattle.std.specs.Prelude.{codes}
 use Rattle.hex.specs.Hex.{encode_with}
 use Rattle.ti_escape.specs.declared.form.Form.TheVariants as forms
 use Rattle.ti_escape.specs.Forms.{shown}
-use Rattle.ti_escape.specs.Notation.{notation}
+use Rattle.ti_escape.specs.Notation.{label_notation, notation}
 use Rattle.ti_escape.specs.Reading.{read_from, reading}
 
 -- `cup`, `bel`, `kbs`, `kcbt` and `flash` of the Linux console
@@ -32,7 +32,7 @@ high_drawing_row : notation (codes "+>,<-^.v0" ++ 219 ∷ codes "`+a" ++ 177 ∷
     ≡ codes "+>\\,<-\\^.v0\\333`+a\\261f\\370"
 high_drawing_row = refl
 
--- `sgr0` of vt100, where `infocmp` has `\017` for the same byte
+-- `sgr0` of vt100, for which `infocmp` has `\017`
 padding_row : notation (codes "\u{1b}[m" ++ 15 ∷ codes "$<2>") ≡ codes "\\E[m^O$<2>"
 padding_row = refl
 
@@ -40,15 +40,35 @@ padding_row = refl
 marks_row : notation (codes "\\^,") ≡ codes "\\\\\\^\\,"
 marks_row = refl
 
--- a blank is lost at an end alone
-inner_blank_row : notation (codes "a b") ≡ codes "a b"
-inner_blank_row = refl
+-- after a `%` in octal, since `tic` reads `%^G` as three characters
+percent_row : notation (codes "%%" ++ 7 ∷ []) ≡ codes "%%\\007"
+percent_row = refl
 
-outer_blanks_row : notation (codes " a ") ≡ codes "\\sa\\s"
-outer_blanks_row = refl
+first_percent_row : notation (codes "%" ++ 1 ∷ 1 ∷ []) ≡ codes "%\\001^A"
+first_percent_row = refl
 
-lone_blank_row : notation (codes " ") ≡ codes "\\s"
-lone_blank_row = refl
+percent_comma_row : notation (codes "%" ++ 28 ∷ codes "%" ++ 30 ∷ codes ",") ≡ codes "%\\034%\\036\\,"
+percent_comma_row = refl
+
+percent_delete_row : notation (codes "%" ++ 127 ∷ codes "%d") ≡ codes "%\\177%d"
+percent_delete_row = refl
+
+percent_return_row : notation (codes "%p1%d%%" ++ 13 ∷ []) ≡ codes "%p1%d%%\\015"
+percent_return_row = refl
+
+-- what is no control character is written after a `%` as anywhere
+percent_other_row : notation (codes "%" ++ 27 ∷ codes "%^%\\%,% ") ≡ codes "%\\E%\\^%\\\\%\\,%\\s"
+percent_other_row = refl
+
+-- a space is lost at an end alone
+inner_space_row : notation (codes "a b") ≡ codes "a b"
+inner_space_row = refl
+
+outer_spaces_row : notation (codes " a ") ≡ codes "\\sa\\s"
+outer_spaces_row = refl
+
+lone_space_row : notation (codes " ") ≡ codes "\\s"
+lone_space_row = refl
 
 -- the least and the greatest bytes of each form
 control_row : notation (0 ∷ 1 ∷ 31 ∷ 32 ∷ 33 ∷ []) ≡ codes "\\000^A^_ !"
@@ -69,6 +89,16 @@ longer_row = refl
 
 nothing_row : notation [] ≡ []
 nothing_row = refl
+
+-- a name in a field of its own
+label_row : label_notation (codes " a  b%" ++ 7 ∷ 7 ∷ []) ≡ codes "\\sa\\s\\sb%\\007^G"
+label_row = refl
+
+word_label : label_notation (codes "cancelled") ≡ codes "cancelled"
+word_label = refl
+
+nothing_label : label_notation [] ≡ []
+nothing_label = refl
 
 -- how a listing shows a text
 hex_shown : shown forms.Hex (codes "\u{1b}[H") ≡ codes "1b5b48"
@@ -97,3 +127,12 @@ octal_read = refl
 themselves_read : reading (codes "\\,\\^\\\\\\:") ≡ codes ",^\\:"
 unfolding read_from
 themselves_read = refl
+
+-- as `tic` does, to which a `^` after a `%` is itself, but not after `^%` and not after the octal digits of a `%`
+percent_caret_read : reading (codes "%^G%%^M\\%^G") ≡ codes "%^G%%^M%^G"
+unfolding read_from
+percent_caret_read = refl
+
+other_caret_read : reading (codes "^%^G\\045^G\\^^G%\\s^A") ≡ 5 ∷ 7 ∷ 37 ∷ 7 ∷ 94 ∷ 7 ∷ codes "% " ++ 1 ∷ []
+unfolding read_from
+other_caret_read = refl

@@ -1,59 +1,78 @@
 -- A notation, stretch by stretch and from its ends.
-use Rattle.std.proofs.Common.{◌≡◌, ◌∙◌, ◌+◌, ◌-◌, ℕ, suc, Bool, true, false, List, [], ◌∷◌, ◌++◌, ap, sym, refl, length, drop, take, get_or, arith, cond, one-add, add-zero, append-nil, append_assoc}
+use Rattle.std.proofs.Common.{◌≡◌, ◌∙◌, ◌+◌, ◌-◌, ◌<◌, ℕ, zero, suc, Bool, true, false, List, [], ◌∷◌, ◌++◌, ap, sym, refl, length, drop, take, get_or, arith, cond, one-add, add-zero, append-nil, append_assoc}
 use Rattle.std.specs.List.{prefix_len}
 use Rattle.std.proofs.lemmas.Bool.Decides.{nat_tests}
-use Rattle.std.proofs.lemmas.List.{take_rest}
-use Rattle.ti_escape.specs.Notation.{byte_notation, end_notation, first_notation, later_notation, notation}
-use Rattle.ti_escape.specs.inner.Stretch.{is_plain, middle_notation}
+use Rattle.std.proofs.Math.Numerals.{sub-one}
+use Rattle.ti_escape.specs.declared.stretch.Space.{Space}
+use Rattle.ti_escape.specs.declared.stretch.Space.TheVariants.{Kept, Escaped}
+use Rattle.ti_escape.specs.Notation.{byte_notation, each_notation, end_notation, first_notation, later_notation, notation}
+use Rattle.ti_escape.specs.inner.Stretch.{is_plain, spaced_notation}
 
-pub byte_notation-plain : (byte : ℕ) → is_plain byte ≡ true → byte_notation byte ≡ byte ∷ []
-byte_notation-plain byte plain = grind (arith, nat_tests)
+byte_notation-plain : (before byte : ℕ) → is_plain Kept byte ≡ true → byte_notation before byte ≡ byte ∷ []
+byte_notation-plain before byte plain = grind (arith, nat_tests)
 
-plain_by : (byte : ℕ) (rest : List ℕ) → middle_notation rest ≡ take (prefix_len is_plain rest) rest ++ middle_notation (drop (prefix_len is_plain rest) rest)
-    → (b : Bool) → is_plain byte ≡ b
-    → middle_notation (byte ∷ rest) ≡ take (cond b (1 + prefix_len is_plain rest) 0) (byte ∷ rest) ++ middle_notation (drop (cond b (1 + prefix_len is_plain rest) 0) (byte ∷ rest))
-plain_by byte rest ih false e = refl
-plain_by byte rest ih true e = rw one-add (ap (λ l. l ++ middle_notation rest) (byte_notation-plain byte e) ∙ ap (λ l. byte ∷ l) ih)
+end_notation-plain : (before byte : ℕ) → is_plain Escaped byte ≡ true → end_notation before byte ≡ byte ∷ []
+end_notation-plain before byte plain = grind (arith, nat_tests)
 
--- bytes that stand for themselves are their own notation
-pub middle_notation-plain : (xs : List ℕ) → middle_notation xs ≡ take (prefix_len is_plain xs) xs ++ middle_notation (drop (prefix_len is_plain xs) xs)
-middle_notation-plain [] = refl
-middle_notation-plain (byte ∷ rest) = plain_by byte rest (middle_notation-plain rest) (is_plain byte) refl
+spaced_notation-plain : (space : Space) (before byte : ℕ) → is_plain space byte ≡ true → spaced_notation space before byte ≡ byte ∷ []
+spaced_notation-plain Kept before byte plain = byte_notation-plain before byte plain
+spaced_notation-plain Escaped before byte plain = end_notation-plain before byte plain
 
-pub plain-stretch : (xs : List ℕ) (n : ℕ) → n ≡ prefix_len is_plain xs → middle_notation xs ≡ take n xs ++ middle_notation (take (length xs - n) (drop n xs))
-plain-stretch xs n is = rw take_rest (rw is (middle_notation-plain xs))
+-- the notation of bytes after another
+abbrev pub spaced_all : Space → ℕ → List ℕ → List ℕ
+spaced_all space before xs = each_notation (spaced_notation space) before xs
+
+-- bytes that are written as they are, are their own notation, and the last of them is before the rest
+record IsSplit (space : Space) (before : ℕ) (xs : List ℕ) (n : ℕ) : Type 0 where
+  same : spaced_all space before xs ≡ take n xs ++ spaced_all space (get_or (before ∷ xs) n 0) (drop n xs)
+
+split_by : (space : Space) (before byte : ℕ) (rest : List ℕ) → IsSplit space byte rest (prefix_len (is_plain space) rest)
+    → (b : Bool) → is_plain space byte ≡ b → IsSplit space before (byte ∷ rest) (cond b (1 + prefix_len (is_plain space) rest) 0)
+split_by space before byte rest ih false e = record { same = refl }
+split_by space before byte rest ih true e =
+    record { same = rw one-add (ap (λ l. l ++ spaced_all space byte rest) (spaced_notation-plain space before byte e) ∙ ap (λ l. byte ∷ l) ih.same) }
+
+split_at_prefix : (space : Space) (before : ℕ) (xs : List ℕ) → IsSplit space before xs (prefix_len (is_plain space) xs)
+split_at_prefix space before [] = record { same = refl }
+split_at_prefix space before (byte ∷ rest) = split_by space before byte rest (split_at_prefix space byte rest) (is_plain space byte) refl
+
+after_some : (space : Space) (before : ℕ) (xs : List ℕ) (n : ℕ) → 0 < n → IsSplit space before xs n
+    → spaced_all space before xs ≡ take n xs ++ spaced_all space (get_or xs (n - 1) 0) (drop n xs)
+after_some space before xs zero some split = absurd (omega arith)
+after_some space before xs (suc n) some split = rw sub-one split.same
+
+pub plain-stretch : (space space_after : Space) (before last : ℕ) (xs rest : List ℕ) (n : ℕ) → n ≡ prefix_len (is_plain space) xs → 0 < n
+    → space_after ≡ space → last ≡ get_or xs (n - 1) 0 → rest ≡ drop n xs → spaced_all space before xs ≡ take n xs ++ spaced_all space_after last rest
+plain-stretch space space_after before last xs rest n is some same before_rest after =
+    rw (same, before_rest, after) (after_some space before xs n some (rw is (split_at_prefix space before xs)))
 
 -- the bytes after the first are those in the middle and the last
-pub later_notation-ends : (xs : List ℕ) (last : ℕ) → later_notation (xs ++ last ∷ []) ≡ middle_notation xs ++ end_notation last
-later_notation-ends [] last = refl
-later_notation-ends (byte ∷ []) last = ap (λ l. l ++ end_notation last) (sym (append-nil (byte_notation byte)))
-later_notation-ends (byte ∷ next ∷ rest) last =
-    ap (λ l. byte_notation byte ++ l) (later_notation-ends (next ∷ rest) last) ∙ sym (append_assoc (byte_notation byte) (middle_notation (next ∷ rest)) (end_notation last))
+later_notation-ends : (before next : ℕ) (rest : List ℕ) → later_notation before (next ∷ rest)
+    ≡ spaced_all Kept before (take (length rest) (next ∷ rest)) ++ end_notation (get_or (before ∷ next ∷ rest) (length rest) 0) (get_or (next ∷ rest) (length rest) 0)
+later_notation-ends before next [] = refl
+later_notation-ends before next (byte ∷ rest) =
+    ap (λ l. byte_notation before next ++ l) (later_notation-ends next byte rest)
+    ∙ sym (append_assoc (byte_notation before next) (spaced_all Kept next (take (length rest) (byte ∷ rest))) (end_notation (get_or (next ∷ byte ∷ rest) (length rest) 0) (get_or (byte ∷ rest) (length rest) 0)))
 
-front_and_last : (byte : ℕ) (rest : List ℕ) → byte ∷ rest ≡ take (length rest) (byte ∷ rest) ++ get_or (byte ∷ rest) (length rest) 0 ∷ []
-front_and_last byte [] = refl
-front_and_last byte (next ∷ rest) = ap (λ l. byte ∷ l) (front_and_last next rest)
-
-ends_by : (byte next : ℕ) (rest : List ℕ) (n k : ℕ) → n ≡ length rest → k ≡ suc (length rest)
-    → later_notation (next ∷ rest) ≡ middle_notation (take n (next ∷ rest)) ++ end_notation (get_or (byte ∷ next ∷ rest) k 0)
-ends_by byte next rest n k few after =
-    rw (few, after) (ap later_notation (front_and_last next rest) ∙ later_notation-ends (take (length rest) (next ∷ rest)) (get_or (next ∷ rest) (length rest) 0))
+ends_by : (byte next : ℕ) (rest : List ℕ) (n j k : ℕ) → n ≡ length rest → j ≡ length rest → k ≡ suc (length rest)
+    → later_notation byte (next ∷ rest) ≡ spaced_all Kept byte (take n (next ∷ rest)) ++ end_notation (get_or (byte ∷ next ∷ rest) j 0) (get_or (byte ∷ next ∷ rest) k 0)
+ends_by byte next rest n j k few last_but_one after = rw (few, last_but_one, after) (later_notation-ends byte next rest)
 
 -- a text of two bytes or more is its ends and the bytes in the middle
-pub notation-ends : (text first last : List ℕ) (n k : ℕ) → n + 2 ≡ length text → k + 1 ≡ length text
-    → first ≡ first_notation (get_or text 0 0) (drop 1 text) → last ≡ end_notation (get_or text k 0)
-    → notation text ≡ first ++ middle_notation (take n (drop 1 text)) ++ last
-notation-ends [] first last n k few after start end = absurd (omega arith)
-notation-ends (byte ∷ []) first last n k few after start end = absurd (omega arith)
-notation-ends (byte ∷ next ∷ rest) first last n k few after start end =
-    rw (start, end) (ap (λ l. first_notation byte (next ∷ rest) ++ l) (ends_by byte next rest n k (omega arith) (omega arith))
-    ∙ sym (append_assoc (first_notation byte (next ∷ rest)) (middle_notation (take n (next ∷ rest))) (end_notation (get_or (byte ∷ next ∷ rest) k 0))))
+pub notation-ends : (text first last : List ℕ) (start n j k : ℕ) → n + 2 ≡ length text → j + 2 ≡ length text → k + 1 ≡ length text → start ≡ get_or text 0 0
+    → first ≡ first_notation start (drop 1 text) → last ≡ end_notation (get_or text j 0) (get_or text k 0)
+    → notation text ≡ first ++ spaced_all Kept start (take n (drop 1 text)) ++ last
+notation-ends [] first last start n j k few last_but_one after is front end = absurd (omega arith)
+notation-ends (byte ∷ []) first last start n j k few last_but_one after is front end = absurd (omega arith)
+notation-ends (byte ∷ next ∷ rest) first last start n j k few last_but_one after is front end =
+    rw (front, end, is) (ap (λ l. first_notation byte (next ∷ rest) ++ l) (ends_by byte next rest n j k (omega arith) (omega arith) (omega arith))
+    ∙ sym (append_assoc (first_notation byte (next ∷ rest)) (spaced_all Kept byte (take n (next ∷ rest))) (end_notation (get_or (byte ∷ next ∷ rest) j 0) (get_or (byte ∷ next ∷ rest) k 0))))
 
 -- no bytes are left
-pub length-middle_none : (xs : List ℕ) (total all : ℕ) → length xs ≡ 0 → total + length (middle_notation xs) ≡ all → total ≡ all
-length-middle_none [] total all e counted = rw add-zero at counted
-length-middle_none (x ∷ xs) total all e counted = absurd (omega arith)
+pub length-spaced_none : (space : Space) (before : ℕ) (xs : List ℕ) (total all : ℕ) → length xs ≡ 0 → total + length (spaced_all space before xs) ≡ all → total ≡ all
+length-spaced_none space before [] total all e counted = rw add-zero at counted
+length-spaced_none space before (x ∷ xs) total all e counted = absurd (omega arith)
 
-pub middle_none : (xs out all : List ℕ) → length xs ≡ 0 → out ++ middle_notation xs ≡ all → out ≡ all
-middle_none [] out all e made = sym (append-nil out) ∙ made
-middle_none (x ∷ xs) out all e made = absurd (omega arith)
+pub spaced_none : (space : Space) (before : ℕ) (xs out all : List ℕ) → length xs ≡ 0 → out ++ spaced_all space before xs ≡ all → out ≡ all
+spaced_none space before [] out all e made = sym (append-nil out) ∙ made
+spaced_none space before (x ∷ xs) out all e made = absurd (omega arith)

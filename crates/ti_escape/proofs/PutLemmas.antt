@@ -1,7 +1,8 @@
 -- A notation in a slice, stretch by stretch.
 use Rattle.std.proofs.Common.{◌≡◌, ◌∙◌, ◌+◌, ◌≤◌, ℕ, List, [], ◌∷◌, ◌++◌, ap, sym, length, drop, take, arith, append_assoc, length-append}
 use Rattle.std.proofs.lemmas.List.{drop-drop, length-take-le}
-use Rattle.ti_escape.specs.inner.Stretch.{middle_notation}
+use Rattle.ti_escape.specs.declared.stretch.Space.{Space}
+use Rattle.ti_escape.proofs.NotationLemmas.{spaced_all}
 
 -- the next stretch of bytes that have room has room
 pub stretch_fits : (out before after run rest whole : List ℕ) (at end : ℕ) → end ≤ length out → take end out ++ after ≡ take at before ++ whole → after ≡ run ++ rest
@@ -15,15 +16,15 @@ pub put-stretch : (out new text after run rest : List ℕ) (at end : ℕ) → ta
 put-stretch out new text after run rest at end made next put =
     ap (λ l. l ++ rest) put ∙ append_assoc (take at out) run rest ∙ ap (λ l. take at out ++ l) (sym next) ∙ made
 
--- what stands after a place stands after a later one too
+-- what is kept after a place is kept after a later one too
 pub kept-later : (out new before run : List ℕ) (at end : ℕ) → drop at out ≡ drop at before → end ≡ at + length run → drop end new ≡ drop end out → drop end new ≡ drop end before
 kept-later out new before run at end kept is put =
     rw is (rw is at put ∙ sym (drop-drop (length run) at out) ∙ ap (drop (length run)) kept ∙ drop-drop (length run) at before)
 
--- where no bytes are left, all that stands for them is put
-pub put-end : (rest out before whole : List ℕ) (at end : ℕ) → length rest ≡ 0 → end ≤ length out → take end out ++ middle_notation rest ≡ take at before ++ whole
+-- if no bytes are left, the notation of all is put
+pub put-end : (space : Space) (last : ℕ) (rest out before whole : List ℕ) (at end : ℕ) → length rest ≡ 0 → end ≤ length out → take end out ++ spaced_all space last rest ≡ take at before ++ whole
     → at + length whole ≤ length before → end ≡ at + length whole
-put-end [] out before whole at end none within made room =
+put-end space last [] out before whole at end none within made room =
     let low : at ≤ length before = omega arith in
     omega (arith, ap length made, length-append (take end out) [], length-append (take at before) whole, length-take-le end out within, length-take-le at before low)
-put-end (x ∷ rest) out before whole at end none within made room = absurd (omega arith)
+put-end space last (x ∷ rest) out before whole at end none within made room = absurd (omega arith)

@@ -4,96 +4,130 @@ use Rattle.std.specs.Prelude.{codes}
 use Rattle.std.specs.List.{list_all}
 use Rattle.std.proofs.lemmas.Bool.{and_parts, ltb-true, ne_eqb}
 use Rattle.std.proofs.lemmas.Bool.Decides.{nat_tests}
-use Rattle.ti_escape.specs.Laws.{AreBytes, IsReadBack, LooksLikeNoOther, LooksLikeNoWord, is_byte}
-use Rattle.ti_escape.specs.Notation.{byte_notation, end_notation, has_meaning, later_notation, looks_like_a_word, notation, octal, octal_digit}
-use Rattle.ti_escape.specs.Reading.{control_byte, is_octal_digit, meaning_at, one_read, read_from, reading}
+use Rattle.ti_escape.specs.Laws.{AreBytes, IsLabelReadBack, IsReadBack, LabelLooksLikeNoOther, LooksLikeNoOther, LooksLikeNoWord, is_byte}
+use Rattle.ti_escape.specs.Notation.{byte_notation, each_notation, end_notation, has_meaning, later_notation, looks_like_a_word, notation, octal, octal_digit}
+use Rattle.ti_escape.specs.Reading.{control_byte, is_octal_digit, is_percent, meaning_at, one_read, read_from, reading}
 use Rattle.ti_escape.proofs.ByteFormsLemmas.{byte_forms, end_forms, meaning_forms}
 
-read_none : reading [] ≡ []
+read_none : (after : Bool) → read_from after 0 [] ≡ []
 unfolding read_from
-read_none = refl
+read_none after = refl
 
-read_from-drop : (skip : ℕ) (xs : List ℕ) → read_from skip xs ≡ reading (drop skip xs)
+read_from-drop : (after : Bool) (skip : ℕ) (xs : List ℕ) → read_from after skip xs ≡ read_from after 0 (drop skip xs)
 unfolding read_from
-read_from-drop zero xs = refl
-read_from-drop (suc skip) [] = refl
-read_from-drop (suc skip) (x ∷ xs) = read_from-drop skip xs
+read_from-drop after zero xs = refl
+read_from-drop after (suc skip) [] = refl
+read_from-drop after (suc skip) (x ∷ xs) = read_from-drop after skip xs
 
-read_one : (char : ℕ) (rest : List ℕ) (byte skip : ℕ) → meaning_at char rest ≡ (byte, skip) → reading (char ∷ rest) ≡ byte ∷ reading (drop skip rest)
+read_one : (after : Bool) (char : ℕ) (rest : List ℕ) (byte skip : ℕ) → meaning_at after char rest ≡ (byte, skip) → is_percent (byte, skip) ≡ eqb byte 37
+    → read_from after 0 (char ∷ rest) ≡ byte ∷ read_from (eqb byte 37) 0 (drop skip rest)
 unfolding read_from
-read_one char rest byte skip e = ap (λ m. one_read m (λ skip. read_from skip rest)) e ∙ ap (λ l. byte ∷ l) (read_from-drop skip rest)
+read_one after char rest byte skip e percent =
+    ap (λ m. one_read m (λ after skip. read_from after skip rest)) e ∙ ap (λ l. byte ∷ l) (ap (λ after. read_from after skip rest) percent ∙ read_from-drop (eqb byte 37) skip rest)
 
--- some characters are read as one byte, whatever stands after them
-abbrev IsReadAs : ℕ → List ℕ → Type 0
-IsReadAs byte chars = (rest : List ℕ) → reading (chars ++ rest) ≡ byte ∷ reading rest
+-- after a `%` or not, some characters are read as one byte, whatever is after them
+abbrev IsReadAs : Bool → ℕ → List ℕ → Type 0
+IsReadAs after byte chars = (rest : List ℕ) → read_from after 0 (chars ++ rest) ≡ byte ∷ read_from (eqb byte 37) 0 rest
 
-meaning_read : (byte : ℕ) → has_meaning byte ≡ true → IsReadAs byte (codes "\\" ++ byte ∷ [])
-meaning_read byte has rest =
-    meaning_forms (λ b. reading (codes "\\" ++ b ∷ rest) ≡ b ∷ reading rest) byte has
-    (read_one 92 (92 ∷ rest) 92 1 refl) (read_one 92 (94 ∷ rest) 94 1 refl) (read_one 92 (44 ∷ rest) 44 1 refl)
+-- the same of a byte that is known
+known_read : (byte known : ℕ) (read rest : List ℕ) → byte ≡ known → read ≡ known ∷ read_from (eqb known 37) 0 rest → read ≡ byte ∷ read_from (eqb byte 37) 0 rest
+known_read byte known read rest is e = e ∙ ap (λ b. b ∷ read_from (eqb b 37) 0 rest) (sym is)
+
+meaning_read : (after : Bool) (byte : ℕ) → has_meaning byte ≡ true → IsReadAs after byte (codes "\\" ++ byte ∷ [])
+meaning_read after byte has rest =
+    meaning_forms (λ b. read_from after 0 (codes "\\" ++ b ∷ rest) ≡ b ∷ read_from (eqb b 37) 0 rest) byte has
+    (read_one after 92 (92 ∷ rest) 92 1 refl refl) (read_one after 92 (94 ∷ rest) 94 1 refl refl) (read_one after 92 (44 ∷ rest) 44 1 refl refl)
 
 control_byte-caret : (byte : ℕ) → byte < 32 → control_byte (byte + 64) ≡ byte
 control_byte-caret byte small =
     let other : eqb (byte + 64) 63 ≡ false = ne_eqb (byte + 64) 63 (λ e. absurd (omega arith)) in
     rw other (omega arith)
 
-caret_read : (byte : ℕ) → byte < 32 → IsReadAs byte (codes "^" ++ (byte + 64) ∷ [])
-caret_read byte small rest = read_one 94 ((byte + 64) ∷ rest) byte 1 (ap (λ b. (b, 1)) (control_byte-caret byte small))
+caret_read : (after : Bool) (byte : ℕ) → after ≡ false → byte < 32 → IsReadAs after byte (codes "^" ++ (byte + 64) ∷ [])
+caret_read after byte none small rest =
+    let meant : meaning_at after 94 ((byte + 64) ∷ rest) ≡ (byte, 1) = rw none (ap (λ b. (b, 1)) (control_byte-caret byte small)) in
+    read_one after 94 ((byte + 64) ∷ rest) byte 1 meant refl
+
+delete_read : (after : Bool) (byte : ℕ) → after ≡ false → byte ≡ 127 → IsReadAs after byte (codes "^?")
+delete_read after byte none is rest =
+    let meant : meaning_at after 94 (63 ∷ rest) ≡ (127, 1) = rw none refl in
+    known_read byte 127 _ rest is (read_one after 94 (63 ∷ rest) 127 1 meant refl)
 
 not_meaning : (byte : ℕ) → has_meaning byte ≡ false → (eqb byte 92 ≡ false) × (eqb byte 94 ≡ false)
 not_meaning byte none = (grind (arith, nat_tests), grind (arith, nat_tests))
 
-plain_read : (byte : ℕ) → has_meaning byte ≡ false → IsReadAs byte (byte ∷ [])
-plain_read byte none rest =
+plain_read : (after : Bool) (byte : ℕ) → has_meaning byte ≡ false → IsReadAs after byte (byte ∷ [])
+plain_read after byte none rest =
     let (backslash, caret) = not_meaning byte none in
-    let itself : meaning_at byte rest ≡ (byte, 0) = rw (backslash, caret) refl in
-    read_one byte rest byte 0 itself
+    let itself : meaning_at after byte rest ≡ (byte, 0) = rw (backslash, caret) refl in
+    read_one after byte rest byte 0 itself refl
 
 octal_digit-read : (n : ℕ) → n < 8 → is_octal_digit (octal_digit n) ≡ true
 octal_digit-read n small = grind (arith, nat_tests)
 
-octal_value-digits : (byte : ℕ) → 64 * (48 + byte / 64 - 48) + 8 * (48 + byte / 8 % 8 - 48) + (48 + byte % 8 - 48) ≡ byte
-octal_value-digits byte = omega arith
+octal_value-digits : (byte : ℕ) → byte < 256 → 64 * (48 + byte / 64 % 8 - 48) + 8 * (48 + byte / 8 % 8 - 48) + (48 + byte % 8 - 48) ≡ byte
+octal_value-digits byte small = omega arith
 
-octal_read : (byte : ℕ) → byte < 256 → IsReadAs byte (octal byte)
-octal_read byte small rest =
-    let digit : is_octal_digit (octal_digit (byte / 64)) ≡ true = octal_digit-read (byte / 64) (omega arith) in
-    let digits : List ℕ = octal_digit (byte / 64) ∷ octal_digit (byte / 8 % 8) ∷ octal_digit (byte % 8) ∷ rest in
-    let meant : meaning_at 92 digits ≡ (byte, 3) = rw digit (ap (λ b. (b, 3)) (octal_value-digits byte)) in
-    read_one 92 digits byte 3 meant
+octal_read : (after : Bool) (byte : ℕ) → byte < 256 → eqb byte 37 ≡ false → IsReadAs after byte (octal byte)
+octal_read after byte small other rest =
+    let digit : is_octal_digit (octal_digit (byte / 64 % 8)) ≡ true = octal_digit-read (byte / 64 % 8) (omega arith) in
+    let digits : List ℕ = octal_digit (byte / 64 % 8) ∷ octal_digit (byte / 8 % 8) ∷ octal_digit (byte % 8) ∷ rest in
+    let meant : meaning_at after 92 digits ≡ (byte, 3) = rw digit (ap (λ b. (b, 3)) (octal_value-digits byte small)) in
+    read_one after 92 digits byte 3 meant (sym other)
 
-byte_read : (byte : ℕ) → byte < 256 → IsReadAs byte (byte_notation byte)
-byte_read byte small =
-    byte_forms (IsReadAs byte) byte
-    (λ is rest. read_one 92 (69 ∷ rest) 27 1 refl ∙ ap (λ b. b ∷ reading rest) (sym is))
-    (meaning_read byte)
-    (caret_read byte)
-    (λ is rest. read_one 94 (63 ∷ rest) 127 1 refl ∙ ap (λ b. b ∷ reading rest) (sym is))
-    (λ none low high. plain_read byte none)
-    (octal_read byte small)
+byte_read : (before byte : ℕ) → byte < 256 → IsReadAs (eqb before 37) byte (byte_notation before byte)
+byte_read before byte small =
+    byte_forms (IsReadAs (eqb before 37) byte) before byte
+    (λ is rest. known_read byte 27 _ rest is (read_one (eqb before 37) 92 (69 ∷ rest) 27 1 refl refl))
+    (meaning_read (eqb before 37) byte)
+    (λ none low high. plain_read (eqb before 37) byte none)
+    (octal_read (eqb before 37) byte small)
+    (delete_read (eqb before 37) byte)
+    (caret_read (eqb before 37) byte)
 
-end_read : (byte : ℕ) → byte < 256 → IsReadAs byte (end_notation byte)
-end_read byte small =
-    end_forms (IsReadAs byte) byte (λ is rest. read_one 92 (115 ∷ rest) 32 1 refl ∙ ap (λ b. b ∷ reading rest) (sym is)) (λ other. byte_read byte small)
+end_read : (before byte : ℕ) → byte < 256 → IsReadAs (eqb before 37) byte (end_notation before byte)
+end_read before byte small =
+    end_forms (IsReadAs (eqb before 37) byte) before byte
+    (λ is rest. known_read byte 32 _ rest is (read_one (eqb before 37) 92 (115 ∷ rest) 32 1 refl refl))
+    (λ other. byte_read before byte small)
 
-later_read : (xs : List ℕ) → AreBytes xs → reading (later_notation xs) ≡ xs
-later_read [] all = read_none
-later_read (byte ∷ []) all =
-    let small : byte < 256 = ltb-true byte 256 (and_parts (is_byte byte) (list_all is_byte []) all).0 in
-    ap reading (sym (append-nil (end_notation byte))) ∙ end_read byte small [] ∙ ap (λ l. byte ∷ l) read_none
-later_read (byte ∷ next ∷ rest) all =
+last_read : (before byte : ℕ) → byte < 256 → read_from (eqb before 37) 0 (end_notation before byte) ≡ byte ∷ []
+last_read before byte small =
+    ap (λ l. read_from (eqb before 37) 0 l) (sym (append-nil (end_notation before byte))) ∙ end_read before byte small [] ∙ ap (λ l. byte ∷ l) (read_none (eqb byte 37))
+
+later_read : (before : ℕ) (xs : List ℕ) → AreBytes xs → read_from (eqb before 37) 0 (later_notation before xs) ≡ xs
+later_read before [] all = read_none (eqb before 37)
+later_read before (byte ∷ []) all = last_read before byte (ltb-true byte 256 (and_parts (is_byte byte) (list_all is_byte []) all).0)
+later_read before (byte ∷ next ∷ rest) all =
     let (first, more) = and_parts (is_byte byte) (list_all is_byte (next ∷ rest)) all in
-    byte_read byte (ltb-true byte 256 first) (later_notation (next ∷ rest)) ∙ ap (λ l. byte ∷ l) (later_read (next ∷ rest) more)
+    byte_read before byte (ltb-true byte 256 first) (later_notation byte (next ∷ rest)) ∙ ap (λ l. byte ∷ l) (later_read byte (next ∷ rest) more)
 
-first_by : (byte : ℕ) → byte < 256 → (b : Bool) → IsReadAs byte (cond b (octal byte) (end_notation byte))
-first_by byte small true = octal_read byte small
-first_by byte small false = end_read byte small
+-- no word starts with a `%`
+no_word_is_percent : (byte : ℕ) (rest : List ℕ) → looks_like_a_word (byte ∷ rest) ≡ true → eqb byte 37 ≡ false
+no_word_is_percent byte rest word =
+    ne_eqb byte 37 (λ is. let other : looks_like_a_word (37 ∷ rest) ≡ true = subst (λ b. looks_like_a_word (b ∷ rest) ≡ true) is word in absurd (cc other))
+
+first_by : (byte : ℕ) (rest : List ℕ) → byte < 256 → (b : Bool) → looks_like_a_word (byte ∷ rest) ≡ b → IsReadAs false byte (cond b (octal byte) (end_notation 0 byte))
+first_by byte rest small true word = octal_read false byte small (no_word_is_percent byte rest word)
+first_by byte rest small false word = end_read 0 byte small
 
 pub is_read_back : IsReadBack
-is_read_back [] all = read_none
+is_read_back [] all = read_none false
 is_read_back (byte ∷ rest) all =
     let (first, more) = and_parts (is_byte byte) (list_all is_byte rest) all in
-    first_by byte (ltb-true byte 256 first) (looks_like_a_word (byte ∷ rest)) (later_notation rest) ∙ ap (λ l. byte ∷ l) (later_read rest more)
+    first_by byte rest (ltb-true byte 256 first) (looks_like_a_word (byte ∷ rest)) refl (later_notation byte rest) ∙ ap (λ l. byte ∷ l) (later_read byte rest more)
+
+label_read : (before : ℕ) (xs : List ℕ) → AreBytes xs → read_from (eqb before 37) 0 (each_notation end_notation before xs) ≡ xs
+label_read before [] all = read_none (eqb before 37)
+label_read before (byte ∷ rest) all =
+    let (first, more) = and_parts (is_byte byte) (list_all is_byte rest) all in
+    end_read before byte (ltb-true byte 256 first) (each_notation end_notation byte rest) ∙ ap (λ l. byte ∷ l) (label_read byte rest more)
+
+pub is_label_read_back : IsLabelReadBack
+is_label_read_back name all = label_read 0 name all
+
+pub label_looks_like_no_other : LabelLooksLikeNoOther
+label_looks_like_no_other a b a_bytes b_bytes same = sym (is_label_read_back a a_bytes) ∙ ap reading same ∙ is_label_read_back b b_bytes
 
 pub looks_like_no_other : LooksLikeNoOther
 looks_like_no_other a b a_bytes b_bytes same = sym (is_read_back a a_bytes) ∙ ap reading same ∙ is_read_back b b_bytes

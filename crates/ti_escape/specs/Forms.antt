@@ -10,7 +10,7 @@ abbrev pub formed : Form → List ℕ → List ℕ
 formed forms.Hex text = encode_lower text
 formed forms.Notation text = notation text
 
--- as a listing shows it: `-` stands in place of no bytes
+-- as a listing shows it: `-` is in place of no bytes
 abbrev pub shown : Form → List ℕ → List ℕ
 shown form [] = codes "-"
 shown form (byte ∷ bytes) = formed form (byte ∷ bytes)

@@ -3,7 +3,7 @@ use Rattle.std.specs.Prelude.{◌+◌, ◌/◌, ◌%◌, ◌&&◌, ◌||◌, ◌
 use Rattle.std.specs.Str.{bytes_eq}
 use Rattle.ti_base.specs.Letters.{letter}
 
--- ---- a byte
+-- ---- a byte, given the byte before it
 
 -- `\`, `^` and `,` mean something in the notation itself
 abbrev pub has_meaning : ℕ → Bool
@@ -16,22 +16,35 @@ octal_digit n = letter (codes "0") + n
 -- `\` and the three octal digits of a byte
 abbrev pub octal : ℕ → List ℕ
 octal byte =
-    letter (codes "\\") ∷ octal_digit (byte / 64) ∷ octal_digit (byte / 8 % 8)
+    letter (codes "\\") ∷ octal_digit (byte / 64 % 8) ∷ octal_digit (byte / 8 % 8)
     ∷ octal_digit (byte % 8) ∷ []
 
+-- a `^` means neither 0 nor a byte from 128, and right after a `%` it is the operator `%^`
+abbrev pub has_no_caret : ℕ → ℕ → Bool
+has_no_caret before byte = byte == 0 || nat_lt 127 byte || before == letter (codes "%")
+
 -- a byte within a text; 27 is ESC, 127 is DEL, and from 32 to 126 are the printable characters
-abbrev pub byte_notation : ℕ → List ℕ
-byte_notation byte =
+abbrev pub byte_notation : ℕ → ℕ → List ℕ
+byte_notation before byte =
     if byte == 27 then codes "\\E"
     else if has_meaning byte then codes "\\" ++ byte ∷ []
-    else if nat_lt 0 byte && nat_lt byte 32 then codes "^" ++ (byte + 64) ∷ []
-    else if byte == 127 then codes "^?"
     else if nat_le 32 byte && nat_lt byte 127 then byte ∷ []
-    else octal byte
+    else if has_no_caret before byte then octal byte
+    else if byte == 127 then codes "^?"
+    else codes "^" ++ (byte + 64) ∷ []
 
--- a byte at an end of a text, where a blank would be lost
-abbrev pub end_notation : ℕ → List ℕ
-end_notation byte = if byte == letter (codes " ") then codes "\\s" else byte_notation byte
+-- a byte at an end of a text, at which a space would be lost
+abbrev pub end_notation : ℕ → ℕ → List ℕ
+end_notation before byte =
+    if byte == letter (codes " ") then codes "\\s" else byte_notation before byte
+
+-- ---- bytes
+
+-- bytes that are all written in one way, given the byte before them
+abbrev pub each_notation : (ℕ → ℕ → List ℕ) → ℕ → List ℕ → List ℕ
+each_notation notation_of before [] = []
+each_notation notation_of before (byte ∷ rest) =
+    notation_of before byte ++ each_notation notation_of byte rest
 
 -- ---- a text
 
@@ -40,15 +53,23 @@ abbrev pub looks_like_a_word : List ℕ → Bool
 looks_like_a_word text = bytes_eq text (codes "-") || bytes_eq text (codes "cancelled")
 
 -- the bytes after the first, up to the other end
-abbrev pub later_notation : List ℕ → List ℕ
-later_notation [] = []
-later_notation (byte ∷ []) = end_notation byte
-later_notation (byte ∷ next ∷ rest) = byte_notation byte ++ later_notation (next ∷ rest)
+abbrev pub later_notation : ℕ → List ℕ → List ℕ
+later_notation before [] = []
+later_notation before (byte ∷ []) = end_notation before byte
+later_notation before (byte ∷ next ∷ rest) =
+    byte_notation before byte ++ later_notation byte (next ∷ rest)
 
+-- the first byte; a 0 before it means that there is none
 abbrev pub first_notation : ℕ → List ℕ → List ℕ
 first_notation byte rest =
-    if looks_like_a_word (byte ∷ rest) then octal byte else end_notation byte
+    if looks_like_a_word (byte ∷ rest) then octal byte else end_notation 0 byte
 
 abbrev pub notation : List ℕ → List ℕ
 notation [] = []
-notation (byte ∷ rest) = first_notation byte rest ++ later_notation rest
+notation (byte ∷ rest) = first_notation byte rest ++ later_notation byte rest
+
+-- ---- a name
+
+-- a name in a field between spaces: each byte is written as at an end of a text
+abbrev pub label_notation : List ℕ → List ℕ
+label_notation name = each_notation end_notation 0 name

@@ -1,5 +1,5 @@
 -- How terminfo(5) reads the notation of a text. No code reads it: the laws alone do.
-use Rattle.std.specs.Prelude.{◌+◌, ◌-◌, ◌*◌, ◌%◌, ◌&&◌, ◌==◌, ℕ, zero, suc, Bool, List, [], ◌∷◌, codes, find, option_map, unwrap_or, nat_le, slice_index, if◌then◌else◌}
+use Rattle.std.specs.Prelude.{◌+◌, ◌-◌, ◌*◌, ◌%◌, ◌&&◌, ◌==◌, ℕ, zero, suc, Bool, not, false, List, [], ◌∷◌, codes, find, option_map, unwrap_or, nat_le, nat_lt, slice_index, if◌then◌else◌}
 use Rattle.ti_base.specs.Letters.{letter}
 
 -- ---- after a `\`
@@ -15,14 +15,14 @@ octal_value text =
     64 * digit_value (slice_index text 0) + 8 * digit_value (slice_index text 1)
     + digit_value (slice_index text 2)
 
--- the letters that stand for a byte, each with the byte
+-- the letters that mean a byte, each with the byte
 abbrev pub letters : List (ℕ × ℕ)
 letters =
     (letter (codes "E"), 27) ∷ (letter (codes "e"), 27) ∷ (letter (codes "n"), 10)
     ∷ (letter (codes "l"), 10) ∷ (letter (codes "r"), 13) ∷ (letter (codes "t"), 9)
     ∷ (letter (codes "b"), 8) ∷ (letter (codes "f"), 12) ∷ (letter (codes "s"), 32) ∷ []
 
--- any other character stands for itself
+-- any other character means itself
 abbrev pub letter_meaning : ℕ → ℕ
 letter_meaning char =
     unwrap_or (option_map (λ pair. pair.1) (find (λ pair. pair.0 == char) letters)) char
@@ -41,21 +41,27 @@ control_byte char = if char == letter (codes "?") then 127 else char % 32
 
 -- ---- a text
 
--- the byte that the first character means, with so many of the others
-abbrev pub meaning_at : ℕ → List ℕ → ℕ × ℕ
-meaning_at char rest =
+-- the byte that the first character means, with so many of the others; a `^` right after a `%` is the character itself
+abbrev pub meaning_at : Bool → ℕ → List ℕ → ℕ × ℕ
+meaning_at after_percent char rest =
     if char == letter (codes "\\") then after_backslash rest
-    else if char == letter (codes "^") then (control_byte (slice_index rest 0), 1)
+    else if char == letter (codes "^") && not after_percent
+    then (control_byte (slice_index rest 0), 1)
     else (char, 0)
 
-abbrev pub one_read : ℕ × ℕ → (ℕ → List ℕ) → List ℕ
-one_read (byte, skip) next = byte ∷ next skip
+-- whether a `%` was read, as it is or after a `\`; three octal digits are no `%`
+abbrev pub is_percent : ℕ × ℕ → Bool
+is_percent (byte, skip) = nat_lt skip 3 && byte == letter (codes "%")
+
+abbrev pub one_read : ℕ × ℕ → (Bool → ℕ → List ℕ) → List ℕ
+one_read (byte, skip) next = byte ∷ next (is_percent (byte, skip)) skip
 
 -- the text after the first `skip` characters, which were read with one before them
-unfoldable pub read_from : ℕ → List ℕ → List ℕ
-read_from skip [] = []
-read_from (suc skip) (char ∷ rest) = read_from skip rest
-read_from zero (char ∷ rest) = one_read (meaning_at char rest) (λ skip. read_from skip rest)
+unfoldable pub read_from : Bool → ℕ → List ℕ → List ℕ
+read_from after_percent skip [] = []
+read_from after_percent (suc skip) (char ∷ rest) = read_from after_percent skip rest
+read_from after_percent zero (char ∷ rest) =
+    one_read (meaning_at after_percent char rest) (λ after skip. read_from after skip rest)
 
 abbrev pub reading : List ℕ → List ℕ
-reading = read_from 0
+reading = read_from false 0

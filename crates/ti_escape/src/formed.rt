@@ -39,7 +39,7 @@ pub fn formed_len(form: Form, text: &[u8]) -> u128
     }
 }
 
-/// Appends a text in a form. Where the vector has room for it, [`formed_len`] bytes, no memory is taken. After an error
+/// Appends a text in a form. If the vector has room for it, [`formed_len`] bytes, no memory is taken. After an error
 /// the vector holds what it held.
 pub fn push_formed<A: Allocator>(
     out: &mut Vec<u8, A>,
@@ -57,7 +57,7 @@ pub fn push_formed<A: Allocator>(
     }
 }
 
-/// Appends a text in a form, or `-` where it has no bytes, as a listing shows it. Where the vector has room for that, no
+/// Appends a text in a form, or `-` if it has no bytes, as a listing shows it. If the vector has room for that, no
 /// memory is taken. After an error the vector holds what it held.
 pub fn push_shown<A: Allocator>(
     out: &mut Vec<u8, A>,

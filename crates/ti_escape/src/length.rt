@@ -4,9 +4,9 @@
 
 ghost use Rattle.std.specs.Prelude.{◌≡◌, ◌≤◌, ◌*◌, length};
 ghost use Rattle.ti_escape.specs.Notation.{notation};
-ghost use Rattle.ti_escape.specs.inner.Stretch.{middle_notation};
+ghost use Rattle.ti_escape.specs.inner.Stretch.{run_notation};
 
-use crate::stretch::{first_stretch, parts_of};
+use crate::stretch::{Run, first_stretch, parts_of};
 
 /// How many characters the notation of a text has: at most four for each of its bytes.
 pub fn notation_len(text: &[u8]) -> u128
@@ -14,17 +14,17 @@ pub fn notation_len(text: &[u8]) -> u128
     ensures few { result ≤ 4 * length text.now }
 {
     let parts = parts_of(text);
-    parts.first.len() as u128 + middle_len(parts.middle) + parts.last.len() as u128
+    parts.first.len() as u128 + run_len(parts.middle) + parts.last.len() as u128
 }
 
-/// How many characters stand for bytes that have no end of a text among them.
-fn middle_len(bytes: &[u8]) -> u128
-    ensures value { result ≡ length (middle_notation bytes.now) }
-    ensures few { result ≤ 4 * length bytes.now }
+/// How many characters the notation of a run has.
+pub fn run_len(run: Run<'_>) -> u128
+    ensures value { result ≡ length (run_notation run.entry) }
+    ensures few { result ≤ 4 * length run.entry.bytes.now }
 {
-    let mut rest = bytes;
+    let mut rest = run;
     let mut total: u128 = 0;
-    'stretches: while !rest.is_empty() {
+    'stretches: while !rest.bytes.is_empty() {
         let front = first_stretch(rest);
         total += front.stretch.len() as u128;
         rest = front.rest;

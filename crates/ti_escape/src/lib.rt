@@ -1,14 +1,16 @@
 //! The notation of terminfo(5) for the bytes of a text, such as `\E[H` and `^G`.
 //!
-//! ESC is `\E`; a `\`, `^` or `,` has a `\` before it; a control character is `^` and a letter, DEL is `^?`; a blank is `\s`
-//! where it stands first or last; 0 and the bytes from 128 are `\` and three octal digits. So each character of a notation
-//! can be printed, none is lost at an end, and two texts never look the same. The time is linear in the bytes that are
-//! read and written. [`push_formed`] and [`push_shown`] write a text in this notation or in hex, as a [`Form`] says. Only
-//! the calls that append to a vector take memory.
+//! ESC is `\E`; a `\`, `^` or `,` has a `\` before it; a control character is `^` and a letter, DEL is `^?`, but both are in
+//! octal right after a `%`, since `%^` is an operator; a space is `\s` if it is first or last; 0 and the bytes from 128 are
+//! `\` and three octal digits. So each character of a notation can be printed, none is lost at an end, and two texts never
+//! look the same. [`push_label`] writes a name with `\s` for each space, so that a line with it splits at its spaces.
+//! [`push_formed`] and [`push_shown`] write a text in this notation or in hex, as a [`Form`] says. The time is linear in
+//! the bytes that are read and written. Only the calls that append to a vector take memory.
 #![tactic(auto)]
 
 mod form;
 mod formed;
+mod label;
 pub mod laws;
 mod length;
 mod memory;
@@ -17,6 +19,7 @@ mod stretch;
 
 pub use form::Form;
 pub use formed::{formed_len, push_formed, push_shown};
+pub use label::push_label;
 pub use length::notation_len;
 pub use memory::push_notation;
 pub use slice::escape_into;

@@ -9,7 +9,7 @@ use crate::length::notation_len;
 use crate::slice::put_notation;
 use std::alloc::{AllocError, Allocator};
 
-/// Appends the notation of a text. Where the vector has room for it, [`notation_len`] bytes, no memory is taken. After an
+/// Appends the notation of a text. If the vector has room for it, [`notation_len`] bytes, no memory is taken. After an
 /// error the vector holds what it held.
 pub fn push_notation<A: Allocator>(out: &mut Vec<u8, A>, text: &[u8]) -> Result<(), AllocError>
     ensures text { OnOk result (out.new.items ≡ out.old.items ++ notation text.now) }

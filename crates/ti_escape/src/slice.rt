@@ -1,18 +1,18 @@
 //! The notation of a text in a slice of the caller.
 //!
-//! Bytes that stand for themselves are copied as they lie in the text. No memory is taken.
+//! Bytes that are written as they are, are copied as they lie in the text. No memory is taken.
 
 ghost use Rattle.std.specs.Prelude.{◌≡◌, ◌≤◌, ◌<◌, ◌+◌, ◌++◌, ◌↔◌, None, length, take, drop, IfSome, IfNone};
 ghost use Rattle.ti_escape.specs.Notation.{notation, octal as the_octal};
-ghost use Rattle.ti_escape.specs.inner.Stretch.{middle_notation, stretch_notation};
+ghost use Rattle.ti_escape.specs.inner.Stretch.{run_notation, stretch_notation};
 
 use crate::length::notation_len;
-use crate::stretch::{Stretch, first_stretch, parts_of};
+use crate::stretch::{Run, Stretch, first_stretch, parts_of};
 
 /// Writes the notation of a text into the slice, and returns the length of the notation. The bytes of the slice after it
 /// are as before.
 ///
-/// `None` exactly where the notation has more characters than the slice has bytes; then the slice is as before.
+/// `None` exactly if the notation has more characters than the slice has bytes; then the slice is as before.
 pub fn escape_into(text: &[u8], out: &mut [u8]) -> Option<usize>
     ensures room { (result ≡ None) ↔ (length out.old < length (notation text.now)) }
     ensures kept { IfNone result (out.new ≡ out.old) }
@@ -35,20 +35,20 @@ pub fn put_notation(text: &[u8], out: &mut [u8]) -> usize
 {
     let parts = parts_of(text);
     let start = put_stretch(out, 0, &parts.first);
-    let end = put_middle(out, start, parts.middle);
+    let end = put_run(out, start, parts.middle);
     put_stretch(out, end, &parts.last)
 }
 
-/// Puts at a place what stands for bytes that have no end of a text among them, and returns the place after it.
-fn put_middle(out: &mut [u8], at: usize, bytes: &[u8]) -> usize
-    requires { at + length (middle_notation bytes.now) ≤ length out.old }
-    ensures end { result ≡ at + length (middle_notation bytes.now) }
-    ensures written { take result out.new ≡ take at out.old ++ middle_notation bytes.now }
+/// Puts the notation of a run at a place, and returns the place after it.
+pub fn put_run(out: &mut [u8], at: usize, run: Run<'_>) -> usize
+    requires { at + length (run_notation run) ≤ length out.old }
+    ensures end { result ≡ at + length (run_notation run.entry) }
+    ensures written { take result out.new ≡ take at out.old ++ run_notation run.entry }
     ensures rest { drop result out.new ≡ drop result out.old }
 {
-    let mut rest = bytes;
+    let mut rest = run;
     let mut end = at;
-    'stretches: while !rest.is_empty() {
+    'stretches: while !rest.bytes.is_empty() {
         let front = first_stretch(rest);
         end = put_stretch(out, end, &front.stretch);
         rest = front.rest;
@@ -80,7 +80,7 @@ fn octal(byte: u8) -> [u8; 4]
 {
     [
         b'\\',
-        b'0' + byte / 64,
+        b'0' + byte / 64 % 8,
         b'0' + byte / 8 % 8,
         b'0' + byte % 8,
     ]

@@ -1,15 +1,15 @@
-//! A text in stretches: bytes that stand for themselves, and bytes that are written another way.
+//! A text in stretches: bytes that are written as they are, and bytes that are written another way.
 //!
 //! The next stretch is found by one look at its bytes. No memory is taken.
 
-ghost use Rattle.std.specs.Prelude.{◌≡◌, ◌≤◌, ◌<◌, ◌+◌, ◌*◌, ◌++◌, ◌∷◌, [], length, drop, slice_index};
+ghost use Rattle.std.specs.Prelude.{◌≡◌, ◌≤◌, ◌<◌, ◌+◌, ◌-◌, ◌*◌, ◌++◌, ◌∷◌, [], length, drop, slice_index};
 ghost use Rattle.std.specs.List.{prefix_len};
-ghost use Rattle.ti_escape.specs.Notation.{byte_notation, end_notation, first_notation, looks_like_a_word as the_looks_like_a_word, notation};
-ghost use Rattle.ti_escape.specs.inner.Stretch.{is_plain as the_is_plain, middle_notation, stretch_notation};
+ghost use Rattle.ti_escape.specs.Notation.{byte_notation, end_notation, first_notation, label_notation, looks_like_a_word as the_looks_like_a_word, notation};
+ghost use Rattle.ti_escape.specs.inner.Stretch.{is_plain as the_is_plain, least_plain as the_least_plain, run_notation, spaced_notation, stretch_notation};
 
 use std::slice;
 
-/// Bytes that stand for themselves, or how one byte is written.
+/// Bytes that are written as they are, or how one byte is written.
 #[derive(Clone, Copy)]
 pub enum Stretch<'a> {
     /// As they are.
@@ -22,18 +22,36 @@ pub enum Stretch<'a> {
     Octal(u8),
 }
 
-/// The stretch at the front of some bytes, and the bytes after it.
+/// How a space is written.
+#[derive(Clone, Copy)]
+pub enum Space {
+    /// As it is: within a text.
+    Kept,
+    /// As `\s`: at an end of a text, and in a label.
+    Escaped,
+}
+
+/// Bytes that are all written in one way, and the byte before them.
+#[derive(Clone, Copy)]
+pub struct Run<'a> {
+    pub space: Space,
+    /// 0 if there is none.
+    pub before: u8,
+    pub bytes: &'a [u8],
+}
+
+/// The stretch at the front of a run, and the run after it.
 #[derive(Clone, Copy)]
 pub struct Front<'a> {
     pub stretch: Stretch<'a>,
-    pub rest: &'a [u8],
+    pub rest: Run<'a>,
 }
 
 /// A text as its ends, which are written as such, and the bytes between them.
 #[derive(Clone, Copy)]
 pub struct Parts<'a> {
     pub first: Stretch<'a>,
-    pub middle: &'a [u8],
+    pub middle: Run<'a>,
     pub last: Stretch<'a>,
 }
 
@@ -50,44 +68,66 @@ impl Stretch<'_> {
     }
 }
 
-/// Whether the byte stands for itself within a text.
-fn is_plain(byte: u8) -> bool
-    ensures { result ≡ the_is_plain byte }
+/// The least byte that is written as it is.
+fn least_plain(space: Space) -> u8
+    ensures { result ≡ the_least_plain space }
 {
-    (b' '..=b'~').contains(&byte) && byte != b'\\' && byte != b'^' && byte != b','
+    match space {
+        Space::Kept => b' ',
+        Space::Escaped => b'!',
+    }
 }
 
-/// How many bytes at the front stand for themselves.
-fn plain_len(bytes: &[u8]) -> usize
-    ensures count { result ≡ prefix_len the_is_plain bytes.now }
+/// Whether the byte is written as it is.
+fn is_plain(space: Space, byte: u8) -> bool
+    ensures { result ≡ the_is_plain space byte }
+{
+    (least_plain(space)..=b'~').contains(&byte) && byte != b'\\' && byte != b'^' && byte != b','
+}
+
+/// How many bytes at the front are written as they are.
+fn plain_len(space: Space, bytes: &[u8]) -> usize
+    ensures count { result ≡ prefix_len (the_is_plain space) bytes.now }
     ensures within { result ≤ length bytes.now }
 {
-    bytes.iter().take_while(|b| is_plain(**b)).count()
+    bytes.iter().take_while(|b| is_plain(space, **b)).count()
 }
 
-/// How the byte is written within a text.
-fn byte_stretch(byte: &u8) -> Stretch<'_>
-    ensures notation { stretch_notation result ≡ byte_notation byte.now }
+/// How the byte is written within a text, after another byte.
+fn byte_stretch(before: u8, byte: &u8) -> Stretch<'_>
+    ensures notation { stretch_notation result ≡ byte_notation before byte.now }
     ensures few { length (stretch_notation result) ≤ 4 }
 {
     match *byte {
         27 => Stretch::Backslash(b'E'),
         b'\\' | b'^' | b',' => Stretch::Backslash(*byte),
-        1..=31 => Stretch::Caret(*byte + 64),
-        127 => Stretch::Caret(b'?'),
         32..=126 => Stretch::Plain(slice::from_ref(byte)),
-        _ => Stretch::Octal(*byte),
+        0 | 128..=255 => Stretch::Octal(*byte),
+        _ if before == b'%' => Stretch::Octal(*byte),
+        127 => Stretch::Caret(b'?'),
+        _ => Stretch::Caret(*byte + 64),
     }
 }
 
-/// How the byte is written at an end of a text.
-fn end_stretch(byte: &u8) -> Stretch<'_>
-    ensures notation { stretch_notation result ≡ end_notation byte.now }
+/// How the byte is written at an end of a text, after another byte.
+fn end_stretch(before: u8, byte: &u8) -> Stretch<'_>
+    ensures notation { stretch_notation result ≡ end_notation before byte.now }
     ensures few { length (stretch_notation result) ≤ 4 }
 {
     match *byte {
         b' ' => Stretch::Backslash(b's'),
-        _ => byte_stretch(byte),
+        _ => byte_stretch(before, byte),
+    }
+}
+
+/// How the byte is written, after another byte.
+fn spaced_stretch(space: Space, before: u8, byte: &u8) -> Stretch<'_>
+    ensures notation { stretch_notation result ≡ spaced_notation space before byte.now }
+    ensures few { length (stretch_notation result) ≤ 4 }
+{
+    match space {
+        Space::Kept => byte_stretch(before, byte),
+        Space::Escaped => end_stretch(before, byte),
     }
 }
 
@@ -107,54 +147,88 @@ fn start_stretch<'a>(text: &[u8], byte: &'a u8) -> Stretch<'a>
     if looks_like_a_word(text) {
         Stretch::Octal(*byte)
     } else {
-        end_stretch(byte)
+        end_stretch(0, byte)
     }
 }
 
 /// The parts of a text.
 pub fn parts_of(text: &[u8]) -> Parts<'_>
     ensures notation { notation text.now ≡ stretch_notation result.first
-        ++ middle_notation result.middle.now ++ stretch_notation result.last }
-    ensures few { length (stretch_notation result.first) + 4 * length result.middle.now
+        ++ run_notation result.middle ++ stretch_notation result.last }
+    ensures few { length (stretch_notation result.first) + 4 * length result.middle.bytes.now
         + length (stretch_notation result.last) ≤ 4 * length text.now }
 {
     const NONE: Stretch<'static> = Stretch::Plain(&[]);
+    const NO_BYTES: Run<'static> = Run {
+        space: Space::Kept,
+        before: 0,
+        bytes: &[],
+    };
     match text {
         [] => Parts {
             first: NONE,
-            middle: &[],
+            middle: NO_BYTES,
             last: NONE,
         },
         [byte] => Parts {
             first: start_stretch(text, byte),
-            middle: &[],
+            middle: NO_BYTES,
             last: NONE,
         },
         [byte, middle @ .., last] => Parts {
             first: start_stretch(text, byte),
-            middle,
-            last: end_stretch(last),
+            middle: Run {
+                space: Space::Kept,
+                before: *byte,
+                bytes: middle,
+            },
+            last: end_stretch(text[text.len() - 2], last),
         },
     }
 }
 
-/// The stretch at the front: all bytes up to one that does not stand for itself, or such a byte.
-pub fn first_stretch(bytes: &[u8]) -> Front<'_>
-    requires { 0 < length bytes.now }
-    ensures notation { middle_notation bytes.now
-        ≡ stretch_notation result.stretch ++ middle_notation result.rest.now }
-    ensures shorter { length result.rest.now < length bytes.now }
-    ensures few { length (stretch_notation result.stretch)
-        + 4 * length result.rest.now ≤ 4 * length bytes.now }
+/// A name whose spaces are all escaped, as a run.
+pub fn label_of(name: &[u8]) -> Run<'_>
+    ensures { run_notation result ≡ label_notation name.now }
 {
-    match plain_len(bytes) {
+    Run {
+        space: Space::Escaped,
+        before: 0,
+        bytes: name,
+    }
+}
+
+/// A run without its first `len` bytes.
+fn without(run: Run<'_>, len: usize) -> Run<'_>
+    requires { 0 < len × len ≤ length run.bytes.now }
+    ensures space { result.space ≡ run.entry.space }
+    ensures before { result.before ≡ slice_index run.entry.bytes.now (len - 1) }
+    ensures bytes { result.bytes.now ≡ drop len run.entry.bytes.now }
+{
+    Run {
+        space: run.space,
+        before: run.bytes[len - 1],
+        bytes: &run.bytes[len..],
+    }
+}
+
+/// The stretch at the front: all bytes up to one that is not written as it is, or such a byte.
+pub fn first_stretch(run: Run<'_>) -> Front<'_>
+    requires { 0 < length run.bytes.now }
+    ensures notation { run_notation run.entry
+        ≡ stretch_notation result.stretch ++ run_notation result.rest }
+    ensures shorter { length result.rest.bytes.now < length run.entry.bytes.now }
+    ensures few { length (stretch_notation result.stretch)
+        + 4 * length result.rest.bytes.now ≤ 4 * length run.entry.bytes.now }
+{
+    match plain_len(run.space, run.bytes) {
         0 => Front {
-            stretch: byte_stretch(&bytes[0]),
-            rest: &bytes[1..],
+            stretch: spaced_stretch(run.space, run.before, &run.bytes[0]),
+            rest: without(run, 1),
         },
         len => Front {
-            stretch: Stretch::Plain(&bytes[..len]),
-            rest: &bytes[len..],
+            stretch: Stretch::Plain(&run.bytes[..len]),
+            rest: without(run, len),
         },
     }
 }

@@ -1,4 +1,4 @@
-//! Worked rows of the notation, from terminfo(5), `infocmp -1` and by hand.
+//! Worked rows of the notation, from terminfo(5), `infocmp -1`, `tic` and by hand.
 
 use super::*;
 use std::alloc::{AllocError, Allocator};
@@ -6,7 +6,7 @@ use std::process::Abort;
 use std::test::Fail;
 
 /// A text of entries or of the rules, and its notation.
-const ROWS: [(&[u8], &[u8]); 20] = [
+const ROWS: [(&[u8], &[u8]); 28] = [
     (b"", b""),
     (b"\x1b[%i%p1%d;%p2%dH", b"\\E[%i%p1%d;%p2%dH"),
     (b"\x07", b"^G"),
@@ -30,6 +30,14 @@ const ROWS: [(&[u8], &[u8]); 20] = [
     (b"--", b"--"),
     (b"cancelled", b"\\143ancelled"),
     (b"cancelled ", b"cancelled\\s"),
+    (b"%p1%d%%\r", b"%p1%d%%\\015"),
+    (b"%\x01", b"%\\001"),
+    (b"%\x01\x01a", b"%\\001^Aa"),
+    (b"%\x1c,%\x1e,", b"%\\034\\,%\\036\\,"),
+    (b"a%\x7f%\x1f.", b"a%\\177%\\037."),
+    (b"%\x1b%\x1b", b"%\\E%\\E"),
+    (b"%^%\\%,%%", b"%\\^%\\\\%\\,%%"),
+    (b"% % ", b"% %\\s"),
 ];
 
 fn assert_in_slice(rt: &impl Abort, text: &[u8], notation: &[u8]) {
@@ -77,6 +85,38 @@ fn room_that_is_there_is_used(rt: HostRuntime) -> Result<(), Fail> {
     let line = line_of(rt.alloc(), b"\x1b[?1;2c\0\x80 ")?;
     assert_eq!(rt; line.as_slice(), b"\\E[?1;2c\\000\\200\\s\n".as_slice());
     assert_eq!(rt; line.capacity(), line.len());
+    Ok(())
+}
+
+/// A name, and its label.
+const LABELS: [(&[u8], &[u8]); 9] = [
+    (b"", b""),
+    (b"XM", b"XM"),
+    (b" ", b"\\s"),
+    (b" a  b ", b"\\sa\\s\\sb\\s"),
+    (b"a=1,b\n\t\x1b", b"a=1\\,b^J^I\\E"),
+    (b"100%\x07\x07 % ", b"100%\\007^G\\s%\\s"),
+    (b"\0\x80\xff~\x7f", b"\\000\\200\\377~^?"),
+    (b"-", b"-"),
+    (b"cancelled", b"cancelled"),
+];
+
+#[test]
+fn label_rows(rt: HostRuntime) -> Result<(), Fail> {
+    for (name, label) in LABELS {
+        let mut made = Vec::from_slice(rt.alloc(), b"= ")?;
+        push_label(&mut made, name)?;
+        assert!(rt; made.as_slice().strip_prefix(b"= ") == Some(label));
+    }
+    Ok(())
+}
+
+#[test]
+fn a_label_uses_the_room_that_is_there(rt: HostRuntime) -> Result<(), Fail> {
+    let mut made = Vec::with_capacity(rt.alloc(), 9)?;
+    push_label(&mut made, b" %\x01 ")?;
+    assert_eq!(rt; made.as_slice(), b"\\s%\\001\\s".as_slice());
+    assert_eq!(rt; made.capacity(), made.len());
     Ok(())
 }
 

@@ -1,5 +1,5 @@
 -- Bytes as the spellings of tokens.
-use Rattle.std.proofs.Common.{◌≡◌, ◌∙◌, ℕ, ◌<◌, List, [], ◌∷◌, ◌++◌, length, ap, arith, refl, subst, sym, length-append}
+use Rattle.std.proofs.Common.{◌≡◌, ◌∙◌, ℕ, List, [], ◌∷◌, ◌++◌, length, ap, arith, refl, subst, sym, length-append}
 use Rattle.ti_cap.specs.declared.language.Token.{Token}
 use Rattle.ti_cap.specs.Spelling.{Spells, Written}
 use Rattle.ti_cap.proofs.WrittenLemmas.{Same, one_form, spelled_long}

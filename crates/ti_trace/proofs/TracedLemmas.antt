@@ -1,10 +1,10 @@
 -- The lines of a pass, a token at a time.
-use Rattle.std.proofs.Common.{◌≡◌, ◌∙◌, ℕ, suc, ◌+◌, ◌-◌, ◌<◌, ◌≤◌, max, Bool, true, false, ◌||◌, List, [], ◌∷◌, ◌++◌, length, drop, take, reverse, ap, arith, refl, subst, sym, append_assoc, append-nil, length-append, if◌then◌else◌}
+use Rattle.std.proofs.Common.{◌≡◌, ◌∙◌, ℕ, suc, ◌+◌, ◌-◌, ◌≤◌, max, Bool, true, false, List, [], ◌∷◌, ◌++◌, length, ap, arith, refl, subst, sym, append_assoc, append-nil, length-append, if◌then◌else◌}
 use Rattle.std.proofs.lemmas.List.{length-map}
 use Rattle.ti_cap.specs.declared.language.Token.{Token}
 use Rattle.ti_cap.specs.Capability.{HasBound, HasDepth}
 use Rattle.ti_cap.specs.Height.{height, height_from}
-use Rattle.ti_cap.specs.Pass.{Mode, Running, Past, next_mode, is_running}
+use Rattle.ti_cap.specs.Pass.{Mode, Running, next_mode}
 use Rattle.ti_cap.specs.Spelling.{Spells, Writes}
 use Rattle.ti_cap.specs.Tree.{Sequence, tokens}
 use Rattle.ti_cap.proofs.WrittenLemmas.{one_cutting}
@@ -14,7 +14,7 @@ use Rattle.ti_expand.specs.Expands.{longest_text}
 use Rattle.ti_expand.specs.Flat.{Pass, note}
 use Rattle.ti_expand.specs.Meaning.{meaning, taken_path, tests_zero}
 use Rattle.ti_expand.specs.State.{State}
-use Rattle.ti_expand.specs.Steps.{AreThePass, Step, Underway, at_start, is_run_between, last_state, step_state, steps, tokens_run}
+use Rattle.ti_expand.specs.Steps.{AreThePass, Step, Underway, is_run_between, last_state, step_state, steps, tokens_run}
 use Rattle.ti_expand.proofs.HeightLemmas.{height-note, height_from-ge}
 use Rattle.ti_expand.proofs.StepsLemmas.{steps_are_the_pass}
 use Rattle.ti_trace.specs.Columns.{header}

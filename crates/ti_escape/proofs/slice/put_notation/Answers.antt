@@ -3,6 +3,6 @@ use Rattle.ti_escape.proofs.slice.put_notation.Goals as goal
 
 pub returns-clause-rest : goal.returns-clause-rest
 returns-clause-rest c =
-    kept-later _ _ _ _ c.put_middle-end.result _
-    (kept-later _ _ _ _ c.put_stretch-start.result _ c.put_stretch-start.ensures.rest c.put_middle-end.ensures.end c.put_middle-end.ensures.rest)
+    kept-later _ _ _ _ c.put_run-end.result _
+    (kept-later _ _ _ _ c.put_stretch-start.result _ c.put_stretch-start.ensures.rest c.put_run-end.ensures.end c.put_run-end.ensures.rest)
     c.put_stretch.ensures.end c.put_stretch.ensures.rest

@@ -1,5 +1,9 @@
+use Rattle.std.proofs.Common.{◌<◌, arith}
 use Rattle.ti_escape.proofs.NotationLemmas.{plain-stretch}
 use Rattle.ti_escape.proofs.stretch.first_stretch.Goals as goal
 
 pub returns-in_default-clause-notation : goal.returns-in_default-clause-notation
-returns-in_default-clause-notation c = plain-stretch c.args.bytes.now c.plain_len.result c.plain_len.ensures.count
+returns-in_default-clause-notation c =
+    let some : 0 < c.plain_len.result = omega arith in
+    let after = c.without-in_default.ensures in
+    plain-stretch c.args.run.space _ c.args.run.before _ c.args.run.bytes.now _ c.plain_len.result c.plain_len.ensures.count some after.space after.before after.bytes

@@ -1,4 +1,4 @@
-use Rattle.std.proofs.Common.{◌≡◌, ◌∙◌, ℕ, Err, ap}
+use Rattle.std.proofs.Common.{◌≡◌, ◌∙◌, Err, ap}
 use Rattle.ti_expand.specs.declared.fault.ExpandFault.TheVariants as expand_fault
 use Rattle.ti_trace.proofs.tracing.steps_of.Goals as goal
 
