@@ -3,12 +3,11 @@
 Written from the manual pages, the list of checks and the choices of docs/DECISIONS.md, to be compared with the proved
 program.
 """
-import re
 import struct
 from dataclasses import dataclass, field
-from pathlib import Path
 
-from notation import shown
+from notation import label as escaped_label
+from notation import notation, shown
 
 LIMIT = 32768
 FLAGS = {0: "no", 1: "yes", 254: "cancelled", 255: "missing"}
@@ -32,13 +31,6 @@ TEXT_NAMES = {
     131: "sgr", 132: "hts", 134: "ht", 164: "kend", 216: "kf11", 217: "kf12", 359: "setaf", 360: "setab",
 }
 COMMON_NAMES = {"flag": FLAG_NAMES, "number": NUMBER_NAMES, "text": TEXT_NAMES}
-
-
-def all_names():
-    """The names of term.h by kind and index. They are data of the code, which model/names holds against libtinfo."""
-    table = (Path(__file__).resolve().parent.parent / "crates/ti_words/src/all_table.rt").read_text()
-    lists = {kind: re.search(rf"static ALL_{kind.upper()}_NAMES: [^=]*= \[(.*?)\];", table, re.S)[1] for kind in COMMON_NAMES}
-    return {kind: dict(enumerate(re.findall(r'"([^"]*)"', names))) for kind, names in lists.items()}
 
 
 class Refused(Exception):
@@ -263,6 +255,11 @@ def label(names, index):
     return names.get(index, f"#{index}").encode()
 
 
+def own_label(name, escape):
+    """The label of an extended capability: its name as it stands, or in the notation without a space."""
+    return escaped_label(name) if escape else name
+
+
 def flag_line(kind, name, flag):
     ends = {"no": None, "yes": b"", "cancelled": b" cancelled", "missing": b" missing"}
     return b"" if ends[flag] is None else kind + name + ends[flag] + b"\n"
@@ -281,12 +278,13 @@ def text_line(kind, name, text, escape):
 
 
 def listing(entry, names, escape):
-    """What `show` writes, with labels by these names, and texts in the notation or in hex."""
-    lines = [b"format: " + (b"wide" if entry.wide else b"legacy") + b"\nnames: " + entry.names + b"\n"]
+    """What `show` writes, with labels by these names; under `escape` all that comes from the entry is in the notation."""
+    own_names = notation(entry.names) if escape else entry.names
+    lines = [b"format: " + (b"wide" if entry.wide else b"legacy") + b"\nnames: " + own_names + b"\n"]
     lines += [flag_line(b"flag ", label(names["flag"], i), flag) for i, flag in enumerate(entry.flags)]
     lines += [number_line(b"number ", label(names["number"], i), number) for i, number in enumerate(entry.numbers)]
     lines += [text_line(b"text ", label(names["text"], i), text, escape) for i, text in enumerate(entry.texts)]
-    lines += [flag_line(b"flag+ ", name, flag) for name, flag in entry.extended_flags]
-    lines += [number_line(b"number+ ", name, number) for name, number in entry.extended_numbers]
-    lines += [text_line(b"text+ ", name, text, escape) for name, text in entry.extended_texts]
+    lines += [flag_line(b"flag+ ", own_label(name, escape), flag) for name, flag in entry.extended_flags]
+    lines += [number_line(b"number+ ", own_label(name, escape), number) for name, number in entry.extended_numbers]
+    lines += [text_line(b"text+ ", own_label(name, escape), text, escape) for name, text in entry.extended_texts]
     return b"".join(lines)

@@ -1,13 +1,13 @@
 //! `ti` reads, checks, shows, expands and writes compiled terminfo entries.
 //!
-//! Its words and the three standard streams go to `ti_tool`'s `run`, whose answer is the exit status.
+//! Its words and the three standard streams go to `ti_tool`'s `run_at`, whose result is the exit status.
 #![tactic(auto)]
 
 use std::alloc::AllocError;
 use std::io;
-use std::io::ErrorKind;
+use std::io::{ErrorKind, IsTerminal};
 use std::process::ExitCode;
-use ti_tool::run;
+use ti_tool::{Terminals, run_at};
 
 /// The words of the command line, the program's own name first.
 fn words(rt: &HostRuntime) -> io::Result<Vec<String>> {
@@ -25,13 +25,20 @@ fn status(rt: &HostRuntime) -> io::Result<u8> {
     for word in &words {
         texts.push(word.as_str())?;
     }
-    Ok(run(
+    let (mut input, mut output, mut errors) = (rt.stdin(), rt.stdout(), rt.stderr());
+    let at = Terminals {
+        input: input.is_terminal(),
+        output: output.is_terminal(),
+        errors: errors.is_terminal(),
+    };
+    Ok(run_at(
         rt.alloc(),
         rt.alloc(),
+        at,
         texts.as_slice(),
-        &mut rt.stdin(),
-        &mut rt.stdout(),
-        &mut rt.stderr(),
+        &mut input,
+        &mut output,
+        &mut errors,
     ))
 }
 

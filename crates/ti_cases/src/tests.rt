@@ -7,6 +7,7 @@ mod drafts;
 mod entries;
 mod fakes;
 mod flushes;
+mod forged;
 mod growth;
 mod hostile;
 mod large;

@@ -25,7 +25,7 @@ unfolding clap_on_literals
 escape_row = (refl, refl)
 
 -- `ti check --all-names`
-names_row : Reads (codes "ti" ∷ codes "check" ∷ codes "--all-names" ∷ []) (Check true)
+names_row : Reads (codes "ti" ∷ codes "check" ∷ codes "--all-names" ∷ []) (Check false true)
 unfolding clap_on_literals
 names_row = (refl, refl)
 

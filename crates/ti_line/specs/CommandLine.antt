@@ -98,9 +98,9 @@ trace_app = with_rules (new_app (codes "trace")) (params_rule ∷ escape_rule �
 abbrev pub show_app : App
 show_app = with_rules (new_app (codes "show")) (escape_rule ∷ all_names_rule ∷ [])
 
--- `check [--all-names]`
+-- `check [--escape] [--all-names]`
 abbrev pub check_app : App
-check_app = with_rules (new_app (codes "check")) (all_names_rule ∷ [])
+check_app = with_rules (new_app (codes "check")) (escape_rule ∷ all_names_rule ∷ [])
 
 -- `expand NAME [--hex] [--escape] [--all-names] [--rate N] [--lines N] [--xon] [PARAM..]`
 abbrev pub expand_app : App
@@ -153,7 +153,7 @@ pub data Request : Type 0 where
   Cap : (hex escape : Bool) → (params : List Text) → Request
   Trace : (escape : Bool) → (params : List Text) → Request
   Show : (escape all_names : Bool) → Request
-  Check : (all_names : Bool) → Request
+  Check : (escape all_names : Bool) → Request
   Expand : (name : Text) → (hex escape all_names : Bool) → (rate lines : ℕ) → (xon : Bool)
       → (params : List Text) → Request
   Convert : (wide narrow : Bool) → Request
@@ -178,7 +178,7 @@ request_by command rows =
     else (if bytes_eq command (codes "show")
     then Some (Show (flag_in (codes "escape") rows) (flag_in (codes "all-names") rows))
     else (if bytes_eq command (codes "check")
-    then Some (Check (flag_in (codes "all-names") rows))
+    then Some (Check (flag_in (codes "escape") rows) (flag_in (codes "all-names") rows))
     else (if bytes_eq command (codes "expand")
     then option_and_then (expand_by rows) (first_of (codes "NAME") rows)
     else (if bytes_eq command (codes "convert")

@@ -28,7 +28,7 @@ abbrev pub IsWithin : Request → Type 0
 IsWithin (Cap hex escape params) = Unit {0}
 IsWithin (Trace escape params) = Unit {0}
 IsWithin (Show escape all_names) = Unit {0}
-IsWithin (Check all_names) = Unit {0}
+IsWithin (Check escape all_names) = Unit {0}
 IsWithin (Expand name hex escape all_names rate lines xon params) =
     (rate ≤ greatest_rate) × (lines ≤ most_lines)
 IsWithin (Convert wide narrow) = Unit {0}

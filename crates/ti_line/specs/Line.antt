@@ -1,5 +1,5 @@
 -- A line as texts and numbers, and what an answer tells of the words.
-use Rattle.std.specs.Prelude.{◌≡◌, List, Result, Ok, Err, map}
+use Rattle.std.specs.Prelude.{◌≡◌, ◌<◌, List, Result, Ok, Err, length, map}
 use Rattle.std.specs.Borrow.{Bor}
 use Rattle.clap.specs.Words.{Text}
 use Rattle.ti_line.specs.CommandLine.{Request, AsksForHelp, Cap, Trace, Show, Check, Expand, Convert, IsRefused}
@@ -8,6 +8,7 @@ use Rattle.ti_line.specs.declared.line.Line.{Line}
 use Rattle.ti_line.specs.declared.line.Line.TheVariants as line
 use Rattle.ti_line.specs.declared.line.NoLine.{NoLine}
 use Rattle.ti_line.specs.declared.line.NoLine.TheVariants as no_line
+use Rattle.ti_line.specs.Message.{message_text}
 
 -- the texts that references lend
 abbrev pub texts_of : List (Bor Text) → List Text
@@ -23,7 +24,7 @@ abbrev pub request_of : Line → Request
 request_of (line.Cap hex escape params) = Cap hex escape (texts_of params.items)
 request_of (line.Trace escape params) = Trace escape (texts_of params.items)
 request_of (line.Show escape all_names) = Show escape all_names
-request_of (line.Check all_names) = Check all_names
+request_of (line.Check escape all_names) = Check escape all_names
 request_of (line.Expand expand) = expand_of expand
 request_of (line.Convert wide narrow) = Convert wide narrow
 
@@ -37,3 +38,9 @@ abbrev pub Explains : List Text → NoLine → Type 0
 Explains words (no_line.Help message) = AsksForHelp words
 Explains words (no_line.Refused message) = IsRefused words
 Explains words no_line.Memory = Unit {0}
+
+-- what is said of the words is not empty
+abbrev pub HasText : NoLine → Type 0
+HasText (no_line.Help message) = 0 < length (message_text message)
+HasText (no_line.Refused message) = 0 < length (message_text message)
+HasText no_line.Memory = Unit {0}

@@ -26,9 +26,7 @@ fn escape<'a>(alloc: Global) -> Arg<'a>
     Arg::new(alloc, "escape")
         .long("escape")
         .action(ArgAction::SetTrue)
-        .help(
-            "Write texts in the notation of terminfo(5), as \\E[H; an output ends with one newline",
-        )
+        .help("Write names, texts and outputs in the notation of terminfo(5), such as \\E[H")
 }
 
 fn all_names<'a>(alloc: Global) -> Arg<'a>
@@ -38,7 +36,7 @@ fn all_names<'a>(alloc: Global) -> Arg<'a>
     Arg::new(alloc, "all-names")
         .long("all-names")
         .action(ArgAction::SetTrue)
-        .help("Use the names of all 497 capabilities, beside the common ones")
+        .help("Use the names of all 497 capabilities, in place of the 114 common ones")
 }
 
 fn params<'a>(alloc: Global) -> Arg<'a>
@@ -177,7 +175,7 @@ fn show<'a>(alloc: Global) -> Result<Command<'a>, AllocError>
         alloc,
         "show",
         "List the compiled entry on standard input, one line an item",
-        "Example:\n  ti show < /usr/share/terminfo/x/xterm",
+        "Example:\n  ti show < /lib/terminfo/x/xterm\n\nFor an entry that a stranger wrote:\n  ti show --escape < entry",
     );
     with_two(command, escape(alloc), all_names(alloc))
 }
@@ -186,13 +184,13 @@ fn check<'a>(alloc: Global) -> Result<Command<'a>, AllocError>
     ensures shape { IfOk result (λ c. app_of c ≡ check_app) }
     ensures local { IfOk result HasNoGlobals }
 {
-    new_command(
+    let check = new_command(
         alloc,
         "check",
-        "Analyse each text of the entry on standard input; status 1 where one has a fault",
-        "Example:\n  ti check < /usr/share/terminfo/x/xterm",
-    )
-    .arg(all_names(alloc))
+        "Analyse each text of the entry on standard input; status 1 if one has a fault",
+        "Example:\n  ti check < /lib/terminfo/x/xterm\n\nFor an entry that a stranger wrote:\n  ti check --escape < entry",
+    );
+    with_two(check, escape(alloc), all_names(alloc))
 }
 
 fn expand<'a>(alloc: Global) -> Result<Command<'a>, AllocError>
@@ -203,7 +201,7 @@ fn expand<'a>(alloc: Global) -> Result<Command<'a>, AllocError>
         alloc,
         "expand",
         "Expand and pad one text of the entry on standard input",
-        "Example, which moves to line 5, column 10:\n  ti expand cup n:4 n:9 < /usr/share/terminfo/x/xterm",
+        "Example, which moves to line 5, column 10:\n  ti expand cup n:4 n:9 < /lib/terminfo/x/xterm",
     );
     let command = with_two(command, name(alloc), hex(alloc))?;
     let command = with_two(command, escape(alloc), all_names(alloc))?;

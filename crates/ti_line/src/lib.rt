@@ -8,7 +8,7 @@
 //! | `cap [--hex] [--escape] [PARAM..]` | [`Line::Cap`] |
 //! | `trace [--escape] [PARAM..]` | [`Line::Trace`] |
 //! | `show [--escape] [--all-names]` | [`Line::Show`] |
-//! | `check [--all-names]` | [`Line::Check`] |
+//! | `check [--escape] [--all-names]` | [`Line::Check`] |
 //! | `expand NAME [--hex] [--escape] [--all-names] [--rate N] [--lines N] [--xon] [PARAM..]` | [`Line::Expand`] |
 //! | `convert [--wide] [--narrow]` | [`Line::Convert`] |
 #![tactic(auto)]
@@ -18,6 +18,7 @@ pub mod laws;
 mod line;
 mod matches;
 mod message;
+mod printable;
 mod read;
 
 pub use line::{Expand, Line, NoLine};

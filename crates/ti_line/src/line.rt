@@ -27,13 +27,15 @@ pub enum Line<'a> {
     },
     /// List the entry.
     Show {
-        /// Write texts in the notation of terminfo(5), in place of hex.
+        /// Write names, labels and texts in the notation of terminfo(5), in place of bytes and of hex.
         escape: bool,
         /// Call capabilities by the table of all names, in place of the common ones.
         all_names: bool,
     },
     /// Analyse each text of the entry.
     Check {
+        /// Write the labels of extended texts in the notation of terminfo(5).
+        escape: bool,
         /// Call texts by the table of all names, in place of the common ones.
         all_names: bool,
     },

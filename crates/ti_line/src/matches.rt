@@ -93,6 +93,7 @@ pub(crate) fn line_of<'a>(
             all_names: flag(given, "all-names"),
         },
         "check" => Line::Check {
+            escape: flag(given, "escape"),
             all_names: flag(given, "all-names"),
         },
         "expand" => match text(given, "NAME") {

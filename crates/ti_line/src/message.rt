@@ -1,10 +1,13 @@
 //! What `clap` says to the user.
 
-ghost use Rattle.std.specs.Prelude.{◌≡◌, Some};
+ghost use Rattle.std.specs.Prelude.{◌≡◌, ◌<◌, IfOk, Some, length};
 ghost use Rattle.ti_line.specs.Message.{message_text};
 
 use std::alloc::{AllocError, Global};
 use std::fmt;
+
+/// The text if `clap` says nothing.
+const NOTHING_SAID: &str = "see ti --help\n";
 
 /// What `clap` says to the user: the text of its error.
 #[derive(Debug, Drop)]
@@ -13,11 +16,16 @@ pub struct Message {
 }
 
 impl Message {
-    /// The text of what `clap` says of words that it refuses, or answers with help.
-    pub(crate) fn new(alloc: Global, error: &clap::Error) -> Result<Message, AllocError> {
-        Ok(Message {
-            text: error.to_string(alloc)?,
-        })
+    /// A text of `clap` as a message, or a text of its own if that one is empty.
+    pub(crate) fn new(alloc: Global, text: String) -> Result<Message, AllocError>
+        ensures { IfOk result (λ message. 0 < length (message_text message)) }
+    {
+        let text = if text.is_empty() {
+            String::from_str(alloc, NOTHING_SAID)?
+        } else {
+            text
+        };
+        Ok(Message { text })
     }
 
     /// The text, in full lines.

@@ -1,15 +1,17 @@
 //! Words as a command line.
 
-ghost use Rattle.std.specs.Prelude.{◌≡◌, IfErr, IfOk, Some};
+ghost use Rattle.std.specs.Prelude.{◌≡◌, ◌<◌, IfErr, IfOk, Some, length};
 ghost use Rattle.clap.specs.Words.{FailsBy, kind_of, subcommand_of};
 ghost use Rattle.ti_line.specs.CommandLine.{Request, Reads, request_in, faults, ti_app};
-ghost use Rattle.ti_line.specs.Line.{Explains, IsReadAs, request_of, texts_of};
+ghost use Rattle.ti_line.specs.Line.{Explains, HasText, IsReadAs, request_of, texts_of};
+ghost use Rattle.ti_line.specs.Message.{message_text};
 ghost use Rattle.ti_line.specs.inner.Errors.{TellsOf};
 
 use crate::command::program;
 use crate::line::{Line, NoLine};
 use crate::matches::line_of;
 use crate::message::Message;
+use crate::printable::printable_text;
 use clap::Error;
 use clap::error::ErrorKind;
 use std::alloc::{AllocError, Global};
@@ -27,11 +29,20 @@ fn read_words<'a>(alloc: Global, words: &'a [&'a str]) -> Result<Line<'a>, Error
     }
 }
 
-/// What an error of `clap` tells of the words.
-fn no_line(alloc: Global, error: &Error) -> NoLine
-    ensures { TellsOf (kind_of error.now) result }
+/// What is said of words that are no line.
+fn message_on<'a>(alloc: Global, words: &'a [&'a str], error: &Error) -> Result<Message, AllocError>
+    ensures { IfOk result (λ message. 0 < length (message_text message)) }
 {
-    let message = match Message::new(alloc, error) {
+    let text = printable_text(alloc, words, error)?;
+    Message::new(alloc, text)
+}
+
+/// What an error of `clap` tells of the words.
+fn no_line<'a>(alloc: Global, words: &'a [&'a str], error: &Error) -> NoLine
+    ensures tells { TellsOf (kind_of error.now) result }
+    ensures says { HasText result }
+{
+    let message = match message_on(alloc, words, error) {
         Ok(message) => message,
         Err(AllocError) => return NoLine::Memory,
     };
@@ -49,15 +60,18 @@ fn no_line(alloc: Global, error: &Error) -> NoLine
 ///
 /// # Errors
 ///
-/// [`NoLine::Help`] where help or the version is asked for, [`NoLine::Refused`] where the words are no command line,
-/// and [`NoLine::Memory`] where a growth was refused.
+/// [`NoLine::Help`] if help or the version is asked for, [`NoLine::Refused`] if the words are no command line, and
+/// [`NoLine::Memory`] if a growth was refused. A message shows no byte of a word but printable ASCII characters: the
+/// others are in the notation of terminfo(5).
 pub fn read_line<'a>(alloc: Global, words: &'a [&'a str]) -> Result<Line<'a>, NoLine>
     ensures read { IfOk result (λ line. Reads (texts_of words.entry.now) (request_of line)) }
     ensures only { (line : Request) → Reads (texts_of words.entry.now) line → IsReadAs line result }
     ensures none { IfErr result (Explains (texts_of words.entry.now)) }
+    // A message is never empty.
+    ensures says { IfErr result HasText }
 {
     match read_words(alloc, words) {
         Ok(line) => Ok(line),
-        Err(error) => Err(no_line(alloc, &error)),
+        Err(error) => Err(no_line(alloc, words, &error)),
     }
 }

@@ -53,13 +53,12 @@ goes_end L xs i before out sound h goes =
     (lines, subst R (and_true sound) are, sym (append-nil out) ∙ e)
 
 -- the same over the texts of an entry
-pub standard_next : (names : NameTable) (texts : List TextValue) (i : ℕ) (label : List ℕ) (text : TextValue) (before out new : List ℕ) (sound one : Bool) → i < length texts
-    → label ≡ label_of names kinds.Text i → text ≡ get_or texts i AbsentText → GoesOn (IsStandardLine names) texts before i out sound
-    → (line : List ℕ) × IsLine (codes "text ") label text line one × (new ≡ out ++ line) → GoesOn (IsStandardLine names) texts before (i + 1) new (sound && one)
-standard_next names texts i label text before out new sound one h l t goes (line, is, n) =
-    let P : List ℕ → Type 0 = λ x. IsLine (codes "text ") x text line one in
-    let Q : TextValue → Type 0 = λ x. IsLine (codes "text ") (label_of names kinds.Text i) x line one in
-    goes_next (IsStandardLine names) texts i AbsentText before out new line sound one h goes (subst Q t (subst P l is)) n
+pub standard_next : (table : NameTable) (texts : List TextValue) (i : ℕ) (text : TextValue) (before out new : List ℕ) (sound one : Bool) → i < length texts
+    → text ≡ get_or texts i AbsentText → GoesOn (IsStandardLine table) texts before i out sound
+    → (line : List ℕ) × IsLine (codes "text ") (label_of table kinds.Text i) text line one × (new ≡ out ++ line) → GoesOn (IsStandardLine table) texts before (i + 1) new (sound && one)
+standard_next table texts i text before out new sound one h t goes (line, is, n) =
+    let Q : TextValue → Type 0 = λ x. IsLine (codes "text ") (label_of table kinds.Text i) x line one in
+    goes_next (IsStandardLine table) texts i AbsentText before out new line sound one h goes (subst Q t is) n
 
 -- the verdict on a text that parsing accepted
 pub sound_judged : (text capability : List ℕ) (verdict : Verdict) (depth bound : ℕ) → verdict ≡ Sound depth bound → capability ≡ text → IsFaultless text

@@ -13,3 +13,4 @@ pub mod ReadsIntoLemmas
 pub mod AreLinesLemmas
 pub mod WideAndBackLemmas
 pub mod OneResultLemmas
+pub mod PrintableLemmas

@@ -22,6 +22,7 @@ use Rattle.ti_entry.proofs.SpellsAtMostOneLemmas.{at_most_one}
 use Rattle.ti_entry.proofs.SpelledExtendedLemmas.{only}
 use Rattle.ti_words.specs.declared.all_names.NameTable.{NameTable}
 use Rattle.ti_tool.specs.declared.look.Look.{Look}
+use Rattle.ti_tool.specs.declared.look.Naming.{Naming}
 use Rattle.ti_tool.specs.declared.look.Output.{Output}
 use Rattle.ti_tool.specs.declared.fault.ToolFault.{ToolFault}
 use Rattle.ti_tool.specs.declared.fault.ToolFault.TheVariants as fault
@@ -144,16 +145,16 @@ shown_needs look input v spells fault.Read d = d
 shown_needs look input v spells (fault.Write gone) d = d
 shown_needs look input v spells fault.Memory d = d
 
-pub checked_needs : (names : NameTable) (sound : Bool) (input : List ℕ) (v : EntryValue) → Spells input v → NeedsMemory (IsCheckedAs names sound input)
-checked_needs names sound input v spells (fault.Entry refused) d = never_refused input v refused spells d
-checked_needs names sound input v spells (fault.Encode unfit) d = tt
-checked_needs names sound input v spells (fault.TooMuch need) d = tt
-checked_needs names sound input v spells (fault.Cap refused) d = d
-checked_needs names sound input v spells (fault.TextTooLong k) d = d
-checked_needs names sound input v spells fault.NoSuchText d = d
-checked_needs names sound input v spells fault.Read d = d
-checked_needs names sound input v spells (fault.Write gone) d = d
-checked_needs names sound input v spells fault.Memory d = d
+pub checked_needs : (naming : Naming) (sound : Bool) (input : List ℕ) (v : EntryValue) → Spells input v → NeedsMemory (IsCheckedAs naming sound input)
+checked_needs naming sound input v spells (fault.Entry refused) d = never_refused input v refused spells d
+checked_needs naming sound input v spells (fault.Encode unfit) d = tt
+checked_needs naming sound input v spells (fault.TooMuch need) d = tt
+checked_needs naming sound input v spells (fault.Cap refused) d = d
+checked_needs naming sound input v spells (fault.TextTooLong k) d = d
+checked_needs naming sound input v spells fault.NoSuchText d = d
+checked_needs naming sound input v spells fault.Read d = d
+checked_needs naming sound input v spells (fault.Write gone) d = d
+checked_needs naming sound input v spells fault.Memory d = d
 
 -- why an entry is not encoded is found once its draft is there
 pub encoding_needs : (v : EntryValue) → NeedsMemory (IsEncoding v)

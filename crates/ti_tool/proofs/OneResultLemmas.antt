@@ -32,10 +32,11 @@ use Rattle.ti_base.specs.Limits.{most_padded_bytes}
 use Rattle.ti_entry.proofs.SpellsAtMostOneLemmas.{at_most_one}
 use Rattle.ti_words.specs.declared.all_names.NameTable.{NameTable}
 use Rattle.ti_tool.specs.declared.look.Look.{Look}
+use Rattle.ti_tool.specs.declared.look.Naming.{Naming}
 use Rattle.ti_tool.specs.declared.look.Output.{Output}
 use Rattle.ti_tool.specs.declared.fault.ToolFault.{ToolFault}
 use Rattle.ti_tool.specs.declared.fault.ToolFault.TheVariants as fault
-use Rattle.ti_tool.specs.Labels.{label_of}
+use Rattle.ti_tool.specs.Labels.{label_of, own_label}
 use Rattle.ti_tool.specs.Listing.{entry_lines}
 use Rattle.ti_tool.specs.Laws.{IsOneResult}
 use Rattle.ti_tool.specs.Looks.{look_asked, output_bytes}
@@ -269,34 +270,34 @@ one_lines IsLineOf once index (x ∷ xs) lines others sound as_sound (line, more
       both ∙ ap (λ b. b && rest) front.1 ∙ ap (λ b. one' && b) back.1 ∙ sym both',
     )
 
-one_verdicts : (names : NameTable) (v : EntryValue) (lines others : List ℕ) (sound as_sound : Bool) → AreVerdicts names v lines sound → AreVerdicts names v others as_sound → (lines ≡ others) × (sound ≡ as_sound)
-one_verdicts names v lines others sound as_sound (first, second, one, other, a, b, joined, both) (first', second', one', other', a', b', joined', both') =
-    let front = one_lines (IsStandardLine names) (λ index x line lines s t. one_line (codes "text ") (label_of names kinds.Text index) x line lines s t) 0 v.texts first first' one one' a a' in
-    let back = one_lines IsExtendedLine (λ index x line lines s t. one_line (codes "text+ ") x.0 x.1 line lines s t) 0 v.extended_texts second second' other other' b b' in (
+one_verdicts : (naming : Naming) (v : EntryValue) (lines others : List ℕ) (sound as_sound : Bool) → AreVerdicts naming v lines sound → AreVerdicts naming v others as_sound → (lines ≡ others) × (sound ≡ as_sound)
+one_verdicts naming v lines others sound as_sound (first, second, one, other, a, b, joined, both) (first', second', one', other', a', b', joined', both') =
+    let front = one_lines (IsStandardLine naming.table) (λ index x line lines s t. one_line (codes "text ") (label_of naming.table kinds.Text index) x line lines s t) 0 v.texts first first' one one' a a' in
+    let back = one_lines (IsExtendedLine naming.form) (λ index x line lines s t. one_line (codes "text+ ") (own_label naming.form x.0) x.1 line lines s t) 0 v.extended_texts second second' other other' b b' in (
       joined ∙ ap (λ l. l ++ second) front.0 ∙ ap (λ l. first' ++ l) back.0 ∙ sym joined',
       both ∙ ap (λ b. b && other) front.1 ∙ ap (λ b. one' && b) back.1 ∙ sym both',
     )
 
-checked_fault : (names : NameTable) (sound : Bool) (input : List ℕ) (e : ToolFault) → IsCheckedAs names sound input (Err e) → IsShown input (Err e)
-checked_fault names sound input (fault.Entry refused) d = d
-checked_fault names sound input (fault.Encode unfit) d = d
-checked_fault names sound input (fault.Cap r) d = d
-checked_fault names sound input (fault.TextTooLong k) d = d
-checked_fault names sound input fault.NoSuchText d = d
-checked_fault names sound input (fault.TooMuch need) d = d
-checked_fault names sound input fault.Read d = d
-checked_fault names sound input (fault.Write gone) d = d
-checked_fault names sound input fault.Memory d = d
+checked_fault : (naming : Naming) (sound : Bool) (input : List ℕ) (e : ToolFault) → IsCheckedAs naming sound input (Err e) → IsShown input (Err e)
+checked_fault naming sound input (fault.Entry refused) d = d
+checked_fault naming sound input (fault.Encode unfit) d = d
+checked_fault naming sound input (fault.Cap r) d = d
+checked_fault naming sound input (fault.TextTooLong k) d = d
+checked_fault naming sound input fault.NoSuchText d = d
+checked_fault naming sound input (fault.TooMuch need) d = d
+checked_fault naming sound input fault.Read d = d
+checked_fault naming sound input (fault.Write gone) d = d
+checked_fault naming sound input fault.Memory d = d
 
-both_checked : (names : NameTable) (input lines others : List ℕ) (sound as_sound : Bool) → IsCheckedAs names sound input (Ok lines) → IsCheckedAs names as_sound input (Ok others) → (lines ≡ others) × (sound ≡ as_sound)
-both_checked names input lines others sound as_sound (v, spells, d) (w, other, h) =
-    one_verdicts names v lines others sound as_sound d (subst (λ x. AreVerdicts names x others as_sound) (at_most_one input w v other spells) h)
+both_checked : (naming : Naming) (input lines others : List ℕ) (sound as_sound : Bool) → IsCheckedAs naming sound input (Ok lines) → IsCheckedAs naming as_sound input (Ok others) → (lines ≡ others) × (sound ≡ as_sound)
+both_checked naming input lines others sound as_sound (v, spells, d) (w, other, h) =
+    one_verdicts naming v lines others sound as_sound d (subst (λ x. AreVerdicts naming x others as_sound) (at_most_one input w v other spells) h)
 
-pub one_checked : (names : NameTable) (input : List ℕ) (sound as_sound : Bool) (r s : Result (List ℕ) ToolFault) → IsCheckedAs names sound input r → IsCheckedAs names as_sound input s → r ≡ s
-one_checked names input sound as_sound (Ok a) (Ok b) d h = ap Ok (both_checked names input a b sound as_sound d h).0
-one_checked names input sound as_sound (Ok a) (Err e) (v, spells, d) h = absurd (shown_or_refused (look_asked false false) input v e spells (checked_fault names as_sound input e h))
-one_checked names input sound as_sound (Err e) (Ok b) d (v, spells, h) = absurd (shown_or_refused (look_asked false false) input v e spells (checked_fault names sound input e d))
-one_checked names input sound as_sound (Err e) (Err f) d h = ap Err (one_entry_fault (look_asked false false) input e f (checked_fault names sound input e d) (checked_fault names as_sound input f h))
+pub one_checked : (naming : Naming) (input : List ℕ) (sound as_sound : Bool) (r s : Result (List ℕ) ToolFault) → IsCheckedAs naming sound input r → IsCheckedAs naming as_sound input s → r ≡ s
+one_checked naming input sound as_sound (Ok a) (Ok b) d h = ap Ok (both_checked naming input a b sound as_sound d h).0
+one_checked naming input sound as_sound (Ok a) (Err e) (v, spells, d) h = absurd (shown_or_refused (look_asked false false false) input v e spells (checked_fault naming as_sound input e h))
+one_checked naming input sound as_sound (Err e) (Ok b) d (v, spells, h) = absurd (shown_or_refused (look_asked false false false) input v e spells (checked_fault naming sound input e d))
+one_checked naming input sound as_sound (Err e) (Err f) d h = ap Err (one_entry_fault (look_asked false false false) input e f (checked_fault naming sound input e d) (checked_fault naming as_sound input f h))
 
-pub one_soundness : (names : NameTable) (input lines others : List ℕ) (sound as_sound : Bool) → IsCheckedAs names sound input (Ok lines) → IsCheckedAs names as_sound input (Ok others) → sound ≡ as_sound
-one_soundness names input lines others sound as_sound d h = (both_checked names input lines others sound as_sound d h).1
+pub one_soundness : (naming : Naming) (input lines others : List ℕ) (sound as_sound : Bool) → IsCheckedAs naming sound input (Ok lines) → IsCheckedAs naming as_sound input (Ok others) → sound ≡ as_sound
+one_soundness naming input lines others sound as_sound d h = (both_checked naming input lines others sound as_sound d h).1

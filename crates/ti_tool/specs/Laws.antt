@@ -11,6 +11,7 @@ use Rattle.ti_escape.specs.declared.form.Form.{Form}
 use Rattle.ti_pad.specs.Setting.{Setting}
 use Rattle.ti_tool.specs.declared.fault.ToolFault.{ToolFault}
 use Rattle.ti_tool.specs.declared.look.Look.{Look}
+use Rattle.ti_tool.specs.declared.look.Naming.{Naming}
 use Rattle.ti_tool.specs.declared.look.Output.{Output}
 use Rattle.ti_tool.specs.Results.{IsCappedAs, IsCheckedAs, IsConverted, IsExpandedAs, IsShownAs, IsTraced}
 
@@ -48,12 +49,12 @@ ConvertHasOneResult = (width : Option Width) (input : List ℕ)
     → IsOneResult (IsConverted width input)
 
 abbrev pub CheckHasOneResult : Type 0
-CheckHasOneResult = (names : NameTable) (input : List ℕ) (sound other_sound : Bool)
+CheckHasOneResult = (naming : Naming) (input : List ℕ) (sound other_sound : Bool)
     (one other : Result (List ℕ) ToolFault)
-    → IsCheckedAs names sound input one → IsCheckedAs names other_sound input other → one ≡ other
+    → IsCheckedAs naming sound input one → IsCheckedAs naming other_sound input other → one ≡ other
 
 -- and whether all texts are sound
 abbrev pub CheckHasOneVerdict : Type 0
-CheckHasOneVerdict = (names : NameTable) (input lines others : List ℕ) (sound other_sound : Bool)
-    → IsCheckedAs names sound input (Ok lines) → IsCheckedAs names other_sound input (Ok others)
+CheckHasOneVerdict = (naming : Naming) (input lines others : List ℕ) (sound other_sound : Bool)
+    → IsCheckedAs naming sound input (Ok lines) → IsCheckedAs naming other_sound input (Ok others)
     → sound ≡ other_sound

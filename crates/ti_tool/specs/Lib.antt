@@ -5,6 +5,7 @@ pub mod Listing
 pub mod Names
 pub mod Verdicts
 pub mod Results
+pub mod Printable
 pub mod Calls
 pub mod FaultLines
 pub mod Runs

@@ -14,7 +14,8 @@ use Rattle.ti_words.specs.declared.Width.TheVariants.{Legacy, Wide}
 use Rattle.ti_words.specs.Texts.{TextValue, AbsentText, CancelledText, TextOf}
 use Rattle.ti_words.specs.Value.{EntryValue}
 use Rattle.ti_tool.specs.declared.look.Look.{Look}
-use Rattle.ti_tool.specs.Labels.{label_of}
+use Rattle.ti_tool.specs.declared.look.NameForm.{NameForm}
+use Rattle.ti_tool.specs.Labels.{label_of, own_label, own_names}
 
 -- a word and a label, and after the label nothing, or a blank and a word; No has no line
 abbrev pub flag_line : List ℕ → List ℕ → Flag → List ℕ
@@ -38,25 +39,27 @@ text_line form word label (TextOf bytes) =
 
 -- the lines of standard capabilities, from their index
 abbrev pub standard_flag : NameTable → ℕ → Flag → List ℕ
-standard_flag names index flag = flag_line (codes "flag ") (label_of names kinds.Flag index) flag
+standard_flag table index flag = flag_line (codes "flag ") (label_of table kinds.Flag index) flag
 
 abbrev pub standard_number : NameTable → ℕ → Number → List ℕ
-standard_number names index number =
-    number_line (codes "number ") (label_of names kinds.Number index) number
+standard_number table index number =
+    number_line (codes "number ") (label_of table kinds.Number index) number
 
 abbrev pub standard_text : Look → ℕ → TextValue → List ℕ
 standard_text look index text =
-    text_line look.form (codes "text ") (label_of look.names kinds.Text index) text
+    text_line look.form (codes "text ") (label_of look.naming.table kinds.Text index) text
 
 -- those of the extended part have a name of their own, whatever their index
-abbrev pub extended_flag : ℕ → List ℕ × Flag → List ℕ
-extended_flag index (name, flag) = flag_line (codes "flag+ ") name flag
+abbrev pub extended_flag : NameForm → ℕ → List ℕ × Flag → List ℕ
+extended_flag form index (name, flag) = flag_line (codes "flag+ ") (own_label form name) flag
 
-abbrev pub extended_number : ℕ → List ℕ × Number → List ℕ
-extended_number index (name, number) = number_line (codes "number+ ") name number
+abbrev pub extended_number : NameForm → ℕ → List ℕ × Number → List ℕ
+extended_number form index (name, number) =
+    number_line (codes "number+ ") (own_label form name) number
 
-abbrev pub extended_text : Form → ℕ → List ℕ × TextValue → List ℕ
-extended_text form index (name, text) = text_line form (codes "text+ ") name text
+abbrev pub extended_text : Look → ℕ → List ℕ × TextValue → List ℕ
+extended_text look index (name, text) =
+    text_line look.form (codes "text+ ") (own_label look.naming.form name) text
 
 -- a line for each item from an index on
 abbrev pub lines_from : {X : Type 0} → (ℕ → X → List ℕ) → ℕ → List X → List ℕ
@@ -66,14 +69,15 @@ lines_from line index (x ∷ xs) = line index x ++ lines_from line (suc index) x
 -- flags, numbers and texts in the order of their indices
 abbrev pub standard_lines : Look → EntryValue → List ℕ
 standard_lines look v =
-    lines_from (standard_flag look.names) 0 v.flags
-    ++ lines_from (standard_number look.names) 0 v.numbers
+    lines_from (standard_flag look.naming.table) 0 v.flags
+    ++ lines_from (standard_number look.naming.table) 0 v.numbers
     ++ lines_from (standard_text look) 0 v.texts
 
-abbrev pub extended_lines : Form → EntryValue → List ℕ
-extended_lines form v =
-    lines_from extended_flag 0 v.extended_flags ++ lines_from extended_number 0 v.extended_numbers
-    ++ lines_from (extended_text form) 0 v.extended_texts
+abbrev pub extended_lines : Look → EntryValue → List ℕ
+extended_lines look v =
+    lines_from (extended_flag look.naming.form) 0 v.extended_flags
+    ++ lines_from (extended_number look.naming.form) 0 v.extended_numbers
+    ++ lines_from (extended_text look) 0 v.extended_texts
 
 -- the name of a format
 abbrev pub format_name : Width → List ℕ
@@ -83,5 +87,6 @@ format_name Wide = codes "wide"
 -- the format and the names, then the standard capabilities and those of the extended part
 abbrev pub entry_lines : Look → EntryValue → List ℕ
 entry_lines look v =
-    codes "format: " ++ format_name v.width ++ codes "\nnames: " ++ v.names ++ codes "\n"
-    ++ standard_lines look v ++ extended_lines look.form v
+    codes "format: " ++ format_name v.width
+    ++ codes "\nnames: " ++ own_names look.naming.form v.names ++ codes "\n"
+    ++ standard_lines look v ++ extended_lines look v

@@ -6,6 +6,9 @@ use Rattle.ti_escape.specs.declared.form.Form.{Form}
 use Rattle.ti_escape.specs.declared.form.Form.TheVariants as forms
 use Rattle.ti_escape.specs.Forms.{formed}
 use Rattle.ti_tool.specs.declared.look.Look.{Look}
+use Rattle.ti_tool.specs.declared.look.NameForm.{NameForm}
+use Rattle.ti_tool.specs.declared.look.NameForm.TheVariants as name_forms
+use Rattle.ti_tool.specs.declared.look.Naming.{Naming}
 use Rattle.ti_tool.specs.declared.look.Output.{Output}
 use Rattle.ti_tool.specs.declared.look.Output.TheVariants as outputs
 
@@ -30,7 +33,20 @@ abbrev pub names_asked : Bool → NameTable
 names_asked true = tables.All
 names_asked false = tables.Common
 
--- the look of a listing by the flags `--all-names` and `--escape`
-abbrev pub look_asked : Bool → Bool → Look
-look_asked all_names escape =
-    record { names = names_asked all_names; form = form_asked escape }
+-- how the names of an entry are written: in the notation if `--escape` asks for it, or if results go
+-- to a terminal, which would obey their bytes
+abbrev pub name_form_asked : Bool → Bool → NameForm
+name_form_asked true terminal = name_forms.Notation
+name_form_asked false true = name_forms.Notation
+name_form_asked false false = name_forms.Raw
+
+-- what a listing calls an entry and its capabilities, by the flags `--all-names` and `--escape`, and by
+-- whether it goes to a terminal
+abbrev pub naming_asked : Bool → Bool → Bool → Naming
+naming_asked all_names escape terminal =
+    record { table = names_asked all_names; form = name_form_asked escape terminal }
+
+-- the look of a listing by the same
+abbrev pub look_asked : Bool → Bool → Bool → Look
+look_asked all_names escape terminal =
+    record { naming = naming_asked all_names escape terminal; form = form_asked escape }

@@ -23,8 +23,9 @@ use Rattle.ti_pad.specs.Padded.{padded_text}
 use Rattle.ti_draft.specs.Canonical.{canonical}
 use Rattle.ti_draft.specs.Unfit.{encode_fault}
 use Rattle.ti_tool.specs.declared.look.Look.{Look}
+use Rattle.ti_tool.specs.declared.look.Naming.{Naming}
 use Rattle.ti_tool.specs.declared.look.Output.{Output}
-use Rattle.ti_tool.specs.Looks.{look_asked, output_asked, output_bytes}
+use Rattle.ti_tool.specs.Looks.{look_asked, naming_asked, output_asked, output_bytes}
 use Rattle.ti_tool.specs.Verdicts.{AreVerdicts}
 use Rattle.ti_tool.specs.Listing.{entry_lines}
 use Rattle.ti_tool.specs.Names.{IsCalled}
@@ -106,20 +107,20 @@ IsShownAs look input (Ok out) = (v : EntryValue) × Spells input v × (out ≡ e
 IsShownAs look input (Err (fault.Entry refused)) = refusal input ≡ Some refused
 IsShownAs look input (Err _) = ⊥
 
--- by the common names, with texts in hex
+-- by the common names, with names as they stand in the entry, and texts in hex
 abbrev pub IsShown : List ℕ → Result (List ℕ) ToolFault → Type 0
-IsShown = IsShownAs (look_asked false false)
+IsShown = IsShownAs (look_asked false false false)
 
 -- the lines of `check`, which are those of sound texts alone or not, or the refusal of the entry
-abbrev pub IsCheckedAs : NameTable → Bool → List ℕ → Result (List ℕ) ToolFault → Type 0
-IsCheckedAs names sound input (Ok out) =
-    (v : EntryValue) × Spells input v × AreVerdicts names v out sound
-IsCheckedAs names sound input (Err (fault.Entry refused)) = refusal input ≡ Some refused
-IsCheckedAs names sound input (Err _) = ⊥
+abbrev pub IsCheckedAs : Naming → Bool → List ℕ → Result (List ℕ) ToolFault → Type 0
+IsCheckedAs naming sound input (Ok out) =
+    (v : EntryValue) × Spells input v × AreVerdicts naming v out sound
+IsCheckedAs naming sound input (Err (fault.Entry refused)) = refusal input ≡ Some refused
+IsCheckedAs naming sound input (Err _) = ⊥
 
--- by the common names
+-- by the common names, with names as they stand in the entry
 abbrev pub IsChecked : Bool → List ℕ → Result (List ℕ) ToolFault → Type 0
-IsChecked = IsCheckedAs tables.Common
+IsChecked = IsCheckedAs (naming_asked false false false)
 
 -- the canonical bytes of an entry, or why it has none
 abbrev pub IsEncoding : EntryValue → Result (List ℕ) ToolFault → Type 0

@@ -1,19 +1,22 @@
 -- What a run of the program does.
-use Rattle.std.specs.Prelude.{◌≡◌, ◌<◌, ◌⊎◌, ℕ, Bool, true, false, ◌&&◌, List, Option, Some, None, Result, Ok, Err, length, take}
+use Rattle.std.specs.Prelude.{◌≡◌, ◌<◌, ◌⊎◌, ℕ, Bool, true, false, ◌&&◌, List, Option, Some, None, Result, Ok, Err, IfErr, length, take}
 use Rattle.std.specs.Io.KnownBytes.{Appends, Keeps}
 use Rattle.ti_words.specs.declared.Width.{Width}
 use Rattle.ti_words.specs.declared.Width.TheVariants.{Legacy, Wide}
 use Rattle.ti_expand.specs.declared.values.Value.{Value}
 use Rattle.ti_pad.specs.Setting.{Setting}
 use Rattle.ti_line.specs.CommandLine.{Request, AsksForHelp, Cap, Trace, Show, Check, Expand, Convert, IsRefused}
+use Rattle.ti_line.specs.Message.{message_text}
+use Rattle.ti_line.specs.declared.message.Message.{Message}
 use Rattle.ti_tool.specs.declared.fault.ToolFault.{ToolFault}
 use Rattle.ti_tool.specs.declared.fault.ToolFault.TheVariants as fault
 use Rattle.ti_tool.specs.declared.params.WordFault.{WordFault}
+use Rattle.ti_tool.specs.declared.terminals.Terminals.{Terminals}
 use Rattle.ti_tool.specs.FaultLines.{Told, answer_line, cap_forms_line, expand_forms_line, fault_line, widths_line, words_line}
-use Rattle.ti_tool.specs.Looks.{form_asked, look_asked, names_asked, output_asked}
+use Rattle.ti_tool.specs.Looks.{form_asked, look_asked, names_asked, naming_asked, output_asked}
 use Rattle.ti_tool.specs.Params.{AreParams, IsWordFault}
 use Rattle.ti_tool.specs.Results.{IsCappedAs, IsCheckedAs, IsConverted, IsExpandedAs, IsShownAs, IsTraced}
-use Rattle.ti_tool.specs.Calls.{DidCall, DidCheck, IsFull, HasFailed}
+use Rattle.ti_tool.specs.Calls.{DidCall, DidCheck, IsFailedWrite, IsFull, HasFailed}
 
 -- the status of a call's answer
 abbrev pub status_for : Result (Unit {0}) ToolFault → ℕ
@@ -38,13 +41,23 @@ check_status (Err e) = status_for (Err e)
 abbrev pub Stream : Type 0
 Stream = Option (List ℕ)
 
--- the reader and the writer of the results are what they were
-abbrev pub Untouched : {R W : Type 0} → R → R → W → W → Type 0
-Untouched input0 input1 output0 output1 = (input1 ≡ input0) × (output1 ≡ output0)
+-- no stream is a terminal
+abbrev pub no_terminals : Terminals
+no_terminals = record { input = false; output = false; errors = false }
+
+-- the statuses after which something may have been written as a result: done, a fault that `check`
+-- found, a failed read or write
+abbrev pub MayHaveWritten : ℕ → Type 0
+MayHaveWritten status = (status ≡ 0) ⊎ ((status ≡ 1) ⊎ (status ≡ 5))
 
 -- In what follows `left0` and `left1` are what the reader has left before and after, `held0` and
 -- `held1` what the writer of the results holds, `told0` and `told1` what the writer of the lines on
--- faults holds; `untouched` says that the first two are what they were.
+-- faults holds; `unread` says that the reader is what it was, `unwritten` that the writer of the
+-- results is what it was.
+
+-- after a fault that is no failed write nothing was written
+abbrev pub WritesNoFault : {V : Type 0} → Type 0 → Result V ToolFault → Type 0
+WritesNoFault unwritten answer = IfErr answer (λ e. IsFailedWrite e ⊎ unwritten)
 
 -- the status is that of the answer, and its line was written
 abbrev pub Ends : Result (Unit {0}) ToolFault → Stream → Stream → ℕ → Type 0
@@ -57,18 +70,19 @@ EndsCheck answer told0 told1 status =
     (status ≡ check_status answer) × Told (answer_line answer) told0 told1
 
 -- a run that refuses its words reads nothing, and writes nothing but a text on them
-abbrev pub RefusesWords : List ℕ → Type 0 → Stream → Stream → ℕ → Type 0
-RefusesWords text untouched told0 told1 status =
-    (status ≡ 2) × untouched × Told text told0 told1
+abbrev pub RefusesWords : List ℕ → Type 0 → Type 0 → Stream → Stream → ℕ → Type 0
+RefusesWords text unread unwritten told0 told1 status =
+    (status ≡ 2) × unread × unwritten × Told text told0 told1
 
 -- the words of the parameters stand for none, or a call did its work with them
 abbrev pub RanWith : (List Value → Result (Unit {0}) ToolFault → Type 0) → List (List ℕ)
-    → Type 0 → Stream → Stream → ℕ → Type 0
-RanWith Did words untouched told0 told1 status =
+    → Type 0 → Type 0 → Stream → Stream → ℕ → Type 0
+RanWith Did words unread unwritten told0 told1 status =
     ((why : WordFault) × IsWordFault words why × ((values : List Value) → ¬ AreParams words values)
-    × RefusesWords (words_line why) untouched told0 told1 status)
+    × RefusesWords (words_line why) unread unwritten told0 told1 status)
     ⊎ ((values : List Value) × (answer : Result (Unit {0}) ToolFault)
-    × AreParams words values × Did values answer × Ends answer told0 told1 status)
+    × AreParams words values × Did values answer × WritesNoFault unwritten answer
+    × Ends answer told0 told1 status)
 
 -- the padding of the options of `expand`; the pad byte is 0
 abbrev pub setting_of : ℕ → ℕ → Bool → Setting
@@ -82,54 +96,57 @@ width_asked false false = None
 
 -- of two flags that exclude each other both are given, and refused as bad parameters are; or the
 -- call ran
-abbrev pub RanUnlessBoth : Bool → Bool → List ℕ → Type 0 → Type 0 → Stream → Stream → ℕ → Type 0
-RanUnlessBoth one other line ran untouched told0 told1 status =
-    ((one && other ≡ true) × RefusesWords line untouched told0 told1 status)
+abbrev pub RanUnlessBoth : Bool → Bool → List ℕ → Type 0 → Type 0 → Type 0 → Stream → Stream → ℕ
+    → Type 0
+RanUnlessBoth one other line ran unread unwritten told0 told1 status =
+    ((one && other ≡ true) × RefusesWords line unread unwritten told0 told1 status)
     ⊎ ((one && other ≡ false) × ran)
 
 -- a line did what it asks for
-abbrev pub RanLine : Request → Type 0 → Stream → Stream → Stream → Stream → Stream → Stream → ℕ
-    → Type 0
-RanLine (Cap hex escape words) untouched left0 left1 held0 held1 told0 told1 status =
+abbrev pub RanLine : Terminals → Request → Type 0 → Type 0 → Stream → Stream → Stream → Stream
+    → Stream → Stream → ℕ → Type 0
+RanLine at (Cap hex escape words) unread unwritten left0 left1 held0 held1 told0 told1 status =
     RanUnlessBoth hex escape cap_forms_line
     (RanWith
     (λ values answer. DidCall (IsCappedAs values (output_asked hex escape)) IsFull
     left0 left1 held0 held1 answer)
-    words untouched told0 told1 status)
-    untouched told0 told1 status
-RanLine (Trace escape words) untouched left0 left1 held0 held1 told0 told1 status =
+    words unread unwritten told0 told1 status)
+    unread unwritten told0 told1 status
+RanLine at (Trace escape words) unread unwritten left0 left1 held0 held1 told0 told1 status =
     RanWith
     (λ values answer. DidCall (IsTraced values (form_asked escape)) IsFull
     left0 left1 held0 held1 answer)
-    words untouched told0 told1 status
-RanLine (Show escape all_names) untouched left0 left1 held0 held1 told0 told1 status =
+    words unread unwritten told0 told1 status
+RanLine at (Show escape all_names) unread unwritten left0 left1 held0 held1 told0 told1 status =
     (answer : Result (Unit {0}) ToolFault)
-    × DidCall (IsShownAs (look_asked all_names escape)) HasFailed left0 left1 held0 held1 answer
-    × Ends answer told0 told1 status
-RanLine (Check all_names) untouched left0 left1 held0 held1 told0 told1 status =
+    × DidCall (IsShownAs (look_asked all_names escape at.output)) HasFailed
+    left0 left1 held0 held1 answer
+    × WritesNoFault unwritten answer × Ends answer told0 told1 status
+RanLine at (Check escape all_names) unread unwritten left0 left1 held0 held1 told0 told1 status =
     (answer : Result Bool ToolFault)
-    × DidCheck (IsCheckedAs (names_asked all_names)) left0 left1 held0 held1 answer
-    × EndsCheck answer told0 told1 status
-RanLine (Expand name hex escape all_names rate lines xon words)
-    untouched left0 left1 held0 held1 told0 told1 status =
+    × DidCheck (IsCheckedAs (naming_asked all_names escape at.output))
+    left0 left1 held0 held1 answer
+    × WritesNoFault unwritten answer × EndsCheck answer told0 told1 status
+RanLine at (Expand name hex escape all_names rate lines xon words)
+    unread unwritten left0 left1 held0 held1 told0 told1 status =
     RanUnlessBoth hex escape expand_forms_line
     (RanWith
     (λ values answer. DidCall (IsExpandedAs (names_asked all_names) name values
     (setting_of rate lines xon) (output_asked hex escape)) HasFailed
     left0 left1 held0 held1 answer)
-    words untouched told0 told1 status)
-    untouched told0 told1 status
-RanLine (Convert wide narrow) untouched left0 left1 held0 held1 told0 told1 status =
+    words unread unwritten told0 told1 status)
+    unread unwritten told0 told1 status
+RanLine at (Convert wide narrow) unread unwritten left0 left1 held0 held1 told0 told1 status =
     RanUnlessBoth wide narrow widths_line
     ((answer : Result (Unit {0}) ToolFault)
     × DidCall (IsConverted (width_asked wide narrow)) HasFailed left0 left1 held0 held1 answer
-    × Ends answer told0 told1 status)
-    untouched told0 told1 status
+    × WritesNoFault unwritten answer × Ends answer told0 told1 status)
+    unread unwritten told0 told1 status
 
 -- memory was refused, and nothing is done
-abbrev pub HadNoMemory : Type 0 → Stream → Stream → ℕ → Type 0
-HadNoMemory untouched told0 told1 status =
-    (status ≡ 6) × untouched × Told (fault_line fault.Memory) told0 told1
+abbrev pub HadNoMemory : Type 0 → Type 0 → Stream → Stream → ℕ → Type 0
+HadNoMemory unread unwritten told0 told1 status =
+    (status ≡ 6) × unread × unwritten × Told (fault_line fault.Memory) told0 told1
 
 -- a text was written as the result: with status 0 all of it, and nothing is told of a fault; with
 -- status 5 its first bytes and not all of them, and the line on that
@@ -139,25 +156,27 @@ Answers text held0 held1 told0 told1 status =
     ⊎ ((gone : ℕ) × (status ≡ 5) × (gone < length text) × Appends held0 held1 (take gone text)
     × Told (fault_line (fault.Write gone)) told0 told1)
 
--- words that are no line: they ask for help, and a text answers them, or they are refused with a
--- text; nothing is read. What the texts say is `clap`'s, which states nothing of it.
+-- words that are no line: they ask for help, and a message is the result, or they are refused with a
+-- message; nothing is read. A message has at least one byte; what it says is `clap`'s, which states
+-- nothing of it.
 abbrev pub RanNoLine : List (List ℕ) → Type 0 → Type 0 → Stream → Stream → Stream → Stream → ℕ
     → Type 0
-RanNoLine words unread untouched held0 held1 told0 told1 status =
-    (AsksForHelp words × unread
-    × ((text : List ℕ) × Answers text held0 held1 told0 told1 status))
-    ⊎ (IsRefused words × ((text : List ℕ) × RefusesWords text untouched told0 told1 status))
+RanNoLine words unread unwritten held0 held1 told0 told1 status =
+    (message : Message) × (0 < length (message_text message))
+    × ((AsksForHelp words × unread
+    × Answers (message_text message) held0 held1 told0 told1 status)
+    ⊎ (IsRefused words × RefusesWords (message_text message) unread unwritten told0 told1 status))
 
 -- a line did what it asks for, unless memory was refused before
-abbrev pub DidLine : Request → Type 0 → Stream → Stream → Stream → Stream → Stream → Stream → ℕ
-    → Type 0
-DidLine line untouched left0 left1 held0 held1 told0 told1 status =
-    RanLine line untouched left0 left1 held0 held1 told0 told1 status
-    ⊎ HadNoMemory untouched told0 told1 status
+abbrev pub DidLine : Terminals → Request → Type 0 → Type 0 → Stream → Stream → Stream → Stream
+    → Stream → Stream → ℕ → Type 0
+DidLine at line unread unwritten left0 left1 held0 held1 told0 told1 status =
+    RanLine at line unread unwritten left0 left1 held0 held1 told0 told1 status
+    ⊎ HadNoMemory unread unwritten told0 told1 status
 
--- words that are no line were answered, unless memory was refused before
+-- words that are no line got a message, unless memory was refused before
 abbrev pub DidNoLine : List (List ℕ) → Type 0 → Type 0 → Stream → Stream → Stream → Stream → ℕ
     → Type 0
-DidNoLine words unread untouched held0 held1 told0 told1 status =
-    RanNoLine words unread untouched held0 held1 told0 told1 status
-    ⊎ HadNoMemory untouched told0 told1 status
+DidNoLine words unread unwritten held0 held1 told0 told1 status =
+    RanNoLine words unread unwritten held0 held1 told0 told1 status
+    ⊎ HadNoMemory unread unwritten told0 told1 status

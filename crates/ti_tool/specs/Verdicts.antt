@@ -8,7 +8,9 @@ use Rattle.ti_cap.specs.declared.language.CapRefused.{CapRefused}
 use Rattle.ti_cap.specs.Capability.{HasDepth, HasBound}
 use Rattle.ti_cap.specs.Refusal.{IsFaultless, IsRefusal}
 use Rattle.ti_cap.specs.FaultNames.{cap_fault_word}
-use Rattle.ti_tool.specs.Labels.{label_of}
+use Rattle.ti_tool.specs.declared.look.NameForm.{NameForm}
+use Rattle.ti_tool.specs.declared.look.Naming.{Naming}
+use Rattle.ti_tool.specs.Labels.{label_of, own_label}
 
 -- what the line of a text says of it: its depth and bound, or its fault and the place
 abbrev pub sound_verdict : ℕ → ℕ → List ℕ
@@ -44,11 +46,12 @@ IsLine word label (TextOf text) line sound =
     (verdict : List ℕ) × IsVerdict text verdict sound × (line ≡ word ++ label ++ verdict)
 
 abbrev pub IsStandardLine : NameTable → ℕ → TextValue → List ℕ → Bool → Type 0
-IsStandardLine names index text line sound =
-    IsLine (codes "text ") (label_of names kinds.Text index) text line sound
+IsStandardLine table index text line sound =
+    IsLine (codes "text ") (label_of table kinds.Text index) text line sound
 
-abbrev pub IsExtendedLine : ℕ → List ℕ × TextValue → List ℕ → Bool → Type 0
-IsExtendedLine index (name, text) line sound = IsLine (codes "text+ ") name text line sound
+abbrev pub IsExtendedLine : NameForm → ℕ → List ℕ × TextValue → List ℕ → Bool → Type 0
+IsExtendedLine form index (name, text) line sound =
+    IsLine (codes "text+ ") (own_label form name) text line sound
 
 -- a line for each item from an index on, and whether none has a fault
 abbrev pub AreLines : {X : Type 0} → (ℕ → X → List ℕ → Bool → Type 0) → ℕ → List X → List ℕ
@@ -60,9 +63,9 @@ AreLines IsLineOf index (x ∷ xs) lines sound =
     × (lines ≡ line ++ more) × (sound ≡ (one && rest))
 
 -- the texts in the order of their indices, then those of the extended part
-abbrev pub AreVerdicts : NameTable → EntryValue → List ℕ → Bool → Type 0
-AreVerdicts names v lines sound =
+abbrev pub AreVerdicts : Naming → EntryValue → List ℕ → Bool → Type 0
+AreVerdicts naming v lines sound =
     (first : List ℕ) × (second : List ℕ) × (one : Bool) × (other : Bool)
-    × AreLines (IsStandardLine names) 0 v.texts first one
-    × AreLines IsExtendedLine 0 v.extended_texts second other
+    × AreLines (IsStandardLine naming.table) 0 v.texts first one
+    × AreLines (IsExtendedLine naming.form) 0 v.extended_texts second other
     × (lines ≡ first ++ second) × (sound ≡ (one && other))

@@ -1,9 +1,9 @@
 //! The look that the flags of a line ask for.
 
 ghost use Rattle.std.specs.Prelude.{◌≡◌};
-ghost use Rattle.ti_tool.specs.Looks.{form_asked as the_form_asked, look_asked as the_look_asked, names_asked as the_names_asked, output_asked as the_output_asked};
+ghost use Rattle.ti_tool.specs.Looks.{form_asked as the_form_asked, look_asked as the_look_asked, names_asked as the_names_asked, naming_asked as the_naming_asked, output_asked as the_output_asked};
 
-use crate::look::{Look, Output};
+use crate::look::{Look, NameForm, Naming, Output};
 use ti_escape::Form;
 use ti_words::NameTable;
 
@@ -36,12 +36,26 @@ pub fn form_asked(escape: bool) -> Form
     if escape { Form::Notation } else { Form::Hex }
 }
 
-/// The look of a listing by its flags.
-pub fn look_asked(all_names: bool, escape: bool) -> Look
-    ensures { result ≡ the_look_asked all_names escape }
+/// What a listing calls an entry and its capabilities, by its flags, and by whether it goes to a terminal.
+pub fn naming_asked(all_names: bool, escape: bool, terminal: bool) -> Naming
+    ensures { result ≡ the_naming_asked all_names escape terminal }
+{
+    Naming {
+        table: names_asked(all_names),
+        form: if escape || terminal {
+            NameForm::Notation
+        } else {
+            NameForm::Raw
+        },
+    }
+}
+
+/// The look of a listing by its flags, and by whether it goes to a terminal.
+pub fn look_asked(all_names: bool, escape: bool, terminal: bool) -> Look
+    ensures { result ≡ the_look_asked all_names escape terminal }
 {
     Look {
-        names: names_asked(all_names),
+        naming: naming_asked(all_names, escape, terminal),
         form: form_asked(escape),
     }
 }

@@ -1,46 +1,73 @@
 //! What a capability is called in the lines on an entry.
 
-ghost use Rattle.std.specs.Prelude.{◌≡◌, ◌++◌, [], get_or, OnOk};
+ghost use Rattle.std.specs.Prelude.{◌≡◌, ◌++◌, [], get_or, option_map, OnOk};
 ghost use Rattle.ti_entry.specs.Finding.{names_of};
+ghost use Rattle.ti_words.specs.AllNames.{name_in};
 ghost use Rattle.ti_tool.specs.Labels.{label_of};
 ghost use Rattle.ti_tool.specs.inner.Label.{label_bytes};
 
+use crate::look::NameForm;
 use itoa::Buffer;
 use std::alloc::{AllocError, Allocator};
 use ti_entry::Extended;
+use ti_escape::push_label as push_escaped;
 use ti_words::{Kind, NameTable};
 
-/// The label of a line.
+/// The label of a line. What it says is looked up when the line is written.
 #[derive(Clone, Copy)]
 pub enum Label<'a> {
-    /// The capability's name.
-    Name(&'a [u8]),
-    /// `#` and the index of a capability that has no name in the table that is asked.
-    Index(usize),
+    /// A standard capability is called by a table of names, or by `#` and its index if it has no name there.
+    Standard {
+        table: NameTable,
+        kind: Kind,
+        index: usize,
+    },
+    /// An extended capability is called by its own name.
+    Own {
+        extended: &'a Extended<'a>,
+        form: NameForm,
+        kind: Kind,
+        index: usize,
+    },
 }
 
-/// The label of a standard capability, by a table of names.
-pub fn label_at(names: NameTable, kind: Kind, index: usize) -> Label<'static>
-    ensures { label_bytes result ≡ label_of names kind index }
+/// The name of a standard capability.
+fn standard_name(table: NameTable, kind: Kind, index: usize) -> Option<&'static str>
+    ensures { option_map (λ name. name.now) result ≡ name_in table kind index }
 {
-    let name = match kind {
-        Kind::Flag => names.flag_name(index),
-        Kind::Number => names.number_name(index),
-        Kind::Text => names.text_name(index),
-    };
-    match name {
-        Some(name) => Label::Name(name.as_bytes()),
-        None => Label::Index(index),
+    match kind {
+        Kind::Flag => table.flag_name(index),
+        Kind::Number => table.number_name(index),
+        Kind::Text => table.text_name(index),
     }
 }
 
-/// The label of an extended capability, which is its name.
-pub fn extended_label<'a>(extended: &Extended<'a>, kind: Kind, index: usize) -> Label<'a>
-    ensures { label_bytes result ≡ get_or (names_of extended.now kind) index [] }
+/// Writes the label of a standard capability.
+fn push_standard<A: Allocator>(
+    out: &mut Vec<u8, A>,
+    table: NameTable,
+    kind: Kind,
+    index: usize,
+) -> Result<(), AllocError>
+    ensures { OnOk result (out.new.items ≡ out.old.items ++ label_of table kind index) }
+{
+    match standard_name(table, kind, index) {
+        Some(name) => out.extend_from_slice(name.as_bytes()),
+        None => {
+            let mut digits = Buffer::new();
+            out.extend_from_slice(b"#")?;
+            out.extend_from_slice(digits.format(index).as_bytes())
+        }
+    }
+}
+
+/// The name of an extended capability.
+fn own_name<'a>(extended: &Extended<'a>, kind: Kind, index: usize) -> &'a [u8]
+    ensures { result.now ≡ get_or (names_of extended.now kind) index [] }
 {
     match extended.name(kind, index) {
-        Some(name) => Label::Name(name),
-        None => Label::Name(&[]),
+        Some(name) => name,
+        None => &[],
     }
 }
 
@@ -49,11 +76,18 @@ pub fn push_label<A: Allocator>(out: &mut Vec<u8, A>, label: Label<'_>) -> Resul
     ensures { OnOk result (out.new.items ≡ out.old.items ++ label_bytes label.entry) }
 {
     match label {
-        Label::Name(name) => out.extend_from_slice(name),
-        Label::Index(index) => {
-            let mut digits = Buffer::new();
-            out.extend_from_slice(b"#")?;
-            out.extend_from_slice(digits.format(index).as_bytes())
+        Label::Standard { table, kind, index } => push_standard(out, table, kind, index),
+        Label::Own {
+            extended,
+            form,
+            kind,
+            index,
+        } => {
+            let name = own_name(extended, kind, index);
+            match form {
+                NameForm::Raw => out.extend_from_slice(name),
+                NameForm::Notation => push_escaped(out, name),
+            }
         }
     }
 }

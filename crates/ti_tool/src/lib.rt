@@ -16,6 +16,7 @@ mod program;
 mod result;
 mod source;
 mod status;
+mod terminals;
 mod text_name;
 mod verdict;
 
@@ -26,7 +27,8 @@ pub use command::expand::{expand_as, expand_named};
 pub use command::show::{show, show_as};
 pub use command::trace::trace_run;
 pub use fault::ToolFault;
-pub use look::{Look, Output};
+pub use look::{Look, NameForm, Naming, Output};
 pub use params::{WordFault, read_params};
-pub use program::run;
+pub use program::{run, run_at};
+pub use terminals::Terminals;
 pub use text_name::TextName;

@@ -3,27 +3,30 @@
 //! One line an item, in one pass over the entry; the whole listing is built before the first byte of it is written.
 
 ghost use Rattle.std.specs.Prelude.{◌≡◌, ◌++◌, OnOk, IfOk};
+ghost use Rattle.ti_tool.specs.Labels.{own_names};
 ghost use Rattle.ti_tool.specs.Listing.{standard_flag, standard_number, standard_text, standard_lines, extended_flag, extended_number, extended_text, extended_lines, lines_from, format_name as the_format_name, entry_lines};
 
 use crate::item_line::{push_flag, push_number, push_text};
-use crate::label::{extended_label, label_at};
-use crate::look::Look;
+use crate::label::Label;
+use crate::look::{Look, NameForm};
 use std::alloc::{AllocError, Allocator};
 use ti_entry::{Entry, Extended};
-use ti_escape::Form;
+use ti_escape::push_notation;
 use ti_words::{Kind, NameTable, Width};
 
 /// Writes the lines of the flags.
 fn push_flags<A: Allocator>(
     out: &mut Vec<u8, A>,
-    names: NameTable,
+    table: NameTable,
     entry: &Entry<'_>,
 ) -> Result<(), AllocError>
     ensures { OnOk result (out.new.items
-        ≡ out.old.items ++ lines_from (standard_flag names) 0 entry.now.flags) }
+        ≡ out.old.items ++ lines_from (standard_flag table) 0 entry.now.flags) }
 {
-    for i in 0..entry.flag_count() {
-        push_flag(out, b"flag ", label_at(names, Kind::Flag, i), entry.flag(i))?;
+    for index in 0..entry.flag_count() {
+        let kind = Kind::Flag;
+        let label = Label::Standard { table, kind, index };
+        push_flag(out, b"flag ", label, entry.flag(index))?;
     }
     Ok(())
 }
@@ -31,15 +34,16 @@ fn push_flags<A: Allocator>(
 /// Writes the lines of the numbers.
 fn push_numbers<A: Allocator>(
     out: &mut Vec<u8, A>,
-    names: NameTable,
+    table: NameTable,
     entry: &Entry<'_>,
 ) -> Result<(), AllocError>
     ensures { OnOk result (out.new.items
-        ≡ out.old.items ++ lines_from (standard_number names) 0 entry.now.numbers) }
+        ≡ out.old.items ++ lines_from (standard_number table) 0 entry.now.numbers) }
 {
-    for i in 0..entry.number_count() {
-        let label = label_at(names, Kind::Number, i);
-        push_number(out, b"number ", label, entry.number(i))?;
+    for index in 0..entry.number_count() {
+        let kind = Kind::Number;
+        let label = Label::Standard { table, kind, index };
+        push_number(out, b"number ", label, entry.number(index))?;
     }
     Ok(())
 }
@@ -53,9 +57,11 @@ fn push_texts<A: Allocator>(
     ensures { OnOk result (out.new.items
         ≡ out.old.items ++ lines_from (standard_text look) 0 entry.now.texts) }
 {
-    for i in 0..entry.text_count() {
-        let label = label_at(look.names, Kind::Text, i);
-        push_text(out, b"text ", label, look.form, entry.text(i))?;
+    let table = look.naming.table;
+    for index in 0..entry.text_count() {
+        let kind = Kind::Text;
+        let label = Label::Standard { table, kind, index };
+        push_text(out, b"text ", label, look.form, entry.text(index))?;
     }
     Ok(())
 }
@@ -68,22 +74,29 @@ fn push_standard<A: Allocator>(
 ) -> Result<(), AllocError>
     ensures { OnOk result (out.new.items ≡ out.old.items ++ standard_lines look entry.now) }
 {
-    push_flags(out, look.names, entry)?;
-    push_numbers(out, look.names, entry)?;
+    push_flags(out, look.naming.table, entry)?;
+    push_numbers(out, look.naming.table, entry)?;
     push_texts(out, look, entry)
 }
 
 /// Writes the lines of the extended flags.
 fn push_extended_flags<A: Allocator>(
     out: &mut Vec<u8, A>,
+    form: NameForm,
     extended: &Extended<'_>,
 ) -> Result<(), AllocError>
     ensures { OnOk result (out.new.items
-        ≡ out.old.items ++ lines_from extended_flag 0 extended.now.extended_flags) }
+        ≡ out.old.items ++ lines_from (extended_flag form) 0 extended.now.extended_flags) }
 {
-    for i in 0..extended.flag_count() {
-        let label = extended_label(extended, Kind::Flag, i);
-        push_flag(out, b"flag+ ", label, extended.flag(i))?;
+    for index in 0..extended.flag_count() {
+        let kind = Kind::Flag;
+        let label = Label::Own {
+            extended: &*extended,
+            form,
+            kind,
+            index,
+        };
+        push_flag(out, b"flag+ ", label, extended.flag(index))?;
     }
     Ok(())
 }
@@ -91,14 +104,21 @@ fn push_extended_flags<A: Allocator>(
 /// Writes the lines of the extended numbers.
 fn push_extended_numbers<A: Allocator>(
     out: &mut Vec<u8, A>,
+    form: NameForm,
     extended: &Extended<'_>,
 ) -> Result<(), AllocError>
     ensures { OnOk result (out.new.items
-        ≡ out.old.items ++ lines_from extended_number 0 extended.now.extended_numbers) }
+        ≡ out.old.items ++ lines_from (extended_number form) 0 extended.now.extended_numbers) }
 {
-    for i in 0..extended.number_count() {
-        let label = extended_label(extended, Kind::Number, i);
-        push_number(out, b"number+ ", label, extended.number(i))?;
+    for index in 0..extended.number_count() {
+        let kind = Kind::Number;
+        let label = Label::Own {
+            extended: &*extended,
+            form,
+            kind,
+            index,
+        };
+        push_number(out, b"number+ ", label, extended.number(index))?;
     }
     Ok(())
 }
@@ -106,15 +126,22 @@ fn push_extended_numbers<A: Allocator>(
 /// Writes the lines of the extended texts.
 fn push_extended_texts<A: Allocator>(
     out: &mut Vec<u8, A>,
-    form: Form,
+    look: Look,
     extended: &Extended<'_>,
 ) -> Result<(), AllocError>
     ensures { OnOk result (out.new.items
-        ≡ out.old.items ++ lines_from (extended_text form) 0 extended.now.extended_texts) }
+        ≡ out.old.items ++ lines_from (extended_text look) 0 extended.now.extended_texts) }
 {
-    for i in 0..extended.text_count() {
-        let label = extended_label(extended, Kind::Text, i);
-        push_text(out, b"text+ ", label, form, extended.text(i))?;
+    let form = look.naming.form;
+    for index in 0..extended.text_count() {
+        let kind = Kind::Text;
+        let label = Label::Own {
+            extended: &*extended,
+            form,
+            kind,
+            index,
+        };
+        push_text(out, b"text+ ", label, look.form, extended.text(index))?;
     }
     Ok(())
 }
@@ -122,14 +149,14 @@ fn push_extended_texts<A: Allocator>(
 /// Writes the lines of the extended capabilities.
 fn push_extended<A: Allocator>(
     out: &mut Vec<u8, A>,
-    form: Form,
+    look: Look,
     extended: &Extended<'_>,
 ) -> Result<(), AllocError>
-    ensures { OnOk result (out.new.items ≡ out.old.items ++ extended_lines form extended.now) }
+    ensures { OnOk result (out.new.items ≡ out.old.items ++ extended_lines look extended.now) }
 {
-    push_extended_flags(out, extended)?;
-    push_extended_numbers(out, extended)?;
-    push_extended_texts(out, form, extended)
+    push_extended_flags(out, look.naming.form, extended)?;
+    push_extended_numbers(out, look.naming.form, extended)?;
+    push_extended_texts(out, look, extended)
 }
 
 /// The name of a format.
@@ -139,6 +166,20 @@ fn format_name(width: Width) -> &'static str
     match width {
         Width::Legacy => "legacy",
         Width::Wide => "wide",
+    }
+}
+
+/// Writes the names of the entry.
+fn push_names<A: Allocator>(
+    out: &mut Vec<u8, A>,
+    form: NameForm,
+    names: &[u8],
+) -> Result<(), AllocError>
+    ensures { OnOk result (out.new.items ≡ out.old.items ++ own_names form names.now) }
+{
+    match form {
+        NameForm::Raw => out.extend_from_slice(names),
+        NameForm::Notation => push_notation(out, names),
     }
 }
 
@@ -153,9 +194,9 @@ pub fn lines_of<A: Allocator + Copy>(
     let mut out = Vec::from_slice(alloc, b"format: ")?;
     out.extend_from_slice(format_name(entry.width()).as_bytes())?;
     out.extend_from_slice(b"\nnames: ")?;
-    out.extend_from_slice(entry.names())?;
+    push_names(&mut out, look.naming.form, entry.names())?;
     out.push(b'\n')?;
     push_standard(&mut out, look, entry)?;
-    push_extended(&mut out, look.form, &entry.extended())?;
+    push_extended(&mut out, look, &entry.extended())?;
     Ok(out)
 }

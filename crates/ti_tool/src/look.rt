@@ -3,11 +3,29 @@
 use ti_escape::Form;
 use ti_words::NameTable;
 
+/// How the names that an entry brings with it are written: its own, and those of its extended capabilities.
+#[derive(Clone, Copy, Debug, PartialEq, Eq)]
+pub enum NameForm {
+    /// Byte for byte, so that a terminal may obey them.
+    Raw,
+    /// In the notation of terminfo(5), in which each character can be printed; the label of a capability has no space.
+    Notation,
+}
+
+/// What an entry and its capabilities are called in a listing.
+#[derive(Clone, Copy, Debug, PartialEq, Eq)]
+pub struct Naming {
+    /// The table of names by which standard capabilities are called.
+    pub table: NameTable,
+    /// How the names of the entry's own are written.
+    pub form: NameForm,
+}
+
 /// How a listing of an entry looks.
 #[derive(Clone, Copy, Debug, PartialEq, Eq)]
 pub struct Look {
-    /// The table of names by which standard capabilities are called.
-    pub names: NameTable,
+    /// What the entry and its capabilities are called.
+    pub naming: Naming,
     /// How the bytes of texts are shown.
     pub form: Form,
 }

@@ -1,15 +1,15 @@
 //! The program over its words, a reader and two writers.
 
-ghost use Rattle.std.specs.Prelude.{◌≡◌, ◌≤◌};
+ghost use Rattle.std.specs.Prelude.{◌≡◌, ◌≤◌, ◌⊎◌};
 ghost use Rattle.ti_line.specs.CommandLine.{Request, Cap, Trace, Show, Check, Convert, Reads};
 ghost use Rattle.ti_line.specs.Line.{expand_of, request_of, texts_of};
 ghost use Rattle.ti_tool.specs.inner.Ends.{EndsWords};
 ghost use Rattle.ti_tool.specs.Calls.{DidCall, IsFull, HasFailed};
 ghost use Rattle.ti_tool.specs.Looks.{names_asked as the_names_asked, output_asked as the_output_asked};
 ghost use Rattle.ti_tool.specs.Results.{IsCappedAs, IsExpandedAs};
-ghost use Rattle.ti_tool.specs.Runs.{DidLine, DidNoLine, Ends, EndsCheck, RanLine, RanWith, Untouched, setting_of, width_asked as the_width_asked};
+ghost use Rattle.ti_tool.specs.Runs.{DidLine, DidNoLine, Ends, EndsCheck, MayHaveWritten, RanLine, RanWith, no_terminals, setting_of, width_asked as the_width_asked};
 
-use crate::asked::{form_asked, look_asked, names_asked, output_asked};
+use crate::asked::{form_asked, look_asked, names_asked, naming_asked, output_asked};
 use crate::command::cap::cap_as;
 use crate::command::check::check_as;
 use crate::command::convert::convert;
@@ -21,6 +21,7 @@ use crate::fault_line::{BOTH_WIDTHS, CAP_BOTH_FORMS, EXPAND_BOTH_FORMS, fault_li
 use crate::look::Output;
 use crate::params::read_params;
 use crate::status::{status, status_of_check};
+use crate::terminals::Terminals;
 use crate::text_name::TextName;
 use std::alloc::{Allocator, Global};
 use std::io::{Read, Write};
@@ -65,7 +66,7 @@ fn run_cap_as<A: Allocator + Copy, R: Read, W: Write, E: Write>(
         (λ values answer. DidCall (IsCappedAs values asked) IsFull
         (R.remaining input.old) (R.remaining input.new)
         (W.contents output.old) (W.contents output.new) answer)
-        (texts_of words.now) (Untouched input.old input.new output.old output.new)
+        (texts_of words.now) (input.new ≡ input.old) (output.new ≡ output.old)
         (E.contents errors.old) (E.contents errors.new) result }
     ensures silent { result ≤ 1 → errors.new ≡ errors.old }
 {
@@ -92,8 +93,8 @@ fn run_cap<A: Allocator + Copy, R: Read, W: Write, E: Write>(
     output: &mut W,
     errors: &mut E,
 ) -> u8
-    ensures ran { RanLine (Cap hex escape (texts_of words.now))
-        (Untouched input.old input.new output.old output.new)
+    ensures ran { RanLine no_terminals (Cap hex escape (texts_of words.now))
+        (input.new ≡ input.old) (output.new ≡ output.old)
         (R.remaining input.old) (R.remaining input.new)
         (W.contents output.old) (W.contents output.new)
         (E.contents errors.old) (E.contents errors.new) result }
@@ -116,8 +117,8 @@ fn run_trace<A: Allocator + Copy, R: Read, W: Write, E: Write>(
     output: &mut W,
     errors: &mut E,
 ) -> u8
-    ensures ran { RanLine (Trace escape (texts_of words.now))
-        (Untouched input.old input.new output.old output.new)
+    ensures ran { RanLine no_terminals (Trace escape (texts_of words.now))
+        (input.new ≡ input.old) (output.new ≡ output.old)
         (R.remaining input.old) (R.remaining input.new)
         (W.contents output.old) (W.contents output.new)
         (E.contents errors.old) (E.contents errors.new) result }
@@ -139,39 +140,44 @@ fn run_trace<A: Allocator + Copy, R: Read, W: Write, E: Write>(
 /// `show` with its flags.
 fn run_show<A: Allocator + Copy, R: Read, W: Write, E: Write>(
     alloc: A,
+    at: Terminals,
     escape: bool,
     all_names: bool,
     input: &mut R,
     output: &mut W,
     errors: &mut E,
 ) -> u8
-    ensures ran { RanLine (Show escape all_names)
-        (Untouched input.old input.new output.old output.new)
+    ensures ran { RanLine at (Show escape all_names)
+        (input.new ≡ input.old) (output.new ≡ output.old)
         (R.remaining input.old) (R.remaining input.new)
         (W.contents output.old) (W.contents output.new)
         (E.contents errors.old) (E.contents errors.new) result }
     ensures silent { result ≤ 1 → errors.new ≡ errors.old }
 {
-    let answer = show_as(alloc, input, look_asked(all_names, escape), output);
+    let look = look_asked(all_names, escape, at.output);
+    let answer = show_as(alloc, input, look, output);
     finish(errors, answer)
 }
 
-/// `check` with its flag.
+/// `check` with its flags.
 fn run_check<A: Allocator + Copy, R: Read, W: Write, E: Write>(
     alloc: A,
+    at: Terminals,
+    escape: bool,
     all_names: bool,
     input: &mut R,
     output: &mut W,
     errors: &mut E,
 ) -> u8
-    ensures ran { RanLine (Check all_names)
-        (Untouched input.old input.new output.old output.new)
+    ensures ran { RanLine at (Check escape all_names)
+        (input.new ≡ input.old) (output.new ≡ output.old)
         (R.remaining input.old) (R.remaining input.new)
         (W.contents output.old) (W.contents output.new)
         (E.contents errors.old) (E.contents errors.new) result }
     ensures silent { result ≤ 1 → errors.new ≡ errors.old }
 {
-    let answer = check_as(alloc, input, names_asked(all_names), output);
+    let naming = naming_asked(all_names, escape, at.output);
+    let answer = check_as(alloc, input, naming, output);
     finish_check(errors, answer)
 }
 
@@ -190,7 +196,7 @@ fn run_expand_as<A: Allocator + Copy, R: Read, W: Write, E: Write>(
         (the_output_asked asked.now.hex asked.now.escape)) HasFailed
         (R.remaining input.old) (R.remaining input.new)
         (W.contents output.old) (W.contents output.new) answer)
-        (texts_of asked.now.params.items) (Untouched input.old input.new output.old output.new)
+        (texts_of asked.now.params.items) (input.new ≡ input.old) (output.new ≡ output.old)
         (E.contents errors.old) (E.contents errors.new) result }
     ensures silent { result ≤ 1 → errors.new ≡ errors.old }
 {
@@ -224,8 +230,8 @@ fn run_expand<A: Allocator + Copy, R: Read, W: Write, E: Write>(
     output: &mut W,
     errors: &mut E,
 ) -> u8
-    ensures ran { RanLine (expand_of asked.now)
-        (Untouched input.old input.new output.old output.new)
+    ensures ran { RanLine no_terminals (expand_of asked.now)
+        (input.new ≡ input.old) (output.new ≡ output.old)
         (R.remaining input.old) (R.remaining input.new)
         (W.contents output.old) (W.contents output.new)
         (E.contents errors.old) (E.contents errors.new) result }
@@ -258,8 +264,8 @@ fn run_convert<A: Allocator + Copy, R: Read, W: Write, E: Write>(
     output: &mut W,
     errors: &mut E,
 ) -> u8
-    ensures ran { RanLine (Convert wide narrow)
-        (Untouched input.old input.new output.old output.new)
+    ensures ran { RanLine no_terminals (Convert wide narrow)
+        (input.new ≡ input.old) (output.new ≡ output.old)
         (R.remaining input.old) (R.remaining input.new)
         (W.contents output.old) (W.contents output.new)
         (E.contents errors.old) (E.contents errors.new) result }
@@ -276,13 +282,14 @@ fn run_convert<A: Allocator + Copy, R: Read, W: Write, E: Write>(
 /// A line that was read.
 fn run_line<A: Allocator + Copy, R: Read, W: Write, E: Write>(
     alloc: A,
+    at: Terminals,
     line: &Line<'_>,
     input: &mut R,
     output: &mut W,
     errors: &mut E,
 ) -> u8
-    ensures ran { RanLine (request_of line.now)
-        (Untouched input.old input.new output.old output.new)
+    ensures ran { RanLine at (request_of line.now)
+        (input.new ≡ input.old) (output.new ≡ output.old)
         (R.remaining input.old) (R.remaining input.new)
         (W.contents output.old) (W.contents output.new)
         (E.contents errors.old) (E.contents errors.new) result }
@@ -301,9 +308,11 @@ fn run_line<A: Allocator + Copy, R: Read, W: Write, E: Write>(
             run_trace(alloc, *escape, params.as_slice(), input, output, errors)
         }
         Line::Show { escape, all_names } => {
-            run_show(alloc, *escape, *all_names, input, output, errors)
+            run_show(alloc, at, *escape, *all_names, input, output, errors)
         }
-        Line::Check { all_names } => run_check(alloc, *all_names, input, output, errors),
+        Line::Check { escape, all_names } => {
+            run_check(alloc, at, *escape, *all_names, input, output, errors)
+        }
         Line::Expand(asked) => run_expand(alloc, asked, input, output, errors),
         Line::Convert { wide, narrow } => {
             run_convert(alloc, *wide, *narrow, input, output, errors)
@@ -313,7 +322,7 @@ fn run_line<A: Allocator + Copy, R: Read, W: Write, E: Write>(
 
 /// Words that are no line: the text of help goes where results go, any other where faults go.
 fn run_no_line<W: Write, E: Write>(why: &NoLine, output: &mut W, errors: &mut E) -> u8
-    ensures ends { EndsWords why.now (output.new ≡ output.old)
+    ensures ends { EndsWords why.now (Unit {0}) (output.new ≡ output.old)
         (W.contents output.old) (W.contents output.new)
         (E.contents errors.old) (E.contents errors.new) result }
     ensures silent { result ≤ 1 → errors.new ≡ errors.old }
@@ -339,20 +348,60 @@ fn run_no_line<W: Write, E: Write>(why: &NoLine, output: &mut W, errors: &mut E)
     }
 }
 
-/// Runs the program: `words` start with its own name, results go to `output` and lines on faults to `errors`. The answer
-/// is the exit status.
+/// Runs the program: `words` start with its own name, results go to `output` and lines on faults to `errors`; `at` tells
+/// which of the streams are terminals. The result is the exit status.
 ///
 /// | Status | When | Line on `errors` |
 /// |---|---|---|
 /// | 0 | done, or help was asked for | none |
 /// | 1 | `check` found a fault | none |
-/// | 2 | the words are no command line, or stand for no parameters, or ask for both widths, or both forms of an output | what is wrong and the usage; `parameters: more than nine`; `parameter K: bad word`; `convert: both widths`; `cap: both forms`; `expand: both forms` |
+/// | 2 | the words are no command line or no parameters, or ask for both widths, or for both forms of an output | what is wrong and the usage; `parameters: more than nine`; `parameter K: bad word`; `convert: both widths`; `cap: both forms`; `expand: both forms` |
 /// | 3 | the entry is refused, or can't be encoded | `entry: WORD at PLACE`; `entry: WORD` |
 /// | 4 | the capability is refused or absent, a text is too long for it, or its padding too much | `capability: WORD at PLACE`; `capability: absent`; `capability: TextTooLong K`; `capability: TooMuch N` |
 /// | 5 | reading or writing failed | `input: failed`; `output: failed` |
 /// | 6 | out of memory | `memory` |
 ///
-/// A fault line that cannot be written changes no status.
+/// A fault line that cannot be written changes no status. No byte of an entry or of a word goes to `errors` but printable
+/// ASCII characters. If `output` is a terminal, `show` and `check` write names and labels in the notation of terminfo(5),
+/// as with `--escape`.
+pub fn run_at<A: Allocator + Copy, R: Read, W: Write, E: Write>(
+    global: Global,
+    alloc: A,
+    at: Terminals,
+    words: &[&str],
+    input: &mut R,
+    output: &mut W,
+    errors: &mut E,
+) -> u8
+    // If `clap` reads the words, the named call did its work, unless memory was refused.
+    ensures read { (line : Request) → Reads (texts_of words.now) line → DidLine at line
+        (input.new ≡ input.old) (output.new ≡ output.old)
+        (R.remaining input.old) (R.remaining input.new)
+        (W.contents output.old) (W.contents output.new)
+        (E.contents errors.old) (E.contents errors.new) result }
+    // If it does not, help was written, or the words are refused, unless memory was refused.
+    ensures unread { ((line : Request) → ¬ Reads (texts_of words.now) line)
+        → DidNoLine (texts_of words.now)
+        (input.new ≡ input.old) (output.new ≡ output.old)
+        (W.contents output.old) (W.contents output.new)
+        (E.contents errors.old) (E.contents errors.new) result }
+    // Words that are refused are refused before anything is read.
+    ensures refused { result ≡ 2 → input.new ≡ input.old }
+    // If the words are no line, nothing is read.
+    ensures no_input { ((line : Request) → ¬ Reads (texts_of words.now) line)
+        → input.new ≡ input.old }
+    // After any other status than 0, 1 and 5 the writer of results is what it was.
+    ensures unwritten { MayHaveWritten result ⊎ (output.new ≡ output.old) }
+    // Without a fault nothing is written to `errors`.
+    ensures silent { result ≤ 1 → errors.new ≡ errors.old }
+{
+    match read_line(global, words) {
+        Ok(line) => run_line(alloc, at, &line, input, output, errors),
+        Err(why) => run_no_line(&why, output, errors),
+    }
+}
+
+/// [`run_at`] with no stream that is a terminal.
 pub fn run<A: Allocator + Copy, R: Read, W: Write, E: Write>(
     global: Global,
     alloc: A,
@@ -361,31 +410,27 @@ pub fn run<A: Allocator + Copy, R: Read, W: Write, E: Write>(
     output: &mut W,
     errors: &mut E,
 ) -> u8
-    // Where `clap` reads the words, the named call did its work, unless memory was refused.
-    ensures read { (line : Request) → Reads (texts_of words.now) line → DidLine line
-        (Untouched input.old input.new output.old output.new)
+    // If `clap` reads the words, the named call did its work, unless memory was refused.
+    ensures read { (line : Request) → Reads (texts_of words.now) line → DidLine no_terminals line
+        (input.new ≡ input.old) (output.new ≡ output.old)
         (R.remaining input.old) (R.remaining input.new)
         (W.contents output.old) (W.contents output.new)
         (E.contents errors.old) (E.contents errors.new) result }
-    // Where it does not, help was written, or the words are refused, unless memory was refused.
+    // If it does not, help was written, or the words are refused, unless memory was refused.
     ensures unread { ((line : Request) → ¬ Reads (texts_of words.now) line)
         → DidNoLine (texts_of words.now)
-        (input.new ≡ input.old) (Untouched input.old input.new output.old output.new)
+        (input.new ≡ input.old) (output.new ≡ output.old)
         (W.contents output.old) (W.contents output.new)
         (E.contents errors.old) (E.contents errors.new) result }
-    // Words that are refused are refused before anything is read or written.
-    ensures refused { result ≡ 2 → Untouched input.old input.new output.old output.new }
-    // Where the words are no line, nothing is read.
+    // Words that are refused are refused before anything is read.
+    ensures refused { result ≡ 2 → input.new ≡ input.old }
+    // If the words are no line, nothing is read.
     ensures no_input { ((line : Request) → ¬ Reads (texts_of words.now) line)
         → input.new ≡ input.old }
-    // Where memory is refused while they are read, nothing is read or written.
-    ensures no_memory { ((line : Request) → ¬ Reads (texts_of words.now) line)
-        → result ≡ 6 → Untouched input.old input.new output.old output.new }
+    // After any other status than 0, 1 and 5 the writer of results is what it was.
+    ensures unwritten { MayHaveWritten result ⊎ (output.new ≡ output.old) }
     // Without a fault nothing is written to `errors`.
     ensures silent { result ≤ 1 → errors.new ≡ errors.old }
 {
-    match read_line(global, words) {
-        Ok(line) => run_line(alloc, &line, input, output, errors),
-        Err(why) => run_no_line(&why, output, errors),
-    }
+    run_at(global, alloc, Terminals::NONE, words, input, output, errors)
 }

@@ -168,3 +168,13 @@ fn a_large_capability_goes_through_each_call(rt: HostRuntime) -> Result<(), Fail
     assert_eq!(rt; shown.len(), 64044);
     Ok(())
 }
+
+#[test]
+fn a_long_notation_goes_through(rt: HostRuntime) -> Result<(), Fail> {
+    let alloc = rt.alloc();
+    let shown = written(alloc, &["ti", "cap", "--escape"], &[0x80; 20000])?;
+    assert_eq!(rt; shown.len(), 80001);
+    assert!(rt; shown.as_slice().starts_with(b"\\200\\200"));
+    assert!(rt; shown.as_slice().ends_with(b"\\200\\200\n"));
+    Ok(())
+}

@@ -4,7 +4,7 @@ use ti_line::{NoLine, read_line};
 use ti_words::{Kind, NameTable, find, flag_name, number_name, text_name};
 
 /// Words, and the line that they are read as.
-const READ: [(&[&str], &str); 25] = [
+const READ: [(&[&str], &str); 26] = [
     (
         &["ti", "cap", "n:7"],
         "Cap { hex: false, escape: false, params: [\"n:7\"] }",
@@ -50,8 +50,18 @@ const READ: [(&[&str], &str); 25] = [
         &["ti", "show", "--all-names"],
         "Show { escape: false, all_names: true }",
     ),
-    (&["ti", "check"], "Check { all_names: false }"),
-    (&["ti", "check", "--all-names"], "Check { all_names: true }"),
+    (
+        &["ti", "check"],
+        "Check { escape: false, all_names: false }",
+    ),
+    (
+        &["ti", "check", "--all-names"],
+        "Check { escape: false, all_names: true }",
+    ),
+    (
+        &["ti", "check", "--escape"],
+        "Check { escape: true, all_names: false }",
+    ),
     (
         &["ti", "cap", "--escape", "n:1"],
         "Cap { hex: false, escape: true, params: [\"n:1\"] }",
@@ -107,7 +117,7 @@ const READ: [(&[&str], &str); 25] = [
 ];
 
 /// Words that are refused, and what the text on them has.
-const REFUSED: [(&[&str], &str); 17] = [
+const REFUSED: [(&[&str], &str); 21] = [
     (&[], "subcommand"),
     (&["ti"], "subcommand"),
     (&["ti", "zap"], "'zap'"),
@@ -118,7 +128,18 @@ const REFUSED: [(&[&str], &str); 17] = [
     (&["ti", "cap", "--all-names"], "'--all-names'"),
     (&["ti", "trace", "--hex"], "'--hex'"),
     (&["ti", "trace", "--escape", "--escape"], "--escape"),
-    (&["ti", "check", "--escape"], "'--escape'"),
+    (&["ti", "check", "--hex"], "'--hex'"),
+    // no byte of a word is shown but printable ones
+    (&["ti", "a\x1b]0;b\x07\nentry: c"], "'a\\E]0;b^G^Jentry: c'"),
+    (
+        &["ti", "show", "\u{e9}\u{9b}\r"],
+        "'\\303\\251\\302\\233^M'",
+    ),
+    (&["ti", "cap", "--\x1b[2K"], "'--\\E[2K'"),
+    (
+        &["ti", "expand", "--rate", "\n9", "bel"],
+        "'^J9' for '--rate <N>'",
+    ),
     (&["ti", "expand"], "<NAME>"),
     (&["ti", "expand", "bel", "--rate"], "--rate <N>"),
     (
@@ -186,7 +207,7 @@ const HELP: [(&[&str], &[&str]); 10] = [
     ),
     (&["ti", "check", "--help"], &["status 1", "Example"]),
     (&["ti", "convert", "--help"], &["canonical", "Example"]),
-    (&["ti", "--version"], &["ti 0.1.0\n"]),
+    (&["ti", "--version"], &["ti 0.2.0\n"]),
 ];
 
 #[test]
@@ -206,6 +227,11 @@ fn other_words_are_refused_with_a_text(rt: HostRuntime) {
         let text = format!(in rt.alloc(); "{why}").expect(&rt, "memory");
         assert!(rt; text.as_str().contains(*part), "{text}");
         assert!(rt; text.as_str().ends_with("\n"), "{text}");
+        let mut shown = text.as_str().as_bytes().iter();
+        assert!(rt;
+            shown.all(|byte| *byte == b'\n' || (b' '..=b'~').contains(byte)),
+            "{text}"
+        );
     }
 }
 

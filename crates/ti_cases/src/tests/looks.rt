@@ -6,7 +6,9 @@ use std::test::Fail;
 use ti_escape::Form;
 use ti_expand::Value;
 use ti_pad::Padding;
-use ti_tool::{Look, Output, TextName, ToolFault, cap_as, check_as, expand_as, run, show_as};
+use ti_tool::{
+    Look, NameForm, Naming, Output, TextName, ToolFault, cap_as, check_as, expand_as, run, show_as,
+};
 use ti_words::NameTable;
 
 /// Names `t`, the third flag, which is xsb, bel as one byte 07, and the text at 9, which is cmdch, as ESC %p1%d ^ , and a
@@ -211,8 +213,12 @@ fn a_line_is_run_with_its_look(rt: HostRuntime) {
 
 #[test]
 fn listings_have_the_look_that_is_asked(rt: HostRuntime) -> Result<(), Fail> {
+    let naming = Naming {
+        table: NameTable::All,
+        form: NameForm::Notation,
+    };
     let look = Look {
-        names: NameTable::All,
+        naming,
         form: Form::Notation,
     };
     let mut output = Sink::new(rt.alloc());
@@ -224,7 +230,7 @@ fn listings_have_the_look_that_is_asked(rt: HostRuntime) -> Result<(), Fail> {
     let mut output = Sink::new(rt.alloc());
     let mut input = Source::new(UNCOMMON, 7);
     assert_eq!(rt;
-        check_as(rt.alloc(), &mut input, NameTable::All, &mut output),
+        check_as(rt.alloc(), &mut input, naming, &mut output),
         Ok(true)
     );
     let lines = b"text bel ok depth 0 bound 1\ntext cmdch ok depth 1 bound 15\n";

@@ -86,7 +86,7 @@ fn the_program_without_memory_says_so(rt: HostRuntime) -> Result<(), Fail> {
 }
 
 /// Words for each command, and what it reads.
-const COMMANDS: [(&[&str], &[u8]); 9] = [
+const COMMANDS: [(&[&str], &[u8]); 10] = [
     (&["ti", "cap", "--hex", "n:7"], b"\x1b[%p1%40dG"),
     (&["ti", "cap", "--escape", "n:7"], b"\x1b[%p1%40dG"),
     (&["ti", "trace", "n:7"], b"\x1b[%p1%dG"),
@@ -94,6 +94,7 @@ const COMMANDS: [(&[&str], &[u8]); 9] = [
     (&["ti", "show"], EXTENDED),
     (&["ti", "show", "--escape", "--all-names"], EXTENDED),
     (&["ti", "check"], EXTENDED),
+    (&["ti", "check", "--escape"], EXTENDED),
     (
         &[
             "ti",

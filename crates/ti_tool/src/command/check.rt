@@ -8,8 +8,10 @@ ghost use Rattle.ti_tool.specs.Calls.{DidCheck, without_value, IsFailedWrite};
 ghost use Rattle.ti_tool.specs.Results.{IsChecked, IsCheckedAs};
 ghost use Rattle.ti_tool.specs.inner.Verdict.{AddsLines};
 
+use crate::asked::naming_asked;
 use crate::fault::ToolFault;
-use crate::label::{extended_label, label_at};
+use crate::label::Label;
+use crate::look::{NameForm, Naming};
 use crate::result::write_result;
 use crate::verdict::{judge, push_line};
 use std::alloc::{AllocError, Allocator};
@@ -20,18 +22,20 @@ use ti_words::{Kind, NameTable, Text};
 /// Writes the lines of the standard texts, and answers whether none has a fault.
 fn push_standard<A: Allocator>(
     out: &mut Vec<u8, A>,
-    names: NameTable,
+    table: NameTable,
     entry: &Entry<'_>,
 ) -> Result<bool, AllocError>
     ensures { IfOk result
-        (AddsLines (IsStandardLine names) entry.now.texts out.old.items out.new.items) }
+        (AddsLines (IsStandardLine table) entry.now.texts out.old.items out.new.items) }
 {
     let mut sound = true;
     let mut last = judge(b"");
-    for i in 0..entry.text_count() {
-        if let Text::Value(text) = entry.text(i) {
+    for index in 0..entry.text_count() {
+        if let Text::Value(text) = entry.text(index) {
             last = last.next(text);
-            push_line(out, b"text ", label_at(names, Kind::Text, i), last.verdict)?;
+            let kind = Kind::Text;
+            let label = Label::Standard { table, kind, index };
+            push_line(out, b"text ", label, last.verdict)?;
             sound &= last.verdict.is_sound();
         }
     }
@@ -41,17 +45,24 @@ fn push_standard<A: Allocator>(
 /// Writes the lines of the texts of the extended part, and answers whether none has a fault.
 fn push_extended<A: Allocator>(
     out: &mut Vec<u8, A>,
+    form: NameForm,
     extended: &Extended<'_>,
 ) -> Result<bool, AllocError>
     ensures { IfOk result
-        (AddsLines IsExtendedLine extended.now.extended_texts out.old.items out.new.items) }
+        (AddsLines (IsExtendedLine form) extended.now.extended_texts out.old.items out.new.items) }
 {
     let mut sound = true;
     let mut last = judge(b"");
-    for i in 0..extended.text_count() {
-        if let Text::Value(text) = extended.text(i) {
+    for index in 0..extended.text_count() {
+        if let Text::Value(text) = extended.text(index) {
             last = last.next(text);
-            let label = extended_label(extended, Kind::Text, i);
+            let kind = Kind::Text;
+            let label = Label::Own {
+                extended: &*extended,
+                form,
+                kind,
+                index,
+            };
             push_line(out, b"text+ ", label, last.verdict)?;
             sound &= last.verdict.is_sound();
         }
@@ -69,14 +80,14 @@ struct Verdicts<A: Allocator> {
 /// The lines of an entry.
 fn verdicts_of<A: Allocator + Copy>(
     alloc: A,
-    names: NameTable,
+    naming: Naming,
     entry: &Entry<'_>,
 ) -> Result<Verdicts<A>, AllocError>
-    ensures { IfOk result (λ v. AreVerdicts names entry.now v.lines.items v.sound) }
+    ensures { IfOk result (λ v. AreVerdicts naming entry.now v.lines.items v.sound) }
 {
     let mut lines = Vec::new(alloc);
-    let standard = push_standard(&mut lines, names, entry)?;
-    let extended = push_extended(&mut lines, &entry.extended())?;
+    let standard = push_standard(&mut lines, naming.table, entry)?;
+    let extended = push_extended(&mut lines, naming.form, &entry.extended())?;
     Ok(Verdicts {
         lines,
         sound: standard && extended,
@@ -84,8 +95,8 @@ fn verdicts_of<A: Allocator + Copy>(
 }
 
 /// Analyses each text of the entry that the reader gives, and writes a line for each that is present, in the order of
-/// [`show`](crate::show): its depth and bound, or its fault with the place. A standard text is called by the table `names`.
-/// The bound is the one where text parameters have no bytes. The answer is whether no text has a fault.
+/// [`show`](crate::show): its depth and bound, or its fault with the place. Texts are called as `naming` says. The bound is
+/// that of text parameters without bytes. The result is whether no text has a fault.
 ///
 /// A text that is no output string, such as a pattern of input, can have a fault in an entry that is right.
 ///
@@ -97,10 +108,10 @@ fn verdicts_of<A: Allocator + Copy>(
 pub fn check_as<A: Allocator + Copy, R: Read, W: Write>(
     alloc: A,
     reader: &mut R,
-    names: NameTable,
+    naming: Naming,
     writer: &mut W,
 ) -> Result<bool, ToolFault>
-    ensures did { DidCheck (IsCheckedAs names)
+    ensures did { DidCheck (IsCheckedAs naming)
         (R.remaining reader.old) (R.remaining reader.new)
         (W.contents writer.old) (W.contents writer.new) result }
     // After a fault other than `Write` the writer is as it was.
@@ -109,12 +120,12 @@ pub fn check_as<A: Allocator + Copy, R: Read, W: Write>(
     let mut kept = EntryReader::new();
     read_from(&mut kept, reader)?;
     let entry = kept.finish()?;
-    let verdicts = verdicts_of(alloc, names, &entry)?;
+    let verdicts = verdicts_of(alloc, naming, &entry)?;
     write_result(writer, verdicts.lines.as_slice())?;
     Ok(verdicts.sound)
 }
 
-/// [`check_as`] by the common names.
+/// [`check_as`] by the common names, and names as they stand in the entry.
 pub fn check<A: Allocator + Copy, R: Read, W: Write>(
     alloc: A,
     reader: &mut R,
@@ -126,5 +137,5 @@ pub fn check<A: Allocator + Copy, R: Read, W: Write>(
     // After a fault other than `Write` the writer is as it was.
     ensures unwritten { IfErr result (λ e. IsFailedWrite e ⊎ (writer.new ≡ writer.old)) }
 {
-    check_as(alloc, reader, NameTable::Common, writer)
+    check_as(alloc, reader, naming_asked(false, false, false), writer)
 }

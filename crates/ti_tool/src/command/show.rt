@@ -14,9 +14,8 @@ use std::io::{Read, Write};
 use ti_entry::{EntryReader, read_from};
 
 /// Lists the entry that the reader gives, one line an item: the format, the names, then the flags, numbers and texts in
-/// the order of their indices. A flag that is No and what is absent is not listed. A capability is called by the table of
-/// names that `look` tells, or by `#` and its index; a text is shown in the form that it tells, `-` where it has no byte.
-/// Names are written byte for byte.
+/// the order of their indices. A flag that is No and what is absent is not listed. What the entry and its capabilities are
+/// called, and the form of their texts, is what `look` says; `-` is a text without bytes.
 ///
 /// Nothing is written before the whole listing is there.
 pub fn show_as<A: Allocator + Copy, R: Read, W: Write>(
@@ -38,7 +37,7 @@ pub fn show_as<A: Allocator + Copy, R: Read, W: Write>(
     write_result(writer, lines.as_slice())
 }
 
-/// [`show_as`] by the common names, with texts in lower-case hex.
+/// [`show_as`] by the common names, with names as they stand in the entry, and texts in lower-case hex.
 pub fn show<A: Allocator + Copy, R: Read, W: Write>(
     alloc: A,
     reader: &mut R,
@@ -50,5 +49,5 @@ pub fn show<A: Allocator + Copy, R: Read, W: Write>(
     // After a fault other than `Write` the writer is as it was.
     ensures unwritten { IfErr result (λ e. IsFailedWrite e ⊎ (writer.new ≡ writer.old)) }
 {
-    show_as(alloc, reader, look_asked(false, false), writer)
+    show_as(alloc, reader, look_asked(false, false, false), writer)
 }

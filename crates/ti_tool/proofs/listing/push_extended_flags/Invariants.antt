@@ -2,7 +2,7 @@ use Rattle.std.proofs.Common.{◌≡◌, ◌++◌, drop}
 use Rattle.ti_tool.specs.Listing.{lines_from, extended_flag}
 use Rattle.ti_tool.proofs.listing.push_extended_flags.Given as goal
 
-abbrev pub invariant-loop-i : goal.invariant-loop-i
-invariant-loop-i g l =
-    l.out.items ++ lines_from extended_flag l.i (drop l.i l.extended.extended_flags)
-    ≡ l.initial.out.items ++ lines_from extended_flag 0 l.extended.extended_flags
+abbrev pub invariant-loop-index : goal.invariant-loop-index
+invariant-loop-index g l =
+    l.out.items ++ lines_from (extended_flag l.form) l.index (drop l.index l.extended.extended_flags)
+    ≡ l.initial.out.items ++ lines_from (extended_flag l.form) 0 l.extended.extended_flags

@@ -2,7 +2,7 @@ use Rattle.std.proofs.Common.{◌≡◌, ◌++◌, drop}
 use Rattle.ti_tool.specs.Listing.{lines_from, extended_number}
 use Rattle.ti_tool.proofs.listing.push_extended_numbers.Given as goal
 
-abbrev pub invariant-loop-i : goal.invariant-loop-i
-invariant-loop-i g l =
-    l.out.items ++ lines_from extended_number l.i (drop l.i l.extended.extended_numbers)
-    ≡ l.initial.out.items ++ lines_from extended_number 0 l.extended.extended_numbers
+abbrev pub invariant-loop-index : goal.invariant-loop-index
+invariant-loop-index g l =
+    l.out.items ++ lines_from (extended_number l.form) l.index (drop l.index l.extended.extended_numbers)
+    ≡ l.initial.out.items ++ lines_from (extended_number l.form) 0 l.extended.extended_numbers

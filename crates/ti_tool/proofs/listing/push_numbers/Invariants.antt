@@ -2,5 +2,5 @@ use Rattle.std.proofs.Common.{◌≡◌, ◌++◌, drop}
 use Rattle.ti_tool.specs.Listing.{lines_from, standard_number}
 use Rattle.ti_tool.proofs.listing.push_numbers.Given as goal
 
-abbrev pub invariant-loop-i : goal.invariant-loop-i
-invariant-loop-i g l = l.out.items ++ lines_from (standard_number l.names) l.i (drop l.i l.entry.numbers) ≡ l.initial.out.items ++ lines_from (standard_number l.names) 0 l.entry.numbers
+abbrev pub invariant-loop-index : goal.invariant-loop-index
+invariant-loop-index g l = l.out.items ++ lines_from (standard_number l.table) l.index (drop l.index l.entry.numbers) ≡ l.initial.out.items ++ lines_from (standard_number l.table) 0 l.entry.numbers

@@ -7,5 +7,5 @@ use Rattle.ti_tool.proofs.program.run_cap.Goals as goal
 pub returns-then-escape-clause-ran : goal.returns-then-escape-clause-ran
 returns-then-escape-clause-ran g c = inl (
   and_from c.args.hex c.args.escape c.if-hex.true c.if-escape.true,
-  (refl, (refl, refl), told_by cap_forms_line _ _ c.write_out.result c.write_out.ensures.written c.write_out.ensures.short c.write_out.ensures.gone),
+  (refl, refl, refl, told_by cap_forms_line _ _ c.write_out.result c.write_out.ensures.written c.write_out.ensures.short c.write_out.ensures.gone),
 )

@@ -11,5 +11,5 @@ returns-in-Err-clause-ran g c = inl (
   params_refused c.args.words.now c.in-Err.fault c.read_params.result c.in-Err.is c.read_params.ensures.many.0 c.read_params.ensures.many.1 c.read_params.ensures.bad,
   no_params (texts_of c.args.words.now) c.in-Err.fault c.read_params.result c.in-Err.is
       (λ e. omega (arith, length-map c.args.words.now (λ w. w.now), c.read_params.ensures.many.0 e)) c.read_params.ensures.bad,
-  (refl, (refl, refl), told_line _ _ c.as_slice.result.now _ _ c.write_out.result c.words_line-line.ensures c.as_slice.ensures.value c.write_out.ensures.written c.write_out.ensures.short c.write_out.ensures.gone),
+  (refl, refl, refl, told_line _ _ c.as_slice.result.now _ _ c.write_out.result c.words_line-line.ensures c.as_slice.ensures.value c.write_out.ensures.written c.write_out.ensures.short c.write_out.ensures.gone),
 )

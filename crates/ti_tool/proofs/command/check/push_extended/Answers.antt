@@ -1,8 +1,8 @@
-use Rattle.std.proofs.Common.{◌∙◌, ◌+◌, ◌<◌, Bool, true, [], ap, arith, get_or, length, map, refl, subst, sym}
+use Rattle.std.proofs.Common.{◌∙◌, ◌+◌, ◌<◌, Bool, true, [], ap, arith, get_or, length, map, subst, sym}
 use Rattle.std.specs.Prelude.{codes}
 use Rattle.ti_words.specs.Texts.{text_value}
 use Rattle.ti_words.specs.Spelling.{name_in}
-use Rattle.ti_tool.specs.inner.Label.{label_bytes}
+use Rattle.ti_tool.specs.Labels.{own_label}
 use Rattle.ti_tool.specs.declared.verdict.JudgedText.{JudgedText}
 use Rattle.ti_tool.specs.inner.Verdict.{IsJudged}
 use Rattle.ti_tool.specs.Verdicts.{IsExtendedLine}
@@ -11,24 +11,24 @@ use Rattle.ti_tool.proofs.AreLinesLemmas.{GoesOn, and_true, goes_end, line_of_no
 use Rattle.ti_tool.proofs.command.check.push_extended.Goals.{in-Value+in_ok-push_line, in_default}
 use Rattle.ti_tool.proofs.command.check.push_extended.Goals as goal
 
-pub loop-i-preserved : goal.loop-i-preserved
-loop-i-preserved g c =
-    let i = c.loop-i.invariant in
-    let h : c.loop-i.i < length c.args.extended.now.extended_texts = omega (arith, c.loop-i-test.true, c.text_count-i-end.ensures) in
-    let GoesOnWith : Bool → Type 0 = λ sound. GoesOn IsExtendedLine c.args.extended.now.extended_texts c.args.out.now.items (c.loop-i.i + 1) c.match-text.out.items sound in
+pub loop-index-preserved : goal.loop-index-preserved
+loop-index-preserved g c =
+    let i = c.loop-index.invariant in
+    let h : c.loop-index.index < length c.args.extended.now.extended_texts = omega (arith, c.loop-index-test.true, c.text_count-index-end.ensures) in
+    let GoesOnWith : Bool → Type 0 = λ sound. GoesOn (IsExtendedLine c.args.form) c.args.extended.now.extended_texts c.args.out.now.items (c.loop-index.index + 1) c.match-text.out.items sound in
     let IsJudgedText : JudgedText → Type 0 = λ last. IsJudged last.text.now last.verdict in
     elim c.match-text.branch [
       | in-Value+in_ok-push_line w ↦ record {
         lines = subst GoesOnWith (sym w.sound-is) (
-            verdict_next c.args.extended.now.extended_texts c.loop-i.i (label_bytes w.extended_label-label.result) (text_value c.text.result) c.args.out.now.items c.loop-i.out.items c.match-text.out.items c.loop-i.sound w.is_sound-sound.result h w.extended_label-label.ensures c.text.ensures i.lines
-            (line_of_text (codes "text+ ") (label_bytes w.extended_label-label.result) c.loop-i.out.items c.match-text.out.items c.text.result w.in-Value.text.now w.next-last.result.verdict w.is_sound-sound.result (ap text_value w.in-Value.is) w.next-last.ensures.verdict w.is_sound-sound.ensures (ap (λ v. v.items) w.out-is ∙ w.in_ok-push_line.ensures))
+            verdict_next c.args.form c.args.extended.now.extended_texts c.loop-index.index (text_value c.text.result) c.args.out.now.items c.loop-index.out.items c.match-text.out.items c.loop-index.sound w.is_sound-sound.result h c.text.ensures i.lines
+            (line_of_text (codes "text+ ") (own_label c.args.form (get_or (map name_in c.args.extended.now.extended_texts) c.loop-index.index [])) c.loop-index.out.items c.match-text.out.items c.text.result w.in-Value.text.now w.next-last.result.verdict w.is_sound-sound.result (ap text_value w.in-Value.is) w.next-last.ensures.verdict w.is_sound-sound.ensures (ap (λ v. v.items) w.out-is ∙ w.in_ok-push_line.ensures))
             );
         judged = subst IsJudgedText (sym w.last-is) (subst (λ text. IsJudged text w.next-last.result.verdict) (sym w.next-last.ensures.text) w.next-last.ensures.verdict);
       }
       | in_default w ↦ record {
-        lines = subst GoesOnWith (and_true c.loop-i.sound ∙ sym w.sound-is) (
-            verdict_next c.args.extended.now.extended_texts c.loop-i.i (get_or (map name_in c.args.extended.now.extended_texts) c.loop-i.i []) (text_value c.text.result) c.args.out.now.items c.loop-i.out.items c.match-text.out.items c.loop-i.sound true h refl c.text.ensures i.lines
-            (line_of_none (codes "text+ ") (get_or (map name_in c.args.extended.now.extended_texts) c.loop-i.i []) c.loop-i.out.items c.match-text.out.items c.text.result w.in_default.not-Value (ap (λ v. v.items) w.out-is))
+        lines = subst GoesOnWith (and_true c.loop-index.sound ∙ sym w.sound-is) (
+            verdict_next c.args.form c.args.extended.now.extended_texts c.loop-index.index (text_value c.text.result) c.args.out.now.items c.loop-index.out.items c.match-text.out.items c.loop-index.sound true h c.text.ensures i.lines
+            (line_of_none (codes "text+ ") (own_label c.args.form (get_or (map name_in c.args.extended.now.extended_texts) c.loop-index.index [])) c.loop-index.out.items c.match-text.out.items c.text.result w.in_default.not-Value (ap (λ v. v.items) w.out-is))
             );
         judged = subst IsJudgedText (sym w.last-is) i.judged;
       }
@@ -36,5 +36,5 @@ loop-i-preserved g c =
 
 pub returns : goal.returns
 returns g c =
-    goes_end IsExtendedLine c.args.extended.now.extended_texts c.loop-i.i c.args.out.now.items c.loop-i.out.items c.loop-i.sound (omega (arith, c.loop-i-test.false, c.text_count-i-end.ensures))
-    c.loop-i.invariant.lines
+    goes_end (IsExtendedLine c.args.form) c.args.extended.now.extended_texts c.loop-index.index c.args.out.now.items c.loop-index.out.items c.loop-index.sound (omega (arith, c.loop-index-test.false, c.text_count-index-end.ensures))
+    c.loop-index.invariant.lines

@@ -3,8 +3,8 @@ use Rattle.ti_tool.specs.inner.Verdict.{IsJudged}
 use Rattle.ti_tool.proofs.AreLinesLemmas.{GoesOn}
 use Rattle.ti_tool.proofs.command.check.push_extended.Given as goal
 
-abbrev pub invariant-loop-i : goal.invariant-loop-i
-invariant-loop-i g l = record {
-  lines : GoesOn IsExtendedLine l.extended.extended_texts l.initial.out.items l.i l.out.items l.sound;
+abbrev pub invariant-loop-index : goal.invariant-loop-index
+invariant-loop-index g l = record {
+  lines : GoesOn (IsExtendedLine l.form) l.extended.extended_texts l.initial.out.items l.index l.out.items l.sound;
   judged : IsJudged l.last.text.now l.last.verdict;
 }

@@ -2,7 +2,7 @@ use Rattle.std.proofs.Common.{◌∙◌, [], sym, ap}
 use Rattle.std.specs.Prelude.{unwrap_or}
 use Rattle.std.proofs.lemmas.Option.{get_or_from_slice_get, unwrap_or-slice_get}
 use Rattle.ti_entry.specs.Finding.{names_of}
-use Rattle.ti_tool.proofs.label.extended_label.Goals as goal
+use Rattle.ti_tool.proofs.label.own_name.Goals as goal
 
 pub returns-in-Some : goal.returns-in-Some
 returns-in-Some c = sym (get_or_from_slice_get (names_of c.args.extended.now c.args.kind) c.args.index c.in-Some.name.now [] (sym c.in-Some.ensures))

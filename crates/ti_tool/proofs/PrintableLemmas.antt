@@ -1,0 +1,278 @@
+-- Results under `--escape` are printable lines, as many as are due.
+use Rattle.std.proofs.Common.{◌≡◌, ◌∙◌, ◌+◌, ◌/◌, ◌%◌, ◌<◌, ℕ, zero, suc, Bool, true, false, List, [], ◌∷◌, ◌++◌, Some, cond, inl, inr, refl, sym, ap, subst, arith, append_assoc}
+use Rattle.std.specs.Prelude.{Option, ℤ, pos, negsuc, codes, decimal, nat_eq, unwrap_or}
+use Rattle.std.specs.List.{flat_map, list_all}
+use Rattle.std.specs.Map.{lookup}
+use Rattle.std.specs.Fmt.{digit_glyph, digits, digits_onto, signed_decimal}
+use Rattle.std.proofs.lemmas.Bool.{and_from, and_parts}
+use Rattle.std.proofs.lemmas.Bool.Decides.{nat_tests}
+use Rattle.std.proofs.lemmas.Grind.{flat_map-append}
+use Rattle.std.proofs.lemmas.List.{append-nil, length-append}
+use Rattle.std.proofs.lemmas.List.Folds.{list_all-append}
+use Rattle.ti_words.specs.declared.Flag.{Flag}
+use Rattle.ti_words.specs.declared.Flag.TheVariants as flags
+use Rattle.ti_words.specs.declared.Kind.{Kind}
+use Rattle.ti_words.specs.declared.Kind.TheVariants as kinds
+use Rattle.ti_words.specs.declared.Number.{Number}
+use Rattle.ti_words.specs.declared.Number.TheVariants as numbers
+use Rattle.ti_words.specs.declared.Width.{Width}
+use Rattle.ti_words.specs.declared.Width.TheVariants.{Legacy, Wide}
+use Rattle.ti_words.specs.declared.all_names.NameTable.{NameTable}
+use Rattle.ti_words.specs.declared.all_names.NameTable.TheVariants as tables
+use Rattle.ti_words.specs.AllNames.{all_flags, all_numbers, all_texts, rows_in}
+use Rattle.ti_words.specs.Names.{Row, flag_rows, number_rows, text_rows}
+use Rattle.ti_words.specs.Spelling.{mark_in}
+use Rattle.ti_words.specs.Texts.{TextValue, AbsentText, CancelledText, TextOf}
+use Rattle.ti_words.specs.Value.{EntryValue}
+use Rattle.ti_cap.specs.declared.language.CapFault.{CapFault}
+use Rattle.ti_cap.specs.declared.language.CapFault.TheVariants as cap_faults
+use Rattle.ti_cap.specs.FaultNames.{cap_fault_word}
+use Rattle.ti_escape.specs.Laws.{is_printable}
+use Rattle.ti_escape.specs.Notation.{label_notation, notation}
+use Rattle.ti_escape.specs.Forms.{shown}
+use Rattle.ti_escape.specs.declared.form.Form.{Form}
+use Rattle.ti_escape.specs.declared.form.Form.TheVariants as forms
+use Rattle.ti_escape.proofs.PrintableLemmas.{has_no_space, is_printable_all, label_chars_printable}
+use Rattle.ti_pad.specs.Padded.{padded_text}
+use Rattle.ti_tool.specs.declared.look.Look.{Look}
+use Rattle.ti_tool.specs.declared.look.NameForm.{NameForm}
+use Rattle.ti_tool.specs.declared.look.NameForm.TheVariants as name_forms
+use Rattle.ti_tool.specs.Labels.{label_of, own_label, own_names}
+use Rattle.ti_tool.specs.Listing.{flag_line, number_line, text_line, lines_from, standard_flag, standard_number, standard_text, extended_flag, extended_number, extended_text, standard_lines, extended_lines, format_name}
+use Rattle.ti_tool.specs.Verdicts.{IsLine, IsStandardLine, IsExtendedLine, AreLines, IsVerdict}
+use Rattle.ti_tool.specs.Printable.{ArePrintableLines, flag_lines, number_lines, text_lines, verdict_lines, lines_due, listed_lines, checked_lines, ShowIsPrintable, CheckIsPrintable, CapIsPrintable, ExpandIsPrintable}
+
+abbrev IsText : List ℕ → Type 0
+IsText text = list_all is_printable text ≡ true
+
+-- ---- joining
+
+both : (a b : List ℕ) → IsText a → IsText b → IsText (a ++ b)
+both a b of_a of_b = list_all-append is_printable a b ∙ and_from (list_all is_printable a) (list_all is_printable b) of_a of_b
+
+abbrev with_newline : List ℕ → List ℕ
+with_newline line = line ++ codes "\n"
+
+none : ArePrintableLines 0 []
+none = record { lines = []; counted = refl; printable = refl; joined = refl }
+
+one : (line out : List ℕ) → IsText line → out ≡ line ++ codes "\n" → ArePrintableLines 1 out
+one line out is e = record {
+  lines = line ∷ [];
+  counted = refl;
+  printable = and_from (list_all is_printable line) true is refl;
+  joined = e ∙ sym (append-nil (line ++ codes "\n"));
+}
+
+joined_lines : (m n : ℕ) (a b : List ℕ) → ArePrintableLines m a → ArePrintableLines n b → ArePrintableLines (m + n) (a ++ b)
+joined_lines m n a b of_a of_b = record {
+  lines = of_a.lines ++ of_b.lines;
+  counted = omega (arith, length-append of_a.lines of_b.lines, of_a.counted, of_b.counted);
+  printable = list_all-append (λ line. list_all is_printable line) of_a.lines of_b.lines
+      ∙ and_from (list_all (λ line. list_all is_printable line) of_a.lines) (list_all (λ line. list_all is_printable line) of_b.lines) of_a.printable of_b.printable;
+  joined = ap (λ x. x ++ b) of_a.joined ∙ ap (λ x. flat_map with_newline of_a.lines ++ x) of_b.joined ∙ sym (flat_map-append with_newline of_a.lines of_b.lines);
+}
+
+-- ---- numbers
+
+glyph : (n : ℕ) → is_printable (digit_glyph false (n % 10)) ≡ true
+glyph n = let small : n % 10 < 10 = omega arith in small_glyph (n % 10) small
+  where
+    small_glyph : (d : ℕ) → d < 10 → is_printable (digit_glyph false d) ≡ true
+    small_glyph d small = grind (arith, nat_tests)
+
+onto : (k n : ℕ) (acc : List ℕ) → IsText acc → IsText (digits_onto k 10 false n acc)
+onto zero n acc is = is
+onto (suc k) n acc is =
+    let more : IsText (digit_glyph false (n % 10) ∷ acc) = and_from (is_printable (digit_glyph false (n % 10))) (list_all is_printable acc) (glyph n) is in
+    either (digit_glyph false (n % 10) ∷ acc) _ (nat_eq (n / 10) 0) more (onto k (n / 10) (digit_glyph false (n % 10) ∷ acc) more)
+  where
+    either : (x y : List ℕ) (b : Bool) → IsText x → IsText y → IsText (cond b x y)
+    either x y true of_x of_y = of_x
+    either x y false of_x of_y = of_y
+
+decimal_text : (n : ℕ) → IsText (decimal n)
+unfolding digits
+decimal_text n = onto 64 n [] refl
+
+signed_text : (z : ℤ) → IsText (signed_decimal z)
+signed_text (pos n) = decimal_text n
+signed_text (negsuc n) = decimal_text (suc n)
+
+-- ---- labels
+
+found_text : (index : ℕ) (rows : List Row) → list_all (λ row. list_all is_printable row.1) rows ≡ true → (other : List ℕ) → IsText other → IsText (unwrap_or (lookup (nat_eq index) rows) other)
+found_text index [] all other is = is
+found_text index (row ∷ rows) all other is =
+    let (first, more) = and_parts (list_all is_printable row.1) (list_all (λ row. list_all is_printable row.1) rows) all in
+    either row.1 (lookup (nat_eq index) rows) (nat_eq index row.0) first (found_text index rows more other is)
+  where
+    either : (name : List ℕ) (rest : Option (List ℕ)) (b : Bool) → IsText name → IsText (unwrap_or rest other) → IsText (unwrap_or (cond b (Some name) rest) other)
+    either name rest true of_name of_rest = of_name
+    either name rest false of_name of_rest = of_rest
+
+names_text : (table : NameTable) (kind : Kind) → list_all (λ row. list_all is_printable row.1) (rows_in table kind) ≡ true
+unfolding flag_rows number_rows text_rows all_flags all_numbers all_texts
+names_text tables.Common kinds.Flag = refl
+names_text tables.Common kinds.Number = refl
+names_text tables.Common kinds.Text = refl
+names_text tables.All kinds.Flag = refl
+names_text tables.All kinds.Number = refl
+names_text tables.All kinds.Text = refl
+
+label_text : (table : NameTable) (kind : Kind) (index : ℕ) → IsText (label_of table kind index)
+label_text table kind index = found_text index (rows_in table kind) (names_text table kind) (codes "#" ++ decimal index) (both (codes "#") (decimal index) refl (decimal_text index))
+
+own_text : (form : NameForm) (name : List ℕ) → form ≡ name_forms.Notation → IsText (own_label form name)
+own_text name_forms.Raw name e = absurd cc
+own_text name_forms.Notation name e = label_chars_printable (label_notation name) (has_no_space name)
+
+own_names_text : (form : NameForm) (names : List ℕ) → form ≡ name_forms.Notation → IsText (own_names form names)
+own_names_text name_forms.Raw names e = absurd cc
+own_names_text name_forms.Notation names e = is_printable_all names
+
+-- ---- the line of an item
+
+-- a line in three parts, of which the last ends it
+ended : (word label rest end out : List ℕ) → IsText word → IsText label → IsText rest → end ≡ rest ++ codes "\n" → out ≡ word ++ label ++ end → ArePrintableLines 1 out
+ended word label rest end out of_word of_label of_rest e is =
+    one (word ++ label ++ rest) out (both (word ++ label) rest (both word label of_word of_label) of_rest)
+    (is ∙ ap (λ x. word ++ label ++ x) e ∙ sym (append_assoc (word ++ label) rest (codes "\n")))
+
+flag_text : (word label : List ℕ) (flag : Flag) → IsText word → IsText label → ArePrintableLines (flag_lines flag) (flag_line word label flag)
+flag_text word label flags.No of_word of_label = none
+flag_text word label flags.Yes of_word of_label = ended word label [] (codes "\n") _ of_word of_label refl refl refl
+flag_text word label flags.Cancelled of_word of_label = ended word label (codes " cancelled") (codes " cancelled\n") _ of_word of_label refl refl refl
+flag_text word label flags.Missing of_word of_label = ended word label (codes " missing") (codes " missing\n") _ of_word of_label refl refl refl
+
+-- a line in three parts and a value after a space
+valued : (word label value : List ℕ) → IsText word → IsText label → IsText value → ArePrintableLines 1 (word ++ label ++ codes " " ++ value ++ codes "\n")
+valued word label value of_word of_label of_value =
+    one (word ++ label ++ codes " " ++ value) _ (both (word ++ label ++ codes " ") value (both (word ++ label) (codes " ") (both word label of_word of_label) refl) of_value) refl
+
+number_text : (word label : List ℕ) (number : Number) → IsText word → IsText label → ArePrintableLines (number_lines number) (number_line word label number)
+number_text word label numbers.Absent of_word of_label = none
+number_text word label numbers.Cancelled of_word of_label = ended word label (codes " cancelled") (codes " cancelled\n") _ of_word of_label refl refl refl
+number_text word label (numbers.Value n) of_word of_label = valued word label (signed_decimal n) of_word of_label (signed_text n)
+
+shown_text : (text : List ℕ) → IsText (shown forms.Notation text)
+shown_text [] = refl
+shown_text (byte ∷ bytes) = is_printable_all (byte ∷ bytes)
+
+text_text : (form : Form) (word label : List ℕ) (text : TextValue) → form ≡ forms.Notation → IsText word → IsText label → ArePrintableLines (text_lines text) (text_line form word label text)
+text_text forms.Hex word label text e of_word of_label = absurd cc
+text_text forms.Notation word label AbsentText e of_word of_label = none
+text_text forms.Notation word label CancelledText e of_word of_label = ended word label (codes " cancelled") (codes " cancelled\n") _ of_word of_label refl refl refl
+text_text forms.Notation word label (TextOf bytes) e of_word of_label = valued word label (shown forms.Notation bytes) of_word of_label (shown_text bytes)
+
+-- ---- the listing
+
+all_lines : {X : Type 0} (line : ℕ → X → List ℕ) (count : X → ℕ) → ((index : ℕ) (x : X) → ArePrintableLines (count x) (line index x)) → (index : ℕ) (xs : List X) → ArePrintableLines (lines_due count xs) (lines_from line index xs)
+all_lines line count each index [] = none
+all_lines line count each index (x ∷ xs) = joined_lines (count x) (lines_due count xs) (line index x) (lines_from line (suc index) xs) (each index x) (all_lines line count each (suc index) xs)
+
+standard_text_lines : (look : Look) (v : EntryValue) → look.form ≡ forms.Notation
+    → ArePrintableLines (lines_due flag_lines v.flags + lines_due number_lines v.numbers + lines_due text_lines v.texts) (standard_lines look v)
+standard_text_lines look v e =
+    joined_lines _ _ _ _
+    (joined_lines _ _ _ _
+    (all_lines (standard_flag look.naming.table) flag_lines (λ index flag. flag_text (codes "flag ") (label_of look.naming.table kinds.Flag index) flag refl (label_text look.naming.table kinds.Flag index)) 0 v.flags)
+    (all_lines (standard_number look.naming.table) number_lines (λ index number. number_text (codes "number ") (label_of look.naming.table kinds.Number index) number refl (label_text look.naming.table kinds.Number index)) 0 v.numbers))
+    (all_lines (standard_text look) text_lines (λ index text. text_text look.form (codes "text ") (label_of look.naming.table kinds.Text index) text e refl (label_text look.naming.table kinds.Text index)) 0 v.texts)
+
+extended_text_lines : (look : Look) (v : EntryValue) → look.form ≡ forms.Notation → look.naming.form ≡ name_forms.Notation
+    → ArePrintableLines (lines_due (λ item. flag_lines (mark_in item)) v.extended_flags + lines_due (λ item. number_lines (mark_in item)) v.extended_numbers + lines_due (λ item. text_lines (mark_in item)) v.extended_texts) (extended_lines look v)
+extended_text_lines look v e n =
+    joined_lines _ _ _ _
+    (joined_lines _ _ _ _
+    (all_lines (extended_flag look.naming.form) (λ item. flag_lines (mark_in item)) (λ index item. flag_text (codes "flag+ ") (own_label look.naming.form item.0) item.1 refl (own_text look.naming.form item.0 n)) 0 v.extended_flags)
+    (all_lines (extended_number look.naming.form) (λ item. number_lines (mark_in item)) (λ index item. number_text (codes "number+ ") (own_label look.naming.form item.0) item.1 refl (own_text look.naming.form item.0 n)) 0 v.extended_numbers))
+    (all_lines (extended_text look) (λ item. text_lines (mark_in item)) (λ index item. text_text look.form (codes "text+ ") (own_label look.naming.form item.0) item.1 e refl (own_text look.naming.form item.0 n)) 0 v.extended_texts)
+
+format_text : (width : Width) → IsText (codes "format: " ++ format_name width)
+format_text Legacy = refl
+format_text Wide = refl
+
+head_lines : (format names : List ℕ) → IsText format → IsText names → ArePrintableLines 2 (format ++ codes "\nnames: " ++ names ++ codes "\n")
+head_lines format names of_format of_names =
+    let P : List ℕ → Type 0 = λ x. ArePrintableLines 2 x in
+    subst P (rejoin format names)
+    (joined_lines 1 1 (format ++ codes "\n") (codes "names: " ++ names ++ codes "\n") (one format _ of_format refl) (one (codes "names: " ++ names) _ (both (codes "names: ") names refl of_names) refl))
+  where
+    rejoin : (format names : List ℕ) → (format ++ codes "\n") ++ (codes "names: " ++ names ++ codes "\n") ≡ format ++ codes "\nnames: " ++ names ++ codes "\n"
+    rejoin format names = simp append_assoc
+
+pub shown_lines : ShowIsPrintable
+shown_lines look input out e n (v, spells, is) =
+    let P : List ℕ → Type 0 = λ x. ArePrintableLines (listed_lines v) x in (
+      v,
+      spells,
+      subst P (sym is) (
+          joined_lines _ _ _ _
+          (joined_lines _ _ _ _ (head_lines (codes "format: " ++ format_name v.width) (own_names look.naming.form v.names) (format_text v.width) (own_names_text look.naming.form v.names n)) (standard_text_lines look v e))
+          (extended_text_lines look v e n)),
+    )
+
+-- ---- verdicts
+
+fault_text : (fault : CapFault) → IsText (cap_fault_word fault)
+fault_text cap_faults.TooLong = refl
+fault_text cap_faults.CutShort = refl
+fault_text cap_faults.UnknownEscape = refl
+fault_text cap_faults.BadParameter = refl
+fault_text cap_faults.BadVariable = refl
+fault_text cap_faults.BadConstant = refl
+fault_text cap_faults.BadFormat = refl
+fault_text cap_faults.StrayThen = refl
+fault_text cap_faults.StrayElse = refl
+fault_text cap_faults.StrayEnd = refl
+fault_text cap_faults.NoThen = refl
+fault_text cap_faults.NestTooDeep = refl
+fault_text cap_faults.StackTooDeep = refl
+
+verdict_text : (word label text verdict : List ℕ) (sound : Bool) → IsText word → IsText label → IsVerdict text verdict sound → ArePrintableLines 1 (word ++ label ++ verdict)
+verdict_text word label text verdict sound of_word of_label (inl (passes, (depth, bound, faultless, d, b, is))) =
+    ended word label (codes " ok depth " ++ decimal depth ++ codes " bound " ++ decimal bound) verdict _ of_word of_label
+    (both (codes " ok depth " ++ decimal depth ++ codes " bound ") (decimal bound) (both (codes " ok depth " ++ decimal depth) (codes " bound ") (both (codes " ok depth ") (decimal depth) refl (decimal_text depth)) refl) (decimal_text bound))
+    is refl
+verdict_text word label text verdict sound of_word of_label (inr (fails, (refused, h, is))) =
+    ended word label (codes " fault " ++ cap_fault_word refused.fault ++ codes " at " ++ decimal refused.place) verdict _ of_word of_label
+    (both (codes " fault " ++ cap_fault_word refused.fault ++ codes " at ") (decimal refused.place) (both (codes " fault " ++ cap_fault_word refused.fault) (codes " at ") (both (codes " fault ") (cap_fault_word refused.fault) refl (fault_text refused.fault)) refl) (decimal_text refused.place))
+    is refl
+
+line_text : (word label : List ℕ) (text : TextValue) (line : List ℕ) (sound : Bool) → IsText word → IsText label → IsLine word label text line sound → ArePrintableLines (verdict_lines text) line
+line_text word label AbsentText line sound of_word of_label h = let P : List ℕ → Type 0 = λ x. ArePrintableLines 0 x in subst P (sym h.0) none
+line_text word label CancelledText line sound of_word of_label h = let P : List ℕ → Type 0 = λ x. ArePrintableLines 0 x in subst P (sym h.0) none
+line_text word label (TextOf text) line sound of_word of_label (verdict, is, e) =
+    let P : List ℕ → Type 0 = λ x. ArePrintableLines 1 x in
+    subst P (sym e) (verdict_text word label text verdict sound of_word of_label is)
+
+each_line : {X : Type 0} (IsLineOf : ℕ → X → List ℕ → Bool → Type 0) (count : X → ℕ) → ((index : ℕ) (x : X) (line : List ℕ) (sound : Bool) → IsLineOf index x line sound → ArePrintableLines (count x) line)
+    → (index : ℕ) (xs : List X) (lines : List ℕ) (sound : Bool) → AreLines IsLineOf index xs lines sound → ArePrintableLines (lines_due count xs) lines
+each_line IsLineOf count each index [] lines sound h = let P : List ℕ → Type 0 = λ x. ArePrintableLines 0 x in subst P (sym h.0) none
+each_line IsLineOf count each index (x ∷ xs) lines sound (line, more, this, rest, is, are, e, s) =
+    let P : List ℕ → Type 0 = λ z. ArePrintableLines (count x + lines_due count xs) z in
+    subst P (sym e) (joined_lines (count x) (lines_due count xs) line more (each index x line this is) (each_line IsLineOf count each (suc index) xs more rest are))
+
+pub check_lines : CheckIsPrintable
+check_lines naming input out sound n (v, spells, (first, second, this, other, are, are_too, e, s)) =
+    let P : List ℕ → Type 0 = λ z. ArePrintableLines (checked_lines v) z in (
+      v,
+      spells,
+      subst P (sym e) (
+          joined_lines _ _ _ _
+          (each_line (IsStandardLine naming.table) verdict_lines (λ index text line sound is. line_text (codes "text ") (label_of naming.table kinds.Text index) text line sound refl (label_text naming.table kinds.Text index) is) 0 v.texts first this are)
+          (each_line (IsExtendedLine naming.form) (λ item. verdict_lines (mark_in item)) (λ index item line sound is. line_text (codes "text+ ") (own_label naming.form item.0) item.1 line sound refl (own_text naming.form item.0 n) is) 0 v.extended_texts second other are_too)),
+    )
+
+-- ---- outputs
+
+pub cap_line : CapIsPrintable
+cap_line parameters input out (plain, faultless, expansion, is) = one (notation plain) out (is_printable_all plain) is
+
+pub expand_line : ExpandIsPrintable
+expand_line names name parameters setting input out (inl (refused, is, e)) = absurd cc
+expand_line names name parameters setting input out (inr (v, spells, (AbsentText, called, e))) = absurd cc
+expand_line names name parameters setting input out (inr (v, spells, (CancelledText, called, e))) = absurd cc
+expand_line names name parameters setting input out (inr (v, spells, (TextOf text, called, (plain, faultless, expansion, short, is)))) =
+    one (notation (padded_text plain setting)) out (is_printable_all (padded_text plain setting)) is

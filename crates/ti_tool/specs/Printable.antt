@@ -1,0 +1,94 @@
+-- What the program shows of an entry that a stranger wrote: lines that can be printed, and no more than
+-- are due.
+use Rattle.std.specs.Prelude.{◌≡◌, ℕ, ◌+◌, Bool, true, List, [], ◌∷◌, ◌++◌, Ok, codes, length}
+use Rattle.std.specs.List.{flat_map, list_all}
+use Rattle.ti_words.specs.declared.Flag.{Flag}
+use Rattle.ti_words.specs.declared.Flag.TheVariants as flags
+use Rattle.ti_words.specs.declared.Number.{Number}
+use Rattle.ti_words.specs.declared.Number.TheVariants as numbers
+use Rattle.ti_words.specs.declared.all_names.NameTable.{NameTable}
+use Rattle.ti_words.specs.Spelling.{Spells, mark_in}
+use Rattle.ti_words.specs.Texts.{TextValue, AbsentText, CancelledText, TextOf}
+use Rattle.ti_words.specs.Value.{EntryValue}
+use Rattle.ti_escape.specs.Laws.{is_printable}
+use Rattle.ti_escape.specs.declared.form.Form.TheVariants as forms
+use Rattle.ti_expand.specs.declared.values.Value.{Value}
+use Rattle.ti_pad.specs.Setting.{Setting}
+use Rattle.ti_tool.specs.declared.look.Look.{Look}
+use Rattle.ti_tool.specs.declared.look.NameForm.TheVariants as name_forms
+use Rattle.ti_tool.specs.declared.look.Naming.{Naming}
+use Rattle.ti_tool.specs.declared.look.Output.TheVariants as outputs
+use Rattle.ti_tool.specs.Results.{IsCappedAs, IsCheckedAs, IsExpandedAs, IsShownAs}
+
+-- so many lines, each of them characters from the space to `~`, and one newline
+pub record ArePrintableLines (count : ℕ) (out : List ℕ) : Type 0 where
+  pub lines : List (List ℕ)
+  pub counted : length lines ≡ count
+  pub printable : list_all (λ line. list_all is_printable line) lines ≡ true
+  pub joined : out ≡ flat_map (λ line. line ++ codes "\n") lines
+
+-- ---- how many lines are due
+
+-- of an item in the listing of `show`
+abbrev pub flag_lines : Flag → ℕ
+flag_lines flags.No = 0
+flag_lines flags.Yes = 1
+flag_lines flags.Cancelled = 1
+flag_lines flags.Missing = 1
+
+abbrev pub number_lines : Number → ℕ
+number_lines numbers.Absent = 0
+number_lines numbers.Cancelled = 1
+number_lines (numbers.Value n) = 1
+
+abbrev pub text_lines : TextValue → ℕ
+text_lines AbsentText = 0
+text_lines CancelledText = 1
+text_lines (TextOf bytes) = 1
+
+-- of a text in the lines of `check`
+abbrev pub verdict_lines : TextValue → ℕ
+verdict_lines AbsentText = 0
+verdict_lines CancelledText = 0
+verdict_lines (TextOf bytes) = 1
+
+-- of items together
+abbrev pub lines_due : {X : Type 0} → (X → ℕ) → List X → ℕ
+lines_due lines_of [] = 0
+lines_due lines_of (x ∷ xs) = lines_of x + lines_due lines_of xs
+
+-- of a whole entry: in `show` the format and the names come first
+abbrev pub listed_lines : EntryValue → ℕ
+listed_lines v =
+    2 + (lines_due flag_lines v.flags + lines_due number_lines v.numbers
+    + lines_due text_lines v.texts)
+    + (lines_due (λ item. flag_lines (mark_in item)) v.extended_flags
+    + lines_due (λ item. number_lines (mark_in item)) v.extended_numbers
+    + lines_due (λ item. text_lines (mark_in item)) v.extended_texts)
+
+abbrev pub checked_lines : EntryValue → ℕ
+checked_lines v =
+    lines_due verdict_lines v.texts
+    + lines_due (λ item. verdict_lines (mark_in item)) v.extended_texts
+
+-- ---- results under `--escape`
+
+abbrev pub ShowIsPrintable : Type 0
+ShowIsPrintable = (look : Look) (input out : List ℕ) → look.form ≡ forms.Notation
+    → look.naming.form ≡ name_forms.Notation → IsShownAs look input (Ok out)
+    → (v : EntryValue) × Spells input v × ArePrintableLines (listed_lines v) out
+
+abbrev pub CheckIsPrintable : Type 0
+CheckIsPrintable = (naming : Naming) (input out : List ℕ) (sound : Bool)
+    → naming.form ≡ name_forms.Notation → IsCheckedAs naming sound input (Ok out)
+    → (v : EntryValue) × Spells input v × ArePrintableLines (checked_lines v) out
+
+abbrev pub CapIsPrintable : Type 0
+CapIsPrintable = (parameters : List Value) (input out : List ℕ)
+    → IsCappedAs parameters (outputs.Line forms.Notation) input (Ok out) → ArePrintableLines 1 out
+
+abbrev pub ExpandIsPrintable : Type 0
+ExpandIsPrintable = (names : NameTable) (name : List ℕ) (parameters : List Value)
+    (setting : Setting) (input out : List ℕ)
+    → IsExpandedAs names name parameters setting (outputs.Line forms.Notation) input (Ok out)
+    → ArePrintableLines 1 out
