@@ -27,6 +27,17 @@ static unsigned char *copy_of(const void *bytes, size_t length) {
     return copy;
 }
 
+/* So many bytes were filled with this one before a call, and the call wrote none of them. */
+#define UNWRITTEN '~'
+
+static int are_unwritten(const void *at, size_t size) {
+    const unsigned char *bytes = (const unsigned char *)at;
+    for (size_t i = 0; i < size; i++) {
+        if (bytes[i] != UNWRITTEN) return 0;
+    }
+    return 1;
+}
+
 /* ---- expansions */
 
 static ti_vars vars;
@@ -48,12 +59,15 @@ static int is_output(const char *bytes, size_t length) {
     return run.written == length && memcmp(out, bytes, length) == 0 && out[length] == '~';
 }
 
-/* One expansion with new variables: the output, and that the room after it is as it was. */
+/* One expansion with new variables: the output and the counts, and that the room after it and the place are as they were. */
 static void writes(const char *text, const ti_parameter *parameters, size_t count, const char *wanted) {
     memset(&vars, 0, sizeof vars);
     memset(out, '~', sizeof out);
+    memset(&run, UNWRITTEN, sizeof run);
     uint32_t answer = expand(text, parameters, count, sizeof out);
     expect(answer == TI_DONE && is_output(wanted, strlen(wanted)), text);
+    expect(run.ran + run.passed <= strlen(text) && run.peak <= 32, "counts are written");
+    expect(are_unwritten(&run.place, sizeof run.place), "no place after an expansion");
 }
 
 static void writes_for(const char *text, int32_t first, int32_t second, const char *wanted) {
@@ -115,7 +129,6 @@ static void test_parameters(void) {
     writes("%p1%d%p2%d%p3%d%p4%d%p5%d%p6%d%p7%d%p8%d%p9%d", nine, 9, "123456789");
     writes("%p1%d%p4%d", nine, 3, "10");
     writes("%p1%d%p9%d", NULL, 0, "00");
-    expect(expand("%p1%d", nine, 10, ROOM) == TI_TOO_MANY_PARAMETERS, "ten parameters");
     nine[0] = ti_text(NULL, 0);
     writes("%p1%s|%p1%l%d", nine, 1, "|0");
     nine[0] = ti_text("\0z", 2);
@@ -137,19 +150,43 @@ static void test_variables(void) {
     expect(run.written == 12 && memcmp(out, "3-2147483648", 12) == 0, "a is the first variable, Z the last");
 }
 
-/* A fault leaves the variables and the output as they were. */
-static void faults(const char *text, const ti_parameter *parameters, size_t count, size_t room, uint32_t fault,
-                   size_t place) {
+/* An expansion that returns a fault: the variables, the output and the counts are as they were. */
+static void has_fault(const char *text, const ti_parameter *parameters, size_t count, size_t room, uint32_t fault) {
     ti_vars before;
     for (int i = 0; i < 52; i++) vars.values[i] = i + 1;
     before = vars;
-    memset(out, '~', sizeof out);
-    run.place = 987654321;
-    uint32_t answer = expand(text, parameters, count, room);
-    expect(answer == fault && run.place == place, text);
-    size_t kept = 0;
-    while (kept < ROOM && out[kept] == '~') kept++;
-    expect(kept == ROOM && memcmp(&before, &vars, sizeof vars) == 0, "variables and output are kept");
+    memset(out, UNWRITTEN, sizeof out);
+    memset(&run, UNWRITTEN, sizeof run);
+    expect(expand(text, parameters, count, room) == fault, text);
+    expect(memcmp(&before, &vars, sizeof vars) == 0, "variables are kept after a fault");
+    expect(are_unwritten(out, sizeof out), "the output is kept after a fault");
+    expect(are_unwritten(&run, offsetof(ti_run, place)), "counts are kept after a fault");
+}
+
+static void faults(const char *text, const ti_parameter *parameters, size_t count, size_t room, uint32_t fault,
+                   size_t place) {
+    has_fault(text, parameters, count, room, fault);
+    expect(run.place == place, text);
+}
+
+/* The order of the faults: parameters, the capability, a text, the room. */
+static void test_order_of_faults(void) {
+    char *text = (char *)calloc(32768, 1);
+    if (text == NULL) exit(2);
+    ti_parameter ten[10];
+    for (int i = 0; i < 10; i++) ten[i] = ti_number(i);
+    ten[1] = ti_text(text, 32768);
+    const char *const capabilities[] = {"%p1%d", "%p1%k"};
+    for (int i = 0; i < 2; i++) {
+        has_fault(capabilities[i], ten, 10, 0, TI_TOO_MANY_PARAMETERS);
+        expect(are_unwritten(&run.place, sizeof run.place), "no place of too many parameters");
+    }
+    faults("%p1%k", ten, 9, 0, TI_UNKNOWN_ESCAPE, 3);
+    faults("%p1%d", ten, 9, 0, TI_TEXT_TOO_LONG, 2);
+    ten[1] = ti_number(1);
+    faults("%p1%k", ten, 9, 0, TI_UNKNOWN_ESCAPE, 3);
+    faults("%p1%d", ten, 9, 0, TI_OUT_TOO_SMALL, 11);
+    free(text);
 }
 
 static void test_expansion_faults(void) {
@@ -184,14 +221,17 @@ static uint32_t check(const char *text, size_t length, uint16_t longest) {
 }
 
 static void needs(const char *text, uint16_t longest, size_t depth, size_t nest, uint64_t bound) {
+    memset(&limits, UNWRITTEN, sizeof limits);
     uint32_t answer = check(text, strlen(text), longest);
     expect(answer == TI_DONE && limits.depth == depth && limits.nest == nest && limits.bound == bound, text);
+    expect(are_unwritten(&limits.place, sizeof limits.place), "no place of a capability");
 }
 
 static void refused(const char *text, uint32_t fault, size_t place) {
-    limits.place = 987654321;
+    memset(&limits, UNWRITTEN, sizeof limits);
     uint32_t answer = check(text, strlen(text), 0);
     expect(answer == fault && limits.place == place, text);
+    expect(are_unwritten(&limits, offsetof(ti_limits, place)), "limits are kept after a refusal");
 }
 
 /* So many times a text of two or three bytes. */
@@ -321,7 +361,7 @@ static struct reading read_into(const unsigned char *bytes, size_t length, const
     own.numbers = (int32_t *)room_of(rooms[1] * sizeof *own.numbers);
     own.texts = (ti_text_item *)room_of(rooms[2] * sizeof *own.texts);
     own.names = (ti_bytes *)room_of(rooms[3] * sizeof *own.names);
-    own.entry.place = 987654321;
+    memset(&own.entry, UNWRITTEN, sizeof own.entry);
     own.answer = ti_read(own.bytes, length, own.flags, rooms[0], own.numbers, rooms[1], own.texts, rooms[2], own.names,
                          rooms[3], &own.entry);
     return own;
@@ -337,11 +377,7 @@ static void release(struct reading *own) {
 
 /* No element of an array was written from one on. */
 static int is_kept(const void *room, size_t size, size_t from, size_t to) {
-    const unsigned char *bytes = (const unsigned char *)room;
-    for (size_t i = from * size; i < to * size; i++) {
-        if (bytes[i] != '~') return 0;
-    }
-    return 1;
+    return are_unwritten((const unsigned char *)room + from * size, (to - from) * size);
 }
 
 static int are_kept(const struct reading *own, const size_t *from, const size_t *rooms) {
@@ -367,6 +403,16 @@ static int has_mark(const struct reading *own, size_t index, int8_t mark) {
     return own->texts[index].mark == mark && own->texts[index].text.length == 0;
 }
 
+static int has_no_place(const struct reading *own) {
+    return are_unwritten(&own->entry.place, sizeof own->entry.place);
+}
+
+/* Of the entry the place alone was written. */
+static int has_place(const struct reading *own, size_t place) {
+    size_t end = offsetof(ti_entry, number_bits) + sizeof own->entry.number_bits;
+    return own->entry.place == place && are_unwritten(&own->entry, end);
+}
+
 static int has_counts(const struct reading *own) {
     const ti_entry *entry = &own->entry;
     return is_lent(own, entry->names, "t|test") && entry->flags == 3 && entry->numbers == 3 && entry->texts == 4
@@ -379,6 +425,7 @@ static void test_reading(void) {
     for (int i = 0; i < 2; i++) {
         struct reading own = read_into(ENTRY, sizeof ENTRY, rooms[i]);
         expect(own.answer == TI_DONE && has_counts(&own), "the counts of an entry");
+        expect(has_no_place(&own), "no place of an entry");
         expect(own.flags[0] == 1 && own.flags[1] == 0 && own.flags[2] == TI_CANCELLED && own.flags[3] == TI_ABSENT,
                "flags, and an extended one");
         expect(own.numbers[0] == 80 && own.numbers[1] == TI_ABSENT && own.numbers[2] == TI_CANCELLED
@@ -403,7 +450,8 @@ static void test_rooms(void) {
         rooms[i]--;
         struct reading own = read_into(ENTRY, sizeof ENTRY, rooms);
         expect(own.answer == TI_ROOM_TOO_SMALL && has_counts(&own), "an array one too short, and the counts");
-        expect(are_kept(&own, NONE, rooms), "arrays are kept where one is too short");
+        expect(has_no_place(&own), "no place of an array that is too short");
+        expect(are_kept(&own, NONE, rooms), "arrays are kept if one is too short");
         release(&own);
     }
     ti_entry entry;
@@ -422,8 +470,8 @@ static void refused_with(size_t at, unsigned char byte, uint32_t fault, size_t p
     memcpy(bytes, ENTRY, sizeof ENTRY);
     bytes[at] = byte;
     struct reading own = read_into(bytes, sizeof ENTRY, AMPLE);
-    expect(own.answer == fault && own.entry.place == place, words);
-    expect(are_kept(&own, NONE, AMPLE), "arrays are kept where an entry is refused");
+    expect(own.answer == fault && has_place(&own, place), words);
+    expect(are_kept(&own, NONE, AMPLE), "arrays are kept if an entry is refused");
     release(&own);
 }
 
@@ -445,7 +493,7 @@ static void test_entry_faults(void) {
     memcpy(longer, ENTRY, sizeof ENTRY);
     longer[sizeof ENTRY] = 0;
     struct reading own = read_into(longer, sizeof longer, AMPLE);
-    expect(own.answer == TI_TRAILING && own.entry.place == sizeof ENTRY, "Trailing");
+    expect(own.answer == TI_TRAILING && has_place(&own, sizeof ENTRY), "Trailing");
     release(&own);
 }
 
@@ -454,7 +502,7 @@ static void test_broken_entries(void) {
     for (size_t length = 0; length < sizeof ENTRY; length++) {
         struct reading own = read_into(ENTRY, length, AMPLE);
         int whole = length == TABLE_END;
-        expect(whole ? own.answer == TI_DONE : own.answer == TI_TRUNCATED && own.entry.place == length, "a cut entry");
+        expect(whole ? own.answer == TI_DONE : own.answer == TI_TRUNCATED && has_place(&own, length), "a cut entry");
         release(&own);
     }
     unsigned char bytes[sizeof ENTRY];
@@ -470,6 +518,34 @@ static void test_broken_entries(void) {
         bytes[at] = ENTRY[at];
     }
     expect(known, "one changed byte");
+}
+
+/* Nothing is read of what a call fills: memory that was never written serves, as a tool that watches memory sees. */
+static void test_fresh_memory(void) {
+    int8_t *flags = (int8_t *)malloc(4 * sizeof *flags);
+    int32_t *numbers = (int32_t *)malloc(4 * sizeof *numbers);
+    ti_text_item *texts = (ti_text_item *)malloc(6 * sizeof *texts);
+    ti_bytes *names = (ti_bytes *)malloc(4 * sizeof *names);
+    unsigned char *room = (unsigned char *)malloc(26);
+    ti_entry *entry = (ti_entry *)malloc(sizeof *entry);
+    ti_limits *needed = (ti_limits *)malloc(sizeof *needed);
+    ti_run *went = (ti_run *)malloc(sizeof *went);
+    if (!flags || !numbers || !texts || !names || !room || !entry || !needed || !went) exit(2);
+    const unsigned char *cup = (const unsigned char *)CUP;
+    expect(ti_read(ENTRY, sizeof ENTRY, flags, 4, numbers, 4, texts, 6, names, 4, entry) == TI_DONE
+           && entry->texts == 4 && texts[5].mark == TI_CANCELLED && names[3].length == 2, "an entry into fresh memory");
+    expect(ti_check(cup, strlen(CUP), 0, needed) == TI_DONE && needed->bound == 26, "limits into fresh memory");
+    memset(&vars, 0, sizeof vars);
+    expect(ti_expand(cup, strlen(CUP), NULL, 0, &vars, room, 26, went) == TI_DONE && went->written == 6
+           && memcmp(room, E "[1;1H", 6) == 0, "an expansion into fresh memory");
+    free(flags);
+    free(numbers);
+    free(texts);
+    free(names);
+    free(room);
+    free(entry);
+    free(needed);
+    free(went);
 }
 
 /* ---- names and the version */
@@ -584,8 +660,6 @@ static const struct {
     {TI_TOO_MANY_PARAMETERS, "TooManyParameters"},
     {TI_TEXT_TOO_LONG, "TextTooLong"},
     {TI_OUT_TOO_SMALL, "OutTooSmall"},
-    {TI_STACK_TOO_SMALL, "StackTooSmall"},
-    {205, "Memory"},
     {TI_BAD_PADDING, "BadPadding"},
     {TI_TOO_MUCH, "TooMuch"},
     {TI_NOT_NAMED, "NotNamed"},
@@ -610,6 +684,7 @@ static void test_words(void) {
     expect(known == count, "no other number has a word, and then the word is kept");
     ti_bytes word = {out, 7};
     expect(ti_word(TI_DONE, &word) == TI_NOT_NAMED, "done is no fault");
+    expect(ti_word(204, &word) == TI_NOT_NAMED && ti_word(205, &word) == TI_NOT_NAMED, "no call returns 204 or 205");
     expect(ti_word(UINT32_MAX, &word) == TI_NOT_NAMED, "the greatest number");
 }
 
@@ -697,6 +772,7 @@ int main(void) {
     test_parameters();
     test_variables();
     test_expansion_faults();
+    test_order_of_faults();
     test_checks();
     test_refusals();
     test_limits();
@@ -704,12 +780,13 @@ int main(void) {
     test_rooms();
     test_entry_faults();
     test_broken_entries();
+    test_fresh_memory();
     test_names();
     test_finding();
     test_words();
     test_padding();
     test_padding_faults();
-    expect(ti_version() == 256, "version 0.1.0");
+    expect(ti_version() == 512, "version 0.2.0");
     printf("c: %d passed, %d failed\n", passed, failed);
     return failed != 0;
 }

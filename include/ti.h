@@ -1,9 +1,14 @@
-/* ti.h: terminfo entries and their capabilities, for C and C++ on x86-64. Link with libti_c.a.
+/* ti.h: terminfo entries and their capabilities, for C and C++ on x86-64. Link with -lti, as ./install puts it in place.
  *
- * Each call answers TI_DONE, or the number of a fault. Nothing is allocated, nothing is kept between calls, and any
- * thread may call. The caller owes this: each pointer has as many elements as the length beside it says, and what is
- * written overlaps no other argument. A pointer beside the length 0 may be null, the others not. Lengths and places are
- * in bytes. Capabilities are bytes as a compiled entry holds them: no NUL ends them, and escape is the byte 27.
+ * Each call but ti_version returns TI_DONE, or the number of a fault. Nothing is allocated, nothing is kept between calls,
+ * and any thread may call. The caller owes valid pointers and correct lengths: each pointer has as many elements as the
+ * length beside it says, and what is written overlaps no other argument. A pointer beside the length 0 may be null, the
+ * others not. What a call is to fill may be memory that was never written; only ti_vars is read before it is written.
+ * Lengths and places are in bytes. Capabilities are bytes as a compiled entry holds them: no NUL ends them, and escape is
+ * the byte 27.
+ *
+ * A call writes only what its comment names. A place is written with its fault, and never after TI_DONE,
+ * TI_ROOM_TOO_SMALL and TI_TOO_MANY_PARAMETERS.
  *
  *     ti_vars vars = {{0}};
  *     ti_parameter at[2] = {ti_number(4), ti_number(9)};
@@ -41,7 +46,7 @@ enum {
     TI_BAD_HEADER = 3,            /* a size or a count of the header is negative */
     TI_HEADER_TOO_BIG = 4,        /* by its header the entry has more than 32768 bytes; the place is 0 */
     TI_BAD_NAMES = 5,             /* the names are empty, hold a NUL or do not end with one */
-    TI_BAD_FLAG = 6,              /* a byte stands for no flag */
+    TI_BAD_FLAG = 6,              /* a byte is no flag */
     TI_BAD_PAD = 7,               /* the byte after an odd count is not 0 */
     TI_BAD_NUMBER = 8,            /* a number is below -2 */
     TI_BAD_OFFSET = 9,            /* the offset of a text is below -2, or past its table */
@@ -58,9 +63,9 @@ enum {
     TI_BAD_VARIABLE = 105,        /* %P or %g without a letter */
     TI_BAD_CONSTANT = 106,        /* %'c' or %{n} that is not ended, or n above 2147483647 */
     TI_BAD_FORMAT = 107,          /* no conversion follows, or a width or precision is above 255 */
-    TI_STRAY_THEN = 108,          /* %t where no conditional is open, or in a body */
-    TI_STRAY_ELSE = 109,          /* %e where no conditional is open, or in an otherwise part */
-    TI_STRAY_END = 110,           /* %; where no conditional is open */
+    TI_STRAY_THEN = 108,          /* %t while no conditional is open, or in a body */
+    TI_STRAY_ELSE = 109,          /* %e while no conditional is open, or in an otherwise part */
+    TI_STRAY_END = 110,           /* %; while no conditional is open */
     TI_NO_THEN = 111,             /* %e, %; or the end in a test that comes first; of the end the place is the length */
     TI_NEST_TOO_DEEP = 112,       /* more than 32 open conditionals */
     TI_STACK_TOO_DEEP = 113,      /* more than 32 values on the stack */
@@ -68,7 +73,6 @@ enum {
     TI_TOO_MANY_PARAMETERS = 201, /* more than nine; no place is told */
     TI_TEXT_TOO_LONG = 202,       /* a text of more than 32767 bytes; the place is its parameter, counted from 1 */
     TI_OUT_TOO_SMALL = 203,       /* less room than the capability's bound, or than the padded text; that is told */
-    TI_STACK_TOO_SMALL = 204,     /* never answered: each call brings a stack that is deep enough */
     /* Faults of padding. */
     TI_BAD_PADDING = 301,         /* a rate above 1000000, or lines above 65535; no length is told */
     TI_TOO_MUCH = 302,            /* the padded text would have more than 67108864 bytes */
@@ -89,8 +93,8 @@ typedef struct {
     size_t length;
 } ti_bytes;
 
-/* A text of an entry: there where the mark is 0, and then its bytes, of which there may be none; else the mark is
- * TI_ABSENT or TI_CANCELLED, and the length is 0. */
+/* A text of an entry: there if the mark is 0, and then its bytes, of which there may be none; else the mark is TI_ABSENT
+ * or TI_CANCELLED, and the length is 0. */
 typedef struct {
     ti_bytes text;
     int8_t mark;
@@ -109,7 +113,7 @@ typedef struct {
     size_t place;         /* of a fault */
 } ti_entry;
 
-/* A parameter: the number where is_text is 0, else the text. A parameter that is missing is the number 0. */
+/* A parameter: the number if is_text is 0, else the text. A parameter that is missing is the number 0. */
 typedef struct {
     ti_bytes text;
     int32_t number;
@@ -142,7 +146,7 @@ typedef struct {
 typedef struct {
     uint32_t rate;  /* of the line, in bytes per second, at most 1000000; with 0 there are no pad bytes */
     uint32_t lines; /* that are affected, at most 65535: a mark with a * pads for each of them */
-    uint8_t xon;    /* not 0 where the terminal has flow control: then only a mark with a / is padded */
+    uint8_t xon;    /* not 0 if the terminal has flow control: then only a mark with a / is padded */
     uint8_t pad;    /* the pad byte; 0 in nearly all terminals */
 } ti_padding;
 
@@ -151,19 +155,19 @@ typedef struct {
  * TI_DONE: the arrays start with the flags, the numbers and the texts, in each the standard ones by their index and after
  * them the extended ones, and with the names of the extended flags, then numbers, then texts. A flag is 1 or 0, or one of
  * the marks; a number is its value, from 0, or one of the marks. Texts and names point into the entry's bytes. What lies
- * in an array past these items is as it was.
- * 1 to 14: the bytes are no entry; the place says where. The arrays are as they were.
- * TI_ROOM_TOO_SMALL: an array has fewer elements than that. The names and the counts are told as after TI_DONE, so that the
- * call may be made again with enough room: so it may first be made with no room at all. The arrays are as they were.
+ * in an array past these items is as it was. Of the ti_entry all is written but the place.
+ * 1 to 14: the bytes are no entry; the place says where. Nothing else is written.
+ * TI_ROOM_TOO_SMALL: an array has fewer elements than that. The ti_entry is written as after TI_DONE, so that the call may
+ * be made again with enough room: so it may first be made with no room at all. The arrays are as they were.
  *
  * Room for 32768 flags, 16384 numbers, 16384 texts and 10923 names is always enough. */
 uint32_t ti_read(const unsigned char *bytes, size_t length, int8_t *flags, size_t flag_room, int32_t *numbers,
                  size_t number_room, ti_text_item *texts, size_t text_room, ti_bytes *names, size_t name_room,
                  ti_entry *entry);
 
-/* Checks a capability: TI_DONE with depth, nest and bound, or 101 to 113 with the place, and no other field is written.
- * The bound is for parameters whose texts have at most longest_text bytes: 0 where all are numbers. So it is the room
- * that ti_expand asks for.
+/* Checks a capability: TI_DONE with depth, nest and bound, and the place is as it was; or 101 to 113 with the place, and
+ * no other field is written. The bound is for parameters whose texts have at most longest_text bytes: 0 if all are
+ * numbers. So it is the room that ti_expand requires.
  *
  *     ti_limits limits;
  *     if (ti_check(cup, cup_length, 0, &limits) == TI_DONE)
@@ -172,9 +176,15 @@ uint32_t ti_read(const unsigned char *bytes, size_t length, int8_t *flags, size_
  *         fprintf(stderr, "fault at byte %zu\n", limits.place); */
 uint32_t ti_check(const unsigned char *capability, size_t length, uint16_t longest_text, ti_limits *limits);
 
-/* Expands a capability: TI_DONE with the counts, or 101 to 113, or 201 to 203, with the place. After a fault the
- * variables and the output are as they were, and so are the counts. Marks of padding, as $<5>, are written as they
- * stand. */
+/* Expands a capability. Marks of padding, such as $<5>, are written as they stand.
+ *
+ * TI_DONE: the room starts with the output, the variables are those that the capability leaves, and the counts are
+ * written. The place and the rest of the room are as they were.
+ * Else the number is that of the first fault in this order, and the output, the variables and the counts are as they were:
+ * TI_TOO_MANY_PARAMETERS: nothing is written at all.
+ * 101 to 113: the bytes are no capability; the place says where.
+ * TI_TEXT_TOO_LONG: the place is the first parameter whose text is too long, counted from 1.
+ * TI_OUT_TOO_SMALL: the place is the room that is needed, the bound for the longest text among the parameters. */
 uint32_t ti_expand(const unsigned char *capability, size_t length, const ti_parameter *parameters, size_t count,
                    ti_vars *vars, unsigned char *out, size_t room, ti_run *run);
 
@@ -183,7 +193,7 @@ uint32_t ti_expand(const unsigned char *capability, size_t length, const ti_para
  *
  * TI_DONE: the room starts with the padded text, and its length is told. What lies after it is as it was.
  * TI_BAD_PADDING: the rate or the lines are above their limits. No length is told, and the room is as it was.
- * TI_TOO_MUCH, TI_OUT_TOO_SMALL: the length that the padded text would have is told, or SIZE_MAX where it is greater
+ * TI_TOO_MUCH, TI_OUT_TOO_SMALL: the length that the padded text would have is told, or SIZE_MAX if it is greater
  * still. So the call may first be made with no room at all. The room is as it was.
  *
  *     ti_padding padding = {960, 1, 0, 0};
@@ -204,10 +214,11 @@ uint32_t ti_name(uint32_t kind, size_t index, ti_bytes *name);
 uint32_t ti_find(const unsigned char *name, size_t length, uint32_t *kind, size_t *index);
 
 /* Finds the word of a fault by its number, to be printed: TI_DONE with the word, which lasts as long as the program, or
- * TI_NOT_NAMED, and the word is as it was. The word of TI_STRAY_THEN is "StrayThen". */
+ * TI_NOT_NAMED, and the word is as it was. The word of TI_STRAY_THEN is "StrayThen". ti(1) prints the same words for 1 to
+ * 14, 101 to 113, TI_TEXT_TOO_LONG and TI_TOO_MUCH; the other faults it does not have. */
 uint32_t ti_word(uint32_t number, ti_bytes *word);
 
-/* The version of the library: 65536 times its first number, 256 times its second, and its third. For 0.1.0 it is 256. */
+/* The version of the library: 65536 times its first number, 256 times its second, and its third. For 0.2.0 it is 512. */
 uint32_t ti_version(void);
 
 static inline ti_parameter ti_number(int32_t number) {

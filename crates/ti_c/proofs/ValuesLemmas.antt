@@ -1,5 +1,5 @@
 -- The values of the nine parameters, put one after another.
-use Rattle.std.proofs.Common.{◌≡◌, ℕ, zero, suc, ◌+◌, ◌<◌, List, [], ◌∷◌, length, map, take, get_or, set, pos, refl, sym, ap, ◌∙◌, arith, add-one}
+use Rattle.std.proofs.Common.{◌≡◌, ℕ, zero, suc, ◌+◌, ◌<◌, List, [], ◌∷◌, length, take, get_or, set, pos, refl, sym, ap, ◌∙◌, arith, add-one}
 use Rattle.ti_c.specs.declared.expansion.Parameter.{Parameter}
 use Rattle.ti_expand.specs.declared.values.Value.{Value}
 use Rattle.ti_expand.specs.declared.values.Value.TheVariants.{Num}

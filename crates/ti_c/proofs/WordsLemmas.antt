@@ -6,14 +6,11 @@ use Rattle.std.proofs.lemmas.Map.Views.{IfSome-lookup}
 use Rattle.ti_words.specs.Names.{Row}
 use Rattle.ti_words.proofs.RowsLemmas.{Has, contains, has, has_either, mapped_has}
 use Rattle.ti_c.specs.Words.{IsWord, other_rows}
-use Rattle.ti_c.specs.inner.WordRows.{capability_faults, capability_row, entry_faults, entry_row, expand_faults, expand_row, word_rows}
+use Rattle.ti_c.specs.inner.WordRows.{capability_faults, capability_row, entry_faults, entry_row, word_rows}
 
--- the rows after those of entries, and after those of capabilities too
+-- the rows after those of entries
 abbrev after_entries : List Row
-after_entries = map capability_row capability_faults ++ (map expand_row expand_faults ++ other_rows)
-
-abbrev after_capabilities : List Row
-after_capabilities = map expand_row expand_faults ++ other_rows
+after_entries = map capability_row capability_faults ++ other_rows
 
 from_entries : (row : Row) → Has (map entry_row entry_faults) row → IsWord row.0 row.1
 from_entries row h =
@@ -25,20 +22,12 @@ from_capabilities row h =
     let m = mapped_has capability_row capability_faults row h in
     inr (inl (m.0, ap (λ (r : Row). r.0) (sym m.2), ap (λ (r : Row). r.1) (sym m.2)))
 
-from_expansions : (row : Row) → Has (map expand_row expand_faults) row → IsWord row.0 row.1
-from_expansions row h =
-    let m = mapped_has expand_row expand_faults row h in
-    inr (inr (inl (m.0, ap (λ (r : Row). r.0) (sym m.2), ap (λ (r : Row). r.1) (sym m.2))))
-
 from_rows : (row : Row) → Has word_rows row → IsWord row.0 row.1
 from_rows row h = elim (has_either (map entry_row entry_faults) after_entries row h) [
   | inl a ↦ from_entries row a
-  | inr b ↦ elim (has_either (map capability_row capability_faults) after_capabilities row b) [
+  | inr b ↦ elim (has_either (map capability_row capability_faults) other_rows row b) [
     | inl c ↦ from_capabilities row c
-    | inr d ↦ elim (has_either (map expand_row expand_faults) other_rows row d) [
-      | inl e ↦ from_expansions row e
-      | inr f ↦ inr (inr (inr (contains other_rows row f)))
-    ]
+    | inr d ↦ inr (inr (contains other_rows row d))
   ]
 ]
 

@@ -6,13 +6,13 @@ use Rattle.ti_words.specs.declared.all_names.NameTable.TheVariants.{All}
 use Rattle.ti_words.specs.AllNames.{name_in, place_in}
 use Rattle.ti_words.specs.Names.{Place}
 
--- the kind that a number stands for
+-- the kind that a number means
 abbrev pub kind_at : ℕ → Option Kind
 kind_at number =
     if nat_eq number 0 then Some Flag
     else (if nat_eq number 1 then Some Number else (if nat_eq number 2 then Some Text else None))
 
--- the name at an index of a kind among all names, none where there is no such kind
+-- the name at an index of a kind among all names, none if there is no such kind
 abbrev pub name_under : Option Kind → ℕ → Option (List ℕ)
 name_under None index = None
 name_under (Some kind) index = name_in All kind index

@@ -2,8 +2,6 @@
 use Rattle.std.specs.Prelude.{ℕ}
 use Rattle.ti_cap.specs.declared.language.CapFault.{CapFault}
 use Rattle.ti_cap.specs.declared.language.CapFault.TheVariants as capability
-use Rattle.ti_expand.specs.declared.fault.ExpandFault.{ExpandFault}
-use Rattle.ti_expand.specs.declared.fault.ExpandFault.TheVariants as expansion
 use Rattle.ti_layout.specs.declared.fault.Fault.{Fault}
 use Rattle.ti_layout.specs.declared.fault.Fault.TheVariants as entry
 
@@ -44,27 +42,17 @@ capability_number capability.NoThen = 111
 capability_number capability.NestTooDeep = 112
 capability_number capability.StackTooDeep = 113
 
--- more than nine parameters
+-- the faults of an expansion: more than nine parameters, a text that is too long; a call for C brings a stack that is deep
+-- enough and takes no memory, so the other faults of an expansion have no number
 abbrev pub too_many_parameters : ℕ
 too_many_parameters = 201
 
--- less room than the output needs, of an expansion as of padding
+abbrev pub text_too_long : ℕ
+text_too_long = 202
+
+-- less room than the output needs, of an expansion and of padding
 abbrev pub out_too_small : ℕ
 out_too_small = 203
-
--- the faults of an expansion; a call for C brings a stack that is large enough, and takes no memory
-abbrev pub expand_number : ExpandFault → ℕ
-expand_number (expansion.TextTooLong parameter) = 202
-expand_number (expansion.OutTooSmall need) = 203
-expand_number (expansion.StackTooSmall need) = 204
-expand_number expansion.Memory = 205
-
--- what is told with it
-abbrev pub expand_place : ExpandFault → ℕ
-expand_place (expansion.TextTooLong parameter) = parameter
-expand_place (expansion.OutTooSmall need) = need
-expand_place (expansion.StackTooSmall need) = need
-expand_place expansion.Memory = 0
 
 -- the faults of padding: a rate or a count of lines above its limit, a padded text that is too long
 abbrev pub bad_padding : ℕ

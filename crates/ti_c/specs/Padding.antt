@@ -6,7 +6,7 @@ use Rattle.ti_pad.specs.Setting.{Setting}
 use Rattle.ti_c.specs.declared.padding.GivenPadding.{GivenPadding}
 use Rattle.ti_c.specs.Numbers.{bad_padding, done, out_too_small, too_much}
 
--- the setting that a padding of C stands for: xon is off where it is 0, and else on
+-- the setting that a padding of C means: xon is off if it is 0, and else on
 abbrev pub setting_given : GivenPadding → Setting
 setting_given p = record { rate = p.rate; lines = p.lines; xon = not (nat_eq p.xon 0); pad = p.pad }
 
@@ -29,6 +29,6 @@ abbrev pub padding_answer : List ℕ → GivenPadding → ℕ → ℕ
 padding_answer text p room =
     if is_within_limits p then room_answer (length (padded_as_given text p)) room else bad_padding
 
--- a length as C is told it: the greatest size where it is greater still
+-- a length as C is told it: the greatest size if it is greater still
 abbrev pub told_length : ℕ → ℕ
 told_length need = min need (2 ^ 64 - 1)

@@ -1,7 +1,8 @@
 //! Checking a capability for C.
 
-ghost use Rattle.std.specs.Prelude.{◌≡◌, ◌⊎◌};
+ghost use Rattle.std.specs.Prelude.{◌≡◌, ◌⊎◌, ℕ};
 ghost use Rattle.ti_cap.specs.Capability.{HasDepth, HasBound, HasNest, IsWellFormed};
+ghost use Rattle.ti_cap.specs.Refusal.{IsFaultless};
 ghost use Rattle.ti_c.specs.Numbers.{done};
 ghost use Rattle.ti_c.specs.Given.{IsRefusedAs};
 
@@ -22,12 +23,19 @@ pub struct Limits {
     pub place: usize,
 }
 
-/// Checks bytes as a capability, and answers 0 with its limits, or the number of its fault with the place.
+/// Checks bytes as a capability, and returns 0 with its limits, or the number of its fault with the place. Nothing else is
+/// written in either case.
 #[unsafe(no_mangle)]
 pub extern "C" fn ti_check(capability: &[u8], longest_text: u16, limits: &mut Limits) -> u32
     ensures answer { (result ≡ done) ⊎ IsRefusedAs capability.now result limits.new.place }
+    ensures only { (number place : ℕ) → IsRefusedAs capability.now number place
+        → (result ≡ number) × (limits.new.place ≡ place) }
+    // After a refusal nothing is written but the place, and else no place is.
     ensures place { (result ≡ done)
         ⊎ (limits.new ≡ record limits.old { place = limits.new.place }) }
+    ensures untold { result ≡ done → limits.new.place ≡ limits.old.place }
+    // Bytes are accepted if they have no fault, and only then.
+    ensures accepted { result ≡ done → IsFaultless capability.now }
     ensures tree { result ≡ done → IsWellFormed capability.now }
     ensures depth { result ≡ done → HasDepth capability.now limits.new.depth }
     ensures nest { result ≡ done → HasNest capability.now limits.new.nest }

@@ -3,11 +3,12 @@
 //! The bytes are checked once, and each array is filled once, in the order of its items. A text and a name stay where the
 //! entry has them.
 
-ghost use Rattle.std.specs.Prelude.{◌≡◌, ◌≢◌, ◌+◌, ◌≤◌, ◌⊎◌, ◌++◌, ◌↔◌, IsTrue, length, map, take};
+ghost use Rattle.std.specs.Prelude.{◌≡◌, ◌≢◌, ℕ, ◌+◌, ◌*◌, ◌≤◌, ◌⊎◌, ◌++◌, ◌↔◌, IsTrue, length, map, take};
 ghost use Rattle.ti_words.specs.Marks.{word_of_number as the_word_of_number};
 ghost use Rattle.ti_words.specs.Spelling.{mark_in, extended_names};
 ghost use Rattle.ti_words.specs.Texts.{text_value};
 ghost use Rattle.ti_words.specs.Value.{EntryValue};
+ghost use Rattle.ti_words.specs.Widths.{number_size};
 ghost use Rattle.ti_entry.specs.Finding.{names_of};
 ghost use Rattle.ti_c.specs.Numbers.{done, room_too_small};
 ghost use Rattle.ti_c.specs.Entries.{flag_mark as the_flag_mark, text_shown, text_held, bytes_held, itself, flag_marks, number_words, texts_shown, StartsWith, HasRoom, IsAmple, Tells, IsRead, SpellsSome, ForEntry, IsEntryRefusedAs};
@@ -17,7 +18,7 @@ use crate::names::Bytes;
 use ti_entry::{Entry, Extended, read};
 use ti_words::{Flag, Kind, Number, Text, Width};
 
-/// A text of an entry: its bytes where the mark is 0; -1 is absent and -2 cancelled, with no bytes.
+/// A text of an entry: its bytes if the mark is 0; -1 is absent and -2 cancelled, with no bytes.
 #[repr(C)]
 #[derive(Clone, Copy)]
 pub struct TextItem<'a> {
@@ -43,7 +44,7 @@ pub struct EntryCounts<'a> {
     pub place: usize,
 }
 
-/// The mark of a flag: 1 where the terminal has it, 0 where not, -1 missing, -2 cancelled.
+/// The mark of a flag: 1 if the terminal has it, 0 if not, -1 missing, -2 cancelled.
 fn flag_mark(flag: Flag) -> i8
     ensures { result ≡ the_flag_mark flag }
 {
@@ -209,25 +210,30 @@ fn has_room(
         && text_names <= names - flag_names - number_names
 }
 
-/// The names of an entry, and how many capabilities it has.
-fn counts_of<'a>(entry: &Entry<'a>, extended: &Extended<'a>) -> EntryCounts<'a>
-    requires { extended.now ≡ entry.now }
-    ensures { Tells result entry.now }
+/// How many bits the numbers of an entry have.
+fn number_bits(entry: &Entry<'_>) -> u32
+    ensures { result ≡ 8 * number_size entry.now.width }
 {
-    EntryCounts {
-        names: entry.names(),
-        flags: entry.flag_count(),
-        numbers: entry.number_count(),
-        texts: entry.text_count(),
-        extended_flags: extended.flag_count(),
-        extended_numbers: extended.number_count(),
-        extended_texts: extended.text_count(),
-        number_bits: match entry.width() {
-            Width::Legacy => 16,
-            Width::Wide => 32,
-        },
-        place: 0,
+    match entry.width() {
+        Width::Legacy => 16,
+        Width::Wide => 32,
     }
+}
+
+/// Puts the names of an entry, and how many capabilities it has, into the counts. Their place is no part of it.
+fn put_counts<'a>(counts: &mut EntryCounts<'a>, entry: &Entry<'a>, extended: &Extended<'a>)
+    requires { extended.now ≡ entry.now }
+    ensures told { Tells counts.new entry.now }
+    ensures untold { counts.new.place ≡ counts.old.place }
+{
+    counts.names = entry.names();
+    counts.flags = entry.flag_count();
+    counts.numbers = entry.number_count();
+    counts.texts = entry.text_count();
+    counts.extended_flags = extended.flag_count();
+    counts.extended_numbers = extended.number_count();
+    counts.extended_texts = extended.text_count();
+    counts.number_bits = number_bits(entry);
 }
 
 /// Puts the names of all extended capabilities at the front of an array: of flags, then numbers, then texts.
@@ -268,11 +274,11 @@ fn fill<'a>(
     put_all_names(extended, names);
 }
 
-/// Reads an entry into the caller's arrays, and answers 0, or the number of its fault with the place, or that an array is
+/// Reads an entry into the caller's arrays, and returns 0, or the number of its fault with the place, or that an array is
 /// too short; then the counts say how long each has to be.
 ///
 /// The arrays start with the standard items by index, and after them come the extended ones. After a fault they are as
-/// before.
+/// before. The place is written after a refusal alone, and then nothing else is.
 #[unsafe(no_mangle)]
 pub extern "C" fn ti_read<'a>(
     bytes: &'a [u8],
@@ -283,9 +289,15 @@ pub extern "C" fn ti_read<'a>(
     entry: &mut EntryCounts<'a>,
 ) -> u32
     ensures answer { IsRead result ⊎ IsEntryRefusedAs bytes.now result entry.new.place }
-    // An entry was read where the bytes spell one, and then it is told.
+    ensures refused { (number place : ℕ) → IsEntryRefusedAs bytes.now number place
+        → (result ≡ number) × (entry.new.place ≡ place) }
+    // An entry is read if the bytes spell one, and only then, and it is told.
+    ensures only { SpellsSome bytes.now → IsRead result }
     ensures spelled { IsRead result → SpellsSome bytes.now }
     ensures told { IsRead result → ForEntry bytes.now (λ v. Tells entry.new v) }
+    // After a refusal nothing of the entry is written but the place, and else no place is.
+    ensures place { IsRead result ⊎ (entry.new ≡ record entry.old { place = entry.new.place }) }
+    ensures untold { IsRead result → entry.new.place ≡ entry.old.place }
     // The arrays have room for it, or have not.
     ensures room { result ≡ done → ForEntry bytes.now (λ v. HasRoom v
         (length flags.old) (length numbers.old) (length texts.old) (length names.old)) }
@@ -313,7 +325,7 @@ pub extern "C" fn ti_read<'a>(
         }
     };
     let extended = found.extended();
-    *entry = counts_of(&found, &extended);
+    put_counts(entry, &found, &extended);
     let (flag_room, number_room) = (flags.len(), numbers.len());
     let (text_room, name_room) = (texts.len(), names.len());
     if !has_room(

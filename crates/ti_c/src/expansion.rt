@@ -3,21 +3,22 @@
 ghost use Rattle.std.specs.Prelude.{◌≡◌, ◌≤◌, ◌<◌, ◌+◌, ◌⊎◌, ℕ, length, take, drop};
 ghost use Rattle.ti_cap.specs.Capability.{HasBound, HasDepth, IsWellFormed};
 ghost use Rattle.ti_cap.specs.Height.{height};
+ghost use Rattle.ti_cap.specs.Refusal.{IsFaultless};
 ghost use Rattle.ti_cap.specs.Tree.{tokens};
 ghost use Rattle.ti_expand.specs.Expands.{ForMeaning, ForPath, ForTree, longest_text};
-ghost use Rattle.ti_c.specs.Numbers.{done};
+ghost use Rattle.ti_c.specs.Numbers.{done, too_many_parameters};
 ghost use Rattle.ti_base.specs.Limits.{most_values};
 ghost use Rattle.ti_c.specs.Given.{value_given, values_given, HasNoFault, IsDeepEnough, IsExpansionFault, IsFaultOf};
 
-use crate::faults::{DONE, TOO_MANY_PARAMETERS, capability_number, expand_number, expand_place};
+use crate::faults::{DONE, OUT_TOO_SMALL, TEXT_TOO_LONG, TOO_MANY_PARAMETERS, capability_number};
 use ti_base::MOST_VALUES;
 use ti_cap::Capability;
-use ti_expand::{Value, Vars, expand_into};
+use ti_expand::{ExpandFault, Value, Vars, expand_into};
 
 /// Nearly all capabilities have no greater depth, and less room takes less time to make.
 const FEW_VALUES: usize = 4;
 
-/// A parameter: the number where `is_text` is 0, else the text.
+/// A parameter: the number if `is_text` is 0, else the text.
 #[repr(C)]
 #[derive(Clone, Copy)]
 pub struct Parameter<'a> {
@@ -54,7 +55,7 @@ fn put_value<'a>(value: &mut Value<'a>, parameter: &Parameter<'a>)
     }
 }
 
-/// The values of the nine parameters, 0 where one is missing.
+/// The values of the nine parameters, 0 if one is missing.
 fn values_of<'a>(parameters: &[Parameter<'a>]) -> [Value<'a>; 9]
     requires { length parameters.now ≤ 9 }
     ensures { result ≡ values_given parameters.now }
@@ -75,13 +76,13 @@ fn expand_on<'a>(
     out: &mut [u8],
     run: &mut Run,
 ) -> u32
-    requires deep { IsDeepEnough capability.now (length stack.old) }
-    requires few { length stack.old ≤ most_values }
+    requires { IsDeepEnough capability.now (length stack.old) }
     ensures answer { (result ≡ done)
         ⊎ IsFaultOf capability.now values.now (length out.old) result run.new.place }
     ensures faultless { result ≡ done → HasNoFault capability.now values.now (length out.old) }
     ensures kept { (result ≡ done) ⊎ ((variables.new ≡ variables.old) × (out.new ≡ out.old)) }
     ensures place { (result ≡ done) ⊎ (run.new ≡ record run.old { place = run.new.place }) }
+    ensures untold { result ≡ done → run.new.place ≡ run.old.place }
     ensures tree { result ≡ done → IsWellFormed capability.now }
     ensures output { result ≡ done → ForMeaning capability.now variables.old values.now
         (λ end. take run.new.written out.new ≡ end.output) }
@@ -96,6 +97,13 @@ fn expand_on<'a>(
         (λ tree. run.new.ran + run.new.passed ≡ length (tokens tree)) }
     ensures peak { result ≡ done → ForPath capability.now variables.old values.now
         (λ path. run.new.peak ≡ height path) }
+    // They keep to the limits.
+    ensures steps_low { result ≡ done → run.new.ran + run.new.passed ≤ length capability.now }
+    ensures peak_low { result ≡ done
+        → (depth : ℕ) → HasDepth capability.now depth → run.new.peak ≤ depth }
+    ensures written_low { result ≡ done → (bound : ℕ)
+        → HasBound capability.now (longest_text values.now) bound
+        → run.new.written ≤ bound }
 {
     match expand_into(capability.tape(), values, variables, stack, out) {
         Ok(done) => {
@@ -105,10 +113,16 @@ fn expand_on<'a>(
             run.peak = done.peak;
             DONE
         }
-        Err(fault) => {
-            run.place = expand_place(fault);
-            expand_number(fault)
+        Err(ExpandFault::TextTooLong { parameter }) => {
+            run.place = parameter as usize;
+            TEXT_TOO_LONG
         }
+        Err(ExpandFault::OutTooSmall { need }) => {
+            run.place = need as usize;
+            OUT_TOO_SMALL
+        }
+        Err(ExpandFault::StackTooSmall { .. }) => unreachable!(),
+        Err(ExpandFault::Memory) => unreachable!(),
     }
 }
 
@@ -128,6 +142,7 @@ fn expand_deep<'a>(
     ensures faultless { result ≡ done → HasNoFault capability.now values.now (length out.old) }
     ensures kept { (result ≡ done) ⊎ ((variables.new ≡ variables.old) × (out.new ≡ out.old)) }
     ensures place { (result ≡ done) ⊎ (run.new ≡ record run.old { place = run.new.place }) }
+    ensures untold { result ≡ done → run.new.place ≡ run.old.place }
     ensures tree { result ≡ done → IsWellFormed capability.now }
     ensures output { result ≡ done → ForMeaning capability.now variables.old values.now
         (λ end. take run.new.written out.new ≡ end.output) }
@@ -142,14 +157,23 @@ fn expand_deep<'a>(
         (λ tree. run.new.ran + run.new.passed ≡ length (tokens tree)) }
     ensures peak { result ≡ done → ForPath capability.now variables.old values.now
         (λ path. run.new.peak ≡ height path) }
+    // They keep to the limits.
+    ensures steps_low { result ≡ done → run.new.ran + run.new.passed ≤ length capability.now }
+    ensures peak_low { result ≡ done
+        → (depth : ℕ) → HasDepth capability.now depth → run.new.peak ≤ depth }
+    ensures written_low { result ≡ done → (bound : ℕ)
+        → HasBound capability.now (longest_text values.now) bound
+        → run.new.written ≤ bound }
 {
     let mut stack = [Value::Num(0); MOST_VALUES];
     expand_on(capability, values, variables, &mut stack, out, run)
 }
 
-/// Expands a capability into the caller's bytes, and answers 0 with the counts, or the number of its fault with the place.
+/// Expands a capability into the caller's bytes, and returns 0 with the counts, or the number of the first fault with the
+/// place: of the parameters, of the capability, of the expansion.
 ///
-/// After a fault the variables and the output are as before.
+/// After a fault the variables and the output are as before, and nothing is written but the place. No place is written
+/// after 0, or after too many parameters.
 #[unsafe(no_mangle)]
 pub extern "C" fn ti_expand<'a>(
     capability: &'a [u8],
@@ -158,13 +182,21 @@ pub extern "C" fn ti_expand<'a>(
     out: &mut [u8],
     run: &mut Run,
 ) -> u32
+    // A fault is the first in the order of the parameters, the capability and the expansion, and it is returned.
     ensures answer { (result ≡ done) ⊎ IsExpansionFault capability.now (values_given parameters.now)
         (length parameters.now) (length out.old) result run.new.place }
+    ensures only { (number place : ℕ) → IsExpansionFault capability.now (values_given parameters.now)
+        (length parameters.now) (length out.old) number place
+        → (result ≡ number) × ((number ≡ too_many_parameters) ⊎ (run.new.place ≡ place)) }
     ensures few { result ≡ done → length parameters.now ≤ 9 }
+    ensures many { 9 < length parameters.now
+        → (result ≡ too_many_parameters) × (run.new ≡ run.old) }
+    ensures accepted { result ≡ done → IsFaultless capability.now }
     ensures faultless { result ≡ done
         → HasNoFault capability.now (values_given parameters.now) (length out.old) }
     ensures kept { (result ≡ done) ⊎ ((variables.new ≡ variables.old) × (out.new ≡ out.old)) }
     ensures place { (result ≡ done) ⊎ (run.new ≡ record run.old { place = run.new.place }) }
+    ensures untold { result ≡ done → run.new.place ≡ run.old.place }
     ensures tree { result ≡ done → IsWellFormed capability.now }
     ensures output { result ≡ done
         → ForMeaning capability.now variables.old (values_given parameters.now)
@@ -184,6 +216,13 @@ pub extern "C" fn ti_expand<'a>(
     ensures peak { result ≡ done
         → ForPath capability.now variables.old (values_given parameters.now)
         (λ path. run.new.peak ≡ height path) }
+    // They keep to the limits.
+    ensures steps_low { result ≡ done → run.new.ran + run.new.passed ≤ length capability.now }
+    ensures peak_low { result ≡ done
+        → (depth : ℕ) → HasDepth capability.now depth → run.new.peak ≤ depth }
+    ensures written_low { result ≡ done → (bound : ℕ)
+        → HasBound capability.now (longest_text (values_given parameters.now)) bound
+        → run.new.written ≤ bound }
 {
     if parameters.len() > 9 {
         return TOO_MANY_PARAMETERS;

@@ -1,17 +1,19 @@
 //! The numbers by which C knows the faults.
 
 ghost use Rattle.std.specs.Prelude.{◌≡◌};
-ghost use Rattle.ti_c.specs.Numbers.{entry_number, capability_number, expand_number, expand_place};
+ghost use Rattle.ti_c.specs.Numbers.{entry_number, capability_number};
 
 use ti_cap::CapFault;
 use ti_entry::Fault;
-use ti_expand::ExpandFault;
 
 /// No fault.
 pub(crate) const DONE: u32 = 0;
 
 /// More than nine parameters.
 pub(crate) const TOO_MANY_PARAMETERS: u32 = 201;
+
+/// A text among the parameters that is too long.
+pub(crate) const TEXT_TOO_LONG: u32 = 202;
 
 /// Less room than the output needs.
 pub(crate) const OUT_TOO_SMALL: u32 = 203;
@@ -68,29 +70,5 @@ pub(crate) fn capability_number(fault: CapFault) -> u32
         CapFault::NoThen => 111,
         CapFault::NestTooDeep => 112,
         CapFault::StackTooDeep => 113,
-    }
-}
-
-/// The number of a fault of an expansion.
-pub(crate) fn expand_number(fault: ExpandFault) -> u32
-    ensures { result ≡ expand_number fault }
-{
-    match fault {
-        ExpandFault::TextTooLong { .. } => 202,
-        ExpandFault::OutTooSmall { .. } => 203,
-        ExpandFault::StackTooSmall { .. } => 204,
-        ExpandFault::Memory => 205,
-    }
-}
-
-/// What is told with it: the parameter, counted from 1, or what was needed.
-pub(crate) fn expand_place(fault: ExpandFault) -> usize
-    ensures { result ≡ expand_place fault }
-{
-    match fault {
-        ExpandFault::TextTooLong { parameter } => parameter as usize,
-        ExpandFault::OutTooSmall { need } => need as usize,
-        ExpandFault::StackTooSmall { need } => need,
-        ExpandFault::Memory => 0,
     }
 }

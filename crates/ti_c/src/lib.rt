@@ -2,8 +2,8 @@
 //! words of faults.
 //!
 //! Each export is a library call of the crates below, with its pointers and lengths as slices, and states that call's
-//! clauses again. No export allocates, keeps state or stops the process; what a caller owes is that its pointers and
-//! lengths tell the truth. `include/ti.h` is the header.
+//! clauses again. No export allocates, keeps state or stops the process; what a caller owes is valid pointers and
+//! correct lengths. `include/ti.h` is the header.
 #![tactic(auto)]
 
 mod capability;

@@ -15,13 +15,13 @@ pub struct GivenPadding {
     pub rate: u32,
     /// The number of affected lines.
     pub lines: u32,
-    /// 0 where the terminal has no xon.
+    /// 0 if the terminal has no xon.
     pub xon: u8,
     /// The pad byte.
     pub pad: u8,
 }
 
-/// The padding that is given, where it is within its limits.
+/// The padding that is given, if it is within its limits.
 fn padding_of(given: &GivenPadding) -> Option<Padding>
     ensures value { IfSome result (λ padding. padding ≡ setting_given given.now) }
     ensures within { IfSome result (λ padding. is_within_limits given.now ≡ true) }
@@ -37,10 +37,10 @@ fn told_length(need: u128) -> usize
     usize::try_from(need).unwrap_or(usize::MAX)
 }
 
-/// Pads a text into the caller's bytes, and answers 0 with the length of the padded text, or the number of a fault.
+/// Pads a text into the caller's bytes, and returns 0 with the length of the padded text, or the number of a fault.
 ///
-/// After a fault the bytes are as before; the length is told after each fault but that of the padding, and is the
-/// greatest `usize` where it is greater still.
+/// After a fault the bytes are as before; the length is written after each fault but that of the padding, and is the
+/// greatest `usize` if it is greater still.
 #[unsafe(no_mangle)]
 pub extern "C" fn ti_pad(
     text: &[u8],

@@ -1,8 +1,8 @@
 //! The words of faults by their numbers: data, and no code.
 //!
-//! The faults of entries, of capabilities and of an expansion, and then those that the calls for C alone tell.
+//! The faults of entries, of capabilities, of an expansion, of padding, of a search and of arrays, by their numbers.
 
-pub(crate) static WORDS: [(u32, &str); 36] = [
+pub(crate) static WORDS: [(u32, &str); 34] = [
     (1, "Truncated"),
     (2, "BadMagic"),
     (3, "BadHeader"),
@@ -30,11 +30,9 @@ pub(crate) static WORDS: [(u32, &str); 36] = [
     (111, "NoThen"),
     (112, "NestTooDeep"),
     (113, "StackTooDeep"),
+    (201, "TooManyParameters"),
     (202, "TextTooLong"),
     (203, "OutTooSmall"),
-    (204, "StackTooSmall"),
-    (205, "Memory"),
-    (201, "TooManyParameters"),
     (301, "BadPadding"),
     (302, "TooMuch"),
     (401, "NotNamed"),

@@ -32,7 +32,7 @@ fn word_of(number: u32) -> Option<&'static str>
     None
 }
 
-/// Finds the word of the fault with a number: 0 and the word, or 401 where no fault has the number, and the word is as
+/// Finds the word of the fault with a number: 0 and the word, or 401 if no fault has the number, and the word is as
 /// before.
 #[unsafe(no_mangle)]
 pub extern "C" fn ti_word(number: u32, word: &mut Bytes<'static>) -> u32

@@ -3,14 +3,12 @@ use Rattle.std.specs.Prelude.{List, [], ◌∷◌, ◌++◌, map}
 use Rattle.ti_cap.specs.FaultNames.{cap_fault_word}
 use Rattle.ti_cap.specs.declared.language.CapFault.{CapFault}
 use Rattle.ti_cap.specs.declared.language.CapFault.TheVariants as capability
-use Rattle.ti_expand.specs.declared.fault.ExpandFault.{ExpandFault}
-use Rattle.ti_expand.specs.declared.fault.ExpandFault.TheVariants as expansion
 use Rattle.ti_layout.specs.Faults.{fault_word}
 use Rattle.ti_layout.specs.declared.fault.Fault.{Fault}
 use Rattle.ti_layout.specs.declared.fault.Fault.TheVariants as entry
 use Rattle.ti_words.specs.Names.{Row}
-use Rattle.ti_c.specs.Numbers.{capability_number, entry_number, expand_number}
-use Rattle.ti_c.specs.Words.{expand_word, other_rows}
+use Rattle.ti_c.specs.Numbers.{capability_number, entry_number}
+use Rattle.ti_c.specs.Words.{other_rows}
 
 -- a fault as a row of its number and its word
 abbrev pub entry_row : Fault → Row
@@ -18,9 +16,6 @@ entry_row fault = (entry_number fault, fault_word fault)
 
 abbrev pub capability_row : CapFault → Row
 capability_row fault = (capability_number fault, cap_fault_word fault)
-
-abbrev pub expand_row : ExpandFault → Row
-expand_row fault = (expand_number fault, expand_word fault)
 
 -- the faults of each kind
 abbrev pub entry_faults : List Fault
@@ -36,12 +31,6 @@ capability_faults =
     capability.StrayElse ∷ capability.StrayEnd ∷ capability.NoThen ∷ capability.NestTooDeep ∷
     capability.StackTooDeep ∷ []
 
-abbrev pub expand_faults : List ExpandFault
-expand_faults =
-    expansion.TextTooLong 0 ∷ expansion.OutTooSmall 0 ∷ expansion.StackTooSmall 0 ∷ expansion.Memory ∷ []
-
 -- the table of words
 abbrev pub word_rows : List Row
-word_rows =
-    map entry_row entry_faults
-    ++ (map capability_row capability_faults ++ (map expand_row expand_faults ++ other_rows))
+word_rows = map entry_row entry_faults ++ (map capability_row capability_faults ++ other_rows)

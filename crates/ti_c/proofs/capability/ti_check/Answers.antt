@@ -1,6 +1,7 @@
 use Rattle.std.proofs.Common.{ℕ, List, inl, inr, refl, sym, ◌∙◌, subst}
 use Rattle.ti_cap.specs.Capability.{HasDepth, HasNest, HasBound}
 use Rattle.ti_c.proofs.NumbersLemmas.{not_done}
+use Rattle.ti_c.proofs.OneFaultLemmas.{one_refused, none_refused}
 use Rattle.ti_c.proofs.capability.ti_check.Goals as goal
 
 pub returns-in-Ok-clause-answer : goal.returns-in-Ok-clause-answer
@@ -8,6 +9,12 @@ returns-in-Ok-clause-answer c = inl refl
 
 pub returns-in-Ok-clause-tree : goal.returns-in-Ok-clause-tree
 returns-in-Ok-clause-tree c = λ _. c.in-Ok.ensures.tree
+
+pub returns-in-Ok-clause-accepted : goal.returns-in-Ok-clause-accepted
+returns-in-Ok-clause-accepted c = λ _. c.in-Ok.ensures.accepted
+
+pub returns-in-Ok-clause-only : goal.returns-in-Ok-clause-only
+returns-in-Ok-clause-only c = λ number place refused. absurd (none_refused c.args.capability.now number place c.in-Ok.ensures.accepted refused)
 
 pub returns-in-Ok-clause-depth : goal.returns-in-Ok-clause-depth
 returns-in-Ok-clause-depth c =
@@ -26,6 +33,16 @@ returns-in-Ok-clause-bound c =
 
 pub returns-in-Err-clause-answer : goal.returns-in-Err-clause-answer
 returns-in-Err-clause-answer c = inr (c.in-Err.refused.fault, c.capability_number.ensures, c.in-Err.ensures.refused)
+
+pub returns-in-Err-clause-only : goal.returns-in-Err-clause-only
+returns-in-Err-clause-only c = λ number place.
+    one_refused c.args.capability.now _ _ number place (c.in-Err.refused.fault, c.capability_number.ensures, c.in-Err.ensures.refused)
+
+pub returns-in-Err-clause-untold : goal.returns-in-Err-clause-untold
+returns-in-Err-clause-untold c = λ e. absurd (not_done c.in-Err.refused.fault (sym c.capability_number.ensures ∙ e))
+
+pub returns-in-Err-clause-accepted : goal.returns-in-Err-clause-accepted
+returns-in-Err-clause-accepted c = λ e. absurd (not_done c.in-Err.refused.fault (sym c.capability_number.ensures ∙ e))
 
 pub returns-in-Err-clause-tree : goal.returns-in-Err-clause-tree
 returns-in-Err-clause-tree c = λ e. absurd (not_done c.in-Err.refused.fault (sym c.capability_number.ensures ∙ e))

@@ -1,21 +1,49 @@
-use Rattle.std.proofs.Common.{ℕ, List, length, inr, refl, ap, subst, sym, true≢false, IsOk}
-use Rattle.ti_expand.specs.Expands.{IsExpandFault}
-use Rattle.ti_c.proofs.DeepEnoughLemmas.{on_the_deepest, from_the_deepest}
+use Rattle.std.proofs.Common.{ℕ, List, length, inl, inr, refl, ap, subst, sym, true≢false, IsOk}
+use Rattle.ti_cap.specs.Capability.{HasBound, HasDepth}
+use Rattle.ti_expand.specs.Expands.{IsExpandFault, longest_text}
+use Rattle.ti_c.proofs.DeepEnoughLemmas.{fault_is, none_is_told, stack_is_enough}
 use Rattle.ti_c.proofs.expansion.expand_on.Goals as goal
 
-pub returns-in-Err-clause-answer : goal.returns-in-Err-clause-answer
-returns-in-Err-clause-answer c =
-    let places = length c.args.stack.now in
-    let room = length c.args.out.now in
-    let P : List ℕ → Type 0 = λ b. IsExpandFault b c.args.values.now places room c.in-Err.fault in
-    let is = subst P (ap (λ t. t.left) c.tape.ensures.start) ((c.in-Err.ensures.faults c.in-Err.fault).0 refl) in
-    inr (c.in-Err.fault, c.expand_number.ensures, c.expand_place-run.ensures, on_the_deepest c.args.capability.now c.args.values.now places room c.in-Err.fault c.requires.deep c.requires.few is)
+pub returns-in-Err-TextTooLong-clause-answer : goal.returns-in-Err-TextTooLong-clause-answer
+returns-in-Err-TextTooLong-clause-answer c =
+    inr (inl (
+      refl,
+      fault_is c.args.capability.now c.tape.result.left c.args.values.now (length c.args.stack.now) (length c.args.out.now) _ _
+          (ap (λ t. t.left) c.tape.ensures.start) c.in-Err-TextTooLong.field-0-is ((c.in-Err-TextTooLong.ensures.faults _).0 refl),
+    ))
+
+pub returns-in-Err-OutTooSmall-clause-answer : goal.returns-in-Err-OutTooSmall-clause-answer
+returns-in-Err-OutTooSmall-clause-answer c =
+    let is = fault_is c.args.capability.now c.tape.result.left c.args.values.now (length c.args.stack.now) (length c.args.out.now) _ _
+    (ap (λ t. t.left) c.tape.ensures.start) c.in-Err-OutTooSmall.field-0-is ((c.in-Err-OutTooSmall.ensures.faults _).0 refl) in
+    inr (inr (refl, record { texts = is.0.texts; bound = is.1; short = is.2 }))
+
+pub unreachable-requires : goal.unreachable-requires
+unreachable-requires c =
+    stack_is_enough c.args.capability.now c.args.values.now (length c.args.stack.now) (length c.args.out.now) _ c.requires
+    (fault_is c.args.capability.now c.tape.result.left c.args.values.now (length c.args.stack.now) (length c.args.out.now) _ _
+    (ap (λ t. t.left) c.tape.ensures.start) c.in-Err-StackTooSmall.field-0-is ((c.in-Err-StackTooSmall.ensures.faults _).0 refl))
+
+pub unreachable-requires-in-Err-Memory : goal.unreachable-requires-in-Err-Memory
+unreachable-requires-in-Err-Memory c =
+    fault_is c.args.capability.now c.tape.result.left c.args.values.now (length c.args.stack.now) (length c.args.out.now) _ _
+    (ap (λ t. t.left) c.tape.ensures.start) c.in-Err-Memory.field-0-is ((c.in-Err-Memory.ensures.faults _).0 refl)
 
 pub returns-in-Ok-clause-faultless : goal.returns-in-Ok-clause-faultless
-returns-in-Ok-clause-faultless c answered fault at_most =
+returns-in-Ok-clause-faultless c answered number place =
     let places = length c.args.stack.now in
     let room = length c.args.out.now in
+    none_is_told c.args.capability.now c.args.values.now places room number place c.requires (λ fault is.
     let P : List ℕ → Type 0 = λ b. IsExpandFault b c.args.values.now places room fault in
-    let is = from_the_deepest c.args.capability.now c.args.values.now places room fault c.requires.deep c.requires.few at_most in
     let told = (c.in-Ok.ensures.faults fault).1 (subst P (sym (ap (λ t. t.left) c.tape.ensures.start)) is) in
-    true≢false (sym (subst IsOk told refl))
+    true≢false (sym (subst IsOk told refl)))
+
+pub returns-in-Ok-clause-peak_low : goal.returns-in-Ok-clause-peak_low
+returns-in-Ok-clause-peak_low c answered depth has =
+    let P : List ℕ → Type 0 = λ b. HasDepth b depth in
+    c.in-Ok.ensures.peak_low depth (subst P (sym (ap (λ t. t.left) c.tape.ensures.start)) has)
+
+pub returns-in-Ok-clause-written_low : goal.returns-in-Ok-clause-written_low
+returns-in-Ok-clause-written_low c answered bound has =
+    let P : List ℕ → Type 0 = λ b. HasBound b (longest_text c.args.values.now) bound in
+    c.in-Ok.ensures.written_low bound (subst P (sym (ap (λ t. t.left) c.tape.ensures.start)) has)
