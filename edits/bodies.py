@@ -65,12 +65,13 @@ class Function:
 HEADER = re.compile(r'( *)(?:pub(?:\(.*?\))? )?(?:const )?(?:unsafe )?(?:extern "C" )?fn (\w+)')
 
 
-def function_at(file, lines, number):
-    """The function whose body has the line; None if the line is in no body.
+def function_at(crate, file, number):
+    """The function whose body has a line of a file; None if the line is in no body.
 
     In the layout of `rt fmt` a body begins with a brace at the end of its header, or on a line of its own as far in as
     the header, and ends with one as far in.
     """
+    lines = lines_of(crate, file)
     heads = [(at, head) for at in range(number) if (head := HEADER.match(lines[at]))]
     if not heads:
         return None
@@ -84,8 +85,19 @@ def function_at(file, lines, number):
         first -= 1  # a line of an attribute
     last = lines.index(f"{indent}}}", at)
     owner, trait = impl_at(lines, at) if indent else ("", "")
-    path = (*module_of(file), *([owner + trait] if owner else []), head[2])
+    modules = module_of(home_of(crate, owner) or file)
+    path = (*modules, *([owner + trait] if owner else []), head[2])
     return Function(file, first, at, last, path, trait != "")
+
+
+@lru_cache(None)
+def home_of(crate, owner):
+    """The file that declares a type, if the crate does: a check calls a method by the module of its type."""
+    declared = re.compile(rf"^\s*(?:pub(?:\(.*?\))? )?(?:struct|enum) {owner}\b", re.M)
+    for path in sorted(prove.folder(crate).glob("src/**/*.rt")):
+        if owner and declared.search(path.read_text(encoding="utf-8")):
+            return str(path.relative_to(prove.folder(crate)))
+    return None
 
 
 def module_of(file):
@@ -160,7 +172,7 @@ def read_edit(path, crate):
         for number, (was, line) in enumerate(zip(before, after.split("\n"), strict=True)):
             if was != line:
                 lines[file, number] = line
-                functions.add(function_at(file, before, number))
+                functions.add(function_at(crate, file, number))
     if not lines:
         raise BadEdit("it changes nothing")
     label = str(path.relative_to(prove.ROOT))
