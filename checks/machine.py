@@ -1,0 +1,82 @@
+"""What the scripts share about this repository and this machine: where things are, which tools are there, and how the program
+and the library are built."""
+
+import shutil
+import subprocess
+import sys
+from collections.abc import Iterable
+from pathlib import Path
+
+ROOT = Path(__file__).resolve().parent.parent
+LAUNCHER = ROOT / "ti"
+PROGRAM = ROOT / "crates/ti/out/ti"
+ARCHIVE = ROOT / "crates/ti_c/out/libti_c.a"
+INCLUDE = ROOT / "include"
+
+# Debian's packages of what the checks run in or compare with, each with its commands. A package is known to be there by the
+# first of them, even if it came from elsewhere.
+PACKAGES: dict[str, tuple[str, ...]] = {
+    "gcc": ("gcc", "cc"),
+    "g++": ("g++",),
+    "clang": ("clang", "clang++"),
+    "libclang-rt-dev": (),
+    "valgrind": ("valgrind",),
+    "pkg-config": ("pkg-config",),
+    "rustc": ("rustc",),
+    "man-db": ("man",),
+    "bash-completion": (),
+    "zsh": ("zsh",),
+    "fish": ("fish",),
+    "ncurses-bin": ("tic", "infocmp", "tput"),
+    "ncurses-base": (),
+    "ncurses-term": (),
+    "libncurses-dev": (),
+    "libunibilium-dev": (),
+    "vim": ("vim",),
+    "less": ("less",),
+    "tmux": ("tmux",),
+}
+
+# The folders of compiled entries. On many machines /lib is a link to /usr/lib.
+ENTRY_FOLDERS = [Path("/etc/terminfo"), Path("/lib/terminfo"), Path("/usr/lib/terminfo"), Path("/usr/share/terminfo")]
+
+
+def is_there(command: str) -> bool:
+    """Whether a command is on the path."""
+    return shutil.which(command) is not None
+
+
+def package_of(command: str) -> str:
+    """Debian's package of a command."""
+    return next((package for package, commands in PACKAGES.items() if command in commands), command)
+
+
+def need(script: str, *commands: str) -> None:
+    """Ends a script that cannot run without these commands, if one is missing."""
+    for command in commands:
+        if not is_there(command):
+            sys.exit(f"{script}: there is no {command} on the path")
+
+
+def build_program() -> None:
+    """Builds the program if that is not done yet. The launcher prints what is missing for it, and the script ends then."""
+    if subprocess.run([LAUNCHER, "--help"], stdout=subprocess.DEVNULL, check=False).returncode:
+        sys.exit(1)
+
+
+def prove(*crates: str) -> None:
+    """Proves and builds crates with all below them, which ./prove reports on standard error. The script ends if that fails."""
+    for crate in crates:
+        if subprocess.run([ROOT / "prove", crate], check=False).returncode:
+            sys.exit(1)
+
+
+def entry_files(folders: Iterable[Path] = ENTRY_FOLDERS) -> list[Path]:
+    """The files of compiled entries in these folders, without links to others."""
+    paths = (path for folder in folders for path in sorted(folder.rglob("*")))
+    return [path for path in paths if path.is_file() and not path.is_symlink() and path.name != "README"]
+
+
+def entry_file(name: str) -> Path | None:
+    """The file of the entry of this name, which can be a link."""
+    return next((path for folder in ENTRY_FOLDERS if (path := folder / name[0] / name).exists()), None)
