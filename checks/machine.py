@@ -72,8 +72,11 @@ def prove(*crates: str) -> None:
 
 
 def entry_files(folders: Iterable[Path] = ENTRY_FOLDERS) -> list[Path]:
-    """The files of compiled entries in these folders, without links to others."""
-    paths = (path for folder in folders for path in sorted(folder.rglob("*")))
+    """The files of compiled entries in these folders, each once: no link to another, and no folder that is one before it."""
+    different: dict[Path, Path] = {}
+    for folder in folders:
+        different.setdefault(folder.resolve(), folder)
+    paths = (path for folder in different.values() for path in sorted(folder.rglob("*")))
     return [path for path in paths if path.is_file() and not path.is_symlink() and path.name != "README"]
 
 
