@@ -1,31 +1,47 @@
 //! Worked rows from terminfo's manual pages and hand-made ones, in tables.
 
-mod both;
-mod conversions;
-mod counts;
-mod drafts;
-mod entries;
-mod fakes;
-mod flushes;
-mod forged;
-mod growth;
-mod hostile;
-mod large;
-mod line;
-mod looks;
-mod memory;
-mod messages;
-mod named;
-mod outputs;
-mod padded;
-mod program;
-mod reading;
-mod real;
-mod refusals;
-mod shows;
-mod streams;
-mod tmux;
+use std::process::Abort;
+
+/// Ends the test unless the condition holds. One call for each condition keeps the proofs of the tests short.
+pub fn claim(rt: &impl Abort, holds: bool, condition: &str) {
+    assert!(rt; holds, "it does not hold that {condition}");
+}
+
+/// Claims a condition, which the message names.
+macro_rules! assert_that {
+    ($rt:expr; $condition:expr) => {
+        crate::tests::claim(&$rt, $condition, stringify!($condition))
+    };
+}
+
+mod capability_faults;
+mod capability_sizes;
+mod changed_bytes;
+mod cut_entries;
+mod deciding_bytes;
+mod draft_growths;
+mod draft_memory;
+mod drafts_written;
+mod entries_read;
+mod entry_messages;
+mod entry_refusals;
+mod entry_sources;
+mod entry_views;
+mod expanded;
+mod expansion_faults;
+mod expansion_limits;
+mod expansion_memory;
+mod expansion_rows;
+mod expansion_runs;
+mod expansion_steps;
+mod expansion_variables;
+mod extended_parts;
+mod large_entry;
+mod names;
+mod notation;
+mod padding_memory;
+mod padding_rows;
+mod padding_writers;
 mod traces;
-mod tracing;
-mod verdicts;
-mod views;
+mod ways_to_read;
+mod wide_entries;

@@ -25,6 +25,3 @@ pub use reader::EntryReader;
 pub use source::{ReadStop, read_from};
 pub use ti_draft::{Draft, EncodeFault, encoded_len};
 pub use ti_layout::{Fault, Refused};
-
-#[cfg(test)]
-mod tests;

@@ -23,6 +23,3 @@ pub use label::push_label;
 pub use length::notation_len;
 pub use memory::push_notation;
 pub use slice::escape_into;
-
-#[cfg(test)]
-mod tests;

@@ -36,6 +36,3 @@ pub use steps::Steps;
 pub use taken::{Did, Taken};
 pub use values::Value;
 pub use variables::Vars;
-
-#[cfg(test)]
-mod tests;

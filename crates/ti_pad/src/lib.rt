@@ -23,6 +23,3 @@ pub use output::write_out;
 pub use padding::Padding;
 pub use slice::{PadIntoFault, pad_into};
 pub use writing::{PadStop, write_padded};
-
-#[cfg(test)]
-mod tests;

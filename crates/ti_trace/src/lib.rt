@@ -16,6 +16,3 @@ mod tracing;
 
 pub use fault::TraceFault;
 pub use tracing::trace;
-
-#[cfg(test)]
-mod tests;

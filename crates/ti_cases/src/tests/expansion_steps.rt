@@ -1,0 +1,56 @@
+//! A pass that stops after each token.
+
+use super::expanded::capability_of;
+use std::test::Fail;
+use ti_expand::{Did, Run, Steps, Vars};
+use ti_fixtures::capabilities::nine;
+
+/// A conditional, whose otherwise part runs.
+const OTHERWISE: &[u8] = b"%?%p1%t1%e2%;";
+
+/// What became of each token with 0 for the parameter, and then the bytes taken, the values on the stack and what was
+/// written.
+const STEPS: [(Did, usize, usize, &[u8]); 7] = [
+    (Did::Ran, 2, 0, b""),
+    (Did::Ran, 5, 1, b""),
+    (Did::Ran, 7, 0, b""),
+    (Did::PassedOver, 8, 0, b""),
+    (Did::Ran, 10, 0, b""),
+    (Did::Ran, 11, 0, b"2"),
+    (Did::Ran, 13, 0, b"2"),
+];
+
+#[test]
+fn a_pass_stops_after_each_token(rt: HostRuntime) -> Result<(), Fail> {
+    let capability = capability_of(OTHERWISE)?;
+    let parameters = nine(&[]);
+    let mut steps = Steps::new(rt.alloc(), &capability, &parameters, Vars::new())?;
+    for (did, at, values, output) in STEPS {
+        let taken = steps.step().ok_or("no token")?;
+        assert_that!(rt; taken.did == did);
+        assert_that!(rt; steps.at() == at);
+        assert_that!(rt; steps.stack().len() == values);
+        assert_that!(rt; steps.output() == output);
+    }
+    assert_that!(rt; steps.step() == None);
+    Ok(())
+}
+
+#[test]
+fn the_steps_of_a_pass_are_counted(rt: HostRuntime) -> Result<(), Fail> {
+    let capability = capability_of(OTHERWISE)?;
+    let parameters = nine(&[]);
+    let mut steps = Steps::new(rt.alloc(), &capability, &parameters, Vars::new())?;
+    for _ in STEPS {
+        steps.step().ok_or("no token")?;
+    }
+    let whole = Run {
+        written: 1,
+        ran: 6,
+        passed: 1,
+        peak: 1,
+    };
+    assert_that!(rt; steps.run() == whole);
+    assert_that!(rt; steps.vars().get(b'a') == Some(0));
+    Ok(())
+}

@@ -1,0 +1,43 @@
+//! Runs of the program and its calls, in tables of rows.
+
+use std::process::Abort;
+
+/// Ends the test unless the condition holds. One call for each condition keeps the proofs of the tests short.
+pub fn claim(rt: &impl Abort, holds: bool, condition: &str) {
+    assert!(rt; holds, "it does not hold that {condition}");
+}
+
+/// Claims a condition, which the message names.
+macro_rules! assert_that {
+    ($rt:expr; $condition:expr) => {
+        crate::tests::claim(&$rt, $condition, stringify!($condition))
+    };
+}
+
+mod cap_call;
+mod check_call;
+mod convert_call;
+mod convert_streams;
+mod ending;
+mod expand_call;
+mod expand_streams;
+mod failing_streams;
+mod fault_lines;
+mod fault_messages;
+mod flushing;
+mod forged_names;
+mod help;
+mod large_runs;
+mod listings;
+mod parameters;
+mod read_lines;
+mod refused_lines;
+mod refused_memory;
+mod rows_of_cap;
+mod rows_of_check;
+mod rows_of_convert;
+mod rows_of_expand;
+mod rows_of_show;
+mod rows_of_trace;
+mod show_call;
+mod trace_call;

@@ -1,0 +1,67 @@
+//! Listings and verdicts with the look that is asked for, and of a large entry.
+
+use super::rows_of_show::UNCOMMON;
+use ti_escape::Form;
+use ti_fixtures::{Sink, Source, TMUX};
+use ti_tool::{Look, NameForm, Naming, check, check_as, show, show_as};
+use ti_words::NameTable;
+
+/// The names of all capabilities, and the notation.
+const NAMING: Naming = Naming {
+    table: NameTable::All,
+    form: NameForm::Notation,
+};
+
+#[test]
+fn a_listing_has_the_look_that_is_asked(rt: HostRuntime) {
+    let look = Look {
+        naming: NAMING,
+        form: Form::Notation,
+    };
+    let mut output = Sink::new(rt.alloc());
+    let mut input = Source::new(UNCOMMON, 7);
+    assert_that!(rt; show_as(rt.alloc(), &mut input, look, &mut output) == Ok(()));
+    let lines = b"format: legacy\nnames: t\nflag xsb\ntext bel ^G\ntext cmdch \\E%p1%d\\^\\,\\s\n";
+    assert_that!(rt; output.taken.as_slice() == lines.as_slice());
+}
+
+#[test]
+fn verdicts_have_the_names_that_are_asked(rt: HostRuntime) {
+    let mut output = Sink::new(rt.alloc());
+    let mut input = Source::new(UNCOMMON, 7);
+    assert_that!(rt; check_as(rt.alloc(), &mut input, NAMING, &mut output) == Ok(true));
+    let lines = b"text bel ok depth 0 bound 1\ntext cmdch ok depth 1 bound 15\n";
+    assert_that!(rt; output.taken.as_slice() == lines.as_slice());
+}
+
+/// The listing, whose lines infocmp has in the same order; the flags OTbs and OTpt have no name in the table.
+#[test]
+fn a_large_entry_is_listed(rt: HostRuntime) {
+    let mut writer = Sink::new(rt.alloc());
+    assert_that!(rt; show(rt.alloc(), &mut Source::new(&TMUX, 512), &mut writer).is_ok());
+    let lines = writer.taken.as_slice();
+    let front =
+        b"format: legacy\nnames: tmux|tmux terminal multiplexer\nflag am\nflag xenl\nflag km\nflag hs\nflag mir\nflag msgr\n";
+    assert_that!(rt; lines.starts_with(front));
+    assert_that!(rt; lines.ends_with(b"\ntext+ rmxx 1b5b32396d\ntext+ smxx 1b5b396d\n"));
+}
+
+/// How many lines the bytes have.
+fn line_count(bytes: &[u8]) -> u32 {
+    let mut count = 0u32;
+    for byte in bytes {
+        if *byte == b'\n' {
+            count = count.saturating_add(1);
+        }
+    }
+    count
+}
+
+/// infocmp lists 230 texts, and each is a capability.
+#[test]
+fn a_large_entry_is_checked(rt: HostRuntime) {
+    let mut writer = Sink::new(rt.alloc());
+    let sound = check(rt.alloc(), &mut Source::new(&TMUX, 512), &mut writer);
+    assert_that!(rt; sound == Ok(true));
+    assert_that!(rt; line_count(writer.taken.as_slice()) == 230);
+}
