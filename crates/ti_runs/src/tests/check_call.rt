@@ -79,17 +79,17 @@ const ROWS: [Row; 11] = [
 
 /// What a call returned, and what its writer took.
 #[derive(Drop)]
-struct Checked {
+struct Verdicts {
     result: Result<bool, ToolFault>,
     taken: Vec<u8>,
 }
 
 /// Checks the texts of an entry from a source, with a writer.
-fn checked<A: Allocator + Copy>(alloc: A, source: Source<'_>, writer: Sink) -> Checked {
+fn checked<A: Allocator + Copy>(alloc: A, source: Source<'_>, writer: Sink) -> Verdicts {
     let mut source = source;
     let mut writer = writer;
     let result = check(alloc, &mut source, &mut writer);
-    Checked {
+    Verdicts {
         result,
         taken: writer.taken,
     }

@@ -1,6 +1,7 @@
 //! Words that are no command line, and what the user is told of them.
 
 use super::ending::end_of;
+use std::alloc::Global;
 use std::test::Fail;
 use ti_fixtures::entries::SMALL;
 use ti_line::{NoLine, read_line};
@@ -46,17 +47,33 @@ const REFUSED: [(&[&str], &str); 21] = [
     ),
 ];
 
+/// What is shown of the refusal of words.
+fn refusal_of(alloc: Global, words: &[&str]) -> Result<String, Fail> {
+    match read_line(alloc, words) {
+        Err(NoLine::Refused(message)) => { Ok(format!(in alloc; "{}", NoLine::Refused(message))?) }
+        _ => Err(Fail::from("no refusal")),
+    }
+}
+
+/// Whether a text has printable characters and newlines alone.
+fn is_printable(text: &str) -> bool {
+    for byte in text.as_bytes() {
+        if *byte != b'\n' && !(b' '..=b'~').contains(byte) {
+            return false;
+        }
+    }
+    true
+}
+
 #[test]
-fn other_words_are_refused_with_a_text(rt: HostRuntime) {
+fn other_words_are_refused_with_a_text(rt: HostRuntime) -> Result<(), Fail> {
     for (words, part) in REFUSED.iter() {
-        let why = read_line(rt.alloc(), words).expect_err(&rt, "a refusal");
-        assert_that!(rt; matches!(&why, NoLine::Refused(_)));
-        let text = format!(in rt.alloc(); "{why}").expect(&rt, "memory");
+        let text = refusal_of(rt.alloc(), words)?;
         assert_that!(rt; text.as_str().contains(*part));
         assert_that!(rt; text.as_str().ends_with("\n"));
-        let mut shown = text.as_str().as_bytes().iter();
-        assert_that!(rt; shown.all(|byte| *byte == b'\n' || (b' '..=b'~').contains(byte)));
+        assert_that!(rt; is_printable(text.as_str()));
     }
+    Ok(())
 }
 
 /// Words that are no command line.

@@ -11,6 +11,7 @@ use ti_expand::Value;
 use ti_fixtures::traces::{COLUMN, COLUMN_OF_7};
 use ti_fixtures::{Sink, Source, Tally};
 use ti_tool::{ToolFault, trace_run};
+use ti_trace::trace;
 
 const NUMBERS: [Value<'static>; 9] = [Value::Num(7); 9];
 
@@ -30,7 +31,7 @@ fn traced<A: Allocator + Copy>(
     }
 }
 
-/// Whether a trace is written with so much memory, all of which is given back.
+/// Whether a trace is written with so much memory, all of which is given back. It is as much as the text alone takes.
 fn is_traced(rt: &impl Abort, global: Global, memory: usize) -> Result<bool, Fail> {
     let heap = LocalHeap::new(global, memory)?;
     let written = traced(&heap, Source::new(COLUMN, 512), &NUMBERS, Sink::new(global));
@@ -42,6 +43,8 @@ fn is_traced(rt: &impl Abort, global: Global, memory: usize) -> Result<bool, Fai
         }
     }
     assert_that!(rt; heap.used() == 0);
+    let text = trace(&heap, COLUMN, &NUMBERS, Form::Hex);
+    assert_that!(rt; text.is_ok() == written.result.is_ok());
     Ok(written.result.is_ok())
 }
 
