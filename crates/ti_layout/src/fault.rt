@@ -5,11 +5,11 @@
 
 ghost use Rattle.std.specs.Prelude.{◌≡◌};
 
+use std::fmt;
 use thiserror::Error;
 
-/// What is wrong with the bytes of an entry.
-#[derive(Clone, Copy, Debug, PartialEq, Eq, Error)]
-#[error("{}", self.word())]
+/// What is wrong with the bytes of an entry. As an error it prints its name.
+#[derive(Clone, Copy, Debug, PartialEq, Eq)]
 pub enum Fault {
     /// The bytes end before a section does.
     Truncated,
@@ -66,6 +66,19 @@ impl Fault {
         }
     }
 }
+
+impl fmt::Display for Fault {
+    ghost use Rattle.std.specs.Prelude.{Some};
+    ghost use Rattle.ti_layout.specs.Faults.{fault_word};
+
+    ghost output = { λ fault. Some (fault_word fault) };
+
+    fn fmt<W: fmt::Write>(&self, f: &mut fmt::Formatter<W>) -> fmt::Result {
+        f.write_str(self.word())
+    }
+}
+
+impl std::error::Error for Fault {}
 
 /// The first check that does not hold of the bytes.
 #[derive(Clone, Copy, Debug, PartialEq, Eq, Error)]
