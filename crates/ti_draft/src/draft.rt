@@ -9,6 +9,7 @@ ghost use Rattle.ti_words.specs.Spelling.{name_in, mark_in, extended_names};
 
 use crate::named::Named;
 use std::alloc::{AllocError, Allocator, Global};
+use std::fmt;
 use std::marker::Model;
 use ti_words::{Flag, Number, Text, Width};
 
@@ -42,6 +43,13 @@ impl<'a, A: Allocator> Model for Draft<'a, A> {
       extended_numbers = d.extended_numbers;
       extended_texts = map (λ x. (x.0, text_value x.1)) d.extended_texts;
     } };
+}
+
+// It names the type alone, since an allocator need not print itself.
+impl<'a, A: Allocator> fmt::Debug for Draft<'a, A> {
+    fn fmt<W: fmt::Write>(&self, f: &mut fmt::Formatter<W>) -> fmt::Result {
+        f.write_str("Draft")
+    }
 }
 
 impl<'a, A: Allocator> Draft<'a, A> {

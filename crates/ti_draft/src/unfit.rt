@@ -12,13 +12,12 @@ ghost use Rattle.ti_draft.specs.Unfit.{has_nul as the_has_nul, text_has_nul as t
 
 use crate::draft::Draft;
 use std::alloc::{AllocError, Allocator};
-use thiserror::Error;
+use std::fmt;
 use ti_base::{GREATEST_WIDE_WORD, GREATEST_WORD, MOST_ENTRY_BYTES};
 use ti_words::{Number, Text, Width};
 
-/// Why a draft has no bytes.
-#[derive(Clone, Copy, Debug, PartialEq, Eq, Error)]
-#[error("{}", self.word())]
+/// Why a draft has no bytes. As an error it prints its name.
+#[derive(Clone, Copy, Debug, PartialEq, Eq)]
 pub enum EncodeFault {
     /// The names are empty or hold a NUL, or an extended name holds one.
     BadName,
@@ -59,6 +58,19 @@ impl EncodeFault {
         }
     }
 }
+
+impl fmt::Display for EncodeFault {
+    ghost use Rattle.std.specs.Prelude.{Some};
+    ghost use Rattle.ti_draft.specs.Unfit.{encode_fault_word};
+
+    ghost output = { λ fault. Some (encode_fault_word fault) };
+
+    fn fmt<W: fmt::Write>(&self, f: &mut fmt::Formatter<W>) -> fmt::Result {
+        f.write_str(self.word())
+    }
+}
+
+impl std::error::Error for EncodeFault {}
 
 /// Whether bytes hold a NUL.
 fn has_nul(bytes: &[u8]) -> bool
