@@ -1,7 +1,7 @@
 //! What waits in an open conditional while a capability is analysed.
 
 /// The greatest values that wait in one open conditional.
-#[derive(Clone, Copy, Debug, Default, PartialEq, Eq)]
+#[derive(Clone, Copy, Default)]
 pub struct Frame {
     /// The value with which its last test failed, where a body is being passed through.
     pub failed: Option<u32>,

@@ -7,6 +7,7 @@ ghost use Rattle.std.specs.Prelude.{◌≡◌, ◌≤◌};
 ghost use Rattle.ti_cap.specs.Sizes.{format_size, token_size};
 ghost use Rattle.ti_cap.specs.FaultNames.{cap_fault_word};
 
+use std::fmt;
 use thiserror::Error;
 
 /// An operation on the numbers on top of the stack.
@@ -116,8 +117,7 @@ pub enum Token {
 }
 
 /// Why bytes are no capability. As an error it prints its name.
-#[derive(Clone, Copy, Debug, PartialEq, Eq, Error)]
-#[error("{}", self.word())]
+#[derive(Clone, Copy, Debug, PartialEq, Eq)]
 pub enum CapFault {
     /// More bytes than [`ti_base::MOST_CAPABILITY_BYTES`].
     TooLong,
@@ -169,6 +169,18 @@ impl CapFault {
         }
     }
 }
+
+impl fmt::Display for CapFault {
+    ghost use Rattle.std.specs.Prelude.{Some};
+
+    ghost output = { λ fault. Some (cap_fault_word fault) };
+
+    fn fmt<W: fmt::Write>(&self, f: &mut fmt::Formatter<W>) -> fmt::Result {
+        f.write_str(self.word())
+    }
+}
+
+impl std::error::Error for CapFault {}
 
 /// A fault, and the number of bytes before it.
 #[derive(Clone, Copy, Debug, PartialEq, Eq, Error)]

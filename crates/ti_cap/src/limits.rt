@@ -1,7 +1,7 @@
 //! What an analysis finds of a capability.
 
 /// The exact limits of a capability over all its paths.
-#[derive(Clone, Copy, Debug, PartialEq, Eq)]
+#[derive(Clone, Copy, Debug)]
 pub struct Limits {
     /// The greatest height of the stack.
     pub depth: usize,

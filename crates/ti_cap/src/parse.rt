@@ -18,7 +18,7 @@ use ti_base::{MOST_CAPABILITY_BYTES, MOST_OPEN};
 const FEW_OPEN: usize = 4;
 
 /// Bytes that are a capability.
-#[derive(Drop)]
+#[derive(Debug, Drop)]
 pub struct Capability<'a> {
     bytes: &'a [u8],
     limits: Limits,
@@ -120,7 +120,7 @@ fn limits_of<const ROOM: usize>(bytes: &[u8]) -> Result<Limits, CapRefused>
 }
 
 /// The tokens of a capability, one after the other. It goes forward only.
-#[derive(Drop)]
+#[derive(Debug, Drop)]
 pub struct Tape<'a> {
     bytes: &'a [u8],
     place: usize,
