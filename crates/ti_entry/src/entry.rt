@@ -19,7 +19,7 @@ use ti_layout::{Fault, Header, Part, Refused, Stage, numbers_size};
 use ti_words::{Flag, Kind, Number, Text, Width};
 
 /// A compiled entry (term(5)). What it gives is lent from the bytes that it was read from.
-#[derive(Drop)]
+#[derive(Debug, Drop)]
 pub struct Entry<'a> {
     bytes: &'a [u8],
     header: Header,

@@ -21,7 +21,7 @@ use ti_words::{Flag, Kind, Number, Text};
 
 /// The extended part of an entry, with no capability where the entry has none. What it gives is lent from the bytes that
 /// the entry was read from.
-#[derive(Drop)]
+#[derive(Debug, Drop)]
 pub struct Extended<'a> {
     bytes: &'a [u8],
     header: Header,

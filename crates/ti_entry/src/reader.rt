@@ -14,6 +14,7 @@ ghost use Rattle.ti_layout.specs.Refusal.{refusal, failure, fault_after as the_f
 
 use crate::entry::{Entry, entry_at};
 use arrayvec::ArrayVec;
+use std::fmt;
 use std::marker::Model;
 use ti_base::MOST_ENTRY_BYTES;
 use ti_layout::{Fault, Refused, Stage, header_words};
@@ -35,6 +36,13 @@ impl Model for EntryReader {
     ghost view = { λ r. record { kept = r.kept.items; refusal = r.refusal } };
 
     ghost invariant = { λ r. IsReading r.kept.items r.stage r.refusal };
+}
+
+// It names the type alone, since the bytes that it keeps may be tens of thousands.
+impl fmt::Debug for EntryReader {
+    fn fmt<W: fmt::Write>(&self, f: &mut fmt::Formatter<W>) -> fmt::Result {
+        f.write_str("EntryReader")
+    }
 }
 
 impl EntryReader {

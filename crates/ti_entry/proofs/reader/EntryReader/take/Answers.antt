@@ -21,6 +21,15 @@ returns-then-is_full-clause-fed c =
     same_reading kept c.args.self.now _ (c.args.byte ∷ []) c.self.inside.refusal c.self.view_is none
     (reading_after-fails kept c.args.byte c.refusal_when_full-refused.result c.self.invariant.none_failed failed)
 
+pub invariant_of-self : goal.invariant_of-self
+invariant_of-self c =
+    record {
+      most = c.self.invariant.most;
+      none_failed = c.self.invariant.none_failed;
+      stands = λ e. absurd (cc);
+      waits = λ e. absurd (cc);
+    }
+
 -- ---- a byte more
 
 pub advance-requires : goal.advance-requires
@@ -30,6 +39,15 @@ advance-requires c =
     subst (λ (k : List ℕ). Stands k c.self.inside.stage) (sym (c.as_slice-3.ensures.value ∙ c.push.ensures.items)) longer
 
 -- ---- too few bytes for a check
+
+pub need-requires-clause-within : goal.need-requires-clause-within
+need-requires-clause-within c = (c.self.invariant.stands (ap (λ (r : Reading). r.refusal) c.self.view_is ∙ c.requires) []).within
+
+pub need-requires-clause-fits : goal.need-requires-clause-fits
+need-requires-clause-fits c = (c.self.invariant.stands (ap (λ (r : Reading). r.refusal) c.self.view_is ∙ c.requires) []).fits
+
+pub need-requires-clause-extended_fits : goal.need-requires-clause-extended_fits
+need-requires-clause-extended_fits c = (c.self.invariant.stands (ap (λ (r : Reading). r.refusal) c.self.view_is ∙ c.requires) []).extended_fits
 
 pub invariant_of-self-then-as_slice-need : goal.invariant_of-self-then-as_slice-need
 invariant_of-self-then-as_slice-need c =

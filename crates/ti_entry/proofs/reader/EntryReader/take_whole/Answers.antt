@@ -1,4 +1,4 @@
-use Rattle.std.proofs.Common.{◌≡◌, ◌≤◌, ◌∙◌, ap, sym, subst, length, take, List, ◌++◌, arith}
+use Rattle.std.proofs.Common.{◌≡◌, ◌≤◌, ◌∙◌, ap, sym, subst, length, take, List, ◌++◌, [], arith}
 use Rattle.std.specs.Prelude.{ℕ, None}
 use Rattle.std.proofs.Math.Seq.{take-append_seam}
 use Rattle.ti_base.specs.Limits.{most_entry_bytes}
@@ -17,6 +17,15 @@ advance-requires c =
     subst (λ (k : List ℕ). Stands k c.self.inside.stage) (sym (c.as_slice-2.ensures.value ∙ c.in-Ok.ensures.ok)) longer
 
 -- ---- too few bytes for a check
+
+pub need-requires-clause-within : goal.need-requires-clause-within
+need-requires-clause-within c = (c.self.invariant.stands (ap (λ (r : Reading). r.refusal) c.self.view_is ∙ c.requires) []).within
+
+pub need-requires-clause-fits : goal.need-requires-clause-fits
+need-requires-clause-fits c = (c.self.invariant.stands (ap (λ (r : Reading). r.refusal) c.self.view_is ∙ c.requires) []).fits
+
+pub need-requires-clause-extended_fits : goal.need-requires-clause-extended_fits
+need-requires-clause-extended_fits c = (c.self.invariant.stands (ap (λ (r : Reading). r.refusal) c.self.view_is ∙ c.requires) []).extended_fits
 
 pub invariant_of-self-then-as_slice-need : goal.invariant_of-self-then-as_slice-need
 invariant_of-self-then-as_slice-need c =
@@ -60,6 +69,12 @@ invariant_of-self-in_default-advance c =
       stands = λ e. subst (λ (k : List ℕ). Stands k c.self.inside.stage) (sym same) (c.self.invariant.stands e);
       waits = λ e. subst (λ (k : List ℕ). Waits k c.self.inside.stage) (sym same) (c.self.invariant.waits e);
     }
+
+pub returns-in_default-advance-clause-same : goal.returns-in_default-advance-clause-same
+returns-in_default-advance-clause-same c = λ e.
+    let count = c.kept-count.ensures.count ∙ ap (λ (r : Reading). length r.kept) (sym c.self.view_is) in
+    let same = restored c.self.inside.kept.items c.truncate.new.self.items c.try_extend_from_slice.new.self.items c.args.piece.now c.kept-count.result c.in-Ok.ensures.ok count c.truncate.ensures.items in
+    ap (λ (k : List ℕ). reading_with k c.self.inside.refusal) same ∙ c.self.view_is
 
 -- ---- none does
 
