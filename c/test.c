@@ -706,7 +706,7 @@ static uint32_t pad_text(const char *text, size_t length, ti_padding padding, si
 static ti_padding padding_of(uint32_t rate, uint32_t lines, uint8_t xon, uint8_t pad) {
     ti_padding padding;
     padding.rate = rate;
-    padding.lines = lines;
+    padding.affected_lines = lines;
     padding.xon = xon;
     padding.pad = pad;
     return padding;

@@ -37,7 +37,7 @@ class Run(Structure):
 
 
 class Padding(Structure):
-    _fields_ = [("rate", c_uint32), ("lines", c_uint32), ("xon", c_uint8), ("pad", c_uint8)]
+    _fields_ = [("rate", c_uint32), ("affected_lines", c_uint32), ("xon", c_uint8), ("pad", c_uint8)]
 
 
 ti = CDLL("libti.so.0")

@@ -73,7 +73,7 @@ struct Run {
 #[repr(C)]
 struct Padding {
     rate: u32,
-    lines: u32,
+    affected_lines: u32,
     xon: u8,
     pad: u8,
 }
@@ -135,7 +135,7 @@ fn expanded(capability: &[u8], parameters: &[Parameter]) -> Result<Vec<u8>, u32>
     let mut vars = [0i32; 52];
     let mut run = Run::default();
     let mut written = 0;
-    let no_line = Padding { rate: 0, lines: 1, xon: 0, pad: 0 };
+    let no_line = Padding { rate: 0, affected_lines: 1, xon: 0, pad: 0 };
     unsafe {
         done(ti_expand(
             capability.as_ptr(), capability.len(), parameters.as_ptr(), parameters.len(), vars.as_mut_ptr().cast(),

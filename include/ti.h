@@ -74,7 +74,7 @@ enum {
     TI_TEXT_TOO_LONG = 202,       /* a text of more than 32767 bytes; the place is its parameter, counted from 1 */
     TI_OUT_TOO_SMALL = 203,       /* less room than the capability's bound, or than the padded text; that is told */
     /* Faults of padding. */
-    TI_BAD_PADDING = 301,         /* a rate above 1000000, or lines above 65535; no length is told */
+    TI_BAD_PADDING = 301,         /* a rate above 1000000, or affected lines above 65535; no length is told */
     TI_TOO_MUCH = 302,            /* the padded text would have more than 67108864 bytes */
     /* Faults of a search. */
     TI_NOT_NAMED = 401,           /* no capability has this kind and index, or this name, or no fault this number */
@@ -144,10 +144,10 @@ typedef struct {
 
 /* What padding depends on. */
 typedef struct {
-    uint32_t rate;  /* of the line, in bytes per second, at most 1000000; with 0 there are no pad bytes */
-    uint32_t lines; /* that are affected, at most 65535: a mark with a * pads for each of them */
-    uint8_t xon;    /* not 0 if the terminal has flow control: then only a mark with a / is padded */
-    uint8_t pad;    /* the pad byte; 0 in nearly all terminals */
+    uint32_t rate;           /* of the line, in bytes per second, at most 1000000; with 0 there are no pad bytes */
+    uint32_t affected_lines; /* at most 65535: a mark with a * pads for each of them */
+    uint8_t xon;             /* not 0 if the terminal has flow control: then only a mark with a / is padded */
+    uint8_t pad;             /* the pad byte; 0 in nearly all terminals */
 } ti_padding;
 
 /* Reads a compiled entry, which has to be all of the bytes, into four arrays.
@@ -255,7 +255,7 @@ TI_LAYOUT(sizeof(ti_limits) == 32 && offsetof(ti_limits, depth) == 0 && offsetof
 TI_LAYOUT(offsetof(ti_limits, bound) == 16 && offsetof(ti_limits, place) == 24);
 TI_LAYOUT(sizeof(ti_run) == 40 && offsetof(ti_run, written) == 0 && offsetof(ti_run, ran) == 8);
 TI_LAYOUT(offsetof(ti_run, passed) == 16 && offsetof(ti_run, peak) == 24 && offsetof(ti_run, place) == 32);
-TI_LAYOUT(sizeof(ti_padding) == 12 && offsetof(ti_padding, rate) == 0 && offsetof(ti_padding, lines) == 4);
+TI_LAYOUT(sizeof(ti_padding) == 12 && offsetof(ti_padding, rate) == 0 && offsetof(ti_padding, affected_lines) == 4);
 TI_LAYOUT(offsetof(ti_padding, xon) == 8 && offsetof(ti_padding, pad) == 9);
 #undef TI_LAYOUT
 #endif

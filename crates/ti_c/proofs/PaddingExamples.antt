@@ -8,7 +8,7 @@ use Rattle.ti_c.specs.Padding.{padded_as_given, padding_answer, told_length}
 
 -- 1000 bytes per second, one line, no xon, and the pad byte 0
 abbrev slow : GivenPadding
-slow = record { rate = 1000; lines = 1; xon = 0; pad = 0 }
+slow = record { rate = 1000; affected_lines = 1; xon = 0; pad = 0 }
 
 -- the same with xon, by a byte that is not 1
 abbrev held : GivenPadding
@@ -33,7 +33,7 @@ small_row = refl
 rate_row : padding_answer (codes "a") (record slow { rate = 1000001 }) 9 ≡ bad_padding
 rate_row = refl
 
-lines_row : padding_answer (codes "a") (record slow { lines = 65536 }) 9 ≡ bad_padding
+lines_row : padding_answer (codes "a") (record slow { affected_lines = 65536 }) 9 ≡ bad_padding
 lines_row = refl
 
 told_row : told_length 18446744073709551616 ≡ 18446744073709551615

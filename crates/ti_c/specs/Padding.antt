@@ -8,11 +8,11 @@ use Rattle.ti_c.specs.Numbers.{bad_padding, done, out_too_small, too_much}
 
 -- the setting that a padding of C means: xon is off if it is 0, and else on
 abbrev pub setting_given : GivenPadding → Setting
-setting_given p = record { rate = p.rate; lines = p.lines; xon = not (nat_eq p.xon 0); pad = p.pad }
+setting_given p = record { rate = p.rate; lines = p.affected_lines; xon = not (nat_eq p.xon 0); pad = p.pad }
 
 -- the rate and the lines are within their limits
 abbrev pub is_within_limits : GivenPadding → Bool
-is_within_limits p = nat_le p.rate greatest_rate && nat_le p.lines most_lines
+is_within_limits p = nat_le p.rate greatest_rate && nat_le p.affected_lines most_lines
 
 -- the text with the padding in place of its marks
 abbrev pub padded_as_given : List ℕ → GivenPadding → List ℕ

@@ -14,7 +14,7 @@ pub struct GivenPadding {
     /// The rate of the line in bytes per second.
     pub rate: u32,
     /// The number of affected lines.
-    pub lines: u32,
+    pub affected_lines: u32,
     /// 0 if the terminal has no xon.
     pub xon: u8,
     /// The pad byte.
@@ -27,7 +27,7 @@ fn padding_of(given: &GivenPadding) -> Option<Padding>
     ensures within { IfSome result (λ padding. is_within_limits given.now ≡ true) }
     ensures none { IfNone result (is_within_limits given.now ≡ false) }
 {
-    Padding::new(given.rate, given.lines, given.xon != 0, given.pad)
+    Padding::new(given.rate, given.affected_lines, given.xon != 0, given.pad)
 }
 
 /// A length as C is told it.
