@@ -20,6 +20,7 @@ use crate::text_lengths::longest_text;
 use crate::values::Value;
 use crate::variables::Vars;
 use std::alloc::{Allocator, Global};
+use std::fmt;
 use std::marker::Model;
 use ti_cap::{Capability, Tape};
 
@@ -50,6 +51,13 @@ impl<'p, 'a, A: Allocator> Model for Steps<'p, 'a, A> {
     } };
 
     ghost invariant = { λ s. IsPaused s.tape.left (mode_of s.mode) s.machine s.ran s.passed };
+}
+
+// It names the type alone, since an allocator need not print itself.
+impl<'p, 'a, A: Allocator> fmt::Debug for Steps<'p, 'a, A> {
+    fn fmt<W: fmt::Write>(&self, f: &mut fmt::Formatter<W>) -> fmt::Result {
+        f.write_str("Steps")
+    }
 }
 
 impl<'p, 'a, A: Allocator> Steps<'p, 'a, A> {

@@ -10,7 +10,7 @@ const COUNT: usize = 52;
 
 /// A number for each ASCII letter, `a` to `z` before `A` to `Z`. C sees it as an array of 52 numbers.
 #[repr(C)]
-#[derive(Drop)]
+#[derive(Debug, Drop)]
 pub struct Vars {
     values: [i32; COUNT],
 }
