@@ -1,9 +1,9 @@
 /* ti.h: terminfo entries and their capabilities, for C and C++ on x86-64. Link with -lti, as ./install puts it in place.
  *
  * Each call but ti_version returns TI_DONE, or the number of a fault. Nothing is allocated, nothing is kept between calls,
- * and any thread may call. The caller owes valid pointers and correct lengths: each pointer has as many elements as the
- * length beside it says, and what is written overlaps no other argument. A pointer beside the length 0 may be null, the
- * others not. What a call is to fill may be memory that was never written; only ti_vars is read before it is written.
+ * and any thread may call. The caller must pass valid pointers with correct lengths: each pointer has as many elements as
+ * the length beside it says, and what is written overlaps no other argument. A pointer may be null if its length is 0, the
+ * others not. What a call fills may be memory that was never written; only ti_vars is read before it is written.
  * Lengths and places are in bytes. Capabilities are bytes as a compiled entry holds them: no NUL ends them, and escape is
  * the byte 27.
  *
@@ -70,15 +70,15 @@ enum {
     TI_NEST_TOO_DEEP = 112,       /* more than 32 open conditionals */
     TI_STACK_TOO_DEEP = 113,      /* more than 32 values on the stack */
     /* Faults of an expansion. */
-    TI_TOO_MANY_PARAMETERS = 201, /* more than nine; no place is told */
+    TI_TOO_MANY_PARAMETERS = 201, /* more than nine; no place is written */
     TI_TEXT_TOO_LONG = 202,       /* a text of more than 32767 bytes; the place is its parameter, counted from 1 */
-    TI_OUT_TOO_SMALL = 203,       /* less room than the capability's bound, or than the padded text; that is told */
+    TI_OUT_TOO_SMALL = 203,       /* less room than the capability's bound, or than the padded text; that is written */
     /* Faults of padding. */
-    TI_BAD_PADDING = 301,         /* a rate above 1000000, or affected lines above 65535; no length is told */
+    TI_BAD_PADDING = 301,         /* a rate above 1000000, or affected lines above 65535; no length is written */
     TI_TOO_MUCH = 302,            /* the padded text would have more than 67108864 bytes */
     /* Faults of a search. */
     TI_NOT_NAMED = 401,           /* no capability has this kind and index, or this name, or no fault this number */
-    TI_ROOM_TOO_SMALL = 402       /* an array has less room than the entry asks for; the counts are told */
+    TI_ROOM_TOO_SMALL = 402       /* an array has less room than the entry requires; the counts are written */
 };
 
 /* Marks of flags, numbers and texts (term(5)). */
@@ -93,14 +93,14 @@ typedef struct {
     size_t length;
 } ti_bytes;
 
-/* A text of an entry: there if the mark is 0, and then its bytes, of which there may be none; else the mark is TI_ABSENT
+/* A text of an entry. If the mark is 0, it is there, and these are its bytes, possibly none. Otherwise the mark is TI_ABSENT
  * or TI_CANCELLED, and the length is 0. */
 typedef struct {
     ti_bytes text;
     int8_t mark;
 } ti_text_item;
 
-/* The names of an entry and how many capabilities it has, or where its fault stands. */
+/* The names of an entry and how many capabilities it has, or where its fault is. */
 typedef struct {
     ti_bytes names; /* separated by |, in the entry's bytes */
     size_t flags;
@@ -113,7 +113,7 @@ typedef struct {
     size_t place;         /* of a fault */
 } ti_entry;
 
-/* A parameter: the number if is_text is 0, else the text. A parameter that is missing is the number 0. */
+/* A parameter: the number if is_text is 0, otherwise the text. A missing parameter is the number 0. */
 typedef struct {
     ti_bytes text;
     int32_t number;
@@ -125,7 +125,7 @@ typedef struct {
     int32_t values[52];
 } ti_vars;
 
-/* What a capability needs at most, or where its fault stands. */
+/* The most that a capability needs, or where its fault is. */
 typedef struct {
     size_t depth;   /* values on the stack */
     size_t nest;    /* conditionals that are open at once */
@@ -133,7 +133,7 @@ typedef struct {
     size_t place;   /* of a fault */
 } ti_limits;
 
-/* How an expansion went, or where its fault stands. */
+/* How an expansion went, or where its fault is. */
 typedef struct {
     size_t written; /* bytes of output; the rest of the room is as it was */
     size_t ran;     /* tokens (plain bytes and escapes) that ran */
@@ -142,7 +142,7 @@ typedef struct {
     size_t place;   /* of a fault */
 } ti_run;
 
-/* What padding depends on. */
+/* How a text is padded. */
 typedef struct {
     uint32_t rate;           /* of the line, in bytes per second, at most 1000000; with 0 there are no pad bytes */
     uint32_t affected_lines; /* at most 65535: a mark with a * pads for each of them */
@@ -157,17 +157,17 @@ typedef struct {
  * the marks; a number is its value, from 0, or one of the marks. Texts and names point into the entry's bytes. What lies
  * in an array past these items is as it was. Of the ti_entry all is written but the place.
  * 1 to 14: the bytes are no entry; the place says where. Nothing else is written.
- * TI_ROOM_TOO_SMALL: an array has fewer elements than that. The ti_entry is written as after TI_DONE, so that the call may
- * be made again with enough room: so it may first be made with no room at all. The arrays are as they were.
+ * TI_ROOM_TOO_SMALL: an array has fewer elements than that. The ti_entry is written as after TI_DONE, so you can call once
+ * with no room to learn the counts. The arrays are as they were.
  *
  * Room for 32768 flags, 16384 numbers, 16384 texts and 10923 names is always enough. */
 uint32_t ti_read(const unsigned char *bytes, size_t length, int8_t *flags, size_t flag_room, int32_t *numbers,
                  size_t number_room, ti_text_item *texts, size_t text_room, ti_bytes *names, size_t name_room,
                  ti_entry *entry);
 
-/* Checks a capability: TI_DONE with depth, nest and bound, and the place is as it was; or 101 to 113 with the place, and
- * no other field is written. The bound is for parameters whose texts have at most longest_text bytes: 0 if all are
- * numbers. So it is the room that ti_expand requires.
+/* Checks a capability. TI_DONE: depth, nest and bound are written, and the place is as it was. 101 to 113: the place alone
+ * is written. longest_text is the length of the longest text among the parameters, 0 if all are numbers; ti_expand needs
+ * room for bound bytes.
  *
  *     ti_limits limits;
  *     if (ti_check(cup, cup_length, 0, &limits) == TI_DONE)
@@ -191,10 +191,10 @@ uint32_t ti_expand(const unsigned char *capability, size_t length, const ti_para
 /* Pads a text, such as the output of ti_expand: each mark of padding, such as $<5> (terminfo(5), "Delays and Padding"),
  * becomes the smallest number of pad bytes that takes its time.
  *
- * TI_DONE: the room starts with the padded text, and its length is told. What lies after it is as it was.
- * TI_BAD_PADDING: the rate or the lines are above their limits. No length is told, and the room is as it was.
- * TI_TOO_MUCH, TI_OUT_TOO_SMALL: the length that the padded text would have is told, or SIZE_MAX if it is greater
- * still. So the call may first be made with no room at all. The room is as it was.
+ * TI_DONE: the room starts with the padded text, and its length is written. The rest of the room is as it was.
+ * TI_BAD_PADDING: the rate or the lines are above their limits. No length is written, and the room is as it was.
+ * TI_TOO_MUCH, TI_OUT_TOO_SMALL: the length that the padded text would have is written, or SIZE_MAX if it is greater
+ * still, so you can call once with no room to learn the length. The room is as it was.
  *
  *     ti_padding padding = {960, 1, 0, 0};
  *     size_t padded;
@@ -210,7 +210,7 @@ uint32_t ti_name(uint32_t kind, size_t index, ti_bytes *name);
 
 /* Finds the kind and the index of the capability with a name among these: TI_DONE with both, as ti_name takes them, or
  * TI_NOT_NAMED, and both are as they were. For "cup" they are 2 and 10. The names of extended capabilities are the
- * entry's own: ti_read tells them. */
+ * entry's own, which ti_read returns. */
 uint32_t ti_find(const unsigned char *name, size_t length, uint32_t *kind, size_t *index);
 
 /* Finds the word of a fault by its number, to be printed: TI_DONE with the word, which lasts as long as the program, or
