@@ -34,7 +34,7 @@ impl Tally {
         }
     }
 
-    /// Whether more than so many tries were refused, and then all others went through, which are more than so many too.
+    /// Whether more than so many tries were refused, and all tries after them, which are more than so many too, went through.
     pub fn is_refused_then_given(&self, least: u32) -> bool {
         self.late == 0 && self.refused > least && self.given > least
     }

@@ -89,10 +89,10 @@ fn an_expansion_says_what_it_needs(rt: HostRuntime) {
     let mut stack = [Value::Num(7); 1];
     let mut out = [0xeeu8; 26];
     let mut vars = Vars::new();
-    let fault = fault_of_slices(CUP, &parameters, &mut vars, &mut [], &mut out);
-    assert_that!(rt; fault == Some(ExpandFault::StackTooSmall { need: 1 }));
     let fault = fault_of_slices(CUP, &parameters, &mut vars, &mut stack, &mut out[..25]);
     assert_that!(rt; fault == Some(ExpandFault::OutTooSmall { need: 26 }));
+    let fault = fault_of_slices(CUP, &parameters, &mut vars, &mut [], &mut out);
+    assert_that!(rt; fault == Some(ExpandFault::StackTooSmall { need: 1 }));
     assert_that!(rt; out == [0xee; 26]);
 }
 

@@ -123,7 +123,7 @@ fn entries_are_listed(rt: HostRuntime) {
 
 #[test]
 fn fronts_of_entries_end_with_status_three(rt: HostRuntime) {
-    for k in 0..24usize {
+    for k in 0..SMALL.len() {
         let end = end_of(rt.alloc(), &["ti", "show"], &SMALL[..k]);
         assert_that!(rt; end.status == 3);
         assert_that!(rt; end.output.is_empty());
