@@ -20,7 +20,7 @@ use ti_words::{Flag, Kind, Number, Text, Width};
 
 /// A text of an entry: its bytes if the mark is 0; -1 is absent and -2 cancelled, with no bytes.
 #[repr(C)]
-#[derive(Clone, Copy)]
+#[derive(Clone, Copy, Debug)]
 pub struct TextItem<'a> {
     pub text: &'a [u8],
     pub mark: i8,
@@ -28,7 +28,7 @@ pub struct TextItem<'a> {
 
 /// The names of an entry and how many capabilities it has, or where its fault stands.
 #[repr(C)]
-#[derive(Clone, Copy)]
+#[derive(Clone, Copy, Debug)]
 pub struct EntryCounts<'a> {
     /// The names, separated by `|`, without the NUL after them.
     pub names: &'a [u8],

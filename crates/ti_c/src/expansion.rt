@@ -20,7 +20,7 @@ const FEW_VALUES: usize = 4;
 
 /// A parameter: the number if `is_text` is 0, else the text.
 #[repr(C)]
-#[derive(Clone, Copy)]
+#[derive(Clone, Copy, Debug)]
 pub struct Parameter<'a> {
     pub text: &'a [u8],
     pub number: i32,
@@ -29,7 +29,7 @@ pub struct Parameter<'a> {
 
 /// How an expansion went, or where its fault stands.
 #[repr(C)]
-#[derive(Clone, Copy)]
+#[derive(Clone, Copy, Debug)]
 pub struct Run {
     /// The bytes of output.
     pub written: usize,

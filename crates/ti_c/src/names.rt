@@ -9,7 +9,7 @@ use ti_words::NameTable;
 
 /// Bytes that lie in something of the caller's, or in the library's own tables.
 #[repr(C)]
-#[derive(Clone, Copy)]
+#[derive(Clone, Copy, Debug)]
 pub struct Bytes<'a> {
     pub bytes: &'a [u8],
 }

@@ -9,7 +9,7 @@ use ti_pad::{PadIntoFault, Padding, pad_into};
 
 /// What padding depends on.
 #[repr(C)]
-#[derive(Clone, Copy)]
+#[derive(Clone, Copy, Debug)]
 pub struct GivenPadding {
     /// The rate of the line in bytes per second.
     pub rate: u32,

@@ -13,7 +13,7 @@ use std::alloc::{AllocError, Allocator};
 use ti_cap::{CapRefused, Capability};
 
 /// What a text is as a capability.
-#[derive(Clone, Copy, Debug)]
+#[derive(Clone, Copy)]
 pub enum Verdict {
     /// It has no fault, this depth, and this bound where text parameters have no bytes.
     Sound { depth: usize, bound: u64 },
