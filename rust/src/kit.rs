@@ -1,0 +1,124 @@
+//! What the sources take from Rattle's standard library and from five crates, as far as they use it: growth that can be
+//! refused, vectors of bytes that are compared at once, `ArrayVec`, and words, digits and hex at a place. Written for Rust
+//! alone.
+
+#[cfg(not(feature = "alloc"))]
+mod no_items;
+pub mod simd;
+#[cfg(test)]
+mod tests;
+mod vec;
+
+pub use vec::{AllocError, Allocator, Global, Vec};
+
+/// Words with the lower byte first.
+pub struct LittleEndian;
+
+impl LittleEndian {
+    #[inline(always)]
+    pub fn read_i16(bytes: &[u8]) -> i16 {
+        i16::from_le_bytes([bytes[0], bytes[1]])
+    }
+
+    #[inline(always)]
+    pub fn read_u16(bytes: &[u8]) -> u16 {
+        u16::from_le_bytes([bytes[0], bytes[1]])
+    }
+
+    #[inline(always)]
+    pub fn read_u32(bytes: &[u8]) -> u32 {
+        u32::from_le_bytes([bytes[0], bytes[1], bytes[2], bytes[3]])
+    }
+
+    #[inline(always)]
+    pub fn read_i32(bytes: &[u8]) -> i32 {
+        Self::read_u32(bytes).cast_signed()
+    }
+
+    pub fn write_i16(bytes: &mut [u8], number: i16) {
+        bytes[..2].copy_from_slice(&number.to_le_bytes());
+    }
+
+    pub fn write_i32(bytes: &mut [u8], number: i32) {
+        bytes[..4].copy_from_slice(&number.to_le_bytes());
+    }
+}
+
+/// A list of at most `N` items that takes no memory.
+#[derive(Clone, Debug)]
+pub struct ArrayVec<T, const N: usize> {
+    items: [T; N],
+    count: usize,
+}
+
+impl<T: Copy + Default, const N: usize> ArrayVec<T, N> {
+    pub fn new() -> Self {
+        ArrayVec { items: [T::default(); N], count: 0 }
+    }
+
+    pub fn len(&self) -> usize {
+        self.count
+    }
+
+    pub fn is_full(&self) -> bool {
+        self.count == N
+    }
+
+    pub fn as_slice(&self) -> &[T] {
+        &self.items[..self.count]
+    }
+
+    /// Adds an item at the end. It panics if the list is full.
+    pub fn push(&mut self, item: T) {
+        self.items[self.count] = item;
+        self.count += 1;
+    }
+
+    pub fn pop(&mut self) -> Option<T> {
+        self.count = self.count.checked_sub(1)?;
+        Some(self.items[self.count])
+    }
+
+    pub fn truncate(&mut self, count: usize) {
+        self.count = self.count.min(count);
+    }
+
+    /// Adds items at the end. If they have no room, nothing changes.
+    pub fn try_extend_from_slice(&mut self, items: &[T]) -> Result<(), ()> {
+        let room = self.items[self.count..].get_mut(..items.len()).ok_or(())?;
+        room.copy_from_slice(items);
+        self.count += items.len();
+        Ok(())
+    }
+}
+
+/// The place of the first byte that is equal.
+pub fn memchr(byte: u8, bytes: &[u8]) -> Option<usize> {
+    bytes.iter().position(|other| *other == byte)
+}
+
+/// Writes the decimal digits of a number so that they end at a place, and returns where they start.
+#[inline]
+pub fn write_digits(number: u64, out: &mut [u8], end: usize) -> usize {
+    let (mut rest, mut at) = (number, end);
+    loop {
+        at -= 1;
+        out[at] = b'0' + (rest % 10) as u8;
+        rest /= 10;
+        if rest == 0 {
+            return at;
+        }
+    }
+}
+
+/// Writes bytes as hex digits, two for each. If the slice is not as long as they are, nothing is written.
+pub fn encode_to_slice(bytes: &[u8], out: &mut [u8]) -> Result<(), ()> {
+    if out.len() != 2 * bytes.len() {
+        return Err(());
+    }
+    let digit = |half: u8| b"0123456789abcdef"[usize::from(half)];
+    for (byte, two) in bytes.iter().zip(out.chunks_exact_mut(2)) {
+        two.copy_from_slice(&[digit(byte >> 4), digit(byte & 15)]);
+    }
+    Ok(())
+}

@@ -1,0 +1,110 @@
+//! A vector whose growth can be refused. Without the feature `alloc` each growth is.
+
+use core::fmt;
+use core::marker::PhantomData;
+use core::ops::{Deref, DerefMut};
+
+#[cfg(not(feature = "alloc"))]
+use super::no_items::Items;
+#[cfg(feature = "alloc")]
+use alloc::vec::Vec as Items;
+
+/// Memory was refused.
+#[derive(Clone, Copy, Debug, PartialEq, Eq)]
+pub struct AllocError;
+
+impl fmt::Display for AllocError {
+    fn fmt(&self, f: &mut fmt::Formatter<'_>) -> fmt::Result {
+        f.write_str("Memory")
+    }
+}
+
+impl core::error::Error for AllocError {}
+
+/// Where the memory of a vector comes from.
+pub trait Allocator {}
+
+/// The global allocator, the only one of stable Rust.
+#[derive(Clone, Copy, Debug, Default)]
+pub struct Global;
+
+impl Allocator for Global {}
+
+/// A vector whose growth can be refused.
+#[derive(Clone, Debug)]
+pub struct Vec<T, A: Allocator = Global> {
+    items: Items<T>,
+    source: PhantomData<A>,
+}
+
+impl<T, A: Allocator> Vec<T, A> {
+    pub fn new(_alloc: A) -> Self {
+        Vec { items: Items::new(), source: PhantomData }
+    }
+
+    pub fn with_capacity(alloc: A, count: usize) -> Result<Self, AllocError> {
+        let mut made = Vec::new(alloc);
+        made.reserve_exact(count)?;
+        Ok(made)
+    }
+
+    pub fn reserve_exact(&mut self, more: usize) -> Result<(), AllocError> {
+        self.items.try_reserve_exact(more).map_err(|_| AllocError)
+    }
+
+    pub fn reserve(&mut self, more: usize) -> Result<(), AllocError> {
+        self.items.try_reserve(more).map_err(|_| AllocError)
+    }
+
+    pub fn push(&mut self, item: T) -> Result<(), AllocError> {
+        self.reserve(1)?;
+        self.items.push(item);
+        Ok(())
+    }
+
+    pub fn truncate(&mut self, count: usize) {
+        self.items.truncate(count);
+    }
+
+    pub fn as_slice(&self) -> &[T] {
+        &self.items
+    }
+
+    pub fn as_mut_slice(&mut self) -> &mut [T] {
+        &mut self.items
+    }
+}
+
+impl<T: Clone, A: Allocator> Vec<T, A> {
+    pub fn from_elem(alloc: A, item: T, count: usize) -> Result<Self, AllocError> {
+        let mut made = Vec::with_capacity(alloc, count)?;
+        made.items.resize(count, item);
+        Ok(made)
+    }
+
+    pub fn extend_from_slice(&mut self, items: &[T]) -> Result<(), AllocError> {
+        self.reserve(items.len())?;
+        self.items.extend_from_slice(items);
+        Ok(())
+    }
+
+    pub fn resize(&mut self, count: usize, item: T) -> Result<(), AllocError> {
+        self.reserve(count.saturating_sub(self.items.len()))?;
+        self.items.resize(count, item);
+        Ok(())
+    }
+}
+
+impl<T, A: Allocator> Deref for Vec<T, A> {
+    type Target = [T];
+
+    fn deref(&self) -> &[T] {
+        &self.items
+    }
+}
+
+impl<T, A: Allocator> DerefMut for Vec<T, A> {
+    fn deref_mut(&mut self) -> &mut [T] {
+        &mut self.items
+    }
+}
