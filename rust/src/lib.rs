@@ -8,18 +8,71 @@ extern crate alloc;
 #[cfg(any(feature = "std", test))]
 extern crate std;
 
+pub mod cap;
+#[cfg(feature = "alloc")]
+mod draft;
+mod entry;
+mod error;
+mod expand;
 #[allow(missing_docs)]
 mod kit;
-#[allow(dead_code, unused_imports, unused_labels, unused_variables, missing_docs)]
+// The sources are written for their proofs too, and parts of them are for other users.
+#[allow(clippy::complexity, clippy::style, dead_code, unused_imports, unused_labels, unused_variables, missing_docs)]
 mod made;
+mod mark;
+mod name;
+mod pad;
+mod reader;
+#[cfg(all(test, feature = "std"))]
+mod tests;
 
-pub use made::cap::{CapFault, CapRefused, Capability, Conversion, Format, Op, Tape, Token};
+#[cfg(feature = "alloc")]
+pub use draft::Draft;
+pub use entry::Entry;
+#[cfg(feature = "alloc")]
+pub use expand::expand;
+#[cfg(feature = "std")]
+pub use expand::expand_to;
+pub use expand::{ExpandError, expand_into};
+pub use kit::AllocError;
+/// A text of an entry that is parsed, with its exact limits over all parameters.
+///
+/// ```
+/// use ti_terminfo::{Capability, ParseFault};
+///
+/// # fn main() -> Result<(), Box<dyn std::error::Error>> {
+/// let cup = Capability::parse(b"\x1b[%i%p1%d;%p2%dH")?;
+/// // It needs one place on the stack, and two numbers of 32 bits have at most 11 bytes each with their sign.
+/// assert_eq!((cup.depth(), cup.bound(0)), (1, 4 + 2 * 11));
+///
+/// let refused = Capability::parse(b"\x1b[%p0").unwrap_err();
+/// assert_eq!((refused.fault, refused.place), (ParseFault::BadParameter, 2));
+/// # Ok(())
+/// # }
+/// ```
+pub use made::cap::Capability;
+pub use made::cap::{CapFault as ParseFault, CapRefused as ParseError, Conversion, Format, Op, Tape, Token};
+#[cfg(feature = "alloc")]
+pub use made::draft::EncodeFault as EncodeError;
+pub use made::entry::{Fault as ReadFault, Refused as ReadError};
+pub use made::expand::{Run, Value, Vars};
+#[cfg(feature = "alloc")]
+pub use made::pad::PadFault as PadError;
+pub use made::pad::{PadIntoFault as PadIntoError, Padding, pad_into, padded_len};
 pub use made::words::{Flag, Kind, Number, Text, Width};
+pub use name::Name;
+#[cfg(feature = "alloc")]
+pub use name::notation;
+#[cfg(feature = "alloc")]
+pub use pad::pad;
+#[cfg(feature = "std")]
+pub use pad::pad_to;
+pub use reader::EntryReader;
 
 /// The greatest sizes, counts and numbers that are accepted.
 pub mod limits {
     pub use crate::made::base::{
         GREATEST_CONSTANT, GREATEST_RATE, GREATEST_WIDE_WORD, GREATEST_WIDTH, GREATEST_WORD, MOST_CAPABILITY_BYTES,
-        MOST_ENTRY_BYTES, MOST_INTERRUPTIONS, MOST_LINES, MOST_OPEN, MOST_PADDED_BYTES, MOST_TEXT_BYTES, MOST_VALUES,
+        MOST_ENTRY_BYTES, MOST_LINES, MOST_OPEN, MOST_PADDED_BYTES, MOST_TEXT_BYTES, MOST_VALUES,
     };
 }

@@ -73,6 +73,12 @@ impl<T, A: Allocator> Vec<T, A> {
     pub fn as_mut_slice(&mut self) -> &mut [T] {
         &mut self.items
     }
+
+    /// The items as a vector of Rust's own.
+    #[cfg(feature = "alloc")]
+    pub fn into_items(self) -> Items<T> {
+        self.items
+    }
 }
 
 impl<T: Clone, A: Allocator> Vec<T, A> {

@@ -1,0 +1,163 @@
+//! Entries that are being made.
+
+use crate::Entry;
+use crate::cap::Standard;
+use crate::kit::Global;
+use crate::made::draft::EncodeFault;
+use crate::made::words::{Flag, Kind, Number, Text, Width};
+use alloc::vec::Vec;
+
+/// An entry that is being made. It lends its names and texts.
+///
+/// ```
+/// use ti_terminfo::{Draft, Entry, Width, cap};
+///
+/// # fn main() -> Result<(), Box<dyn std::error::Error>> {
+/// let mut draft = Draft::new("mine|my terminal", Width::Legacy);
+/// draft.set(cap::AutoRightMargin, true).set(cap::MaxColors, 8).set(cap::CursorAddress, b"\x1b[%i%p1%d;%p2%dH");
+/// draft.add_text("Ss", b"\x1b[%p1%d q");
+///
+/// let bytes = draft.encode()?;
+/// let entry = Entry::read(&bytes)?;
+/// assert_eq!(entry.number("colors"), Some(8));
+/// assert_eq!(entry.text("Ss"), Some(&b"\x1b[%p1%d q"[..]));
+/// # Ok(())
+/// # }
+/// ```
+#[derive(Clone, Debug)]
+pub struct Draft<'a> {
+    width: Width,
+    names: &'a [u8],
+    flags: Vec<Flag>,
+    numbers: Vec<Number>,
+    texts: Vec<Text<'a>>,
+    extended_flags: Vec<(&'a [u8], Flag)>,
+    extended_numbers: Vec<(&'a [u8], Number)>,
+    extended_texts: Vec<(&'a [u8], Text<'a>)>,
+}
+
+/// Sets an item at an index, with others before it that say nothing.
+fn set_at<T: Copy>(items: &mut Vec<T>, index: usize, nothing: T, item: T) {
+    if items.len() <= index {
+        items.resize(index + 1, nothing);
+    }
+    items[index] = item;
+}
+
+impl<'a> Draft<'a> {
+    /// A draft with names, which are separated by `|`, and no capability.
+    pub fn new(names: &'a (impl AsRef<[u8]> + ?Sized), width: Width) -> Draft<'a> {
+        Draft {
+            width,
+            names: names.as_ref(),
+            flags: Vec::new(),
+            numbers: Vec::new(),
+            texts: Vec::new(),
+            extended_flags: Vec::new(),
+            extended_numbers: Vec::new(),
+            extended_texts: Vec::new(),
+        }
+    }
+
+    /// Changes how wide the numbers are.
+    pub fn set_width(&mut self, width: Width) -> &mut Self {
+        self.width = width;
+        self
+    }
+
+    /// Sets a capability of `term.h`: a flag by `bool`, a number by `i32`, a text by its bytes, or any of them by a mark
+    /// such as [`Text::Cancelled`].
+    pub fn set<S: Standard>(&mut self, _capability: S, mark: impl Into<S::Mark<'a>>) -> &mut Self {
+        S::put(self, mark.into());
+        self
+    }
+
+    /// Adds an extended flag after the others.
+    pub fn add_flag(&mut self, name: &'a (impl AsRef<[u8]> + ?Sized), flag: impl Into<Flag>) -> &mut Self {
+        self.extended_flags.push((name.as_ref(), flag.into()));
+        self
+    }
+
+    /// Adds an extended number after the others.
+    pub fn add_number(&mut self, name: &'a (impl AsRef<[u8]> + ?Sized), number: impl Into<Number>) -> &mut Self {
+        self.extended_numbers.push((name.as_ref(), number.into()));
+        self
+    }
+
+    /// Adds an extended text after the others.
+    pub fn add_text(&mut self, name: &'a (impl AsRef<[u8]> + ?Sized), text: impl Into<Text<'a>>) -> &mut Self {
+        self.extended_texts.push((name.as_ref(), text.into()));
+        self
+    }
+
+    pub(crate) fn put_flag(&mut self, index: usize, flag: Flag) {
+        set_at(&mut self.flags, index, Flag::No, flag);
+    }
+
+    pub(crate) fn put_number(&mut self, index: usize, number: Number) {
+        set_at(&mut self.numbers, index, Number::Absent, number);
+    }
+
+    pub(crate) fn put_text(&mut self, index: usize, text: Text<'a>) {
+        set_at(&mut self.texts, index, Text::Absent, text);
+    }
+
+    /// The bytes of the entry, which [`Entry::read`] reads as what the draft says.
+    ///
+    /// ```
+    /// use ti_terminfo::{Draft, Entry, Width};
+    ///
+    /// # fn main() -> Result<(), Box<dyn std::error::Error>> {
+    /// let file = std::fs::read("examples/linux")?;
+    /// let mut draft = Draft::from(&Entry::read(&file)?);
+    /// let wide = draft.set_width(Width::Wide).encode()?;
+    /// let narrow = Draft::from(&Entry::read(&wide)?).set_width(Width::Legacy).encode()?;
+    /// assert_eq!(narrow, file);
+    /// # Ok(())
+    /// # }
+    /// ```
+    ///
+    /// # Errors
+    ///
+    /// The first of [`EncodeError`](crate::EncodeError) that holds, in the order in which they are there.
+    pub fn encode(&self) -> Result<Vec<u8>, EncodeFault> {
+        let mut draft = crate::made::draft::Draft::new(Global, self.names, self.width);
+        for flag in &self.flags {
+            draft.push_flag(*flag)?;
+        }
+        for number in &self.numbers {
+            draft.push_number(*number)?;
+        }
+        for text in &self.texts {
+            draft.push_text(*text)?;
+        }
+        for (name, flag) in &self.extended_flags {
+            draft.push_extended_flag(name, *flag)?;
+        }
+        for (name, number) in &self.extended_numbers {
+            draft.push_extended_number(name, *number)?;
+        }
+        for (name, text) in &self.extended_texts {
+            draft.push_extended_text(name, *text)?;
+        }
+        Ok(crate::made::entry::encode(Global, &draft)?.into_items())
+    }
+}
+
+/// A draft that says what an entry says.
+impl<'a> From<&Entry<'a>> for Draft<'a> {
+    fn from(entry: &Entry<'a>) -> Draft<'a> {
+        let (inner, extended) = (&entry.inner, entry.inner.extended());
+        let name = |kind, index| extended.name(kind, index).unwrap_or_default();
+        Draft {
+            width: inner.width(),
+            names: inner.names(),
+            flags: (0..inner.flag_count()).map(|i| inner.flag(i)).collect(),
+            numbers: (0..inner.number_count()).map(|i| inner.number(i)).collect(),
+            texts: (0..inner.text_count()).map(|i| inner.text(i)).collect(),
+            extended_flags: (0..extended.flag_count()).map(|i| (name(Kind::Flag, i), extended.flag(i))).collect(),
+            extended_numbers: (0..extended.number_count()).map(|i| (name(Kind::Number, i), extended.number(i))).collect(),
+            extended_texts: (0..extended.text_count()).map(|i| (name(Kind::Text, i), extended.text(i))).collect(),
+        }
+    }
+}

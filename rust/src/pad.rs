@@ -1,0 +1,48 @@
+//! Padding: the pad bytes that give a slow terminal the time that marks such as `$<5>` ask for.
+
+#[cfg(feature = "alloc")]
+use crate::made::pad::PadFault;
+use crate::made::pad::Padding;
+
+/// The text with the pad bytes that its marks ask for in their place.
+///
+/// ```
+/// use ti_terminfo::{Padding, pad};
+///
+/// # fn main() -> Result<(), Box<dyn std::error::Error>> {
+/// // At 1000 bytes a second, 5 milliseconds take 5 bytes.
+/// let slow = Padding::new(1000, 1, false, b'.').ok_or("out of range")?;
+/// assert_eq!(pad(b"a$<5>b", &slow)?, b"a.....b");
+/// // Without a rate the marks are only taken out.
+/// assert_eq!(pad(b"a$<5>b", &Padding::default())?, b"ab");
+/// # Ok(())
+/// # }
+/// ```
+///
+/// # Errors
+///
+/// The text would have more than [`MOST_PADDED_BYTES`](crate::limits::MOST_PADDED_BYTES), or memory was refused.
+#[cfg(feature = "alloc")]
+pub fn pad(text: &[u8], padding: &Padding) -> Result<alloc::vec::Vec<u8>, PadFault> {
+    Ok(crate::made::pad::pad(crate::kit::Global, text, padding)?.into_items())
+}
+
+/// Writes the text with the pad bytes that its marks ask for to a sink, all at once.
+///
+/// # Errors
+///
+/// That of the sink, or of the kind `InvalidInput` with the [`PadError`](crate::PadError) inside.
+#[cfg(feature = "std")]
+pub fn pad_to(sink: &mut impl std::io::Write, text: &[u8], padding: &Padding) -> std::io::Result<()> {
+    sink.write_all(&pad(text, padding)?)
+}
+
+/// No pad bytes: a line without a rate.
+impl Default for Padding {
+    fn default() -> Padding {
+        match Padding::new(0, 1, false, 0) {
+            Some(padding) => padding,
+            None => unreachable!("both numbers are in their range"),
+        }
+    }
+}

@@ -1,0 +1,136 @@
+//! What no example of the documentation shows. Expected values are from term(5) and terminfo(5), or made by hand.
+
+use crate::*;
+use std::io::ErrorKind;
+use std::string::ToString;
+use std::vec::Vec;
+
+/// An entry with all kinds of marks: the bytes of term(5), by hand.
+fn marks() -> Vec<u8> {
+    let mut draft = Draft::new("m", Width::Legacy);
+    draft.set(cap::AutoLeftMargin, Flag::Cancelled).set(cap::AutoRightMargin, true);
+    draft.set(cap::Columns, 80).set(cap::Lines, Number::Cancelled);
+    draft.set(cap::Bell, b"\x07").set(cap::BackTab, Text::Cancelled);
+    draft.add_flag("AX", true).add_number("U8", 1).add_text("Ss", "x").add_text("am", "own");
+    draft.encode().unwrap()
+}
+
+#[test]
+fn names_of_both_lengths_and_own_ones_are_found() {
+    let file = marks();
+    let entry = Entry::read(&file).unwrap();
+    assert!(entry.flag("am") && entry.flag("auto_right_margin") && entry.flag("AX") && !entry.flag("bw"));
+    assert_eq!((entry.number("cols"), entry.number("lines"), entry.number("U8")), (Some(80), None, Some(1)));
+    assert_eq!((entry.text("bel"), entry.text("cbt"), entry.text("Ss")), (Some(&b"\x07"[..]), None, Some(&b"x"[..])));
+    // A name that is standard for another kind is the entry's own here.
+    assert_eq!(entry.text("am"), Some(&b"own"[..]));
+}
+
+#[test]
+fn constants_know_absent_from_cancelled() {
+    let file = marks();
+    let entry = Entry::read(&file).unwrap();
+    assert_eq!((entry.mark(cap::AutoLeftMargin), entry.get(cap::AutoLeftMargin)), (Flag::Cancelled, false));
+    assert_eq!((entry.mark(cap::Lines), entry.get(cap::Lines)), (Number::Cancelled, None));
+    assert_eq!((entry.mark(cap::CursorAddress), entry.get(cap::CursorAddress)), (Text::Absent, None));
+}
+
+#[test]
+fn lists_have_what_the_entry_says_in_its_order() {
+    let file = marks();
+    let entry = Entry::read(&file).unwrap();
+    let flags: Vec<_> = entry.flags().map(|(name, flag)| (name.to_string(), flag)).collect();
+    assert_eq!(flags, [("bw".into(), Flag::Cancelled), ("am".into(), Flag::Yes), ("AX".into(), Flag::Yes)]);
+    let numbers: Vec<_> = entry.numbers().map(|(name, number)| (name.to_string(), number)).collect();
+    assert_eq!(numbers, [("cols".into(), 80.into()), ("lines".into(), Number::Cancelled), ("U8".into(), 1.into())]);
+    assert_eq!(entry.texts().map(|(name, _)| name.to_string()).collect::<Vec<_>>(), ["cbt", "bel", "Ss", "am"]);
+}
+
+#[test]
+fn each_constant_has_its_short_name() {
+    fn agrees<S: cap::Standard>(_: S) -> bool {
+        let name = Name::Standard { kind: S::KIND, index: S::INDEX };
+        name.short() == Some(S::SHORT) && name.long() == Some(S::LONG) && Name::standard(S::LONG) == Some(name)
+    }
+    assert!(agrees(cap::CursorAddress) && agrees(cap::BoxChars1));
+    assert!(agrees(cap::ReturnDoesClrEol) && agrees(cap::NumberOfFunctionKeys));
+    for (kind, names) in [(Kind::Flag, cap::FLAGS), (Kind::Number, cap::NUMBERS), (Kind::Text, cap::TEXTS)] {
+        for (index, (long, short)) in names.iter().enumerate() {
+            let name = Name::Standard { kind, index };
+            assert_eq!((name.short(), name.long()), (Some(*short), Some(*long)));
+        }
+        assert_eq!(Name::Standard { kind, index: names.len() }.short(), None);
+    }
+}
+
+#[test]
+fn ten_parameters_are_refused() {
+    let nothing = Capability::parse(b"").unwrap();
+    let refused = ExpandError::TooManyParameters { given: 10 };
+    assert_eq!(expand(&nothing, &[0.into(); 10], &mut Vars::new()), Err(refused));
+    assert_eq!(expand(&nothing, &[0.into(); 9], &mut Vars::new()), Ok(Vec::new()));
+}
+
+#[test]
+fn the_deepest_capability_has_room() {
+    let deep = [b"%p1".repeat(32), b"%d".repeat(32)].concat();
+    let deep = Capability::parse(&deep).unwrap();
+    let mut out = [0; 32 * 11];
+    let run = expand_into(&deep, &[7.into()], &mut Vars::new(), &mut out).unwrap();
+    assert_eq!((deep.depth(), &out[..run.written]), (32, &[b'7'; 32][..]));
+}
+
+#[test]
+fn variables_last_from_one_expansion_to_the_next() {
+    let mut vars = Vars::default();
+    expand(&Capability::parse(b"%p1%PA").unwrap(), &[65.into()], &mut vars).unwrap();
+    assert_eq!(expand(&Capability::parse(b"%gA%c").unwrap(), &[], &mut vars).unwrap(), b"A");
+    assert_eq!((vars.get(b'A'), vars.get(b'b'), vars.get(b'1')), (Some(65), Some(0), None));
+}
+
+#[test]
+fn errors_print_their_name_and_place() {
+    assert_eq!(Capability::parse(b"ab%p0").unwrap_err().to_string(), "BadParameter at 2");
+    assert_eq!(Entry::read(b"\x1a\x01").unwrap_err().to_string(), "Truncated at 2");
+    assert_eq!(Draft::new("", Width::Legacy).encode().unwrap_err().to_string(), "BadName");
+    assert_eq!(ExpandError::TextTooLong { parameter: 3 }.to_string(), "TextTooLong 3");
+    assert_eq!(PadIntoError::OutTooSmall { need: 2 }.to_string(), "OutTooSmall 2");
+    let error = std::io::Error::from(Entry::read(b"").unwrap_err());
+    assert_eq!((error.kind(), error.to_string()), (ErrorKind::InvalidData, "Truncated at 0".into()));
+}
+
+#[test]
+fn a_source_is_read_to_its_end_or_refusal() {
+    let file = marks();
+    let mut reader = EntryReader::default();
+    reader.read_from(&mut file.as_slice()).unwrap();
+    assert_eq!((reader.kept(), reader.finish().unwrap().names()), (file.len(), &b"m"[..]));
+    let refused = EntryReader::new().read_from(&mut &b"\x1a\x02more"[..]).unwrap_err();
+    assert_eq!((refused.kind(), refused.to_string()), (ErrorKind::InvalidData, "BadMagic at 0".into()));
+}
+
+#[test]
+fn a_tape_gives_the_tokens() {
+    let tokens: Vec<_> = Capability::parse(b"a%p1%%").unwrap().tape().collect();
+    assert_eq!(tokens, [Token::Byte(b'a'), Token::Param(1), Token::Byte(b'%')]);
+}
+
+#[test]
+fn what_is_made_is_printed_cloned_and_sent() {
+    fn is_fit<T: Send + Sync + Clone + core::fmt::Debug>() {}
+    is_fit::<Entry<'_>>();
+    is_fit::<EntryReader>();
+    is_fit::<Capability<'_>>();
+    is_fit::<Tape<'_>>();
+    is_fit::<Vars>();
+    is_fit::<Draft<'_>>();
+    is_fit::<(Padding, Name<'_>, Value<'_>, Run)>();
+    is_fit::<(ReadError, ParseError, ExpandError, PadError, PadIntoError, EncodeError)>();
+    let file = marks();
+    assert_eq!(std::format!("{:?}", Entry::read(&file).unwrap()), "Entry { names: \"m\", .. }");
+}
+
+#[test]
+fn the_version_is_that_of_the_sources() {
+    assert_eq!(env!("CARGO_PKG_VERSION"), crate::made::base::VERSION);
+}
