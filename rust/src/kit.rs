@@ -32,7 +32,7 @@ impl LittleEndian {
 
     #[inline(always)]
     pub fn read_i32(bytes: &[u8]) -> i32 {
-        Self::read_u32(bytes).cast_signed()
+        i32::from_le_bytes([bytes[0], bytes[1], bytes[2], bytes[3]])
     }
 
     pub fn write_i16(bytes: &mut [u8], number: i16) {

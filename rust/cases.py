@@ -1,0 +1,104 @@
+"""Made inputs for the commands of `ti`, and what the proved program writes for them. They are those of model/compare, and the
+entries of this machine, mostly broken by a few bytes."""
+
+import random
+import subprocess
+import sys
+from collections.abc import Iterator
+from concurrent.futures import ThreadPoolExecutor
+from dataclasses import dataclass
+from importlib.machinery import SourceFileLoader
+from importlib.util import module_from_spec, spec_from_loader
+from pathlib import Path
+from types import ModuleType
+
+from checks.machine import PROGRAM, ROOT, entry_files
+
+# Bytes that mean something in an entry, and in a capability.
+ENTRY_BYTES = bytes([0, 1, 2, 3, 127, 128, 253, 254, 255])
+CAPABILITY_BYTES = b"%%?te;pPg{'0123456789:.dsx}~aZ"
+# Names of texts that many entries have, of other capabilities, and of none.
+NAMES = ["cup", "setaf", "sgr", "flash", "rep", "csr", "initc", "Ss", "Ms", "XM", "am", "cols", "nosuch", "#10", "#500"]
+
+
+@dataclass(frozen=True)
+class Case:
+    """A call of `ti`: its words, and what it reads."""
+
+    words: tuple[str, ...]
+    data: bytes
+
+    def line(self) -> str:
+        """The call as a line for the driver."""
+        return " ".join([self.data.hex(), *(word.encode().hex() for word in self.words)])
+
+    def proved(self) -> str:
+        """The line that the driver has to write, by the proved program."""
+        done = subprocess.run([PROGRAM, *self.words], input=self.data, capture_output=True, check=False)
+        return f"{done.returncode} {done.stdout.hex()} {done.stderr.hex()}"
+
+
+def model() -> ModuleType:
+    """model/compare as a module, for the inputs that it makes."""
+    path = ROOT / "model/compare"
+    sys.path.insert(0, str(path.parent))
+    loader = SourceFileLoader("compare", str(path))
+    spec = spec_from_loader("compare", loader)
+    assert spec
+    module = module_from_spec(spec)
+    loader.exec_module(module)
+    return module
+
+
+def parameters(made: ModuleType) -> list[str]:
+    values = made.some(made.made_value, 9)
+    return [f"n:{value}" if isinstance(value, int) else f"s:{value.decode()}" for value in values]
+
+
+def form() -> str:
+    return random.choice(["--hex", "--escape"])
+
+
+def an_entry(made: ModuleType, installed: list[Path]) -> bytes:
+    """An entry, made or of this machine, and mostly broken."""
+    entry = random.choice(installed).read_bytes() if installed and random.random() < 0.5 else made.made_entry()
+    return made.broken(entry, ENTRY_BYTES + bytes([random.randrange(256)]), random.choice([0, 0, 1, 3]))
+
+
+def expanding(made: ModuleType, entry: bytes) -> Iterator[Case]:
+    """An expansion of a text of an entry, and of one in an entry that is made for it."""
+    text = made.made_capability().replace(b"\0", b"")
+    for name, data in [
+        (random.choice([*NAMES, f"#{random.randrange(420)}"]), entry),
+        ("Ss", made.entries.encode(made.Entry(False, b"t", extended_texts=[(b"Ss", text)]), False)),
+    ]:
+        rate, lines = random.choice([0, 1, 333, 9600, 1_000_000]), random.choice([0, 1, 2, 24, 65_535])
+        options = [form(), "--all-names", f"--rate={rate}", f"--lines={lines}", *random.choice([[], ["--xon"]])]
+        yield Case(("expand", *options, "--", name, *parameters(made)), data)
+
+
+def made_cases(rounds: int, seed: int) -> Iterator[Case]:
+    """Cases of each command, for so many rounds."""
+    made, installed = model(), entry_files()
+    random.seed(seed)
+    for _ in range(rounds):
+        capability = made.made_capability()
+        yield Case(("cap", form(), "--", *parameters(made)), capability)
+        entry = an_entry(made, installed)
+        yield Case(("show", "--all-names"), entry)
+        yield Case(("check", "--all-names"), entry)
+        yield Case(("convert", *random.choice([(), ("--wide",), ("--narrow",)])), entry)
+        yield from expanding(made, entry)
+
+
+def proved_lines(cases: list[Case]) -> list[str]:
+    """What the proved program writes for each case."""
+    with ThreadPoolExecutor(2) as pool:
+        return list(pool.map(Case.proved, cases))
+
+
+def written(command: list[str | Path], cases: list[Case], environment: dict[str, str]) -> list[str]:
+    """What a driver writes for the cases, a line for each up to one at which it ends early."""
+    lines = "".join(f"{case.line()}\n" for case in cases)
+    done = subprocess.run(command, input=lines, env=environment, capture_output=True, text=True, check=False)
+    return done.stdout.splitlines() + done.stderr.splitlines()[:1]
