@@ -51,8 +51,40 @@ def model() -> ModuleType:
 
 
 def parameters(made: ModuleType) -> list[str]:
-    values = made.some(made.made_value, 9)
+    values = [made.made_value() for _ in range(random.choice([0, 1, 2, 5, 9, 9, 9]))]
     return [f"n:{value}" if isinstance(value, int) else f"s:{value.decode()}" for value in values]
+
+
+def operand() -> bytes:
+    """A token that pushes a value."""
+    number = random.choice([0, 1, 7, 255, 2**31 - 1, random.randrange(1000)])
+    letter = random.choice(b"aAzZ")
+    return random.choice(5 * [b"%%p%d" % random.randint(1, 9)] + [b"%%{%d}" % number, b"%%'%c'" % letter, b"%%g%c" % letter])
+
+
+def whole_capability(made: ModuleType, depth: int = 0) -> bytes:
+    """A capability that prints most of what it computes, mostly without a fault."""
+
+    def printed() -> bytes:
+        return random.choice([made.made_format(), b"%d", b"%c"])
+
+    parts = [
+        lambda: operand() + operand() + b"%%%c" % random.choice(b"+-*/m&|^=><AO") + printed(),
+        lambda: operand() + random.choice([b"%!", b"%~", b"%l", b""]) + printed(),
+        lambda: operand() + b"%%P%c" % random.choice(b"aAzZ"),
+        lambda: random.choice([b"%i", b"%%", b"$<5*/>", b"\x1b["]),
+        lambda: b"%?" + operand() + b"%t" + part() + random.choice([b"", b"%e" + part()]) + b"%;" if depth < 3 else b"",
+    ]
+
+    def part() -> bytes:
+        return whole_capability(made, depth + 1)
+
+    return b"".join(random.choice(parts)() for _ in range(random.randint(1, 8)))
+
+
+def a_capability(made: ModuleType) -> bytes:
+    """A capability, of which half have mostly no fault."""
+    return random.choice([whole_capability, lambda made: made.made_capability()])(made)
 
 
 def form() -> str:
@@ -67,7 +99,7 @@ def an_entry(made: ModuleType, installed: list[Path]) -> bytes:
 
 def expanding(made: ModuleType, entry: bytes) -> Iterator[Case]:
     """An expansion of a text of an entry, and of one in an entry that is made for it."""
-    text = made.made_capability().replace(b"\0", b"")
+    text = a_capability(made).replace(b"\0", b"")
     for name, data in [
         (random.choice([*NAMES, f"#{random.randrange(420)}"]), entry),
         ("Ss", made.entries.encode(made.Entry(False, b"t", extended_texts=[(b"Ss", text)]), False)),
@@ -82,8 +114,7 @@ def made_cases(rounds: int, seed: int) -> Iterator[Case]:
     made, installed = model(), entry_files()
     random.seed(seed)
     for _ in range(rounds):
-        capability = made.made_capability()
-        yield Case(("cap", form(), "--", *parameters(made)), capability)
+        yield Case(("cap", form(), "--", *parameters(made)), a_capability(made))
         entry = an_entry(made, installed)
         yield Case(("show", "--all-names"), entry)
         yield Case(("check", "--all-names"), entry)
