@@ -22,7 +22,7 @@ PACKAGES: dict[str, tuple[str, ...]] = {
     "libclang-rt-dev": (),
     "valgrind": ("valgrind",),
     "pkg-config": ("pkg-config",),
-    "rustc": ("rustc",),
+    "cargo-web": ("cargo", "rustc"),
     "man-db": ("man",),
     "bash-completion": (),
     "zsh": ("zsh",),
