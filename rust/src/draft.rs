@@ -3,7 +3,7 @@
 use crate::Entry;
 use crate::cap::Standard;
 use crate::kit::Global;
-use crate::made::draft::EncodeFault;
+use crate::made::draft::EncodeError;
 use crate::made::words::{Flag, Kind, Number, Text, Width};
 use alloc::vec::Vec;
 
@@ -120,7 +120,7 @@ impl<'a> Draft<'a> {
     /// # Errors
     ///
     /// The first of [`EncodeError`](crate::EncodeError) that holds, in the order in which they are there.
-    pub fn encode(&self) -> Result<Vec<u8>, EncodeFault> {
+    pub fn encode(&self) -> Result<Vec<u8>, EncodeError> {
         let mut draft = crate::made::draft::Draft::new(Global, self.names, self.width);
         for flag in &self.flags {
             draft.push_flag(*flag)?;

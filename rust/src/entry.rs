@@ -1,7 +1,7 @@
 //! An entry that was read, with its capabilities by name.
 
 use crate::cap::Standard;
-use crate::made::entry::{Extended, Refused, read};
+use crate::made::entry::{Extended, ReadError, read};
 use crate::made::words::{Flag, Kind, Number, Text, Width};
 use crate::name::{Name, standard_index};
 use core::fmt;
@@ -56,7 +56,7 @@ impl<'a> Entry<'a> {
     /// # Errors
     ///
     /// The first check that does not hold of the bytes, and the place that it speaks of.
-    pub fn read(bytes: &'a [u8]) -> Result<Entry<'a>, Refused> {
+    pub fn read(bytes: &'a [u8]) -> Result<Entry<'a>, ReadError> {
         Ok(Entry { inner: read(bytes)? })
     }
 

@@ -1,48 +1,48 @@
 //! What the faults of the sources print: the fault's own name, and its place or number after it.
 
-use crate::made::cap::CapRefused;
-use crate::made::entry::Refused;
-use crate::made::pad::{PadFault, PadIntoFault};
+use crate::made::cap::ParseError;
+use crate::made::entry::ReadError;
+use crate::made::pad::{PadError, PadIntoError};
 use core::error::Error;
 use core::fmt;
 
-impl fmt::Display for Refused {
+impl fmt::Display for ReadError {
     fn fmt(&self, f: &mut fmt::Formatter<'_>) -> fmt::Result {
         write!(f, "{} at {}", self.fault, self.place)
     }
 }
 
-impl Error for Refused {}
+impl Error for ReadError {}
 
-impl fmt::Display for CapRefused {
+impl fmt::Display for ParseError {
     fn fmt(&self, f: &mut fmt::Formatter<'_>) -> fmt::Result {
         write!(f, "{} at {}", self.fault, self.place)
     }
 }
 
-impl Error for CapRefused {}
+impl Error for ParseError {}
 
-impl fmt::Display for PadFault {
+impl fmt::Display for PadError {
     fn fmt(&self, f: &mut fmt::Formatter<'_>) -> fmt::Result {
         match self {
-            PadFault::TooMuch { need } => write!(f, "TooMuch {need}"),
-            PadFault::Memory => f.write_str("Memory"),
+            PadError::TooMuch { need } => write!(f, "TooMuch {need}"),
+            PadError::Memory => f.write_str("Memory"),
         }
     }
 }
 
-impl Error for PadFault {}
+impl Error for PadError {}
 
-impl fmt::Display for PadIntoFault {
+impl fmt::Display for PadIntoError {
     fn fmt(&self, f: &mut fmt::Formatter<'_>) -> fmt::Result {
         match self {
-            PadIntoFault::TooMuch { need } => write!(f, "TooMuch {need}"),
-            PadIntoFault::OutTooSmall { need } => write!(f, "OutTooSmall {need}"),
+            PadIntoError::TooMuch { need } => write!(f, "TooMuch {need}"),
+            PadIntoError::OutTooSmall { need } => write!(f, "OutTooSmall {need}"),
         }
     }
 }
 
-impl Error for PadIntoFault {}
+impl Error for PadIntoError {}
 
 /// Makes each fault an error of reading and writing, of a kind, with the fault inside.
 macro_rules! io_errors {
@@ -59,9 +59,9 @@ macro_rules! io_errors {
 }
 
 io_errors! {
-    Refused => InvalidData,
-    CapRefused => InvalidData,
+    ReadError => InvalidData,
+    ParseError => InvalidData,
     crate::EncodeError => InvalidInput,
-    PadFault => InvalidInput,
+    PadError => InvalidInput,
     crate::ExpandError => InvalidInput,
 }

@@ -51,14 +51,14 @@ pub use kit::AllocError;
 /// # }
 /// ```
 pub use made::cap::Capability;
-pub use made::cap::{CapFault as ParseFault, CapRefused as ParseError, Conversion, Format, Op, Tape, Token};
+pub use made::cap::{Conversion, Format, Op, ParseError, ParseFault, Tape, Token};
 #[cfg(feature = "alloc")]
-pub use made::draft::EncodeFault as EncodeError;
-pub use made::entry::{Fault as ReadFault, Refused as ReadError};
+pub use made::draft::EncodeError;
+pub use made::entry::{ReadError, ReadFault};
 pub use made::expand::{Run, Value, Vars};
 #[cfg(feature = "alloc")]
-pub use made::pad::PadFault as PadError;
-pub use made::pad::{PadIntoFault as PadIntoError, Padding, pad_into, padded_len};
+pub use made::pad::PadError;
+pub use made::pad::{PadIntoError, Padding, pad_into, padded_len};
 pub use made::words::{Flag, Kind, Number, Text, Width};
 pub use name::Name;
 #[cfg(feature = "alloc")]

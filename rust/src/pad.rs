@@ -1,7 +1,7 @@
 //! Padding: the pad bytes that give a slow terminal the time that marks such as `$<5>` ask for.
 
 #[cfg(feature = "alloc")]
-use crate::made::pad::PadFault;
+use crate::made::pad::PadError;
 use crate::made::pad::Padding;
 
 /// The text with the pad bytes that its marks ask for in their place.
@@ -23,7 +23,7 @@ use crate::made::pad::Padding;
 ///
 /// The text would have more than [`MOST_PADDED_BYTES`](crate::limits::MOST_PADDED_BYTES), or memory was refused.
 #[cfg(feature = "alloc")]
-pub fn pad(text: &[u8], padding: &Padding) -> Result<alloc::vec::Vec<u8>, PadFault> {
+pub fn pad(text: &[u8], padding: &Padding) -> Result<alloc::vec::Vec<u8>, PadError> {
     Ok(crate::made::pad::pad(crate::kit::Global, text, padding)?.into_items())
 }
 

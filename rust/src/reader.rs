@@ -1,7 +1,7 @@
 //! Entries whose bytes come in pieces.
 
 use crate::Entry;
-use crate::made::entry::Refused;
+use crate::made::entry::ReadError;
 use core::fmt;
 
 /// Takes the bytes of an entry in pieces, and keeps them: at most [`MOST_ENTRY_BYTES`](crate::limits::MOST_ENTRY_BYTES), for
@@ -36,7 +36,7 @@ impl EntryReader {
     /// # Errors
     ///
     /// The first check that fails on the bytes so far. It is returned for each later piece too, of which nothing is kept.
-    pub fn feed(&mut self, piece: &[u8]) -> Result<(), Refused> {
+    pub fn feed(&mut self, piece: &[u8]) -> Result<(), ReadError> {
         self.inner.feed(piece)
     }
 
@@ -50,7 +50,7 @@ impl EntryReader {
     /// # Errors
     ///
     /// What an earlier piece was refused for, or that the bytes end before an entry does.
-    pub fn finish(&self) -> Result<Entry<'_>, Refused> {
+    pub fn finish(&self) -> Result<Entry<'_>, ReadError> {
         Ok(Entry { inner: self.inner.finish()? })
     }
 
