@@ -29,6 +29,15 @@ pub fn pad(text: &[u8], padding: &Padding) -> Result<alloc::vec::Vec<u8>, PadErr
 
 /// Writes the text with the pad bytes that its marks ask for to a sink, all at once.
 ///
+/// ```
+/// use ti_terminfo::{Padding, pad_to};
+///
+/// # fn main() -> std::io::Result<()> {
+/// let flash = b"\x1b[?5h$<200/>\x1b[?5l";
+/// pad_to(&mut std::io::stdout(), flash, &Padding::default())
+/// # }
+/// ```
+///
 /// # Errors
 ///
 /// That of the sink, or of the kind `InvalidInput` with the [`PadError`](crate::PadError) inside.

@@ -5,7 +5,7 @@ use crate::made::entry::ReadError;
 use core::fmt;
 
 /// Takes the bytes of an entry in pieces, and keeps them: at most [`MOST_ENTRY_BYTES`](crate::limits::MOST_ENTRY_BYTES), for
-/// which it has room of its own. How the bytes are cut into pieces makes no difference.
+/// which it has room of its own, so it is best kept in one place. How the bytes are cut into pieces makes no difference.
 ///
 /// ```
 /// use ti_terminfo::EntryReader;
