@@ -9,7 +9,7 @@ use core::fmt;
 /// A compiled entry (term(5)). What it gives is lent from the bytes that it was read from.
 ///
 /// A name is a short or a long one of `term.h`, or one that the entry has itself; a standard name comes first. To find it
-/// takes a look through the names, up to a microsecond; [`Entry::get`] has an index in place of that.
+/// takes a look through the names, one or two microseconds at most; [`Entry::get`] has an index in place of that.
 #[derive(Clone)]
 pub struct Entry<'a> {
     pub(crate) inner: crate::made::entry::Entry<'a>,

@@ -1,0 +1,61 @@
+"""Adds the tests of the sources, those of ti_cases, to a crate that rust/make made, so that cargo runs them over it. Tests of
+what the crate leaves out, and of memory that is refused, are not added."""
+
+import re
+import shutil
+from pathlib import Path
+from types import ModuleType
+
+HERE = Path(__file__).resolve().parent
+# The crates of tests, each with the files that are not added.
+TESTS = {
+    "fixtures": ["flushed", "sink", "source", "tally", "traces"],
+    "cases": [
+        "draft_growths", "draft_memory", "entry_messages", "entry_sources", "expansion_memory", "expansion_variables",
+        "padding_memory", "padding_rows", "padding_writers", "traces",
+    ],
+}
+# What a test of Rattle has for its handle `rt`, which those of Rust do without. KIT is the crate's own kit.
+RENAMES = [
+    (r"\bstd::(?:test::Fail|process::Abort);", "KIT::testing::*;"),
+    (r"\brt: (?:HostRuntime|&impl Abort|&\(impl Abort \+ AllocGlobal\))(?:,\s*)?", ""),
+    (r"\(\$rt:expr; ", "("),
+    (r"&\$rt, ", ""),
+    (r"(?<=!\()rt;\s", ""),
+    (r"(?<=\()\s*&?rt,\s*", ""),
+    (r"\brt\.alloc\(\)", "KIT::Global"),
+    (r"format!\(in ", "format_in!("),
+    (r"\.(to_string|to_vec)\((?=\w)", r".\1_in("),
+]
+
+
+def test_of_rust(text: str, make: ModuleType, crate: str, left_out: list[str]) -> str:
+    """A file of tests as one of Rust."""
+    text = make.bare(text)
+    text = re.sub(rf"^(?:pub )?(?:mod|use) (?:{'|'.join(left_out)})\b.*;\n", "", text, flags=re.M)
+    for pattern, name in RENAMES:
+        text = re.sub(pattern, name, text)
+    if "to_vec_in" in text and "testing::*" not in text:
+        text = text.replace("\nuse ", "\nuse KIT::testing::*;\nuse ", 1)
+    return make.renamed(text, crate).replace("KIT::", "crate::kit::")
+
+
+def append(path: Path, text: str) -> None:
+    path.write_text(path.read_text() + text)
+
+
+def add_tests(make: ModuleType, target: Path) -> None:
+    """Adds the tests to the crate in a folder."""
+    for crate, left_out in TESTS.items():
+        folder = make.CRATES / f"ti_{crate}/src"
+        for path in sorted(folder.rglob("*.rt")):
+            if path.stem not in left_out:
+                made = target / "src/made" / crate / path.relative_to(folder).with_suffix(".rs")
+                made = made.parent.with_suffix(".rs") if path.name == "lib.rt" else made
+                made.parent.mkdir(parents=True, exist_ok=True)
+                made.write_text(test_of_rust(path.read_text(), make, crate, left_out))
+        append(target / "src/made.rs", f"#[cfg(test)]\npub mod {crate};\n")
+    append(target / "src/kit.rs", "#[cfg(test)]\npub use vec::testing;\n")
+    append(target / "src/kit/vec.rs", "#[cfg(test)]\npub mod testing;\n")
+    (target / "src/kit/vec").mkdir()
+    shutil.copy(HERE / "testing.rs", target / "src/kit/vec")

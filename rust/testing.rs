@@ -1,0 +1,68 @@
+//! What the tests of the sources take from Rattle, for those of them that rust/check runs.
+
+use super::{AllocError, Allocator, Global, Vec};
+use crate::made::expand::ExpandFault;
+use core::error::Error;
+use core::fmt;
+use std::boxed::Box;
+use std::string::{String, ToString};
+
+/// Why a test fails.
+pub type Fail = Box<dyn Error>;
+
+/// A text that is formatted.
+macro_rules! format_in {
+    ($alloc:expr; $($words:tt)*) => {{
+        let _ = $alloc;
+        Ok::<_, crate::kit::AllocError>(std::format!($($words)*))
+    }};
+}
+pub(crate) use format_in;
+
+impl<T: Clone, A: Allocator> Vec<T, A> {
+    pub fn from_slice(alloc: A, items: &[T]) -> Result<Self, AllocError> {
+        let mut made = Vec::new(alloc);
+        made.extend_from_slice(items)?;
+        Ok(made)
+    }
+
+    pub fn capacity(&self) -> usize {
+        self.items.capacity()
+    }
+}
+
+/// A slice as a vector.
+pub trait ToVecIn<T> {
+    fn to_vec_in<A: Allocator>(&self, alloc: A) -> Result<Vec<T, A>, AllocError>;
+}
+
+impl<T: Clone> ToVecIn<T> for [T] {
+    fn to_vec_in<A: Allocator>(&self, alloc: A) -> Result<Vec<T, A>, AllocError> {
+        Vec::from_slice(alloc, self)
+    }
+}
+
+/// What a value prints.
+pub trait ToStringIn {
+    fn to_string_in(&self, alloc: Global) -> Result<String, AllocError>;
+}
+
+impl<T: ToString> ToStringIn for T {
+    fn to_string_in(&self, _alloc: Global) -> Result<String, AllocError> {
+        Ok(self.to_string())
+    }
+}
+
+// The crate shows its own error in place of this one.
+impl fmt::Display for ExpandFault {
+    fn fmt(&self, f: &mut fmt::Formatter<'_>) -> fmt::Result {
+        match self {
+            ExpandFault::TextTooLong { parameter } => write!(f, "TextTooLong {parameter}"),
+            ExpandFault::StackTooSmall { need } => write!(f, "StackTooSmall {need}"),
+            ExpandFault::OutTooSmall { need } => write!(f, "OutTooSmall {need}"),
+            ExpandFault::Memory => f.write_str("Memory"),
+        }
+    }
+}
+
+impl Error for ExpandFault {}
