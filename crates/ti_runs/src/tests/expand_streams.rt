@@ -11,19 +11,17 @@ use ti_fixtures::entries::TEXT;
 use ti_fixtures::{Sink, Source, TMUX, Tally};
 use ti_tool::{ToolFault, cap_run, expand_named};
 
-/// A text of three literal bytes and ten pad bytes.
-fn padded() -> Result<Asked<'static>, Fail> {
-    Ok(Asked {
-        name: "#0",
-        text: b"\x1b[H$<5*/>",
-        padding: padding_of(960, 2, true)?,
-        hex: false,
-    })
-}
+/// Three literal bytes, and a mark that becomes ten pad bytes for two lines.
+const PADDED: &[u8] = b"\x1b[H$<5*/>";
 
 #[test]
 fn a_writer_of_padding_fails_at_each_byte(rt: HostRuntime) -> Result<(), Fail> {
-    let asked = padded()?;
+    let asked = Asked {
+        name: "#0",
+        text: PADDED,
+        padding: padding_of(960, 2, true)?,
+        hex: false,
+    };
     for k in 1..14usize {
         let writer = Sink::failing_at(rt.alloc(), 1, k);
         let written = expanded(rt.alloc(), Source::new(TEXT, 512), &asked, writer);
@@ -35,8 +33,14 @@ fn a_writer_of_padding_fails_at_each_byte(rt: HostRuntime) -> Result<(), Fail> {
 
 #[test]
 fn a_writer_of_padding_that_fails_too_late(rt: HostRuntime) -> Result<(), Fail> {
+    let asked = Asked {
+        name: "#0",
+        text: PADDED,
+        padding: padding_of(960, 2, true)?,
+        hex: false,
+    };
     let writer = Sink::failing_at(rt.alloc(), 1, 14);
-    let written = expanded(rt.alloc(), Source::new(TEXT, 512), &padded()?, writer);
+    let written = expanded(rt.alloc(), Source::new(TEXT, 512), &asked, writer);
     assert_that!(rt; written.result.is_ok());
     assert_that!(rt; written.taken.len() == 13);
     Ok(())
@@ -44,7 +48,12 @@ fn a_writer_of_padding_that_fails_too_late(rt: HostRuntime) -> Result<(), Fail> 
 
 #[test]
 fn a_source_that_fails_expands_nothing(rt: HostRuntime) -> Result<(), Fail> {
-    let asked = padded()?;
+    let asked = Asked {
+        name: "#0",
+        text: PADDED,
+        padding: padding_of(960, 2, true)?,
+        hex: false,
+    };
     for k in 1..24usize {
         let source = Source::failing_at(TEXT, 1, k);
         let written = expanded(rt.alloc(), source, &asked, Sink::new(rt.alloc()));

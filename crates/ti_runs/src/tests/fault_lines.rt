@@ -81,12 +81,14 @@ const LINES: [(&[&str], &[u8], u8, &[u8]); 12] = [
 fn a_line_stops_where_its_writer_fails(rt: HostRuntime) {
     let alloc = rt.alloc();
     for (words, input, status, line) in LINES {
-        for k in 1..=line.len() + 1 {
-            let errors = Sink::failing_at(alloc, 1, k);
-            let source = Source::new(input, 512);
-            let end = end_over(alloc, alloc, words, source, Sink::new(alloc), errors);
-            assert_that!(rt; end.status == status);
-            assert_that!(rt; end.errors.as_slice() == &line[..k - 1]);
+        for k in 1..64usize {
+            if let Some(front) = line.get(..k - 1) {
+                let errors = Sink::failing_at(alloc, 1, k);
+                let source = Source::new(input, 512);
+                let end = end_over(alloc, alloc, words, source, Sink::new(alloc), errors);
+                assert_that!(rt; end.status == status);
+                assert_that!(rt; end.errors.as_slice() == front);
+            }
         }
     }
 }
