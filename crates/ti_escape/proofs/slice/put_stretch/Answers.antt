@@ -1,5 +1,6 @@
-use Rattle.std.proofs.Common.{rules}
+use Rattle.std.proofs.Common.{arith, rules}
 use Rattle.std.proofs.lemmas.Slice.{overwrites}
+use Rattle.std.proofs.lemmas.Grind.{common_steps}
 use Rattle.ti_escape.proofs.slice.put_stretch.Goals as goal
 
 pub returns-in-Plain-clause-rest : goal.returns-in-Plain-clause-rest
@@ -13,3 +14,15 @@ returns-in-Caret-clause-rest c = search (rules, overwrites)
 
 pub returns-in-Octal-clause-rest : goal.returns-in-Octal-clause-rest
 returns-in-Octal-clause-rest c = search (rules, overwrites)
+
+pub returns-in-Plain-clause-written : goal.returns-in-Plain-clause-written
+returns-in-Plain-clause-written c = search (rules, overwrites)
+
+pub returns-in-Backslash-clause-written : goal.returns-in-Backslash-clause-written
+returns-in-Backslash-clause-written c = search (rules, overwrites)
+
+pub returns-in-Caret-clause-written : goal.returns-in-Caret-clause-written
+returns-in-Caret-clause-written c = search (rules, overwrites)
+
+pub returns-in-Octal-clause-written : goal.returns-in-Octal-clause-written
+returns-in-Octal-clause-written c = search (rules, overwrites)

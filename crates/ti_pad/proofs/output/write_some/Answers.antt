@@ -1,4 +1,5 @@
-use Rattle.std.proofs.Common.{rules, arith, ap, length}
+use Rattle.std.proofs.Common.{ap, arith, length, rules}
+use Rattle.std.proofs.lemmas.Grind.{common_steps}
 use Rattle.ti_pad.proofs.AppendsLemmas.{Appends-next}
 use Rattle.ti_pad.proofs.output.write_some.Goals as goal
 
@@ -8,3 +9,6 @@ writes-preserved-in-Ok g c = record {
   taken = Appends-next _ _ _ _ _ _ c.writes.invariant.taken c.in-Ok.ensures.bytes;
   nothing = λ none. absurd (omega (arith, ap length none));
 }
+
+pub returns-clause-written : goal.returns-clause-written
+returns-clause-written c = grind (arith, common_steps)
