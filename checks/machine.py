@@ -22,6 +22,8 @@ PACKAGES: dict[str, tuple[str, ...]] = {
     "libclang-rt-dev": (),
     "valgrind": ("valgrind",),
     "pkg-config": ("pkg-config",),
+    "binutils": ("readelf", "nm"),
+    "dpkg": ("dpkg-deb",),
     "cargo-web": ("cargo", "rustc"),
     "man-db": ("man",),
     "bash-completion": (),

@@ -1,27 +1,35 @@
 /* Writes what a text of an entry sends, as tput does: tput ENTRY-FILE NAME [PARAM..]
- * A parameter that is a decimal number is one, any other is a text.
+ * A parameter that is a decimal number is one, any other is a text. The status is 2 for a wrong call, 3 for a file that can't
+ * be read, and 4 if the entry, its text or the parameters are refused.
  *
  *     cc -o tput tput.c $(pkg-config --cflags --libs ti)
  */
+#include <errno.h>
 #include <stdio.h>
 #include <stdlib.h>
 #include <string.h>
 
 #include <ti.h>
 
-enum { ROOM = 65536, MOST_ITEMS = 16384, PARAMETERS = 9, TEXT = 2 };
+enum { WRONG_CALL = 2, UNREADABLE = 3, REFUSED = 4, ROOM = 65536 };
 
-static unsigned char file[ROOM], out[ROOM], padded[ROOM];
-static int8_t flags[MOST_ITEMS];
-static int32_t numbers[MOST_ITEMS];
-static ti_text_item texts[MOST_ITEMS];
-static ti_bytes names[MOST_ITEMS];
+/* One byte more than an entry can have, so that a longer file is refused. */
+static unsigned char file[TI_MOST_BYTES + 1], out[ROOM], padded[ROOM];
+static int8_t flags[TI_MOST_FLAGS];
+static int32_t numbers[TI_MOST_NUMBERS];
+static ti_text_item texts[TI_MOST_TEXTS];
+static ti_bytes names[TI_MOST_EXTENDED];
 
-static int fail(uint32_t fault) {
+static int fail(int status, const char *what, const char *why) {
+    fprintf(stderr, "tput: %s: %s\n", what, why);
+    return status;
+}
+
+static int refuse(const char *what, uint32_t fault) {
     ti_bytes word = {(const unsigned char *)"", 0};
     ti_word(fault, &word);
-    fprintf(stderr, "tput: %.*s\n", (int)word.length, (const char *)word.bytes);
-    return 1;
+    fprintf(stderr, "tput: %s: %.*s\n", what, (int)word.length, (const char *)word.bytes);
+    return REFUSED;
 }
 
 /* The text with a name: a standard one by its index, else an extended one. */
@@ -30,7 +38,7 @@ static const ti_text_item *find_text(const ti_entry *entry, const char *name) {
     size_t index, length = strlen(name);
     uint32_t kind;
     if (ti_find((const unsigned char *)name, length, &kind, &index) == TI_DONE)
-        return kind == TEXT && index < entry->texts ? &texts[index] : NULL;
+        return kind == TI_TEXT && index < entry->texts ? &texts[index] : NULL;
     for (index = 0; index < entry->extended_texts; index++)
         if (named[index].length == length && memcmp(named[index].bytes, name, length) == 0)
             return &texts[entry->texts + index];
@@ -44,29 +52,33 @@ static ti_parameter parameter(const char *word) {
 }
 
 int main(int argc, char **argv) {
-    ti_parameter parameters[PARAMETERS];
-    ti_padding no_line = {0, 1, 0, 0};
+    ti_parameter parameters[TI_MOST_PARAMETERS];
+    ti_padding no_line = ti_padding_at(0); /* with it padding vanishes */
     ti_vars vars = {{0}};
     ti_entry entry;
     ti_run run;
-    size_t written;
-    uint32_t fault;
-    FILE *input = argc < 3 || argc > 3 + PARAMETERS ? NULL : fopen(argv[1], "rb");
+    size_t length;
+    if (argc < 3 || argc > 3 + TI_MOST_PARAMETERS)
+        return fail(WRONG_CALL, "call it as", "tput ENTRY-FILE NAME [PARAM..]");
+    FILE *input = fopen(argv[1], "rb");
     if (input == NULL)
-        return 2;
-    written = fread(file, 1, sizeof file, input);
-    fault = ti_read(file, written, flags, MOST_ITEMS, numbers, MOST_ITEMS, texts, MOST_ITEMS, names, MOST_ITEMS, &entry);
+        return fail(UNREADABLE, argv[1], strerror(errno));
+    length = fread(file, 1, sizeof file, input);
+    if (ferror(input))
+        return fail(UNREADABLE, argv[1], strerror(errno));
+    uint32_t fault = ti_read(file, length, flags, TI_MOST_FLAGS, numbers, TI_MOST_NUMBERS, texts, TI_MOST_TEXTS, names,
+                             TI_MOST_EXTENDED, &entry);
     if (fault != TI_DONE)
-        return fail(fault);
+        return refuse(argv[1], fault);
     const ti_text_item *text = find_text(&entry, argv[2]);
     if (text == NULL || text->mark != 0)
-        return fail(TI_NOT_NAMED);
+        return refuse(argv[2], TI_NOT_NAMED);
     for (int i = 3; i < argc; i++)
         parameters[i - 3] = parameter(argv[i]);
     fault = ti_expand(text->text.bytes, text->text.length, parameters, (size_t)(argc - 3), &vars, out, ROOM, &run);
-    if (fault == TI_DONE) /* at the rate 0 padding vanishes */
-        fault = ti_pad(out, run.written, &no_line, padded, ROOM, &written);
+    if (fault == TI_DONE)
+        fault = ti_pad(out, run.written, &no_line, padded, ROOM, &length);
     if (fault != TI_DONE)
-        return fail(fault);
-    return fwrite(padded, 1, written, stdout) == written ? 0 : 1;
+        return refuse(argv[2], fault);
+    return fwrite(padded, 1, length, stdout) == length ? 0 : UNREADABLE;
 }

@@ -17,16 +17,19 @@
  *     if (ti_expand(cup, cup_length, at, 2, &vars, out, sizeof out, &run) == TI_DONE)
  *         fwrite(out, 1, run.written, stdout);
  *
- * An entry's texts come as pointers into its bytes: the text with the index 10 is cup.
+ * An entry's texts come as pointers into its bytes.
  *
- *     int8_t flags[64];
- *     int32_t numbers[64];
- *     ti_text_item texts[512];
- *     ti_bytes names[256];
+ *     static int8_t flags[TI_MOST_FLAGS];
+ *     static int32_t numbers[TI_MOST_NUMBERS];
+ *     static ti_text_item texts[TI_MOST_TEXTS];
+ *     static ti_bytes names[TI_MOST_EXTENDED];
  *     ti_entry entry;
- *     if (ti_read(file, file_length, flags, 64, numbers, 64, texts, 512, names, 256, &entry) == TI_DONE
- *         && entry.texts > 10 && texts[10].mark == 0)
- *         answer = ti_expand(texts[10].text.bytes, texts[10].text.length, at, 2, &vars, out, sizeof out, &run);
+ *     if (ti_read(file, file_length, flags, TI_MOST_FLAGS, numbers, TI_MOST_NUMBERS, texts, TI_MOST_TEXTS, names,
+ *                 TI_MOST_EXTENDED, &entry) == TI_DONE
+ *         && TI_CURSOR_ADDRESS < entry.texts && texts[TI_CURSOR_ADDRESS].mark == 0) {
+ *         ti_bytes cup = texts[TI_CURSOR_ADDRESS].text;
+ *         fault = ti_expand(cup.bytes, cup.length, at, 2, &vars, out, sizeof out, &run);
+ *     }
  */
 #ifndef TI_H
 #define TI_H
@@ -34,9 +37,14 @@
 #include <stddef.h>
 #include <stdint.h>
 
+#include "ti_names.h"
+
 #ifdef __cplusplus
 extern "C" {
 #endif
+
+/* The version of this header, as ti_version() returns that of the library. */
+#define TI_VERSION 0x000200
 
 enum {
     TI_DONE = 0,
@@ -85,6 +93,30 @@ enum {
 enum {
     TI_ABSENT = -1,
     TI_CANCELLED = -2
+};
+
+/* The kinds of capabilities. */
+enum {
+    TI_FLAG = 0,
+    TI_NUMBER = 1,
+    TI_TEXT = 2
+};
+
+/* Limits. No entry, and no call, needs more. */
+enum {
+    TI_MOST_BYTES = 32768,            /* of an entry */
+    TI_MOST_FLAGS = 32768,            /* of an entry, standard and extended ones together, as ti_read fills its arrays */
+    TI_MOST_NUMBERS = 16384,          /* the same */
+    TI_MOST_TEXTS = 16384,            /* the same */
+    TI_MOST_EXTENDED = 10923,         /* extended capabilities of an entry, each of which has a name */
+    TI_MOST_CAPABILITY_BYTES = 32767, /* of a capability */
+    TI_MOST_PARAMETERS = 9,           /* of an expansion */
+    TI_MOST_TEXT_BYTES = 32767,       /* of a text among the parameters */
+    TI_MOST_VALUES = 32,              /* on the stack of a capability */
+    TI_MOST_OPEN = 32,                /* conditionals of a capability that are open at once */
+    TI_MOST_RATE = 1000000,           /* bytes per second */
+    TI_MOST_AFFECTED_LINES = 65535,   /* of a padding */
+    TI_MOST_PADDED_BYTES = 67108864   /* of a padded text */
 };
 
 /* Bytes that are lent; no NUL ends them. */
@@ -145,7 +177,7 @@ typedef struct {
 /* How a text is padded. */
 typedef struct {
     uint32_t rate;           /* of the line, in bytes per second, at most 1000000; with 0 there are no pad bytes */
-    uint32_t affected_lines; /* at most 65535: a mark with a * pads for each of them */
+    uint32_t affected_lines; /* at most 65535: a mark with a * pads for each of them, so with 0 it pads nothing */
     uint8_t xon;             /* not 0 if the terminal has flow control: then only a mark with a / is padded */
     uint8_t pad;             /* the pad byte; 0 in nearly all terminals */
 } ti_padding;
@@ -160,7 +192,10 @@ typedef struct {
  * TI_ROOM_TOO_SMALL: an array has fewer elements than that. The ti_entry is written as after TI_DONE, so you can call once
  * with no room to learn the counts. The arrays are as they were.
  *
- * Room for 32768 flags, 16384 numbers, 16384 texts and 10923 names is always enough. */
+ * Room for TI_MOST_FLAGS, TI_MOST_NUMBERS, TI_MOST_TEXTS and TI_MOST_EXTENDED is always enough.
+ *
+ * Afterwards the arrays and the ti_entry hold pointers to the entry's bytes, which must stay where they are. In Go the bytes
+ * must so be pinned, or lie in memory of C. */
 uint32_t ti_read(const unsigned char *bytes, size_t length, int8_t *flags, size_t flag_room, int32_t *numbers,
                  size_t number_room, ti_text_item *texts, size_t text_room, ti_bytes *names, size_t name_room,
                  ti_entry *entry);
@@ -196,21 +231,21 @@ uint32_t ti_expand(const unsigned char *capability, size_t length, const ti_para
  * TI_TOO_MUCH, TI_OUT_TOO_SMALL: the length that the padded text would have is written, or SIZE_MAX if it is greater
  * still, so you can call once with no room to learn the length. The room is as it was.
  *
- *     ti_padding padding = {960, 1, 0, 0};
+ *     ti_padding padding = ti_padding_at(960);
  *     size_t padded;
  *     if (ti_pad(out, run.written, &padding, more, sizeof more, &padded) == TI_DONE)
  *         fwrite(more, 1, padded, stdout); */
 uint32_t ti_pad(const unsigned char *text, size_t length, const ti_padding *padding, unsigned char *out, size_t room,
                 size_t *padded);
 
-/* Finds the name of a flag (kind 0), a number (1) or a text (2) by its index in an entry, among all names of the header
- * term.h of ncurses 6.4, which are 44, 39 and 414: TI_DONE with the name, which lasts as long as the program, or
- * TI_NOT_NAMED, and the name is as it was. ti_name(2, 10, &name) is "cup". */
+/* Finds the short name of a flag, a number or a text (TI_FLAG, TI_NUMBER, TI_TEXT) by its index in an entry, among all names
+ * of the header term.h of ncurses 6.4, which are 44, 39 and 414: TI_DONE with the name, which lasts as long as the program,
+ * or TI_NOT_NAMED, and the name is as it was. ti_name(TI_TEXT, TI_CURSOR_ADDRESS, &name) finds "cup". */
 uint32_t ti_name(uint32_t kind, size_t index, ti_bytes *name);
 
 /* Finds the kind and the index of the capability with a name among these: TI_DONE with both, as ti_name takes them, or
- * TI_NOT_NAMED, and both are as they were. For "cup" they are 2 and 10. The names of extended capabilities are the
- * entry's own, which ti_read returns. */
+ * TI_NOT_NAMED, and both are as they were. For "cup" they are TI_TEXT and TI_CURSOR_ADDRESS. The names of extended
+ * capabilities are the entry's own, which ti_read returns. */
 uint32_t ti_find(const unsigned char *name, size_t length, uint32_t *kind, size_t *index);
 
 /* Finds the word of a fault by its number, to be printed: TI_DONE with the word, which lasts as long as the program, or
@@ -232,6 +267,13 @@ static inline ti_parameter ti_text(const void *bytes, size_t length) {
     parameter.text.bytes = (const unsigned char *)bytes;
     parameter.text.length = length;
     return parameter;
+}
+
+/* How to pad for a line of this rate, for one affected line, without flow control and with NULs. At the rate 0 marks vanish. */
+static inline ti_padding ti_padding_at(uint32_t rate) {
+    ti_padding padding = {0, 1, 0, 0};
+    padding.rate = rate;
+    return padding;
 }
 
 /* The layouts that the library was built with. */
