@@ -8,8 +8,7 @@ use Rattle.ti_cap.specs.Tree.{Sequence, tokens, IsTree}
 use Rattle.ti_cap.specs.Path.{Walk, path_of}
 use Rattle.ti_cap.specs.Pass.{Mode, Running, Past, next_mode, is_running, Passes, Until, ElseOrEnd, EndOnly}
 use Rattle.ti_cap.specs.Height.{IsGreatest, IsDepth, height, height_from, next_height}
-use Rattle.ti_cap.specs.declared.frame.Frame.{Frame}
-use Rattle.ti_cap.specs.inner.Analysis.{Progress, greater_of, greatest_of}
+use Rattle.ti_cap.specs.inner.Analysis.{Frame, Progress, greater_of, greatest_of}
 use Rattle.ti_cap.proofs.PassesLemmas.{Over, walk_passes, Split, passes_split, passes-append}
 use Rattle.ti_cap.proofs.IsWalkLemmas.{Walked, walk_of}
 use Rattle.ti_cap.proofs.ProgressLemmas.{Act, value_of, Comes, comes_on, IsBest, Sums, waiting, greater_of-left, greater_of-right, greater_of_is, best_above, best_comes, is_met, after, path_of-snoc}

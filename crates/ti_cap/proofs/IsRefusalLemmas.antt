@@ -8,7 +8,7 @@ use Rattle.ti_cap.specs.declared.language.Token.{Token}
 use Rattle.ti_cap.specs.declared.language.Token.TheVariants.{Compute, CondOpen, CondThen, CondElse, CondClose}
 use Rattle.ti_cap.specs.declared.language.CapFault.{CapFault}
 use Rattle.ti_cap.specs.declared.language.CapFault.TheVariants.{TooLong, CutShort, UnknownEscape, BadParameter, BadVariable, BadConstant, BadFormat, StrayThen, StrayElse, StrayEnd, NoThen, NestTooDeep, StackTooDeep}
-use Rattle.ti_cap.specs.declared.frame.Frame.{Frame}
+use Rattle.ti_cap.specs.declared.language.CapRefused.{CapRefused}
 use Rattle.ti_cap.specs.declared.limits.Limits.{Limits}
 use Rattle.ti_cap.specs.Tree.{Sequence, IsTree, tokens}
 use Rattle.ti_cap.specs.Height.{pushes, next_height, size, IsDepth, IsBound}
@@ -16,8 +16,8 @@ use Rattle.ti_cap.specs.Path.{path_of}
 use Rattle.ti_cap.specs.Pass.{Mode, Running, next_mode}
 use Rattle.ti_cap.specs.Spelling.{Spells, Written}
 use Rattle.ti_cap.specs.inner.Lexer.{token_read}
-use Rattle.ti_cap.specs.Refusal.{Begins, Climbs, Part, open_parts, IsNext, IsFaultBetween, IsUnreadable, IsSoundBelow, HasFault, escape_fault, IsRefusal, opens_format}
-use Rattle.ti_cap.specs.inner.Analysis.{Progress, parts_of, are_in_test, place_fault, next_progress, greatest_of, Findings, no_findings, findings_after, first_fault, fault_of}
+use Rattle.ti_cap.specs.Refusal.{Begins, Climbs, Part, open_parts, IsNext, IsFaultBetween, IsUnreadable, IsSoundBelow, HasFault, escape_fault, IsRefusal, IsFaultless, opens_format}
+use Rattle.ti_cap.specs.inner.Analysis.{Frame, Progress, parts_of, are_in_test, place_fault, next_progress, greatest_of, Findings, no_findings, findings_after, first_fault, fault_of}
 use Rattle.ti_cap.specs.Capability.{IsCapability}
 use Rattle.ti_cap.proofs.SpellsLemmas.{Front, token_sound, AreBytes}
 use Rattle.ti_cap.proofs.IsUnreadableLemmas.{unreadable}
@@ -101,7 +101,7 @@ fine_step before rest s tail k d begins room peaks low e p f = each f
     each _ h = h.1.no_token k (s, tail, p, e)
 
 -- what has been read up to a place
-pub record Parsed (bytes : List ℕ) (place : ℕ) (found : Findings) : Type 0 where
+pub record Parsed (bytes : List ℕ) (longest place : ℕ) (found : Findings) : Type 0 where
   pub before : List Token
   pub parts : List Part
   pub within : place ≤ length bytes
@@ -112,7 +112,7 @@ pub record Parsed (bytes : List ℕ) (place : ℕ) (found : Findings) : Type 0 w
   pub stands : parts_of found.heights.frames ≡ parts
   pub alike : parts_of found.sizes.frames ≡ parts
   pub heights : Sums next_height before found.heights
-  pub sizes : Sums (size_act 0) before found.sizes
+  pub sizes : Sums (size_act longest) before found.sizes
   pub peaks : Peaks next_height before found.depth
   pub low : found.depth ≤ most_values
   pub nested : levels 0 before ≡ found.nest
@@ -122,8 +122,8 @@ are_bytes : (xs : List ℕ) → ((i : ℕ) → get_or xs i 0 < 256) → AreBytes
 are_bytes [] h = tt
 are_bytes (x ∷ xs) h = (h 0, are_bytes xs (λ i. h (suc i)))
 
-pub parse_start : (bytes : List ℕ) → Parsed bytes 0 no_findings
-parse_start bytes = record {
+pub parse_start : (bytes : List ℕ) (longest : ℕ) → Parsed bytes longest 0 no_findings
+parse_start bytes longest = record {
   before = [];
   parts = [];
   within = omega arith;
@@ -134,7 +134,7 @@ parse_start bytes = record {
   stands = refl;
   alike = refl;
   heights = sums_start next_height;
-  sizes = sums_start (size_act 0);
+  sizes = sums_start (size_act longest);
   peaks = peaks_start next_height;
   low = omega arith;
   nested = refl;
@@ -179,17 +179,14 @@ progress_low before s CondElse d p low high sums = omega (arith, mark_low before
 progress_low before s CondClose d p low high sums = omega (arith, mark_low before CondClose (next_progress s CondClose (next_height s.running CondClose)) d height_still.1 p sums)
 progress_low before s k d p low high sums = high
 
-pub parsed_low : (bytes : List ℕ) (place : ℕ) (found : Findings) → Parsed bytes place found → found.heights.running ≤ most_values
-parsed_low bytes place found p = omega (arith, running_low p.before found.heights found.depth p.peaks p.heights, p.low)
+pub parsed_low : (bytes : List ℕ) (longest place : ℕ) (found : Findings) → Parsed bytes longest place found → found.heights.running ≤ most_values
+parsed_low bytes longest place found p = omega (arith, running_low p.before found.heights found.depth p.peaks p.heights, p.low)
 
 -- the greatest size is far from the greatest number
-pub parsed_small : (bytes : List ℕ) (place : ℕ) (found : Findings) → length bytes ≤ most_capability_bytes → Parsed bytes place found → found.sizes.running < 2 ^ 31
-parsed_small bytes place found short p =
-    let h : IsBest (size_act 0) p.before Running (Some found.sizes.running) = p.sizes Running in
-    omega (arith, value-size 0 p.before (take place bytes) h.1.walk (omega arith) p.written, h.1.value, length-take-le place bytes p.within, p.within)
-
-pub parsed_alike : (bytes : List ℕ) (place : ℕ) (found : Findings) → Parsed bytes place found → length found.sizes.frames ≡ length found.heights.frames
-parsed_alike bytes place found p = sym (length-map found.sizes.frames _) ∙ ap length (p.alike ∙ sym p.stands) ∙ length-map found.heights.frames _
+pub parsed_small : (bytes : List ℕ) (longest place : ℕ) (found : Findings) → longest < 2 ^ 16 → length bytes ≤ most_capability_bytes → Parsed bytes longest place found → found.sizes.running < 2 ^ 31
+parsed_small bytes longest place found h short p =
+    let b : IsBest (size_act longest) p.before Running (Some found.sizes.running) = p.sizes Running in
+    omega (arith, value-size longest p.before (take place bytes) b.1.walk h p.written, b.1.value, length-take-le place bytes p.within, p.within)
 
 -- ---- one token more
 
@@ -213,14 +210,14 @@ fine found k e = record { placed = first _ _ e; low = by (nat_le (next_height fo
     by true t e = grind arith
     by false t e = absurd (cc)
 
-pub record Stepped (bytes : List ℕ) (place n : ℕ) (found : Findings) : Type 0 where
-  pub parsed : Parsed bytes (place + n) found
+pub record Stepped (bytes : List ℕ) (longest place n : ℕ) (found : Findings) : Type 0 where
+  pub parsed : Parsed bytes longest (place + n) found
   pub within : place + n ≤ length bytes
   pub further : 0 < n
 
-pub parse_step : (bytes : List ℕ) (place : ℕ) (found : Findings) (k : Token) (n : ℕ) → ((i : ℕ) → get_or bytes i 0 < 256) → Parsed bytes place found
-    → token_read (drop place bytes) ≡ Ok (k, n) → fault_of found k ≡ None → Stepped bytes place n (findings_after found k)
-parse_step bytes place found k n fits p e none =
+pub parse_step : (bytes : List ℕ) (longest place : ℕ) (found : Findings) (k : Token) (n : ℕ) → ((i : ℕ) → get_or bytes i 0 < 256) → Parsed bytes longest place found
+    → token_read (drop place bytes) ≡ Ok (k, n) → fault_of found k ≡ None → Stepped bytes longest place n (findings_after longest found k)
+parse_step bytes longest place found k n fits p e none =
     let f : Front (drop place bytes) k n = token_sound (drop place bytes) k n (are_bytes (drop place bytes) (λ i. rw get_or-drop (fits (place + i)))) e in
     let ok : IsFine found k = fine found k none in
     let P : List Part → Type 0 = λ x. place_fault k x ≡ None in
@@ -230,8 +227,8 @@ parse_step bytes place found k n fits p e none =
     let leads : Leads [] (p.before ++ k ∷ []) go.0 = leads-append [] p.parts go.0 p.before (k ∷ []) p.leads (go.0, go.1, refl) in
     let h : Moves next_height p.before k (next_progress found.heights k (next_height found.heights.running k)) go.0 =
     sums_move next_height p.before found.heights k go.0 height_rising height_still (ap (λ x. allowed k x) p.stands ∙ go.1) p.heights in
-    let z : Moves (size_act 0) p.before k (next_progress found.sizes k (size_act 0 found.sizes.running k)) go.0 =
-    sums_move (size_act 0) p.before found.sizes k go.0 (size_rising 0) (size_still 0) (ap (λ x. allowed k x) p.alike ∙ go.1) p.sizes in
+    let z : Moves (size_act longest) p.before k (next_progress found.sizes k (size_act longest found.sizes.running k)) go.0 =
+    sums_move (size_act longest) p.before found.sizes k go.0 (size_rising longest) (size_still longest) (ap (λ x. allowed k x) p.alike ∙ go.1) p.sizes in
     let deep : Peaks next_height (p.before ++ k ∷ []) (max found.depth (next_progress found.heights k (next_height found.heights.running k)).running) =
     peaks_step next_height p.before k found.depth (next_progress found.heights k (next_height found.heights.running k)) height_flat p.peaks h.sums in
     let now : (next_progress found.heights k (next_height found.heights.running k)).running ≤ most_values = progress_low p.before found.heights k found.depth p.peaks p.low ok.low h.sums in
@@ -325,9 +322,9 @@ unreadable_fault f before rest some u = misspelled_fault f before rest (misspell
 -- ---- refusals
 
 -- nothing is read
-pub parse_fault : (bytes : List ℕ) (place : ℕ) (found : Findings) (f : CapFault) → ((i : ℕ) → get_or bytes i 0 < 256) → length bytes ≤ most_capability_bytes → place < length bytes
-    → Parsed bytes place found → token_read (drop place bytes) ≡ Err f → IsRefusal bytes (record { fault = f; place = place })
-parse_fault bytes place found f fits short more p e =
+pub parse_fault : (bytes : List ℕ) (longest place : ℕ) (found : Findings) (f : CapFault) → ((i : ℕ) → get_or bytes i 0 < 256) → length bytes ≤ most_capability_bytes → place < length bytes
+    → Parsed bytes longest place found → token_read (drop place bytes) ≡ Err f → IsRefusal bytes (record { fault = f; place = place })
+parse_fault bytes longest place found f fits short more p e =
     let some : drop place bytes ≢ [] = λ z. omega (arith, ap length z, length-drop place bytes) in
     let u : IsUnreadable (drop place bytes) f = unreadable (drop place bytes) f (are_bytes (drop place bytes) (λ i. rw get_or-drop (fits (place + i)))) some e in
     inr (
@@ -358,9 +355,9 @@ climbs_by_one before k s sums low high =
     to_run _ high = refl
 
 -- a token may not stand, or climbs too high
-pub parse_misplaced : (bytes : List ℕ) (place : ℕ) (found : Findings) (k : Token) (n : ℕ) (f : CapFault) → ((i : ℕ) → get_or bytes i 0 < 256) → length bytes ≤ most_capability_bytes
-    → Parsed bytes place found → token_read (drop place bytes) ≡ Ok (k, n) → fault_of found k ≡ Some f → IsRefusal bytes (record { fault = f; place = place })
-parse_misplaced bytes place found k n f fits short p e some =
+pub parse_misplaced : (bytes : List ℕ) (longest place : ℕ) (found : Findings) (k : Token) (n : ℕ) (f : CapFault) → ((i : ℕ) → get_or bytes i 0 < 256) → length bytes ≤ most_capability_bytes
+    → Parsed bytes longest place found → token_read (drop place bytes) ≡ Ok (k, n) → fault_of found k ≡ Some f → IsRefusal bytes (record { fault = f; place = place })
+parse_misplaced bytes longest place found k n f fits short p e some =
     inr (
       short,
       record { before = p.before; within = p.within; written = p.written; begins = context_begins p.before p.parts p.context; is = is (place_fault k (parts_of found.heights.frames)) refl some },
@@ -381,7 +378,7 @@ parse_misplaced bytes place found k n f fits short p e some =
         let high : most_values < next_height found.heights.running k = grind arith in
         let is : StackTooDeep ≡ f = cc in
         let P : CapFault → Type 0 = λ x. IsFaultBetween x p.before (drop place bytes) in
-        subst P is (k, next, climbs_now p.before k (suc most_values) begins (climbs_by_one p.before k found.heights p.heights (parsed_low bytes place found p) high))
+        subst P is (k, next, climbs_now p.before k (suc most_values) begins (climbs_by_one p.before k found.heights p.heights (parsed_low bytes longest place found p) high))
 
     is : (m : Option CapFault) → place_fault k (parts_of found.heights.frames) ≡ m
         → first_fault m (cond (nat_le (next_height found.heights.running k) most_values) None (Some StackTooDeep)) ≡ Some f → IsFaultBetween f p.before (drop place bytes)
@@ -390,10 +387,15 @@ parse_misplaced bytes place found k n f fits short p e some =
 
 -- ---- the end
 
+-- bytes without a fault are not refused
+pub never_refused : (bytes : List ℕ) (r : CapRefused) → IsFaultless bytes → ¬ IsRefusal bytes r
+never_refused bytes r fine (inl (long, e)) = omega (arith, fine.0)
+never_refused bytes r fine (inr (short, has, sound)) = fine.1 r.fault r.place has
+
 -- all is read, and some conditional is still in its first test
-pub parse_no_then : (bytes : List ℕ) (place : ℕ) (found : Findings) → length bytes ≤ most_capability_bytes → length bytes ≤ place → Parsed bytes place found → are_in_test found.heights.frames ≡ true
+pub parse_no_then : (bytes : List ℕ) (longest place : ℕ) (found : Findings) → length bytes ≤ most_capability_bytes → length bytes ≤ place → Parsed bytes longest place found → are_in_test found.heights.frames ≡ true
     → IsRefusal bytes (record { fault = NoThen; place = place })
-parse_no_then bytes place found short end p e =
+parse_no_then bytes longest place found short end p e =
     inr (
       short,
       record {
@@ -426,24 +428,24 @@ end_fine before tree formed is StackTooDeep (l, next, climbs) = nothing_next l n
 end_fine before tree formed is _ h = h.0 refl
 
 -- all is read
-pub parse_done : (bytes : List ℕ) (place : ℕ) (found : Findings) (limits : Limits) → length bytes ≤ most_capability_bytes → length bytes ≤ place → Parsed bytes place found → are_in_test found.heights.frames ≡ false
-    → limits.depth ≡ found.depth → limits.nest ≡ found.nest → limits.bound ≡ greatest_of found.sizes.frames found.sizes.running → IsCapability bytes limits
-parse_done bytes place found limits short end p e depth_is nest_is bound_is =
+pub parse_done : (bytes : List ℕ) (longest place : ℕ) (found : Findings) (limits : Limits) → length bytes ≤ most_capability_bytes → length bytes ≤ place → Parsed bytes longest place found → are_in_test found.heights.frames ≡ false
+    → limits.depth ≡ found.depth → limits.nest ≡ found.nest → limits.bound ≡ greatest_of found.sizes.frames found.sizes.running → IsCapability bytes longest limits
+parse_done bytes longest place found limits short end p e depth_is nest_is bound_is =
     let Q : List Part → Type 0 = λ x. AreSettled x in
     let r : (tree : Sequence) × IsTree tree × (tokens tree ≡ p.before) = context_ends p.before p.parts p.context (subst Q p.stands (settled_by found.heights.frames e)) in
     let at : place ≡ length bytes = omega (arith, p.within) in
     let all : Written p.before bytes = let P : List ℕ → Type 0 = λ x. Written p.before x in subst P (ap (λ x. take x bytes) at ∙ take-length bytes) p.written in
     let W : List Token → Type 0 = λ x. Written x bytes in
     let D : List Token → Type 0 = λ x. Peaks next_height x found.depth in
-    let S : List Token → Type 0 = λ x. Sums (size_act 0) x found.sizes in
-    let B : ℕ → Type 0 = λ x. IsBound r.0 0 x in
+    let S : List Token → Type 0 = λ x. Sums (size_act longest) x found.sizes in
+    let B : ℕ → Type 0 = λ x. IsBound r.0 longest x in
     let H : ℕ → Type 0 = λ x. IsDepth r.0 x in
     record {
       tree = r.0;
       writes = record { formed = r.1; written = subst W (sym r.2) all };
       depth_is = subst H (sym depth_is) (depth_is_of r.0 r.1 (subst D (sym r.2) p.peaks));
       nest_is = sym (level_tree r.0 0 r.1 ∙ omega arith) ∙ ap (λ x. levels 0 x) r.2 ∙ p.nested ∙ sym nest_is;
-      bound_is = subst B (sym bound_is) (greatest_value (size_act 0) r.0 found.sizes (λ path. size path 0) r.1 (value_is 0) (subst S (sym r.2) p.sizes));
+      bound_is = subst B (sym bound_is) (greatest_value (size_act longest) r.0 found.sizes (λ path. size path longest) r.1 (value_is longest) (subst S (sym r.2) p.sizes));
       low = omega (arith, p.low);
       few = omega (arith, p.few);
       faultless = (short, none r.0 r.1 r.2 all at);

@@ -12,7 +12,7 @@ use Rattle.ti_cap.specs.Capability.{whole, IsWellFormed, IsCapability, IsTape}
 use Rattle.ti_cap.proofs.SpellsLemmas.{read_token_is, read_length_is, token_again}
 use Rattle.ti_cap.proofs.WrittenLemmas.{Same, one_form, spelled_long, written-append, written_one}
 
-pub tape_start : (bytes : List ℕ) (limits : Limits) → IsCapability bytes limits → IsTape bytes 0 limits
+pub tape_start : (bytes : List ℕ) (limits : Limits) → IsCapability bytes 0 limits → IsTape bytes 0 limits
 tape_start bytes limits c = record { done = []; todo = tokens c.tree; within = omega arith; taken = refl; left = c.writes.written; capability = c }
 
 -- the next token of a tape
@@ -90,7 +90,7 @@ tape_first token left after s p e (k ∷ ks) (u, tail, q, w, f) =
     (ks, ap (λ x. x ∷ ks) (sym same.token), subst P (sym same.rest) w)
 
 -- what parsing has found is well formed
-pub well_formed : (bytes : List ℕ) (limits : Limits) → IsCapability bytes limits → IsWellFormed bytes
+pub well_formed : (bytes : List ℕ) (limits : Limits) → IsCapability bytes 0 limits → IsWellFormed bytes
 well_formed bytes limits c = record {
   tree = c.tree;
   writes = c.writes;

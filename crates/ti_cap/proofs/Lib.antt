@@ -7,7 +7,6 @@ pub mod FormatPartsLemmas
 pub mod FormatReadLemmas
 pub mod FormatUnreadLemmas
 pub mod FrontLemmas
-pub mod HasBoundLemmas
 pub mod IsGreatestLemmas
 pub mod IsRefusalLemmas
 pub mod IsTapeLemmas

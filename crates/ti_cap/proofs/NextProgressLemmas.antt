@@ -3,9 +3,8 @@ use Rattle.std.proofs.Common.{◌≡◌, ℕ, List, [], ◌∷◌, ◌++◌, ref
 use Rattle.std.specs.Prelude.{Option, Some, None}
 use Rattle.ti_cap.specs.declared.language.Token.{Token}
 use Rattle.ti_cap.specs.declared.language.Token.TheVariants.{CondOpen, CondThen, CondElse, CondClose}
-use Rattle.ti_cap.specs.declared.frame.Frame.{Frame}
 use Rattle.ti_cap.specs.Refusal.{Part, FirstTest, Body, Otherwise}
-use Rattle.ti_cap.specs.inner.Analysis.{Progress, greater_of, part_by, parts_of, next_progress, progress_then, progress_else, progress_close}
+use Rattle.ti_cap.specs.inner.Analysis.{Frame, Progress, greater_of, part_by, parts_of, next_progress, progress_then, progress_else, progress_close}
 use Rattle.ti_cap.proofs.PartsLemmas.{allowed, at_then, at_else, at_close}
 use Rattle.ti_cap.proofs.ProgressLemmas.{Act, IsRising, Sums, sums_simple, sums_open, sums_then, sums_else, sums_close}
 

@@ -6,10 +6,9 @@ use Rattle.ti_cap.specs.declared.language.Token.{Token}
 use Rattle.ti_cap.specs.declared.language.Token.TheVariants.{CondOpen, CondThen, CondElse, CondClose}
 use Rattle.ti_cap.specs.declared.language.CapFault.{CapFault}
 use Rattle.ti_cap.specs.declared.language.CapFault.TheVariants.{NestTooDeep}
-use Rattle.ti_cap.specs.declared.frame.Frame.{Frame}
 use Rattle.ti_cap.specs.Tree.{IsTree, Sequence, tokens}
 use Rattle.ti_cap.specs.Refusal.{Part, FirstTest, Body, Otherwise, next_parts, parts_from, open_parts, IsInFirstTest, IsNext, IsFaultBetween}
-use Rattle.ti_cap.specs.inner.Analysis.{place_fault, part_by, parts_of, is_in_test, are_in_test}
+use Rattle.ti_cap.specs.inner.Analysis.{Frame, place_fault, part_by, parts_of, is_in_test, are_in_test}
 use Rattle.ti_cap.proofs.PartsLemmas.{allowed, Leads, AreSettled, Opens, opens}
 use Rattle.ti_cap.proofs.ClimbsLemmas.{stray, leads_one}
 

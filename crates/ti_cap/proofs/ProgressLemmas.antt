@@ -6,8 +6,7 @@ use Rattle.ti_cap.specs.declared.language.Token.TheVariants.{CondOpen, CondThen,
 use Rattle.ti_cap.specs.Tree.{IsSimple}
 use Rattle.ti_cap.specs.Path.{Walk, path_of}
 use Rattle.ti_cap.specs.Pass.{Mode, Running, Past, next_mode, is_running, Passes, Until, ElseOrEnd, EndOnly}
-use Rattle.ti_cap.specs.declared.frame.Frame.{Frame}
-use Rattle.ti_cap.specs.inner.Analysis.{Progress, greater_of}
+use Rattle.ti_cap.specs.inner.Analysis.{Frame, Progress, greater_of}
 use Rattle.ti_cap.proofs.PassesLemmas.{Split, passes_split, passes-append}
 
 -- how a token that is met changes a value

@@ -5,10 +5,9 @@ use Rattle.std.proofs.Math.Seq.{take-suc}
 use Rattle.std.proofs.lemmas.List.{reverse-append, length-reverse, length-take, length-map}
 use Rattle.ti_cap.specs.declared.language.Token.TheVariants.{CondClose}
 use Rattle.ti_cap.specs.declared.extent.Extent.{Extent}
-use Rattle.ti_cap.specs.declared.frame.Frame.{Frame}
 use Rattle.ti_cap.specs.declared.scan.Open.{Open}
 use Rattle.ti_cap.specs.declared.scan.Scan.{Scan}
-use Rattle.ti_cap.specs.inner.Analysis.{Findings, greater_of, greatest_of, findings_after}
+use Rattle.ti_cap.specs.inner.Analysis.{Frame, Findings, greater_of, greatest_of, findings_after}
 use Rattle.ti_cap.specs.inner.Scan.{height_of, size_of, greater_extent, greatest_end, height_frame, size_frame, innermost_first, findings_of}
 
 pub greater_extent_height : (w : Option Extent) (e : Extent) → (greater_extent w e).height ≡ greater_of (height_of w) e.height
@@ -52,7 +51,7 @@ same_found fs gs p q r t = cc
 -- the end of a conditional
 pub found_closed : (s : Scan) (opens : List Open) (d : Open) (here : Extent) (depth : ℕ) → 0 < s.nesting → s.nesting ≤ s.nest → s.nesting ≤ length opens
     → here ≡ greater_extent (get_or opens (s.nesting - 1) d).done (greater_extent (get_or opens (s.nesting - 1) d).failed s.here) → depth ≡ max s.depth here.height
-    → findings_of (record { here = here; depth = depth; nesting = s.nesting - 1; nest = s.nest }) opens ≡ findings_after (findings_of s opens) CondClose
+    → findings_of (record { here = here; depth = depth; nesting = s.nesting - 1; nest = s.nest }) opens ≡ findings_after 0 (findings_of s opens) CondClose
 found_closed s opens d here depth some many within here_is depth_is =
     let o : Open = get_or opens (s.nesting - 1) d in
     let xs : List Open = innermost_first (s.nesting - 1) opens in
@@ -65,4 +64,4 @@ found_closed s opens d here depth some many within here_is depth_is =
     let deep : depth ≡ max s.depth (greater_of (height_of o.done) (greater_of (height_of o.failed) (s.here.height - 0 + 0))) = depth_is ∙ ap (λ y. max s.depth y) height in
     let few : length (map height_frame xs) ≤ s.nest = omega (arith, length-map xs height_frame, length-reverse (take (s.nesting - 1) opens), length-take (s.nesting - 1) opens) in
     let nest : s.nest ≡ max s.nest (length (map height_frame xs)) = omega arith in
-    same_found (map height_frame xs) (map size_frame xs) height size deep nest ∙ ap (λ stack. findings_after (found_with s stack) CondClose) (sym (innermost_first_more s.nesting opens d some within))
+    same_found (map height_frame xs) (map size_frame xs) height size deep nest ∙ ap (λ stack. findings_after 0 (found_with s stack) CondClose) (sym (innermost_first_more s.nesting opens d some within))

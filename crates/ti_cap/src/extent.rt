@@ -1,7 +1,7 @@
 //! How far the paths have come at a place of a capability.
 
-/// The greatest height of the stack and the most bytes written, each over all paths that run here, where no text has any
-/// bytes. A token writes fewer than 2^16 bytes, so the bytes of a whole capability fit 32 bits.
+/// The greatest height of the stack and the most bytes written, each over all paths that run here. A token writes fewer
+/// than 2^16 bytes, so the bytes of a whole capability fit 32 bits.
 #[derive(Clone, Copy)]
 pub struct Extent {
     /// The greatest height.

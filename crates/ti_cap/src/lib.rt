@@ -4,9 +4,7 @@
 //! capability knows the exact greatest depth, nesting and size over all its paths, and lends a tape of its tokens.
 #![tactic(auto)]
 
-mod analysis;
 mod extent;
-mod frame;
 mod language;
 pub mod laws;
 mod lexer;

@@ -1,12 +1,12 @@
-//! What an analysis finds of a capability.
+//! What is found of a capability in one pass over its tokens.
 
-/// The exact limits of a capability over all its paths.
+/// The exact limits of a capability over all its paths, where no text is longer than some length.
 #[derive(Clone, Copy, Debug)]
 pub struct Limits {
     /// The greatest height of the stack.
     pub depth: usize,
     /// The greatest number of open conditionals.
     pub nest: usize,
-    /// The most bytes that are written where no text has any.
+    /// The most bytes that are written.
     pub bound: u64,
 }

@@ -6,7 +6,6 @@ ghost use Rattle.ti_cap.specs.Refusal.{IsRefusal, IsFaultless};
 ghost use Rattle.ti_cap.specs.inner.Scan.{IsSure};
 ghost use Rattle.ti_cap.specs.Capability.{HasDepth, HasBound, HasNest, IsWellFormed, Spot, Takes, IsFirst, IsCapability, whole};
 
-use crate::analysis::Analysis;
 use crate::language::{CapFault, CapRefused, Token};
 use crate::lexer::read_token;
 use crate::limits::Limits;
@@ -33,7 +32,7 @@ impl<'a> Model for Capability<'a> {
 
     ghost view = { λ c. c.bytes.now };
 
-    ghost invariant = { λ c. IsCapability c.bytes.now c.limits };
+    ghost invariant = { λ c. IsCapability c.bytes.now 0 c.limits };
 }
 
 impl<'a> Capability<'a> {
@@ -50,10 +49,10 @@ impl<'a> Capability<'a> {
                 place: MOST_CAPABILITY_BYTES,
             });
         }
-        let limits = match limits_of::<FEW_OPEN>(bytes) {
+        let limits = match limits_of::<FEW_OPEN>(bytes, 0) {
             Ok(limits) => limits,
             Err(refused) if refused.fault == CapFault::NestTooDeep => {
-                limits_of::<MOST_OPEN>(bytes)?
+                limits_of::<MOST_OPEN>(bytes, 0)?
             }
             Err(refused) => return Err(refused),
         };
@@ -85,12 +84,12 @@ impl<'a> Capability<'a> {
     }
 }
 
-/// The limits of a capability, with room for so many open conditionals. With room for fewer than may be
-/// open, that they nest too deep says only that more room is needed.
-fn limits_of<const ROOM: usize>(bytes: &[u8]) -> Result<Limits, CapRefused>
+/// The limits of a capability where no text is longer than `longest`, with room for so many open conditionals. With room for
+/// fewer than may be open, that they nest too deep says only that more room is needed.
+fn limits_of<const ROOM: usize>(bytes: &[u8], longest: u16) -> Result<Limits, CapRefused>
     requires room { ROOM ≤ most_open }
     requires short { length bytes.now ≤ most_capability_bytes }
-    ensures accepted { IfOk result (λ limits. IsCapability bytes.now limits) }
+    ensures accepted { IfOk result (λ limits. IsCapability bytes.now longest limits) }
     ensures refused { IfErr result
         (λ refused. IsSure ROOM refused.fault → IsRefusal bytes.now refused) }
 {
@@ -100,7 +99,7 @@ fn limits_of<const ROOM: usize>(bytes: &[u8]) -> Result<Limits, CapRefused>
     while place < bytes.len() {
         match read_token(&bytes[place..]) {
             Err(fault) => return Err(CapRefused { fault, place }),
-            Ok((token, long)) => match scan.take(&mut opens, token) {
+            Ok((token, long)) => match scan.take(&mut opens, token, longest) {
                 Err(fault) => return Err(CapRefused { fault, place }),
                 Ok(()) => place += long,
             },
@@ -153,31 +152,28 @@ impl<'a> Capability<'a> {
     pub fn bound(&self, longest: u16) -> u64
         ensures exact { HasBound self.now longest result }
     {
-        if longest == 0 {
-            return self.limits.bound;
-        }
-        bound_from(self.tape(), longest)
+        bound_of(self.bytes, &self.limits, longest)
     }
 }
 
-/// The greatest number of bytes over all paths, by a pass over a fresh tape.
-fn bound_from(mut tape: Tape<'_>, longest: u16) -> u64
-    requires start { tape.taken ≡ [] }
-    requires tree { IsWellFormed (whole tape) }
-    ensures { HasBound tape.entry.left longest result }
+/// The greatest number of bytes over all paths of a capability with these limits.
+fn bound_of(bytes: &[u8], limits: &Limits, longest: u16) -> u64
+    requires { IsCapability bytes.now 0 limits.now }
+    ensures { HasBound bytes.now longest result }
 {
-    let mut sizes = Analysis::new();
-    while let Some(token) = tape.token() {
-        let size = sizes.running() + token.size(longest) as u32;
-        sizes.meet(&token, size);
+    if longest == 0 {
+        return limits.bound;
     }
-    u64::from(sizes.greatest())
+    match limits_of::<MOST_OPEN>(bytes, longest) {
+        Ok(limits) => limits.bound,
+        Err(_) => unreachable!(),
+    }
 }
 
 impl<'a> Tape<'a> {
     /// A tape at the first token of a capability with these limits.
     fn fresh(bytes: &'a [u8], maxima: Limits) -> Tape<'a>
-        requires { IsCapability bytes.now maxima }
+        requires { IsCapability bytes.now 0 maxima }
         ensures { result ≡ record { taken = []; left = bytes.now } }
     {
         Tape {
@@ -226,9 +222,6 @@ impl<'a> Tape<'a> {
     pub fn bound(&self, longest: u16) -> u64
         ensures exact { HasBound (whole self.now) longest result }
     {
-        if longest == 0 {
-            return self.maxima.bound;
-        }
-        bound_from(Tape::fresh(self.bytes, self.maxima), longest)
+        bound_of(self.bytes, &self.maxima, longest)
     }
 }

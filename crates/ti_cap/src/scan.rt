@@ -62,12 +62,13 @@ impl Scan {
         }
     }
 
-    /// Goes on over a token, or says why it may not stand here.
+    /// Goes on over a token, where no text is longer than `longest`, or says why it may not stand here.
     #[inline(always)]
     pub fn take<const ROOM: usize>(
         &mut self,
         opens: &mut [Open; ROOM],
         token: Token,
+        longest: u16,
     ) -> Result<(), CapFault>
         requires room { ROOM ≤ most_open }
         requires low { self.old.here.height ≤ most_values }
@@ -75,7 +76,7 @@ impl Scan {
         requires order { IsInOrder ROOM self.old }
         ensures refused { IfErr result
             (λ fault. IsSure ROOM fault → fault_at self.old opens.old token ≡ Some fault) }
-        ensures taken { OnOk result (Brings token self.old opens.old self.new opens.new) }
+        ensures taken { OnOk result (Brings longest token self.old opens.old self.new opens.new) }
         ensures fine { OnOk result (fault_at self.old opens.old token ≡ None) }
         ensures order { OnOk result (IsInOrder ROOM self.new) }
     {
@@ -84,7 +85,7 @@ impl Scan {
             Token::Store(_) => self.write(1, 0),
             Token::Increment => {}
             Token::Char => self.write(1, 1),
-            Token::Print(format) => self.write(1, format.size(0) as u32),
+            Token::Print(format) => self.write(1, format.size(longest) as u32),
             Token::Param(_) | Token::Constant(_) | Token::Load(_) => return self.push(0),
             Token::Length | Token::Compute(Op::Not | Op::BitNot) => return self.push(1),
             Token::Compute(_) => return self.push(2),
@@ -133,7 +134,7 @@ impl Scan {
         requires order { IsInOrder ROOM self.old }
         ensures refused { IfErr result
             (λ fault. IsSure ROOM fault → fault_at self.old opens.old Token.CondOpen ≡ Some fault) }
-        ensures taken { OnOk result (Brings Token.CondOpen self.old opens.old self.new opens.new) }
+        ensures taken { OnOk result (Brings 0 Token.CondOpen self.old opens.old self.new opens.new) }
         ensures fine { OnOk result (fault_at self.old opens.old Token.CondOpen ≡ None) }
         ensures order { OnOk result (IsInOrder ROOM self.new) }
     {
@@ -153,7 +154,7 @@ impl Scan {
         requires order { IsInOrder ROOM self.old }
         ensures refused { IfErr result
             (λ fault. fault_at self.old opens.old Token.CondThen ≡ Some fault) }
-        ensures taken { OnOk result (Brings Token.CondThen self.old opens.old self.new opens.new) }
+        ensures taken { OnOk result (Brings 0 Token.CondThen self.old opens.old self.new opens.new) }
         ensures fine { OnOk result (fault_at self.old opens.old Token.CondThen ≡ None) }
         ensures order { OnOk result (IsInOrder ROOM self.new) }
     {
@@ -179,7 +180,7 @@ impl Scan {
         requires order { IsInOrder ROOM self.old }
         ensures refused { IfErr result
             (λ fault. fault_at self.old opens.old Token.CondElse ≡ Some fault) }
-        ensures taken { OnOk result (Brings Token.CondElse self.old opens.old self.new opens.new) }
+        ensures taken { OnOk result (Brings 0 Token.CondElse self.old opens.old self.new opens.new) }
         ensures fine { OnOk result (fault_at self.old opens.old Token.CondElse ≡ None) }
         ensures order { OnOk result (IsInOrder ROOM self.new) }
     {
@@ -210,7 +211,7 @@ impl Scan {
         requires order { IsInOrder ROOM self.old }
         ensures refused { IfErr result
             (λ fault. fault_at self.old opens.now Token.CondClose ≡ Some fault) }
-        ensures taken { OnOk result (Brings Token.CondClose self.old opens.now self.new opens.now) }
+        ensures taken { OnOk result (Brings 0 Token.CondClose self.old opens.now self.new opens.now) }
         ensures fine { OnOk result (fault_at self.old opens.now Token.CondClose ≡ None) }
         ensures order { OnOk result (IsInOrder ROOM self.new) }
     {

@@ -5,10 +5,15 @@ use Rattle.ti_cap.specs.declared.language.Token.{Token}
 use Rattle.ti_cap.specs.declared.language.Token.TheVariants.{CondOpen, CondThen, CondElse, CondClose}
 use Rattle.ti_cap.specs.declared.language.CapFault.{CapFault}
 use Rattle.ti_cap.specs.declared.language.CapFault.TheVariants.{StrayThen, StrayElse, StrayEnd, NoThen, NestTooDeep, StackTooDeep}
-use Rattle.ti_cap.specs.declared.frame.Frame.{Frame}
 use Rattle.ti_cap.specs.Sizes.{token_size}
 use Rattle.ti_cap.specs.Height.{next_height}
 use Rattle.ti_cap.specs.Refusal.{Part, FirstTest, Body, Otherwise}
+
+-- what waits in an open conditional: the greatest value with which its last test failed, if a body is being passed
+-- through, and the greatest with which one of its bodies ended
+pub record Frame : Type 0 where
+  pub failed : Option ℕ
+  pub done : Option ℕ
 
 -- the greatest value with which a pass runs here, and what waits in the open conditionals, innermost first
 pub record Progress : Type 0 where
@@ -100,7 +105,7 @@ place_fault token parts = None
 pub record Findings : Type 0 where
   -- the heights of the stack
   pub heights : Progress
-  -- the bytes written, where no text has any
+  -- the bytes written
   pub sizes : Progress
   pub depth : ℕ
   pub nest : ℕ
@@ -108,12 +113,13 @@ pub record Findings : Type 0 where
 abbrev pub no_findings : Findings
 no_findings = record { heights = record { running = 0; frames = [] }; sizes = record { running = 0; frames = [] }; depth = 0; nest = 0 }
 
-abbrev pub findings_after : Findings → Token → Findings
-findings_after found token =
+-- one token more, where no text is longer than `longest`
+abbrev pub findings_after : ℕ → Findings → Token → Findings
+findings_after longest found token =
     let heights = next_progress found.heights token (next_height found.heights.running token) in
     record {
       heights = heights;
-      sizes = next_progress found.sizes token (found.sizes.running + token_size 0 token);
+      sizes = next_progress found.sizes token (found.sizes.running + token_size longest token);
       depth = max found.depth heights.running;
       nest = max found.nest (length heights.frames);
     }

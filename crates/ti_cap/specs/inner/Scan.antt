@@ -2,13 +2,12 @@
 use Rattle.std.specs.Prelude.{ℕ, ◌≡◌, ◌+◌, ◌-◌, ◌≤◌, max, map, List, take, reverse, fold, Option, Some, None}
 use Rattle.ti_base.specs.Limits.{most_open}
 use Rattle.ti_cap.specs.declared.extent.Extent.{Extent}
-use Rattle.ti_cap.specs.declared.frame.Frame.{Frame}
 use Rattle.ti_cap.specs.declared.language.CapFault.{CapFault}
 use Rattle.ti_cap.specs.declared.language.CapFault.TheVariants.{NestTooDeep}
 use Rattle.ti_cap.specs.declared.language.Token.{Token}
 use Rattle.ti_cap.specs.declared.scan.Open.{Open}
 use Rattle.ti_cap.specs.declared.scan.Scan.{Scan}
-use Rattle.ti_cap.specs.inner.Analysis.{Findings, findings_after, fault_of, greatest_of}
+use Rattle.ti_cap.specs.inner.Analysis.{Frame, Findings, findings_after, fault_of, greatest_of}
 
 abbrev pub height_of : Option Extent → Option ℕ
 height_of None = None
@@ -45,9 +44,9 @@ findings_of s opens = record {
 abbrev pub fault_at : Scan → List Open → Token → Option CapFault
 fault_at s opens token = fault_of (findings_of s opens) token
 
--- the token brings a scan from one place to another
-abbrev pub Brings : Token → Scan → List Open → Scan → List Open → Type 0
-Brings token s opens next next_opens = findings_of next next_opens ≡ findings_after (findings_of s opens) token
+-- the token brings a scan from one place to another, where no text is longer than `longest`
+abbrev pub Brings : ℕ → Token → Scan → List Open → Scan → List Open → Type 0
+Brings longest token s opens next next_opens = findings_of next next_opens ≡ findings_after longest (findings_of s opens) token
 
 -- the greatest of how far the paths have come and of what waits
 abbrev pub greatest_end : List Open → Extent → Extent
