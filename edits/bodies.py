@@ -1,28 +1,16 @@
 """Edits, the functions that they change, and the copies of a function in which wrong bodies are tried side by side."""
 
-import importlib.machinery
-import importlib.util
 import re
 import shutil
-import sys
 from collections import Counter
 from dataclasses import dataclass
 from functools import lru_cache
 from pathlib import Path
 
+from checks.crates import folder_of
+from checks.machine import ROOT
+
 HERE = Path(__file__).resolve().parent
-
-
-def load_prove():
-    """The script ./prove as a module: it knows the crates, and how they are proved."""
-    loader = importlib.machinery.SourceFileLoader("prove", str(HERE.parent / "prove"))
-    module = importlib.util.module_from_spec(importlib.util.spec_from_loader("prove", loader))
-    sys.dont_write_bytecode = True
-    loader.exec_module(module)
-    return module
-
-
-prove = load_prove()
 
 
 class BadEdit(Exception):
@@ -31,7 +19,7 @@ class BadEdit(Exception):
 
 @lru_cache(None)
 def lines_of(crate, file):
-    path = prove.folder(crate) / file
+    path = folder_of(crate) / file
     if not file.startswith("src/") or not path.is_file():
         raise BadEdit(f"there is no file {file} in src/")
     return path.read_text(encoding="utf-8").split("\n")
@@ -94,9 +82,9 @@ def function_at(crate, file, number):
 def home_of(crate, owner):
     """The file that declares a type, if the crate does: a check calls a method by the module of its type."""
     declared = re.compile(rf"^\s*(?:pub(?:\(.*?\))? )?(?:struct|enum) {owner}\b", re.M)
-    for path in sorted(prove.folder(crate).glob("src/**/*.rt")):
+    for path in sorted(folder_of(crate).glob("src/**/*.rt")):
         if owner and declared.search(path.read_text(encoding="utf-8")):
-            return str(path.relative_to(prove.folder(crate)))
+            return str(path.relative_to(folder_of(crate)))
     return None
 
 
@@ -175,7 +163,7 @@ def read_edit(path, crate):
                 functions.add(function_at(crate, file, number))
     if not lines:
         raise BadEdit("it changes nothing")
-    label = str(path.relative_to(prove.ROOT))
+    label = str(path.relative_to(ROOT))
     return Edit(label, lines, frozenset(functions - {None}), None in functions, by)
 
 

@@ -1,0 +1,84 @@
+"""The tables of a page, and whether the clauses that those of the READMEs name are in the code."""
+
+import re
+from collections.abc import Callable, Iterator
+from pathlib import Path
+
+from checks.machine import ROOT
+
+Tell = Callable[[bool, str], None]
+# Crates of tests, whose READMEs have no table of clauses.
+TESTS = ["ti_fixtures", "ti_cases", "ti_runs"]
+# A crate that shows the items of the crates below it under its own name.
+LAYERS = {"ti_entry": ["ti_layout", "ti_draft"]}
+CODE = re.compile(r"`([^`]+)`")
+
+
+def sources(crate: str) -> Iterator[Path]:
+    """The files of a crate's code, with those of its layers."""
+    for name in [crate] + LAYERS.get(crate, []):
+        yield from sorted((ROOT / "crates" / name / "src").rglob("*.rt"))
+
+
+def clauses(crate: str) -> dict[str, set[str]]:
+    """For each function of a crate the names of its clauses; a clause without a name is ''."""
+    found: dict[str, set[str]] = {}
+    for path in sources(crate):
+        function = None
+        for line in path.read_text().splitlines():
+            start = re.match(r"\s*(?:pub(?:\([a-z]+\))? )?(?:const )?(?:extern \"C\" )?fn (\w+)", line)
+            if start:
+                function = start.group(1)
+                found.setdefault(function, set())
+            clause = re.match(r"\s*ensures\s+(\w*)\s*\{", line)
+            if clause and function:
+                found[function].add(clause.group(1))
+    return found
+
+
+def cells_of(line: str) -> list[str]:
+    """The cells of a line of a table."""
+    return [cell.strip() for cell in line.strip("|").split("|")]
+
+
+def rows(text: str, heading: str) -> Iterator[list[str]]:
+    """The rows of the tables under a heading, each as a list of cells."""
+    part = re.split(rf"(?m)^#+ {re.escape(heading)}$", text)[1]
+    part = re.split(r"(?m)^#", part)[0]
+    for line in part.splitlines():
+        if line.startswith("|") and not line.startswith("|---"):
+            yield cells_of(line)
+
+
+def check_tables(tell: Tell) -> None:
+    """Each function and clause of the table in a crate's README is in the crate."""
+    for path in sorted(ROOT.glob("crates/*/README.md")):
+        crate = path.parent.name
+        if crate in TESTS:
+            continue
+        known = clauses(crate)
+        functions = []
+        for cells in list(rows(path.read_text(), "What is proved"))[1:]:
+            named = [word.split("::")[-1] for word in CODE.findall(cells[0])]
+            functions = named or functions
+            for function in functions:
+                tell(function in known, f"{crate}/README.md: no function {function}")
+            for clause in CODE.findall(cells[1]):
+                tell(
+                    any(clause in known.get(function, ()) for function in functions),
+                    f"{crate}/README.md: no clause {clause} at {functions}",
+                )
+
+
+def check_headline(text: str, tell: Tell) -> None:
+    """Each clause that the README names is one of the function before it."""
+    known: dict[str, set[str]] = {}
+    for crate in sorted(ROOT.glob("crates/ti_*")):
+        for function, names in clauses(crate.name).items():
+            known.setdefault(function, set()).update(names)
+    for cells in list(rows(text, "What is proved"))[1:]:
+        for functions, names in re.findall(r"((?:`[\w:]+`(?:, )?)+) \(([^)]*)\)", cells[1]):
+            for function in CODE.findall(functions):
+                for clause in CODE.findall(names):
+                    holds = clause in known.get(function.split("::")[-1], ())
+                    tell(holds, f"README.md: no clause {clause} at {function}")

@@ -1,0 +1,160 @@
+"""The trial of the edits of one crate: copies that are checked together, and edits that are made in place, one by one."""
+
+import shutil
+import subprocess
+import sys
+import tempfile
+import threading
+import time
+from pathlib import Path
+
+from bodies import HERE, Copies, texts_in_place
+from checks.crates import folder_of, words_for
+from said import Said
+
+OUT = HERE / "out"
+STARTED = time.monotonic()
+REFUSED, ACCEPTED, BAD = "refused", "accepted", "bad"
+# The jobs of one check. Crates are tried side by side; the last one should not be left with a single processor.
+JOBS = 2
+
+
+def tell(text):
+    print(f"edits: {text} ({time.monotonic() - STARTED:.0f} s)", file=sys.stderr, flush=True)
+
+
+class Stopped(Exception):
+    """Why no edits can be tried."""
+
+
+UNDER_WAY, IS_OVER = set(), threading.Event()
+
+
+def run(words, folder, log):
+    """Runs a command, which ends with this program. Returns its status."""
+    with open(log, "w", encoding="utf-8") as said:
+        process = subprocess.Popen(words, cwd=folder, stdin=subprocess.DEVNULL, stdout=said, stderr=said)
+    UNDER_WAY.add(process)
+    if IS_OVER.is_set():
+        process.terminate()
+    status = process.wait()
+    UNDER_WAY.discard(process)
+    return status
+
+
+def end(*_):
+    """Ends what is under way, and this program."""
+    IS_OVER.set()
+    for process in list(UNDER_WAY):
+        process.terminate()
+    sys.exit("edits: ended by a signal")
+
+
+class Trial:
+    """The trial of a crate's edits.
+
+    Each check takes what is up to date from a folder of edits/out, and keeps there what it proves.
+    """
+
+    def __init__(self, crate, edits, kit):
+        self.crate, self.edits, self.kit, self.folder = crate, edits, kit, OUT / crate
+        self.checks, self.results = 0, []
+
+    def run(self):
+        """What each edit comes to."""
+        self.folder.mkdir(parents=True, exist_ok=True)
+        for old in self.folder.glob("*.said"):
+            old.unlink()
+        in_place = [edit for edit in self.edits if not edit.has_copies]
+        in_place += self.try_copies([edit for edit in self.edits if edit.has_copies])
+        self.prove_as_it_stands(in_place)
+        for edit in in_place:
+            self.try_in_place(edit)
+        return self.results
+
+    def try_copies(self, edits):
+        """Tries edits in copies. Returns those that have to be tried in place."""
+        if not edits:
+            return []
+        copies = Copies(self.crate, edits)
+        names = [name for named in copies.of_edits.values() for name in named]
+        said = self.check(copies.write, [*copies.unedited.values(), *names])
+        if not said.is_judged and len(edits) > 1:
+            tell(f"{self.crate}: {len(edits)} edits do not compile together, so each half is tried")
+            return self.try_copies(edits[: len(edits) // 2]) + self.try_copies(edits[len(edits) // 2 :])
+        left = []
+        for edit, own in copies.of_edits.items():
+            if not said.is_judged:
+                self.settle(edit, BAD, said.complaint())
+            elif not all(said.has_proved(copies.unedited[function]) for function in edit.functions):
+                left.append(edit)
+            else:
+                self.judge(edit, said, own)
+        tell(f"{self.crate}: {len(edits)} edits are tried in copies")
+        return left
+
+    def judge(self, edit, said, functions):
+        """Settles an edit by what a check said of the functions that have its wrong bodies."""
+        if lines := said.lines_against(functions):
+            self.settle(edit, REFUSED, lines[0])
+        elif all(said.has_proved(function) for function in functions):
+            self.settle(edit, ACCEPTED, "what it changes is proved")
+        else:
+            self.settle(edit, BAD, f"the check names no goal: {said.complaint()}")
+
+    def prove_as_it_stands(self, edits):
+        """Proves the functions that edits in place are tried by, without an edit."""
+        whole = any(not edit.tried for edit in edits)
+        functions = [] if whole else sorted({name for edit in edits for name in edit.tried})
+        if not edits:
+            return
+        said = self.check(lambda _: None, functions)
+        if not said.is_judged or any(not said.has_proved(name) for name in functions) or whole and not said.is_proved:
+            raise Stopped(f"{self.crate} is not proved as it stands: see {self.log()}")
+
+    def try_in_place(self, edit):
+        said = self.check(lambda top: write_in_place(top, self.crate, edit), edit.tried)
+        if not said.is_judged:
+            self.settle(edit, BAD, said.complaint())
+        elif edit.tried:
+            self.judge(edit, said, edit.tried)
+        elif said.is_proved:
+            self.settle(edit, ACCEPTED, "the crate is proved with it")
+        elif lines := said.lines_against():
+            self.settle(edit, REFUSED, lines[0])
+        else:
+            self.settle(edit, BAD, f"the check names no goal: {said.complaint()}")
+
+    def log(self):
+        return self.folder / f"{self.checks}.said"
+
+    def check(self, write, functions):
+        """Checks functions of a copy of the crate into which edits are written, or all functions if none is named."""
+        self.checks += 1
+        with tempfile.TemporaryDirectory(prefix="edits-") as copy:
+            for part in ["src", "specs", "proofs"]:
+                if (folder_of(self.crate) / part).is_dir():
+                    shutil.copytree(folder_of(self.crate) / part, Path(copy) / part)
+            write(Path(copy))
+            words = [self.kit / "bin/rattle", "check", *words_for(self.crate, self.kit, JOBS)]
+            words += ["--incremental", self.folder / "kept"]
+            for function in functions:
+                words += ["--only", function]
+            (self.folder / "kept").mkdir(exist_ok=True)
+            status = run([str(word) for word in words], copy, self.log())
+        if status < 0:
+            raise Stopped(f"a check of {self.crate} was ended by signal {-status}")
+        return Said(self.crate, status, self.log().read_text(encoding="utf-8", errors="replace"))
+
+    def settle(self, edit, word, line):
+        self.results.append(word)
+        show(edit.label, word, line if word == REFUSED else f"{edit.place}: {line}")
+
+
+def write_in_place(top, crate, edit):
+    for file, text in texts_in_place(crate, [edit]).items():
+        (top / file).write_text(text, encoding="utf-8")
+
+
+def show(label, word, text):
+    print(f"{label}: {word}: {text}"[:300], flush=True)
