@@ -1,10 +1,10 @@
 /* The same work done by this library from C and by other libraries, for bench/run.
  *
- *     peers WORK TURNS GROUP < LIST
+ *     peers WORK ROUNDS TURNS GROUP < LIST
  *
- * reads the list that crates/ti_bench reads, does the work on each item of the group so many times in a row, and prints
- * `GROUP WORK ITEMS NANOSECONDS`, the processor time of all turns. The work `output` prints what `tiparm` makes of each
- * capability, in hex, a line each. Built with -DUNIBILIUM it knows that library's calls too. */
+ * reads the list that crates/ti_bench reads, and prints `GROUP WORK ITEMS NANOSECONDS`, the processor time of all rounds. In
+ * each round it does the work on each item of the group so many turns in a row. The work `output` prints what `tiparm` makes
+ * of each capability, in hex, a line each. Built with -DUNIBILIUM it knows that library's calls too. */
 #include "ti.h"
 
 #include <curses.h>
@@ -130,19 +130,20 @@ static int print_outputs(void) {
 
 int main(int argc, char **argv) {
     int error;
-    if (argc != 4 || setupterm("xterm-256color", 1, &error) != OK) return 2;
-    read_items(argv[3]);
+    if (argc != 5 || setupterm("xterm-256color", 1, &error) != OK) return 2;
+    read_items(argv[4]);
     if (strcmp(argv[1], "output") == 0) return print_outputs();
     for (size_t i = 0; i < sizeof works / sizeof *works; i++) {
         if (strcmp(argv[1], works[i].name) != 0) continue;
         struct timespec from, to;
         size_t total = 0;
         clock_gettime(CLOCK_PROCESS_CPUTIME_ID, &from);
-        for (size_t k = 0; k < count; k++)
-            for (long turn = atol(argv[2]); turn > 0; turn--) total += works[i].run(&items[k]);
+        for (long round = atol(argv[2]); round > 0; round--)
+            for (size_t k = 0; k < count; k++)
+                for (long turn = atol(argv[3]); turn > 0; turn--) total += works[i].run(&items[k]);
         clock_gettime(CLOCK_PROCESS_CPUTIME_ID, &to);
         long long all = (to.tv_sec - from.tv_sec) * 1000000000LL + (to.tv_nsec - from.tv_nsec);
-        printf("%s %s %zu %lld\n", argv[3], argv[1], count, all);
+        printf("%s %s %zu %lld\n", argv[4], argv[1], count, all);
         return total == 0 && count != 0;
     }
     return 2;

@@ -25,6 +25,7 @@ PACKAGES: dict[str, tuple[str, ...]] = {
     "binutils": ("readelf", "nm"),
     "dpkg": ("dpkg-deb",),
     "cargo-web": ("cargo", "rustc"),
+    "librust-term-dev": (),
     "man-db": ("man",),
     "bash-completion": (),
     "zsh": ("zsh",),

@@ -8,6 +8,9 @@ use core::fmt;
 /// How many parameters a capability can have.
 const MOST_PARAMETERS: usize = 9;
 
+/// Nearly all capabilities have no greater depth, and less room takes less time to make.
+const FEW_VALUES: usize = 4;
+
 /// Why a capability is not expanded.
 #[derive(Clone, Copy, Debug, PartialEq, Eq)]
 #[non_exhaustive]
@@ -145,8 +148,25 @@ pub fn expand_into(
     vars: &mut Vars,
     out: &mut [u8],
 ) -> Result<Run, ExpandError> {
+    let parameters = nine(parameters)?;
+    if capability.depth() <= FEW_VALUES {
+        let mut stack = [Value::Num(0); FEW_VALUES];
+        return Ok(crate::made::expand::expand_into(capability.tape(), &parameters, vars, &mut stack, out)?);
+    }
+    expand_deep(capability, &parameters, vars, out)
+}
+
+/// As [`expand_into`], with a stack of the most values. It is a function of its own, since the compiler clears the room of all
+/// that a function holds as it starts.
+#[inline(never)]
+fn expand_deep(
+    capability: &Capability<'_>,
+    parameters: &[Value<'_>; MOST_PARAMETERS],
+    vars: &mut Vars,
+    out: &mut [u8],
+) -> Result<Run, ExpandError> {
     let mut stack = [Value::Num(0); MOST_VALUES];
-    Ok(crate::made::expand::expand_into(capability.tape(), &nine(parameters)?, vars, &mut stack, out)?)
+    Ok(crate::made::expand::expand_into(capability.tape(), parameters, vars, &mut stack, out)?)
 }
 
 impl From<i32> for Value<'_> {

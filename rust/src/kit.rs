@@ -17,22 +17,22 @@ pub struct LittleEndian;
 impl LittleEndian {
     #[inline(always)]
     pub fn read_i16(bytes: &[u8]) -> i16 {
-        i16::from_le_bytes([bytes[0], bytes[1]])
+        i16::from_le_bytes(front(bytes))
     }
 
     #[inline(always)]
     pub fn read_u16(bytes: &[u8]) -> u16 {
-        u16::from_le_bytes([bytes[0], bytes[1]])
+        u16::from_le_bytes(front(bytes))
     }
 
     #[inline(always)]
     pub fn read_u32(bytes: &[u8]) -> u32 {
-        u32::from_le_bytes([bytes[0], bytes[1], bytes[2], bytes[3]])
+        u32::from_le_bytes(front(bytes))
     }
 
     #[inline(always)]
     pub fn read_i32(bytes: &[u8]) -> i32 {
-        i32::from_le_bytes([bytes[0], bytes[1], bytes[2], bytes[3]])
+        i32::from_le_bytes(front(bytes))
     }
 
     pub fn write_i16(bytes: &mut [u8], number: i16) {
@@ -41,6 +41,15 @@ impl LittleEndian {
 
     pub fn write_i32(bytes: &mut [u8], number: i32) {
         bytes[..4].copy_from_slice(&number.to_le_bytes());
+    }
+}
+
+/// The first bytes of a slice, by one test of its length. It panics if there are fewer.
+#[inline(always)]
+fn front<const N: usize>(bytes: &[u8]) -> [u8; N] {
+    match bytes.first_chunk() {
+        Some(front) => *front,
+        None => panic!("{N} bytes are read, and there are {}", bytes.len()),
     }
 }
 

@@ -1,8 +1,8 @@
 //! Times parsing, expanding and reading, for `bench/run`. Without words it does nothing.
 //!
-//! With the name of a kind of work, a number of turns and the name of a group, it reads a list from standard input, does
-//! the work on each item of that group so many times, and prints `GROUP WORK ITEMS NANOSECONDS`, the time of all turns.
-//! The work `output` prints what each capability of the group writes, in hex, a line each.
+//! With the name of a kind of work, a number of rounds, a number of turns and the name of a group, it reads a list from
+//! standard input, and prints `GROUP WORK ITEMS NANOSECONDS`, the time of all. In each round it does the work on each item of
+//! that group so many turns in a row. The work `output` prints what each capability of the group writes, in hex, a line each.
 #![tactic(auto)]
 
 mod case;
@@ -10,6 +10,7 @@ mod work;
 
 use anyhow::{Context, Result, bail};
 use case::{Case, read_cases};
+use std::alloc::Global;
 use std::rt::Clock;
 use std::time::Instant;
 use ti_expand::Vars;
@@ -21,21 +22,40 @@ use work::{
 /// The bytes of a piece, where an entry is fed in pieces.
 const PIECE: usize = 512;
 
-/// Does the work and tells how long it took, in nanoseconds.
-fn timed<R: Clock + AllocGlobal>(rt: &R, work: &str, turns: u32, cases: &[Case]) -> Result<u128> {
-    let ready = ready_cases(rt.alloc(), cases)?;
-    let start = Instant::now(rt)?;
-    let total = match work {
+/// Does the work on each item so many times in a row.
+fn work_on(
+    alloc: Global,
+    work: &str,
+    turns: u32,
+    cases: &[Case],
+    ready: &[Ready<'_>],
+) -> Result<usize> {
+    Ok(match work {
         "parse" => parse_all(cases, turns),
-        "expand_into" => expand_into_all(ready.as_slice(), turns),
+        "expand_into" => expand_into_all(ready, turns),
         "parse+expand_into" => parse_and_expand_all(cases, turns),
-        "expand" => expand_all(rt.alloc(), ready.as_slice(), turns)?,
+        "expand" => expand_all(alloc, ready, turns)?,
         "read" => read_all(cases, turns),
         "feed512" => feed_all(cases, PIECE, turns),
         "feed1" => feed_all(cases, 1, turns),
         _ => bail!("no such work"),
-    };
-    let _ = std::hint::black_box(total);
+    })
+}
+
+/// Does the rounds of the work, and returns how long they took, in nanoseconds.
+fn timed<R: Clock + AllocGlobal>(
+    rt: &R,
+    work: &str,
+    rounds: u32,
+    turns: u32,
+    cases: &[Case],
+) -> Result<u128> {
+    let ready = ready_cases(rt.alloc(), cases)?;
+    let start = Instant::now(rt)?;
+    for _ in 0..rounds {
+        let total = work_on(rt.alloc(), work, turns, cases, ready.as_slice())?;
+        let _ = std::hint::black_box(total);
+    }
     Ok(start.elapsed(rt)?.as_nanos())
 }
 
@@ -50,14 +70,15 @@ fn print_outputs<R: Print + AllocGlobal>(rt: &R, ready: &[Ready<'_>]) -> Result<
 }
 
 /// Does what the words ask for.
-fn run(rt: &HostRuntime, work: &str, turns: &str, group: &str) -> Result<()> {
+fn run(rt: &HostRuntime, work: &str, rounds: &str, turns: &str, group: &str) -> Result<()> {
+    let rounds = rounds.parse::<u32>().context("the rounds")?;
     let turns = turns.parse::<u32>().context("the turns")?;
     let cases = read_cases(rt, group)?;
     if work == "output" {
         let ready = ready_cases(rt.alloc(), cases.as_slice())?;
         return print_outputs(rt, ready.as_slice());
     }
-    let nanoseconds = timed(rt, work, turns, cases.as_slice())?;
+    let nanoseconds = timed(rt, work, rounds, turns, cases.as_slice())?;
     let items = cases.len();
     println!(rt; "{group} {work} {items} {nanoseconds}")?;
     Ok(())
@@ -69,7 +90,13 @@ fn main(rt: HostRuntime) -> Result<()> {
         words.push(word)?;
     }
     match words.as_slice() {
-        [_, work, turns, group] => run(&rt, work.as_str(), turns.as_str(), group.as_str()),
+        [_, work, rounds, turns, group] => run(
+            &rt,
+            work.as_str(),
+            rounds.as_str(),
+            turns.as_str(),
+            group.as_str(),
+        ),
         _ => Ok(()),
     }
 }
