@@ -2,7 +2,7 @@
 use Rattle.std.proofs.Common.{◌≡◌, ◌≢◌, ℕ, suc, ◌+◌, ◌-◌, ◌<◌, ◌≤◌, ◌⊎◌, inl, inr, max, List, [], ◌∷◌, ◌++◌, length, take, drop, get_or, refl, sym, ◌∙◌, ap, subst, arith, Bool, true, false, cond, nat_eq, ◌||◌, length-append, drop-cons, Ok, Err, length-drop}
 use Rattle.std.specs.Prelude.{Option, Some, None, nat_le, ◌^◌}
 use Rattle.std.proofs.Math.Seq.{take-length, take-add}
-use Rattle.std.proofs.lemmas.List.{take-append-le, take-append-drop, take_at, drop_all, length-take-le, get_or-drop, length-map}
+use Rattle.std.proofs.lemmas.List.{take-append-le, take-append-drop, take_at, drop_all, length-take-le, get_or-drop, drop-drop, length-map}
 use Rattle.ti_base.specs.Limits.{most_capability_bytes, most_open, most_values}
 use Rattle.ti_cap.specs.declared.language.Token.{Token}
 use Rattle.ti_cap.specs.declared.language.Token.TheVariants.{Compute, CondOpen, CondThen, CondElse, CondClose}
@@ -101,11 +101,12 @@ fine_step before rest s tail k d begins room peaks low e p f = each f
     each _ h = h.1.no_token k (s, tail, p, e)
 
 -- what has been read up to a place
-pub record Parsed (bytes : List ℕ) (longest place : ℕ) (found : Findings) : Type 0 where
+pub record Parsed (bytes : List ℕ) (longest place count : ℕ) (found : Findings) : Type 0 where
   pub before : List Token
   pub parts : List Part
   pub within : place ≤ length bytes
   pub written : Written before (take place bytes)
+  pub counted : length before ≡ count
   pub sound : IsSoundBelow bytes place
   pub context : Context before parts
   pub leads : Leads [] before parts
@@ -122,12 +123,13 @@ are_bytes : (xs : List ℕ) → ((i : ℕ) → get_or xs i 0 < 256) → AreBytes
 are_bytes [] h = tt
 are_bytes (x ∷ xs) h = (h 0, are_bytes xs (λ i. h (suc i)))
 
-pub parse_start : (bytes : List ℕ) (longest : ℕ) → Parsed bytes longest 0 no_findings
-parse_start bytes longest = record {
+pub parse_start : (bytes : List ℕ) (longest place : ℕ) → place ≡ 0 → Parsed bytes longest place 0 no_findings
+parse_start bytes longest place start = record {
   before = [];
   parts = [];
   within = omega arith;
-  written = refl;
+  written = ap (λ n. take n bytes) start;
+  counted = refl;
   sound = λ f q h. absurd (omega arith);
   context = context_start;
   leads = refl;
@@ -179,14 +181,22 @@ progress_low before s CondElse d p low high sums = omega (arith, mark_low before
 progress_low before s CondClose d p low high sums = omega (arith, mark_low before CondClose (next_progress s CondClose (next_height s.running CondClose)) d height_still.1 p sums)
 progress_low before s k d p low high sums = high
 
-pub parsed_low : (bytes : List ℕ) (longest place : ℕ) (found : Findings) → Parsed bytes longest place found → found.heights.running ≤ most_values
-parsed_low bytes longest place found p = omega (arith, running_low p.before found.heights found.depth p.peaks p.heights, p.low)
+pub parsed_low : (bytes : List ℕ) (longest place count : ℕ) (found : Findings) → Parsed bytes longest place count found → found.heights.running ≤ most_values
+parsed_low bytes longest place count found p = omega (arith, running_low p.before found.heights found.depth p.peaks p.heights, p.low)
 
 -- the greatest size is far from the greatest number
-pub parsed_small : (bytes : List ℕ) (longest place : ℕ) (found : Findings) → longest < 2 ^ 16 → length bytes ≤ most_capability_bytes → Parsed bytes longest place found → found.sizes.running < 2 ^ 31
-parsed_small bytes longest place found h short p =
+pub parsed_small : (bytes : List ℕ) (longest place count : ℕ) (found : Findings) → longest < 2 ^ 16 → length bytes ≤ most_capability_bytes → Parsed bytes longest place count found → found.sizes.running < 2 ^ 31
+parsed_small bytes longest place count found h short p =
     let b : IsBest (size_act longest) p.before Running (Some found.sizes.running) = p.sizes Running in
     omega (arith, value-size longest p.before (take place bytes) b.1.walk h p.written, b.1.value, length-take-le place bytes p.within, p.within)
+
+-- no more tokens than bytes
+pub parsed_few : (bytes : List ℕ) (longest place count : ℕ) (found : Findings) → Parsed bytes longest place count found → count ≤ length bytes
+parsed_few bytes longest place count found p = omega (arith, written_few p.before (take place bytes) p.written, p.counted, length-take-le place bytes p.within, p.within)
+  where
+    written_few : (ks : List Token) (s : List ℕ) → Written ks s → length ks ≤ length s
+    written_few [] s w = omega arith
+    written_few (k ∷ ks) s (u, tail, q, w, e) = omega (arith, written_few ks tail w, spelled_long k u q, ap length e, length-append u tail)
 
 -- ---- one token more
 
@@ -210,14 +220,14 @@ fine found k e = record { placed = first _ _ e; low = by (nat_le (next_height fo
     by true t e = grind arith
     by false t e = absurd (cc)
 
-pub record Stepped (bytes : List ℕ) (longest place n : ℕ) (found : Findings) : Type 0 where
-  pub parsed : Parsed bytes longest (place + n) found
+pub record Stepped (bytes : List ℕ) (longest place count n : ℕ) (found : Findings) : Type 0 where
+  pub parsed : Parsed bytes longest (place + n) (count + 1) found
   pub within : place + n ≤ length bytes
   pub further : 0 < n
 
-pub parse_step : (bytes : List ℕ) (longest place : ℕ) (found : Findings) (k : Token) (n : ℕ) → ((i : ℕ) → get_or bytes i 0 < 256) → Parsed bytes longest place found
-    → token_read (drop place bytes) ≡ Ok (k, n) → fault_of found k ≡ None → Stepped bytes longest place n (findings_after longest found k)
-parse_step bytes longest place found k n fits p e none =
+pub parse_step : (bytes : List ℕ) (longest place count : ℕ) (found : Findings) (k : Token) (n : ℕ) → ((i : ℕ) → get_or bytes i 0 < 256) → Parsed bytes longest place count found
+    → token_read (drop place bytes) ≡ Ok (k, n) → fault_of found k ≡ None → Stepped bytes longest place count n (findings_after longest found k)
+parse_step bytes longest place count found k n fits p e none =
     let f : Front (drop place bytes) k n = token_sound (drop place bytes) k n (are_bytes (drop place bytes) (λ i. rw get_or-drop (fits (place + i)))) e in
     let ok : IsFine found k = fine found k none in
     let P : List Part → Type 0 = λ x. place_fault k x ≡ None in
@@ -247,6 +257,7 @@ parse_step bytes longest place found k n fits p e none =
             let W : List ℕ → Type 0 = λ x. Written (p.before ++ k ∷ []) x in
             subst W (sym (take-add place n bytes ∙ ap (λ x. take place bytes ++ x) (ap (λ x. take n x) f.splits ∙ take_at f.spelling f.tail n (sym f.long))))
             (written-append p.before (k ∷ []) (take place bytes) f.spelling p.written (written_one k f.spelling f.spells));
+        counted = length-append p.before (k ∷ []) ∙ ap (λ x. x + 1) p.counted;
         sound = let S : ℕ → Type 0 = λ x. IsSoundBelow bytes (place + x) in
             subst S (sym f.long) (sound_step bytes place p.before k f.spelling f.tail p.written f.splits f.spells p.sound
             (fine_step p.before (drop place bytes) f.spelling f.tail k _ (context_begins _ _ context) (room placed) deep low f.splits f.spells));
@@ -322,9 +333,9 @@ unreadable_fault f before rest some u = misspelled_fault f before rest (misspell
 -- ---- refusals
 
 -- nothing is read
-pub parse_fault : (bytes : List ℕ) (longest place : ℕ) (found : Findings) (f : CapFault) → ((i : ℕ) → get_or bytes i 0 < 256) → length bytes ≤ most_capability_bytes → place < length bytes
-    → Parsed bytes longest place found → token_read (drop place bytes) ≡ Err f → IsRefusal bytes (record { fault = f; place = place })
-parse_fault bytes longest place found f fits short more p e =
+pub parse_fault : (bytes : List ℕ) (longest place count : ℕ) (found : Findings) (f : CapFault) → ((i : ℕ) → get_or bytes i 0 < 256) → length bytes ≤ most_capability_bytes → place < length bytes
+    → Parsed bytes longest place count found → token_read (drop place bytes) ≡ Err f → IsRefusal bytes (record { fault = f; place = place })
+parse_fault bytes longest place count found f fits short more p e =
     let some : drop place bytes ≢ [] = λ z. omega (arith, ap length z, length-drop place bytes) in
     let u : IsUnreadable (drop place bytes) f = unreadable (drop place bytes) f (are_bytes (drop place bytes) (λ i. rw get_or-drop (fits (place + i)))) some e in
     inr (
@@ -355,9 +366,9 @@ climbs_by_one before k s sums low high =
     to_run _ high = refl
 
 -- a token may not stand, or climbs too high
-pub parse_misplaced : (bytes : List ℕ) (longest place : ℕ) (found : Findings) (k : Token) (n : ℕ) (f : CapFault) → ((i : ℕ) → get_or bytes i 0 < 256) → length bytes ≤ most_capability_bytes
-    → Parsed bytes longest place found → token_read (drop place bytes) ≡ Ok (k, n) → fault_of found k ≡ Some f → IsRefusal bytes (record { fault = f; place = place })
-parse_misplaced bytes longest place found k n f fits short p e some =
+pub parse_misplaced : (bytes : List ℕ) (longest place count : ℕ) (found : Findings) (k : Token) (n : ℕ) (f : CapFault) → ((i : ℕ) → get_or bytes i 0 < 256) → length bytes ≤ most_capability_bytes
+    → Parsed bytes longest place count found → token_read (drop place bytes) ≡ Ok (k, n) → fault_of found k ≡ Some f → IsRefusal bytes (record { fault = f; place = place })
+parse_misplaced bytes longest place count found k n f fits short p e some =
     inr (
       short,
       record { before = p.before; within = p.within; written = p.written; begins = context_begins p.before p.parts p.context; is = is (place_fault k (parts_of found.heights.frames)) refl some },
@@ -378,7 +389,7 @@ parse_misplaced bytes longest place found k n f fits short p e some =
         let high : most_values < next_height found.heights.running k = grind arith in
         let is : StackTooDeep ≡ f = cc in
         let P : CapFault → Type 0 = λ x. IsFaultBetween x p.before (drop place bytes) in
-        subst P is (k, next, climbs_now p.before k (suc most_values) begins (climbs_by_one p.before k found.heights p.heights (parsed_low bytes longest place found p) high))
+        subst P is (k, next, climbs_now p.before k (suc most_values) begins (climbs_by_one p.before k found.heights p.heights (parsed_low bytes longest place count found p) high))
 
     is : (m : Option CapFault) → place_fault k (parts_of found.heights.frames) ≡ m
         → first_fault m (cond (nat_le (next_height found.heights.running k) most_values) None (Some StackTooDeep)) ≡ Some f → IsFaultBetween f p.before (drop place bytes)
@@ -393,10 +404,11 @@ never_refused bytes r fine (inl (long, e)) = omega (arith, fine.0)
 never_refused bytes r fine (inr (short, has, sound)) = fine.1 r.fault r.place has
 
 -- all is read, and some conditional is still in its first test
-pub parse_no_then : (bytes : List ℕ) (longest place : ℕ) (found : Findings) → length bytes ≤ most_capability_bytes → length bytes ≤ place → Parsed bytes longest place found → are_in_test found.heights.frames ≡ true
-    → IsRefusal bytes (record { fault = NoThen; place = place })
-parse_no_then bytes longest place found short end p e =
-    inr (
+pub parse_no_then : (bytes : List ℕ) (longest place count : ℕ) (found : Findings) → length bytes ≤ most_capability_bytes → length bytes ≤ place → Parsed bytes longest place count found → are_in_test found.heights.frames ≡ true
+    → IsRefusal bytes (record { fault = NoThen; place = length bytes })
+parse_no_then bytes longest place count found short end p e =
+    let R : ℕ → Type 0 = λ x. IsRefusal bytes (record { fault = NoThen; place = x }) in
+    subst R (omega (arith, p.within)) (inr (
       short,
       record {
         before = p.before;
@@ -406,7 +418,7 @@ parse_no_then bytes longest place found short end p e =
         is = inr (inr (drop_all place bytes end, none));
       },
       p.sound,
-    )
+    ))
   where
     none : (tree : Sequence) → IsTree tree → tokens tree ≢ p.before
     none tree formed is =
@@ -428,9 +440,9 @@ end_fine before tree formed is StackTooDeep (l, next, climbs) = nothing_next l n
 end_fine before tree formed is _ h = h.0 refl
 
 -- all is read
-pub parse_done : (bytes : List ℕ) (longest place : ℕ) (found : Findings) (limits : Limits) → length bytes ≤ most_capability_bytes → length bytes ≤ place → Parsed bytes longest place found → are_in_test found.heights.frames ≡ false
-    → limits.depth ≡ found.depth → limits.nest ≡ found.nest → limits.bound ≡ greatest_of found.sizes.frames found.sizes.running → IsCapability bytes longest limits
-parse_done bytes longest place found limits short end p e depth_is nest_is bound_is =
+pub parse_done : (bytes : List ℕ) (longest place count : ℕ) (found : Findings) (limits : Limits) → length bytes ≤ most_capability_bytes → length bytes ≤ place → Parsed bytes longest place count found → are_in_test found.heights.frames ≡ false
+    → limits.tokens ≡ count → limits.depth ≡ found.depth → limits.nest ≡ found.nest → limits.bound ≡ greatest_of found.sizes.frames found.sizes.running → IsCapability bytes longest limits
+parse_done bytes longest place count found limits short end p e count_is depth_is nest_is bound_is =
     let Q : List Part → Type 0 = λ x. AreSettled x in
     let r : (tree : Sequence) × IsTree tree × (tokens tree ≡ p.before) = context_ends p.before p.parts p.context (subst Q p.stands (settled_by found.heights.frames e)) in
     let at : place ≡ length bytes = omega (arith, p.within) in
@@ -443,6 +455,7 @@ parse_done bytes longest place found limits short end p e depth_is nest_is bound
     record {
       tree = r.0;
       writes = record { formed = r.1; written = subst W (sym r.2) all };
+      count_is = ap length r.2 ∙ p.counted ∙ sym count_is;
       depth_is = subst H (sym depth_is) (depth_is_of r.0 r.1 (subst D (sym r.2) p.peaks));
       nest_is = sym (level_tree r.0 0 r.1 ∙ omega arith) ∙ ap (λ x. levels 0 x) r.2 ∙ p.nested ∙ sym nest_is;
       bound_is = subst B (sym bound_is) (greatest_value (size_act longest) r.0 found.sizes (λ path. size path longest) r.1 (value_is longest) (subst S (sym r.2) p.sizes));
@@ -472,3 +485,21 @@ parse_done bytes longest place found limits short end p e depth_is nest_is bound
 
 pub from_place : (bytes : List ℕ) (place : ℕ) → take (length bytes - place) (drop place bytes) ≡ drop place bytes
 from_place bytes place = ap (λ n. take n (drop place bytes)) (sym (length-drop place bytes)) ∙ take-length (drop place bytes)
+
+-- bytes that are left of others
+pub record IsRest (bytes left : List ℕ) : Type 0 where
+  pub is : left ≡ drop (length bytes - length left) bytes
+  pub within : length left ≤ length bytes
+
+pub rest_start : (bytes : List ℕ) → IsRest bytes bytes
+rest_start bytes = let none : 0 ≡ length bytes - length bytes = omega arith in record { is = ap (λ n. drop n bytes) none; within = omega arith }
+
+-- what is left after so many bytes more
+pub rest_after : (bytes left : List ℕ) (n : ℕ) → IsRest bytes left → n ≤ length left
+    → (length bytes - length left + n ≡ length bytes - length (take (length left - n) (drop n left))) × IsRest bytes (take (length left - n) (drop n left))
+rest_after bytes left n r low =
+    let rest : List ℕ = take (length left - n) (drop n left) in
+    let tail : rest ≡ drop n left = from_place left n in
+    let long : length rest ≡ length left - n = ap length tail ∙ length-drop n left in
+    let at : length bytes - length left + n ≡ length bytes - length rest = omega (arith, long, low, r.within) in
+    (at, record { is = tail ∙ ap (λ x. drop n x) r.is ∙ drop-drop n (length bytes - length left) bytes ∙ ap (λ x. drop x bytes) at; within = omega (arith, long, r.within) })

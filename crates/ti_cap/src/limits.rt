@@ -3,6 +3,8 @@
 /// The exact limits of a capability over all its paths, where no text is longer than some length.
 #[derive(Clone, Copy, Debug)]
 pub struct Limits {
+    /// The number of tokens.
+    pub tokens: usize,
     /// The greatest height of the stack.
     pub depth: usize,
     /// The greatest number of open conditionals.

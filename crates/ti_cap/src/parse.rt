@@ -4,7 +4,7 @@ ghost use Rattle.std.specs.Prelude.{◌≡◌, ℕ, ◌≤◌, ◌++◌, [], ◌
 ghost use Rattle.ti_base.specs.Limits.{most_capability_bytes, most_open, most_values};
 ghost use Rattle.ti_cap.specs.Refusal.{IsRefusal, IsFaultless};
 ghost use Rattle.ti_cap.specs.inner.Scan.{IsSure};
-ghost use Rattle.ti_cap.specs.Capability.{HasDepth, HasBound, HasNest, IsWellFormed, Spot, Takes, IsFirst, IsCapability, whole};
+ghost use Rattle.ti_cap.specs.Capability.{HasCount, HasDepth, HasBound, HasNest, IsWellFormed, Spot, Takes, IsFirst, IsCapability, whole};
 
 use crate::language::{CapFault, CapRefused, Token};
 use crate::lexer::read_token;
@@ -66,6 +66,13 @@ impl<'a> Capability<'a> {
         self.bytes.len()
     }
 
+    /// How many tokens it has.
+    pub fn token_count(&self) -> usize
+        ensures exact { HasCount self.now result }
+    {
+        self.limits.tokens
+    }
+
     /// The greatest height of the stack over all paths.
     pub fn depth(&self) -> usize
         ensures exact { HasDepth self.now result }
@@ -95,23 +102,36 @@ fn limits_of<const ROOM: usize>(bytes: &[u8], longest: u16) -> Result<Limits, Ca
 {
     let mut scan = Scan::new();
     let mut opens = [Open::FRESH; ROOM];
-    let mut place = 0;
-    while place < bytes.len() {
-        match read_token(&bytes[place..]) {
-            Err(fault) => return Err(CapRefused { fault, place }),
+    let mut left = bytes;
+    let mut tokens = 0;
+    'reads: while !left.is_empty() {
+        match read_token(left) {
+            Err(fault) => {
+                return Err(CapRefused {
+                    fault,
+                    place: bytes.len() - left.len(),
+                })
+            }
             Ok((token, long)) => match scan.take(&mut opens, token, longest) {
-                Err(fault) => return Err(CapRefused { fault, place }),
-                Ok(()) => place += long,
+                Err(fault) => {
+                    return Err(CapRefused {
+                        fault,
+                        place: bytes.len() - left.len(),
+                    })
+                }
+                Ok(()) => left = &left[long..],
             },
         }
+        tokens += 1;
     }
     if scan.is_in_first_test(&opens) {
         return Err(CapRefused {
             fault: CapFault::NoThen,
-            place,
+            place: bytes.len(),
         });
     }
     Ok(Limits {
+        tokens,
         depth: scan.depth() as usize,
         nest: scan.nest(),
         bound: scan.bound(&opens),
@@ -207,6 +227,13 @@ impl<'a> Tape<'a> {
         ensures exact { result ≡ length self.now.taken }
     {
         self.place
+    }
+
+    /// How many tokens the capability has.
+    pub fn token_count(&self) -> usize
+        ensures exact { HasCount (whole self.now) result }
+    {
+        self.maxima.tokens
     }
 
     /// The capability's depth.

@@ -1,10 +1,15 @@
+-- What has been read so far, and what is left.
 use Rattle.std.proofs.Common.{length, ◌-◌}
 use Rattle.ti_cap.specs.inner.Scan.{findings_of, IsInOrder}
-use Rattle.ti_cap.proofs.IsRefusalLemmas.{Parsed}
+use Rattle.ti_cap.proofs.IsRefusalLemmas.{Parsed, IsRest}
 use Rattle.ti_cap.proofs.parse.limits_of.Given as goal
 
-abbrev pub invariant-loop-place : goal.invariant-loop-place
-invariant-loop-place o l = record { parsed : Parsed l.bytes l.longest l.place (findings_of l.scan l.opens); order : IsInOrder o.row.ROOM l.scan }
+abbrev pub invariant-reads : goal.invariant-reads
+invariant-reads o l = record {
+  parsed : Parsed l.bytes l.longest (length l.bytes - length l.left) l.tokens (findings_of l.scan l.opens);
+  rest : IsRest l.bytes l.left;
+  order : IsInOrder o.row.ROOM l.scan;
+}
 
-abbrev pub decreases-loop-place : goal.decreases-loop-place
-decreases-loop-place o l = length l.bytes - l.place
+abbrev pub decreases-reads : goal.decreases-reads
+decreases-reads o l = length l.left
