@@ -5,7 +5,7 @@
 //! Cost: linear in the bytes of the token or of the fault, and no memory.
 
 ghost use Rattle.std.specs.Prelude.{◌≡◌};
-ghost use Rattle.ti_cap.specs.inner.Lexer.{token_read, escape_read, parameter_read, variable_of, quoted_read, digits_read, lone_of};
+ghost use Rattle.ti_cap.specs.inner.Lexer.{read_as, token_read, escape_read, parameter_read, variable_of, quoted_read, digits_read, lone_of};
 
 use crate::language::{CapFault, Op, Token};
 use crate::read_format::read_format;
@@ -33,11 +33,14 @@ fn read_escape(bytes: &[u8]) -> Result<(Token, usize), CapFault>
 {
     match bytes {
         [] => Err(CapFault::CutShort),
-        [b'p', rest @ ..] => read_parameter(rest),
+        [b'p', rest @ ..] => Ok((Token::Param(read_parameter(rest)?), 3)),
         [b'P', rest @ ..] => Ok((Token::Store(read_variable(rest)?), 3)),
         [b'g', rest @ ..] => Ok((Token::Load(read_variable(rest)?), 3)),
-        [b'\'', rest @ ..] => read_quoted(rest),
-        [b'{', rest @ ..] => read_digits(rest),
+        [b'\'', rest @ ..] => Ok((Token::Constant(read_quoted(rest)?), 4)),
+        [b'{', rest @ ..] => {
+            let (value, long) = read_digits(rest)?;
+            Ok((Token::Constant(value), long))
+        }
         [letter, ..] => match lone(*letter) {
             Some(token) => Ok((token, 2)),
             None => read_format(bytes),
@@ -81,12 +84,12 @@ fn lone(letter: u8) -> Option<Token>
 }
 
 /// After `%p`: a digit from 1 to 9.
-fn read_parameter(bytes: &[u8]) -> Result<(Token, usize), CapFault>
-    ensures { result ≡ parameter_read bytes.now }
+fn read_parameter(bytes: &[u8]) -> Result<u8, CapFault>
+    ensures { read_as (λ number. (Token.Param number, 3)) result ≡ parameter_read bytes.now }
 {
     match bytes {
         [] => Err(CapFault::CutShort),
-        [digit @ b'1'..=b'9', ..] => Ok((Token::Param(*digit - b'0'), 3)),
+        [digit @ b'1'..=b'9', ..] => Ok(*digit - b'0'),
         _ => Err(CapFault::BadParameter),
     }
 }
@@ -103,19 +106,20 @@ fn read_variable(bytes: &[u8]) -> Result<u8, CapFault>
 }
 
 /// After `%'`: any byte and an apostrophe.
-fn read_quoted(bytes: &[u8]) -> Result<(Token, usize), CapFault>
-    ensures { result ≡ quoted_read bytes.now }
+fn read_quoted(bytes: &[u8]) -> Result<i32, CapFault>
+    ensures { read_as (λ number. (Token.Constant number, 4)) result ≡ quoted_read bytes.now }
 {
     match bytes {
         [] | [_] => Err(CapFault::CutShort),
-        [byte, b'\'', ..] => Ok((Token::Constant(i32::from(*byte)), 4)),
+        [byte, b'\'', ..] => Ok(i32::from(*byte)),
         _ => Err(CapFault::BadConstant),
     }
 }
 
-/// After `%{`: at least one digit, and a brace.
-fn read_digits(bytes: &[u8]) -> Result<(Token, usize), CapFault>
-    ensures { result ≡ digits_read 0 0 bytes.now }
+/// After `%{`: at least one digit, and a brace. The number, and how many bytes spell it with the `%{` before them.
+fn read_digits(bytes: &[u8]) -> Result<(i32, usize), CapFault>
+    ensures { read_as (λ (number, long). (Token.Constant number, long)) result
+        ≡ digits_read 0 0 bytes.now }
 {
     let mut value: u64 = 0;
     for (i, byte) in bytes.iter().enumerate() {
@@ -126,7 +130,7 @@ fn read_digits(bytes: &[u8]) -> Result<(Token, usize), CapFault>
             }
             value = longer;
         } else if *byte == b'}' && i > 0 {
-            return Ok((Token::Constant(value as i32), i + 3));
+            return Ok((value as i32, i + 3));
         } else {
             return Err(CapFault::BadConstant);
         }

@@ -17,6 +17,11 @@ use Rattle.ti_cap.specs.Spelling.{op_letter, conversion_letter, with_digit, numb
 abbrev pub Lexeme : Type 0
 Lexeme = Result (Token × ℕ) CapFault
 
+-- what `make` makes of what was read: a token, and how many bytes spell it
+abbrev pub read_as : {X : Type 0} → (X → Token × ℕ) → Result X CapFault → Lexeme
+read_as make (Ok x) = Ok (make x)
+read_as make (Err fault) = Err fault
+
 -- the first of these that has the letter
 abbrev pub with_letter : {X : Type 0} → (X → ℕ) → List X → ℕ → Option X
 with_letter letter [] c = None
