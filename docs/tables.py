@@ -20,11 +20,24 @@ def sources(crate: str) -> Iterator[Path]:
         yield from sorted((ROOT / "crates" / name / "src").rglob("*.rt"))
 
 
+def records() -> dict[str, set[str]]:
+    """For each record of the definitions the names of its fields."""
+    found: dict[str, set[str]] = {}
+    for path in sorted(ROOT.glob("crates/*/specs/**/*.antt")):
+        for name, body in re.findall(r"(?m)^pub record (\w+).*((?:\n  .*)*)", path.read_text()):
+            found.setdefault(name, set()).update(re.findall(r"(?m)^  pub (\w+) :", body))
+    return found
+
+
+RECORDS = records()
+
+
 def clauses(crate: str) -> dict[str, set[str]]:
-    """For each function of a crate the names of its clauses; a clause without a name is ''."""
+    """For each function of a crate the names of its clauses, and of the fields of the records that the clauses cite; a clause
+    without a name is ''."""
     found: dict[str, set[str]] = {}
     for path in sources(crate):
-        function = None
+        function, in_clause = None, False
         for line in path.read_text().splitlines():
             start = re.match(r"\s*(?:pub(?:\([a-z]+\))? )?(?:const )?(?:extern \"C\" )?fn (\w+)", line)
             if start:
@@ -33,6 +46,9 @@ def clauses(crate: str) -> dict[str, set[str]]:
             clause = re.match(r"\s*ensures\s+(\w*)\s*\{", line)
             if clause and function:
                 found[function].add(clause.group(1))
+            in_clause = bool(clause) or in_clause and re.match(r"\s*(requires|\{)", line) is None
+            if function and in_clause:
+                found[function].update(*(RECORDS.get(word, ()) for word in re.findall(r"\w+", line)))
     return found
 
 

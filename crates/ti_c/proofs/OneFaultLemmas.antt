@@ -1,12 +1,13 @@
 -- A call has one first fault.
-use Rattle.std.proofs.Common.{◌≡◌, ◌≤◌, ◌⊎◌, ◌∙◌, ℕ, List, Option, Some, Result, Ok, Err, inl, inr, ap, sym, subst, arith}
+use Rattle.std.proofs.Common.{◌≡◌, ◌≤◌, ◌⊎◌, ◌∙◌, ℕ, List, Option, Some, Result, Ok, Err, inl, inr, ap, sym, subst, arith, ℤ}
 use Rattle.ti_cap.specs.declared.language.CapRefused.{CapRefused}
 use Rattle.ti_cap.specs.Refusal.{IsFaultless}
 use Rattle.ti_cap.proofs.OneRefusalLemmas.{one_refusal}
 use Rattle.ti_entry.specs.Content.{content}
 use Rattle.ti_entry.specs.Reading.{answer_for, answer_under}
 use Rattle.ti_expand.specs.declared.values.Value.{Value}
-use Rattle.ti_expand.specs.Expands.{longest_text}
+use Rattle.ti_expand.specs.declared.counts.Run.{Run}
+use Rattle.ti_expand.specs.Expands.{IsExpansion, longest_text}
 use Rattle.ti_expand.proofs.AreShortLemmas.{one_first, none_too_long}
 use Rattle.ti_expand.proofs.CanRunLemmas.{one_bound}
 use Rattle.ti_layout.specs.declared.fault.Refused.{Refused}
@@ -101,3 +102,10 @@ module _ (own bytes : List ℕ) (made values : List Value) (given room number pl
   expansion_only few sound (inl is) none n p due = absurd (none_due bytes values given room n p few sound (moved_none (none is)) due)
   expansion_only few sound (inr fault) none n p due =
       one_first_fault bytes values given room number place n p (inr (few, inr (sound, moved fault))) due
+
+-- an expansion of a capability with some values is one of the bytes and with the values that C hands over
+pub expansion_of : (bytes own : List ℕ) (values made : List Value) (before after : List ℤ) (out : List ℕ) (run : Run) → own ≡ bytes → made ≡ values
+    → IsExpansion own made before after out run → IsExpansion bytes values before after out run
+expansion_of bytes own values made before after out run same alike is =
+    subst (λ (b : List ℕ). IsExpansion b values before after out run) same
+    (subst (λ (v : List Value). IsExpansion own v before after out run) alike is)

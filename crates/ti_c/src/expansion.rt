@@ -1,11 +1,8 @@
 //! Expanding a capability for C.
 
-ghost use Rattle.std.specs.Prelude.{◌≡◌, ◌≤◌, ◌<◌, ◌+◌, ◌⊎◌, ℕ, length, take, drop};
-ghost use Rattle.ti_cap.specs.Capability.{HasBound, HasDepth, IsWellFormed};
-ghost use Rattle.ti_cap.specs.Height.{height};
+ghost use Rattle.std.specs.Prelude.{◌≡◌, ◌≤◌, ◌<◌, ◌⊎◌, ℕ, length, take, drop};
 ghost use Rattle.ti_cap.specs.Refusal.{IsFaultless};
-ghost use Rattle.ti_cap.specs.Tree.{tokens};
-ghost use Rattle.ti_expand.specs.Expands.{ForMeaning, ForPath, ForTree, longest_text};
+ghost use Rattle.ti_expand.specs.Expands.{IsExpansion};
 ghost use Rattle.ti_c.specs.Numbers.{done, too_many_parameters};
 ghost use Rattle.ti_base.specs.Limits.{most_values};
 ghost use Rattle.ti_c.specs.Given.{value_given, values_given, HasNoFault, IsDeepEnough, IsExpansionFault, IsFaultOf};
@@ -31,14 +28,8 @@ pub struct Parameter<'a> {
 #[repr(C)]
 #[derive(Clone, Copy, Debug)]
 pub struct Run {
-    /// The bytes of output.
-    pub written: usize,
-    /// The tokens that ran.
-    pub ran: usize,
-    /// The tokens that were passed over.
-    pub passed: usize,
-    /// The greatest number of values on the stack.
-    pub peak: usize,
+    /// What was written and run.
+    pub counts: ti_expand::Run,
     /// Of a capability's fault the place in its bytes; else the parameter whose text is too long, counted from 1, or the
     /// bytes that the output needs.
     pub place: usize,
@@ -83,34 +74,14 @@ fn expand_on<'a>(
     ensures kept { (result ≡ done) ⊎ ((variables.new ≡ variables.old) × (out.new ≡ out.old)) }
     ensures place { (result ≡ done) ⊎ (run.new ≡ record run.old { place = run.new.place }) }
     ensures untold { result ≡ done → run.new.place ≡ run.old.place }
-    ensures tree { result ≡ done → IsWellFormed capability.now }
-    ensures output { result ≡ done → ForMeaning capability.now variables.old values.now
-        (λ end. take run.new.written out.new ≡ end.output) }
-    ensures rest { result ≡ done → drop run.new.written out.new ≡ drop run.new.written out.old }
-    ensures variables { result ≡ done → ForMeaning capability.now variables.old values.now
-        (λ end. variables.new ≡ end.variables) }
-    ensures written { result ≡ done → ForMeaning capability.now variables.old values.now
-        (λ end. run.new.written ≡ length end.output) }
-    ensures ran { result ≡ done → ForPath capability.now variables.old values.now
-        (λ path. run.new.ran ≡ length path) }
-    ensures all { result ≡ done → ForTree capability.now
-        (λ tree. run.new.ran + run.new.passed ≡ length (tokens tree)) }
-    ensures peak { result ≡ done → ForPath capability.now variables.old values.now
-        (λ path. run.new.peak ≡ height path) }
-    // They keep to the limits.
-    ensures steps_low { result ≡ done → run.new.ran + run.new.passed ≤ length capability.now }
-    ensures peak_low { result ≡ done
-        → (depth : ℕ) → HasDepth capability.now depth → run.new.peak ≤ depth }
-    ensures written_low { result ≡ done → (bound : ℕ)
-        → HasBound capability.now (longest_text values.now) bound
-        → run.new.written ≤ bound }
+    ensures expansion { result ≡ done → IsExpansion capability.now values.now
+        variables.old variables.new (take run.new.counts.written out.new) run.new.counts }
+    ensures rest { result ≡ done
+        → drop run.new.counts.written out.new ≡ drop run.new.counts.written out.old }
 {
     match expand_into(capability.tape(), values, variables, stack, out) {
-        Ok(done) => {
-            run.written = done.written;
-            run.ran = done.ran;
-            run.passed = done.passed;
-            run.peak = done.peak;
+        Ok(counts) => {
+            run.counts = counts;
             DONE
         }
         Err(ExpandFault::TextTooLong { parameter }) => {
@@ -143,27 +114,10 @@ fn expand_deep<'a>(
     ensures kept { (result ≡ done) ⊎ ((variables.new ≡ variables.old) × (out.new ≡ out.old)) }
     ensures place { (result ≡ done) ⊎ (run.new ≡ record run.old { place = run.new.place }) }
     ensures untold { result ≡ done → run.new.place ≡ run.old.place }
-    ensures tree { result ≡ done → IsWellFormed capability.now }
-    ensures output { result ≡ done → ForMeaning capability.now variables.old values.now
-        (λ end. take run.new.written out.new ≡ end.output) }
-    ensures rest { result ≡ done → drop run.new.written out.new ≡ drop run.new.written out.old }
-    ensures variables { result ≡ done → ForMeaning capability.now variables.old values.now
-        (λ end. variables.new ≡ end.variables) }
-    ensures written { result ≡ done → ForMeaning capability.now variables.old values.now
-        (λ end. run.new.written ≡ length end.output) }
-    ensures ran { result ≡ done → ForPath capability.now variables.old values.now
-        (λ path. run.new.ran ≡ length path) }
-    ensures all { result ≡ done → ForTree capability.now
-        (λ tree. run.new.ran + run.new.passed ≡ length (tokens tree)) }
-    ensures peak { result ≡ done → ForPath capability.now variables.old values.now
-        (λ path. run.new.peak ≡ height path) }
-    // They keep to the limits.
-    ensures steps_low { result ≡ done → run.new.ran + run.new.passed ≤ length capability.now }
-    ensures peak_low { result ≡ done
-        → (depth : ℕ) → HasDepth capability.now depth → run.new.peak ≤ depth }
-    ensures written_low { result ≡ done → (bound : ℕ)
-        → HasBound capability.now (longest_text values.now) bound
-        → run.new.written ≤ bound }
+    ensures expansion { result ≡ done → IsExpansion capability.now values.now
+        variables.old variables.new (take run.new.counts.written out.new) run.new.counts }
+    ensures rest { result ≡ done
+        → drop run.new.counts.written out.new ≡ drop run.new.counts.written out.old }
 {
     let mut stack = [Value::Num(0); MOST_VALUES];
     expand_on(capability, values, variables, &mut stack, out, run)
@@ -197,32 +151,10 @@ pub extern "C" fn ti_expand<'a>(
     ensures kept { (result ≡ done) ⊎ ((variables.new ≡ variables.old) × (out.new ≡ out.old)) }
     ensures place { (result ≡ done) ⊎ (run.new ≡ record run.old { place = run.new.place }) }
     ensures untold { result ≡ done → run.new.place ≡ run.old.place }
-    ensures tree { result ≡ done → IsWellFormed capability.now }
-    ensures output { result ≡ done
-        → ForMeaning capability.now variables.old (values_given parameters.now)
-        (λ end. take run.new.written out.new ≡ end.output) }
-    ensures rest { result ≡ done → drop run.new.written out.new ≡ drop run.new.written out.old }
-    ensures variables { result ≡ done
-        → ForMeaning capability.now variables.old (values_given parameters.now)
-        (λ end. variables.new ≡ end.variables) }
-    ensures written { result ≡ done
-        → ForMeaning capability.now variables.old (values_given parameters.now)
-        (λ end. run.new.written ≡ length end.output) }
-    ensures ran { result ≡ done
-        → ForPath capability.now variables.old (values_given parameters.now)
-        (λ path. run.new.ran ≡ length path) }
-    ensures all { result ≡ done → ForTree capability.now
-        (λ tree. run.new.ran + run.new.passed ≡ length (tokens tree)) }
-    ensures peak { result ≡ done
-        → ForPath capability.now variables.old (values_given parameters.now)
-        (λ path. run.new.peak ≡ height path) }
-    // They keep to the limits.
-    ensures steps_low { result ≡ done → run.new.ran + run.new.passed ≤ length capability.now }
-    ensures peak_low { result ≡ done
-        → (depth : ℕ) → HasDepth capability.now depth → run.new.peak ≤ depth }
-    ensures written_low { result ≡ done → (bound : ℕ)
-        → HasBound capability.now (longest_text (values_given parameters.now)) bound
-        → run.new.written ≤ bound }
+    ensures expansion { result ≡ done → IsExpansion capability.now (values_given parameters.now)
+        variables.old variables.new (take run.new.counts.written out.new) run.new.counts }
+    ensures rest { result ≡ done
+        → drop run.new.counts.written out.new ≡ drop run.new.counts.written out.old }
 {
     if parameters.len() > 9 {
         return TOO_MANY_PARAMETERS;

@@ -9,6 +9,7 @@ pub mod FlatGrowsLemmas
 pub mod FlatLemmas
 pub mod HeightLemmas
 pub mod IsExpandFaultLemmas
+pub mod IsExpansionLemmas
 pub mod OctalPrefixLemmas
 pub mod OnePassLemmas
 pub mod PausedLemmas

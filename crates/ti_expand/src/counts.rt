@@ -1,6 +1,7 @@
 //! What an expansion that succeeds answers.
 
-/// How an expansion went: its counts are exact, those of the one path that the tests choose.
+/// How an expansion went: its counts are exact, those of the one path that the tests choose. C sees them in this order.
+#[repr(C)]
 #[derive(Clone, Copy, PartialEq, Eq, Debug)]
 pub struct Run {
     /// The bytes of output.

@@ -4,15 +4,11 @@
 //! An expansion is linear in the capability's bytes and in its output. `expand_into` takes no memory; `expand` takes it
 //! once. Where a parameter is a text, one more pass over the tape computes the bound for its length.
 
-ghost use Rattle.std.specs.Prelude.{◌≡◌, ℕ, ◌+◌, ◌≤◌, ◌↔◌, [], length, take, drop, vec_len, IfOk, IfErr, OnOk, OnErr};
+ghost use Rattle.std.specs.Prelude.{◌≡◌, ℕ, ◌≤◌, ◌↔◌, [], length, take, drop, vec_len, IfOk, IfErr, OnOk, OnErr};
 ghost use Rattle.ti_base.specs.Limits.{most_values, most_text_bytes};
-ghost use Rattle.ti_cap.specs.Tree.{tokens};
-ghost use Rattle.ti_cap.specs.Height.{height};
-ghost use Rattle.ti_cap.specs.Capability.{HasDepth, HasBound, IsWellFormed};
-ghost use Rattle.ti_expand.specs.State.{start};
-ghost use Rattle.ti_expand.specs.Meaning.{meaning, taken_path};
-ghost use Rattle.ti_expand.specs.Expands.{ForTree, ForMeaning, ForPath, longest_text, IsFirstTooLong, IsExpandFault, IsTextOrMemory};
-ghost use Rattle.ti_expand.specs.inner.Running.{IsReady, CanRun};
+ghost use Rattle.ti_cap.specs.Capability.{HasBound};
+ghost use Rattle.ti_expand.specs.Expands.{IsExpansion, longest_text, IsFirstTooLong, IsExpandFault, IsTextOrMemory};
+ghost use Rattle.ti_expand.specs.inner.Running.{IsReady};
 
 use crate::counts::Run;
 use crate::fault::ExpandFault;
@@ -27,18 +23,18 @@ use ti_cap::{Capability, Tape};
 /// Nearly all capabilities have no greater depth, and less room takes less time to make.
 const FEW_VALUES: usize = 4;
 
-/// The first fault that holds, or else the length of the longest text.
+/// The first fault that holds.
 #[inline(always)]
 fn check(
     tape: &Tape<'_>,
     parameters: &[Value<'_>; 9],
     places: usize,
     room: usize,
-) -> Result<u16, ExpandFault>
+) -> Result<(), ExpandFault>
     requires { tape.now.taken ≡ [] }
     ensures faults { (fault : ExpandFault) → (result ≡ Err fault)
         ↔ IsExpandFault tape.now.left parameters.now places room fault }
-    ensures ready { IfOk result (IsReady tape.now.left parameters.now places room) }
+    ensures ready { OnOk result (IsReady tape.now.left parameters.now places room) }
 {
     let longest = longest_text(parameters)?;
     let need = tape.depth();
@@ -49,7 +45,7 @@ fn check(
     if (room as u64) < need {
         return Err(ExpandFault::OutTooSmall { need });
     }
-    Ok(longest)
+    Ok(())
 }
 
 /// Expands a tape from its start into slices of the caller. It takes no memory: the stack slice needs as many places as
@@ -71,38 +67,14 @@ pub fn expand_into<'a>(
     // each fault comes exactly where it is so, and changes nothing
     ensures faults { (fault : ExpandFault) → (result ≡ Err fault)
         ↔ IsExpandFault tape.entry.left parameters.now (length stack.old) (length out.old) fault }
-    ensures kept_variables { OnErr result (vars.new ≡ vars.old) }
-    ensures kept_stack { OnErr result (stack.new ≡ stack.old) }
-    ensures kept_output { OnErr result (out.new ≡ out.old) }
+    ensures kept { OnErr result
+        ((vars.new ≡ vars.old) × (stack.new ≡ stack.old) × (out.new ≡ out.old)) }
 
-    // else the output and the variables are those of the meaning of the tree that writes the tape, and there is one
-    ensures tree { OnOk result (IsWellFormed tape.entry.left) }
-    ensures output { IfOk result (λ run. ForMeaning tape.entry.left vars.old parameters.now
-        (λ end. take run.written out.new ≡ end.output)) }
+    // else it is an expansion, and what lies after its output is as before
+    ensures expansion { IfOk result (λ run. IsExpansion tape.entry.left parameters.now
+        vars.old vars.new (take run.written out.new) run) }
     ensures rest { IfOk result (λ run. drop run.written out.new ≡ drop run.written out.old) }
-    ensures variables { OnOk result (ForMeaning tape.entry.left vars.old parameters.now
-        (λ end. vars.new ≡ end.variables)) }
-
-    // and the counts are those of the path that its tests choose
-    ensures written { IfOk result (λ run. ForMeaning tape.entry.left vars.old parameters.now
-        (λ end. run.written ≡ length end.output)) }
-    ensures ran { IfOk result (λ run. ForPath tape.entry.left vars.old parameters.now
-        (λ path. run.ran ≡ length path)) }
-    ensures all { IfOk result (λ run. ForTree tape.entry.left
-        (λ tree. run.ran + run.passed ≡ length (tokens tree))) }
-    ensures peak { IfOk result (λ run. ForPath tape.entry.left vars.old parameters.now
-        (λ path. run.peak ≡ height path)) }
-
-    // which keep to the limits
-    ensures steps_low { IfOk result (λ run. run.ran + run.passed ≤ length tape.entry.left) }
-    ensures peak_low { IfOk result
-        (λ run. (depth : ℕ) → HasDepth tape.entry.left depth → run.peak ≤ depth) }
-    ensures written_low { IfOk result
-        (λ run. (bound : ℕ) → HasBound tape.entry.left (longest_text parameters.now) bound
-        → run.written ≤ bound) }
 {
-    // Each variable fits 32 bits, on which the bound rests.
-    let _numbers = vars.numbers();
     check(&tape, parameters, stack.len(), out.len())?;
     Ok(run_tape(tape, parameters, vars, stack, out))
 }
@@ -127,12 +99,9 @@ pub fn expand<'a, A: Allocator + Copy>(
     ensures only { IfErr result IsTextOrMemory }
     ensures kept { OnErr result (vars.new ≡ vars.old) }
 
-    // else the output and the variables are those of the meaning of the tree that writes the capability, and there is one
-    ensures tree { OnOk result (IsWellFormed capability.now) }
-    ensures output { IfOk result (λ out. ForMeaning capability.now vars.old parameters.now
-        (λ end. out.items ≡ end.output)) }
-    ensures variables { OnOk result (ForMeaning capability.now vars.old parameters.now
-        (λ end. vars.new ≡ end.variables)) }
+    // else it is an expansion, which has some counts
+    ensures expansion { IfOk result (λ out. (run : Run)
+        × IsExpansion capability.now parameters.now vars.old vars.new out.items run) }
     ensures output_low { IfOk result
         (λ out. (bound : ℕ) → HasBound capability.now (longest_text parameters.now) bound
         → vec_len out ≤ bound) }
@@ -140,8 +109,6 @@ pub fn expand<'a, A: Allocator + Copy>(
     let longest = longest_text(parameters)?;
     let bound = capability.bound(longest) as usize;
     let mut out = Vec::from_elem(alloc, 0, bound)?;
-    // Each variable fits 32 bits, on which the bound rests.
-    let _numbers = vars.numbers();
     let run = if capability.depth() <= FEW_VALUES {
         let mut stack = [Value::Num(0); FEW_VALUES];
         let out = out.as_mut_slice();
@@ -155,13 +122,9 @@ pub fn expand<'a, A: Allocator + Copy>(
 
 /// Runs a tape from its start, with room for the most values.
 fn run_deep<'a>(tape: Tape<'_>, parameters: &[Value<'a>; 9], vars: &mut Vars, out: &mut [u8]) -> Run
-    requires { CanRun tape.left (start vars.old parameters.now) most_values (length out.old) }
-    ensures output { ForMeaning tape.entry.left vars.old parameters.now
-        (λ end. take result.written out.new ≡ end.output) }
-    ensures variables { ForMeaning tape.entry.left vars.old parameters.now
-        (λ end. vars.new ≡ end.variables) }
-    ensures written { ForMeaning tape.entry.left vars.old parameters.now
-        (λ end. result.written ≡ length end.output) }
+    requires { IsReady tape.left parameters.now most_values (length out.old) }
+    ensures { IsExpansion tape.entry.left parameters.now vars.old vars.new
+        (take result.written out.new) result }
 {
     let mut stack = [Value::Num(0); MOST_VALUES];
     run_tape(tape, parameters, vars, &mut stack, out)

@@ -1,19 +1,16 @@
 //! The pass over a tape: one loop runs tokens, and one passes tokens over. Their control is a `Mode` alone. They take no
 //! memory, and make no test of the room on the stack or in the output.
 
-ghost use Rattle.std.specs.Prelude.{◌≡◌, ◌+◌, ◌<◌, ◌≤◌, length, max, take, drop};
+ghost use Rattle.std.specs.Prelude.{◌≡◌, ◌≤◌, length, max, take, drop};
 ghost use Rattle.ti_base.specs.Limits.{most_text_bytes};
-ghost use Rattle.ti_cap.specs.Tree.{tokens};
-ghost use Rattle.ti_cap.specs.Height.{height};
 ghost use Rattle.ti_cap.specs.Pass.{next_mode};
-ghost use Rattle.ti_expand.specs.State.{start};
 ghost use Rattle.ti_expand.specs.inner.Machine.{state_of};
 ghost use Rattle.ti_expand.specs.Sound.{IsSound};
 ghost use Rattle.ti_expand.specs.Mode.{mode_of};
-ghost use Rattle.ti_expand.specs.Meaning.{meaning, taken_path, tests_zero};
+ghost use Rattle.ti_expand.specs.Meaning.{tests_zero};
 ghost use Rattle.ti_expand.specs.Flat.{act};
-ghost use Rattle.ti_expand.specs.Expands.{ForTree, ForMeaning, ForPath};
-ghost use Rattle.ti_expand.specs.inner.Running.{CanRun};
+ghost use Rattle.ti_expand.specs.Expands.{IsExpansion};
+ghost use Rattle.ti_expand.specs.inner.Running.{IsReady};
 ghost use Rattle.ti_expand.specs.inner.Underway.{IsOnTheWay, GoesOn};
 
 use crate::counts::Run;
@@ -100,22 +97,13 @@ pub(crate) fn run_tape<'a>(
     stack: &mut [Value<'a>],
     out: &mut [u8],
 ) -> Run
-    requires { CanRun tape.left (start vars.old parameters.now)
-        (length stack.old) (length out.old) }
-    ensures output { ForMeaning tape.entry.left vars.old parameters.now
-        (λ end. take result.written out.new ≡ end.output) }
+    requires { IsReady tape.left parameters.now (length stack.old) (length out.old) }
+    ensures expansion { IsExpansion tape.entry.left parameters.now vars.old vars.new
+        (take result.written out.new) result }
     ensures rest { drop result.written out.new ≡ drop result.written out.old }
-    ensures variables { ForMeaning tape.entry.left vars.old parameters.now
-        (λ end. vars.new ≡ end.variables) }
-    ensures written { ForMeaning tape.entry.left vars.old parameters.now
-        (λ end. result.written ≡ length end.output) }
-    ensures ran { ForPath tape.entry.left vars.old parameters.now
-        (λ path. result.ran ≡ length path) }
-    ensures all { ForTree tape.entry.left
-        (λ tree. result.ran + result.passed ≡ length (tokens tree)) }
-    ensures peak { ForPath tape.entry.left vars.old parameters.now
-        (λ path. result.peak ≡ height path) }
 {
+    // Each variable fits 32 bits, on which the bound rests.
+    let _numbers = vars.numbers();
     let mut parameters = Parameters::new(parameters);
     let mut stack = Stack::new(stack);
     let mut run = Run::start();

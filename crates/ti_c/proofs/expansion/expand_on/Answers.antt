@@ -1,7 +1,7 @@
 use Rattle.std.proofs.Common.{ℕ, List, length, inl, inr, refl, ap, subst, sym, true≢false, IsOk}
-use Rattle.ti_cap.specs.Capability.{HasBound, HasDepth}
-use Rattle.ti_expand.specs.Expands.{IsExpandFault, longest_text}
+use Rattle.ti_expand.specs.Expands.{IsExpandFault}
 use Rattle.ti_c.proofs.DeepEnoughLemmas.{fault_is, none_is_told, stack_is_enough}
+use Rattle.ti_c.proofs.OneFaultLemmas.{expansion_of}
 use Rattle.ti_c.proofs.expansion.expand_on.Goals as goal
 
 pub returns-in-Err-TextTooLong-clause-answer : goal.returns-in-Err-TextTooLong-clause-answer
@@ -38,12 +38,6 @@ returns-in-Ok-clause-faultless c answered number place =
     let told = (c.in-Ok.ensures.faults fault).1 (subst P (sym (ap (λ t. t.left) c.tape.ensures.start)) is) in
     true≢false (sym (subst IsOk told refl)))
 
-pub returns-in-Ok-clause-peak_low : goal.returns-in-Ok-clause-peak_low
-returns-in-Ok-clause-peak_low c answered depth has =
-    let P : List ℕ → Type 0 = λ b. HasDepth b depth in
-    c.in-Ok.ensures.peak_low depth (subst P (sym (ap (λ t. t.left) c.tape.ensures.start)) has)
-
-pub returns-in-Ok-clause-written_low : goal.returns-in-Ok-clause-written_low
-returns-in-Ok-clause-written_low c answered bound has =
-    let P : List ℕ → Type 0 = λ b. HasBound b (longest_text c.args.values.now) bound in
-    c.in-Ok.ensures.written_low bound (subst P (sym (ap (λ t. t.left) c.tape.ensures.start)) has)
+pub returns-in-Ok-clause-expansion : goal.returns-in-Ok-clause-expansion
+returns-in-Ok-clause-expansion c answered =
+    expansion_of c.args.capability.now c.tape.result.left c.args.values.now c.args.values.now _ _ _ _ (ap (λ t. t.left) c.tape.ensures.start) refl c.in-Ok.ensures.expansion

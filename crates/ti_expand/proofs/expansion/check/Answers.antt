@@ -28,10 +28,12 @@ returns-then-room-need-clause-faults c =
     record { texts = omega (arith, c.in_ok-longest.ensures.short.short, c.in_ok-longest.ensures.short.longest_is); depth = c.depth-need.result; deep = deep; room = c.if-places-need.false } in
     refused c.args.tape.now.left c.args.parameters.now c.args.places c.args.room (OutTooSmall c.bound-need.result) (stack, bounded, c.if-room-need.true)
 
-pub returns-clause-faults : goal.returns-clause-faults
-returns-clause-faults c =
+pub returns-clause-ready : goal.returns-clause-ready
+returns-clause-ready c =
     let deep : HasDepth c.args.tape.now.left c.depth-need.result = rw c.requires at c.depth-need.ensures.exact in
     let formed : IsWellFormed c.args.tape.now.left = rw c.requires at c.depth-need.ensures.tree in
     let bounded : HasBound c.args.tape.now.left c.in_ok-longest.longest c.bound-need.result = rw c.requires at c.bound-need.ensures.exact in
-    accepted c.args.tape.now.left c.args.parameters.now c.args.places c.args.room c.in_ok-longest.longest c.in_ok-longest.longest
-    (record { texts = c.in_ok-longest.ensures.short; well_formed = formed; depth = c.depth-need.result; deep = deep; high = c.if-places-need.false; bound = c.bound-need.result; bounded = bounded; long = c.if-room-need.false })
+    record { longest = c.in_ok-longest.longest; texts = c.in_ok-longest.ensures.short; well_formed = formed; depth = c.depth-need.result; deep = deep; high = c.if-places-need.false; bound = c.bound-need.result; bounded = bounded; long = c.if-room-need.false }
+
+pub returns-clause-faults : goal.returns-clause-faults
+returns-clause-faults c = accepted c.args.tape.now.left c.args.parameters.now c.args.places c.args.room _ (returns-clause-ready c)

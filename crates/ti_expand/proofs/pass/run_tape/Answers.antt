@@ -5,6 +5,8 @@ use Rattle.ti_expand.specs.State.{State, start}
 use Rattle.ti_expand.specs.inner.Machine.{machine}
 use Rattle.ti_expand.specs.Mode.{mode_of}
 use Rattle.ti_expand.specs.Steps.{step_state}
+use Rattle.ti_expand.proofs.CanRunLemmas.{can_run}
+use Rattle.ti_expand.proofs.IsExpansionLemmas.{is_expansion}
 use Rattle.ti_expand.proofs.RestLemmas.{drop_further}
 use Rattle.ti_expand.specs.inner.Underway.{IsUnderway}
 use Rattle.ti_expand.proofs.UnderwayLemmas.{underway_start, underway_height, underway_output, underway_ran, underway_end}
@@ -16,7 +18,7 @@ loop-token-init c =
     let a = c.args in
     let initial : State = start a.vars.now a.parameters.now in
     let first : IsUnderway a.tape.left initial (length a.stack.now) (length a.out.now) a.tape.left Running initial 0 0 0 =
-    underway_start a.tape.left initial (length a.stack.now) (length a.out.now) refl c.requires in
+    underway_start a.tape.left initial (length a.stack.now) (length a.out.now) refl (can_run a.tape.left a.vars.now a.parameters.now (length a.stack.now) (length a.out.now) c.requires c.numbers-numbers.ensures.numbers) in
     record { underway = rw (c.new-parameters.ensures, c.new-stack.ensures.empty, c.new-stack.ensures.low, c.start-run.ensures) first; slots = c.new-stack.ensures.room; within = rw c.start-run.ensures (omega arith); rest = refl }
 
 pub meet-after-requires-clause-height : goal.meet-after-requires-clause-height
@@ -71,23 +73,10 @@ loop-token-preserved c =
       rest = rw c.pass_over.ensures.written (m.ensures.rest ∙ drop_further m.result.1 l.run.written l.out c.args.out.now m.ensures.onward l.invariant.rest);
     }
 
-pub returns-clause-output : goal.returns-clause-output
-returns-clause-output c = λ tree w. ap (λ (s : State). s.output) (underway_end _ _ _ _ _ _ _ _ _ _ c.loop-token.invariant.underway c.in_default.ensures.none.1 tree w).state
-
-pub returns-clause-variables : goal.returns-clause-variables
-returns-clause-variables c = λ tree w. ap (λ (s : State). s.variables) (underway_end _ _ _ _ _ _ _ _ _ _ c.loop-token.invariant.underway c.in_default.ensures.none.1 tree w).state
-
-pub returns-clause-written : goal.returns-clause-written
-returns-clause-written c = λ tree w.
-    let done = underway_end _ _ _ _ _ _ _ _ _ _ c.loop-token.invariant.underway c.in_default.ensures.none.1 tree w in
-    let same = ap (λ (s : State). length s.output) done.state in
-    omega (arith, same, length-take c.loop-token.run.written c.loop-token.out, c.loop-token.invariant.within)
-
-pub returns-clause-ran : goal.returns-clause-ran
-returns-clause-ran c = λ tree w. (underway_end _ _ _ _ _ _ _ _ _ _ c.loop-token.invariant.underway c.in_default.ensures.none.1 tree w).path
-
-pub returns-clause-all : goal.returns-clause-all
-returns-clause-all c = λ tree w. (underway_end _ _ _ _ _ _ _ _ _ _ c.loop-token.invariant.underway c.in_default.ensures.none.1 tree w).all
-
-pub returns-clause-peak : goal.returns-clause-peak
-returns-clause-peak c = λ tree w. c.highest.ensures ∙ (underway_end _ _ _ _ _ _ _ _ _ _ c.loop-token.invariant.underway c.in_default.ensures.none.1 tree w).peak
+pub returns-clause-expansion : goal.returns-clause-expansion
+returns-clause-expansion c =
+    let l = c.loop-token in
+    let s : State = machine l.stack.slots.now l.stack.height l.vars l.parameters l.out l.run.written in
+    is_expansion c.args.tape.left c.args.vars.now c.args.parameters.now (length c.args.stack.now) (length c.args.out.now) s _ c.requires c.numbers-numbers.ensures.numbers
+    (omega (arith, length-take l.run.written l.out, l.invariant.within))
+    (λ tree w. rw c.highest.ensures (underway_end _ _ _ _ _ _ _ _ _ _ l.invariant.underway c.in_default.ensures.none.1 tree w))
