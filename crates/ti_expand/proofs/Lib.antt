@@ -19,7 +19,6 @@ pub mod SignificantLemmas
 pub mod SoundLemmas
 pub mod StackInLemmas
 pub mod StackHeightLemmas
-pub mod StepsLemmas
 pub mod TakenIsPathLemmas
 pub mod UnderwayLemmas
 pub mod WrittenLemmas

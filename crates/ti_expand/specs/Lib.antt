@@ -3,7 +3,6 @@ pub mod Printed
 pub mod Effect
 pub mod Meaning
 pub mod Mode
-pub mod Flat
 pub mod Steps
 pub mod StackHeight
 pub mod Sound

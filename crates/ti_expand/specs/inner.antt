@@ -4,4 +4,3 @@ pub mod Held
 pub mod Decimal
 pub mod Machine
 pub mod Running
-pub mod Unlimited

@@ -63,7 +63,7 @@ fn print(format: &Format, stack: &mut Stack<'_, '_>, out: &mut [u8], written: us
 /// Does what a simple token does, and returns where the output ends.
 #[inline(always)]
 #[tactic(auto, using(crate::proofs::SoundLemmas::text_on_sound))]
-pub fn act<'a>(
+pub fn effect<'a>(
     token: &Token,
     parameters: &mut Parameters<'_, 'a>,
     vars: &mut Vars,

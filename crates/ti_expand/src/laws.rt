@@ -1,7 +1,6 @@
 //! The laws of the flat pass, each the contract of a function that does nothing.
 
-ghost use Rattle.ti_expand.specs.Flat.{OnePassFollows, CountsStayLow, TakenIsPath};
-ghost use Rattle.ti_expand.specs.Steps.{StepsAreThePass};
+ghost use Rattle.ti_expand.specs.Steps.{OnePassFollows, CountsStayLow, TakenIsPath, StepsAreThePass};
 ghost use Rattle.ti_expand.specs.StackHeight.{TokenHeightIsStack, PathHeightIsStack, TakenPathIsMeaning};
 
 /// One flat pass whose control is a `Mode` alone, moved by [`crate::Mode::next`] at each token, ends in the state that the

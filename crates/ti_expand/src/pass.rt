@@ -8,13 +8,13 @@ ghost use Rattle.ti_expand.specs.inner.Machine.{state_of};
 ghost use Rattle.ti_expand.specs.Sound.{IsSound};
 ghost use Rattle.ti_expand.specs.Mode.{mode_of};
 ghost use Rattle.ti_expand.specs.Meaning.{tests_zero};
-ghost use Rattle.ti_expand.specs.Flat.{act};
+ghost use Rattle.ti_expand.specs.Steps.{meet};
 ghost use Rattle.ti_expand.specs.Expands.{IsExpansion};
 ghost use Rattle.ti_expand.specs.inner.Running.{IsReady};
 ghost use Rattle.ti_expand.specs.inner.Underway.{IsOnTheWay, GoesOn};
 
 use crate::counts::Run;
-use crate::eval::act;
+use crate::eval::effect;
 use crate::modes::Mode;
 use crate::parameters::Parameters;
 use crate::stack::Stack;
@@ -34,17 +34,17 @@ pub(crate) fn meet<'a>(
 ) -> (Mode, usize)
     requires sound { IsSound most_text_bytes
         (state_of stack.old vars.old parameters.old out.old written) }
-    requires height { length (act token.now
+    requires height { length (meet token.now
         (state_of stack.old vars.old parameters.old out.old written)).stack
         ≤ length stack.old.slots.now }
     requires within { written ≤ length out.old }
-    requires room { length (act token.now
+    requires room { length (meet token.now
         (state_of stack.old vars.old parameters.old out.old written)).output
         ≤ length out.old }
     ensures mode { mode_of result.0 ≡ next_mode (mode_of Mode.Run) token.now
         (tests_zero (state_of stack.old vars.old parameters.old out.old written)) }
     ensures state { state_of stack.new vars.new parameters.new out.new result.1
-        ≡ act token.now (state_of stack.old vars.old parameters.old out.old written) }
+        ≡ meet token.now (state_of stack.old vars.old parameters.old out.old written) }
     ensures slots { length stack.new.slots.now ≡ length stack.old.slots.now }
     ensures highest { stack.new.highest ≡ max stack.old.highest stack.new.height }
     ensures within { result.1 ≤ length out.new }
@@ -60,7 +60,7 @@ pub(crate) fn meet<'a>(
         Token::CondElse => (Mode::Run.next(token, false), written),
         Token::CondClose => (Mode::Run.next(token, false), written),
         _ => {
-            let end = act(token, parameters, vars, stack, out, written);
+            let end = effect(token, parameters, vars, stack, out, written);
             (Mode::Run.next(token, false), end)
         }
     }

@@ -3,31 +3,17 @@ use Rattle.std.proofs.Common.{◌≡◌, ◌∙◌, ℕ, ◌+◌, ◌-◌, ◌�
 use Rattle.std.proofs.Math.Seq.{drop-append_seam}
 use Rattle.std.proofs.lemmas.List.{reverse-reverse, take_at, take_rest}
 use Rattle.ti_cap.specs.declared.language.Token.{Token}
-use Rattle.ti_cap.specs.declared.language.Token.TheVariants.{Byte, Char, Print}
 use Rattle.ti_cap.specs.Capability.{Takes, whole}
-use Rattle.ti_cap.specs.Pass.{Mode, Running, Past, next_mode}
+use Rattle.ti_cap.specs.Pass.{Mode, next_mode}
 use Rattle.ti_escape.specs.declared.form.Form.{Form}
 use Rattle.ti_expand.specs.declared.taken.Did.{Did}
 use Rattle.ti_expand.specs.declared.values.Value.{Value}
-use Rattle.ti_expand.specs.Flat.{act}
 use Rattle.ti_expand.specs.Meaning.{tests_zero}
 use Rattle.ti_expand.specs.State.{State}
 use Rattle.ti_expand.specs.Steps.{Underway, did_of, is_run_between, step_state}
 use Rattle.ti_trace.specs.Lines.{token_line}
 use Rattle.ti_trace.specs.inner.Traced.{GoesOn}
 use Rattle.ti_trace.proofs.TracedLemmas.{goes_on, its_line}
-
--- ---- the output grows
-
-act_grows : (t : Token) (s : State) → length s.output ≤ length (act t s).output
-act_grows (Byte b) s = simp length-append (omega arith)
-act_grows Char s = simp length-append (omega arith)
-act_grows (Print f) s = simp length-append (omega arith)
-act_grows _ s = omega arith
-
-pub output_grows : (m : Mode) (t : Token) (s : State) → length s.output ≤ length (step_state m t s).output
-output_grows Running t s = act_grows t s
-output_grows (Past until n) t s = omega arith
 
 -- ---- the spelling
 

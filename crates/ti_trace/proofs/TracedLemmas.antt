@@ -11,12 +11,11 @@ use Rattle.ti_cap.proofs.WrittenLemmas.{one_cutting}
 use Rattle.ti_escape.specs.declared.form.Form.{Form}
 use Rattle.ti_expand.specs.declared.values.Value.{Value}
 use Rattle.ti_expand.specs.Expands.{longest_text}
-use Rattle.ti_expand.specs.Flat.{Pass, note}
 use Rattle.ti_expand.specs.Meaning.{meaning, taken_path, tests_zero}
 use Rattle.ti_expand.specs.State.{State}
 use Rattle.ti_expand.specs.Steps.{AreThePass, Step, Underway, is_run_between, last_state, step_state, steps, tokens_run}
-use Rattle.ti_expand.proofs.HeightLemmas.{height-note, height_from-ge}
-use Rattle.ti_expand.proofs.StepsLemmas.{steps_are_the_pass}
+use Rattle.ti_expand.proofs.HeightLemmas.{height-with, height_from-ge}
+use Rattle.ti_expand.proofs.OnePassLemmas.{steps_are_the_pass}
 use Rattle.ti_trace.specs.Columns.{header}
 use Rattle.ti_trace.specs.Footer.{Totals, footer}
 use Rattle.ti_trace.specs.Trace.{IsCut, IsTrace, Spelled, first_state, pass_lines, tokens_of, totals, trace_text}
@@ -65,10 +64,6 @@ counted_more : (b : Bool) (ran passed left n : ℕ) → ran + passed + suc left 
 counted_more true ran passed left n e = omega arith
 counted_more false ran passed left n e = omega arith
 
-note_ran : (b : Bool) (t : Token) (p : Pass) → (note b t p).ran ≡ with_run b t p.ran
-note_ran true t p = refl
-note_ran false t p = refl
-
 -- what a step makes of how far the pass has come
 abbrev after_step : Underway → Token → List ℕ → List ℕ → Underway
 after_step u t s beyond =
@@ -86,7 +81,7 @@ after_step u t s beyond =
 
 abbrev pub the_step : Underway → Token → Step
 the_step u t =
-    record { token = t; ran = is_run_between u.mode (next_mode u.mode t (tests_zero u.state)); state = step_state u.mode t u.state }
+    record { token = t; mode = u.mode; ran = is_run_between u.mode (next_mode u.mode t (tests_zero u.state)); state = step_state u.mode t u.state }
 
 -- the line of the token
 abbrev pub its_line : Form → Underway → Token → List ℕ → List ℕ
@@ -113,9 +108,7 @@ step_traced form bytes first begun text u t s beyond spells taken tr =
     subst (λ (r : List Spelled). u.ran + length (tokens_run (steps_left u r)) ≡ length path) n.is tr.ran in
     let peak : max u.peak (height_from (length u.state.stack) (with_run b t xs)) ≡ height_from 0 path =
     subst (λ (r : List Spelled). max u.peak (height_from (length u.state.stack) (tokens_run (steps_left u r))) ≡ height_from 0 path) n.is tr.peak in
-    let pass : Pass = record { state = now; ran = xs } in
-    let both : max (length u.state.stack) (height_from (length now.stack) xs) ≡ height_from (length u.state.stack) (with_run b t xs) =
-    height-note u.mode t u.state pass ∙ ap (height_from (length u.state.stack)) (note_ran b t pass) in
+    let both : max (length u.state.stack) (height_from (length now.stack) xs) ≡ height_from (length u.state.stack) (with_run b t xs) = height-with u.mode t u.state xs in
     record {
       all = tr.all;
       rest = n.later;

@@ -1,4 +1,4 @@
-use Rattle.ti_expand.proofs.StepsLemmas.{steps_are_the_pass}
+use Rattle.ti_expand.proofs.OnePassLemmas.{steps_are_the_pass}
 use Rattle.ti_expand.proofs.laws.steps_are_the_pass.Goals as goal
 
 pub returns : goal.returns

@@ -1,14 +1,14 @@
 use Rattle.std.proofs.Common.{◌≡◌, ◌∙◌, true, false, arith, refl, sym}
 use Rattle.ti_cap.specs.Pass.{is_running}
 use Rattle.ti_expand.specs.Mode.{mode_of}
-use Rattle.ti_expand.proofs.UnderwayLemmas.{underway_few, underway_past, underway_over, underway_opened, open_count_opened}
+use Rattle.ti_expand.proofs.UnderwayLemmas.{underway_few, underway_past, underway_over, underway_opened}
 use Rattle.ti_expand.proofs.WrittenLemmas.{less_left}
 use Rattle.ti_expand.proofs.pass.pass_over.Goals as goal
 
 pub next-mode-requires : goal.next-mode-requires
 next-mode-requires c =
     let u = c.loop-mode.invariant.onward _ _ _ _ _ _ c.requires.underway in
-    omega (arith, underway_opened _ _ _ _ _ _ _ _ _ _ u, open_count_opened c.loop-mode.mode)
+    omega (arith, underway_opened _ _ _ _ _ _ _ _ _ _ u)
 
 pub overflow_add-run : goal.overflow_add-run
 overflow_add-run c =
