@@ -4,10 +4,9 @@
 
 ghost use Rattle.std.specs.Prelude.{◌≡◌, ◌⊎◌, ℕ, List, map, nat_eq, option_map};
 ghost use Rattle.std.specs.Map.{lookup};
-ghost use Rattle.ti_words.specs.Names.{row_of};
 ghost use Rattle.ti_c.specs.Numbers.{done, not_named};
 ghost use Rattle.ti_c.specs.Words.{IsWord};
-ghost use Rattle.ti_c.specs.inner.WordRows.{word_rows};
+ghost use Rattle.ti_c.specs.inner.WordRows.{row_of, word_rows};
 
 use crate::faults::{DONE, NOT_NAMED};
 use crate::names::Bytes;

@@ -19,8 +19,8 @@ use Rattle.ti_words.specs.declared.Width.{Width}
 use Rattle.ti_words.specs.declared.Width.TheVariants.{Legacy, Wide}
 use Rattle.ti_words.specs.declared.all_names.NameTable.{NameTable}
 use Rattle.ti_words.specs.declared.all_names.NameTable.TheVariants as tables
-use Rattle.ti_words.specs.AllNames.{all_flags, all_numbers, all_texts, rows_in}
-use Rattle.ti_words.specs.Names.{Row, flag_rows, number_rows, text_rows}
+use Rattle.ti_words.specs.AllNames.{rows_in}
+use Rattle.ti_words.specs.NameLists.{Row, all_flags, all_numbers, all_texts, common_flags, common_numbers, common_texts}
 use Rattle.ti_words.specs.Spelling.{mark_in}
 use Rattle.ti_words.specs.Texts.{TextValue, AbsentText, CancelledText, TextOf}
 use Rattle.ti_words.specs.Value.{EntryValue}
@@ -112,7 +112,7 @@ found_text index (row ∷ rows) all other is =
     either name rest false of_name of_rest = of_rest
 
 names_text : (table : NameTable) (kind : Kind) → list_all (λ row. list_all is_printable row.1) (rows_in table kind) ≡ true
-unfolding flag_rows number_rows text_rows all_flags all_numbers all_texts
+unfolding all_flags all_numbers all_texts common_flags common_numbers common_texts
 names_text tables.Common kinds.Flag = refl
 names_text tables.Common kinds.Number = refl
 names_text tables.Common kinds.Text = refl

@@ -3,8 +3,8 @@ use Rattle.std.proofs.Common.{◌≡◌, None, Some, refl}
 use Rattle.std.specs.Prelude.{codes}
 use Rattle.ti_words.specs.declared.Kind.TheVariants as kinds
 use Rattle.ti_words.specs.declared.all_names.NameTable.TheVariants as tables
-use Rattle.ti_words.specs.AllNames.{all_flags, all_numbers, all_texts, name_in, place_in}
-use Rattle.ti_words.specs.Names.{flag_rows, number_rows, text_rows}
+use Rattle.ti_words.specs.AllNames.{name_in, place_in}
+use Rattle.ti_words.specs.NameLists.{all_flags, all_numbers, all_texts, common_flags, common_numbers, common_texts}
 
 -- the flag `xsb` has a name in the whole table alone
 rare_flag : name_in tables.All kinds.Flag 2 ≡ Some (codes "xsb")
@@ -12,7 +12,7 @@ unfolding all_flags
 rare_flag = refl
 
 no_common_flag : name_in tables.Common kinds.Flag 2 ≡ None
-unfolding flag_rows
+unfolding all_flags common_flags
 no_common_flag = refl
 
 -- the last of each kind, and one more
@@ -38,7 +38,7 @@ unfolding all_flags all_numbers all_texts
 alternate_characters = refl
 
 not_common : place_in tables.Common (codes "acsc") ≡ None
-unfolding flag_rows number_rows text_rows
+unfolding all_flags all_numbers all_texts common_flags common_numbers common_texts
 not_common = refl
 
 -- a name in other letters is another name

@@ -1,18 +1,20 @@
 //! The names of capabilities by the table that is asked: the common ones, or all of `term.h`.
 //!
-//! The whole table has the name of an index at once; for a name a call looks through the table that it asks, of 114 or
-//! 497 names. None takes memory.
+//! There is one list of names, and the indices of the common ones. A name is looked for in the list, and an index among those
+//! of the common ones. No call takes memory.
 
 ghost use Rattle.std.specs.Prelude.{◌≡◌, Some, IfSome, map, option_map};
 ghost use Rattle.std.specs.Map.{lookup};
 ghost use Rattle.std.specs.Str.{bytes_eq};
 ghost use Rattle.ti_words.specs.declared.Kind.TheVariants as kinds;
-ghost use Rattle.ti_words.specs.declared.all_names.NameTable.TheVariants as tables;
-ghost use Rattle.ti_words.specs.AllNames.{IsNamedIn, IsOnlyNameIn, all_names, all_rows, name_in, place_in, rows_in};
+ghost use Rattle.ti_words.specs.AllNames.{IsNamedIn, IsOnlyNameIn, has_index, name_in, place_in, rows_in};
+ghost use Rattle.ti_words.specs.NameLists.{all_names, common};
 ghost use Rattle.ti_words.specs.Names.{Place, named_place};
 
-use crate::all_table::{ALL_FLAG_NAMES, ALL_NUMBER_NAMES, ALL_TEXT_NAMES};
-use crate::{Kind, names};
+use crate::Kind;
+use crate::table::{
+    ALL_FLAG_NAMES, ALL_NUMBER_NAMES, ALL_TEXT_NAMES, COMMON_FLAGS, COMMON_NUMBERS, COMMON_TEXTS,
+};
 
 /// A table of names of capabilities.
 #[derive(Clone, Copy, Debug, PartialEq, Eq)]
@@ -66,28 +68,40 @@ impl NameTable {
         self.place_of(Kind::Text, name)
     }
 
+    /// Whether the table has the capability of a kind at an index, if there is one.
+    fn has(self, kind: Kind, index: usize) -> bool
+        ensures { result ≡ has_index self kind index }
+    {
+        match self {
+            NameTable::Common => common_of(kind).contains(&index),
+            NameTable::All => true,
+        }
+    }
+
     /// The name of the capability of a kind at an index.
     fn name_at(self, kind: Kind, index: usize) -> Option<&'static str>
         ensures { option_map (λ name. name.now) result ≡ name_in self kind index }
     {
-        match self {
-            NameTable::Common => names::name_at(kind, index),
-            NameTable::All => name_among_all(kind, index),
+        if !self.has(kind, index) {
+            return None;
         }
+        names_of(kind).get(index).copied()
     }
 
     /// The place of the capability of a kind that has a name.
     fn place_of(self, kind: Kind, name: &str) -> Option<(Kind, usize)>
         ensures { result ≡ lookup (bytes_eq name.now) (map (named_place kind) (rows_in self kind)) }
     {
-        match self {
-            NameTable::Common => names::place_in(kind, name),
-            NameTable::All => place_among_all(kind, name),
+        for (index, known) in names_of(kind).iter().enumerate() {
+            if name == *known && self.has(kind, index) {
+                return Some((kind, index));
+            }
         }
+        None
     }
 }
 
-/// The whole table's names of a kind.
+/// All names of a kind.
 fn names_of(kind: Kind) -> &'static [&'static str]
     ensures { map (λ name. name.now) result.now ≡ all_names kind }
 {
@@ -98,21 +112,13 @@ fn names_of(kind: Kind) -> &'static [&'static str]
     }
 }
 
-/// The name of the capability of a kind at an index in the whole table.
-fn name_among_all(kind: Kind, index: usize) -> Option<&'static str>
-    ensures { option_map (λ name. name.now) result ≡ name_in tables.All kind index }
+/// The indices of a kind whose names are common.
+fn common_of(kind: Kind) -> &'static [usize]
+    ensures { result.now ≡ common kind }
 {
-    names_of(kind).get(index).copied()
-}
-
-/// The place of the capability of a kind that has a name in the whole table.
-fn place_among_all(kind: Kind, name: &str) -> Option<(Kind, usize)>
-    ensures { result ≡ lookup (bytes_eq name.now) (map (named_place kind) (all_rows kind)) }
-{
-    for (index, known) in names_of(kind).iter().enumerate() {
-        if name == *known {
-            return Some((kind, index));
-        }
+    match kind {
+        Kind::Flag => &COMMON_FLAGS,
+        Kind::Number => &COMMON_NUMBERS,
+        Kind::Text => &COMMON_TEXTS,
     }
-    None
 }

@@ -2,9 +2,8 @@
 //!
 //! A flag is one byte, a number is one word, a text is an offset or a mark. Each function here is exact both ways: a
 //! byte and its flag, a word and its number, a name and its kind and index determine each other. None takes memory; a
-//! byte or word takes a few instructions, a name a look through a table of 114 rows, or of the 497 that `NameTable::All`
-//! stands for. `specs/Spelling.antt` says which bytes spell an entry: reading and writing stand on it, each in crates of
-//! their own.
+//! byte or word takes a few instructions, a name a look through the list of all 497. `specs/Spelling.antt` says which bytes
+//! spell an entry: reading and writing stand on it, each in crates of their own.
 #![tactic(auto)]
 
 ghost use Rattle.std.specs.Prelude.{◌≡◌, ◌<◌, ◌^◌, IfSome};
@@ -12,7 +11,6 @@ ghost use Rattle.ti_words.specs.Marks.{byte_of_flag, flag_of_byte, word_of_numbe
 ghost use Rattle.ti_words.specs.Widths.{number_size as the_number_size, magic_number as the_magic_number};
 
 mod all_names;
-mod all_table;
 pub mod laws;
 mod names;
 mod table;

@@ -1,5 +1,6 @@
 -- All numbers of faults with their words, as rows of a table.
-use Rattle.std.specs.Prelude.{List, [], ◌∷◌, ◌++◌, map}
+use Rattle.std.specs.Borrow.{Bor}
+use Rattle.std.specs.Prelude.{ℕ, List, [], ◌∷◌, ◌++◌, map}
 use Rattle.ti_cap.specs.FaultNames.{cap_fault_word}
 use Rattle.ti_cap.specs.declared.language.CapFault.{CapFault}
 use Rattle.ti_cap.specs.declared.language.CapFault.TheVariants as capability
@@ -9,6 +10,10 @@ use Rattle.ti_layout.specs.declared.fault.Fault.TheVariants as entry
 use Rattle.ti_words.specs.Names.{Row}
 use Rattle.ti_c.specs.Numbers.{capability_number, entry_number}
 use Rattle.ti_c.specs.Words.{other_rows}
+
+-- a row of the table in the code
+abbrev pub row_of : ℕ × Bor (List ℕ) → Row
+row_of r = (r.0, r.1.now)
 
 -- a fault as a row of its number and its word
 abbrev pub entry_row : Fault → Row

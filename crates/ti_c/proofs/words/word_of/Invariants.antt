@@ -1,7 +1,6 @@
 use Rattle.std.proofs.Common.{◌≡◌, map, nat_eq, drop}
 use Rattle.std.specs.Map.{lookup}
-use Rattle.ti_words.specs.Names.{row_of}
-use Rattle.ti_c.specs.inner.WordRows.{word_rows}
+use Rattle.ti_c.specs.inner.WordRows.{row_of, word_rows}
 use Rattle.ti_c.proofs.words.word_of.Given as goal
 
 -- what is left has the word that all have

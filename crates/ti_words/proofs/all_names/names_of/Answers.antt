@@ -1,5 +1,5 @@
 use Rattle.std.proofs.Common.{ap, sym}
-use Rattle.ti_words.specs.AllNames.{all_flags, all_names, all_numbers, all_texts}
+use Rattle.ti_words.specs.NameLists.{all_flags, all_names, all_numbers, all_texts}
 use Rattle.ti_words.proofs.all_names.names_of.Goals as goal
 
 -- the code's table is the one of specs/

@@ -1,4 +1,4 @@
-use Rattle.ti_words.specs.AllNames.{all_rows}
+use Rattle.ti_words.specs.NameLists.{all_rows}
 use Rattle.ti_words.proofs.AllNamesLemmas.{all_indices_differ, all_names_differ}
 use Rattle.ti_words.proofs.TableLemmas.{inverse, one_name, one_place}
 use Rattle.ti_words.proofs.laws.all_names_stand_once.Goals as goal
