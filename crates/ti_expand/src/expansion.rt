@@ -25,7 +25,7 @@ const FEW_VALUES: usize = 4;
 
 /// The first fault that holds.
 #[inline(always)]
-fn check(
+pub(crate) fn check(
     tape: &Tape<'_>,
     parameters: &[Value<'_>; 9],
     places: usize,

@@ -34,5 +34,6 @@ pub use modes::Mode;
 pub use print::{format_number, format_text};
 pub use steps::Steps;
 pub use taken::{Did, Taken};
+pub use text_lengths::longest_text;
 pub use values::Value;
 pub use variables::Vars;

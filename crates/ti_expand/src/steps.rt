@@ -1,40 +1,37 @@
 //! The flat pass, a token at a time.
 //!
-//! It makes room once, for all that comes: the output as long as the capability's bound, the stack as high as a
-//! capability may ask. A token that runs copies the stack, so `expand` is faster where only the end matters.
+//! It works in room of the caller, as `expand_into` does, and takes no memory.
 
-ghost use Rattle.std.specs.Prelude.{◌≡◌, ℕ, ◌+◌, ◌≤◌, ◌↔◌, [], length, max, reverse, if◌then◌else◌, IfOk, IfErr, IfSome, IfNone, OnOk};
-ghost use Rattle.ti_base.specs.Limits.{most_text_bytes};
+ghost use Rattle.std.specs.Prelude.{◌≡◌, ℕ, ◌+◌, ◌↔◌, [], length, max, reverse, if◌then◌else◌, IfOk, IfSome, IfNone, OnOk};
 ghost use Rattle.ti_cap.specs.Pass.{next_mode};
 ghost use Rattle.ti_cap.specs.Capability.{IsWellFormed, Takes, IsFirst};
 ghost use Rattle.ti_expand.specs.Meaning.{tests_zero};
-ghost use Rattle.ti_expand.specs.Expands.{longest_text, IsFirstTooLong, IsTextOrMemory};
+ghost use Rattle.ti_expand.specs.Expands.{IsExpandFault};
 ghost use Rattle.ti_expand.specs.Steps.{step_state, is_run_between, did_of, at_start};
 
 use crate::counts::Run;
+use crate::expansion::check;
 use crate::fault::ExpandFault;
 use crate::machine::Machine;
 use crate::modes::Mode;
 use crate::taken::{Did, Taken};
-use crate::text_lengths::longest_text;
 use crate::values::Value;
 use crate::variables::Vars;
-use std::alloc::{Allocator, Global};
 use std::fmt;
 use std::marker::Model;
 use ti_cap::{Capability, Tape};
 
 /// A pass over a capability that stops after each token. It goes forward only.
 #[derive(Drop)]
-pub struct Steps<'p, 'a, A: Allocator = Global> {
+pub struct Steps<'r, 'p, 'a> {
     tape: Tape<'a>,
-    machine: Machine<'p, 'a, A>,
+    machine: Machine<'r, 'p, 'a>,
     mode: Mode,
     ran: usize,
     passed: usize,
 }
 
-impl<'p, 'a, A: Allocator> Model for Steps<'p, 'a, A> {
+impl<'r, 'p, 'a> Model for Steps<'r, 'p, 'a> {
     ghost use Rattle.ti_expand.specs.Mode.{mode_of};
     ghost use Rattle.ti_expand.specs.Steps.{Underway};
     ghost use Rattle.ti_expand.specs.inner.Held.{IsPaused};
@@ -53,48 +50,43 @@ impl<'p, 'a, A: Allocator> Model for Steps<'p, 'a, A> {
     ghost invariant = { λ s. IsPaused s.tape.left (mode_of s.mode) s.machine s.ran s.passed };
 }
 
-// It names the type alone, since an allocator need not print itself.
-impl<'p, 'a, A: Allocator> fmt::Debug for Steps<'p, 'a, A> {
+// It names the type alone.
+impl<'r, 'p, 'a> fmt::Debug for Steps<'r, 'p, 'a> {
     fn fmt<W: fmt::Write>(&self, f: &mut fmt::Formatter<W>) -> fmt::Result {
         f.write_str("Steps")
     }
 }
 
-impl<'p, 'a, A: Allocator> Steps<'p, 'a, A> {
-    /// A pass at the first token, over these parameters and variables. It takes memory here alone: for the stack, and for
-    /// the output as many bytes as the capability's bound for the longest text among the parameters.
+impl<'r, 'p, 'a> Steps<'r, 'p, 'a> {
+    /// A pass at the first token, over these parameters and variables, in slices of the caller. It takes no memory: the
+    /// stack slice needs as many places as the capability's depth, and the output slice as many bytes as its bound for the
+    /// longest text among the parameters.
     ///
     /// # Errors
-    /// `TextTooLong` with the lowest parameter whose text has more bytes than [`ti_base::MOST_TEXT_BYTES`], or `Memory`
-    /// where no text is too long and memory was refused.
+    /// Those of [`crate::expand_into`], each exactly where it is so there.
     pub fn new(
-        alloc: A,
         capability: &Capability<'a>,
         parameters: &'p [Value<'a>; 9],
-        vars: Vars,
+        vars: &'r mut Vars,
+        stack: &'r mut [Value<'a>],
+        out: &'r mut [u8],
     ) -> Result<Self, ExpandFault>
-    where
-        A: Copy,
-        // a text is too long, exactly where it is so, or memory was refused, where none is
-        ensures too_long { (k : ℕ) → (result ≡ Err (ExpandFault.TextTooLong k))
-            ↔ IsFirstTooLong parameters.now k }
-        ensures memory { (result ≡ Err ExpandFault.Memory)
-            → longest_text parameters.now ≤ most_text_bytes }
-        ensures only { IfErr result IsTextOrMemory }
+        // each fault comes exactly where it is so
+        ensures faults { (fault : ExpandFault) → (result ≡ Err fault)
+            ↔ IsExpandFault capability.now parameters.now (length stack.old) (length out.old) fault }
 
         // else the pass is at its start, and there is a tree that writes the capability
         ensures start { IfOk result
-            (λ steps. steps ≡ at_start capability.now vars parameters.now) }
+            (λ steps. steps ≡ at_start capability.now vars.old parameters.now) }
         ensures tree { OnOk result (IsWellFormed capability.now) }
     {
-        let longest = longest_text(parameters)?;
-        let room = capability.bound(longest) as usize;
+        let tape = capability.tape();
+        check(&tape, parameters, stack.len(), out.len())?;
         // Each variable fits 32 bits, on which the bound rests.
         let _numbers = vars.numbers();
-        let _deepest = capability.depth();
-        let machine = Machine::new(alloc, parameters, vars, room)?;
+        let machine = Machine::new(parameters, vars, stack, out);
         Ok(Steps {
-            tape: capability.tape(),
+            tape,
             machine,
             mode: Mode::Run,
             ran: 0,

@@ -3,8 +3,7 @@
 ghost use Rattle.std.specs.Prelude.{◌≡◌, IfOk, IfErr};
 ghost use Rattle.std.specs.Bool.{OnFalse};
 ghost use Rattle.ti_expand.specs.Sound.{IsSoundValue};
-ghost use Rattle.ti_expand.specs.Expands.{text_len, IsTooLongFault};
-ghost use Rattle.ti_expand.specs.inner.Running.{AreShort};
+ghost use Rattle.ti_expand.specs.Expands.{text_len, AreShort, IsTooLongFault};
 
 use crate::fault::ExpandFault;
 use crate::values::Value;
@@ -46,7 +45,8 @@ fn has_text(parameters: &[Value<'_>; 9]) -> bool
     false
 }
 
-/// The length of the longest text, 0 without texts.
+/// The length of the longest text among the parameters, 0 without texts, for which `bound` of a capability tells the bytes
+/// that an expansion needs.
 ///
 /// # Errors
 /// `TextTooLong` with the first parameter, counted from 1, whose text has more bytes than [`MOST_TEXT_BYTES`].

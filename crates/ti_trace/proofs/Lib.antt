@@ -3,5 +3,4 @@ pub mod Examples
 pub mod FaultLemmas
 pub mod OneTraceLemmas
 pub mod RowLemmas
-pub mod ShortLemmas
 pub mod TracedLemmas

@@ -10,7 +10,6 @@ mod fault;
 mod footer;
 mod items;
 pub mod laws;
-mod longest;
 mod row;
 mod tracing;
 

@@ -2,24 +2,23 @@
 //!
 //! One pass over the tokens, in time linear in the capability and in what is written.
 
-ghost use Rattle.std.specs.Prelude.{◌≡◌, ℕ, ◌<◌, ◌≤◌, ◌↔◌, [], true, false, pos, Ok, Err, length, replicate, IfOk, OnOk, IfErr};
+ghost use Rattle.std.specs.Prelude.{◌≡◌, ℕ, ◌<◌, ◌≤◌, ◌↔◌, [], true, false, Ok, Err, length, IfOk, OnOk, IfErr};
 ghost use Rattle.ti_base.specs.Limits.{most_text_bytes};
 ghost use Rattle.ti_cap.specs.Capability.{IsWellFormed, whole};
 ghost use Rattle.ti_cap.specs.Refusal.{IsFaultless, IsRefusal};
-ghost use Rattle.ti_expand.specs.Expands.{IsFirstTooLong, longest_text as the_longest_text};
-ghost use Rattle.ti_expand.specs.Steps.{at_start};
+ghost use Rattle.ti_expand.specs.Expands.{AreShort, IsFirstTooLong, longest_text as the_longest_text};
 ghost use Rattle.ti_trace.specs.declared.fault.TraceFault.TheVariants as fault;
 ghost use Rattle.ti_trace.specs.Trace.{IsTrace};
-ghost use Rattle.ti_trace.specs.inner.Traced.{GoesOn, IsAfterReading, IsFresh, IsTraced};
+ghost use Rattle.ti_trace.specs.inner.Traced.{GoesOn, IsFresh, IsTooLong, IsTraced};
 
 use crate::fault::TraceFault;
 use crate::footer::{Facts, push_footer};
-use crate::longest::longest_text;
 use crate::row::{Row, push_row};
 use std::alloc::{AllocError, Allocator};
+use ti_base::MOST_VALUES;
 use ti_cap::{CapRefused, Capability};
 use ti_escape::Form;
-use ti_expand::{ExpandFault, Steps, Value, Vars};
+use ti_expand::{ExpandFault, Steps, Value, Vars, longest_text};
 
 /// The names of the columns.
 const HEADER: &[u8] = b"place\ttoken          \trun    \tstack                  \twrote\n";
@@ -29,7 +28,7 @@ fn push_next<A: Allocator>(
     out: &mut Vec<u8, A>,
     form: Form,
     bytes: &[u8],
-    steps: &mut Steps<'_, '_, A>,
+    steps: &mut Steps<'_, '_, '_>,
 ) -> Result<bool, AllocError>
     requires { whole steps.old.spot ≡ bytes.now }
     ensures whole { OnOk result (whole steps.new.spot ≡ bytes.now) }
@@ -60,7 +59,7 @@ fn push_lines<A: Allocator>(
     out: &mut Vec<u8, A>,
     form: Form,
     bytes: &[u8],
-    steps: &mut Steps<'_, '_, A>,
+    steps: &mut Steps<'_, '_, '_>,
 ) -> Result<(), AllocError>
     requires fresh { IsFresh bytes.now steps.old }
     requires tree { IsWellFormed bytes.now }
@@ -72,46 +71,48 @@ fn push_lines<A: Allocator>(
     Ok(())
 }
 
-/// A pass over a capability at its first token, where each variable is 0.
-fn steps_of<'p, 'a, A: Allocator + Copy>(
-    alloc: A,
-    capability: &Capability<'a>,
-    parameters: &'p [Value<'a>; 9],
-) -> Result<Steps<'p, 'a, A>, TraceFault>
-    ensures too_long { (k : ℕ) → (result ≡ Err (fault.TextTooLong k))
-        ↔ IsFirstTooLong parameters.now k }
-    ensures memory { (result ≡ Err fault.Memory)
-        → the_longest_text parameters.now ≤ most_text_bytes }
-    ensures read { IfErr result (λ e. IsAfterReading e) }
-    ensures start { IfOk result (λ steps. steps
-        ≡ at_start capability.now (replicate 52 (pos 0)) parameters.now) }
-    ensures tree { OnOk result (IsWellFormed capability.now) }
+/// The length of the longest text among the parameters.
+fn longest_of(parameters: &[Value<'_>; 9]) -> Result<u16, TraceFault>
+    ensures short { IfOk result (AreShort parameters.now) }
+    ensures too_long { IfErr result (IsTooLong parameters.now) }
 {
-    match Steps::new(alloc, capability, parameters, Vars::new()) {
-        Ok(steps) => Ok(steps),
+    match longest_text(parameters) {
+        Ok(longest) => Ok(longest),
         Err(ExpandFault::TextTooLong { parameter }) => Err(TraceFault::TextTooLong(parameter)),
-        Err(ExpandFault::Memory) => Err(TraceFault::Memory),
-        // The stack and the output are its own, so that it answers neither of these.
-        Err(ExpandFault::StackTooSmall { .. }) => Err(TraceFault::Memory),
-        Err(ExpandFault::OutTooSmall { .. }) => Err(TraceFault::Memory),
+        Err(ExpandFault::StackTooSmall { .. }) => unreachable!(),
+        Err(ExpandFault::OutTooSmall { .. }) => unreachable!(),
+        Err(ExpandFault::Memory) => unreachable!(),
     }
 }
 
-/// The text of a trace, by a pass at its first token.
+/// The text of a trace, where no text is longer than `longest`. Each variable is 0 at first.
 fn text_of<A: Allocator + Copy>(
     alloc: A,
     bytes: &[u8],
     capability: &Capability<'_>,
     parameters: &[Value<'_>; 9],
-    mut steps: Steps<'_, '_, A>,
+    longest: u16,
     form: Form,
 ) -> Result<Vec<u8, A>, AllocError>
     requires bytes { capability.now ≡ bytes.now }
-    requires tree { IsWellFormed bytes.now }
-    requires start { steps ≡ at_start bytes.now (replicate 52 (pos 0)) parameters.now }
-    requires short { the_longest_text parameters.now ≤ most_text_bytes }
+    requires short { AreShort parameters.now longest }
     ensures { IfOk result (λ out. IsTrace bytes.now parameters.now form out.items) }
 {
+    let bound = capability.bound(longest);
+    let depth = capability.depth();
+    let mut vars = Vars::new();
+    let mut stack = [Value::Num(0); MOST_VALUES];
+    let mut room = Vec::from_elem(alloc, 0, bound as usize)?;
+    let mut steps = match Steps::new(
+        capability,
+        parameters,
+        &mut vars,
+        &mut stack,
+        room.as_mut_slice(),
+    ) {
+        Ok(steps) => steps,
+        Err(_fault) => unreachable!(),
+    };
     let mut out = Vec::from_slice(alloc, HEADER)?;
     push_lines(&mut out, form, bytes, &mut steps)?;
     let run = steps.run();
@@ -120,8 +121,8 @@ fn text_of<A: Allocator + Copy>(
         ran: run.ran,
         passed: run.passed,
         height: run.peak,
-        depth: capability.depth(),
-        bound: capability.bound(longest_text(parameters) as u16),
+        depth,
+        bound,
     };
     push_footer(&mut out, form, &facts)?;
     Ok(out)
@@ -152,6 +153,6 @@ pub fn trace<A: Allocator + Copy>(
         → IsFaultless capability.now × (the_longest_text parameters.now ≤ most_text_bytes) }
 {
     let parsed = Capability::parse(capability)?;
-    let steps = steps_of(alloc, &parsed, parameters)?;
-    Ok(text_of(alloc, capability, &parsed, parameters, steps, form)?)
+    let longest = longest_of(parameters)?;
+    Ok(text_of(alloc, capability, &parsed, parameters, longest, form)?)
 }

@@ -2,7 +2,7 @@
 
 use super::expanded::capability_of;
 use std::test::Fail;
-use ti_expand::{Did, Run, Steps, Vars};
+use ti_expand::{Did, ExpandFault, Run, Steps, Value, Vars};
 use ti_fixtures::capabilities::nine;
 
 /// A conditional, whose otherwise part runs.
@@ -24,7 +24,8 @@ const STEPS: [(Did, usize, usize, &[u8]); 7] = [
 fn a_pass_stops_after_each_token(rt: HostRuntime) -> Result<(), Fail> {
     let capability = capability_of(OTHERWISE)?;
     let parameters = nine(&[]);
-    let mut steps = Steps::new(rt.alloc(), &capability, &parameters, Vars::new())?;
+    let (mut vars, mut stack, mut out) = (Vars::new(), [Value::Num(0); 1], [0u8; 1]);
+    let mut steps = Steps::new(&capability, &parameters, &mut vars, &mut stack, &mut out)?;
     for (did, at, values, output) in STEPS {
         let taken = steps.step().ok_or("no token")?;
         assert_that!(rt; taken.did == did);
@@ -40,7 +41,8 @@ fn a_pass_stops_after_each_token(rt: HostRuntime) -> Result<(), Fail> {
 fn the_steps_of_a_pass_are_counted(rt: HostRuntime) -> Result<(), Fail> {
     let capability = capability_of(OTHERWISE)?;
     let parameters = nine(&[]);
-    let mut steps = Steps::new(rt.alloc(), &capability, &parameters, Vars::new())?;
+    let (mut vars, mut stack, mut out) = (Vars::new(), [Value::Num(0); 1], [0u8; 1]);
+    let mut steps = Steps::new(&capability, &parameters, &mut vars, &mut stack, &mut out)?;
     for _ in STEPS {
         steps.step().ok_or("no token")?;
     }
@@ -52,5 +54,20 @@ fn the_steps_of_a_pass_are_counted(rt: HostRuntime) -> Result<(), Fail> {
     };
     assert_that!(rt; steps.run() == whole);
     assert_that!(rt; steps.vars().get(b'a') == Some(0));
+    Ok(())
+}
+
+/// Why a pass does not start in so much room.
+fn fault_of(stack: &mut [Value<'_>], out: &mut [u8]) -> Result<Option<ExpandFault>, Fail> {
+    let capability = capability_of(OTHERWISE)?;
+    Ok(Steps::new(&capability, &nine(&[]), &mut Vars::new(), stack, out).err())
+}
+
+#[test]
+fn a_pass_needs_the_room_of_an_expansion(rt: HostRuntime) -> Result<(), Fail> {
+    let small = ExpandFault::StackTooSmall { need: 1 };
+    assert_that!(rt; fault_of(&mut [], &mut [0; 1])? == Some(small));
+    let short = ExpandFault::OutTooSmall { need: 1 };
+    assert_that!(rt; fault_of(&mut [Value::Num(0); 1], &mut [])? == Some(short));
     Ok(())
 }

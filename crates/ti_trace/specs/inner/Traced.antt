@@ -3,10 +3,12 @@ use Rattle.std.specs.Prelude.{◌≡◌, ℕ, ◌+◌, ◌≤◌, max, List, ◌
 use Rattle.ti_cap.specs.Height.{height_from}
 use Rattle.ti_cap.specs.Pass.{Running}
 use Rattle.ti_escape.specs.declared.form.Form.{Form}
+use Rattle.ti_expand.specs.declared.values.Value.{Value}
+use Rattle.ti_expand.specs.Expands.{IsFirstTooLong}
 use Rattle.ti_expand.specs.State.{State}
 use Rattle.ti_expand.specs.Steps.{Step, Underway, at_start, last_state, steps, tokens_run}
 use Rattle.ti_trace.specs.declared.fault.TraceFault.{TraceFault}
-use Rattle.ti_trace.specs.declared.fault.TraceFault.TheVariants.{Cap}
+use Rattle.ti_trace.specs.declared.fault.TraceFault.TheVariants.{TextTooLong}
 use Rattle.ti_trace.specs.Trace.{IsCut, Spelled, pass_lines, tokens_of}
 
 -- a pass that has taken nothing
@@ -35,7 +37,6 @@ abbrev pub GoesOn : Form → List ℕ → (old new : Underway) → (before after
 GoesOn form bytes old new before after = (first : State) (begun : List ℕ)
     → IsTraced form bytes first old begun before → IsTraced form bytes first new begun after
 
--- a fault of bytes that are a capability
-abbrev pub IsAfterReading : TraceFault → Type 0
-IsAfterReading (Cap refused) = ⊥
-IsAfterReading _ = Unit {0}
+-- the fault of a text that is too long
+abbrev pub IsTooLong : List Value → TraceFault → Type 0
+IsTooLong parameters fault = (k : ℕ) × (fault ≡ TextTooLong k) × IsFirstTooLong parameters k

@@ -1,5 +1,5 @@
 use Rattle.std.proofs.Common.{take}
-use Rattle.ti_expand.specs.inner.Running.{AreShort}
+use Rattle.ti_expand.specs.Expands.{AreShort}
 use Rattle.ti_expand.proofs.text_lengths.has_text.Given as goal
 
 abbrev pub invariant-loop-value : goal.invariant-loop-value

@@ -1,5 +1,5 @@
 use Rattle.std.proofs.Common.{take}
-use Rattle.ti_expand.specs.inner.Running.{AreShort}
+use Rattle.ti_expand.specs.Expands.{AreShort}
 use Rattle.ti_expand.proofs.text_lengths.longest_of.Given as goal
 
 abbrev pub invariant-loop-i : goal.invariant-loop-i

@@ -1,8 +1,8 @@
-use Rattle.std.proofs.Common.{◌≤◌}
+use Rattle.std.proofs.Common.{◌≤◌, arith}
 use Rattle.std.proofs.lemmas.Result.{err_from_is_err_and}
 use Rattle.ti_base.specs.Limits.{most_text_bytes}
 use Rattle.ti_expand.specs.Expands.{longest_text}
-use Rattle.ti_trace.proofs.FaultLemmas.{by_memory, by_refusal, by_steps, short_by, without_fault}
+use Rattle.ti_trace.proofs.FaultLemmas.{by_memory, by_refusal, by_text, without_fault}
 use Rattle.ti_trace.proofs.tracing.trace.Goals as goal
 
 pub returns-in_err-parsed-clause-refused : goal.returns-in_err-parsed-clause-refused
@@ -10,34 +10,28 @@ returns-in_err-parsed-clause-refused g c =
     let p = err_from_is_err_and c.from_residual.result c.from_residual.ensures.1 in
     rw p.1 (by_refusal c.args.capability.now c.args.parameters.now p.0 c.in_err-parsed.field-0.0 p.2 c.in_err-parsed.ensures.refused).refused
 
-pub returns-in_err-steps-clause-refused : goal.returns-in_err-steps-clause-refused
-returns-in_err-steps-clause-refused g c =
-    let p = err_from_is_err_and c.from_residual-in_err-steps.result c.from_residual-in_err-steps.ensures.1 in
-    rw p.1
-    (by_steps c.args.capability.now c.args.parameters.now c.steps_of.result c.in_err-steps.field-0.0 p.0 c.in_err-steps.was p.2 c.in_ok-parsed.ensures.accepted c.in_err-steps.ensures.read
-    c.steps_of.ensures.too_long c.steps_of.ensures.memory).refused
+pub returns-in_err-longest-clause-refused : goal.returns-in_err-longest-clause-refused
+returns-in_err-longest-clause-refused g c =
+    let p = err_from_is_err_and c.from_residual-in_err-longest.result c.from_residual-in_err-longest.ensures.1 in
+    rw p.1 (by_text c.args.capability.now c.args.parameters.now p.0 c.in_err-longest.field-0.0 p.2 c.in_ok-parsed.ensures.accepted c.in_err-longest.ensures.too_long).refused
 
-pub returns-in_err-steps-clause-too_long : goal.returns-in_err-steps-clause-too_long
-returns-in_err-steps-clause-too_long g c =
-    let p = err_from_is_err_and c.from_residual-in_err-steps.result c.from_residual-in_err-steps.ensures.1 in
-    rw p.1
-    (by_steps c.args.capability.now c.args.parameters.now c.steps_of.result c.in_err-steps.field-0.0 p.0 c.in_err-steps.was p.2 c.in_ok-parsed.ensures.accepted c.in_err-steps.ensures.read
-    c.steps_of.ensures.too_long c.steps_of.ensures.memory).too_long
-
-pub text_of-requires-clause-short : goal.text_of-requires-clause-short
-text_of-requires-clause-short g c = short_by c.args.parameters.now c.steps_of.result c.in_ok-steps.steps c.in_ok-steps.was c.steps_of.ensures.too_long
+pub returns-in_err-longest-clause-too_long : goal.returns-in_err-longest-clause-too_long
+returns-in_err-longest-clause-too_long g c =
+    let p = err_from_is_err_and c.from_residual-in_err-longest.result c.from_residual-in_err-longest.ensures.1 in
+    rw p.1 (by_text c.args.capability.now c.args.parameters.now p.0 c.in_err-longest.field-0.0 p.2 c.in_ok-parsed.ensures.accepted c.in_err-longest.ensures.too_long).too_long
 
 pub returns-in_err-text_of-clause-refused : goal.returns-in_err-text_of-clause-refused
 returns-in_err-text_of-clause-refused g c =
     let p = err_from_is_err_and c.from_residual-in_err-text_of.result c.from_residual-in_err-text_of.ensures.1 in
-    let short : longest_text c.args.parameters.now ≤ most_text_bytes = short_by c.args.parameters.now c.steps_of.result c.in_ok-steps.steps c.in_ok-steps.was c.steps_of.ensures.too_long in
+    let short : longest_text c.args.parameters.now ≤ most_text_bytes = omega (arith, c.in_ok-longest.ensures.short.short, c.in_ok-longest.ensures.short.longest_is) in
     rw p.1 (by_memory c.args.capability.now c.args.parameters.now p.0 p.2 c.in_ok-parsed.ensures.accepted short).refused
-
-pub returns-in_err-text_of-clause-memory : goal.returns-in_err-text_of-clause-memory
-returns-in_err-text_of-clause-memory g c =
-    λ q. (c.in_ok-parsed.ensures.accepted, short_by c.args.parameters.now c.steps_of.result c.in_ok-steps.steps c.in_ok-steps.was c.steps_of.ensures.too_long)
 
 pub returns-clause-refused : goal.returns-clause-refused
 returns-clause-refused g c =
-    let short : longest_text c.args.parameters.now ≤ most_text_bytes = short_by c.args.parameters.now c.steps_of.result c.in_ok-steps.steps c.in_ok-steps.was c.steps_of.ensures.too_long in
+    let short : longest_text c.args.parameters.now ≤ most_text_bytes = omega (arith, c.in_ok-longest.ensures.short.short, c.in_ok-longest.ensures.short.longest_is) in
     (without_fault c.args.capability.now c.args.parameters.now c.in_ok-text_of.field-0 c.in_ok-parsed.ensures.accepted short).refused
+
+pub returns-clause-too_long : goal.returns-clause-too_long
+returns-clause-too_long g c =
+    let short : longest_text c.args.parameters.now ≤ most_text_bytes = omega (arith, c.in_ok-longest.ensures.short.short, c.in_ok-longest.ensures.short.longest_is) in
+    (without_fault c.args.capability.now c.args.parameters.now c.in_ok-text_of.field-0 c.in_ok-parsed.ensures.accepted short).too_long
