@@ -6,7 +6,8 @@ use Rattle.ti_cap.specs.Tree.{tokens}
 use Rattle.ti_cap.specs.Path.{Walk, path_of}
 use Rattle.ti_cap.specs.Pass.{Mode, Running, next_mode, is_running, Passes}
 use Rattle.ti_cap.specs.Height.{next_height, end_height}
-use Rattle.ti_cap.specs.Refusal.{Begins, Climbs, Part}
+use Rattle.ti_cap.specs.declared.scan.Part.{Part}
+use Rattle.ti_cap.specs.Refusal.{Begins, Climbs}
 use Rattle.ti_cap.proofs.PassesLemmas.{Over, walk_passes, Split, passes_split, passes-append}
 use Rattle.ti_cap.proofs.IsWalkLemmas.{Walked, walk_of}
 use Rattle.ti_cap.proofs.StraightLemmas.{met_front}

@@ -1,56 +1,58 @@
 -- The greatest measure over the paths of a tree is the one that is kept in one pass over its tokens.
 use Rattle.std.proofs.Common.{◌≡◌, ℕ, zero, suc, ◌<◌, ◌≤◌, ◌⊎◌, inl, inr, max, List, [], ◌∷◌, ◌++◌, refl, sym, ◌∙◌, ap, subst, arith, Bool, true, false, cond}
 use Rattle.std.proofs.lemmas.List.{append-nil}
-use Rattle.std.specs.Prelude.{Some}
 use Rattle.ti_cap.specs.declared.language.Token.{Token}
 use Rattle.ti_cap.specs.declared.language.Token.TheVariants.{CondThen, CondElse}
 use Rattle.ti_cap.specs.Tree.{Sequence, tokens, IsTree}
 use Rattle.ti_cap.specs.Path.{Walk, path_of}
 use Rattle.ti_cap.specs.Pass.{Mode, Running, Past, next_mode, is_running, Passes, Until, ElseOrEnd, EndOnly}
 use Rattle.ti_cap.specs.Height.{IsGreatest, IsDepth, height, height_from, next_height}
-use Rattle.ti_cap.specs.inner.Analysis.{Frame, Progress, greater_of, greatest_of}
+use Rattle.ti_cap.specs.inner.Analysis.{Frame, Progress, greatest_of}
 use Rattle.ti_cap.proofs.PassesLemmas.{Over, walk_passes, Split, passes_split, passes-append}
 use Rattle.ti_cap.proofs.IsWalkLemmas.{Walked, walk_of}
-use Rattle.ti_cap.proofs.ProgressLemmas.{Act, value_of, Comes, comes_on, IsBest, Sums, waiting, greater_of-left, greater_of-right, greater_of_is, best_above, best_comes, is_met, after, path_of-snoc}
+use Rattle.ti_cap.proofs.ProgressLemmas.{Act, value_of, Comes, comes_on, Certain, IsBest, Sums, waiting, comings, max_is, best_above, best_comes, is_met, after, path_of-snoc}
 
 top-above : (fs : List Frame) (y : ℕ) → y ≤ greatest_of fs y
 top-above [] y = omega arith
-top-above (f ∷ fs) y = omega (arith, top-above fs (greater_of f.done (greater_of f.failed y)), greater_of-right f.done (greater_of f.failed y), greater_of-right f.failed y)
+top-above (f ∷ fs) y = omega (arith, top-above fs (max f.done (max f.failed y)))
 
-top_waiting : (b : Until) (fs : List Frame) (n x y : ℕ) → waiting b fs n ≡ Some x → x ≤ greatest_of fs y
-top_waiting b [] n x y e = absurd (cc)
-top_waiting b (f ∷ fs) (suc n) x y e = top_waiting b fs n x (greater_of f.done (greater_of f.failed y)) e
-top_waiting ElseOrEnd (f ∷ fs) zero x y e = omega (arith, top-above fs (greater_of f.done (greater_of f.failed y)), greater_of-right f.done (greater_of f.failed y), greater_of-left f.failed x y e)
-top_waiting EndOnly (f ∷ fs) zero x y e = omega (arith, top-above fs (greater_of f.done (greater_of f.failed y)), greater_of-left f.done x (greater_of f.failed y) e)
+top_waiting : (b : Until) (fs : List Frame) (n y : ℕ) → waiting b fs n ≤ greatest_of fs y
+top_waiting b [] n y = omega arith
+top_waiting b (f ∷ fs) (suc n) y = top_waiting b fs n (max f.done (max f.failed y))
+top_waiting ElseOrEnd (f ∷ fs) zero y = omega (arith, top-above fs (max f.done (max f.failed y)))
+top_waiting EndOnly (f ∷ fs) zero y = omega (arith, top-above fs (max f.done (max f.failed y)))
 
 -- the top is what runs or something that waits
-top_is : (fs : List Frame) (y : ℕ) → (greatest_of fs y ≡ y) ⊎ ((b : Until) × (n : ℕ) × (waiting b fs n ≡ Some (greatest_of fs y)))
+top_is : (fs : List Frame) (y : ℕ) → (greatest_of fs y ≡ y) ⊎ ((b : Until) × (n : ℕ) × (waiting b fs n ≡ greatest_of fs y))
 top_is [] y = inl refl
-top_is (f ∷ fs) y = elim (top_is fs (greater_of f.done (greater_of f.failed y))) [
+top_is (f ∷ fs) y = elim (top_is fs (max f.done (max f.failed y))) [
   | inr w ↦ inr (w.0, suc w.1, w.2)
-  | inl e ↦ elim (greater_of_is f.done (greater_of f.failed y)) [
-    | inr d ↦ inr (EndOnly, 0, d ∙ some (sym e))
-    | inl d ↦ elim (greater_of_is f.failed y) [
-      | inr g ↦ inr (ElseOrEnd, 0, g ∙ some (sym d ∙ sym e))
+  | inl e ↦ elim (max_is f.done (max f.failed y)) [
+    | inr d ↦ inr (EndOnly, 0, sym d ∙ sym e)
+    | inl d ↦ elim (max_is f.failed y) [
+      | inr g ↦ inr (ElseOrEnd, 0, sym g ∙ sym d ∙ sym e)
       | inl g ↦ inl (e ∙ d ∙ g)
     ]
   ]
 ]
-  where
-    some : {a b : ℕ} → a ≡ b → Some a ≡ Some b
-    some p = cc
 
 pub top_above : (act : Act) (before : List Token) (s : Progress) → Sums act before s → (m : Mode) (x : ℕ) → Comes act before m x → x ≤ greatest_of s.frames s.running
-top_above act before s sums Running x c = let h : IsBest act before Running (Some s.running) = sums Running in omega (arith, h.0 x c, top-above s.frames s.running)
+top_above act before s sums Running x c = let h : IsBest act before Running Certain s.running = sums Running in omega (arith, h.0 x c, top-above s.frames s.running)
 top_above act before s sums (Past b n) x c =
-    let r : (y : ℕ) × (waiting b s.frames n ≡ Some y) × (x ≤ y) = best_above act before (Past b n) (waiting b s.frames n) x (sums (Past b n)) c in
-    omega (arith, r.2, top_waiting b s.frames n r.0 s.running r.1)
+    let under : x ≤ waiting b s.frames n = best_above act before (Past b n) (comings b s.frames n) (waiting b s.frames n) x (sums (Past b n)) c in
+    omega (arith, under, top_waiting b s.frames n s.running)
 
 pub top_comes : (act : Act) (before : List Token) (s : Progress) → Sums act before s → (m : Mode) × Comes act before m (greatest_of s.frames s.running)
 top_comes act before s sums = elim (top_is s.frames s.running) [
-  | inl e ↦ let h : IsBest act before Running (Some s.running) = sums Running in (Running, (let P : ℕ → Type 0 = λ x. Comes act before Running x in subst P (sym e) h.1))
-  | inr w ↦ (Past w.0 w.1, best_comes act before (Past w.0 w.1) (waiting w.0 s.frames w.1) _ w.2 (sums (Past w.0 w.1)))
+  | inl e ↦ runs (sym e)
+  | inr w ↦ elim (best_comes act before (Past w.0 w.1) (comings w.0 s.frames w.1) (waiting w.0 s.frames w.1) (sums (Past w.0 w.1))) [
+    | inl c ↦ (Past w.0 w.1, (let P : ℕ → Type 0 = λ x. Comes act before (Past w.0 w.1) x in subst P w.2 c))
+    | inr z ↦ runs (omega (arith, z, w.2, top-above s.frames s.running))
+  ]
 ]
+  where
+    runs : s.running ≡ greatest_of s.frames s.running → (m : Mode) × Comes act before m (greatest_of s.frames s.running)
+    runs e = let h : IsBest act before Running Certain s.running = sums Running in (Running, (let P : ℕ → Type 0 = λ x. Comes act before Running x in subst P e h.1))
 
 -- the greatest final value over the paths
 pub greatest_value : (act : Act) (tree : Sequence) (s : Progress) (measure : List Token → ℕ) → IsTree tree → ((path : List Token) → value_of act 0 path ≡ measure path)
@@ -131,7 +133,7 @@ peaks_step act before k d s flat p sums = record {
     closes : (old new d now : ℕ) → now ≤ d → old ≡ d → {c : ℕ} → old ≤ c → new ≡ c → new ≤ max d now → new ≡ max d now
     closes old new d now h e {c} low is high = omega arith
 
-    here : IsBest act (before ++ k ∷ []) Running (Some s.running)
+    here : IsBest act (before ++ k ∷ []) Running Certain s.running
     here = sums Running
 
     is_run_true : (m : Mode) → is_running m ≡ true → m ≡ Running

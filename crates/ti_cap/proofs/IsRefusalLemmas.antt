@@ -16,7 +16,8 @@ use Rattle.ti_cap.specs.Path.{path_of}
 use Rattle.ti_cap.specs.Pass.{Mode, Running, next_mode}
 use Rattle.ti_cap.specs.Spelling.{Spells, Written}
 use Rattle.ti_cap.specs.inner.Lexer.{token_read}
-use Rattle.ti_cap.specs.Refusal.{Begins, Climbs, Part, open_parts, IsNext, IsFaultBetween, IsUnreadable, IsSoundBelow, HasFault, escape_fault, IsRefusal, IsFaultless, opens_format}
+use Rattle.ti_cap.specs.declared.scan.Part.{Part}
+use Rattle.ti_cap.specs.Refusal.{Begins, Climbs, open_parts, IsNext, IsFaultBetween, IsUnreadable, IsSoundBelow, HasFault, escape_fault, IsRefusal, IsFaultless, opens_format}
 use Rattle.ti_cap.specs.inner.Analysis.{Frame, Progress, parts_of, are_in_test, place_fault, next_progress, greatest_of, Findings, no_findings, findings_after, first_fault, fault_of}
 use Rattle.ti_cap.specs.Capability.{IsCapability}
 use Rattle.ti_cap.proofs.SpellsLemmas.{Front, token_sound, AreBytes}
@@ -24,7 +25,7 @@ use Rattle.ti_cap.proofs.IsUnreadableLemmas.{unreadable}
 use Rattle.ti_cap.proofs.WrittenLemmas.{Same, one_form, one_cutting, cut_once, spelled_long, written-append, written_one}
 use Rattle.ti_cap.proofs.PartsLemmas.{allowed, Leads, leads-append, AreSettled}
 use Rattle.ti_cap.proofs.BeginsLemmas.{Context, context_start, context_step, context_begins, context_ends}
-use Rattle.ti_cap.proofs.ProgressLemmas.{Comes, comes_on, From, comes_from, after, is_met, IsBest, Sums, sums_start}
+use Rattle.ti_cap.proofs.ProgressLemmas.{Comes, comes_on, From, comes_from, after, is_met, Certain, IsBest, Sums, sums_start}
 use Rattle.ti_cap.proofs.IsGreatestLemmas.{Peaks, peak, value-le, peaks_start, peaks_step, greatest_value, height_rising, height_flat}
 use Rattle.ti_cap.proofs.IsGreatestLemmas
 use Rattle.ti_cap.proofs.ClimbsLemmas.{climbs_low, climbs_now}
@@ -150,7 +151,7 @@ comes_low : (before : List Token) (m : Mode) (x d : ℕ) → Peaks next_height b
 comes_low before m x d p c = omega (arith, c.value, p.above_all m c.walk c.passes, value-le next_height 0 (path_of c.walk before))
 
 running_low : (before : List Token) (s : Progress) (d : ℕ) → Peaks next_height before d → Sums next_height before s → s.running ≤ d
-running_low before s d p sums = let h : IsBest next_height before Running (Some s.running) = sums Running in comes_low before Running s.running d p h.1
+running_low before s d p sums = let h : IsBest next_height before Running Certain s.running = sums Running in comes_low before Running s.running d p h.1
 
 height_still : IsStill next_height
 height_still = ((λ x. omega arith), (λ x. omega arith))
@@ -158,7 +159,7 @@ height_still = ((λ x. omega arith), (λ x. omega arith))
 -- a `%e` or `%;` climbs no higher than before
 mark_low : (before : List Token) (k : Token) (s : Progress) (d : ℕ) → ((x : ℕ) → next_height x k ≡ x) → Peaks next_height before d → Sums next_height (before ++ k ∷ []) s → s.running ≤ d
 mark_low before k s d still p sums =
-    let h : IsBest next_height (before ++ k ∷ []) Running (Some s.running) = sums Running in
+    let h : IsBest next_height (before ++ k ∷ []) Running Certain s.running = sums Running in
     let r : From next_height before k Running s.running = comes_from next_height before k Running s.running h.1 in
     let same : after next_height r.source k r.fails r.old ≡ r.old = either (is_met r.source k r.fails) in
     omega (arith, comes_low before r.source r.old d p r.comes, r.gives)
@@ -187,7 +188,7 @@ parsed_low bytes longest place count found p = omega (arith, running_low p.befor
 -- the greatest size is far from the greatest number
 pub parsed_small : (bytes : List ℕ) (longest place count : ℕ) (found : Findings) → longest < 2 ^ 16 → length bytes ≤ most_capability_bytes → Parsed bytes longest place count found → found.sizes.running < 2 ^ 31
 parsed_small bytes longest place count found h short p =
-    let b : IsBest (size_act longest) p.before Running (Some found.sizes.running) = p.sizes Running in
+    let b : IsBest (size_act longest) p.before Running Certain found.sizes.running = p.sizes Running in
     omega (arith, value-size longest p.before (take place bytes) b.1.walk h p.written, b.1.value, length-take-le place bytes p.within, p.within)
 
 -- no more tokens than bytes
@@ -353,7 +354,7 @@ parse_fault bytes longest place count found f fits short more p e =
 -- a token that ran from the greatest height climbs by one
 climbs_by_one : (before : List Token) (k : Token) (s : Progress) → Sums next_height before s → s.running ≤ most_values → most_values < next_height s.running k → Comes next_height (before ++ k ∷ []) Running (suc most_values)
 climbs_by_one before k s sums low high =
-    let h : IsBest next_height before Running (Some s.running) = sums Running in
+    let h : IsBest next_height before Running Certain s.running = sums Running in
     let c : Comes next_height (before ++ k ∷ []) (next_mode Running k false) (next_height s.running k) = comes_on next_height before k Running false s.running h.1 in
     let P : Mode → Type 0 = λ m. Comes next_height (before ++ k ∷ []) m (next_height s.running k) in
     let Q : ℕ → Type 0 = λ x. Comes next_height (before ++ k ∷ []) Running x in

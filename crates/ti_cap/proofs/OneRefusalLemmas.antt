@@ -10,7 +10,9 @@ use Rattle.ti_cap.specs.declared.language.CapRefused.{CapRefused}
 use Rattle.ti_cap.specs.Path.{Walk, path_of}
 use Rattle.ti_cap.specs.Height.{next_height, end_height}
 use Rattle.ti_cap.specs.Spelling.{Written}
-use Rattle.ti_cap.specs.Refusal.{Begins, Climbs, Part, FirstTest, Body, Otherwise, open_parts, IsInFirstTest, IsNext, IsStray, IsUnreadable, IsFaultBetween, HasFault, IsSoundBelow, IsRefusal, escape_fault}
+use Rattle.ti_cap.specs.declared.scan.Part.{Part}
+use Rattle.ti_cap.specs.declared.scan.Part.TheVariants.{FirstTest, Body, Otherwise}
+use Rattle.ti_cap.specs.Refusal.{Begins, Climbs, open_parts, IsInFirstTest, IsNext, IsStray, IsUnreadable, IsFaultBetween, HasFault, IsSoundBelow, IsRefusal, escape_fault}
 use Rattle.ti_cap.proofs.WrittenLemmas.{Same, one_form, one_cutting, spelled_long}
 
 -- ---- a height is reached at a token

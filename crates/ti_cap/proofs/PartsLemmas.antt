@@ -5,7 +5,9 @@ use Rattle.std.specs.List.{AllByRecursion}
 use Rattle.ti_cap.specs.declared.language.Token.{Token}
 use Rattle.ti_cap.specs.declared.language.Token.TheVariants.{CondOpen, CondThen, CondElse, CondClose}
 use Rattle.ti_cap.specs.Tree.{Sequence, Empty, Simple, Conditional, Arms, Lone, Else, ElseIf, tokens, arm_tokens, IsSimple, IsFormed, AreFormed}
-use Rattle.ti_cap.specs.Refusal.{Part, FirstTest, Body, Otherwise, Begins}
+use Rattle.ti_cap.specs.declared.scan.Part.{Part}
+use Rattle.ti_cap.specs.declared.scan.Part.TheVariants.{FirstTest, Body, Otherwise}
+use Rattle.ti_cap.specs.Refusal.{Begins}
 
 abbrev pub at_then : List Part → Option (List Part)
 at_then (FirstTest ∷ ps) = Some (Body ∷ ps)

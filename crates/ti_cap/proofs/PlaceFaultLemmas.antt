@@ -1,14 +1,16 @@
 -- Where a token may stand, and the fault where it may not.
 use Rattle.std.proofs.Common.{◌≡◌, ◌≢◌, ℕ, ◌<◌, ◌≤◌, inl, inr, List, [], ◌∷◌, ◌++◌, length, refl, sym, ◌∙◌, ap, subst, arith, Bool, true, false, cond}
-use Rattle.std.specs.Prelude.{Option, Some, None, nat_lt, is_none, ◌&&◌, ◌||◌, fold}
+use Rattle.std.specs.Prelude.{Some, None, nat_lt, ◌||◌, fold}
 use Rattle.ti_base.specs.Limits.{most_open}
 use Rattle.ti_cap.specs.declared.language.Token.{Token}
 use Rattle.ti_cap.specs.declared.language.Token.TheVariants.{CondOpen, CondThen, CondElse, CondClose}
 use Rattle.ti_cap.specs.declared.language.CapFault.{CapFault}
 use Rattle.ti_cap.specs.declared.language.CapFault.TheVariants.{NestTooDeep}
 use Rattle.ti_cap.specs.Tree.{IsTree, Sequence, tokens}
-use Rattle.ti_cap.specs.Refusal.{Part, FirstTest, Body, Otherwise, next_parts, parts_from, open_parts, IsInFirstTest, IsNext, IsFaultBetween}
-use Rattle.ti_cap.specs.inner.Analysis.{Frame, place_fault, part_by, parts_of, is_in_test, are_in_test}
+use Rattle.ti_cap.specs.declared.scan.Part.{Part}
+use Rattle.ti_cap.specs.declared.scan.Part.TheVariants.{FirstTest, Body, Otherwise}
+use Rattle.ti_cap.specs.Refusal.{next_parts, parts_from, open_parts, IsInFirstTest, IsNext, IsFaultBetween}
+use Rattle.ti_cap.specs.inner.Analysis.{Frame, place_fault, parts_of, is_first, are_in_test}
 use Rattle.ti_cap.proofs.PartsLemmas.{allowed, Leads, AreSettled, Opens, opens}
 use Rattle.ti_cap.proofs.ClimbsLemmas.{stray, leads_one}
 
@@ -121,21 +123,20 @@ settled tree ps formed l =
     nil [] = refl
     nil (x ∷ xs) = ap (λ z. x ∷ z) (nil xs)
 
-part_settled : (failed ended : Option ℕ) → is_none failed && is_none ended ≡ false → part_by failed ended ≢ FirstTest
-part_settled (Some x) ended e z = absurd (cc)
-part_settled None None e z = absurd (cc)
-part_settled None (Some y) e z = absurd (cc)
+not_first : (p : Part) → is_first p ≡ false → p ≢ FirstTest
+not_first FirstTest e z = absurd (cc)
+not_first _ e z = absurd (cc)
 
-part_in_test : (failed ended : Option ℕ) → is_none failed && is_none ended ≡ true → part_by failed ended ≡ FirstTest
-part_in_test (Some x) ended e = absurd (cc)
-part_in_test None None e = refl
-part_in_test None (Some y) e = absurd (cc)
+first : (p : Part) → is_first p ≡ true → p ≡ FirstTest
+first FirstTest e = refl
+first Body e = absurd (cc)
+first Otherwise e = absurd (cc)
 
-settled_from : (b : Bool) (frames : List Frame) → fold (λ found f. found || is_in_test f) b frames ≡ false → (b ≡ false) × AreSettled (parts_of frames)
+settled_from : (b : Bool) (frames : List Frame) → fold (λ found f. found || is_first f.part) b frames ≡ false → (b ≡ false) × AreSettled (parts_of frames)
 settled_from b [] e = (e, tt)
 settled_from b (f ∷ fs) e =
-    let r : ((b || is_in_test f) ≡ false) × AreSettled (parts_of fs) = settled_from (b || is_in_test f) fs e in
-    (left b (is_in_test f) r.0, (part_settled f.failed f.done (right b (is_in_test f) r.0), r.1))
+    let r : ((b || is_first f.part) ≡ false) × AreSettled (parts_of fs) = settled_from (b || is_first f.part) fs e in
+    (left b (is_first f.part) r.0, (not_first f.part (right b (is_first f.part) r.0), r.1))
   where
     left : (a b : Bool) → a || b ≡ false → a ≡ false
     left true b e = absurd (cc)
@@ -149,13 +150,13 @@ settled_from b (f ∷ fs) e =
 pub settled_by : (frames : List Frame) → are_in_test frames ≡ false → AreSettled (parts_of frames)
 settled_by frames e = (settled_from false frames e).1
 
-unsettled_from : (b : Bool) (frames : List Frame) → fold (λ found f. found || is_in_test f) b frames ≡ true → AreSettled (parts_of frames) → b ≡ true
+unsettled_from : (b : Bool) (frames : List Frame) → fold (λ found f. found || is_first f.part) b frames ≡ true → AreSettled (parts_of frames) → b ≡ true
 unsettled_from b [] e s = e
-unsettled_from b (f ∷ fs) e s = either b (is_in_test f) refl (unsettled_from (b || is_in_test f) fs e s.1)
+unsettled_from b (f ∷ fs) e s = either b (is_first f.part) refl (unsettled_from (b || is_first f.part) fs e s.1)
   where
-    either : (a c : Bool) → is_in_test f ≡ c → a || c ≡ true → a ≡ true
+    either : (a c : Bool) → is_first f.part ≡ c → a || c ≡ true → a ≡ true
     either true c is e = refl
-    either false true is e = absurd (s.0 (part_in_test f.failed f.done is))
+    either false true is e = absurd (s.0 (first f.part is))
     either false false is e = absurd (cc)
 
 pub unsettled_by : (frames : List Frame) → are_in_test frames ≡ true → ¬ AreSettled (parts_of frames)

@@ -1,12 +1,13 @@
 -- The greatest value with which a pass can come to each mode, kept for the modes of the open conditionals.
 use Rattle.std.proofs.Common.{◌≡◌, ℕ, zero, suc, ◌≤◌, ◌⊎◌, inl, inr, max, List, [], ◌∷◌, ◌++◌, refl, sym, ◌∙◌, ap, subst, arith, Bool, true, false, ◌||◌, cond}
-use Rattle.std.specs.Prelude.{Option, Some, None}
 use Rattle.ti_cap.specs.declared.language.Token.{Token}
 use Rattle.ti_cap.specs.declared.language.Token.TheVariants.{CondOpen, CondThen, CondElse, CondClose}
 use Rattle.ti_cap.specs.Tree.{IsSimple}
 use Rattle.ti_cap.specs.Path.{Walk, path_of}
 use Rattle.ti_cap.specs.Pass.{Mode, Running, Past, next_mode, is_running, Passes, Until, ElseOrEnd, EndOnly}
-use Rattle.ti_cap.specs.inner.Analysis.{Frame, Progress, greater_of}
+use Rattle.ti_cap.specs.declared.scan.Part.{Part}
+use Rattle.ti_cap.specs.declared.scan.Part.TheVariants.{FirstTest, Body, Otherwise}
+use Rattle.ti_cap.specs.inner.Analysis.{Frame, Progress}
 use Rattle.ti_cap.proofs.PassesLemmas.{Split, passes_split, passes-append}
 
 -- how a token that is met changes a value
@@ -93,24 +94,46 @@ comes_from act before k m x c =
           ∙ value-mark act (value_of act 0 (path_of s.front before)) k (is_met s.between k fails);
     }
 
--- the greatest value that comes, or none where none does
-abbrev pub IsBest : Act → List Token → Mode → Option ℕ → Type 0
-IsBest act before m None = (x : ℕ) → ¬ Comes act before m x
-IsBest act before m (Some v) = ((x : ℕ) → Comes act before m x → x ≤ v) × Comes act before m v
+-- whether some pass comes to a mode
+pub data Comings : Type 0 where
+  Certain : Comings
+  Possible : Comings
+  Never : Comings
 
-abbrev pub waiting : Until → List Frame → ℕ → Option ℕ
-waiting b [] n = None
+-- the greatest value that comes, or 0 if none does
+abbrev pub IsBest : Act → List Token → Mode → Comings → ℕ → Type 0
+IsBest act before m Certain v = ((x : ℕ) → Comes act before m x → x ≤ v) × Comes act before m v
+IsBest act before m Possible v = ((x : ℕ) → Comes act before m x → x ≤ v) × (Comes act before m v ⊎ (v ≡ 0))
+IsBest act before m Never v = ((x : ℕ) → ¬ Comes act before m x) × (v ≡ 0)
+
+abbrev pub waiting : Until → List Frame → ℕ → ℕ
+waiting b [] n = 0
 waiting b (f ∷ fs) (suc n) = waiting b fs n
 waiting ElseOrEnd (f ∷ fs) zero = f.failed
 waiting EndOnly (f ∷ fs) zero = f.done
 
-abbrev pub best : Progress → Mode → Option ℕ
-best s Running = Some s.running
+-- a test has failed if a body is being passed through
+abbrev pub failing : Part → Comings
+failing Body = Certain
+failing _ = Never
+
+abbrev pub comings : Until → List Frame → ℕ → Comings
+comings b [] n = Never
+comings b (f ∷ fs) (suc n) = comings b fs n
+comings ElseOrEnd (f ∷ fs) zero = failing f.part
+comings EndOnly (f ∷ fs) zero = Possible
+
+abbrev pub best : Progress → Mode → ℕ
+best s Running = s.running
 best s (Past b n) = waiting b s.frames n
+
+abbrev pub coming : Progress → Mode → Comings
+coming s Running = Certain
+coming s (Past b n) = comings b s.frames n
 
 -- the state is the greatest value of each mode
 abbrev pub Sums : Act → List Token → Progress → Type 0
-Sums act before s = (m : Mode) → IsBest act before m (best s m)
+Sums act before s = (m : Mode) → IsBest act before m (coming s m) (best s m)
 
 -- an action that keeps the order
 abbrev pub IsRising : Act → Type 0
@@ -119,8 +142,8 @@ IsRising act = (k : Token) (x y : ℕ) → x ≤ y → act x k ≤ act y k
 -- a mode that is reached from one mode alone, whose tokens are passed over
 keep : (act : Act) (before : List Token) (k : Token) (m n : Mode) (fails : Bool) → next_mode m k fails ≡ n → is_running m ≡ false → is_running n ≡ false
     → ((source : Mode) (f : Bool) → next_mode source k f ≡ n → source ≡ m)
-    → (v : Option ℕ) → IsBest act before m v → IsBest act (before ++ k ∷ []) n v
-keep act before k m n fails leads past past' only v h = all v h
+    → (c : Comings) (v : ℕ) → IsBest act before m c v → IsBest act (before ++ k ∷ []) n c v
+keep act before k m n fails leads past past' only c v h = all c v h
   where
     unmet : (f : Bool) → next_mode m k f ≡ n → (x : ℕ) → after act m k f x ≡ x
     unmet f e x = ap (λ b. cond (b || is_running (next_mode m k f)) (act x k) x) past ∙ ap (λ b. cond b (act x k) x) (ap is_running e ∙ past')
@@ -140,20 +163,24 @@ keep act before k m n fails leads past past' only v h = all v h
         let Q : ℕ → Type 0 = λ y. Comes act (before ++ k ∷ []) (next_mode m k fails) y in
         subst P leads (subst Q (unmet fails leads x) (comes_on act before k m fails x c))
 
-    all : (v : Option ℕ) → IsBest act before m v → IsBest act (before ++ k ∷ []) n v
-    all None h = λ x c. h x (back x c)
-    all (Some y) h = ((λ x c. h.0 x (back x c)), on y h.1)
+    all : (c : Comings) (v : ℕ) → IsBest act before m c v → IsBest act (before ++ k ∷ []) n c v
+    all Never v h = ((λ x c. h.0 x (back x c)), h.1)
+    all Possible v h = ((λ x c. h.0 x (back x c)), elim h.1 [ inl c ↦ inl (on v c) | inr z ↦ inr z ])
+    all Certain v h = ((λ x c. h.0 x (back x c)), on v h.1)
 
 -- a mode that is not reached
 dead : (act : Act) (before : List Token) (k : Token) (n : Mode) → ((source : Mode) (f : Bool) → next_mode source k f ≡ n → ⊥)
-    → IsBest act (before ++ k ∷ []) n None
-dead act before k n never = λ x c. let r : From act before k n x = comes_from act before k n x c in never r.source r.fails r.leads
+    → IsBest act (before ++ k ∷ []) n Never 0
+dead act before k n never = ((λ x c. let r : From act before k n x = comes_from act before k n x c in never r.source r.fails r.leads), refl)
+
+possible : (act : Act) (before : List Token) (m : Mode) (v : ℕ) → IsBest act before m Never v → IsBest act before m Possible v
+possible act before m v h = ((λ x c. absurd (h.0 x c)), inr h.1)
 
 -- a mode that is reached from one mode alone, by a token that is met
 move : (act : Act) (before : List Token) (k : Token) (m n : Mode) (fails : Bool) (v : ℕ) → IsRising act → next_mode m k fails ≡ n
     → ((f : Bool) → next_mode m k f ≡ n → is_met m k f ≡ true)
     → ((source : Mode) (f : Bool) (x : ℕ) → Comes act before source x → next_mode source k f ≡ n → source ≡ m)
-    → IsBest act before m (Some v) → IsBest act (before ++ k ∷ []) n (Some (act v k))
+    → IsBest act before m Certain v → IsBest act (before ++ k ∷ []) n Certain (act v k)
 move act before k m n fails v rising leads meets only h = (upper, reach)
   where
     acts : (f : Bool) → next_mode m k f ≡ n → (x : ℕ) → after act m k f x ≡ act x k
@@ -200,10 +227,10 @@ sums_simple act before s k rising h sums Running =
     (λ source f x c e. sym (simple_only source k f h) ∙ e) (sums Running)
 sums_simple act before s k rising h sums (Past b n) =
     keep act before k (Past b n) (Past b n) false (past_simple b n k false h) refl refl
-    (λ source f e. sym (simple_only source k f h) ∙ e) (waiting b s.frames n) (sums (Past b n))
+    (λ source f e. sym (simple_only source k f h) ∙ e) (comings b s.frames n) (waiting b s.frames n) (sums (Past b n))
 
 pub sums_open : (act : Act) (before : List Token) (s : Progress) → IsRising act → Sums act before s
-    → Sums act (before ++ CondOpen ∷ []) (record { running = act s.running CondOpen; frames = record { failed = None; done = None } ∷ s.frames })
+    → Sums act (before ++ CondOpen ∷ []) (record { running = act s.running CondOpen; frames = record { part = FirstTest; failed = 0; done = 0 } ∷ s.frames })
 sums_open act before s rising sums Running =
     move act before CondOpen Running Running false s.running rising refl (λ f e. refl) (λ source f x c e. only source f e) (sums Running)
   where
@@ -211,7 +238,7 @@ sums_open act before s rising sums Running =
     only Running f e = refl
     only (Past b n) f e = absurd (cc)
 sums_open act before s rising sums (Past b (suc n)) =
-    keep act before CondOpen (Past b n) (Past b (suc n)) false refl refl refl only (waiting b s.frames n) (sums (Past b n))
+    keep act before CondOpen (Past b n) (Past b (suc n)) false refl refl refl only (comings b s.frames n) (waiting b s.frames n) (sums (Past b n))
   where
     only : (source : Mode) (f : Bool) → next_mode source CondOpen f ≡ Past b (suc n) → source ≡ Past b n
     only Running f e = absurd (cc)
@@ -221,16 +248,16 @@ sums_open act before s rising sums (Past ElseOrEnd zero) = dead act before CondO
     never : (source : Mode) (f : Bool) → next_mode source CondOpen f ≡ Past ElseOrEnd zero → ⊥
     never Running f e = absurd (cc)
     never (Past c i) f e = absurd (cc)
-sums_open act before s rising sums (Past EndOnly zero) = dead act before CondOpen (Past EndOnly zero) never
+sums_open act before s rising sums (Past EndOnly zero) = possible act (before ++ CondOpen ∷ []) (Past EndOnly zero) 0 (dead act before CondOpen (Past EndOnly zero) never)
   where
     never : (source : Mode) (f : Bool) → next_mode source CondOpen f ≡ Past EndOnly zero → ⊥
     never Running f e = absurd (cc)
     never (Past c i) f e = absurd (cc)
 
--- a `%t` where no test has failed at this level
-pub sums_then : (act : Act) (before : List Token) (now : ℕ) (f : Frame) (fs : List Frame) → IsRising act → f.failed ≡ None
+-- a `%t` if no test has failed at this level
+pub sums_then : (act : Act) (before : List Token) (now : ℕ) (f : Frame) (fs : List Frame) → IsRising act → failing f.part ≡ Never
     → Sums act before (record { running = now; frames = f ∷ fs })
-    → Sums act (before ++ CondThen ∷ []) (record { running = act now CondThen; frames = record { failed = Some (act now CondThen); done = f.done } ∷ fs })
+    → Sums act (before ++ CondThen ∷ []) (record { running = act now CondThen; frames = record { part = Body; failed = act now CondThen; done = f.done } ∷ fs })
 sums_then act before now f fs rising none sums Running =
     move act before CondThen Running Running false now rising refl (λ g e. refl) (λ source g x c e. only source g e) (sums Running)
   where
@@ -238,14 +265,14 @@ sums_then act before now f fs rising none sums Running =
     only Running g e = refl
     only (Past b n) g e = absurd (cc)
 sums_then act before now f fs rising none sums (Past b (suc n)) =
-    keep act before CondThen (Past b (suc n)) (Past b (suc n)) false refl refl refl only (waiting b fs n) (sums (Past b (suc n)))
+    keep act before CondThen (Past b (suc n)) (Past b (suc n)) false refl refl refl only (comings b fs n) (waiting b fs n) (sums (Past b (suc n)))
   where
     only : (source : Mode) (g : Bool) → next_mode source CondThen g ≡ Past b (suc n) → source ≡ Past b (suc n)
     only Running true e = absurd (cc)
     only Running false e = absurd (cc)
     only (Past c i) g e = e
 sums_then act before now f fs rising none sums (Past EndOnly zero) =
-    keep act before CondThen (Past EndOnly zero) (Past EndOnly zero) false refl refl refl only f.done (sums (Past EndOnly zero))
+    keep act before CondThen (Past EndOnly zero) (Past EndOnly zero) false refl refl refl only Possible f.done (sums (Past EndOnly zero))
   where
     only : (source : Mode) (g : Bool) → next_mode source CondThen g ≡ Past EndOnly zero → source ≡ Past EndOnly zero
     only Running true e = absurd (cc)
@@ -254,42 +281,27 @@ sums_then act before now f fs rising none sums (Past EndOnly zero) =
 sums_then act before now f fs rising none sums (Past ElseOrEnd zero) =
     move act before CondThen Running (Past ElseOrEnd zero) true now rising refl (λ g e. refl) only (sums Running)
   where
-    absent : IsBest act before (Past ElseOrEnd zero) None
-    absent = let P : Option ℕ → Type 0 = λ y. IsBest act before (Past ElseOrEnd zero) y in subst P none (sums (Past ElseOrEnd zero))
+    absent : IsBest act before (Past ElseOrEnd zero) Never f.failed
+    absent = let P : Comings → Type 0 = λ y. IsBest act before (Past ElseOrEnd zero) y f.failed in subst P none (sums (Past ElseOrEnd zero))
 
     only : (source : Mode) (g : Bool) (x : ℕ) → Comes act before source x → next_mode source CondThen g ≡ Past ElseOrEnd zero → source ≡ Running
     only Running g x c e = refl
-    only (Past d i) g x c e = let P : Mode → Type 0 = λ y. Comes act before y x in absurd (absent x (subst P e c))
+    only (Past d i) g x c e = let P : Mode → Type 0 = λ y. Comes act before y x in absurd (absent.0 x (subst P e c))
 
-pub greater_of-right : (o : Option ℕ) (y : ℕ) → y ≤ greater_of o y
-greater_of-right None y = omega arith
-greater_of-right (Some x) y = omega arith
-
-pub greater_of-left : (o : Option ℕ) (x y : ℕ) → o ≡ Some x → x ≤ greater_of o y
-greater_of-left None x y e = absurd (cc)
-greater_of-left (Some z) x y e = let q : z ≡ x = cc in omega arith
-
-pub greater_of_is : (o : Option ℕ) (y : ℕ) → (greater_of o y ≡ y) ⊎ (o ≡ Some (greater_of o y))
-greater_of_is None y = inl refl
-greater_of_is (Some x) y = pick (max_is x y)
-  where
-    max_is : (a b : ℕ) → (max a b ≡ b) ⊎ (max a b ≡ a)
-    max_is a b = grind arith
-
-    pick : (max x y ≡ y) ⊎ (max x y ≡ x) → (max x y ≡ y) ⊎ (Some x ≡ Some (max x y))
-    pick (inl e) = inl e
-    pick (inr e) = inr (ap (λ z. some z) (sym e))
-      where
-        some : ℕ → Option ℕ
-        some z = Some z
+pub max_is : (a b : ℕ) → (max a b ≡ b) ⊎ (max a b ≡ a)
+max_is a b = grind arith
 
 -- what comes is at most the best
-pub best_above : (act : Act) (before : List Token) (m : Mode) (v : Option ℕ) (x : ℕ) → IsBest act before m v → Comes act before m x → (y : ℕ) × (v ≡ Some y) × (x ≤ y)
-best_above act before m None x h c = absurd (h x c)
-best_above act before m (Some y) x h c = (y, refl, h.0 x c)
+pub best_above : (act : Act) (before : List Token) (m : Mode) (c : Comings) (v x : ℕ) → IsBest act before m c v → Comes act before m x → x ≤ v
+best_above act before m Never v x h c = absurd (h.0 x c)
+best_above act before m Possible v x h c = h.0 x c
+best_above act before m Certain v x h c = h.0 x c
 
-pub best_comes : (act : Act) (before : List Token) (m : Mode) (v : Option ℕ) (y : ℕ) → v ≡ Some y → IsBest act before m v → Comes act before m y
-best_comes act before m v y e h = let P : Option ℕ → Type 0 = λ o. IsBest act before m o in let b : IsBest act before m (Some y) = subst P e h in b.1
+-- the best comes, or is 0
+pub best_comes : (act : Act) (before : List Token) (m : Mode) (c : Comings) (v : ℕ) → IsBest act before m c v → Comes act before m v ⊎ (v ≡ 0)
+best_comes act before m Never v h = inr h.1
+best_comes act before m Possible v h = h.1
+best_comes act before m Certain v h = inl h.1
 
 arrive : (act : Act) (before : List Token) (k : Token) (m n : Mode) (fails : Bool) (x y : ℕ) → next_mode m k fails ≡ n → after act m k fails x ≡ y
     → Comes act before m x → Comes act (before ++ k ∷ []) n y
@@ -299,63 +311,69 @@ arrive act before k m n fails x y leads gives c =
     subst P leads (subst Q gives (comes_on act before k m fails x c))
 
 -- a `%e` after a body: the test that failed goes on, and the body waits for the end
-pub sums_else : (act : Act) (before : List Token) (now x : ℕ) (f : Frame) (fs : List Frame) → IsRising act → f.failed ≡ Some x
+pub sums_else : (act : Act) (before : List Token) (now : ℕ) (f : Frame) (fs : List Frame) → IsRising act → f.part ≡ Body
     → Sums act before (record { running = now; frames = f ∷ fs })
-    → Sums act (before ++ CondElse ∷ []) (record { running = act x CondElse; frames = record { failed = None; done = Some (greater_of f.done (act now CondElse)) } ∷ fs })
-sums_else act before now x f fs rising some sums Running =
-    move act before CondElse (Past ElseOrEnd zero) Running false x rising refl (λ g e. refl) (λ source g y c e. only source g e)
-    (let P : Option ℕ → Type 0 = λ y. IsBest act before (Past ElseOrEnd zero) y in subst P some (sums (Past ElseOrEnd zero)))
+    → Sums act (before ++ CondElse ∷ []) (record { running = act f.failed CondElse; frames = record { part = Otherwise; failed = 0; done = max f.done (act now CondElse) } ∷ fs })
+sums_else act before now f fs rising some sums Running =
+    move act before CondElse (Past ElseOrEnd zero) Running false f.failed rising refl (λ g e. refl) (λ source g y c e. only source g e)
+    (let P : Part → Type 0 = λ y. IsBest act before (Past ElseOrEnd zero) (failing y) f.failed in subst P some (sums (Past ElseOrEnd zero)))
   where
     only : (source : Mode) (g : Bool) → next_mode source CondElse g ≡ Running → source ≡ Past ElseOrEnd zero
     only Running g e = absurd (cc)
     only (Past b (suc n)) g e = absurd (cc)
     only (Past ElseOrEnd zero) g e = refl
     only (Past EndOnly zero) g e = absurd (cc)
-sums_else act before now x f fs rising some sums (Past b (suc n)) =
-    keep act before CondElse (Past b (suc n)) (Past b (suc n)) false refl refl refl only (waiting b fs n) (sums (Past b (suc n)))
+sums_else act before now f fs rising some sums (Past b (suc n)) =
+    keep act before CondElse (Past b (suc n)) (Past b (suc n)) false refl refl refl only (comings b fs n) (waiting b fs n) (sums (Past b (suc n)))
   where
     only : (source : Mode) (g : Bool) → next_mode source CondElse g ≡ Past b (suc n) → source ≡ Past b (suc n)
     only Running g e = absurd (cc)
     only (Past c (suc i)) g e = e
     only (Past ElseOrEnd zero) g e = absurd (cc)
     only (Past EndOnly zero) g e = absurd (cc)
-sums_else act before now x f fs rising some sums (Past ElseOrEnd zero) = dead act before CondElse (Past ElseOrEnd zero) never
+sums_else act before now f fs rising some sums (Past ElseOrEnd zero) = dead act before CondElse (Past ElseOrEnd zero) never
   where
     never : (source : Mode) (g : Bool) → next_mode source CondElse g ≡ Past ElseOrEnd zero → ⊥
     never Running g e = absurd (cc)
     never (Past c (suc i)) g e = absurd (cc)
     never (Past ElseOrEnd zero) g e = absurd (cc)
     never (Past EndOnly zero) g e = absurd (cc)
-sums_else act before now x f fs rising some sums (Past EndOnly zero) = (upper, reach)
+sums_else act before now f fs rising some sums (Past EndOnly zero) = (upper, reach)
   where
-    bounded : (source : Mode) (g : Bool) (old y : ℕ) → Comes act before source old → next_mode source CondElse g ≡ Past EndOnly zero → y ≡ after act source CondElse g old → y ≤ greater_of f.done (act now CondElse)
+    bounded : (source : Mode) (g : Bool) (old y : ℕ) → Comes act before source old → next_mode source CondElse g ≡ Past EndOnly zero → y ≡ after act source CondElse g old → y ≤ max f.done (act now CondElse)
     bounded Running g old y c e gives =
-        let h : IsBest act before Running (Some now) = sums Running in
+        let h : IsBest act before Running Certain now = sums Running in
         let low : act old CondElse ≤ act now CondElse = rising CondElse old now (h.0 old c) in
-        omega (arith, greater_of-right f.done (act now CondElse))
+        omega arith
     bounded (Past b (suc i)) g old y c e gives = absurd (cc)
     bounded (Past ElseOrEnd zero) g old y c e gives = absurd (cc)
     bounded (Past EndOnly zero) g old y c e gives =
-        let r : (z : ℕ) × (f.done ≡ Some z) × (old ≤ z) = best_above act before (Past EndOnly zero) f.done old (sums (Past EndOnly zero)) c in
-        omega (arith, r.2, greater_of-left f.done r.0 (act now CondElse) r.1)
+        let h : IsBest act before (Past EndOnly zero) Possible f.done = sums (Past EndOnly zero) in
+        omega (arith, h.0 old c)
 
-    upper : (y : ℕ) → Comes act (before ++ CondElse ∷ []) (Past EndOnly zero) y → y ≤ greater_of f.done (act now CondElse)
+    upper : (y : ℕ) → Comes act (before ++ CondElse ∷ []) (Past EndOnly zero) y → y ≤ max f.done (act now CondElse)
     upper y c =
         let r : From act before CondElse (Past EndOnly zero) y = comes_from act before CondElse (Past EndOnly zero) y c in
         bounded r.source r.fails r.old y r.comes r.leads r.gives
 
-    reach : Comes act (before ++ CondElse ∷ []) (Past EndOnly zero) (greater_of f.done (act now CondElse))
-    reach = elim (greater_of_is f.done (act now CondElse)) [
-      | inl e ↦ let h : IsBest act before Running (Some now) = sums Running in arrive act before CondElse Running (Past EndOnly zero) false now _ refl (sym e) h.1
-      | inr e ↦ arrive act before CondElse (Past EndOnly zero) (Past EndOnly zero) false _ _ refl refl (best_comes act before (Past EndOnly zero) f.done _ e (sums (Past EndOnly zero)))
-    ]
+    reach : Comes act (before ++ CondElse ∷ []) (Past EndOnly zero) (max f.done (act now CondElse)) ⊎ (max f.done (act now CondElse) ≡ 0)
+    reach =
+        let done : IsBest act before (Past EndOnly zero) Possible f.done = sums (Past EndOnly zero) in
+        let run : IsBest act before Running Certain now = sums Running in
+        elim (max_is f.done (act now CondElse)) [
+          | inl e ↦ inl (arrive act before CondElse Running (Past EndOnly zero) false now _ refl (sym e) run.1)
+          | inr e ↦ elim done.1 [
+            | inl c ↦ inl (arrive act before CondElse (Past EndOnly zero) (Past EndOnly zero) false f.done _ refl (sym e) c)
+            | inr z ↦ inr (e ∙ z)
+          ]
+        ]
 
 -- a `%;`: what ran, what failed last and what waits go on together
 pub sums_close : (act : Act) (before : List Token) (now : ℕ) (f : Frame) (fs : List Frame) → IsRising act
     → Sums act before (record { running = now; frames = f ∷ fs })
-    → Sums act (before ++ CondClose ∷ []) (record { running = act (greater_of f.done (greater_of f.failed now)) CondClose; frames = fs })
+    → Sums act (before ++ CondClose ∷ []) (record { running = act (max f.done (max f.failed now)) CondClose; frames = fs })
 sums_close act before now f fs rising sums (Past b n) =
-    keep act before CondClose (Past b (suc n)) (Past b n) false refl refl refl only (waiting b fs n) (sums (Past b (suc n)))
+    keep act before CondClose (Past b (suc n)) (Past b n) false refl refl refl only (comings b fs n) (waiting b fs n) (sums (Past b (suc n)))
   where
     only : (source : Mode) (g : Bool) → next_mode source CondClose g ≡ Past b n → source ≡ Past b (suc n)
     only Running g e = absurd (cc)
@@ -364,39 +382,50 @@ sums_close act before now f fs rising sums (Past b n) =
 sums_close act before now f fs rising sums Running = (upper, reach)
   where
     all : ℕ
-    all = greater_of f.done (greater_of f.failed now)
+    all = max f.done (max f.failed now)
 
-    bounded : (source : Mode) (g : Bool) (old y : ℕ) → Comes act before source old → next_mode source CondClose g ≡ Running → y ≡ after act source CondClose g old → y ≤ act (greater_of f.done (greater_of f.failed now)) CondClose
+    bounded : (source : Mode) (g : Bool) (old y : ℕ) → Comes act before source old → next_mode source CondClose g ≡ Running → y ≡ after act source CondClose g old → y ≤ act (max f.done (max f.failed now)) CondClose
     bounded Running g old y c e gives =
-        let h : IsBest act before Running (Some now) = sums Running in
-        let low : act old CondClose ≤ act (greater_of f.done (greater_of f.failed now)) CondClose =
-        rising CondClose old _ (omega (arith, h.0 old c, greater_of-right f.failed now, greater_of-right f.done (greater_of f.failed now))) in
+        let h : IsBest act before Running Certain now = sums Running in
+        let low : act old CondClose ≤ act (max f.done (max f.failed now)) CondClose = rising CondClose old _ (omega (arith, h.0 old c)) in
         omega arith
     bounded (Past b (suc i)) g old y c e gives = absurd (cc)
     bounded (Past ElseOrEnd zero) g old y c e gives =
-        let r : (z : ℕ) × (f.failed ≡ Some z) × (old ≤ z) = best_above act before (Past ElseOrEnd zero) f.failed old (sums (Past ElseOrEnd zero)) c in
-        let low : act old CondClose ≤ act (greater_of f.done (greater_of f.failed now)) CondClose =
-        rising CondClose old _ (omega (arith, r.2, greater_of-left f.failed r.0 now r.1, greater_of-right f.done (greater_of f.failed now))) in
+        let under : old ≤ f.failed = best_above act before (Past ElseOrEnd zero) (failing f.part) f.failed old (sums (Past ElseOrEnd zero)) c in
+        let low : act old CondClose ≤ act (max f.done (max f.failed now)) CondClose = rising CondClose old _ (omega arith) in
         omega arith
     bounded (Past EndOnly zero) g old y c e gives =
-        let r : (z : ℕ) × (f.done ≡ Some z) × (old ≤ z) = best_above act before (Past EndOnly zero) f.done old (sums (Past EndOnly zero)) c in
-        let low : act old CondClose ≤ act (greater_of f.done (greater_of f.failed now)) CondClose =
-        rising CondClose old _ (omega (arith, r.2, greater_of-left f.done r.0 (greater_of f.failed now) r.1)) in
+        let under : old ≤ f.done = best_above act before (Past EndOnly zero) Possible f.done old (sums (Past EndOnly zero)) c in
+        let low : act old CondClose ≤ act (max f.done (max f.failed now)) CondClose = rising CondClose old _ (omega arith) in
         omega arith
 
-    upper : (y : ℕ) → Comes act (before ++ CondClose ∷ []) Running y → y ≤ act (greater_of f.done (greater_of f.failed now)) CondClose
+    upper : (y : ℕ) → Comes act (before ++ CondClose ∷ []) Running y → y ≤ act (max f.done (max f.failed now)) CondClose
     upper y c =
         let r : From act before CondClose Running y = comes_from act before CondClose Running y c in
         bounded r.source r.fails r.old y r.comes r.leads r.gives
 
-    reach : Comes act (before ++ CondClose ∷ []) Running (act (greater_of f.done (greater_of f.failed now)) CondClose)
-    reach = elim (greater_of_is f.done (greater_of f.failed now)) [
-      | inr e ↦ arrive act before CondClose (Past EndOnly zero) Running false _ _ refl refl (best_comes act before (Past EndOnly zero) f.done _ e (sums (Past EndOnly zero)))
-      | inl d ↦ elim (greater_of_is f.failed now) [
-        | inr e ↦ arrive act before CondClose (Past ElseOrEnd zero) Running false _ _ refl (ap (λ x. act x CondClose) (sym d)) (best_comes act before (Past ElseOrEnd zero) f.failed _ e (sums (Past ElseOrEnd zero)))
-        | inl e ↦ let h : IsBest act before Running (Some now) = sums Running in arrive act before CondClose Running Running false now _ refl (ap (λ x. act x CondClose) (sym e ∙ sym d)) h.1
-      ]
-    ]
+    -- from a mode with the greatest value, which comes or is 0
+    from : (m : Mode) (x : ℕ) → next_mode m CondClose false ≡ Running → is_met m CondClose false ≡ true → x ≡ max f.done (max f.failed now) → Comes act before m x
+        → Comes act (before ++ CondClose ∷ []) Running (act (max f.done (max f.failed now)) CondClose)
+    from m x leads met is c =
+        arrive act before CondClose m Running false x _ leads (ap (λ b. cond b (act x CondClose) x) met ∙ ap (λ z. act z CondClose) is) c
+
+    reach : Comes act (before ++ CondClose ∷ []) Running (act (max f.done (max f.failed now)) CondClose)
+    reach =
+        let run : IsBest act before Running Certain now = sums Running in
+        elim (max_is f.done (max f.failed now)) [
+          | inr e ↦ elim (best_comes act before (Past EndOnly zero) Possible f.done (sums (Past EndOnly zero))) [
+            | inl c ↦ from (Past EndOnly zero) f.done refl refl (sym e) c
+            | inr z ↦ from Running now refl refl (omega arith) run.1
+          ]
+          | inl d ↦ elim (max_is f.failed now) [
+            | inr e ↦ elim (best_comes act before (Past ElseOrEnd zero) (failing f.part) f.failed (sums (Past ElseOrEnd zero))) [
+              | inl c ↦ from (Past ElseOrEnd zero) f.failed refl refl (sym (d ∙ e)) c
+              | inr z ↦ from Running now refl refl (omega arith) run.1
+            ]
+            | inl e ↦ from Running now refl refl (sym (d ∙ e)) run.1
+          ]
+        ]
 
 pub sums_start : (act : Act) → Sums act [] (record { running = 0; frames = [] })
 sums_start act Running = ((λ x c. omega (arith, sym c.value, nothing c.walk)), record { walk = []; passes = (refl, refl); value = refl })
@@ -404,4 +433,4 @@ sums_start act Running = ((λ x c. omega (arith, sym c.value, nothing c.walk)), 
     nothing : (w : Walk) → value_of act 0 (path_of w []) ≡ 0
     nothing [] = refl
     nothing (b ∷ w) = refl
-sums_start act (Past b n) = λ x c. let e : Past b n ≡ Running = c.passes.1 in absurd (cc)
+sums_start act (Past b n) = ((λ x c. let e : Past b n ≡ Running = c.passes.1 in absurd (cc)), refl)

@@ -1,29 +1,19 @@
 -- What a scan keeps, by height and by size.
 use Rattle.std.proofs.Common.{◌≡◌, ℕ, zero, suc, ◌+◌, ◌-◌, ◌<◌, ◌≤◌, max, refl, sym, ◌∙◌, ap, arith, List, [], ◌∷◌, length, take, get_or, map}
-use Rattle.std.specs.Prelude.{reverse, Option, Some, None}
+use Rattle.std.specs.Prelude.{reverse}
 use Rattle.std.proofs.Math.Seq.{take-suc}
 use Rattle.std.proofs.lemmas.List.{reverse-append, length-reverse, length-take, length-map}
 use Rattle.ti_cap.specs.declared.language.Token.TheVariants.{CondClose}
 use Rattle.ti_cap.specs.declared.extent.Extent.{Extent}
 use Rattle.ti_cap.specs.declared.scan.Open.{Open}
 use Rattle.ti_cap.specs.declared.scan.Scan.{Scan}
-use Rattle.ti_cap.specs.inner.Analysis.{Frame, Findings, greater_of, greatest_of, findings_after}
-use Rattle.ti_cap.specs.inner.Scan.{height_of, size_of, greater_extent, greatest_end, height_frame, size_frame, innermost_first, findings_of}
-
-pub greater_extent_height : (w : Option Extent) (e : Extent) → (greater_extent w e).height ≡ greater_of (height_of w) e.height
-greater_extent_height None e = refl
-greater_extent_height (Some w) e = refl
-
-pub greater_extent_size : (w : Option Extent) (e : Extent) → (greater_extent w e).size ≡ greater_of (size_of w) e.size
-greater_extent_size None e = refl
-greater_extent_size (Some w) e = refl
+use Rattle.ti_cap.specs.inner.Analysis.{Frame, Findings, greatest_of, findings_after}
+use Rattle.ti_cap.specs.inner.Scan.{greater_extent, greatest_end, height_frame, size_frame, innermost_first, findings_of}
 
 -- the greatest size at the end is the greatest of the sizes
 pub greatest_end_size : (opens : List Open) (e : Extent) → (greatest_end opens e).size ≡ greatest_of (map size_frame opens) e.size
 greatest_end_size [] e = refl
-greatest_end_size (o ∷ os) e =
-    greatest_end_size os (greater_extent o.done (greater_extent o.failed e))
-    ∙ ap (λ y. greatest_of (map size_frame os) y) (greater_extent_size o.done (greater_extent o.failed e) ∙ ap (λ y. greater_of (size_of o.done) y) (greater_extent_size o.failed e))
+greatest_end_size (o ∷ os) e = greatest_end_size os (greater_extent o.done (greater_extent o.failed e))
 
 -- the innermost open conditional, and the others
 innermost_first_more : (n : ℕ) (opens : List Open) (d : Open) → 0 < n → n ≤ length opens → innermost_first n opens ≡ get_or opens (n - 1) d ∷ innermost_first (n - 1) opens
@@ -57,11 +47,9 @@ found_closed s opens d here depth some many within here_is depth_is =
     let xs : List Open = innermost_first (s.nesting - 1) opens in
     let flat : s.here.height ≡ s.here.height - 0 + 0 = omega arith in
     let still : s.here.size ≡ s.here.size + 0 = omega arith in
-    let height : here.height ≡ greater_of (height_of o.done) (greater_of (height_of o.failed) (s.here.height - 0 + 0)) =
-    ap (λ e. e.height) here_is ∙ greater_extent_height o.done (greater_extent o.failed s.here) ∙ ap (λ y. greater_of (height_of o.done) y) (greater_extent_height o.failed s.here ∙ ap (λ y. greater_of (height_of o.failed) y) flat) in
-    let size : here.size ≡ greater_of (size_of o.done) (greater_of (size_of o.failed) (s.here.size + 0)) =
-    ap (λ e. e.size) here_is ∙ greater_extent_size o.done (greater_extent o.failed s.here) ∙ ap (λ y. greater_of (size_of o.done) y) (greater_extent_size o.failed s.here ∙ ap (λ y. greater_of (size_of o.failed) y) still) in
-    let deep : depth ≡ max s.depth (greater_of (height_of o.done) (greater_of (height_of o.failed) (s.here.height - 0 + 0))) = depth_is ∙ ap (λ y. max s.depth y) height in
+    let height : here.height ≡ max o.done.height (max o.failed.height (s.here.height - 0 + 0)) = ap (λ e. e.height) here_is ∙ ap (λ y. max o.done.height (max o.failed.height y)) flat in
+    let size : here.size ≡ max o.done.size (max o.failed.size (s.here.size + 0)) = ap (λ e. e.size) here_is ∙ ap (λ y. max o.done.size (max o.failed.size y)) still in
+    let deep : depth ≡ max s.depth (max o.done.height (max o.failed.height (s.here.height - 0 + 0))) = depth_is ∙ ap (λ y. max s.depth y) height in
     let few : length (map height_frame xs) ≤ s.nest = omega (arith, length-map xs height_frame, length-reverse (take (s.nesting - 1) opens), length-take (s.nesting - 1) opens) in
     let nest : s.nest ≡ max s.nest (length (map height_frame xs)) = omega arith in
     same_found (map height_frame xs) (map size_frame xs) height size deep nest ∙ ap (λ stack. findings_after 0 (found_with s stack) CondClose) (sym (innermost_first_more s.nesting opens d some within))

@@ -7,6 +7,8 @@ use Rattle.ti_cap.specs.declared.language.Token.TheVariants.{CondOpen, CondThen,
 use Rattle.ti_cap.specs.declared.language.CapFault.{CapFault}
 use Rattle.ti_cap.specs.declared.language.CapFault.TheVariants.{TooLong, CutShort, UnknownEscape, BadParameter, BadVariable, BadConstant, BadFormat, StrayThen, StrayElse, StrayEnd, NoThen, NestTooDeep, StackTooDeep}
 use Rattle.ti_cap.specs.declared.language.CapRefused.{CapRefused}
+use Rattle.ti_cap.specs.declared.scan.Part.{Part}
+use Rattle.ti_cap.specs.declared.scan.Part.TheVariants.{FirstTest, Body, Otherwise}
 use Rattle.ti_cap.specs.Tree.{Sequence, IsTree, tokens}
 use Rattle.ti_cap.specs.Path.{Walk, IsWalk, path_of}
 use Rattle.ti_cap.specs.Height.{end_height}
@@ -15,12 +17,6 @@ use Rattle.ti_cap.specs.Spelling.{Spells, Written}
 -- some tree's tokens begin with these
 abbrev pub Begins : List Token → Type 0
 Begins before = (tree : Sequence) × (after : List Token) × IsTree tree × (tokens tree ≡ before ++ after)
-
--- the part of an open conditional in which a place lies; what follows a `%e` is an otherwise part until a `%t` comes
-pub data Part : Type 0 where
-  FirstTest : Part
-  Body : Part
-  Otherwise : Part
 
 -- the parts of the open conditionals after a token, innermost first
 abbrev pub next_parts : List Part → Token → List Part

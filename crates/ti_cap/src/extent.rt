@@ -14,17 +14,17 @@ impl Extent {
     ghost use Rattle.std.specs.Prelude.{◌≡◌};
     ghost use Rattle.ti_cap.specs.inner.Scan.{greater_extent};
 
-    /// The greater height and the greater size of this and of what waits, if anything does.
+    /// No height and no bytes, which is no more than any other.
+    pub const NONE: Extent = Extent { height: 0, size: 0 };
+
+    /// The greater height and the greater size of two.
     #[inline(always)]
-    pub fn max_with(self, waiting: Option<Extent>) -> Extent
-        ensures { result ≡ greater_extent waiting self }
+    pub fn max(self, other: Extent) -> Extent
+        ensures { result ≡ greater_extent other self }
     {
-        match waiting {
-            None => self,
-            Some(waiting) => Extent {
-                height: waiting.height.max(self.height),
-                size: waiting.size.max(self.size),
-            },
+        Extent {
+            height: other.height.max(self.height),
+            size: other.size.max(self.size),
         }
     }
 }

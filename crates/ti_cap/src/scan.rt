@@ -10,20 +10,34 @@ use crate::extent::Extent;
 use crate::language::{CapFault, Op, Token};
 use ti_base::MOST_VALUES;
 
-/// What waits in an open conditional.
+/// The part of an open conditional in which a place lies. What follows a `%e` is an otherwise part until a `%t` comes.
+#[derive(Clone, Copy)]
+pub enum Part {
+    /// The test of the first arm.
+    FirstTest,
+    /// The body of an arm.
+    Body,
+    /// What follows a `%e`.
+    Otherwise,
+}
+
+/// What waits in an open conditional. What there is none of has no height and no bytes.
 #[derive(Clone, Copy)]
 pub struct Open {
-    /// What its last test failed with, where a body is being passed through.
-    failed: Option<Extent>,
-    /// The greatest that its bodies ended with.
-    done: Option<Extent>,
+    /// Where the scan stands in it.
+    part: Part,
+    /// What its last test failed with, if a body is being passed through.
+    failed: Extent,
+    /// The greatest that its bodies ended with, if any did.
+    done: Extent,
 }
 
 impl Open {
     /// A conditional in its first test.
     pub const FRESH: Open = Open {
-        failed: None,
-        done: None,
+        part: Part::FirstTest,
+        failed: Extent::NONE,
+        done: Extent::NONE,
     };
 }
 
@@ -161,15 +175,13 @@ impl Scan {
         if self.nesting == 0 {
             return Err(CapFault::StrayThen);
         }
-        let Open { failed, done } = opens[self.nesting - 1];
-        if failed.is_some() {
+        let open = &mut opens[self.nesting - 1];
+        if matches!(open.part, Part::Body) {
             return Err(CapFault::StrayThen);
         }
         self.here.height = self.here.height.saturating_sub(1);
-        opens[self.nesting - 1] = Open {
-            failed: Some(self.here),
-            done,
-        };
+        open.part = Part::Body;
+        open.failed = self.here;
         Ok(())
     }
 
@@ -187,17 +199,16 @@ impl Scan {
         if self.nesting == 0 {
             return Err(CapFault::StrayElse);
         }
-        let Open { failed, done } = opens[self.nesting - 1];
-        match failed {
-            None if done.is_none() => Err(CapFault::NoThen),
-            None => Err(CapFault::StrayElse),
-            Some(failed) => {
-                opens[self.nesting - 1] = Open {
-                    failed: None,
-                    done: Some(self.here.max_with(done)),
-                };
-                self.here = failed;
-                self.depth = self.depth.max(failed.height);
+        let open = &mut opens[self.nesting - 1];
+        match open.part {
+            Part::FirstTest => Err(CapFault::NoThen),
+            Part::Otherwise => Err(CapFault::StrayElse),
+            Part::Body => {
+                open.part = Part::Otherwise;
+                open.done = self.here.max(open.done);
+                self.here = open.failed;
+                open.failed = Extent::NONE;
+                self.depth = self.depth.max(self.here.height);
                 Ok(())
             }
         }
@@ -205,7 +216,6 @@ impl Scan {
 
     /// A conditional ends: the greatest of what runs and what waits in it goes on.
     #[inline(always)]
-    #[tactic(auto, using(crate::proofs::ScanLemmas::greater_extent_height, crate::proofs::ScanLemmas::greater_extent_size))]
     fn leave<const ROOM: usize>(&mut self, opens: &[Open; ROOM]) -> Result<(), CapFault>
         requires low { self.old.here.height ≤ most_values }
         requires order { IsInOrder ROOM self.old }
@@ -218,11 +228,11 @@ impl Scan {
         if self.nesting == 0 {
             return Err(CapFault::StrayEnd);
         }
-        let Open { failed, done } = opens[self.nesting - 1];
-        if failed.is_none() && done.is_none() {
+        let Open { part, failed, done } = opens[self.nesting - 1];
+        if matches!(part, Part::FirstTest) {
             return Err(CapFault::NoThen);
         }
-        self.here = self.here.max_with(failed).max_with(done);
+        self.here = self.here.max(failed).max(done);
         self.depth = self.depth.max(self.here.height);
         self.nesting -= 1;
         Ok(())
@@ -260,7 +270,7 @@ impl Scan {
             .iter()
             .rev()
             .fold(self.here, |here, open| {
-                here.max_with(open.failed).max_with(open.done)
+                here.max(open.failed).max(open.done)
             })
     }
 
@@ -274,7 +284,7 @@ impl Scan {
             .iter()
             .rev()
             .fold(false, |found, open| {
-                found || (open.failed.is_none() && open.done.is_none())
+                found || matches!(open.part, Part::FirstTest)
             })
     }
 }

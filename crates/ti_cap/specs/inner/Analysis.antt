@@ -1,5 +1,5 @@
 -- How the analysis goes on with each token; proofs/ ties it to the paths of a tree.
-use Rattle.std.specs.Prelude.{ℕ, ◌+◌, max, map, List, [], ◌∷◌, length, Option, Some, None, Bool, false, is_none, ◌&&◌, ◌||◌, nat_le, nat_lt, unwrap_or, if◌then◌else◌, fold}
+use Rattle.std.specs.Prelude.{ℕ, ◌+◌, max, map, List, [], ◌∷◌, length, Option, Some, None, Bool, true, false, ◌||◌, nat_le, nat_lt, if◌then◌else◌, fold}
 use Rattle.ti_base.specs.Limits.{most_open, most_values}
 use Rattle.ti_cap.specs.declared.language.Token.{Token}
 use Rattle.ti_cap.specs.declared.language.Token.TheVariants.{CondOpen, CondThen, CondElse, CondClose}
@@ -7,55 +7,42 @@ use Rattle.ti_cap.specs.declared.language.CapFault.{CapFault}
 use Rattle.ti_cap.specs.declared.language.CapFault.TheVariants.{StrayThen, StrayElse, StrayEnd, NoThen, NestTooDeep, StackTooDeep}
 use Rattle.ti_cap.specs.Sizes.{token_size}
 use Rattle.ti_cap.specs.Height.{next_height}
-use Rattle.ti_cap.specs.Refusal.{Part, FirstTest, Body, Otherwise}
+use Rattle.ti_cap.specs.declared.scan.Part.{Part}
+use Rattle.ti_cap.specs.declared.scan.Part.TheVariants.{FirstTest, Body, Otherwise}
 
 -- what waits in an open conditional: the greatest value with which its last test failed, if a body is being passed
--- through, and the greatest with which one of its bodies ended
+-- through, and the greatest with which one of its bodies ended, if any did; otherwise 0
 pub record Frame : Type 0 where
-  pub failed : Option ℕ
-  pub done : Option ℕ
+  pub part : Part
+  pub failed : ℕ
+  pub done : ℕ
 
 -- the greatest value with which a pass runs here, and what waits in the open conditionals, innermost first
 pub record Progress : Type 0 where
   pub running : ℕ
   pub frames : List Frame
 
--- the greater of what waits, if anything does, and another value
-abbrev pub greater_of : Option ℕ → ℕ → ℕ
-greater_of None y = y
-greater_of (Some x) y = max x y
-
--- ---- parts
-
-abbrev pub part_by : Option ℕ → Option ℕ → Part
-part_by (Some x) other = Body
-part_by None None = FirstTest
-part_by None (Some y) = Otherwise
-
--- the part of its conditional in which a frame's place lies
-abbrev pub part_of : Frame → Part
-part_of f = part_by f.failed f.done
-
+-- where a place lies in them
 abbrev pub parts_of : List Frame → List Part
-parts_of frames = map part_of frames
+parts_of frames = map (λ f. f.part) frames
 
 -- ---- one token more; `after` is what it makes of the value that runs
 
 abbrev pub progress_then : ℕ → List Frame → Progress
 progress_then after [] = record { running = after; frames = [] }
-progress_then after (f ∷ fs) = record { running = after; frames = record { failed = Some after; done = f.done } ∷ fs }
+progress_then after (f ∷ fs) = record { running = after; frames = record { part = Body; failed = after; done = f.done } ∷ fs }
 
 abbrev pub progress_else : ℕ → List Frame → Progress
 progress_else after [] = record { running = after; frames = [] }
 progress_else after (f ∷ fs) =
-    record { running = unwrap_or f.failed after; frames = record { failed = None; done = Some (greater_of f.done after) } ∷ fs }
+    record { running = f.failed; frames = record { part = Otherwise; failed = 0; done = max f.done after } ∷ fs }
 
 abbrev pub progress_close : ℕ → List Frame → Progress
 progress_close after [] = record { running = after; frames = [] }
-progress_close after (f ∷ fs) = record { running = greater_of f.done (greater_of f.failed after); frames = fs }
+progress_close after (f ∷ fs) = record { running = max f.done (max f.failed after); frames = fs }
 
 abbrev pub progress_open : ℕ → List Frame → Progress
-progress_open after fs = record { running = after; frames = record { failed = None; done = None } ∷ fs }
+progress_open after fs = record { running = after; frames = record { part = FirstTest; failed = 0; done = 0 } ∷ fs }
 
 abbrev pub next_progress : Progress → Token → ℕ → Progress
 next_progress s CondOpen after = progress_open after s.frames
@@ -66,14 +53,15 @@ next_progress s token after = record { running = after; frames = s.frames }
 
 -- the greatest of what runs and what waits
 abbrev pub greatest_of : List Frame → ℕ → ℕ
-greatest_of frames y = fold (λ z f. greater_of f.done (greater_of f.failed z)) y frames
+greatest_of frames y = fold (λ z f. max f.done (max f.failed z)) y frames
 
 -- whether some open conditional is in its first test
-abbrev pub is_in_test : Frame → Bool
-is_in_test f = is_none f.failed && is_none f.done
+abbrev pub is_first : Part → Bool
+is_first FirstTest = true
+is_first _ = false
 
 abbrev pub are_in_test : List Frame → Bool
-are_in_test frames = fold (λ found f. found || is_in_test f) false frames
+are_in_test frames = fold (λ found f. found || is_first f.part) false frames
 
 -- ---- faults of a token by its place
 

@@ -1,5 +1,5 @@
 -- What a scan has found, by its counts and the open conditionals.
-use Rattle.std.specs.Prelude.{ℕ, ◌≡◌, ◌+◌, ◌-◌, ◌≤◌, max, map, List, take, reverse, fold, Option, Some, None}
+use Rattle.std.specs.Prelude.{ℕ, ◌≡◌, ◌+◌, ◌-◌, ◌≤◌, max, map, List, take, reverse, fold, Option}
 use Rattle.ti_base.specs.Limits.{most_open}
 use Rattle.ti_cap.specs.declared.extent.Extent.{Extent}
 use Rattle.ti_cap.specs.declared.language.CapFault.{CapFault}
@@ -9,24 +9,15 @@ use Rattle.ti_cap.specs.declared.scan.Open.{Open}
 use Rattle.ti_cap.specs.declared.scan.Scan.{Scan}
 use Rattle.ti_cap.specs.inner.Analysis.{Frame, Findings, findings_after, fault_of, greatest_of}
 
-abbrev pub height_of : Option Extent → Option ℕ
-height_of None = None
-height_of (Some e) = Some e.height
-
-abbrev pub size_of : Option Extent → Option ℕ
-size_of None = None
-size_of (Some e) = Some e.size
-
--- the greater of what waits, if anything does, and another
-abbrev pub greater_extent : Option Extent → Extent → Extent
-greater_extent None e = e
-greater_extent (Some w) e = record { height = max w.height e.height; size = max w.size e.size }
+-- the greater height and the greater size
+abbrev pub greater_extent : Extent → Extent → Extent
+greater_extent w e = record { height = max w.height e.height; size = max w.size e.size }
 
 abbrev pub height_frame : Open → Frame
-height_frame o = record { failed = height_of o.failed; done = height_of o.done }
+height_frame o = record { part = o.part; failed = o.failed.height; done = o.done.height }
 
 abbrev pub size_frame : Open → Frame
-size_frame o = record { failed = size_of o.failed; done = size_of o.done }
+size_frame o = record { part = o.part; failed = o.failed.size; done = o.done.size }
 
 -- the open conditionals, innermost first
 abbrev pub innermost_first : ℕ → List Open → List Open
