@@ -93,6 +93,7 @@ impl<'a> Capability<'a> {
 
 /// The limits of a capability where no text is longer than `longest`, with room for so many open conditionals. With room for
 /// fewer than may be open, that they nest too deep says only that more room is needed.
+#[inline(never)]
 fn limits_of<const ROOM: usize>(bytes: &[u8], longest: u16) -> Result<Limits, CapRefused>
     requires room { ROOM ≤ most_open }
     requires short { length bytes.now ≤ most_capability_bytes }
