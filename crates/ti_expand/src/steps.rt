@@ -2,7 +2,7 @@
 //!
 //! It works in room of the caller, as `expand_into` does, and takes no memory.
 
-ghost use Rattle.std.specs.Prelude.{◌≡◌, ℕ, ◌+◌, ◌↔◌, [], length, max, reverse, if◌then◌else◌, IfOk, IfSome, IfNone, OnOk};
+ghost use Rattle.std.specs.Prelude.{◌≡◌, ◌+◌, ◌↔◌, [], length, max, reverse, if◌then◌else◌, IfOk, IfSome, IfNone, OnOk};
 ghost use Rattle.ti_cap.specs.Pass.{next_mode};
 ghost use Rattle.ti_cap.specs.Capability.{IsWellFormed, Takes, IsFirst};
 ghost use Rattle.ti_expand.specs.Meaning.{tests_zero};

@@ -1,5 +1,5 @@
 -- The faults of a trace, each exactly where it is so.
-use Rattle.std.proofs.Common.{◌≡◌, ◌∙◌, ℕ, ◌≤◌, inl, inr, List, Ok, Err, Result, ap, arith, subst, sym}
+use Rattle.std.proofs.Common.{◌≡◌, ◌∙◌, ℕ, ◌≤◌, inl, inr, List, Ok, Err, Result, ap, arith, subst}
 use Rattle.std.specs.Prelude.{◌↔◌}
 use Rattle.ti_base.specs.Limits.{most_text_bytes}
 use Rattle.ti_cap.specs.declared.language.CapRefused.{CapRefused}

@@ -1,5 +1,5 @@
 -- The row of the next token.
-use Rattle.std.proofs.Common.{◌≡◌, ◌∙◌, ℕ, ◌+◌, ◌-◌, ◌≤◌, List, ◌++◌, length, drop, take, reverse, ap, arith, refl, sym, append_assoc, length-append, if◌then◌else◌, max}
+use Rattle.std.proofs.Common.{◌≡◌, ◌∙◌, ℕ, ◌+◌, ◌-◌, List, ◌++◌, length, drop, take, reverse, ap, arith, refl, sym, append_assoc, length-append, if◌then◌else◌, max}
 use Rattle.std.proofs.Math.Seq.{drop-append_seam}
 use Rattle.std.proofs.lemmas.List.{reverse-reverse, take_at, take_rest}
 use Rattle.ti_cap.specs.declared.language.Token.{Token}

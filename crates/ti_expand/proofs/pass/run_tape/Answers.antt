@@ -1,4 +1,4 @@
-use Rattle.std.proofs.Common.{◌<◌, ◌≤◌, length, arith, ap, refl, ◌∙◌}
+use Rattle.std.proofs.Common.{◌<◌, ◌≤◌, length, arith, refl, ◌∙◌}
 use Rattle.std.proofs.lemmas.List.{length-take}
 use Rattle.ti_cap.specs.Pass.{Running}
 use Rattle.ti_expand.specs.State.{State, start}
