@@ -6,10 +6,10 @@ use Rattle.ti_words.specs.declared.Width.TheVariants.{Legacy, Wide}
 use Rattle.ti_words.specs.Texts.{AbsentText, TextOf}
 use Rattle.ti_layout.specs.declared.fault.Fault.TheVariants.{Truncated, BadMagic, BadHeader, HeaderTooBig, BadNames, BadFlag, BadPad, BadNumber, BadOffset, Unterminated, BadExtendedHeader, ExtendedTooBig, BadExtendedName, Trailing}
 use Rattle.ti_words.specs.Value.{EntryValue}
-use Rattle.ti_layout.specs.Layout.{places, header_of}
+use Rattle.ti_layout.specs.Layout.{places}
 use Rattle.ti_layout.specs.Checks.{refusal_at}
 use Rattle.ti_layout.specs.Refusal.{refusal}
-use Rattle.ti_entry.specs.Content.{plain_content, content}
+use Rattle.ti_entry.specs.Content.{content}
 use Rattle.ti_words.specs.Spelling.{Spells}
 use Rattle.ti_draft.specs.Canonical.{canonical}
 
@@ -290,7 +290,7 @@ names_unended = refl
 flag_wrong : refusal (slice_set small 14 0x02) ≡ Some (refusal_at BadFlag 14)
 flag_wrong = refl
 
-flag_cancelled : plain_content (slice_set small 14 0xfe) (header_of small) ≡ record small_entry { flags = flags.Cancelled ∷ [] }
+flag_cancelled : content (slice_set small 14 0xfe) ≡ record small_entry { flags = flags.Cancelled ∷ [] }
 flag_cancelled = refl
 
 flag_cancelled_accepted : refusal (slice_set small 14 0xfe) ≡ None

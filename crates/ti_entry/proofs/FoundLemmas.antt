@@ -1,5 +1,5 @@
 -- Bytes that pass the checks up to the end of the string table have the sections that they are read as.
-use Rattle.std.proofs.Common.{◌≡◌, ℕ, ◌+◌, ◌-◌, ◌*◌, ◌≤◌, Bool, true, false, cond, eqb, List, [], ◌∷◌, ◌++◌, map, length, get_or, take, drop, refl, sym, ap, ◌∙◌, arith}
+use Rattle.std.proofs.Common.{◌≡◌, ℕ, ◌+◌, ◌-◌, ◌%◌, ◌≤◌, Bool, true, false, cond, eqb, List, [], ◌∷◌, ◌++◌, map, length, get_or, take, drop, refl, sym, ap, ◌∙◌, arith, append-nil}
 use Rattle.std.proofs.Math.Seq.{take-add}
 use Rattle.std.proofs.lemmas.List.{drop-drop, take-append-drop, length-take-le, length-drop}
 use Rattle.std.proofs.lemmas.Bool.{eqb-true, leb-true}
@@ -8,19 +8,22 @@ use Rattle.ti_base.specs.Limits.{most_entry_bytes}
 use Rattle.ti_words.specs.declared.Width.{Width}
 use Rattle.ti_words.specs.declared.Width.TheVariants.{Legacy, Wide}
 use Rattle.ti_layout.specs.declared.fault.Fault.TheVariants.{BadHeader, BadNames}
-use Rattle.ti_words.specs.Word.{unsigned_at, word_at}
-use Rattle.ti_layout.specs.Layout.{header_of, places, flags_from, pad_from, numbers_from, offsets_from, table_from, end_of}
+use Rattle.ti_layout.specs.declared.part.Part.{Part}
+use Rattle.ti_words.specs.Word.{unsigned_at}
+use Rattle.ti_layout.specs.Layout.{standard, places, flags_end, numbers_from, offsets_from, end_of}
 use Rattle.ti_words.specs.Widths.{magic_number, number_size}
 use Rattle.ti_words.specs.Spelling.{pad_len, HasSections, magic, count_word, words_of, numbers_of, flags_of, pad}
 use Rattle.ti_words.specs.Texts.{is_nul}
 use Rattle.ti_layout.specs.Table.{table_of}
-use Rattle.ti_layout.specs.Checks.{Passes, verdict, sign_check, sign_checks, name_check, nul_check, name_checks, flag_checks, pad_checks, number_checks, offset_checks, ending_check, ending_checks, table_check}
-use Rattle.ti_layout.specs.Refusal.{magic_check, size_check, named_check, magic_checks, size_checks, front_checks, section_checks}
-use Rattle.ti_entry.specs.Content.{flag_at, number_at, text_at, plain_content}
+use Rattle.ti_layout.specs.Checks.{Passes, verdict, sign_check, sign_checks, name_check, nul_check, name_checks, offset_checks, ending_check, table_check}
+use Rattle.ti_layout.specs.Refusal.{magic_check, size_check, named_check, magic_checks, size_checks, front_checks, part_checks, section_checks}
+use Rattle.ti_entry.specs.Content.{flag_at, number_at, text_at, content_with}
 use Rattle.ti_layout.proofs.PlacesLemmas.{length_places}
 use Rattle.ti_layout.proofs.PassesLemmas.{first_passes}
 use Rattle.ti_layout.proofs.WordLemmas.{IsBytes, bytes_again, one_byte}
-use Rattle.ti_entry.proofs.KindsFoundLemmas.{IsCount, count_is, front, flags_are, pad_is, numbers_are, numbers_fit, words_are, texts_are}
+use Rattle.ti_layout.proofs.NamePlaceChecksLemmas.{table_length}
+use Rattle.ti_entry.proofs.KindsFoundLemmas.{IsCount, count_is, numbers_fit, texts_are}
+use Rattle.ti_entry.proofs.PartLemmas.{part_passes, front_after, part_joined, offset_words}
 use Rattle.ti_layout.proofs.SectionReadLemmas.{both_pass, each_passed, no_nuls}
 
 -- the width of a magic number
@@ -42,19 +45,19 @@ starts u h = first (eqb u 282) refl
 -- what the first checks say
 pub record HasFront (bytes : List ℕ) : Type 0 where
   pub long : 12 ≤ length bytes
-  pub starts : take 2 bytes ≡ magic (header_of bytes).width
+  pub starts : take 2 bytes ≡ magic (standard bytes).width
   pub names : IsCount bytes 2
   pub flags : IsCount bytes 4
   pub numbers : IsCount bytes 6
   pub texts : IsCount bytes 8
   pub table : IsCount bytes 10
-  pub fits : end_of (header_of bytes) ≤ most_entry_bytes
-  pub named : 2 ≤ unsigned_at 2 bytes 2
+  pub fits : end_of (standard bytes) ≤ most_entry_bytes
+  pub named : 14 ≤ (standard bytes).flags_from
 
-pub front_is : (bytes : List ℕ) → IsBytes bytes → Passes ≡ verdict (length bytes) (front_checks bytes (header_of bytes)) → HasFront bytes
+pub front_is : (bytes : List ℕ) → IsBytes bytes → Passes ≡ verdict (length bytes) (front_checks bytes (standard bytes)) → HasFront bytes
 front_is bytes fits h =
     let len = length bytes in
-    let a = both_pass len (magic_checks bytes ++ sign_checks bytes BadHeader 2 5) (size_checks (header_of bytes)) h in
+    let a = both_pass len (magic_checks bytes ++ sign_checks bytes BadHeader 2 5) (size_checks (standard bytes)) h in
     let b = both_pass len (magic_checks bytes) (sign_checks bytes BadHeader 2 5) a.0 in
     let m = first_passes len (magic_check bytes) [] b.0 in
     let signs = each_passed (sign_check bytes BadHeader) len 2 2 5 b.1 in
@@ -63,9 +66,9 @@ front_is bytes fits h =
     let s2 = signs 2 (omega arith) in
     let s3 = signs 3 (omega arith) in
     let s4 = signs 4 (omega arith) in
-    let big = first_passes len (size_check (header_of bytes)) (named_check (header_of bytes) ∷ []) a.1 in
-    let small = first_passes len (named_check (header_of bytes)) [] big.rest in
-    let start : take 2 bytes ≡ magic (header_of bytes).width = bytes_again 2 bytes 0 fits m.long ∙ ap count_word (starts (unsigned_at 2 bytes 0) m.holds) in
+    let big = first_passes len (size_check (standard bytes)) (named_check (standard bytes) ∷ []) a.1 in
+    let small = first_passes len (named_check (standard bytes)) [] big.rest in
+    let start : take 2 bytes ≡ magic (standard bytes).width = bytes_again 2 bytes 0 fits m.long ∙ ap count_word (starts (unsigned_at 2 bytes 0) m.holds) in
     record {
       long = s4.long;
       starts = start;
@@ -79,59 +82,50 @@ front_is bytes fits h =
     }
 
 -- the names and their NUL
-pub names_are : (bytes : List ℕ) (size : ℕ) → 2 ≤ size → 12 + size ≤ length bytes → is_nul (get_or bytes (11 + size) 0) ≡ true → take size (drop 12 bytes) ≡ slice_range bytes 12 (11 + size) ++ 0 ∷ []
+names_are : (bytes : List ℕ) (size : ℕ) → 2 ≤ size → 12 + size ≤ length bytes → is_nul (get_or bytes (12 + size - 1) 0) ≡ true → take size (drop 12 bytes) ≡ slice_range bytes 12 (12 + size - 1) ++ 0 ∷ []
 names_are bytes size some le nul =
-    let n : size ≡ (11 + size - 12) + 1 = omega arith in
-    let at : 12 + (11 + size - 12) ≡ 11 + size = omega arith in
-    let last : take 1 (drop (11 + size) bytes) ≡ 0 ∷ [] = one_byte bytes (11 + size) (omega arith) ∙ ap (λ (x : ℕ). x ∷ []) (eqb-true _ _ nul) in
-    ap (λ k. take k (drop 12 bytes)) n ∙ take-add (11 + size - 12) 1 (drop 12 bytes)
-    ∙ ap (λ t. take (11 + size - 12) (drop 12 bytes) ++ take 1 t) (drop-drop (11 + size - 12) 12 bytes ∙ ap (λ k. drop k bytes) at)
-    ∙ ap (λ t. take (11 + size - 12) (drop 12 bytes) ++ t) last
+    let last = 12 + size - 1 in
+    let n : size ≡ (last - 12) + 1 = omega arith in
+    let at : 12 + (last - 12) ≡ last = omega arith in
+    let zero : take 1 (drop last bytes) ≡ 0 ∷ [] = one_byte bytes last (omega arith) ∙ ap (λ (x : ℕ). x ∷ []) (eqb-true _ _ nul) in
+    ap (λ k. take k (drop 12 bytes)) n ∙ take-add (last - 12) 1 (drop 12 bytes)
+    ∙ ap (λ t. take (last - 12) (drop 12 bytes) ++ take 1 t) (drop-drop (last - 12) 12 bytes ∙ ap (λ k. drop k bytes) at)
+    ∙ ap (λ t. take (last - 12) (drop 12 bytes) ++ t) zero
 
-pub names_length : (bytes : List ℕ) (size : ℕ) → 2 ≤ size → 12 + size ≤ length bytes → length (slice_range bytes 12 (11 + size)) + 1 ≡ size
-names_length bytes size some le = omega (arith, length-take-le (11 + size - 12) (drop 12 bytes) (omega (arith, length-drop 12 bytes)))
+names_length : (bytes : List ℕ) (size : ℕ) → 2 ≤ size → 12 + size ≤ length bytes → length (slice_range bytes 12 (12 + size - 1)) + 1 ≡ size
+names_length bytes size some le = omega (arith, length-take-le (12 + size - 1 - 12) (drop 12 bytes) (omega (arith, length-drop 12 bytes)))
 
--- the sections up to the end of the string table, and what follows
+-- the sections up to the end of the string table, and what follows, whatever the extended part is
 pub record HasPlain (bytes : List ℕ) : Type 0 where
-  pub fits : end_of (header_of bytes) ≤ most_entry_bytes
-  pub there : end_of (header_of bytes) ≤ length bytes
-  pub table_size : length (table_of bytes (header_of bytes)) ≡ (header_of bytes).table
-  pub sections : HasSections (plain_content bytes (header_of bytes)) (table_of bytes (header_of bytes)) (drop (end_of (header_of bytes)) bytes) bytes
+  pub fits : end_of (standard bytes) ≤ most_entry_bytes
+  pub there : end_of (standard bytes) ≤ length bytes
+  pub table_size : length (table_of bytes (standard bytes)) ≡ (standard bytes).table
+  pub sections : (x : Part) → HasSections (content_with bytes (standard bytes) x) (table_of bytes (standard bytes)) (drop (end_of (standard bytes)) bytes) bytes
 
-pub sections_found : (bytes : List ℕ) → IsBytes bytes → Passes ≡ verdict (length bytes) (front_checks bytes (header_of bytes)) → Passes ≡ verdict (length bytes) (section_checks bytes (header_of bytes)) → HasPlain bytes
+pub sections_found : (bytes : List ℕ) → IsBytes bytes → Passes ≡ verdict (length bytes) (front_checks bytes (standard bytes)) → Passes ≡ verdict (length bytes) (section_checks bytes (standard bytes)) → HasPlain bytes
 sections_found bytes fits ahead h =
     let len = length bytes in
-    let hd = header_of bytes in
-    let w = hd.width in
-    let size = number_size w in
-    let names = name_checks bytes hd.names in
-    let flags = flag_checks bytes (flags_from hd) hd.flags in
-    let pads = pad_checks bytes (pad_from hd) (hd.names + hd.flags) in
-    let numbers = number_checks bytes size (numbers_from hd) hd.numbers in
-    let offset_list = offset_checks bytes hd.table (offsets_from hd) hd.texts in
-    let endings = ending_checks bytes (table_of bytes hd) (end_of hd) (offsets_from hd) hd.texts in
-    let c5 = both_pass len (((((names ++ flags) ++ pads) ++ numbers) ++ offset_list)) endings h in
-    let c4 = both_pass len ((((names ++ flags) ++ pads) ++ numbers)) offset_list c5.0 in
-    let c3 = both_pass len (((names ++ flags) ++ pads)) numbers c4.0 in
-    let c2 = both_pass len ((names ++ flags)) pads c3.0 in
-    let c1 = both_pass len names flags c2.0 in
-    let n = both_pass len (map (name_check bytes) (places 12 1 (hd.names - 1))) (nul_check bytes BadNames (11 + hd.names) ∷ []) c1.0 in
-    let each_name = each_passed (name_check bytes) len 12 1 (hd.names - 1) n.0 in
-    let named = first_passes len (nul_check bytes BadNames (11 + hd.names)) [] n.1 in
-    let at_end = first_passes len (table_check (end_of hd)) (map (ending_check bytes (table_of bytes hd) (end_of hd)) (places (offsets_from hd) 2 hd.texts)) c5.1 in
-    let there : end_of hd ≤ len = at_end.long in
+    let s = standard bytes in
+    let size = unsigned_at 2 bytes 2 in
+    let w = s.width in
+    let c = both_pass len (name_checks bytes s.flags_from) (part_checks bytes s) h in
+    let n = both_pass len (map (name_check bytes) (places 12 1 (s.flags_from - 13))) (nul_check bytes BadNames (s.flags_from - 1) ∷ []) c.0 in
+    let each_name = each_passed (name_check bytes) len 12 1 (s.flags_from - 13) n.0 in
+    let named = first_passes len (nul_check bytes BadNames (s.flags_from - 1)) [] n.1 in
+    let p = part_passes bytes s c.1 in
+    let at_end = first_passes len (table_check (end_of s)) (map (ending_check bytes (table_of bytes s) (end_of s)) (places (offsets_from s) 2 s.texts)) p.endings in
+    let there : end_of s ≤ len = at_end.long in
     let f = front_is bytes fits ahead in
-    let v = plain_content bytes hd in
-    let table = table_of bytes hd in
-    let rest = drop (end_of hd) bytes in
-    let table_len : length table ≡ hd.table = length-take-le hd.table (drop (table_from hd) bytes) (omega (arith, length-drop (table_from hd) bytes)) in
+    let v = content_with bytes s s in
+    let table = table_of bytes s in
+    let rest = drop (end_of s) bytes in
+    let table_len : length table ≡ s.table = table_length bytes s there in
     let limit = f.fits in
     let some = f.named in
-    let names_len : length v.names + 1 ≡ hd.names = names_length bytes hd.names some (omega arith) in
-    let flags_len : length v.flags ≡ hd.flags = length_places (flag_at bytes) (flags_from hd) 1 hd.flags in
-    let numbers_len : length v.numbers ≡ hd.numbers = length_places (number_at size bytes) (numbers_from hd) size hd.numbers in
-    let texts_len : length v.texts ≡ hd.texts = length_places (text_at table bytes) (offsets_from hd) 2 hd.texts in
-    let offsets = map (word_at 2 bytes) (places (offsets_from hd) 2 hd.texts) in
+    let names_len : length v.names + 1 ≡ size = names_length bytes size (omega arith) (omega arith) in
+    let flags_len : length v.flags ≡ s.flags = length_places (flag_at bytes) s.flags_from 1 s.flags in
+    let numbers_len : length v.numbers ≡ s.numbers = length_places (number_at (number_size w) bytes) (numbers_from s) (number_size w) s.numbers in
+    let texts_len : length v.texts ≡ s.texts = length_places (text_at table bytes) (offsets_from s) 2 s.texts in
     let x0 = magic w in
     let x1 = x0 ++ count_word (length v.names + 1) in
     let x2 = x1 ++ count_word (length v.flags) in
@@ -139,35 +133,30 @@ sections_found bytes fits ahead h =
     let x4 = x3 ++ count_word (length v.texts) in
     let x5 = x4 ++ count_word (length table) in
     let x6 = x5 ++ (v.names ++ 0 ∷ []) in
-    let x7 = x6 ++ flags_of v.flags in
-    let x8 = x7 ++ pad (length v.names + 1 + length v.flags) in
-    let x9 = x8 ++ numbers_of w v.numbers in
-    let x10 = x9 ++ words_of offsets in
-    let x11 = x10 ++ table in
-    let t1 : take 4 bytes ≡ x1 = front bytes 2 2 x0 (count_word (length v.names + 1)) f.starts (f.names.bytes_are ∙ ap count_word (sym names_len)) in
-    let t2 : take 6 bytes ≡ x2 = front bytes 4 2 x1 (count_word (length v.flags)) t1 (f.flags.bytes_are ∙ ap count_word (sym flags_len)) in
-    let t3 : take 8 bytes ≡ x3 = front bytes 6 2 x2 (count_word (length v.numbers)) t2 (f.numbers.bytes_are ∙ ap count_word (sym numbers_len)) in
-    let t4 : take 10 bytes ≡ x4 = front bytes 8 2 x3 (count_word (length v.texts)) t3 (f.texts.bytes_are ∙ ap count_word (sym texts_len)) in
-    let t5 : take 12 bytes ≡ x5 = front bytes 10 2 x4 (count_word (length table)) t4 (f.table.bytes_are ∙ ap count_word (sym table_len)) in
-    let t6 : take (12 + hd.names) bytes ≡ x6 = front bytes 12 hd.names x5 (v.names ++ 0 ∷ []) t5 (names_are bytes hd.names some (omega arith) named.holds) in
-    let t7 : take (flags_from hd + hd.flags) bytes ≡ x7 = front bytes (flags_from hd) hd.flags x6 (flags_of v.flags) t6 (flags_are bytes (flags_from hd) hd.flags c1.1) in
-    let pad_same : pad (hd.names + hd.flags) ≡ pad (length v.names + 1 + length v.flags) = ap pad (let sum : hd.names + hd.flags ≡ length v.names + 1 + length v.flags = omega arith in sum) in
-    let t8 : take (numbers_from hd) bytes ≡ x8 = front bytes (pad_from hd) (pad_len (hd.names + hd.flags)) x7 (pad (length v.names + 1 + length v.flags)) t7 (pad_is bytes (pad_from hd) (hd.names + hd.flags) c2.1 ∙ pad_same) in
-    let t9 : take (offsets_from hd) bytes ≡ x9 = front bytes (numbers_from hd) (size * hd.numbers) x8 (numbers_of w v.numbers) t8 (numbers_are w bytes (numbers_from hd) hd.numbers fits c3.1) in
-    let t10 : take (table_from hd) bytes ≡ x10 = front bytes (offsets_from hd) (2 * hd.texts) x9 (words_of offsets) t9 (words_are bytes (offsets_from hd) hd.texts fits (omega arith)) in
-    let t11 : take (end_of hd) bytes ≡ x11 = front bytes (table_from hd) hd.table x10 table t10 refl in
-    let joined : bytes ≡ x11 ++ rest = sym (take-append-drop (end_of hd) bytes) ∙ ap (λ t. t ++ rest) t11 in
+    let m = length v.names + 1 + length v.flags in
+    let x10 = x6 ++ flags_of v.flags ++ pad m ++ numbers_of w v.numbers ++ words_of (offset_words bytes s) in
+    let t1 : take 4 bytes ≡ x1 = front_after bytes 0 2 2 2 x0 (count_word (length v.names + 1)) refl f.starts (f.names.bytes_are ∙ ap count_word (sym names_len)) in
+    let t2 : take 6 bytes ≡ x2 = front_after bytes 0 4 4 2 x1 (count_word (length v.flags)) refl t1 (f.flags.bytes_are ∙ ap count_word (sym flags_len)) in
+    let t3 : take 8 bytes ≡ x3 = front_after bytes 0 6 6 2 x2 (count_word (length v.numbers)) refl t2 (f.numbers.bytes_are ∙ ap count_word (sym numbers_len)) in
+    let t4 : take 10 bytes ≡ x4 = front_after bytes 0 8 8 2 x3 (count_word (length v.texts)) refl t3 (f.texts.bytes_are ∙ ap count_word (sym texts_len)) in
+    let t5 : take 12 bytes ≡ x5 = front_after bytes 0 10 10 2 x4 (count_word (length table)) refl t4 (f.table.bytes_are ∙ ap count_word (sym table_len)) in
+    let t6 : take (12 + size) bytes ≡ x6 = front_after bytes 0 12 12 size x5 (v.names ++ 0 ∷ []) refl t5 (names_are bytes size (omega arith) (omega arith) named.holds) in
+    let even : flags_end s % 2 ≡ pad_len m = omega arith in
+    let t11 : take (end_of s - 0) bytes ≡ x10 ++ [] ++ table = part_joined bytes x6 0 (12 + size) m s fits p there (omega arith) even t6 in
+    let all : end_of s ≡ end_of s - 0 = omega arith in
+    let joined : bytes ≡ x10 ++ table ++ rest =
+    sym (take-append-drop (end_of s) bytes) ∙ ap (λ t. t ++ rest) (ap (λ k. take k bytes) all ∙ t11 ∙ ap (λ t. t ++ table) (append-nil x10)) in
     record {
       fits = limit;
       there = there;
       table_size = table_len;
-      sections = record {
-        offsets = offsets;
+      sections = λ x. record {
+        offsets = offset_words bytes s;
         joined = joined;
         counts = (rw names_len f.names.small, (rw flags_len f.flags.small, (rw numbers_len f.numbers.small, (rw texts_len f.texts.small, (rw table_len f.table.small, tt)))));
         named = omega arith;
-        names_fit = no_nuls bytes 12 (11 + hd.names - 12) (omega arith) (λ i lt. (each_name i (omega arith)).holds);
-        numbers_fit = numbers_fit w bytes (numbers_from hd) hd.numbers fits;
-        texts_there = texts_are bytes table (end_of hd) (offsets_from hd) hd.texts (c4.1 ∙ ap (λ n. verdict len (offset_checks bytes n (offsets_from hd) hd.texts)) (sym table_len)) c5.1;
+        names_fit = no_nuls bytes 12 (s.flags_from - 1 - 12) (omega arith) (λ i lt. (each_name i (omega arith)).holds);
+        numbers_fit = numbers_fit w bytes (numbers_from s) s.numbers fits;
+        texts_there = texts_are bytes table (end_of s) (offsets_from s) s.texts (p.offsets ∙ ap (λ n. verdict len (offset_checks bytes n (offsets_from s) s.texts)) (sym table_len)) p.endings;
       };
     }

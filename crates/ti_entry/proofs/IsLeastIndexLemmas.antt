@@ -3,17 +3,11 @@ use Rattle.std.proofs.Common.{◌≡◌, ◌≢◌, ℕ, zero, suc, ◌+◌, ◌
 use Rattle.std.proofs.lemmas.List.Sums.{take_while-cons}
 use Rattle.std.proofs.lemmas.Bool.{cases_lt}
 use Rattle.std.specs.Prelude.{min, slice_get, Some, None}
-use Rattle.ti_words.specs.declared.Kind.{Kind}
-use Rattle.ti_words.specs.declared.Kind.TheVariants as kinds
-use Rattle.ti_layout.specs.Headers.{Header}
-use Rattle.ti_layout.specs.Headers.{ExtendedHeader}
-use Rattle.ti_layout.specs.Layout.{places, extended_names_from, kind_count, kind_names_from}
+use Rattle.ti_layout.specs.Layout.{places}
 use Rattle.ti_words.specs.Texts.{is_nul}
 use Rattle.ti_layout.specs.Table.{until_nul}
-use Rattle.ti_entry.specs.Content.{name_at, content_with}
-use Rattle.ti_entry.specs.Finding.{names_of, Lacks, IsLeastIndex}
+use Rattle.ti_entry.specs.Finding.{Lacks, IsLeastIndex}
 use Rattle.ti_layout.proofs.SectionReadLemmas.{all_items}
-use Rattle.ti_entry.proofs.NamedItemsLemmas.{names_in}
 
 -- ---- one name
 
@@ -82,13 +76,6 @@ lacks_all f from count name i le before = all_items (λ n. n ≢ name) f from 2 
 pub first_is : (f : ℕ → List ℕ) (from count : ℕ) (name : List ℕ) (i : ℕ) → i < count → OthersBefore f from name i → f (from + 2 * i) ≡ name → IsLeastIndex (map f (places from 2 count)) name (Some i)
 first_is f from count name i lt before e =
     (get_named f from count i lt ∙ ap Some e, subst (λ l. Lacks l name) (sym (take_named f from count i (omega arith))) (lacks_all f from i name i (omega arith) before))
-
--- ---- the names of a kind
-
-pub names_are : (bytes : List ℕ) (h : Header) (x : ExtendedHeader) (kind : Kind) → names_of (content_with bytes h x) kind ≡ map (name_at bytes x) (places (kind_names_from x kind) 2 (kind_count x kind))
-names_are bytes h x kinds.Flag = names_in (name_at bytes x) _ (extended_names_from x) _ 1 x.flags
-names_are bytes h x kinds.Number = names_in (name_at bytes x) _ (extended_names_from x + 2 * x.flags) _ _ x.numbers
-names_are bytes h x kinds.Text = names_in (name_at bytes x) _ (extended_names_from x + 2 * (x.flags + x.numbers)) _ 2 x.texts
 
 pub lacks_append : (xs ys : List (List ℕ)) (name : List ℕ) → Lacks xs name → Lacks ys name → Lacks (xs ++ ys) name
 lacks_append [] ys name h k = k

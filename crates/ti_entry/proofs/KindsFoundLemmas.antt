@@ -1,6 +1,5 @@
 -- A section of each kind whose checks pass: its bytes are those of what it is read as.
-use Rattle.std.proofs.Common.{◌≡◌, ℕ, ◌+◌, ◌-◌, ◌*◌, ◌^◌, ◌<◌, ◌≤◌, true, false, List, [], ◌∷◌, ◌++◌, map, length, get_or, take, drop, inl, inr, sym, ap, ◌∙◌, arith}
-use Rattle.std.proofs.Math.Seq.{take-add}
+use Rattle.std.proofs.Common.{◌≡◌, ℕ, ◌+◌, ◌-◌, ◌*◌, ◌%◌, ◌^◌, ◌<◌, ◌≤◌, true, false, List, [], ◌∷◌, map, length, get_or, take, drop, replicate, inl, inr, sym, ap, ◌∙◌, arith}
 use Rattle.std.proofs.lemmas.Bool.{cases_lt, eqb-true}
 use Rattle.std.specs.List.{AllByRecursion}
 use Rattle.ti_words.specs.declared.Width.{Width}
@@ -35,10 +34,6 @@ count_is bytes p fits le h =
           absurd (let f : true ≡ false = sym h ∙ e in cc)
     ]
 
--- one section more at the end of a front
-pub front : (bytes : List ℕ) (from k : ℕ) (x s : List ℕ) → take from bytes ≡ x → take k (drop from bytes) ≡ s → take (from + k) bytes ≡ x ++ s
-front bytes from k x s e f = take-add from k bytes ∙ ap (λ t. t ++ take k (drop from bytes)) e ∙ ap (λ t. x ++ t) f
-
 pub flags_are : (bytes : List ℕ) (from count : ℕ) → Passes ≡ verdict (length bytes) (flag_checks bytes from count)
     → take count (drop from bytes) ≡ flags_of (map (flag_at bytes) (places from 1 count))
 flags_are bytes from count h =
@@ -47,12 +42,13 @@ flags_are bytes from count h =
     ∙ items_are bytes (λ x. byte_of_flag x ∷ []) (flag_at bytes) from 1 count (λ i lt. let p = all i lt in one_byte bytes (from + 1 * i) p.long ∙ ap (λ (x : ℕ). x ∷ []) (sym (flag_again (get_or bytes (from + 1 * i) 0) p.holds)))
     ∙ one_by_one byte_of_flag (map (flag_at bytes) (places from 1 count))
 
-pub pad_is : (bytes : List ℕ) (from count : ℕ) → Passes ≡ verdict (length bytes) (pad_checks bytes from count) → take (pad_len count) (drop from bytes) ≡ pad count
-pad_is bytes from count h =
-    let all = each_passed (nul_check bytes BadPad) (length bytes) from 1 (pad_len count) h in
-    ap (λ k. take k (drop from bytes)) (let one : pad_len count ≡ 1 * pad_len count = omega arith in one)
-    ∙ items_are bytes nul_byte (λ p. p) from 1 (pad_len count) (λ i lt. let p = all i lt in one_byte bytes (from + 1 * i) p.long ∙ ap (λ (x : ℕ). x ∷ []) (eqb-true _ _ p.holds))
-    ∙ zeros (λ p. p) from (pad_len count)
+pub pad_is : (bytes : List ℕ) (place n : ℕ) → place % 2 ≡ pad_len n → Passes ≡ verdict (length bytes) (pad_checks bytes place) → take (pad_len n) (drop place bytes) ≡ pad n
+pad_is bytes place n even h =
+    let all = each_passed (nul_check bytes BadPad) (length bytes) place 1 (place % 2) h in
+    let count : pad_len n ≡ 1 * (place % 2) = omega arith in
+    ap (λ k. take k (drop place bytes)) count
+    ∙ items_are bytes nul_byte (λ p. p) place 1 (place % 2) (λ i lt. let p = all i lt in one_byte bytes (place + 1 * i) p.long ∙ ap (λ (x : ℕ). x ∷ []) (eqb-true _ _ p.holds))
+    ∙ zeros (λ p. p) place (place % 2) ∙ ap (λ k. replicate k 0) even
 
 pub numbers_are : (w : Width) (bytes : List ℕ) (from count : ℕ) → IsBytes bytes → Passes ≡ verdict (length bytes) (number_checks bytes (number_size w) from count)
     → take (number_size w * count) (drop from bytes) ≡ numbers_of w (map (number_at (number_size w) bytes) (places from (number_size w) count))

@@ -1,5 +1,5 @@
 -- A section of each kind that is spelled: its checks pass, and it is read as what it spells.
-use Rattle.std.proofs.Common.{◌≡◌, ℕ, zero, suc, ◌+◌, ◌*◌, ◌^◌, ◌<◌, ◌≤◌, ℤ, pos, negsuc, true, ltb, List, [], ◌∷◌, ◌++◌, map, length, replicate, refl, sym, ap, subst, ◌∙◌, arith}
+use Rattle.std.proofs.Common.{◌≡◌, ℕ, zero, suc, ◌+◌, ◌*◌, ◌%◌, ◌^◌, ◌<◌, ◌≤◌, ℤ, pos, negsuc, true, ltb, List, [], ◌∷◌, ◌++◌, map, length, replicate, refl, sym, ap, subst, ◌∙◌, arith}
 use Rattle.std.proofs.lemmas.List.{length-append, length-replicate, map-id}
 use Rattle.std.proofs.lemmas.Bool.{ltb-true}
 use Rattle.std.proofs.lemmas.List.Concat.{flat_map-cons}
@@ -85,15 +85,15 @@ flags_read bytes x p from fs e l =
 
 -- ---- pads
 
-pub pad_read : (bytes x p : List ℕ) (from n : ℕ) → bytes ≡ x ++ (pad n ++ p) → length x ≡ from → Passes ≡ verdict (length bytes) (pad_checks bytes from n)
-pad_read bytes x p from n e l =
+pub pad_read : (bytes x p : List ℕ) (from n : ℕ) → from % 2 ≡ pad_len n → bytes ≡ x ++ (pad n ++ p) → length x ≡ from → Passes ≡ verdict (length bytes) (pad_checks bytes from)
+pad_read bytes x p from n even e l =
     let len = length bytes in
     let there : EachAt (λ q b. ByteAt bytes q b × IsNul b) from 1 (pad n) =
     moved (λ y q b. ByteAt y q b × IsNul b) (x ++ (flat_map byte (pad n) ++ p)) bytes (length x) from 1 (pad n) (sym (e ∙ ap (λ s. x ++ (s ++ p)) (sym (bytes_flat (pad n))))) l
     (each_at byte 1 (λ y q b. ByteAt y q b × IsNul b) IsNul (λ b. refl) (λ pre post b ok. (byte_at_is pre post b, ok)) x p (pad n) (all_zero (pad_len n))) in
     passes_at (nul_check bytes BadPad) len from 1 (pad n) (at_each (λ q b. ByteAt bytes q b × IsNul b) (λ q b. Passed len (nul_check bytes BadPad q)) from 1 (pad n)
     (λ q b h. record { long = h.0.room; holds = ap is_nul (h.0.is ∙ h.1) }) there)
-    ∙ ap (λ k. verdict len (map (nul_check bytes BadPad) (places from 1 k))) (length-replicate (pad_len n) 0)
+    ∙ ap (λ k. verdict len (map (nul_check bytes BadPad) (places from 1 k))) (length-replicate (pad_len n) 0 ∙ sym even)
 
 -- ---- numbers
 
@@ -166,7 +166,7 @@ record NameAt (table : List ℕ) (base : ℕ) (bytes : List ℕ) (q : ℕ) (z : 
   ended : ends_in table (base + number) ≡ true
 
 -- what the offset of a name says
-name_of_word : List ℕ → ℕ → ℤ → List ℕ
+pub name_of_word : List ℕ → ℕ → ℤ → List ℕ
 name_of_word table base (pos place) = text_from table (base + place)
 name_of_word table base (negsuc n) = []
 
@@ -182,7 +182,7 @@ good_name table base z name small h =
     let same : text_from table (base + h.0) ≡ name = text_again _ _ t.1 in
     (record { number = h.0; is = is; short = omega arith; below_size = t.0.below_size; ended = t.0.ended }, ap (name_of_word table base) is ∙ same)
 
-all_good_names : (table : List ℕ) (base : ℕ) (zs : List ℤ) (names : List (List ℕ)) → length table < 2 ^ 15 → Each (IsName table base) zs names
+pub all_good_names : (table : List ℕ) (base : ℕ) (zs : List ℤ) (names : List (List ℕ)) → length table < 2 ^ 15 → Each (IsName table base) zs names
     → AllByRecursion (IsGoodName table base) zs × (map (name_of_word table base) zs ≡ names) × (length zs ≡ length names)
 all_good_names table base [] [] small h = (tt, refl, refl)
 all_good_names table base [] (n ∷ ns) small h = absurd h

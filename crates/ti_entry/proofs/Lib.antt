@@ -3,11 +3,12 @@ pub mod TextLemmas
 pub mod NamedItemsLemmas
 pub mod IsLeastIndexLemmas
 pub mod KindsFoundLemmas
+pub mod SpelledItemsLemmas
+pub mod KindsSpelledLemmas
+pub mod PartLemmas
 pub mod FoundLemmas
 pub mod FoundExtendedLemmas
-pub mod SpelledItemsLemmas
 pub mod SpellsAtMostOneLemmas
-pub mod KindsSpelledLemmas
 pub mod SpelledLemmas
 pub mod SpelledExtendedLemmas
 pub mod FeedLemmas

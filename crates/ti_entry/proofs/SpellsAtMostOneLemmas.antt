@@ -1,7 +1,6 @@
 -- Bytes spell at most one entry: equal joinings of sections of equal lengths have equal sections.
-use Rattle.std.proofs.Common.{◌≡◌, ℕ, suc, ◌+◌, ◌<◌, ◌^◌, ◌⊎◌, ℤ, pos, negsuc, List, [], ◌∷◌, ◌++◌, map, length, take, Some, inl, inr, refl, sym, ap, subst, ◌∙◌, arith, append_assoc}
+use Rattle.std.proofs.Common.{◌≡◌, ℕ, suc, ◌+◌, ◌<◌, ◌^◌, ◌⊎◌, ℤ, List, [], ◌∷◌, ◌++◌, map, length, take, Some, inl, inr, refl, sym, ap, subst, ◌∙◌, arith, append_assoc, append-nil}
 use Rattle.std.proofs.lemmas.List.{length-append, length-map}
-use Rattle.std.proofs.lemmas.Bool.{ltb-true}
 use Rattle.std.proofs.lemmas.List.Concat.{flat_map-cons}
 use Rattle.std.specs.List.{flat_map, AllByRecursion}
 use Rattle.std.specs.Prelude.{unwrap_or}
@@ -11,17 +10,19 @@ use Rattle.ti_words.specs.declared.Number.TheVariants as numbers
 use Rattle.ti_words.specs.declared.Width.{Width}
 use Rattle.ti_words.specs.declared.Width.TheVariants.{Legacy, Wide}
 use Rattle.ti_words.specs.Marks.{byte_of_flag, flag_of_byte, word_of_number, number_of_word}
-use Rattle.ti_words.specs.Texts.{TextValue, TextOf}
+use Rattle.ti_words.specs.Texts.{TextValue}
 use Rattle.ti_words.specs.Value.{EntryValue}
 use Rattle.ti_words.specs.Word.{unsigned_at, word_at, word}
 use Rattle.ti_words.specs.Widths.{number_size}
-use Rattle.ti_layout.specs.Table.{text_from, text_of_word}
-use Rattle.ti_words.specs.Spelling.{FitsWidth, IsText, IsName, Each, magic, count_word, words_of, numbers_of, flags_of, pad, text_size, texts_size, name_in, mark_in, extended_names, HasSections, HasExtendedPart, HasNoExtendedPart}
+use Rattle.ti_layout.specs.Table.{text_of_word}
+use Rattle.ti_words.specs.Spelling.{FitsWidth, magic, count_word, words_of, numbers_of, flags_of, pad, text_size, texts_size, name_in, mark_in, extended_names, HasSections, HasExtendedPart, HasNoExtendedPart}
 use Rattle.ti_entry.specs.Laws.{SpellsAtMostOne}
 use Rattle.ti_entry.proofs.NamedItemsLemmas.{names_length}
 use Rattle.ti_layout.proofs.WordLemmas.{reads_count}
 use Rattle.ti_draft.proofs.LengthLemmas.{length_word}
-use Rattle.ti_entry.proofs.SpelledItemsLemmas.{IsShort, word_read, IsGood, placed, all_good, short_number, read_again, flag_read}
+use Rattle.ti_entry.proofs.SpelledItemsLemmas.{IsShort, word_read, IsGood, all_good, short_number, read_again, flag_read}
+use Rattle.ti_entry.proofs.KindsSpelledLemmas.{IsGoodName, name_of_word, all_good_names}
+use Rattle.ti_entry.proofs.PartLemmas.{Sections, IsSpelled}
 
 -- ---- lists
 
@@ -98,7 +99,60 @@ length_flat g size len (x ∷ xs) (y ∷ ys) n =
     let s : length (g x) + length (flat_map g xs) ≡ length (g y) + length (flat_map g ys) = omega arith in s)
     ∙ sym (ap length (flat_map-cons g y ys) ∙ length-append (g y) (flat_map g ys))
 
--- ---- sections
+-- ---- the sections of a part
+
+short_names : (table : List ℕ) (base : ℕ) (zs : List ℤ) → AllByRecursion (IsGoodName table base) zs → AllByRecursion (IsShort Legacy) zs
+short_names table base [] h = tt
+short_names table base (z ∷ zs) h = (rw h.0.is h.0.short, short_names table base zs h.1)
+
+-- the bytes of a part, and what follows
+abbrev bytes_of : Width → ℕ → Sections → List ℕ → List ℕ
+bytes_of w m s r = flags_of s.flags ++ (pad m ++ (numbers_of w s.numbers ++ (words_of s.offsets ++ (words_of s.name_offsets ++ (s.table ++ r)))))
+
+-- two parts have as many items of each kind
+record SameCounts (m n : ℕ) (s z : Sections) : Type 0 where
+  pads : m ≡ n
+  flags : length s.flags ≡ length z.flags
+  numbers : length s.numbers ≡ length z.numbers
+  texts : length s.texts ≡ length z.texts
+  names : length s.names ≡ length z.names
+  table : length s.table ≡ length z.table
+
+record SamePart (base base' : ℕ) (s z : Sections) (r q : List ℕ) : Type 0 where
+  flags : s.flags ≡ z.flags
+  numbers : s.numbers ≡ z.numbers
+  texts : s.texts ≡ z.texts
+  names : base ≡ base' → s.names ≡ z.names
+  table : s.table ≡ z.table
+  rest : r ≡ q
+
+part_again : (w : Width) (base base' m n : ℕ) (s z : Sections) (r q : List ℕ) → IsSpelled w base s → IsSpelled w base' z → SameCounts m n s z → bytes_of w m s r ≡ bytes_of w n z q → SamePart base base' s z r q
+part_again w base base' m n s z r q h h' c e =
+    let size = number_size w in
+    let g = all_good s.table s.offsets s.texts h.small h.texts in
+    let g' = all_good z.table z.offsets z.texts h'.small h'.texts in
+    let o = all_good_names s.table base s.name_offsets s.names h.small h.names in
+    let o' = all_good_names z.table base' z.name_offsets z.names h'.small h'.names in
+    let offsets_n : length s.offsets ≡ length z.offsets = g.2 ∙ c.texts ∙ sym g'.2 in
+    let names_n : length s.name_offsets ≡ length z.name_offsets = o.2 ∙ c.names ∙ sym o'.2 in
+    let k1 = cut (flags_of s.flags) (flags_of z.flags) _ _ (length-map s.flags byte_of_flag ∙ c.flags ∙ sym (length-map z.flags byte_of_flag)) e in
+    let k2 = cut (pad m) (pad n) _ _ (ap (λ k. length (pad k)) c.pads) k1.rest in
+    let k3 = cut (numbers_of w s.numbers) (numbers_of w z.numbers) _ _ (length_flat (λ x. word size (word_of_number x)) size (λ x. length_word size (word_of_number x)) s.numbers z.numbers c.numbers) k2.rest in
+    let k4 = cut (words_of s.offsets) (words_of z.offsets) _ _ (length_flat (word 2) 2 (length_word 2) s.offsets z.offsets offsets_n) k3.rest in
+    let k5 = cut (words_of s.name_offsets) (words_of z.name_offsets) _ _ (length_flat (word 2) 2 (length_word 2) s.name_offsets z.name_offsets names_n) k4.rest in
+    let k6 = cut s.table z.table r q c.table k5.rest in
+    let offsets : s.offsets ≡ z.offsets = words_again s.offsets z.offsets offsets_n (shorts s.table s.offsets g.0) (shorts z.table z.offsets g'.0) k4.first in
+    let names : s.name_offsets ≡ z.name_offsets = words_again s.name_offsets z.name_offsets names_n (short_names s.table base s.name_offsets o.0) (short_names z.table base' z.name_offsets o'.0) k5.first in
+    record {
+      flags = flags_again s.flags z.flags k1.first;
+      numbers = numbers_again w s.numbers z.numbers c.numbers h.fit h'.fit k3.first;
+      texts = sym g.1 ∙ ap (λ t. map (text_of_word t) s.offsets) k6.first ∙ ap (map (text_of_word z.table)) offsets ∙ g'.1;
+      names = λ b. sym o.1 ∙ ap (λ t. map (name_of_word t base) s.name_offsets) k6.first ∙ ap (λ k. map (name_of_word z.table k) s.name_offsets) b ∙ ap (map (name_of_word z.table base')) names ∙ o'.1;
+      table = k6.first;
+      rest = k6.rest;
+    }
+
+-- ---- the standard part
 
 -- what of two entries must agree, and what follows
 pub record SameSections (v w : EntryValue) (t u r q : List ℕ) : Type 0 where
@@ -121,125 +175,55 @@ same_magic Wide Legacy e = absurd cc
 same_magic Wide Wide e = refl
 
 -- the sections up to the end of the string table, by their joinings
-sections_again : (w : Width) (names names' : List ℕ) (fs fs' : List Flag) (ns ns' : List Number) (ts ts' : List TextValue) (t t' : List ℕ) (zs zs' : List ℤ) (r r' : List ℕ)
+sections_again : (w : Width) (names names' : List ℕ) (s z : Sections) (r q : List ℕ)
     → magic w
-    ++ count_word (length names + 1) ++ count_word (length fs) ++ count_word (length ns) ++ count_word (length ts) ++ count_word (length t)
-    ++ (names ++ 0 ∷ []) ++ flags_of fs ++ pad (length names + 1 + length fs) ++ numbers_of w ns ++ words_of zs ++ t ++ r
+    ++ count_word (length names + 1) ++ count_word (length s.flags) ++ count_word (length s.numbers) ++ count_word (length s.texts) ++ count_word (length s.table)
+    ++ (names ++ 0 ∷ []) ++ flags_of s.flags ++ pad (length names + 1 + length s.flags) ++ numbers_of w s.numbers ++ words_of s.offsets ++ s.table ++ r
     ≡ magic w
-    ++ count_word (length names' + 1) ++ count_word (length fs') ++ count_word (length ns') ++ count_word (length ts') ++ count_word (length t')
-    ++ (names' ++ 0 ∷ []) ++ flags_of fs' ++ pad (length names' + 1 + length fs') ++ numbers_of w ns' ++ words_of zs' ++ t' ++ r'
-    → AllByRecursion (λ n. n < 2 ^ 15) ((length names + 1) ∷ length fs ∷ length ns ∷ length ts ∷ length t ∷ [])
-    → AllByRecursion (λ n. n < 2 ^ 15) ((length names' + 1) ∷ length fs' ∷ length ns' ∷ length ts' ∷ length t' ∷ [])
-    → AllByRecursion (FitsWidth w) ns → AllByRecursion (FitsWidth w) ns'
-    → Each (IsText t) zs ts → Each (IsText t') zs' ts'
-    → (names ≡ names') × (fs ≡ fs') × (ns ≡ ns') × (ts ≡ ts') × (t ≡ t') × (r ≡ r')
-sections_again w names names' fs fs' ns ns' ts ts' t t' zs zs' r r' e c c' p p' there there' =
-    let a1 = count_word (length names + 1) in
-    let a2 = count_word (length fs) in
-    let a3 = count_word (length ns) in
-    let a4 = count_word (length ts) in
-    let a5 = count_word (length t) in
-    let a6 = names ++ 0 ∷ [] in
-    let a7 = flags_of fs in
-    let a8 = pad (length names + 1 + length fs) in
-    let a9 = numbers_of w ns in
-    let a10 = words_of zs in
-    let b1 = count_word (length names' + 1) in
-    let b2 = count_word (length fs') in
-    let b3 = count_word (length ns') in
-    let b4 = count_word (length ts') in
-    let b5 = count_word (length t') in
-    let b6 = names' ++ 0 ∷ [] in
-    let b7 = flags_of fs' in
-    let b8 = pad (length names' + 1 + length fs') in
-    let b9 = numbers_of w ns' in
-    let b10 = words_of zs' in
-    let x10 = t ++ r in
-    let x9 = a10 ++ x10 in
-    let x8 = a9 ++ x9 in
-    let x7 = a8 ++ x8 in
-    let x6 = a7 ++ x7 in
-    let x5 = a6 ++ x6 in
-    let x4 = a5 ++ x5 in
-    let x3 = a4 ++ x4 in
-    let x2 = a3 ++ x3 in
-    let x1 = a2 ++ x2 in
-    let x0 = a1 ++ x1 in
-    let y10 = t' ++ r' in
-    let y9 = b10 ++ y10 in
-    let y8 = b9 ++ y9 in
-    let y7 = b8 ++ y8 in
-    let y6 = b7 ++ y7 in
-    let y5 = b6 ++ y6 in
-    let y4 = b5 ++ y5 in
-    let y3 = b4 ++ y4 in
-    let y2 = b3 ++ y3 in
-    let y1 = b2 ++ y2 in
-    let y0 = b1 ++ y1 in
-    let whole : magic w ++ x0 ≡ magic w ++ y0 =
-    sym (grouped (magic w) a1 a2 a3 a4 a5 a6 a7 a8 a9 a10 t r) ∙ e ∙ grouped (magic w) b1 b2 b3 b4 b5 b6 b7 b8 b9 b10 t' r' in
-    let k0 = cut (magic w) (magic w) x0 y0 refl whole in
-    let k1 = cut a1 b1 x1 y1 refl k0.rest in
-    let k2 = cut a2 b2 x2 y2 refl k1.rest in
-    let k3 = cut a3 b3 x3 y3 refl k2.rest in
-    let k4 = cut a4 b4 x4 y4 refl k3.rest in
-    let k5 = cut a5 b5 x5 y5 refl k4.rest in
+    ++ count_word (length names' + 1) ++ count_word (length z.flags) ++ count_word (length z.numbers) ++ count_word (length z.texts) ++ count_word (length z.table)
+    ++ (names' ++ 0 ∷ []) ++ flags_of z.flags ++ pad (length names' + 1 + length z.flags) ++ numbers_of w z.numbers ++ words_of z.offsets ++ z.table ++ q
+    → AllByRecursion (λ n. n < 2 ^ 15) ((length names + 1) ∷ length s.flags ∷ length s.numbers ∷ length s.texts ∷ length s.table ∷ [])
+    → AllByRecursion (λ n. n < 2 ^ 15) ((length names' + 1) ∷ length z.flags ∷ length z.numbers ∷ length z.texts ∷ length z.table ∷ [])
+    → s.name_offsets ≡ [] → z.name_offsets ≡ [] → s.names ≡ [] → z.names ≡ [] → IsSpelled w 0 s → IsSpelled w 0 z
+    → (names ≡ names') × SamePart 0 0 s z r q
+sections_again w names names' s z r q e c c' d d' f f' h h' =
+    let m = length names + 1 + length s.flags in
+    let n = length names' + 1 + length z.flags in
+    let none : (o : Sections) (t : List ℕ) → o.name_offsets ≡ [] → words_of o.name_offsets ++ t ≡ t = λ o t g. ap (λ ws. words_of ws ++ t) g in
+    let part : (k : ℕ) (o : Sections) (t : List ℕ) → o.name_offsets ≡ [] → flags_of o.flags ++ (pad k ++ (numbers_of w o.numbers ++ (words_of o.offsets ++ (o.table ++ t)))) ≡ bytes_of w k o t = λ k o t g.
+    ap (λ l. flags_of o.flags ++ (pad k ++ (numbers_of w o.numbers ++ (words_of o.offsets ++ l)))) (sym (none o (o.table ++ t) g)) in
+    let whole =
+    sym (grouped (magic w) (count_word (length names + 1)) (count_word (length s.flags)) (count_word (length s.numbers)) (count_word (length s.texts)) (count_word (length s.table)) (names ++ 0 ∷ []) (flags_of s.flags) (pad m) (numbers_of w s.numbers) (words_of s.offsets) s.table r)
+    ∙ e ∙ grouped (magic w) (count_word (length names' + 1)) (count_word (length z.flags)) (count_word (length z.numbers)) (count_word (length z.texts)) (count_word (length z.table)) (names' ++ 0 ∷ []) (flags_of z.flags) (pad n) (numbers_of w z.numbers) (words_of z.offsets) z.table q in
+    let k0 = cut (magic w) (magic w) _ _ refl whole in
+    let k1 = cut (count_word (length names + 1)) (count_word (length names' + 1)) _ _ refl k0.rest in
+    let k2 = cut (count_word (length s.flags)) (count_word (length z.flags)) _ _ refl k1.rest in
+    let k3 = cut (count_word (length s.numbers)) (count_word (length z.numbers)) _ _ refl k2.rest in
+    let k4 = cut (count_word (length s.texts)) (count_word (length z.texts)) _ _ refl k3.rest in
+    let k5 = cut (count_word (length s.table)) (count_word (length z.table)) _ _ refl k4.rest in
     let n1 : length names + 1 ≡ length names' + 1 = count_again _ _ (omega (arith, c.0)) (omega (arith, c'.0)) k1.first in
-    let n2 : length fs ≡ length fs' = count_again _ _ (omega (arith, c.1.0)) (omega (arith, c'.1.0)) k2.first in
-    let n3 : length ns ≡ length ns' = count_again _ _ (omega (arith, c.1.1.0)) (omega (arith, c'.1.1.0)) k3.first in
-    let n4 : length ts ≡ length ts' = count_again _ _ (omega (arith, c.1.1.1.0)) (omega (arith, c'.1.1.1.0)) k4.first in
-    let n5 : length t ≡ length t' = count_again _ _ (omega (arith, c.1.1.1.1.0)) (omega (arith, c'.1.1.1.1.0)) k5.first in
-    let g = all_good t zs ts (omega (arith, c.1.1.1.1.0)) there in
-    let g' = all_good t' zs' ts' (omega (arith, c'.1.1.1.1.0)) there' in
-    let n6 : length names ≡ length names' = omega arith in
-    let n10 : length zs ≡ length zs' = g.2 ∙ n4 ∙ sym g'.2 in
-    let k6 = cut a6 b6 x6 y6 (length-append names (0 ∷ []) ∙ n1 ∙ sym (length-append names' (0 ∷ []))) k5.rest in
-    let k7 = cut a7 b7 x7 y7 (length-map fs byte_of_flag ∙ n2 ∙ sym (length-map fs' byte_of_flag)) k6.rest in
-    let k8 = cut a8 b8 x8 y8 (ap (λ n. length (pad n)) (let s : length names + 1 + length fs ≡ length names' + 1 + length fs' = omega arith in s)) k7.rest in
-    let k9 = cut a9 b9 x9 y9 (length_flat (λ n. word (number_size w) (word_of_number n)) (number_size w) (λ n. length_word (number_size w) (word_of_number n)) ns ns' n3) k8.rest in
-    let k10 = cut a10 b10 x10 y10 (length_flat (word 2) 2 (length_word 2) zs zs' n10) k9.rest in
-    let k11 = cut t t' r r' n5 k10.rest in
-    let offsets : zs ≡ zs' = words_again zs zs' n10 (shorts t zs g.0) (shorts t' zs' g'.0) k10.first in
-    let texts : ts ≡ ts' = sym g.1 ∙ ap (λ u. map (text_of_word u) zs) k11.first ∙ ap (map (text_of_word t')) offsets ∙ g'.1 in
-    ((cut names names' (0 ∷ []) (0 ∷ []) n6 k6.first).first, flags_again fs fs' k7.first, numbers_again w ns ns' n3 p p' k9.first, texts, k11.first, k11.rest)
+    let n2 : length s.flags ≡ length z.flags = count_again _ _ (omega (arith, c.1.0)) (omega (arith, c'.1.0)) k2.first in
+    let n3 : length s.numbers ≡ length z.numbers = count_again _ _ (omega (arith, c.1.1.0)) (omega (arith, c'.1.1.0)) k3.first in
+    let n4 : length s.texts ≡ length z.texts = count_again _ _ (omega (arith, c.1.1.1.0)) (omega (arith, c'.1.1.1.0)) k4.first in
+    let n5 : length s.table ≡ length z.table = count_again _ _ (omega (arith, c.1.1.1.1.0)) (omega (arith, c'.1.1.1.1.0)) k5.first in
+    let k6 = cut (names ++ 0 ∷ []) (names' ++ 0 ∷ []) _ _ (length-append names (0 ∷ []) ∙ n1 ∙ sym (length-append names' (0 ∷ []))) k5.rest in
+    let same : SameCounts m n s z = record { pads = omega arith; flags = n2; numbers = n3; texts = n4; names = ap length f ∙ sym (ap length f'); table = n5 } in
+    ((cut names names' (0 ∷ []) (0 ∷ []) (omega arith) k6.first).first, part_again w 0 0 m n s z r q h h' same (sym (part m s r d) ∙ k6.rest ∙ part n z q d'))
 
 pub same_sections : (v w : EntryValue) (t u r q bytes : List ℕ) → HasSections v t r bytes → HasSections w u q bytes → SameSections v w t u r q
 same_sections v w t u r q bytes s z =
     let same : v.width ≡ w.width = same_magic v.width w.width (ap (take 2) (sym s.joined ∙ z.joined)) in
     let back = sym same in
-    let js = s.joined in
     let jz = rw back at z.joined in
-    let fs = s.numbers_fit in
     let fz = rw back at z.numbers_fit in
-    let k = sections_again v.width v.names w.names v.flags w.flags v.numbers w.numbers v.texts w.texts t u s.offsets z.offsets r q (sym js ∙ jz) s.counts z.counts fs fz s.texts_there z.texts_there in
-    record { width = same; names = k.0; flags = k.1; numbers = k.2; texts = k.3; table = k.4; rest = k.5 }
+    let a : Sections = record { flags = v.flags; numbers = v.numbers; offsets = s.offsets; texts = v.texts; name_offsets = []; names = []; table = t } in
+    let b : Sections = record { flags = w.flags; numbers = w.numbers; offsets = z.offsets; texts = w.texts; name_offsets = []; names = []; table = u } in
+    let h : IsSpelled v.width 0 a = record { small = omega (arith, s.counts.1.1.1.1.0); fit = s.numbers_fit; texts = s.texts_there; names = tt } in
+    let h' : IsSpelled v.width 0 b = record { small = omega (arith, z.counts.1.1.1.1.0); fit = fz; texts = z.texts_there; names = tt } in
+    let k = sections_again v.width v.names w.names a b r q (sym s.joined ∙ jz) s.counts z.counts refl refl refl refl h h' in
+    record { width = same; names = k.0; flags = k.1.flags; numbers = k.1.numbers; texts = k.1.texts; table = k.1.table; rest = k.1.rest }
 
 -- ---- the extended part
-
--- what the offset of a name says
-name_of_word : List ℕ → ℕ → ℤ → List ℕ
-name_of_word table base (pos place) = text_from table (base + place)
-name_of_word table base (negsuc n) = []
-
-good_name : (table : List ℕ) (base : ℕ) (z : ℤ) (name : List ℕ) → length table < 2 ^ 15 → IsName table base z name → IsShort Legacy z × (name_of_word table base z ≡ name)
-unfolding name_of_word
-good_name table base z name small h =
-    let is = h.1 in
-    let t = placed table (base + h.0) name small h.2 h.3 in
-    let there : base + h.0 < length table = ltb-true (base + h.0) (length table) t.0.below_size in
-    let text : TextOf (text_from table (base + h.0)) ≡ TextOf name = t.1 in
-    let same : text_from table (base + h.0) ≡ name = cc in
-    rw is (omega arith, same)
-
-all_names : (table : List ℕ) (base : ℕ) (zs : List ℤ) (names : List (List ℕ)) → length table < 2 ^ 15 → Each (IsName table base) zs names
-    → AllByRecursion (IsShort Legacy) zs × (map (name_of_word table base) zs ≡ names) × (length zs ≡ length names)
-all_names table base [] [] small h = (tt, refl, refl)
-all_names table base [] (n ∷ ns) small h = absurd h
-all_names table base (z ∷ zs) [] small h = absurd h
-all_names table base (z ∷ zs) (n ∷ ns) small h =
-    let one = good_name table base z n small h.0 in
-    let more = all_names table base zs ns small h.1 in
-    ((one.0, more.0), ap (λ (y : List ℕ). y ∷ map (name_of_word table base) zs) one.1 ∙ ap (λ (ys : List (List ℕ)). n ∷ ys) more.1, ap suc more.2)
 
 -- names and marks one by one
 pairs_again : {A : Type 0} (xs ys : List (List ℕ × A)) → map name_in xs ≡ map name_in ys → map mark_in xs ≡ map mark_in ys → xs ≡ ys
@@ -297,122 +281,47 @@ same_extended v w f n t all =
       texts = pairs_again v.extended_texts w.extended_texts c.rest t;
     }
 
--- the marks of two extended parts, the words of their names, and their tables
-record SameMarks (v w : EntryValue) (ns ns' : List ℤ) (t t' : List ℕ) : Type 0 where
-  flag_count : length v.extended_flags ≡ length w.extended_flags
-  number_count : length v.extended_numbers ≡ length w.extended_numbers
-  text_count : length v.extended_texts ≡ length w.extended_texts
-  flags : map mark_in v.extended_flags ≡ map mark_in w.extended_flags
-  numbers : map mark_in v.extended_numbers ≡ map mark_in w.extended_numbers
-  texts : map mark_in v.extended_texts ≡ map mark_in w.extended_texts
-  names : ns ≡ ns'
-  table : t ≡ t'
-
-part_again : (v w : EntryValue) (size size' : ℕ) (q : List ℕ) (s : HasExtendedPart v size q) (z : HasExtendedPart w size' q) → v.width ≡ w.width → size ≡ size'
-    → SameMarks v w s.names z.names s.table z.table
-part_again v w size size' q s z width same =
+extended_same : (v w : EntryValue) (size size' : ℕ) (q : List ℕ) → HasExtendedPart v size q → HasExtendedPart w size' q → v.width ≡ w.width → size ≡ size' → SameExtended v w
+extended_same v w size size' q s z width same =
     let of = v.width in
     let back = sym width in
-    let js = s.joined in
     let jz = rw back at z.joined in
-    let fs = s.numbers_fit in
     let fz = rw back at z.numbers_fit in
     let c = s.counts in
     let c' = z.counts in
-    let ef = map mark_in v.extended_flags in
-    let en = map mark_in v.extended_numbers in
-    let et = map mark_in v.extended_texts in
-    let ef' = map mark_in w.extended_flags in
-    let en' = map mark_in w.extended_numbers in
-    let et' = map mark_in w.extended_texts in
-    let a0 = pad size in
-    let a1 = count_word (length v.extended_flags) in
-    let a2 = count_word (length v.extended_numbers) in
-    let a3 = count_word (length v.extended_texts) in
-    let a5 = count_word (length s.table) in
-    let a6 = flags_of ef in
-    let a7 = pad (length v.extended_flags) in
-    let a8 = numbers_of of en in
-    let a9 = words_of s.values in
-    let a10 = words_of s.names in
-    let b0 = pad size' in
-    let b1 = count_word (length w.extended_flags) in
-    let b2 = count_word (length w.extended_numbers) in
-    let b3 = count_word (length w.extended_texts) in
-    let b5 = count_word (length z.table) in
-    let b6 = flags_of ef' in
-    let b7 = pad (length w.extended_flags) in
-    let b8 = numbers_of of en' in
-    let b9 = words_of z.values in
-    let b10 = words_of z.names in
-    let x9 = a10 ++ s.table in
-    let x8 = a9 ++ x9 in
-    let x7 = a8 ++ x8 in
-    let x6 = a7 ++ x7 in
-    let x5 = a6 ++ x6 in
-    let x4 = a5 ++ x5 in
-    let x3 = s.items ++ x4 in
-    let x2 = a3 ++ x3 in
-    let x1 = a2 ++ x2 in
-    let x0 = a1 ++ x1 in
-    let y9 = b10 ++ z.table in
-    let y8 = b9 ++ y9 in
-    let y7 = b8 ++ y8 in
-    let y6 = b7 ++ y7 in
-    let y5 = b6 ++ y6 in
-    let y4 = b5 ++ y5 in
-    let y3 = z.items ++ y4 in
-    let y2 = b3 ++ y3 in
-    let y1 = b2 ++ y2 in
-    let y0 = b1 ++ y1 in
-    let whole : a0 ++ x0 ≡ b0 ++ y0 =
-    sym (grouped_part a0 a1 a2 a3 s.items a5 a6 a7 a8 a9 a10 s.table) ∙ sym js ∙ jz ∙ grouped_part b0 b1 b2 b3 z.items b5 b6 b7 b8 b9 b10 z.table in
-    let k0 = cut a0 b0 x0 y0 (ap (λ n. length (pad n)) same) whole in
-    let k1 = cut a1 b1 x1 y1 refl k0.rest in
-    let k2 = cut a2 b2 x2 y2 refl k1.rest in
-    let k3 = cut a3 b3 x3 y3 refl k2.rest in
-    let k4 = cut s.items z.items x4 y4 (s.items_size ∙ sym z.items_size) k3.rest in
-    let k5 = cut a5 b5 x5 y5 refl k4.rest in
-    let n1 : length v.extended_flags ≡ length w.extended_flags = count_again _ _ (omega (arith, c.0)) (omega (arith, c'.0)) k1.first in
+    let a : Sections = record { flags = map mark_in v.extended_flags; numbers = map mark_in v.extended_numbers; offsets = s.values; texts = map mark_in v.extended_texts; name_offsets = s.names; names = extended_names v; table = s.table } in
+    let b : Sections = record { flags = map mark_in w.extended_flags; numbers = map mark_in w.extended_numbers; offsets = z.values; texts = map mark_in w.extended_texts; name_offsets = z.names; names = extended_names w; table = z.table } in
+    let m = length v.extended_flags in
+    let n = length w.extended_flags in
+    let h : IsSpelled of (texts_size v.extended_texts) a = record { small = omega (arith, c.1.1.1.0); fit = s.numbers_fit; texts = s.texts_there; names = s.names_there } in
+    let h' : IsSpelled of (texts_size w.extended_texts) b = record { small = omega (arith, c'.1.1.1.0); fit = fz; texts = z.texts_there; names = z.names_there } in
+    let whole =
+    sym (grouped_part (pad size) (count_word m) (count_word (length v.extended_numbers)) (count_word (length v.extended_texts)) s.items (count_word (length s.table)) (flags_of a.flags) (pad m) (numbers_of of a.numbers) (words_of s.values) (words_of s.names) s.table)
+    ∙ sym s.joined ∙ jz
+    ∙ grouped_part (pad size') (count_word n) (count_word (length w.extended_numbers)) (count_word (length w.extended_texts)) z.items (count_word (length z.table)) (flags_of b.flags) (pad n) (numbers_of of b.numbers) (words_of z.values) (words_of z.names) z.table in
+    let k0 = cut (pad size) (pad size') _ _ (ap (λ k. length (pad k)) same) whole in
+    let k1 = cut (count_word m) (count_word n) _ _ refl k0.rest in
+    let k2 = cut (count_word (length v.extended_numbers)) (count_word (length w.extended_numbers)) _ _ refl k1.rest in
+    let k3 = cut (count_word (length v.extended_texts)) (count_word (length w.extended_texts)) _ _ refl k2.rest in
+    let k4 = cut s.items z.items _ _ (s.items_size ∙ sym z.items_size) k3.rest in
+    let k5 = cut (count_word (length s.table)) (count_word (length z.table)) _ _ refl k4.rest in
+    let n1 : m ≡ n = count_again _ _ (omega (arith, c.0)) (omega (arith, c'.0)) k1.first in
     let n2 : length v.extended_numbers ≡ length w.extended_numbers = count_again _ _ (omega (arith, c.1.0)) (omega (arith, c'.1.0)) k2.first in
     let n3 : length v.extended_texts ≡ length w.extended_texts = count_again _ _ (omega (arith, c.1.1.0)) (omega (arith, c'.1.1.0)) k3.first in
     let n5 : length s.table ≡ length z.table = count_again _ _ (omega (arith, c.1.1.1.0)) (omega (arith, c'.1.1.1.0)) k5.first in
-    let m1 : length ef ≡ length ef' = length-map v.extended_flags mark_in ∙ n1 ∙ sym (length-map w.extended_flags mark_in) in
-    let m2 : length en ≡ length en' = length-map v.extended_numbers mark_in ∙ n2 ∙ sym (length-map w.extended_numbers mark_in) in
-    let m3 : length et ≡ length et' = length-map v.extended_texts mark_in ∙ n3 ∙ sym (length-map w.extended_texts mark_in) in
-    let g = all_good s.table s.values et (omega (arith, c.1.1.1.0)) s.texts_there in
-    let g' = all_good z.table z.values et' (omega (arith, c'.1.1.1.0)) z.texts_there in
-    let o = all_names s.table (texts_size v.extended_texts) s.names (extended_names v) (omega (arith, c.1.1.1.0)) s.names_there in
-    let o' = all_names z.table (texts_size w.extended_texts) z.names (extended_names w) (omega (arith, c'.1.1.1.0)) z.names_there in
-    let m9 : length s.values ≡ length z.values = g.2 ∙ m3 ∙ sym g'.2 in
-    let m10 : length s.names ≡ length z.names = o.2 ∙ (names_length v ∙ (let s : length v.extended_flags + length v.extended_numbers + length v.extended_texts ≡ length w.extended_flags + length w.extended_numbers + length w.extended_texts = omega arith in s) ∙ sym (names_length w)) ∙ sym o'.2 in
-    let k6 = cut a6 b6 x6 y6 (length-map ef byte_of_flag ∙ m1 ∙ sym (length-map ef' byte_of_flag)) k5.rest in
-    let k7 = cut a7 b7 x7 y7 (ap (λ n. length (pad n)) n1) k6.rest in
-    let k8 = cut a8 b8 x8 y8 (length_flat (λ n. word (number_size of) (word_of_number n)) (number_size of) (λ n. length_word (number_size of) (word_of_number n)) en en' m2) k7.rest in
-    let k9 = cut a9 b9 x9 y9 (length_flat (word 2) 2 (length_word 2) s.values z.values m9) k8.rest in
-    let k10 = cut a10 b10 s.table z.table (length_flat (word 2) 2 (length_word 2) s.names z.names m10) k9.rest in
-    let values : s.values ≡ z.values = words_again s.values z.values m9 (shorts s.table s.values g.0) (shorts z.table z.values g'.0) k9.first in
-    record {
-      flag_count = n1;
-      number_count = n2;
-      text_count = n3;
-      flags = flags_again ef ef' k6.first;
-      numbers = numbers_again of en en' m2 fs fz k8.first;
-      texts = sym g.1 ∙ ap (λ t. map (text_of_word t) s.values) k10.rest ∙ ap (map (text_of_word z.table)) values ∙ g'.1;
-      names = words_again s.names z.names m10 o.0 o'.0 k10.first;
-      table = k10.rest;
-    }
-
--- the names of two extended parts with the same marks
-names_again : (v w : EntryValue) (size size' : ℕ) (q : List ℕ) (s : HasExtendedPart v size q) (z : HasExtendedPart w size' q) → SameMarks v w s.names z.names s.table z.table → SameExtended v w
-names_again v w size size' q s z h =
-    let o = all_names s.table (texts_size v.extended_texts) s.names (extended_names v) (omega (arith, s.counts.1.1.1.0)) s.names_there in
-    let o' = all_names z.table (texts_size w.extended_texts) z.names (extended_names w) (omega (arith, z.counts.1.1.1.0)) z.names_there in
-    let base : texts_size v.extended_texts ≡ texts_size w.extended_texts = same_sizes v.extended_texts w.extended_texts h.texts in
-    let all : extended_names v ≡ extended_names w =
-    sym o.1 ∙ ap (λ t. map (name_of_word t (texts_size v.extended_texts)) s.names) h.table
-    ∙ ap (λ n. map (name_of_word z.table n) s.names) base ∙ ap (map (name_of_word z.table (texts_size w.extended_texts))) h.names ∙ o'.1 in
-    same_extended v w h.flags h.numbers h.texts all
+    let names : length (extended_names v) ≡ length (extended_names w) = omega (arith, names_length v, names_length w) in
+    let counts : SameCounts m n a b = record {
+      pads = n1;
+      flags = length-map v.extended_flags mark_in ∙ n1 ∙ sym (length-map w.extended_flags mark_in);
+      numbers = length-map v.extended_numbers mark_in ∙ n2 ∙ sym (length-map w.extended_numbers mark_in);
+      texts = length-map v.extended_texts mark_in ∙ n3 ∙ sym (length-map w.extended_texts mark_in);
+      names = names;
+      table = n5;
+    } in
+    let to_end : (k : ℕ) (o : Sections) → bytes_of of k o [] ≡ flags_of o.flags ++ (pad k ++ (numbers_of of o.numbers ++ (words_of o.offsets ++ (words_of o.name_offsets ++ o.table)))) = λ k o.
+    ap (λ t. flags_of o.flags ++ (pad k ++ (numbers_of of o.numbers ++ (words_of o.offsets ++ (words_of o.name_offsets ++ t))))) (append-nil o.table) in
+    let p = part_again of (texts_size v.extended_texts) (texts_size w.extended_texts) m n a b [] [] h h' counts (to_end m a ∙ k5.rest ∙ sym (to_end n b)) in
+    same_extended v w p.flags p.numbers p.texts (p.names (same_sizes v.extended_texts w.extended_texts p.texts))
 
 -- an extended part has bytes
 some_part : (v : EntryValue) (size : ℕ) (q : List ℕ) → HasExtendedPart v size q → q ≡ [] → ⊥
@@ -428,7 +337,7 @@ extended_again : (v w : EntryValue) (t u : List ℕ) (r : List ℕ) → v.width 
 extended_again v w t u r width e (inl s) (inl z) = record { flags = s.no_flags ∙ sym z.no_flags; numbers = s.no_numbers ∙ sym z.no_numbers; texts = s.no_texts ∙ sym z.no_texts }
 extended_again v w t u r width e (inl s) (inr z) = absurd (some_part w (length u) r z s.ends)
 extended_again v w t u r width e (inr s) (inl z) = absurd (some_part v (length t) r s z.ends)
-extended_again v w t u r width e (inr s) (inr z) = names_again v w (length t) (length u) r s z (part_again v w (length t) (length u) r s z width (ap length e))
+extended_again v w t u r width e (inr s) (inr z) = extended_same v w (length t) (length u) r s z width (ap length e)
 
 pub same_value : (v w : EntryValue) → v.width ≡ w.width → v.names ≡ w.names → v.flags ≡ w.flags → v.numbers ≡ w.numbers → v.texts ≡ w.texts → SameExtended v w → v ≡ w
 same_value v w width names flags numbers texts more =

@@ -1,35 +1,27 @@
--- What a view shows of an entry that was read, and what a reader holds. An entry without an extended part is shown with
--- one of no capability.
+-- What holds of the parts that a view keeps of an entry that was read, and what a reader holds.
 -- Only the views and private functions of the crate cite this.
-use Rattle.std.specs.Prelude.{◌≡◌, ℕ, ◌≤◌, List, length, Option, None}
+use Rattle.std.specs.Prelude.{◌≡◌, ℕ, ◌+◌, ◌≤◌, List, length, Option, None}
 use Rattle.ti_base.specs.Limits.{most_entry_bytes}
-use Rattle.ti_layout.specs.Headers.{Header}
 use Rattle.ti_layout.specs.declared.part.Part.{Part}
 use Rattle.ti_layout.specs.declared.fault.Refused.{Refused}
 use Rattle.ti_layout.specs.declared.stage.Stage.{Stage}
-use Rattle.ti_words.specs.Value.{EntryValue}
-use Rattle.ti_layout.specs.Layout.{end_of, extended_end_of}
+use Rattle.ti_layout.specs.Layout.{end_of, standard}
 use Rattle.ti_layout.specs.Table.{base_of}
 use Rattle.ti_layout.specs.Refusal.{failure}
 use Rattle.ti_layout.specs.Stages.{Stands, Waits}
-use Rattle.ti_entry.specs.Content.{content_with}
 
--- the entry that a view shows
-abbrev pub shown_entry : List ℕ → Header → Part → EntryValue
-shown_entry bytes h part = content_with bytes h part.header
+-- a part lies within the bytes
+abbrev pub IsWithin : List ℕ → Part → Type 0
+IsWithin bytes p = (end_of p ≤ most_entry_bytes) × (end_of p ≤ length bytes)
 
--- the extended part lies within the bytes, and the base of its names is known
-abbrev pub IsPart : List ℕ → Part → Type 0
-IsPart bytes part =
-    (extended_end_of part.header ≤ most_entry_bytes)
-    × (extended_end_of part.header ≤ length bytes)
-    × (part.base ≤ most_entry_bytes)
-    × (part.base ≡ base_of bytes part.header)
+-- an extended part: each capability has a name, and the base of the names is known
+abbrev pub IsExtended : List ℕ → Part → ℕ → Type 0
+IsExtended bytes x base =
+    IsWithin bytes x × (x.flags + x.numbers + x.texts ≡ x.names) × (base ≤ most_entry_bytes) × (base ≡ base_of bytes x)
 
--- the bytes have these sections and this part
-abbrev pub IsLaidOut : List ℕ → Header → Part → Type 0
-IsLaidOut bytes h part =
-    (2 ≤ h.names) × (end_of h ≤ most_entry_bytes) × (end_of h ≤ length bytes) × IsPart bytes part
+-- the standard part of the bytes: there is a name
+abbrev pub IsStandard : List ℕ → Part → Type 0
+IsStandard bytes s = IsWithin bytes s × (14 ≤ s.flags_from) × (s ≡ standard bytes)
 
 -- ---- a reader
 

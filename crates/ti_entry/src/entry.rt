@@ -1,9 +1,9 @@
 //! An entry that was read: a view that lends from its bytes.
 //!
-//! The view holds the slice and the headers, which say where the sections lie. Each accessor takes a few instructions
+//! The view holds the slice and its two parts, which say where the sections lie. Each accessor takes a few instructions
 //! and no memory; `text` looks once for its NUL. Reading is the checker of `stage` over all the bytes at once.
 
-ghost use Rattle.std.specs.Prelude.{◌≡◌, ◌+◌, ◌<◌, length, get_or, IfOk, IfErr, IsOkAnd, Some};
+ghost use Rattle.std.specs.Prelude.{◌≡◌, length, get_or, IfOk, IfErr, IsOkAnd, Some};
 ghost use Rattle.ti_words.specs.Texts.{text_value, AbsentText};
 ghost use Rattle.ti_layout.specs.Refusal.{refusal};
 ghost use Rattle.ti_words.specs.Value.{EntryValue};
@@ -12,29 +12,32 @@ ghost use Rattle.ti_entry.specs.Reading.{answer_for};
 ghost use Rattle.ti_layout.specs.Stages.{Stands, Waits};
 
 use crate::extended::{Extended, extended_of};
-use crate::item::{flag_at, number_at, text_at};
 use crate::texts::{Texts, texts_of};
+use crate::view::{flag, number, table, text};
 use std::marker::Model;
-use ti_layout::{Fault, Header, Part, Refused, Stage, numbers_size};
+use ti_layout::{Fault, Part, Refused, Stage};
 use ti_words::{Flag, Kind, Number, Text, Width};
 
 /// A compiled entry (term(5)). What it gives is lent from the bytes that it was read from.
 #[derive(Debug, Drop)]
 pub struct Entry<'a> {
     bytes: &'a [u8],
-    header: Header,
-    part: Part,
+    standard: Part,
+    extended: Part,
+    base: usize,
 }
 
 impl<'a> Model for Entry<'a> {
     ghost use Rattle.ti_words.specs.Value.{EntryValue};
-    ghost use Rattle.ti_entry.specs.Views.{shown_entry, IsLaidOut};
+    ghost use Rattle.ti_entry.specs.Content.{content_with};
+    ghost use Rattle.ti_entry.specs.Views.{IsStandard, IsExtended};
 
     ghost Value = { EntryValue };
 
-    ghost view = { λ e. shown_entry e.bytes.now e.header e.part };
+    ghost view = { λ e. content_with e.bytes.now e.standard e.extended };
 
-    ghost invariant = { λ e. IsLaidOut e.bytes.now e.header e.part };
+    ghost invariant = { λ e. IsStandard e.bytes.now e.standard
+        × IsExtended e.bytes.now e.extended e.base };
 }
 
 /// Reads an entry, which has to be all of the bytes.
@@ -79,8 +82,9 @@ pub(crate) fn entry_at<'a>(bytes: &'a [u8], stage: &Stage) -> Result<Entry<'a>, 
     }
     Ok(Entry {
         bytes,
-        header: stage.header(),
-        part: stage.part(),
+        standard: stage.standard(),
+        extended: stage.extended(),
+        base: stage.base(),
     })
 }
 
@@ -89,83 +93,68 @@ impl<'a> Entry<'a> {
     pub fn width(&self) -> Width
         ensures { result ≡ self.now.width }
     {
-        self.header.width()
+        self.standard.width()
     }
 
     /// The names, separated by `|`, without the NUL after them.
     pub fn names(&self) -> &'a [u8]
         ensures { result.now ≡ self.now.names }
     {
-        &self.bytes[12..self.header.flags_from() - 1]
+        &self.bytes[12..self.standard.flags_from() - 1]
     }
 
     /// How many flags it has.
     pub fn flag_count(&self) -> usize
         ensures { result ≡ length self.now.flags }
     {
-        self.header.count(Kind::Flag)
+        self.standard.count(Kind::Flag)
     }
 
     /// How many numbers it has.
     pub fn number_count(&self) -> usize
         ensures { result ≡ length self.now.numbers }
     {
-        self.header.count(Kind::Number)
+        self.standard.count(Kind::Number)
     }
 
     /// How many texts it has.
     pub fn text_count(&self) -> usize
         ensures { result ≡ length self.now.texts }
     {
-        self.header.count(Kind::Text)
+        self.standard.count(Kind::Text)
     }
 
     /// The flag at an index; at or above the count No.
     pub fn flag(&self, i: usize) -> Flag
         ensures { result ≡ get_or self.now.flags i Flag.No }
     {
-        if i < self.header.count(Kind::Flag) {
-            flag_at(self.bytes, self.header.flags_from() + i)
-        } else {
-            Flag::No
-        }
+        flag(self.bytes, &self.standard, i)
     }
 
     /// The number at an index; at or above the count Absent.
     pub fn number(&self, i: usize) -> Number
         ensures { result ≡ get_or self.now.numbers i Number.Absent }
     {
-        if i < self.header.count(Kind::Number) {
-            let width = self.header.width();
-            let place = self.header.numbers_from() + numbers_size(width, i);
-            number_at(self.bytes, width, place)
-        } else {
-            Number::Absent
-        }
+        number(self.bytes, &self.standard, i)
     }
 
     /// The text at an index; at or above the count Absent.
     pub fn text(&self, i: usize) -> Text<'a>
         ensures { text_value result ≡ get_or self.now.texts i AbsentText }
     {
-        if i < self.header.count(Kind::Text) {
-            let table = &self.bytes[self.header.table_from()..self.header.end()];
-            text_at(table, self.bytes, self.header.offsets_from() + 2 * i)
-        } else {
-            Text::Absent
-        }
+        text(self.bytes, &self.standard, i)
     }
 
     /// Its texts, to be read one after another.
     pub(crate) fn texts(&self) -> Texts<'a>
         ensures { result ≡ self.now.texts }
     {
-        let table = &self.bytes[self.header.table_from()..self.header.end()];
+        let standard = &self.standard;
         texts_of(
-            table,
+            table(self.bytes, standard),
             self.bytes,
-            self.header.offsets_from(),
-            self.text_count(),
+            standard.offsets_from(),
+            standard.count(Kind::Text),
         )
     }
 
@@ -173,6 +162,6 @@ impl<'a> Entry<'a> {
     pub fn extended(&self) -> Extended<'a>
         ensures { result ≡ self.now }
     {
-        extended_of(self.bytes, self.header, self.part)
+        extended_of(self.bytes, self.extended, self.base)
     }
 }

@@ -8,15 +8,16 @@ ghost use Rattle.std.specs.Prelude.{◌≡◌, ◌+◌, ◌*◌, ◌<◌, ◌≤
 ghost use Rattle.std.specs.Option.{option_map};
 ghost use Rattle.ti_base.specs.Limits.{most_entry_bytes};
 ghost use Rattle.ti_words.specs.Texts.{text_value, AbsentText};
-ghost use Rattle.ti_layout.specs.Layout.{places};
-ghost use Rattle.ti_entry.specs.Content.{name_at as the_name_at};
-ghost use Rattle.ti_entry.specs.Views.{shown_entry, IsLaidOut, IsPart};
+ghost use Rattle.ti_layout.specs.Layout.{places, standard};
+ghost use Rattle.ti_entry.specs.Content.{content_with, name_at as the_name_at};
+ghost use Rattle.ti_entry.specs.Views.{IsExtended};
 ghost use Rattle.ti_words.specs.Spelling.{mark_in};
 ghost use Rattle.ti_entry.specs.Finding.{IsLeastIndex, IsFirstNamed, names_of};
 
-use crate::item::{flag_at, is_text, number_at, text_at};
+use crate::item::is_text;
+use crate::view::{flag, number, table, text};
 use std::marker::Model;
-use ti_layout::{Header, Part, count_at, numbers_size, text_from};
+use ti_layout::{Part, count_at, text_from};
 use ti_words::{Flag, Kind, Number, Text};
 
 /// The extended part of an entry, with no capability where the entry has none. What it gives is lent from the bytes that
@@ -24,31 +25,31 @@ use ti_words::{Flag, Kind, Number, Text};
 #[derive(Debug, Drop)]
 pub struct Extended<'a> {
     bytes: &'a [u8],
-    header: Header,
     part: Part,
+    /// What the offsets of the names are counted from.
+    base: usize,
 }
 
 impl<'a> Model for Extended<'a> {
     ghost use Rattle.ti_words.specs.Value.{EntryValue};
-    ghost use Rattle.ti_entry.specs.Views.{shown_entry, IsLaidOut};
+    ghost use Rattle.ti_layout.specs.Layout.{standard};
+    ghost use Rattle.ti_entry.specs.Content.{content_with};
+    ghost use Rattle.ti_entry.specs.Views.{IsExtended};
 
     ghost Value = { EntryValue };
 
-    ghost view = { λ e. shown_entry e.bytes.now e.header e.part };
+    // The entry that it is a part of.
+    ghost view = { λ e. content_with e.bytes.now (standard e.bytes.now) e.part };
 
-    ghost invariant = { λ e. IsLaidOut e.bytes.now e.header e.part };
+    ghost invariant = { λ e. IsExtended e.bytes.now e.part e.base };
 }
 
-/// The extended part of an entry with these sections.
-pub(crate) fn extended_of<'a>(bytes: &'a [u8], header: Header, part: Part) -> Extended<'a>
-    requires { IsLaidOut bytes.now header part }
-    ensures { result ≡ shown_entry bytes.now header part }
+/// The extended part of an entry.
+pub(crate) fn extended_of<'a>(bytes: &'a [u8], part: Part, base: usize) -> Extended<'a>
+    requires { IsExtended bytes.now part base }
+    ensures { result ≡ content_with bytes.now (standard bytes.now) part }
 {
-    Extended {
-        bytes,
-        header,
-        part,
-    }
+    Extended { bytes, part, base }
 }
 
 impl<'a> Extended<'a> {
@@ -56,69 +57,51 @@ impl<'a> Extended<'a> {
     pub fn flag_count(&self) -> usize
         ensures { result ≡ length self.now.extended_flags }
     {
-        self.part.header.count(Kind::Flag)
+        self.part.count(Kind::Flag)
     }
 
     /// How many numbers it has.
     pub fn number_count(&self) -> usize
         ensures { result ≡ length self.now.extended_numbers }
     {
-        self.part.header.count(Kind::Number)
+        self.part.count(Kind::Number)
     }
 
     /// How many texts it has.
     pub fn text_count(&self) -> usize
         ensures { result ≡ length self.now.extended_texts }
     {
-        self.part.header.count(Kind::Text)
+        self.part.count(Kind::Text)
     }
 
     /// The flag at an index; at or above the count No.
     pub fn flag(&self, i: usize) -> Flag
         ensures { result ≡ get_or (map mark_in self.now.extended_flags) i Flag.No }
     {
-        let header = &self.part.header;
-        if i < header.count(Kind::Flag) {
-            flag_at(self.bytes, header.flags_from() + i)
-        } else {
-            Flag::No
-        }
+        flag(self.bytes, &self.part, i)
     }
 
     /// The number at an index; at or above the count Absent.
     pub fn number(&self, i: usize) -> Number
         ensures { result ≡ get_or (map mark_in self.now.extended_numbers) i Number.Absent }
     {
-        let header = &self.part.header;
-        if i < header.count(Kind::Number) {
-            let width = header.width();
-            let place = header.numbers_from() + numbers_size(width, i);
-            number_at(self.bytes, width, place)
-        } else {
-            Number::Absent
-        }
+        number(self.bytes, &self.part, i)
     }
 
     /// The text at an index; at or above the count Absent.
     pub fn text(&self, i: usize) -> Text<'a>
         ensures { text_value result ≡ get_or (map mark_in self.now.extended_texts) i AbsentText }
     {
-        let header = &self.part.header;
-        if i < header.count(Kind::Text) {
-            let table = &self.bytes[header.table_from()..header.end()];
-            text_at(table, self.bytes, header.values_from() + 2 * i)
-        } else {
-            Text::Absent
-        }
+        text(self.bytes, &self.part, i)
     }
 
     /// The name of the capability of a kind at an index, without its NUL; none at or above the count. It may be empty.
     pub fn name(&self, kind: Kind, i: usize) -> Option<&'a [u8]>
         ensures { option_map (λ name. name.now) result ≡ slice_get (names_of self.now kind) i }
     {
-        if i < self.part.header.count(kind) {
-            let place = self.part.header.names_of(kind) + 2 * i;
-            Some(name_at(self.bytes, &self.part, place))
+        if i < self.part.count(kind) {
+            let place = self.part.names_of(kind) + 2 * i;
+            Some(name_at(self.bytes, &self.part, self.base, place))
         } else {
             None
         }
@@ -151,47 +134,52 @@ impl<'a> Extended<'a> {
     fn find_of(&self, kind: Kind, name: &[u8]) -> Option<usize>
         ensures { IsLeastIndex (names_of self.now kind) name.now result }
     {
-        let header = &self.part.header;
         first_named(
             self.bytes,
             &self.part,
-            header.names_of(kind),
-            header.count(kind),
+            self.base,
+            self.part.names_of(kind),
+            self.part.count(kind),
             name,
         )
     }
 }
 
 /// The name whose offset stands at a place.
-fn name_at<'a>(bytes: &'a [u8], part: &Part, place: usize) -> &'a [u8]
-    requires part { IsPart bytes.now part.now }
+fn name_at<'a>(bytes: &'a [u8], part: &Part, base: usize, place: usize) -> &'a [u8]
+    requires part { IsExtended bytes.now part.now base }
     requires within { place + 2 ≤ length bytes.now }
-    ensures { result.now ≡ the_name_at bytes.now part.now.header place }
+    ensures { result.now ≡ the_name_at bytes.now part.now place }
 {
-    let table = &bytes[part.header.table_from()..part.header.end()];
-    text_from(table, part.base + count_at(bytes, place))
+    text_from(table(bytes, part), base + count_at(bytes, place))
 }
 
 /// Whether the name whose offset stands at a place is this one.
-fn is_name_at(bytes: &[u8], part: &Part, place: usize, name: &[u8]) -> bool
-    requires part { IsPart bytes.now part.now }
+fn is_name_at(bytes: &[u8], part: &Part, base: usize, place: usize, name: &[u8]) -> bool
+    requires part { IsExtended bytes.now part.now base }
     requires within { place + 2 ≤ length bytes.now }
-    ensures { IsTrue result ↔ the_name_at bytes.now part.now.header place ≡ name.now }
+    ensures { IsTrue result ↔ the_name_at bytes.now part.now place ≡ name.now }
 {
-    let table = &bytes[part.header.table_from()..part.header.end()];
-    is_text(table, part.base + count_at(bytes, place), name)
+    is_text(table(bytes, part), base + count_at(bytes, place), name)
 }
 
 /// The least index at which a name is this one; the names' offsets stand one after the other from a place on.
-fn first_named(bytes: &[u8], part: &Part, from: usize, count: usize, name: &[u8]) -> Option<usize>
-    requires part { IsPart bytes.now part.now }
+fn first_named(
+    bytes: &[u8],
+    part: &Part,
+    base: usize,
+    from: usize,
+    count: usize,
+    name: &[u8],
+) -> Option<usize>
+    requires part { IsExtended bytes.now part.now base }
     requires within { from + 2 * count ≤ length bytes.now }
     requires fits { from + 2 * count ≤ most_entry_bytes }
     ensures { IsLeastIndex
-        (map (the_name_at bytes.now part.now.header) (places from 2 count)) name.now result }
+        (map (the_name_at bytes.now part.now) (places from 2 count)) name.now result }
 {
     for i in 0..count {
-        if is_name_at(bytes, part, from + 2 * i, name) {
+        if is_name_at(bytes, part, base, from + 2 * i, name) {
             return Some(i);
         }
     }

@@ -17,6 +17,7 @@ pub mod laws;
 mod reader;
 mod source;
 mod texts;
+mod view;
 
 pub use encoding::encode;
 pub use entry::{Entry, read};

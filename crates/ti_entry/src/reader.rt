@@ -17,7 +17,7 @@ use arrayvec::ArrayVec;
 use std::fmt;
 use std::marker::Model;
 use ti_base::MOST_ENTRY_BYTES;
-use ti_layout::{Fault, Refused, Stage, header_words};
+use ti_layout::{Fault, Refused, Stage, standard_part};
 
 /// The bytes of an entry that came so far, the check that is next, and the refusal that lasts.
 #[derive(Drop)]
@@ -205,7 +205,7 @@ fn fault_after(kept: &[u8]) -> Fault
     requires { length kept.now ≡ most_entry_bytes }
     ensures { result ≡ the_fault_after kept.now }
 {
-    if header_words(kept).end() == kept.len() {
+    if standard_part(kept).end() == kept.len() {
         Fault::ExtendedTooBig
     } else {
         Fault::Trailing

@@ -1,25 +1,23 @@
 -- Inputs as long as an entry may be.
-use Rattle.std.proofs.Common.{◌≡◌, ℕ, zero, suc, ◌+◌, ◌-◌, ◌<◌, ◌≤◌, ◌⊎◌, Bool, true, false, cond, eqb, ltb, leb, List, [], ◌∷◌, ◌++◌, map, length, inl, inr, refl, sym, ap, subst, ◌∙◌, arith}
+use Rattle.std.proofs.Common.{◌≡◌, ℕ, zero, suc, ◌+◌, ◌-◌, ◌%◌, ◌<◌, ◌≤◌, ◌⊎◌, Bool, true, false, cond, eqb, ltb, leb, List, [], ◌∷◌, ◌++◌, length, inl, inr, refl, sym, ap, subst, ◌∙◌, arith}
 use Rattle.std.proofs.lemmas.List.{length-append}
 use Rattle.std.proofs.lemmas.Bool.{le-ltb, leb-true, leb-false, lt-leb, ne_eqb, eq-eqb}
 use Rattle.std.proofs.lemmas.List.Concat.{flat_map-cons}
 use Rattle.std.specs.List.{AllByRecursion}
 use Rattle.ti_base.specs.Limits.{most_entry_bytes}
-use Rattle.ti_layout.specs.declared.fault.Fault.TheVariants.{BadHeader, BadNames, BadPad, BadExtendedHeader, BadExtendedName, ExtendedTooBig, Trailing}
+use Rattle.ti_layout.specs.declared.fault.Fault.TheVariants.{BadHeader, BadPad, BadExtendedHeader, BadExtendedName, ExtendedTooBig, Trailing}
 use Rattle.ti_layout.specs.declared.fault.Fault.{Fault}
-use Rattle.ti_layout.specs.Headers.{Header}
-use Rattle.ti_layout.specs.Headers.{ExtendedHeader}
-use Rattle.ti_layout.specs.Layout.{header_of, places, flags_from, pad_from, numbers_from, offsets_from, end_of, extended_from, extended_header_of, extended_flags_from, extended_pad_from, extended_numbers_from, extended_values_from, extended_names_from, extended_name_count, extended_end_of}
+use Rattle.ti_layout.specs.declared.part.Part.{Part}
+use Rattle.ti_layout.specs.Layout.{standard, places, flags_end, numbers_from, offsets_from, names_from, end_of, extended_from, extended_after}
 use Rattle.ti_words.specs.Widths.{number_size}
-use Rattle.ti_words.specs.Spelling.{pad_len}
-use Rattle.ti_layout.specs.Table.{table_of, extended_table_of, base_of}
-use Rattle.ti_layout.specs.Checks.{Check, Verdict, Passes, EndsEarly, Fails, verdict, refusal_at, sign_check, sign_checks, name_check, nul_check, name_checks, flag_check, flag_checks, pad_checks, number_check, number_checks, offset_check, offset_checks, ending_check, ending_checks, name_place_checks, all_name_place_checks, end_check, end_checks}
-use Rattle.ti_layout.specs.Refusal.{size_check, named_check, magic_checks, size_checks, front_checks, section_checks, room_check, extended_word_checks, extended_size_check, extended_size_checks, extended_front_checks, extended_section_checks, extended_checks, checks_after_table, checks, fault_after}
+use Rattle.ti_layout.specs.Table.{table_of, base_of}
+use Rattle.ti_layout.specs.Checks.{Check, Verdict, Passes, EndsEarly, Fails, verdict, refusal_at, sign_check, sign_checks, name_check, nul_check, name_checks, flag_check, pad_checks, number_check, offset_check, ending_check, ending_checks, name_place_checks, all_name_place_checks, end_check, end_checks}
+use Rattle.ti_layout.specs.Refusal.{item_checks, text_checks, part_checks, size_check, named_check, magic_checks, size_checks, front_checks, section_checks, room_check, room_checks, extended_size_check, extended_size_checks, extended_front_checks, extended_checks, checks_after_table, checks, fault_after}
 use Rattle.ti_layout.proofs.VerdictLemmas.{then}
 use Rattle.ti_layout.proofs.PassesLemmas.{first_passes}
 use Rattle.ti_layout.proofs.PlacesLemmas.{within}
 use Rattle.ti_layout.proofs.SectionReadLemmas.{both_pass, all_items}
-use Rattle.ti_layout.proofs.FailureLastsLemmas.{stays, front_alike, section_alike, header_same, split, extended_same, extended_split, extended_long, extended_front_alike, extended_section_alike}
+use Rattle.ti_layout.proofs.FailureLastsLemmas.{stays, front_alike, section_alike, standard_same, split, extended_same, extended_split, extended_long, extended_front_alike, part_alike}
 
 -- the fronts that these checks read are there
 abbrev pub Reaches : ℕ → Check → Type 0
@@ -37,31 +35,37 @@ no_early len (c ∷ cs) h e = by_holds c.holds (no_early len cs h.1) (sym (let k
     by_holds true f e = f e
     by_holds false f e = cc
 
-front_reaches : (xs : List ℕ) (len : ℕ) → 12 ≤ len → AllByRecursion (Reaches len) (front_checks xs (header_of xs))
+front_reaches : (xs : List ℕ) (len : ℕ) → 12 ≤ len → AllByRecursion (Reaches len) (front_checks xs (standard xs))
 front_reaches xs len le =
-    all_append (Reaches len) (magic_checks xs ++ sign_checks xs BadHeader 2 5) (size_checks (header_of xs))
+    all_append (Reaches len) (magic_checks xs ++ sign_checks xs BadHeader 2 5) (size_checks (standard xs))
     (all_append (Reaches len) (magic_checks xs) (sign_checks xs BadHeader 2 5) (omega arith, tt) (all_items (Reaches len) (sign_check xs BadHeader) 2 2 5 (λ i lt. omega arith)))
     (le, (le, tt))
 
-section_reaches : (xs : List ℕ) (h : Header) (len : ℕ) → 2 ≤ h.names → end_of h ≤ len → AllByRecursion (Reaches len) (section_checks xs h)
-section_reaches xs h len some le =
+names_reach : (xs table : List ℕ) (base end from count len : ℕ) → end ≤ len → AllByRecursion (Reaches len) (all_name_place_checks xs table base end (places from 2 count))
+names_reach xs table base end from zero len le = tt
+names_reach xs table base end from (suc count) len le =
+    subst (AllByRecursion (Reaches len)) (sym (flat_map-cons (name_place_checks xs table base end) from (places (from + 2) 2 count))) (le, (le, names_reach xs table base end (from + 2) count len le))
+
+part_reaches : (xs : List ℕ) (p : Part) (len : ℕ) → end_of p ≤ len → AllByRecursion (Reaches len) (part_checks xs p)
+part_reaches xs p len le =
     let P = Reaches len in
-    let names = all_append P (map (name_check xs) (places 12 1 (h.names - 1))) (nul_check xs BadNames (11 + h.names) ∷ []) (all_items P (name_check xs) 12 1 (h.names - 1) (λ i lt. omega arith)) (omega arith, tt) in
-    let flags = all_items P (flag_check xs) (flags_from h) 1 h.flags (λ i lt. omega arith) in
-    let pads = all_items P (nul_check xs BadPad) (pad_from h) 1 (pad_len (h.names + h.flags)) (λ i lt. omega arith) in
-    let numbers : AllByRecursion P (number_checks xs (number_size h.width) (numbers_from h) h.numbers) = all_items P (number_check xs (number_size h.width)) (numbers_from h) (number_size h.width) h.numbers (λ i lt. (let k = within h.width i h.numbers lt in omega arith)) in
-    let offsets = all_items P (offset_check xs h.table) (offsets_from h) 2 h.texts (λ i lt. omega arith) in
-    let endings : AllByRecursion P (ending_checks xs (table_of xs h) (end_of h) (offsets_from h) h.texts) = (le, all_items P (ending_check xs (table_of xs h) (end_of h)) (offsets_from h) 2 h.texts (λ i lt. le)) in
-    let an = name_checks xs h.names in
-    let af = flag_checks xs (flags_from h) h.flags in
-    let apd = pad_checks xs (pad_from h) (h.names + h.flags) in
-    let am = number_checks xs (number_size h.width) (numbers_from h) h.numbers in
-    let ao = offset_checks xs h.table (offsets_from h) h.texts in
-    let ae = ending_checks xs (table_of xs h) (end_of h) (offsets_from h) h.texts in
-    all_append P ((((an ++ af) ++ apd) ++ am) ++ ao) ae
-    (all_append P (((an ++ af) ++ apd) ++ am) ao
-    (all_append P ((an ++ af) ++ apd) am
-    (all_append P (an ++ af) apd (all_append P an af names flags) pads) numbers) offsets) endings
+    let size = number_size p.width in
+    let flags = all_items P (flag_check xs) p.flags_from 1 p.flags (λ i lt. omega arith) in
+    let pads = all_items P (nul_check xs BadPad) (flags_end p) 1 (flags_end p % 2) (λ i lt. omega arith) in
+    let numbers = all_items P (number_check xs size) (numbers_from p) size p.numbers (λ i lt. (let k = within p.width i p.numbers lt in omega arith)) in
+    let offsets = all_items P (offset_check xs p.table) (offsets_from p) 2 p.texts (λ i lt. omega arith) in
+    let names = all_items P (sign_check xs BadExtendedName) (names_from p) 2 p.names (λ i lt. omega arith) in
+    let endings : AllByRecursion P (ending_checks xs (table_of xs p) (end_of p) (offsets_from p) p.texts) = (le, all_items P (ending_check xs (table_of xs p) (end_of p)) (offsets_from p) 2 p.texts (λ i lt. le)) in
+    all_append P (item_checks xs p) (text_checks xs p)
+    (all_append P _ _ (all_append P _ _ (all_append P _ _ (all_append P _ _ flags pads) numbers) offsets) names)
+    (all_append P (ending_checks xs (table_of xs p) (end_of p) (offsets_from p) p.texts) _ endings (names_reach xs (table_of xs p) (base_of xs p) (end_of p) (names_from p) p.names len le))
+
+section_reaches : (xs : List ℕ) (s : Part) (len : ℕ) → 14 ≤ s.flags_from → end_of s ≤ len → AllByRecursion (Reaches len) (section_checks xs s)
+section_reaches xs s len some le =
+    let P = Reaches len in
+    all_append P (name_checks xs s.flags_from) (part_checks xs s)
+    (all_append P _ _ (all_items P (name_check xs) 12 1 (s.flags_from - 13) (λ i lt. omega arith)) (omega arith, tt))
+    (part_reaches xs s len le)
 
 no_early_in_three : (vF vS vE : Verdict) → then (then vF vS) vE ≡ EndsEarly → (vF ≡ EndsEarly → ⊥) → (vF ≡ Passes → vS ≡ EndsEarly → ⊥) → (vF ≡ Passes → vE ≡ EndsEarly → ⊥) → ⊥
 no_early_in_three Passes Passes vE h f s e = e refl h
@@ -71,14 +75,14 @@ no_early_in_three EndsEarly vS vE h f s e = f refl
 no_early_in_three (Fails q) vS vE h f s e = cc
 
 pub record Sized (xs : List ℕ) : Type 0 where
-  pub some : 2 ≤ (header_of xs).names
-  pub fits : end_of (header_of xs) ≤ most_entry_bytes
+  pub some : 14 ≤ (standard xs).flags_from
+  pub fits : end_of (standard xs) ≤ most_entry_bytes
   pub long : 12 ≤ length xs
 
-sized : (xs : List ℕ) → verdict (length xs) (front_checks xs (header_of xs)) ≡ Passes → Sized xs
+sized : (xs : List ℕ) → verdict (length xs) (front_checks xs (standard xs)) ≡ Passes → Sized xs
 sized xs p =
     let len = length xs in
-    let hx = header_of xs in
+    let hx = standard xs in
     let a = both_pass len (magic_checks xs ++ sign_checks xs BadHeader 2 5) (size_checks hx) (sym p) in
     let b = first_passes len (size_check hx) (named_check hx ∷ []) a.1 in
     let c = first_passes len (named_check hx) [] b.rest in
@@ -94,72 +98,37 @@ no_early_after len c cs le f e = by_holds c.holds refl (sym (let k : verdict len
     by_holds true h e = no_early len cs (f h) e
     by_holds false h e = cc
 
--- the checks after the first one of the extended part
-abbrev words_then_size : List ℕ → Header → ExtendedHeader → List Check
-words_then_size xs h x =
-    pad_checks xs (end_of h) h.table ++ sign_checks xs BadExtendedHeader (extended_from h) 3 ++ sign_checks xs BadExtendedHeader (extended_from h + 8) 1 ++ extended_size_checks x
+-- the words of the extended header, after the first check of the extended part
+abbrev header_words : List ℕ → Part → List Check
+header_words xs s = pad_checks xs (end_of s) ++ sign_checks xs BadExtendedHeader (extended_from s) 3 ++ sign_checks xs BadExtendedHeader (extended_from s + 8) 1
 
-words_reach : (xs : List ℕ) (h : Header) (x : ExtendedHeader) (len : ℕ) → x.from ≡ extended_from h → extended_from h + 10 ≤ len → AllByRecursion (Reaches len) (words_then_size xs h x)
-words_reach xs h x len from le =
+words_reach : (xs : List ℕ) (s x : Part) (len : ℕ) → x.flags_from ≡ extended_from s + 10 → extended_from s + 10 ≤ len → AllByRecursion (Reaches len) (header_words xs s ++ extended_size_checks x)
+words_reach xs s x len from le =
     let P = Reaches len in
-    let c1 = pad_checks xs (end_of h) h.table in
-    let c2 = sign_checks xs BadExtendedHeader (extended_from h) 3 in
-    let c3 = sign_checks xs BadExtendedHeader (extended_from h + 8) 1 in
-    let pads : AllByRecursion P c1 = all_items P (nul_check xs BadPad) (end_of h) 1 (pad_len h.table) (λ i lt. omega arith) in
-    let signs : AllByRecursion P c2 = all_items P (sign_check xs BadExtendedHeader) (extended_from h) 2 3 (λ i lt. omega arith) in
-    let sign : AllByRecursion P c3 = all_items P (sign_check xs BadExtendedHeader) (extended_from h + 8) 2 1 (λ i lt. omega arith) in
-    all_append P ((c1 ++ c2) ++ c3) (extended_size_checks x) (all_append P (c1 ++ c2) c3 (all_append P c1 c2 pads signs) sign) (omega arith, tt)
+    let pads = all_items P (nul_check xs BadPad) (end_of s) 1 (end_of s % 2) (λ i lt. omega arith) in
+    let signs = all_items P (sign_check xs BadExtendedHeader) (extended_from s) 2 3 (λ i lt. omega arith) in
+    let sign = all_items P (sign_check xs BadExtendedHeader) (extended_from s + 8) 2 1 (λ i lt. omega arith) in
+    all_append P (header_words xs s) (extended_size_checks x) (all_append P _ _ (all_append P _ _ pads signs) sign) (omega arith, tt)
 
-names_reach : (xs table : List ℕ) (base end from count len : ℕ) → end ≤ len → AllByRecursion (Reaches len) (all_name_place_checks xs table base end (places from 2 count))
-names_reach xs table base end from zero len le = tt
-names_reach xs table base end from (suc count) len le =
-    subst (AllByRecursion (Reaches len)) (sym (flat_map-cons (name_place_checks xs table base end) from (places (from + 2) 2 count))) (le, (le, names_reach xs table base end (from + 2) count len le))
-
-extended_section_reaches : (xs : List ℕ) (x : ExtendedHeader) (len : ℕ) → extended_end_of x ≤ len → AllByRecursion (Reaches len) (extended_section_checks xs x)
-extended_section_reaches xs x len le =
-    let P = Reaches len in
-    let end = extended_end_of x in
-    let count = extended_name_count x in
-    let c0 = flag_checks xs (extended_flags_from x) x.flags in
-    let c1 = pad_checks xs (extended_pad_from x) x.flags in
-    let c2 = number_checks xs (number_size x.width) (extended_numbers_from x) x.numbers in
-    let c3 = offset_checks xs x.table (extended_values_from x) x.texts in
-    let c4 = sign_checks xs BadExtendedName (extended_names_from x) count in
-    let c5 = ending_checks xs (extended_table_of xs x) end (extended_values_from x) x.texts in
-    let c6 = all_name_place_checks xs (extended_table_of xs x) (base_of xs x) end (places (extended_names_from x) 2 count) in
-    let flags : AllByRecursion P c0 = all_items P (flag_check xs) (extended_flags_from x) 1 x.flags (λ i lt. omega arith) in
-    let pads : AllByRecursion P c1 = all_items P (nul_check xs BadPad) (extended_pad_from x) 1 (pad_len x.flags) (λ i lt. omega arith) in
-    let size = number_size x.width in
-    let numbers : AllByRecursion P c2 = all_items P (number_check xs size) (extended_numbers_from x) size x.numbers (λ i lt. (let k = within x.width i x.numbers lt in omega arith)) in
-    let values : AllByRecursion P c3 = all_items P (offset_check xs x.table) (extended_values_from x) 2 x.texts (λ i lt. omega arith) in
-    let names : AllByRecursion P c4 = all_items P (sign_check xs BadExtendedName) (extended_names_from x) 2 count (λ i lt. omega arith) in
-    let endings : AllByRecursion P c5 = (le, all_items P (ending_check xs (extended_table_of xs x) end) (extended_values_from x) 2 x.texts (λ i lt. le)) in
-    let name_places : AllByRecursion P c6 = names_reach xs (extended_table_of xs x) (base_of xs x) end (extended_names_from x) count len le in
-    all_append P ((((c0 ++ c1) ++ c2) ++ c3) ++ c4) (c5 ++ c6)
-    (all_append P (((c0 ++ c1) ++ c2) ++ c3) c4
-    (all_append P ((c0 ++ c1) ++ c2) c3
-    (all_append P (c0 ++ c1) c2 (all_append P c0 c1 flags pads) numbers) values) names)
-    (all_append P c5 c6 endings name_places)
-
-extended_fits : (xs : List ℕ) (h : Header) (x : ExtendedHeader) (len : ℕ) → verdict len (extended_front_checks xs h x) ≡ Passes → extended_end_of x ≤ most_entry_bytes
-extended_fits xs h x len p =
-    let a = both_pass len (extended_word_checks xs h) (extended_size_checks x) (sym p) in
+extended_fits : (xs : List ℕ) (s x : Part) (len : ℕ) → verdict len (extended_front_checks xs s x) ≡ Passes → end_of x ≤ most_entry_bytes
+extended_fits xs s x len p =
+    let a = both_pass len (room_checks s ++ pad_checks xs (end_of s) ++ sign_checks xs BadExtendedHeader (extended_from s) 3 ++ sign_checks xs BadExtendedHeader (extended_from s + 8) 1) (extended_size_checks x) (sym p) in
     let b = first_passes len (extended_size_check x) [] a.1 in leb-true _ _ b.holds
 
 -- no check after the string table of a full input waits for more
-after_table_decides : (xs : List ℕ) (h : Header) → most_entry_bytes ≤ length xs → verdict (length xs) (checks_after_table xs h) ≡ EndsEarly → ⊥
+after_table_decides : (xs : List ℕ) (h : Part) → most_entry_bytes ≤ length xs → verdict (length xs) (checks_after_table xs h) ≡ EndsEarly → ⊥
 after_table_decides xs h long = by_end (leb (length xs) (end_of h)) refl
   where
-    by_end : (b : Bool) → leb (length xs) (end_of h) ≡ b → verdict (length xs) (cond b [] (extended_checks xs h (extended_header_of h xs))) ≡ EndsEarly → ⊥
+    by_end : (b : Bool) → leb (length xs) (end_of h) ≡ b → verdict (length xs) (cond b [] (extended_checks xs h (extended_after h xs))) ≡ EndsEarly → ⊥
     by_end true e k = cc
     by_end false e k =
         let len = length xs in
-        let x = extended_header_of h xs in
+        let x = extended_after h xs in
         let above : end_of h < len = omega (arith, leb-false len (end_of h) e) in
-        no_early_in_three (verdict len (extended_front_checks xs h x)) (verdict len (extended_section_checks xs x)) (verdict len (end_checks xs (extended_end_of x))) (sym (extended_split xs h x len) ∙ k)
-        (no_early_after len (room_check h) (words_then_size xs h x) (omega arith) (λ room. words_reach xs h x len refl (let fit : extended_from h + 10 ≤ most_entry_bytes = leb-true _ _ room in omega arith)))
-        (λ p. no_early len (extended_section_checks xs x) (extended_section_reaches xs x len (let f = extended_fits xs h x len p in omega arith)))
-        (λ p. no_early len (end_checks xs (extended_end_of x)) ((let f = extended_fits xs h x len p in omega arith), tt))
+        no_early_in_three (verdict len (extended_front_checks xs h x)) (verdict len (part_checks xs x)) (verdict len (end_checks xs (end_of x))) (sym (extended_split xs h x len) ∙ k)
+        (no_early_after len (room_check h) (header_words xs h ++ extended_size_checks x) (omega arith) (λ room. words_reach xs h x len refl (let fit : extended_from h + 10 ≤ most_entry_bytes = leb-true _ _ room in omega arith)))
+        (λ p. no_early len (part_checks xs x) (part_reaches xs x len (let f = extended_fits xs h x len p in omega arith)))
+        (λ p. no_early len (end_checks xs (end_of x)) ((let f = extended_fits xs h x len p in omega arith), tt))
 
 -- ---- the whole
 
@@ -167,7 +136,7 @@ after_table_decides xs h long = by_end (leb (length xs) (end_of h)) refl
 pub full_decides : (xs : List ℕ) → most_entry_bytes ≤ length xs → verdict (length xs) (checks xs) ≡ EndsEarly → ⊥
 full_decides xs long h =
     let len = length xs in
-    let hx = header_of xs in
+    let hx = standard xs in
     no_early_in_three (verdict len (front_checks xs hx)) (verdict len (section_checks xs hx)) (verdict len (checks_after_table xs hx)) (sym (split xs len) ∙ h)
     (no_early len (front_checks xs hx) (front_reaches xs len (omega arith)))
     (λ p. (let s = sized xs p in no_early len (section_checks xs hx) (section_reaches xs hx len s.some (let f = s.fits in omega arith))))
@@ -181,63 +150,63 @@ kept_passes v w (inl e) p = absurd (apart (p ∙ e))
 kept_passes v w (inr e) p = sym e ∙ sym p
 
 -- a full extended part is refused where a byte follows it
-extended_then_trailing : (xs ys : List ℕ) (h : Header) → 0 < length ys → Passes ≡ verdict (length xs) (extended_checks xs h (extended_header_of h xs))
-    → verdict (length xs + length ys) (extended_checks (xs ++ ys) h (extended_header_of h (xs ++ ys))) ≡ Fails (refusal_at Trailing (length xs))
+extended_then_trailing : (xs ys : List ℕ) (h : Part) → 0 < length ys → Passes ≡ verdict (length xs) (extended_checks xs h (extended_after h xs))
+    → verdict (length xs + length ys) (extended_checks (xs ++ ys) h (extended_after h (xs ++ ys))) ≡ Fails (refusal_at Trailing (length xs))
 extended_then_trailing xs ys h some k =
     let len = length xs in
     let zs = xs ++ ys in
-    let x = extended_header_of h xs in
-    let z = extended_header_of h zs in
+    let x = extended_after h xs in
+    let z = extended_after h zs in
     let n : length zs ≡ len + length ys = length-append xs ys in
-    let a = both_pass len (extended_front_checks xs h x ++ extended_section_checks xs x) (end_checks xs (extended_end_of x)) k in
-    let c = both_pass len (extended_front_checks xs h x) (extended_section_checks xs x) a.0 in
+    let a = both_pass len (extended_front_checks xs h x ++ part_checks xs x) (end_checks xs (end_of x)) k in
+    let c = both_pass len (extended_front_checks xs h x) (part_checks xs x) a.0 in
     let same : x ≡ z = extended_same xs ys h (extended_long xs h x len (sym c.0)) in
-    let last = first_passes len (end_check xs (extended_end_of x)) [] a.1 in
-    let at_most : len ≤ extended_end_of x = leb-true _ _ last.holds in
-    let ends : extended_end_of x ≡ len = (let l = last.long in omega arith) in
+    let last = first_passes len (end_check xs (end_of x)) [] a.1 in
+    let at_most : len ≤ end_of x = leb-true _ _ last.holds in
+    let ends : end_of x ≡ len = (let l = last.long in omega arith) in
     let wF : verdict (len + length ys) (extended_front_checks zs h z) ≡ Passes = kept_passes _ _ (stays len (length ys) (extended_front_checks xs h x) (extended_front_checks zs h z) (extended_front_alike xs ys h)) c.0 in
-    let wS : verdict (len + length ys) (extended_section_checks zs z) ≡ Passes =
-    subst (λ y. verdict (len + length ys) (extended_section_checks zs y) ≡ Passes) same (kept_passes _ _ (stays len (length ys) (extended_section_checks xs x) (extended_section_checks zs x) (extended_section_alike xs ys x)) c.1) in
+    let wS : verdict (len + length ys) (part_checks zs z) ≡ Passes =
+    subst (λ y. verdict (len + length ys) (part_checks zs y) ≡ Passes) same (kept_passes _ _ (stays len (length ys) (part_checks xs x) (part_checks zs x) (part_alike xs ys x)) c.1) in
     let reach : ltb (len + length ys) len ≡ false = le-ltb (len + length ys) len (omega arith) in
     let over : leb (length zs) len ≡ false = lt-leb (length zs) len (omega arith) in
-    let e : extended_end_of z ≡ len = ap extended_end_of (sym same) ∙ ends in
+    let e : end_of z ≡ len = ap end_of (sym same) ∙ ends in
     let at_len : verdict (len + length ys) (end_checks zs len) ≡ Fails (refusal_at Trailing len) = rw (reach, over) refl in
-    let wE : verdict (len + length ys) (end_checks zs (extended_end_of z)) ≡ Fails (refusal_at Trailing len) = ap (λ m. verdict (len + length ys) (end_checks zs m)) e ∙ at_len in
+    let wE : verdict (len + length ys) (end_checks zs (end_of z)) ≡ Fails (refusal_at Trailing len) = ap (λ m. verdict (len + length ys) (end_checks zs m)) e ∙ at_len in
     extended_split zs h z (len + length ys) ∙ rw (wF, wS) wE
 
 -- where a full entry ends with its string table, an extended part has no room
-no_room : (xs ys : List ℕ) (h : Header) (rest : List Check) → end_of h ≡ length xs → length xs ≡ most_entry_bytes → 0 < length ys → verdict (length xs + length ys) (room_check h ∷ rest) ≡ Fails (refusal_at ExtendedTooBig (length xs))
+no_room : (xs ys : List ℕ) (h : Part) (rest : List Check) → end_of h ≡ length xs → length xs ≡ most_entry_bytes → 0 < length ys → verdict (length xs + length ys) (room_check h ∷ rest) ≡ Fails (refusal_at ExtendedTooBig (length xs))
 no_room xs ys h rest ends full some =
     let reach : ltb (length xs + length ys) (end_of h + 1) ≡ false = le-ltb (length xs + length ys) (end_of h + 1) (omega arith) in
     let over : leb (extended_from h + 10) most_entry_bytes ≡ false = lt-leb (extended_from h + 10) most_entry_bytes (omega arith) in
     let fails : verdict (length xs + length ys) (room_check h ∷ rest) ≡ Fails (refusal_at ExtendedTooBig (end_of h)) = rw (reach, over) refl in
     fails ∙ ap (λ n. Fails (refusal_at ExtendedTooBig n)) ends
 
-after_table_full : (xs : List ℕ) (b : ℕ) (more : List ℕ) (h : Header) → h ≡ header_of xs → length xs ≡ most_entry_bytes → end_of h ≤ length xs → Passes ≡ verdict (length xs) (checks_after_table xs h)
+after_table_full : (xs : List ℕ) (b : ℕ) (more : List ℕ) (h : Part) → h ≡ standard xs → length xs ≡ most_entry_bytes → end_of h ≤ length xs → Passes ≡ verdict (length xs) (checks_after_table xs h)
     → verdict (length xs + length (b ∷ more)) (checks_after_table (xs ++ b ∷ more) h) ≡ Fails (refusal_at (fault_after xs) (length xs))
 after_table_full xs b more h is full there = by_end (leb (length xs) (end_of h)) refl
   where
     longer : leb (length (xs ++ b ∷ more)) (end_of h) ≡ false
     longer = let n : length (xs ++ b ∷ more) ≡ length xs + length (b ∷ more) = length-append xs (b ∷ more) in lt-leb (length (xs ++ b ∷ more)) (end_of h) (omega arith)
 
-    opened : verdict (length xs + length (b ∷ more)) (checks_after_table (xs ++ b ∷ more) h) ≡ verdict (length xs + length (b ∷ more)) (extended_checks (xs ++ b ∷ more) h (extended_header_of h (xs ++ b ∷ more)))
-    opened = ap (λ t. verdict (length xs + length (b ∷ more)) (cond t [] (extended_checks (xs ++ b ∷ more) h (extended_header_of h (xs ++ b ∷ more))))) longer
+    opened : verdict (length xs + length (b ∷ more)) (checks_after_table (xs ++ b ∷ more) h) ≡ verdict (length xs + length (b ∷ more)) (extended_checks (xs ++ b ∷ more) h (extended_after h (xs ++ b ∷ more)))
+    opened = ap (λ t. verdict (length xs + length (b ∷ more)) (cond t [] (extended_checks (xs ++ b ∷ more) h (extended_after h (xs ++ b ∷ more))))) longer
 
-    by_end : (t : Bool) → leb (length xs) (end_of h) ≡ t → Passes ≡ verdict (length xs) (cond t [] (extended_checks xs h (extended_header_of h xs))) → verdict (length xs + length (b ∷ more)) (checks_after_table (xs ++ b ∷ more) h) ≡ Fails (refusal_at (fault_after xs) (length xs))
+    by_end : (t : Bool) → leb (length xs) (end_of h) ≡ t → Passes ≡ verdict (length xs) (cond t [] (extended_checks xs h (extended_after h xs))) → verdict (length xs + length (b ∷ more)) (checks_after_table (xs ++ b ∷ more) h) ≡ Fails (refusal_at (fault_after xs) (length xs))
     by_end true e k =
         let zs = xs ++ b ∷ more in
-        let z = extended_header_of h zs in
+        let z = extended_after h zs in
         let at_most : length xs ≤ end_of h = leb-true _ _ e in
         let ends : end_of h ≡ length xs = omega arith in
-        let same : end_of (header_of xs) ≡ length xs = ap end_of (sym is) ∙ ends in
+        let same : end_of (standard xs) ≡ length xs = ap end_of (sym is) ∙ ends in
         let fault : fault_after xs ≡ ExtendedTooBig = ap (λ n. cond (eqb n (length xs)) ExtendedTooBig Trailing) same ∙ rw (eq-eqb (length xs) (length xs) refl) refl in
         opened
-        ∙ no_room xs (b ∷ more) h ((words_then_size zs h z ++ extended_section_checks zs z) ++ end_checks zs (extended_end_of z)) ends full (omega arith)
+        ∙ no_room xs (b ∷ more) h (((header_words zs h ++ extended_size_checks z) ++ part_checks zs z) ++ end_checks zs (end_of z)) ends full (omega arith)
         ∙ ap (λ (f : Fault). Fails (refusal_at f (length xs))) (sym fault)
     by_end false e k =
         let above : end_of h < length xs = omega (arith, leb-false (length xs) (end_of h) e) in
-        let same : end_of (header_of xs) ≡ end_of h = ap end_of (sym is) in
-        let differs : eqb (end_of (header_of xs)) (length xs) ≡ false = ne_eqb _ _ (λ q. (let r : end_of h ≡ length xs = sym same ∙ q in omega arith)) in
+        let same : end_of (standard xs) ≡ end_of h = ap end_of (sym is) in
+        let differs : eqb (end_of (standard xs)) (length xs) ≡ false = ne_eqb _ _ (λ q. (let r : end_of h ≡ length xs = sym same ∙ q in omega arith)) in
         let fault : fault_after xs ≡ Trailing = rw differs refl in
         opened ∙ extended_then_trailing xs (b ∷ more) h (omega arith) k ∙ ap (λ (f : Fault). Fails (refusal_at f (length xs))) (sym fault)
 
@@ -247,14 +216,14 @@ then_refused xs b more full h =
     let len = length xs in
     let ys = b ∷ more in
     let zs = xs ++ ys in
-    let hx = header_of xs in
-    let hz = header_of zs in
+    let hx = standard xs in
+    let hz = standard zs in
     let n : length zs ≡ len + length ys = length-append xs ys in
     let a = both_pass len (front_checks xs hx ++ section_checks xs hx) (checks_after_table xs hx) h in
     let c = both_pass len (front_checks xs hx) (section_checks xs hx) a.0 in
     let s = sized xs (sym c.0) in
     let fit = s.fits in
-    let same : hx ≡ hz = header_same xs ys s.long in
+    let same : hx ≡ hz = standard_same xs ys s.long in
     let wF : verdict (len + length ys) (front_checks zs hz) ≡ Passes = kept_passes _ _ (stays len (length ys) (front_checks xs hx) (front_checks zs hz) (front_alike xs ys)) c.0 in
     let wS : verdict (len + length ys) (section_checks zs hz) ≡ Passes =
     subst (λ k. verdict (len + length ys) (section_checks zs k) ≡ Passes) same (kept_passes _ _ (stays len (length ys) (section_checks xs hx) (section_checks zs hx) (section_alike xs ys hx)) c.1) in

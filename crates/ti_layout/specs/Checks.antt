@@ -1,5 +1,5 @@
 -- Checks of an input in a fixed order, and what the first one that is not passed answers.
-use Rattle.std.specs.Prelude.{ℕ, ◌+◌, ◌-◌, ℤ, pos, negsuc, Bool, true, false, not, List, [], ◌∷◌, ◌++◌, length, map, slice_index, Option, Some, None, Result, Ok, Err, nat_lt, nat_le, if◌then◌else◌, is_some}
+use Rattle.std.specs.Prelude.{ℕ, ◌+◌, ◌-◌, ◌%◌, ℤ, pos, negsuc, Bool, true, false, not, List, [], ◌∷◌, ◌++◌, length, map, slice_index, Option, Some, None, Result, Ok, Err, nat_lt, nat_le, if◌then◌else◌, is_some}
 use Rattle.std.specs.List.{flat_map}
 use Rattle.ti_words.specs.Marks.{flag_of_byte}
 use Rattle.ti_layout.specs.declared.fault.Fault.{Fault}
@@ -9,7 +9,6 @@ use Rattle.ti_layout.specs.declared.fault.Stop.{Stop}
 use Rattle.ti_layout.specs.declared.fault.Stop.TheVariants.{Early, Failed}
 use Rattle.ti_words.specs.Word.{unsigned_at, word_at}
 use Rattle.ti_layout.specs.Layout.{places}
-use Rattle.ti_words.specs.Spelling.{pad_len}
 use Rattle.ti_words.specs.Texts.{is_nul}
 use Rattle.ti_layout.specs.Table.{ends_in}
 
@@ -97,9 +96,9 @@ name_check bytes p = check (p + 1) (not (is_nul (slice_index bytes p))) BadNames
 abbrev pub nul_check : List ℕ → Fault → ℕ → Check
 nul_check bytes fault p = check (p + 1) (is_nul (slice_index bytes p)) fault p
 
--- each byte of the names is no NUL, but the last
+-- each byte of the names, which end there, is no NUL, but the last
 abbrev pub name_checks : List ℕ → ℕ → List Check
-name_checks bytes size = map (name_check bytes) (places 12 1 (size - 1)) ++ nul_check bytes BadNames (11 + size) ∷ []
+name_checks bytes end = map (name_check bytes) (places 12 1 (end - 13)) ++ nul_check bytes BadNames (end - 1) ∷ []
 
 abbrev pub flag_check : List ℕ → ℕ → Check
 flag_check bytes p = check (p + 1) (is_some (flag_of_byte (slice_index bytes p))) BadFlag p
@@ -107,8 +106,9 @@ flag_check bytes p = check (p + 1) (is_some (flag_of_byte (slice_index bytes p))
 abbrev pub flag_checks : List ℕ → ℕ → ℕ → List Check
 flag_checks bytes from count = map (flag_check bytes) (places from 1 count)
 
-abbrev pub pad_checks : List ℕ → ℕ → ℕ → List Check
-pad_checks bytes from count = map (nul_check bytes BadPad) (places from 1 (pad_len count))
+-- a byte 0 at an odd place, so that what follows starts at an even one
+abbrev pub pad_checks : List ℕ → ℕ → List Check
+pad_checks bytes p = map (nul_check bytes BadPad) (places p 1 (p % 2))
 
 abbrev pub number_check : List ℕ → ℕ → ℕ → Check
 number_check bytes size p = check (p + size) (is_number_word (word_at size bytes p)) BadNumber p

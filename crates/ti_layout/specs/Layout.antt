@@ -1,14 +1,12 @@
 -- Where the sections of an entry lie (term(5)).
-use Rattle.std.specs.Prelude.{ℕ, zero, suc, ◌+◌, ◌*◌, List, [], ◌∷◌, ◌==◌, Option, Some, None, unwrap_or, if◌then◌else◌}
+use Rattle.std.specs.Prelude.{ℕ, zero, suc, ◌+◌, ◌*◌, ◌%◌, List, [], ◌∷◌, ◌==◌, Option, Some, None, unwrap_or, if◌then◌else◌}
 use Rattle.ti_words.specs.declared.Kind.{Kind}
 use Rattle.ti_words.specs.declared.Kind.TheVariants as kinds
 use Rattle.ti_words.specs.declared.Width.{Width}
 use Rattle.ti_words.specs.declared.Width.TheVariants.{Legacy, Wide}
-use Rattle.ti_layout.specs.Headers.{Header}
-use Rattle.ti_layout.specs.Headers.{ExtendedHeader}
+use Rattle.ti_layout.specs.declared.part.Part.{Part}
 use Rattle.ti_words.specs.Word.{unsigned_at}
 use Rattle.ti_words.specs.Widths.{number_size, magic_number}
-use Rattle.ti_words.specs.Spelling.{pad_len}
 
 -- the format whose magic number an input starts with, where it starts with one
 abbrev pub width_of : List ℕ → Option Width
@@ -21,99 +19,81 @@ abbrev pub places : ℕ → ℕ → ℕ → List ℕ
 places from size zero = []
 places from size (suc count) = from ∷ places (from + size) size count
 
--- ---- the entry up to the end of its string table
+-- the next even place
+abbrev pub even : ℕ → ℕ
+even n = n + n % 2
 
--- of an input that starts with no magic number the header says nothing of use
-abbrev pub header_of : List ℕ → Header
-header_of bytes = record {
+-- ---- a part: flags, numbers from an even place on, offsets of texts, offsets of names, and a string table
+
+-- where the flags end
+abbrev pub flags_end : Part → ℕ
+flags_end p = p.flags_from + p.flags
+
+abbrev pub numbers_from : Part → ℕ
+numbers_from p = even (flags_end p)
+
+abbrev pub offsets_from : Part → ℕ
+offsets_from p = numbers_from p + number_size p.width * p.numbers
+
+abbrev pub names_from : Part → ℕ
+names_from p = offsets_from p + 2 * p.texts
+
+abbrev pub table_from : Part → ℕ
+table_from p = names_from p + 2 * p.names
+
+-- the end of the string table
+abbrev pub end_of : Part → ℕ
+end_of p = table_from p + p.table
+
+-- how many capabilities of a kind there are
+abbrev pub count_of_kind : Part → Kind → ℕ
+count_of_kind p kinds.Flag = p.flags
+count_of_kind p kinds.Number = p.numbers
+count_of_kind p kinds.Text = p.texts
+
+-- where the offsets of the names of a kind lie
+abbrev pub kind_names_from : Part → Kind → ℕ
+kind_names_from p kinds.Flag = names_from p
+kind_names_from p kinds.Number = names_from p + 2 * p.flags
+kind_names_from p kinds.Text = names_from p + 2 * (p.flags + p.numbers)
+
+-- ---- the two parts of an entry
+
+-- The standard part follows the header of 12 bytes and the names. Nothing in it has a name of its own.
+-- Of an input that starts with no magic number the header says nothing of use.
+abbrev pub standard : List ℕ → Part
+standard bytes = record {
   width = unwrap_or (width_of bytes) Legacy;
-  names = unsigned_at 2 bytes 2;
+  flags_from = 12 + unsigned_at 2 bytes 2;
   flags = unsigned_at 2 bytes 4;
   numbers = unsigned_at 2 bytes 6;
   texts = unsigned_at 2 bytes 8;
+  names = 0;
   table = unsigned_at 2 bytes 10;
 }
 
--- how many capabilities of a kind there are
-abbrev pub count_of_kind : Header → Kind → ℕ
-count_of_kind h kinds.Flag = h.flags
-count_of_kind h kinds.Number = h.numbers
-count_of_kind h kinds.Text = h.texts
+-- where the extended header starts, if there is one
+abbrev pub extended_from : Part → ℕ
+extended_from s = even (end_of s)
 
-abbrev pub flags_from : Header → ℕ
-flags_from h = 12 + h.names
-
-abbrev pub pad_from : Header → ℕ
-pad_from h = flags_from h + h.flags
-
-abbrev pub numbers_from : Header → ℕ
-numbers_from h = pad_from h + pad_len (h.names + h.flags)
-
-abbrev pub offsets_from : Header → ℕ
-offsets_from h = numbers_from h + number_size h.width * h.numbers
-
-abbrev pub table_from : Header → ℕ
-table_from h = offsets_from h + 2 * h.texts
-
--- the end of the string table
-abbrev pub end_of : Header → ℕ
-end_of h = table_from h + h.table
-
--- ---- the extended part (term(5), extended storage format)
-
--- The words of the extended header, and where it starts. The word items is not among them: nothing reads it.
-abbrev pub extended_from : Header → ℕ
-extended_from h = end_of h + pad_len h.table
-
-abbrev pub extended_header_of : Header → List ℕ → ExtendedHeader
-extended_header_of h bytes =
-    let from = extended_from h in
+-- The extended part follows its header of 10 bytes (term(5), extended storage format). Each capability has a name.
+-- The word items of the header says nothing more: nothing reads it.
+abbrev pub extended_after : Part → List ℕ → Part
+extended_after s bytes =
+    let from = extended_from s in
+    let flags = unsigned_at 2 bytes from in
+    let numbers = unsigned_at 2 bytes (from + 2) in
+    let texts = unsigned_at 2 bytes (from + 4) in
     record {
-      width = h.width;
-      from = from;
-      flags = unsigned_at 2 bytes from;
-      numbers = unsigned_at 2 bytes (from + 2);
-      texts = unsigned_at 2 bytes (from + 4);
+      width = s.width;
+      flags_from = from + 10;
+      flags = flags;
+      numbers = numbers;
+      texts = texts;
+      names = flags + numbers + texts;
       table = unsigned_at 2 bytes (from + 8);
     }
 
-abbrev pub extended_flags_from : ExtendedHeader → ℕ
-extended_flags_from x = x.from + 10
-
-abbrev pub extended_pad_from : ExtendedHeader → ℕ
-extended_pad_from x = extended_flags_from x + x.flags
-
-abbrev pub extended_numbers_from : ExtendedHeader → ℕ
-extended_numbers_from x = extended_pad_from x + pad_len x.flags
-
-abbrev pub extended_values_from : ExtendedHeader → ℕ
-extended_values_from x = extended_numbers_from x + number_size x.width * x.numbers
-
-abbrev pub extended_names_from : ExtendedHeader → ℕ
-extended_names_from x = extended_values_from x + 2 * x.texts
-
--- each capability has a name
-abbrev pub extended_name_count : ExtendedHeader → ℕ
-extended_name_count x = x.flags + x.numbers + x.texts
-
-abbrev pub extended_table_from : ExtendedHeader → ℕ
-extended_table_from x = extended_names_from x + 2 * extended_name_count x
-
--- the end of the entry
-abbrev pub extended_end_of : ExtendedHeader → ℕ
-extended_end_of x = extended_table_from x + x.table
-
--- where the offsets of the names of a kind lie, and how many there are
-abbrev pub kind_count : ExtendedHeader → Kind → ℕ
-kind_count x kinds.Flag = x.flags
-kind_count x kinds.Number = x.numbers
-kind_count x kinds.Text = x.texts
-
-abbrev pub kind_names_from : ExtendedHeader → Kind → ℕ
-kind_names_from x kinds.Flag = extended_names_from x
-kind_names_from x kinds.Number = extended_names_from x + 2 * x.flags
-kind_names_from x kinds.Text = extended_names_from x + 2 * (x.flags + x.numbers)
-
 -- no extended part, held as one with no capability
-abbrev pub no_capability : Width → ExtendedHeader
-no_capability width = record { width = width; from = 0; flags = 0; numbers = 0; texts = 0; table = 0 }
+abbrev pub no_capability : Part
+no_capability = record { width = Legacy; flags_from = 0; flags = 0; numbers = 0; texts = 0; names = 0; table = 0 }

@@ -1,4 +1,3 @@
-pub mod Headers
 pub mod Layout
 pub mod Table
 pub mod Checks

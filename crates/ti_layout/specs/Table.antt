@@ -2,10 +2,9 @@
 use Rattle.std.specs.Prelude.{ℕ, zero, suc, ◌+◌, ℤ, pos, negsuc, Bool, not, List, [], ◌∷◌, length, take, drop}
 use Rattle.std.specs.List.{list_any, take_while}
 use Rattle.ti_words.specs.Texts.{TextValue, AbsentText, CancelledText, TextOf, is_nul}
-use Rattle.ti_layout.specs.Headers.{Header}
-use Rattle.ti_layout.specs.Headers.{ExtendedHeader}
+use Rattle.ti_layout.specs.declared.part.Part.{Part}
 use Rattle.ti_words.specs.Word.{word_at}
-use Rattle.ti_layout.specs.Layout.{places, table_from, extended_values_from, extended_table_from}
+use Rattle.ti_layout.specs.Layout.{places, offsets_from, table_from}
 
 -- a NUL stands at a place of the table or after it
 abbrev pub ends_in : List ℕ → ℕ → Bool
@@ -25,14 +24,9 @@ text_of_word table (pos place) = TextOf (text_from table place)
 text_of_word table (negsuc zero) = AbsentText
 text_of_word table (negsuc (suc n)) = CancelledText
 
--- the string table
-abbrev pub table_of : List ℕ → Header → List ℕ
-table_of bytes h = take h.table (drop (table_from h) bytes)
-
--- ---- the extended part
-
-abbrev pub extended_table_of : List ℕ → ExtendedHeader → List ℕ
-extended_table_of bytes x = take x.table (drop (extended_table_from x) bytes)
+-- the string table of a part
+abbrev pub table_of : List ℕ → Part → List ℕ
+table_of bytes p = take p.table (drop (table_from p) bytes)
 
 -- the length of the text at an offset and its NUL, where the text is there
 abbrev pub size_at : List ℕ → ℤ → ℕ
@@ -44,5 +38,5 @@ sizes_at bytes table [] = 0
 sizes_at bytes table (p ∷ ps) = size_at table (word_at 2 bytes p) + sizes_at bytes table ps
 
 -- what the places of names are counted from
-abbrev pub base_of : List ℕ → ExtendedHeader → ℕ
-base_of bytes x = sizes_at bytes (extended_table_of bytes x) (places (extended_values_from x) 2 x.texts)
+abbrev pub base_of : List ℕ → Part → ℕ
+base_of bytes p = sizes_at bytes (table_of bytes p) (places (offsets_from p) 2 p.texts)

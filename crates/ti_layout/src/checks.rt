@@ -248,15 +248,15 @@ pub(crate) fn check_flags(bytes: &[u8], from: usize, count: usize) -> Result<(),
     Ok(())
 }
 
-/// The byte after an odd count is 0.
-pub(crate) fn check_pad(bytes: &[u8], from: usize, count: usize) -> Result<(), Stop>
-    requires { from < 2 ^ 32 }
-    ensures { result_verdict result ≡ verdict (length bytes.now) (pad_checks bytes.now from count) }
+/// The byte at an odd place is 0.
+pub(crate) fn check_pad(bytes: &[u8], place: usize) -> Result<(), Stop>
+    requires { place < 2 ^ 32 }
+    ensures { result_verdict result ≡ verdict (length bytes.now) (pad_checks bytes.now place) }
 {
-    if count % 2 == 0 {
+    if place % 2 == 0 {
         return Ok(());
     }
-    check_nul(bytes, Fault::BadPad, from)
+    check_nul(bytes, Fault::BadPad, place)
 }
 
 /// Each number is at least -2.

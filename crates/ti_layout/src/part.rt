@@ -1,102 +1,192 @@
-//! The texts and names of the extended part, checked.
+//! A part of an entry, standard or extended, and where its sections lie (term(5)).
 //!
-//! The base of the names is summed in one pass that stops at the size of the table: from there on no name can lie in it.
-//! So it is linear also where texts share their bytes.
+//! A place is a sum of what the header says, so it takes a few additions.
 
-ghost use Rattle.std.specs.Prelude.{◌≡◌, ◌+◌, ◌*◌, ◌<◌, ◌≤◌, ◌^◌, length, min, IfOk, OnOk};
+ghost use Rattle.std.specs.Prelude.{◌≡◌, ◌+◌, ◌*◌, ◌<◌, ◌≤◌, ◌^◌, length};
 ghost use Rattle.ti_base.specs.Limits.{most_entry_bytes};
-ghost use Rattle.ti_layout.specs.Checks.{verdict, result_verdict};
-ghost use Rattle.ti_layout.specs.Refusal.{extended_name_checks, extended_text_checks};
-ghost use Rattle.ti_layout.specs.Layout.{places, extended_end_of, no_capability};
-ghost use Rattle.ti_layout.specs.Table.{sizes_at, base_of as the_base_of};
+ghost use Rattle.ti_layout.specs.Layout.{standard, extended_after, no_capability, count_of_kind, kind_names_from, end_of, width_of as the_width_of, flags_end as the_flags_end, numbers_from as the_numbers_from, offsets_from as the_offsets_from, names_from as the_names_from, table_from as the_table_from, extended_from as the_extended_from};
 
-use crate::checks::{NameTable, check_endings, check_name_places, reach_of};
-use crate::extended_header::ExtendedHeader;
-use crate::fault::Stop;
-use crate::string_table::size_at;
-use ti_words::Width;
+use crate::word::{count_at, numbers_size};
+use ti_words::{Kind, Width};
 
-/// An extended part, and what the offsets of its names are counted from.
+/// What a header says of its part. The flags come first, from `flags_from` on, and then the numbers, the offsets of the
+/// texts, those of the names, and the string table.
 #[derive(Clone, Copy, Debug, PartialEq, Eq)]
 pub struct Part {
-    pub header: ExtendedHeader,
-    pub base: usize,
+    pub(crate) width: Width,
+    pub(crate) flags_from: usize,
+    /// The counts of flags, numbers and texts.
+    pub(crate) flags: usize,
+    pub(crate) numbers: usize,
+    pub(crate) texts: usize,
+    /// The count of names: none in the standard part.
+    pub(crate) names: usize,
+    /// The size of the string table.
+    pub(crate) table: usize,
+}
+
+impl Part {
+    /// The format of the entry.
+    pub fn width(&self) -> Width
+        ensures { result ≡ self.now.width }
+    {
+        self.width
+    }
+
+    /// How many capabilities of a kind there are.
+    pub fn count(&self, kind: Kind) -> usize
+        ensures { result ≡ count_of_kind self.now kind }
+    {
+        match kind {
+            Kind::Flag => self.flags,
+            Kind::Number => self.numbers,
+            Kind::Text => self.texts,
+        }
+    }
+
+    /// Where the flags start.
+    pub fn flags_from(&self) -> usize
+        ensures { result ≡ self.now.flags_from }
+    {
+        self.flags_from
+    }
+
+    /// Where the flags end, and a pad stands if the place is odd.
+    pub fn flags_end(&self) -> usize
+        requires { end_of self.now < 2 ^ 32 }
+        ensures { result ≡ the_flags_end self.now }
+    {
+        self.flags_from + self.flags
+    }
+
+    /// Where the numbers start.
+    pub fn numbers_from(&self) -> usize
+        requires { end_of self.now < 2 ^ 32 }
+        ensures { result ≡ the_numbers_from self.now }
+    {
+        let end = self.flags_end();
+        end + end % 2
+    }
+
+    /// Where the offsets of the texts start.
+    pub fn offsets_from(&self) -> usize
+        requires { end_of self.now < 2 ^ 32 }
+        ensures { result ≡ the_offsets_from self.now }
+    {
+        self.numbers_from() + numbers_size(self.width, self.numbers)
+    }
+
+    /// Where the offsets of the names start.
+    pub fn names_from(&self) -> usize
+        requires { end_of self.now < 2 ^ 32 }
+        ensures { result ≡ the_names_from self.now }
+    {
+        self.offsets_from() + 2 * self.texts
+    }
+
+    /// Where the offsets of the names of a kind start.
+    pub fn names_of(&self, kind: Kind) -> usize
+        requires named { self.now.flags + self.now.numbers + self.now.texts ≤ self.now.names }
+        requires fits { end_of self.now < 2 ^ 32 }
+        ensures place { result ≡ kind_names_from self.now kind }
+        ensures within { result + 2 * count_of_kind self.now kind ≤ end_of self.now }
+    {
+        let before = match kind {
+            Kind::Flag => 0,
+            Kind::Number => self.flags,
+            Kind::Text => self.flags + self.numbers,
+        };
+        self.names_from() + 2 * before
+    }
+
+    /// Where the string table starts.
+    pub fn table_from(&self) -> usize
+        requires { end_of self.now < 2 ^ 32 }
+        ensures { result ≡ the_table_from self.now }
+    {
+        self.names_from() + 2 * self.names
+    }
+
+    /// Where the part ends.
+    pub fn end(&self) -> usize
+        requires { end_of self.now < 2 ^ 32 }
+        ensures { result ≡ end_of self.now }
+    {
+        self.table_from() + self.table
+    }
+
+    /// Where the header of an extended part starts after this one, if there is one.
+    pub fn extended_from(&self) -> usize
+        requires { end_of self.now < 2 ^ 32 }
+        ensures { result ≡ the_extended_from self.now }
+    {
+        let end = self.end();
+        end + end % 2
+    }
+}
+
+/// The format whose magic number the first two bytes are.
+pub(crate) fn width_of(bytes: &[u8]) -> Option<Width>
+    requires { 2 ≤ length bytes.now }
+    ensures { result ≡ the_width_of bytes.now }
+{
+    match count_at(bytes, 0) {
+        0o432 => Some(Width::Legacy),
+        0o1036 => Some(Width::Wide),
+        _ => None,
+    }
+}
+
+/// The standard part of bytes that have its header.
+pub fn standard_part(bytes: &[u8]) -> Part
+    requires { 12 ≤ length bytes.now }
+    ensures words { result ≡ standard bytes.now }
+    ensures fits { end_of result < 2 ^ 32 }
+{
+    Part {
+        width: width_of(bytes).unwrap_or(Width::Legacy),
+        flags_from: 12 + count_at(bytes, 2),
+        flags: count_at(bytes, 4),
+        numbers: count_at(bytes, 6),
+        texts: count_at(bytes, 8),
+        names: 0,
+        table: count_at(bytes, 10),
+    }
+}
+
+/// The extended part of bytes that have its header.
+pub(crate) fn extended_part(bytes: &[u8], standard: &Part) -> Part
+    requires fits { end_of standard.now ≤ most_entry_bytes }
+    requires there { the_extended_from standard.now + 10 ≤ length bytes.now }
+    ensures words { result ≡ extended_after standard.now bytes.now }
+    ensures fits { end_of result < 2 ^ 32 }
+{
+    let from = standard.extended_from();
+    let flags = count_at(bytes, from);
+    let numbers = count_at(bytes, from + 2);
+    let texts = count_at(bytes, from + 4);
+    Part {
+        width: standard.width,
+        flags_from: from + 10,
+        flags,
+        numbers,
+        texts,
+        names: flags + numbers + texts,
+        table: count_at(bytes, from + 8),
+    }
 }
 
 /// No extended part, held as one with no capability.
-pub(crate) fn no_part(width: Width) -> Part
-    ensures header { result.header ≡ no_capability width }
-    ensures base { result.base ≡ 0 }
+pub(crate) fn no_part() -> Part
+    ensures { result ≡ no_capability }
 {
-    let header = ExtendedHeader {
-        width,
-        from: 0,
+    Part {
+        width: Width::Legacy,
+        flags_from: 0,
         flags: 0,
         numbers: 0,
         texts: 0,
+        names: 0,
         table: 0,
-    };
-    Part { header, base: 0 }
-}
-
-/// The sum of the sizes of the texts that are there, or the size of the table where that is less.
-fn base_of(bytes: &[u8], table: &[u8], from: usize, count: usize) -> usize
-    requires small { length table.now ≤ most_entry_bytes }
-    requires there { from + 2 * count ≤ length bytes.now }
-    requires fits { from + 2 * count < 2 ^ 32 }
-    ensures { result ≡ min (sizes_at bytes.now table.now (places from 2 count)) (length table.now) }
-{
-    let mut base = 0;
-    for i in 0..count {
-        if base >= table.len() {
-            return table.len();
-        }
-        base += size_at(bytes, table, from + 2 * i);
     }
-    base.min(table.len())
-}
-
-/// Each name starts in the extended table, counted from the base, and has its NUL there.
-fn check_names_from(bytes: &[u8], extended: &ExtendedHeader, base: usize) -> Result<(), Stop>
-    requires fits { extended_end_of extended.now ≤ most_entry_bytes }
-    requires there { extended_end_of extended.now ≤ length bytes.now }
-    requires base { base ≡ min (the_base_of bytes.now extended.now) extended.now.table }
-    ensures verdict { result_verdict result
-        ≡ verdict (length bytes.now) (extended_name_checks bytes.now extended.now) }
-    ensures exact { OnOk result (base ≡ the_base_of bytes.now extended.now) }
-{
-    let end = extended.end();
-    let table = NameTable {
-        end,
-        size: extended.table,
-        reach: reach_of(&bytes[extended.table_from()..end]),
-        base,
-    };
-    check_name_places(bytes, &table, extended.names_from(), extended.name_count())?;
-    Ok(())
-}
-
-/// The base of the names, where each text and each name has its NUL in the table.
-#[tactic(auto, using(crate::proofs::VerdictLemmas::verdict_append))]
-pub(crate) fn check_texts(bytes: &[u8], extended: &ExtendedHeader) -> Result<usize, Stop>
-    requires { extended_end_of extended.now ≤ most_entry_bytes }
-    ensures verdict { result_verdict result
-        ≡ verdict (length bytes.now) (extended_text_checks bytes.now extended.now) }
-    ensures base { IfOk result (λ base. base ≡ the_base_of bytes.now extended.now) }
-    ensures most { IfOk result (λ base. base ≤ most_entry_bytes) }
-    ensures there { OnOk result (extended_end_of extended.now ≤ length bytes.now) }
-{
-    let table_from = extended.table_from();
-    let values_from = extended.values_from();
-    check_endings(
-        bytes,
-        table_from,
-        extended.table,
-        values_from,
-        extended.texts,
-    )?;
-    let table = &bytes[table_from..extended.end()];
-    let base = base_of(bytes, table, values_from, extended.texts);
-    check_names_from(bytes, extended, base)?;
-    Ok(base)
 }

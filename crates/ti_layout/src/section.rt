@@ -2,14 +2,13 @@
 
 ghost use Rattle.std.specs.Prelude.{◌≡◌, ◌+◌, ◌*◌, ◌<◌, ◌≤◌, length};
 ghost use Rattle.ti_base.specs.Limits.{most_entry_bytes};
-ghost use Rattle.ti_layout.specs.Layout.{end_of, extended_end_of};
+ghost use Rattle.ti_layout.specs.Layout.{end_of};
 ghost use Rattle.ti_layout.specs.Checks.{verdict, result_verdict};
 ghost use Rattle.ti_layout.specs.Stages.{item_size, items_checks, first_items, items_after, items_of, next};
 
 use crate::checks::{check_flags, check_no_nuls, check_numbers, check_offsets, check_signs};
-use crate::extended_header::ExtendedHeader;
 use crate::fault::{Fault, Stop};
-use crate::header::Header;
+use crate::part::Part;
 use ti_words::{Width, number_size};
 
 /// What the items of a section are.
@@ -38,16 +37,16 @@ pub(crate) struct Items {
 #[derive(Clone, Copy)]
 pub(crate) enum Section {
     Magic,
-    Words,
+    Header,
     Names,
     Flags,
     Numbers,
     Offsets,
     TableEnd,
-    Counts,
+    ExtendedHeader,
     ExtendedFlags,
     ExtendedNumbers,
-    ExtendedValues,
+    ExtendedOffsets,
     ExtendedNames,
     End,
 }
@@ -116,33 +115,33 @@ impl Section {
         ensures { result ≡ next self }
     {
         match self {
-            Section::Magic => Section::Words,
-            Section::Words => Section::Names,
+            Section::Magic => Section::Header,
+            Section::Header => Section::Names,
             Section::Names => Section::Flags,
             Section::Flags => Section::Numbers,
             Section::Numbers => Section::Offsets,
             Section::Offsets => Section::TableEnd,
-            Section::TableEnd => Section::Counts,
-            Section::Counts => Section::ExtendedFlags,
+            Section::TableEnd => Section::ExtendedHeader,
+            Section::ExtendedHeader => Section::ExtendedFlags,
             Section::ExtendedFlags => Section::ExtendedNumbers,
-            Section::ExtendedNumbers => Section::ExtendedValues,
-            Section::ExtendedValues => Section::ExtendedNames,
+            Section::ExtendedNumbers => Section::ExtendedOffsets,
+            Section::ExtendedOffsets => Section::ExtendedNames,
             Section::ExtendedNames | Section::End => Section::End,
         }
     }
 
     /// What its items are. A section without items counts as one with no flag.
-    fn item(self, header: &Header, extended: &ExtendedHeader) -> Item
-        ensures { result ≡ (items_of self header.now extended.now).item }
+    fn item(self, standard: &Part, extended: &Part) -> Item
+        ensures { result ≡ (items_of self standard.now extended.now).item }
     {
         match self {
-            Section::Words => Item::Sign(Fault::BadHeader),
+            Section::Header => Item::Sign(Fault::BadHeader),
             Section::Names => Item::Name,
-            Section::Numbers => Item::Number(header.width),
-            Section::Offsets => Item::Offset(header.table),
-            Section::Counts => Item::Sign(Fault::BadExtendedHeader),
+            Section::Numbers => Item::Number(standard.width),
+            Section::Offsets => Item::Offset(standard.table),
+            Section::ExtendedHeader => Item::Sign(Fault::BadExtendedHeader),
             Section::ExtendedNumbers => Item::Number(extended.width),
-            Section::ExtendedValues => Item::Offset(extended.table),
+            Section::ExtendedOffsets => Item::Offset(extended.table),
             Section::ExtendedNames => Item::Sign(Fault::BadExtendedName),
             Section::Flags | Section::ExtendedFlags => Item::Flag,
             Section::Magic | Section::TableEnd | Section::End => Item::Flag,
@@ -150,56 +149,56 @@ impl Section {
     }
 
     /// Where its items start.
-    fn from(self, header: &Header, extended: &ExtendedHeader) -> usize
-        requires fits { end_of header.now ≤ most_entry_bytes }
-        requires extended_fits { extended_end_of extended.now ≤ most_entry_bytes }
-        ensures { result ≡ (items_of self header.now extended.now).at }
+    fn from(self, standard: &Part, extended: &Part) -> usize
+        requires fits { end_of standard.now ≤ most_entry_bytes }
+        requires extended_fits { end_of extended.now ≤ most_entry_bytes }
+        ensures { result ≡ (items_of self standard.now extended.now).at }
     {
         match self {
-            Section::Words => 2,
+            Section::Header => 2,
             Section::Names => 12,
-            Section::Flags => header.flags_from(),
-            Section::Numbers => header.numbers_from(),
-            Section::Offsets => header.offsets_from(),
-            Section::Counts => header.extended_from(),
-            Section::ExtendedFlags => extended.flags_from(),
+            Section::Flags => standard.flags_from,
+            Section::Numbers => standard.numbers_from(),
+            Section::Offsets => standard.offsets_from(),
+            Section::ExtendedHeader => standard.extended_from(),
+            Section::ExtendedFlags => extended.flags_from,
             Section::ExtendedNumbers => extended.numbers_from(),
-            Section::ExtendedValues => extended.values_from(),
+            Section::ExtendedOffsets => extended.offsets_from(),
             Section::ExtendedNames => extended.names_from(),
             Section::Magic | Section::TableEnd | Section::End => 0,
         }
     }
 
     /// How many items it has.
-    fn count(self, header: &Header, extended: &ExtendedHeader) -> usize
-        requires { extended_end_of extended.now ≤ most_entry_bytes }
-        ensures { result ≡ (items_of self header.now extended.now).left }
+    fn count(self, standard: &Part, extended: &Part) -> usize
+        requires { end_of extended.now ≤ most_entry_bytes }
+        ensures { result ≡ (items_of self standard.now extended.now).left }
     {
         match self {
-            Section::Words => 5,
-            Section::Names => header.names.saturating_sub(1),
-            Section::Flags => header.flags,
-            Section::Numbers => header.numbers,
-            Section::Offsets => header.texts,
-            Section::Counts => 3,
+            Section::Header => 5,
+            Section::Names => standard.flags_from.saturating_sub(13),
+            Section::Flags => standard.flags,
+            Section::Numbers => standard.numbers,
+            Section::Offsets => standard.texts,
+            Section::ExtendedHeader => 3,
             Section::ExtendedFlags => extended.flags,
             Section::ExtendedNumbers => extended.numbers,
-            Section::ExtendedValues => extended.texts,
-            Section::ExtendedNames => extended.name_count(),
+            Section::ExtendedOffsets => extended.texts,
+            Section::ExtendedNames => extended.names,
             Section::Magic | Section::TableEnd | Section::End => 0,
         }
     }
 
     /// Its items.
-    pub(crate) fn items(self, header: &Header, extended: &ExtendedHeader) -> Items
-        requires fits { end_of header.now ≤ most_entry_bytes }
-        requires extended_fits { extended_end_of extended.now ≤ most_entry_bytes }
-        ensures { result ≡ items_of self header.now extended.now }
+    pub(crate) fn items(self, standard: &Part, extended: &Part) -> Items
+        requires fits { end_of standard.now ≤ most_entry_bytes }
+        requires extended_fits { end_of extended.now ≤ most_entry_bytes }
+        ensures { result ≡ items_of self standard.now extended.now }
     {
         Items {
-            item: self.item(header, extended),
-            at: self.from(header, extended),
-            left: self.count(header, extended),
+            item: self.item(standard, extended),
+            at: self.from(standard, extended),
+            left: self.count(standard, extended),
         }
     }
 }

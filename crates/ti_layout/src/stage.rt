@@ -1,57 +1,62 @@
 //! The one checker of entries: how far the checks of bytes are made, and which one is next.
 //!
-//! A stage says in which section the next check is and which of its items are left, and keeps the headers that the checks
+//! A stage says in which section the next check is and which of its items are left, and keeps the parts that the checks
 //! have read. It goes on over all the bytes that have come: a step checks the items of a section that lie within them,
 //! in one loop, or makes the few checks between two sections. Bytes that come whole take two steps a section.
 
 ghost use Rattle.std.specs.Prelude.{◌≡◌, ℕ, List, ◌+◌, ◌*◌, ◌<◌, ◌≤◌, ◌^◌, ◌∷◌, [], length, IfOk, IfErr, OnOk, Err, Some};
 ghost use Rattle.ti_base.specs.Limits.{most_entry_bytes};
-ghost use Rattle.ti_layout.specs.Layout.{header_of, end_of, extended_header_of, extended_end_of};
+ghost use Rattle.ti_layout.specs.Layout.{standard, end_of, extended_after};
 ghost use Rattle.ti_layout.specs.Checks.{verdict, result_verdict};
 ghost use Rattle.ti_layout.specs.Refusal.{size_checks, checks, failure};
-ghost use Rattle.ti_layout.specs.Stages.{item_size, checks_between, StandsAt, Stands, Waits, new_stage, stage_after, verdict_at_stop, steps_left, counts_checks, no_more_check, bytes_awaited, is_whole};
+ghost use Rattle.ti_layout.specs.Stages.{item_size, checks_between, StandsAt, Stands, Waits, new_stage, stage_after, verdict_at_stop, steps_left, extended_header_checks, no_more_check, bytes_awaited, is_whole};
 ghost use Rattle.ti_layout.specs.declared.fault.Stop.TheVariants.{Early};
 
 use crate::checks::{check_endings, check_nul, check_pad, check_sign};
-use crate::extended_header::{ExtendedHeader, check_extended_size, check_start, extended_words};
 use crate::fault::{Fault, Refused, Stop};
-use crate::header::{Header, check_magic, check_sizes, header_words};
-use crate::part::{Part, check_texts, no_part};
+use crate::header::{check_extended_size, check_magic, check_sizes, check_start};
+use crate::part::{Part, extended_part, no_part, standard_part};
 use crate::section::{Item, Items, Section};
-use ti_words::Width;
+use crate::table::check_texts;
 
-/// Which check is next, and the headers that are known by then.
+/// Which check is next, and the parts that are known by then.
 #[derive(Clone, Copy)]
 pub struct Stage {
     pub(crate) section: Section,
     pub(crate) items: Items,
-    pub(crate) header: Header,
-    pub(crate) part: Part,
+    pub(crate) standard: Part,
+    pub(crate) extended: Part,
+    /// What the offsets of the extended names are counted from.
+    pub(crate) base: usize,
 }
 
-/// The header, where the checks of the sizes in it pass.
-fn sized_header(bytes: &[u8]) -> Result<Header, Stop>
+/// The standard part, where the checks of the sizes in its header pass.
+fn sized_standard(bytes: &[u8]) -> Result<Part, Stop>
     ensures verdict { result_verdict result
-        ≡ verdict (length bytes.now) (size_checks (header_of bytes.now)) }
-    ensures words { IfOk result (λ h. h ≡ header_of bytes.now) }
+        ≡ verdict (length bytes.now) (size_checks (standard bytes.now)) }
+    ensures words { IfOk result (λ s. s ≡ standard bytes.now) }
 {
     if bytes.len() < 12 {
         return Err(Stop::Early);
     }
-    let header = header_words(bytes);
-    check_sizes(bytes.len(), &header)?;
-    Ok(header)
+    let standard = standard_part(bytes);
+    check_sizes(bytes.len(), &standard)?;
+    Ok(standard)
 }
 
-/// The extended header, where its last word and the sizes in it pass.
-fn sized_extended_header(bytes: &[u8], header: &Header) -> Result<ExtendedHeader, Stop>
-    requires { end_of header.now ≤ most_entry_bytes }
+/// The extended part, where the last word of its header and the sizes in it pass.
+fn sized_extended(bytes: &[u8], standard: &Part) -> Result<Part, Stop>
+    requires { end_of standard.now ≤ most_entry_bytes }
     ensures verdict { result_verdict result
-        ≡ verdict (length bytes.now) (counts_checks bytes.now header.now) }
-    ensures words { IfOk result (λ x. x ≡ extended_header_of header.now bytes.now) }
+        ≡ verdict (length bytes.now) (extended_header_checks bytes.now standard.now) }
+    ensures words { IfOk result (λ x. x ≡ extended_after standard.now bytes.now) }
 {
-    check_sign(bytes, Fault::BadExtendedHeader, header.extended_from() + 8)?;
-    let extended = extended_words(bytes, header);
+    check_sign(
+        bytes,
+        Fault::BadExtendedHeader,
+        standard.extended_from() + 8,
+    )?;
+    let extended = extended_part(bytes, standard);
     check_extended_size(bytes.len(), &extended)?;
     Ok(extended)
 }
@@ -75,14 +80,6 @@ impl Stage {
     pub fn new() -> Stage
         ensures { result ≡ new_stage }
     {
-        let header = Header {
-            width: Width::Legacy,
-            names: 0,
-            flags: 0,
-            numbers: 0,
-            texts: 0,
-            table: 0,
-        };
         Stage {
             section: Section::Magic,
             items: Items {
@@ -90,45 +87,49 @@ impl Stage {
                 at: 0,
                 left: 0,
             },
-            header,
-            part: no_part(Width::Legacy),
+            standard: no_part(),
+            extended: no_part(),
+            base: 0,
         }
     }
 
-    /// The checks between the items of a section and those of the next; it keeps the headers that they read.
+    /// The checks between the items of a section and those of the next; it keeps the parts that they read.
     fn leave(&mut self, bytes: &[u8]) -> Result<(), Stop>
-        requires fits { end_of self.old.header ≤ most_entry_bytes }
-        requires extended_fits { extended_end_of self.old.part.header ≤ most_entry_bytes }
-        requires base_fits { self.old.part.base ≤ most_entry_bytes }
+        requires fits { end_of self.old.standard ≤ most_entry_bytes }
+        requires extended_fits { end_of self.old.extended ≤ most_entry_bytes }
+        requires extended_named { self.old.extended.flags + self.old.extended.numbers
+            + self.old.extended.texts ≡ self.old.extended.names }
+        requires base_fits { self.old.base ≤ most_entry_bytes }
         ensures verdict { result_verdict result ≡ verdict (length bytes.now)
-            (checks_between self.old.section self.old.header self.old.part.header bytes.now) }
+            (checks_between self.old.section self.old.standard self.old.extended bytes.now) }
         ensures kept { OnOk result (self.new ≡ stage_after self.old bytes.now) }
-        ensures base_fits { OnOk result (self.new.part.base ≤ most_entry_bytes) }
+        ensures base_fits { OnOk result (self.new.base ≤ most_entry_bytes) }
         ensures same { IfErr result (λ stop. self.new ≡ self.old) }
     {
-        let header = self.header;
-        let extended = self.part.header;
+        let standard = self.standard;
+        let extended = self.extended;
         match self.section {
             Section::Magic => check_magic(bytes)?,
-            Section::Words => {
-                self.header = sized_header(bytes)?;
-                self.part = no_part(self.header.width);
-            }
-            Section::Names => check_nul(bytes, Fault::BadNames, 11 + header.names)?,
-            Section::Flags => check_pad(bytes, header.pad_from(), header.names + header.flags)?,
+            Section::Header => self.standard = sized_standard(bytes)?,
+            Section::Names => check_nul(
+                bytes,
+                Fault::BadNames,
+                standard.flags_from.saturating_sub(1),
+            )?,
+            Section::Flags => check_pad(bytes, standard.flags_end())?,
             Section::Offsets => check_endings(
                 bytes,
-                header.table_from(),
-                header.table,
-                header.offsets_from(),
-                header.texts,
+                standard.table_from(),
+                standard.table,
+                standard.offsets_from(),
+                standard.texts,
             )?,
-            Section::TableEnd => check_start(bytes, &header)?,
-            Section::Counts => self.part.header = sized_extended_header(bytes, &header)?,
-            Section::ExtendedFlags => check_pad(bytes, extended.pad_from(), extended.flags)?,
-            Section::ExtendedNames => self.part.base = check_texts(bytes, &extended)?,
+            Section::TableEnd => check_start(bytes, &standard)?,
+            Section::ExtendedHeader => self.extended = sized_extended(bytes, &standard)?,
+            Section::ExtendedFlags => check_pad(bytes, extended.flags_end())?,
+            Section::ExtendedNames => self.base = check_texts(bytes, &extended)?,
             Section::End => check_no_more(bytes.len(), extended.end())?,
-            Section::Numbers | Section::ExtendedNumbers | Section::ExtendedValues => {}
+            Section::Numbers | Section::ExtendedNumbers | Section::ExtendedOffsets => {}
         }
         Ok(())
     }
@@ -154,7 +155,7 @@ impl Stage {
         }
         self.leave(bytes)?;
         self.section = self.section.next();
-        self.items = self.section.items(&self.header, &self.part.header);
+        self.items = self.section.items(&self.standard, &self.extended);
         Ok(())
     }
 
@@ -162,8 +163,8 @@ impl Stage {
     pub fn need(&self) -> usize
         requires within { self.now.items.at + item_size self.now.items.item * self.now.items.left
             ≤ most_entry_bytes }
-        requires fits { end_of self.now.header ≤ most_entry_bytes }
-        requires extended_fits { extended_end_of self.now.part.header ≤ most_entry_bytes }
+        requires fits { end_of self.now.standard ≤ most_entry_bytes }
+        requires extended_fits { end_of self.now.extended ≤ most_entry_bytes }
         ensures value { result ≡ bytes_awaited self.now }
         ensures waits { (bytes : List ℕ) → StandsAt bytes self.now → length bytes < result
             → Waits bytes self.now }
@@ -172,10 +173,10 @@ impl Stage {
             return self.items.at + self.items.item.size();
         }
         match self.section {
-            Section::Offsets => self.header.end(),
-            Section::TableEnd => self.header.end() + 1,
-            Section::ExtendedNames => self.part.header.end(),
-            Section::End => self.part.header.end() + 1,
+            Section::Offsets => self.standard.end(),
+            Section::TableEnd => self.standard.end() + 1,
+            Section::ExtendedNames => self.extended.end(),
+            Section::End => self.extended.end() + 1,
             _ => 0,
         }
     }
@@ -201,18 +202,25 @@ impl Stage {
         }
     }
 
-    /// The header that is known by then.
-    pub fn header(&self) -> Header
-        ensures { result ≡ self.now.header }
+    /// The standard part that is known by then.
+    pub fn standard(&self) -> Part
+        ensures { result ≡ self.now.standard }
     {
-        self.header
+        self.standard
     }
 
     /// The extended part that is known by then.
-    pub fn part(&self) -> Part
-        ensures { result ≡ self.now.part }
+    pub fn extended(&self) -> Part
+        ensures { result ≡ self.now.extended }
     {
-        self.part
+        self.extended
+    }
+
+    /// What the offsets of the extended names are counted from, as far as it is known by then.
+    pub fn base(&self) -> usize
+        ensures { result ≡ self.now.base }
+    {
+        self.base
     }
 
     /// Whether the bytes that came are a whole entry.

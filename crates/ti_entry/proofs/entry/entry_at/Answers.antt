@@ -34,7 +34,8 @@ invariant_of-result c =
     let bytes = c.args.bytes.now in
     let stage = c.args.stage.now in
     let whole : is_whole stage.section ≡ true = sym c.is_whole.ensures ∙ c.if-not-is_whole.false in
-    rw (c.header.ensures, c.part.ensures) (whole_is_view bytes stage (stands_now bytes stage c.requires.stands) c.requires.waits whole).laid_out
+    let view = whole_is_view bytes stage (stands_now bytes stage c.requires.stands) c.requires.waits whole in
+    rw (c.standard.ensures, c.extended.ensures, c.base.ensures) (view.is_standard, view.is_extended)
 
 pub returns-clause-found : goal.returns-clause-found
 returns-clause-found c =
@@ -42,19 +43,19 @@ returns-clause-found c =
     let stage = c.args.stage.now in
     let whole : is_whole stage.section ≡ true = sym c.is_whole.ensures ∙ c.if-not-is_whole.false in
     let view = whole_is_view bytes stage (stands_now bytes stage c.requires.stands) c.requires.waits whole in
-    rw (c.header.ensures, c.part.ensures) (subst (λ v. Spells bytes v) (sym view.content) (found bytes (λ i. omega (arith, c.type_inv.bytes i)) (whole_passes bytes stage c.requires.waits whole)))
+    rw (c.standard.ensures, c.extended.ensures) (subst (λ v. Spells bytes v) (sym view.shows) (found bytes (λ i. omega (arith, c.type_inv.bytes i)) (whole_passes bytes stage c.requires.waits whole)))
 
 pub returns-clause-only : goal.returns-clause-only
 returns-clause-only c = λ v s.
     let bytes = c.args.bytes.now in
     let stage = c.args.stage.now in
     let whole : is_whole stage.section ≡ true = sym c.is_whole.ensures ∙ c.if-not-is_whole.false in
-    rw (c.header.ensures, c.part.ensures) ((whole_is_view bytes stage (stands_now bytes stage c.requires.stands) c.requires.waits whole).content ∙ sym (only bytes v s).same)
+    rw (c.standard.ensures, c.extended.ensures) ((whole_is_view bytes stage (stands_now bytes stage c.requires.stands) c.requires.waits whole).shows ∙ sym (only bytes v s).same)
 
 pub returns-clause-answer : goal.returns-clause-answer
 returns-clause-answer c =
     let bytes = c.args.bytes.now in
     let stage = c.args.stage.now in
     let whole : is_whole stage.section ≡ true = sym c.is_whole.ensures ∙ c.if-not-is_whole.false in
-    rw (c.header.ensures, c.part.ensures) (ap Ok (whole_is_view bytes stage (stands_now bytes stage c.requires.stands) c.requires.waits whole).content)
+    rw (c.standard.ensures, c.extended.ensures) (ap Ok (whole_is_view bytes stage (stands_now bytes stage c.requires.stands) c.requires.waits whole).shows)
     ∙ answer_content bytes (whole_passes bytes stage c.requires.waits whole)

@@ -8,5 +8,5 @@ use Rattle.ti_entry.proofs.entry.Entry.number_count.Goals as goal
 
 pub returns : goal.returns
 returns c =
-    let size = number_size c.self.inside.header.width in
-    c.count.ensures ∙ sym (length_places (number_at size c.self.inside.bytes.now) (numbers_from c.self.inside.header) size c.self.inside.header.numbers) ∙ ap (λ (v : EntryValue). length v.numbers) c.self.view_is
+    let size = number_size c.self.inside.standard.width in
+    c.count.ensures ∙ sym (length_places (number_at size c.self.inside.bytes.now) (numbers_from c.self.inside.standard) size c.self.inside.standard.numbers) ∙ ap (λ (v : EntryValue). length v.numbers) c.self.view_is

@@ -3,27 +3,28 @@ use Rattle.std.specs.Prelude.{slice_get}
 use Rattle.ti_words.specs.Value.{EntryValue}
 use Rattle.ti_entry.specs.Content.{name_at}
 use Rattle.ti_entry.specs.Finding.{names_of}
-use Rattle.ti_layout.specs.Layout.{kind_count, kind_names_from}
-use Rattle.ti_entry.proofs.IsLeastIndexLemmas.{names_are, get_named, get_none}
+use Rattle.ti_layout.specs.Layout.{count_of_kind, kind_names_from, standard}
+use Rattle.ti_entry.proofs.IsLeastIndexLemmas.{get_named, get_none}
+use Rattle.ti_entry.proofs.NamedItemsLemmas.{names_are}
 use Rattle.ti_entry.proofs.extended.Extended.name.Goals as goal
 
 pub returns-then-i-count : goal.returns-then-i-count
 returns-then-i-count c =
     let bytes = c.self.inside.bytes.now in
-    let x = c.self.inside.part.header in
+    let x = c.self.inside.part in
     let kind = c.args.kind in
-    let lt : c.args.i < kind_count x kind = omega (arith, c.count.ensures, c.if-i-count.true) in
+    let lt : c.args.i < count_of_kind x kind = omega (arith, c.count.ensures, c.if-i-count.true) in
     ap Some (c.name_at.ensures ∙ ap (λ n. name_at bytes x (n + 2 * c.args.i)) c.names_of.ensures.place)
-    ∙ sym (get_named (name_at bytes x) (kind_names_from x kind) (kind_count x kind) c.args.i lt)
-    ∙ ap (λ l. slice_get l c.args.i) (sym (names_are bytes c.self.inside.header x kind))
+    ∙ sym (get_named (name_at bytes x) (kind_names_from x kind) (count_of_kind x kind) c.args.i lt)
+    ∙ ap (λ l. slice_get l c.args.i) (sym (names_are bytes (standard bytes) x kind))
     ∙ ap (λ (v : EntryValue). slice_get (names_of v kind) c.args.i) c.self.view_is
 
 pub returns-else-i-count : goal.returns-else-i-count
 returns-else-i-count c =
     let bytes = c.self.inside.bytes.now in
-    let x = c.self.inside.part.header in
+    let x = c.self.inside.part in
     let kind = c.args.kind in
-    let le : kind_count x kind ≤ c.args.i = omega (arith, c.count.ensures, c.if-i-count.false) in
-    sym (get_none (name_at bytes x) (kind_names_from x kind) (kind_count x kind) c.args.i le)
-    ∙ ap (λ l. slice_get l c.args.i) (sym (names_are bytes c.self.inside.header x kind))
+    let le : count_of_kind x kind ≤ c.args.i = omega (arith, c.count.ensures, c.if-i-count.false) in
+    sym (get_none (name_at bytes x) (kind_names_from x kind) (count_of_kind x kind) c.args.i le)
+    ∙ ap (λ l. slice_get l c.args.i) (sym (names_are bytes (standard bytes) x kind))
     ∙ ap (λ (v : EntryValue). slice_get (names_of v kind) c.args.i) c.self.view_is

@@ -47,6 +47,9 @@ leave-requires-clause-fits c = (stands_now c.args.bytes.now c.args.self.now c.re
 pub leave-requires-clause-extended_fits : goal.leave-requires-clause-extended_fits
 leave-requires-clause-extended_fits c = (stands_now c.args.bytes.now c.args.self.now c.requires).extended_fits
 
+pub leave-requires-clause-extended_named : goal.leave-requires-clause-extended_named
+leave-requires-clause-extended_named c = (stands_now c.args.bytes.now c.args.self.now c.requires).extended_named
+
 pub leave-requires-clause-base_fits : goal.leave-requires-clause-base_fits
 leave-requires-clause-base_fits c = (stands_now c.args.bytes.now c.args.self.now c.requires).base_fits
 
@@ -86,6 +89,6 @@ returns-clause-less c =
     let none : c.args.self.now.items.left ≡ 0 = omega arith in
     let stands = stands_at_next c.args.bytes.now c.args.self.now c.leave.new.self c.requires none c.in_ok-leave.ensures.verdict c.in_ok-leave.ensures.kept c.in_ok-leave.ensures.base_fits in
     let front = at_front c.args.bytes.now c.leave.new.self c.next-self.result c.items-self.result stands c.next-self.ensures c.items-self.ensures in
-    let new : Stage = record { section = c.next-self.result; items = c.items-self.result; header = c.leave.new.self.header; part = c.leave.new.self.part } in
+    let new : Stage = record { section = c.next-self.result; items = c.items-self.result; standard = c.leave.new.self.standard; extended = c.leave.new.self.extended; base = c.leave.new.self.base } in
     let same : c.leave.new.self.section ≡ c.args.self.now.section = ap (λ (t : Stage). t.section) c.in_ok-leave.ensures.kept in
     fewer_sections c.args.bytes.now c.args.self.now new c.in_ok-leave.ensures.verdict (c.next-self.ensures ∙ ap next same) (stands_now c.args.bytes.now new front)

@@ -2,7 +2,7 @@ use Rattle.std.proofs.Common.{◌≡◌, ℕ, suc, List, ◌+◌, ◌-◌, ◌*�
 use Rattle.ti_words.specs.Word.{word_at}
 use Rattle.ti_layout.specs.Layout.{places}
 use Rattle.ti_layout.specs.Table.{size_at, sizes_at}
-use Rattle.ti_layout.proofs.part.base_of.Goals as goal
+use Rattle.ti_layout.proofs.table.base_of.Goals as goal
 
 one_more : (bytes table : List ℕ) (from count i : ℕ) → i < count → sizes_at bytes table (places (from + 2 * i) 2 (count - i)) ≡ size_at table (word_at 2 bytes (from + 2 * i)) + sizes_at bytes table (places (from + 2 * (i + 1)) 2 (count - (i + 1)))
 one_more bytes table from count i lt =

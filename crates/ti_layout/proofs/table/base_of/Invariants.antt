@@ -1,7 +1,7 @@
 use Rattle.std.proofs.Common.{◌≡◌, ◌+◌, ◌-◌, ◌*◌, ◌≤◌, length}
 use Rattle.ti_layout.specs.Layout.{places}
 use Rattle.ti_layout.specs.Table.{sizes_at}
-use Rattle.ti_layout.proofs.part.base_of.Given as goal
+use Rattle.ti_layout.proofs.table.base_of.Given as goal
 
 abbrev pub invariant-loop-i : goal.invariant-loop-i
 invariant-loop-i l = record {
