@@ -59,7 +59,6 @@ fn plain(conversion: Conversion) -> Format
 
 /// The format at the front, part by part.
 #[inline(never)]
-#[tactic(auto, unfolding(crate::specs::inner::Lexer::format_read))]
 fn read_parts(bytes: &[u8]) -> Result<(Token, usize), CapFault>
     ensures { result ≡ format_read bytes.now }
 {
