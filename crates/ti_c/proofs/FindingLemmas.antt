@@ -8,7 +8,8 @@ use Rattle.std.proofs.lemmas.Slice.Eq.{bytes_eq-Decides}
 use Rattle.std.proofs.lemmas.Str.{IsUtf8-from_ascii}
 use Rattle.ti_words.specs.Names.{Place}
 use Rattle.ti_words.specs.declared.all_names.NameTable.TheVariants.{All}
-use Rattle.ti_words.specs.AllNames.{all_flags, all_numbers, all_texts, name_places_in}
+use Rattle.ti_words.specs.AllNames.{name_places_in}
+use Rattle.ti_words.specs.NameLists.{all_flags, all_numbers, all_texts}
 use Rattle.ti_c.specs.Names.{place_for}
 
 -- each byte is below 128
