@@ -20,6 +20,7 @@ use Rattle.ti_words.specs.declared.Width.TheVariants.{Legacy, Wide}
 use Rattle.ti_words.specs.declared.all_names.NameTable.{NameTable}
 use Rattle.ti_words.specs.declared.all_names.NameTable.TheVariants as tables
 use Rattle.ti_words.specs.AllNames.{rows_in}
+use Rattle.ti_words.specs.LongNames.{long_flags, long_numbers, long_texts}
 use Rattle.ti_words.specs.NameLists.{Row, all_flags, all_numbers, all_texts, common_flags, common_numbers, common_texts}
 use Rattle.ti_words.specs.Spelling.{mark_in}
 use Rattle.ti_words.specs.Texts.{TextValue, AbsentText, CancelledText, TextOf}
@@ -112,13 +113,16 @@ found_text index (row ∷ rows) all other is =
     either name rest false of_name of_rest = of_rest
 
 names_text : (table : NameTable) (kind : Kind) → list_all (λ row. list_all is_printable row.1) (rows_in table kind) ≡ true
-unfolding all_flags all_numbers all_texts common_flags common_numbers common_texts
+unfolding all_flags all_numbers all_texts common_flags common_numbers common_texts long_flags long_numbers long_texts
 names_text tables.Common kinds.Flag = refl
 names_text tables.Common kinds.Number = refl
 names_text tables.Common kinds.Text = refl
 names_text tables.All kinds.Flag = refl
 names_text tables.All kinds.Number = refl
 names_text tables.All kinds.Text = refl
+names_text tables.Long kinds.Flag = refl
+names_text tables.Long kinds.Number = refl
+names_text tables.Long kinds.Text = refl
 
 label_text : (table : NameTable) (kind : Kind) (index : ℕ) → IsText (label_of table kind index)
 label_text table kind index = found_text index (rows_in table kind) (names_text table kind) (codes "#" ++ decimal index) (both (codes "#") (decimal index) refl (decimal_text index))

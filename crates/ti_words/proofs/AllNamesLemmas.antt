@@ -1,4 +1,4 @@
--- In both tables no index of a kind and no name stands twice; what is among the common names is among all.
+-- In each table no index of a kind and no name stands twice; what is among the common names is among all.
 use Rattle.std.proofs.Common.{◌≡◌, ◌∙◌, ◌⊎◌, inl, inr, ℕ, Bool, true, false, cond, List, [], ◌∷◌, Option, Some, None, refl, sym, ap, nat_eq, eqb-true}
 use Rattle.std.specs.Prelude.{filter}
 use Rattle.std.specs.Map.{keys_of, lookup}
@@ -9,8 +9,10 @@ use Rattle.ti_words.specs.declared.Kind.{Kind}
 use Rattle.ti_words.specs.declared.Kind.TheVariants as kinds
 use Rattle.ti_words.specs.declared.all_names.NameTable.{NameTable}
 use Rattle.ti_words.specs.declared.all_names.NameTable.TheVariants as tables
-use Rattle.ti_words.specs.AllNames.{TablesAgree, has_index, name_in, rows_in}
+use Rattle.ti_words.specs.AllNames.{EachHasALongName, TablesAgree, has_index, listed, name_in, rows_in}
 use Rattle.ti_words.specs.NameLists.{Row, all_flags, all_numbers, all_rows, all_texts, is_common}
+use Rattle.ti_words.specs.LongNames.{long_flags, long_numbers, long_rows, long_texts}
+use Rattle.std.specs.List.{enumerate_from}
 use Rattle.ti_words.proofs.NamesLemmas.{indices_differ, names_differ}
 use Rattle.ti_words.proofs.RowsLemmas.{Has, contains, has}
 use Rattle.ti_words.proofs.TableLemmas.{IndicesDiffer, NamesDiffer, places}
@@ -25,13 +27,31 @@ pub all_names_differ : NamesDiffer all_rows
 unfolding all_flags all_numbers all_texts
 all_names_differ = IsDistinct-from_count nat_list_eq_equiv (keys_of (places all_rows)) refl
 
+pub long_indices_differ : IndicesDiffer long_rows
+unfolding long_flags long_numbers long_texts
+long_indices_differ kinds.Flag = IsDistinct-from_count nat_eq_equiv (keys_of (long_rows kinds.Flag)) refl
+long_indices_differ kinds.Number = IsDistinct-from_count nat_eq_equiv (keys_of (long_rows kinds.Number)) refl
+long_indices_differ kinds.Text = IsDistinct-from_count nat_eq_equiv (keys_of (long_rows kinds.Text)) refl
+
+pub long_names_differ : NamesDiffer long_rows
+unfolding long_flags long_numbers long_texts
+long_names_differ = IsDistinct-from_count nat_list_eq_equiv (keys_of (places long_rows)) refl
+
+pub each_has_a_long_name : EachHasALongName
+unfolding all_flags all_numbers all_texts long_flags long_numbers long_texts
+each_has_a_long_name kinds.Flag = refl
+each_has_a_long_name kinds.Number = refl
+each_has_a_long_name kinds.Text = refl
+
 pub indices_differ_in : (table : NameTable) → IndicesDiffer (rows_in table)
 indices_differ_in tables.Common = indices_differ
 indices_differ_in tables.All = all_indices_differ
+indices_differ_in tables.Long = long_indices_differ
 
 pub names_differ_in : (table : NameTable) → NamesDiffer (rows_in table)
 names_differ_in tables.Common = names_differ
 names_differ_in tables.All = all_names_differ
+names_differ_in tables.Long = long_names_differ
 
 -- ---- what is among the common names is among all
 
@@ -49,13 +69,17 @@ agree kind index name named =
 
 -- ---- the rows of a table are those that it has
 
+abbrev listed_rows : NameTable → Kind → List Row
+listed_rows table kind = enumerate_from 0 (listed table kind)
+
 all_kept : {X : Type 0} (xs : List X) → xs ≡ filter (λ x. true) xs
 all_kept [] = refl
 all_kept (x ∷ xs) = ap (λ l. x ∷ l) (all_kept xs)
 
-pub rows_are : (table : NameTable) (kind : Kind) → rows_in table kind ≡ filter (λ row. has_index table kind row.0) (all_rows kind)
+pub rows_are : (table : NameTable) (kind : Kind) → rows_in table kind ≡ filter (λ row. has_index table kind row.0) (listed_rows table kind)
 rows_are tables.Common kind = refl
 rows_are tables.All kind = all_kept (all_rows kind)
+rows_are tables.Long kind = all_kept (long_rows kind)
 
 none_either_way : {X : Type 0} (b : Bool) (o : Option X) → o ≡ None → o ≡ cond b None None
 none_either_way true o e = e
@@ -85,15 +109,15 @@ looked_up_kept passes index (row ∷ rows) =
 
 -- the name in a table is that in the whole list, if the table has the index
 name_in_is : (table : NameTable) (kind : Kind) (index : ℕ)
-    → name_in table kind index ≡ cond (has_index table kind index) (lookup (nat_eq index) (all_rows kind)) None
+    → name_in table kind index ≡ cond (has_index table kind index) (lookup (nat_eq index) (listed_rows table kind)) None
 name_in_is table kind index =
-    ap (lookup (nat_eq index)) (rows_are table kind) ∙ looked_up_kept (has_index table kind) index (all_rows kind)
+    ap (lookup (nat_eq index)) (rows_are table kind) ∙ looked_up_kept (has_index table kind) index (listed_rows table kind)
 
 pub name_present : (table : NameTable) (kind : Kind) (index : ℕ) → has_index table kind index ≡ true
-    → lookup (nat_eq index) (all_rows kind) ≡ name_in table kind index
+    → lookup (nat_eq index) (listed_rows table kind) ≡ name_in table kind index
 name_present table kind index has =
-    sym (name_in_is table kind index ∙ ap (λ b. cond b (lookup (nat_eq index) (all_rows kind)) None) has)
+    sym (name_in_is table kind index ∙ ap (λ b. cond b (lookup (nat_eq index) (listed_rows table kind)) None) has)
 
 pub name_absent : (table : NameTable) (kind : Kind) (index : ℕ) → has_index table kind index ≡ false → None ≡ name_in table kind index
 name_absent table kind index has =
-    sym (name_in_is table kind index ∙ ap (λ b. cond b (lookup (nat_eq index) (all_rows kind)) None) has)
+    sym (name_in_is table kind index ∙ ap (λ b. cond b (lookup (nat_eq index) (listed_rows table kind)) None) has)

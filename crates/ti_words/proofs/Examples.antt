@@ -1,9 +1,10 @@
--- Worked rows of the two tables of names; the numbers are those of the header term.h.
+-- Worked rows of the three tables of names; the numbers are those of the header term.h.
 use Rattle.std.proofs.Common.{◌≡◌, None, Some, refl}
 use Rattle.std.specs.Prelude.{codes}
 use Rattle.ti_words.specs.declared.Kind.TheVariants as kinds
 use Rattle.ti_words.specs.declared.all_names.NameTable.TheVariants as tables
 use Rattle.ti_words.specs.AllNames.{name_in, place_in}
+use Rattle.ti_words.specs.LongNames.{long_flags, long_numbers, long_texts}
 use Rattle.ti_words.specs.NameLists.{all_flags, all_numbers, all_texts, common_flags, common_numbers, common_texts}
 
 -- the flag `xsb` has a name in the whole table alone
@@ -45,3 +46,24 @@ not_common = refl
 other_letters : place_in tables.All (codes "ACSC") ≡ None
 unfolding all_flags all_numbers all_texts
 other_letters = refl
+
+-- the long name of `cup`, the last of each kind, and one more
+cursor_address : place_in tables.Long (codes "cursor_address") ≡ Some (kinds.Text, 10)
+unfolding long_flags long_numbers long_texts
+cursor_address = refl
+
+last_long_flag : name_in tables.Long kinds.Flag 43 ≡ Some (codes "return_does_clr_eol")
+unfolding long_flags
+last_long_flag = refl
+
+last_long_number : name_in tables.Long kinds.Number 38 ≡ Some (codes "number_of_function_keys")
+unfolding long_numbers
+last_long_number = refl
+
+last_long_text : name_in tables.Long kinds.Text 413 ≡ Some (codes "box_chars_1")
+unfolding long_texts
+last_long_text = refl
+
+past_long_texts : name_in tables.Long kinds.Text 414 ≡ None
+unfolding long_texts
+past_long_texts = refl

@@ -1,5 +1,5 @@
--- The two tables of names: the common ones, and all of the header term.h of ncurses 6.4.
-use Rattle.std.specs.Prelude.{◌≡◌, ◌↔◌, ℕ, Bool, true, List, ◌++◌, map, Option, Some, Contains, nat_eq}
+-- The three tables of names: the common ones, all of the header term.h of ncurses 6.4, and all long ones.
+use Rattle.std.specs.Prelude.{◌≡◌, ◌↔◌, ℕ, Bool, true, List, ◌++◌, length, map, Option, Some, Contains, nat_eq}
 use Rattle.std.specs.Map.{lookup}
 use Rattle.std.specs.Str.{bytes_eq}
 use Rattle.ti_words.specs.declared.Kind.{Kind}
@@ -7,20 +7,29 @@ use Rattle.ti_words.specs.declared.Kind.TheVariants as kinds
 use Rattle.ti_words.specs.declared.all_names.NameTable.{NameTable}
 use Rattle.ti_words.specs.declared.all_names.NameTable.TheVariants as tables
 use Rattle.ti_words.specs.NameLists.{is_common}
+use Rattle.ti_words.specs.LongNames.{long_names, long_rows}
 pub use Rattle.ti_words.specs.NameLists.{all_flags, all_names, all_numbers, all_rows, all_texts}
 use Rattle.ti_words.specs.Names.{IsNamed, Place, Row, name_of, named_place, place_of, rows}
 
--- ---- the two tables
+-- ---- the three tables
 
--- the rows of a kind in a table: those of the common names, or of all
+-- the rows of a kind in a table: those of the common names, of all, or of all long names
 abbrev pub rows_in : NameTable → Kind → List Row
 rows_in tables.Common = rows
 rows_in tables.All = all_rows
+rows_in tables.Long = long_rows
+
+-- the names of a kind among which those of a table are, each at its index
+abbrev pub listed : NameTable → Kind → List (List ℕ)
+listed tables.Common = all_names
+listed tables.All = all_names
+listed tables.Long = long_names
 
 -- whether a table has the index of a kind, if a capability has it
 abbrev pub has_index : NameTable → Kind → ℕ → Bool
 has_index tables.Common kind index = is_common kind index
 has_index tables.All kind index = true
+has_index tables.Long kind index = true
 
 -- in the table, the capability of the kind at the index has the name
 abbrev pub IsNamedIn : NameTable → Kind → ℕ → List ℕ → Type 0
@@ -44,7 +53,7 @@ name_places_in table =
 abbrev pub place_in : NameTable → List ℕ → Option Place
 place_in table name = lookup (bytes_eq name) (name_places_in table)
 
--- ---- the laws of both tables
+-- ---- the laws of each table
 
 -- a capability has one name
 abbrev pub HasOneNameIn : NameTable → Type 0
@@ -73,3 +82,7 @@ CommonAnswersAlike =
 -- what is among the common names stands in the whole table at the same place
 abbrev pub TablesAgree : Type 0
 TablesAgree = (kind : Kind) (index : ℕ) (name : List ℕ) → IsNamed kind index name → IsNamedIn tables.All kind index name
+
+-- the long names of a kind are as many as the short ones, so a capability has both or none
+abbrev pub EachHasALongName : Type 0
+EachHasALongName = (kind : Kind) → length (long_rows kind) ≡ length (all_rows kind)

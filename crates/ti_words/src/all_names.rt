@@ -1,17 +1,19 @@
-//! The names of capabilities by the table that is asked: the common ones, or all of `term.h`.
+//! The names of capabilities by the table that is asked: the common ones, all of `term.h`, or all long ones.
 //!
-//! There is one list of names, and the indices of the common ones. A name is looked for in the list, and an index among those
-//! of the common ones. No call takes memory.
+//! There is one list of names, the indices of the common ones, and one list of long names. A name is looked for in its list,
+//! and an index among those of the common ones. No call takes memory.
 
 ghost use Rattle.std.specs.Prelude.{◌≡◌, Some, IfSome, map, option_map};
 ghost use Rattle.std.specs.Map.{lookup};
 ghost use Rattle.std.specs.Str.{bytes_eq};
 ghost use Rattle.ti_words.specs.declared.Kind.TheVariants as kinds;
-ghost use Rattle.ti_words.specs.AllNames.{IsNamedIn, IsOnlyNameIn, has_index, name_in, place_in, rows_in};
+ghost use Rattle.ti_words.specs.AllNames.{IsNamedIn, IsOnlyNameIn, has_index, listed, name_in, place_in, rows_in};
+ghost use Rattle.ti_words.specs.LongNames.{long_names};
 ghost use Rattle.ti_words.specs.NameLists.{all_names, common};
 ghost use Rattle.ti_words.specs.Names.{Place, named_place};
 
 use crate::Kind;
+use crate::long_table::{LONG_FLAG_NAMES, LONG_NUMBER_NAMES, LONG_TEXT_NAMES};
 use crate::table::{
     ALL_FLAG_NAMES, ALL_NUMBER_NAMES, ALL_TEXT_NAMES, COMMON_FLAGS, COMMON_NUMBERS, COMMON_TEXTS,
 };
@@ -23,6 +25,8 @@ pub enum NameTable {
     Common,
     /// The names of all 44 flags, 39 numbers and 414 texts of the header `term.h` of ncurses 6.4.
     All,
+    /// The long names of the same capabilities (terminfo(5)), such as `cursor_address` for `cup`.
+    Long,
 }
 
 impl NameTable {
@@ -74,7 +78,17 @@ impl NameTable {
     {
         match self {
             NameTable::Common => common_of(kind).contains(&index),
-            NameTable::All => true,
+            NameTable::All | NameTable::Long => true,
+        }
+    }
+
+    /// The list that holds the names of a kind in the table.
+    fn list_of(self, kind: Kind) -> &'static [&'static str]
+        ensures { map (λ name. name.now) result.now ≡ listed self kind }
+    {
+        match self {
+            NameTable::Common | NameTable::All => names_of(kind),
+            NameTable::Long => long_names_of(kind),
         }
     }
 
@@ -85,14 +99,14 @@ impl NameTable {
         if !self.has(kind, index) {
             return None;
         }
-        names_of(kind).get(index).copied()
+        self.list_of(kind).get(index).copied()
     }
 
     /// The place of the capability of a kind that has a name.
     fn place_of(self, kind: Kind, name: &str) -> Option<(Kind, usize)>
         ensures { result ≡ lookup (bytes_eq name.now) (map (named_place kind) (rows_in self kind)) }
     {
-        for (index, known) in names_of(kind).iter().enumerate() {
+        for (index, known) in self.list_of(kind).iter().enumerate() {
             if name == *known && self.has(kind, index) {
                 return Some((kind, index));
             }
@@ -109,6 +123,17 @@ fn names_of(kind: Kind) -> &'static [&'static str]
         Kind::Flag => &ALL_FLAG_NAMES,
         Kind::Number => &ALL_NUMBER_NAMES,
         Kind::Text => &ALL_TEXT_NAMES,
+    }
+}
+
+/// The long names of a kind.
+fn long_names_of(kind: Kind) -> &'static [&'static str]
+    ensures { map (λ name. name.now) result.now ≡ long_names kind }
+{
+    match kind {
+        Kind::Flag => &LONG_FLAG_NAMES,
+        Kind::Number => &LONG_NUMBER_NAMES,
+        Kind::Text => &LONG_TEXT_NAMES,
     }
 }
 

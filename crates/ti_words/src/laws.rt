@@ -1,6 +1,6 @@
 //! Laws of the tables of names, each proved and with nothing to run.
 
-ghost use Rattle.ti_words.specs.AllNames.{CommonAnswersAlike, HasOneNameIn, HasOnePlaceIn, NameAndPlaceAgreeIn, TablesAgree};
+ghost use Rattle.ti_words.specs.AllNames.{CommonAnswersAlike, EachHasALongName, HasOneNameIn, HasOnePlaceIn, NameAndPlaceAgreeIn, TablesAgree};
 ghost use Rattle.ti_words.specs.Names.{HasOneName, HasOnePlace, NameAndPlaceAgree};
 ghost use Rattle.ti_words.specs.declared.all_names.NameTable.TheVariants as tables;
 
@@ -20,9 +20,17 @@ pub fn all_names_stand_once()
     ensures inverse { NameAndPlaceAgreeIn tables.All }
 {}
 
+/// The same of the table of long names.
+pub fn long_names_stand_once()
+    ensures one_name { HasOneNameIn tables.Long }
+    ensures one_place { HasOnePlaceIn tables.Long }
+    ensures inverse { NameAndPlaceAgreeIn tables.Long }
+{}
+
 /// The table of common names is the one of the calls that ask no table, and a common name stands for the same kind and
-/// index among all names.
+/// index among all names. A capability has a long name exactly if it has a short one.
 pub fn tables_agree()
     ensures common { CommonAnswersAlike }
     ensures all { TablesAgree }
+    ensures long { EachHasALongName }
 {}

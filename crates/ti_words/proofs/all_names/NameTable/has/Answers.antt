@@ -9,5 +9,3 @@ returns-in-Common c =
     ∙ ap (list_any (λ known. nat_eq known c.args.index)) c.common_of.ensures
     ∙ ap (λ table. has_index table c.args.kind c.args.index) (sym c.in-Common.is)
 
-pub returns-in-All : goal.returns-in-All
-returns-in-All c = ap (λ table. has_index table c.args.kind c.args.index) (sym c.in-All.is)

@@ -11,5 +11,5 @@ use Rattle.ti_words.proofs.all_names.NameTable.place_of.Goals as goal
 pub loop-index-init : goal.loop-index-init
 loop-index-init c =
     ap (λ rows. lookup (bytes_eq c.args.name.now) (map (named_place c.args.kind) rows))
-    (ap (λ names. filter (λ row. has_index c.args.self c.args.kind row.0) (enumerate_from 0 names)) c.names_of-known-items.ensures
+    (ap (λ names. filter (λ row. has_index c.args.self c.args.kind row.0) (enumerate_from 0 names)) c.list_of-known-items.ensures
     ∙ sym (rows_are c.args.self c.args.kind))
