@@ -53,8 +53,8 @@ def path_of(name: str) -> Path:
 
 def declared_calls() -> dict[str, str]:
     """The calls that the library has to have, each as it is declared."""
-    found = re.findall(r"^uint32_t (ti_[a-z_]+)(\([^;]*\));", header(), re.M)
-    return {name: re.sub(r"\s+", " ", parameters) for name, parameters in found}
+    found = re.findall(r"^(u?int(?:8|32)_t (ti_[a-z_]+)\([^;]*\));", header(), re.M)
+    return {name: re.sub(r"\s+", " ", declaration) for declaration, name in found}
 
 
 def header() -> str:
@@ -112,7 +112,7 @@ def asks_for_names() -> str:
 
 def prints_abi() -> str:
     """A program that prints the calls, the layouts of the structs and the values of the constants."""
-    body = [f'    puts("{name}{parameters}");' for name, parameters in declared_calls().items()]
+    body = [f'    puts("{declaration}");' for declaration in declared_calls().values()]
     for name, fields in structs().items():
         body.append(f'    printf("{name} %zu\\n", sizeof({name}));')
         body += [f"    FIELD({name}, {field});" for field in fields]

@@ -548,6 +548,142 @@ static void test_fresh_memory(void) {
     free(went);
 }
 
+/* ---- views */
+
+static ti_view view;
+static ti_value value;
+static unsigned char *opened;
+
+static uint32_t open_copy(const unsigned char *bytes, size_t length) {
+    memset(&view, UNWRITTEN, sizeof view);
+    opened = copy_of(bytes, length);
+    return ti_open(opened, length, &view);
+}
+
+static void close_copy(void) {
+    free(opened);
+}
+
+static int is_text(ti_bytes text, const char *wanted) {
+    return text.length == strlen(wanted) && memcmp(text.bytes, wanted, text.length) == 0;
+}
+
+/* A standard text that is there, and one that is not. */
+static void shows(size_t index, int8_t mark, const char *wanted) {
+    ti_bytes text;
+    memset(&text, UNWRITTEN, sizeof text);
+    expect(ti_view_text(&view, index, &text) == mark, "a text's mark");
+    expect(mark == 0 ? is_text(text, wanted) : are_unwritten(&text, sizeof text), "a text's bytes");
+}
+
+static void is_found(const char *name, uint32_t kind, int32_t number, const char *text) {
+    memset(&value, UNWRITTEN, sizeof value);
+    expect(ti_view_find(&view, (const unsigned char *)name, strlen(name), &value) == TI_DONE, name);
+    expect(value.kind == kind && value.number == number && is_text(value.text, text), name);
+}
+
+static void is_not_found(const char *name) {
+    memset(&value, UNWRITTEN, sizeof value);
+    expect(ti_view_find(&view, (const unsigned char *)name, strlen(name), &value) == TI_NOT_NAMED, name);
+    expect(are_unwritten(&value, sizeof value), "no value of what is not found");
+}
+
+static void has_extended(uint32_t kind, size_t index, const char *wanted, int32_t number, const char *text) {
+    ti_bytes name;
+    expect(ti_view_extended(&view, kind, index, &name, &value) == TI_DONE && is_text(name, wanted), wanted);
+    expect(value.kind == kind && value.number == number && is_text(value.text, text), wanted);
+}
+
+static void has_no_extended(uint32_t kind, size_t index) {
+    ti_bytes name;
+    memset(&name, UNWRITTEN, sizeof name);
+    memset(&value, UNWRITTEN, sizeof value);
+    expect(ti_view_extended(&view, kind, index, &name, &value) == TI_NOT_NAMED, "no extended capability");
+    expect(are_unwritten(&name, sizeof name) && are_unwritten(&value, sizeof value), "nothing of it is written");
+}
+
+static void test_views(void) {
+    expect(open_copy(ENTRY, sizeof ENTRY) == TI_DONE, "an entry is opened");
+    expect(is_text(view.entry.names, "t|test") && view.entry.flags == 3 && view.entry.extended_texts == 2, "its counts");
+    expect(are_unwritten(&view.entry.place, sizeof view.entry.place), "no place of an entry that is opened");
+    expect(ti_view_flag(&view, 0) == 1 && ti_view_flag(&view, 1) == 0 && ti_view_flag(&view, 2) == TI_CANCELLED, "flags");
+    expect(ti_view_flag(&view, 3) == 0 && ti_view_flag(&view, SIZE_MAX) == 0, "a flag that the entry is too short for");
+    expect(ti_view_number(&view, 0) == 80 && ti_view_number(&view, 1) == TI_ABSENT, "numbers");
+    expect(ti_view_number(&view, 2) == TI_CANCELLED && ti_view_number(&view, 3) == TI_ABSENT, "numbers that are not there");
+    shows(0, 0, "abc");
+    shows(1, TI_ABSENT, "");
+    shows(2, TI_CANCELLED, "");
+    shows(3, 0, "");
+    shows(4, TI_ABSENT, "");
+    close_copy();
+}
+
+static void test_view_names(void) {
+    expect(open_copy(ENTRY, sizeof ENTRY) == TI_DONE, "an entry is opened");
+    is_found("bw", TI_FLAG, 1, "");
+    is_found("auto_left_margin", TI_FLAG, 1, "");
+    is_found("cols", TI_NUMBER, 80, "");
+    is_found("columns", TI_NUMBER, 80, "");
+    is_found("cbt", TI_TEXT, 0, "abc");
+    is_found("back_tab", TI_TEXT, 0, "abc");
+    is_found("cup", TI_TEXT, TI_ABSENT, "");
+    is_found("F", TI_FLAG, -1, "");
+    is_found("N", TI_NUMBER, 7, "");
+    is_found("S1", TI_TEXT, 0, "xyz");
+    is_found("S2", TI_TEXT, TI_CANCELLED, "");
+    is_not_found("S3");
+    is_not_found("");
+    is_not_found("\377");
+    has_extended(TI_FLAG, 0, "F", -1, "");
+    has_extended(TI_NUMBER, 0, "N", 7, "");
+    has_extended(TI_TEXT, 1, "S2", TI_CANCELLED, "");
+    has_no_extended(TI_FLAG, 1);
+    has_no_extended(TI_TEXT, 2);
+    has_no_extended(TI_TEXT + 1, 0);
+    close_copy();
+}
+
+static void test_view_faults(void) {
+    for (size_t length = 0; length < sizeof ENTRY; length++) {
+        if (length == TABLE_END) continue;
+        expect(open_copy(ENTRY, length) == TI_TRUNCATED && view.entry.place == length, "an entry that is cut short");
+        expect(are_unwritten(&view, offsetof(ti_view, entry.place)), "nothing before the place is written");
+        expect(are_unwritten(&view.bytes, sizeof view - offsetof(ti_view, bytes)), "nor after it");
+        close_copy();
+    }
+}
+
+/* Any numbers in a view, over any bytes, are safe: a tool that watches memory sees each read past the end. */
+static void test_any_view(void) {
+    unsigned long seed = 1;
+    for (size_t round = 0; round < 20000; round++) {
+        size_t length = round % (sizeof ENTRY + 1);
+        unsigned char *bytes = copy_of(ENTRY, length);
+        for (size_t i = 0; i < 3 && length != 0; i++) {
+            seed = seed * 6364136223846793005UL + 1442695040888963407UL;
+            bytes[(seed >> 33) % length] = (unsigned char)(seed >> 55);
+        }
+        memset(&view, (int)(seed >> 40), sizeof view);
+        view.bytes.bytes = bytes;
+        view.bytes.length = length;
+        view.base = round % 3 ? (size_t)(seed >> 50) : view.base;
+        for (size_t index = 0; index < 6; index++) {
+            ti_bytes text = {bytes, 0};
+            value.text = text;
+            ti_view_flag(&view, index);
+            ti_view_number(&view, index);
+            ti_view_text(&view, index, &text);
+            int inside = text.length == 0 || (text.bytes >= bytes && text.bytes + text.length <= bytes + length);
+            ti_view_extended(&view, (uint32_t)(index % 3), index / 3, &text, &value);
+            inside = inside && (text.length == 0 || (text.bytes >= bytes && text.bytes + text.length <= bytes + length));
+            if (!inside) expect(0, "a text or a name outside the bytes");
+        }
+        ti_view_find(&view, (const unsigned char *)"S2", 2, &value);
+        free(bytes);
+    }
+    expect(1, "any view");
+}
+
 /* ---- names and the version */
 
 static void named(uint32_t kind, size_t index, const char *wanted) {
@@ -781,6 +917,10 @@ int main(void) {
     test_entry_faults();
     test_broken_entries();
     test_fresh_memory();
+    test_views();
+    test_view_names();
+    test_view_faults();
+    test_any_view();
     test_names();
     test_finding();
     test_words();

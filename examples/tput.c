@@ -15,10 +15,6 @@ enum { WRONG_CALL = 2, UNREADABLE = 3, REFUSED = 4, ROOM = 65536 };
 
 /* One byte more than an entry can have, so that a longer file is refused. */
 static unsigned char file[TI_MOST_BYTES + 1], out[ROOM], padded[ROOM];
-static int8_t flags[TI_MOST_FLAGS];
-static int32_t numbers[TI_MOST_NUMBERS];
-static ti_text_item texts[TI_MOST_TEXTS];
-static ti_bytes names[TI_MOST_EXTENDED];
 
 static int fail(int status, const char *what, const char *why) {
     fprintf(stderr, "tput: %s: %s\n", what, why);
@@ -32,19 +28,6 @@ static int refuse(const char *what, uint32_t fault) {
     return REFUSED;
 }
 
-/* The text with a name: a standard one by its index, else an extended one. */
-static const ti_text_item *find_text(const ti_entry *entry, const char *name) {
-    const ti_bytes *named = names + entry->extended_flags + entry->extended_numbers;
-    size_t index, length = strlen(name);
-    uint32_t kind;
-    if (ti_find((const unsigned char *)name, length, &kind, &index) == TI_DONE)
-        return kind == TI_TEXT && index < entry->texts ? &texts[index] : NULL;
-    for (index = 0; index < entry->extended_texts; index++)
-        if (named[index].length == length && memcmp(named[index].bytes, name, length) == 0)
-            return &texts[entry->texts + index];
-    return NULL;
-}
-
 static ti_parameter parameter(const char *word) {
     char *end;
     long number = strtol(word, &end, 10);
@@ -55,7 +38,8 @@ int main(int argc, char **argv) {
     ti_parameter parameters[TI_MOST_PARAMETERS];
     ti_padding no_line = ti_padding_at(0); /* with it padding vanishes */
     ti_vars vars = {{0}};
-    ti_entry entry;
+    ti_view view;
+    ti_value value;
     ti_run run;
     size_t length;
     if (argc < 3 || argc > 3 + TI_MOST_PARAMETERS)
@@ -66,16 +50,15 @@ int main(int argc, char **argv) {
     length = fread(file, 1, sizeof file, input);
     if (ferror(input))
         return fail(UNREADABLE, argv[1], strerror(errno));
-    uint32_t fault = ti_read(file, length, flags, TI_MOST_FLAGS, numbers, TI_MOST_NUMBERS, texts, TI_MOST_TEXTS, names,
-                             TI_MOST_EXTENDED, &entry);
+    uint32_t fault = ti_open(file, length, &view);
     if (fault != TI_DONE)
         return refuse(argv[1], fault);
-    const ti_text_item *text = find_text(&entry, argv[2]);
-    if (text == NULL || text->mark != 0)
+    fault = ti_view_find(&view, (const unsigned char *)argv[2], strlen(argv[2]), &value);
+    if (fault != TI_DONE || value.kind != TI_TEXT || value.number != 0)
         return refuse(argv[2], TI_NOT_NAMED);
     for (int i = 3; i < argc; i++)
         parameters[i - 3] = parameter(argv[i]);
-    fault = ti_expand(text->text.bytes, text->text.length, parameters, (size_t)(argc - 3), &vars, out, ROOM, &run);
+    fault = ti_expand(value.text.bytes, value.text.length, parameters, (size_t)(argc - 3), &vars, out, ROOM, &run);
     if (fault == TI_DONE)
         fault = ti_pad(out, run.written, &no_line, padded, ROOM, &length);
     if (fault != TI_DONE)

@@ -1,6 +1,6 @@
 /* ti.h: terminfo entries and their capabilities, for C and C++ on x86-64. Link with -lti, as ./install puts it in place.
  *
- * Each call but ti_version returns TI_DONE, or the number of a fault. Nothing is allocated, nothing is kept between calls,
+ * Each call but ti_version and three that return what a view holds returns TI_DONE, or the number of a fault. Nothing is allocated, nothing is kept between calls,
  * and any thread may call. The caller must pass valid pointers with correct lengths: each pointer has as many elements as
  * the length beside it says, and what is written overlaps no other argument. A pointer may be null if its length is 0, the
  * others not. What a call fills may be memory that was never written; only ti_vars is read before it is written.
@@ -17,19 +17,12 @@
  *     if (ti_expand(cup, cup_length, at, 2, &vars, out, sizeof out, &run) == TI_DONE)
  *         fwrite(out, 1, run.written, stdout);
  *
- * An entry's texts come as pointers into its bytes.
+ * An entry is opened once, and asked for what the program needs. Its texts are pointers into its bytes.
  *
- *     static int8_t flags[TI_MOST_FLAGS];
- *     static int32_t numbers[TI_MOST_NUMBERS];
- *     static ti_text_item texts[TI_MOST_TEXTS];
- *     static ti_bytes names[TI_MOST_EXTENDED];
- *     ti_entry entry;
- *     if (ti_read(file, file_length, flags, TI_MOST_FLAGS, numbers, TI_MOST_NUMBERS, texts, TI_MOST_TEXTS, names,
- *                 TI_MOST_EXTENDED, &entry) == TI_DONE
- *         && TI_CURSOR_ADDRESS < entry.texts && texts[TI_CURSOR_ADDRESS].mark == 0) {
- *         ti_bytes cup = texts[TI_CURSOR_ADDRESS].text;
+ *     ti_view view;
+ *     ti_bytes cup;
+ *     if (ti_open(file, file_length, &view) == TI_DONE && ti_view_text(&view, TI_CURSOR_ADDRESS, &cup) == 0)
  *         fault = ti_expand(cup.bytes, cup.length, at, 2, &vars, out, sizeof out, &run);
- *     }
  */
 #ifndef TI_H
 #define TI_H
@@ -145,6 +138,21 @@ typedef struct {
     size_t place;         /* of a fault */
 } ti_entry;
 
+/* An entry that was opened: what ti_open fills, and the calls of a view take. It may be copied and moved, but must not be
+ * changed, and the bytes must stay as they are and where they are. */
+typedef struct {
+    ti_entry entry; /* the names and the counts, or where the fault is */
+    ti_bytes bytes; /* those that were opened */
+    size_t base;    /* for the calls alone */
+} ti_view;
+
+/* What an entry says of a capability. */
+typedef struct {
+    ti_bytes text;  /* the bytes of a text that is there, else none */
+    int32_t number; /* 1, 0 or a mark of a flag, the value or the mark of a number, 0 or the mark of a text */
+    uint32_t kind;  /* TI_FLAG, TI_NUMBER or TI_TEXT */
+} ti_value;
+
 /* A parameter: the number if is_text is 0, otherwise the text. A missing parameter is the number 0. */
 typedef struct {
     ti_bytes text;
@@ -182,7 +190,39 @@ typedef struct {
     uint8_t pad;             /* the pad byte; 0 in nearly all terminals */
 } ti_padding;
 
-/* Reads a compiled entry, which has to be all of the bytes, into four arrays.
+/* Opens a compiled entry, which has to be all of the bytes, to be asked by the calls that follow. Nothing is copied.
+ *
+ * TI_DONE: the view is written, but for the place of its entry.
+ * 1 to 14: the bytes are no entry; view->entry.place says where. Nothing else is written.
+ *
+ * The view holds pointers into the bytes. In Go they must so be pinned, or lie in memory of C. */
+uint32_t ti_open(const unsigned char *bytes, size_t length, ti_view *view);
+
+/* What the entry of a view says of the standard flag, number or text at an index, such as TI_AUTO_RIGHT_MARGIN, TI_MAX_COLORS
+ * or TI_CURSOR_ADDRESS. A flag is 1 or 0, or one of the marks; one that the entry is too short for is 0. A number is its
+ * value, from 0, or one of the marks. Of a text that is there 0 is returned, and its bytes are written; otherwise one of the
+ * marks is returned, and the place for the text is as it was.
+ *
+ *     int32_t colors = ti_view_number(&view, TI_MAX_COLORS); */
+int8_t ti_view_flag(const ti_view *view, size_t index);
+int32_t ti_view_number(const ti_view *view, size_t index);
+int8_t ti_view_text(const ti_view *view, size_t index, ti_bytes *text);
+
+/* Finds what the entry of a view says of the capability with a name: a short name of terminfo(5), such as "cup", else a long
+ * one, such as "cursor_address", else the first name equal to it among those of the entry's extended flags, numbers and texts.
+ * TI_DONE with the value, which has a mark if the entry lacks a standard capability, or TI_NOT_NAMED, and the value is as it
+ * was.
+ *
+ *     ti_value clipboard;
+ *     if (ti_view_find(&view, (const unsigned char *)"Ms", 2, &clipboard) == TI_DONE && clipboard.kind == TI_TEXT)
+ *         fault = ti_check(clipboard.text.bytes, clipboard.text.length, 1000, &limits); */
+uint32_t ti_view_find(const ti_view *view, const unsigned char *name, size_t length, ti_value *value);
+
+/* Finds the name and the value of an extended flag, number or text by its index, from 0 to below the count in view->entry:
+ * TI_DONE with both, or TI_NOT_NAMED, and both are as they were. */
+uint32_t ti_view_extended(const ti_view *view, uint32_t kind, size_t index, ti_bytes *name, ti_value *value);
+
+/* Reads a compiled entry, which has to be all of the bytes, into four arrays: for those who want all capabilities at once.
  *
  * TI_DONE: the arrays start with the flags, the numbers and the texts, in each the standard ones by their index and after
  * them the extended ones, and with the names of the extended flags, then numbers, then texts. A flag is 1 or 0, or one of
@@ -290,6 +330,10 @@ TI_LAYOUT(offsetof(ti_entry, numbers) == 24 && offsetof(ti_entry, texts) == 32);
 TI_LAYOUT(offsetof(ti_entry, extended_flags) == 40 && offsetof(ti_entry, extended_numbers) == 48);
 TI_LAYOUT(offsetof(ti_entry, extended_texts) == 56 && offsetof(ti_entry, number_bits) == 64);
 TI_LAYOUT(offsetof(ti_entry, place) == 72);
+TI_LAYOUT(sizeof(ti_view) == 104 && offsetof(ti_view, entry) == 0 && offsetof(ti_view, bytes) == 80);
+TI_LAYOUT(offsetof(ti_view, base) == 96);
+TI_LAYOUT(sizeof(ti_value) == 24 && offsetof(ti_value, text) == 0 && offsetof(ti_value, number) == 16);
+TI_LAYOUT(offsetof(ti_value, kind) == 20);
 TI_LAYOUT(sizeof(ti_parameter) == 24 && offsetof(ti_parameter, text) == 0);
 TI_LAYOUT(offsetof(ti_parameter, number) == 16 && offsetof(ti_parameter, is_text) == 20);
 TI_LAYOUT(sizeof(ti_vars) == 208 && offsetof(ti_vars, values) == 0);

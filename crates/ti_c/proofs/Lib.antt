@@ -1,6 +1,5 @@
 pub mod NumbersLemmas
 pub mod OneFaultLemmas
-pub mod FindingLemmas
 pub mod PaddingExamples
 pub mod PaddingLemmas
 pub mod WordsExamples

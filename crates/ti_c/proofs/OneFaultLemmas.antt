@@ -1,5 +1,5 @@
 -- A call has one first fault.
-use Rattle.std.proofs.Common.{◌≡◌, ◌≤◌, ◌⊎◌, ◌∙◌, ℕ, List, Option, Some, Result, Ok, Err, inl, inr, ap, sym, subst, arith, ℤ}
+use Rattle.std.proofs.Common.{◌≡◌, ◌≤◌, ◌⊎◌, ◌∙◌, ℕ, List, Option, None, Some, length, Result, Ok, Err, inl, inr, ap, sym, subst, arith, ℤ}
 use Rattle.ti_cap.specs.declared.language.CapRefused.{CapRefused}
 use Rattle.ti_cap.specs.Refusal.{IsFaultless}
 use Rattle.ti_cap.proofs.OneRefusalLemmas.{one_refusal}
@@ -12,7 +12,10 @@ use Rattle.ti_expand.proofs.AreShortLemmas.{one_first, none_too_long}
 use Rattle.ti_expand.proofs.CanRunLemmas.{one_bound}
 use Rattle.ti_layout.specs.declared.fault.Refused.{Refused}
 use Rattle.ti_layout.specs.Refusal.{refusal}
+use Rattle.ti_words.specs.Spelling.{Spells}
 use Rattle.ti_words.specs.Value.{EntryValue}
+use Rattle.ti_layout.specs.Checks.{refusal_of}
+use Rattle.ti_entry.proofs.SpelledExtendedLemmas.{only}
 use Rattle.ti_c.specs.Entries.{IsEntryRefusedAs}
 use Rattle.ti_c.specs.Numbers.{capability_number, done, entry_number, too_many_parameters}
 use Rattle.ti_c.specs.Given.{IsRefusedAs, IsFaultOf, HasNoFault, IsExpansionFault}
@@ -37,6 +40,15 @@ pub none_entry_refused : (bytes : List ℕ) (v : EntryValue) (m q : ℕ) → Ok 
 none_entry_refused bytes v m q read (fault, m_is, refused) =
     not_both v (record { fault = fault; place = q }) (answer_for bytes) read
     (ap (λ (o : Option Refused). answer_under o (content bytes)) refused)
+
+-- bytes that spell an entry have none
+pub none_spelled_refused : (bytes : List ℕ) (v : EntryValue) (m q : ℕ) → Spells bytes v → ¬ IsEntryRefusedAs bytes m q
+none_spelled_refused bytes v m q spelled (fault, m_is, refused) =
+    let none : refusal bytes ≡ None = sym (ap (refusal_of (length bytes)) (only bytes v spelled).passes) in
+    none_is_none (refusal bytes) (record { fault = fault; place = q }) none refused
+  where
+    none_is_none : (o : Option Refused) (r : Refused) → o ≡ None → o ≡ Some r → ⊥
+    none_is_none o r none some = cc
 
 -- ---- capabilities and expansions
 

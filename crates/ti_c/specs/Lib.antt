@@ -4,4 +4,5 @@ pub mod Names
 pub mod Padding
 pub mod Words
 pub mod Entries
+pub mod Views
 pub mod inner

@@ -45,7 +45,7 @@ pub struct EntryCounts<'a> {
 }
 
 /// The mark of a flag: 1 if the terminal has it, 0 if not, -1 missing, -2 cancelled.
-fn flag_mark(flag: Flag) -> i8
+pub(crate) fn flag_mark(flag: Flag) -> i8
     ensures { result ≡ the_flag_mark flag }
 {
     match flag {
@@ -57,7 +57,7 @@ fn flag_mark(flag: Flag) -> i8
 }
 
 /// The value of a number; -1 is absent, -2 cancelled.
-fn number_word(number: Number) -> i32
+pub(crate) fn number_word(number: Number) -> i32
     ensures { result ≡ the_word_of_number number }
 {
     match number {
@@ -221,7 +221,7 @@ fn number_bits(entry: &Entry<'_>) -> u32
 }
 
 /// Puts the names of an entry, and how many capabilities it has, into the counts. Their place is no part of it.
-fn put_counts<'a>(counts: &mut EntryCounts<'a>, entry: &Entry<'a>, extended: &Extended<'a>)
+pub(crate) fn put_counts<'a>(counts: &mut EntryCounts<'a>, entry: &Entry<'a>, extended: &Extended<'a>)
     requires { extended.now ≡ entry.now }
     ensures told { Tells counts.new entry.now }
     ensures untold { counts.new.place ≡ counts.old.place }

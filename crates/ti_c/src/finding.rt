@@ -8,23 +8,13 @@ use crate::faults::{DONE, NOT_NAMED};
 use ti_words::{Kind, NameTable};
 
 /// The number of a kind.
-fn kind_number(kind: Kind) -> u32
+pub(crate) fn kind_number(kind: Kind) -> u32
     ensures { kind_at result ≡ Some kind }
 {
     match kind {
         Kind::Flag => 0,
         Kind::Number => 1,
         Kind::Text => 2,
-    }
-}
-
-/// The kind and index of the capability with a name, among all names. Bytes that are no text are no name.
-fn place_of(name: &[u8]) -> Option<(Kind, usize)>
-    ensures { result ≡ place_for name.now }
-{
-    match str::from_utf8(name) {
-        Ok(name) => NameTable::All.find(name),
-        Err(_) => None,
     }
 }
 
@@ -37,7 +27,7 @@ pub extern "C" fn ti_find(name: &[u8], kind: &mut u32, index: &mut usize) -> u32
     ensures kept_kind { result ≡ not_named → kind.new ≡ kind.old }
     ensures kept_index { result ≡ not_named → index.new ≡ index.old }
 {
-    match place_of(name) {
+    match NameTable::All.find_bytes(name) {
         Some((found, place)) => {
             *kind = kind_number(found);
             *index = place;

@@ -13,6 +13,7 @@ mod faults;
 mod finding;
 mod names;
 mod padding;
+mod view;
 mod word_table;
 mod words;
 

@@ -60,15 +60,15 @@ is_place bytes p fits h =
     ]
 
 -- what the checks of an extended part say that follows a standard one
-record ExtendedPasses (bytes : List ℕ) (s x : Part) : Type 0 where
-  outer_pad : Passes ≡ verdict (length bytes) (pad_checks bytes (end_of s))
-  signs : (i : ℕ) → i < 3 → Passed (length bytes) (sign_check bytes BadExtendedHeader (extended_from s + 2 * i))
-  last_sign : Passed (length bytes) (sign_check bytes BadExtendedHeader (extended_from s + 8 + 2 * 0))
-  fits : end_of x ≤ most_entry_bytes
-  part : PartPasses bytes x
-  whole : length bytes ≡ end_of x
+pub record ExtendedPasses (bytes : List ℕ) (s x : Part) : Type 0 where
+  pub outer_pad : Passes ≡ verdict (length bytes) (pad_checks bytes (end_of s))
+  pub signs : (i : ℕ) → i < 3 → Passed (length bytes) (sign_check bytes BadExtendedHeader (extended_from s + 2 * i))
+  pub last_sign : Passed (length bytes) (sign_check bytes BadExtendedHeader (extended_from s + 8 + 2 * 0))
+  pub fits : end_of x ≤ most_entry_bytes
+  pub part : PartPasses bytes x
+  pub whole : length bytes ≡ end_of x
 
-extended_passes : (bytes : List ℕ) (s x : Part) → Passes ≡ verdict (length bytes) (extended_checks bytes s x) → ExtendedPasses bytes s x
+pub extended_passes : (bytes : List ℕ) (s x : Part) → Passes ≡ verdict (length bytes) (extended_checks bytes s x) → ExtendedPasses bytes s x
 extended_passes bytes s x k =
     let len = length bytes in
     let a = both_pass len (extended_front_checks bytes s x ++ part_checks bytes x) (end_checks bytes (end_of x)) k in
@@ -116,14 +116,14 @@ extended_found bytes s x fits is k =
     let c1 : IsCount bytes (from + 2) = count_is bytes (from + 2) fits s1.long s1.holds in
     let c2 : IsCount bytes (from + 4) = count_is bytes (from + 4) fits s2.long s2.holds in
     let c3 : IsCount bytes (from + 8) = let at : from + 8 + 2 * 0 ≡ from + 8 = omega arith in subst (IsCount bytes) at (count_is bytes (from + 8 + 2 * 0) fits s3.long s3.holds) in
-    let n0 : length v.extended_flags ≡ unsigned_at 2 bytes from = flag_count bytes s x ∙ ap (λ (p : Part). p.flags) is in
-    let n1 : length v.extended_numbers ≡ unsigned_at 2 bytes (from + 2) = number_count bytes s x ∙ ap (λ (p : Part). p.numbers) is in
-    let n2 : length v.extended_texts ≡ unsigned_at 2 bytes (from + 4) = text_count bytes s x ∙ ap (λ (p : Part). p.texts) is in
+    let n0 : length v.extended_flags ≡ unsigned_at 2 bytes from = flag_count bytes s x (base_of bytes x) ∙ ap (λ (p : Part). p.flags) is in
+    let n1 : length v.extended_numbers ≡ unsigned_at 2 bytes (from + 2) = number_count bytes s x (base_of bytes x) ∙ ap (λ (p : Part). p.numbers) is in
+    let n2 : length v.extended_texts ≡ unsigned_at 2 bytes (from + 4) = text_count bytes s x (base_of bytes x) ∙ ap (λ (p : Part). p.texts) is in
     let n3 : length table ≡ unsigned_at 2 bytes (from + 8) = size ∙ ap (λ (p : Part). p.table) is in
-    let flags_len = flag_count bytes s x in
-    let ef = flag_marks bytes s x in
-    let en = number_marks bytes s x in
-    let et = text_marks bytes s x in
+    let flags_len = flag_count bytes s x (base_of bytes x) in
+    let ef = flag_marks bytes s x (base_of bytes x) in
+    let en = number_marks bytes s x (base_of bytes x) in
+    let et = text_marks bytes s x (base_of bytes x) in
     let m = length v.extended_flags in
     let k0 = pad_len s.table in
     let pad_even = end_even s in
@@ -165,7 +165,7 @@ extended_found bytes s x fits is k =
       items_size = length-take-le 2 (drop (from + 6) bytes) (omega (arith, length-drop (from + 6) bytes));
       numbers_fit = subst (λ w. AllByRecursion (FitsWidth w) (map mark_in v.extended_numbers)) width (subst (AllByRecursion (FitsWidth x.width)) (sym en) (numbers_fit x.width bytes (numbers_from x) x.numbers fits));
       texts_there = subst (λ l. Each (IsText table) values l) (sym et) (texts_are bytes table (end_of x) (offsets_from x) x.texts (k.part.offsets ∙ ap (λ n. verdict len (offset_checks bytes n (offsets_from x) x.texts)) (sym size)) k.part.endings);
-      names_there = subst (λ b. Each (IsName table b) names (extended_names v)) (sym (sizes_are_base bytes s x)) (subst (λ l. Each (IsName table base) names l) (sym (all_names_in bytes s x named)) there);
+      names_there = subst (λ b. Each (IsName table b) names (extended_names v)) (sym (sizes_are_base bytes s x (base_of bytes x))) (subst (λ l. Each (IsName table base) names l) (sym (all_names_in bytes s x (base_of bytes x) named)) there);
     }
 
 -- ---- the whole

@@ -15,4 +15,5 @@ pub mod FeedLemmas
 pub mod WholeStageLemmas
 pub mod FeedsFromLemmas
 pub mod EncodedReadsLemmas
+pub mod ReopeningLemmas
 pub mod DraftOfEntryLemmas

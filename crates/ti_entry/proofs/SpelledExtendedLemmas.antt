@@ -85,7 +85,7 @@ extended_read bytes front rest v h width split l0 short s =
     let to_end : bytes ≡ x6 ++ (a6 ++ (a7 ++ (a8 ++ (a9 ++ (a10 ++ (s.table ++ [])))))) = e6 ∙ ap (λ t. x6 ++ (a6 ++ (a7 ++ (a8 ++ (a9 ++ (a10 ++ t)))))) (sym (append-nil s.table)) in
     let c = content_with bytes h x in
     let base_is : texts_in bytes x ≡ et → base_of bytes x ≡ texts_size v.extended_texts = λ e.
-    sym (sizes_are_base bytes h x) ∙ sym (same_sizes v.extended_texts c.extended_texts (sym (text_marks bytes h x ∙ e))) in
+    sym (sizes_are_base bytes h x (base_of bytes x)) ∙ sym (same_sizes v.extended_texts c.extended_texts (sym (text_marks bytes h x (base_of bytes x) ∙ e))) in
     let r = part_read bytes x6 [] w (from + 10) m (texts_size v.extended_texts) secs to_end l6 even (record { small = small; fit = s.numbers_fit; texts = s.texts_there; names = s.names_there }) base_is in
     let whole : len ≡ end_of x = let n = r.size in omega arith in
     let h1 : unsigned_at 2 bytes from ≡ length v.extended_flags = count_read bytes x1 q2 from (length v.extended_flags) e1 l1 s.counts.0 in
@@ -96,10 +96,10 @@ extended_read bytes front rest v h width split l0 short s =
     let named : length ef + length en + length et ≡ length (extended_names v) = omega arith in
     let sum : unsigned_at 2 bytes from + unsigned_at 2 bytes (from + 2) + unsigned_at 2 bytes (from + 4) ≡ length (extended_names v) = omega arith in
     let header : extended_after h bytes ≡ x = same_part (extended_after h bytes) x width refl (h1 ∙ sym nf) (h2 ∙ sym nn) (h3 ∙ sym nt) sum h4 in
-    let mf : ef ≡ map mark_in c.extended_flags = sym (flag_marks bytes h x ∙ r.flags) in
-    let mn : en ≡ map mark_in c.extended_numbers = sym (number_marks bytes h x ∙ r.numbers) in
-    let mt : et ≡ map mark_in c.extended_texts = sym (text_marks bytes h x ∙ r.texts) in
-    let names_same : extended_names v ≡ extended_names c = sym r.names ∙ sym (all_names_in bytes h x named) in
+    let mf : ef ≡ map mark_in c.extended_flags = sym (flag_marks bytes h x (base_of bytes x) ∙ r.flags) in
+    let mn : en ≡ map mark_in c.extended_numbers = sym (number_marks bytes h x (base_of bytes x) ∙ r.numbers) in
+    let mt : et ≡ map mark_in c.extended_texts = sym (text_marks bytes h x (base_of bytes x) ∙ r.texts) in
+    let names_same : extended_names v ≡ extended_names c = sym r.names ∙ sym (all_names_in bytes h x (base_of bytes x) named) in
     -- the checks
     let at_end : end_of x ≤ len = omega arith in
     let room : Passes ≡ verdict len (room_checks h) = passes_one len (room_check h) [] (record { long = omega arith; holds = le-leb _ _ (omega arith) }) refl in

@@ -12,9 +12,11 @@ use Rattle.ti_layout.specs.declared.stage.Stage.{Stage}
 use Rattle.ti_layout.specs.Layout.{standard, end_of, extended_from, extended_after, no_capability}
 use Rattle.ti_layout.specs.Checks.{Verdict, Passes, EndsEarly, Fails, verdict, refusal_of, failure_of, refusal_at}
 use Rattle.ti_layout.specs.Refusal.{checks, refusal, failure}
-use Rattle.ti_entry.specs.Content.{content, content_with, extended}
+use Rattle.ti_layout.specs.Table.{base_of}
+use Rattle.ti_entry.specs.Content.{content, content_from, content_with, extended}
 use Rattle.ti_entry.specs.Views.{IsStandard, IsExtended}
-use Rattle.ti_entry.specs.Reading.{answer_under, answer_for}
+use Rattle.ti_entry.specs.Reading.{answer_under, answer_for, names_base}
+use Rattle.ti_entry.proofs.NamedItemsLemmas.{sizes_are_base}
 use Rattle.ti_layout.specs.Stages.{KnowsPlain, KnowsAll, Knows, StandsAt, Waits, is_whole}
 
 -- no check has failed on what waits for more
@@ -44,20 +46,28 @@ answer_content xs e = ap (λ v. answer_under (refusal_of (length xs) v) (content
 pub record IsView (xs : List ℕ) (s x : Part) (base : ℕ) : Type 0 where
   pub is_standard : IsStandard xs s
   pub is_extended : IsExtended xs x base
-  pub shows : content_with xs s x ≡ content xs
+  pub shows : content_from xs s x base ≡ content xs
+  pub counted : base ≡ names_base (content xs)
 
-view_of : (xs : List ℕ) (s x : Part) → s ≡ standard xs → x ≡ extended xs → content_with xs s x ≡ content xs
-view_of xs s x e f = ap (content_with xs s) f ∙ ap (λ p. content_with xs p (extended xs)) e
+pub view_of : (xs : List ℕ) (s x : Part) (base : ℕ) → s ≡ standard xs → x ≡ extended xs → base ≡ base_of xs x → content_from xs s x base ≡ content xs
+view_of xs s x base e f g = ap (content_from xs s x) g ∙ ap (content_with xs s) f ∙ ap (λ p. content_with xs p (extended xs)) e
+
+counted_of : (xs : List ℕ) (x : Part) (base : ℕ) → x ≡ extended xs → base ≡ base_of xs x → base ≡ names_base (content xs)
+counted_of xs x base f g =
+    let y = extended xs in
+    g ∙ ap (base_of xs) f ∙ sym (sizes_are_base xs (standard xs) y (base_of xs y))
 
 plain_view : (xs : List ℕ) (it : Items) (s x : Part) (base : ℕ) → KnowsPlain xs it s x base → end_of s ≤ most_entry_bytes → length xs ≤ end_of s → IsView xs s x base
 plain_view xs it s x base k fits ends =
     let there = k.there in
     let end : end_of (standard xs) ≡ end_of s = ap end_of (sym k.parts.standard) in
     let none : no_capability ≡ extended xs = sym (ap (λ b. cond b no_capability (extended_after (standard xs) xs)) (le-leb (length xs) (end_of (standard xs)) (omega arith))) in
+    let counts : base ≡ base_of xs x = rw (k.parts.none.extended, k.parts.none.none_counted) refl in
     record {
       is_standard = ((fits, there), k.parts.named, k.parts.standard);
-      is_extended = rw (k.parts.none.extended, k.parts.none.none_counted) ((omega arith, omega arith), refl, omega arith, refl);
-      shows = view_of xs s x k.parts.standard (k.parts.none.extended ∙ none);
+      is_extended = rw (k.parts.none.extended, k.parts.none.none_counted) ((omega arith, omega arith), refl, omega arith);
+      shows = view_of xs s x base k.parts.standard (k.parts.none.extended ∙ none) counts;
+      counted = counted_of xs x base (k.parts.none.extended ∙ none) counts;
     }
 
 whole_view : (xs : List ℕ) (it : Items) (s x : Part) (base : ℕ) → KnowsAll xs it s x base → end_of s ≤ most_entry_bytes → end_of x ≤ most_entry_bytes → x.flags + x.numbers + x.texts ≡ x.names → base ≤ most_entry_bytes → IsView xs s x base
@@ -69,8 +79,9 @@ whole_view xs it s x base k fits extended_fits named most =
     let some : extended_after (standard xs) xs ≡ extended xs = sym (ap (λ b. cond b no_capability (extended_after (standard xs) xs)) (lt-leb (length xs) (end_of (standard xs)) (omega arith))) in
     record {
       is_standard = ((fits, omega arith), k.parts.named, k.parts.standard);
-      is_extended = ((extended_fits, there), named, most, k.counted);
-      shows = view_of xs s x k.parts.standard (k.parts.extended ∙ same ∙ some);
+      is_extended = ((extended_fits, there), named, most);
+      shows = view_of xs s x base k.parts.standard (k.parts.extended ∙ same ∙ some) k.counted;
+      counted = counted_of xs x base (k.parts.extended ∙ same ∙ some) k.counted;
     }
 
 views : (section : Section) (xs : List ℕ) (it : Items) (s x : Part) (base : ℕ) → Knows section xs it s x base → is_whole section ≡ true → end_of s ≤ most_entry_bytes → end_of x ≤ most_entry_bytes → x.flags + x.numbers + x.texts ≡ x.names → base ≤ most_entry_bytes

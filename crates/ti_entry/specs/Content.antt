@@ -26,9 +26,13 @@ number_at size bytes p = unwrap_or (number_of_word (word_at size bytes p)) numbe
 abbrev pub text_at : List ℕ → List ℕ → ℕ → TextValue
 text_at table bytes p = text_of_word table (word_at 2 bytes p)
 
--- the name whose offset stands at a place
+-- the name whose offset, counted from a base, stands at a place
+abbrev pub name_from : List ℕ → Part → ℕ → ℕ → List ℕ
+name_from bytes p base place = text_from (table_of bytes p) (base + unsigned_at 2 bytes place)
+
+-- the same, counted from the end of the texts
 abbrev pub name_at : List ℕ → Part → ℕ → List ℕ
-name_at bytes p place = text_from (table_of bytes p) (base_of bytes p + unsigned_at 2 bytes place)
+name_at bytes p = name_from bytes p (base_of bytes p)
 
 -- ---- what a part says
 
@@ -41,24 +45,28 @@ numbers_in bytes p = map (number_at (number_size p.width) bytes) (places (number
 abbrev pub texts_in : List ℕ → Part → List TextValue
 texts_in bytes p = map (text_at (table_of bytes p) bytes) (places (offsets_from p) 2 p.texts)
 
--- the names of the capabilities of a kind
-abbrev pub names_in : List ℕ → Part → Kind → List (List ℕ)
-names_in bytes p kind = map (name_at bytes p) (places (kind_names_from p kind) 2 (count_of_kind p kind))
+-- the names of the capabilities of a kind, whose offsets are counted from a base
+abbrev pub names_in : List ℕ → Part → ℕ → Kind → List (List ℕ)
+names_in bytes p base kind = map (name_from bytes p base) (places (kind_names_from p kind) 2 (count_of_kind p kind))
 
 -- ---- the whole
 
--- the entry of two parts
-abbrev pub content_with : List ℕ → Part → Part → EntryValue
-content_with bytes s x = record {
+-- the entry of two parts, the names of the second counted from a base
+abbrev pub content_from : List ℕ → Part → Part → ℕ → EntryValue
+content_from bytes s x base = record {
   width = s.width;
   names = slice_range bytes 12 (s.flags_from - 1);
   flags = flags_in bytes s;
   numbers = numbers_in bytes s;
   texts = texts_in bytes s;
-  extended_flags = zip (names_in bytes x kinds.Flag) (flags_in bytes x);
-  extended_numbers = zip (names_in bytes x kinds.Number) (numbers_in bytes x);
-  extended_texts = zip (names_in bytes x kinds.Text) (texts_in bytes x);
+  extended_flags = zip (names_in bytes x base kinds.Flag) (flags_in bytes x);
+  extended_numbers = zip (names_in bytes x base kinds.Number) (numbers_in bytes x);
+  extended_texts = zip (names_in bytes x base kinds.Text) (texts_in bytes x);
 }
+
+-- the entry of two parts
+abbrev pub content_with : List ℕ → Part → Part → EntryValue
+content_with bytes s x = content_from bytes s x (base_of bytes x)
 
 -- an entry that ends with its standard part has no extended capability
 abbrev pub extended : List ℕ → Part

@@ -3,7 +3,12 @@ use Rattle.std.specs.Prelude.{◌≡◌, ◌≢◌, ℕ, List, ◌++◌, map, ta
 use Rattle.std.specs.List.{AllByRecursion}
 use Rattle.ti_words.specs.declared.Kind.{Kind}
 use Rattle.ti_words.specs.declared.Kind.TheVariants as kinds
+use Rattle.ti_words.specs.AllNames.{place_in}
+use Rattle.ti_words.specs.Names.{Place}
 use Rattle.ti_words.specs.Value.{EntryValue}
+use Rattle.ti_words.specs.declared.all_names.NameTable.TheVariants.{All, Long}
+use Rattle.ti_entry.specs.declared.finding.Position.{Position}
+use Rattle.ti_entry.specs.declared.finding.Position.TheVariants.{Standard, Extended}
 use Rattle.ti_words.specs.Spelling.{name_in, extended_names}
 
 -- the names of the capabilities of a kind, by their index
@@ -31,3 +36,20 @@ names_before v kinds.Text i = names_of v kinds.Flag ++ names_of v kinds.Number +
 abbrev pub IsFirstNamed : EntryValue → List ℕ → Option (Kind × ℕ) → Type 0
 IsFirstNamed v name None = Lacks (extended_names v) name
 IsFirstNamed v name (Some at) = (slice_get (names_of v at.0) at.1 ≡ Some name) × Lacks (names_before v at.0 at.1) name
+
+-- ---- by any name
+
+-- the first of two places that is there
+abbrev pub or_else : Option Place → Option Place → Option Place
+or_else None other = other
+or_else (Some place) other = Some place
+
+-- the place of the standard capability with a name of terminfo(5), short or long
+abbrev pub standard_place : List ℕ → Option Place
+standard_place name = or_else (place_in All name) (place_in Long name)
+
+-- where an entry has the capability with a name: a standard name comes before the entry's own
+abbrev pub IsPosition : EntryValue → List ℕ → Option Position → Type 0
+IsPosition v name None = (standard_place name ≡ None) × IsFirstNamed v name None
+IsPosition v name (Some (Standard kind i)) = standard_place name ≡ Some (kind, i)
+IsPosition v name (Some (Extended kind i)) = (standard_place name ≡ None) × IsFirstNamed v name (Some (kind, i))

@@ -5,6 +5,7 @@ use Rattle.ti_layout.specs.declared.fault.Refused.{Refused}
 use Rattle.ti_entry.specs.declared.source.ReadStop.{ReadStop}
 use Rattle.ti_entry.specs.declared.source.ReadStop.TheVariants as stop
 use Rattle.ti_words.specs.Value.{EntryValue}
+use Rattle.ti_words.specs.Spelling.{texts_size}
 use Rattle.ti_layout.specs.Refusal.{refusal, failure}
 use Rattle.ti_entry.specs.Content.{content}
 
@@ -16,6 +17,10 @@ answer_under (Some refused) v = Err refused
 -- what a read of the bytes answers
 abbrev pub answer_for : List ℕ → Result EntryValue Refused
 answer_for bytes = answer_under (refusal bytes) (content bytes)
+
+-- what the offsets of an entry's names are counted from: the end of its extended texts
+abbrev pub names_base : EntryValue → ℕ
+names_base v = texts_size v.extended_texts
 
 -- ---- the reader
 

@@ -6,7 +6,6 @@ use Rattle.ti_layout.specs.declared.part.Part.{Part}
 use Rattle.ti_layout.specs.declared.fault.Refused.{Refused}
 use Rattle.ti_layout.specs.declared.stage.Stage.{Stage}
 use Rattle.ti_layout.specs.Layout.{end_of, standard}
-use Rattle.ti_layout.specs.Table.{base_of}
 use Rattle.ti_layout.specs.Refusal.{failure}
 use Rattle.ti_layout.specs.Stages.{Stands, Waits}
 
@@ -14,10 +13,10 @@ use Rattle.ti_layout.specs.Stages.{Stands, Waits}
 abbrev pub IsWithin : List ℕ → Part → Type 0
 IsWithin bytes p = (end_of p ≤ most_entry_bytes) × (end_of p ≤ length bytes)
 
--- an extended part: each capability has a name, and the base of the names is known
+-- an extended part: each capability has a name, and there is a base that their offsets are counted from
 abbrev pub IsExtended : List ℕ → Part → ℕ → Type 0
 IsExtended bytes x base =
-    IsWithin bytes x × (x.flags + x.numbers + x.texts ≡ x.names) × (base ≤ most_entry_bytes) × (base ≡ base_of bytes x)
+    IsWithin bytes x × (x.flags + x.numbers + x.texts ≡ x.names) × (base ≤ most_entry_bytes)
 
 -- the standard part of the bytes: there is a name
 abbrev pub IsStandard : List ℕ → Part → Type 0

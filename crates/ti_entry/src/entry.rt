@@ -3,12 +3,14 @@
 //! The view holds the slice and its two parts, which say where the sections lie. Each accessor takes a few instructions
 //! and no memory; `text` looks once for its NUL. Reading is the checker of `stage` over all the bytes at once.
 
-ghost use Rattle.std.specs.Prelude.{◌≡◌, length, get_or, IfOk, IfErr, IsOkAnd, Some};
+ghost use Rattle.std.specs.Prelude.{◌≡◌, length, get_or, IfOk, IfErr, IsOkAnd, OnOk, Some};
 ghost use Rattle.ti_words.specs.Texts.{text_value, AbsentText};
 ghost use Rattle.ti_layout.specs.Refusal.{refusal};
 ghost use Rattle.ti_words.specs.Value.{EntryValue};
 ghost use Rattle.ti_words.specs.Spelling.{Spells};
-ghost use Rattle.ti_entry.specs.Reading.{answer_for};
+ghost use Rattle.ti_entry.specs.Content.{content, content_from};
+ghost use Rattle.ti_entry.specs.Reading.{answer_for, names_base};
+ghost use Rattle.ti_entry.specs.Views.{IsExtended, IsStandard};
 ghost use Rattle.ti_layout.specs.Stages.{Stands, Waits};
 
 use crate::extended::{Extended, extended_of};
@@ -29,12 +31,12 @@ pub struct Entry<'a> {
 
 impl<'a> Model for Entry<'a> {
     ghost use Rattle.ti_words.specs.Value.{EntryValue};
-    ghost use Rattle.ti_entry.specs.Content.{content_with};
+    ghost use Rattle.ti_entry.specs.Content.{content_from};
     ghost use Rattle.ti_entry.specs.Views.{IsStandard, IsExtended};
 
     ghost Value = { EntryValue };
 
-    ghost view = { λ e. content_with e.bytes.now e.standard e.extended };
+    ghost view = { λ e. content_from e.bytes.now e.standard e.extended e.base };
 
     ghost invariant = { λ e. IsStandard e.bytes.now e.standard
         × IsExtended e.bytes.now e.extended e.base };
@@ -73,6 +75,7 @@ pub(crate) fn entry_at<'a>(bytes: &'a [u8], stage: &Stage) -> Result<Entry<'a>, 
     ensures only { (v : EntryValue) → Spells bytes.now v → IsOkAnd result (λ e. e ≡ v) }
     ensures refused { IfErr result (λ r. refusal bytes.now ≡ Some r) }
     ensures answer { result ≡ answer_for bytes.now }
+    ensures base { OnOk result (stage.now.base ≡ names_base (content bytes.now)) }
 {
     if !stage.is_whole() {
         return Err(Refused {
@@ -80,12 +83,26 @@ pub(crate) fn entry_at<'a>(bytes: &'a [u8], stage: &Stage) -> Result<Entry<'a>, 
             place: bytes.len(),
         });
     }
-    Ok(Entry {
+    Ok(entry_of(
         bytes,
-        standard: stage.standard(),
-        extended: stage.extended(),
-        base: stage.base(),
-    })
+        stage.standard(),
+        stage.extended(),
+        stage.base(),
+    ))
+}
+
+/// The entry of two parts.
+pub(crate) fn entry_of(bytes: &[u8], standard: Part, extended: Part, base: usize) -> Entry<'_>
+    requires standard { IsStandard bytes.now standard }
+    requires extended { IsExtended bytes.now extended base }
+    ensures { result ≡ content_from bytes.now standard extended base }
+{
+    Entry {
+        bytes,
+        standard,
+        extended,
+        base,
+    }
 }
 
 impl<'a> Entry<'a> {

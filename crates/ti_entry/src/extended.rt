@@ -9,7 +9,7 @@ ghost use Rattle.std.specs.Option.{option_map};
 ghost use Rattle.ti_base.specs.Limits.{most_entry_bytes};
 ghost use Rattle.ti_words.specs.Texts.{text_value, AbsentText};
 ghost use Rattle.ti_layout.specs.Layout.{places, standard};
-ghost use Rattle.ti_entry.specs.Content.{content_with, name_at as the_name_at};
+ghost use Rattle.ti_entry.specs.Content.{content_from, name_from};
 ghost use Rattle.ti_entry.specs.Views.{IsExtended};
 ghost use Rattle.ti_words.specs.Spelling.{mark_in};
 ghost use Rattle.ti_entry.specs.Finding.{IsLeastIndex, IsFirstNamed, names_of};
@@ -33,13 +33,13 @@ pub struct Extended<'a> {
 impl<'a> Model for Extended<'a> {
     ghost use Rattle.ti_words.specs.Value.{EntryValue};
     ghost use Rattle.ti_layout.specs.Layout.{standard};
-    ghost use Rattle.ti_entry.specs.Content.{content_with};
+    ghost use Rattle.ti_entry.specs.Content.{content_from};
     ghost use Rattle.ti_entry.specs.Views.{IsExtended};
 
     ghost Value = { EntryValue };
 
     // The entry that it is a part of.
-    ghost view = { λ e. content_with e.bytes.now (standard e.bytes.now) e.part };
+    ghost view = { λ e. content_from e.bytes.now (standard e.bytes.now) e.part e.base };
 
     ghost invariant = { λ e. IsExtended e.bytes.now e.part e.base };
 }
@@ -47,7 +47,7 @@ impl<'a> Model for Extended<'a> {
 /// The extended part of an entry.
 pub(crate) fn extended_of<'a>(bytes: &'a [u8], part: Part, base: usize) -> Extended<'a>
     requires { IsExtended bytes.now part base }
-    ensures { result ≡ content_with bytes.now (standard bytes.now) part }
+    ensures { result ≡ content_from bytes.now (standard bytes.now) part base }
 {
     Extended { bytes, part, base }
 }
@@ -149,7 +149,7 @@ impl<'a> Extended<'a> {
 fn name_at<'a>(bytes: &'a [u8], part: &Part, base: usize, place: usize) -> &'a [u8]
     requires part { IsExtended bytes.now part.now base }
     requires within { place + 2 ≤ length bytes.now }
-    ensures { result.now ≡ the_name_at bytes.now part.now place }
+    ensures { result.now ≡ name_from bytes.now part.now base place }
 {
     text_from(table(bytes, part), base + count_at(bytes, place))
 }
@@ -158,7 +158,7 @@ fn name_at<'a>(bytes: &'a [u8], part: &Part, base: usize, place: usize) -> &'a [
 fn is_name_at(bytes: &[u8], part: &Part, base: usize, place: usize, name: &[u8]) -> bool
     requires part { IsExtended bytes.now part.now base }
     requires within { place + 2 ≤ length bytes.now }
-    ensures { IsTrue result ↔ the_name_at bytes.now part.now place ≡ name.now }
+    ensures { IsTrue result ↔ name_from bytes.now part.now base place ≡ name.now }
 {
     is_text(table(bytes, part), base + count_at(bytes, place), name)
 }
@@ -176,7 +176,7 @@ fn first_named(
     requires within { from + 2 * count ≤ length bytes.now }
     requires fits { from + 2 * count ≤ most_entry_bytes }
     ensures { IsLeastIndex
-        (map (the_name_at bytes.now part.now) (places from 2 count)) name.now result }
+        (map (name_from bytes.now part.now base) (places from 2 count)) name.now result }
 {
     for i in 0..count {
         if is_name_at(bytes, part, base, from + 2 * i, name) {

@@ -17,7 +17,7 @@ mod whole;
 mod word;
 
 pub use fault::{Fault, Refused};
-pub use part::{Part, standard_part};
+pub use part::{Part, extended_part, no_part, standard_part};
 pub use stage::Stage;
 pub use string_table::{text_from, until_nul};
 pub use word::{count_at, number_word_at, numbers_size, word_at};

@@ -155,7 +155,7 @@ pub fn standard_part(bytes: &[u8]) -> Part
 }
 
 /// The extended part of bytes that have its header.
-pub(crate) fn extended_part(bytes: &[u8], standard: &Part) -> Part
+pub fn extended_part(bytes: &[u8], standard: &Part) -> Part
     requires fits { end_of standard.now ≤ most_entry_bytes }
     requires there { the_extended_from standard.now + 10 ≤ length bytes.now }
     ensures words { result ≡ extended_after standard.now bytes.now }
@@ -177,7 +177,7 @@ pub(crate) fn extended_part(bytes: &[u8], standard: &Part) -> Part
 }
 
 /// No extended part, held as one with no capability.
-pub(crate) fn no_part() -> Part
+pub fn no_part() -> Part
     ensures { result ≡ no_capability }
 {
     Part {

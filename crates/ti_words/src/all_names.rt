@@ -63,6 +63,15 @@ impl NameTable {
         ensures found { IfSome result (λ place. IsNamedIn self place.0 place.1 name.now) }
         ensures only { (place : Place) → IsNamedIn self place.0 place.1 name.now → result ≡ Some place }
     {
+        self.find_bytes(name.as_bytes())
+    }
+
+    /// The same for a name as bytes, which need not be text.
+    pub fn find_bytes(self, name: &[u8]) -> Option<(Kind, usize)>
+        ensures value { result ≡ place_in self name.now }
+        ensures found { IfSome result (λ place. IsNamedIn self place.0 place.1 name.now) }
+        ensures only { (place : Place) → IsNamedIn self place.0 place.1 name.now → result ≡ Some place }
+    {
         if let Some(place) = self.place_of(Kind::Flag, name) {
             return Some(place);
         }
@@ -103,11 +112,11 @@ impl NameTable {
     }
 
     /// The place of the capability of a kind that has a name.
-    fn place_of(self, kind: Kind, name: &str) -> Option<(Kind, usize)>
+    fn place_of(self, kind: Kind, name: &[u8]) -> Option<(Kind, usize)>
         ensures { result ≡ lookup (bytes_eq name.now) (map (named_place kind) (rows_in self kind)) }
     {
         for (index, known) in self.list_of(kind).iter().enumerate() {
-            if name == *known && self.has(kind, index) {
+            if name == known.as_bytes() && self.has(kind, index) {
                 return Some((kind, index));
             }
         }

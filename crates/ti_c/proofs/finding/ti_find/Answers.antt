@@ -7,4 +7,4 @@ use Rattle.ti_c.proofs.finding.ti_find.Goals as goal
 
 pub returns-in-Some-clause-found : goal.returns-in-Some-clause-found
 returns-in-Some-clause-found c = λ _.
-    ap (λ kind. name_under kind c.in-Some.place) c.kind_number.ensures ∙ (inverse all_rows all_indices_differ all_names_differ c.in-Some.found c.in-Some.place c.args.name.now).1 (sym c.place_of.ensures ∙ c.in-Some.is)
+    ap (λ kind. name_under kind c.in-Some.place) c.kind_number.ensures ∙ (inverse all_rows all_indices_differ all_names_differ c.in-Some.found c.in-Some.place c.args.name.now).1 (sym c.find_bytes.ensures.value ∙ c.in-Some.is)

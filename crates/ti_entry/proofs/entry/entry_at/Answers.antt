@@ -29,13 +29,21 @@ returns-then-not-is_whole-clause-answer c =
 
 -- ---- a whole entry
 
-pub invariant_of-result : goal.invariant_of-result
-invariant_of-result c =
+pub entry_of-requires-clause-standard : goal.entry_of-requires-clause-standard
+entry_of-requires-clause-standard c =
     let bytes = c.args.bytes.now in
     let stage = c.args.stage.now in
     let whole : is_whole stage.section ≡ true = sym c.is_whole.ensures ∙ c.if-not-is_whole.false in
     let view = whole_is_view bytes stage (stands_now bytes stage c.requires.stands) c.requires.waits whole in
-    rw (c.standard.ensures, c.extended.ensures, c.base.ensures) (view.is_standard, view.is_extended)
+    rw c.standard.ensures view.is_standard
+
+pub entry_of-requires-clause-extended : goal.entry_of-requires-clause-extended
+entry_of-requires-clause-extended c =
+    let bytes = c.args.bytes.now in
+    let stage = c.args.stage.now in
+    let whole : is_whole stage.section ≡ true = sym c.is_whole.ensures ∙ c.if-not-is_whole.false in
+    let view = whole_is_view bytes stage (stands_now bytes stage c.requires.stands) c.requires.waits whole in
+    rw (c.extended.ensures, c.base.ensures) view.is_extended
 
 pub returns-clause-found : goal.returns-clause-found
 returns-clause-found c =
@@ -43,19 +51,26 @@ returns-clause-found c =
     let stage = c.args.stage.now in
     let whole : is_whole stage.section ≡ true = sym c.is_whole.ensures ∙ c.if-not-is_whole.false in
     let view = whole_is_view bytes stage (stands_now bytes stage c.requires.stands) c.requires.waits whole in
-    rw (c.standard.ensures, c.extended.ensures) (subst (λ v. Spells bytes v) (sym view.shows) (found bytes (λ i. omega (arith, c.type_inv.bytes i)) (whole_passes bytes stage c.requires.waits whole)))
+    rw (c.entry_of.ensures, c.standard.ensures, c.extended.ensures, c.base.ensures) (subst (λ v. Spells bytes v) (sym view.shows) (found bytes (λ i. omega (arith, c.type_inv.bytes i)) (whole_passes bytes stage c.requires.waits whole)))
 
 pub returns-clause-only : goal.returns-clause-only
 returns-clause-only c = λ v s.
     let bytes = c.args.bytes.now in
     let stage = c.args.stage.now in
     let whole : is_whole stage.section ≡ true = sym c.is_whole.ensures ∙ c.if-not-is_whole.false in
-    rw (c.standard.ensures, c.extended.ensures) ((whole_is_view bytes stage (stands_now bytes stage c.requires.stands) c.requires.waits whole).shows ∙ sym (only bytes v s).same)
+    rw (c.entry_of.ensures, c.standard.ensures, c.extended.ensures, c.base.ensures) ((whole_is_view bytes stage (stands_now bytes stage c.requires.stands) c.requires.waits whole).shows ∙ sym (only bytes v s).same)
 
 pub returns-clause-answer : goal.returns-clause-answer
 returns-clause-answer c =
     let bytes = c.args.bytes.now in
     let stage = c.args.stage.now in
     let whole : is_whole stage.section ≡ true = sym c.is_whole.ensures ∙ c.if-not-is_whole.false in
-    rw (c.standard.ensures, c.extended.ensures) (ap Ok (whole_is_view bytes stage (stands_now bytes stage c.requires.stands) c.requires.waits whole).shows)
+    rw (c.entry_of.ensures, c.standard.ensures, c.extended.ensures, c.base.ensures) (ap Ok (whole_is_view bytes stage (stands_now bytes stage c.requires.stands) c.requires.waits whole).shows)
     ∙ answer_content bytes (whole_passes bytes stage c.requires.waits whole)
+
+pub returns-clause-base : goal.returns-clause-base
+returns-clause-base c =
+    let bytes = c.args.bytes.now in
+    let stage = c.args.stage.now in
+    let whole : is_whole stage.section ≡ true = sym c.is_whole.ensures ∙ c.if-not-is_whole.false in
+    (whole_is_view bytes stage (stands_now bytes stage c.requires.stands) c.requires.waits whole).counted

@@ -1,7 +1,7 @@
 use Rattle.std.proofs.Common.{sym, ap, subst, ◌∙◌, map}
 use Rattle.ti_words.specs.Value.{EntryValue}
 use Rattle.ti_layout.specs.Layout.{places, kind_names_from, standard}
-use Rattle.ti_entry.specs.Content.{name_at}
+use Rattle.ti_entry.specs.Content.{name_from}
 use Rattle.ti_entry.specs.Finding.{IsLeastIndex, names_of}
 use Rattle.ti_entry.proofs.NamedItemsLemmas.{names_are}
 use Rattle.ti_entry.proofs.extended.Extended.find_of.Goals as goal
@@ -11,9 +11,10 @@ returns c =
     let bytes = c.self.inside.bytes.now in
     let x = c.self.inside.part in
     let kind = c.args.kind in
+    let base = c.self.inside.base in
     subst (λ l. IsLeastIndex l c.args.name.now c.first_named.result)
-    (ap (λ n. map (name_at bytes x) (places n 2 c.count.result)) c.names_of.ensures.place
-    ∙ ap (λ n. map (name_at bytes x) (places (kind_names_from x kind) 2 n)) c.count.ensures
-    ∙ sym (names_are bytes (standard bytes) x kind)
+    (ap (λ n. map (name_from bytes x base) (places n 2 c.count.result)) c.names_of.ensures.place
+    ∙ ap (λ n. map (name_from bytes x base) (places (kind_names_from x kind) 2 n)) c.count.ensures
+    ∙ sym (names_are bytes (standard bytes) x base kind)
     ∙ ap (λ (v : EntryValue). names_of v kind) c.self.view_is)
     c.first_named.ensures

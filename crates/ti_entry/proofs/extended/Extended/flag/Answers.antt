@@ -10,5 +10,5 @@ pub returns : goal.returns
 returns c =
     let bytes = c.self.inside.bytes.now in
     c.flag.ensures
-    ∙ ap (λ l. get_or l c.args.i No) (sym (flag_marks bytes (standard bytes) c.self.inside.part))
+    ∙ ap (λ l. get_or l c.args.i No) (sym (flag_marks bytes (standard bytes) c.self.inside.part c.self.inside.base))
     ∙ ap (λ (v : EntryValue). get_or (map mark_in v.extended_flags) c.args.i No) c.self.view_is

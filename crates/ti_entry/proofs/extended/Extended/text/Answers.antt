@@ -10,5 +10,5 @@ pub returns : goal.returns
 returns c =
     let bytes = c.self.inside.bytes.now in
     c.text.ensures
-    ∙ ap (λ l. get_or l c.args.i AbsentText) (sym (text_marks bytes (standard bytes) c.self.inside.part))
+    ∙ ap (λ l. get_or l c.args.i AbsentText) (sym (text_marks bytes (standard bytes) c.self.inside.part c.self.inside.base))
     ∙ ap (λ (v : EntryValue). get_or (map mark_in v.extended_texts) c.args.i AbsentText) c.self.view_is

@@ -7,4 +7,4 @@ use Rattle.ti_entry.proofs.extended.Extended.text_count.Goals as goal
 pub returns : goal.returns
 returns c =
     let bytes = c.self.inside.bytes.now in
-    c.count.ensures ∙ sym (text_count bytes (standard bytes) c.self.inside.part) ∙ ap (λ (v : EntryValue). length v.extended_texts) c.self.view_is
+    c.count.ensures ∙ sym (text_count bytes (standard bytes) c.self.inside.part c.self.inside.base) ∙ ap (λ (v : EntryValue). length v.extended_texts) c.self.view_is

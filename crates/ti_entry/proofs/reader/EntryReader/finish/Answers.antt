@@ -2,7 +2,7 @@ use Rattle.std.proofs.Common.{◌≡◌, ◌∙◌, ap, sym, subst, List}
 use Rattle.std.specs.Prelude.{ℕ, Some, IfErr}
 use Rattle.ti_words.specs.Spelling.{Spells}
 use Rattle.ti_layout.specs.Refusal.{refusal}
-use Rattle.ti_entry.specs.Reading.{Reading}
+use Rattle.ti_entry.specs.Reading.{Reading, answer_for, final_answer, final_answer_under}
 use Rattle.ti_layout.specs.Stages.{Stands}
 use Rattle.ti_entry.proofs.reader.EntryReader.finish.Goals as goal
 
@@ -19,3 +19,10 @@ pub returns-clause-refused : goal.returns-clause-refused
 returns-clause-refused c = λ none.
     let same = c.as_slice.ensures.value ∙ ap (λ (r : Reading). r.kept) c.self.view_is in
     subst (λ (k : List ℕ). IfErr c.entry_at.result (λ r. refusal k ≡ Some r)) same c.entry_at.ensures.refused
+
+pub returns-clause-answer : goal.returns-clause-answer
+returns-clause-answer c =
+    c.entry_at.ensures.answer
+    ∙ ap answer_for c.as_slice.ensures.value
+    ∙ ap (λ o. final_answer_under o c.self.inside.kept.items) (sym c.in_default.is)
+    ∙ ap final_answer c.self.view_is

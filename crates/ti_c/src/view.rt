@@ -1,0 +1,243 @@
+//! A view of an entry for C: nothing is copied, and no array needs room.
+//!
+//! The caller keeps what a view is made of, so each call tests it again: its numbers may be any.
+
+ghost use Rattle.std.specs.Prelude.{◌≡◌, ◌≢◌, ℕ, ◌⊎◌, get_or, IsSomeAnd, Some, None, pos};
+ghost use Rattle.ti_words.specs.Marks.{word_of_number as the_word_of_number};
+ghost use Rattle.ti_words.specs.Texts.{text_value, AbsentText};
+ghost use Rattle.ti_words.specs.Value.{EntryValue};
+ghost use Rattle.ti_entry.specs.Finding.{IsPosition};
+ghost use Rattle.ti_c.specs.Numbers.{done, not_named};
+ghost use Rattle.ti_c.specs.Names.{kind_at};
+ghost use Rattle.ti_c.specs.Entries.{flag_mark as the_flag_mark, text_shown, Tells, SpellsSome, ForEntry, IsEntryRefusedAs};
+ghost use Rattle.ti_c.specs.Views.{IsOpen, HasExtended, IsFoundIn, LacksExtended, flag_shown, number_shown, text_value_shown, value_at, value_held};
+
+use crate::entry::{EntryCounts, flag_mark, number_word, put_counts};
+use crate::faults::{DONE, NOT_NAMED, entry_number};
+use crate::finding::kind_number;
+use crate::names::Bytes;
+use ti_entry::{Entry, Position, read_with_base, reopen};
+use ti_words::{Flag, Kind, Number, Text};
+
+/// An entry that was opened. All is the caller's to keep and to copy; what it lends lies in the bytes.
+#[repr(C)]
+#[derive(Clone, Copy, Debug)]
+pub struct View<'a> {
+    /// The names and the counts, or the place of the fault.
+    pub entry: EntryCounts<'a>,
+    /// The bytes of the entry.
+    pub bytes: &'a [u8],
+    /// What the offsets of the extended names are counted from.
+    pub base: usize,
+}
+
+/// What an entry says of a capability.
+#[repr(C)]
+#[derive(Clone, Copy, Debug)]
+pub struct Found<'a> {
+    /// The bytes of a text that is there, else none.
+    pub text: &'a [u8],
+    /// The mark of a flag or a text, or the value of a number.
+    pub number: i32,
+    /// 0 is a flag, 1 a number, 2 a text.
+    pub kind: u32,
+}
+
+/// Opens an entry, and returns 0, or the number of its fault with the place.
+///
+/// The place is written after a refusal alone, and then nothing else is.
+#[unsafe(no_mangle)]
+pub extern "C" fn ti_open<'a>(bytes: &'a [u8], view: &mut View<'a>) -> u32
+    ensures answer { (result ≡ done) ⊎ IsEntryRefusedAs bytes.now result view.new.entry.place }
+    ensures refused { (number place : ℕ) → IsEntryRefusedAs bytes.now number place
+        → (result ≡ number) × (view.new.entry.place ≡ place) }
+    // An entry is opened if the bytes spell one, and only then, and it is told.
+    ensures only { SpellsSome bytes.now → result ≡ done }
+    ensures spelled { result ≡ done → SpellsSome bytes.now }
+    ensures opened { result ≡ done → ForEntry bytes.now (λ v. IsOpen view.new v) }
+    ensures told { result ≡ done → ForEntry bytes.now (λ v. Tells view.new.entry v) }
+    // After a refusal nothing of the view is written but the place, and else no place is.
+    ensures place { (result ≡ done) ⊎ (view.new
+        ≡ record view.old { entry = record view.old.entry { place = view.new.entry.place } }) }
+    ensures untold { result ≡ done → view.new.entry.place ≡ view.old.entry.place }
+{
+    let (entry, base) = match read_with_base(bytes) {
+        Ok(found) => found,
+        Err(refused) => {
+            view.entry.place = refused.place;
+            return entry_number(refused.fault);
+        }
+    };
+    view.bytes = bytes;
+    view.base = base;
+    put_counts(&mut view.entry, &entry, &entry.extended());
+    DONE
+}
+
+/// The entry of a view, if it is one that was opened.
+fn entry_of<'a>(view: &View<'a>) -> Option<Entry<'a>>
+    ensures { (v : EntryValue) → IsOpen view.now v → IsSomeAnd result (λ e. e ≡ v) }
+{
+    reopen(view.bytes, view.base)
+}
+
+/// The mark of the standard flag at an index: 1 or 0, -1 missing, -2 cancelled.
+#[unsafe(no_mangle)]
+pub extern "C" fn ti_view_flag(view: &View<'_>, index: usize) -> i8
+    ensures { (v : EntryValue) → IsOpen view.now v
+        → result ≡ the_flag_mark (get_or v.flags index Flag.No) }
+{
+    match entry_of(view) {
+        Some(entry) => flag_mark(entry.flag(index)),
+        None => -1,
+    }
+}
+
+/// The value of the standard number at an index; -1 is absent, -2 cancelled.
+#[unsafe(no_mangle)]
+pub extern "C" fn ti_view_number(view: &View<'_>, index: usize) -> i32
+    ensures { (v : EntryValue) → IsOpen view.now v
+        → result ≡ the_word_of_number (get_or v.numbers index Number.Absent) }
+{
+    match entry_of(view) {
+        Some(entry) => number_word(entry.number(index)),
+        None => -1,
+    }
+}
+
+/// The mark of the standard text at an index: 0 if it is there, and then its bytes are written; -1 is absent, -2 cancelled.
+#[unsafe(no_mangle)]
+pub extern "C" fn ti_view_text<'a>(view: &View<'a>, index: usize, text: &mut Bytes<'a>) -> i8
+    ensures mark { (v : EntryValue) → IsOpen view.now v
+        → result ≡ (text_shown (get_or v.texts index AbsentText)).0 }
+    ensures text { (v : EntryValue) → IsOpen view.now v → result ≡ pos 0
+        → text.new.bytes.now ≡ (text_shown (get_or v.texts index AbsentText)).1 }
+    ensures kept { (result ≡ pos 0) ⊎ (text.new ≡ text.old) }
+{
+    let Some(entry) = entry_of(view) else {
+        return -1;
+    };
+    match entry.text(index) {
+        Text::Value(found) => {
+            text.bytes = found;
+            0
+        }
+        Text::Absent => -1,
+        Text::Cancelled => -2,
+    }
+}
+
+/// Finds what the entry says of the capability with a name: 0 and its value, or 401, and the value is as before.
+#[unsafe(no_mangle)]
+pub extern "C" fn ti_view_find<'a>(view: &View<'a>, name: &[u8], value: &mut Found<'a>) -> u32
+    ensures answer { (result ≡ done) ⊎ (result ≡ not_named) }
+    ensures found { (v : EntryValue) → IsOpen view.now v → result ≡ done
+        → IsFoundIn v name.now (value_held value.new) }
+    ensures none { (v : EntryValue) → IsOpen view.now v → result ≡ not_named
+        → IsPosition v name.now None }
+    ensures kept { result ≡ not_named → value.new ≡ value.old }
+{
+    let Some(entry) = entry_of(view) else {
+        return NOT_NAMED;
+    };
+    match entry.position(name) {
+        Some(position) => {
+            put_value(value, &entry, position);
+            DONE
+        }
+        None => NOT_NAMED,
+    }
+}
+
+/// The name and the value of the extended flag (kind 0), number (1) or text (2) at an index: 0 and both, or 401, and both are
+/// as before.
+#[unsafe(no_mangle)]
+pub extern "C" fn ti_view_extended<'a>(
+    view: &View<'a>,
+    kind: u32,
+    index: usize,
+    name: &mut Bytes<'a>,
+    value: &mut Found<'a>,
+) -> u32
+    ensures answer { (result ≡ done) ⊎ (result ≡ not_named) }
+    ensures found { (v : EntryValue) → IsOpen view.now v → result ≡ done
+        → HasExtended v (kind_at kind) index name.new.bytes.now (value_held value.new) }
+    ensures none { (v : EntryValue) → IsOpen view.now v → result ≡ not_named
+        → LacksExtended v (kind_at kind) index }
+    ensures kept_name { result ≡ not_named → name.new ≡ name.old }
+    ensures kept_value { result ≡ not_named → value.new ≡ value.old }
+{
+    let (Some(entry), Some(kind)) = (entry_of(view), kind_of(kind)) else {
+        return NOT_NAMED;
+    };
+    match entry.extended().name(kind, index) {
+        Some(found) => {
+            name.bytes = found;
+            put_value(value, &entry, Position::Extended(kind, index));
+            DONE
+        }
+        None => NOT_NAMED,
+    }
+}
+
+/// The kind with a number.
+fn kind_of(number: u32) -> Option<Kind>
+    ensures { result ≡ kind_at number }
+{
+    match number {
+        0 => Some(Kind::Flag),
+        1 => Some(Kind::Number),
+        2 => Some(Kind::Text),
+        _ => None,
+    }
+}
+
+/// Puts what an entry says of a capability into a value.
+fn put_value<'a>(value: &mut Found<'a>, entry: &Entry<'a>, position: Position)
+    ensures { value_held value.new ≡ value_at entry.now position }
+{
+    match position {
+        Position::Standard(Kind::Flag, i) => put_flag(value, entry.flag(i)),
+        Position::Standard(Kind::Number, i) => put_number(value, entry.number(i)),
+        Position::Standard(Kind::Text, i) => put_text(value, entry.text(i)),
+        Position::Extended(Kind::Flag, i) => put_flag(value, entry.extended().flag(i)),
+        Position::Extended(Kind::Number, i) => put_number(value, entry.extended().number(i)),
+        Position::Extended(Kind::Text, i) => put_text(value, entry.extended().text(i)),
+    }
+}
+
+fn put_flag(value: &mut Found<'_>, flag: Flag)
+    ensures { value_held value.new ≡ flag_shown flag }
+{
+    value.kind = kind_number(Kind::Flag);
+    value.number = i32::from(flag_mark(flag));
+    value.text = &[];
+}
+
+fn put_number(value: &mut Found<'_>, number: Number)
+    ensures { value_held value.new ≡ number_shown number }
+{
+    value.kind = kind_number(Kind::Number);
+    value.number = number_word(number);
+    value.text = &[];
+}
+
+fn put_text<'a>(value: &mut Found<'a>, text: Text<'a>)
+    ensures { value_held value.new ≡ text_value_shown (text_value text.entry) }
+{
+    value.kind = kind_number(Kind::Text);
+    match text {
+        Text::Value(found) => {
+            value.number = 0;
+            value.text = found;
+        }
+        Text::Absent => {
+            value.number = -1;
+            value.text = &[];
+        }
+        Text::Cancelled => {
+            value.number = -2;
+            value.text = &[];
+        }
+    }
+}

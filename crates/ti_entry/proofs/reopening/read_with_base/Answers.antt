@@ -1,0 +1,31 @@
+use Rattle.std.proofs.Common.{◌≡◌, ◌∙◌, ap, sym}
+use Rattle.std.specs.Prelude.{None}
+use Rattle.std.proofs.lemmas.Result.{err_from_is_err_and}
+use Rattle.ti_layout.specs.Checks.{failure_of}
+use Rattle.ti_layout.specs.Refusal.{failure}
+use Rattle.ti_entry.specs.Reading.{names_base}
+use Rattle.ti_entry.proofs.FeedLemmas.{failure_refuses}
+use Rattle.ti_entry.proofs.SpelledExtendedLemmas.{only}
+use Rattle.ti_entry.proofs.reopening.read_with_base.Goals as goal
+
+pub returns-in_err-advance-clause-only : goal.returns-in_err-advance-clause-only
+returns-in_err-advance-clause-only c = λ v s.
+    let bytes = c.args.bytes.now in
+    let none : None ≡ failure bytes = ap failure_of (only bytes v s).passes in
+    let never = none ∙ c.in_err-advance.ensures.failed in absurd (cc)
+
+pub returns-in_err-advance-clause-refused : goal.returns-in_err-advance-clause-refused
+returns-in_err-advance-clause-refused c =
+    let p = err_from_is_err_and c.from_residual.result c.from_residual.ensures.1 in
+    rw (p.1, p.2) (failure_refuses c.args.bytes.now c.in_err-advance.field-0.0 c.in_err-advance.ensures.failed)
+
+pub returns-in_err-entry-clause-only : goal.returns-in_err-entry-clause-only
+returns-in_err-entry-clause-only c = λ v s. absurd (c.in_err-entry.ensures.only v s)
+
+pub returns-clause-only : goal.returns-clause-only
+returns-clause-only c = λ v s. c.in_ok-entry.ensures.only v s
+
+pub returns-clause-base : goal.returns-clause-base
+returns-clause-base c =
+    let same : c.in_ok-entry.entry ≡ _ = (only c.args.bytes.now c.in_ok-entry.entry c.in_ok-entry.ensures.found).same in
+    c.base.ensures ∙ c.in_ok-entry.ensures.base ∙ ap names_base (sym same)

@@ -1,0 +1,40 @@
+//! Capabilities of an entry by any of their names.
+
+ghost use Rattle.std.specs.Prelude.{◌≡◌};
+ghost use Rattle.ti_entry.specs.Finding.{IsPosition, standard_place as the_standard_place};
+
+use crate::entry::Entry;
+use ti_words::{Kind, NameTable};
+
+/// Where an entry has a capability: the kind and the index among the standard ones, or among those that it names itself.
+#[derive(Clone, Copy, Debug, PartialEq, Eq)]
+pub enum Position {
+    /// A capability of terminfo(5). The entry may have fewer of the kind.
+    Standard(Kind, usize),
+    /// A capability of the extended part.
+    Extended(Kind, usize),
+}
+
+impl<'a> Entry<'a> {
+    /// The place of the capability with a name: a short name of terminfo(5), such as `cup`, else a long one, such as
+    /// `cursor_address`, else the first of the entry's own names that is equal.
+    pub fn position(&self, name: &[u8]) -> Option<Position>
+        ensures { IsPosition self.now name.now result }
+    {
+        if let Some((kind, index)) = standard_place(name) {
+            return Some(Position::Standard(kind, index));
+        }
+        let (kind, index) = self.extended().find(name)?;
+        Some(Position::Extended(kind, index))
+    }
+}
+
+/// The kind and the index of the capability of terminfo(5) with a name, short or long.
+fn standard_place(name: &[u8]) -> Option<(Kind, usize)>
+    ensures { result ≡ the_standard_place name.now }
+{
+    match NameTable::All.find_bytes(name) {
+        Some(place) => Some(place),
+        None => NameTable::Long.find_bytes(name),
+    }
+}
