@@ -1,3 +1,4 @@
+pub mod ArePlainLemmas
 pub mod BeginsLemmas
 pub mod ChoiceLemmas
 pub mod ClimbsLemmas

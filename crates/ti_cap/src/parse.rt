@@ -1,10 +1,10 @@
 //! A parsed capability, and the tape that gives its tokens.
 
-ghost use Rattle.std.specs.Prelude.{◌≡◌, ℕ, ◌≤◌, ◌++◌, [], ◌∷◌, List, length, IfOk, IfErr, IfSome, IfNone};
+ghost use Rattle.std.specs.Prelude.{◌≡◌, ℕ, ◌≤◌, ◌++◌, [], ◌∷◌, List, length, take, drop, IfOk, IfErr, IfSome, IfNone};
 ghost use Rattle.ti_base.specs.Limits.{most_capability_bytes, most_open, most_values};
 ghost use Rattle.ti_cap.specs.Refusal.{IsRefusal, IsFaultless};
 ghost use Rattle.ti_cap.specs.inner.Scan.{IsSure};
-ghost use Rattle.ti_cap.specs.Capability.{HasCount, HasDepth, HasBound, HasNest, IsWellFormed, Spot, Takes, IsFirst, IsCapability, whole};
+ghost use Rattle.ti_cap.specs.Capability.{HasCount, HasDepth, HasBound, HasNest, IsWellFormed, Spot, Takes, IsFirst, ArePlain, IsCapability, whole};
 
 use crate::language::{CapFault, CapRefused, Token};
 use crate::lexer::read_token;
@@ -221,6 +221,30 @@ impl<'a> Tape<'a> {
             }
             Err(_) => unreachable!(),
         }
+    }
+
+    /// Copies the bytes that are left to the front of a slice and takes all their tokens, if each byte of the capability is
+    /// a token that writes it, and there is room. Returns how many they are.
+    #[inline(always)]
+    pub fn copy_plain(&mut self, out: &mut [u8]) -> Option<usize>
+        ensures none { IfNone result ((self.new ≡ self.old) × (out.new ≡ out.old)) }
+        ensures exact { IfNone result (ArePlain (whole self.old)
+            → ¬ (length self.old.left ≤ length out.old)) }
+        ensures plain { IfSome result (λ _. ArePlain (whole self.old)) }
+        ensures taken { IfSome result
+            (λ _. self.new ≡ record { taken = whole self.old; left = [] }) }
+        ensures count { IfSome result (λ count. count ≡ length self.old.left) }
+        ensures copied { IfSome result (λ count. take count out.new ≡ self.old.left) }
+        ensures rest { IfSome result (λ count. drop count out.new ≡ drop count out.old) }
+    {
+        let left = &self.bytes[self.place..];
+        let count = left.len();
+        if self.maxima.tokens != self.bytes.len() || out.len() < count {
+            return None;
+        }
+        out[..count].copy_from_slice(left);
+        self.place = self.bytes.len();
+        Some(count)
     }
 
     /// How many bytes were taken.

@@ -1,3 +1,4 @@
+pub mod ArePlainLemmas
 pub mod AreShortLemmas
 pub mod CanPassLemmas
 pub mod CanRunLemmas

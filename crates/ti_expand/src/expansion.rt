@@ -122,7 +122,8 @@ pub fn expand<'a, A: Allocator + Copy>(
 
 /// Runs a tape from its start, with room for the most values.
 fn run_deep<'a>(tape: Tape<'_>, parameters: &[Value<'a>; 9], vars: &mut Vars, out: &mut [u8]) -> Run
-    requires { IsReady tape.left parameters.now most_values (length out.old) }
+    requires start { tape.taken ≡ [] }
+    requires ready { IsReady tape.left parameters.now most_values (length out.old) }
     ensures { IsExpansion tape.entry.left parameters.now vars.old vars.new
         (take result.written out.new) result }
 {

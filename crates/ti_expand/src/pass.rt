@@ -1,7 +1,7 @@
 //! The pass over a tape: one loop runs tokens, and one passes tokens over. Their control is a `Mode` alone. They take no
 //! memory, and make no test of the room on the stack or in the output.
 
-ghost use Rattle.std.specs.Prelude.{◌≡◌, ◌≤◌, length, max, take, drop};
+ghost use Rattle.std.specs.Prelude.{◌≡◌, ◌≤◌, [], length, max, take, drop};
 ghost use Rattle.ti_base.specs.Limits.{most_text_bytes};
 ghost use Rattle.ti_cap.specs.Pass.{next_mode};
 ghost use Rattle.ti_expand.specs.inner.Machine.{state_of};
@@ -89,8 +89,36 @@ fn pass_over(tape: &mut Tape<'_>, from: Mode, run: &mut Run)
     }
 }
 
-/// Runs a tape from its start, where there is room for what it does.
+/// Runs a tape from its start, where there is room for what it does. Bytes that are all tokens are one copy.
+#[inline(always)]
 pub(crate) fn run_tape<'a>(
+    mut tape: Tape<'_>,
+    parameters: &[Value<'a>; 9],
+    vars: &mut Vars,
+    stack: &mut [Value<'a>],
+    out: &mut [u8],
+) -> Run
+    requires start { tape.taken ≡ [] }
+    requires ready { IsReady tape.left parameters.now (length stack.old) (length out.old) }
+    ensures expansion { IsExpansion tape.entry.left parameters.now vars.old vars.new
+        (take result.written out.new) result }
+    ensures rest { drop result.written out.new ≡ drop result.written out.old }
+{
+    let Some(written) = tape.copy_plain(out) else {
+        return run_tokens(tape, parameters, vars, stack, out);
+    };
+    // Each variable fits 32 bits, on which the bound rests.
+    let _numbers = vars.numbers();
+    Run {
+        written,
+        ran: written,
+        passed: 0,
+        peak: 0,
+    }
+}
+
+/// The same, token by token.
+fn run_tokens<'a>(
     mut tape: Tape<'_>,
     parameters: &[Value<'a>; 9],
     vars: &mut Vars,

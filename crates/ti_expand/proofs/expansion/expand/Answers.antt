@@ -4,8 +4,8 @@ use Rattle.ti_expand.proofs.AreShortLemmas.{none_too_long}
 use Rattle.ti_expand.proofs.IsExpansionLemmas.{made_low}
 use Rattle.ti_expand.proofs.expansion.expand.Goals as goal
 
-pub run_deep-run-requires : goal.run_deep-run-requires
-run_deep-run-requires g c =
+pub run_deep-run-requires-clause-ready : goal.run_deep-run-requires-clause-ready
+run_deep-run-requires-clause-ready g c =
     rw c.tape-else-depth-le-FEW_VALUES.ensures.start (record {
       longest = c.in_ok-longest.longest;
       texts = c.in_ok-longest.ensures.short;

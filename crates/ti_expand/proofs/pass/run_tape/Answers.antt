@@ -1,82 +1,17 @@
-use Rattle.std.proofs.Common.{◌<◌, ◌≤◌, length, arith, refl, ◌∙◌}
-use Rattle.std.proofs.lemmas.List.{length-take}
-use Rattle.ti_cap.specs.Pass.{Running}
+use Rattle.std.proofs.Common.{ℕ, List, ◌++◌, length, refl, subst}
+use Rattle.ti_cap.specs.Capability.{ArePlain}
 use Rattle.ti_expand.specs.State.{State, start}
-use Rattle.ti_expand.specs.inner.Machine.{machine}
-use Rattle.ti_expand.specs.Mode.{mode_of}
-use Rattle.ti_expand.specs.Steps.{step_state}
-use Rattle.ti_expand.proofs.CanRunLemmas.{can_run}
+use Rattle.ti_expand.proofs.ArePlainLemmas.{with_output, plain_run}
 use Rattle.ti_expand.proofs.IsExpansionLemmas.{is_expansion}
-use Rattle.ti_expand.proofs.RestLemmas.{drop_further}
-use Rattle.ti_expand.specs.inner.Underway.{IsUnderway}
-use Rattle.ti_expand.proofs.UnderwayLemmas.{underway_start, underway_height, underway_output, underway_ran, underway_end}
-use Rattle.ti_expand.proofs.WrittenLemmas.{less_left}
 use Rattle.ti_expand.proofs.pass.run_tape.Goals as goal
-
-pub loop-token-init : goal.loop-token-init
-loop-token-init c =
-    let a = c.args in
-    let initial : State = start a.vars.now a.parameters.now in
-    let first : IsUnderway a.tape.left initial (length a.stack.now) (length a.out.now) a.tape.left Running initial 0 0 0 =
-    underway_start a.tape.left initial (length a.stack.now) (length a.out.now) refl (can_run a.tape.left a.vars.now a.parameters.now (length a.stack.now) (length a.out.now) c.requires c.numbers-numbers.ensures.numbers) in
-    record { underway = rw (c.new-parameters.ensures, c.new-stack.ensures.empty, c.new-stack.ensures.low, c.start-run.ensures) first; slots = c.new-stack.ensures.room; within = rw c.start-run.ensures (omega arith); rest = refl }
-
-pub meet-after-requires-clause-height : goal.meet-after-requires-clause-height
-meet-after-requires-clause-height c =
-    let l = c.loop-token in
-    let s : State = machine l.stack.slots.now l.stack.height l.vars l.parameters l.out l.run.written in
-    let high : length (step_state Running c.in-Some.token s).stack ≤ length c.args.stack.now =
-    underway_height _ _ _ _ _ _ _ _ _ _ _ _ l.invariant.underway c.in-Some.ensures.order in
-    omega (arith, high, l.invariant.slots)
-
-pub meet-after-requires-clause-room : goal.meet-after-requires-clause-room
-meet-after-requires-clause-room c =
-    let l = c.loop-token in
-    let s : State = machine l.stack.slots.now l.stack.height l.vars l.parameters l.out l.run.written in
-    let long : length (step_state Running c.in-Some.token s).output ≤ length c.args.out.now =
-    underway_output _ _ _ _ _ _ _ _ _ _ _ _ l.invariant.underway c.in-Some.ensures.order in
-    omega (arith, long)
-
-pub pass_over-requires : goal.pass_over-requires
-pass_over-requires c =
-    let l = c.loop-token in
-    let m = c.meet-after in
-    record {
-      bytes = _;
-      initial = _;
-      places = _;
-      room = _;
-      state = _;
-      highest = _;
-      underway =
-          underway_ran _ _ _ _ _ _ _ _ _ _ _ m.new.stack.slots.now m.new.stack.height m.new.vars m.new.parameters m.new.out m.result.1 (mode_of m.result.0) m.new.stack.highest
-          l.invariant.underway c.in-Some.ensures.order m.ensures.mode m.ensures.state m.ensures.highest;
-    }
-
-pub loop-token-smaller : goal.loop-token-smaller
-loop-token-smaller c =
-    let less : length c.pass_over.new.tape.left < length c.loop-token.tape.left =
-    omega (arith, less_left _ _ _ c.in-Some.ensures.some, c.pass_over.ensures.forward) in
-    less
-
-pub loop-token-preserved : goal.loop-token-preserved
-loop-token-preserved c =
-    let l = c.loop-token in
-    let m = c.meet-after in
-    let met =
-    underway_ran _ _ _ _ _ _ _ _ _ _ _ m.new.stack.slots.now m.new.stack.height m.new.vars m.new.parameters m.new.out m.result.1 (mode_of m.result.0) m.new.stack.highest
-    l.invariant.underway c.in-Some.ensures.order m.ensures.mode m.ensures.state m.ensures.highest in
-    record {
-      underway = rw c.pass_over.ensures.written (c.pass_over.ensures.onward _ _ _ _ _ _ met);
-      slots = m.ensures.slots ∙ l.invariant.slots;
-      within = omega (arith, m.ensures.within, c.pass_over.ensures.written);
-      rest = rw c.pass_over.ensures.written (m.ensures.rest ∙ drop_further m.result.1 l.run.written l.out c.args.out.now m.ensures.onward l.invariant.rest);
-    }
 
 pub returns-clause-expansion : goal.returns-clause-expansion
 returns-clause-expansion c =
-    let l = c.loop-token in
-    let s : State = machine l.stack.slots.now l.stack.height l.vars l.parameters l.out l.run.written in
-    is_expansion c.args.tape.left c.args.vars.now c.args.parameters.now (length c.args.stack.now) (length c.args.out.now) s _ c.requires c.numbers-numbers.ensures.numbers
-    (omega (arith, length-take l.run.written l.out, l.invariant.within))
-    (λ tree w. rw c.highest.ensures (underway_end _ _ _ _ _ _ _ _ _ _ l.invariant.underway c.in_default.ensures.none.1 tree w))
+    let a = c.args in
+    let bytes = a.tape.left in
+    let initial : State = start a.vars.now a.parameters.now in
+    let P : List ℕ → Type 0 = λ x. ArePlain (x ++ bytes) in
+    let plain : ArePlain bytes = subst P c.requires.start c.in-Some.ensures.plain in
+    let did = plain_run bytes initial (with_output initial bytes) c.in-Some.written plain refl c.in-Some.ensures.count in
+    rw c.in-Some.ensures.copied
+    (is_expansion bytes a.vars.now a.parameters.now (length a.stack.now) (length a.out.now) (with_output initial bytes) _ c.requires.ready c.numbers-numbers.ensures.numbers c.in-Some.ensures.count did)

@@ -3,7 +3,7 @@ use Rattle.ti_expand.specs.State.{start}
 use Rattle.ti_expand.specs.inner.Machine.{machine}
 use Rattle.ti_cap.specs.Pass.{Running}
 use Rattle.ti_expand.specs.inner.Underway.{IsUnderway}
-use Rattle.ti_expand.proofs.pass.run_tape.Given as goal
+use Rattle.ti_expand.proofs.pass.run_tokens.Given as goal
 
 abbrev pub invariant-loop-token : goal.invariant-loop-token
 invariant-loop-token l = record {
