@@ -1,6 +1,6 @@
 //! Expanding a capability for C.
 
-ghost use Rattle.std.specs.Prelude.{◌≡◌, ◌≤◌, ◌<◌, ◌⊎◌, ℕ, length, take, drop};
+ghost use Rattle.std.specs.Prelude.{◌≡◌, ◌≤◌, ◌<◌, ◌⊎◌, ℕ, [], length, take, drop};
 ghost use Rattle.ti_cap.specs.Refusal.{IsFaultless};
 ghost use Rattle.ti_expand.specs.Expands.{IsExpansion};
 ghost use Rattle.ti_c.specs.Numbers.{done, too_many_parameters};
@@ -46,16 +46,15 @@ fn put_value<'a>(value: &mut Value<'a>, parameter: &Parameter<'a>)
     }
 }
 
-/// The values of the nine parameters, 0 if one is missing.
-fn values_of<'a>(parameters: &[Parameter<'a>]) -> [Value<'a>; 9]
-    requires { length parameters.now ≤ 9 }
-    ensures { result ≡ values_given parameters.now }
+/// Puts the values of the parameters over nine zeros. An array that is returned is copied.
+fn put_values<'a>(values: &mut [Value<'a>; 9], parameters: &[Parameter<'a>])
+    requires few { length parameters.now ≤ 9 }
+    requires zeros { values.old ≡ values_given [] }
+    ensures { values.new ≡ values_given parameters.now }
 {
-    let mut values = [Value::Num(0); 9];
     for i in 0..parameters.len() {
         put_value(&mut values[i], &parameters[i]);
     }
-    values
 }
 
 /// Expands on a stack that is deep enough, as [`ti_expand`] does.
@@ -166,7 +165,8 @@ pub extern "C" fn ti_expand<'a>(
             return capability_number(refused.fault);
         }
     };
-    let values = values_of(parameters);
+    let mut values = [Value::Num(0); 9];
+    put_values(&mut values, parameters);
     if capability.depth() <= FEW_VALUES {
         let mut stack = [Value::Num(0); FEW_VALUES];
         return expand_on(&capability, &values, variables, &mut stack, out, run);

@@ -13,40 +13,40 @@ pub returns-then-depth-le-FEW_VALUES-clause-answer : goal.returns-then-depth-le-
 returns-then-depth-le-FEW_VALUES-clause-answer c =
     let few : length c.args.parameters.now ≤ 9 = omega arith in
     expansion_answer _ c.args.capability.now _ (values_given c.args.parameters.now) (length c.args.parameters.now) (length c.args.out.now) _ _
-    c.in-Ok.ensures.value c.values_of-values.ensures few c.in-Ok.ensures.accepted c.expand_on.ensures.answer
+    c.in-Ok.ensures.value c.put_values.ensures few c.in-Ok.ensures.accepted c.expand_on.ensures.answer
 
 pub returns-then-depth-le-FEW_VALUES-clause-only : goal.returns-then-depth-le-FEW_VALUES-clause-only
 returns-then-depth-le-FEW_VALUES-clause-only c =
     let few : length c.args.parameters.now ≤ 9 = omega arith in
     expansion_only _ c.args.capability.now _ (values_given c.args.parameters.now) (length c.args.parameters.now) (length c.args.out.now) _ _
-    c.in-Ok.ensures.value c.values_of-values.ensures few c.in-Ok.ensures.accepted c.expand_on.ensures.answer c.expand_on.ensures.faultless
+    c.in-Ok.ensures.value c.put_values.ensures few c.in-Ok.ensures.accepted c.expand_on.ensures.answer c.expand_on.ensures.faultless
 
 pub returns-then-depth-le-FEW_VALUES-clause-faultless : goal.returns-then-depth-le-FEW_VALUES-clause-faultless
 returns-then-depth-le-FEW_VALUES-clause-faultless c = λ is.
     moved_none _ c.args.capability.now _ (values_given c.args.parameters.now) 0 (length c.args.out.now) 0 0
-    c.in-Ok.ensures.value c.values_of-values.ensures (c.expand_on.ensures.faultless is)
+    c.in-Ok.ensures.value c.put_values.ensures (c.expand_on.ensures.faultless is)
 
 pub returns-then-depth-le-FEW_VALUES-clause-expansion : goal.returns-then-depth-le-FEW_VALUES-clause-expansion
 returns-then-depth-le-FEW_VALUES-clause-expansion c = λ is.
-    expansion_of c.args.capability.now _ (values_given c.args.parameters.now) _ _ _ _ _ c.in-Ok.ensures.value c.values_of-values.ensures (c.expand_on.ensures.expansion is)
+    expansion_of c.args.capability.now _ (values_given c.args.parameters.now) _ _ _ _ _ c.in-Ok.ensures.value c.put_values.ensures (c.expand_on.ensures.expansion is)
 
 pub returns-clause-answer : goal.returns-clause-answer
 returns-clause-answer c =
     let few : length c.args.parameters.now ≤ 9 = omega arith in
     expansion_answer _ c.args.capability.now _ (values_given c.args.parameters.now) (length c.args.parameters.now) (length c.args.out.now) _ _
-    c.in-Ok.ensures.value c.values_of-values.ensures few c.in-Ok.ensures.accepted c.expand_deep.ensures.answer
+    c.in-Ok.ensures.value c.put_values.ensures few c.in-Ok.ensures.accepted c.expand_deep.ensures.answer
 
 pub returns-clause-only : goal.returns-clause-only
 returns-clause-only c =
     let few : length c.args.parameters.now ≤ 9 = omega arith in
     expansion_only _ c.args.capability.now _ (values_given c.args.parameters.now) (length c.args.parameters.now) (length c.args.out.now) _ _
-    c.in-Ok.ensures.value c.values_of-values.ensures few c.in-Ok.ensures.accepted c.expand_deep.ensures.answer c.expand_deep.ensures.faultless
+    c.in-Ok.ensures.value c.put_values.ensures few c.in-Ok.ensures.accepted c.expand_deep.ensures.answer c.expand_deep.ensures.faultless
 
 pub returns-clause-faultless : goal.returns-clause-faultless
 returns-clause-faultless c = λ is.
     moved_none _ c.args.capability.now _ (values_given c.args.parameters.now) 0 (length c.args.out.now) 0 0
-    c.in-Ok.ensures.value c.values_of-values.ensures (c.expand_deep.ensures.faultless is)
+    c.in-Ok.ensures.value c.put_values.ensures (c.expand_deep.ensures.faultless is)
 
 pub returns-clause-expansion : goal.returns-clause-expansion
 returns-clause-expansion c = λ is.
-    expansion_of c.args.capability.now _ (values_given c.args.parameters.now) _ _ _ _ _ c.in-Ok.ensures.value c.values_of-values.ensures (c.expand_deep.ensures.expansion is)
+    expansion_of c.args.capability.now _ (values_given c.args.parameters.now) _ _ _ _ _ c.in-Ok.ensures.value c.put_values.ensures (c.expand_deep.ensures.expansion is)
