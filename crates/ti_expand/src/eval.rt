@@ -1,19 +1,22 @@
-//! What a simple token does: the state after it is its `effect`.
+//! What a token does that runs: the mode and the state after it are those that it has in the tree's meaning.
 
 ghost use Rattle.std.specs.Prelude.{◌≡◌, ◌+◌, ◌-◌, ◌<◌, ◌≤◌, ◌++◌, length, max, take, drop};
 ghost use Rattle.ti_base.specs.Limits.{most_text_bytes};
-ghost use Rattle.ti_cap.specs.Tree.{IsSimple};
 ghost use Rattle.ti_cap.specs.Height.{next_height};
 ghost use Rattle.ti_expand.specs.State.{without_top, text_on};
 ghost use Rattle.ti_expand.specs.inner.Machine.{values_on, state_of};
 ghost use Rattle.ti_expand.specs.Sound.{IsSound};
-ghost use Rattle.ti_expand.specs.Effect.{effect, after_operation, print_for};
+ghost use Rattle.ti_expand.specs.Effect.{after_operation, print_for};
+ghost use Rattle.ti_cap.specs.Pass.{next_mode};
+ghost use Rattle.ti_expand.specs.Mode.{mode_of};
+ghost use Rattle.ti_expand.specs.Meaning.{tests_zero};
+ghost use Rattle.ti_expand.specs.Steps.{meet};
 
+use crate::modes::Mode;
 use crate::operation::{apply, byte_of, complement, logical_not};
 use crate::parameters::Parameters;
 use crate::print::{print_number, print_text};
 use crate::stack::Stack;
-use crate::values::Value;
 use crate::variables::Vars;
 use crate::write::put_byte;
 use ti_cap::{Conversion, Format, Op, Token};
@@ -36,7 +39,7 @@ fn compute(op: Op, stack: &mut Stack<'_, '_>)
             apply(op, left, right)
         }
     };
-    stack.push(Value::Num(number));
+    stack.push_number(number);
 }
 
 /// Prints what lies on the stack, from a place on, and returns the place after it.
@@ -60,54 +63,61 @@ fn print(format: &Format, stack: &mut Stack<'_, '_>, out: &mut [u8], written: us
     }
 }
 
-/// Does what a simple token does, and returns where the output ends.
+/// Does what a token does that runs, and returns the mode and where the output ends after it. One match tells all tokens
+/// apart, so that what the lexer found is not looked at again.
 #[inline(always)]
 #[tactic(auto, using(crate::proofs::SoundLemmas::text_on_sound))]
-pub fn effect<'a>(
+pub fn run_token<'a>(
     token: &Token,
     parameters: &mut Parameters<'_, 'a>,
     vars: &mut Vars,
     stack: &mut Stack<'_, 'a>,
     out: &mut [u8],
     written: usize,
-) -> usize
-    requires simple { IsSimple token.now }
+) -> (Mode, usize)
     requires sound { IsSound most_text_bytes
         (state_of stack.old vars.old parameters.old out.old written) }
     requires height { next_height stack.old.height token.now ≤ length stack.old.slots.now }
     requires within { written ≤ length out.old }
-    requires room { length (effect token.now
+    requires room { length (meet token.now
         (state_of stack.old vars.old parameters.old out.old written)).output ≤ length out.old }
-    ensures state { state_of stack.new vars.new parameters.new out.new result
-        ≡ effect token.now (state_of stack.old vars.old parameters.old out.old written) }
+    ensures mode { mode_of result.0 ≡ next_mode (mode_of Mode.Run) token.now
+        (tests_zero (state_of stack.old vars.old parameters.old out.old written)) }
+    ensures state { state_of stack.new vars.new parameters.new out.new result.1
+        ≡ meet token.now (state_of stack.old vars.old parameters.old out.old written) }
     ensures height { stack.new.height ≡ next_height stack.old.height token.now }
     ensures highest { stack.new.highest ≡ max stack.old.highest stack.new.height }
     ensures slots { length stack.new.slots.now ≡ length stack.old.slots.now }
-    ensures within { result ≤ length out.new }
-    ensures onward { written ≤ result }
-    ensures rest { drop result out.new ≡ drop result out.old }
+    ensures within { result.1 ≤ length out.new }
+    ensures onward { written ≤ result.1 }
+    ensures rest { drop result.1 out.new ≡ drop result.1 out.old }
 {
     match token {
-        Token::Byte(byte) => return put_byte(out, written, *byte),
+        Token::Byte(byte) => return (Mode::Run, put_byte(out, written, *byte)),
         Token::Param(k) => parameters.push_onto(stack, *k),
-        Token::Constant(number) => stack.push(Value::Num(*number)),
+        Token::Constant(number) => stack.push_number(*number),
         Token::Store(letter) => {
             let number = stack.pop_number();
             let _ = vars.set(*letter, number);
         }
         Token::Load(letter) => {
             let number = vars.get(*letter).unwrap_or(0);
-            stack.push(Value::Num(number));
+            stack.push_number(number);
         }
         Token::Length => {
             let length = stack.pop_text().len();
-            stack.push(Value::Num(length as i32));
+            stack.push_number(length as i32);
         }
         Token::Compute(op) => compute(*op, stack),
         Token::Increment => parameters.increment(),
-        Token::Char => return put_byte(out, written, byte_of(stack.pop_number())),
-        Token::Print(format) => return print(format, stack, out, written),
-        Token::CondOpen | Token::CondThen | Token::CondElse | Token::CondClose => (),
+        Token::Char => return (Mode::Run, put_byte(out, written, byte_of(stack.pop_number()))),
+        Token::Print(format) => return (Mode::Run, print(format, stack, out, written)),
+        Token::CondThen => {
+            let zero = stack.pop_number() == 0;
+            return (Mode::Run.next(token, zero), written);
+        }
+        Token::CondElse => return (Mode::Run.next(token, false), written),
+        Token::CondOpen | Token::CondClose => (),
     }
-    written
+    (Mode::Run, written)
 }

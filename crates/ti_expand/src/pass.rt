@@ -14,7 +14,7 @@ ghost use Rattle.ti_expand.specs.inner.Running.{IsReady};
 ghost use Rattle.ti_expand.specs.inner.Underway.{IsOnTheWay, GoesOn};
 
 use crate::counts::Run;
-use crate::eval::effect;
+use crate::eval::run_token;
 use crate::modes::Mode;
 use crate::parameters::Parameters;
 use crate::stack::Stack;
@@ -51,28 +51,15 @@ pub(crate) fn meet<'a>(
     ensures onward { written ≤ result.1 }
     ensures rest { drop result.1 out.new ≡ drop result.1 out.old }
 {
-    match token {
-        Token::CondThen => {
-            let zero = stack.pop_number() == 0;
-            (Mode::Run.next(token, zero), written)
-        }
-        Token::CondOpen => (Mode::Run.next(token, false), written),
-        Token::CondElse => (Mode::Run.next(token, false), written),
-        Token::CondClose => (Mode::Run.next(token, false), written),
-        _ => {
-            let end = effect(token, parameters, vars, stack, out, written);
-            (Mode::Run.next(token, false), end)
-        }
-    }
+    run_token(token, parameters, vars, stack, out, written)
 }
 
-/// Passes tokens over from a mode on, up to the one that ends that, which ran.
+/// Passes tokens over from a mode on, up to the one that ends that, and counts them.
 #[inline(always)]
-fn pass_over(tape: &mut Tape<'_>, from: Mode, run: &mut Run)
-    requires { IsOnTheWay tape.old.left (mode_of from) run.old.ran run.old.passed }
-    ensures onward { GoesOn tape.old.left (mode_of from) run.old.ran run.old.passed
-        tape.new.left (mode_of Mode.Run) run.new.ran run.new.passed }
-    ensures written { run.new.written ≡ run.old.written }
+fn pass_from(tape: &mut Tape<'_>, from: Mode, passed: &mut usize)
+    requires { IsOnTheWay tape.old.left (mode_of from) passed.old }
+    ensures onward { GoesOn tape.old.left (mode_of from) passed.old
+        tape.new.left (mode_of Mode.Run) passed.new }
     ensures forward { length tape.new.left ≤ length tape.old.left }
 {
     let mut mode = from;
@@ -81,11 +68,24 @@ fn pass_over(tape: &mut Tape<'_>, from: Mode, run: &mut Run)
             return;
         };
         mode = mode.next(&token, false);
-        if mode.is_running() {
-            run.ran += 1;
-        } else {
-            run.passed += 1;
+        if !mode.is_running() {
+            *passed += 1;
         }
+    }
+}
+
+/// The same, by a loop for each mode, so that only its count changes in it.
+#[inline(always)]
+fn pass_over(tape: &mut Tape<'_>, from: Mode, passed: &mut usize)
+    requires { IsOnTheWay tape.old.left (mode_of from) passed.old }
+    ensures onward { GoesOn tape.old.left (mode_of from) passed.old
+        tape.new.left (mode_of Mode.Run) passed.new }
+    ensures forward { length tape.new.left ≤ length tape.old.left }
+{
+    match from {
+        Mode::Run => {}
+        Mode::ToElse(opened) => pass_from(tape, Mode::ToElse(opened), passed),
+        Mode::ToEnd(opened) => pass_from(tape, Mode::ToEnd(opened), passed),
     }
 }
 
@@ -117,7 +117,7 @@ pub(crate) fn run_tape<'a>(
     }
 }
 
-/// The same, token by token.
+/// The same, token by token. A token that was not passed over ran.
 fn run_tokens<'a>(
     mut tape: Tape<'_>,
     parameters: &[Value<'a>; 9],
@@ -125,24 +125,28 @@ fn run_tokens<'a>(
     stack: &mut [Value<'a>],
     out: &mut [u8],
 ) -> Run
-    requires { IsReady tape.left parameters.now (length stack.old) (length out.old) }
+    requires start { tape.taken ≡ [] }
+    requires ready { IsReady tape.left parameters.now (length stack.old) (length out.old) }
     ensures expansion { IsExpansion tape.entry.left parameters.now vars.old vars.new
         (take result.written out.new) result }
     ensures rest { drop result.written out.new ≡ drop result.written out.old }
 {
     // Each variable fits 32 bits, on which the bound rests.
     let _numbers = vars.numbers();
+    let tokens = tape.token_count();
     let mut parameters = Parameters::new(parameters);
     let mut stack = Stack::new(stack);
-    let mut run = Run::start();
+    let mut written = 0;
+    let mut passed = 0;
     while let Some(token) = tape.token() {
-        let (after, end) = meet(&token, &mut parameters, vars, &mut stack, out, run.written);
-        run.written = end;
-        run.ran += 1;
-        pass_over(&mut tape, after, &mut run);
+        let (after, end) = meet(&token, &mut parameters, vars, &mut stack, out, written);
+        written = end;
+        pass_over(&mut tape, after, &mut passed);
     }
     Run {
+        written,
+        ran: tokens - passed,
+        passed,
         peak: stack.highest(),
-        ..run
     }
 }

@@ -1,12 +1,11 @@
-use Rattle.std.proofs.Common.{◌≡◌, ◌≤◌, length}
+use Rattle.std.proofs.Common.{◌≤◌, length}
 use Rattle.ti_expand.specs.Mode.{mode_of}
 use Rattle.ti_expand.specs.inner.Underway.{GoesOn}
-use Rattle.ti_expand.proofs.pass.pass_over.Given as goal
+use Rattle.ti_expand.proofs.pass.pass_from.Given as goal
 
 abbrev pub invariant-loop-mode : goal.invariant-loop-mode
 invariant-loop-mode l = record {
-  onward : GoesOn l.fn.tape.left (mode_of l.fn.from) l.fn.run.ran l.fn.run.passed l.tape.left (mode_of l.mode) l.run.ran l.run.passed;
-  written : l.run.written ≡ l.fn.run.written;
+  onward : GoesOn l.fn.tape.left (mode_of l.fn.from) l.fn.passed l.tape.left (mode_of l.mode) l.passed;
   forward : length l.tape.left ≤ length l.fn.tape.left;
 }
 
