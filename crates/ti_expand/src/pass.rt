@@ -1,7 +1,7 @@
 //! The pass over a tape: one loop runs tokens, and one passes tokens over. Their control is a `Mode` alone. They take no
 //! memory, and make no test of the room on the stack or in the output.
 
-ghost use Rattle.std.specs.Prelude.{◌≡◌, ◌≤◌, [], length, max, take, drop};
+ghost use Rattle.std.specs.Prelude.{◌≡◌, ℕ, ◌+◌, ◌≤◌, [], length, max, take, drop};
 ghost use Rattle.ti_base.specs.Limits.{most_text_bytes};
 ghost use Rattle.ti_cap.specs.Pass.{next_mode};
 ghost use Rattle.ti_expand.specs.inner.Machine.{state_of};
@@ -54,27 +54,29 @@ pub(crate) fn meet<'a>(
     run_token(token, parameters, vars, stack, out, written)
 }
 
-/// Passes tokens over from a mode on, up to the one that ends that, and counts them.
+/// Passes tokens over from a mode on, up to the one that ends that, and returns how many were passed over.
 #[inline(always)]
-fn pass_from(tape: &mut Tape<'_>, from: Mode, passed: &mut usize)
-    requires { IsOnTheWay tape.old.left (mode_of from) passed.old }
-    ensures onward { GoesOn tape.old.left (mode_of from) passed.old
-        tape.new.left (mode_of Mode.Run) passed.new }
+fn pass_from(tape: &mut Tape<'_>, from: Mode) -> usize
+    requires { (passed : ℕ) × IsOnTheWay tape.old.left (mode_of from) passed }
+    ensures onward { (passed : ℕ) → GoesOn tape.old.left (mode_of from) passed
+        tape.new.left (mode_of Mode.Run) (passed + result) }
     ensures forward { length tape.new.left ≤ length tape.old.left }
 {
     let mut mode = from;
+    let mut passed = 0;
     while !mode.is_running() {
         let Some(token) = tape.token() else {
-            return;
+            return passed;
         };
         mode = mode.next(&token, false);
         if !mode.is_running() {
-            *passed += 1;
+            passed += 1;
         }
     }
+    passed
 }
 
-/// The same, by a loop for each mode, so that only its count changes in it.
+/// The same, by a loop for each mode, so that only its count changes in it, and adds how many to those before.
 #[inline(always)]
 fn pass_over(tape: &mut Tape<'_>, from: Mode, passed: &mut usize)
     requires { IsOnTheWay tape.old.left (mode_of from) passed.old }
@@ -84,8 +86,8 @@ fn pass_over(tape: &mut Tape<'_>, from: Mode, passed: &mut usize)
 {
     match from {
         Mode::Run => {}
-        Mode::ToElse(opened) => pass_from(tape, Mode::ToElse(opened), passed),
-        Mode::ToEnd(opened) => pass_from(tape, Mode::ToEnd(opened), passed),
+        Mode::ToElse(opened) => *passed += pass_from(tape, Mode::ToElse(opened)),
+        Mode::ToEnd(opened) => *passed += pass_from(tape, Mode::ToEnd(opened)),
     }
 }
 
