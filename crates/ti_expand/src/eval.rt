@@ -30,12 +30,11 @@ fn compute(op: Op, stack: &mut Stack<'_, '_>)
     ensures highest { stack.new.highest ≡ max stack.old.highest stack.new.height }
     ensures held { values_on stack.new ≡ after_operation op (values_on stack.old) }
 {
-    let right = stack.pop_number();
     let number = match op {
-        Op::Not => logical_not(right),
-        Op::BitNot => complement(right),
+        Op::Not => logical_not(stack.pop_number()),
+        Op::BitNot => complement(stack.pop_number()),
         _ => {
-            let left = stack.pop_number();
+            let (left, right) = stack.pop_two();
             apply(op, left, right)
         }
     };
