@@ -32,17 +32,16 @@ fn is_text(value: &Value<'_>) -> bool
     }
 }
 
-/// Whether a parameter is a text.
+/// Whether a parameter is a text. Each is looked at, which takes less than to stop at the first.
 #[inline(always)]
 fn has_text(parameters: &[Value<'_>; 9]) -> bool
     ensures { OnFalse result (AreShort parameters.now 0) }
 {
+    let mut found = false;
     for value in parameters {
-        if is_text(value) {
-            return true;
-        }
+        found |= is_text(value);
     }
-    false
+    found
 }
 
 /// The length of the longest text among the parameters, 0 without texts, for which `bound` of a capability tells the bytes
