@@ -5,10 +5,10 @@ use Rattle.clap.specs.Words.{Kinds, Text, IsAmong}
 use Rattle.clap.specs.declared.error.kind.ErrorKind.{ErrorKind}
 use Rattle.clap.specs.declared.error.kind.ErrorKind.TheVariants as kind
 use Rattle.ti_line.specs.CommandLine.{faults, is_help}
-use Rattle.ti_line.specs.Line.{Explains}
+use Rattle.ti_line.specs.Requests.{Explains}
 use Rattle.ti_line.specs.inner.Errors.{TellsOf}
-use Rattle.ti_line.specs.declared.line.NoLine.{NoLine}
-use Rattle.ti_line.specs.declared.line.NoLine.TheVariants as no_line
+use Rattle.ti_line.specs.declared.no_line.NoLine.{NoLine}
+use Rattle.ti_line.specs.declared.no_line.NoLine.TheVariants as no_line
 
 any_of : (p : ErrorKind → Bool) (k : ErrorKind) (ks : Kinds) → IsAmong k ks → p k ≡ true → list_any p ks ≡ true
 any_of p k [] h t = elim h [ ]
@@ -25,4 +25,5 @@ explains words ks k (no_line.Help message) e (inr a) t = subst (λ (l : Kinds). 
 explains words ks k (no_line.Refused message) e (inl m) t = absurd (t.1 m)
 explains words ks k (no_line.Refused message) e (inr a) t =
     subst (λ (l : Kinds). list_any (λ x. not (is_help x)) l ≡ true) e (any_of (λ x. not (is_help x)) k ks a (ap not t.0))
+explains words ks k (no_line.Fault why) e h t = absurd t
 explains words ks k no_line.Memory e h t = tt

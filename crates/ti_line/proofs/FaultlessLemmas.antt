@@ -23,7 +23,7 @@ use Rattle.clap.specs.declared.builder.value_parser.ValueParser.{ValueParser}
 use Rattle.clap.specs.declared.builder.value_parser.ValueParser.TheVariants as vp
 use Rattle.clap.specs.declared.error.kind.ErrorKind.TheVariants as kind
 use Rattle.ti_base.specs.Limits.{greatest_rate, most_lines}
-use Rattle.ti_line.specs.CommandLine.{Request, expand_app, expand_by, faults, lines_rule, name_rule, rate_rule, number_in, number_or, Reads, request_by, request_in, ti_app}
+use Rattle.ti_line.specs.CommandLine.{Line, expand_app, expand_by, faults, lines_rule, name_rule, rate_rule, number_in, number_or, Reads, line_by, line_in, ti_app}
 use Rattle.ti_line.proofs.RowsLemmas.{Each, FirstIs, Fits, Gives, is_count, neither, row_found, rows_fit}
 
 -- ---- the subcommand that a walk stops at is not `help`
@@ -232,10 +232,10 @@ all_lines = (other _ _ _ refl refl, (other _ _ _ refl refl, (other _ _ _ refl re
 
 -- ---- the line
 
-abbrev HasLine : Option Request → Type 0
-HasLine o = (line : Request) × (o ≡ Some line)
+abbrev HasLine : Option Line → Type 0
+HasLine o = (line : Line) × (o ≡ Some line)
 
-chosen : (b : Bool) (line : Request) → b ≡ true → HasLine (cond b (Some line) None)
+chosen : (b : Bool) (line : Line) → b ≡ true → HasLine (cond b (Some line) None)
 chosen true line e = (line, refl)
 chosen false line e = absurd (true≢false (sym e))
 
@@ -250,7 +250,7 @@ number_low id default most rows low all = go (find (λ r. bytes_eq r.id id) rows
     go None f = low
     go (Some r) f = by r.reading r.values f
 
-expand_line : (words : List Text) → level_fault expand_shape [] nothing_held words false [] ≡ [] → HasLine (request_by (codes "expand") (rows_after expand_shape.rules [] words))
+expand_line : (words : List Text) → level_fault expand_shape [] nothing_held words false [] ≡ [] → HasLine (line_by (codes "expand") (rows_after expand_shape.rules [] words))
 expand_line words e = go (find (λ r. bytes_eq r.id (codes "NAME")) rows) (row_found _ Any rows (rows_fit _ Any expand_shape [] words all_name e)) given
   where
     rows : List Row
@@ -293,7 +293,7 @@ found_so P test (x ∷ xs) h = go (test x) refl (found_so P test xs h.1)
 
 -- a subcommand whose words have no fault asks for something
 abbrev Asks : Text × List Text → Shape → Type 0
-Asks p s = level_fault s [] nothing_held p.1 false [] ≡ [] → HasLine (request_by s.name (rows_after s.rules [] p.1))
+Asks p s = level_fault s [] nothing_held p.1 false [] ≡ [] → HasLine (line_by s.name (rows_after s.rules [] p.1))
 
 all_ask : (p : Text × List Text) → NotHelp p.0 → Each (λ s. answers_to p.0 (label_of s) ≡ true → Asks p s) (built ti_app).subs
 all_ask p past = (
@@ -326,7 +326,7 @@ all_ask p past = (
         go false is f = true≢false (sym f)
 
 -- words on which there is no fault make a line
-pub has_line : (words : List Text) → faults words ≡ [] → HasLine (request_in (subcommand_of ti_app words))
+pub has_line : (words : List Text) → faults words ≡ [] → HasLine (line_in (subcommand_of ti_app words))
 has_line words e = go stop (walk_past (built ti_app).top (names_of (built ti_app)) refl (walk_from nothing_held) rest level.0 tt) below here
   where
     rest : List Text
@@ -352,16 +352,16 @@ has_line words e = go stop (walk_past (built ti_app).top (names_of (built ti_app
         by true f = refl
         by false f = absurd (cc)
 
-    go : (o : Option (Text × List Text)) → IfSome o (λ p. NotHelp p.0) → entered_fault (built ti_app) o ≡ [] → is_some (entered (built ti_app) o) ≡ true → HasLine (request_in (entered (built ti_app) o))
+    go : (o : Option (Text × List Text)) → IfSome o (λ p. NotHelp p.0) → entered_fault (built ti_app) o ≡ [] → is_some (entered (built ti_app) o) ≡ true → HasLine (line_in (entered (built ti_app) o))
     go None past f h = absurd (true≢false (sym h))
     go (Some p) past f h = by (find (λ s. answers_to p.0 (label_of s)) (built ti_app).subs) (found_so (Asks p) (λ s. answers_to p.0 (label_of s)) (built ti_app).subs (all_ask p past)) f h
       where
         by : (o : Option Shape) → IfSome o (Asks p) → option_map_or (λ s. level_fault s [] nothing_held p.1 false []) o [] ≡ [] → is_some (option_map (λ s. rows_at s p.1) o) ≡ true
-            → HasLine (request_in (option_map (λ s. rows_at s p.1) o))
+            → HasLine (line_in (option_map (λ s. rows_at s p.1) o))
         by None asks f h = absurd (true≢false (sym h))
         by (Some s) asks f h = asks f
 
-pub line_made : (words : List Text) → faults words ≡ [] → (line : Request) × Reads words line
+pub line_made : (words : List Text) → faults words ≡ [] → (line : Line) × Reads words line
 line_made words e =
     let asked = has_line words e in
     (asked.0, (e, asked.1))

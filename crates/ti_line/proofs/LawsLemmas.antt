@@ -7,12 +7,12 @@ use Rattle.clap.specs.Words.{Kinds, Row, Text, first_of}
 use Rattle.clap.specs.declared.error.kind.ErrorKind.{ErrorKind}
 use Rattle.clap.proofs.WalkLemmas.{both}
 use Rattle.ti_base.specs.Limits.{greatest_rate, most_lines}
-use Rattle.ti_line.specs.CommandLine.{Request, request_in, request_by, expand_by, is_help, number_in}
+use Rattle.ti_line.specs.CommandLine.{Line, line_in, line_by, expand_by, is_help, number_in}
 use Rattle.ti_line.specs.Laws.{IsWithin}
 
 -- ---- options
 
-some_is : {X : Type 0} (o : Option X) (P : X → Type 0) (x : X) → IfSome o P → o ≡ Some x → P x
+pub some_is : {X : Type 0} (o : Option X) (P : X → Type 0) (x : X) → IfSome o P → o ≡ Some x → P x
 some_is {X = X} o P x h e = subst (λ (q : Option X). IfSome q P) e h
 
 pub same : {X : Type 0} (o : Option X) (x y : X) → o ≡ Some x → o ≡ Some y → x ≡ y
@@ -40,11 +40,11 @@ three (k ∷ ks) line = inr (help_or_not (is_help k) (list_any is_help ks) (list
 
 -- ---- numbers
 
-chosen : (b : Bool) (x y : Option Request) → IfSome x IsWithin → IfSome y IsWithin → IfSome (if b then x else y) IsWithin
+chosen : (b : Bool) (x y : Option Line) → IfSome x IsWithin → IfSome y IsWithin → IfSome (if b then x else y) IsWithin
 chosen true x y h k = h
 chosen false x y h k = k
 
-bounded : (rate lines : ℕ) (line : Request) (b : Bool) → nat_le rate greatest_rate && nat_le lines most_lines ≡ b
+bounded : (rate lines : ℕ) (line : Line) (b : Bool) → nat_le rate greatest_rate && nat_le lines most_lines ≡ b
     → ((rate ≤ greatest_rate) × (lines ≤ most_lines) → IsWithin line) → IfSome (if b then Some line else None) IsWithin
 bounded rate lines line false e h = tt
 bounded rate lines line true e h = let parts = both _ _ e in h (leb-true _ _ parts.0, leb-true _ _ parts.1)
@@ -54,7 +54,7 @@ named rows None = tt
 named rows (Some name) =
     bounded (number_in (codes "rate") 0 rows) (number_in (codes "lines") 1 rows) _ _ refl (λ h. h)
 
-within : (command : Text) (rows : List Row) → IfSome (request_by command rows) IsWithin
+within : (command : Text) (rows : List Row) → IfSome (line_by command rows) IsWithin
 within command rows =
     chosen (bytes_eq command (codes "cap")) _ _ tt
     (chosen (bytes_eq command (codes "trace")) _ _ tt
@@ -63,6 +63,6 @@ within command rows =
     (chosen (bytes_eq command (codes "expand")) _ _ (named rows (first_of (codes "NAME") rows))
     (chosen (bytes_eq command (codes "convert")) _ _ tt tt)))))
 
-pub within_request : (found : Option (Text × List Row)) (line : Request) → request_in found ≡ Some line → IsWithin line
+pub within_request : (found : Option (Text × List Row)) (line : Line) → line_in found ≡ Some line → IsWithin line
 within_request None line e = absurd (none_some None line refl e)
-within_request (Some p) line e = some_is (request_by p.0 p.1) IsWithin line (within p.0 p.1) e
+within_request (Some p) line e = some_is (line_by p.0 p.1) IsWithin line (within p.0 p.1) e

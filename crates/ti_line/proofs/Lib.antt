@@ -5,3 +5,4 @@ pub mod RowsLemmas
 pub mod FaultlessLemmas
 pub mod ExplainsLemmas
 pub mod Examples
+pub mod AreParamsLemmas

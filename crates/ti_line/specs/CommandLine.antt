@@ -18,23 +18,18 @@ use Rattle.clap.specs.declared.error.kind.ErrorKind.TheVariants as kind
 
 -- ---- the command
 
--- `--hex`
-abbrev pub hex_rule : Rule
-hex_rule = record (new_rule (codes "hex")) { long = Some (codes "hex"); action = Some SetTrue }
+-- an option without a value
+abbrev pub flag_rule : Text → Rule
+flag_rule name = record (new_rule name) { long = Some name; action = Some SetTrue }
 
--- `--escape`
-abbrev pub escape_rule : Rule
-escape_rule = record (new_rule (codes "escape")) {
-  long = Some (codes "escape");
-  action = Some SetTrue;
-}
-
--- `--all-names`
-abbrev pub all_names_rule : Rule
-all_names_rule = record (new_rule (codes "all-names")) {
-  long = Some (codes "all-names");
-  action = Some SetTrue;
-}
+-- an option with a number
+abbrev pub number_rule : Text → ℕ → Rule
+number_rule name most =
+    record (new_rule name) {
+      long = Some name;
+      value_names = 1;
+      parser = Some (vp.Signed (pos 0) (pos most));
+    }
 
 -- `PARAM..`: any number of words
 abbrev pub params_rule : Rule
@@ -49,34 +44,11 @@ name_rule = record (new_rule (codes "NAME")) { required = true }
 
 -- `--rate N`, 0 to the greatest rate
 abbrev pub rate_rule : Rule
-rate_rule = record (new_rule (codes "rate")) {
-  long = Some (codes "rate");
-  value_names = 1;
-  parser = Some (vp.Signed (pos 0) (pos greatest_rate));
-}
+rate_rule = number_rule (codes "rate") greatest_rate
 
 -- `--lines N`, 0 to the most lines
 abbrev pub lines_rule : Rule
-lines_rule = record (new_rule (codes "lines")) {
-  long = Some (codes "lines");
-  value_names = 1;
-  parser = Some (vp.Signed (pos 0) (pos most_lines));
-}
-
--- `--xon`
-abbrev pub xon_rule : Rule
-xon_rule = record (new_rule (codes "xon")) { long = Some (codes "xon"); action = Some SetTrue }
-
--- `--wide`
-abbrev pub wide_rule : Rule
-wide_rule = record (new_rule (codes "wide")) { long = Some (codes "wide"); action = Some SetTrue }
-
--- `--narrow`
-abbrev pub narrow_rule : Rule
-narrow_rule = record (new_rule (codes "narrow")) {
-  long = Some (codes "narrow");
-  action = Some SetTrue;
-}
+lines_rule = number_rule (codes "lines") most_lines
 
 -- a command with these arguments too, in their order
 abbrev pub with_rules : App → List Rule → App
@@ -88,30 +60,30 @@ with_commands = fold (λ a sub. with_subcommand a sub.top)
 
 -- `cap [--hex] [--escape] [PARAM..]`
 abbrev pub cap_app : App
-cap_app = with_rules (new_app (codes "cap")) (hex_rule ∷ escape_rule ∷ params_rule ∷ [])
+cap_app = with_rules (new_app (codes "cap")) (flag_rule (codes "hex") ∷ flag_rule (codes "escape") ∷ params_rule ∷ [])
 
 -- `trace [--escape] [PARAM..]`
 abbrev pub trace_app : App
-trace_app = with_rules (new_app (codes "trace")) (params_rule ∷ escape_rule ∷ [])
+trace_app = with_rules (new_app (codes "trace")) (params_rule ∷ flag_rule (codes "escape") ∷ [])
 
 -- `show [--escape] [--all-names]`
 abbrev pub show_app : App
-show_app = with_rules (new_app (codes "show")) (escape_rule ∷ all_names_rule ∷ [])
+show_app = with_rules (new_app (codes "show")) (flag_rule (codes "escape") ∷ flag_rule (codes "all-names") ∷ [])
 
 -- `check [--escape] [--all-names]`
 abbrev pub check_app : App
-check_app = with_rules (new_app (codes "check")) (escape_rule ∷ all_names_rule ∷ [])
+check_app = with_rules (new_app (codes "check")) (flag_rule (codes "escape") ∷ flag_rule (codes "all-names") ∷ [])
 
 -- `expand NAME [--hex] [--escape] [--all-names] [--rate N] [--lines N] [--xon] [PARAM..]`
 abbrev pub expand_app : App
 expand_app =
     with_rules (new_app (codes "expand"))
-    (name_rule ∷ hex_rule ∷ escape_rule ∷ all_names_rule ∷ rate_rule ∷ lines_rule ∷ xon_rule
+    (name_rule ∷ flag_rule (codes "hex") ∷ flag_rule (codes "escape") ∷ flag_rule (codes "all-names") ∷ rate_rule ∷ lines_rule ∷ flag_rule (codes "xon")
     ∷ params_rule ∷ [])
 
 -- `convert [--wide] [--narrow]`
 abbrev pub convert_app : App
-convert_app = with_rules (new_app (codes "convert")) (wide_rule ∷ narrow_rule ∷ [])
+convert_app = with_rules (new_app (codes "convert")) (flag_rule (codes "wide") ∷ flag_rule (codes "narrow") ∷ [])
 
 -- `ti` with a version, which wants a subcommand
 abbrev pub start_app : App
@@ -149,17 +121,17 @@ params_in rows = unwrap_or (all_of (codes "PARAM") rows) []
 -- ---- what a command line asks for
 
 -- what a line asks for, of which parameters are the words as they were given
-pub data Request : Type 0 where
-  Cap : (hex escape : Bool) → (params : List Text) → Request
-  Trace : (escape : Bool) → (params : List Text) → Request
-  Show : (escape all_names : Bool) → Request
-  Check : (escape all_names : Bool) → Request
+pub data Line : Type 0 where
+  Cap : (hex escape : Bool) → (params : List Text) → Line
+  Trace : (escape : Bool) → (params : List Text) → Line
+  Show : (escape all_names : Bool) → Line
+  Check : (escape all_names : Bool) → Line
   Expand : (name : Text) → (hex escape all_names : Bool) → (rate lines : ℕ) → (xon : Bool)
-      → (params : List Text) → Request
-  Convert : (wide narrow : Bool) → Request
+      → (params : List Text) → Line
+  Convert : (wide narrow : Bool) → Line
 
 -- `expand` with a name and numbers within their ranges
-abbrev pub expand_by : List Row → Text → Option Request
+abbrev pub expand_by : List Row → Text → Option Line
 expand_by rows name =
     let rate = number_in (codes "rate") 0 rows in
     let lines = number_in (codes "lines") 1 rows in
@@ -169,8 +141,8 @@ expand_by rows name =
     else None
 
 -- what a subcommand and its values ask for
-abbrev pub request_by : Text → List Row → Option Request
-request_by command rows =
+abbrev pub line_by : Text → List Row → Option Line
+line_by command rows =
     if bytes_eq command (codes "cap")
     then Some (Cap (flag_in (codes "hex") rows) (flag_in (codes "escape") rows) (params_in rows))
     else (if bytes_eq command (codes "trace")
@@ -186,8 +158,8 @@ request_by command rows =
     else None)))))
 
 -- what the subcommand that was found asks for
-abbrev pub request_in : Option (Text × List Row) → Option Request
-request_in found = option_and_then (λ p. request_by p.0 p.1) found
+abbrev pub line_in : Option (Text × List Row) → Option Line
+line_in found = option_and_then (λ p. line_by p.0 p.1) found
 
 -- ---- which words are a command line
 
@@ -196,8 +168,8 @@ abbrev pub faults : List Text → Kinds
 faults words = fault_of ti_app words
 
 -- the words, of which the first is the program's own name, are read as this line
-abbrev pub Reads : List Text → Request → Type 0
-Reads words line = (faults words ≡ []) × (request_in (subcommand_of ti_app words) ≡ Some line)
+abbrev pub Reads : List Text → Line → Type 0
+Reads words line = (faults words ≡ []) × (line_in (subcommand_of ti_app words) ≡ Some line)
 
 -- help or the version
 abbrev pub is_help : ErrorKind → Bool

@@ -2,29 +2,29 @@
 use Rattle.std.specs.Prelude.{◌≡◌, ◌⊎◌, ◌≤◌, List, []}
 use Rattle.clap.specs.Words.{Text}
 use Rattle.ti_base.specs.Limits.{greatest_rate, most_lines}
-use Rattle.ti_line.specs.CommandLine.{Request, Cap, Trace, Show, Check, Expand, Convert, AsksForHelp, IsRefused, Reads, faults}
+use Rattle.ti_line.specs.CommandLine.{Line, Cap, Trace, Show, Check, Expand, Convert, AsksForHelp, IsRefused, Reads, faults}
 
 -- words on which `clap` finds no fault make a line
 abbrev pub MakesLine : Type 0
-MakesLine = (words : List Text) → faults words ≡ [] → (line : Request) × Reads words line
+MakesLine = (words : List Text) → faults words ≡ [] → (line : Line) × Reads words line
 
 -- words are read as one line
 abbrev pub ReadsOneLine : Type 0
-ReadsOneLine = (words : List Text) (line other : Request)
+ReadsOneLine = (words : List Text) (line other : Line)
     → Reads words line → Reads words other → line ≡ other
 
 -- words that are read neither ask for help nor are refused
 abbrev pub StandApart : Type 0
-StandApart = (words : List Text) (line : Request)
+StandApart = (words : List Text) (line : Line)
     → Reads words line → (AsksForHelp words ⊎ IsRefused words) → ⊥
 
 -- words are read, ask for help or are refused
 abbrev pub IsOneOfThree : Type 0
 IsOneOfThree = (words : List Text)
-    → ((line : Request) × Reads words line) ⊎ (AsksForHelp words ⊎ IsRefused words)
+    → ((line : Line) × Reads words line) ⊎ (AsksForHelp words ⊎ IsRefused words)
 
 -- the numbers of a line are within their ranges
-abbrev pub IsWithin : Request → Type 0
+abbrev pub IsWithin : Line → Type 0
 IsWithin (Cap hex escape params) = Unit {0}
 IsWithin (Trace escape params) = Unit {0}
 IsWithin (Show escape all_names) = Unit {0}
@@ -35,4 +35,4 @@ IsWithin (Convert wide narrow) = Unit {0}
 
 -- of each line that is read
 abbrev pub HasNumbersWithin : Type 0
-HasNumbersWithin = (words : List Text) (line : Request) → Reads words line → IsWithin line
+HasNumbersWithin = (words : List Text) (line : Line) → Reads words line → IsWithin line

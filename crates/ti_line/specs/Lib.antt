@@ -1,5 +1,7 @@
 pub mod CommandLine
 pub mod inner
-pub mod Line
+pub mod Looks
+pub mod Params
+pub mod Requests
 pub mod Message
 pub mod Laws

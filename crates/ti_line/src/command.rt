@@ -2,41 +2,34 @@
 
 ghost use Rattle.std.specs.Prelude.{◌≡◌, [], ◌∷◌, IfOk, false};
 ghost use Rattle.clap.specs.Words.{App, app_of, new_app, rule_of};
-ghost use Rattle.ti_line.specs.CommandLine.{all_names_rule, cap_app, check_app, convert_app, escape_rule, expand_app, hex_rule, lines_rule, name_rule, narrow_rule, params_rule, rate_rule, show_app, start_app, ti_app, trace_app, wide_rule, with_commands, with_rules, xon_rule};
+ghost use Rattle.ti_line.specs.CommandLine.{cap_app, check_app, convert_app, expand_app, flag_rule, name_rule, number_rule, params_rule, show_app, start_app, ti_app, trace_app, with_commands, with_rules};
 ghost use Rattle.ti_line.specs.inner.Command.{HasNoGlobals};
 
 use clap::{Arg, ArgAction, Command, value_parser};
 use std::alloc::{AllocError, Global};
 use ti_base::{GREATEST_RATE, MOST_LINES, VERSION};
 
-fn hex<'a>(alloc: Global) -> Arg<'a>
-    ensures rule { rule_of result ≡ hex_rule }
+/// An option without a value.
+fn flag<'a>(alloc: Global, name: &'a str, help: &'a str) -> Arg<'a>
+    ensures rule { rule_of result ≡ flag_rule name.entry.now }
     ensures local { result.global ≡ false }
 {
-    Arg::new(alloc, "hex")
-        .long("hex")
+    Arg::new(alloc, name)
+        .long(name)
         .action(ArgAction::SetTrue)
-        .help("Write the output as lower-case hex and one newline")
+        .help(help)
 }
 
-fn escape<'a>(alloc: Global) -> Arg<'a>
-    ensures rule { rule_of result ≡ escape_rule }
+/// An option with a number of at most `most`.
+fn number<'a>(alloc: Global, name: &'a str, most: u32, help: &'a str) -> Arg<'a>
+    ensures rule { rule_of result ≡ number_rule name.entry.now most }
     ensures local { result.global ≡ false }
 {
-    Arg::new(alloc, "escape")
-        .long("escape")
-        .action(ArgAction::SetTrue)
-        .help("Write names, texts and outputs in the notation of terminfo(5), such as \\E[H")
-}
-
-fn all_names<'a>(alloc: Global) -> Arg<'a>
-    ensures rule { rule_of result ≡ all_names_rule }
-    ensures local { result.global ≡ false }
-{
-    Arg::new(alloc, "all-names")
-        .long("all-names")
-        .action(ArgAction::SetTrue)
-        .help("Use the names of all 497 capabilities, in place of the 114 common ones")
+    Arg::new(alloc, name)
+        .long(name)
+        .value_name("N")
+        .value_parser(value_parser!(u32).range(0..=i64::from(most)))
+        .help(help)
 }
 
 fn params<'a>(alloc: Global) -> Arg<'a>
@@ -60,61 +53,24 @@ fn name<'a>(alloc: Global) -> Arg<'a>
     )
 }
 
-fn rate<'a>(alloc: Global) -> Arg<'a>
-    ensures rule { rule_of result ≡ rate_rule }
-    ensures local { result.global ≡ false }
-{
-    Arg::new(alloc, "rate")
-        .long("rate")
-        .value_name("N")
-        .value_parser(value_parser!(u32).range(0..=i64::from(GREATEST_RATE)))
-        .help(
-            "Bytes per second of the line, 0 to 1000000; without it 0, at which padding takes no byte",
-        )
-}
+const HEX: &str = "Write the output as lower-case hex and one newline";
 
-fn lines<'a>(alloc: Global) -> Arg<'a>
-    ensures rule { rule_of result ≡ lines_rule }
-    ensures local { result.global ≡ false }
-{
-    Arg::new(alloc, "lines")
-        .long("lines")
-        .value_name("N")
-        .value_parser(value_parser!(u32).range(0..=i64::from(MOST_LINES)))
-        .help(
-            "Lines that the text affects, 0 to 65535, by which padding with * is multiplied; without it 1",
-        )
-}
+const ESCAPE: &str = "Write names, texts and outputs in the notation of terminfo(5), such as \\E[H";
 
-fn xon<'a>(alloc: Global) -> Arg<'a>
-    ensures rule { rule_of result ≡ xon_rule }
-    ensures local { result.global ≡ false }
-{
-    Arg::new(alloc, "xon")
-        .long("xon")
-        .action(ArgAction::SetTrue)
-        .help("The line has flow control: write only padding that is mandatory (marked by /)")
-}
+const ALL_NAMES: &str = "Use the names of all 497 capabilities, in place of the 114 common ones";
 
-fn wide<'a>(alloc: Global) -> Arg<'a>
-    ensures rule { rule_of result ≡ wide_rule }
-    ensures local { result.global ≡ false }
-{
-    Arg::new(alloc, "wide")
-        .long("wide")
-        .action(ArgAction::SetTrue)
-        .help("Write the format with numbers of 32 bits")
-}
+const RATE: &str =
+    "Bytes per second of the line, 0 to 1000000; without it 0, at which padding takes no byte";
 
-fn narrow<'a>(alloc: Global) -> Arg<'a>
-    ensures rule { rule_of result ≡ narrow_rule }
-    ensures local { result.global ≡ false }
-{
-    Arg::new(alloc, "narrow")
-        .long("narrow")
-        .action(ArgAction::SetTrue)
-        .help("Write the format with numbers of 16 bits, which are at most 32767; not with --wide")
-}
+const LINES: &str =
+    "Lines that the text affects, 0 to 65535, by which padding with * is multiplied; without it 1";
+
+const XON: &str = "The line has flow control: write only padding that is mandatory (marked by /)";
+
+const WIDE: &str = "Write the format with numbers of 32 bits";
+
+const NARROW: &str =
+    "Write the format with numbers of 16 bits, which are at most 32767; not with --wide";
 
 /// A command with its name, a line on what it does, and what its long help has at its end.
 fn new_command<'a>(alloc: Global, name: &'a str, about: &'a str, example: &'a str) -> Command<'a>
@@ -151,7 +107,12 @@ fn cap<'a>(alloc: Global) -> Result<Command<'a>, AllocError>
         "Expand standard input as one capability; padding marks stay as they are",
         "Example, which writes ESC [ 7 G:\n  printf '\\033[%%p1%%dG' | ti cap n:7",
     );
-    with_two(command, hex(alloc), escape(alloc))?.arg(params(alloc))
+    with_two(
+        command,
+        flag(alloc, "hex", HEX),
+        flag(alloc, "escape", ESCAPE),
+    )?
+    .arg(params(alloc))
 }
 
 fn trace<'a>(alloc: Global) -> Result<Command<'a>, AllocError>
@@ -164,7 +125,7 @@ fn trace<'a>(alloc: Global) -> Result<Command<'a>, AllocError>
         "Show what each token of one capability on standard input does; padding marks stay as they are",
         "Example, which shows the stack and the output after each token:\n  printf '\\033[%%p1%%dG' | ti trace --escape n:7",
     );
-    with_two(command, params(alloc), escape(alloc))
+    with_two(command, params(alloc), flag(alloc, "escape", ESCAPE))
 }
 
 fn show<'a>(alloc: Global) -> Result<Command<'a>, AllocError>
@@ -177,7 +138,11 @@ fn show<'a>(alloc: Global) -> Result<Command<'a>, AllocError>
         "List the compiled entry on standard input, one line an item",
         "Example:\n  ti show < /lib/terminfo/x/xterm\n\nFor an entry that a stranger wrote:\n  ti show --escape < entry",
     );
-    with_two(command, escape(alloc), all_names(alloc))
+    with_two(
+        command,
+        flag(alloc, "escape", ESCAPE),
+        flag(alloc, "all-names", ALL_NAMES),
+    )
 }
 
 fn check<'a>(alloc: Global) -> Result<Command<'a>, AllocError>
@@ -190,7 +155,11 @@ fn check<'a>(alloc: Global) -> Result<Command<'a>, AllocError>
         "Analyse each text of the entry on standard input; status 1 if one has a fault",
         "Example:\n  ti check < /lib/terminfo/x/xterm\n\nFor an entry that a stranger wrote:\n  ti check --escape < entry",
     );
-    with_two(check, escape(alloc), all_names(alloc))
+    with_two(
+        check,
+        flag(alloc, "escape", ESCAPE),
+        flag(alloc, "all-names", ALL_NAMES),
+    )
 }
 
 fn expand<'a>(alloc: Global) -> Result<Command<'a>, AllocError>
@@ -203,10 +172,18 @@ fn expand<'a>(alloc: Global) -> Result<Command<'a>, AllocError>
         "Expand and pad one text of the entry on standard input",
         "Example, which moves to line 5, column 10:\n  ti expand cup n:4 n:9 < /lib/terminfo/x/xterm",
     );
-    let command = with_two(command, name(alloc), hex(alloc))?;
-    let command = with_two(command, escape(alloc), all_names(alloc))?;
-    let command = with_two(command, rate(alloc), lines(alloc))?;
-    with_two(command, xon(alloc), params(alloc))
+    let command = with_two(command, name(alloc), flag(alloc, "hex", HEX))?;
+    let command = with_two(
+        command,
+        flag(alloc, "escape", ESCAPE),
+        flag(alloc, "all-names", ALL_NAMES),
+    )?;
+    let command = with_two(
+        command,
+        number(alloc, "rate", GREATEST_RATE, RATE),
+        number(alloc, "lines", MOST_LINES, LINES),
+    )?;
+    with_two(command, flag(alloc, "xon", XON), params(alloc))
 }
 
 fn convert<'a>(alloc: Global) -> Result<Command<'a>, AllocError>
@@ -219,7 +196,11 @@ fn convert<'a>(alloc: Global) -> Result<Command<'a>, AllocError>
         "Write the entry on standard input in its canonical layout",
         "Example, which writes the entry with numbers of 32 bits:\n  ti convert --wide < entry > wide",
     );
-    with_two(command, wide(alloc), narrow(alloc))
+    with_two(
+        command,
+        flag(alloc, "wide", WIDE),
+        flag(alloc, "narrow", NARROW),
+    )
 }
 
 /// What help says of the exit status.

@@ -1,26 +1,35 @@
 //! The command line of `ti`: words in, a plain value out.
 //!
 //! [`read_line`] reads the words by `clap`. What the words mean is defined in `specs/CommandLine.antt`: the definition
-//! of the command that is handed to `clap`, and the value of what `clap` finds. Nothing here reads or writes.
+//! of the command that is handed to `clap`, and the value of what `clap` finds; and in `specs/Requests.antt`: what that
+//! asks for, or why it can't be done. Nothing here reads or writes.
 //!
 //! | Command | Value |
 //! |---|---|
-//! | `cap [--hex] [--escape] [PARAM..]` | [`Line::Cap`] |
-//! | `trace [--escape] [PARAM..]` | [`Line::Trace`] |
-//! | `show [--escape] [--all-names]` | [`Line::Show`] |
-//! | `check [--escape] [--all-names]` | [`Line::Check`] |
-//! | `expand NAME [--hex] [--escape] [--all-names] [--rate N] [--lines N] [--xon] [PARAM..]` | [`Line::Expand`] |
-//! | `convert [--wide] [--narrow]` | [`Line::Convert`] |
+//! | `cap [--hex] [--escape] [PARAM..]` | [`OfCapability::Cap`] |
+//! | `trace [--escape] [PARAM..]` | [`OfCapability::Trace`] |
+//! | `show [--escape] [--all-names]` | [`OfEntry::Show`] |
+//! | `check [--escape] [--all-names]` | [`OfEntry::Check`] |
+//! | `expand NAME [--hex] [--escape] [--all-names] [--rate N] [--lines N] [--xon] [PARAM..]` | [`OfEntry::Expand`] |
+//! | `convert [--wide] [--narrow]` | [`OfEntry::Convert`] |
 #![tactic(auto)]
 
+mod asked;
 mod command;
 pub mod laws;
-mod line;
+mod look;
 mod matches;
 mod message;
+mod no_line;
+mod params;
 mod printable;
 mod read;
+mod request;
 
-pub use line::{Expand, Line, NoLine};
+pub use asked::{look_asked, naming_asked, output_asked};
+pub use look::{Look, NameForm, Naming, Output};
 pub use message::Message;
+pub use no_line::{LineFault, NoLine};
+pub use params::{WordFault, read_params};
 pub use read::read_line;
+pub use request::{Asked, Expand, OfCapability, OfEntry, Request, TextName};

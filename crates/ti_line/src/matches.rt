@@ -1,14 +1,24 @@
-//! The values that `clap` found of a subcommand, as its definition gives them.
+//! The values that `clap` found of a subcommand, as a request.
 
-ghost use Rattle.std.specs.Prelude.{◌≡◌, IfOk, IsSome, Some, option_map};
+ghost use Rattle.std.specs.Prelude.{◌≡◌, ◌≤◌, Bool, IfSome, IsSome, MatchResult, codes, option_map};
+ghost use Rattle.ti_base.specs.Limits.{greatest_rate, most_lines};
 ghost use Rattle.clap.specs.Words.{first_of};
-ghost use Rattle.ti_line.specs.CommandLine.{request_by, expand_by, flag_in, number_in, params_in};
-ghost use Rattle.ti_line.specs.Line.{expand_of, request_of, texts_of};
+ghost use Rattle.ti_line.specs.CommandLine.{Cap, Convert, Trace, expand_by, flag_in, line_by, number_in, params_in};
+ghost use Rattle.ti_line.specs.Params.{AreParams};
+ghost use Rattle.ti_line.specs.Requests.{IsAnswered, StandForNone, setting_of};
+ghost use Rattle.ti_line.specs.declared.request.Asked.TheVariants.{Entry};
 ghost use Rattle.ti_line.specs.inner.Matches.{given_rows};
 
-use crate::line::{Expand, Line};
+use crate::asked::{form_asked, look_asked, names_asked, naming_asked, output_asked, width_asked};
+use crate::no_line::LineFault;
+use crate::params::{WordFault, read_params};
+use crate::request::{Asked, Expand, OfCapability, OfEntry, Request, TextName};
 use clap::ArgMatches;
-use std::alloc::{AllocError, Global};
+use ti_expand::Value;
+use ti_pad::Padding;
+
+/// The parameters where a subcommand takes none.
+const NO_PARAMETERS: [Value<'static>; 9] = [Value::Num(0); 9];
 
 /// Whether an option without a value was given.
 fn flag(given: &ArgMatches<'_>, id: &str) -> bool
@@ -31,80 +41,121 @@ fn text<'a>(given: &ArgMatches<'a>, id: &str) -> Option<&'a str>
     given.get_str(id)
 }
 
-/// Copies the references.
-fn copies<'a>(alloc: Global, texts: &[&'a str]) -> Result<Vec<&'a str>, AllocError>
-    ensures { IfOk result (λ v. texts_of v.items ≡ texts_of texts.now) }
+/// The parameters.
+fn parameters<'a>(given: &ArgMatches<'a>) -> Result<[Value<'a>; 9], WordFault>
+    ensures { MatchResult result
+        (AreParams (params_in (given_rows given.now)))
+        (StandForNone (params_in (given_rows given.now))) }
 {
-    let mut all = Vec::with_capacity(alloc, texts.len())?;
-    for text in texts {
-        all.push(*text)?;
+    read_params(given.get_strs("PARAM").unwrap_or(&[]))
+}
+
+/// What `cap` asks for.
+fn cap<'a>(given: &ArgMatches<'a>) -> Result<Request<'a>, LineFault>
+    ensures { (terminal : Bool) → let rows = given_rows given.now in
+        IsAnswered terminal
+        (Cap (flag_in (codes "hex") rows) (flag_in (codes "escape") rows) (params_in rows)) result }
+{
+    let (hex, escape) = (flag(given, "hex"), flag(given, "escape"));
+    if hex && escape {
+        return Err(LineFault::BothFormsOfCap);
     }
-    Ok(all)
+    Ok(Request {
+        parameters: parameters(given)?,
+        asked: Asked::Capability(OfCapability::Cap(output_asked(hex, escape))),
+    })
 }
 
-/// The words of the parameters.
-fn params<'a>(alloc: Global, given: &ArgMatches<'a>) -> Result<Vec<&'a str>, AllocError>
-    ensures { IfOk result (λ v. texts_of v.items ≡ params_in (given_rows given.now)) }
+/// What `trace` asks for.
+fn trace<'a>(given: &ArgMatches<'a>) -> Result<Request<'a>, LineFault>
+    ensures { (terminal : Bool) → let rows = given_rows given.now in
+        IsAnswered terminal (Trace (flag_in (codes "escape") rows) (params_in rows)) result }
 {
-    copies(alloc, given.get_strs("PARAM").unwrap_or(&[]))
+    Ok(Request {
+        parameters: parameters(given)?,
+        asked: Asked::Capability(OfCapability::Trace(form_asked(flag(given, "escape")))),
+    })
 }
 
-/// `expand` with its values, which are within their ranges.
-fn expand_line<'a>(given: &ArgMatches<'a>, name: &'a str, params: Vec<&'a str>) -> Expand<'a>
-    requires words { texts_of params.items ≡ params_in (given_rows given.now) }
+/// The padding of `expand`, whose numbers are within their ranges.
+fn padding(given: &ArgMatches<'_>) -> Padding
+    requires within { (number_in (codes "rate") 0 (given_rows given.now) ≤ greatest_rate)
+        × (number_in (codes "lines") 1 (given_rows given.now) ≤ most_lines) }
+    ensures { let rows = given_rows given.now in
+        result ≡ setting_of (number_in (codes "rate") 0 rows) (number_in (codes "lines") 1 rows)
+        (flag_in (codes "xon") rows) }
+{
+    let (rate, lines) = (number(given, "rate", 0), number(given, "lines", 1));
+    match Padding::new(rate, lines, flag(given, "xon"), 0) {
+        Some(padding) => padding,
+        None => unreachable!(),
+    }
+}
+
+/// What `expand` asks for of a name.
+fn expand<'a>(given: &ArgMatches<'a>, name: &'a str) -> Result<Request<'a>, LineFault>
     requires within { IsSome (expand_by (given_rows given.now) name.now) }
-    ensures { expand_by (given_rows given.now) name.entry.now ≡ Some (expand_of result) }
+    ensures { (terminal : Bool) → IfSome (expand_by (given_rows given.now) name.entry.now)
+        (λ line. IsAnswered terminal line result) }
 {
-    Expand {
-        name,
-        hex: flag(given, "hex"),
-        escape: flag(given, "escape"),
-        all_names: flag(given, "all-names"),
-        rate: number(given, "rate", 0),
-        lines: number(given, "lines", 1),
-        xon: flag(given, "xon"),
-        params,
+    let (hex, escape) = (flag(given, "hex"), flag(given, "escape"));
+    if hex && escape {
+        return Err(LineFault::BothFormsOfExpand);
     }
+    let names = names_asked(flag(given, "all-names"));
+    Ok(Request {
+        parameters: parameters(given)?,
+        asked: Asked::Entry(OfEntry::Expand(Expand {
+            name: TextName { name, names },
+            padding: padding(given),
+            output: output_asked(hex, escape),
+        })),
+    })
 }
 
-/// The line that a subcommand and its values make.
-pub(crate) fn line_of<'a>(
-    alloc: Global,
+/// What `convert` asks for.
+fn convert<'a>(given: &ArgMatches<'a>) -> Result<Request<'a>, LineFault>
+    ensures { (terminal : Bool) → let rows = given_rows given.now in
+        IsAnswered terminal (Convert (flag_in (codes "wide") rows) (flag_in (codes "narrow") rows))
+        result }
+{
+    let (wide, narrow) = (flag(given, "wide"), flag(given, "narrow"));
+    if wide && narrow {
+        return Err(LineFault::BothWidths);
+    }
+    Ok(Request {
+        parameters: NO_PARAMETERS,
+        asked: Asked::Entry(OfEntry::Convert(width_asked(wide, narrow))),
+    })
+}
+
+/// What a subcommand and its values ask for, by whether results go to a terminal.
+pub(crate) fn request_of<'a>(
+    terminal: bool,
     command: &str,
     given: &ArgMatches<'a>,
-) -> Result<Line<'a>, AllocError>
-    requires { IsSome (request_by command.now (given_rows given.now)) }
-    ensures { IfOk result (λ line.
-        request_by command.now (given_rows given.now) ≡ Some (request_of line)) }
+) -> Result<Request<'a>, LineFault>
+    requires { IsSome (line_by command.now (given_rows given.now)) }
+    ensures { IfSome (line_by command.now (given_rows given.now))
+        (λ line. IsAnswered terminal line result) }
 {
-    let params = params(alloc, given)?;
-    let line = match command {
-        "cap" => Line::Cap {
-            hex: flag(given, "hex"),
-            escape: flag(given, "escape"),
-            params,
-        },
-        "trace" => Line::Trace {
-            escape: flag(given, "escape"),
-            params,
-        },
-        "show" => Line::Show {
-            escape: flag(given, "escape"),
-            all_names: flag(given, "all-names"),
-        },
-        "check" => Line::Check {
-            escape: flag(given, "escape"),
-            all_names: flag(given, "all-names"),
-        },
+    let (escape, all_names) = (flag(given, "escape"), flag(given, "all-names"));
+    match command {
+        "cap" => cap(given),
+        "trace" => trace(given),
+        "show" => Ok(Request {
+            parameters: NO_PARAMETERS,
+            asked: Asked::Entry(OfEntry::Show(look_asked(all_names, escape, terminal))),
+        }),
+        "check" => Ok(Request {
+            parameters: NO_PARAMETERS,
+            asked: Asked::Entry(OfEntry::Check(naming_asked(all_names, escape, terminal))),
+        }),
         "expand" => match text(given, "NAME") {
-            Some(name) => Line::Expand(expand_line(given, name, params)),
+            Some(name) => expand(given, name),
             None => unreachable!(),
         },
-        "convert" => Line::Convert {
-            wide: flag(given, "wide"),
-            narrow: flag(given, "narrow"),
-        },
+        "convert" => convert(given),
         _ => unreachable!(),
-    };
-    Ok(line)
+    }
 }

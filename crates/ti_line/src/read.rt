@@ -2,29 +2,35 @@
 
 ghost use Rattle.std.specs.Prelude.{◌≡◌, ◌<◌, IfErr, IfOk, Some, length};
 ghost use Rattle.clap.specs.Words.{FailsBy, kind_of, subcommand_of};
-ghost use Rattle.ti_line.specs.CommandLine.{Request, Reads, request_in, faults, ti_app};
-ghost use Rattle.ti_line.specs.Line.{Explains, HasText, IsReadAs, request_of, texts_of};
+ghost use Rattle.ti_line.specs.CommandLine.{Line, Reads, line_in, faults, ti_app};
+ghost use Rattle.ti_line.specs.Requests.{Asks, Explains, HasText, IsReadAs, texts_of};
+ghost use Rattle.ti_line.specs.inner.Matches.{IsSaidOf};
 ghost use Rattle.ti_line.specs.Message.{message_text};
 ghost use Rattle.ti_line.specs.inner.Errors.{TellsOf};
 
 use crate::command::program;
-use crate::line::{Line, NoLine};
-use crate::matches::line_of;
+use crate::matches::request_of;
 use crate::message::Message;
+use crate::no_line::{LineFault, NoLine};
 use crate::printable::printable_text;
+use crate::request::Request;
 use clap::Error;
 use clap::error::ErrorKind;
 use std::alloc::{AllocError, Global};
 
-/// Reads the words by `clap`. Words in which it finds no fault make a line.
-fn read_words<'a>(alloc: Global, words: &'a [&'a str]) -> Result<Line<'a>, Error>
-    ensures read { IfOk result (λ line.
-        request_in (subcommand_of ti_app (texts_of words.entry.now)) ≡ Some (request_of line)) }
+/// Reads the words by `clap`. Words in which it finds no fault make a line, which asks for something or has a fault.
+fn read_words<'a>(
+    alloc: Global,
+    terminal: bool,
+    words: &'a [&'a str],
+) -> Result<Result<Request<'a>, LineFault>, Error>
+    ensures read { IfOk result (λ answer. IsSaidOf terminal
+        (line_in (subcommand_of ti_app (texts_of words.entry.now))) answer) }
     ensures kinds { FailsBy (faults (texts_of words.entry.now)) result }
 {
     let matches = program(alloc)?.try_get_matches_from(words)?;
     match matches.subcommand() {
-        Some((command, given)) => Ok(line_of(alloc, command, given)?),
+        Some((command, given)) => Ok(request_of(terminal, command, given)),
         None => unreachable!(),
     }
 }
@@ -53,25 +59,34 @@ fn no_line<'a>(alloc: Global, words: &'a [&'a str], error: &Error) -> NoLine
     }
 }
 
-/// Reads `words`, of which the first is the program's own name, as a command line.
+/// Reads `words`, of which the first is the program's own name, as a command line. `terminal` says whether results go to
+/// a terminal.
 ///
 /// Options may stand before, between and after the parameters. After `--` each word is a parameter, or the name of
 /// `expand`, also one that starts with a hyphen. Words are text, so what is no UTF-8 is the caller's to refuse.
 ///
 /// # Errors
 ///
-/// [`NoLine::Help`] if help or the version is asked for, [`NoLine::Refused`] if the words are no command line, and
-/// [`NoLine::Memory`] if a growth was refused. A message shows no byte of a word but printable ASCII characters: the
-/// others are in the notation of terminfo(5).
-pub fn read_line<'a>(alloc: Global, words: &'a [&'a str]) -> Result<Line<'a>, NoLine>
-    ensures read { IfOk result (λ line. Reads (texts_of words.entry.now) (request_of line)) }
-    ensures only { (line : Request) → Reads (texts_of words.entry.now) line → IsReadAs line result }
+/// [`NoLine::Help`] if help or the version is asked for, [`NoLine::Refused`] if the words are no command line,
+/// [`NoLine::Fault`] if the line asks for both forms or both widths, or its parameters are none, and [`NoLine::Memory`] if
+/// a growth was refused. A message shows no byte of a word but printable ASCII characters: the others are in the notation
+/// of terminfo(5).
+pub fn read_line<'a>(
+    alloc: Global,
+    terminal: bool,
+    words: &'a [&'a str],
+) -> Result<Request<'a>, NoLine>
+    ensures read { IfOk result (λ request. (line : Line) × Reads (texts_of words.entry.now) line
+        × Asks terminal line request) }
+    ensures only { (line : Line) → Reads (texts_of words.entry.now) line
+        → IsReadAs terminal line result }
     ensures none { IfErr result (Explains (texts_of words.entry.now)) }
     // A message is never empty.
     ensures says { IfErr result HasText }
 {
-    match read_words(alloc, words) {
-        Ok(line) => Ok(line),
+    match read_words(alloc, terminal, words) {
+        Ok(Ok(request)) => Ok(request),
+        Ok(Err(fault)) => Err(NoLine::Fault(fault)),
         Err(error) => Err(no_line(alloc, words, &error)),
     }
 }

@@ -1,15 +1,18 @@
 -- What is never due: that a write failed, and that memory was refused.
-use Rattle.std.proofs.Common.{ℕ, inl, inr, List, Err}
-use Rattle.std.specs.Prelude.{Option, Result}
-use Rattle.ti_words.specs.declared.Width.{Width}
+use Rattle.std.proofs.Common.{ℕ, Bool, inl, inr, List, Err}
+use Rattle.std.specs.Prelude.{Result}
 use Rattle.ti_words.specs.Texts.{TextValue, AbsentText, CancelledText, TextOf}
 use Rattle.ti_expand.specs.declared.values.Value.{Value}
 use Rattle.ti_pad.specs.Setting.{Setting}
-use Rattle.ti_words.specs.declared.all_names.NameTable.{NameTable}
-use Rattle.ti_tool.specs.declared.look.Output.{Output}
+use Rattle.ti_words.specs.Value.{EntryValue}
+use Rattle.ti_line.specs.declared.request.OfCapability.{OfCapability}
+use Rattle.ti_line.specs.declared.request.OfCapability.TheVariants as of_cap
+use Rattle.ti_line.specs.declared.request.OfEntry.{OfEntry}
+use Rattle.ti_line.specs.declared.request.OfEntry.TheVariants as of_entry
+use Rattle.ti_line.specs.declared.look.Output.{Output}
 use Rattle.ti_tool.specs.declared.fault.ToolFault.{ToolFault}
 use Rattle.ti_tool.specs.declared.fault.ToolFault.TheVariants as fault
-use Rattle.ti_tool.specs.Results.{IsConverted, IsDue, IsExpandedAs}
+use Rattle.ti_tool.specs.Results.{IsDue, IsDueFrom, IsDueOn, IsOutputOf}
 
 -- the faults of a call itself are not due
 pub record IsNeverOwn (due : Result (List ℕ) ToolFault → Type 0) : Type 0 where
@@ -21,24 +24,28 @@ text_never AbsentText parameters setting output = record { no_write = λ gone d.
 text_never CancelledText parameters setting output = record { no_write = λ gone d. cc; no_memory = λ d. cc }
 text_never (TextOf text) parameters setting output = record { no_write = λ gone d. d; no_memory = λ d. d }
 
-pub named_never : (names : NameTable) (name : List ℕ) (parameters : List Value) (setting : Setting) (output : Output) (input : List ℕ) → IsNeverOwn (IsExpandedAs names name parameters setting output input)
-named_never names name parameters setting output input = record { no_write = writes; no_memory = takes }
+-- of a capability
+pub output_never : (c : OfCapability) (parameters : List Value) (input : List ℕ) → IsNeverOwn (IsOutputOf c parameters input)
+output_never (of_cap.Cap output) parameters input = record { no_write = λ gone d. d; no_memory = λ d. d }
+output_never (of_cap.Trace form) parameters input = record { no_write = λ gone d. d; no_memory = λ d. d }
+
+on_entry_never : (e : OfEntry) (parameters : List Value) (sound : Bool) (v : EntryValue) → IsNeverOwn (IsDueOn e parameters sound v)
+on_entry_never (of_entry.Show look) parameters sound v = record { no_write = λ gone d. cc; no_memory = λ d. cc }
+on_entry_never (of_entry.Check naming) parameters sound v = record { no_write = λ gone d. d; no_memory = λ d. d }
+on_entry_never (of_entry.Expand e) parameters sound v = record {
+  no_write = λ gone (text, called, d). (text_never text parameters e.padding e.output).no_write gone d;
+  no_memory = λ (text, called, d). (text_never text parameters e.padding e.output).no_memory d;
+}
+on_entry_never (of_entry.Convert width) parameters sound v = record { no_write = λ gone d. d; no_memory = λ d. d }
+
+-- of the bytes of an entry
+pub entry_never : (e : OfEntry) (parameters : List Value) (sound : Bool) (input : List ℕ) → IsNeverOwn (IsDueFrom (IsDueOn e parameters sound) input)
+entry_never e parameters sound input = record { no_write = writes; no_memory = takes }
   where
-    writes : (gone : ℕ) → ¬ IsExpandedAs names name parameters setting output input (Err (fault.Write gone))
-    writes gone (inl (refused, is, e)) = absurd (cc)
-    writes gone (inr (v, spells, (text, called, d))) = (text_never text parameters setting output).no_write gone d
+    writes : (gone : ℕ) → ¬ IsDueFrom (IsDueOn e parameters sound) input (Err (fault.Write gone))
+    writes gone (inl (refused, is, same)) = absurd (cc)
+    writes gone (inr (v, spells, d)) = (on_entry_never e parameters sound v).no_write gone d
 
-    takes : ¬ IsExpandedAs names name parameters setting output input (Err fault.Memory)
-    takes (inl (refused, is, e)) = absurd (cc)
-    takes (inr (v, spells, (text, called, d))) = (text_never text parameters setting output).no_memory d
-
-pub converted_never : (width : Option Width) (input : List ℕ) → IsNeverOwn (IsConverted width input)
-converted_never width input = record { no_write = writes; no_memory = takes }
-  where
-    writes : (gone : ℕ) → ¬ IsConverted width input (Err (fault.Write gone))
-    writes gone (inl (refused, is, e)) = absurd (cc)
-    writes gone (inr (v, spells, h)) = h
-
-    takes : ¬ IsConverted width input (Err fault.Memory)
-    takes (inl (refused, is, e)) = absurd (cc)
-    takes (inr (v, spells, h)) = h
+    takes : ¬ IsDueFrom (IsDueOn e parameters sound) input (Err fault.Memory)
+    takes (inl (refused, is, same)) = absurd (cc)
+    takes (inr (v, spells, d)) = (on_entry_never e parameters sound v).no_memory d

@@ -8,7 +8,6 @@ pub mod IsLabelLemmas
 pub mod LinesFromLemmas
 pub mod IsExtendedLineLemmas
 pub mod DidLineLemmas
-pub mod AreParamsLemmas
 pub mod ReadsIntoLemmas
 pub mod AreLinesLemmas
 pub mod WideAndBackLemmas

@@ -1,8 +1,7 @@
 -- Where no fault is due but one that comes after memory was taken.
-use Rattle.std.proofs.Common.{◌≡◌, ◌⊎◌, ℕ, ◌<◌, ◌≤◌, Bool, List, length, Ok, Err, Some, None, inl, inr, sym, ap, subst, ◌∙◌, arith}
-use Rattle.std.specs.Prelude.{Option, Result, IfOk, IfErr, MatchResult, ◌↔◌}
+use Rattle.std.proofs.Common.{◌≡◌, ◌⊎◌, ℕ, ◌<◌, ◌≤◌, List, length, Ok, Err, Some, None, inl, inr, sym, ap, subst, ◌∙◌, arith}
+use Rattle.std.specs.Prelude.{Result, IfOk, IfErr, MatchResult, ◌↔◌}
 use Rattle.ti_base.specs.Limits.{most_padded_bytes}
-use Rattle.ti_words.specs.declared.Width.{Width}
 use Rattle.ti_words.specs.Texts.{TextValue, TextOf}
 use Rattle.ti_words.specs.Value.{EntryValue}
 use Rattle.ti_words.specs.Spelling.{Spells}
@@ -21,15 +20,14 @@ use Rattle.ti_pad.specs.Padded.{padded_text}
 use Rattle.ti_entry.proofs.SpellsAtMostOneLemmas.{at_most_one}
 use Rattle.ti_entry.proofs.SpelledExtendedLemmas.{only}
 use Rattle.ti_words.specs.declared.all_names.NameTable.{NameTable}
-use Rattle.ti_tool.specs.declared.look.Look.{Look}
-use Rattle.ti_tool.specs.declared.look.Naming.{Naming}
-use Rattle.ti_tool.specs.declared.look.Output.{Output}
+use Rattle.ti_line.specs.declared.look.Look.{Look}
+use Rattle.ti_line.specs.declared.look.Output.{Output}
 use Rattle.ti_tool.specs.declared.fault.ToolFault.{ToolFault}
 use Rattle.ti_tool.specs.declared.fault.ToolFault.TheVariants as fault
 use Rattle.ti_tool.specs.Calls.{NeedsMemory}
 use Rattle.ti_tool.specs.Names.{IsCalled}
-use Rattle.ti_tool.specs.Looks.{output_bytes}
-use Rattle.ti_tool.specs.Results.{IsExpansion, IsUnexpanded, IsCappedAs, IsPadded, IsDue, IsDueFor, IsExpandedAs, IsShownAs, IsTraced, IsCheckedAs, IsEncoding, IsConverted, in_width}
+use Rattle.ti_line.specs.Looks.{output_bytes}
+use Rattle.ti_tool.specs.Results.{IsExpansion, IsUnexpanded, IsCappedAs, IsPadded, IsDue, IsDueFor, IsDueFrom, IsListed, IsTraced}
 use Rattle.ti_tool.specs.inner.Dues.{FailsAsDue, IsExpandable}
 use Rattle.ti_tool.proofs.IsCalledLemmas.{one_called}
 
@@ -134,55 +132,14 @@ unrefused input v spells = ap (refusal_of (length input)) (sym (only input v spe
 pub never_refused : (input : List ℕ) (v : EntryValue) (r : Refused) → Spells input v → refusal input ≡ Some r → ⊥
 never_refused input v r spells is = let e : None ≡ Some r = sym (unrefused input v spells) ∙ is in absurd cc
 
-pub shown_needs : (look : Look) (input : List ℕ) (v : EntryValue) → Spells input v → NeedsMemory (IsShownAs look input)
-shown_needs look input v spells (fault.Entry refused) d = never_refused input v refused spells d
-shown_needs look input v spells (fault.Encode unfit) d = tt
-shown_needs look input v spells (fault.TooMuch need) d = tt
-shown_needs look input v spells (fault.Cap refused) d = d
-shown_needs look input v spells (fault.TextTooLong k) d = d
-shown_needs look input v spells fault.NoSuchText d = d
-shown_needs look input v spells fault.Read d = d
-shown_needs look input v spells (fault.Write gone) d = d
-shown_needs look input v spells fault.Memory d = d
-
-pub checked_needs : (naming : Naming) (sound : Bool) (input : List ℕ) (v : EntryValue) → Spells input v → NeedsMemory (IsCheckedAs naming sound input)
-checked_needs naming sound input v spells (fault.Entry refused) d = never_refused input v refused spells d
-checked_needs naming sound input v spells (fault.Encode unfit) d = tt
-checked_needs naming sound input v spells (fault.TooMuch need) d = tt
-checked_needs naming sound input v spells (fault.Cap refused) d = d
-checked_needs naming sound input v spells (fault.TextTooLong k) d = d
-checked_needs naming sound input v spells fault.NoSuchText d = d
-checked_needs naming sound input v spells fault.Read d = d
-checked_needs naming sound input v spells (fault.Write gone) d = d
-checked_needs naming sound input v spells fault.Memory d = d
-
--- why an entry is not encoded is found once its draft is there
-pub encoding_needs : (v : EntryValue) → NeedsMemory (IsEncoding v)
-encoding_needs v (fault.Encode unfit) d = tt
-encoding_needs v (fault.TooMuch need) d = tt
-encoding_needs v (fault.Entry refused) d = d
-encoding_needs v (fault.Cap refused) d = d
-encoding_needs v (fault.TextTooLong k) d = d
-encoding_needs v fault.NoSuchText d = d
-encoding_needs v fault.Read d = d
-encoding_needs v (fault.Write gone) d = d
-encoding_needs v fault.Memory d = d
-
--- what an entry is encoded as is due for the bytes that spell it
-pub converted_due : (width : Option Width) (input : List ℕ) (v : EntryValue) (e : ToolFault) → Spells input v → FailsAsDue (IsEncoding (in_width width v)) e → FailsAsDue (IsConverted width input) e
-converted_due width input v e spells (inl (is, needs)) = inl (is, needs_too)
-  where
-    needs_too : NeedsMemory (IsConverted width input)
-    needs_too f (inl (refused, is, same)) = absurd (never_refused input v refused spells is)
-    needs_too f (inr (w, other, d)) = encoding_needs (in_width width w) f d
-converted_due width input v e spells (inr h) = inr (inr (v, spells, h))
+pub listed_needs : (look : Look) (v : EntryValue) → NeedsMemory (IsListed look v)
+listed_needs look v e d = absurd (cc)
 
 -- what is due for an entry is due for the bytes that spell it
-pub named_due : (names : NameTable) (name : List ℕ) (parameters : List Value) (setting : Setting) (output : Output) (input : List ℕ) (v : EntryValue) (e : ToolFault) → Spells input v
-    → FailsAsDue (IsDueFor names name parameters setting output v) e → FailsAsDue (IsExpandedAs names name parameters setting output input) e
-named_due names name parameters setting output input v e spells (inl (is, needs)) = inl (is, needs_too)
+pub due_from : (due : EntryValue → Result (List ℕ) ToolFault → Type 0) (input : List ℕ) (v : EntryValue) (e : ToolFault) → Spells input v → FailsAsDue (due v) e → FailsAsDue (IsDueFrom due input) e
+due_from due input v e spells (inl (is, needs)) = inl (is, needs_too)
   where
-    needs_too : NeedsMemory (IsExpandedAs names name parameters setting output input)
+    needs_too : NeedsMemory (IsDueFrom due input)
     needs_too f (inl (refused, is, same)) = absurd (never_refused input v refused spells is)
-    needs_too f (inr (w, other, d)) = needs f (subst (λ x. IsDueFor names name parameters setting output x (Err f)) (at_most_one input w v other spells) d)
-named_due names name parameters setting output input v e spells (inr d) = inr (inr (v, spells, d))
+    needs_too f (inr (w, other, d)) = needs f (subst (λ x. due x (Err f)) (at_most_one input w v other spells) d)
+due_from due input v e spells (inr d) = inr (inr (v, spells, d))

@@ -1,13 +1,10 @@
 -- For given parameters and bytes at most one result is due.
-use Rattle.std.proofs.Common.{◌≡◌, ◌⊎◌, ℕ, zero, suc, ◌<◌, ◌≤◌, Bool, false, ◌&&◌, List, [], ◌∷◌, ◌++◌, length, Ok, Err, Some, inl, inr, refl, sym, ap, subst, ◌∙◌, arith, pos}
-use Rattle.std.specs.Prelude.{Option, Result, replicate, codes}
+use Rattle.std.proofs.Common.{◌≡◌, ◌⊎◌, ℕ, zero, suc, ◌<◌, ◌≤◌, Bool, ◌&&◌, List, [], ◌∷◌, ◌++◌, length, Ok, Err, Some, inl, inr, refl, sym, ap, subst, ◌∙◌, arith, pos}
+use Rattle.std.specs.Prelude.{Result, replicate, codes}
 use Rattle.ti_words.specs.declared.Kind.TheVariants as kinds
-use Rattle.ti_words.specs.declared.Width.{Width}
 use Rattle.ti_words.specs.Texts.{TextValue, AbsentText, CancelledText, TextOf}
 use Rattle.ti_words.specs.Value.{EntryValue}
-use Rattle.ti_words.specs.Spelling.{Spells}
 use Rattle.ti_layout.specs.declared.fault.Refused.{Refused}
-use Rattle.ti_layout.specs.Refusal.{refusal}
 use Rattle.ti_draft.specs.declared.unfit.EncodeFault.{EncodeFault}
 use Rattle.ti_draft.specs.Unfit.{encode_fault}
 use Rattle.ti_cap.specs.declared.language.Token.{Token}
@@ -31,19 +28,26 @@ use Rattle.ti_pad.specs.Padded.{padded_text}
 use Rattle.ti_base.specs.Limits.{most_padded_bytes}
 use Rattle.ti_entry.proofs.SpellsAtMostOneLemmas.{at_most_one}
 use Rattle.ti_words.specs.declared.all_names.NameTable.{NameTable}
-use Rattle.ti_tool.specs.declared.look.Look.{Look}
-use Rattle.ti_tool.specs.declared.look.Naming.{Naming}
-use Rattle.ti_tool.specs.declared.look.Output.{Output}
+use Rattle.ti_line.specs.declared.look.Naming.{Naming}
+use Rattle.ti_line.specs.declared.look.Output.{Output}
+use Rattle.ti_line.specs.declared.request.Asked.TheVariants.{Capability, Entry}
+use Rattle.ti_line.specs.declared.request.OfCapability.{OfCapability}
+use Rattle.ti_line.specs.declared.request.OfCapability.TheVariants as of_cap
+use Rattle.ti_line.specs.declared.request.OfEntry.{OfEntry}
+use Rattle.ti_line.specs.declared.request.OfEntry.TheVariants as of_entry
 use Rattle.ti_tool.specs.declared.fault.ToolFault.{ToolFault}
 use Rattle.ti_tool.specs.declared.fault.ToolFault.TheVariants as fault
 use Rattle.ti_tool.specs.Labels.{label_of, own_label}
-use Rattle.ti_tool.specs.Listing.{entry_lines}
-use Rattle.ti_tool.specs.Laws.{IsOneResult}
-use Rattle.ti_tool.specs.Looks.{look_asked, output_bytes}
-use Rattle.ti_tool.specs.Results.{IsExpansion, IsUnexpanded, IsCappedAs, IsPadded, IsDue, IsDueFor, IsExpandedAs, IsShown, IsShownAs, IsTraced, IsCheckedAs, IsEncoding, IsConverted, in_width}
+use Rattle.ti_tool.specs.Laws.{CheckHasOneVerdict, HasOneAnswer}
+use Rattle.ti_line.specs.Looks.{output_bytes}
+use Rattle.ti_tool.specs.Results.{IsExpansion, IsUnexpanded, IsCappedAs, IsPadded, IsDue, IsDueFor, IsDueFrom, IsDueOn, IsEncoding, IsJudgement, IsOutputOf, IsTraced, in_width}
 use Rattle.ti_tool.specs.Verdicts.{IsVerdict, IsLine, IsStandardLine, IsExtendedLine, AreLines, AreVerdicts, sound_verdict, fault_verdict}
 use Rattle.ti_tool.proofs.IsCalledLemmas.{one_called}
 use Rattle.ti_tool.proofs.NeedsMemoryLemmas.{expandable, faultless_passes, never_refused}
+
+-- at most one result or fault is due
+abbrev IsOneResult : (Result (List ℕ) ToolFault → Type 0) → Type 0
+IsOneResult due = (one other : Result (List ℕ) ToolFault) → due one → due other → one ≡ other
 
 -- ---- capabilities
 
@@ -99,13 +103,13 @@ one_of_two text parameters e f (too_long_at k is sound long) (too_long_at l same
 one_unexpanded : (text : List ℕ) (parameters : List Value) (e f : ToolFault) → IsUnexpanded text parameters e → IsUnexpanded text parameters f → e ≡ f
 one_unexpanded text parameters e f d h = one_of_two text parameters e f (unexpanded text parameters e d) (unexpanded text parameters f h)
 
-pub one_capped : (parameters : List Value) (output : Output) (input : List ℕ) → IsOneResult (IsCappedAs parameters output input)
+one_capped : (parameters : List Value) (output : Output) (input : List ℕ) → IsOneResult (IsCappedAs parameters output input)
 one_capped parameters output input (Ok a) (Ok b) (plain, sound, p, is) (other, again, q, same) = ap Ok (is ∙ ap (output_bytes output) (one_expansion input parameters plain other p q) ∙ sym same)
 one_capped parameters output input (Ok a) (Err e) (plain, sound, p, is) d = absurd (expandable input parameters sound p.short e d)
 one_capped parameters output input (Err e) (Ok b) d (plain, sound, p, is) = absurd (expandable input parameters sound p.short e d)
 one_capped parameters output input (Err e) (Err f) d h = ap Err (one_unexpanded input parameters e f d h)
 
-pub one_traced : (parameters : List Value) (form : Form) (input : List ℕ) → IsOneResult (IsTraced parameters form input)
+one_traced : (parameters : List Value) (form : Form) (input : List ℕ) → IsOneResult (IsTraced parameters form input)
 one_traced parameters form input (Ok a) (Ok b) (sound, short, is) (again, low, same) = ap Ok (is_one_trace input parameters form a b is same)
 one_traced parameters form input (Ok a) (Err e) (sound, short, is) d = absurd (expandable input parameters sound short e d)
 one_traced parameters form input (Err e) (Ok b) d (sound, short, is) = absurd (expandable input parameters sound short e d)
@@ -160,22 +164,19 @@ one_due (TextOf text) parameters setting output r s d h = one_padded text parame
 -- ---- results on entries
 
 -- what is due for bytes is their refusal, or something due for the entry that they spell
-one_on_entry : (input : List ℕ) (due : EntryValue → Result (List ℕ) ToolFault → Type 0) → ((v : EntryValue) → IsOneResult (due v))
-    → IsOneResult (λ answer. ((refused : Refused) × (refusal input ≡ Some refused) × (answer ≡ Err (fault.Entry refused))) ⊎ ((v : EntryValue) × Spells input v × due v answer))
-one_on_entry input due once r s (inl (a, is, e)) (inl (b, same, f)) =
+one_from : (input : List ℕ) (due also : EntryValue → Result (List ℕ) ToolFault → Type 0) → ((v : EntryValue) (r s : Result (List ℕ) ToolFault) → due v r → also v s → r ≡ s)
+    → (r s : Result (List ℕ) ToolFault) → IsDueFrom due input r → IsDueFrom also input s → r ≡ s
+one_from input due also once r s (inl (a, is, e)) (inl (b, same, f)) =
     let both : Some a ≡ Some b = sym is ∙ same in
     let one : a ≡ b = cc in e ∙ ap (λ (x : Refused). Err (fault.Entry x)) one ∙ sym f
-one_on_entry input due once r s (inl (a, is, e)) (inr (v, spells, d)) = absurd (never_refused input v a spells is)
-one_on_entry input due once r s (inr (v, spells, d)) (inl (b, same, f)) = absurd (never_refused input v b spells same)
-one_on_entry input due once r s (inr (v, spells, d)) (inr (w, other, h)) =
-    once v r s d (subst (λ x. due x s) (at_most_one input w v other spells) h)
+one_from input due also once r s (inl (a, is, e)) (inr (v, spells, d)) = absurd (never_refused input v a spells is)
+one_from input due also once r s (inr (v, spells, d)) (inl (b, same, f)) = absurd (never_refused input v b spells same)
+one_from input due also once r s (inr (v, spells, d)) (inr (w, other, h)) =
+    once v r s d (subst (λ x. also x s) (at_most_one input w v other spells) h)
 
 one_due_for : (names : NameTable) (name : List ℕ) (parameters : List Value) (setting : Setting) (output : Output) (v : EntryValue) → IsOneResult (IsDueFor names name parameters setting output v)
 one_due_for names name parameters setting output v r s (text, called, d) (other, again, h) =
     one_due text parameters setting output r s d (subst (λ t. IsDue t parameters setting output s) (one_called names name v other text again called) h)
-
-pub one_expanded : (names : NameTable) (name : List ℕ) (parameters : List Value) (setting : Setting) (output : Output) (input : List ℕ) → IsOneResult (IsExpandedAs names name parameters setting output input)
-one_expanded names name parameters setting output input = one_on_entry input (IsDueFor names name parameters setting output) (one_due_for names name parameters setting output)
 
 encoding_fault : (v : EntryValue) (e : ToolFault) → IsEncoding v (Err e) → (unfit : EncodeFault) × (e ≡ fault.Encode unfit) × (encode_fault v ≡ Some unfit)
 encoding_fault v (fault.Encode unfit) d = (unfit, refl, d)
@@ -197,36 +198,6 @@ one_encoding v (Err e) (Err f) d h =
     let (other, same, because) = encoding_fault v f h in
     let both : Some unfit ≡ Some other = sym why ∙ because in
     let one : unfit ≡ other = cc in ap Err (is ∙ ap (λ (x : EncodeFault). fault.Encode x) one ∙ sym same)
-
-pub one_converted : (width : Option Width) (input : List ℕ) → IsOneResult (IsConverted width input)
-one_converted width input = one_on_entry input (λ v. IsEncoding (in_width width v)) (λ v. one_encoding (in_width width v))
-
-entry_fault : (look : Look) (input : List ℕ) (e : ToolFault) → IsShownAs look input (Err e) → (refused : Refused) × (e ≡ fault.Entry refused) × (refusal input ≡ Some refused)
-entry_fault look input (fault.Entry refused) d = (refused, refl, d)
-entry_fault look input (fault.Encode unfit) d = absurd d
-entry_fault look input (fault.Cap r) d = absurd d
-entry_fault look input (fault.TextTooLong k) d = absurd d
-entry_fault look input fault.NoSuchText d = absurd d
-entry_fault look input (fault.TooMuch need) d = absurd d
-entry_fault look input fault.Read d = absurd d
-entry_fault look input (fault.Write gone) d = absurd d
-entry_fault look input fault.Memory d = absurd d
-
-one_entry_fault : (look : Look) (input : List ℕ) (e f : ToolFault) → IsShownAs look input (Err e) → IsShownAs look input (Err f) → e ≡ f
-one_entry_fault look input e f d h =
-    let (refused, is, why) = entry_fault look input e d in
-    let (other, same, because) = entry_fault look input f h in
-    let both : Some refused ≡ Some other = sym why ∙ because in
-    let one : refused ≡ other = cc in is ∙ ap (λ (x : Refused). fault.Entry x) one ∙ sym same
-
-shown_or_refused : (look : Look) (input : List ℕ) (v : EntryValue) (e : ToolFault) → Spells input v → IsShownAs look input (Err e) → ⊥
-shown_or_refused look input v e spells d = let (refused, is, why) = entry_fault look input e d in never_refused input v refused spells why
-
-pub one_shown : (look : Look) (input : List ℕ) → IsOneResult (IsShownAs look input)
-one_shown look input (Ok a) (Ok b) (v, spells, is) (w, other, same) = ap Ok (is ∙ ap (entry_lines look) (at_most_one input v w spells other) ∙ sym same)
-one_shown look input (Ok a) (Err e) (v, spells, is) d = absurd (shown_or_refused look input v e spells d)
-one_shown look input (Err e) (Ok b) d (v, spells, is) = absurd (shown_or_refused look input v e spells d)
-one_shown look input (Err e) (Err f) d h = ap Err (one_entry_fault look input e f d h)
 
 -- ---- verdicts
 
@@ -278,26 +249,30 @@ one_verdicts naming v lines others sound as_sound (first, second, one, other, a,
       both ∙ ap (λ b. b && other) front.1 ∙ ap (λ b. one' && b) back.1 ∙ sym both',
     )
 
-checked_fault : (naming : Naming) (sound : Bool) (input : List ℕ) (e : ToolFault) → IsCheckedAs naming sound input (Err e) → IsShown input (Err e)
-checked_fault naming sound input (fault.Entry refused) d = d
-checked_fault naming sound input (fault.Encode unfit) d = d
-checked_fault naming sound input (fault.Cap r) d = d
-checked_fault naming sound input (fault.TextTooLong k) d = d
-checked_fault naming sound input fault.NoSuchText d = d
-checked_fault naming sound input (fault.TooMuch need) d = d
-checked_fault naming sound input fault.Read d = d
-checked_fault naming sound input (fault.Write gone) d = d
-checked_fault naming sound input fault.Memory d = d
+one_judgement : (naming : Naming) (v : EntryValue) (sound as_sound : Bool) (r s : Result (List ℕ) ToolFault) → IsJudgement naming sound v r → IsJudgement naming as_sound v s → r ≡ s
+one_judgement naming v sound as_sound (Ok a) (Ok b) d h = ap Ok (one_verdicts naming v a b sound as_sound d h).0
+one_judgement naming v sound as_sound (Ok a) (Err e) d h = absurd h
+one_judgement naming v sound as_sound (Err e) s d h = absurd d
 
-both_checked : (naming : Naming) (input lines others : List ℕ) (sound as_sound : Bool) → IsCheckedAs naming sound input (Ok lines) → IsCheckedAs naming as_sound input (Ok others) → (lines ≡ others) × (sound ≡ as_sound)
-both_checked naming input lines others sound as_sound (v, spells, d) (w, other, h) =
-    one_verdicts naming v lines others sound as_sound d (subst (λ x. AreVerdicts naming x others as_sound) (at_most_one input w v other spells) h)
+pub one_soundness : CheckHasOneVerdict
+one_soundness naming input lines others sound as_sound (inl (refused, is, e)) h = absurd (cc)
+one_soundness naming input lines others sound as_sound (inr found) (inl (refused, is, e)) = absurd (cc)
+one_soundness naming input lines others sound as_sound (inr (v, spells, d)) (inr (w, other, h)) =
+    (one_verdicts naming v lines others sound as_sound d (subst (λ x. AreVerdicts naming x others as_sound) (at_most_one input w v other spells) h)).1
 
-pub one_checked : (naming : Naming) (input : List ℕ) (sound as_sound : Bool) (r s : Result (List ℕ) ToolFault) → IsCheckedAs naming sound input r → IsCheckedAs naming as_sound input s → r ≡ s
-one_checked naming input sound as_sound (Ok a) (Ok b) d h = ap Ok (both_checked naming input a b sound as_sound d h).0
-one_checked naming input sound as_sound (Ok a) (Err e) (v, spells, d) h = absurd (shown_or_refused (look_asked false false false) input v e spells (checked_fault naming as_sound input e h))
-one_checked naming input sound as_sound (Err e) (Ok b) d (v, spells, h) = absurd (shown_or_refused (look_asked false false false) input v e spells (checked_fault naming sound input e d))
-one_checked naming input sound as_sound (Err e) (Err f) d h = ap Err (one_entry_fault (look_asked false false false) input e f (checked_fault naming sound input e d) (checked_fault naming as_sound input f h))
+-- ---- requests
 
-pub one_soundness : (naming : Naming) (input lines others : List ℕ) (sound as_sound : Bool) → IsCheckedAs naming sound input (Ok lines) → IsCheckedAs naming as_sound input (Ok others) → sound ≡ as_sound
-one_soundness naming input lines others sound as_sound d h = (both_checked naming input lines others sound as_sound d h).1
+one_output : (c : OfCapability) (parameters : List Value) (input : List ℕ) → IsOneResult (IsOutputOf c parameters input)
+one_output (of_cap.Cap output) parameters input = one_capped parameters output input
+one_output (of_cap.Trace form) parameters input = one_traced parameters form input
+
+one_on : (e : OfEntry) (parameters : List Value) (sound as_sound : Bool) (v : EntryValue) (r s : Result (List ℕ) ToolFault) → IsDueOn e parameters sound v r → IsDueOn e parameters as_sound v s → r ≡ s
+one_on (of_entry.Show look) parameters sound as_sound v r s d h = d ∙ sym h
+one_on (of_entry.Check naming) parameters sound as_sound v r s d h = one_judgement naming v sound as_sound r s d h
+one_on (of_entry.Expand e) parameters sound as_sound v r s d h = one_due_for e.name.names e.name.name.now parameters e.padding e.output v r s d h
+one_on (of_entry.Convert width) parameters sound as_sound v r s d h = one_encoding (in_width width v) r s d h
+
+pub one_answer : HasOneAnswer
+one_answer (Capability c) parameters input sound as_sound r s d h = one_output c parameters input r s d h
+one_answer (Entry e) parameters input sound as_sound r s d h =
+    one_from input (IsDueOn e parameters sound) (IsDueOn e parameters as_sound) (one_on e parameters sound as_sound) r s d h

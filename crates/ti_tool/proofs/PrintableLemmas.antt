@@ -35,11 +35,11 @@ use Rattle.ti_escape.specs.declared.form.Form.{Form}
 use Rattle.ti_escape.specs.declared.form.Form.TheVariants as forms
 use Rattle.ti_escape.proofs.PrintableLemmas.{has_no_space, is_printable_all, label_chars_printable}
 use Rattle.ti_pad.specs.Padded.{padded_text}
-use Rattle.ti_tool.specs.declared.look.Look.{Look}
-use Rattle.ti_tool.specs.declared.look.NameForm.{NameForm}
-use Rattle.ti_tool.specs.declared.look.NameForm.TheVariants as name_forms
+use Rattle.ti_line.specs.declared.look.Look.{Look}
+use Rattle.ti_line.specs.declared.look.NameForm.{NameForm}
+use Rattle.ti_line.specs.declared.look.NameForm.TheVariants as name_forms
 use Rattle.ti_tool.specs.Labels.{label_of, own_label, own_names}
-use Rattle.ti_tool.specs.Listing.{flag_line, number_line, text_line, lines_from, standard_flag, standard_number, standard_text, extended_flag, extended_number, extended_text, standard_lines, extended_lines, format_name}
+use Rattle.ti_tool.specs.Listing.{entry_lines, flag_line, number_line, text_line, lines_from, standard_flag, standard_number, standard_text, extended_flag, extended_number, extended_text, standard_lines, extended_lines, format_name}
 use Rattle.ti_tool.specs.Verdicts.{IsLine, IsStandardLine, IsExtendedLine, AreLines, IsVerdict}
 use Rattle.ti_tool.specs.Printable.{ArePrintableLines, flag_lines, number_lines, text_lines, verdict_lines, lines_due, listed_lines, checked_lines, ShowIsPrintable, CheckIsPrintable, CapIsPrintable, ExpandIsPrintable}
 
@@ -207,7 +207,9 @@ head_lines format names of_format of_names =
     rejoin format names = simp append_assoc
 
 pub shown_lines : ShowIsPrintable
-shown_lines look input out e n (v, spells, is) =
+shown_lines look input out e n (inl (refused, is, same)) = absurd cc
+shown_lines look input out e n (inr (v, spells, listed)) =
+    let is : out ≡ entry_lines look v = cc in
     let P : List ℕ → Type 0 = λ x. ArePrintableLines (listed_lines v) x in (
       v,
       spells,
@@ -259,7 +261,8 @@ each_line IsLineOf count each index (x ∷ xs) lines sound (line, more, this, re
     subst P (sym e) (joined_lines (count x) (lines_due count xs) line more (each index x line this is) (each_line IsLineOf count each (suc index) xs more rest are))
 
 pub check_lines : CheckIsPrintable
-check_lines naming input out sound n (v, spells, (first, second, this, other, are, are_too, e, s)) =
+check_lines naming input out sound n (inl (refused, is, same)) = absurd cc
+check_lines naming input out sound n (inr (v, spells, (first, second, this, other, are, are_too, e, s))) =
     let P : List ℕ → Type 0 = λ z. ArePrintableLines (checked_lines v) z in (
       v,
       spells,

@@ -6,6 +6,8 @@ use Rattle.ti_layout.specs.declared.fault.Refused.{Refused}
 use Rattle.ti_layout.specs.Refusal.{failure}
 use Rattle.ti_entry.specs.declared.source.ReadStop.{ReadStop}
 use Rattle.ti_entry.specs.declared.source.ReadStop.TheVariants as stop
+use Rattle.ti_line.specs.declared.request.Asked.{Asked}
+use Rattle.ti_line.specs.declared.request.Asked.TheVariants.{Capability, Entry}
 use Rattle.ti_tool.specs.declared.fault.ToolFault.{ToolFault}
 use Rattle.ti_tool.specs.declared.fault.ToolFault.TheVariants as fault
 
@@ -63,14 +65,20 @@ IsFull input = length input ≡ most_capability_bytes + 1
 abbrev pub HasFailed : List ℕ → Type 0
 HasFailed input = (refused : Refused) × (failure input ≡ Some refused)
 
+-- what is enough to read for a request
+abbrev pub IsEnough : Asked → List ℕ → Type 0
+IsEnough (Capability c) = IsFull
+IsEnough (Entry e) = HasFailed
+
 -- an answer without its value
 abbrev pub without_value : {V : Type 0} → Result V ToolFault → Result (Unit {0}) ToolFault
 without_value (Ok v) = Ok tt
 without_value (Err e) = Err e
 
--- a call on an entry did its work, and answered whether its texts are sound
-abbrev pub DidCheck : (Bool → List ℕ → Result (List ℕ) ToolFault → Type 0) → Option (List ℕ)
-    → Option (List ℕ) → Option (List ℕ) → Option (List ℕ) → Result Bool ToolFault → Type 0
-DidCheck due left0 left1 held0 held1 answer =
+-- a call did its work, and answered whether texts are sound
+abbrev pub DidCheck : (Bool → List ℕ → Result (List ℕ) ToolFault → Type 0) → (List ℕ → Type 0)
+    → Option (List ℕ) → Option (List ℕ) → Option (List ℕ) → Option (List ℕ) → Result Bool ToolFault
+    → Type 0
+DidCheck due enough left0 left1 held0 held1 answer =
     (sound : Bool) × IfOk answer (λ s. s ≡ sound)
-    × DidCall (due sound) HasFailed left0 left1 held0 held1 (without_value answer)
+    × DidCall (due sound) enough left0 left1 held0 held1 (without_value answer)

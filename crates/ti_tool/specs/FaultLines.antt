@@ -6,8 +6,10 @@ use Rattle.ti_draft.specs.Unfit.{encode_fault_word}
 use Rattle.ti_cap.specs.FaultNames.{cap_fault_word}
 use Rattle.ti_tool.specs.declared.fault.ToolFault.{ToolFault}
 use Rattle.ti_tool.specs.declared.fault.ToolFault.TheVariants as fault
-use Rattle.ti_tool.specs.declared.params.WordFault.{WordFault}
-use Rattle.ti_tool.specs.declared.params.WordFault.TheVariants as words
+use Rattle.ti_line.specs.declared.params.WordFault.{WordFault}
+use Rattle.ti_line.specs.declared.params.WordFault.TheVariants as words
+use Rattle.ti_line.specs.declared.no_line.LineFault.{LineFault}
+use Rattle.ti_line.specs.declared.no_line.LineFault.TheVariants as line
 
 -- the name of a fault and its place, after what is at fault
 abbrev pub place_line : List ℕ → List ℕ → ℕ → List ℕ
@@ -33,16 +35,12 @@ abbrev pub words_line : WordFault → List ℕ
 words_line words.TooMany = codes "parameters: more than nine\n"
 words_line (words.BadWord which) = codes "parameter " ++ decimal which ++ codes ": bad word\n"
 
--- the line on both widths
-abbrev pub widths_line : List ℕ
-widths_line = codes "convert: both widths\n"
-
--- the lines on both forms of an output
-abbrev pub cap_forms_line : List ℕ
-cap_forms_line = codes "cap: both forms\n"
-
-abbrev pub expand_forms_line : List ℕ
-expand_forms_line = codes "expand: both forms\n"
+-- the line on what a command line can't ask for
+abbrev pub line_fault_line : LineFault → List ℕ
+line_fault_line line.BothFormsOfCap = codes "cap: both forms\n"
+line_fault_line line.BothFormsOfExpand = codes "expand: both forms\n"
+line_fault_line line.BothWidths = codes "convert: both widths\n"
+line_fault_line (line.Words why) = words_line why
 
 -- the line on an answer, none where it has no fault
 abbrev pub answer_line : {V : Type 0} → Result V ToolFault → List ℕ

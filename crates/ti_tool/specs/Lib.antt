@@ -1,5 +1,3 @@
-pub mod Params
-pub mod Looks
 pub mod Labels
 pub mod Listing
 pub mod Names

@@ -13,8 +13,8 @@ use Rattle.ti_words.specs.declared.Width.{Width}
 use Rattle.ti_words.specs.declared.Width.TheVariants.{Legacy, Wide}
 use Rattle.ti_words.specs.Texts.{TextValue, AbsentText, CancelledText, TextOf}
 use Rattle.ti_words.specs.Value.{EntryValue}
-use Rattle.ti_tool.specs.declared.look.Look.{Look}
-use Rattle.ti_tool.specs.declared.look.NameForm.{NameForm}
+use Rattle.ti_line.specs.declared.look.Look.{Look}
+use Rattle.ti_line.specs.declared.look.NameForm.{NameForm}
 use Rattle.ti_tool.specs.Labels.{label_of, own_label, own_names}
 
 -- a word and a label, and after the label nothing, or a blank and a word; No has no line

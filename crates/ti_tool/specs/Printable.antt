@@ -14,11 +14,11 @@ use Rattle.ti_escape.specs.Laws.{is_printable}
 use Rattle.ti_escape.specs.declared.form.Form.TheVariants as forms
 use Rattle.ti_expand.specs.declared.values.Value.{Value}
 use Rattle.ti_pad.specs.Setting.{Setting}
-use Rattle.ti_tool.specs.declared.look.Look.{Look}
-use Rattle.ti_tool.specs.declared.look.NameForm.TheVariants as name_forms
-use Rattle.ti_tool.specs.declared.look.Naming.{Naming}
-use Rattle.ti_tool.specs.declared.look.Output.TheVariants as outputs
-use Rattle.ti_tool.specs.Results.{IsCappedAs, IsCheckedAs, IsExpandedAs, IsShownAs}
+use Rattle.ti_line.specs.declared.look.Look.{Look}
+use Rattle.ti_line.specs.declared.look.NameForm.TheVariants as name_forms
+use Rattle.ti_line.specs.declared.look.Naming.{Naming}
+use Rattle.ti_line.specs.declared.look.Output.TheVariants as outputs
+use Rattle.ti_tool.specs.Results.{IsCappedAs, IsDueFor, IsDueFrom, IsJudgement, IsListed}
 
 -- so many lines, each of them characters from the space to `~`, and one newline
 pub record ArePrintableLines (count : ℕ) (out : List ℕ) : Type 0 where
@@ -75,12 +75,12 @@ checked_lines v =
 
 abbrev pub ShowIsPrintable : Type 0
 ShowIsPrintable = (look : Look) (input out : List ℕ) → look.form ≡ forms.Notation
-    → look.naming.form ≡ name_forms.Notation → IsShownAs look input (Ok out)
+    → look.naming.form ≡ name_forms.Notation → IsDueFrom (IsListed look) input (Ok out)
     → (v : EntryValue) × Spells input v × ArePrintableLines (listed_lines v) out
 
 abbrev pub CheckIsPrintable : Type 0
 CheckIsPrintable = (naming : Naming) (input out : List ℕ) (sound : Bool)
-    → naming.form ≡ name_forms.Notation → IsCheckedAs naming sound input (Ok out)
+    → naming.form ≡ name_forms.Notation → IsDueFrom (IsJudgement naming sound) input (Ok out)
     → (v : EntryValue) × Spells input v × ArePrintableLines (checked_lines v) out
 
 abbrev pub CapIsPrintable : Type 0
@@ -90,5 +90,5 @@ CapIsPrintable = (parameters : List Value) (input out : List ℕ)
 abbrev pub ExpandIsPrintable : Type 0
 ExpandIsPrintable = (names : NameTable) (name : List ℕ) (parameters : List Value)
     (setting : Setting) (input out : List ℕ)
-    → IsExpandedAs names name parameters setting (outputs.Line forms.Notation) input (Ok out)
+    → IsDueFrom (IsDueFor names name parameters setting (outputs.Line forms.Notation)) input (Ok out)
     → ArePrintableLines 1 out

@@ -1,5 +1,5 @@
 -- What each call of the program makes of the bytes that it read.
-use Rattle.std.specs.Prelude.{◌≡◌, ◌≤◌, ◌<◌, ◌⊎◌, ℕ, Bool, false, length, List, Result, Ok, Err, Some, None, pos, replicate, Option}
+use Rattle.std.specs.Prelude.{◌≡◌, ◌≤◌, ◌<◌, ◌⊎◌, ℕ, Bool, true, false, length, List, Result, Ok, Err, Some, None, pos, replicate, Option}
 use Rattle.ti_cap.specs.Tree.{Sequence}
 use Rattle.ti_cap.specs.Spelling.{Writes}
 use Rattle.ti_cap.specs.Refusal.{IsRefusal, IsFaultless}
@@ -22,13 +22,19 @@ use Rattle.ti_pad.specs.Setting.{Setting}
 use Rattle.ti_pad.specs.Padded.{padded_text}
 use Rattle.ti_draft.specs.Canonical.{canonical}
 use Rattle.ti_draft.specs.Unfit.{encode_fault}
-use Rattle.ti_tool.specs.declared.look.Look.{Look}
-use Rattle.ti_tool.specs.declared.look.Naming.{Naming}
-use Rattle.ti_tool.specs.declared.look.Output.{Output}
-use Rattle.ti_tool.specs.Looks.{look_asked, naming_asked, output_asked, output_bytes}
+use Rattle.ti_line.specs.declared.look.Look.{Look}
+use Rattle.ti_line.specs.declared.look.Naming.{Naming}
+use Rattle.ti_line.specs.declared.look.Output.{Output}
+use Rattle.ti_line.specs.Looks.{look_asked, naming_asked, output_asked, output_bytes}
 use Rattle.ti_tool.specs.Verdicts.{AreVerdicts}
 use Rattle.ti_tool.specs.Listing.{entry_lines}
 use Rattle.ti_tool.specs.Names.{IsCalled}
+use Rattle.ti_line.specs.declared.request.Asked.{Asked}
+use Rattle.ti_line.specs.declared.request.Asked.TheVariants.{Capability, Entry}
+use Rattle.ti_line.specs.declared.request.OfCapability.{OfCapability}
+use Rattle.ti_line.specs.declared.request.OfCapability.TheVariants as of_cap
+use Rattle.ti_line.specs.declared.request.OfEntry.{OfEntry}
+use Rattle.ti_line.specs.declared.request.OfEntry.TheVariants as of_entry
 use Rattle.ti_tool.specs.declared.fault.ToolFault.{ToolFault}
 use Rattle.ti_tool.specs.declared.fault.ToolFault.TheVariants as fault
 
@@ -87,40 +93,35 @@ abbrev pub IsDueFor : NameTable → List ℕ → List Value → Setting → Outp
 IsDueFor names name parameters setting output v answer =
     (text : TextValue) × IsCalled names name v text × IsDue text parameters setting output answer
 
--- the result of `expand` as it is asked for, or the first fault
-abbrev pub IsExpandedAs : NameTable → List ℕ → List Value → Setting → Output → List ℕ
+-- what is due for the bytes of an entry: their refusal, or what is due for the entry that they spell
+abbrev pub IsDueFrom : (EntryValue → Result (List ℕ) ToolFault → Type 0) → List ℕ
     → Result (List ℕ) ToolFault → Type 0
-IsExpandedAs names name parameters setting output input answer =
+IsDueFrom due input answer =
     ((refused : Refused) × (refusal input ≡ Some refused) × (answer ≡ Err (fault.Entry refused)))
-    ⊎ ((v : EntryValue) × Spells input v
-    × IsDueFor names name parameters setting output v answer)
+    ⊎ ((v : EntryValue) × Spells input v × due v answer)
 
--- of a common name: its bytes, or the same in hex
+-- the result of `expand` of a common name: its bytes, or the same in hex
 abbrev pub IsExpanded : List ℕ → List Value → Setting → Bool → List ℕ
     → Result (List ℕ) ToolFault → Type 0
 IsExpanded name parameters setting hex =
-    IsExpandedAs tables.Common name parameters setting (output_asked hex false)
+    IsDueFrom (IsDueFor tables.Common name parameters setting (output_asked hex false))
 
--- the result of `show` as it is asked for, or the refusal of the entry
-abbrev pub IsShownAs : Look → List ℕ → Result (List ℕ) ToolFault → Type 0
-IsShownAs look input (Ok out) = (v : EntryValue) × Spells input v × (out ≡ entry_lines look v)
-IsShownAs look input (Err (fault.Entry refused)) = refusal input ≡ Some refused
-IsShownAs look input (Err _) = ⊥
+-- the lines of `show`
+abbrev pub IsListed : Look → EntryValue → Result (List ℕ) ToolFault → Type 0
+IsListed look v answer = answer ≡ Ok (entry_lines look v)
 
 -- by the common names, with names as they stand in the entry, and texts in hex
 abbrev pub IsShown : List ℕ → Result (List ℕ) ToolFault → Type 0
-IsShown = IsShownAs (look_asked false false false)
+IsShown = IsDueFrom (IsListed (look_asked false false false))
 
--- the lines of `check`, which are those of sound texts alone or not, or the refusal of the entry
-abbrev pub IsCheckedAs : Naming → Bool → List ℕ → Result (List ℕ) ToolFault → Type 0
-IsCheckedAs naming sound input (Ok out) =
-    (v : EntryValue) × Spells input v × AreVerdicts naming v out sound
-IsCheckedAs naming sound input (Err (fault.Entry refused)) = refusal input ≡ Some refused
-IsCheckedAs naming sound input (Err _) = ⊥
+-- the lines of `check`, which are those of sound texts alone or not
+abbrev pub IsJudgement : Naming → Bool → EntryValue → Result (List ℕ) ToolFault → Type 0
+IsJudgement naming sound v (Ok out) = AreVerdicts naming v out sound
+IsJudgement naming sound v (Err e) = ⊥
 
 -- by the common names, with names as they stand in the entry
 abbrev pub IsChecked : Bool → List ℕ → Result (List ℕ) ToolFault → Type 0
-IsChecked = IsCheckedAs (naming_asked false false false)
+IsChecked sound = IsDueFrom (IsJudgement (naming_asked false false false) sound)
 
 -- the canonical bytes of an entry, or why it has none
 abbrev pub IsEncoding : EntryValue → Result (List ℕ) ToolFault → Type 0
@@ -135,6 +136,29 @@ in_width (Some width) v = record v { width = width }
 
 -- the result of `convert`, or the first fault
 abbrev pub IsConverted : Option Width → List ℕ → Result (List ℕ) ToolFault → Type 0
-IsConverted width input answer =
-    ((refused : Refused) × (refusal input ≡ Some refused) × (answer ≡ Err (fault.Entry refused)))
-    ⊎ ((v : EntryValue) × Spells input v × IsEncoding (in_width width v) answer)
+IsConverted width = IsDueFrom (λ v. IsEncoding (in_width width v))
+
+-- ---- what is due for a request
+
+-- on a capability
+abbrev pub IsOutputOf : OfCapability → List Value → List ℕ → Result (List ℕ) ToolFault → Type 0
+IsOutputOf (of_cap.Cap output) parameters = IsCappedAs parameters output
+IsOutputOf (of_cap.Trace form) parameters = IsTraced parameters form
+
+-- on an entry, whose texts are sound or not
+abbrev pub IsDueOn : OfEntry → List Value → Bool → EntryValue → Result (List ℕ) ToolFault → Type 0
+IsDueOn (of_entry.Show look) parameters sound = IsListed look
+IsDueOn (of_entry.Check naming) parameters sound = IsJudgement naming sound
+IsDueOn (of_entry.Expand e) parameters sound =
+    IsDueFor e.name.names e.name.name.now parameters e.padding e.output
+IsDueOn (of_entry.Convert width) parameters sound = λ v. IsEncoding (in_width width v)
+
+-- on the bytes that were read
+abbrev pub IsAnswer : Asked → List Value → Bool → List ℕ → Result (List ℕ) ToolFault → Type 0
+IsAnswer (Capability c) parameters sound = IsOutputOf c parameters
+IsAnswer (Entry e) parameters sound = IsDueFrom (IsDueOn e parameters sound)
+
+-- only `check` finds that texts are not sound
+abbrev pub Finds : Asked → Bool → Type 0
+Finds (Entry (of_entry.Check naming)) sound = Unit {0}
+Finds _ sound = sound ≡ true

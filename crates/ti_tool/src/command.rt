@@ -4,5 +4,4 @@ pub mod cap;
 pub mod check;
 pub mod convert;
 pub mod expand;
-pub mod show;
 pub mod trace;

@@ -3,12 +3,12 @@
 //! A line is put together before any byte of it is written. No memory is taken.
 
 ghost use Rattle.std.specs.Prelude.{◌≡◌, ◌≤◌, ◌+◌, ◌++◌, codes, decimal, flat_map, length};
-ghost use Rattle.ti_tool.specs.FaultLines.{fault_line, place_line, words_line};
+ghost use Rattle.ti_tool.specs.FaultLines.{fault_line, line_fault_line, place_line, words_line};
 
 use crate::fault::ToolFault;
-use crate::params::WordFault;
 use arrayvec::ArrayVec;
 use itoa::Buffer;
+use ti_line::{LineFault, WordFault};
 
 /// The most bytes of a line.
 const MOST_BYTES: usize = 80;
@@ -18,15 +18,6 @@ const MOST_WORD_BYTES: usize = 30;
 
 /// A line on a fault.
 pub type FaultLine = ArrayVec<u8, MOST_BYTES>;
-
-/// The line on both flags of `convert`.
-pub const BOTH_WIDTHS: &[u8] = b"convert: both widths\n";
-
-/// The line on both forms of the output of `cap`.
-pub const CAP_BOTH_FORMS: &[u8] = b"cap: both forms\n";
-
-/// The line on both forms of the output of `expand`.
-pub const EXPAND_BOTH_FORMS: &[u8] = b"expand: both forms\n";
 
 /// The pieces of a line one after another.
 fn line_of(pieces: &[&[u8]]) -> FaultLine
@@ -93,7 +84,7 @@ pub fn fault_line(fault: &ToolFault) -> FaultLine
 }
 
 /// The line on words that are no parameters.
-pub fn words_line(fault: WordFault) -> FaultLine
+fn words_line(fault: WordFault) -> FaultLine
     ensures { result.items ≡ words_line fault }
 {
     match fault {
@@ -101,5 +92,17 @@ pub fn words_line(fault: WordFault) -> FaultLine
         WordFault::BadWord { which } => {
             number_line(b"parameter ", which as u128, b": bad word\n")
         }
+    }
+}
+
+/// The line on what a command line can't ask for.
+pub fn line_fault_line(fault: LineFault) -> FaultLine
+    ensures { result.items ≡ line_fault_line fault }
+{
+    match fault {
+        LineFault::BothFormsOfCap => line_of(&[b"cap: both forms\n"]),
+        LineFault::BothFormsOfExpand => line_of(&[b"expand: both forms\n"]),
+        LineFault::BothWidths => line_of(&[b"convert: both widths\n"]),
+        LineFault::Words(why) => words_line(why),
     }
 }

@@ -6,11 +6,11 @@ ghost use Rattle.ti_words.specs.AllNames.{name_in};
 ghost use Rattle.ti_tool.specs.Labels.{label_of};
 ghost use Rattle.ti_tool.specs.inner.Label.{label_bytes};
 
-use crate::look::NameForm;
 use itoa::Buffer;
 use std::alloc::{AllocError, Allocator};
 use ti_entry::Extended;
 use ti_escape::push_label as push_escaped;
+use ti_line::NameForm;
 use ti_words::{Kind, NameTable};
 
 /// The label of a line. What it says is looked up when the line is written.

@@ -1,7 +1,7 @@
 //! Laws of the program's results, each the contract of a function that does nothing.
 
 ghost use Rattle.ti_tool.specs.Printable.{CapIsPrintable, CheckIsPrintable, ExpandIsPrintable, ShowIsPrintable};
-ghost use Rattle.ti_tool.specs.Laws.{CapHasOneResult, CheckHasOneResult, CheckHasOneVerdict, ConvertHasOneResult, ExpandHasOneResult, ShowHasOneResult, TraceHasOneResult, WideAndBack};
+ghost use Rattle.ti_tool.specs.Laws.{CheckHasOneVerdict, HasOneAnswer, WideAndBack};
 
 /// Where an entry of the legacy format is converted to the one with numbers of 32 bits and back, its canonical bytes
 /// come out.
@@ -9,15 +9,10 @@ pub fn wide_and_back()
     ensures { WideAndBack }
 {}
 
-/// For given parameters and bytes that are read, each call has at most one result, or fault, that is due.
+/// For a request and the bytes that are read at most one result, or fault, is due.
 pub fn results_are_one()
-    ensures cap { CapHasOneResult }
-    ensures trace { TraceHasOneResult }
-    ensures show { ShowHasOneResult }
-    ensures check { CheckHasOneResult }
+    ensures one { HasOneAnswer }
     ensures verdict { CheckHasOneVerdict }
-    ensures expand { ExpandHasOneResult }
-    ensures convert { ConvertHasOneResult }
 {}
 
 /// Under `--escape` a result is as many lines as are due, each of printable ASCII characters and one newline, whatever

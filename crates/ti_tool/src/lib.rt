@@ -1,7 +1,9 @@
 //! The program `ti` as functions from the bytes read to the bytes written.
 #![tactic(auto)]
 
-mod asked;
+mod answer;
+mod call;
+mod calls;
 mod command;
 mod expansion;
 mod fault;
@@ -10,8 +12,6 @@ mod item_line;
 mod label;
 pub mod laws;
 mod listing;
-mod look;
-mod params;
 mod program;
 mod result;
 mod source;
@@ -20,15 +20,9 @@ mod terminals;
 mod text_name;
 mod verdict;
 
-pub use command::cap::{cap_as, cap_run};
-pub use command::check::{check, check_as};
-pub use command::convert::convert;
-pub use command::expand::{expand_as, expand_named};
-pub use command::show::{show, show_as};
-pub use command::trace::trace_run;
+pub use call::carry_out;
+pub use calls::{cap_run, check, convert, expand_named, show};
 pub use fault::ToolFault;
-pub use look::{Look, NameForm, Naming, Output};
-pub use params::{WordFault, read_params};
 pub use program::{run, run_at};
 pub use terminals::Terminals;
-pub use text_name::TextName;
+pub use ti_line::{WordFault, read_params};

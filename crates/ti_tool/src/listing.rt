@@ -8,10 +8,10 @@ ghost use Rattle.ti_tool.specs.Listing.{standard_flag, standard_number, standard
 
 use crate::item_line::{push_flag, push_number, push_text};
 use crate::label::Label;
-use crate::look::{Look, NameForm};
 use std::alloc::{AllocError, Allocator};
 use ti_entry::{Entry, Extended};
 use ti_escape::push_notation;
+use ti_line::{Look, NameForm};
 use ti_words::{Kind, NameTable, Width};
 
 /// Writes the lines of the flags.

@@ -3,14 +3,14 @@
 ghost use Rattle.std.specs.Prelude.{◌≡◌, ◌++◌, codes, Ok, IfOk, IfErr};
 ghost use Rattle.ti_tool.specs.declared.fault.ToolFault.TheVariants as fault;
 ghost use Rattle.ti_escape.specs.Forms.{formed};
-ghost use Rattle.ti_tool.specs.Looks.{output_bytes as the_output_bytes};
+ghost use Rattle.ti_line.specs.Looks.{output_bytes as the_output_bytes};
 ghost use Rattle.ti_tool.specs.Calls.{IsFailedWrite, Wrote};
 
 use crate::fault::ToolFault;
-use crate::look::Output;
 use std::alloc::{AllocError, Allocator};
 use std::io::Write;
 use ti_escape::{Form, formed_len, push_formed};
+use ti_line::Output;
 use ti_pad::write_out;
 
 /// The bytes in a form, and a newline.

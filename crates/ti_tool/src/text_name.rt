@@ -5,16 +5,8 @@ ghost use Rattle.ti_words.specs.Texts.{text_value};
 ghost use Rattle.ti_tool.specs.Names.{IsLabel, IsExtendedCalled, IsCalled};
 
 use ti_entry::{Entry, Extended};
+use ti_line::TextName;
 use ti_words::{Kind, NameTable, Text};
-
-/// The name of a text.
-#[derive(Clone, Copy, Debug)]
-pub struct TextName<'a> {
-    /// The name: `#` and an index, or a name.
-    pub name: &'a str,
-    /// The table in which it is looked up.
-    pub names: NameTable,
-}
 
 /// The most digits of an index.
 const MOST_DIGITS: usize = 5;

@@ -11,7 +11,8 @@ use ti_expand::Value;
 use ti_fixtures::capabilities::{CONDITIONAL, Expansion, PLAIN, REAL, nine};
 use ti_fixtures::traces::COLUMN;
 use ti_fixtures::{Endless, Sink, Source, Tally};
-use ti_tool::{Output, ToolFault, cap_as, cap_run};
+use ti_line::{Asked, OfCapability, Output};
+use ti_tool::{ToolFault, cap_run, carry_out};
 
 const NUMBERS: [Value<'static>; 9] = [Value::Num(7); 9];
 
@@ -159,8 +160,9 @@ fn outputs_have_the_form_that_is_asked(rt: HostRuntime) {
     for (output, expected) in FORMS {
         let mut written = Sink::new(rt.alloc());
         let mut input = Source::new(b"\x1b%p1%d^, ", 3);
-        let result = cap_as(rt.alloc(), &mut input, &NUMBERS, output, &mut written);
-        assert_that!(rt; result == Ok(()));
+        let asked = Asked::Capability(OfCapability::Cap(output));
+        let result = carry_out(rt.alloc(), &asked, &NUMBERS, &mut input, &mut written);
+        assert_that!(rt; result == Ok(true));
         assert_that!(rt; written.taken.as_slice() == expected);
     }
 }

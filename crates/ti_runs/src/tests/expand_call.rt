@@ -10,8 +10,9 @@ use ti_expand::Value;
 use ti_fixtures::capabilities::nine;
 use ti_fixtures::entries::{EXTENDED, SMALL, TEXT};
 use ti_fixtures::{Sink, Source};
+use ti_line::{Expand, OfEntry, Output, TextName};
 use ti_pad::Padding;
-use ti_tool::{Output, TextName, ToolFault, expand_as, expand_named};
+use ti_tool::{ToolFault, carry_out, expand_named};
 use ti_words::NameTable;
 
 /// What is asked of an entry: a text by its name, with one parameter and padding.
@@ -200,23 +201,18 @@ fn hex_output_ends_with_a_newline(rt: HostRuntime) -> Result<(), Fail> {
 fn expanded_as(alloc: Global, names: NameTable, output: Output) -> Result<Written, Fail> {
     let mut writer = Sink::new(alloc);
     let mut source = Source::new(UNCOMMON, 3);
-    let name = TextName {
-        name: "cmdch",
-        names,
-    };
-    let padding = padding_of(0, 1, false)?;
-    let parameters = [Value::Num(7); 9];
-    let result = expand_as(
-        alloc,
-        &mut source,
-        name,
-        &parameters,
-        &padding,
+    let asked = ti_line::Asked::Entry(OfEntry::Expand(Expand {
+        name: TextName {
+            name: "cmdch",
+            names,
+        },
+        padding: padding_of(0, 1, false)?,
         output,
-        &mut writer,
-    );
+    }));
+    let parameters = [Value::Num(7); 9];
+    let result = carry_out(alloc, &asked, &parameters, &mut source, &mut writer);
     Ok(Written {
-        result,
+        result: result.map(|_sound| ()),
         taken: writer.taken,
     })
 }

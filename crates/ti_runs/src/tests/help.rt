@@ -62,7 +62,7 @@ const HELP: [(&[&str], &[&str]); 10] = [
 
 /// What is shown of the help that words ask for.
 fn help_of(alloc: Global, words: &[&str]) -> Result<String, Fail> {
-    match read_line(alloc, words) {
+    match read_line(alloc, false, words) {
         Err(NoLine::Help(message)) => Ok(format!(in alloc; "{}", NoLine::Help(message))?),
         _ => Err(Fail::from("no help")),
     }
@@ -135,7 +135,7 @@ fn help_is_the_text_of_the_command(rt: HostRuntime) -> Result<(), Fail> {
 
 /// The text of the help for `show`.
 fn help_of_show(alloc: Global) -> Result<Message, Fail> {
-    match read_line(alloc, &["ti", "show", "--help"]) {
+    match read_line(alloc, false, &["ti", "show", "--help"]) {
         Err(NoLine::Help(message)) => Ok(message),
         _ => Err(Fail::from("no help")),
     }

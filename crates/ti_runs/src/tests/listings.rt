@@ -2,9 +2,13 @@
 
 use super::rows_of_show::UNCOMMON;
 use ti_escape::Form;
+use ti_expand::Value;
 use ti_fixtures::{Sink, Source, TMUX};
-use ti_tool::{Look, NameForm, Naming, check, check_as, show, show_as};
+use ti_line::{Asked, Look, NameForm, Naming, OfEntry};
+use ti_tool::{carry_out, check, show};
 use ti_words::NameTable;
+
+const ZEROS: [Value<'static>; 9] = [Value::Num(0); 9];
 
 /// The names of all capabilities, and the notation.
 const NAMING: Naming = Naming {
@@ -14,13 +18,13 @@ const NAMING: Naming = Naming {
 
 #[test]
 fn a_listing_has_the_look_that_is_asked(rt: HostRuntime) {
-    let look = Look {
+    let asked = Asked::Entry(OfEntry::Show(Look {
         naming: NAMING,
         form: Form::Notation,
-    };
+    }));
     let mut output = Sink::new(rt.alloc());
     let mut input = Source::new(UNCOMMON, 7);
-    assert_that!(rt; show_as(rt.alloc(), &mut input, look, &mut output) == Ok(()));
+    assert_that!(rt; carry_out(rt.alloc(), &asked, &ZEROS, &mut input, &mut output) == Ok(true));
     let lines = b"format: legacy\nnames: t\nflag xsb\ntext bel ^G\ntext cmdch \\E%p1%d\\^\\,\\s\n";
     assert_that!(rt; output.taken.as_slice() == lines.as_slice());
 }
@@ -29,7 +33,8 @@ fn a_listing_has_the_look_that_is_asked(rt: HostRuntime) {
 fn verdicts_have_the_names_that_are_asked(rt: HostRuntime) {
     let mut output = Sink::new(rt.alloc());
     let mut input = Source::new(UNCOMMON, 7);
-    assert_that!(rt; check_as(rt.alloc(), &mut input, NAMING, &mut output) == Ok(true));
+    let asked = Asked::Entry(OfEntry::Check(NAMING));
+    assert_that!(rt; carry_out(rt.alloc(), &asked, &ZEROS, &mut input, &mut output) == Ok(true));
     let lines = b"text bel ok depth 0 bound 1\ntext cmdch ok depth 1 bound 15\n";
     assert_that!(rt; output.taken.as_slice() == lines.as_slice());
 }

@@ -1,95 +1,105 @@
-//! Words that are read as a command line.
+//! Words that are read as a command line, and what it asks for.
 
 use std::test::Fail;
-use ti_line::read_line;
+use ti_line::{NoLine, Request, read_line};
 
-/// Words, and the line that they are read as.
-const READ: [(&[&str], &str); 26] = [
+/// Words, what they ask for, and the first two parameters.
+const READ: [(&[&str], &str, &str); 23] = [
     (
         &["ti", "cap", "n:7"],
-        "Cap { hex: false, escape: false, params: [\"n:7\"] }",
+        "Capability(Cap(Raw))",
+        "[Num(7), Num(0)]",
     ),
-    (
-        &["ti", "cap"],
-        "Cap { hex: false, escape: false, params: [] }",
-    ),
+    (&["ti", "cap"], "Capability(Cap(Raw))", "[Num(0), Num(0)]"),
     (
         &["ti", "cap", "n:4", "--hex", "n:9"],
-        "Cap { hex: true, escape: false, params: [\"n:4\", \"n:9\"] }",
+        "Capability(Cap(Line(Hex)))",
+        "[Num(4), Num(9)]",
     ),
     (
-        &["ti", "cap", "n:-5", "s:-x", "s:", "", "s:\u{e9}\u{1}"],
-        "Cap { hex: false, escape: false, params: [\"n:-5\", \"s:-x\", \"s:\", \"\", \"s:\u{e9}\\u{1}\"] }",
+        &["ti", "cap", "s:-x", "n:-5", "s:", "s:\u{e9}\u{1}"],
+        "Capability(Cap(Raw))",
+        "[Text([45, 120]), Num(-5)]",
     ),
     (
-        &["ti", "cap", "--", "-5", "--hex"],
-        "Cap { hex: false, escape: false, params: [\"-5\", \"--hex\"] }",
+        &["ti", "cap", "s:", "s:\u{e9}\u{1}"],
+        "Capability(Cap(Raw))",
+        "[Text([]), Text([195, 169, 1])]",
     ),
     (
-        &["ti", "cap", "help"],
-        "Cap { hex: false, escape: false, params: [\"help\"] }",
+        &["ti", "cap", "--", "s:--hex", "n:-5"],
+        "Capability(Cap(Raw))",
+        "[Text([45, 45, 104, 101, 120]), Num(-5)]",
     ),
     (
         &["ti", "trace", "n:7"],
-        "Trace { escape: false, params: [\"n:7\"] }",
+        "Capability(Trace(Hex))",
+        "[Num(7), Num(0)]",
     ),
     (
         &["ti", "trace", "n:4", "--escape", "s:-x"],
-        "Trace { escape: true, params: [\"n:4\", \"s:-x\"] }",
+        "Capability(Trace(Notation))",
+        "[Num(4), Text([45, 120])]",
     ),
     (
-        &["ti", "trace", "--", "--escape"],
-        "Trace { escape: false, params: [\"--escape\"] }",
+        &["ti", "show"],
+        "Entry(Show(Look { naming: Naming { table: Common, form: Raw }, form: Hex }))",
+        "[Num(0), Num(0)]",
     ),
-    (&["ti", "show"], "Show { escape: false, all_names: false }"),
     (
         &["ti", "show", "--escape"],
-        "Show { escape: true, all_names: false }",
+        "Entry(Show(Look { naming: Naming { table: Common, form: Notation }, form: Notation }))",
+        "[Num(0), Num(0)]",
     ),
     (
         &["ti", "show", "--all-names"],
-        "Show { escape: false, all_names: true }",
+        "Entry(Show(Look { naming: Naming { table: All, form: Raw }, form: Hex }))",
+        "[Num(0), Num(0)]",
     ),
     (
         &["ti", "check"],
-        "Check { escape: false, all_names: false }",
+        "Entry(Check(Naming { table: Common, form: Raw }))",
+        "[Num(0), Num(0)]",
     ),
     (
         &["ti", "check", "--all-names"],
-        "Check { escape: false, all_names: true }",
+        "Entry(Check(Naming { table: All, form: Raw }))",
+        "[Num(0), Num(0)]",
     ),
     (
         &["ti", "check", "--escape"],
-        "Check { escape: true, all_names: false }",
+        "Entry(Check(Naming { table: Common, form: Notation }))",
+        "[Num(0), Num(0)]",
     ),
     (
         &["ti", "cap", "--escape", "n:1"],
-        "Cap { hex: false, escape: true, params: [\"n:1\"] }",
-    ),
-    (
-        &["ti", "cap", "--escape", "--hex"],
-        "Cap { hex: true, escape: true, params: [] }",
+        "Capability(Cap(Line(Notation)))",
+        "[Num(1), Num(0)]",
     ),
     (
         &["ti", "expand", "--all-names", "--escape", "acsc"],
-        "Expand(Expand { name: \"acsc\", hex: false, escape: true, all_names: true, rate: 0, lines: 1, xon: false, params: [] })",
+        "Entry(Expand(Expand { name: TextName { name: \"acsc\", names: All }, padding: Padding { rate: 0, lines: 1, xon: false, pad: 0 }, output: Line(Notation) }))",
+        "[Num(0), Num(0)]",
     ),
-    (&["ti", "convert"], "Convert { wide: false, narrow: false }"),
+    (
+        &["ti", "convert"],
+        "Entry(Convert(None))",
+        "[Num(0), Num(0)]",
+    ),
     (
         &["ti", "convert", "--wide"],
-        "Convert { wide: true, narrow: false }",
+        "Entry(Convert(Some(Wide)))",
+        "[Num(0), Num(0)]",
     ),
     (
         &["ti", "convert", "--narrow"],
-        "Convert { wide: false, narrow: true }",
-    ),
-    (
-        &["ti", "convert", "--narrow", "--wide"],
-        "Convert { wide: true, narrow: true }",
+        "Entry(Convert(Some(Legacy)))",
+        "[Num(0), Num(0)]",
     ),
     (
         &["ti", "expand", "cup"],
-        "Expand(Expand { name: \"cup\", hex: false, escape: false, all_names: false, rate: 0, lines: 1, xon: false, params: [] })",
+        "Entry(Expand(Expand { name: TextName { name: \"cup\", names: Common }, padding: Padding { rate: 0, lines: 1, xon: false, pad: 0 }, output: Raw }))",
+        "[Num(0), Num(0)]",
     ),
     (
         &[
@@ -104,24 +114,75 @@ const READ: [(&[&str], &str); 26] = [
             "s:$<5>",
             "n:1",
         ],
-        "Expand(Expand { name: \"#0\", hex: true, escape: false, all_names: false, rate: 1000000, lines: 65535, xon: true, params: [\"s:$<5>\", \"n:1\"] })",
+        "Entry(Expand(Expand { name: TextName { name: \"#0\", names: Common }, padding: Padding { rate: 1000000, lines: 65535, xon: true, pad: 0 }, output: Line(Hex) }))",
+        "[Text([36, 60, 53, 62]), Num(1)]",
     ),
     (
         &["ti", "expand", "bel", "n:1", "--lines", "0", "--rate=0"],
-        "Expand(Expand { name: \"bel\", hex: false, escape: false, all_names: false, rate: 0, lines: 0, xon: false, params: [\"n:1\"] })",
+        "Entry(Expand(Expand { name: TextName { name: \"bel\", names: Common }, padding: Padding { rate: 0, lines: 0, xon: false, pad: 0 }, output: Raw }))",
+        "[Num(1), Num(0)]",
     ),
     (
         &["ti", "expand", "--", "-X"],
-        "Expand(Expand { name: \"-X\", hex: false, escape: false, all_names: false, rate: 0, lines: 1, xon: false, params: [] })",
+        "Entry(Expand(Expand { name: TextName { name: \"-X\", names: Common }, padding: Padding { rate: 0, lines: 1, xon: false, pad: 0 }, output: Raw }))",
+        "[Num(0), Num(0)]",
     ),
 ];
 
+/// Words of which the line has a fault, and the fault.
+const FAULTY: [(&[&str], &str); 8] = [
+    (&["ti", "cap", "help"], "BadWord 1"),
+    (&["ti", "cap", "n:1", "", "s:"], "BadWord 2"),
+    (&["ti", "cap", "--", "-5", "--hex"], "BadWord 1"),
+    (&["ti", "trace", "--", "--escape"], "BadWord 1"),
+    (&["ti", "cap", "--escape", "--hex", "x"], "BothFormsOfCap"),
+    (
+        &["ti", "expand", "--escape", "--hex", "bel", "x"],
+        "BothFormsOfExpand",
+    ),
+    (
+        &[
+            "ti", "expand", "bel", "s:", "s:", "s:", "s:", "s:", "s:", "s:", "s:", "s:", "s:",
+        ],
+        "TooMany",
+    ),
+    (&["ti", "convert", "--narrow", "--wide"], "BothWidths"),
+];
+
 #[test]
-fn words_are_read_as_lines(rt: HostRuntime) -> Result<(), Fail> {
-    for (words, expected) in READ.iter() {
-        let line = read_line(rt.alloc(), words).ok().ok_or("no line")?;
-        let text = format!(in rt.alloc(); "{line:?}")?;
+fn words_are_read_as_requests(rt: HostRuntime) -> Result<(), Fail> {
+    for (words, asked_text, parameters_text) in READ.iter() {
+        let Ok(request) = read_line(rt.alloc(), false, words) else {
+            return Err(Fail::from("no line"));
+        };
+        let Request { parameters, asked } = request;
+        let text = format!(in rt.alloc(); "{asked:?}")?;
+        assert_that!(rt; text.as_str() == *asked_text);
+        let text = format!(in rt.alloc(); "{:?}", &parameters[..2])?;
+        assert_that!(rt; text.as_str() == *parameters_text);
+    }
+    Ok(())
+}
+
+#[test]
+fn lines_have_faults(rt: HostRuntime) -> Result<(), Fail> {
+    for (words, expected) in FAULTY.iter() {
+        let Err(NoLine::Fault(fault)) = read_line(rt.alloc(), false, words) else {
+            return Err(Fail::from("no fault"));
+        };
+        let text = format!(in rt.alloc(); "{fault}")?;
         assert_that!(rt; text.as_str() == *expected);
     }
+    Ok(())
+}
+
+/// Names go to a terminal in the notation alone.
+#[test]
+fn a_terminal_asks_for_the_notation_of_names(rt: HostRuntime) -> Result<(), Fail> {
+    let Ok(Request { asked, .. }) = read_line(rt.alloc(), true, &["ti", "check"]) else {
+        return Err(Fail::from("no line"));
+    };
+    let text = format!(in rt.alloc(); "{asked:?}")?;
+    assert_that!(rt; text.as_str() == "Entry(Check(Naming { table: Common, form: Notation }))");
     Ok(())
 }

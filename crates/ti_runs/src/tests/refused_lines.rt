@@ -49,7 +49,7 @@ const REFUSED: [(&[&str], &str); 21] = [
 
 /// What is shown of the refusal of words.
 fn refusal_of(alloc: Global, words: &[&str]) -> Result<String, Fail> {
-    match read_line(alloc, words) {
+    match read_line(alloc, false, words) {
         Err(NoLine::Refused(message)) => { Ok(format!(in alloc; "{}", NoLine::Refused(message))?) }
         _ => Err(Fail::from("no refusal")),
     }
@@ -107,7 +107,7 @@ fn words_that_are_no_line_end_with_status_two(rt: HostRuntime) {
 #[test]
 fn a_refusal_is_written_in_full(rt: HostRuntime) -> Result<(), Fail> {
     let words = ["ti", "show", "--hex"];
-    let Err(NoLine::Refused(message)) = read_line(rt.alloc(), &words) else {
+    let Err(NoLine::Refused(message)) = read_line(rt.alloc(), false, &words) else {
         return Err(Fail::from("no refusal"));
     };
     let end = end_of(rt.alloc(), &words, SMALL);

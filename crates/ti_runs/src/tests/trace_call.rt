@@ -10,7 +10,8 @@ use ti_escape::Form;
 use ti_expand::Value;
 use ti_fixtures::traces::{COLUMN, COLUMN_OF_7};
 use ti_fixtures::{Sink, Source, Tally};
-use ti_tool::{ToolFault, trace_run};
+use ti_line::{Asked, OfCapability};
+use ti_tool::{ToolFault, carry_out};
 use ti_trace::trace;
 
 const NUMBERS: [Value<'static>; 9] = [Value::Num(7); 9];
@@ -24,9 +25,10 @@ fn traced<A: Allocator + Copy>(
 ) -> Written {
     let mut source = source;
     let mut writer = writer;
-    let result = trace_run(alloc, &mut source, parameters, Form::Hex, &mut writer);
+    let asked = Asked::Capability(OfCapability::Trace(Form::Hex));
+    let result = carry_out(alloc, &asked, parameters, &mut source, &mut writer);
     Written {
-        result,
+        result: result.map(|_sound| ()),
         taken: writer.taken,
     }
 }

@@ -1,22 +1,18 @@
 //! `check`: each text of an entry analysed as a capability.
 //!
-//! One pass over the texts, of which equal ones in a row are analysed once; the whole listing is built before the first byte of it is written.
+//! One pass over the texts, of which equal ones in a row are analysed once. A text that is no output string, such as a
+//! pattern of input, can have a fault in an entry that is right.
 
-ghost use Rattle.std.specs.Prelude.{◌⊎◌, ◌≡◌, IfOk, IfErr};
+ghost use Rattle.std.specs.Prelude.{IfOk};
 ghost use Rattle.ti_tool.specs.Verdicts.{AreVerdicts, IsExtendedLine, IsStandardLine};
-ghost use Rattle.ti_tool.specs.Calls.{DidCheck, without_value, IsFailedWrite};
-ghost use Rattle.ti_tool.specs.Results.{IsChecked, IsCheckedAs};
 ghost use Rattle.ti_tool.specs.inner.Verdict.{AddsLines};
 
-use crate::asked::naming_asked;
-use crate::fault::ToolFault;
+use crate::answer::Answer;
 use crate::label::Label;
-use crate::look::{NameForm, Naming};
-use crate::result::write_result;
 use crate::verdict::{judge, push_line};
 use std::alloc::{AllocError, Allocator};
-use std::io::{Read, Write};
-use ti_entry::{Entry, EntryReader, Extended, read_from};
+use ti_entry::{Entry, Extended};
+use ti_line::{NameForm, Naming};
 use ti_words::{Kind, NameTable, Text};
 
 /// Writes the lines of the standard texts, and answers whether none has a fault.
@@ -70,72 +66,19 @@ fn push_extended<A: Allocator>(
     Ok(sound)
 }
 
-/// The lines of an entry, and whether no text has a fault.
-#[derive(Drop)]
-struct Verdicts<A: Allocator> {
-    lines: Vec<u8, A>,
-    sound: bool,
-}
-
 /// The lines of an entry.
-fn verdicts_of<A: Allocator + Copy>(
+pub fn verdicts_of<A: Allocator + Copy>(
     alloc: A,
     naming: Naming,
     entry: &Entry<'_>,
-) -> Result<Verdicts<A>, AllocError>
-    ensures { IfOk result (λ v. AreVerdicts naming entry.now v.lines.items v.sound) }
+) -> Result<Answer<A>, AllocError>
+    ensures { IfOk result (λ v. AreVerdicts naming entry.now v.bytes.items v.sound) }
 {
     let mut lines = Vec::new(alloc);
     let standard = push_standard(&mut lines, naming.table, entry)?;
     let extended = push_extended(&mut lines, naming.form, &entry.extended())?;
-    Ok(Verdicts {
-        lines,
+    Ok(Answer {
+        bytes: lines,
         sound: standard && extended,
     })
-}
-
-/// Analyses each text of the entry that the reader gives, and writes a line for each that is present, in the order of
-/// [`show`](crate::show): its depth and bound, or its fault with the place. Texts are called as `naming` says. The bound is
-/// that of text parameters without bytes. The result is whether no text has a fault.
-///
-/// A text that is no output string, such as a pattern of input, can have a fault in an entry that is right.
-///
-/// Nothing is written before the whole listing is there: after a fault other than `Write` the writer is as it was.
-///
-/// # Errors
-///
-/// In this order: `Read` or `Entry` where there is no entry to be had, `Write`; `Memory` where a growth is refused.
-pub fn check_as<A: Allocator + Copy, R: Read, W: Write>(
-    alloc: A,
-    reader: &mut R,
-    naming: Naming,
-    writer: &mut W,
-) -> Result<bool, ToolFault>
-    ensures did { DidCheck (IsCheckedAs naming)
-        (R.remaining reader.old) (R.remaining reader.new)
-        (W.contents writer.old) (W.contents writer.new) result }
-    // After a fault other than `Write` the writer is as it was.
-    ensures unwritten { IfErr result (λ e. IsFailedWrite e ⊎ (writer.new ≡ writer.old)) }
-{
-    let mut kept = EntryReader::new();
-    read_from(&mut kept, reader)?;
-    let entry = kept.finish()?;
-    let verdicts = verdicts_of(alloc, naming, &entry)?;
-    write_result(writer, verdicts.lines.as_slice())?;
-    Ok(verdicts.sound)
-}
-
-/// [`check_as`] by the common names, and names as they stand in the entry.
-pub fn check<A: Allocator + Copy, R: Read, W: Write>(
-    alloc: A,
-    reader: &mut R,
-    writer: &mut W,
-) -> Result<bool, ToolFault>
-    ensures did { DidCheck IsChecked
-        (R.remaining reader.old) (R.remaining reader.new)
-        (W.contents writer.old) (W.contents writer.new) result }
-    // After a fault other than `Write` the writer is as it was.
-    ensures unwritten { IfErr result (λ e. IsFailedWrite e ⊎ (writer.new ≡ writer.old)) }
-{
-    check_as(alloc, reader, naming_asked(false, false, false), writer)
 }

@@ -1,6 +1,6 @@
 use Rattle.std.proofs.Common.{refl}
 use Rattle.clap.specs.Words.{kind_of}
-use Rattle.ti_line.specs.Line.{texts_of}
+use Rattle.ti_line.specs.Requests.{texts_of}
 use Rattle.ti_line.proofs.ExplainsLemmas.{explains}
 use Rattle.ti_line.proofs.read.read_line.Goals as goal
 

@@ -1,7 +1,8 @@
 use Rattle.std.proofs.Common.{◌∙◌, Ok, Err, ap, is_some, sym}
 use Rattle.clap.specs.Words.{found_of, rows_of}
-use Rattle.ti_line.specs.Line.{texts_of}
+use Rattle.ti_line.specs.Requests.{IsAnswered, texts_of}
 use Rattle.ti_line.proofs.FaultlessLemmas.{has_line}
+use Rattle.ti_line.proofs.LawsLemmas.{some_is}
 use Rattle.ti_line.proofs.TiAppLemmas.{fails_again, ti_asks, ti_fails}
 use Rattle.ti_line.proofs.read.read_words.Goals as goal
 
@@ -10,8 +11,8 @@ returns-in_err-matches-clause-kinds c =
     let failed = ti_fails {T = Unit {0}} _ _ (Err c.in_err-matches.field-0.0) c.in_ok-program.ensures c.in_err-matches.ensures.kinds in
     fails_again _ c.in_err-matches.field-0.0 c.from_residual-in_err-matches.result c.from_residual-in_err-matches.ensures.1 failed
 
-pub line_of-requires : goal.line_of-requires
-line_of-requires c =
+pub request_of-requires : goal.request_of-requires
+request_of-requires c =
     let asked = ti_asks _ _ c.in_ok-matches.matches c.in-Some.command.now (rows_of (found_of c.in-Some.given.now)) c.in_ok-program.ensures c.in_ok-matches.ensures.matches
     (sym c.in-Some.ensures.name) (sym c.in-Some.ensures.rows) in
     let line = has_line (texts_of c.args.words.now) (ti_fails _ _ (Ok c.in_ok-matches.matches) c.in_ok-program.ensures c.in_ok-matches.ensures.kinds) in
@@ -22,6 +23,7 @@ returns-clause-kinds c = ti_fails _ _ (Ok c.in_ok-matches.matches) c.in_ok-progr
 
 pub returns-clause-read : goal.returns-clause-read
 returns-clause-read c =
-    sym (ti_asks _ _ c.in_ok-matches.matches c.in-Some.command.now (rows_of (found_of c.in-Some.given.now)) c.in_ok-program.ensures c.in_ok-matches.ensures.matches
-    (sym c.in-Some.ensures.name) (sym c.in-Some.ensures.rows))
-    ∙ c.in_ok-line_of-in-Some.ensures
+    let asked = ti_asks _ _ c.in_ok-matches.matches c.in-Some.command.now (rows_of (found_of c.in-Some.given.now)) c.in_ok-program.ensures c.in_ok-matches.ensures.matches
+    (sym c.in-Some.ensures.name) (sym c.in-Some.ensures.rows) in
+    let line = has_line (texts_of c.args.words.now) (ti_fails _ _ (Ok c.in_ok-matches.matches) c.in_ok-program.ensures c.in_ok-matches.ensures.kinds) in
+    (line.0, line.1, some_is _ (λ l. IsAnswered c.args.terminal l c.request_of.result) line.0 c.request_of.ensures (asked ∙ line.1))

@@ -1,0 +1,10 @@
+use Rattle.ti_line.proofs.matches.request_of.Goals as goal
+
+pub returns-in-cap : goal.returns-in-cap
+returns-in-cap c = rw c.in-cap.is (c.cap.ensures c.args.terminal)
+
+pub returns-in-trace : goal.returns-in-trace
+returns-in-trace c = rw c.in-trace.is (c.trace.ensures c.args.terminal)
+
+pub returns-in-convert : goal.returns-in-convert
+returns-in-convert c = rw c.in-convert.is (c.convert.ensures c.args.terminal)

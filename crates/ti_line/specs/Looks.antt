@@ -1,0 +1,52 @@
+-- How results look: as the flags of a line ask for, or plainly.
+use Rattle.std.specs.Prelude.{ℕ, Bool, true, false, List, ◌++◌, codes}
+use Rattle.ti_words.specs.declared.all_names.NameTable.{NameTable}
+use Rattle.ti_words.specs.declared.all_names.NameTable.TheVariants as tables
+use Rattle.ti_escape.specs.declared.form.Form.{Form}
+use Rattle.ti_escape.specs.declared.form.Form.TheVariants as forms
+use Rattle.ti_escape.specs.Forms.{formed}
+use Rattle.ti_line.specs.declared.look.Look.{Look}
+use Rattle.ti_line.specs.declared.look.NameForm.{NameForm}
+use Rattle.ti_line.specs.declared.look.NameForm.TheVariants as name_forms
+use Rattle.ti_line.specs.declared.look.Naming.{Naming}
+use Rattle.ti_line.specs.declared.look.Output.{Output}
+use Rattle.ti_line.specs.declared.look.Output.TheVariants as outputs
+
+-- an output: its bytes as they stand, or in a form with a newline
+abbrev pub output_bytes : Output → List ℕ → List ℕ
+output_bytes outputs.Raw bytes = bytes
+output_bytes (outputs.Line form) bytes = formed form bytes ++ codes "\n"
+
+-- what `--hex` and `--escape` ask for of an output
+abbrev pub output_asked : Bool → Bool → Output
+output_asked true escape = outputs.Line forms.Hex
+output_asked false true = outputs.Line forms.Notation
+output_asked false false = outputs.Raw
+
+-- what `--escape` asks for of the texts of a listing, or of a trace
+abbrev pub form_asked : Bool → Form
+form_asked true = forms.Notation
+form_asked false = forms.Hex
+
+-- what `--all-names` asks for
+abbrev pub names_asked : Bool → NameTable
+names_asked true = tables.All
+names_asked false = tables.Common
+
+-- how the names of an entry are written: in the notation if `--escape` asks for it, or if results go
+-- to a terminal, which would obey their bytes
+abbrev pub name_form_asked : Bool → Bool → NameForm
+name_form_asked true terminal = name_forms.Notation
+name_form_asked false true = name_forms.Notation
+name_form_asked false false = name_forms.Raw
+
+-- what a listing calls an entry and its capabilities, by the flags `--all-names` and `--escape`, and by
+-- whether it goes to a terminal
+abbrev pub naming_asked : Bool → Bool → Bool → Naming
+naming_asked all_names escape terminal =
+    record { table = names_asked all_names; form = name_form_asked escape terminal }
+
+-- the look of a listing by the same
+abbrev pub look_asked : Bool → Bool → Bool → Look
+look_asked all_names escape terminal =
+    record { naming = naming_asked all_names escape terminal; form = form_asked escape }

@@ -1,0 +1,98 @@
+-- What a line asks for, or why that can't be done, and what an answer tells of the words.
+use Rattle.std.specs.Prelude.{◌≡◌, ◌<◌, ◌&&◌, ℕ, Bool, true, false, List, Option, Some, None, Result, Ok, Err, length, map}
+use Rattle.std.specs.Borrow.{Bor}
+use Rattle.clap.specs.Words.{Text}
+use Rattle.ti_words.specs.declared.Width.{Width}
+use Rattle.ti_words.specs.declared.Width.TheVariants.{Legacy, Wide}
+use Rattle.ti_expand.specs.declared.values.Value.{Value}
+use Rattle.ti_pad.specs.Setting.{Setting}
+use Rattle.ti_line.specs.CommandLine.{Line, AsksForHelp, Cap, Trace, Show, Check, Expand, Convert, IsRefused, Reads}
+use Rattle.ti_line.specs.Looks.{form_asked, look_asked, names_asked, naming_asked, output_asked}
+use Rattle.ti_line.specs.Params.{AreParams, IsWordFault}
+use Rattle.ti_line.specs.declared.params.WordFault.{WordFault}
+use Rattle.ti_line.specs.declared.request.Asked.TheVariants.{Capability, Entry}
+use Rattle.ti_line.specs.declared.request.Expand as code
+use Rattle.ti_line.specs.declared.request.OfCapability.TheVariants as of_cap
+use Rattle.ti_line.specs.declared.request.OfEntry.TheVariants as of_entry
+use Rattle.ti_line.specs.declared.request.Request.{Request}
+use Rattle.ti_line.specs.declared.no_line.LineFault.{LineFault}
+use Rattle.ti_line.specs.declared.no_line.LineFault.TheVariants as fault
+use Rattle.ti_line.specs.declared.no_line.NoLine.{NoLine}
+use Rattle.ti_line.specs.declared.no_line.NoLine.TheVariants as no_line
+use Rattle.ti_line.specs.Message.{message_text}
+
+-- the texts that references lend
+abbrev pub texts_of : List (Bor Text) → List Text
+texts_of = map (λ t. t.now)
+
+-- the padding of the options of `expand`; the pad byte is 0
+abbrev pub setting_of : ℕ → ℕ → Bool → Setting
+setting_of rate lines xon = record { rate = rate; lines = lines; xon = xon; pad = 0 }
+
+-- the width that a flag of `convert` asks for; without one the entry keeps its own
+abbrev pub width_asked : Bool → Bool → Option Width
+width_asked true narrow = Some Wide
+width_asked false true = Some Legacy
+width_asked false false = None
+
+-- the words stand for no parameters, and why
+abbrev pub StandForNone : List Text → WordFault → Type 0
+StandForNone words why = IsWordFault words why × ((values : List Value) → ¬ AreParams words values)
+
+-- what a line asks for, by whether results go to a terminal; of two flags that exclude each other at
+-- most one is given, and the words of the parameters stand for them
+abbrev pub Asks : Bool → Line → Request → Type 0
+Asks terminal (Cap hex escape words) r =
+    (hex && escape ≡ false) × AreParams words r.parameters
+    × (r.asked ≡ Capability (of_cap.Cap (output_asked hex escape)))
+Asks terminal (Trace escape words) r =
+    AreParams words r.parameters × (r.asked ≡ Capability (of_cap.Trace (form_asked escape)))
+Asks terminal (Show escape all_names) r =
+    r.asked ≡ Entry (of_entry.Show (look_asked all_names escape terminal))
+Asks terminal (Check escape all_names) r =
+    r.asked ≡ Entry (of_entry.Check (naming_asked all_names escape terminal))
+Asks terminal (Expand name hex escape all_names rate lines xon words) r =
+    (hex && escape ≡ false) × AreParams words r.parameters
+    × ((e : code.Expand) × (r.asked ≡ Entry (of_entry.Expand e))
+    × (e.name.name.now ≡ name) × (e.name.names ≡ names_asked all_names)
+    × (e.padding ≡ setting_of rate lines xon) × (e.output ≡ output_asked hex escape))
+Asks terminal (Convert wide narrow) r =
+    (wide && narrow ≡ false)
+    × (r.asked ≡ Entry (of_entry.Convert (width_asked wide narrow)))
+
+-- why that can't be done: both of two such flags are given, or else the words stand for no parameters
+abbrev pub HasFault : Line → LineFault → Type 0
+HasFault (Cap hex escape words) fault.BothFormsOfCap = hex && escape ≡ true
+HasFault (Cap hex escape words) (fault.Words why) =
+    (hex && escape ≡ false) × StandForNone words why
+HasFault (Trace escape words) (fault.Words why) = StandForNone words why
+HasFault (Expand name hex escape all_names rate lines xon words) fault.BothFormsOfExpand =
+    hex && escape ≡ true
+HasFault (Expand name hex escape all_names rate lines xon words) (fault.Words why) =
+    (hex && escape ≡ false) × StandForNone words why
+HasFault (Convert wide narrow) fault.BothWidths = wide && narrow ≡ true
+HasFault _ _ = ⊥
+
+-- a line is answered with what it asks for, or with its fault
+abbrev pub IsAnswered : Bool → Line → Result Request LineFault → Type 0
+IsAnswered terminal line (Ok request) = Asks terminal line request
+IsAnswered terminal line (Err why) = HasFault line why
+
+-- and words that are read as it the same way, or with out of memory
+abbrev pub IsReadAs : Bool → Line → Result Request NoLine → Type 0
+IsReadAs terminal line (Ok request) = Asks terminal line request
+IsReadAs terminal line (Err (no_line.Fault why)) = HasFault line why
+IsReadAs terminal line (Err why) = why ≡ no_line.Memory
+
+-- why the words give no request; out of memory says nothing of them
+abbrev pub Explains : List Text → NoLine → Type 0
+Explains words (no_line.Help message) = AsksForHelp words
+Explains words (no_line.Refused message) = IsRefused words
+Explains words (no_line.Fault why) = (line : Line) × Reads words line × HasFault line why
+Explains words no_line.Memory = Unit {0}
+
+-- what is said of the words is not empty
+abbrev pub HasText : NoLine → Type 0
+HasText (no_line.Help message) = 0 < length (message_text message)
+HasText (no_line.Refused message) = 0 < length (message_text message)
+HasText _ = Unit {0}

@@ -1,0 +1,73 @@
+//! The look that the flags of a line ask for.
+
+ghost use Rattle.std.specs.Prelude.{◌≡◌};
+ghost use Rattle.ti_line.specs.Requests.{width_asked as the_width_asked};
+ghost use Rattle.ti_line.specs.Looks.{form_asked as the_form_asked, look_asked as the_look_asked, names_asked as the_names_asked, naming_asked as the_naming_asked, output_asked as the_output_asked};
+
+use crate::look::{Look, NameForm, Naming, Output};
+use ti_escape::Form;
+use ti_words::{NameTable, Width};
+
+/// What `--hex` and `--escape` ask for of an output, of which at most one is given.
+pub fn output_asked(hex: bool, escape: bool) -> Output
+    ensures { result ≡ the_output_asked hex escape }
+{
+    match (hex, escape) {
+        (true, _) => Output::Line(Form::Hex),
+        (false, true) => Output::Line(Form::Notation),
+        (false, false) => Output::Raw,
+    }
+}
+
+/// What `--all-names` asks for.
+pub fn names_asked(all_names: bool) -> NameTable
+    ensures { result ≡ the_names_asked all_names }
+{
+    if all_names {
+        NameTable::All
+    } else {
+        NameTable::Common
+    }
+}
+
+/// What `--escape` asks for of the texts of a listing, or of a trace.
+pub fn form_asked(escape: bool) -> Form
+    ensures { result ≡ the_form_asked escape }
+{
+    if escape { Form::Notation } else { Form::Hex }
+}
+
+/// What a listing calls an entry and its capabilities, by its flags, and by whether it goes to a terminal.
+pub fn naming_asked(all_names: bool, escape: bool, terminal: bool) -> Naming
+    ensures { result ≡ the_naming_asked all_names escape terminal }
+{
+    Naming {
+        table: names_asked(all_names),
+        form: if escape || terminal {
+            NameForm::Notation
+        } else {
+            NameForm::Raw
+        },
+    }
+}
+
+/// The look of a listing by its flags, and by whether it goes to a terminal.
+pub fn look_asked(all_names: bool, escape: bool, terminal: bool) -> Look
+    ensures { result ≡ the_look_asked all_names escape terminal }
+{
+    Look {
+        naming: naming_asked(all_names, escape, terminal),
+        form: form_asked(escape),
+    }
+}
+
+/// The width that a flag of `convert` asks for.
+pub fn width_asked(wide: bool, narrow: bool) -> Option<Width>
+    ensures { result ≡ the_width_asked wide narrow }
+{
+    match (wide, narrow) {
+        (true, _) => Some(Width::Wide),
+        (false, true) => Some(Width::Legacy),
+        (false, false) => None,
+    }
+}

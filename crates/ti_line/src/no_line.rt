@@ -1,0 +1,51 @@
+//! Why there is no request.
+
+ghost use Rattle.std.specs.Prelude.{◌≡◌};
+ghost use Rattle.ti_line.specs.declared.no_line.LineFault.TheVariants as fault;
+
+use crate::message::Message;
+use crate::params::WordFault;
+use thiserror::Error;
+
+/// Why what a line asks for can't be done.
+#[derive(Clone, Copy, Debug, PartialEq, Eq, Error)]
+pub enum LineFault {
+    /// `cap` is to write its output in both forms.
+    #[error("BothFormsOfCap")]
+    BothFormsOfCap,
+    /// `expand` is to write its output in both forms.
+    #[error("BothFormsOfExpand")]
+    BothFormsOfExpand,
+    /// `convert` is to write both widths.
+    #[error("BothWidths")]
+    BothWidths,
+    /// The words of the parameters are none.
+    #[error("{0}")]
+    Words(WordFault),
+}
+
+impl From<WordFault> for LineFault {
+    ghost from_gives = { λ why e. e ≡ fault.Words why };
+
+    fn from(why: WordFault) -> LineFault {
+        LineFault::Words(why)
+    }
+}
+
+/// Why there is no request. Its `Display` is the text for the user, in full lines, of [`NoLine::Help`] and
+/// [`NoLine::Refused`].
+#[derive(Debug, Drop, Error)]
+pub enum NoLine {
+    /// Help or the version was asked for. The text goes where results go, and the status is 0.
+    #[error("{0}")]
+    Help(Message),
+    /// The words are no command line. The text goes where faults go, and the status is 2.
+    #[error("{0}")]
+    Refused(Message),
+    /// The words are a line, and what it asks for can't be done. The status is 2.
+    #[error("{0}")]
+    Fault(LineFault),
+    /// Out of memory.
+    #[error("Memory")]
+    Memory,
+}

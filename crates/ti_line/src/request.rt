@@ -1,0 +1,67 @@
+//! What a command line asks for, all of it valid.
+
+use crate::look::{Look, Naming, Output};
+use ti_escape::Form;
+use ti_expand::Value;
+use ti_pad::Padding;
+use ti_words::{NameTable, Width};
+
+/// What a command line asks for.
+#[derive(Debug, Drop)]
+pub struct Request<'a> {
+    /// The parameters of the capability or of the text; all are the number 0 where none are given or taken.
+    pub parameters: [Value<'a>; 9],
+    /// What is done.
+    pub asked: Asked<'a>,
+}
+
+/// What is asked of standard input.
+#[derive(Debug, Drop)]
+pub enum Asked<'a> {
+    /// Something of standard input as one capability.
+    Capability(OfCapability),
+    /// Something of standard input as an entry.
+    Entry(OfEntry<'a>),
+}
+
+/// What is asked of a capability.
+#[derive(Clone, Copy, Debug, PartialEq, Eq)]
+pub enum OfCapability {
+    /// To expand it.
+    Cap(Output),
+    /// To show what each of its tokens does, with texts in a form.
+    Trace(Form),
+}
+
+/// What is asked of an entry.
+#[derive(Debug, Drop)]
+pub enum OfEntry<'a> {
+    /// To list it.
+    Show(Look),
+    /// To analyse each of its texts.
+    Check(Naming),
+    /// To expand and pad one of its texts.
+    Expand(Expand<'a>),
+    /// To write it in its canonical layout, in a width or else in its own.
+    Convert(Option<Width>),
+}
+
+/// The text that is expanded, and how.
+#[derive(Debug, Drop)]
+pub struct Expand<'a> {
+    /// The name of the text.
+    pub name: TextName<'a>,
+    /// The padding.
+    pub padding: Padding,
+    /// How the output is written.
+    pub output: Output,
+}
+
+/// The name of a text.
+#[derive(Clone, Copy, Debug)]
+pub struct TextName<'a> {
+    /// The name: `#` and an index, or a name.
+    pub name: &'a str,
+    /// The table in which it is looked up.
+    pub names: NameTable,
+}

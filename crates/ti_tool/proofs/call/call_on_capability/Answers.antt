@@ -1,0 +1,29 @@
+use Rattle.std.proofs.lemmas.Result.{err_from_is_err_and}
+use Rattle.ti_tool.specs.Results.{IsOutputOf}
+use Rattle.ti_tool.specs.Calls.{IsFull}
+use Rattle.ti_tool.proofs.DidCallLemmas.{did_fail, did_write, did_not_read}
+use Rattle.ti_tool.proofs.IsDueLemmas.{output_never}
+use Rattle.ti_tool.proofs.ReadsIntoLemmas.{ReadsInto-empty, at_end}
+use Rattle.ti_tool.proofs.call.call_on_capability.Goals as goal
+
+pub returns-in_err-read_up_to-clause-did : goal.returns-in_err-read_up_to-clause-did
+returns-in_err-read_up_to-clause-did g c =
+    let p = err_from_is_err_and c.from_residual.result c.from_residual.ensures.1 in
+    rw (p.1, p.2) (did_not_read (IsOutputOf c.args.asked c.args.parameters.now) IsFull _ _ _ _ _ c.read_up_to.ensures.taken)
+
+pub returns-in_err-result-clause-did : goal.returns-in_err-result-clause-did
+returns-in_err-result-clause-did g c =
+    let p = err_from_is_err_and c.from_residual-in_err-result.result c.from_residual-in_err-result.ensures.1 in
+    rw (p.1, p.2)
+    (did_fail (IsOutputOf c.args.asked c.args.parameters.now) IsFull _ _ _ c.as_slice.result.now c.in_err-result.field-0.0
+    (ReadsInto-empty _ _ _ _ c.as_slice.result.now c.read_up_to.ensures.taken c.new-input.ensures c.as_slice.ensures.value)
+    (at_end _ c.read_up_to.new.bytes.items c.as_slice.result.now c.as_slice.ensures.value c.in_ok-read_up_to.ensures.end)
+    (output_never c.args.asked c.args.parameters.now _) c.in_err-result.ensures)
+
+pub returns-clause-did : goal.returns-clause-did
+returns-clause-did g c =
+    did_write (IsOutputOf c.args.asked c.args.parameters.now) IsFull _ _ _ _ c.as_slice.result.now c.in_ok-result.result.items c.as_slice-2.result.now c.write_result.result
+    (ReadsInto-empty _ _ _ _ c.as_slice.result.now c.read_up_to.ensures.taken c.new-input.ensures c.as_slice.ensures.value)
+    (at_end _ c.read_up_to.new.bytes.items c.as_slice.result.now c.as_slice.ensures.value c.in_ok-read_up_to.ensures.end)
+    c.in_ok-result.ensures
+    c.as_slice-2.ensures.value c.write_result.ensures.written c.write_result.ensures.fails

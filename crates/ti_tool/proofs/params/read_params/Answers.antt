@@ -1,7 +1,0 @@
-use Rattle.ti_line.specs.Line.{texts_of}
-use Rattle.ti_tool.proofs.AreParamsLemmas.{params_by}
-use Rattle.ti_tool.proofs.params.read_params.Goals as goal
-
-pub returns-clause-values : goal.returns-clause-values
-returns-clause-values c =
-    params_by (texts_of c.args.words.now) c.read_into-read.new.values c.read_into-read.result c.with.result c.with.ensures c.read_into-read.ensures.values

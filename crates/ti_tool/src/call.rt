@@ -1,0 +1,95 @@
+//! What is asked, done: reading, and writing what is due.
+//!
+//! Nothing is written before the whole result is there: after a fault other than `Write` the writer is as it was.
+
+ghost use Rattle.std.specs.Prelude.{◌⊎◌, ◌≡◌, IfErr, IfOk};
+ghost use Rattle.ti_line.specs.declared.request.Asked.TheVariants as asks;
+ghost use Rattle.ti_tool.specs.Calls.{DidCall, DidCheck, HasFailed, IsEnough, IsFailedWrite, IsFull};
+ghost use Rattle.ti_tool.specs.Results.{Finds, IsAnswer, IsDueFrom, IsDueOn, IsOutputOf};
+
+use crate::answer::{answer_of_capability, answer_of_entry};
+use crate::fault::ToolFault;
+use crate::result::write_result;
+use crate::source::read_up_to;
+use arrayvec::ArrayVec;
+use std::alloc::Allocator;
+use std::io::{Read, Write};
+use ti_entry::{EntryReader, read_from};
+use ti_expand::Value;
+use ti_line::{Asked, OfCapability, OfEntry};
+
+/// Takes what the reader gives as one capability, each byte of it as it stands. At most 32768 bytes of the input are kept,
+/// which is one more than a capability may have.
+fn call_on_capability<A: Allocator + Copy, R: Read, W: Write>(
+    alloc: A,
+    asked: OfCapability,
+    parameters: &[Value<'_>; 9],
+    reader: &mut R,
+    writer: &mut W,
+) -> Result<(), ToolFault>
+    ensures did { DidCall (IsOutputOf asked parameters.now) IsFull
+        (R.remaining reader.old) (R.remaining reader.new)
+        (W.contents writer.old) (W.contents writer.new) result }
+    ensures unwritten { IfErr result (λ e. IsFailedWrite e ⊎ (writer.new ≡ writer.old)) }
+{
+    let mut input = ArrayVec::new();
+    read_up_to(&mut input, reader)?;
+    let result = answer_of_capability(alloc, asked, parameters, input.as_slice())?;
+    write_result(writer, result.as_slice())
+}
+
+/// Takes what the reader gives as an entry. The result is whether no text that was analysed has a fault.
+fn call_on_entry<A: Allocator + Copy, R: Read, W: Write>(
+    alloc: A,
+    asked: &OfEntry<'_>,
+    parameters: &[Value<'_>; 9],
+    reader: &mut R,
+    writer: &mut W,
+) -> Result<bool, ToolFault>
+    ensures finds { IfOk result (Finds (asks.Entry asked.now)) }
+    ensures did { DidCheck (λ sound. IsDueFrom (IsDueOn asked.now parameters.now sound)) HasFailed
+        (R.remaining reader.old) (R.remaining reader.new)
+        (W.contents writer.old) (W.contents writer.new) result }
+    ensures unwritten { IfErr result (λ e. IsFailedWrite e ⊎ (writer.new ≡ writer.old)) }
+{
+    let mut kept = EntryReader::new();
+    read_from(&mut kept, reader)?;
+    let entry = kept.finish()?;
+    let answer = answer_of_entry(alloc, asked, parameters, &entry)?;
+    write_result(writer, answer.bytes.as_slice())?;
+    Ok(answer.sound)
+}
+
+/// Does what is asked: what the reader gives is taken as one capability or as an entry, and what is due for it is
+/// written. Each variable of a capability starts as 0. The result is false if `check` found a text with a fault.
+///
+/// Nothing is written before the whole result is there: after a fault other than `Write` the writer is as it was.
+///
+/// # Errors
+///
+/// In this order: `Read` if reading failed, `Entry` if the bytes are no entry, `NoSuchText` if the text is not there, `Cap`
+/// if it is no capability, `TextTooLong`, `TooMuch` if the padded text has more than 67108864 bytes, `Encode` if a number
+/// is above 32767 and the legacy format is asked for, or else if the canonical bytes would be more than 32768, which shared
+/// texts or wider numbers can lead to, `Write`; `Memory` where a growth is refused.
+pub fn carry_out<A: Allocator + Copy, R: Read, W: Write>(
+    alloc: A,
+    asked: &Asked<'_>,
+    parameters: &[Value<'_>; 9],
+    reader: &mut R,
+    writer: &mut W,
+) -> Result<bool, ToolFault>
+    ensures finds { IfOk result (Finds asked.now) }
+    ensures did { DidCheck (IsAnswer asked.now parameters.now) (IsEnough asked.now)
+        (R.remaining reader.old) (R.remaining reader.new)
+        (W.contents writer.old) (W.contents writer.new) result }
+    // After a fault other than `Write` the writer is as it was.
+    ensures unwritten { IfErr result (λ e. IsFailedWrite e ⊎ (writer.new ≡ writer.old)) }
+{
+    match asked {
+        Asked::Capability(asked) => {
+            call_on_capability(alloc, *asked, parameters, reader, writer)?;
+            Ok(true)
+        }
+        Asked::Entry(asked) => call_on_entry(alloc, asked, parameters, reader, writer),
+    }
+}
