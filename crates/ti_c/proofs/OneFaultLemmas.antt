@@ -44,7 +44,7 @@ none_entry_refused bytes v m q read (fault, m_is, refused) =
 -- bytes that spell an entry have none
 pub none_spelled_refused : (bytes : List ℕ) (v : EntryValue) (m q : ℕ) → Spells bytes v → ¬ IsEntryRefusedAs bytes m q
 none_spelled_refused bytes v m q spelled (fault, m_is, refused) =
-    let none : refusal bytes ≡ None = sym (ap (refusal_of (length bytes)) (only bytes v spelled).passes) in
+    let none : refusal bytes ≡ None = ap (refusal_of (length bytes)) (only bytes v spelled).passes in
     none_is_none (refusal bytes) (record { fault = fault; place = q }) none refused
   where
     none_is_none : (o : Option Refused) (r : Refused) → o ≡ None → o ≡ Some r → ⊥

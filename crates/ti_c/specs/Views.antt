@@ -13,14 +13,14 @@ use Rattle.ti_words.specs.Value.{EntryValue}
 use Rattle.ti_entry.specs.declared.finding.Position.{Position}
 use Rattle.ti_entry.specs.declared.finding.Position.TheVariants.{Standard, Extended}
 use Rattle.ti_entry.specs.Finding.{IsPosition, names_of}
-use Rattle.ti_entry.specs.Reading.{names_base}
+use Rattle.ti_entry.specs.Reading.{base_of_names}
 use Rattle.ti_c.specs.declared.view.Found.{Found}
 use Rattle.ti_c.specs.declared.view.View.{View}
 use Rattle.ti_c.specs.Entries.{flag_mark, text_shown}
 
 -- the view is of this entry: its bytes spell it, and its base is where the names are counted from
 abbrev pub IsOpen : View → EntryValue → Type 0
-IsOpen view v = Spells view.bytes.now v × (view.base ≡ names_base v)
+IsOpen view v = Spells view.bytes.now v × (view.base ≡ base_of_names v)
 
 -- ---- values: the number of a kind, a mark or a number, and the bytes of a text
 

@@ -15,7 +15,7 @@ pub encoded_reads : EncodedReads
 encoded_reads v none =
     let bytes = canonical v in
     let read = only bytes v (canonical_spells v none) in
-    ap (λ (r : Verdict). answer_under (refusal_of (length bytes) r) (content bytes)) (sym read.passes) ∙ ap Ok (sym read.same)
+    ap (λ (r : Verdict). answer_under (refusal_of (length bytes) r) (content bytes)) read.passes ∙ ap Ok (sym read.same)
 
 -- so is what an encoder answers, where it answers with them
 pub read_of : {V E : Type 0} (r : Result V E) (bytes_of : V → List ℕ) (v : EntryValue) → IfOk r (λ w. bytes_of w ≡ canonical v) → OnOk r (encode_fault v ≡ None)

@@ -5,7 +5,7 @@ use Rattle.std.specs.List.{concat, fold}
 use Rattle.std.proofs.Math.Seq.{take-append-add}
 use Rattle.std.proofs.lemmas.List.{take-append-le, take_all}
 use Rattle.ti_layout.specs.declared.fault.Refused.{Refused}
-use Rattle.ti_layout.specs.Checks.{Verdict, Passes, EndsEarly, Fails, verdict, refusal_of, failure_of}
+use Rattle.ti_layout.specs.Checks.{Verdict, Passes, Ends, Fails, verdict, refusal_of, failure_of}
 use Rattle.ti_layout.specs.Refusal.{checks, failure}
 use Rattle.ti_entry.specs.Reading.{Reading, length_before_failure, front_before_failure, reading_of, reading_after, final_answer, answer_under, answer_for}
 use Rattle.ti_entry.specs.Content.{content}
@@ -16,7 +16,7 @@ use Rattle.ti_layout.proofs.FailureLastsLemmas.{failure_stays}
 
 has_failed : (v : Verdict) (r : Refused) → failure_of v ≡ Some r → v ≡ Fails r
 has_failed Passes r h = absurd cc
-has_failed EndsEarly r h = absurd cc
+has_failed (Ends may_end) r h = absurd cc
 has_failed (Fails q) r h = let e : q ≡ r = cc in ap Fails e
 
 pub failure_lasts : FailureLasts
@@ -24,7 +24,7 @@ failure_lasts xs ys r h = ap failure_of (failure_stays xs ys r (has_failed (verd
 
 refuses : (len : ℕ) (v : Verdict) (r : Refused) → failure_of v ≡ Some r → refusal_of len v ≡ Some r
 refuses len Passes r h = absurd cc
-refuses len EndsEarly r h = absurd cc
+refuses len (Ends may_end) r h = absurd cc
 refuses len (Fails q) r h = h
 
 pub failure_refuses : FailureRefuses

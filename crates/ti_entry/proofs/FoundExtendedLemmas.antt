@@ -1,22 +1,25 @@
 -- Bytes that pass all checks spell what they are read as.
 use Rattle.std.proofs.Common.{◌≡◌, ℕ, zero, suc, ◌+◌, ◌-◌, ◌*◌, ◌%◌, ◌<◌, ◌≤◌, Bool, true, false, cond, ltb, leb, List, [], ◌∷◌, ◌++◌, map, length, get_or, take, drop, pos, inl, inr, refl, sym, ap, subst, ◌∙◌, arith}
 use Rattle.std.proofs.lemmas.List.{drop_all, take_all, length-take-le, length-drop}
-use Rattle.std.proofs.lemmas.Bool.{cases_lt, leb-true}
+use Rattle.std.proofs.lemmas.Bool.{cases_lt, le-ltb, leb-true, leb-false}
 use Rattle.std.proofs.lemmas.List.Concat.{flat_map-cons}
-use Rattle.std.specs.List.{AllByRecursion}
+use Rattle.std.specs.List.{AllByRecursion, flat_map}
 use Rattle.ti_base.specs.Limits.{most_entry_bytes}
 use Rattle.ti_words.specs.declared.Flag.{Flag}
 use Rattle.ti_words.specs.declared.Number.{Number}
 use Rattle.ti_words.specs.declared.Width.{Width}
 use Rattle.ti_words.specs.declared.Width.TheVariants.{Legacy}
-use Rattle.ti_layout.specs.declared.fault.Fault.TheVariants.{BadExtendedHeader, BadExtendedName, Unterminated}
+use Rattle.ti_layout.specs.declared.fault.Fault.TheVariants.{BadExtendedHeader, BadExtendedName, Unterminated, Trailing}
 use Rattle.ti_layout.specs.declared.part.Part.{Part}
 use Rattle.ti_words.specs.Word.{unsigned_at, word_at}
 use Rattle.ti_layout.specs.Layout.{standard, extended_after, no_capability, places, flags_end, numbers_from, offsets_from, names_from, end_of, extended_from}
 use Rattle.ti_words.specs.Spelling.{pad_len, FitsWidth, Spells, HasExtendedPart, IsText, IsName, Each, count_word, words_of, numbers_of, flags_of, pad, extended_names, mark_in}
 use Rattle.ti_layout.specs.Table.{ends_in, table_of, base_of}
-use Rattle.ti_layout.specs.Checks.{check, Passes, verdict, is_not_negative, sign_check, sign_checks, pad_checks, offset_checks, name_place_checks, all_name_place_checks, end_check, end_checks}
-use Rattle.ti_layout.specs.Refusal.{room_checks, extended_size_check, extended_size_checks, extended_front_checks, part_checks, extended_checks, checks_after_table, front_checks, section_checks, checks}
+use Rattle.ti_layout.specs.Checks.{check, Passes, Ends, Fails, verdict, refusal_at, is_not_negative, sign_check, sign_checks, pad_checks, offset_checks, ending_check, table_check, name_place_checks, all_name_place_checks, end_check}
+use Rattle.ti_layout.specs.declared.section.Half.TheVariants.{Extended}
+use Rattle.ti_layout.specs.declared.section.Section.TheVariants.{TableEnd, End}
+use Rattle.ti_layout.specs.Refusal.{room_check, extended_size_check, extended_header_checks, section_checks, standard_sections, extended_sections, checks}
+use Rattle.ti_layout.proofs.EndsLemmas.{SectionPasses, sections_pass, room_passes}
 use Rattle.ti_entry.specs.Content.{name_at, flags_in, numbers_in, content_with, content}
 use Rattle.ti_layout.proofs.PassesLemmas.{first_passes}
 use Rattle.ti_layout.proofs.WordLemmas.{IsBytes, below, above}
@@ -63,33 +66,41 @@ is_place bytes p fits h =
 pub record ExtendedPasses (bytes : List ℕ) (s x : Part) : Type 0 where
   pub outer_pad : Passes ≡ verdict (length bytes) (pad_checks bytes (end_of s))
   pub signs : (i : ℕ) → i < 3 → Passed (length bytes) (sign_check bytes BadExtendedHeader (extended_from s + 2 * i))
-  pub last_sign : Passed (length bytes) (sign_check bytes BadExtendedHeader (extended_from s + 8 + 2 * 0))
+  pub last_sign : Passed (length bytes) (sign_check bytes BadExtendedHeader (extended_from s + 8))
   pub fits : end_of x ≤ most_entry_bytes
   pub part : PartPasses bytes x
   pub whole : length bytes ≡ end_of x
 
-pub extended_passes : (bytes : List ℕ) (s x : Part) → Passes ≡ verdict (length bytes) (extended_checks bytes s x) → ExtendedPasses bytes s x
-extended_passes bytes s x k =
+-- the last check of all is the only one that is left where a whole entry ends
+end_is : (len end : ℕ) → verdict len (end_check end ∷ []) ≡ Ends true → len ≤ end
+end_is len end e =
+    elim (cases_lt end len) [
+      | inl lt ↦
+          let fails : verdict len (end_check end ∷ []) ≡ Fails (refusal_at Trailing end) = rw (le-ltb len (end + 1) (omega arith)) refl in
+          let never : Fails (refusal_at Trailing end) ≡ Ends true = sym fails ∙ e in absurd (cc)
+      | inr le ↦ le
+    ]
+
+pub extended_passes : (bytes : List ℕ) → SectionPasses bytes TableEnd → AllByRecursion (SectionPasses bytes) extended_sections → verdict (length bytes) (flat_map (section_checks bytes) (End ∷ [])) ≡ Ends true
+    → ExtendedPasses bytes (standard bytes) (extended_after (standard bytes) bytes)
+extended_passes bytes room k e =
     let len = length bytes in
-    let a = both_pass len (extended_front_checks bytes s x ++ part_checks bytes x) (end_checks bytes (end_of x)) k in
-    let b = both_pass len (extended_front_checks bytes s x) (part_checks bytes x) a.0 in
-    let c1 = room_checks s ++ pad_checks bytes (end_of s) in
-    let c2 = c1 ++ sign_checks bytes BadExtendedHeader (extended_from s) 3 in
-    let c3 = sign_checks bytes BadExtendedHeader (extended_from s + 8) 1 in
-    let f = both_pass len (c2 ++ c3) (extended_size_checks x) b.0 in
-    let f3 = both_pass len c2 c3 f.0 in
-    let f2 = both_pass len c1 (sign_checks bytes BadExtendedHeader (extended_from s) 3) f3.0 in
-    let f1 = both_pass len (room_checks s) (pad_checks bytes (end_of s)) f2.0 in
-    let size = first_passes len (extended_size_check x) [] f.1 in
-    let last = first_passes len (end_check bytes (end_of x)) [] a.1 in
-    let at_most : len ≤ end_of x = leb-true _ _ last.holds in
-    let at_least : end_of x ≤ len = last.long in
+    let s = standard bytes in
+    let x = extended_after s bytes in
+    let a = both_pass len (sign_checks bytes BadExtendedHeader (extended_from s) 3) (extended_header_checks bytes s) k.0 in
+    let first = first_passes len (room_check s) (pad_checks bytes (end_of s)) room in
+    let sign = first_passes len (sign_check bytes BadExtendedHeader (extended_from s + 8)) (extended_size_check x ∷ []) a.1 in
+    let size = first_passes len (extended_size_check x) [] sign.rest in
+    let part = part_passes bytes Extended k.1 in
+    let table = first_passes len (table_check (end_of x)) (map (ending_check bytes (table_of bytes x) (end_of x)) (places (offsets_from x) 2 x.texts)) part.endings in
+    let at_least : end_of x ≤ len = table.long in
+    let at_most : len ≤ end_of x = end_is len (end_of x) e in
     record {
-      outer_pad = f1.1;
-      signs = each_passed (sign_check bytes BadExtendedHeader) len (extended_from s) 2 3 f2.1;
-      last_sign = each_passed (sign_check bytes BadExtendedHeader) len (extended_from s + 8) 2 1 f3.1 0 (omega arith);
+      outer_pad = first.rest;
+      signs = each_passed (sign_check bytes BadExtendedHeader) len (extended_from s) 2 3 a.0;
+      last_sign = record { long = sign.long; holds = sign.holds };
       fits = leb-true _ _ size.holds;
-      part = part_passes bytes x b.1;
+      part = part;
       whole = omega arith;
     }
 
@@ -115,7 +126,7 @@ extended_found bytes s x fits is k =
     let c0 : IsCount bytes from = let at : from + 2 * 0 ≡ from = omega arith in subst (IsCount bytes) at (count_is bytes (from + 2 * 0) fits s0.long s0.holds) in
     let c1 : IsCount bytes (from + 2) = count_is bytes (from + 2) fits s1.long s1.holds in
     let c2 : IsCount bytes (from + 4) = count_is bytes (from + 4) fits s2.long s2.holds in
-    let c3 : IsCount bytes (from + 8) = let at : from + 8 + 2 * 0 ≡ from + 8 = omega arith in subst (IsCount bytes) at (count_is bytes (from + 8 + 2 * 0) fits s3.long s3.holds) in
+    let c3 : IsCount bytes (from + 8) = count_is bytes (from + 8) fits s3.long s3.holds in
     let n0 : length v.extended_flags ≡ unsigned_at 2 bytes from = flag_count bytes s x (base_of bytes x) ∙ ap (λ (p : Part). p.flags) is in
     let n1 : length v.extended_numbers ≡ unsigned_at 2 bytes (from + 2) = number_count bytes s x (base_of bytes x) ∙ ap (λ (p : Part). p.numbers) is in
     let n2 : length v.extended_texts ≡ unsigned_at 2 bytes (from + 4) = text_count bytes s x (base_of bytes x) ∙ ap (λ (p : Part). p.texts) is in
@@ -170,16 +181,13 @@ extended_found bytes s x fits is k =
 
 -- ---- the whole
 
-pub found : (bytes : List ℕ) → IsBytes bytes → Passes ≡ verdict (length bytes) (checks bytes) → Spells bytes (content bytes)
+pub found : (bytes : List ℕ) → IsBytes bytes → verdict (length bytes) (checks bytes) ≡ Ends true → Spells bytes (content bytes)
 found bytes fits h =
-    let len = length bytes in
-    let s = standard bytes in
-    let a = both_pass len (front_checks bytes s ++ section_checks bytes s) (checks_after_table bytes s) h in
-    let b = both_pass len (front_checks bytes s) (section_checks bytes s) a.0 in
-    by_end (leb len (end_of s)) refl (sections_found bytes fits b.0 b.1) a.1
+    let before = sections_pass bytes standard_sections (TableEnd ∷ (extended_sections ++ (End ∷ []))) (refl, (refl, (refl, (refl, (refl, (refl, (refl, tt))))))) h in
+    by_end (leb (length bytes) (end_of (standard bytes))) refl (sections_found bytes fits before.0) before.1
   where
     by_end : (b : Bool) → leb (length bytes) (end_of (standard bytes)) ≡ b → HasPlain bytes
-        → Passes ≡ verdict (length bytes) (cond b [] (extended_checks bytes (standard bytes) (extended_after (standard bytes) bytes)))
+        → verdict (length bytes) (flat_map (section_checks bytes) (TableEnd ∷ (extended_sections ++ (End ∷ [])))) ≡ Ends true
         → Spells bytes (content_with bytes (standard bytes) (cond b no_capability (extended_after (standard bytes) bytes)))
     by_end true e plain k =
         let le : length bytes ≤ end_of (standard bytes) = leb-true _ _ e in
@@ -194,7 +202,10 @@ found bytes fits h =
     by_end false e plain k =
         let s = standard bytes in
         let x = extended_after s bytes in
-        let p = extended_passes bytes s x k in
+        let above : end_of s < length bytes = omega (arith, leb-false (length bytes) (end_of s) e) in
+        let room = room_passes bytes (flat_map (section_checks bytes) (extended_sections ++ (End ∷ []))) above k in
+        let rest = sections_pass bytes extended_sections (End ∷ []) (refl, (refl, (refl, (refl, (refl, tt))))) room.ends in
+        let p = extended_passes bytes room.passes rest.0 rest.1 in
         let part = extended_found bytes s x fits refl p in
         let whole = p.whole in
         let fit = p.fits in

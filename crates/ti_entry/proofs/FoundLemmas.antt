@@ -15,8 +15,12 @@ use Rattle.ti_words.specs.Widths.{magic_number, number_size}
 use Rattle.ti_words.specs.Spelling.{pad_len, HasSections, magic, count_word, words_of, numbers_of, flags_of, pad}
 use Rattle.ti_words.specs.Texts.{is_nul}
 use Rattle.ti_layout.specs.Table.{table_of}
-use Rattle.ti_layout.specs.Checks.{Passes, verdict, sign_check, sign_checks, name_check, nul_check, name_checks, offset_checks, ending_check, table_check}
-use Rattle.ti_layout.specs.Refusal.{magic_check, size_check, named_check, magic_checks, size_checks, front_checks, part_checks, section_checks}
+use Rattle.ti_layout.specs.Checks.{verdict, sign_check, sign_checks, name_check, nul_check, offset_checks, ending_check, table_check}
+use Rattle.std.specs.List.{AllByRecursion}
+use Rattle.ti_layout.specs.declared.section.Half.TheVariants.{Standard}
+use Rattle.ti_layout.specs.declared.section.Section.TheVariants.{Magic, Header}
+use Rattle.ti_layout.specs.Refusal.{magic_check, size_check, named_check, size_checks, standard_sections}
+use Rattle.ti_layout.proofs.EndsLemmas.{SectionPasses}
 use Rattle.ti_entry.specs.Content.{flag_at, number_at, text_at, content_with}
 use Rattle.ti_layout.proofs.PlacesLemmas.{length_places}
 use Rattle.ti_layout.proofs.PassesLemmas.{first_passes}
@@ -54,13 +58,12 @@ pub record HasFront (bytes : List ℕ) : Type 0 where
   pub fits : end_of (standard bytes) ≤ most_entry_bytes
   pub named : 14 ≤ (standard bytes).flags_from
 
-pub front_is : (bytes : List ℕ) → IsBytes bytes → Passes ≡ verdict (length bytes) (front_checks bytes (standard bytes)) → HasFront bytes
-front_is bytes fits h =
+pub front_is : (bytes : List ℕ) → IsBytes bytes → SectionPasses bytes Magic → SectionPasses bytes Header → HasFront bytes
+front_is bytes fits started h =
     let len = length bytes in
-    let a = both_pass len (magic_checks bytes ++ sign_checks bytes BadHeader 2 5) (size_checks (standard bytes)) h in
-    let b = both_pass len (magic_checks bytes) (sign_checks bytes BadHeader 2 5) a.0 in
-    let m = first_passes len (magic_check bytes) [] b.0 in
-    let signs = each_passed (sign_check bytes BadHeader) len 2 2 5 b.1 in
+    let a = both_pass len (sign_checks bytes BadHeader 2 5) (size_checks (standard bytes)) h in
+    let m = first_passes len (magic_check bytes) [] started in
+    let signs = each_passed (sign_check bytes BadHeader) len 2 2 5 a.0 in
     let s0 = signs 0 (omega arith) in
     let s1 = signs 1 (omega arith) in
     let s2 = signs 2 (omega arith) in
@@ -102,20 +105,19 @@ pub record HasPlain (bytes : List ℕ) : Type 0 where
   pub table_size : length (table_of bytes (standard bytes)) ≡ (standard bytes).table
   pub sections : (x : Part) → HasSections (content_with bytes (standard bytes) x) (table_of bytes (standard bytes)) (drop (end_of (standard bytes)) bytes) bytes
 
-pub sections_found : (bytes : List ℕ) → IsBytes bytes → Passes ≡ verdict (length bytes) (front_checks bytes (standard bytes)) → Passes ≡ verdict (length bytes) (section_checks bytes (standard bytes)) → HasPlain bytes
-sections_found bytes fits ahead h =
+pub sections_found : (bytes : List ℕ) → IsBytes bytes → AllByRecursion (SectionPasses bytes) standard_sections → HasPlain bytes
+sections_found bytes fits h =
     let len = length bytes in
     let s = standard bytes in
     let size = unsigned_at 2 bytes 2 in
     let w = s.width in
-    let c = both_pass len (name_checks bytes s.flags_from) (part_checks bytes s) h in
-    let n = both_pass len (map (name_check bytes) (places 12 1 (s.flags_from - 13))) (nul_check bytes BadNames (s.flags_from - 1) ∷ []) c.0 in
+    let n = both_pass len (map (name_check bytes) (places 12 1 (s.flags_from - 13))) (nul_check bytes BadNames (s.flags_from - 1) ∷ []) h.1.1.0 in
     let each_name = each_passed (name_check bytes) len 12 1 (s.flags_from - 13) n.0 in
     let named = first_passes len (nul_check bytes BadNames (s.flags_from - 1)) [] n.1 in
-    let p = part_passes bytes s c.1 in
+    let p = part_passes bytes Standard h.1.1.1 in
     let at_end = first_passes len (table_check (end_of s)) (map (ending_check bytes (table_of bytes s) (end_of s)) (places (offsets_from s) 2 s.texts)) p.endings in
     let there : end_of s ≤ len = at_end.long in
-    let f = front_is bytes fits ahead in
+    let f = front_is bytes fits h.0 h.1.0 in
     let v = content_with bytes s s in
     let table = table_of bytes s in
     let rest = drop (end_of s) bytes in

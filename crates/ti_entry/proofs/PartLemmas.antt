@@ -14,11 +14,13 @@ use Rattle.ti_words.specs.Widths.{number_size}
 use Rattle.ti_words.specs.Spelling.{pad_len, FitsWidth, IsText, IsName, Each, words_of, numbers_of, flags_of, pad}
 use Rattle.ti_layout.specs.declared.fault.Fault.TheVariants.{BadExtendedName}
 use Rattle.ti_layout.specs.declared.part.Part.{Part}
-use Rattle.ti_layout.specs.Layout.{places, flags_end, numbers_from, offsets_from, names_from, table_from, end_of}
+use Rattle.ti_layout.specs.Layout.{places, flags_end, numbers_from, offsets_from, names_from, table_from, end_of, standard, extended_after}
 use Rattle.ti_layout.specs.Table.{text_from, table_of, base_of}
 use Rattle.ti_layout.specs.Checks.{Passes, verdict, sign_checks, flag_checks, pad_checks, number_checks, offset_checks, ending_checks, all_name_place_checks}
-use Rattle.ti_layout.specs.Refusal.{part_checks}
+use Rattle.ti_layout.specs.declared.section.Half.{Half}
+use Rattle.ti_layout.specs.Refusal.{part_of, text_checks, part_sections}
 use Rattle.ti_entry.specs.Content.{text_at, name_at, flags_in, numbers_in, texts_in}
+use Rattle.ti_layout.proofs.EndsLemmas.{SectionPasses}
 use Rattle.ti_layout.proofs.WordLemmas.{IsBytes}
 use Rattle.ti_layout.proofs.SectionReadLemmas.{both_pass}
 use Rattle.ti_draft.proofs.LengthLemmas.{length_word}
@@ -46,23 +48,35 @@ pub record PartPasses (bytes : List ℕ) (p : Part) : Type 0 where
   pub endings : Passes ≡ verdict (length bytes) (ending_checks bytes (table_of bytes p) (end_of p) (offsets_from p) p.texts)
   pub name_places : Passes ≡ verdict (length bytes) (all_name_place_checks bytes (table_of bytes p) (base_of bytes p) (end_of p) (places (names_from p) 2 p.names))
 
-pub part_passes : (bytes : List ℕ) (p : Part) → Passes ≡ verdict (length bytes) (part_checks bytes p) → PartPasses bytes p
-part_passes bytes p h =
+-- the four sections of a part pass
+pub part_passes : (bytes : List ℕ) (half : Half) → AllByRecursion (SectionPasses bytes) (part_sections half) → PartPasses bytes (part_of half (standard bytes) (extended_after (standard bytes) bytes))
+part_passes bytes half h =
     let len = length bytes in
-    let a = both_pass len _ _ h in
-    let b = both_pass len _ _ a.0 in
-    let c = both_pass len _ _ b.0 in
-    let d = both_pass len _ _ c.0 in
-    let e = both_pass len _ _ d.0 in
-    let t = both_pass len (ending_checks bytes (table_of bytes p) (end_of p) (offsets_from p) p.texts) _ a.1 in
-    record { flags = e.0; zero = e.1; numbers = d.1; offsets = c.1; names = b.1; endings = t.0; name_places = t.1 }
+    let p = part_of half (standard bytes) (extended_after (standard bytes) bytes) in
+    let flags = both_pass len (flag_checks bytes p.flags_from p.flags) (pad_checks bytes (flags_end p)) h.0 in
+    let numbers = both_pass len (number_checks bytes (number_size p.width) (numbers_from p) p.numbers) [] h.1.0 in
+    let offsets = both_pass len (offset_checks bytes p.table (offsets_from p) p.texts) [] h.1.1.0 in
+    let names = both_pass len (sign_checks bytes BadExtendedName (names_from p) p.names) (text_checks bytes p) h.1.1.1.0 in
+    let t = both_pass len (ending_checks bytes (table_of bytes p) (end_of p) (offsets_from p) p.texts) _ names.1 in
+    record { flags = flags.0; zero = flags.1; numbers = numbers.0; offsets = offsets.0; names = names.0; endings = t.0; name_places = t.1 }
 
-pub passes_part : (bytes : List ℕ) (p : Part) → PartPasses bytes p → Passes ≡ verdict (length bytes) (part_checks bytes p)
-passes_part bytes p h =
+pub passes_part : (bytes : List ℕ) (half : Half) → PartPasses bytes (part_of half (standard bytes) (extended_after (standard bytes) bytes)) → AllByRecursion (SectionPasses bytes) (part_sections half)
+passes_part bytes half h =
     let len = length bytes in
-    append_pass len _ _
-    (append_pass len _ _ (append_pass len _ _ (append_pass len _ _ (append_pass len _ _ h.flags h.zero) h.numbers) h.offsets) h.names)
-    (append_pass len (ending_checks bytes (table_of bytes p) (end_of p) (offsets_from p) p.texts) _ h.endings h.name_places)
+    let p = part_of half (standard bytes) (extended_after (standard bytes) bytes) in (
+      append_pass len (flag_checks bytes p.flags_from p.flags) (pad_checks bytes (flags_end p)) h.flags h.zero,
+      (
+        append_pass len (number_checks bytes (number_size p.width) (numbers_from p) p.numbers) [] h.numbers refl,
+        (
+          append_pass len (offset_checks bytes p.table (offsets_from p) p.texts) [] h.offsets refl,
+          (
+            append_pass len (sign_checks bytes BadExtendedName (names_from p) p.names) (text_checks bytes p) h.names
+                (append_pass len (ending_checks bytes (table_of bytes p) (end_of p) (offsets_from p) p.texts) _ h.endings h.name_places),
+            tt,
+          ),
+        ),
+      ),
+    )
 
 -- ---- the bytes of a part whose checks pass
 
@@ -136,8 +150,8 @@ pub record IsSpelled (w : Width) (base : ℕ) (s : Sections) : Type 0 where
   pub names : Each (IsName s.table base) s.name_offsets s.names
 
 -- the part that has these sections
-abbrev pub part_of : Width → ℕ → Sections → Part
-part_of w from s = record {
+abbrev pub part_with : Width → ℕ → Sections → Part
+part_with w from s = record {
   width = w;
   flags_from = from;
   flags = length s.flags;
@@ -161,12 +175,12 @@ pub record PartRead (bytes : List ℕ) (p : Part) (s : Sections) (rest : List �
 
 pub part_read : (bytes x rest : List ℕ) (w : Width) (from m base : ℕ) (s : Sections)
     → bytes ≡ x ++ (flags_of s.flags ++ (pad m ++ (numbers_of w s.numbers ++ (words_of s.offsets ++ (words_of s.name_offsets ++ (s.table ++ rest))))))
-    → length x ≡ from → flags_end (part_of w from s) % 2 ≡ pad_len m → IsSpelled w base s
-    → (texts_in bytes (part_of w from s) ≡ s.texts → base_of bytes (part_of w from s) ≡ base)
-    → PartRead bytes (part_of w from s) s rest
+    → length x ≡ from → flags_end (part_with w from s) % 2 ≡ pad_len m → IsSpelled w base s
+    → (texts_in bytes (part_with w from s) ≡ s.texts → base_of bytes (part_with w from s) ≡ base)
+    → PartRead bytes (part_with w from s) s rest
 part_read bytes x rest w from m base s e0 l0 even h base_is =
     let len = length bytes in
-    let p = part_of w from s in
+    let p = part_with w from s in
     let size = number_size w in
     let count = each_length (IsText s.table) s.offsets s.texts h.texts in
     let name_count = each_length (IsName s.table base) s.name_offsets s.names h.names in

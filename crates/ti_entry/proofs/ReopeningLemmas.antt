@@ -1,12 +1,14 @@
 -- Where the parts of bytes that are an entry lie.
-use Rattle.std.proofs.Common.{◌≡◌, ℕ, ◌+◌, ◌<◌, ◌≤◌, Bool, true, false, cond, leb, List, [], ◌++◌, length, refl, ap, arith}
-use Rattle.std.proofs.lemmas.Bool.{leb-true}
+use Rattle.std.proofs.Common.{◌≡◌, ℕ, ◌+◌, ◌<◌, ◌≤◌, Bool, true, false, leb, List, [], ◌++◌, length, refl, ap, arith}
+use Rattle.std.proofs.lemmas.Bool.{leb-false, leb-true}
 use Rattle.ti_base.specs.Limits.{most_entry_bytes}
-use Rattle.ti_layout.specs.Checks.{Passes, verdict}
+use Rattle.ti_layout.specs.Checks.{Ends, verdict}
 use Rattle.ti_layout.specs.Layout.{end_of, standard, extended_from, extended_after}
-use Rattle.ti_layout.specs.Refusal.{checks, checks_after_table, extended_checks, front_checks, section_checks}
+use Rattle.ti_layout.specs.Refusal.{checks, extended_sections, section_checks, standard_sections}
+use Rattle.ti_layout.specs.declared.section.Section.TheVariants.{End, TableEnd}
+use Rattle.ti_layout.proofs.EndsLemmas.{room_passes, sections_pass}
+use Rattle.std.specs.List.{flat_map}
 use Rattle.ti_layout.proofs.WordLemmas.{IsBytes}
-use Rattle.ti_layout.proofs.SectionReadLemmas.{both_pass}
 use Rattle.ti_entry.specs.Content.{content, extended}
 use Rattle.ti_entry.specs.Views.{IsWithin}
 use Rattle.std.proofs.Common.{zero, suc, ltb, ◌∷◌, ◌∙◌}
@@ -22,7 +24,7 @@ use Rattle.ti_layout.proofs.PassesLemmas.{first_passes}
 use Rattle.ti_words.specs.Spelling.{Spells}
 use Rattle.ti_words.specs.Value.{EntryValue}
 use Rattle.ti_words.specs.Word.{unsigned_at}
-use Rattle.ti_entry.specs.Reading.{names_base}
+use Rattle.ti_entry.specs.Reading.{base_of_names}
 use Rattle.ti_entry.proofs.NamedItemsLemmas.{sizes_are_base}
 use Rattle.ti_entry.proofs.PartLemmas.{PartPasses}
 use Rattle.ti_entry.proofs.SpelledExtendedLemmas.{only}
@@ -59,19 +61,16 @@ base_within bytes x named there p = by_names x.names refl
         let below : base + o < length table = ltb-true _ _ passed.holds in
         omega arith
 
-pub parts_fit : (bytes : List ℕ) → IsBytes bytes → Passes ≡ verdict (length bytes) (checks bytes) → PartsFit bytes
+pub parts_fit : (bytes : List ℕ) → IsBytes bytes → verdict (length bytes) (checks bytes) ≡ Ends true → PartsFit bytes
 parts_fit bytes fits h =
-    let len = length bytes in
-    let s = standard bytes in
-    let a = both_pass len (front_checks bytes s ++ section_checks bytes s) (checks_after_table bytes s) h in
-    let b = both_pass len (front_checks bytes s) (section_checks bytes s) a.0 in
-    let front = front_is bytes fits b.0 in
-    let plain = sections_found bytes fits b.0 b.1 in
-    by_end (leb len (end_of s)) refl front.named plain.fits plain.there a.1
+    let before = sections_pass bytes standard_sections (TableEnd ∷ (extended_sections ++ (End ∷ []))) (refl, (refl, (refl, (refl, (refl, (refl, (refl, tt))))))) h in
+    let front = front_is bytes fits before.0.0 before.0.1.0 in
+    let plain = sections_found bytes fits before.0 in
+    by_end (leb (length bytes) (end_of (standard bytes))) refl front.named plain.fits plain.there before.1
   where
     by_end : (b : Bool) → leb (length bytes) (end_of (standard bytes)) ≡ b → 14 ≤ (standard bytes).flags_from
         → end_of (standard bytes) ≤ most_entry_bytes → end_of (standard bytes) ≤ length bytes
-        → Passes ≡ verdict (length bytes) (cond b [] (extended_checks bytes (standard bytes) (extended_after (standard bytes) bytes)))
+        → verdict (length bytes) (flat_map (section_checks bytes) (TableEnd ∷ (extended_sections ++ (End ∷ [])))) ≡ Ends true
         → PartsFit bytes
     by_end true e named fits there k =
         let le : length bytes ≤ end_of (standard bytes) = leb-true _ _ e in
@@ -85,9 +84,11 @@ parts_fit bytes fits h =
     by_end false e named fits there k =
         let s = standard bytes in
         let x = extended_after s bytes in
-        let p = extended_passes bytes s x k in
+        let above : end_of s < length bytes = omega (arith, leb-false (length bytes) (end_of s) e) in
+        let room = room_passes bytes (flat_map (section_checks bytes) (extended_sections ++ (End ∷ []))) above k in
+        let rest = sections_pass bytes extended_sections (End ∷ []) (refl, (refl, (refl, (refl, (refl, tt))))) room.ends in
+        let p = extended_passes bytes room.passes rest.0 rest.1 in
         let whole = p.whole in
-        let at : x.flags_from ≡ extended_from s + 10 = refl in
         record {
           named = named;
           first = (fits, there);
@@ -99,7 +100,7 @@ parts_fit bytes fits h =
 -- what is known of bytes that spell an entry
 pub record IsSpelledBy (bytes : List ℕ) (v : EntryValue) : Type 0 where
   pub parts : PartsFit bytes
-  pub base : names_base v ≡ base_of bytes (extended bytes)
+  pub base : base_of_names v ≡ base_of bytes (extended bytes)
   pub same : v ≡ content bytes
 
 pub spelled_by : (bytes : List ℕ) (v : EntryValue) → IsBytes bytes → Spells bytes v → IsSpelledBy bytes v
@@ -108,6 +109,6 @@ spelled_by bytes v fits s =
     let x = extended bytes in
     record {
       parts = parts_fit bytes fits read.passes;
-      base = ap names_base read.same ∙ sizes_are_base bytes (standard bytes) x (base_of bytes x);
+      base = ap base_of_names read.same ∙ sizes_are_base bytes (standard bytes) x (base_of bytes x);
       same = read.same;
     }

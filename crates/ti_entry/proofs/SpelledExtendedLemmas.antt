@@ -1,7 +1,7 @@
 -- The whole: bytes that spell an entry pass the checks, and are read as it.
 use Rattle.std.proofs.Common.{◌≡◌, ℕ, ◌+◌, ◌%◌, ◌<◌, ◌≤◌, ◌⊎◌, true, false, cond, leb, List, [], ◌∷◌, ◌++◌, map, length, inl, inr, refl, sym, ap, subst, ◌∙◌, arith, append-nil, ◌^◌}
 use Rattle.std.proofs.lemmas.List.{length-append, length-map, length-replicate}
-use Rattle.std.proofs.lemmas.Bool.{le-leb, lt-leb}
+use Rattle.std.proofs.lemmas.Bool.{lt-ltb, le-leb, lt-leb}
 use Rattle.ti_base.specs.Limits.{most_entry_bytes}
 use Rattle.ti_layout.specs.declared.fault.Fault.TheVariants.{BadExtendedHeader}
 use Rattle.ti_layout.specs.declared.part.Part.{Part}
@@ -10,28 +10,32 @@ use Rattle.ti_words.specs.Word.{unsigned_at}
 use Rattle.ti_layout.specs.Layout.{standard, extended_after, no_capability, flags_end, end_of, extended_from}
 use Rattle.ti_words.specs.Spelling.{pad_len, Spells, HasExtendedPart, HasNoExtendedPart, count_word, words_of, numbers_of, flags_of, pad, texts_size, extended_names, mark_in}
 use Rattle.ti_layout.specs.Table.{base_of}
-use Rattle.ti_layout.specs.Checks.{Passes, verdict, sign_check, sign_checks, pad_checks, end_check, end_checks}
-use Rattle.ti_layout.specs.Refusal.{room_check, room_checks, extended_size_check, extended_size_checks, extended_front_checks, part_checks, extended_checks, checks_after_table, front_checks, section_checks, checks}
+use Rattle.ti_layout.specs.Checks.{Passes, Ends, verdict, sign_check, sign_checks, pad_checks, end_check}
+use Rattle.std.specs.List.{AllByRecursion, flat_map}
+use Rattle.ti_layout.specs.declared.section.Half.TheVariants.{Extended}
+use Rattle.ti_layout.specs.declared.section.Section.TheVariants.{TableEnd, End}
+use Rattle.ti_layout.specs.Refusal.{room_check, extended_size_check, extended_header_checks, section_checks, standard_sections, extended_sections, checks}
+use Rattle.ti_layout.proofs.EndsLemmas.{SectionPasses, passed_sections}
 use Rattle.ti_entry.specs.Content.{texts_in, content_with, content}
 use Rattle.ti_entry.proofs.SpelledItemsLemmas.{passes_one}
 use Rattle.ti_entry.proofs.KindsSpelledLemmas.{append_pass, count_read, sign_passed, pad_read}
 use Rattle.ti_entry.proofs.NamedItemsLemmas.{flag_marks, number_marks, text_marks, all_names_in, sizes_are_base, names_length}
-use Rattle.ti_entry.proofs.PartLemmas.{end_even, passes_part, step, longer, Sections, part_of, part_read}
+use Rattle.ti_entry.proofs.PartLemmas.{end_even, PartPasses, passes_part, step, longer, Sections, part_with, part_read}
 use Rattle.ti_entry.proofs.SpellsAtMostOneLemmas.{SameExtended, grouped_part, same_sizes, same_extended, same_value}
 use Rattle.ti_entry.proofs.SpelledLemmas.{PlainRead, plain_read}
 
 pub record IsRead (bytes : List ℕ) (v : EntryValue) : Type 0 where
-  pub passes : Passes ≡ verdict (length bytes) (checks bytes)
+  pub passes : verdict (length bytes) (checks bytes) ≡ Ends true
   pub same : v ≡ content bytes
 
 -- what a reading makes of an extended part
 record ExtendedRead (bytes : List ℕ) (v : EntryValue) (h : Part) : Type 0 where
-  passes : Passes ≡ verdict (length bytes) (extended_checks bytes h (extended_after h bytes))
+  passes : verdict (length bytes) (flat_map (section_checks bytes) (TableEnd ∷ (extended_sections ++ (End ∷ [])))) ≡ Ends true
   follows : end_of h < length bytes
   same : SameExtended v (content_with bytes h (extended_after h bytes))
 
-extended_read : (bytes front rest : List ℕ) (v : EntryValue) (h : Part) → h.width ≡ v.width → bytes ≡ front ++ rest → length front ≡ end_of h → length bytes ≤ most_entry_bytes → HasExtendedPart v h.table rest → ExtendedRead bytes v h
-extended_read bytes front rest v h width split l0 short s =
+extended_read : (bytes front rest : List ℕ) (v : EntryValue) (h : Part) → h ≡ standard bytes → h.width ≡ v.width → bytes ≡ front ++ rest → length front ≡ end_of h → length bytes ≤ most_entry_bytes → HasExtendedPart v h.table rest → ExtendedRead bytes v h
+extended_read bytes front rest v h is width split l0 short s =
     let len = length bytes in
     let w = v.width in
     let ef = map mark_in v.extended_flags in
@@ -42,7 +46,7 @@ extended_read bytes front rest v h width split l0 short s =
     let nt : length et ≡ length v.extended_texts = length-map v.extended_texts mark_in in
     let from = extended_from h in
     let secs : Sections = record { flags = ef; numbers = en; offsets = s.values; texts = et; name_offsets = s.names; names = extended_names v; table = s.table } in
-    let x = part_of w (from + 10) secs in
+    let x = part_with w (from + 10) secs in
     let m = length v.extended_flags in
     let small : length s.table < 2 ^ 15 = omega (arith, s.counts.1.1.1.0) in
     let pad_even = end_even h in
@@ -102,27 +106,29 @@ extended_read bytes front rest v h width split l0 short s =
     let names_same : extended_names v ≡ extended_names c = sym r.names ∙ sym (all_names_in bytes h x (base_of bytes x) named) in
     -- the checks
     let at_end : end_of x ≤ len = omega arith in
-    let room : Passes ≡ verdict len (room_checks h) = passes_one len (room_check h) [] (record { long = omega arith; holds = le-leb _ _ (omega arith) }) refl in
     let outer : Passes ≡ verdict len (pad_checks bytes (end_of h)) = pad_read bytes front q1 (end_of h) h.table pad_even e0 l0 in
     let third : unsigned_at 2 bytes (from + 2 + 2) ≡ length v.extended_texts = (let at : from + 2 + 2 ≡ from + 4 = omega arith in ap (unsigned_at 2 bytes) at ∙ h3) in
     let signs : Passes ≡ verdict len (sign_checks bytes BadExtendedHeader from 3) =
     passes_one len (sign_check bytes BadExtendedHeader from) (sign_check bytes BadExtendedHeader (from + 2) ∷ sign_check bytes BadExtendedHeader (from + 2 + 2) ∷ []) (sign_passed bytes BadExtendedHeader from (length v.extended_flags) (omega arith) s.counts.0 h1)
     (passes_one len (sign_check bytes BadExtendedHeader (from + 2)) (sign_check bytes BadExtendedHeader (from + 2 + 2) ∷ []) (sign_passed bytes BadExtendedHeader (from + 2) (length v.extended_numbers) (omega arith) s.counts.1.0 h2)
     (passes_one len (sign_check bytes BadExtendedHeader (from + 2 + 2)) [] (sign_passed bytes BadExtendedHeader (from + 2 + 2) (length v.extended_texts) (omega arith) s.counts.1.1.0 third) refl)) in
-    let sign : Passes ≡ verdict len (sign_checks bytes BadExtendedHeader (from + 8) 1) =
-    passes_one len (sign_check bytes BadExtendedHeader (from + 8)) [] (sign_passed bytes BadExtendedHeader (from + 8) (length s.table) (omega arith) s.counts.1.1.1.0 h4) refl in
-    let size : Passes ≡ verdict len (extended_size_checks x) = passes_one len (extended_size_check x) [] (record { long = omega arith; holds = le-leb _ _ (omega arith) }) refl in
-    let last : Passes ≡ verdict len (end_checks bytes (end_of x)) = passes_one len (end_check bytes (end_of x)) [] (record { long = at_end; holds = le-leb _ _ (omega arith) }) refl in
-    let c1 = room_checks h ++ pad_checks bytes (end_of h) in
-    let c2 = c1 ++ sign_checks bytes BadExtendedHeader from 3 in
-    let c3 = sign_checks bytes BadExtendedHeader (from + 8) 1 in
-    let ahead : Passes ≡ verdict len (extended_front_checks bytes h x) =
-    append_pass len (c2 ++ c3) (extended_size_checks x) (append_pass len c2 c3 (append_pass len c1 (sign_checks bytes BadExtendedHeader from 3) (append_pass len (room_checks h) (pad_checks bytes (end_of h)) room outer) signs) sign) size in
-    let total : Passes ≡ verdict len (extended_checks bytes h x) =
-    append_pass len (extended_front_checks bytes h x ++ part_checks bytes x) (end_checks bytes (end_of x))
-    (append_pass len (extended_front_checks bytes h x) (part_checks bytes x) ahead (passes_part bytes x r.passes)) last in
+    let room : Passes ≡ verdict len (room_check h ∷ pad_checks bytes (end_of h)) = passes_one len (room_check h) (pad_checks bytes (end_of h)) (record { long = omega arith; holds = le-leb _ _ (omega arith) }) outer in
+    let size : Passes ≡ verdict len (extended_size_check x ∷ []) = passes_one len (extended_size_check x) [] (record { long = omega arith; holds = le-leb _ _ (omega arith) }) refl in
+    let closing : Passes ≡ verdict len (sign_check bytes BadExtendedHeader (from + 8) ∷ extended_size_check x ∷ []) =
+    passes_one len (sign_check bytes BadExtendedHeader (from + 8)) (extended_size_check x ∷ []) (sign_passed bytes BadExtendedHeader (from + 8) (length s.table) (omega arith) s.counts.1.1.1.0 h4) size in
+    let last : verdict len (end_check (end_of x) ∷ []) ≡ Ends true = rw (lt-ltb len (end_of x + 1) (omega arith)) refl in
+    let header_pass : Passes ≡ verdict len (sign_checks bytes BadExtendedHeader from 3 ++ extended_header_checks bytes h) =
+    append_pass len (sign_checks bytes BadExtendedHeader from 3) (extended_header_checks bytes h) signs (subst (λ y. Passes ≡ verdict len (sign_check bytes BadExtendedHeader (from + 8) ∷ extended_size_check y ∷ [])) (sym header) closing) in
+    let known : extended_after (standard bytes) bytes ≡ x = ap (λ q. extended_after q bytes) (sym is) ∙ header in
+    let all : AllByRecursion (SectionPasses bytes) (TableEnd ∷ extended_sections) = (
+      subst (λ q. Passes ≡ verdict len (room_check q ∷ pad_checks bytes (end_of q))) is room,
+      (
+        subst (λ q. Passes ≡ verdict len (sign_checks bytes BadExtendedHeader (extended_from q) 3 ++ extended_header_checks bytes q)) is header_pass,
+        passes_part bytes Extended (subst (PartPasses bytes) (sym known) r.passes),
+      ),
+    ) in
     record {
-      passes = subst (λ y. Passes ≡ verdict len (extended_checks bytes h y)) (sym header) total;
+      passes = passed_sections bytes (TableEnd ∷ extended_sections) (End ∷ []) all ∙ ap (λ q. verdict len (end_check (end_of q) ∷ [])) known ∙ last;
       follows = omega arith;
       same = subst (λ y. SameExtended v (content_with bytes h y)) (sym header) (same_extended v c mf mn mt names_same);
     }
@@ -137,8 +143,8 @@ only bytes v s = by_rest s.extended
     plain : PlainRead bytes v s.table s.rest
     plain = plain_read bytes v s.table s.rest s.sections s.fits
 
-    ahead : Passes ≡ verdict (length bytes) (front_checks bytes (standard bytes) ++ section_checks bytes (standard bytes))
-    ahead = append_pass (length bytes) (front_checks bytes (standard bytes)) (section_checks bytes (standard bytes)) plain.ahead plain.sections
+    from_table : verdict (length bytes) (checks bytes) ≡ verdict (length bytes) (flat_map (section_checks bytes) (TableEnd ∷ (extended_sections ++ (End ∷ []))))
+    from_table = passed_sections bytes standard_sections (TableEnd ∷ (extended_sections ++ (End ∷ []))) plain.passes
 
     same_with : (x : Part) → SameExtended v (content_with bytes (standard bytes) x) → v ≡ content_with bytes (standard bytes) x
     same_with x same = same_value v (content_with bytes (standard bytes) x) (sym plain.width) (sym plain.names) (sym plain.flags) (sym plain.numbers) (sym plain.texts) same
@@ -150,7 +156,7 @@ only bytes v s = by_rest s.extended
         let n : len ≡ end_of h = ap length plain.split ∙ length-append plain.front s.rest ∙ (let a = plain.end in let b : length s.rest ≡ 0 = ap length none.ends in omega arith) in
         let at_end : leb len (end_of h) ≡ true = le-leb _ _ (omega arith) in
         record {
-          passes = append_pass len (front_checks bytes h ++ section_checks bytes h) (checks_after_table bytes h) ahead (rw at_end refl);
+          passes = from_table ∙ rw (lt-ltb len (end_of h + 1) (omega arith)) refl;
           same = same_with no_capability (record { flags = none.no_flags; numbers = none.no_numbers; texts = none.no_texts })
               ∙ (let is : content_with bytes h no_capability ≡ content bytes = rw at_end refl in is);
         }
@@ -158,11 +164,10 @@ only bytes v s = by_rest s.extended
         let len = length bytes in
         let h = standard bytes in
         let x = extended_after h bytes in
-        let p = extended_read bytes plain.front s.rest v h plain.width plain.split plain.end s.fits (subst (λ n. HasExtendedPart v n s.rest) (sym plain.table_size) part) in
+        let p = extended_read bytes plain.front s.rest v h refl plain.width plain.split plain.end s.fits (subst (λ n. HasExtendedPart v n s.rest) (sym plain.table_size) part) in
         let follows : leb len (end_of h) ≡ false = lt-leb _ _ p.follows in
-        let checked : Passes ≡ verdict len (checks_after_table bytes h) = p.passes ∙ ap (λ b. verdict len (cond b [] (extended_checks bytes h x))) (sym follows) in
         let is : content_with bytes h x ≡ content bytes = ap (λ b. content_with bytes h (cond b no_capability x)) (sym follows) in
         record {
-          passes = append_pass len (front_checks bytes h ++ section_checks bytes h) (checks_after_table bytes h) ahead checked;
+          passes = from_table ∙ p.passes;
           same = same_with x p.same ∙ is;
         }

@@ -15,14 +15,17 @@ use Rattle.ti_layout.specs.Layout.{standard, width_of, places, flags_end, end_of
 use Rattle.ti_layout.specs.Table.{base_of}
 use Rattle.ti_words.specs.Spelling.{pad_len, HasSections, magic, count_word, words_of, numbers_of, flags_of, pad}
 use Rattle.ti_words.specs.Texts.{is_nul}
-use Rattle.ti_layout.specs.Checks.{Passes, verdict, sign_check, sign_checks, name_check, nul_check, name_checks}
-use Rattle.ti_layout.specs.Refusal.{magic_check, size_check, named_check, magic_checks, size_checks, front_checks, part_checks, section_checks}
+use Rattle.ti_layout.specs.Checks.{Passes, verdict, sign_check, sign_checks, name_check, nul_check}
+use Rattle.std.specs.List.{AllByRecursion}
+use Rattle.ti_layout.specs.declared.section.Half.TheVariants.{Standard}
+use Rattle.ti_layout.specs.Refusal.{magic_check, size_check, named_check, size_checks, standard_sections}
+use Rattle.ti_layout.proofs.EndsLemmas.{SectionPasses}
 use Rattle.ti_entry.specs.Content.{flags_in, numbers_in, texts_in}
 use Rattle.ti_layout.proofs.SectionReadLemmas.{Passed}
 use Rattle.ti_layout.proofs.WordLemmas.{reads_count}
 use Rattle.ti_entry.proofs.KindsSpelledLemmas.{append_pass, moved, byte, bytes_flat, sign_passed}
 use Rattle.ti_entry.proofs.SpelledItemsLemmas.{EachAt, each_at, passes_one, passes_at, at_each, ByteAt, byte_at_is}
-use Rattle.ti_entry.proofs.PartLemmas.{Sections, part_of, passes_part, part_read}
+use Rattle.ti_entry.proofs.PartLemmas.{Sections, PartPasses, part_with, passes_part, part_read}
 
 starts : (w : Width) → width_of (magic w) ≡ Some w
 starts Legacy = refl
@@ -30,8 +33,7 @@ starts Wide = refl
 
 -- what a reading makes of the sections up to the end of the string table, and where the rest starts
 pub record PlainRead (bytes : List ℕ) (v : EntryValue) (table rest : List ℕ) : Type 0 where
-  pub ahead : Passes ≡ verdict (length bytes) (front_checks bytes (standard bytes))
-  pub sections : Passes ≡ verdict (length bytes) (section_checks bytes (standard bytes))
+  pub passes : AllByRecursion (SectionPasses bytes) standard_sections
   pub width : (standard bytes).width ≡ v.width
   pub names : slice_range bytes 12 ((standard bytes).flags_from - 1) ≡ v.names
   pub flags : flags_in bytes (standard bytes) ≡ v.flags
@@ -55,7 +57,7 @@ plain_read bytes v table rest s short =
     let len = length bytes in
     let secs : Sections = record { flags = fs; numbers = ns; offsets = offsets; texts = ts; name_offsets = []; names = []; table = table } in
     let from = 12 + (length names + 1) in
-    let hv = part_of w from secs in
+    let hv = part_with w from secs in
     let m = length names + 1 + length fs in
     let small_table : length table < 2 ^ 15 = omega (arith, counts.1.1.1.1.0) in
     let x5 = magic w ++ count_word (length names + 1) ++ count_word (length fs) ++ count_word (length ns) ++ count_word (length ts) ++ count_word (length table) in
@@ -87,15 +89,13 @@ plain_read bytes v table rest s short =
     let hd : standard bytes ≡ hv = rw (h0, h1, h2, h3, h4, h5) refl in
     let twelve : 12 ≤ len = omega arith in
     let magic_ok : Passed len (magic_check bytes) = record { long = omega arith; holds = ap is_some h0 } in
-    let ahead : Passes ≡ verdict len (front_checks bytes hv) =
-    append_pass len (magic_checks bytes ++ sign_checks bytes BadHeader 2 5) (size_checks hv)
-    (append_pass len (magic_checks bytes) (sign_checks bytes BadHeader 2 5)
-    (passes_one len (magic_check bytes) [] magic_ok refl)
+    let header : Passes ≡ verdict len (sign_checks bytes BadHeader 2 5 ++ size_checks hv) =
+    append_pass len (sign_checks bytes BadHeader 2 5) (size_checks hv)
     (passes_one len (sign_check bytes BadHeader 2) (sign_check bytes BadHeader 4 ∷ sign_check bytes BadHeader 6 ∷ sign_check bytes BadHeader 8 ∷ sign_check bytes BadHeader 10 ∷ []) (sign_passed bytes BadHeader 2 (length names + 1) (omega arith) counts.0 h1)
     (passes_one len (sign_check bytes BadHeader 4) (sign_check bytes BadHeader 6 ∷ sign_check bytes BadHeader 8 ∷ sign_check bytes BadHeader 10 ∷ []) (sign_passed bytes BadHeader 4 (length fs) (omega arith) counts.1.0 h2)
     (passes_one len (sign_check bytes BadHeader 6) (sign_check bytes BadHeader 8 ∷ sign_check bytes BadHeader 10 ∷ []) (sign_passed bytes BadHeader 6 (length ns) (omega arith) counts.1.1.0 h3)
     (passes_one len (sign_check bytes BadHeader 8) (sign_check bytes BadHeader 10 ∷ []) (sign_passed bytes BadHeader 8 (length ts) (omega arith) counts.1.1.1.0 h4)
-    (passes_one len (sign_check bytes BadHeader 10) [] (sign_passed bytes BadHeader 10 (length table) twelve counts.1.1.1.1.0 h5) refl))))))
+    (passes_one len (sign_check bytes BadHeader 10) [] (sign_passed bytes BadHeader 10 (length table) twelve counts.1.1.1.1.0 h5) refl)))))
     (passes_one len (size_check hv) (named_check hv ∷ []) (record { long = twelve; holds = le-leb _ _ (omega arith) })
     (passes_one len (named_check hv) [] (record { long = twelve; holds = le-leb _ _ (omega arith) }) refl)) in
     -- names
@@ -110,7 +110,7 @@ plain_read bytes v table rest s short =
     let e : (x5 ++ names) ++ (0 ∷ p6) ≡ bytes = append_assoc x5 names (0 ∷ p6) ∙ sym (e5 ∙ ap (λ s. x5 ++ s) (append_assoc names (0 ∷ []) p6)) in
     let n : length (x5 ++ names) ≡ from - 1 = length-append x5 names ∙ (let one : length x5 + length names ≡ from - 1 = omega (arith, l5) in one) in
     subst (λ k. ByteAt bytes k 0) n (subst (λ y. ByteAt y (length (x5 ++ names)) 0) e (byte_at_is (x5 ++ names) p6 0)) in
-    let all_names_pass : Passes ≡ verdict len (name_checks bytes from) =
+    let all_names_pass : Passes ≡ verdict len (map (name_check bytes) (places 12 1 (from - 13)) ++ nul_check bytes BadNames (from - 1) ∷ []) =
     let count : from - 13 ≡ length names = omega arith in
     append_pass len (map (name_check bytes) (places 12 1 (from - 13))) (nul_check bytes BadNames (from - 1) ∷ [])
     (rw count names_pass)
@@ -121,11 +121,18 @@ plain_read bytes v table rest s short =
     ∙ ap (λ b. take (length names) (drop 12 b)) e5
     ∙ ap (take (length names)) (drop_at x5 p5 12 l5 ∙ append_assoc names (0 ∷ []) p6)
     ∙ take_at names (0 ∷ p6) (length names) refl in
-    let sections_pass : Passes ≡ verdict len (section_checks bytes hv) = append_pass len (name_checks bytes from) (part_checks bytes hv) all_names_pass (passes_part bytes hv r.passes) in
     let back = sym hd in
     record {
-      ahead = subst (λ h. Passes ≡ verdict len (front_checks bytes h)) back ahead;
-      sections = subst (λ h. Passes ≡ verdict len (section_checks bytes h)) back sections_pass;
+      passes = (
+        passes_one len (magic_check bytes) [] magic_ok refl,
+        (
+          subst (λ h. Passes ≡ verdict len (sign_checks bytes BadHeader 2 5 ++ size_checks h)) back header,
+          (
+            subst (λ (h : Part). Passes ≡ verdict len (map (name_check bytes) (places 12 1 (h.flags_from - 13)) ++ nul_check bytes BadNames (h.flags_from - 1) ∷ [])) back all_names_pass,
+            passes_part bytes Standard (subst (PartPasses bytes) back r.passes),
+          ),
+        ),
+      );
       width = ap (λ (h : Part). h.width) hd;
       names = subst (λ (h : Part). slice_range bytes 12 (h.flags_from - 1) ≡ names) back names_same;
       flags = subst (λ h. flags_in bytes h ≡ fs) back r.flags;

@@ -1,105 +1,93 @@
 -- Where a stage is that of a whole entry, its parts make the view.
-use Rattle.std.proofs.Common.{◌≡◌, ℕ, ◌+◌, ◌≤◌, Bool, true, false, cond, List, length, refl, sym, ap, ◌∙◌, arith}
-use Rattle.std.proofs.lemmas.Bool.{le-leb, lt-leb}
+use Rattle.std.proofs.Common.{◌≡◌, ℕ, zero, suc, ◌+◌, ◌<◌, ◌≤◌, Bool, true, false, cond, eqb, List, length, refl, sym, ap, subst, ◌∙◌, arith}
+use Rattle.std.proofs.lemmas.Bool.{le-leb, lt-leb, ne_eqb}
 use Rattle.std.specs.Prelude.{Some, None, Ok, Err}
-use Rattle.ti_base.specs.Limits.{most_entry_bytes}
 use Rattle.ti_layout.specs.declared.fault.Fault.TheVariants.{Truncated}
 use Rattle.ti_layout.specs.declared.part.Part.{Part}
 use Rattle.ti_layout.specs.declared.section.Items.{Items}
 use Rattle.ti_layout.specs.declared.section.Section.{Section}
 use Rattle.ti_layout.specs.declared.section.Section.TheVariants.{TableEnd, End}
 use Rattle.ti_layout.specs.declared.stage.Stage.{Stage}
-use Rattle.ti_layout.specs.Layout.{standard, end_of, extended_from, extended_after, no_capability}
-use Rattle.ti_layout.specs.Checks.{Verdict, Passes, EndsEarly, Fails, verdict, refusal_of, failure_of, refusal_at}
+use Rattle.ti_layout.specs.Layout.{standard, places, offsets_from, end_of, extended_from, extended_after, no_capability}
+use Rattle.ti_layout.specs.Checks.{Ends, verdict, refusal_of, failure_of, refusal_at}
 use Rattle.ti_layout.specs.Refusal.{checks, refusal, failure}
 use Rattle.ti_layout.specs.Table.{base_of}
 use Rattle.ti_entry.specs.Content.{content, content_from, content_with, extended}
 use Rattle.ti_entry.specs.Views.{IsStandard, IsExtended}
-use Rattle.ti_entry.specs.Reading.{answer_under, answer_for, names_base}
+use Rattle.ti_entry.specs.Reading.{answer_under, answer_for, base_of_names}
 use Rattle.ti_entry.proofs.NamedItemsLemmas.{sizes_are_base}
-use Rattle.ti_layout.specs.Stages.{KnowsPlain, KnowsAll, Knows, StandsAt, Waits, is_whole}
+use Rattle.ti_layout.specs.Stages.{StandsAt, Waits, bytes_awaited, is_whole}
+use Rattle.ti_layout.specs.Table.{table_of, sizes_at, names_base}
+use Rattle.ti_layout.proofs.StageStepLemmas.{closing_next}
 
 -- no check has failed on what waits for more
 pub waits_none_failed : (xs : List ℕ) (s : Stage) → Waits xs s → failure xs ≡ None
-waits_none_failed xs s w = ap failure_of w.decides ∙ no_failure (is_whole s.section)
-  where
-    no_failure : (b : Bool) → failure_of (cond b Passes EndsEarly) ≡ None
-    no_failure true = refl
-    no_failure false = refl
+waits_none_failed xs s w = ap failure_of w.decides
 
-pub whole_passes : (xs : List ℕ) (s : Stage) → Waits xs s → is_whole s.section ≡ true → Passes ≡ verdict (length xs) (checks xs)
-whole_passes xs s w e = sym (w.decides ∙ ap (λ b. cond b Passes EndsEarly) e)
-
-pub part_ends_early : (xs : List ℕ) (s : Stage) → Waits xs s → is_whole s.section ≡ false → verdict (length xs) (checks xs) ≡ EndsEarly
-part_ends_early xs s w e = w.decides ∙ ap (λ b. cond b Passes EndsEarly) e
+pub ends_as : (xs : List ℕ) (s : Stage) (b : Bool) → Waits xs s → is_whole s.section ≡ b → verdict (length xs) (checks xs) ≡ Ends b
+ends_as xs s b w e = w.decides ∙ ap Ends e
 
 -- the answer where bytes are missing
-pub truncated : (xs : List ℕ) → verdict (length xs) (checks xs) ≡ EndsEarly → refusal xs ≡ Some (refusal_at Truncated (length xs))
+pub truncated : (xs : List ℕ) → verdict (length xs) (checks xs) ≡ Ends false → refusal xs ≡ Some (refusal_at Truncated (length xs))
 truncated xs e = ap (refusal_of (length xs)) e
 
-pub answer_truncated : (xs : List ℕ) → verdict (length xs) (checks xs) ≡ EndsEarly → Err (refusal_at Truncated (length xs)) ≡ answer_for xs
+pub answer_truncated : (xs : List ℕ) → verdict (length xs) (checks xs) ≡ Ends false → Err (refusal_at Truncated (length xs)) ≡ answer_for xs
 answer_truncated xs e = sym (ap (λ o. answer_under o (content xs)) (truncated xs e))
 
-pub answer_content : (xs : List ℕ) → Passes ≡ verdict (length xs) (checks xs) → Ok (content xs) ≡ answer_for xs
-answer_content xs e = ap (λ v. answer_under (refusal_of (length xs) v) (content xs)) e
+pub answer_content : (xs : List ℕ) → verdict (length xs) (checks xs) ≡ Ends true → Ok (content xs) ≡ answer_for xs
+answer_content xs e = sym (ap (λ v. answer_under (refusal_of (length xs) v) (content xs)) e)
 
 pub record IsView (xs : List ℕ) (s x : Part) (base : ℕ) : Type 0 where
   pub is_standard : IsStandard xs s
   pub is_extended : IsExtended xs x base
   pub shows : content_from xs s x base ≡ content xs
-  pub counted : base ≡ names_base (content xs)
+  pub counted : base ≡ base_of_names (content xs)
 
 pub view_of : (xs : List ℕ) (s x : Part) (base : ℕ) → s ≡ standard xs → x ≡ extended xs → base ≡ base_of xs x → content_from xs s x base ≡ content xs
 view_of xs s x base e f g = ap (content_from xs s x) g ∙ ap (content_with xs s) f ∙ ap (λ p. content_with xs p (extended xs)) e
 
-counted_of : (xs : List ℕ) (x : Part) (base : ℕ) → x ≡ extended xs → base ≡ base_of xs x → base ≡ names_base (content xs)
+counted_of : (xs : List ℕ) (x : Part) (base : ℕ) → x ≡ extended xs → base ≡ base_of xs x → base ≡ base_of_names (content xs)
 counted_of xs x base f g =
     let y = extended xs in
     g ∙ ap (base_of xs) f ∙ sym (sizes_are_base xs (standard xs) y (base_of xs y))
 
-plain_view : (xs : List ℕ) (it : Items) (s x : Part) (base : ℕ) → KnowsPlain xs it s x base → end_of s ≤ most_entry_bytes → length xs ≤ end_of s → IsView xs s x base
-plain_view xs it s x base k fits ends =
-    let there = k.there in
-    let end : end_of (standard xs) ≡ end_of s = ap end_of (sym k.parts.standard) in
+-- without names there is no text either
+base_is : (xs : List ℕ) (x : Part) → x.texts ≤ x.names → names_base xs x ≡ base_of xs x
+base_is xs x le = by_count x.names refl
+  where
+    by_count : (n : ℕ) → n ≡ x.names → cond (eqb n 0) 0 (base_of xs x) ≡ base_of xs x
+    by_count zero e =
+        let none : x.texts ≡ 0 = omega arith in sym (ap (λ n. sizes_at xs (table_of xs x) (places (offsets_from x) 2 n)) none)
+    by_count (suc n) e = ap (λ b. cond b 0 (base_of xs x)) (ne_eqb (suc n) 0 (λ f. absurd (omega arith)))
+
+views : (section : Section) (xs : List ℕ) (it : Items) (s x : Part) (base : ℕ) → StandsAt xs (record { section = section; items = it; standard = s; extended = x; base = base })
+    → length xs < bytes_awaited (record { section = section; items = it; standard = s; extended = x; base = base }) → is_whole section ≡ true → IsView xs s x base
+views TableEnd xs it s x base k short e =
+    let left = k.left in
+    let ends = subst (λ n. length xs < n) (closing_next (record { section = TableEnd; items = it; standard = s; extended = x; base = base }) (omega arith)) short in
+    let end : end_of (standard xs) ≡ end_of s = ap end_of (sym k.standard) in
     let none : no_capability ≡ extended xs = sym (ap (λ b. cond b no_capability (extended_after (standard xs) xs)) (le-leb (length xs) (end_of (standard xs)) (omega arith))) in
-    let counts : base ≡ base_of xs x = rw (k.parts.none.extended, k.parts.none.none_counted) refl in
+    let counts : base ≡ base_of xs x = rw (k.extended, k.base) refl in
     record {
-      is_standard = ((fits, there), k.parts.named, k.parts.standard);
-      is_extended = rw (k.parts.none.extended, k.parts.none.none_counted) ((omega arith, omega arith), refl, omega arith);
-      shows = view_of xs s x base k.parts.standard (k.parts.none.extended ∙ none) counts;
-      counted = counted_of xs x base (k.parts.none.extended ∙ none) counts;
+      is_standard = ((k.fits, k.reached.1), k.reached.0, k.standard);
+      is_extended = rw (k.extended, k.base) ((omega arith, omega arith), refl, omega arith);
+      shows = view_of xs s x base k.standard (k.extended ∙ none) counts;
+      counted = counted_of xs x base (k.extended ∙ none) counts;
     }
-
-whole_view : (xs : List ℕ) (it : Items) (s x : Part) (base : ℕ) → KnowsAll xs it s x base → end_of s ≤ most_entry_bytes → end_of x ≤ most_entry_bytes → x.flags + x.numbers + x.texts ≡ x.names → base ≤ most_entry_bytes → IsView xs s x base
-whole_view xs it s x base k fits extended_fits named most =
-    let there = k.there in
-    let from : x.flags_from ≡ extended_from s + 10 = ap (λ (p : Part). p.flags_from) k.parts.extended in
-    let end : end_of (standard xs) ≡ end_of s = ap end_of (sym k.parts.standard) in
-    let same : extended_after s xs ≡ extended_after (standard xs) xs = ap (λ p. extended_after p xs) k.parts.standard in
+views End xs it s x base k short e =
+    let there = k.reached.1 in
+    let from : x.flags_from ≡ extended_from (standard xs) + 10 = ap (λ (p : Part). p.flags_from) k.extended in
+    let names : x.names ≡ x.flags + x.numbers + x.texts = ap (λ (p : Part). p.names) k.extended ∙ sym (ap (λ (p : Part). p.flags + p.numbers + p.texts) k.extended) in
+    let end : end_of (standard xs) ≡ end_of s = ap end_of (sym k.standard) in
     let some : extended_after (standard xs) xs ≡ extended xs = sym (ap (λ b. cond b no_capability (extended_after (standard xs) xs)) (lt-leb (length xs) (end_of (standard xs)) (omega arith))) in
+    let counts : base ≡ base_of xs x = k.base ∙ ap (names_base xs) (sym k.extended) ∙ base_is xs x (omega arith) in
     record {
-      is_standard = ((fits, omega arith), k.parts.named, k.parts.standard);
-      is_extended = ((extended_fits, there), named, most);
-      shows = view_of xs s x base k.parts.standard (k.parts.extended ∙ same ∙ some) k.counted;
-      counted = counted_of xs x base (k.parts.extended ∙ same ∙ some) k.counted;
+      is_standard = ((k.fits, omega arith), k.reached.0, k.standard);
+      is_extended = ((k.extended_fits, there), sym names, k.base_fits);
+      shows = view_of xs s x base k.standard (k.extended ∙ some) counts;
+      counted = counted_of xs x base (k.extended ∙ some) counts;
     }
-
-views : (section : Section) (xs : List ℕ) (it : Items) (s x : Part) (base : ℕ) → Knows section xs it s x base → is_whole section ≡ true → end_of s ≤ most_entry_bytes → end_of x ≤ most_entry_bytes → x.flags + x.numbers + x.texts ≡ x.names → base ≤ most_entry_bytes
-    → (section ≡ TableEnd → length xs ≤ end_of s) → IsView xs s x base
-views TableEnd xs it s x base k e fits extended_fits named most ends = plain_view xs it s x base k fits (ends refl)
-views End xs it s x base k e fits extended_fits named most ends = whole_view xs it s x base k fits extended_fits named most
-views _ xs it s x base k e fits extended_fits named most ends = absurd (cc)
+views _ xs it s x base k short e = absurd (cc)
 
 pub whole_is_view : (xs : List ℕ) (s : Stage) → StandsAt xs s → Waits xs s → is_whole s.section ≡ true → IsView xs s.standard s.extended s.base
-whole_is_view xs s k w e = views s.section xs s.items s.standard s.extended s.base k.known e k.fits k.extended_fits k.extended_named k.base_fits w.ends
-
--- ---- a full input
-
--- bytes on which no check has failed, and of which none waits for more, are an entry
-pub full_passes : (xs : List ℕ) → (verdict (length xs) (checks xs) ≡ EndsEarly → ⊥) → failure xs ≡ None → Passes ≡ verdict (length xs) (checks xs)
-full_passes xs early none = by_verdict (verdict (length xs) (checks xs)) early none
-  where
-    by_verdict : (v : Verdict) → (v ≡ EndsEarly → ⊥) → failure_of v ≡ None → Passes ≡ v
-    by_verdict Passes early none = refl
-    by_verdict EndsEarly early none = absurd (early refl)
-    by_verdict (Fails r) early none = absurd (cc)
+whole_is_view xs s k w e = views s.section xs s.items s.standard s.extended s.base k w.short e

@@ -19,8 +19,8 @@ abbrev pub answer_for : List ℕ → Result EntryValue Refused
 answer_for bytes = answer_under (refusal bytes) (content bytes)
 
 -- what the offsets of an entry's names are counted from: the end of its extended texts
-abbrev pub names_base : EntryValue → ℕ
-names_base v = texts_size v.extended_texts
+abbrev pub base_of_names : EntryValue → ℕ
+base_of_names v = texts_size v.extended_texts
 
 -- ---- the reader
 

@@ -9,7 +9,7 @@ ghost use Rattle.ti_layout.specs.Refusal.{refusal};
 ghost use Rattle.ti_words.specs.Value.{EntryValue};
 ghost use Rattle.ti_words.specs.Spelling.{Spells};
 ghost use Rattle.ti_entry.specs.Content.{content, content_from};
-ghost use Rattle.ti_entry.specs.Reading.{answer_for, names_base};
+ghost use Rattle.ti_entry.specs.Reading.{answer_for, base_of_names};
 ghost use Rattle.ti_entry.specs.Views.{IsExtended, IsStandard};
 ghost use Rattle.ti_layout.specs.Stages.{Stands, Waits};
 
@@ -75,7 +75,7 @@ pub(crate) fn entry_at<'a>(bytes: &'a [u8], stage: &Stage) -> Result<Entry<'a>, 
     ensures only { (v : EntryValue) → Spells bytes.now v → IsOkAnd result (λ e. e ≡ v) }
     ensures refused { IfErr result (λ r. refusal bytes.now ≡ Some r) }
     ensures answer { result ≡ answer_for bytes.now }
-    ensures base { OnOk result (stage.now.base ≡ names_base (content bytes.now)) }
+    ensures base { OnOk result (stage.now.base ≡ base_of_names (content bytes.now)) }
 {
     if !stage.is_whole() {
         return Err(Refused {

@@ -5,19 +5,20 @@
 //! fails, the piece is taken again byte by byte. A piece that brings too few bytes for the next check is only copied.
 //! Over all pieces the time is linear in their bytes.
 
-ghost use Rattle.std.specs.Prelude.{◌≡◌, ℕ, List, ◌∷◌, ◌+◌, ◌≤◌, ◌++◌, [], length, true, false, IfOk, IfErr, IsOkAnd, Some, None, Err};
+ghost use Rattle.std.specs.Prelude.{◌≡◌, ℕ, List, ◌∷◌, ◌≤◌, ◌++◌, [], length, true, false, IfOk, IfErr, IsOkAnd, Some, None, Err};
 ghost use Rattle.ti_base.specs.Limits.{most_entry_bytes};
 ghost use Rattle.ti_layout.specs.declared.fault.Refused.{Refused};
 ghost use Rattle.ti_words.specs.Value.{EntryValue};
 ghost use Rattle.ti_words.specs.Spelling.{Spells};
-ghost use Rattle.ti_layout.specs.Refusal.{refusal, failure, fault_after as the_fault_after};
+ghost use Rattle.ti_layout.specs.Refusal.{refusal, failure};
+ghost use Rattle.ti_layout.specs.Stages.{Stands, Waits};
 
 use crate::entry::{Entry, entry_at};
 use arrayvec::ArrayVec;
 use std::fmt;
 use std::marker::Model;
 use ti_base::MOST_ENTRY_BYTES;
-use ti_layout::{Fault, Refused, Stage, standard_part};
+use ti_layout::{Refused, Stage};
 
 /// The bytes of an entry that came so far, the check that is next, and the refusal that lasts.
 #[derive(Drop)]
@@ -128,14 +129,11 @@ impl EntryReader {
         ensures most { length self.new.kept ≤ most_entry_bytes }
     {
         if self.kept.is_full() {
-            let refused = refusal_when_full(self.kept.as_slice());
+            let refused = refusal_when_full(self.kept.as_slice(), &self.stage);
             self.refusal = Some(refused);
             return Err(refused);
         }
         self.kept.push(byte);
-        if self.kept.as_slice().len() < self.stage.need() {
-            return Ok(());
-        }
         if let Err(refused) = self.stage.advance(self.kept.as_slice()) {
             self.kept.pop();
             self.refusal = Some(refused);
@@ -188,26 +186,14 @@ impl EntryReader {
 }
 
 /// Why a byte after as many as an entry may have is refused.
-fn refusal_when_full(kept: &[u8]) -> Refused
+fn refusal_when_full(kept: &[u8], stage: &Stage) -> Refused
     requires full { length kept.now ≡ most_entry_bytes }
-    requires none_failed { failure kept.now ≡ None }
+    requires stands { Stands kept.now stage.now }
+    requires waits { Waits kept.now stage.now }
     ensures { (byte : ℕ) → (more : List ℕ) → failure (kept.now ++ byte ∷ more) ≡ Some result }
 {
     Refused {
-        fault: fault_after(kept),
+        fault: stage.fault_when_full(),
         place: kept.len(),
-    }
-}
-
-/// The fault of a byte after an entry of the greatest length: where its string table ends there, an extended part has no
-/// room.
-fn fault_after(kept: &[u8]) -> Fault
-    requires { length kept.now ≡ most_entry_bytes }
-    ensures { result ≡ the_fault_after kept.now }
-{
-    if standard_part(kept).end() == kept.len() {
-        Fault::ExtendedTooBig
-    } else {
-        Fault::Trailing
     }
 }

@@ -8,7 +8,7 @@ ghost use Rattle.ti_words.specs.Value.{EntryValue};
 ghost use Rattle.ti_words.specs.Spelling.{Spells};
 ghost use Rattle.ti_layout.specs.Layout.{end_of, standard as the_standard, extended_from};
 ghost use Rattle.ti_entry.specs.Content.{extended};
-ghost use Rattle.ti_entry.specs.Reading.{names_base};
+ghost use Rattle.ti_entry.specs.Reading.{base_of_names};
 ghost use Rattle.ti_entry.specs.Views.{IsStandard, IsWithin};
 
 use crate::entry::{Entry, entry_at, entry_of};
@@ -24,7 +24,7 @@ pub fn read_with_base(bytes: &[u8]) -> Result<(Entry<'_>, usize), Refused>
     ensures found { IfOk result (λ r. Spells bytes.now r.0) }
     ensures only { (v : EntryValue) → Spells bytes.now v → IsOkAnd result (λ r. r.0 ≡ v) }
     ensures refused { IfErr result (λ r. refusal bytes.now ≡ Some r) }
-    ensures base { IfOk result (λ r. r.1 ≡ names_base r.0) }
+    ensures base { IfOk result (λ r. r.1 ≡ base_of_names r.0) }
 {
     let mut stage = Stage::new();
     stage.advance(bytes)?;
@@ -37,7 +37,7 @@ pub fn read_with_base(bytes: &[u8]) -> Result<(Entry<'_>, usize), Refused>
 ///
 /// Other bytes, or another base, give no entry, or one that they do not spell; what it lends still lies in them.
 pub fn reopen(bytes: &[u8], base: usize) -> Option<Entry<'_>>
-    ensures again { (v : EntryValue) → Spells bytes.now v → base ≡ names_base v
+    ensures again { (v : EntryValue) → Spells bytes.now v → base ≡ base_of_names v
         → IsSomeAnd result (λ e. e ≡ v) }
 {
     if base > MOST_ENTRY_BYTES {

@@ -7,7 +7,8 @@ pub mod SectionReadLemmas
 pub mod WholeSectionLemmas
 pub mod UntilNulLemmas
 pub mod NamePlaceChecksLemmas
+pub mod EndsLemmas
+pub mod AlikeLemmas
+pub mod StageStepLemmas
 pub mod FailureLastsLemmas
 pub mod MostEntryBytesLemmas
-pub mod StageLemmas
-pub mod StageStepLemmas

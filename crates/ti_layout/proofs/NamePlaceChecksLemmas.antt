@@ -1,13 +1,16 @@
 -- The checks of the names of a part, by the reach of its table and the base as far as it is known.
-use Rattle.std.proofs.Common.{◌≡◌, ℕ, ◌-◌, ◌≤◌, List, length, take, drop, zero, suc, refl, sym, ap, subst, ◌∙◌, arith}
+use Rattle.std.proofs.Common.{◌≡◌, ℕ, ◌-◌, ◌<◌, ◌≤◌, cond, eqb, List, length, take, drop, zero, suc, refl, sym, ap, subst, ◌∙◌, arith}
 use Rattle.std.proofs.lemmas.List.{length-take-le, length-drop}
+use Rattle.std.proofs.lemmas.Bool.{ne_eqb}
 use Rattle.std.specs.Prelude.{min}
 use Rattle.ti_layout.specs.declared.part.Part.{Part}
 use Rattle.ti_layout.specs.declared.checks.NameTable.{NameTable}
 use Rattle.ti_layout.specs.Layout.{places, offsets_from, names_from, table_from, end_of}
-use Rattle.ti_layout.specs.Table.{table_of, sizes_at, base_of}
-use Rattle.ti_layout.specs.Checks.{Passes, verdict, all_name_place_checks}
+use Rattle.ti_layout.specs.Table.{table_of, base_of, names_base}
+use Rattle.ti_layout.specs.Checks.{Passes, verdict, ending_checks, all_name_place_checks}
+use Rattle.ti_layout.specs.Refusal.{text_checks}
 use Rattle.ti_layout.specs.Reach.{IsReach, all_name_reach_checks}
+use Rattle.ti_layout.proofs.SectionReadLemmas.{both_pass}
 use Rattle.ti_layout.proofs.IsReachLemmas.{IsNameTable, named_by_reach, exact}
 
 pub table_length : (bytes : List ℕ) (x : Part) → end_of x ≤ length bytes → length (table_of bytes x) ≡ x.table
@@ -29,16 +32,20 @@ names_decide bytes p end from reach base names e f n le b r =
     ∙ ap (λ m. all_name_reach_checks bytes t (places m 2 p.names)) n
     ∙ named_by_reach bytes table (base_of bytes p) t (places (names_from p) 2 p.names) is
 
-no_texts : (bytes : List ℕ) (p : Part) → p.texts ≡ 0 → base_of bytes p ≡ 0
-no_texts bytes p e = ap (λ n. sizes_at bytes (table_of bytes p) (places (offsets_from p) 2 n)) e
-
 -- where the names pass, the base is exact
-pub base_exact : (bytes : List ℕ) (p : Part) (base len : ℕ) → p.texts ≤ p.names → end_of p ≤ length bytes → base ≡ min (base_of bytes p) p.table
+pub base_exact : (bytes : List ℕ) (p : Part) (base len : ℕ) → 0 < p.names → end_of p ≤ length bytes → base ≡ min (base_of bytes p) p.table
     → Passes ≡ verdict len (all_name_place_checks bytes (table_of bytes p) (base_of bytes p) (end_of p) (places (names_from p) 2 p.names))
     → base ≡ base_of bytes p
-base_exact bytes p base len named le b h = by_count p.names refl
+base_exact bytes p base len some le b h =
+    b ∙ ap (min (base_of bytes p)) (sym (table_length bytes p le)) ∙ exact bytes (table_of bytes p) (base_of bytes p) len (end_of p) (names_from p) p.names some h
+
+-- so it is no greater than the table
+pub base_most : (bytes : List ℕ) (p : Part) → end_of p ≤ length bytes → Passes ≡ verdict (length bytes) (text_checks bytes p) → names_base bytes p ≤ p.table
+base_most bytes p le h = by_count p.names refl
   where
-    by_count : (n : ℕ) → n ≡ p.names → base ≡ base_of bytes p
-    by_count zero e = let none : base_of bytes p ≡ 0 = no_texts bytes p (omega arith) in omega arith
+    by_count : (n : ℕ) → n ≡ p.names → cond (eqb n 0) 0 (base_of bytes p) ≤ p.table
+    by_count zero e = omega arith
     by_count (suc n) e =
-        b ∙ ap (min (base_of bytes p)) (sym (table_length bytes p le)) ∙ exact bytes (table_of bytes p) (base_of bytes p) len (end_of p) (names_from p) p.names (omega arith) h
+        let some : cond (eqb (suc n) 0) 0 (base_of bytes p) ≡ base_of bytes p = ap (λ b. cond b 0 (base_of bytes p)) (ne_eqb (suc n) 0 (λ e. absurd (omega arith))) in
+        let passed = both_pass (length bytes) (ending_checks bytes (table_of bytes p) (end_of p) (offsets_from p) p.texts) _ h in
+        let same = base_exact bytes p (min (base_of bytes p) p.table) (length bytes) (omega arith) le refl passed.1 in omega (arith, some)

@@ -10,7 +10,7 @@ use Rattle.ti_words.specs.declared.Flag.TheVariants as flags
 use Rattle.ti_words.specs.Marks.{flag_of_byte, byte_of_flag}
 use Rattle.ti_layout.specs.Layout.{places}
 use Rattle.ti_words.specs.Texts.{is_nul}
-use Rattle.ti_layout.specs.Checks.{Check, Verdict, Passes, EndsEarly, Fails, verdict}
+use Rattle.ti_layout.specs.Checks.{Check, Verdict, Passes, Ends, Fails, verdict}
 use Rattle.ti_words.specs.Spelling.{HasNoNul, Each}
 use Rattle.ti_layout.proofs.VerdictLemmas.{then, verdict_append}
 use Rattle.ti_layout.proofs.PassesLemmas.{first_passes}
@@ -18,7 +18,7 @@ use Rattle.ti_layout.proofs.WordLemmas.{one_byte}
 
 then_passes : (v w : Verdict) → Passes ≡ then v w → (Passes ≡ v) × (Passes ≡ w)
 then_passes Passes w h = (refl, h)
-then_passes EndsEarly w h = absurd cc
+then_passes (Ends may_end) w h = absurd cc
 then_passes (Fails r) w h = absurd cc
 
 pub both_pass : (len : ℕ) (xs ys : List Check) → Passes ≡ verdict len (xs ++ ys) → (Passes ≡ verdict len xs) × (Passes ≡ verdict len ys)

@@ -2,10 +2,9 @@
 use Rattle.std.proofs.Common.{◌≡◌, ℕ, suc, ◌+◌, ◌-◌, ◌*◌, ◌<◌, ◌≤◌, true, false, cond, ltb, List, [], ◌∷◌, ◌++◌, map, refl, sym, ap, ◌∙◌, arith}
 use Rattle.std.specs.List.{flat_map}
 use Rattle.std.proofs.lemmas.List.Concat.{flat_map-cons}
-use Rattle.ti_layout.specs.declared.fault.Stop.{Stop}
-use Rattle.ti_layout.specs.declared.fault.Stop.TheVariants.{Early, Failed}
+use Rattle.ti_layout.specs.declared.fault.Refused.{Refused}
 use Rattle.ti_layout.specs.Layout.{places}
-use Rattle.ti_layout.specs.Checks.{Check, Verdict, Passes, EndsEarly, Fails, refusal_at, verdict, stop_verdict}
+use Rattle.ti_layout.specs.Checks.{Check, Verdict, Passes, Ends, Fails, refusal_at, verdict}
 
 -- what is left of a section after i items
 abbrev pub rest_of : (ℕ → Check) → ℕ → ℕ → ℕ → ℕ → ℕ → Verdict
@@ -23,13 +22,13 @@ opened f len from size count i place lt e =
 
 abbrev pub then : Verdict → Verdict → Verdict
 then Passes v = v
-then EndsEarly v = EndsEarly
+then (Ends may_end) v = Ends may_end
 then (Fails r) v = Fails r
 
 pub verdict_append : (len : ℕ) (xs ys : List Check) → verdict len (xs ++ ys) ≡ then (verdict len xs) (verdict len ys)
 verdict_append len [] ys = refl
 verdict_append len (c ∷ cs) ys =
-    elim (ltb len c.prefix) as (λ b. cond b EndsEarly (cond c.holds (verdict len (cs ++ ys)) (Fails (refusal_at c.fault c.place))) ≡ then (cond b EndsEarly (cond c.holds (verdict len cs) (Fails (refusal_at c.fault c.place)))) (verdict len ys)) [
+    elim (ltb len c.prefix) as (λ b. cond b (Ends c.may_end) (cond c.holds (verdict len (cs ++ ys)) (Fails (refusal_at c.fault c.place))) ≡ then (cond b (Ends c.may_end) (cond c.holds (verdict len cs) (Fails (refusal_at c.fault c.place)))) (verdict len ys)) [
       | true ↦ refl
       | false ↦ elim c.holds as (λ b. cond b (verdict len (cs ++ ys)) (Fails (refusal_at c.fault c.place)) ≡ then (cond b (verdict len cs) (Fails (refusal_at c.fault c.place))) (verdict len ys)) [
         | true ↦ verdict_append len cs ys
@@ -40,22 +39,18 @@ verdict_append len (c ∷ cs) ys =
 first_holds : (len : ℕ) (c : Check) (cs : List Check) → Passes ≡ verdict len (c ∷ []) → verdict len (c ∷ cs) ≡ verdict len cs
 first_holds len c cs h = verdict_append len (c ∷ []) cs ∙ ap (λ v. then v (verdict len cs)) (sym h)
 
-pub then-stop_verdict : (stop : Stop) (v : Verdict) → then (stop_verdict stop) v ≡ stop_verdict stop
-then-stop_verdict Early v = refl
-then-stop_verdict (Failed r) v = refl
-
-first_fails : (len : ℕ) (c : Check) (cs : List Check) (stop : Stop) → stop_verdict stop ≡ verdict len (c ∷ []) → verdict len (c ∷ cs) ≡ stop_verdict stop
-first_fails len c cs stop h = verdict_append len (c ∷ []) cs ∙ ap (λ v. then v (verdict len cs)) (sym h) ∙ then-stop_verdict stop _
+first_fails : (len : ℕ) (c : Check) (cs : List Check) (r : Refused) → Fails r ≡ verdict len (c ∷ []) → verdict len (c ∷ cs) ≡ Fails r
+first_fails len c cs r h = verdict_append len (c ∷ []) cs ∙ ap (λ v. then v (verdict len cs)) (sym h)
 
 pub goes_on : (f : ℕ → Check) (len from size count i place : ℕ) (total : Verdict) → i < count → place ≡ from + size * i
     → Passes ≡ verdict len (f place ∷ []) → rest_of f len from size count i ≡ total → rest_of f len from size count (i + 1) ≡ total
 goes_on f len from size count i place total lt e holds so_far =
     sym (opened f len from size count i place lt e ∙ first_holds len (f place) _ holds) ∙ so_far
 
-pub stops : (f : ℕ → Check) (len from size count i place : ℕ) (total : Verdict) (stop : Stop) → i < count → place ≡ from + size * i
-    → stop_verdict stop ≡ verdict len (f place ∷ []) → rest_of f len from size count i ≡ total → stop_verdict stop ≡ total
-stops f len from size count i place total stop lt e fails so_far =
-    sym (opened f len from size count i place lt e ∙ first_fails len (f place) _ stop fails) ∙ so_far
+pub stops : (f : ℕ → Check) (len from size count i place : ℕ) (total : Verdict) (r : Refused) → i < count → place ≡ from + size * i
+    → Fails r ≡ verdict len (f place ∷ []) → rest_of f len from size count i ≡ total → Fails r ≡ total
+stops f len from size count i place total r lt e fails so_far =
+    sym (opened f len from size count i place lt e ∙ first_fails len (f place) _ r fails) ∙ so_far
 
 pub all_hold : (f : ℕ → Check) (len from size count i : ℕ) (total : Verdict) → count ≤ i → rest_of f len from size count i ≡ total → Passes ≡ total
 all_hold f len from size count i total le so_far =
@@ -84,7 +79,7 @@ pub goes_on_each : (f : ℕ → List Check) (len from size count i place : ℕ) 
 goes_on_each f len from size count i place total lt e holds so_far =
     sym (opened_each f len from size count i place lt e ∙ ap (λ v. then v (rest_of_each f len from size count (i + 1))) (sym holds)) ∙ so_far
 
-pub stops_each : (f : ℕ → List Check) (len from size count i place : ℕ) (total : Verdict) (stop : Stop) → i < count → place ≡ from + size * i
-    → stop_verdict stop ≡ verdict len (f place) → rest_of_each f len from size count i ≡ total → stop_verdict stop ≡ total
-stops_each f len from size count i place total stop lt e fails so_far =
-    sym (opened_each f len from size count i place lt e ∙ ap (λ v. then v (rest_of_each f len from size count (i + 1))) (sym fails) ∙ then-stop_verdict stop _) ∙ so_far
+pub stops_each : (f : ℕ → List Check) (len from size count i place : ℕ) (total : Verdict) (r : Refused) → i < count → place ≡ from + size * i
+    → Fails r ≡ verdict len (f place) → rest_of_each f len from size count i ≡ total → Fails r ≡ total
+stops_each f len from size count i place total r lt e fails so_far =
+    sym (opened_each f len from size count i place lt e ∙ ap (λ v. then v (rest_of_each f len from size count (i + 1))) (sym fails)) ∙ so_far

@@ -1,64 +1,64 @@
 -- Checks of an input in a fixed order, and what the first one that is not passed answers.
-use Rattle.std.specs.Prelude.{ℕ, ◌+◌, ◌-◌, ◌%◌, ℤ, pos, negsuc, Bool, true, false, not, List, [], ◌∷◌, ◌++◌, length, map, slice_index, Option, Some, None, Result, Ok, Err, nat_lt, nat_le, if◌then◌else◌, is_some}
+use Rattle.std.specs.Prelude.{ℕ, ◌+◌, ◌-◌, ◌%◌, ℤ, pos, negsuc, Bool, true, false, not, List, [], ◌∷◌, ◌++◌, length, map, slice_index, Option, Some, None, Result, Ok, Err, nat_lt, if◌then◌else◌, is_some}
 use Rattle.std.specs.List.{flat_map}
 use Rattle.ti_words.specs.Marks.{flag_of_byte}
 use Rattle.ti_layout.specs.declared.fault.Fault.{Fault}
 use Rattle.ti_layout.specs.declared.fault.Fault.TheVariants.{Truncated, BadNames, BadFlag, BadPad, BadNumber, BadOffset, Unterminated, BadExtendedName, Trailing}
 use Rattle.ti_layout.specs.declared.fault.Refused.{Refused}
-use Rattle.ti_layout.specs.declared.fault.Stop.{Stop}
-use Rattle.ti_layout.specs.declared.fault.Stop.TheVariants.{Early, Failed}
 use Rattle.ti_words.specs.Word.{unsigned_at, word_at}
 use Rattle.ti_layout.specs.Layout.{places}
 use Rattle.ti_words.specs.Texts.{is_nul}
 use Rattle.ti_layout.specs.Table.{ends_in}
 
--- one check: the length of the prefix that it reads, what must hold of it, and what is answered where it does not hold
+-- one check: the length of the prefix that it reads, whether an entry may end before it, what must hold of it, and what is
+-- answered where it does not hold
 pub record Check : Type 0 where
   pub prefix : ℕ
+  pub may_end : Bool
   pub holds : Bool
   pub fault : Fault
   pub place : ℕ
 
 abbrev pub check : ℕ → Bool → Fault → ℕ → Check
-check prefix holds fault place = record { prefix = prefix; holds = holds; fault = fault; place = place }
+check prefix holds fault place = record { prefix = prefix; may_end = false; holds = holds; fault = fault; place = place }
+
+-- a check of what follows a whole entry: made where a byte does
+abbrev pub check_after : ℕ → Bool → Fault → Check
+check_after end holds fault = record { prefix = end + 1; may_end = true; holds = holds; fault = fault; place = end }
 
 abbrev pub refusal_at : Fault → ℕ → Refused
 refusal_at fault place = record { fault = fault; place = place }
 
--- what a list of checks says of an input
+-- what a list of checks says of an input: it passes them, it ends before a check, maybe as an entry does, or one fails
 pub data Verdict : Type 0 where
   Passes : Verdict
-  EndsEarly : Verdict
+  Ends : Bool → Verdict
   Fails : Refused → Verdict
 
 -- the first check, in order, that an input of this length does not pass
 abbrev pub verdict : ℕ → List Check → Verdict
 verdict len [] = Passes
 verdict len (c ∷ cs) =
-    if nat_lt len c.prefix then EndsEarly
+    if nat_lt len c.prefix then Ends c.may_end
     else (if c.holds then verdict len cs
     else Fails (refusal_at c.fault c.place))
 
--- the refusal: where the input ends before the prefix of a check, it is Truncated at its length
+-- the refusal: where the input ends before the prefix of a check, and no entry may, it is Truncated at its length
 abbrev pub refusal_of : ℕ → Verdict → Option Refused
 refusal_of len Passes = None
-refusal_of len EndsEarly = Some (refusal_at Truncated len)
+refusal_of len (Ends may_end) = if may_end then None else Some (refusal_at Truncated len)
 refusal_of len (Fails r) = Some r
 
 -- the check that has failed: its prefix is there, it does not hold, and no earlier one fails
 abbrev pub failure_of : Verdict → Option Refused
 failure_of Passes = None
-failure_of EndsEarly = None
+failure_of (Ends may_end) = None
 failure_of (Fails r) = Some r
 
--- the verdict that a stop tells, and the one that a result tells
-abbrev pub stop_verdict : Stop → Verdict
-stop_verdict Early = EndsEarly
-stop_verdict (Failed r) = Fails r
-
-abbrev pub result_verdict : {A : Type 0} → Result A Stop → Verdict
+-- the verdict that a result tells
+abbrev pub result_verdict : {A : Type 0} → Result A Refused → Verdict
 result_verdict (Ok x) = Passes
-result_verdict (Err stop) = stop_verdict stop
+result_verdict (Err r) = Fails r
 
 -- ---- what must hold
 
@@ -143,9 +143,6 @@ name_place_checks bytes table base end p =
 abbrev pub all_name_place_checks : List ℕ → List ℕ → ℕ → ℕ → List ℕ → List Check
 all_name_place_checks bytes table base end ps = flat_map (name_place_checks bytes table base end) ps
 
--- no byte stands at a place or after it
-abbrev pub end_check : List ℕ → ℕ → Check
-end_check bytes end = check end (nat_le (length bytes) end) Trailing end
-
-abbrev pub end_checks : List ℕ → ℕ → List Check
-end_checks bytes end = end_check bytes end ∷ []
+-- no byte follows
+abbrev pub end_check : ℕ → Check
+end_check end = check_after end false Trailing

@@ -23,6 +23,10 @@ places from size (suc count) = from ∷ places (from + size) size count
 abbrev pub even : ℕ → ℕ
 even n = n + n % 2
 
+-- the bytes up to the pad at a place, if one stands there
+abbrev pub pad_end : ℕ → ℕ
+pad_end n = if n % 2 == 0 then 0 else n + 1
+
 -- ---- a part: flags, numbers from an even place on, offsets of texts, offsets of names, and a string table
 
 -- where the flags end

@@ -1,42 +1,49 @@
--- Which bytes are refused, and why: all checks of an entry, in their order.
-use Rattle.std.specs.Prelude.{ℕ, ◌+◌, ◌-◌, List, [], ◌∷◌, ◌++◌, length, Option, ◌==◌, nat_le, if◌then◌else◌, is_some}
-use Rattle.ti_layout.specs.declared.fault.Fault.{Fault}
-use Rattle.ti_layout.specs.declared.fault.Fault.TheVariants.{BadMagic, BadHeader, HeaderTooBig, BadNames, BadExtendedHeader, ExtendedTooBig, BadExtendedName, Trailing}
+-- Which bytes are refused, and why: all checks of an entry, section by section in their order.
+use Rattle.std.specs.Prelude.{ℕ, ◌+◌, ◌-◌, List, [], ◌∷◌, ◌++◌, length, map, Option, nat_le, is_some}
+use Rattle.std.specs.List.{flat_map}
+use Rattle.ti_layout.specs.declared.fault.Fault.TheVariants.{BadMagic, BadHeader, HeaderTooBig, BadNames, BadExtendedHeader, ExtendedTooBig, BadExtendedName}
 use Rattle.ti_layout.specs.declared.fault.Refused.{Refused}
 use Rattle.ti_layout.specs.declared.part.Part.{Part}
+use Rattle.ti_layout.specs.declared.section.Half.{Half}
+use Rattle.ti_layout.specs.declared.section.Half.TheVariants.{Standard, Extended}
+use Rattle.ti_layout.specs.declared.section.Item.{Item}
+use Rattle.ti_layout.specs.declared.section.Item.TheVariants.{Sign, Name, Flag, Number, Offset}
+use Rattle.ti_layout.specs.declared.section.Items.{Items}
+use Rattle.ti_layout.specs.declared.section.Section.{Section}
+use Rattle.ti_layout.specs.declared.section.Section.TheVariants.{Magic, Header, Names, Flags, Numbers, Offsets, NameOffsets, TableEnd, ExtendedHeader, End}
 use Rattle.ti_base.specs.Limits.{most_entry_bytes}
 use Rattle.ti_layout.specs.Layout.{width_of, places, flags_end, numbers_from, offsets_from, names_from, end_of, standard, extended_from, extended_after}
 use Rattle.ti_words.specs.Widths.{number_size}
 use Rattle.ti_layout.specs.Table.{table_of, base_of}
-use Rattle.ti_layout.specs.Checks.{Check, check, verdict, refusal_of, failure_of, sign_checks, name_checks, flag_checks, pad_checks, number_checks, offset_checks, ending_checks, all_name_place_checks, end_checks}
+use Rattle.ti_layout.specs.Checks.{Check, check, check_after, verdict, refusal_of, failure_of, sign_check, name_check, nul_check, flag_check, pad_checks, number_check, offset_check, ending_checks, all_name_place_checks, end_check}
 
--- ---- the sections of a part
+-- ---- items that lie one after the other
 
--- its items in their order
-abbrev pub item_checks : List ℕ → Part → List Check
-item_checks bytes p =
-    flag_checks bytes p.flags_from p.flags
-    ++ pad_checks bytes (flags_end p)
-    ++ number_checks bytes (number_size p.width) (numbers_from p) p.numbers
-    ++ offset_checks bytes p.table (offsets_from p) p.texts
-    ++ sign_checks bytes BadExtendedName (names_from p) p.names
+abbrev pub item_check : List ℕ → Item → ℕ → Check
+item_check bytes (Sign fault) = sign_check bytes fault
+item_check bytes Name = name_check bytes
+item_check bytes Flag = flag_check bytes
+item_check bytes (Number width) = number_check bytes (number_size width)
+item_check bytes (Offset table_size) = offset_check bytes table_size
 
--- the NUL of each text, then the place and the NUL of each name
-abbrev pub text_checks : List ℕ → Part → List Check
-text_checks bytes p =
-    ending_checks bytes (table_of bytes p) (end_of p) (offsets_from p) p.texts
-    ++ all_name_place_checks bytes (table_of bytes p) (base_of bytes p) (end_of p) (places (names_from p) 2 p.names)
+abbrev pub item_size : Item → ℕ
+item_size (Sign fault) = 2
+item_size Name = 1
+item_size Flag = 1
+item_size (Number width) = number_size width
+item_size (Offset table_size) = 2
 
-abbrev pub part_checks : List ℕ → Part → List Check
-part_checks bytes p = item_checks bytes p ++ text_checks bytes p
+abbrev pub items : Item → ℕ → ℕ → Items
+items item at left = record { item = item; at = at; left = left }
 
--- ---- the entry up to the end of its string table
+-- the checks of the items that are left
+abbrev pub items_checks : List ℕ → Items → List Check
+items_checks bytes s = map (item_check bytes s.item) (places s.at (item_size s.item) s.left)
+
+-- ---- the headers
 
 abbrev pub magic_check : List ℕ → Check
 magic_check bytes = check 2 (is_some (width_of bytes)) BadMagic 0
-
-abbrev pub magic_checks : List ℕ → List Check
-magic_checks bytes = magic_check bytes ∷ []
 
 abbrev pub size_check : Part → Check
 size_check s = check 12 (nat_le (end_of s) most_entry_bytes) HeaderTooBig 0
@@ -48,51 +55,78 @@ named_check s = check 12 (nat_le 14 s.flags_from) BadNames 12
 abbrev pub size_checks : Part → List Check
 size_checks s = size_check s ∷ named_check s ∷ []
 
--- the magic, the words of the header, the size of the whole, some name: these fix where the sections lie
-abbrev pub front_checks : List ℕ → Part → List Check
-front_checks bytes s = magic_checks bytes ++ sign_checks bytes BadHeader 2 5 ++ size_checks s
-
--- the names and the sections of the part
-abbrev pub section_checks : List ℕ → Part → List Check
-section_checks bytes s = name_checks bytes s.flags_from ++ part_checks bytes s
-
--- ---- the extended part
-
--- there is room for its header
+-- where a byte follows the string table, there is room for the extended header
 abbrev pub room_check : Part → Check
-room_check s = check (end_of s + 1) (nat_le (extended_from s + 10) most_entry_bytes) ExtendedTooBig (end_of s)
-
-abbrev pub room_checks : Part → List Check
-room_checks s = room_check s ∷ []
+room_check s = check_after (end_of s) (nat_le (extended_from s + 10) most_entry_bytes) ExtendedTooBig
 
 abbrev pub extended_size_check : Part → Check
 extended_size_check x = check x.flags_from (nat_le (end_of x) most_entry_bytes) ExtendedTooBig (x.flags_from - 10)
 
-abbrev pub extended_size_checks : Part → List Check
-extended_size_checks x = extended_size_check x ∷ []
+-- the last word of the extended header, and the sizes in it
+abbrev pub extended_header_checks : List ℕ → Part → List Check
+extended_header_checks bytes s =
+    sign_check bytes BadExtendedHeader (extended_from s + 8) ∷ extended_size_check (extended_after s bytes) ∷ []
 
--- the size of its header, the pad, the words of its header but items, and its size
-abbrev pub extended_front_checks : List ℕ → Part → Part → List Check
-extended_front_checks bytes s x =
-    room_checks s
-    ++ pad_checks bytes (end_of s)
-    ++ sign_checks bytes BadExtendedHeader (extended_from s) 3
-    ++ sign_checks bytes BadExtendedHeader (extended_from s + 8) 1
-    ++ extended_size_checks x
+-- ---- the tables
 
--- the extended part, and no byte after it
-abbrev pub extended_checks : List ℕ → Part → Part → List Check
-extended_checks bytes s x = extended_front_checks bytes s x ++ part_checks bytes x ++ end_checks bytes (end_of x)
+-- the NUL of each text, then the place and the NUL of each name
+abbrev pub text_checks : List ℕ → Part → List Check
+text_checks bytes p =
+    ending_checks bytes (table_of bytes p) (end_of p) (offsets_from p) p.texts
+    ++ all_name_place_checks bytes (table_of bytes p) (base_of bytes p) (end_of p) (places (names_from p) 2 p.names)
 
--- what is checked after the string table: nothing where the input ends there
-abbrev pub checks_after_table : List ℕ → Part → List Check
-checks_after_table bytes s =
-    if nat_le (length bytes) (end_of s) then [] else extended_checks bytes s (extended_after s bytes)
+-- ---- the sections
+
+abbrev pub part_of : Half → Part → Part → Part
+part_of Standard s x = s
+part_of Extended s x = x
+
+-- the items of a section
+abbrev pub items_of : Section → Part → Part → Items
+items_of Header s x = items (Sign BadHeader) 2 5
+items_of Names s x = items Name 12 (s.flags_from - 13)
+items_of (Flags half) s x = let p = part_of half s x in items Flag p.flags_from p.flags
+items_of (Numbers half) s x = let p = part_of half s x in items (Number p.width) (numbers_from p) p.numbers
+items_of (Offsets half) s x = let p = part_of half s x in items (Offset p.table) (offsets_from p) p.texts
+items_of (NameOffsets half) s x = let p = part_of half s x in items (Sign BadExtendedName) (names_from p) p.names
+items_of ExtendedHeader s x = items (Sign BadExtendedHeader) (extended_from s) 3
+items_of _ s x = items Flag 0 0
+
+-- what is checked at once after them
+abbrev pub closing_checks : Section → Part → Part → List ℕ → List Check
+closing_checks Magic s x bytes = magic_check bytes ∷ []
+closing_checks Header s x bytes = size_checks (standard bytes)
+closing_checks Names s x bytes = nul_check bytes BadNames (s.flags_from - 1) ∷ []
+closing_checks (Flags half) s x bytes = pad_checks bytes (flags_end (part_of half s x))
+closing_checks (NameOffsets half) s x bytes = text_checks bytes (part_of half s x)
+closing_checks TableEnd s x bytes = room_check s ∷ pad_checks bytes (end_of s)
+closing_checks ExtendedHeader s x bytes = extended_header_checks bytes s
+closing_checks End s x bytes = end_check (end_of x) ∷ []
+closing_checks _ s x bytes = []
+
+abbrev pub section_checks : List ℕ → Section → List Check
+section_checks bytes section =
+    let s = standard bytes in
+    let x = extended_after s bytes in
+    items_checks bytes (items_of section s x) ++ closing_checks section s x bytes
+
+abbrev pub part_sections : Half → List Section
+part_sections half = Flags half ∷ Numbers half ∷ Offsets half ∷ NameOffsets half ∷ []
+
+abbrev pub standard_sections : List Section
+standard_sections = Magic ∷ Header ∷ Names ∷ part_sections Standard
+
+abbrev pub extended_sections : List Section
+extended_sections = ExtendedHeader ∷ part_sections Extended
+
+-- an entry may end before the extended part, and ends after it
+abbrev pub sections : List Section
+sections = standard_sections ++ (TableEnd ∷ (extended_sections ++ (End ∷ [])))
 
 -- ---- the whole
 
 abbrev pub checks : List ℕ → List Check
-checks bytes = let s = standard bytes in front_checks bytes s ++ section_checks bytes s ++ checks_after_table bytes s
+checks bytes = flat_map (section_checks bytes) sections
 
 -- why the bytes are refused, where they are
 abbrev pub refusal : List ℕ → Option Refused
@@ -101,7 +135,3 @@ refusal bytes = refusal_of (length bytes) (verdict (length bytes) (checks bytes)
 -- which check has failed on the bytes so far, whatever follows them
 abbrev pub failure : List ℕ → Option Refused
 failure bytes = failure_of (verdict (length bytes) (checks bytes))
-
--- the fault of a byte after an entry of the greatest length
-abbrev pub fault_after : List ℕ → Fault
-fault_after bytes = if end_of (standard bytes) == length bytes then ExtendedTooBig else Trailing

@@ -1,5 +1,5 @@
 -- String tables: texts that end with a NUL, told by words.
-use Rattle.std.specs.Prelude.{ℕ, zero, suc, ◌+◌, ℤ, pos, negsuc, Bool, not, List, [], ◌∷◌, length, take, drop}
+use Rattle.std.specs.Prelude.{ℕ, zero, suc, ◌+◌, ℤ, pos, negsuc, Bool, not, List, [], ◌∷◌, length, take, drop, ◌==◌, if◌then◌else◌}
 use Rattle.std.specs.List.{list_any, take_while}
 use Rattle.ti_words.specs.Texts.{TextValue, AbsentText, CancelledText, TextOf, is_nul}
 use Rattle.ti_layout.specs.declared.part.Part.{Part}
@@ -40,3 +40,7 @@ sizes_at bytes table (p ∷ ps) = size_at table (word_at 2 bytes p) + sizes_at b
 -- what the places of names are counted from
 abbrev pub base_of : List ℕ → Part → ℕ
 base_of bytes p = sizes_at bytes (table_of bytes p) (places (offsets_from p) 2 p.texts)
+
+-- the same, as far as there are names
+abbrev pub names_base : List ℕ → Part → ℕ
+names_base bytes p = if p.names == 0 then 0 else base_of bytes p

@@ -4,13 +4,13 @@
 //! over item by item only where that test leaves it open. Whether its texts have their NULs is decided for all of them
 //! from one look for the last NUL of the table.
 
-ghost use Rattle.std.specs.Prelude.{◌≡◌, ◌+◌, ◌*◌, ◌<◌, ◌≤◌, ◌^◌, ◌∷◌, [], length, map, take, drop, OnOk};
+ghost use Rattle.std.specs.Prelude.{◌≡◌, ◌+◌, ◌*◌, ◌<◌, ◌≤◌, ◌^◌, ◌∷◌, [], length, map, take, drop};
 ghost use Rattle.ti_words.specs.Widths.{number_size as the_number_size};
-ghost use Rattle.ti_layout.specs.Layout.{places};
+ghost use Rattle.ti_layout.specs.Layout.{places, pad_end};
 ghost use Rattle.ti_layout.specs.Checks.{verdict, result_verdict, sign_check, name_check, nul_check, flag_check, number_check, offset_check, flag_checks, pad_checks, number_checks, offset_checks, ending_checks, sign_checks, is_offset_below as the_is_offset_below};
 ghost use Rattle.ti_layout.specs.Reach.{IsReach, reach_check, name_reach_checks, all_name_reach_checks, is_before as the_is_before};
 
-use crate::fault::{Fault, Refused, Stop};
+use crate::fault::{Fault, Refused};
 use crate::whole::{
     are_before, are_flags, are_names, are_no_nuls, are_not_negative, are_numbers, are_offsets,
 };
@@ -59,153 +59,136 @@ pub(crate) fn reach_of(table: &[u8]) -> usize
 }
 
 /// The word at a place is not negative.
-pub(crate) fn check_sign(bytes: &[u8], fault: Fault, place: usize) -> Result<(), Stop>
-    requires { place < 2 ^ 33 }
+pub(crate) fn check_sign(bytes: &[u8], fault: Fault, place: usize) -> Result<(), Refused>
+    requires { place + 2 ≤ length bytes.now }
     ensures { result_verdict result
         ≡ verdict (length bytes.now) (sign_check bytes.now fault place ∷ []) }
 {
-    if bytes.len() < place + 2 {
-        return Err(Stop::Early);
-    }
     if word_at(bytes, place) < 0 {
-        return Err(Stop::Failed(Refused { fault, place }));
+        return Err(Refused { fault, place });
     }
     Ok(())
 }
 
 /// No NUL stands at a place.
-pub(crate) fn check_name(bytes: &[u8], place: usize) -> Result<(), Stop>
-    requires { place < 2 ^ 33 }
+pub(crate) fn check_name(bytes: &[u8], place: usize) -> Result<(), Refused>
+    requires { place + 1 ≤ length bytes.now }
     ensures { result_verdict result ≡ verdict (length bytes.now) (name_check bytes.now place ∷ []) }
 {
-    if bytes.len() < place + 1 {
-        return Err(Stop::Early);
-    }
     if bytes[place] == 0 {
-        return Err(Stop::Failed(Refused {
+        return Err(Refused {
             fault: Fault::BadNames,
             place,
-        }));
+        });
     }
     Ok(())
 }
 
 /// A NUL stands at a place.
-pub(crate) fn check_nul(bytes: &[u8], fault: Fault, place: usize) -> Result<(), Stop>
-    requires { place < 2 ^ 33 }
+pub(crate) fn check_nul(bytes: &[u8], fault: Fault, place: usize) -> Result<(), Refused>
+    requires { place + 1 ≤ length bytes.now }
     ensures { result_verdict result
         ≡ verdict (length bytes.now) (nul_check bytes.now fault place ∷ []) }
 {
-    if bytes.len() < place + 1 {
-        return Err(Stop::Early);
-    }
     if bytes[place] != 0 {
-        return Err(Stop::Failed(Refused { fault, place }));
+        return Err(Refused { fault, place });
     }
     Ok(())
 }
 
 /// The byte at a place is a flag.
-pub(crate) fn check_flag(bytes: &[u8], place: usize) -> Result<(), Stop>
-    requires { place < 2 ^ 33 }
+pub(crate) fn check_flag(bytes: &[u8], place: usize) -> Result<(), Refused>
+    requires { place + 1 ≤ length bytes.now }
     ensures { result_verdict result ≡ verdict (length bytes.now) (flag_check bytes.now place ∷ []) }
 {
-    if bytes.len() < place + 1 {
-        return Err(Stop::Early);
-    }
     if flag_of(bytes[place]).is_none() {
-        return Err(Stop::Failed(Refused {
+        return Err(Refused {
             fault: Fault::BadFlag,
             place,
-        }));
+        });
     }
     Ok(())
 }
 
 /// The number at a place is at least -2.
-pub(crate) fn check_number(bytes: &[u8], width: Width, place: usize) -> Result<(), Stop>
-    requires { place < 2 ^ 33 }
+pub(crate) fn check_number(bytes: &[u8], width: Width, place: usize) -> Result<(), Refused>
+    requires { place + the_number_size width ≤ length bytes.now }
     ensures { result_verdict result
         ≡ verdict (length bytes.now) (number_check bytes.now (the_number_size width) place ∷ []) }
 {
-    if bytes.len() < place + number_size(width) {
-        return Err(Stop::Early);
-    }
     if number_word_at(bytes, width, place) < -2 {
-        return Err(Stop::Failed(Refused {
+        return Err(Refused {
             fault: Fault::BadNumber,
             place,
-        }));
+        });
     }
     Ok(())
 }
 
 /// The offset at a place is a mark, or a place of the table.
-pub(crate) fn check_offset(bytes: &[u8], table_size: usize, place: usize) -> Result<(), Stop>
-    requires { place < 2 ^ 33 }
+pub(crate) fn check_offset(bytes: &[u8], table_size: usize, place: usize) -> Result<(), Refused>
+    requires { place + 2 ≤ length bytes.now }
     ensures { result_verdict result
         ≡ verdict (length bytes.now) (offset_check bytes.now table_size place ∷ []) }
 {
-    if bytes.len() < place + 2 {
-        return Err(Stop::Early);
-    }
     let offset = word_at(bytes, place);
     if !is_offset_below(table_size, offset) {
-        return Err(Stop::Failed(Refused {
+        return Err(Refused {
             fault: Fault::BadOffset,
             place,
-        }));
+        });
     }
     Ok(())
 }
 
 /// The text whose offset stands at a place starts before the reach of the table.
-fn check_ending(bytes: &[u8], reach: usize, end: usize, place: usize) -> Result<(), Stop>
-    requires { place + 2 ≤ end }
+fn check_ending(bytes: &[u8], reach: usize, end: usize, place: usize) -> Result<(), Refused>
+    requires within { place + 2 ≤ end }
+    requires there { end ≤ length bytes.now }
     ensures { result_verdict result
         ≡ verdict (length bytes.now) (reach_check bytes.now reach end place ∷ []) }
 {
-    if bytes.len() < end {
-        return Err(Stop::Early);
-    }
     if !is_before(reach, word_at(bytes, place)) {
-        return Err(Stop::Failed(Refused {
+        return Err(Refused {
             fault: Fault::Unterminated,
             place,
-        }));
+        });
     }
     Ok(())
 }
 
 /// The name whose offset stands at a place starts in the table, and before its reach.
-fn check_name_place(bytes: &[u8], table: &NameTable, place: usize) -> Result<(), Stop>
+fn check_name_place(bytes: &[u8], table: &NameTable, place: usize) -> Result<(), Refused>
     requires within { place + 2 ≤ table.now.end }
+    requires there { table.now.end ≤ length bytes.now }
     requires small { table.now.base < 2 ^ 32 }
     ensures { result_verdict result
         ≡ verdict (length bytes.now) (name_reach_checks bytes.now table.now place) }
 {
-    if bytes.len() < table.end {
-        return Err(Stop::Early);
-    }
     let start = table.base + count_at(bytes, place);
     if start >= table.size {
-        return Err(Stop::Failed(Refused {
+        return Err(Refused {
             fault: Fault::BadExtendedName,
             place,
-        }));
+        });
     }
     if start >= table.reach {
-        return Err(Stop::Failed(Refused {
+        return Err(Refused {
             fault: Fault::Unterminated,
             place,
-        }));
+        });
     }
     Ok(())
 }
 
 /// No word of a section is negative.
-pub(crate) fn check_signs(bytes: &[u8], fault: Fault, from: usize, count: usize) -> Result<(), Stop>
-    requires { from + 2 * count < 2 ^ 32 }
+pub(crate) fn check_signs(
+    bytes: &[u8],
+    fault: Fault,
+    from: usize,
+    count: usize,
+) -> Result<(), Refused>
+    requires { from + 2 * count ≤ length bytes.now }
     ensures { result_verdict result
         ≡ verdict (length bytes.now) (sign_checks bytes.now fault from count) }
 {
@@ -219,8 +202,8 @@ pub(crate) fn check_signs(bytes: &[u8], fault: Fault, from: usize, count: usize)
 }
 
 /// No NUL stands in a section.
-pub(crate) fn check_no_nuls(bytes: &[u8], from: usize, count: usize) -> Result<(), Stop>
-    requires { from + count < 2 ^ 32 }
+pub(crate) fn check_no_nuls(bytes: &[u8], from: usize, count: usize) -> Result<(), Refused>
+    requires { from + count ≤ length bytes.now }
     ensures { result_verdict result
         ≡ verdict (length bytes.now) (map (name_check bytes.now) (places from 1 count)) }
 {
@@ -234,8 +217,8 @@ pub(crate) fn check_no_nuls(bytes: &[u8], from: usize, count: usize) -> Result<(
 }
 
 /// Each byte of a section is a flag.
-pub(crate) fn check_flags(bytes: &[u8], from: usize, count: usize) -> Result<(), Stop>
-    requires { from + count < 2 ^ 32 }
+pub(crate) fn check_flags(bytes: &[u8], from: usize, count: usize) -> Result<(), Refused>
+    requires { from + count ≤ length bytes.now }
     ensures { result_verdict result
         ≡ verdict (length bytes.now) (flag_checks bytes.now from count) }
 {
@@ -249,8 +232,8 @@ pub(crate) fn check_flags(bytes: &[u8], from: usize, count: usize) -> Result<(),
 }
 
 /// The byte at an odd place is 0.
-pub(crate) fn check_pad(bytes: &[u8], place: usize) -> Result<(), Stop>
-    requires { place < 2 ^ 32 }
+pub(crate) fn check_pad(bytes: &[u8], place: usize) -> Result<(), Refused>
+    requires { pad_end place ≤ length bytes.now }
     ensures { result_verdict result ≡ verdict (length bytes.now) (pad_checks bytes.now place) }
 {
     if place % 2 == 0 {
@@ -265,8 +248,9 @@ pub(crate) fn check_numbers(
     width: Width,
     from: usize,
     count: usize,
-) -> Result<(), Stop>
-    requires { from + the_number_size width * count < 2 ^ 32 }
+) -> Result<(), Refused>
+    requires there { from + the_number_size width * count ≤ length bytes.now }
+    requires fits { the_number_size width * count < 2 ^ 32 }
     ensures { result_verdict result
         ≡ verdict (length bytes.now) (number_checks bytes.now (the_number_size width) from count) }
 {
@@ -285,8 +269,8 @@ pub(crate) fn check_offsets(
     table_size: usize,
     from: usize,
     count: usize,
-) -> Result<(), Stop>
-    requires { from + 2 * count < 2 ^ 32 }
+) -> Result<(), Refused>
+    requires { from + 2 * count ≤ length bytes.now }
     ensures { result_verdict result
         ≡ verdict (length bytes.now) (offset_checks bytes.now table_size from count) }
 {
@@ -306,17 +290,13 @@ pub(crate) fn check_endings(
     table_size: usize,
     from: usize,
     count: usize,
-) -> Result<(), Stop>
+) -> Result<(), Refused>
     requires before { from + 2 * count ≤ table_from }
-    requires fits { table_from + table_size < 2 ^ 32 }
-    ensures verdict { result_verdict result ≡ verdict (length bytes.now) (ending_checks bytes.now
+    requires there { table_from + table_size ≤ length bytes.now }
+    ensures { result_verdict result ≡ verdict (length bytes.now) (ending_checks bytes.now
         (take table_size (drop table_from bytes.now)) (table_from + table_size) from count) }
-    ensures there { OnOk result (table_from + table_size ≤ length bytes.now) }
 {
     let end = table_from + table_size;
-    if bytes.len() < end {
-        return Err(Stop::Early);
-    }
     let reach = reach_of(&bytes[table_from..end]);
     check_each_ending(bytes, reach, end, from, count)
 }
@@ -328,10 +308,9 @@ fn check_each_ending(
     end: usize,
     from: usize,
     count: usize,
-) -> Result<(), Stop>
+) -> Result<(), Refused>
     requires before { from + 2 * count ≤ end }
     requires there { end ≤ length bytes.now }
-    requires fits { end < 2 ^ 32 }
     ensures { result_verdict result
         ≡ verdict (length bytes.now) (map (reach_check bytes.now reach end) (places from 2 count)) }
 {
@@ -350,10 +329,9 @@ pub(crate) fn check_name_places(
     table: &NameTable,
     from: usize,
     count: usize,
-) -> Result<(), Stop>
+) -> Result<(), Refused>
     requires before { from + 2 * count ≤ table.now.end }
     requires there { table.now.end ≤ length bytes.now }
-    requires fits { table.now.end < 2 ^ 32 }
     requires small { table.now.base < 2 ^ 32 }
     ensures { result_verdict result ≡ verdict (length bytes.now)
         (all_name_reach_checks bytes.now table.now (places from 2 count)) }

@@ -88,12 +88,3 @@ pub struct Refused {
     /// The count of bytes before the one that it speaks of.
     pub place: usize,
 }
-
-/// Why a list of checks is not passed.
-#[derive(Clone, Copy)]
-pub(crate) enum Stop {
-    /// The bytes end before the prefix that a check reads.
-    Early,
-    /// A check does not hold.
-    Failed(Refused),
-}

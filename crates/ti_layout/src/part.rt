@@ -4,7 +4,7 @@
 
 ghost use Rattle.std.specs.Prelude.{◌≡◌, ◌+◌, ◌*◌, ◌<◌, ◌≤◌, ◌^◌, length};
 ghost use Rattle.ti_base.specs.Limits.{most_entry_bytes};
-ghost use Rattle.ti_layout.specs.Layout.{standard, extended_after, no_capability, count_of_kind, kind_names_from, end_of, width_of as the_width_of, flags_end as the_flags_end, numbers_from as the_numbers_from, offsets_from as the_offsets_from, names_from as the_names_from, table_from as the_table_from, extended_from as the_extended_from};
+ghost use Rattle.ti_layout.specs.Layout.{standard, extended_after, no_capability, count_of_kind, kind_names_from, end_of, pad_end as the_pad_end, width_of as the_width_of, flags_end as the_flags_end, numbers_from as the_numbers_from, offsets_from as the_offsets_from, names_from as the_names_from, table_from as the_table_from, extended_from as the_extended_from};
 
 use crate::word::{count_at, numbers_size};
 use ti_words::{Kind, Width};
@@ -123,6 +123,17 @@ impl Part {
         let end = self.end();
         end + end % 2
     }
+}
+
+/// The bytes up to the pad at a place, if one stands there.
+pub(crate) fn pad_end(place: usize) -> usize
+    requires { place < 2 ^ 32 }
+    ensures { result ≡ the_pad_end place }
+{
+    if place % 2 == 0 {
+        return 0;
+    }
+    place + 1
 }
 
 /// The format whose magic number the first two bytes are.

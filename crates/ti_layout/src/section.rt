@@ -1,14 +1,15 @@
 //! The sections of an entry in the order of their checks, and the items of each.
 
-ghost use Rattle.std.specs.Prelude.{◌≡◌, ◌+◌, ◌*◌, ◌<◌, ◌≤◌, length};
+ghost use Rattle.std.specs.Prelude.{◌≡◌, ◌+◌, ◌*◌, ◌<◌, ◌≤◌, ◌^◌, length};
 ghost use Rattle.ti_base.specs.Limits.{most_entry_bytes};
 ghost use Rattle.ti_layout.specs.Layout.{end_of};
 ghost use Rattle.ti_layout.specs.Checks.{verdict, result_verdict};
-ghost use Rattle.ti_layout.specs.Stages.{item_size, items_checks, first_items, items_after, items_of, next};
+ghost use Rattle.ti_layout.specs.Refusal.{item_size, items_checks, items_of, part_of, items};
+ghost use Rattle.ti_layout.specs.Stages.{first_items, items_after, next as the_next, closing_end as the_closing_end, fault_when_full as the_fault_when_full};
 
 use crate::checks::{check_flags, check_no_nuls, check_numbers, check_offsets, check_signs};
-use crate::fault::{Fault, Stop};
-use crate::part::Part;
+use crate::fault::{Fault, Refused};
+use crate::part::{Part, pad_end};
 use ti_words::{Width, number_size};
 
 /// What the items of a section are.
@@ -32,23 +33,39 @@ pub(crate) struct Items {
     pub(crate) left: usize,
 }
 
-/// The sections with items to check, in their order. `Magic` stands before the first, `TableEnd` at the end of the string
-/// table and `End` at that of the extended one, each without items.
+/// The two parts of an entry.
+#[derive(Clone, Copy)]
+pub(crate) enum Half {
+    Standard,
+    Extended,
+}
+
+/// The sections of an entry in the order of their checks: of each its items, and then what is checked at once. `Magic`,
+/// `TableEnd` and `End` have no items.
 #[derive(Clone, Copy)]
 pub(crate) enum Section {
     Magic,
     Header,
     Names,
-    Flags,
-    Numbers,
-    Offsets,
+    Flags(Half),
+    Numbers(Half),
+    Offsets(Half),
+    NameOffsets(Half),
     TableEnd,
     ExtendedHeader,
-    ExtendedFlags,
-    ExtendedNumbers,
-    ExtendedOffsets,
-    ExtendedNames,
     End,
+}
+
+impl Half {
+    /// Which of the parts it is.
+    pub(crate) fn of(self, standard: &Part, extended: &Part) -> Part
+        ensures { result ≡ part_of self standard.now extended.now }
+    {
+        match self {
+            Half::Standard => *standard,
+            Half::Extended => *extended,
+        }
+    }
 }
 
 impl Item {
@@ -66,24 +83,33 @@ impl Item {
 }
 
 impl Items {
-    /// How many of them lie within so many bytes, or one where none does.
+    pub(crate) fn new(item: Item, at: usize, left: usize) -> Items
+        ensures { result ≡ items item at left }
+    {
+        Items { item, at, left }
+    }
+
+    /// How many of them lie within so many bytes.
     pub(crate) fn count_within(self, len: usize) -> usize
         requires some { 0 < self.left }
         requires within { self.at + item_size self.item * self.left ≤ most_entry_bytes }
+        requires first { self.at + item_size self.item ≤ len }
         ensures some { 0 < result }
         ensures most { result ≤ self.left }
+        ensures there { self.at + item_size self.item * result ≤ len }
+        ensures within { self.at + item_size self.item * result ≤ most_entry_bytes }
     {
-        let room = len.saturating_sub(self.at);
+        let room = len - self.at;
         if self.item.size() * self.left <= room {
             return self.left;
         }
-        (room / self.item.size()).min(self.left).max(1)
+        room / self.item.size()
     }
 
     /// The checks of so many of them, in one loop.
-    pub(crate) fn check(self, bytes: &[u8], count: usize) -> Result<(), Stop>
-        requires most { count ≤ self.left }
-        requires within { self.at + item_size self.item * self.left ≤ most_entry_bytes }
+    pub(crate) fn check(self, bytes: &[u8], count: usize) -> Result<(), Refused>
+        requires there { self.at + item_size self.item * count ≤ length bytes.now }
+        requires fits { item_size self.item * count < 2 ^ 32 }
         ensures { result_verdict result
             ≡ verdict (length bytes.now) (items_checks bytes.now (first_items count self)) }
     {
@@ -102,103 +128,96 @@ impl Items {
         requires within { self.at + item_size self.item * self.left ≤ most_entry_bytes }
         ensures { result ≡ items_after count self }
     {
-        Items {
-            item: self.item,
-            at: self.at + self.item.size() * count,
-            left: self.left - count,
-        }
+        Items::new(
+            self.item,
+            self.at + self.item.size() * count,
+            self.left - count,
+        )
     }
 }
 
 impl Section {
     pub(crate) fn next(self) -> Section
-        ensures { result ≡ next self }
+        ensures { result ≡ the_next self }
     {
         match self {
             Section::Magic => Section::Header,
             Section::Header => Section::Names,
-            Section::Names => Section::Flags,
-            Section::Flags => Section::Numbers,
-            Section::Numbers => Section::Offsets,
-            Section::Offsets => Section::TableEnd,
+            Section::Names => Section::Flags(Half::Standard),
+            Section::Flags(half) => Section::Numbers(half),
+            Section::Numbers(half) => Section::Offsets(half),
+            Section::Offsets(half) => Section::NameOffsets(half),
+            Section::NameOffsets(Half::Standard) => Section::TableEnd,
             Section::TableEnd => Section::ExtendedHeader,
-            Section::ExtendedHeader => Section::ExtendedFlags,
-            Section::ExtendedFlags => Section::ExtendedNumbers,
-            Section::ExtendedNumbers => Section::ExtendedOffsets,
-            Section::ExtendedOffsets => Section::ExtendedNames,
-            Section::ExtendedNames | Section::End => Section::End,
+            Section::ExtendedHeader => Section::Flags(Half::Extended),
+            Section::NameOffsets(Half::Extended) | Section::End => Section::End,
         }
     }
 
-    /// What its items are. A section without items counts as one with no flag.
-    fn item(self, standard: &Part, extended: &Part) -> Item
-        ensures { result ≡ (items_of self standard.now extended.now).item }
-    {
-        match self {
-            Section::Header => Item::Sign(Fault::BadHeader),
-            Section::Names => Item::Name,
-            Section::Numbers => Item::Number(standard.width),
-            Section::Offsets => Item::Offset(standard.table),
-            Section::ExtendedHeader => Item::Sign(Fault::BadExtendedHeader),
-            Section::ExtendedNumbers => Item::Number(extended.width),
-            Section::ExtendedOffsets => Item::Offset(extended.table),
-            Section::ExtendedNames => Item::Sign(Fault::BadExtendedName),
-            Section::Flags | Section::ExtendedFlags => Item::Flag,
-            Section::Magic | Section::TableEnd | Section::End => Item::Flag,
-        }
-    }
-
-    /// Where its items start.
-    fn from(self, standard: &Part, extended: &Part) -> usize
-        requires fits { end_of standard.now ≤ most_entry_bytes }
-        requires extended_fits { end_of extended.now ≤ most_entry_bytes }
-        ensures { result ≡ (items_of self standard.now extended.now).at }
-    {
-        match self {
-            Section::Header => 2,
-            Section::Names => 12,
-            Section::Flags => standard.flags_from,
-            Section::Numbers => standard.numbers_from(),
-            Section::Offsets => standard.offsets_from(),
-            Section::ExtendedHeader => standard.extended_from(),
-            Section::ExtendedFlags => extended.flags_from,
-            Section::ExtendedNumbers => extended.numbers_from(),
-            Section::ExtendedOffsets => extended.offsets_from(),
-            Section::ExtendedNames => extended.names_from(),
-            Section::Magic | Section::TableEnd | Section::End => 0,
-        }
-    }
-
-    /// How many items it has.
-    fn count(self, standard: &Part, extended: &Part) -> usize
-        requires { end_of extended.now ≤ most_entry_bytes }
-        ensures { result ≡ (items_of self standard.now extended.now).left }
-    {
-        match self {
-            Section::Header => 5,
-            Section::Names => standard.flags_from.saturating_sub(13),
-            Section::Flags => standard.flags,
-            Section::Numbers => standard.numbers,
-            Section::Offsets => standard.texts,
-            Section::ExtendedHeader => 3,
-            Section::ExtendedFlags => extended.flags,
-            Section::ExtendedNumbers => extended.numbers,
-            Section::ExtendedOffsets => extended.texts,
-            Section::ExtendedNames => extended.names,
-            Section::Magic | Section::TableEnd | Section::End => 0,
-        }
-    }
-
-    /// Its items.
+    /// Its items. A section without items counts as one with no flag.
     pub(crate) fn items(self, standard: &Part, extended: &Part) -> Items
         requires fits { end_of standard.now ≤ most_entry_bytes }
         requires extended_fits { end_of extended.now ≤ most_entry_bytes }
         ensures { result ≡ items_of self standard.now extended.now }
     {
-        Items {
-            item: self.item(standard, extended),
-            at: self.from(standard, extended),
-            left: self.count(standard, extended),
+        match self {
+            Section::Header => Items::new(Item::Sign(Fault::BadHeader), 2, 5),
+            Section::Names => Items::new(Item::Name, 12, standard.flags_from.saturating_sub(13)),
+            Section::ExtendedHeader => Items::new(
+                Item::Sign(Fault::BadExtendedHeader),
+                standard.extended_from(),
+                3,
+            ),
+            Section::Flags(half) => {
+                let part = half.of(standard, extended);
+                Items::new(Item::Flag, part.flags_from, part.flags)
+            }
+            Section::Numbers(half) => {
+                let part = half.of(standard, extended);
+                Items::new(Item::Number(part.width), part.numbers_from(), part.numbers)
+            }
+            Section::Offsets(half) => {
+                let part = half.of(standard, extended);
+                Items::new(Item::Offset(part.table), part.offsets_from(), part.texts)
+            }
+            Section::NameOffsets(half) => {
+                let part = half.of(standard, extended);
+                Items::new(
+                    Item::Sign(Fault::BadExtendedName),
+                    part.names_from(),
+                    part.names,
+                )
+            }
+            Section::Magic | Section::TableEnd | Section::End => Items::new(Item::Flag, 0, 0),
+        }
+    }
+
+    /// Why a byte after an entry of the greatest length is refused, if it ends here.
+    pub(crate) fn fault_when_full(self) -> Fault
+        ensures { result ≡ the_fault_when_full self }
+    {
+        match self {
+            Section::TableEnd => Fault::ExtendedTooBig,
+            _ => Fault::Trailing,
+        }
+    }
+
+    /// How many bytes the checks after its items read.
+    pub(crate) fn closing_end(self, standard: &Part, extended: &Part) -> usize
+        requires fits { end_of standard.now ≤ most_entry_bytes }
+        requires extended_fits { end_of extended.now ≤ most_entry_bytes }
+        ensures { result ≡ the_closing_end self standard.now extended.now }
+    {
+        match self {
+            Section::Magic => 2,
+            Section::Header => 12,
+            Section::Names => standard.flags_from,
+            Section::Flags(half) => pad_end(half.of(standard, extended).flags_end()),
+            Section::NameOffsets(half) => half.of(standard, extended).end(),
+            Section::TableEnd => standard.end() + 1,
+            Section::ExtendedHeader => standard.extended_from() + 10,
+            Section::End => extended.end() + 1,
+            Section::Numbers(_) | Section::Offsets(_) => 0,
         }
     }
 }

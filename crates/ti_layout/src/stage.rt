@@ -4,16 +4,16 @@
 //! have read. It goes on over all the bytes that have come: a step checks the items of a section that lie within them,
 //! in one loop, or makes the few checks between two sections. Bytes that come whole take two steps a section.
 
-ghost use Rattle.std.specs.Prelude.{◌≡◌, ℕ, List, ◌+◌, ◌*◌, ◌<◌, ◌≤◌, ◌^◌, ◌∷◌, [], length, IfOk, IfErr, OnOk, Err, Some};
+ghost use Rattle.std.specs.Prelude.{◌≡◌, ℕ, List, ◌+◌, ◌*◌, ◌<◌, ◌≤◌, ◌^◌, ◌∷◌, ◌++◌, length, IfOk, IfErr, OnOk, Some};
 ghost use Rattle.ti_base.specs.Limits.{most_entry_bytes};
-ghost use Rattle.ti_layout.specs.Layout.{standard, end_of, extended_after};
-ghost use Rattle.ti_layout.specs.Checks.{verdict, result_verdict};
-ghost use Rattle.ti_layout.specs.Refusal.{size_checks, checks, failure};
-ghost use Rattle.ti_layout.specs.Stages.{item_size, checks_between, StandsAt, Stands, Waits, new_stage, stage_after, verdict_at_stop, steps_left, extended_header_checks, no_more_check, bytes_awaited, is_whole};
-ghost use Rattle.ti_layout.specs.declared.fault.Stop.TheVariants.{Early};
+ghost use Rattle.ti_layout.specs.Layout.{standard, end_of, extended_from, extended_after};
+ghost use Rattle.ti_layout.specs.Checks.{verdict, result_verdict, refusal_at};
+ghost use Rattle.ti_layout.specs.Refusal.{item_size, size_checks, extended_header_checks, closing_checks, failure};
+ghost use Rattle.ti_layout.specs.Stages.{StandsAt, Stands, Waits, new_stage, stage_after, steps_left, closing_end, bytes_awaited, is_whole};
+ghost use Rattle.ti_layout.specs.declared.section.Section.TheVariants.{Names};
 
-use crate::checks::{check_endings, check_nul, check_pad, check_sign};
-use crate::fault::{Fault, Refused, Stop};
+use crate::checks::{check_nul, check_pad, check_sign};
+use crate::fault::{Fault, Refused};
 use crate::header::{check_extended_size, check_magic, check_sizes, check_start};
 use crate::part::{Part, extended_part, no_part, standard_part};
 use crate::section::{Item, Items, Section};
@@ -31,22 +31,21 @@ pub struct Stage {
 }
 
 /// The standard part, where the checks of the sizes in its header pass.
-fn sized_standard(bytes: &[u8]) -> Result<Part, Stop>
+fn sized_standard(bytes: &[u8]) -> Result<Part, Refused>
+    requires { 12 ≤ length bytes.now }
     ensures verdict { result_verdict result
         ≡ verdict (length bytes.now) (size_checks (standard bytes.now)) }
     ensures words { IfOk result (λ s. s ≡ standard bytes.now) }
 {
-    if bytes.len() < 12 {
-        return Err(Stop::Early);
-    }
     let standard = standard_part(bytes);
-    check_sizes(bytes.len(), &standard)?;
+    check_sizes(&standard)?;
     Ok(standard)
 }
 
 /// The extended part, where the last word of its header and the sizes in it pass.
-fn sized_extended(bytes: &[u8], standard: &Part) -> Result<Part, Stop>
-    requires { end_of standard.now ≤ most_entry_bytes }
+fn sized_extended(bytes: &[u8], standard: &Part) -> Result<Part, Refused>
+    requires fits { end_of standard.now ≤ most_entry_bytes }
+    requires there { extended_from standard.now + 10 ≤ length bytes.now }
     ensures verdict { result_verdict result
         ≡ verdict (length bytes.now) (extended_header_checks bytes.now standard.now) }
     ensures words { IfOk result (λ x. x ≡ extended_after standard.now bytes.now) }
@@ -57,22 +56,8 @@ fn sized_extended(bytes: &[u8], standard: &Part) -> Result<Part, Stop>
         standard.extended_from() + 8,
     )?;
     let extended = extended_part(bytes, standard);
-    check_extended_size(bytes.len(), &extended)?;
+    check_extended_size(&extended)?;
     Ok(extended)
-}
-
-/// No byte follows the end; asked where one does.
-fn check_no_more(len: usize, end: usize) -> Result<(), Stop>
-    requires { end < 2 ^ 32 }
-    ensures { result_verdict result ≡ verdict len (no_more_check end ∷ []) }
-{
-    if len <= end {
-        return Err(Stop::Early);
-    }
-    Err(Stop::Failed(Refused {
-        fault: Fault::Trailing,
-        place: end,
-    }))
 }
 
 impl Stage {
@@ -82,78 +67,64 @@ impl Stage {
     {
         Stage {
             section: Section::Magic,
-            items: Items {
-                item: Item::Flag,
-                at: 0,
-                left: 0,
-            },
+            items: Items::new(Item::Flag, 0, 0),
             standard: no_part(),
             extended: no_part(),
             base: 0,
         }
     }
 
-    /// The checks between the items of a section and those of the next; it keeps the parts that they read.
-    fn leave(&mut self, bytes: &[u8]) -> Result<(), Stop>
+    /// The checks after the items of a section; it keeps the parts that they read.
+    fn close(&mut self, bytes: &[u8]) -> Result<(), Refused>
         requires fits { end_of self.old.standard ≤ most_entry_bytes }
         requires extended_fits { end_of self.old.extended ≤ most_entry_bytes }
-        requires extended_named { self.old.extended.flags + self.old.extended.numbers
-            + self.old.extended.texts ≡ self.old.extended.names }
-        requires base_fits { self.old.base ≤ most_entry_bytes }
+        requires named { self.old.section ≡ Names → 14 ≤ self.old.standard.flags_from }
+        requires there { closing_end self.old.section self.old.standard self.old.extended
+            ≤ length bytes.now }
         ensures verdict { result_verdict result ≡ verdict (length bytes.now)
-            (checks_between self.old.section self.old.standard self.old.extended bytes.now) }
+            (closing_checks self.old.section self.old.standard self.old.extended bytes.now) }
         ensures kept { OnOk result (self.new ≡ stage_after self.old bytes.now) }
-        ensures base_fits { OnOk result (self.new.base ≤ most_entry_bytes) }
-        ensures same { IfErr result (λ stop. self.new ≡ self.old) }
+        ensures same { IfErr result (λ refused. self.new ≡ self.old) }
     {
         let standard = self.standard;
         let extended = self.extended;
         match self.section {
             Section::Magic => check_magic(bytes)?,
             Section::Header => self.standard = sized_standard(bytes)?,
-            Section::Names => check_nul(
-                bytes,
-                Fault::BadNames,
-                standard.flags_from.saturating_sub(1),
-            )?,
-            Section::Flags => check_pad(bytes, standard.flags_end())?,
-            Section::Offsets => check_endings(
-                bytes,
-                standard.table_from(),
-                standard.table,
-                standard.offsets_from(),
-                standard.texts,
-            )?,
+            Section::Names => check_nul(bytes, Fault::BadNames, standard.flags_from - 1)?,
+            Section::Flags(half) => check_pad(bytes, half.of(&standard, &extended).flags_end())?,
+            Section::NameOffsets(half) => {
+                self.base = check_texts(bytes, &half.of(&standard, &extended))?
+            }
             Section::TableEnd => check_start(bytes, &standard)?,
             Section::ExtendedHeader => self.extended = sized_extended(bytes, &standard)?,
-            Section::ExtendedFlags => check_pad(bytes, extended.flags_end())?,
-            Section::ExtendedNames => self.base = check_texts(bytes, &extended)?,
-            Section::End => check_no_more(bytes.len(), extended.end())?,
-            Section::Numbers | Section::ExtendedNumbers | Section::ExtendedOffsets => {}
+            Section::End => {
+                return Err(Refused {
+                    fault: Fault::Trailing,
+                    place: extended.end(),
+                });
+            }
+            Section::Numbers(_) | Section::Offsets(_) => {}
         }
         Ok(())
     }
 
-    /// Makes the next check, or those between two sections.
-    fn step(&mut self, bytes: &[u8]) -> Result<(), Stop>
-        requires { Stands bytes.now self.old }
+    /// Checks the items of a section that lie within the bytes, or closes it.
+    fn step(&mut self, bytes: &[u8]) -> Result<(), Refused>
+        requires stands { Stands bytes.now self.old }
+        requires there { bytes_awaited self.old ≤ length bytes.now }
         ensures stands { OnOk result (Stands bytes.now self.new) }
         ensures less { OnOk result (steps_left self.new < steps_left self.old) }
-        ensures verdict { IfErr result (λ stop. verdict (length bytes.now) (checks bytes.now)
-            ≡ verdict_at_stop self.old.section stop) }
-        ensures waits { result ≡ Err Early → Waits bytes.now self.old }
-        ensures same { IfErr result (λ stop. self.new ≡ self.old) }
+        ensures failed { IfErr result (λ refused. failure bytes.now ≡ Some refused) }
+        ensures same { IfErr result (λ refused. self.new ≡ self.old) }
     {
         if self.items.left > 0 {
-            if bytes.len() < self.items.at + self.items.item.size() {
-                return Err(Stop::Early);
-            }
             let count = self.items.count_within(bytes.len());
             self.items.check(bytes, count)?;
             self.items = self.items.after(count);
             return Ok(());
         }
-        self.leave(bytes)?;
+        self.close(bytes)?;
         self.section = self.section.next();
         self.items = self.section.items(&self.standard, &self.extended);
         Ok(())
@@ -172,13 +143,7 @@ impl Stage {
         if self.items.left > 0 {
             return self.items.at + self.items.item.size();
         }
-        match self.section {
-            Section::Offsets => self.standard.end(),
-            Section::TableEnd => self.standard.end() + 1,
-            Section::ExtendedNames => self.extended.end(),
-            Section::End => self.extended.end() + 1,
-            _ => 0,
-        }
+        self.section.closing_end(&self.standard, &self.extended)
     }
 
     /// Makes each check whose prefix is there.
@@ -193,13 +158,10 @@ impl Stage {
         ensures failed { IfErr result (λ refused. failure bytes.now ≡ Some refused) }
         ensures stood { IfErr result (λ refused. Stands bytes.now self.new) }
     {
-        'steps: loop {
-            match self.step(bytes) {
-                Ok(()) => {}
-                Err(Stop::Early) => return Ok(()),
-                Err(Stop::Failed(refused)) => return Err(refused),
-            }
+        'steps: while self.need() <= bytes.len() {
+            self.step(bytes)?;
         }
+        Ok(())
     }
 
     /// The standard part that is known by then.
@@ -228,5 +190,14 @@ impl Stage {
         ensures { result ≡ is_whole self.now.section }
     {
         matches!(self.section, Section::TableEnd | Section::End)
+    }
+
+    /// Why a byte more is refused, if as many came as an entry may have.
+    pub fn fault_when_full(&self) -> Fault
+        ensures { (bytes : List ℕ) → (byte : ℕ) → (more : List ℕ) → Stands bytes self.now
+            → Waits bytes self.now → length bytes ≡ most_entry_bytes
+            → failure (bytes ++ byte ∷ more) ≡ Some (refusal_at result (length bytes)) }
+    {
+        self.section.fault_when_full()
     }
 }

@@ -8,10 +8,10 @@ ghost use Rattle.ti_base.specs.Limits.{most_entry_bytes};
 ghost use Rattle.ti_layout.specs.Checks.{verdict, result_verdict, all_name_place_checks};
 ghost use Rattle.ti_layout.specs.Refusal.{text_checks};
 ghost use Rattle.ti_layout.specs.Layout.{places, names_from as the_names_from, end_of};
-ghost use Rattle.ti_layout.specs.Table.{sizes_at, table_of, base_of as the_base_of};
+ghost use Rattle.ti_layout.specs.Table.{sizes_at, table_of, names_base, base_of as the_base_of};
 
 use crate::checks::{NameTable, check_endings, check_name_places, reach_of};
-use crate::fault::Stop;
+use crate::fault::Refused;
 use crate::part::Part;
 use crate::string_table::size_at;
 
@@ -33,10 +33,10 @@ fn base_of(bytes: &[u8], table: &[u8], from: usize, count: usize) -> usize
 }
 
 /// Each name starts in the table, counted from the base, and has its NUL there.
-fn check_names_from(bytes: &[u8], part: &Part, base: usize) -> Result<(), Stop>
+fn check_names_from(bytes: &[u8], part: &Part, base: usize) -> Result<(), Refused>
     requires fits { end_of part.now ≤ most_entry_bytes }
     requires there { end_of part.now ≤ length bytes.now }
-    requires named { part.now.texts ≤ part.now.names }
+    requires some { 0 < part.now.names }
     requires base { base ≡ min (the_base_of bytes.now part.now) part.now.table }
     ensures verdict { result_verdict result
         ≡ verdict (length bytes.now) (all_name_place_checks bytes.now (table_of bytes.now part.now)
@@ -55,20 +55,21 @@ fn check_names_from(bytes: &[u8], part: &Part, base: usize) -> Result<(), Stop>
     Ok(())
 }
 
-/// The base of the names, where each text and each name has its NUL in the table.
+/// The base of the names if there are any, where each text and each name has its NUL in the table.
 #[tactic(auto, using(crate::proofs::VerdictLemmas::verdict_append))]
-pub(crate) fn check_texts(bytes: &[u8], part: &Part) -> Result<usize, Stop>
+pub(crate) fn check_texts(bytes: &[u8], part: &Part) -> Result<usize, Refused>
     requires fits { end_of part.now ≤ most_entry_bytes }
-    requires named { part.now.texts ≤ part.now.names }
+    requires there { end_of part.now ≤ length bytes.now }
     ensures verdict { result_verdict result
         ≡ verdict (length bytes.now) (text_checks bytes.now part.now) }
-    ensures base { IfOk result (λ base. base ≡ the_base_of bytes.now part.now) }
-    ensures most { IfOk result (λ base. base ≤ most_entry_bytes) }
-    ensures there { OnOk result (end_of part.now ≤ length bytes.now) }
+    ensures base { IfOk result (λ base. base ≡ names_base bytes.now part.now) }
 {
     let table_from = part.table_from();
     let offsets_from = part.offsets_from();
     check_endings(bytes, table_from, part.table, offsets_from, part.texts)?;
+    if part.names == 0 {
+        return Ok(0);
+    }
     let table = &bytes[table_from..part.end()];
     let base = base_of(bytes, table, offsets_from, part.texts);
     check_names_from(bytes, part, base)?;

@@ -14,7 +14,7 @@ ghost use Rattle.ti_layout.specs.Reach.{reach_check, all_name_reach_checks};
 
 use crate::checks::NameTable;
 use crate::fault::Fault;
-use crate::word::{numbers_size, unsigned_at, wide_unsigned_at};
+use crate::word::{unsigned_at, wide_unsigned_at};
 use ti_base::{GREATEST_WIDE_WORD, GREATEST_WORD};
 use ti_words::Width;
 
@@ -64,49 +64,37 @@ fn greatest_wide_word(bytes: &[u8], from: usize, count: usize) -> u32
 
 /// Whether no byte of a section is a NUL.
 pub(crate) fn are_no_nuls(bytes: &[u8], from: usize, count: usize) -> bool
-    requires { from + count < 2 ^ 32 }
+    requires { from + count ≤ length bytes.now }
     ensures { IsTrue result
         → Passes ≡ verdict (length bytes.now) (map (name_check bytes.now) (places from 1 count)) }
 {
-    if bytes.len() < from + count {
-        return false;
-    }
     greatest_byte(bytes, from, count, u8::MAX) < u8::MAX
 }
 
 /// Whether each byte of a section is a flag.
 pub(crate) fn are_flags(bytes: &[u8], from: usize, count: usize) -> bool
-    requires { from + count < 2 ^ 32 }
+    requires { from + count ≤ length bytes.now }
     ensures { IsTrue result
         → Passes ≡ verdict (length bytes.now) (flag_checks bytes.now from count) }
 {
-    if bytes.len() < from + count {
-        return false;
-    }
     greatest_byte(bytes, from, count, 2) < 4
 }
 
 /// Whether no word of a section is negative.
 pub(crate) fn are_not_negative(bytes: &[u8], fault: Fault, from: usize, count: usize) -> bool
-    requires { from + 2 * count < 2 ^ 32 }
+    requires { from + 2 * count ≤ length bytes.now }
     ensures { IsTrue result
         → Passes ≡ verdict (length bytes.now) (sign_checks bytes.now fault from count) }
 {
-    if bytes.len() < from + 2 * count {
-        return false;
-    }
     greatest_word(bytes, from, count, 0) < WORDS
 }
 
 /// Whether each number of a section is at least -2.
 pub(crate) fn are_numbers(bytes: &[u8], width: Width, from: usize, count: usize) -> bool
-    requires { from + the_number_size width * count < 2 ^ 32 }
+    requires { from + the_number_size width * count ≤ length bytes.now }
     ensures { IsTrue result → Passes
         ≡ verdict (length bytes.now) (number_checks bytes.now (the_number_size width) from count) }
 {
-    if bytes.len() < from + numbers_size(width, count) {
-        return false;
-    }
     match width {
         Width::Legacy => greatest_word(bytes, from, count, 2) < WORDS + 2,
         Width::Wide => greatest_wide_word(bytes, from, count) < WIDE_WORDS + 2,
@@ -126,13 +114,10 @@ fn are_below(bytes: &[u8], limit: usize, from: usize, count: usize) -> bool
 
 /// Whether each offset of a section is a mark or a place of a table of this size.
 pub(crate) fn are_offsets(bytes: &[u8], table_size: usize, from: usize, count: usize) -> bool
-    requires { from + 2 * count < 2 ^ 32 }
+    requires { from + 2 * count ≤ length bytes.now }
     ensures { IsTrue result
         → Passes ≡ verdict (length bytes.now) (offset_checks bytes.now table_size from count) }
 {
-    if bytes.len() < from + 2 * count {
-        return false;
-    }
     are_below(bytes, table_size, from, count)
 }
 

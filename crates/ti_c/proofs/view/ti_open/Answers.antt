@@ -1,6 +1,6 @@
 use Rattle.std.proofs.Common.{◌∙◌, ap, inl, subst}
 use Rattle.ti_words.specs.Value.{EntryValue}
-use Rattle.ti_entry.specs.Reading.{names_base}
+use Rattle.ti_entry.specs.Reading.{base_of_names}
 use Rattle.ti_c.specs.Entries.{Tells}
 use Rattle.ti_c.proofs.NumbersLemmas.{not_read}
 use Rattle.ti_c.proofs.OneFaultLemmas.{none_spelled_refused}
@@ -20,7 +20,7 @@ returns-clause-refused c = λ number place refused.
     absurd (none_spelled_refused c.args.bytes.now c.in-Ok.found.0 number place c.in-Ok.ensures.found refused)
 
 pub returns-clause-opened : goal.returns-clause-opened
-returns-clause-opened c = λ _ v spelled. (spelled, c.in-Ok.ensures.base ∙ ap names_base (c.in-Ok.ensures.only v spelled))
+returns-clause-opened c = λ _ v spelled. (spelled, c.in-Ok.ensures.base ∙ ap base_of_names (c.in-Ok.ensures.only v spelled))
 
 pub returns-clause-told : goal.returns-clause-told
 returns-clause-told c = λ _ v spelled.

@@ -1,12 +1,12 @@
 use Rattle.std.proofs.Common.{◌≡◌, ◌∙◌, ap, sym, subst, true, false, arith}
 use Rattle.std.specs.Prelude.{Ok}
-use Rattle.ti_layout.specs.Checks.{Passes, EndsEarly}
+use Rattle.ti_layout.specs.Checks.{Ends}
 use Rattle.ti_words.specs.Spelling.{Spells}
 use Rattle.ti_layout.specs.Stages.{is_whole}
 use Rattle.ti_entry.proofs.FoundExtendedLemmas.{found}
 use Rattle.ti_entry.proofs.SpelledExtendedLemmas.{only}
 use Rattle.ti_layout.proofs.StageStepLemmas.{stands_now}
-use Rattle.ti_entry.proofs.WholeStageLemmas.{part_ends_early, truncated, answer_truncated, answer_content, whole_passes, whole_is_view}
+use Rattle.ti_entry.proofs.WholeStageLemmas.{ends_as, truncated, answer_truncated, answer_content, whole_is_view}
 use Rattle.ti_entry.proofs.entry.entry_at.Goals as goal
 
 -- ---- bytes that end early
@@ -15,17 +15,17 @@ pub returns-then-not-is_whole-clause-only : goal.returns-then-not-is_whole-claus
 returns-then-not-is_whole-clause-only c = λ v s.
     let bytes = c.args.bytes.now in
     let part : is_whole c.args.stage.now.section ≡ false = sym c.is_whole.ensures ∙ c.if-not-is_whole.true in
-    let never : Passes ≡ EndsEarly = (only bytes v s).passes ∙ part_ends_early bytes c.args.stage.now c.requires.waits part in absurd (cc)
+    let never : Ends true ≡ Ends false = sym (only bytes v s).passes ∙ ends_as bytes c.args.stage.now false c.requires.waits part in absurd (cc)
 
 pub returns-then-not-is_whole-clause-refused : goal.returns-then-not-is_whole-clause-refused
 returns-then-not-is_whole-clause-refused c =
     let part : is_whole c.args.stage.now.section ≡ false = sym c.is_whole.ensures ∙ c.if-not-is_whole.true in
-    truncated c.args.bytes.now (part_ends_early c.args.bytes.now c.args.stage.now c.requires.waits part)
+    truncated c.args.bytes.now (ends_as c.args.bytes.now c.args.stage.now false c.requires.waits part)
 
 pub returns-then-not-is_whole-clause-answer : goal.returns-then-not-is_whole-clause-answer
 returns-then-not-is_whole-clause-answer c =
     let part : is_whole c.args.stage.now.section ≡ false = sym c.is_whole.ensures ∙ c.if-not-is_whole.true in
-    answer_truncated c.args.bytes.now (part_ends_early c.args.bytes.now c.args.stage.now c.requires.waits part)
+    answer_truncated c.args.bytes.now (ends_as c.args.bytes.now c.args.stage.now false c.requires.waits part)
 
 -- ---- a whole entry
 
@@ -51,7 +51,7 @@ returns-clause-found c =
     let stage = c.args.stage.now in
     let whole : is_whole stage.section ≡ true = sym c.is_whole.ensures ∙ c.if-not-is_whole.false in
     let view = whole_is_view bytes stage (stands_now bytes stage c.requires.stands) c.requires.waits whole in
-    rw (c.entry_of.ensures, c.standard.ensures, c.extended.ensures, c.base.ensures) (subst (λ v. Spells bytes v) (sym view.shows) (found bytes (λ i. omega (arith, c.type_inv.bytes i)) (whole_passes bytes stage c.requires.waits whole)))
+    rw (c.entry_of.ensures, c.standard.ensures, c.extended.ensures, c.base.ensures) (subst (λ v. Spells bytes v) (sym view.shows) (found bytes (λ i. omega (arith, c.type_inv.bytes i)) (ends_as bytes stage true c.requires.waits whole)))
 
 pub returns-clause-only : goal.returns-clause-only
 returns-clause-only c = λ v s.
@@ -66,7 +66,7 @@ returns-clause-answer c =
     let stage = c.args.stage.now in
     let whole : is_whole stage.section ≡ true = sym c.is_whole.ensures ∙ c.if-not-is_whole.false in
     rw (c.entry_of.ensures, c.standard.ensures, c.extended.ensures, c.base.ensures) (ap Ok (whole_is_view bytes stage (stands_now bytes stage c.requires.stands) c.requires.waits whole).shows)
-    ∙ answer_content bytes (whole_passes bytes stage c.requires.waits whole)
+    ∙ answer_content bytes (ends_as bytes stage true c.requires.waits whole)
 
 pub returns-clause-base : goal.returns-clause-base
 returns-clause-base c =

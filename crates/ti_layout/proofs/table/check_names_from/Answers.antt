@@ -18,7 +18,7 @@ returns-clause-exact c =
     let passes : Passes ≡ verdict (length bytes) (all_name_place_checks bytes (table_of bytes p) (base_of bytes p) (end_of p) (places (names_from p) 2 p.names)) =
     c.in_ok-check_name_places.ensures
     ∙ ap (verdict (length bytes)) (names_decide bytes p c.end-end.result c.table_from.result c.reach_of.result c.args.base c.names_from.result c.end-end.ensures c.table_from.ensures c.names_from.ensures c.requires.there c.requires.base c.reach_of.ensures) in
-    base_exact bytes p c.args.base (length bytes) c.requires.named c.requires.there c.requires.base passes
+    base_exact bytes p c.args.base (length bytes) c.requires.some c.requires.there c.requires.base passes
 
 pub returns-in_err-check_name_places-clause-verdict : goal.returns-in_err-check_name_places-clause-verdict
 returns-in_err-check_name_places-clause-verdict c =

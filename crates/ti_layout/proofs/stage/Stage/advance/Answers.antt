@@ -1,10 +1,23 @@
-use Rattle.std.proofs.Common.{sym, subst}
+use Rattle.std.proofs.Common.{sym, subst, arith}
+use Rattle.std.proofs.lemmas.Result.{err_from_is_err_and}
 use Rattle.ti_layout.specs.declared.stage.Stage.{Stage}
 use Rattle.ti_layout.specs.Stages.{Stands}
+use Rattle.ti_layout.proofs.StageStepLemmas.{stands_now}
 use Rattle.ti_layout.proofs.stage.Stage.advance.Goals as goal
 
-pub returns-in-Err-Early-clause-stands : goal.returns-in-Err-Early-clause-stands
-returns-in-Err-Early-clause-stands c = subst (λ (s : Stage). Stands c.args.bytes.now s) (sym c.in-Err-Early.ensures.same) c.steps.invariant
+pub need-requires-clause-within : goal.need-requires-clause-within
+need-requires-clause-within c = (stands_now c.args.bytes.now c.steps.self c.steps.invariant).within
 
-pub returns-in-Err-Failed-clause-stood : goal.returns-in-Err-Failed-clause-stood
-returns-in-Err-Failed-clause-stood c = subst (λ (s : Stage). Stands c.args.bytes.now s) (sym c.in-Err-Failed.ensures.same) c.steps.invariant
+pub need-requires-clause-fits : goal.need-requires-clause-fits
+need-requires-clause-fits c = (stands_now c.args.bytes.now c.steps.self c.steps.invariant).fits
+
+pub need-requires-clause-extended_fits : goal.need-requires-clause-extended_fits
+need-requires-clause-extended_fits c = (stands_now c.args.bytes.now c.steps.self c.steps.invariant).extended_fits
+
+pub returns-in_err-step-clause-stood : goal.returns-in_err-step-clause-stood
+returns-in_err-step-clause-stood c =
+    let p = err_from_is_err_and c.from_residual.result c.from_residual.ensures.1 in
+    rw p.1 (subst (λ (s : Stage). Stands c.args.bytes.now s) (sym c.in_err-step.ensures.same) c.steps.invariant)
+
+pub returns-clause-waits : goal.returns-clause-waits
+returns-clause-waits c = c.need.ensures.waits c.args.bytes.now (stands_now c.args.bytes.now c.steps.self c.steps.invariant) (omega arith)
