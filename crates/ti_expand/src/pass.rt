@@ -1,4 +1,4 @@
-//! The pass over a tape: one loop runs tokens, and one passes tokens over. Their control is a `Mode` alone. They take no
+//! The pass over a tape: one loop runs tokens, and others pass tokens over. Their control is a `Mode` alone. They take no
 //! memory, and make no test of the room on the stack or in the output.
 
 ghost use Rattle.std.specs.Prelude.{◌≡◌, ℕ, ◌+◌, ◌≤◌, [], length, max, take, drop};
@@ -76,7 +76,7 @@ fn pass_from(tape: &mut Tape<'_>, from: Mode) -> usize
     passed
 }
 
-/// The same, by a loop for each mode, so that only its count changes in it, and adds how many to those before.
+/// The same, added to how many were passed over before. Each mode has a loop of its own, in which only its count changes.
 #[inline(always)]
 fn pass_over(tape: &mut Tape<'_>, from: Mode, passed: &mut usize)
     requires { IsOnTheWay tape.old.left (mode_of from) passed.old }
