@@ -77,7 +77,9 @@ fn mark_after_number<'a>(
     if whole.len() > MOST_DIGITS || (whole.is_empty() && count == 0) {
         return None;
     }
-    let flags = flags(bytes)?;
+    let Some(flags) = flags(bytes) else {
+        return None;
+    };
     let mark = Mark {
         whole,
         decimals,
