@@ -13,19 +13,3 @@ pub struct Run {
     /// The greatest number of values on the stack after a token.
     pub peak: usize,
 }
-
-impl Run {
-    ghost use Rattle.std.specs.Prelude.{◌≡◌};
-
-    /// Before the first token.
-    pub(crate) fn start() -> Run
-        ensures { result ≡ record { written = 0; ran = 0; passed = 0; peak = 0 } }
-    {
-        Run {
-            written: 0,
-            ran: 0,
-            passed: 0,
-            peak: 0,
-        }
-    }
-}

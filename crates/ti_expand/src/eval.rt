@@ -62,11 +62,11 @@ fn print(format: &Format, stack: &mut Stack<'_, '_>, out: &mut [u8], written: us
     }
 }
 
-/// Does what a token does that runs, and returns the mode and where the output ends after it. One match tells all tokens
-/// apart, so that what the lexer found is not looked at again.
+/// Meets a token in `Run`: returns the mode and where the output ends after it. One match tells all tokens apart, so that
+/// what the lexer found is not looked at again.
 #[inline(always)]
 #[tactic(auto, using(crate::proofs::SoundLemmas::text_on_sound))]
-pub fn run_token<'a>(
+pub fn meet<'a>(
     token: &Token,
     parameters: &mut Parameters<'_, 'a>,
     vars: &mut Vars,

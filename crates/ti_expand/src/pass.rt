@@ -1,58 +1,20 @@
 //! The pass over a tape: one loop runs tokens, and others pass tokens over. Their control is a `Mode` alone. They take no
 //! memory, and make no test of the room on the stack or in the output.
 
-ghost use Rattle.std.specs.Prelude.{◌≡◌, ℕ, ◌+◌, ◌≤◌, [], length, max, take, drop};
-ghost use Rattle.ti_base.specs.Limits.{most_text_bytes};
-ghost use Rattle.ti_cap.specs.Pass.{next_mode};
-ghost use Rattle.ti_expand.specs.inner.Machine.{state_of};
-ghost use Rattle.ti_expand.specs.Sound.{IsSound};
+ghost use Rattle.std.specs.Prelude.{◌≡◌, ℕ, ◌+◌, ◌≤◌, [], length, take, drop};
 ghost use Rattle.ti_expand.specs.Mode.{mode_of};
-ghost use Rattle.ti_expand.specs.Meaning.{tests_zero};
-ghost use Rattle.ti_expand.specs.Steps.{meet};
 ghost use Rattle.ti_expand.specs.Expands.{IsExpansion};
 ghost use Rattle.ti_expand.specs.inner.Running.{IsReady};
 ghost use Rattle.ti_expand.specs.inner.Underway.{IsOnTheWay, GoesOn};
 
 use crate::counts::Run;
-use crate::eval::run_token;
+use crate::eval::meet;
 use crate::modes::Mode;
 use crate::parameters::Parameters;
 use crate::stack::Stack;
 use crate::values::Value;
 use crate::variables::Vars;
-use ti_cap::{Tape, Token};
-
-/// Meets a token in `Run`: returns the mode and where the output ends after it.
-#[inline(always)]
-pub(crate) fn meet<'a>(
-    token: &Token,
-    parameters: &mut Parameters<'_, 'a>,
-    vars: &mut Vars,
-    stack: &mut Stack<'_, 'a>,
-    out: &mut [u8],
-    written: usize,
-) -> (Mode, usize)
-    requires sound { IsSound most_text_bytes
-        (state_of stack.old vars.old parameters.old out.old written) }
-    requires height { length (meet token.now
-        (state_of stack.old vars.old parameters.old out.old written)).stack
-        ≤ length stack.old.slots.now }
-    requires within { written ≤ length out.old }
-    requires room { length (meet token.now
-        (state_of stack.old vars.old parameters.old out.old written)).output
-        ≤ length out.old }
-    ensures mode { mode_of result.0 ≡ next_mode (mode_of Mode.Run) token.now
-        (tests_zero (state_of stack.old vars.old parameters.old out.old written)) }
-    ensures state { state_of stack.new vars.new parameters.new out.new result.1
-        ≡ meet token.now (state_of stack.old vars.old parameters.old out.old written) }
-    ensures slots { length stack.new.slots.now ≡ length stack.old.slots.now }
-    ensures highest { stack.new.highest ≡ max stack.old.highest stack.new.height }
-    ensures within { result.1 ≤ length out.new }
-    ensures onward { written ≤ result.1 }
-    ensures rest { drop result.1 out.new ≡ drop result.1 out.old }
-{
-    run_token(token, parameters, vars, stack, out, written)
-}
+use ti_cap::Tape;
 
 /// Passes tokens over from a mode on, up to the one that ends that, and returns how many were passed over.
 #[inline(always)]

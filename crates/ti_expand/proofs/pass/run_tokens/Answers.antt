@@ -7,6 +7,7 @@ use Rattle.ti_expand.specs.inner.Machine.{machine}
 use Rattle.ti_expand.specs.Mode.{mode_of}
 use Rattle.ti_expand.specs.Steps.{step_state}
 use Rattle.ti_expand.proofs.CanRunLemmas.{can_run}
+use Rattle.ti_expand.proofs.HeightLemmas.{meet_fits}
 use Rattle.ti_expand.proofs.IsExpansionLemmas.{is_expansion}
 use Rattle.ti_expand.proofs.RestLemmas.{drop_further}
 use Rattle.ti_expand.specs.inner.Underway.{IsUnderway}
@@ -28,7 +29,8 @@ meet-after-requires-clause-height c =
     let s : State = machine l.stack.slots.now l.stack.height l.vars l.parameters l.out l.written in
     let high : length (step_state Running c.in-Some.token s).stack ≤ length c.args.stack.now =
     underway_height _ _ _ _ _ _ _ _ _ _ _ _ l.invariant.here.underway c.in-Some.ensures.order in
-    omega (arith, high, l.invariant.slots)
+    let fits : length (step_state Running c.in-Some.token s).stack ≤ length l.stack.slots.now = omega (arith, high, l.invariant.slots) in
+    meet_fits c.in-Some.token l.stack.slots.now l.stack.height l.vars l.parameters l.out l.written _ fits
 
 pub meet-after-requires-clause-room : goal.meet-after-requires-clause-room
 meet-after-requires-clause-room c =
