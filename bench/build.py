@@ -58,9 +58,9 @@ def programs(folder: Path) -> dict[str, Path]:
     prove("ti_bench", "ti_c")
     known = dict.fromkeys(["parse", "expand_into", "parse+expand_into", "expand", "read", "feed512", "feed1"], PROVED)
     peers, has_unibilium = build_peers(folder)
-    known.update(dict.fromkeys(["ti_expand", "ti_read", "tiparm", "tparm"], peers))
+    known.update(dict.fromkeys(["ti_expand", "ti_open", "ti_open+6_texts", "ti_open+6_names", "ti_read", "tiparm", "tparm"], peers))
     if has_unibilium:
-        known.update(dict.fromkeys(["unibi_run", "unibi_from_mem"], peers))
+        known.update(dict.fromkeys(["unibi_run", "unibi_from_mem", "unibi+6_texts"], peers))
     rust, has_term = build_rust(folder)
     if rust:
         known.update(dict.fromkeys(["rust:parse", "rust:expand_into", "rust:expand", "rust:read"], rust))

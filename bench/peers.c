@@ -90,6 +90,32 @@ static size_t run_ti_read(const struct item *item) {
            == TI_DONE;
 }
 
+static size_t run_ti_open(const struct item *item) {
+    ti_view view;
+    return ti_open((const unsigned char *)item->bytes, item->length, &view) == TI_DONE;
+}
+
+/* What an editor asks of an entry. */
+static size_t run_ti_open_six(const struct item *item) {
+    static const size_t texts[] = {TI_CURSOR_ADDRESS, TI_CLEAR_SCREEN, TI_SET_A_FOREGROUND, TI_SET_ATTRIBUTES,
+                                   TI_ENTER_CA_MODE, TI_CLR_EOL};
+    ti_view view;
+    ti_bytes text;
+    size_t found = ti_open((const unsigned char *)item->bytes, item->length, &view) == TI_DONE;
+    for (size_t i = 0; i < sizeof texts / sizeof *texts; i++) found += ti_view_text(&view, texts[i], &text) == 0;
+    return found;
+}
+
+static size_t run_ti_open_by_name(const struct item *item) {
+    static const char *const names[] = {"cup", "clear", "setaf", "sgr", "smcup", "el"};
+    ti_view view;
+    ti_value value;
+    size_t found = ti_open((const unsigned char *)item->bytes, item->length, &view) == TI_DONE;
+    for (size_t i = 0; i < sizeof names / sizeof *names; i++)
+        found += ti_view_find(&view, (const unsigned char *)names[i], strlen(names[i]), &value) == TI_DONE;
+    return found;
+}
+
 #ifdef UNIBILIUM
 static size_t run_unibi_run(const struct item *item) {
     static char out[ROOM];
@@ -103,6 +129,16 @@ static size_t run_unibi_from_mem(const struct item *item) {
     if (entry) unibi_destroy(entry);
     return entry != NULL;
 }
+
+static size_t run_unibi_six(const struct item *item) {
+    static const enum unibi_string texts[] = {unibi_cursor_address, unibi_clear_screen, unibi_set_a_foreground,
+                                              unibi_set_attributes, unibi_enter_ca_mode, unibi_clr_eol};
+    unibi_term *entry = unibi_from_mem(item->bytes, item->length);
+    size_t found = 1;
+    for (size_t i = 0; entry && i < sizeof texts / sizeof *texts; i++) found += unibi_get_str(entry, texts[i]) != NULL;
+    if (entry) unibi_destroy(entry);
+    return entry ? found : 0;
+}
 #endif
 
 static const struct {
@@ -111,11 +147,15 @@ static const struct {
 } works[] = {
     {"ti_expand", run_ti_expand},
     {"ti_read", run_ti_read},
+    {"ti_open", run_ti_open},
+    {"ti_open+6_texts", run_ti_open_six},
+    {"ti_open+6_names", run_ti_open_by_name},
     {"tiparm", run_tiparm},
     {"tparm", run_tparm},
 #ifdef UNIBILIUM
     {"unibi_run", run_unibi_run},
     {"unibi_from_mem", run_unibi_from_mem},
+    {"unibi+6_texts", run_unibi_six},
 #endif
 };
 
