@@ -53,7 +53,7 @@ fn pass_over(tape: &mut Tape<'_>, from: Mode, passed: &mut usize)
     }
 }
 
-/// Runs a tape from its start, where there is room for what it does. Bytes that are all tokens are one copy.
+/// Runs a tape from its start, where there is room for what it does. Bytes without escapes are one copy.
 #[inline(always)]
 pub(crate) fn run_tape<'a>(
     mut tape: Tape<'_>,
