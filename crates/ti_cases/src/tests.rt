@@ -23,6 +23,7 @@ mod draft_growths;
 mod draft_memory;
 mod drafts_written;
 mod entries_read;
+mod entries_reopened;
 mod entry_messages;
 mod entry_refusals;
 mod entry_sources;

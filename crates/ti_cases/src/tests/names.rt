@@ -26,6 +26,8 @@ fn all_names_are_those_of_ncurses(rt: HostRuntime) {
     assert_that!(rt; NameTable::Long.flag_name(0) == Some("auto_left_margin"));
     assert_that!(rt; NameTable::Long.find("max_colors") == Some((Kind::Number, 13)));
     assert_that!(rt; NameTable::Long.find("cup") == None);
+    assert_that!(rt; NameTable::All.find_bytes(b"cup") == Some((Kind::Text, 10)));
+    assert_that!(rt; NameTable::All.find_bytes(b"\xff") == None);
     assert_that!(rt; NameTable::Common.text_name(146) == None);
     assert_that!(rt; NameTable::Common.find("acsc") == None);
     assert_that!(rt; NameTable::Common.find("cup") == Some((Kind::Text, 10)));
