@@ -1,7 +1,7 @@
 -- Inputs as long as an entry may be.
-use Rattle.std.proofs.Common.{◌≡◌, ℕ, zero, suc, ◌+◌, ◌*◌, ◌%◌, ◌<◌, ◌≤◌, false, cond, eqb, ltb, List, ◌∷◌, ◌++◌, length, refl, ap, subst, ◌∙◌, arith}
+use Rattle.std.proofs.Common.{◌≡◌, ℕ, zero, suc, ◌+◌, ◌*◌, ◌%◌, ◌<◌, ◌≤◌, false, cond, eqb, List, ◌∷◌, ◌++◌, length, refl, ap, subst, ◌∙◌, arith}
 use Rattle.std.proofs.lemmas.List.{length-append}
-use Rattle.std.proofs.lemmas.Bool.{le-ltb, lt-ltb, lt-leb, ne_eqb}
+use Rattle.std.proofs.lemmas.Bool.{le-ltb, lt-leb, ne_eqb}
 use Rattle.ti_base.specs.Limits.{most_entry_bytes}
 use Rattle.ti_words.specs.declared.Width.TheVariants.{Legacy, Wide}
 use Rattle.ti_layout.specs.declared.fault.Fault.TheVariants.{ExtendedTooBig, Trailing}

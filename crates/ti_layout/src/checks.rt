@@ -1,8 +1,7 @@
-//! The checks of single items and of whole sections.
+//! The checks of single items, and of the texts and names of a table.
 //!
-//! What each function answers is the verdict of the checks that its clause names. A section is tested at once, and gone
-//! over item by item only where that test leaves it open. Whether its texts have their NULs is decided for all of them
-//! from one look for the last NUL of the table.
+//! What each function returns is the verdict of the checks that its clause names, whose prefixes are there. Whether texts
+//! have their NULs is decided for all of them from one look for the last NUL of the table.
 
 ghost use Rattle.std.specs.Prelude.{◌≡◌, ◌+◌, ◌*◌, ◌<◌, ◌≤◌, ◌^◌, ◌∷◌, [], length, map, take, drop};
 ghost use Rattle.ti_words.specs.Widths.{number_size as the_number_size};
@@ -181,56 +180,6 @@ fn check_name_place(bytes: &[u8], table: &NameTable, place: usize) -> Result<(),
     Ok(())
 }
 
-/// No word of a section is negative.
-pub(crate) fn check_signs(
-    bytes: &[u8],
-    fault: Fault,
-    from: usize,
-    count: usize,
-) -> Result<(), Refused>
-    requires { from + 2 * count ≤ length bytes.now }
-    ensures { result_verdict result
-        ≡ verdict (length bytes.now) (sign_checks bytes.now fault from count) }
-{
-    if are_not_negative(bytes, fault, from, count) {
-        return Ok(());
-    }
-    for i in 0..count {
-        check_sign(bytes, fault, from + 2 * i)?;
-    }
-    Ok(())
-}
-
-/// No NUL stands in a section.
-pub(crate) fn check_no_nuls(bytes: &[u8], from: usize, count: usize) -> Result<(), Refused>
-    requires { from + count ≤ length bytes.now }
-    ensures { result_verdict result
-        ≡ verdict (length bytes.now) (map (name_check bytes.now) (places from 1 count)) }
-{
-    if are_no_nuls(bytes, from, count) {
-        return Ok(());
-    }
-    for i in 0..count {
-        check_name(bytes, from + i)?;
-    }
-    Ok(())
-}
-
-/// Each byte of a section is a flag.
-pub(crate) fn check_flags(bytes: &[u8], from: usize, count: usize) -> Result<(), Refused>
-    requires { from + count ≤ length bytes.now }
-    ensures { result_verdict result
-        ≡ verdict (length bytes.now) (flag_checks bytes.now from count) }
-{
-    if are_flags(bytes, from, count) {
-        return Ok(());
-    }
-    for i in 0..count {
-        check_flag(bytes, from + i)?;
-    }
-    Ok(())
-}
-
 /// The byte at an odd place is 0.
 pub(crate) fn check_pad(bytes: &[u8], place: usize) -> Result<(), Refused>
     requires { pad_end place ≤ length bytes.now }
@@ -240,47 +189,6 @@ pub(crate) fn check_pad(bytes: &[u8], place: usize) -> Result<(), Refused>
         return Ok(());
     }
     check_nul(bytes, Fault::BadPad, place)
-}
-
-/// Each number is at least -2.
-pub(crate) fn check_numbers(
-    bytes: &[u8],
-    width: Width,
-    from: usize,
-    count: usize,
-) -> Result<(), Refused>
-    requires there { from + the_number_size width * count ≤ length bytes.now }
-    requires fits { the_number_size width * count < 2 ^ 32 }
-    ensures { result_verdict result
-        ≡ verdict (length bytes.now) (number_checks bytes.now (the_number_size width) from count) }
-{
-    if are_numbers(bytes, width, from, count) {
-        return Ok(());
-    }
-    for i in 0..count {
-        check_number(bytes, width, from + numbers_size(width, i))?;
-    }
-    Ok(())
-}
-
-/// Each offset is a mark, or a place of the table.
-pub(crate) fn check_offsets(
-    bytes: &[u8],
-    table_size: usize,
-    from: usize,
-    count: usize,
-) -> Result<(), Refused>
-    requires { from + 2 * count ≤ length bytes.now }
-    ensures { result_verdict result
-        ≡ verdict (length bytes.now) (offset_checks bytes.now table_size from count) }
-{
-    if are_offsets(bytes, table_size, from, count) {
-        return Ok(());
-    }
-    for i in 0..count {
-        check_offset(bytes, table_size, from + 2 * i)?;
-    }
-    Ok(())
 }
 
 /// The table is there, and each text that is there has a NUL in it.

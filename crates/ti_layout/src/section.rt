@@ -1,15 +1,18 @@
 //! The sections of an entry in the order of their checks, and the items of each.
+//!
+//! Items are tested at once, and gone over one by one only if that test leaves them open.
 
-ghost use Rattle.std.specs.Prelude.{◌≡◌, ◌+◌, ◌*◌, ◌<◌, ◌≤◌, ◌^◌, length};
+ghost use Rattle.std.specs.Prelude.{◌≡◌, ◌+◌, ◌*◌, ◌<◌, ◌≤◌, ◌^◌, ◌∷◌, [], length, IsTrue};
 ghost use Rattle.ti_base.specs.Limits.{most_entry_bytes};
 ghost use Rattle.ti_layout.specs.Layout.{end_of};
-ghost use Rattle.ti_layout.specs.Checks.{verdict, result_verdict};
-ghost use Rattle.ti_layout.specs.Refusal.{item_size, items_checks, items_of, part_of, items};
+ghost use Rattle.ti_layout.specs.Checks.{Passes, verdict, result_verdict};
+ghost use Rattle.ti_layout.specs.Refusal.{item_size, item_check, items_checks, items_of, part_of, items};
 ghost use Rattle.ti_layout.specs.Stages.{first_items, items_after, next as the_next, closing_end as the_closing_end, fault_when_full as the_fault_when_full};
 
-use crate::checks::{check_flags, check_no_nuls, check_numbers, check_offsets, check_signs};
+use crate::checks::{check_flag, check_name, check_number, check_offset, check_sign};
 use crate::fault::{Fault, Refused};
 use crate::part::{Part, pad_end};
+use crate::whole::{are_flags, are_no_nuls, are_not_negative, are_numbers, are_offsets};
 use ti_words::{Width, number_size};
 
 /// What the items of a section are.
@@ -58,12 +61,12 @@ pub(crate) enum Section {
 
 impl Half {
     /// Which of the parts it is.
-    pub(crate) fn of(self, standard: &Part, extended: &Part) -> Part
-        ensures { result ≡ part_of self standard.now extended.now }
+    pub(crate) fn of<'a>(self, standard: &'a Part, extended: &'a Part) -> &'a Part
+        ensures { result.now ≡ part_of self standard.now extended.now }
     {
         match self {
-            Half::Standard => *standard,
-            Half::Extended => *extended,
+            Half::Standard => standard,
+            Half::Extended => extended,
         }
     }
 }
@@ -78,6 +81,21 @@ impl Item {
             Item::Name | Item::Flag => 1,
             Item::Sign(_) | Item::Offset(_) => 2,
             Item::Number(width) => number_size(width),
+        }
+    }
+
+    /// The check of one item at a place.
+    fn check(self, bytes: &[u8], place: usize) -> Result<(), Refused>
+        requires { place + item_size self ≤ length bytes.now }
+        ensures { result_verdict result
+            ≡ verdict (length bytes.now) (item_check bytes.now self place ∷ []) }
+    {
+        match self {
+            Item::Sign(fault) => check_sign(bytes, fault, place),
+            Item::Name => check_name(bytes, place),
+            Item::Flag => check_flag(bytes, place),
+            Item::Number(width) => check_number(bytes, width, place),
+            Item::Offset(table_size) => check_offset(bytes, table_size, place),
         }
     }
 }
@@ -106,20 +124,35 @@ impl Items {
         room / self.item.size()
     }
 
-    /// The checks of so many of them, in one loop.
+    /// Whether so many of them pass, tested at once. No leaves it open.
+    fn all_pass(self, bytes: &[u8], count: usize) -> bool
+        requires { self.at + item_size self.item * count ≤ length bytes.now }
+        ensures { IsTrue result
+            → Passes ≡ verdict (length bytes.now) (items_checks bytes.now (first_items count self)) }
+    {
+        match self.item {
+            Item::Sign(fault) => are_not_negative(bytes, fault, self.at, count),
+            Item::Name => are_no_nuls(bytes, self.at, count),
+            Item::Flag => are_flags(bytes, self.at, count),
+            Item::Number(width) => are_numbers(bytes, width, self.at, count),
+            Item::Offset(table_size) => are_offsets(bytes, table_size, self.at, count),
+        }
+    }
+
+    /// The checks of so many of them.
     pub(crate) fn check(self, bytes: &[u8], count: usize) -> Result<(), Refused>
         requires there { self.at + item_size self.item * count ≤ length bytes.now }
         requires fits { item_size self.item * count < 2 ^ 32 }
         ensures { result_verdict result
             ≡ verdict (length bytes.now) (items_checks bytes.now (first_items count self)) }
     {
-        match self.item {
-            Item::Sign(fault) => check_signs(bytes, fault, self.at, count),
-            Item::Name => check_no_nuls(bytes, self.at, count),
-            Item::Flag => check_flags(bytes, self.at, count),
-            Item::Number(width) => check_numbers(bytes, width, self.at, count),
-            Item::Offset(table_size) => check_offsets(bytes, table_size, self.at, count),
+        if self.all_pass(bytes, count) {
+            return Ok(());
         }
+        for i in 0..count {
+            self.item.check(bytes, self.at + self.item.size() * i)?;
+        }
+        Ok(())
     }
 
     /// The items after so many.

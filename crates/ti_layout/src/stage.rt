@@ -2,7 +2,7 @@
 //!
 //! A stage says in which section the next check is and which of its items are left, and keeps the parts that the checks
 //! have read. It goes on over all the bytes that have come: a step checks the items of a section that lie within them,
-//! in one loop, or makes the few checks between two sections. Bytes that come whole take two steps a section.
+//! in one loop, or makes the few checks that close it. Bytes that come whole take two steps a section.
 
 ghost use Rattle.std.specs.Prelude.{◌≡◌, ℕ, List, ◌+◌, ◌*◌, ◌<◌, ◌≤◌, ◌^◌, ◌∷◌, ◌++◌, length, IfOk, IfErr, OnOk, Some};
 ghost use Rattle.ti_base.specs.Limits.{most_entry_bytes};
@@ -86,22 +86,22 @@ impl Stage {
         ensures kept { OnOk result (self.new ≡ stage_after self.old bytes.now) }
         ensures same { IfErr result (λ refused. self.new ≡ self.old) }
     {
-        let standard = self.standard;
-        let extended = self.extended;
         match self.section {
             Section::Magic => check_magic(bytes)?,
             Section::Header => self.standard = sized_standard(bytes)?,
-            Section::Names => check_nul(bytes, Fault::BadNames, standard.flags_from - 1)?,
-            Section::Flags(half) => check_pad(bytes, half.of(&standard, &extended).flags_end())?,
+            Section::Names => check_nul(bytes, Fault::BadNames, self.standard.flags_from - 1)?,
+            Section::Flags(half) => {
+                check_pad(bytes, half.of(&self.standard, &self.extended).flags_end())?
+            },
             Section::NameOffsets(half) => {
-                self.base = check_texts(bytes, &half.of(&standard, &extended))?
+                self.base = check_texts(bytes, half.of(&self.standard, &self.extended))?
             }
-            Section::TableEnd => check_start(bytes, &standard)?,
-            Section::ExtendedHeader => self.extended = sized_extended(bytes, &standard)?,
+            Section::TableEnd => check_start(bytes, &self.standard)?,
+            Section::ExtendedHeader => self.extended = sized_extended(bytes, &self.standard)?,
             Section::End => {
                 return Err(Refused {
                     fault: Fault::Trailing,
-                    place: extended.end(),
+                    place: self.extended.end(),
                 });
             }
             Section::Numbers(_) | Section::Offsets(_) => {}
@@ -131,6 +131,7 @@ impl Stage {
     }
 
     /// With fewer bytes no further check is made.
+    #[inline(always)]
     pub fn need(&self) -> usize
         requires within { self.now.items.at + item_size self.now.items.item * self.now.items.left
             ≤ most_entry_bytes }
