@@ -134,6 +134,9 @@ impl EntryReader {
             return Err(refused);
         }
         self.kept.push(byte);
+        if self.kept.as_slice().len() < self.stage.need() {
+            return Ok(());
+        }
         if let Err(refused) = self.stage.advance(self.kept.as_slice()) {
             self.kept.pop();
             self.refusal = Some(refused);

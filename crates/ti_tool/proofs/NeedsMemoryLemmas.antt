@@ -127,7 +127,7 @@ named_of (Err e) bytes_of names name parameters setting output v text called h =
 -- ---- entries
 
 pub unrefused : (input : List ℕ) (v : EntryValue) → Spells input v → refusal input ≡ None
-unrefused input v spells = ap (refusal_of (length input)) (sym (only input v spells).passes)
+unrefused input v spells = ap (refusal_of (length input)) (only input v spells).passes
 
 pub never_refused : (input : List ℕ) (v : EntryValue) (r : Refused) → Spells input v → refusal input ≡ Some r → ⊥
 never_refused input v r spells is = let e : None ≡ Some r = sym (unrefused input v spells) ∙ is in absurd cc

@@ -6,7 +6,7 @@ use Rattle.ti_entry.specs.Reading.{Reading}
 use Rattle.ti_layout.specs.Refusal.{failure}
 use Rattle.ti_layout.specs.Stages.{Stands, Waits}
 use Rattle.ti_entry.proofs.FeedLemmas.{reading_with, same_reading, reading_after-passes, reading_after-fails}
-use Rattle.ti_layout.proofs.StageStepLemmas.{stands_on}
+use Rattle.ti_layout.proofs.StageStepLemmas.{stands_on, stands_now}
 use Rattle.ti_entry.proofs.WholeStageLemmas.{waits_none_failed}
 use Rattle.ti_entry.proofs.reader.EntryReader.take.Goals as goal
 
@@ -46,7 +46,44 @@ pub advance-requires : goal.advance-requires
 advance-requires c =
     let none : c.self.inside.refusal ≡ None = ap (λ (r : Reading). r.refusal) c.self.view_is ∙ c.requires in
     let longer = stands_on c.self.inside.kept.items (c.args.byte ∷ []) c.self.inside.stage (c.self.invariant.stands none) in
-    subst (λ (k : List ℕ). Stands k c.self.inside.stage) (sym (c.as_slice-2.ensures.value ∙ c.push.ensures.items)) longer
+    subst (λ (k : List ℕ). Stands k c.self.inside.stage) (sym (c.as_slice-3.ensures.value ∙ c.push.ensures.items)) longer
+
+-- ---- too few bytes for a check
+
+pub need-requires-clause-within : goal.need-requires-clause-within
+need-requires-clause-within c = (c.self.invariant.stands (ap (λ (r : Reading). r.refusal) c.self.view_is ∙ c.requires) []).within
+
+pub need-requires-clause-fits : goal.need-requires-clause-fits
+need-requires-clause-fits c = (c.self.invariant.stands (ap (λ (r : Reading). r.refusal) c.self.view_is ∙ c.requires) []).fits
+
+pub need-requires-clause-extended_fits : goal.need-requires-clause-extended_fits
+need-requires-clause-extended_fits c = (c.self.invariant.stands (ap (λ (r : Reading). r.refusal) c.self.view_is ∙ c.requires) []).extended_fits
+
+pub invariant_of-self-then-as_slice-need : goal.invariant_of-self-then-as_slice-need
+invariant_of-self-then-as_slice-need c =
+    let now = c.push.new.self.items in
+    let none : c.self.inside.refusal ≡ None = ap (λ (r : Reading). r.refusal) c.self.view_is ∙ c.requires in
+    let stands = subst (λ (k : List ℕ). Stands k c.self.inside.stage) (sym c.push.ensures.items) (stands_on c.self.inside.kept.items (c.args.byte ∷ []) c.self.inside.stage (c.self.invariant.stands none)) in
+    let long : length c.as_slice-2.result.now ≡ length now = ap length c.as_slice-2.ensures.value in
+    let waits = c.need.ensures.waits now (stands_now now c.self.inside.stage stands) (omega arith) in
+    record {
+      most = subst (λ (k : List ℕ). length k ≤ most_entry_bytes) c.as_slice-2.ensures.value c.as_slice-2.ensures.fits;
+      none_failed = waits_none_failed now c.self.inside.stage waits;
+      stands = λ e. stands;
+      waits = λ e. waits;
+    }
+
+pub returns-then-as_slice-need-clause-fed : goal.returns-then-as_slice-need-clause-fed
+returns-then-as_slice-need-clause-fed c =
+    let kept = c.self.inside.kept.items in
+    let now = c.push.new.self.items in
+    let none : c.self.inside.refusal ≡ None = ap (λ (r : Reading). r.refusal) c.self.view_is ∙ c.requires in
+    let stands = subst (λ (k : List ℕ). Stands k c.self.inside.stage) (sym c.push.ensures.items) (stands_on kept (c.args.byte ∷ []) c.self.inside.stage (c.self.invariant.stands none)) in
+    let long : length c.as_slice-2.result.now ≡ length now = ap length c.as_slice-2.ensures.value in
+    let waits = c.need.ensures.waits now (stands_now now c.self.inside.stage stands) (omega arith) in
+    let passes : failure (kept ++ c.args.byte ∷ []) ≡ None = ap failure (sym c.push.ensures.items) ∙ waits_none_failed now c.self.inside.stage waits in
+    same_reading kept c.args.self.now _ (c.args.byte ∷ []) c.self.inside.refusal c.self.view_is none
+    (ap (λ (k : List ℕ). reading_with k c.self.inside.refusal) c.push.ensures.items ∙ ap (reading_with (kept ++ c.args.byte ∷ [])) none ∙ reading_after-passes kept (c.args.byte ∷ []) passes)
 
 -- ---- a byte that completes one
 
@@ -72,16 +109,16 @@ returns-in-Err-clause-fed c =
     let none : c.self.inside.refusal ≡ None = ap (λ (r : Reading). r.refusal) c.self.view_is ∙ c.requires in
     let same = popped kept c.pop.new.self.items c.push.new.self.items c.args.byte _ c.push.ensures.items c.push.ensures.len c.pop.ensures.rest in
     let failed : failure (kept ++ c.args.byte ∷ []) ≡ Some c.in-Err.refused =
-    ap failure (sym (c.as_slice-2.ensures.value ∙ c.push.ensures.items)) ∙ c.in-Err.ensures.failed in
+    ap failure (sym (c.as_slice-3.ensures.value ∙ c.push.ensures.items)) ∙ c.in-Err.ensures.failed in
     same_reading kept c.args.self.now _ (c.args.byte ∷ []) c.self.inside.refusal c.self.view_is none
     (ap (λ (k : List ℕ). reading_with k (Some c.in-Err.refused)) same ∙ reading_after-fails kept c.args.byte c.in-Err.refused c.self.invariant.none_failed failed)
 
 pub invariant_of-self-in_default : goal.invariant_of-self-in_default
 invariant_of-self-in_default c =
-    let items = c.as_slice-2.ensures.value in
+    let items = c.as_slice-3.ensures.value in
     let waits = subst (λ (k : List ℕ). Waits k c.advance.new.self) items c.in_default.ensures.waits in
     let long = ap length items in
-    let fits = c.as_slice-2.ensures.fits in
+    let fits = c.as_slice-3.ensures.fits in
     record {
       most = omega arith;
       none_failed = waits_none_failed c.push.new.self.items c.advance.new.self waits;
@@ -93,7 +130,7 @@ pub returns-clause-fed : goal.returns-clause-fed
 returns-clause-fed c =
     let kept = c.self.inside.kept.items in
     let none : c.self.inside.refusal ≡ None = ap (λ (r : Reading). r.refusal) c.self.view_is ∙ c.requires in
-    let items = c.as_slice-2.ensures.value ∙ c.push.ensures.items in
+    let items = c.as_slice-3.ensures.value ∙ c.push.ensures.items in
     let waits = subst (λ (k : List ℕ). Waits k c.advance.new.self) items c.in_default.ensures.waits in
     let passes : failure (kept ++ c.args.byte ∷ []) ≡ None = waits_none_failed (kept ++ c.args.byte ∷ []) c.advance.new.self waits in
     same_reading kept c.args.self.now _ (c.args.byte ∷ []) c.self.inside.refusal c.self.view_is none
