@@ -155,14 +155,23 @@ pub const FORMS: [(Output, &[u8]); 3] = [
     (Output::Line(Form::Notation), b"\\E7\\^\\,\\s\n"),
 ];
 
+/// Expands a capability whose output is written in a form.
+fn formed<A: Allocator + Copy>(alloc: A, output: Output, writer: Sink) -> Written {
+    let mut writer = writer;
+    let mut source = Source::new(b"\x1b%p1%d^, ", 3);
+    let asked = Asked::Capability(OfCapability::Cap(output));
+    let result = carry_out(alloc, &asked, &NUMBERS, &mut source, &mut writer);
+    Written {
+        result: result.map(|_sound| ()),
+        taken: writer.taken,
+    }
+}
+
 #[test]
 fn outputs_have_the_form_that_is_asked(rt: HostRuntime) {
     for (output, expected) in FORMS {
-        let mut written = Sink::new(rt.alloc());
-        let mut input = Source::new(b"\x1b%p1%d^, ", 3);
-        let asked = Asked::Capability(OfCapability::Cap(output));
-        let result = carry_out(rt.alloc(), &asked, &NUMBERS, &mut input, &mut written);
-        assert_that!(rt; result == Ok(true));
+        let written = formed(rt.alloc(), output, Sink::new(rt.alloc()));
+        assert_that!(rt; written.result == Ok(()));
         assert_that!(rt; written.taken.as_slice() == expected);
     }
 }
