@@ -221,7 +221,11 @@ fn number_bits(entry: &Entry<'_>) -> u32
 }
 
 /// Puts the names of an entry, and how many capabilities it has, into the counts. Their place is no part of it.
-pub(crate) fn put_counts<'a>(counts: &mut EntryCounts<'a>, entry: &Entry<'a>, extended: &Extended<'a>)
+pub(crate) fn put_counts<'a>(
+    counts: &mut EntryCounts<'a>,
+    entry: &Entry<'a>,
+    extended: &Extended<'a>,
+)
     requires { extended.now ≡ entry.now }
     ensures told { Tells counts.new entry.now }
     ensures untold { counts.new.place ≡ counts.old.place }

@@ -83,12 +83,7 @@ pub(crate) fn entry_at<'a>(bytes: &'a [u8], stage: &Stage) -> Result<Entry<'a>, 
             place: bytes.len(),
         });
     }
-    Ok(entry_of(
-        bytes,
-        stage.standard(),
-        stage.extended(),
-        stage.base(),
-    ))
+    Ok(entry_of(bytes, stage.standard(), stage.extended(), stage.base()))
 }
 
 /// The entry of two parts.

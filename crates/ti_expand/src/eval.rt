@@ -109,7 +109,10 @@ pub fn meet<'a>(
         }
         Token::Compute(op) => compute(*op, stack),
         Token::Increment => parameters.increment(),
-        Token::Char => return (Mode::Run, put_byte(out, written, byte_of(stack.pop_number()))),
+        Token::Char => return (
+            Mode::Run,
+            put_byte(out, written, byte_of(stack.pop_number())),
+        ),
         Token::Print(format) => return (Mode::Run, print(format, stack, out, written)),
         Token::CondThen => {
             let zero = stack.pop_number() == 0;

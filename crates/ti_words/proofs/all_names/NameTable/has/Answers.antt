@@ -8,4 +8,3 @@ returns-in-Common c =
     c.contains.ensures.value
     ∙ ap (list_any (λ known. nat_eq known c.args.index)) c.common_of.ensures
     ∙ ap (λ table. has_index table c.args.kind c.args.index) (sym c.in-Common.is)
-
