@@ -9,7 +9,7 @@ use std::io::{ErrorKind, Read};
 #[derive(Clone, Copy, Debug, PartialEq, Eq)]
 pub struct ReadFailed;
 
-/// Reads once into `piece`, and answers how many bytes came; 0 is the end of the source.
+/// Reads once into `piece`, and returns how many bytes came; 0 is the end of the source.
 ///
 /// An interrupted read is tried again and counted off `retries`. Where none are left, the next one is [`ReadFailed`] as
 /// any other error is; nothing of the source is lost by it.
@@ -20,7 +20,7 @@ pub fn read_piece<R: Read>(
 ) -> Result<usize, ReadFailed>
     // At most as many bytes as the piece has.
     ensures bound { ReadsAtMost result piece.new }
-    // The source lost the bytes that stand in the piece now, none only at its end, and nothing where reading failed.
+    // The source lost the bytes that stand in the piece now, none only at its end, and nothing if reading failed.
     ensures bytes { ReadConsumes
         (R.remaining source.old) (R.remaining source.new) result piece.new }
 {

@@ -19,7 +19,7 @@ use work::{
     read_all, ready_cases,
 };
 
-/// The bytes of a piece, where an entry is fed in pieces.
+/// The bytes of a piece, if an entry is fed in pieces.
 const PIECE: usize = 512;
 
 /// Does the work on each item so many times in a row.

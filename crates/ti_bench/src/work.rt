@@ -1,4 +1,4 @@
-//! The kinds of work that are timed: each is done on each item, a number of turns in a row, and answers a sum over the
+//! The kinds of work that are timed: each is done on each item, a number of turns in a row, and returns a sum over the
 //! results, so that no result can be left out.
 
 ghost use Rattle.std.specs.Prelude.{◌<◌};

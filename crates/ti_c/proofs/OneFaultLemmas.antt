@@ -85,14 +85,14 @@ module _ (bytes : List ℕ) (values : List Value) (given room : ℕ) where
   one_first_fault n p m q (inr (few, inr (sound, one))) (inr (also, inr (unrefused, other))) =
       let same = one_fault bytes values room n p m q one other in (same.0, inr same.1)
 
-  -- and none where no step has one
+  -- and none if no step has one
   pub none_due : (number place : ℕ) → given ≤ 9 → IsFaultless bytes → HasNoFault bytes values room
       → ¬ IsExpansionFault bytes values given room number place
   none_due number place few sound none (inl (many, is)) = omega arith
   none_due number place few sound none (inr (also, inl refused)) = none_refused bytes number place sound refused
   none_due number place few sound none (inr (also, inr (unrefused, fault))) = none number place fault
 
--- what an expansion of a capability with some values returns, where it is of the bytes and with the values that C hands over
+-- what an expansion of a capability with some values returns, if it is of the bytes and with the values that C hands over
 module _ (own bytes : List ℕ) (made values : List Value) (given room number place : ℕ) (same : own ≡ bytes) (alike : made ≡ values) where
   moved : IsFaultOf own made room number place → IsFaultOf bytes values room number place
   moved is =

@@ -17,7 +17,7 @@ pub struct Limits {
     pub depth: usize,
     /// The greatest number of conditionals that are open at once.
     pub nest: usize,
-    /// The most bytes that it writes, for texts up to the length that was asked for.
+    /// The most bytes that it writes, for texts up to the length that was requested.
     pub bound: u64,
     /// Where the fault stands, in bytes from the start.
     pub place: usize,

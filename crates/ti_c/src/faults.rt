@@ -27,7 +27,7 @@ pub(crate) const TOO_MUCH: u32 = 302;
 /// No capability has the name, or none stands at the place.
 pub(crate) const NOT_NAMED: u32 = 401;
 
-/// An array has less room than the entry asks for.
+/// An array has less room than the entry requires.
 pub(crate) const ROOM_TOO_SMALL: u32 = 402;
 
 /// The number of an entry's fault.

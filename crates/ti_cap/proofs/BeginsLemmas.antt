@@ -271,7 +271,7 @@ context_step before ps qs k c e =
     let P : List Token → Type 0 = λ x. Context (x ++ k ∷ []) qs in
     subst P c.spans (step c.levels c.current k qs c.sound c.formed (ap (λ x. allowed k x) c.stands ∙ e))
 
--- the end may end what is open where none is in a first test
+-- the end may end what is open if none is in a first test
 end_all : (lvs : List Level) (s : Sequence) → AreLevels lvs → AreSettled (parts lvs) → IsTree s → (tree : Sequence) × IsTree tree × (tokens tree ≡ front lvs (tokens s))
 end_all [] s h n g = (s, g, refl)
 end_all (l ∷ lvs) s h n g =

@@ -103,7 +103,7 @@ format_final [] more fault uncut e = absurd (uncut (cc))
 format_final (c ∷ cs) more fault uncut e =
     still (is_colon c) _ _ _ _ fault (flags_final is_flag 2 cs more fault uncut) (flags_final is_plain_flag 1 (c ∷ cs) more fault uncut) e
 
--- where reading stops at the end, a letter completes the format
+-- if reading stops at the end, a letter completes the format
 letter_cut : (f : Format) (n : ℕ) (bytes : List ℕ) → letter_read f n bytes ≡ Err CutShort → bytes ≡ []
 letter_cut f n [] e = refl
 letter_cut f n (c ∷ cs) e = absurd (never (conversion_of c) e)

@@ -90,7 +90,7 @@ stops_more : (p : ℕ → Bool) (r more : List ℕ) → Stops p r → Stops p (r
 stops_more p [] more h = absurd h
 stops_more p (x ∷ r) more h = h
 
--- where some byte stops them, what follows changes nothing
+-- if some byte stops them, what follows changes nothing
 pub front_more : (p : ℕ → Bool) (xs more : List ℕ) → Stops p (rest p xs) → front p (xs ++ more) ≡ front p xs
 front_more p xs more h =
     ap (λ x. front p (x ++ more)) (front_and_rest p xs) ∙ ap (λ x. front p x) (append_assoc (front p xs) (rest p xs) more)

@@ -74,7 +74,7 @@ is_next rest s tail k l e p (u, more, q, f) =
 nothing_next : (k : Token) → ¬ IsNext k []
 nothing_next k (s, tail, p, e) = omega (arith, ap length e, length-append s tail, spelled_long k s p)
 
--- nothing is at fault where a token is next that may stand, nests no deeper and climbs no higher than the limits
+-- nothing is at fault if a token is next that may stand, nests no deeper and climbs no higher than the limits
 fine_step : (before : List Token) (rest s tail : List ℕ) (k : Token) (d : ℕ) → Begins (before ++ k ∷ []) → (k ≡ CondOpen → length (open_parts before) < most_open)
     → Peaks next_height (before ++ k ∷ []) d → d ≤ most_values → rest ≡ s ++ tail → Spells k s → (f : CapFault) → ¬ IsFaultBetween f before rest
 fine_step before rest s tail k d begins room peaks low e p f = each f

@@ -101,7 +101,7 @@ escape_cut (c ∷ cs) fits e =
     at : (d : ℕ) → nat_eq c d ≡ true → IsEscapeCut (d ∷ cs) → IsEscapeCut (c ∷ cs)
     at d t f = let P : ℕ → Type 0 = λ x. IsEscapeCut (x ∷ cs) in subst P (sym (eqb-true c d t)) f
 
--- where the reading stops at the end, the bytes are cut
+-- if the reading stops at the end, the bytes are cut
 pub token_cut : (bytes : List ℕ) → AreBytes bytes → bytes ≢ [] → token_read bytes ≡ Err CutShort → IsCut bytes
 token_cut [] fits some e = absurd (some refl)
 token_cut (b ∷ bs) fits some e =

@@ -1,4 +1,4 @@
--- Where a token may stand, and the fault where it may not.
+-- Where a token may stand, and the fault if it may not.
 use Rattle.std.proofs.Common.{◌≡◌, ◌≢◌, ℕ, ◌<◌, ◌≤◌, inl, inr, List, [], ◌∷◌, ◌++◌, length, refl, sym, ◌∙◌, ap, subst, arith, Bool, true, false, cond}
 use Rattle.std.specs.Prelude.{Some, None, nat_lt, ◌||◌, fold}
 use Rattle.ti_base.specs.Limits.{most_open}

@@ -23,7 +23,7 @@ innermost_first_more (suc m) opens d some within =
     let h : m < length opens = omega arith in
     rw e (ap reverse (take-suc opens m d h) ∙ reverse-append (take m opens) (get_or opens m d ∷ []))
 
--- what a scan has found where these conditionals are open
+-- what a scan has found while these conditionals are open
 abbrev found_with : Scan → List Open → Findings
 found_with s stack = record {
   heights = record { running = s.here.height; frames = map height_frame stack };

@@ -1,9 +1,9 @@
--- The paths of a tree: which tokens are met where each test may go either way.
+-- The paths of a tree: which tokens are met if each test may go either way.
 use Rattle.std.specs.Prelude.{◌≡◌, Bool, true, false, List, [], ◌∷◌, ◌++◌, ◌⊎◌, map}
 use Rattle.ti_cap.specs.declared.language.Token.{Token}
 use Rattle.ti_cap.specs.Tree.{Sequence, Empty, Simple, Conditional, Arms, Lone, Else, ElseIf, tokens, arm_tokens, closing}
 
--- A walk says of each token whether it is met: true where it is, false where it is passed over.
+-- A walk says of each token whether it is met: true if it is, false if it is passed over.
 abbrev pub Walk : Type 0
 Walk = List Bool
 
@@ -22,7 +22,7 @@ abbrev mutual
       (u : Walk) × (v : Walk) × IsArmWalk arms u × IsWalk rest v
       × (w ≡ true ∷ (u ++ (all_met (closing closed) ++ v)))
 
-  -- of each arm that is met its test, and then its body and the `%e` after it where it is taken;
+  -- of each arm that is met its test, and then its body and the `%e` after it if it is taken;
   -- else that `%e` and what follows
   pub IsArmWalk : Arms → Walk → Type 0
   IsArmWalk (Lone test body) w =

@@ -81,7 +81,7 @@ pub record Climbs (before : List Token) (token : Token) (height : ℕ) : Type 0 
   pub on_path : path_of walk (before ++ token ∷ []) ≡ path_of walk before ++ token ∷ []
   pub height_is : end_height 0 (path_of walk (before ++ token ∷ [])) ≡ height
 
--- each fault, where these tokens stand before it and this rest after it
+-- each fault, with these tokens before it and this rest after it
 abbrev pub IsFaultBetween : CapFault → List Token → List ℕ → Type 0
 IsFaultBetween TooLong before rest = ⊥
 IsFaultBetween StrayThen before rest = IsStray CondThen before rest

@@ -21,7 +21,7 @@ printed_text_size Text f longest = min (unwrap_or f.precision longest) longest
 abbrev pub format_size : Format → ℕ → ℕ
 format_size f longest = max f.width (printed_text_size f.conversion f longest)
 
--- the most bytes that a token writes where no text is longer than `longest`
+-- the most bytes that a token writes if no text is longer than `longest`
 abbrev pub token_size : ℕ → Token → ℕ
 token_size longest (Byte b) = 1
 token_size longest Char = 1

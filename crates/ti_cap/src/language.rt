@@ -21,9 +21,9 @@ pub enum Op {
     Sub,
     /// `%*`, the product.
     Mul,
-    /// `%/`, left by right, truncated toward zero; 0 where right is 0.
+    /// `%/`, left by right, truncated toward zero; 0 if right is 0.
     Div,
-    /// `%m`, the remainder of that division; 0 where right is 0.
+    /// `%m`, the remainder of that division; 0 if right is 0.
     Rem,
     /// `%&`, bitwise and.
     BitAnd,
@@ -31,17 +31,17 @@ pub enum Op {
     BitOr,
     /// `%^`, bitwise exclusive or.
     BitXor,
-    /// `%=`, 1 where both are equal, else 0.
+    /// `%=`, 1 if both are equal, else 0.
     Equal,
-    /// `%>`, 1 where left is greater, else 0.
+    /// `%>`, 1 if left is greater, else 0.
     Greater,
-    /// `%<`, 1 where left is less, else 0.
+    /// `%<`, 1 if left is less, else 0.
     Less,
-    /// `%A`, 1 where neither is 0, else 0.
+    /// `%A`, 1 if neither is 0, else 0.
     And,
-    /// `%O`, 1 where not both are 0, else 0.
+    /// `%O`, 1 if not both are 0, else 0.
     Or,
-    /// `%!`, of one operand: 1 where it is 0, else 0.
+    /// `%!`, of one operand: 1 if it is 0, else 0.
     Not,
     /// `%~`, of one operand: each bit turned.
     BitNot,
@@ -77,7 +77,7 @@ pub struct Format {
     pub alternate: bool,
     /// `0`, zeros fill between the sign or prefix and the digits.
     pub zero: bool,
-    /// The least number of bytes, 0 where none is given.
+    /// The least number of bytes, 0 if none is given.
     pub width: u8,
     /// The least number of digits, or the greatest number of a text's bytes.
     pub precision: Option<u8>,
@@ -102,7 +102,7 @@ pub enum Token {
     Compute(Op),
     /// `%i`, adds 1 to each of the first two parameters that is a number.
     Increment,
-    /// `%c`, pops a number and writes its low byte, or the byte 128 where that is 0.
+    /// `%c`, pops a number and writes its low byte, or the byte 128 if that is 0.
     Char,
     /// A format, as `%d` or `%:-5.3x`: pops a value and prints it.
     Print(Format),
@@ -133,11 +133,11 @@ pub enum CapFault {
     BadConstant,
     /// Another fault of a format, as a width above [`ti_base::GREATEST_WIDTH`].
     BadFormat,
-    /// `%t` where no conditional is open, or in a body.
+    /// `%t` if no conditional is open, or in a body.
     StrayThen,
-    /// `%e` where no conditional is open, or in an otherwise part.
+    /// `%e` if no conditional is open, or in an otherwise part.
     StrayElse,
-    /// `%;` where no conditional is open.
+    /// `%;` if no conditional is open.
     StrayEnd,
     /// `%e`, `%;` or the end in a first test.
     NoThen,
@@ -188,12 +188,12 @@ impl std::error::Error for CapFault {}
 pub struct CapRefused {
     /// What is wrong.
     pub fault: CapFault,
-    /// How many bytes stand before the token at fault; the number of all bytes where the end is at fault.
+    /// How many bytes stand before the token at fault; the number of all bytes if the end is at fault.
     pub place: usize,
 }
 
 impl Format {
-    /// The most bytes that a print by this format writes, where no text is longer than `longest` bytes.
+    /// The most bytes that a print by this format writes, if no text is longer than `longest` bytes.
     pub fn size(&self, longest: u16) -> u64
         ensures exact { result ≡ format_size self.now longest }
         ensures small { result ≤ u16.MAX }
@@ -216,7 +216,7 @@ impl Format {
 }
 
 impl Token {
-    /// The most bytes that it writes, where no text is longer than `longest`.
+    /// The most bytes that it writes, if no text is longer than `longest`.
     pub(crate) fn size(&self, longest: u16) -> u64
         ensures exact { result ≡ token_size longest self.now }
         ensures small { result ≤ u16.MAX }

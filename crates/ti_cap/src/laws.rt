@@ -7,7 +7,7 @@ ghost use Rattle.ti_cap.specs.Refusal.{IsRefusal};
 ghost use Rattle.ti_cap.specs.Tree.{Sequence};
 ghost use Rattle.ti_cap.specs.Spelling.{Spells, Written, Writes};
 
-/// No spelling of a token is a proper front of another's: where it begins a spelling, it is the whole of it.
+/// No spelling of a token is a proper front of another's: if it begins a spelling, it is the whole of it.
 pub fn spellings_stand_apart()
     ensures { (one other : Token) → (spelling more : List ℕ) → Spells one spelling
         → Spells other (spelling ++ more) → (more ≡ []) × (one ≡ other) }

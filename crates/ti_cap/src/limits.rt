@@ -1,6 +1,6 @@
 //! What is found of a capability in one pass over its tokens.
 
-/// The exact limits of a capability over all its paths, where no text is longer than some length.
+/// The exact limits of a capability over all its paths, if no text is longer than some length.
 #[derive(Clone, Copy, Debug)]
 pub struct Limits {
     /// The number of tokens.

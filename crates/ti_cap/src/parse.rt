@@ -91,7 +91,7 @@ impl<'a> Capability<'a> {
     }
 }
 
-/// The limits of a capability where no text is longer than `longest`, with room for so many open conditionals. With room for
+/// The limits of a capability if no text is longer than `longest`, with room for so many open conditionals. With room for
 /// fewer than may be open, that they nest too deep says only that more room is needed.
 #[inline(never)]
 fn limits_of<const ROOM: usize>(bytes: &[u8], longest: u16) -> Result<Limits, CapRefused>
@@ -169,7 +169,7 @@ impl<'a> Capability<'a> {
         Tape::fresh(self.bytes, self.limits)
     }
 
-    /// The greatest number of bytes over all paths, where no text is longer than `longest`.
+    /// The greatest number of bytes over all paths, if no text is longer than `longest`.
     pub fn bound(&self, longest: u16) -> u64
         ensures exact { HasBound self.now longest result }
     {

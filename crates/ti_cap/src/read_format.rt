@@ -210,7 +210,7 @@ fn conversion(letter: u8) -> Option<Conversion>
     }
 }
 
-/// The number that the digits at the front stand for, and how many they are, or none where it is above the limit.
+/// The number that the digits at the front mean, and how many they are, or none if it is above the limit.
 #[tactic(auto, using(crate::proofs::FrontLemmas::front_within, crate::proofs::FrontLemmas::rest_after_front))]
 fn small_number(bytes: &[u8]) -> Option<(u8, usize)>
     ensures none { IfNone result (greatest_width < number_of (front is_digit bytes.now)) }

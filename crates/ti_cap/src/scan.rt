@@ -76,7 +76,7 @@ impl Scan {
         }
     }
 
-    /// Goes on over a token, where no text is longer than `longest`, or says why it may not stand here.
+    /// Goes on over a token, if no text is longer than `longest`, or says why it may not stand here.
     #[inline(always)]
     pub fn take<const ROOM: usize>(
         &mut self,

@@ -9,7 +9,7 @@ use Rattle.ti_draft.specs.Canonical.{names_table, name_words}
 pub after : (o p q a b : List ℕ) → p ≡ o ++ a → q ≡ p ++ b → q ≡ o ++ (a ++ b)
 after o p q a b e f = f ∙ ap (λ l. l ++ b) e ∙ append_assoc o a b
 
--- the same, where the second piece is known by another name
+-- the same, if the second piece is known by another name
 pub after_as : (o p q a b b' : List ℕ) → p ≡ o ++ a → q ≡ p ++ b → b ≡ b' → q ≡ o ++ (a ++ b')
 after_as o p q a b b' e f k = after o p q a b' e (f ∙ ap (λ l. p ++ l) k)
 

@@ -72,6 +72,6 @@ extended_bytes v =
     ++ words_of (name_words 0 names)
     ++ table
 
--- an extended part is written where there is a name
+-- an extended part is written if there is a name
 abbrev pub canonical : EntryValue → List ℕ
 canonical v = plain_bytes v ++ (if length (extended_names v) == 0 then [] else extended_bytes v)

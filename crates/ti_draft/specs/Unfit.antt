@@ -50,7 +50,7 @@ has_bad_number v =
 abbrev pub is_too_long : EntryValue → Bool
 is_too_long v = nat_lt most_entry_bytes (length (canonical v))
 
--- why an entry is not written, where it is not
+-- why an entry is not written, if it is not
 abbrev pub encode_fault : EntryValue → Option EncodeFault
 encode_fault v =
     if has_bad_name v then Some faults.BadName

@@ -1,7 +1,7 @@
 //! Entries as bytes.
 //!
 //! There is one layout in which an entry is written, so that two drafts of equal entries give equal bytes. The faults
-//! are asked for first; then memory is taken once, for exactly the bytes, and each section is written in one pass.
+//! are looked for first; then memory is taken once, for exactly the bytes, and each section is written in one pass.
 
 ghost use Rattle.std.specs.Prelude.{◌≡◌, ◌++◌, ◌≤◌, ◌⊎◌, ◌==◌, false, length, map, Some, None, Err, IfOk, IfErr, OnOk};
 ghost use Rattle.ti_words.specs.Texts.{text_value};
@@ -24,25 +24,25 @@ use ti_words::{Text, magic_number};
 /// The bytes of the entry that a draft is (term(5)).
 ///
 /// Counts are those of the draft. The texts stand in their tables in order, each with its NUL, without sharing and
-/// without gaps. An extended part is written where there is an extended capability.
+/// without gaps. An extended part is written if there is an extended capability.
 ///
 /// # Errors
 ///
-/// The first that holds of: `BadName`, `NulInText`, `NumberOutOfRange`, `TooManyOrLong`, and then `Memory` where memory
+/// The first that holds of: `BadName`, `NulInText`, `NumberOutOfRange`, `TooManyOrLong`, and then `Memory` if memory
 /// was refused.
 pub fn encode<A: Allocator + Copy, D: Allocator>(
     alloc: A,
     draft: &Draft<'_, D>,
 ) -> Result<Vec<u8, A>, EncodeFault>
-    // What is answered is the canonical bytes, and they spell the draft's entry.
+    // What is returned is the canonical bytes, and they spell the draft's entry.
     ensures bytes { IfOk result (λ bytes. bytes.items ≡ canonical draft.now) }
     ensures spells { IfOk result (λ bytes. Spells bytes.items draft.now) }
-    // It is answered only where there is no fault.
+    // It is returned only if there is no fault.
     ensures fit { OnOk result (encode_fault draft.now ≡ None) }
-    // A fault is the first that there is, or out of memory where there is none.
+    // A fault is the first that there is, or out of memory if there is none.
     ensures refused { IfErr result (λ fault. (encode_fault draft.now ≡ Some fault)
         ⊎ ((encode_fault draft.now ≡ None) × (fault ≡ EncodeFault.Memory))) }
-    // Out of memory is answered only where no other fault holds.
+    // Out of memory is returned only if no other fault holds.
     ensures memory { result ≡ Err EncodeFault.Memory → encode_fault draft.now ≡ None }
 {
     let sizes = sizes_of(draft);

@@ -141,7 +141,7 @@ pub(crate) fn put_text_words<A: Allocator>(
     Ok(())
 }
 
-/// A text and its NUL, where it is there.
+/// A text and its NUL, if it is there.
 fn put_text<A: Allocator>(out: &mut Vec<u8, A>, text: Text<'_>) -> Result<(), AllocError>
     ensures { OnOk result (out.new.items ≡ out.old.items ++ text_bytes (text_value text.entry)) }
 {
@@ -166,7 +166,7 @@ pub(crate) fn put_texts<A: Allocator>(
     Ok(())
 }
 
-/// Where names are put, from a place on; answers the place after them.
+/// Where names are put, from a place on; returns the place after them.
 pub(crate) fn put_name_words<A: Allocator>(
     out: &mut Vec<u8, A>,
     from: usize,

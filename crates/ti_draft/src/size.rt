@@ -20,7 +20,7 @@ fn pad_len(count: usize) -> u64
     count as u64 % 2
 }
 
-/// The bytes of a text with its NUL, where it is there.
+/// The bytes of a text with its NUL, if it is there.
 fn text_len(text: Text<'_>) -> u64
     ensures { result ≡ length (text_bytes (text_value text.entry)) }
 {
@@ -126,7 +126,7 @@ pub(crate) fn sizes_of<A: Allocator>(draft: &Draft<'_, A>) -> Sizes
     }
 }
 
-/// All bytes, where the tables have these sizes.
+/// All bytes, if the tables have these sizes.
 fn whole_len<A: Allocator>(draft: &Draft<'_, A>, table: u64, extended_table: u64) -> u64
     requires table { table ≡ capped_count (length (texts_table draft.now.texts)) }
     requires extended_table { extended_table ≡ capped_count (extended_table_length draft.now) }

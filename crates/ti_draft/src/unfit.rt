@@ -1,6 +1,6 @@
 //! Why an entry is not written as bytes.
 //!
-//! Four faults are asked for in a fixed order, each by one look at what it speaks of. The words of the faults are their
+//! Four faults are looked for in a fixed order, each by one look at what it speaks of. The words of the faults are their
 //! names.
 
 ghost use Rattle.std.specs.Prelude.{◌≡◌, pos, map, length};

@@ -17,7 +17,7 @@ encoded_reads v none =
     let read = only bytes v (canonical_spells v none) in
     ap (λ (r : Verdict). answer_under (refusal_of (length bytes) r) (content bytes)) read.passes ∙ ap Ok (sym read.same)
 
--- so is what an encoder answers, where it answers with them
+-- so is what an encoder answers, if it answers with them
 pub read_of : {V E : Type 0} (r : Result V E) (bytes_of : V → List ℕ) (v : EntryValue) → IfOk r (λ w. bytes_of w ≡ canonical v) → OnOk r (encode_fault v ≡ None)
     → IfOk r (λ w. answer_for (bytes_of w) ≡ Ok v)
 read_of (Ok w) bytes_of v is none = ap answer_for is ∙ encoded_reads v none

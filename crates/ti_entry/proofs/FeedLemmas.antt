@@ -32,7 +32,7 @@ failure_refuses bytes r h = refuses (length bytes) (verdict (length bytes) (chec
 
 -- ---- the longest front on which no check has failed
 
--- the front of one byte more, where a check fails on it and where none does
+-- the front of one byte more, if a check fails on it and if none does
 one_less : (bytes : List ℕ) (n : ℕ) (r : Refused) → failure (take (suc n) bytes) ≡ Some r → length_before_failure bytes (suc n) ≡ length_before_failure bytes n
 one_less bytes n r some = ap (λ (o : Option Refused). cond (is_some o) (length_before_failure bytes n) (suc n)) some
 
@@ -40,7 +40,7 @@ all_of_it : (bytes : List ℕ) (n : ℕ) → failure (take n bytes) ≡ None →
 all_of_it bytes zero none = refl
 all_of_it bytes (suc n) none = ap (λ (o : Option Refused). cond (is_some o) (length_before_failure bytes n) (suc n)) none
 
--- what is kept where the last byte is the first with which a check fails
+-- what is kept if the last byte is the first with which a check fails
 pub front_before_failure-last : (kept : List ℕ) (b : ℕ) (r : Refused) → failure kept ≡ None → failure (kept ++ b ∷ []) ≡ Some r → front_before_failure (kept ++ b ∷ []) ≡ kept
 unfolding front_before_failure
 front_before_failure-last kept b r none some =
@@ -167,7 +167,7 @@ final_answer-of bytes =
 pub any_cutting_answers_alike : AnyCuttingAnswersAlike
 any_cutting_answers_alike pieces = ap final_answer (any_cutting pieces) ∙ final_answer-of (concat pieces)
 
--- where a piece is taken, so many bytes more are kept
+-- if a piece is taken, so many bytes more are kept
 pub reading_after-longer : (old new : Reading) (piece : List ℕ) → old.refusal ≡ None → new ≡ reading_after old piece → new.refusal ≡ None → length new.kept ≡ length old.kept + length piece
 reading_after-longer old new piece first e none =
     let m : new ≡ reading_of (old.kept ++ piece) = e ∙ reading_after-none old piece first in

@@ -43,14 +43,14 @@ FeedsFrom-next a b c old mid new piece first none before took e =
 
 -- ---- for callers that read from a source with a new reader
 
--- where no piece was refused, all that the source lost is kept
+-- if no piece was refused, all that the source lost is kept
 pub FeedsFrom-whole : (a b : Option (List ℕ)) (new : Reading) → FeedsFrom a b new_reading new → new.refusal ≡ None → Consumes a b new.kept
 FeedsFrom-whole a b new h none =
     let (bytes, taken, is_fed) = h in
     let kept : new.kept ≡ bytes = ap (λ r. r.kept) (is_fed ∙ reading_of-none bytes (sym (ap (λ r. r.refusal) is_fed) ∙ none)) in
     subst (Consumes a b) (sym kept) taken
 
--- where one was, all that the source lost is refused so
+-- if one was, all that the source lost is refused so
 pub FeedsFrom-refusal : (a b : Option (List ℕ)) (new : Reading) (r : Refused) → FeedsFrom a b new_reading new → new.refusal ≡ Some r
     → (bytes : List ℕ) × Consumes a b bytes × (answer_for bytes ≡ Err r)
 FeedsFrom-refusal a b new r h some =

@@ -27,7 +27,7 @@ waits_none_failed xs s w = ap failure_of w.decides
 pub ends_as : (xs : List ℕ) (s : Stage) (b : Bool) → Waits xs s → is_whole s.section ≡ b → verdict (length xs) (checks xs) ≡ Ends b
 ends_as xs s b w e = w.decides ∙ ap Ends e
 
--- the answer where bytes are missing
+-- the answer if bytes are missing
 pub truncated : (xs : List ℕ) → verdict (length xs) (checks xs) ≡ Ends false → refusal xs ≡ Some (refusal_at Truncated (length xs))
 truncated xs e = ap (refusal_of (length xs)) e
 

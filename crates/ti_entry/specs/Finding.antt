@@ -21,7 +21,7 @@ names_of v kinds.Text = map name_in v.extended_texts
 abbrev pub Lacks : List (List ℕ) → List ℕ → Type 0
 Lacks names name = AllByRecursion (λ n. n ≢ name) names
 
--- the least index at which a list has the name, or none where no item is the name
+-- the least index at which a list has the name, or none if no item is the name
 abbrev pub IsLeastIndex : List (List ℕ) → List ℕ → Option ℕ → Type 0
 IsLeastIndex names name None = Lacks names name
 IsLeastIndex names name (Some i) = (slice_get names i ≡ Some name) × Lacks (take i names) name
@@ -32,7 +32,7 @@ names_before v kinds.Flag i = take i (names_of v kinds.Flag)
 names_before v kinds.Number i = names_of v kinds.Flag ++ take i (names_of v kinds.Number)
 names_before v kinds.Text i = names_of v kinds.Flag ++ names_of v kinds.Number ++ take i (names_of v kinds.Text)
 
--- the kind and the index of the first capability with the name, or none where no capability has it
+-- the kind and the index of the first capability with the name, or none if no capability has it
 abbrev pub IsFirstNamed : EntryValue → List ℕ → Option (Kind × ℕ) → Type 0
 IsFirstNamed v name None = Lacks (extended_names v) name
 IsFirstNamed v name (Some at) = (slice_get (names_of v at.0) at.1 ≡ Some name) × Lacks (names_before v at.0 at.1) name

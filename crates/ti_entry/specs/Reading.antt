@@ -9,7 +9,7 @@ use Rattle.ti_words.specs.Spelling.{texts_size}
 use Rattle.ti_layout.specs.Refusal.{refusal, failure}
 use Rattle.ti_entry.specs.Content.{content}
 
--- the refusal where there is one, else a value
+-- the refusal if there is one, else a value
 abbrev pub answer_under : {A : Type 0} → Option Refused → A → Result A Refused
 answer_under None v = Ok v
 answer_under (Some refused) v = Err refused
@@ -59,7 +59,7 @@ reading_under (Some refused) r piece = r
 abbrev pub reading_after : Reading → List ℕ → Reading
 reading_after r piece = reading_under r.refusal r piece
 
--- what is answered where nothing more comes: the refusal that lasts, else what a read of the kept bytes answers
+-- what is answered if nothing more comes: the refusal that lasts, else what a read of the kept bytes answers
 abbrev pub final_answer_under : Option Refused → List ℕ → Result EntryValue Refused
 final_answer_under None kept = answer_for kept
 final_answer_under (Some refused) kept = Err refused
@@ -73,7 +73,7 @@ final_answer r = final_answer_under r.refusal r.kept
 abbrev pub FeedsFrom : Option (List ℕ) → Option (List ℕ) → Reading → Reading → Type 0
 FeedsFrom before after old new = (bytes : List ℕ) × Consumes before after bytes × (new ≡ reading_after old bytes)
 
--- the refusal that a read stopped at, where it stopped at one
+-- the refusal that a read stopped at, if it stopped at one
 abbrev pub refusal_after : ReadStop → Option Refused
 refusal_after (stop.Refused refused) = Some refused
 refusal_after stop.Io = None

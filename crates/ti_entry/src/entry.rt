@@ -63,11 +63,11 @@ pub fn read(bytes: &[u8]) -> Result<Entry<'_>, Refused>
     entry_at(bytes, &stage)
 }
 
-/// The entry that bytes spell, where their checks have come to a stage that waits for more.
+/// The entry that bytes spell, if their checks have come to a stage that waits for more.
 ///
 /// # Errors
 ///
-/// `Truncated` at the length of the bytes, where they end before an entry does.
+/// `Truncated` at the length of the bytes, if they end before an entry does.
 pub(crate) fn entry_at<'a>(bytes: &'a [u8], stage: &Stage) -> Result<Entry<'a>, Refused>
     requires stands { Stands bytes.now stage.now }
     requires waits { Waits bytes.now stage.now }
@@ -170,7 +170,7 @@ impl<'a> Entry<'a> {
         )
     }
 
-    /// Its extended part, with no capability where it has none.
+    /// Its extended part, with no capability if it has none.
     pub fn extended(&self) -> Extended<'a>
         ensures { result ≡ self.now }
     {

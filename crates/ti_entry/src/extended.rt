@@ -2,7 +2,7 @@
 //!
 //! Each accessor takes a few instructions and no memory, and looks once for the NUL of what it lends. A search goes over
 //! the names in their order and stops at the first that is equal; a name is compared in place, up to its first difference
-//! or one byte past the length that is asked for.
+//! or one byte past the length that is requested.
 
 ghost use Rattle.std.specs.Prelude.{◌≡◌, ◌+◌, ◌*◌, ◌<◌, ◌≤◌, ◌↔◌, map, length, get_or, slice_get, IsTrue};
 ghost use Rattle.std.specs.Option.{option_map};
@@ -20,7 +20,7 @@ use std::marker::Model;
 use ti_layout::{Part, count_at, text_from};
 use ti_words::{Flag, Kind, Number, Text};
 
-/// The extended part of an entry, with no capability where the entry has none. What it gives is lent from the bytes that
+/// The extended part of an entry, with no capability if the entry has none. What it gives is lent from the bytes that
 /// the entry was read from.
 #[derive(Debug, Drop)]
 pub struct Extended<'a> {

@@ -1,6 +1,6 @@
 //! Single items of a section, read at their places.
 //!
-//! Each function is total: what it answers of bytes that were not checked is of no use.
+//! Each function is total: what it returns for bytes that were not checked is of no use.
 
 ghost use Rattle.std.specs.Prelude.{◌≡◌, ◌+◌, ◌<◌, ◌≤◌, ◌↔◌, length, IfSome, IsTrue, pos};
 ghost use Rattle.ti_words.specs.Texts.{text_value};
@@ -36,7 +36,7 @@ pub(crate) fn text_at<'a>(table: &'a [u8], bytes: &[u8], place: usize) -> Text<'
     text_of(table, word_at(bytes, place))
 }
 
-/// The place in its table that an offset says; none where the offset is a mark.
+/// The place in its table that an offset says; none if the offset is a mark.
 pub(crate) fn place_at(bytes: &[u8], at: usize) -> Option<usize>
     requires { at + 2 ≤ length bytes.now }
     ensures { IfSome result (λ place. the_word_at 2 bytes.now at ≡ pos place) }

@@ -17,8 +17,8 @@ pub fn failure_refuses()
     ensures { FailureRefuses }
 {}
 
-/// However an input is cut into pieces, a new reader that is fed them answers at the end what [`read`](crate::read)
-/// answers of their joining: its `finish` is the `final_answer` of what it then holds.
+/// However an input is cut into pieces, a new reader that is fed them returns at the end what [`read`](crate::read)
+/// returns for their joining: its `finish` is the `final_answer` of what it then holds.
 pub fn any_cutting()
     ensures answer { AnyCuttingAnswersAlike }
     // It holds what the joining makes of it.

@@ -1,7 +1,7 @@
 //! Compiled terminfo entries (term(5)): bytes that spell an entry, as a view that lends its names and texts.
 //!
 //! `read` takes a slice, `EntryReader` takes pieces of any length, and `read_from` feeds one from a source. Bytes are
-//! accepted exactly where they spell an entry, else refused with the first check that does not hold and its place.
+//! accepted exactly if they spell an entry, else refused with the first check that does not hold and its place.
 //! Reading is linear in the bytes and takes no memory. `Entry::extended` shows the capabilities that an entry names itself.
 //!
 //! The checks are those of `ti_layout`, and `Entry::draft` makes a draft of `ti_draft`, which writes entries: what callers

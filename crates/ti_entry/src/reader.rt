@@ -65,7 +65,7 @@ impl EntryReader {
     /// # Errors
     ///
     /// The first check that fails on the bytes so far; those before the byte that decides it are kept. From then on this
-    /// refusal is answered to every piece, and nothing changes.
+    /// refusal is returned for every piece, and nothing changes.
     pub fn feed(&mut self, piece: &[u8]) -> Result<(), Refused>
         // What the piece makes of the reader.
         ensures fed { self.new ≡ reading_after self.old piece.now }
@@ -157,15 +157,15 @@ impl EntryReader {
     ///
     /// # Errors
     ///
-    /// The refusal of an earlier `feed`; else `Truncated` at the number of bytes kept, where these end before an entry does.
+    /// The refusal of an earlier `feed`; else `Truncated` at the number of bytes kept, if these end before an entry does.
     pub fn finish(&self) -> Result<Entry<'_>, Refused>
-        // The answer in one equation: after a refusal that refusal, else what `read` answers of the kept bytes.
+        // The answer in one equation: after a refusal that refusal, else what `read` returns of the kept bytes.
         ensures answer { result ≡ final_answer self.now }
 
         // After a refusal, that refusal.
         ensures lasting { (r : Refused) → self.now.refusal ≡ Some r → result ≡ Err r }
 
-        // Else what `read` answers of the kept bytes.
+        // Else what `read` returns of the kept bytes.
         ensures found { self.now.refusal ≡ None → IfOk result (λ e. Spells self.now.kept e) }
         ensures only { self.now.refusal ≡ None → (v : EntryValue) → Spells self.now.kept v
             → IsOkAnd result (λ e. e ≡ v) }

@@ -48,16 +48,16 @@ const PIECE: usize = 512;
 ///
 /// # Errors
 ///
-/// `Refused` where a `feed` refuses; where one has refused before, nothing is read. `Io` where a read fails, or one
+/// `Refused` if a `feed` refuses; if one has refused before, nothing is read. `Io` if a read fails, or one
 /// more than [`MOST_INTERRUPTIONS`] is interrupted; the bytes that came before are kept.
 pub fn read_from<R: Read>(reader: &mut EntryReader, source: &mut R) -> Result<(), ReadStop>
-    // All that the source lost was fed, in order, whatever is answered.
+    // All that the source lost was fed, in order, whatever is returned.
     ensures fed { FeedsFrom (R.remaining source.old)
         (R.remaining source.new) reader.old reader.new }
     // Ok leaves nothing unread, and no refusal.
     ensures end { OnOk result (IsAtEnd (R.remaining source.new)) }
     ensures accepted { OnOk result (reader.new.refusal ≡ None) }
-    // Refused answers the refusal that the reader then holds; after Io it holds none.
+    // Refused returns the refusal that the reader then holds; after Io it holds none.
     ensures refused { IfErr result (λ stop. reader.new.refusal ≡ refusal_after stop) }
     // After an earlier refusal nothing is read.
     ensures again { reader.old.refusal ≢ None → source.new ≡ source.old }

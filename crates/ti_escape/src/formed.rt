@@ -1,4 +1,4 @@
-//! A text in the form that is asked for, at the end of a vector.
+//! A text in the form that is requested, at the end of a vector.
 //!
 //! The vector grows at most once a call, so that many calls on one vector take linear time.
 

@@ -1,4 +1,4 @@
-//! What an expansion that succeeds answers.
+//! What an expansion that succeeds returns.
 
 /// How an expansion went: its counts are exact, those of the one path that the tests choose. C sees them in this order.
 #[repr(C)]

@@ -53,7 +53,7 @@ pub(crate) fn check(
 /// Each token is taken off the tape once. What the stack slice holds afterwards is left open.
 ///
 /// # Errors
-/// In this order, each only where it is so: `TextTooLong` with the lowest parameter whose text has more bytes than
+/// In this order, each only if it holds: `TextTooLong` with the lowest parameter whose text has more bytes than
 /// [`ti_base::MOST_TEXT_BYTES`], `StackTooSmall` with the depth, `OutTooSmall` with the bound. After each of them
 /// variables, stack and output are as before.
 pub fn expand_into<'a>(
@@ -64,7 +64,7 @@ pub fn expand_into<'a>(
     out: &mut [u8],
 ) -> Result<Run, ExpandFault>
     requires { tape.taken ≡ [] }
-    // each fault comes exactly where it is so, and changes nothing
+    // each fault comes exactly if it holds, and changes nothing
     ensures faults { (fault : ExpandFault) → (result ≡ Err fault)
         ↔ IsExpandFault tape.entry.left parameters.now (length stack.old) (length out.old) fault }
     ensures kept { OnErr result
@@ -84,14 +84,14 @@ pub fn expand_into<'a>(
 ///
 /// # Errors
 /// `TextTooLong` with the lowest parameter whose text has more bytes than [`ti_base::MOST_TEXT_BYTES`], or `Memory`
-/// where no text is too long and the growth was refused. After either the variables are as before.
+/// if no text is too long and the growth was refused. After either the variables are as before.
 pub fn expand<'a, A: Allocator + Copy>(
     alloc: A,
     capability: &Capability<'a>,
     parameters: &[Value<'a>; 9],
     vars: &mut Vars,
 ) -> Result<Vec<u8, A>, ExpandFault>
-    // a text is too long, exactly where it is so, or memory was refused, where none is
+    // a text is too long, exactly if one is, or memory was refused, if none is
     ensures too_long { (k : ℕ) → (result ≡ Err (ExpandFault.TextTooLong k))
         ↔ IsFirstTooLong parameters.now k }
     ensures memory { (result ≡ Err ExpandFault.Memory)

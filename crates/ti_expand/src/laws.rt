@@ -16,7 +16,7 @@ pub fn taken_path()
     ensures { TakenIsPath }
 {}
 
-/// The height that the table of pops and pushes tells after a token is the number of values on the stack, and so after
+/// The height that the table of pops and pushes gives after a token is the number of values on the stack, and so after
 /// each token of the path that the tests choose, which leads to the state that the tree means.
 pub fn stack_height()
     ensures token { TokenHeightIsStack }

@@ -69,7 +69,7 @@ impl<'p, 'a> Parameters<'p, 'a> {
     }
 }
 
-/// 1 more where the value is a number.
+/// 1 more if the value is a number.
 #[inline(always)]
 fn one_more(value: Value<'_>) -> Value<'_>
     ensures { result ≡ one_more value.entry }

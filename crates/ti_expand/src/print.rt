@@ -23,8 +23,8 @@ fn least_digits(precision: Option<u8>) -> usize
     }
 }
 
-/// The sign, or the prefix that `#` asks for. The digits of a number but 0 start with no `0`, so that the octal prefix
-/// is wanted exactly where no zeros stand before them.
+/// The sign, or the prefix that `#` requests. The digits of a number but 0 start with no `0`, so that the octal prefix
+/// is wanted exactly if no zeros stand before them.
 fn front_bytes(format: &Format, number: i32, zeros: usize) -> &'static [u8]
     ensures { result.now ≡ front_for format.now.conversion format.now number
         (after_zeros zeros (magnitude format.now.conversion number)) }

@@ -63,7 +63,7 @@ impl<'r, 'p, 'a> Steps<'r, 'p, 'a> {
     /// longest text among the parameters.
     ///
     /// # Errors
-    /// Those of [`crate::expand_into`], each exactly where it is so there.
+    /// Those of [`crate::expand_into`], each exactly if it holds there.
     pub fn new(
         capability: &Capability<'a>,
         parameters: &'p [Value<'a>; 9],
@@ -71,7 +71,7 @@ impl<'r, 'p, 'a> Steps<'r, 'p, 'a> {
         stack: &'r mut [Value<'a>],
         out: &'r mut [u8],
     ) -> Result<Self, ExpandFault>
-        // each fault comes exactly where it is so
+        // each fault comes exactly if it holds
         ensures faults { (fault : ExpandFault) → (result ≡ Err fault)
             ↔ IsExpandFault capability.now parameters.now (length stack.old) (length out.old) fault }
 
@@ -96,7 +96,7 @@ impl<'r, 'p, 'a> Steps<'r, 'p, 'a> {
 
     /// Takes the next token, or none at the end.
     pub fn step(&mut self) -> Option<Taken>
-        // none exactly where no bytes are left, and nothing changes
+        // none exactly if no bytes are left, and nothing changes
         ensures none { IfNone result ((self.new ≡ self.old) × (self.old.spot.left ≡ [])) }
 
         // else the first of the tokens that are left is taken, and the mode and the state move as in `steps`

@@ -1,4 +1,4 @@
-//! What a pass that goes a token at a time answers.
+//! What a pass that goes a token at a time returns.
 
 use ti_cap::Token;
 

@@ -44,7 +44,7 @@ fn has_text(parameters: &[Value<'_>; 9]) -> bool
     found
 }
 
-/// The length of the longest text among the parameters, 0 without texts, for which `bound` of a capability tells the bytes
+/// The length of the longest text among the parameters, 0 without texts, for which `bound` of a capability gives the bytes
 /// that an expansion needs.
 ///
 /// # Errors

@@ -5,6 +5,6 @@
 pub enum Value<'a> {
     /// A number.
     Num(i32),
-    /// The bytes of a text, at most [`ti_base::MOST_TEXT_BYTES`] of them where it is expanded.
+    /// The bytes of a text, at most [`ti_base::MOST_TEXT_BYTES`] of them if it is expanded.
     Text(&'a [u8]),
 }

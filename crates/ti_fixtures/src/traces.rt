@@ -140,7 +140,7 @@ depth: 0
 bound: 0
 ";
 
-/// A text of 17 bytes and a negative number on the stack, where the columns are full.
+/// A text of 17 bytes and a negative number on the stack, so that the columns are full.
 pub const TEXT_AND_NUMBER: &[u8] = b"place\ttoken          \trun    \tstack                  \twrote
     0\t%p1            \tran    \ts:0123456789abcdef,..17\t-
     3\t%p2            \tran    \ts:0123456789abcdef,..17,-5\t-

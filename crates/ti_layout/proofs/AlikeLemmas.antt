@@ -25,7 +25,7 @@ use Rattle.ti_layout.specs.Checks.{Check, check, Verdict, Passes, Ends, Fails, v
 use Rattle.ti_layout.specs.Refusal.{item_check, item_size, items_checks, part_of, closing_checks, text_checks, magic_check, size_check, named_check, extended_size_check}
 use Rattle.ti_layout.proofs.SectionReadLemmas.{each_item}
 
--- two checks that are one where their front is there
+-- two checks that are one if their front is there
 pub record Alike (len : ℕ) (c d : Check) : Type 0 where
   pub same_front : c.prefix ≡ d.prefix
   pub same : c.prefix ≤ len → c ≡ d

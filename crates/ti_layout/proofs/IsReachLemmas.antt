@@ -40,7 +40,7 @@ none_before table reach place e le other none =
     let no : eqb (get_or table place 0) 0 ≡ false = ne_eqb (get_or table place 0) 0 other in
     opened table place (omega arith) ∙ rw (no, at) refl
 
--- where there is none from a place on, there is none later
+-- if there is none from a place on, there is none later
 none_later : (table : List ℕ) (reach more : ℕ) → ends_in table reach ≡ false → ends_in table (reach + more) ≡ false
 none_later table reach zero none = let e : reach + 0 ≡ reach = omega arith in ap (ends_in table) e ∙ none
 none_later table reach (suc more) none =
@@ -124,7 +124,7 @@ named_by_reach bytes table base t (p ∷ ps) h =
     ∙ ap (λ cs. name_place_checks bytes table base t.end p ++ cs) (named_by_reach bytes table base t ps h)
     ∙ sym (flat_map-cons (name_place_checks bytes table base t.end) p ps)
 
--- where some name lies in the table, the base is exact
+-- if some name lies in the table, the base is exact
 pub exact : (bytes table : List ℕ) (base len end from count : ℕ) → 0 < count → Passes ≡ verdict len (all_name_place_checks bytes table base end (places from 2 count)) → min base (length table) ≡ base
 exact bytes table base len end from zero some h = absurd (omega arith)
 exact bytes table base len end from (suc count) some h =

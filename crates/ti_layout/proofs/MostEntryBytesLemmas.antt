@@ -78,6 +78,6 @@ at_end section xs ys it s x base k l full some short = absurd (by_left it.left r
         let lt : length xs < it.at + item_size it.item = subst (λ n. length xs < n) (item_next (record { section = section; items = it; standard = s; extended = x; base = base }) (omega arith)) short in
         let le = one_fits it.item it.at n (subst (λ n. it.at + item_size it.item * n ≤ most_entry_bytes) e k.within) in omega arith
 
--- where a full input waits, a byte more is refused
+-- if a full input waits, a byte more is refused
 pub then_refused : (xs : List ℕ) (s : Stage) (b : ℕ) (more : List ℕ) → Stands xs s → Waits xs s → length xs ≡ most_entry_bytes → verdict (length (xs ++ b ∷ more)) (checks (xs ++ b ∷ more)) ≡ Fails (refusal_at (fault_when_full s.section) (length xs))
 then_refused xs s b more h w full = at_end s.section xs (b ∷ more) s.items s.standard s.extended s.base (stands_now xs s h) (h (b ∷ more)) full (omega arith) w.short

@@ -32,7 +32,7 @@ names_decide bytes p end from reach base names e f n le b r =
     ∙ ap (λ m. all_name_reach_checks bytes t (places m 2 p.names)) n
     ∙ named_by_reach bytes table (base_of bytes p) t (places (names_from p) 2 p.names) is
 
--- where the names pass, the base is exact
+-- if the names pass, the base is exact
 pub base_exact : (bytes : List ℕ) (p : Part) (base len : ℕ) → 0 < p.names → end_of p ≤ length bytes → base ≡ min (base_of bytes p) p.table
     → Passes ≡ verdict len (all_name_place_checks bytes (table_of bytes p) (base_of bytes p) (end_of p) (places (names_from p) 2 p.names))
     → base ≡ base_of bytes p

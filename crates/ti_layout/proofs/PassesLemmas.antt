@@ -1,4 +1,4 @@
--- What holds where checks pass.
+-- What holds if checks pass.
 use Rattle.std.proofs.Common.{◌≡◌, ℕ, ◌≤◌, Bool, true, false, cond, List, ◌∷◌, inl, inr, refl, ◌∙◌}
 use Rattle.std.proofs.lemmas.Bool.{cases_lt, le-ltb, lt-ltb}
 use Rattle.ti_layout.specs.declared.fault.Refused.{Refused}

@@ -282,7 +282,7 @@ closing_early ExtendedHeader s x bytes rest lt = rw (lt-ltb (length bytes) (exte
 closing_early End s x bytes rest lt = rw (lt-ltb (length bytes) (end_of x + 1) lt) refl
 closing_early _ s x bytes rest lt = absurd (omega arith)
 
--- what is awaited where no item is left, and where one is
+-- what is awaited if no item is left, and if one is
 pub closing_next : (s : Stage) → s.items.left ≡ 0 → bytes_awaited s ≡ closing_end s.section s.standard s.extended
 closing_next s none = ap (λ b. cond b (s.items.at + item_size s.items.item) (closing_end s.section s.standard s.extended)) (le-ltb 0 s.items.left (omega arith))
 

@@ -45,7 +45,7 @@ same_place (x ∷ xs) (suc n) lt = one_more (not (is_nul x)) (position_or_len is
 pub until_near : (xs : List ℕ) (n : ℕ) → position_or_len is_nul (take n xs) < n → take (position_or_len is_nul (take n xs)) xs ≡ until_nul xs
 until_near xs n lt = ap (λ k. take k xs) (same_place xs n lt)
 
--- where a byte is marked as a NUL, the first NUL stands among the bytes
+-- if a byte is marked as a NUL, the first NUL stands among the bytes
 pub below_marked : (xs : List ℕ) → 0 < mask_l (map is_nul xs) → position_or_len is_nul xs < length xs
 below_marked [] marked = absurd (omega arith)
 below_marked (x ∷ xs) marked = marked_more (is_nul x) (mask_l (map is_nul xs)) (position_or_len is_nul xs) (length xs) marked (below_marked xs)

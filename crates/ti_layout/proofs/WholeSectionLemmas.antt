@@ -1,4 +1,4 @@
--- A section passes its checks where its greatest item, lifted, is small.
+-- A section passes its checks if its greatest item, lifted, is small.
 use Rattle.std.proofs.Common.{◌≡◌, ℕ, zero, suc, ◌+◌, ◌-◌, ◌*◌, ◌%◌, ◌<◌, ◌≤◌, true, not, List, map, length, get_or, inl, inr, refl, sym, ap, ◌∙◌, arith}
 use Rattle.std.proofs.lemmas.Bool.{cases_lt, le-ltb, lt-ltb, ne_eqb}
 use Rattle.std.specs.List.{flat_map}

@@ -11,7 +11,7 @@ use Rattle.ti_words.specs.Texts.{is_nul}
 use Rattle.ti_layout.specs.Table.{ends_in}
 
 -- one check: the length of the prefix that it reads, whether an entry may end before it, what must hold of it, and what is
--- answered where it does not hold
+-- answered if it does not hold
 pub record Check : Type 0 where
   pub prefix : ℕ
   pub may_end : Bool
@@ -22,7 +22,7 @@ pub record Check : Type 0 where
 abbrev pub check : ℕ → Bool → Fault → ℕ → Check
 check prefix holds fault place = record { prefix = prefix; may_end = false; holds = holds; fault = fault; place = place }
 
--- a check of what follows a whole entry: made where a byte does
+-- a check of what follows a whole entry: made if a byte does
 abbrev pub check_after : ℕ → Bool → Fault → Check
 check_after end holds fault = record { prefix = end + 1; may_end = true; holds = holds; fault = fault; place = end }
 
@@ -43,7 +43,7 @@ verdict len (c ∷ cs) =
     else (if c.holds then verdict len cs
     else Fails (refusal_at c.fault c.place))
 
--- the refusal: where the input ends before the prefix of a check, and no entry may, it is Truncated at its length
+-- the refusal: if the input ends before the prefix of a check, and no entry may, it is Truncated at its length
 abbrev pub refusal_of : ℕ → Verdict → Option Refused
 refusal_of len Passes = None
 refusal_of len (Ends may_end) = if may_end then None else Some (refusal_at Truncated len)
@@ -122,7 +122,7 @@ offset_check bytes table_size p = check (p + 2) (is_offset_below table_size (wor
 abbrev pub offset_checks : List ℕ → ℕ → ℕ → ℕ → List Check
 offset_checks bytes table_size from count = map (offset_check bytes table_size) (places from 2 count)
 
--- the table, which ends at end, is there: asked also where no offset is a place in it
+-- the table, which ends at end, is there: asked also if no offset is a place in it
 abbrev pub table_check : ℕ → Check
 table_check end = check end true Unterminated end
 

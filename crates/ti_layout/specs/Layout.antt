@@ -8,7 +8,7 @@ use Rattle.ti_layout.specs.declared.part.Part.{Part}
 use Rattle.ti_words.specs.Word.{unsigned_at}
 use Rattle.ti_words.specs.Widths.{number_size, magic_number}
 
--- the format whose magic number an input starts with, where it starts with one
+-- the format whose magic number an input starts with, if it starts with one
 abbrev pub width_of : List ℕ → Option Width
 width_of bytes =
     if unsigned_at 2 bytes 0 == magic_number Legacy then Some Legacy

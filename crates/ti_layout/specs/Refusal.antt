@@ -55,7 +55,7 @@ named_check s = check 12 (nat_le 14 s.flags_from) BadNames 12
 abbrev pub size_checks : Part → List Check
 size_checks s = size_check s ∷ named_check s ∷ []
 
--- where a byte follows the string table, there is room for the extended header
+-- if a byte follows the string table, there is room for the extended header
 abbrev pub room_check : Part → Check
 room_check s = check_after (end_of s) (nat_le (extended_from s + 10) most_entry_bytes) ExtendedTooBig
 
@@ -128,7 +128,7 @@ sections = standard_sections ++ (TableEnd ∷ (extended_sections ++ (End ∷ [])
 abbrev pub checks : List ℕ → List Check
 checks bytes = flat_map (section_checks bytes) sections
 
--- why the bytes are refused, where they are
+-- why the bytes are refused, if they are
 abbrev pub refusal : List ℕ → Option Refused
 refusal bytes = refusal_of (length bytes) (verdict (length bytes) (checks bytes))
 

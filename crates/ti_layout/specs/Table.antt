@@ -28,7 +28,7 @@ text_of_word table (negsuc (suc n)) = CancelledText
 abbrev pub table_of : List ℕ → Part → List ℕ
 table_of bytes p = take p.table (drop (table_from p) bytes)
 
--- the length of the text at an offset and its NUL, where the text is there
+-- the length of the text at an offset and its NUL, if the text is there
 abbrev pub size_at : List ℕ → ℤ → ℕ
 size_at table (pos place) = length (text_from table place) + 1
 size_at table (negsuc n) = 0

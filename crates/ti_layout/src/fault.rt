@@ -21,7 +21,7 @@ pub enum Fault {
     HeaderTooBig,
     /// The names are empty, hold a NUL or do not end with one.
     BadNames,
-    /// A byte stands for no flag.
+    /// A byte is no flag.
     BadFlag,
     /// The byte after an odd count is not 0.
     BadPad,

@@ -1,6 +1,6 @@
 //! Where the sections of a compiled terminfo entry lie (term(5)), and the one checker of them.
 //!
-//! [`Stage`] makes the checks of an entry in their order, over as many bytes as have come, and answers the first that does
+//! [`Stage`] makes the checks of an entry in their order, over as many bytes as have come, and returns the first that does
 //! not hold. Its two parts say where the sections lie, and [`text_from`] lends a text of a table. It is linear in the bytes
 //! and takes no memory.
 #![tactic(auto)]

@@ -30,7 +30,7 @@ pub struct Stage {
     pub(crate) base: usize,
 }
 
-/// The standard part, where the checks of the sizes in its header pass.
+/// The standard part, if the checks of the sizes in its header pass.
 fn sized_standard(bytes: &[u8]) -> Result<Part, Refused>
     requires { 12 ≤ length bytes.now }
     ensures verdict { result_verdict result
@@ -42,7 +42,7 @@ fn sized_standard(bytes: &[u8]) -> Result<Part, Refused>
     Ok(standard)
 }
 
-/// The extended part, where the last word of its header and the sizes in it pass.
+/// The extended part, if the last word of its header and the sizes in it pass.
 fn sized_extended(bytes: &[u8], standard: &Part) -> Result<Part, Refused>
     requires fits { end_of standard.now ≤ most_entry_bytes }
     requires there { extended_from standard.now + 10 ≤ length bytes.now }

@@ -92,7 +92,7 @@ fn until_far_nul(bytes: &[u8]) -> &[u8]
     }
 }
 
-/// The size of the text at an offset and its NUL, where it is there.
+/// The size of the text at an offset and its NUL, if it is there.
 pub(crate) fn size_at(bytes: &[u8], table: &[u8], place: usize) -> usize
     requires room { place + 2 ≤ length bytes.now }
     requires small { length table.now ≤ most_entry_bytes }

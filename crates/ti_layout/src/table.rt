@@ -1,7 +1,7 @@
 //! The texts and names of a string table, checked.
 //!
 //! The base of the names is summed in one pass that stops at the size of the table: from there on no name can lie in it.
-//! So it is linear also where texts share their bytes.
+//! So it is linear even if texts share their bytes.
 
 ghost use Rattle.std.specs.Prelude.{◌≡◌, ◌+◌, ◌*◌, ◌<◌, ◌≤◌, ◌^◌, length, min, IfOk, OnOk};
 ghost use Rattle.ti_base.specs.Limits.{most_entry_bytes};
@@ -15,7 +15,7 @@ use crate::fault::Refused;
 use crate::part::Part;
 use crate::string_table::size_at;
 
-/// The sum of the sizes of the texts that are there, or the size of the table where that is less.
+/// The sum of the sizes of the texts that are there, or the size of the table if that is less.
 fn base_of(bytes: &[u8], table: &[u8], from: usize, count: usize) -> usize
     requires small { length table.now ≤ most_entry_bytes }
     requires there { from + 2 * count ≤ length bytes.now }
@@ -55,7 +55,7 @@ fn check_names_from(bytes: &[u8], part: &Part, base: usize) -> Result<(), Refuse
     Ok(())
 }
 
-/// The base of the names if there are any, where each text and each name has its NUL in the table.
+/// The base of the names if there are any, once each text and each name has its NUL in the table.
 #[tactic(auto, using(crate::proofs::VerdictLemmas::verdict_append))]
 pub(crate) fn check_texts(bytes: &[u8], part: &Part) -> Result<usize, Refused>
     requires fits { end_of part.now ≤ most_entry_bytes }

@@ -1,4 +1,4 @@
--- What a walk of `clap` keeps of the rows that it finds, where it finds no fault in the words.
+-- What a walk of `clap` keeps of the rows that it finds, if it finds no fault in the words.
 use Rattle.std.proofs.Common.{◌≡◌, ◌&&◌, ◌++◌, ℕ, Bool, true, false, zero, suc, length, drop, refl, true≢false, List, [], ◌∷◌, Option, Some, None, is_some, cond, IfSome}
 use Rattle.std.specs.Prelude.{encode_utf8, slice_get}
 use Rattle.std.specs.List.{find, fold}

@@ -110,7 +110,7 @@ number_or default text =
     && nat_lt (digits_value 10 ds) (2 ^ 32)
     then digits_value 10 ds else default
 
--- the number of an option, `default` where it was not given
+-- the number of an option, `default` if it was not given
 abbrev pub number_in : Text → ℕ → List Row → ℕ
 number_in id default rows = option_map_or (number_or default) (one_of id rows) default
 
@@ -163,7 +163,7 @@ line_in found = option_and_then (λ p. line_by p.0 p.1) found
 
 -- ---- which words are a command line
 
--- the kinds of fault, or of help, that `clap` finds in the words: none where it reads them
+-- the kinds of fault, or of help, that `clap` finds in the words: none if it reads them
 abbrev pub faults : List Text → Kinds
 faults words = fault_of ti_app words
 

@@ -19,7 +19,7 @@ pub fn output_asked(hex: bool, escape: bool) -> Output
     }
 }
 
-/// What `--all-names` asks for.
+/// What `--all-names` requests.
 pub fn names_asked(all_names: bool) -> NameTable
     ensures { result ≡ the_names_asked all_names }
 {
@@ -30,7 +30,7 @@ pub fn names_asked(all_names: bool) -> NameTable
     }
 }
 
-/// What `--escape` asks for of the texts of a listing, or of a trace.
+/// What `--escape` requests of the texts of a listing, or of a trace.
 pub fn form_asked(escape: bool) -> Form
     ensures { result ≡ the_form_asked escape }
 {
@@ -61,7 +61,7 @@ pub fn look_asked(all_names: bool, escape: bool, terminal: bool) -> Look
     }
 }
 
-/// The width that a flag of `convert` asks for.
+/// The width that a flag of `convert` requests.
 pub fn width_asked(wide: bool, narrow: bool) -> Option<Width>
     ensures { result ≡ the_width_asked wide narrow }
 {

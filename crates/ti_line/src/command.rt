@@ -225,7 +225,7 @@ fn start<'a>(alloc: Global) -> Command<'a>
         .after_help(STATUSES)
 }
 
-/// A program with one subcommand more, where that could be made.
+/// A program with one subcommand more, if that could be made.
 fn with_made<'a>(
     program: Command<'a>,
     made: Result<Command<'a>, AllocError>,

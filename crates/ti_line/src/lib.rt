@@ -2,7 +2,7 @@
 //!
 //! [`read_line`] reads the words by `clap`. What the words mean is defined in `specs/CommandLine.antt`: the definition
 //! of the command that is handed to `clap`, and the value of what `clap` finds; and in `specs/Requests.antt`: what that
-//! asks for, or why it can't be done. Nothing here reads or writes.
+//! requests, or why it can't be done. Nothing here reads or writes.
 //!
 //! | Command | Value |
 //! |---|---|

@@ -17,7 +17,7 @@ use clap::ArgMatches;
 use ti_expand::Value;
 use ti_pad::Padding;
 
-/// The parameters where a subcommand takes none.
+/// The parameters if a subcommand takes none.
 const NO_PARAMETERS: [Value<'static>; 9] = [Value::Num(0); 9];
 
 /// Whether an option without a value was given.
@@ -50,7 +50,7 @@ fn parameters<'a>(given: &ArgMatches<'a>) -> Result<[Value<'a>; 9], WordFault>
     read_params(given.get_strs("PARAM").unwrap_or(&[]))
 }
 
-/// What `cap` asks for.
+/// What `cap` requests.
 fn cap<'a>(given: &ArgMatches<'a>) -> Result<Request<'a>, LineFault>
     ensures { (terminal : Bool) → let rows = given_rows given.now in
         IsAnswered terminal
@@ -66,7 +66,7 @@ fn cap<'a>(given: &ArgMatches<'a>) -> Result<Request<'a>, LineFault>
     })
 }
 
-/// What `trace` asks for.
+/// What `trace` requests.
 fn trace<'a>(given: &ArgMatches<'a>) -> Result<Request<'a>, LineFault>
     ensures { (terminal : Bool) → let rows = given_rows given.now in
         IsAnswered terminal (Trace (flag_in (codes "escape") rows) (params_in rows)) result }
@@ -92,7 +92,7 @@ fn padding(given: &ArgMatches<'_>) -> Padding
     }
 }
 
-/// What `expand` asks for of a name.
+/// What `expand` requests of a name.
 fn expand<'a>(given: &ArgMatches<'a>, name: &'a str) -> Result<Request<'a>, LineFault>
     requires within { IsSome (expand_by (given_rows given.now) name.now) }
     ensures { (terminal : Bool) → IfSome (expand_by (given_rows given.now) name.entry.now)
@@ -113,7 +113,7 @@ fn expand<'a>(given: &ArgMatches<'a>, name: &'a str) -> Result<Request<'a>, Line
     })
 }
 
-/// What `convert` asks for.
+/// What `convert` requests.
 fn convert<'a>(given: &ArgMatches<'a>) -> Result<Request<'a>, LineFault>
     ensures { (terminal : Bool) → let rows = given_rows given.now in
         IsAnswered terminal (Convert (flag_in (codes "wide") rows) (flag_in (codes "narrow") rows))

@@ -7,7 +7,7 @@ use crate::message::Message;
 use crate::params::WordFault;
 use thiserror::Error;
 
-/// Why what a line asks for can't be done.
+/// Why what a line requests can't be done.
 #[derive(Clone, Copy, Debug, PartialEq, Eq, Error)]
 pub enum LineFault {
     /// `cap` is to write its output in both forms.
@@ -36,13 +36,13 @@ impl From<WordFault> for LineFault {
 /// [`NoLine::Refused`].
 #[derive(Debug, Drop, Error)]
 pub enum NoLine {
-    /// Help or the version was asked for. The text goes where results go, and the status is 0.
+    /// Help or the version was requested. The text goes where results go, and the status is 0.
     #[error("{0}")]
     Help(Message),
     /// The words are no command line. The text goes where faults go, and the status is 2.
     #[error("{0}")]
     Refused(Message),
-    /// The words are a line, and what it asks for can't be done. The status is 2.
+    /// The words are a line, and what it requests can't be done. The status is 2.
     #[error("{0}")]
     Fault(LineFault),
     /// Out of memory.

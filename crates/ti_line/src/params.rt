@@ -18,7 +18,7 @@ pub enum WordFault {
     /// There are more than nine words.
     #[error("TooMany")]
     TooMany,
-    /// A word, counted from 1, stands for no value; each word before it does.
+    /// A word, counted from 1, has no value; each word before it has.
     #[error("BadWord {which}")]
     BadWord {
         /// Which word it is.
@@ -26,7 +26,7 @@ pub enum WordFault {
     },
 }
 
-/// The number that an optional `-` and decimal digits stand for, where it has 32 bits.
+/// The number that an optional `-` and decimal digits mean, if it has 32 bits.
 fn number(text: &str) -> Option<i32>
     ensures some { IfSome result (λ z. IsNumber text.now z) }
     ensures none { IfNone result ((z : ℤ) → ¬ IsNumber text.now z) }
@@ -37,7 +37,7 @@ fn number(text: &str) -> Option<i32>
     text.parse::<i32>().ok()
 }
 
-/// What a word stands for.
+/// What a word means.
 fn value_of(word: &str) -> Option<Value<'_>>
     ensures some { IfSome result (λ value. IsParam word.now value) }
     ensures none { IfNone result ((value : Value) → ¬ IsParam word.now value) }
@@ -54,7 +54,7 @@ fn value_of(word: &str) -> Option<Value<'_>>
     }
 }
 
-/// Puts what the words stand for into the first places.
+/// Puts what the words mean into the first places.
 fn read_into<'a>(words: &[&'a str], values: &mut [Value<'a>; COUNT]) -> Result<(), WordFault>
     requires { AllByRecursion IsZero values.old }
     ensures values { OnOk result (AreParams (texts_of words.now) values.new) }
@@ -84,10 +84,10 @@ fn with<T: Drop, E>(done: Result<(), E>, value: T) -> Result<T, E>
     }
 }
 
-/// The parameters that words stand for: `n:` and a decimal number of 32 bits with a `-` before it or none, or `s:` and a
+/// The parameters that words mean: `n:` and a decimal number of 32 bits with a `-` before it or none, or `s:` and a
 /// text. Those that are missing are the number 0.
 ///
-/// More than nine words are refused before anything else, and else the first word that stands for nothing.
+/// More than nine words are refused before anything else, and else the first word that has no value.
 pub fn read_params<'a>(words: &[&'a str]) -> Result<[Value<'a>; 9], WordFault>
     ensures values { IfOk result (λ values. AreParams (texts_of words.now) values) }
     ensures many { (result ≡ Err WordFault.TooMany) ↔ (9 < length words.now) }

@@ -18,7 +18,7 @@ use clap::Error;
 use clap::error::ErrorKind;
 use std::alloc::{AllocError, Global};
 
-/// Reads the words by `clap`. Words in which it finds no fault make a line, which asks for something or has a fault.
+/// Reads the words by `clap`. Words in which it finds no fault make a line, which requests something or has a fault.
 fn read_words<'a>(
     alloc: Global,
     terminal: bool,
@@ -43,7 +43,7 @@ fn message_on<'a>(alloc: Global, words: &'a [&'a str], error: &Error) -> Result<
     Message::new(alloc, text)
 }
 
-/// What an error of `clap` tells of the words.
+/// What an error of `clap` says of the words.
 fn no_line<'a>(alloc: Global, words: &'a [&'a str], error: &Error) -> NoLine
     ensures tells { TellsOf (kind_of error.now) result }
     ensures says { HasText result }
@@ -67,8 +67,8 @@ fn no_line<'a>(alloc: Global, words: &'a [&'a str], error: &Error) -> NoLine
 ///
 /// # Errors
 ///
-/// [`NoLine::Help`] if help or the version is asked for, [`NoLine::Refused`] if the words are no command line,
-/// [`NoLine::Fault`] if the line asks for both forms or both widths, or its parameters are none, and [`NoLine::Memory`] if
+/// [`NoLine::Help`] if help or the version is requested, [`NoLine::Refused`] if the words are no command line,
+/// [`NoLine::Fault`] if the line requests both forms or both widths, or its parameters are none, and [`NoLine::Memory`] if
 /// a growth was refused. A message shows no byte of a word but printable ASCII characters: the others are in the notation
 /// of terminfo(5).
 pub fn read_line<'a>(

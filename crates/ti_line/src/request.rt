@@ -1,4 +1,4 @@
-//! What a command line asks for, all of it valid.
+//! What a command line requests, all of it valid.
 
 use crate::look::{Look, Naming, Output};
 use ti_escape::Form;
@@ -6,16 +6,16 @@ use ti_expand::Value;
 use ti_pad::Padding;
 use ti_words::{NameTable, Width};
 
-/// What a command line asks for.
+/// What a command line requests.
 #[derive(Debug, Drop)]
 pub struct Request<'a> {
-    /// The parameters of the capability or of the text; all are the number 0 where none are given or taken.
+    /// The parameters of the capability or of the text; all are the number 0 if none are given or taken.
     pub parameters: [Value<'a>; 9],
     /// What is done.
     pub asked: Asked<'a>,
 }
 
-/// What is asked of standard input.
+/// What is requested of standard input.
 #[derive(Debug, Drop)]
 pub enum Asked<'a> {
     /// Something of standard input as one capability.
@@ -24,7 +24,7 @@ pub enum Asked<'a> {
     Entry(OfEntry<'a>),
 }
 
-/// What is asked of a capability.
+/// What is requested of a capability.
 #[derive(Clone, Copy, Debug, PartialEq, Eq)]
 pub enum OfCapability {
     /// To expand it.
@@ -33,7 +33,7 @@ pub enum OfCapability {
     Trace(Form),
 }
 
-/// What is asked of an entry.
+/// What is requested of an entry.
 #[derive(Debug, Drop)]
 pub enum OfEntry<'a> {
     /// To list it.

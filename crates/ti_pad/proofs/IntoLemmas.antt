@@ -21,7 +21,7 @@ pub kept-later : (out new before run : List ℕ) (at end : ℕ) → drop at out 
 kept-later out new before run at end kept is put =
     rw is (rw is at put ∙ sym (drop-drop (length run) at out) ∙ ap (drop (length run)) kept ∙ drop-drop (length run) at before)
 
--- where no text is left, all of it is put
+-- if no text is left, all of it is put
 pub put-whole : (rest out before text : List ℕ) (s : Setting) (at : ℕ) → length rest ≡ 0 → at ≤ length out → take at out ++ padded_text rest s ≡ text → drop at out ≡ drop at before
     → out ≡ text ++ drop (length text) before
 put-whole rest out before text s at none within made kept =

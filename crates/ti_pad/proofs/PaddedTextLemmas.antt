@@ -63,7 +63,7 @@ pub padded_text_none : (xs out all : List ℕ) (s : Setting) → length xs ≡ 0
 padded_text_none [] out all s e made = sym (append-nil out) ∙ rw padded_text-nil at made
 padded_text_none (x ∷ xs) out all s e made = absurd (omega arith)
 
--- the bytes that were taken are all where no text is left
+-- the bytes that were taken are all if no text is left
 pub Appends-whole : (a b : Option (List ℕ)) (text : List ℕ) (gone : ℕ) (rest : List ℕ) (s : Setting) → length rest ≡ 0 → drop gone text ≡ padded_text rest s
     → Appends a b (take gone text) → Appends a b text
 Appends-whole a b text gone [] s e left taken =

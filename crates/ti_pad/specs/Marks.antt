@@ -6,7 +6,7 @@ use Rattle.std.specs.Str.{bytes_eq}
 
 -- ---- the grammar
 
--- the parts of a mark: whole milliseconds, decimals where it has a point, flags
+-- the parts of a mark: whole milliseconds, decimals if it has a point, flags
 pub record Mark : Type 0 where
   pub whole : List ℕ
   pub decimals : Option (List ℕ)
@@ -47,7 +47,7 @@ pub record StandsAtFront (m : Mark) (bytes : List ℕ) : Type 0 where
   pub rest : List ℕ
   pub bytes_are : bytes ≡ mark_bytes m ++ rest
 
--- ---- the mark at the front of the bytes, where there is one
+-- ---- the mark at the front of the bytes, if there is one
 
 abbrev pub starts_with : List ℕ → List ℕ → Bool
 starts_with bytes front = bytes_eq (take (length front) bytes) front

@@ -13,7 +13,7 @@ tenths m = 10 * digits_value 10 m.whole + digits_value 10 (take 1 (unwrap_or m.d
 abbrev pub has_flag : ℕ → Mark → Bool
 has_flag flag m = list_any (λ b. b == flag) m.flags
 
--- the affected lines where the mark has a `*`
+-- the affected lines if the mark has a `*`
 abbrev pub lines_of : Setting → Mark → ℕ
 lines_of s m = if has_flag (letter (codes "*")) m then s.lines else 1
 

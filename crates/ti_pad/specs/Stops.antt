@@ -1,4 +1,4 @@
--- What a writer took where a padded text was not written to its end.
+-- What a writer took if a padded text was not written to its end.
 use Rattle.std.specs.Prelude.{◌≡◌, ◌<◌, ℕ, List, Option, length, take}
 use Rattle.std.specs.Io.KnownBytes.{Appends, Keeps}
 use Rattle.ti_pad.specs.declared.writing.PadStop.{PadStop}

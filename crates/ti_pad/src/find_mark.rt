@@ -31,7 +31,7 @@ fn digits(bytes: &[u8]) -> &[u8]
     &bytes[..digit_count(bytes)]
 }
 
-/// The decimals at the front, where a point is there.
+/// The decimals at the front, if a point is there.
 fn decimals(bytes: &[u8]) -> Option<&[u8]>
     ensures value { decimals_of result ≡ decimals_at bytes.now }
     ensures digits { AreDecimals result }
@@ -40,7 +40,7 @@ fn decimals(bytes: &[u8]) -> Option<&[u8]>
     Some(digits(rest))
 }
 
-/// The flags at the front, where a `>` follows them.
+/// The flags at the front, if a `>` follows them.
 fn flags(bytes: &[u8]) -> Option<&'static [u8]>
     ensures { option_map (λ f. f.now) result ≡ flags_at bytes.now }
 {
@@ -59,7 +59,7 @@ fn flags(bytes: &[u8]) -> Option<&'static [u8]>
     }
 }
 
-/// The mark of these digits, where flags and a `>` stand after them.
+/// The mark of these digits, if flags and a `>` stand after them.
 fn mark_after_number<'a>(
     whole: &'a [u8],
     decimals: Option<&'a [u8]>,

@@ -13,7 +13,7 @@ pub fn pieces_join()
     ensures { PiecesJoin }
 {}
 
-/// The count of pad bytes is the smallest that takes the time of the mark, or none where the mark is passed over.
+/// The count of pad bytes is the smallest that takes the time of the mark, or none if the mark is passed over.
 pub fn count_is_least()
     ensures passed_over { PassesOver }
     ensures enough { CountsEnough }

@@ -5,7 +5,7 @@ ghost use Rattle.std.specs.Char.{is_ascii_digit};
 ghost use Rattle.std.specs.List.{list_all};
 ghost use Rattle.ti_pad.specs.inner.Decimals.{AreDecimals};
 
-/// A mark: its whole milliseconds, its decimals where it has a point, and its flags.
+/// A mark: its whole milliseconds, its decimals if it has a point, and its flags.
 #[derive(Clone, Copy)]
 pub struct Mark<'a> {
     pub whole: &'a [u8],

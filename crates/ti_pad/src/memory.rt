@@ -33,8 +33,8 @@ impl From<AllocError> for PadFault {
     }
 }
 
-/// The padded text. [`PadFault::TooMuch`] is answered exactly where it has more than [`MOST_PADDED_BYTES`], and that
-/// memory was refused only where it has no more.
+/// The padded text. [`PadFault::TooMuch`] is returned exactly if it has more than [`MOST_PADDED_BYTES`], and that
+/// memory was refused only if it has no more.
 pub fn pad<A: Allocator + Copy>(
     alloc: A,
     bytes: &[u8],

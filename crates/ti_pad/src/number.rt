@@ -5,7 +5,7 @@ ghost use Rattle.std.specs.List.{list_all};
 ghost use Rattle.std.specs.Char.{is_ascii_digit};
 ghost use Rattle.std.specs.Str.Parse.{digits_value};
 
-/// The number that at most five digits stand for.
+/// The number that at most five digits mean.
 pub fn number(digits: &[u8]) -> u32
     requires few { length digits.now ≤ 5 }
     requires digits { list_all is_ascii_digit digits.now ≡ true }
@@ -19,7 +19,7 @@ pub fn number(digits: &[u8]) -> u32
     value
 }
 
-/// The first digit, or 0 where there is none.
+/// The first digit, or 0 if there is none.
 pub fn first_digit(digits: &[u8]) -> u32
     requires { list_all is_ascii_digit digits.now ≡ true }
     ensures value { result ≡ digits_value 10 (take 1 digits.now) }

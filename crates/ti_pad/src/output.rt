@@ -12,7 +12,7 @@ use ti_base::MOST_INTERRUPTIONS;
 /// Writes the bytes to the end. An error is the number of bytes that the writer took, which is less than all.
 ///
 /// Interrupted writes are tried again, at most [`MOST_INTERRUPTIONS`] of them; the next one, any other error, and a
-/// write that takes no byte stop it. Nothing is written where there is no byte, and nothing is flushed.
+/// write that takes no byte stop it. Nothing is written if there is no byte, and nothing is flushed.
 pub fn write_out<W: Write>(writer: &mut W, bytes: &[u8]) -> Result<(), u64>
     ensures written { OnOk result
         (Appends (W.contents writer.old) (W.contents writer.new) bytes.now) }

@@ -1,4 +1,4 @@
-//! What padding depends on, and how many pad bytes stand for a mark.
+//! What padding depends on, and how many pad bytes a mark becomes.
 
 ghost use Rattle.std.specs.Prelude.{◌≡◌, ◌≤◌, ◌↔◌, ◌+◌, ◌*◌, ◌/◌, IsSome, IfSome};
 ghost use Rattle.ti_base.specs.Limits.{greatest_rate, most_lines};
@@ -40,7 +40,7 @@ impl Model for Padding {
 }
 
 impl Padding {
-    /// The padding for a line of this rate. `None` where the rate is above [`GREATEST_RATE`] or the lines are above
+    /// The padding for a line of this rate. `None` if the rate is above [`GREATEST_RATE`] or the lines are above
     /// [`MOST_LINES`].
     pub fn new(rate: u32, lines: u32, xon: bool, pad: u8) -> Option<Padding>
         ensures within { IsSome result ↔ ((rate ≤ greatest_rate) × (lines ≤ most_lines)) }
@@ -65,7 +65,7 @@ impl Padding {
         self.pad
     }
 
-    /// How many pad bytes stand for a mark.
+    /// How many pad bytes a mark becomes.
     pub(crate) fn count(&self, mark: &Mark<'_>) -> u64
         ensures value { result ≡ count_of self.now (mark_of mark.now) }
         ensures most { result ≤ MOST_COUNT }

@@ -1,6 +1,6 @@
 //! Padding a text into a slice of the caller.
 //!
-//! Bytes that stand for themselves are copied as they lie in the text, the pad bytes of a mark are filled in at once. No
+//! Bytes that mean themselves are copied as they lie in the text, the pad bytes of a mark are filled in at once. No
 //! memory is taken.
 
 ghost use Rattle.std.specs.Prelude.{◌≡◌, ◌≤◌, ◌+◌, ◌++◌, ◌↔◌, Err, length, take, drop, IfOk, OnErr};
@@ -28,8 +28,8 @@ pub enum PadIntoFault {
 /// Pads a text into the slice, and returns the length of the padded text. The bytes of the slice after it are as before.
 ///
 /// # Errors
-/// In this order, each only where it is so: [`PadIntoFault::TooMuch`] where the padded text has more than
-/// [`MOST_PADDED_BYTES`], [`PadIntoFault::OutTooSmall`] where it has more than the slice. After either the slice is as
+/// In this order, each only if it holds: [`PadIntoFault::TooMuch`] if the padded text has more than
+/// [`MOST_PADDED_BYTES`], [`PadIntoFault::OutTooSmall`] if it has more than the slice. After either the slice is as
 /// before.
 pub fn pad_into(bytes: &[u8], padding: &Padding, out: &mut [u8]) -> Result<usize, PadIntoFault>
     ensures faults { (fault : PadIntoFault) → (result ≡ Err fault)

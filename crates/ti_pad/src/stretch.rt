@@ -1,4 +1,4 @@
-//! A text in stretches: bytes that stand for themselves, and pad bytes.
+//! A text in stretches: bytes that mean themselves, and pad bytes.
 //!
 //! The next stretch is found by one look at its bytes. No memory is taken.
 
@@ -10,7 +10,7 @@ ghost use Rattle.ti_pad.specs.inner.Stretch.{is_plain, stretch_bytes};
 use crate::find_mark::mark_at_front;
 use crate::padding::{MOST_COUNT, Padding};
 
-/// Bytes that stand for themselves, or this many pad bytes.
+/// Bytes that mean themselves, or this many pad bytes.
 #[derive(Clone, Copy)]
 pub enum Stretch<'a> {
     Literal(&'a [u8]),

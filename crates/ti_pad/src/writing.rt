@@ -1,6 +1,6 @@
 //! Writing a padded text.
 //!
-//! Bytes that stand for themselves are written as they lie in the text, pad bytes in blocks. No memory is taken.
+//! Bytes that mean themselves are written as they lie in the text, pad bytes in blocks. No memory is taken.
 
 ghost use Rattle.std.specs.Prelude.{◌≡◌, ◌≤◌, ◌<◌, ◌↔◌, [], length, replicate, Err, OnOk, IfErr};
 ghost use Rattle.std.specs.Io.KnownBytes.{Appends};
@@ -34,9 +34,9 @@ pub enum PadStop {
 
 /// Writes the padded text to its end.
 ///
-/// [`PadStop::TooMuch`] is answered exactly where it has more than [`MOST_PADDED_BYTES`], before anything is written.
+/// [`PadStop::TooMuch`] is returned exactly if it has more than [`MOST_PADDED_BYTES`], before anything is written.
 /// Interrupted writes are tried again, at most [`MOST_INTERRUPTIONS`] of them; the next one, any other error, and a
-/// write that takes no byte stop it. Nothing is written where the padded text has no byte, and nothing is flushed.
+/// write that takes no byte stop it. Nothing is written if the padded text has no byte, and nothing is flushed.
 pub fn write_padded<W: Write>(
     writer: &mut W,
     bytes: &[u8],

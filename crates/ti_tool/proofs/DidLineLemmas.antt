@@ -12,7 +12,7 @@ use Rattle.ti_tool.specs.FaultLines.{Told}
 use Rattle.ti_tool.specs.Calls.{IsFailedWrite}
 use Rattle.ti_tool.specs.Runs.{EndsWords, MayHaveWritten, RanRequest, Stream, status_for}
 
--- nothing is told where there is no fault
+-- nothing is told if there is no fault
 pub told_nothing : (a : Option (List ℕ)) → Told [] a a
 told_nothing a = inl (Appends-nil a)
 

@@ -67,7 +67,7 @@ traced_needs parameters form input can e d = absurd (can e d)
 
 -- ---- what the parts of a call answer
 
--- no text is too long where a trace was out of memory
+-- no text is too long if a trace was out of memory
 pub none_too_long_traced : {V : Type 0} (r : Result V TraceFault) (input : List ℕ) (parameters : List Value) → IsFaultless input
     → ((k : ℕ) → (r ≡ Err (trace_fault.TextTooLong k)) ↔ (IsFaultless input × IsFirstTooLong parameters k)) → r ≡ Err trace_fault.Memory
     → (k : ℕ) → ¬ IsFirstTooLong parameters k

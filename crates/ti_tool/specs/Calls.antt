@@ -21,9 +21,9 @@ ComesAfterMemory _ = ⊥
 abbrev pub NeedsMemory : (Result (List ℕ) ToolFault → Type 0) → Type 0
 NeedsMemory due = (e : ToolFault) → due (Err e) → ComesAfterMemory e
 
--- What was written, where `due` says which result or fault is due. Nothing is written but a part of
--- the due result: all of it, or the first `gone` bytes where the writer failed. Out of memory is
--- answered only where what is due needs memory.
+-- What was written, if `due` says which result or fault is due. Nothing is written but a part of
+-- the due result: all of it, or the first `gone` bytes if the writer failed. Out of memory is
+-- answered only if what is due needs memory.
 abbrev pub Wrote : (Result (List ℕ) ToolFault → Type 0) → Option (List ℕ) → Option (List ℕ)
     → Result (Unit {0}) ToolFault → Type 0
 Wrote due before after (Ok u) = (out : List ℕ) × due (Ok out) × Appends before after out

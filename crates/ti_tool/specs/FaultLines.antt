@@ -42,12 +42,12 @@ line_fault_line line.BothFormsOfExpand = codes "expand: both forms\n"
 line_fault_line line.BothWidths = codes "convert: both widths\n"
 line_fault_line (line.Words why) = words_line why
 
--- the line on an answer, none where it has no fault
+-- the line on an answer, none if it has no fault
 abbrev pub answer_line : {V : Type 0} → Result V ToolFault → List ℕ
 answer_line (Ok v) = []
 answer_line (Err e) = fault_line e
 
--- a text was written whole, or its first bytes, where the writer failed after them
+-- a text was written whole, or its first bytes, if the writer failed after them
 abbrev pub Told : List ℕ → Option (List ℕ) → Option (List ℕ) → Type 0
 Told text before after =
     Appends before after text

@@ -7,7 +7,7 @@ use Rattle.ti_escape.specs.Notation.{label_notation, notation}
 use Rattle.ti_line.specs.declared.look.NameForm.{NameForm}
 use Rattle.ti_line.specs.declared.look.NameForm.TheVariants as forms
 
--- the label of a standard capability: its name, or `#` and its index where the table of names that
+-- the label of a standard capability: its name, or `#` and its index if the table of names that
 -- is asked has none
 abbrev pub label_of : NameTable → Kind → ℕ → List ℕ
 label_of table kind index = unwrap_or (name_in table kind index) (codes "#" ++ decimal index)

@@ -10,7 +10,7 @@ use Rattle.ti_line.specs.declared.request.Asked.{Asked}
 use Rattle.ti_tool.specs.declared.fault.ToolFault.{ToolFault}
 use Rattle.ti_tool.specs.Results.{IsAnswer, IsConverted, IsDueFrom, IsJudgement}
 
--- where an entry of the legacy format is widened, and what is written narrowed again, its canonical
+-- if an entry of the legacy format is widened, and what is written narrowed again, its canonical
 -- bytes come out
 abbrev pub WideAndBack : Type 0
 WideAndBack = (input wide back : List ℕ) (v : EntryValue) → Spells input v → v.width ≡ Legacy

@@ -38,7 +38,7 @@ use Rattle.ti_line.specs.declared.request.OfEntry.TheVariants as of_entry
 use Rattle.ti_tool.specs.declared.fault.ToolFault.{ToolFault}
 use Rattle.ti_tool.specs.declared.fault.ToolFault.TheVariants as fault
 
--- the bytes that a capability writes with these parameters, where each variable starts as 0
+-- the bytes that a capability writes with these parameters, if each variable starts as 0
 pub record IsExpansion (capability : List ℕ) (parameters : List Value) (out : List ℕ) : Type 0 where
   pub tree : Sequence
   pub writes : Writes tree capability

@@ -21,7 +21,7 @@ abbrev pub fault_verdict : CapRefused → List ℕ
 fault_verdict refused =
     codes " fault " ++ cap_fault_word refused.fault ++ codes " at " ++ decimal refused.place ++ codes "\n"
 
--- a text without a fault: its depth, and its bound where texts among the parameters have no bytes
+-- a text without a fault: its depth, and its bound if texts among the parameters have no bytes
 abbrev pub IsSoundText : List ℕ → List ℕ → Type 0
 IsSoundText text verdict =
     (depth : ℕ) × (bound : ℕ) × IsFaultless text × HasDepth text depth × HasBound text 0 bound

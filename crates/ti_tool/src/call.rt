@@ -69,8 +69,8 @@ fn call_on_entry<A: Allocator + Copy, R: Read, W: Write>(
 ///
 /// In this order: `Read` if reading failed, `Entry` if the bytes are no entry, `NoSuchText` if the text is not there, `Cap`
 /// if it is no capability, `TextTooLong`, `TooMuch` if the padded text has more than 67108864 bytes, `Encode` if a number
-/// is above 32767 and the legacy format is asked for, or else if the canonical bytes would be more than 32768, which shared
-/// texts or wider numbers can lead to, `Write`; `Memory` where a growth is refused.
+/// is above 32767 and the legacy format is requested, or else if the canonical bytes would be more than 32768, which shared
+/// texts or wider numbers can lead to, `Write`; `Memory` if a growth is refused.
 pub fn carry_out<A: Allocator + Copy, R: Read, W: Write>(
     alloc: A,
     asked: &Asked<'_>,

@@ -15,7 +15,7 @@ use ti_line::{
 use ti_pad::Padding;
 use ti_words::{NameTable, Width};
 
-/// What is handed over where there are no parameters.
+/// What is handed over if there are no parameters.
 const NO_PARAMETERS: [Value<'static>; 9] = [Value::Num(0); 9];
 
 /// An answer without its value.
@@ -113,7 +113,7 @@ pub fn expand_named<A: Allocator + Copy, R: Read, W: Write>(
 }
 
 /// Writes the entry that the reader gives in its canonical layout: each text in its place without sharing, the extended
-/// part only where there is an extended capability. What tic writes is canonical already and comes out as it came.
+/// part only if there is an extended capability. What tic writes is canonical already and comes out as it came.
 ///
 /// The entry is written in the format of `width`, or with none in its own. Nothing else of it changes.
 pub fn convert<A: Allocator + Copy, R: Read, W: Write>(

@@ -11,7 +11,7 @@ use std::alloc::Allocator;
 use ti_cap::Capability;
 use ti_expand::{ExpandFault, Value, Vars, expand};
 
-/// What a capability writes with these parameters, where each variable starts as 0.
+/// What a capability writes with these parameters, if each variable starts as 0.
 pub fn expansion_of<A: Allocator + Copy>(
     alloc: A,
     bytes: &[u8],
@@ -29,7 +29,7 @@ pub fn expansion_of<A: Allocator + Copy>(
         Ok(output) => Ok(output),
         Err(ExpandFault::TextTooLong { parameter }) => Err(ToolFault::TextTooLong(parameter)),
         Err(ExpandFault::Memory) => Err(ToolFault::Memory),
-        // The stack and the output are its own, so that it answers neither of these.
+        // The stack and the output are its own, so that it returns neither of these.
         Err(ExpandFault::StackTooSmall { .. }) => Err(ToolFault::Memory),
         Err(ExpandFault::OutTooSmall { .. }) => Err(ToolFault::Memory),
     }

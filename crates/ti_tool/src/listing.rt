@@ -183,7 +183,7 @@ fn push_names<A: Allocator>(
     }
 }
 
-/// The listing of an entry, as it is asked for.
+/// The listing of an entry, as it is requested.
 pub fn lines_of<A: Allocator + Copy>(
     alloc: A,
     look: Look,

@@ -85,7 +85,7 @@ fn run_no_line<W: Write, E: Write>(why: &NoLine, output: &mut W, errors: &mut E)
 ///
 /// | Status | When | Line on `errors` |
 /// |---|---|---|
-/// | 0 | done, or help was asked for | none |
+/// | 0 | done, or help was requested | none |
 /// | 1 | `check` found a fault | none |
 /// | 2 | the words are no command line or no parameters, or ask for both widths, or for both forms of an output | what is wrong and the usage; `parameters: more than nine`; `parameter K: bad word`; `convert: both widths`; `cap: both forms`; `expand: both forms` |
 /// | 3 | the entry is refused, or can't be encoded | `entry: WORD at PLACE`; `entry: WORD` |

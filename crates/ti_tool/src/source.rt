@@ -1,6 +1,6 @@
 //! Reading what a call is to work on.
 //!
-//! At most 512 bytes are asked for at a time, and put into a buffer of a fixed size; no memory is taken.
+//! At most 512 bytes are read at a time, and put into a buffer of a fixed size; no memory is taken.
 
 ghost use Rattle.std.specs.Prelude.{◌≡◌, ◌⊎◌, IsOk, OnOk};
 ghost use Rattle.std.specs.Io.KnownBytes.{IsAtEnd};

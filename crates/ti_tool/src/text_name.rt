@@ -1,4 +1,4 @@
-//! The text of an entry that a name stands for.
+//! The text of an entry that a name means.
 
 ghost use Rattle.std.specs.Prelude.{◌≡◌, ℕ, IfSome, IfNone};
 ghost use Rattle.ti_words.specs.Texts.{text_value};
@@ -11,7 +11,7 @@ use ti_words::{Kind, NameTable, Text};
 /// The most digits of an index.
 const MOST_DIGITS: usize = 5;
 
-/// The index that `#` and one to five digits stand for.
+/// The index that `#` and one to five digits mean.
 fn index_of(name: &str) -> Option<usize>
     ensures some { IfSome result (λ index. IsLabel name.now index) }
     ensures none { IfNone result ((index : ℕ) → ¬ IsLabel name.now index) }
@@ -37,7 +37,7 @@ fn extended_text<'a>(extended: &Extended<'a>, name: &[u8]) -> Text<'a>
     }
 }
 
-/// The text that a name stands for: `#` and one to five digits is an index; else the name of a text in the table that is
+/// The text that a name means: `#` and one to five digits is an index; else the name of a text in the table that is
 /// asked is its index; else it is the first extended text of that name.
 pub fn text_called<'a>(entry: &Entry<'a>, asked: TextName<'_>) -> Text<'a>
     ensures { IsCalled asked.entry.names asked.entry.name.now entry.now (text_value result) }

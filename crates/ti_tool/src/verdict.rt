@@ -15,7 +15,7 @@ use ti_cap::{CapRefused, Capability};
 /// What a text is as a capability.
 #[derive(Clone, Copy)]
 pub enum Verdict {
-    /// It has no fault, this depth, and this bound where text parameters have no bytes.
+    /// It has no fault, this depth, and this bound if text parameters have no bytes.
     Sound { depth: usize, bound: u64 },
     /// It has a fault.
     Faulty(CapRefused),
@@ -56,7 +56,7 @@ pub fn judge(text: &[u8]) -> JudgedText<'_>
 }
 
 impl<'a> JudgedText<'a> {
-    /// The verdict on the text that comes next, which is this one where the text is the same.
+    /// The verdict on the text that comes next, which is this one if the text is the same.
     pub fn next(self, text: &'a [u8]) -> JudgedText<'a>
         requires { IsJudged self.text.now self.verdict }
         ensures verdict { IsJudged text.now result.verdict }

@@ -1,4 +1,4 @@
--- The faults of a trace, each exactly where it is so.
+-- The faults of a trace, each exactly if it holds.
 use Rattle.std.proofs.Common.{◌≡◌, ◌∙◌, ℕ, ◌≤◌, inl, inr, List, Ok, Err, Result, ap, arith, subst}
 use Rattle.std.specs.Prelude.{◌↔◌}
 use Rattle.ti_base.specs.Limits.{most_text_bytes}

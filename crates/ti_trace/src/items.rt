@@ -8,7 +8,7 @@ use std::alloc::{AllocError, Allocator};
 use ti_escape::{Form, push_formed};
 use ti_expand::Value;
 
-/// How many bytes of a text are shown, so that a trace stays short where a long text lies on the stack for many tokens.
+/// How many bytes of a text are shown, so that a trace stays short if a long text lies on the stack for many tokens.
 const MOST_SHOWN: usize = 16;
 
 /// Appends the front of a longer text, and its length.
@@ -66,7 +66,7 @@ fn push_later<A: Allocator>(
     Ok(())
 }
 
-/// Appends values with a comma between them, or `-` where there are none.
+/// Appends values with a comma between them, or `-` if there are none.
 pub fn push_items<A: Allocator>(
     out: &mut Vec<u8, A>,
     form: Form,

@@ -19,7 +19,7 @@ const TOKEN_WIDTH: usize = 15;
 
 const STACK_WIDTH: usize = 23;
 
-/// What a line tells of a token.
+/// What a line says of a token.
 #[derive(Clone, Copy)]
 pub struct Row<'r, 'a> {
     /// Where it starts.

@@ -23,7 +23,7 @@ use ti_expand::{ExpandFault, Steps, Value, Vars, longest_text};
 /// The names of the columns.
 const HEADER: &[u8] = b"place\ttoken          \trun    \tstack                  \twrote\n";
 
-/// Takes the next token and appends its line. False at the end, where nothing changes.
+/// Takes the next token and appends its line. False at the end, if nothing changes.
 fn push_next<A: Allocator>(
     out: &mut Vec<u8, A>,
     form: Form,
@@ -85,7 +85,7 @@ fn longest_of(parameters: &[Value<'_>; 9]) -> Result<u16, TraceFault>
     }
 }
 
-/// The text of a trace, where no text is longer than `longest`. Each variable is 0 at first.
+/// The text of a trace, if no text is longer than `longest`. Each variable is 0 at first.
 fn text_of<A: Allocator + Copy>(
     alloc: A,
     bytes: &[u8],
@@ -133,8 +133,8 @@ fn text_of<A: Allocator + Copy>(
 /// the form.
 ///
 /// # Errors
-/// In this order: `Cap` where the bytes are no capability, `TextTooLong` with the lowest parameter whose text has more bytes
-/// than [`ti_base::MOST_TEXT_BYTES`]; `Memory` where a growth is refused.
+/// In this order: `Cap` if the bytes are no capability, `TextTooLong` with the lowest parameter whose text has more bytes
+/// than [`ti_base::MOST_TEXT_BYTES`]; `Memory` if a growth is refused.
 pub fn trace<A: Allocator + Copy>(
     alloc: A,
     capability: &[u8],
@@ -144,7 +144,7 @@ pub fn trace<A: Allocator + Copy>(
     ensures is { IfOk result (λ out. IsTrace capability.now parameters.now form out.items) }
     ensures accepted { OnOk result (IsFaultless capability.now) }
 
-    // each fault of the arguments comes exactly where it is so
+    // each fault of the arguments comes exactly if it holds
     ensures refused { (refused : CapRefused) → (result ≡ Err (fault.Cap refused))
         ↔ IsRefusal capability.now refused }
     ensures too_long { (k : ℕ) → (result ≡ Err (fault.TextTooLong k))

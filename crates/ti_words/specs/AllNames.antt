@@ -35,11 +35,11 @@ has_index tables.Long kind index = true
 abbrev pub IsNamedIn : NameTable → Kind → ℕ → List ℕ → Type 0
 IsNamedIn table kind index name = Contains (rows_in table kind) (index, name)
 
--- in the table, the capability has no name but this one, and no name at all where this is None
+-- in the table, the capability has no name but this one, and no name at all if this is None
 abbrev pub IsOnlyNameIn : NameTable → Kind → ℕ → Option (List ℕ) → Type 0
 IsOnlyNameIn table kind index only = (name : List ℕ) → IsNamedIn table kind index name → only ≡ Some name
 
--- the name that a table has for a kind and an index, where it has one
+-- the name that a table has for a kind and an index, if it has one
 abbrev pub name_in : NameTable → Kind → ℕ → Option (List ℕ)
 name_in table kind index = lookup (nat_eq index) (rows_in table kind)
 
@@ -49,7 +49,7 @@ name_places_in table =
     map (named_place kinds.Flag) (rows_in table kinds.Flag)
     ++ (map (named_place kinds.Number) (rows_in table kinds.Number) ++ map (named_place kinds.Text) (rows_in table kinds.Text))
 
--- the place of the capability with a name, where the table has the name
+-- the place of the capability with a name, if the table has the name
 abbrev pub place_in : NameTable → List ℕ → Option Place
 place_in table name = lookup (bytes_eq name) (name_places_in table)
 

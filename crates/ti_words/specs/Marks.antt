@@ -12,7 +12,7 @@ byte_of_flag flags.Yes = 1
 byte_of_flag flags.Cancelled = 254
 byte_of_flag flags.Missing = 255
 
--- the flag of a byte, where there is one
+-- the flag of a byte, if there is one
 abbrev pub flag_of_byte : ℕ → Option Flag
 flag_of_byte b =
     if b == 0 then Some flags.No
@@ -26,7 +26,7 @@ word_of_number numbers.Absent = negsuc 0
 word_of_number numbers.Cancelled = negsuc 1
 word_of_number (numbers.Value x) = x
 
--- the number of a word, where there is one: the words below -2 have none
+-- the number of a word, if there is one: the words below -2 have none
 abbrev pub number_of_word : ℤ → Option Number
 number_of_word (pos n) = Some (numbers.Value (pos n))
 number_of_word (negsuc zero) = Some numbers.Absent

@@ -10,13 +10,13 @@ pub use Rattle.ti_words.specs.NameLists.{Row, rows}
 abbrev pub IsNamed : Kind → ℕ → List ℕ → Type 0
 IsNamed kind index name = Contains (rows kind) (index, name)
 
--- the capability of the kind at the index has no name but this one, and no name at all where this is None
+-- the capability of the kind at the index has no name but this one, and no name at all if this is None
 abbrev pub IsOnlyName : Kind → ℕ → Option (List ℕ) → Type 0
 IsOnlyName kind index only = (name : List ℕ) → IsNamed kind index name → only ≡ Some name
 
 -- ---- the table as two functions
 
--- the name of the capability of a kind at an index, where it has one
+-- the name of the capability of a kind at an index, if it has one
 abbrev pub name_of : Kind → ℕ → Option (List ℕ)
 name_of kind index = lookup (nat_eq index) (rows kind)
 
@@ -34,7 +34,7 @@ name_places =
     map (named_place kinds.Flag) (rows kinds.Flag)
     ++ (map (named_place kinds.Number) (rows kinds.Number) ++ map (named_place kinds.Text) (rows kinds.Text))
 
--- the place of the capability with a name, where the table has the name
+-- the place of the capability with a name, if the table has the name
 abbrev pub place_of : List ℕ → Option Place
 place_of name = lookup (bytes_eq name) name_places
 

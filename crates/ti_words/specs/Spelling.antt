@@ -99,7 +99,7 @@ pub record HasSections (v : EntryValue) (table : List ℕ) (rest : List ℕ) (by
 
 -- ---- the extended part
 
--- the bytes of a text and its NUL, where it is there
+-- the bytes of a text and its NUL, if it is there
 abbrev pub text_size : TextValue → ℕ
 text_size (TextOf text) = length text + 1
 text_size AbsentText = 0

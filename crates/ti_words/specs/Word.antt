@@ -6,7 +6,7 @@ abbrev pub unsigned_at : ℕ → List ℕ → ℕ → ℕ
 unsigned_at zero bytes place = 0
 unsigned_at (suc size) bytes place = slice_index bytes place + 256 * unsigned_at size bytes (place + 1)
 
--- what size bytes stand for that are n without a sign: less 256 ^ size where the highest bit is set
+-- what size bytes stand for that are n without a sign: less 256 ^ size if the highest bit is set
 abbrev pub signed : ℕ → ℕ → ℤ
 signed size n = if nat_lt (2 * n) (256 ^ size) then pos n else pos n -ℤ pos (256 ^ size)
 
@@ -19,7 +19,7 @@ abbrev pub low_bytes : ℕ → ℕ → List ℕ
 low_bytes zero n = []
 low_bytes (suc size) n = (n % 256) ∷ low_bytes size (n / 256)
 
--- the size bytes that stand for a number, which is reduced modulo 256 ^ size where it is out of their range
+-- the size bytes that stand for a number, which is reduced modulo 256 ^ size if it is out of their range
 abbrev pub word : ℕ → ℤ → List ℕ
 word size (pos n) = low_bytes size n
 word size (negsuc n) = low_bytes size (256 ^ size - 1 - n % 256 ^ size)

@@ -30,7 +30,7 @@ pub enum NameTable {
 }
 
 impl NameTable {
-    /// The name of the flag at an index of an entry, such as `bw` at 0, where the table has one.
+    /// The name of the flag at an index of an entry, such as `bw` at 0, if the table has one.
     pub fn flag_name(self, index: usize) -> Option<&'static str>
         ensures value { option_map (λ name. name.now) result ≡ name_in self kinds.Flag index }
         ensures found { IfSome result (λ name. IsNamedIn self kinds.Flag index name.now) }
@@ -39,7 +39,7 @@ impl NameTable {
         self.name_at(Kind::Flag, index)
     }
 
-    /// The name of the number at an index of an entry, such as `cols` at 0, where the table has one.
+    /// The name of the number at an index of an entry, such as `cols` at 0, if the table has one.
     pub fn number_name(self, index: usize) -> Option<&'static str>
         ensures value { option_map (λ name. name.now) result ≡ name_in self kinds.Number index }
         ensures found { IfSome result (λ name. IsNamedIn self kinds.Number index name.now) }
@@ -48,7 +48,7 @@ impl NameTable {
         self.name_at(Kind::Number, index)
     }
 
-    /// The name of the text at an index of an entry, such as `cup` at 10, where the table has one.
+    /// The name of the text at an index of an entry, such as `cup` at 10, if the table has one.
     pub fn text_name(self, index: usize) -> Option<&'static str>
         ensures value { option_map (λ name. name.now) result ≡ name_in self kinds.Text index }
         ensures found { IfSome result (λ name. IsNamedIn self kinds.Text index name.now) }
@@ -57,7 +57,7 @@ impl NameTable {
         self.name_at(Kind::Text, index)
     }
 
-    /// The kind and index of the capability that has a name, where the table has it: `cup` is the text at 10.
+    /// The kind and index of the capability that has a name, if the table has it: `cup` is the text at 10.
     pub fn find(self, name: &str) -> Option<(Kind, usize)>
         ensures value { result ≡ place_in self name.now }
         ensures found { IfSome result (λ place. IsNamedIn self place.0 place.1 name.now) }

@@ -27,7 +27,7 @@ pub fn long_names_stand_once()
     ensures inverse { NameAndPlaceAgreeIn tables.Long }
 {}
 
-/// The table of common names is the one of the calls that ask no table, and a common name stands for the same kind and
+/// The table of common names is the one of the calls that ask no table, and a common name means the same kind and
 /// index among all names. A capability has a long name exactly if it has a short one.
 pub fn tables_agree()
     ensures common { CommonAnswersAlike }

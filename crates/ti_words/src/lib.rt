@@ -1,4 +1,4 @@
-//! What the bytes and words of a compiled terminfo entry stand for (term(5)), and the names of capabilities by index.
+//! What the bytes and words of a compiled terminfo entry mean (term(5)), and the names of capabilities by index.
 //!
 //! A flag is one byte, a number is one word, a text is an offset or a mark. Each function here is exact both ways: a
 //! byte and its flag, a word and its number, a name and its kind and index determine each other. None takes memory; a
@@ -71,7 +71,7 @@ pub enum Width {
     Wide,
 }
 
-/// The flag that a byte stands for: 0 No, 1 Yes, 254 Cancelled, 255 Missing, and no other byte.
+/// The flag that a byte means: 0 No, 1 Yes, 254 Cancelled, 255 Missing, and no other byte.
 pub fn flag_of(byte: u8) -> Option<Flag>
     ensures value { result ≡ flag_of_byte byte }
     ensures back { IfSome result (λ flag. byte_of_flag flag ≡ byte) }
@@ -85,7 +85,7 @@ pub fn flag_of(byte: u8) -> Option<Flag>
     }
 }
 
-/// The byte that stands for a flag.
+/// The byte that means a flag.
 pub fn flag_byte(flag: Flag) -> u8
     ensures value { result ≡ byte_of_flag flag }
     ensures back { flag_of_byte result ≡ Some flag }
@@ -98,7 +98,7 @@ pub fn flag_byte(flag: Flag) -> u8
     }
 }
 
-/// The number that a word stands for: -1 Absent, -2 Cancelled, none below, else the word itself.
+/// The number that a word means: -1 Absent, -2 Cancelled, none below, else the word itself.
 pub fn number_of(word: i32) -> Option<Number>
     ensures value { result ≡ number_of_word word }
     ensures back { IfSome result (λ number. word_of_number number ≡ word) }
@@ -111,7 +111,7 @@ pub fn number_of(word: i32) -> Option<Number>
     }
 }
 
-/// The word that stands for a number, whose value is not negative.
+/// The word that means a number, whose value is not negative.
 pub fn number_word(number: Number) -> i32
     requires { HasWord number }
     ensures value { result ≡ word_of_number number }

@@ -7,7 +7,7 @@ ghost use Rattle.ti_words.specs.Names.{IsNamed, IsOnlyName, Place, name_of, plac
 
 use crate::{Kind, NameTable};
 
-/// The name of the flag at an index of an entry, such as `bw` at 0, where the table has one.
+/// The name of the flag at an index of an entry, such as `bw` at 0, if the table has one.
 pub fn flag_name(index: usize) -> Option<&'static str>
     ensures value { option_map (λ name. name.now) result ≡ name_of kinds.Flag index }
     ensures found { IfSome result (λ name. IsNamed kinds.Flag index name.now) }
@@ -16,7 +16,7 @@ pub fn flag_name(index: usize) -> Option<&'static str>
     NameTable::Common.flag_name(index)
 }
 
-/// The name of the number at an index of an entry, such as `cols` at 0, where the table has one.
+/// The name of the number at an index of an entry, such as `cols` at 0, if the table has one.
 pub fn number_name(index: usize) -> Option<&'static str>
     ensures value { option_map (λ name. name.now) result ≡ name_of kinds.Number index }
     ensures found { IfSome result (λ name. IsNamed kinds.Number index name.now) }
@@ -25,7 +25,7 @@ pub fn number_name(index: usize) -> Option<&'static str>
     NameTable::Common.number_name(index)
 }
 
-/// The name of the text at an index of an entry, such as `cup` at 10, where the table has one.
+/// The name of the text at an index of an entry, such as `cup` at 10, if the table has one.
 pub fn text_name(index: usize) -> Option<&'static str>
     ensures value { option_map (λ name. name.now) result ≡ name_of kinds.Text index }
     ensures found { IfSome result (λ name. IsNamed kinds.Text index name.now) }
@@ -34,7 +34,7 @@ pub fn text_name(index: usize) -> Option<&'static str>
     NameTable::Common.text_name(index)
 }
 
-/// The kind and index of the capability that has a name, where the table has it: `cup` is the text at 10.
+/// The kind and index of the capability that has a name, if the table has it: `cup` is the text at 10.
 pub fn find(name: &str) -> Option<(Kind, usize)>
     ensures value { result ≡ place_of name.now }
     ensures found { IfSome result (λ place. IsNamed place.0 place.1 name.now) }

@@ -101,7 +101,7 @@ pub record Findings : Type 0 where
 abbrev pub no_findings : Findings
 no_findings = record { heights = record { running = 0; frames = [] }; sizes = record { running = 0; frames = [] }; depth = 0; nest = 0 }
 
--- one token more, where no text is longer than `longest`
+-- one token more, if no text is longer than `longest`
 abbrev pub findings_after : ℕ → Findings → Token → Findings
 findings_after longest found token =
     let heights = next_progress found.heights token (next_height found.heights.running token) in

@@ -35,7 +35,7 @@ findings_of s opens = record {
 abbrev pub fault_at : Scan → List Open → Token → Option CapFault
 fault_at s opens token = fault_of (findings_of s opens) token
 
--- the token brings a scan from one place to another, where no text is longer than `longest`
+-- the token brings a scan from one place to another, if no text is longer than `longest`
 abbrev pub Brings : ℕ → Token → Scan → List Open → Scan → List Open → Type 0
 Brings longest token s opens next next_opens = findings_of next next_opens ≡ findings_after longest (findings_of s opens) token
 

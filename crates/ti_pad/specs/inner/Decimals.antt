@@ -4,7 +4,7 @@ use Rattle.std.specs.Borrow.{Bor}
 use Rattle.std.specs.Char.{is_ascii_digit}
 use Rattle.std.specs.List.{list_all}
 
--- the decimals that a slice lends, where there are any
+-- the decimals that a slice lends, if there are any
 abbrev pub decimals_of : Option (Bor (List ℕ)) → Option (List ℕ)
 decimals_of = option_map (λ s. s.now)
 

@@ -114,7 +114,7 @@ fn entries_are_written_in_one_layout(rt: HostRuntime) {
     }
 }
 
-/// An entry, the width that is asked for, and the bytes that are written.
+/// An entry, the width that is requested, and the bytes that are written.
 const MOVED: [(&[u8], Width, &[u8]); 8] = [
     (SMALL, Width::Wide, WIDE),
     (WIDE, Width::Legacy, SMALL),
@@ -161,7 +161,7 @@ fn numbers_too_great_are_not_narrowed(rt: HostRuntime) {
     }
 }
 
-/// 16000 texts that are all the same 699 bytes `a`: 32714 bytes, and 11232014 where none is shared.
+/// 16000 texts that are all the same 699 bytes `a`: 32714 bytes, and 11232014 if none is shared.
 fn shared_by_many() -> [u8; 32714] {
     let mut bytes = [0u8; 32714];
     let header = [

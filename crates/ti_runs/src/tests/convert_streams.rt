@@ -54,7 +54,7 @@ fn is_converted(
     Ok(written.result.is_ok())
 }
 
-/// An entry, the width that is asked for, and the bytes that are written.
+/// An entry, the width that is requested, and the bytes that are written.
 const GROWING: [(&[u8], Option<Width>, &[u8]); 3] = [
     (EXTENDED, None, EXTENDED),
     (EXTENDED, Some(Width::Wide), WIDENED),

@@ -15,7 +15,7 @@ use ti_pad::Padding;
 use ti_tool::{ToolFault, carry_out, expand_named};
 use ti_words::NameTable;
 
-/// What is asked of an entry: a text by its name, with one parameter and padding.
+/// What is requested of an entry: a text by its name, with one parameter and padding.
 #[derive(Drop)]
 pub struct Asked<'a> {
     pub name: &'a str,
@@ -54,7 +54,7 @@ pub fn expanded<A: Allocator + Copy>(
     }
 }
 
-/// What is asked of an entry is written as this.
+/// What is requested of an entry is written as this.
 fn assert_written(rt: &(impl Abort + AllocGlobal), entry: &[u8], asked: &Asked<'_>, output: &[u8]) {
     let written = expanded(
         rt.alloc(),
@@ -66,7 +66,7 @@ fn assert_written(rt: &(impl Abort + AllocGlobal), entry: &[u8], asked: &Asked<'
     assert_that!(rt; written.taken.as_slice() == output);
 }
 
-/// What is asked of an entry is refused for this fault.
+/// What is requested of an entry is refused for this fault.
 fn assert_refused(
     rt: &(impl Abort + AllocGlobal),
     entry: &[u8],

@@ -1,4 +1,4 @@
-//! Listings and verdicts with the look that is asked for, and of a large entry.
+//! Listings and verdicts with the look that is requested, and of a large entry.
 
 use super::rows_of_show::UNCOMMON;
 use ti_escape::Form;

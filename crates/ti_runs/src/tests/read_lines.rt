@@ -1,4 +1,4 @@
-//! Words that are read as a command line, and what it asks for.
+//! Words that are read as a command line, and what it requests.
 
 use std::test::Fail;
 use ti_line::{NoLine, Request, read_line};

@@ -6,7 +6,7 @@ use Rattle.ti_tool.specs.declared.fault.ToolFault.TheVariants as fault
 use Rattle.ti_tool.specs.Calls.{NeedsMemory}
 use Rattle.ti_tool.specs.Results.{IsUnexpanded}
 
--- the fault that is due, or out of memory where what is due needs memory
+-- the fault that is due, or out of memory if what is due needs memory
 abbrev pub FailsAsDue : (Result (List ℕ) ToolFault → Type 0) → ToolFault → Type 0
 FailsAsDue due e = ((e ≡ fault.Memory) × NeedsMemory due) ⊎ due (Err e)
 

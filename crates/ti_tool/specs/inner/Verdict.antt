@@ -6,7 +6,7 @@ use Rattle.ti_tool.specs.Verdicts.{AreLines, fault_verdict, sound_verdict}
 use Rattle.ti_tool.specs.declared.verdict.Verdict.{Verdict}
 use Rattle.ti_tool.specs.declared.verdict.Verdict.TheVariants.{Sound, Faulty}
 
--- the verdict is that on the text: its depth and bound where it has no fault, else its refusal
+-- the verdict is that on the text: its depth and bound if it has no fault, else its refusal
 abbrev pub IsJudged : List ℕ → Verdict → Type 0
 IsJudged text (Sound depth bound) = IsFaultless text × HasDepth text depth × HasBound text 0 bound
 IsJudged text (Faulty refused) = IsRefusal text refused

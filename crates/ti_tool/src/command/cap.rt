@@ -1,6 +1,6 @@
 //! `cap`: one capability, expanded.
 //!
-//! Its memory grows once, and once more where the output is written in a form. Padding marks stay as they are.
+//! Its memory grows once, and once more if the output is written in a form. Padding marks stay as they are.
 
 ghost use Rattle.std.specs.Prelude.{Ok, MatchResult};
 ghost use Rattle.ti_tool.specs.Results.{IsCappedAs};

@@ -15,7 +15,7 @@ use ti_entry::{Entry, Extended};
 use ti_line::{NameForm, Naming};
 use ti_words::{Kind, NameTable, Text};
 
-/// Writes the lines of the standard texts, and answers whether none has a fault.
+/// Writes the lines of the standard texts, and returns whether none has a fault.
 fn push_standard<A: Allocator>(
     out: &mut Vec<u8, A>,
     table: NameTable,
@@ -38,7 +38,7 @@ fn push_standard<A: Allocator>(
     Ok(sound)
 }
 
-/// Writes the lines of the texts of the extended part, and answers whether none has a fault.
+/// Writes the lines of the texts of the extended part, and returns whether none has a fault.
 fn push_extended<A: Allocator>(
     out: &mut Vec<u8, A>,
     form: NameForm,

@@ -1,4 +1,4 @@
-//! `convert`: an entry in its canonical layout, in its own format or in the one that is asked for.
+//! `convert`: an entry in its canonical layout, in its own format or in the one that is requested.
 
 ghost use Rattle.std.specs.Prelude.{◌≡◌, Ok, IfOk, MatchResult};
 ghost use Rattle.ti_tool.specs.Results.{IsEncoding, in_width};
@@ -22,7 +22,7 @@ fn encoding_of<A: Allocator + Copy>(alloc: A, draft: &Draft<'_, A>) -> Result<Ve
     }
 }
 
-/// A draft of an entry, in the width that is asked for.
+/// A draft of an entry, in the width that is requested.
 fn draft_of<'a, A: Allocator + Copy>(
     alloc: A,
     entry: &Entry<'a>,
@@ -37,8 +37,8 @@ fn draft_of<'a, A: Allocator + Copy>(
     Ok(draft)
 }
 
-/// The canonical bytes of an entry, in the width that is asked for or else in its own: each text in its place without
-/// sharing, the extended part only where there is an extended capability. What tic writes is canonical already.
+/// The canonical bytes of an entry, in the width that is requested or else in its own: each text in its place without
+/// sharing, the extended part only if there is an extended capability. What tic writes is canonical already.
 pub fn convert_result<A: Allocator + Copy>(
     alloc: A,
     entry: &Entry<'_>,

@@ -1,6 +1,6 @@
 //! `expand`: one text of an entry, expanded and padded.
 //!
-//! The memory grows once for the expansion, once for the padded text, and once more where it is written in a form.
+//! The memory grows once for the expansion, once for the padded text, and once more if it is written in a form.
 
 ghost use Rattle.std.specs.Prelude.{◌≡◌, Ok, MatchResult};
 ghost use Rattle.ti_words.specs.Texts.{text_value};
