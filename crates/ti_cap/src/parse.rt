@@ -37,6 +37,12 @@ impl<'a> Model for Capability<'a> {
 
 impl<'a> Capability<'a> {
     /// Reads bytes as a capability.
+    ///
+    /// # Examples
+    ///
+    /// ```rust
+    /// let cup = Capability::parse(b"\x1b[%i%p1%d;%p2%dH")?;
+    /// ```
     pub fn parse(bytes: &'a [u8]) -> Result<Self, CapRefused>
         ensures value { IfOk result (λ c. c ≡ bytes.now) }
         ensures tree { IfOk result (λ _. IsWellFormed bytes.now) }

@@ -44,5 +44,6 @@ mod padding_memory;
 mod padding_rows;
 mod padding_writers;
 mod traces;
+mod uses;
 mod ways_to_read;
 mod wide_entries;

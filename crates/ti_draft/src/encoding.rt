@@ -30,6 +30,15 @@ use ti_words::{Text, magic_number};
 ///
 /// The first that holds of: `BadName`, `NulInText`, `NumberOutOfRange`, `TooManyOrLong`, and then `Memory` if memory
 /// was refused.
+///
+/// # Examples
+///
+/// ```rust
+/// let mut draft = Draft::new(rt.alloc(), b"ring|a bell", Width::Legacy);
+/// draft.push_text(Text::Absent)?;
+/// draft.push_text(Text::Value(b"\x07"))?;
+/// let file = encode(rt.alloc(), &draft)?;
+/// ```
 pub fn encode<A: Allocator + Copy, D: Allocator>(
     alloc: A,
     draft: &Draft<'_, D>,

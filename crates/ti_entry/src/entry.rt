@@ -48,6 +48,13 @@ impl<'a> Model for Entry<'a> {
 ///
 /// The first check that does not hold of the bytes. Where they end before the prefix that it reads, `Truncated` at their
 /// length.
+///
+/// # Examples
+///
+/// ```rust
+/// let entry = read(FILE)?;
+/// assert!(rt; entry.number(0) == Number::Value(80));
+/// ```
 pub fn read(bytes: &[u8]) -> Result<Entry<'_>, Refused>
     // What is read is spelled by the bytes.
     ensures found { IfOk result (λ e. Spells bytes.now e) }

@@ -18,6 +18,13 @@ pub enum Position {
 impl<'a> Entry<'a> {
     /// The place of the capability with a name: a short name of terminfo(5), such as `cup`, else a long one, such as
     /// `cursor_address`, else the first of the entry's own names that is equal.
+    ///
+    /// # Examples
+    ///
+    /// ```rust
+    /// assert!(rt; entry.position(b"bel") == Some(Position::Standard(Kind::Text, 1)));
+    /// assert!(rt; entry.position(b"E3") == Some(Position::Extended(Kind::Text, 0)));
+    /// ```
     pub fn position(&self, name: &[u8]) -> Option<Position>
         ensures { IsPosition self.now name.now result }
     {

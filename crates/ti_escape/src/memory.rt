@@ -11,6 +11,14 @@ use std::alloc::{AllocError, Allocator};
 
 /// Appends the notation of a text. If the vector has room for it, [`notation_len`] bytes, no memory is taken. After an
 /// error the vector holds what it held.
+///
+/// # Examples
+///
+/// ```rust
+/// let mut shown = Vec::new(rt.alloc());
+/// push_notation(&mut shown, b"\x1b[%p1%dG\r\n")?;
+/// assert!(rt; shown.as_slice() == br"\E[%p1%dG^M^J".as_slice());
+/// ```
 pub fn push_notation<A: Allocator>(out: &mut Vec<u8, A>, text: &[u8]) -> Result<(), AllocError>
     ensures text { OnOk result (out.new.items ≡ out.old.items ++ notation text.now) }
     ensures kept { OnErr result (out.new.items ≡ out.old.items) }

@@ -56,6 +56,14 @@ pub(crate) fn check(
 /// In this order, each only if it holds: `TextTooLong` with the lowest parameter whose text has more bytes than
 /// [`ti_base::MOST_TEXT_BYTES`], `StackTooSmall` with the depth, `OutTooSmall` with the bound. After each of them
 /// variables, stack and output are as before.
+///
+/// # Examples
+///
+/// ```rust
+/// let (mut stack, mut room) = ([Value::Num(0); 4], [0; 32]);
+/// let run = expand_into(cup.tape(), &parameters, &mut vars, &mut stack, &mut room)?;
+/// assert!(rt; &room[..run.written] == b"\x1b[5;10H".as_slice());
+/// ```
 pub fn expand_into<'a>(
     tape: Tape<'a>,
     parameters: &[Value<'a>; 9],
@@ -85,6 +93,18 @@ pub fn expand_into<'a>(
 /// # Errors
 /// `TextTooLong` with the lowest parameter whose text has more bytes than [`ti_base::MOST_TEXT_BYTES`], or `Memory`
 /// if no text is too long and the growth was refused. After either the variables are as before.
+///
+/// # Examples
+///
+/// ```rust
+/// let cup = Capability::parse(b"\x1b[%i%p1%d;%p2%dH")?;
+/// let mut parameters = [Value::Num(0); 9];
+/// parameters[0] = Value::Num(4);
+/// parameters[1] = Value::Num(9);
+/// let mut vars = Vars::new();
+/// let output = expand(rt.alloc(), &cup, &parameters, &mut vars)?;
+/// assert!(rt; output.as_slice() == b"\x1b[5;10H".as_slice());
+/// ```
 pub fn expand<'a, A: Allocator + Copy>(
     alloc: A,
     capability: &Capability<'a>,

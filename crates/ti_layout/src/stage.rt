@@ -152,6 +152,13 @@ impl Stage {
     /// # Errors
     ///
     /// The first that fails.
+    ///
+    /// # Examples
+    ///
+    /// ```rust
+    /// let mut stage = Stage::new();
+    /// assert!(rt; stage.advance(b"\x7fELF") == Err(refused));
+    /// ```
     pub fn advance(&mut self, bytes: &[u8]) -> Result<(), Refused>
         requires { Stands bytes.now self.old }
         ensures stands { OnOk result (Stands bytes.now self.new) }

@@ -71,6 +71,13 @@ fn no_line<'a>(alloc: Global, words: &'a [&'a str], error: &Error) -> NoLine
 /// [`NoLine::Fault`] if the line requests both forms or both widths, or its parameters are none, and [`NoLine::Memory`] if
 /// a growth was refused. A message shows no byte of a word but printable ASCII characters: the others are in the notation
 /// of terminfo(5).
+///
+/// # Examples
+///
+/// ```rust
+/// let request = read_line(rt.alloc(), false, &["ti", "cap", "n:7"])?;
+/// assert!(rt; matches!(request.asked, Asked::Capability(OfCapability::Cap(_))));
+/// ```
 pub fn read_line<'a>(
     alloc: Global,
     terminal: bool,

@@ -35,6 +35,14 @@ impl From<AllocError> for PadFault {
 
 /// The padded text. [`PadFault::TooMuch`] is returned exactly if it has more than [`MOST_PADDED_BYTES`], and that
 /// memory was refused only if it has no more.
+///
+/// # Examples
+///
+/// ```rust
+/// let slow = Padding::new(960, 1, false, 0).ok_or("no padding")?;
+/// let padded = pad(rt.alloc(), b"\x1b[J$<5>", &slow)?;
+/// assert!(rt; padded.as_slice() == b"\x1b[J\0\0\0\0\0".as_slice());
+/// ```
 pub fn pad<A: Allocator + Copy>(
     alloc: A,
     bytes: &[u8],

@@ -41,3 +41,4 @@ mod rows_of_show;
 mod rows_of_trace;
 mod show_call;
 mod trace_call;
+mod uses;

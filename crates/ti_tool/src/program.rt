@@ -137,6 +137,14 @@ pub fn run_at<A: Allocator + Copy, R: Read, W: Write, E: Write>(
 }
 
 /// [`run_at`] with no stream that is a terminal.
+///
+/// # Examples
+///
+/// ```rust
+/// let status = run(global, global, &words, &mut input, &mut output, &mut errors);
+/// assert!(rt; status == 0);
+/// assert!(rt; output.as_slice() == b"\x1b[7G".as_slice());
+/// ```
 pub fn run<A: Allocator + Copy, R: Read, W: Write, E: Write>(
     global: Global,
     alloc: A,

@@ -135,6 +135,13 @@ fn text_of<A: Allocator + Copy>(
 /// # Errors
 /// In this order: `Cap` if the bytes are no capability, `TextTooLong` with the lowest parameter whose text has more bytes
 /// than [`ti_base::MOST_TEXT_BYTES`]; `Memory` if a growth is refused.
+///
+/// # Examples
+///
+/// ```rust
+/// let made = trace(rt.alloc(), b"%p1%d", &[Value::Num(7); 9], Form::Notation)?;
+/// assert!(rt; made.as_slice().ends_with(b"depth: 1\nbound: 11\n"));
+/// ```
 pub fn trace<A: Allocator + Copy>(
     alloc: A,
     capability: &[u8],

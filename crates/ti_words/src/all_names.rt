@@ -58,6 +58,13 @@ impl NameTable {
     }
 
     /// The kind and index of the capability that has a name, if the table has it: `cup` is the text at 10.
+    ///
+    /// # Examples
+    ///
+    /// ```rust
+    /// assert!(rt; NameTable::All.find("cup") == Some((Kind::Text, 10)));
+    /// assert!(rt; NameTable::Long.find("cursor_address") == Some((Kind::Text, 10)));
+    /// ```
     pub fn find(self, name: &str) -> Option<(Kind, usize)>
         ensures value { result ≡ place_in self name.now }
         ensures found { IfSome result (λ place. IsNamedIn self place.0 place.1 name.now) }

@@ -1,0 +1,11 @@
+//! What a caller writes: for each library crate a first program, which its README shows.
+
+mod cap;
+mod draft;
+mod entry;
+mod escape;
+mod expand;
+mod layout;
+mod pad;
+mod trace;
+mod words;

@@ -1,0 +1,13 @@
+//! What each token of a capability does.
+
+use std::test::Fail;
+use ti_escape::Form;
+use ti_expand::Value;
+use ti_trace::trace;
+
+#[test]
+fn a_column_is_traced(rt: HostRuntime) -> Result<(), Fail> {
+    let made = trace(rt.alloc(), b"%p1%d", &[Value::Num(7); 9], Form::Notation)?;
+    assert!(rt; made.as_slice().ends_with(b"depth: 1\nbound: 11\n"));
+    Ok(())
+}
