@@ -5,7 +5,7 @@ use Rattle.ti_words.specs.declared.Number.TheVariants as numbers
 use Rattle.ti_words.specs.declared.Width.TheVariants.{Legacy}
 use Rattle.ti_words.specs.Texts.{AbsentText, CancelledText, TextOf}
 use Rattle.ti_words.specs.Value.{EntryValue}
-use Rattle.ti_words.specs.Spelling.{extended_names}
+use Rattle.ti_words.specs.Spelling.{part_names}
 use Rattle.ti_layout.specs.declared.fault.Fault.TheVariants as faults
 use Rattle.ti_c.specs.Numbers.{entry_number}
 use Rattle.ti_c.specs.Entries.{flag_marks, number_words, texts_shown}
@@ -16,12 +16,16 @@ some_entry : EntryValue
 some_entry = record {
   width = Legacy;
   names = 116 ∷ [];
-  flags = flags.Yes ∷ flags.Cancelled ∷ [];
-  numbers = numbers.Value (pos 80) ∷ numbers.Absent ∷ [];
-  texts = TextOf (65 ∷ []) ∷ AbsentText ∷ CancelledText ∷ [];
-  extended_flags = (70 ∷ [], flags.Missing) ∷ [];
-  extended_numbers = (78 ∷ [], numbers.Value (pos 7)) ∷ [];
-  extended_texts = (83 ∷ [], TextOf []) ∷ [];
+  standard = record {
+    flags = flags.Yes ∷ flags.Cancelled ∷ [];
+    numbers = numbers.Value (pos 80) ∷ numbers.Absent ∷ [];
+    texts = TextOf (65 ∷ []) ∷ AbsentText ∷ CancelledText ∷ [];
+  };
+  extended = record {
+    flags = (70 ∷ [], flags.Missing) ∷ [];
+    numbers = (78 ∷ [], numbers.Value (pos 7)) ∷ [];
+    texts = (83 ∷ [], TextOf []) ∷ [];
+  };
 }
 
 its_flags : flag_marks some_entry ≡ pos 1 ∷ negsuc 1 ∷ negsuc 0 ∷ []
@@ -36,7 +40,7 @@ its_texts : texts_shown some_entry ≡ (pos 0, 65 ∷ []) ∷ (negsuc 0, []) ∷
 unfolding some_entry
 its_texts = refl
 
-its_names : extended_names some_entry ≡ (70 ∷ []) ∷ (78 ∷ []) ∷ (83 ∷ []) ∷ []
+its_names : part_names some_entry.extended ≡ (70 ∷ []) ∷ (78 ∷ []) ∷ (83 ∷ []) ∷ []
 unfolding some_entry
 its_names = refl
 

@@ -44,13 +44,13 @@ itself item = item
 -- ---- arrays: the standard items by index, and after them the extended ones
 
 abbrev pub flag_marks : EntryValue → List ℤ
-flag_marks v = map flag_mark v.flags ++ map flag_mark (map mark_in v.extended_flags)
+flag_marks v = map flag_mark v.standard.flags ++ map flag_mark (map mark_in v.extended.flags)
 
 abbrev pub number_words : EntryValue → List ℤ
-number_words v = map word_of_number v.numbers ++ map word_of_number (map mark_in v.extended_numbers)
+number_words v = map word_of_number v.standard.numbers ++ map word_of_number (map mark_in v.extended.numbers)
 
 abbrev pub texts_shown : EntryValue → List (ℤ × List ℕ)
-texts_shown v = map text_shown v.texts ++ map text_shown (map mark_in v.extended_texts)
+texts_shown v = map text_shown v.standard.texts ++ map text_shown (map mark_in v.extended.texts)
 
 -- the array starts with what holds these items, and after them it is as before
 pub record StartsWith {A B : Type 0} (held : A → B) (before after : List A) (items : List B) : Type 0 where
@@ -59,10 +59,10 @@ pub record StartsWith {A B : Type 0} (held : A → B) (before after : List A) (i
 
 -- arrays of these lengths have room for the entry
 pub record HasRoom (v : EntryValue) (flag_room number_room text_room name_room : ℕ) : Type 0 where
-  pub flags : length v.flags + length v.extended_flags ≤ flag_room
-  pub numbers : length v.numbers + length v.extended_numbers ≤ number_room
-  pub texts : length v.texts + length v.extended_texts ≤ text_room
-  pub names : length v.extended_flags + length v.extended_numbers + length v.extended_texts ≤ name_room
+  pub flags : length v.standard.flags + length v.extended.flags ≤ flag_room
+  pub numbers : length v.standard.numbers + length v.extended.numbers ≤ number_room
+  pub texts : length v.standard.texts + length v.extended.texts ≤ text_room
+  pub names : length v.extended.flags + length v.extended.numbers + length v.extended.texts ≤ name_room
 
 -- arrays of these lengths have room for every entry: a flag takes a byte of it or more, a number and a text two, a name
 -- with what it names three
@@ -77,12 +77,12 @@ pub record IsAmple (flag_room number_room text_room name_room : ℕ) : Type 0 wh
 -- the names, the counts and the width are those of the entry
 pub record Tells (told : EntryCounts) (v : EntryValue) : Type 0 where
   pub names : told.names.now ≡ v.names
-  pub flags : told.flags ≡ length v.flags
-  pub numbers : told.numbers ≡ length v.numbers
-  pub texts : told.texts ≡ length v.texts
-  pub extended_flags : told.extended_flags ≡ length v.extended_flags
-  pub extended_numbers : told.extended_numbers ≡ length v.extended_numbers
-  pub extended_texts : told.extended_texts ≡ length v.extended_texts
+  pub flags : told.flags ≡ length v.standard.flags
+  pub numbers : told.numbers ≡ length v.standard.numbers
+  pub texts : told.texts ≡ length v.standard.texts
+  pub extended_flags : told.extended_flags ≡ length v.extended.flags
+  pub extended_numbers : told.extended_numbers ≡ length v.extended.numbers
+  pub extended_texts : told.extended_texts ≡ length v.extended.texts
   pub number_bits : told.number_bits ≡ 8 * number_size v.width
 
 -- the answer of a call that has read an entry

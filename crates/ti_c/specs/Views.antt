@@ -41,12 +41,12 @@ text_value_shown text = (2, (text_shown text).0, (text_shown text).1)
 
 -- what an entry says of the capability at a place; at or past the count, as the views of flags, numbers and texts
 abbrev pub value_at : EntryValue → Position → Shown
-value_at v (Standard kinds.Flag i) = flag_shown (get_or v.flags i flags.No)
-value_at v (Standard kinds.Number i) = number_shown (get_or v.numbers i numbers.Absent)
-value_at v (Standard kinds.Text i) = text_value_shown (get_or v.texts i AbsentText)
-value_at v (Extended kinds.Flag i) = flag_shown (get_or (map mark_in v.extended_flags) i flags.No)
-value_at v (Extended kinds.Number i) = number_shown (get_or (map mark_in v.extended_numbers) i numbers.Absent)
-value_at v (Extended kinds.Text i) = text_value_shown (get_or (map mark_in v.extended_texts) i AbsentText)
+value_at v (Standard kinds.Flag i) = flag_shown (get_or v.standard.flags i flags.No)
+value_at v (Standard kinds.Number i) = number_shown (get_or v.standard.numbers i numbers.Absent)
+value_at v (Standard kinds.Text i) = text_value_shown (get_or v.standard.texts i AbsentText)
+value_at v (Extended kinds.Flag i) = flag_shown (get_or (map mark_in v.extended.flags) i flags.No)
+value_at v (Extended kinds.Number i) = number_shown (get_or (map mark_in v.extended.numbers) i numbers.Absent)
+value_at v (Extended kinds.Text i) = text_value_shown (get_or (map mark_in v.extended.texts) i AbsentText)
 
 -- the value is that of the capability with the name
 abbrev pub IsFoundIn : EntryValue → List ℕ → Shown → Type 0
@@ -56,9 +56,9 @@ IsFoundIn v name shown = (at : Position) × IsPosition v name (Some at) × (show
 abbrev pub HasExtended : EntryValue → Option Kind → ℕ → List ℕ → Shown → Type 0
 HasExtended v None index name shown = ⊥
 HasExtended v (Some kind) index name shown =
-    (slice_get (names_of v kind) index ≡ Some name) × (shown ≡ value_at v (Extended kind index))
+    (slice_get (names_of v.extended kind) index ≡ Some name) × (shown ≡ value_at v (Extended kind index))
 
 -- there is no extended capability at an index
 abbrev pub LacksExtended : EntryValue → Option Kind → ℕ → Type 0
 LacksExtended v None index = ⊤
-LacksExtended v (Some kind) index = slice_get (names_of v kind) index ≡ None
+LacksExtended v (Some kind) index = slice_get (names_of v.extended kind) index ≡ None

@@ -5,7 +5,7 @@
 
 ghost use Rattle.std.specs.Prelude.{◌≡◌, ◌≢◌, ℕ, ◌+◌, ◌*◌, ◌≤◌, ◌⊎◌, ◌++◌, ◌↔◌, IsTrue, length, map, take};
 ghost use Rattle.ti_words.specs.Marks.{word_of_number as the_word_of_number};
-ghost use Rattle.ti_words.specs.Spelling.{mark_in, extended_names};
+ghost use Rattle.ti_words.specs.Spelling.{mark_in, part_names};
 ghost use Rattle.ti_words.specs.Texts.{text_value};
 ghost use Rattle.ti_words.specs.Value.{EntryValue};
 ghost use Rattle.ti_words.specs.Widths.{number_size};
@@ -90,8 +90,8 @@ fn put_text<'a>(item: &mut TextItem<'a>, text: Text<'a>)
 
 /// Puts the flags of an entry at the front of an array.
 fn put_flags(entry: &Entry<'_>, flags: &mut [i8])
-    requires { length entry.now.flags ≤ length flags.old }
-    ensures { StartsWith itself flags.old flags.new (map the_flag_mark entry.now.flags) }
+    requires { length entry.now.standard.flags ≤ length flags.old }
+    ensures { StartsWith itself flags.old flags.new (map the_flag_mark entry.now.standard.flags) }
 {
     for i in 0..entry.flag_count() {
         flags[i] = flag_mark(entry.flag(i));
@@ -100,10 +100,10 @@ fn put_flags(entry: &Entry<'_>, flags: &mut [i8])
 
 /// Puts the extended flags into an array, from a place on.
 fn put_extended_flags(extended: &Extended<'_>, flags: &mut [i8], from: usize)
-    requires { from + length extended.now.extended_flags ≤ length flags.old }
+    requires { from + length extended.now.flags ≤ length flags.old }
     ensures { StartsWith itself flags.old flags.new
         (map itself (take from flags.old)
-        ++ map the_flag_mark (map mark_in extended.now.extended_flags)) }
+        ++ map the_flag_mark (map mark_in extended.now.flags)) }
 {
     for i in 0..extended.flag_count() {
         flags[from + i] = flag_mark(extended.flag(i));
@@ -112,9 +112,9 @@ fn put_extended_flags(extended: &Extended<'_>, flags: &mut [i8], from: usize)
 
 /// Puts the numbers of an entry at the front of an array.
 fn put_numbers(entry: &Entry<'_>, numbers: &mut [i32])
-    requires { length entry.now.numbers ≤ length numbers.old }
+    requires { length entry.now.standard.numbers ≤ length numbers.old }
     ensures { StartsWith itself numbers.old numbers.new
-        (map the_word_of_number entry.now.numbers) }
+        (map the_word_of_number entry.now.standard.numbers) }
 {
     for i in 0..entry.number_count() {
         numbers[i] = number_word(entry.number(i));
@@ -123,10 +123,10 @@ fn put_numbers(entry: &Entry<'_>, numbers: &mut [i32])
 
 /// Puts the extended numbers into an array, from a place on.
 fn put_extended_numbers(extended: &Extended<'_>, numbers: &mut [i32], from: usize)
-    requires { from + length extended.now.extended_numbers ≤ length numbers.old }
+    requires { from + length extended.now.numbers ≤ length numbers.old }
     ensures { StartsWith itself numbers.old numbers.new
         (map itself (take from numbers.old)
-        ++ map the_word_of_number (map mark_in extended.now.extended_numbers)) }
+        ++ map the_word_of_number (map mark_in extended.now.numbers)) }
 {
     for i in 0..extended.number_count() {
         numbers[from + i] = number_word(extended.number(i));
@@ -135,8 +135,8 @@ fn put_extended_numbers(extended: &Extended<'_>, numbers: &mut [i32], from: usiz
 
 /// Puts the texts of an entry at the front of an array.
 fn put_texts<'a>(entry: &Entry<'a>, texts: &mut [TextItem<'a>])
-    requires { length entry.now.texts ≤ length texts.old }
-    ensures { StartsWith text_held texts.old texts.new (map text_shown entry.now.texts) }
+    requires { length entry.now.standard.texts ≤ length texts.old }
+    ensures { StartsWith text_held texts.old texts.new (map text_shown entry.now.standard.texts) }
 {
     for i in 0..entry.text_count() {
         put_text(&mut texts[i], entry.text(i));
@@ -145,10 +145,10 @@ fn put_texts<'a>(entry: &Entry<'a>, texts: &mut [TextItem<'a>])
 
 /// Puts the extended texts into an array, from a place on.
 fn put_extended_texts<'a>(extended: &Extended<'a>, texts: &mut [TextItem<'a>], from: usize)
-    requires { from + length extended.now.extended_texts ≤ length texts.old }
+    requires { from + length extended.now.texts ≤ length texts.old }
     ensures { StartsWith text_held texts.old texts.new
         (map text_held (take from texts.old)
-        ++ map text_shown (map mark_in extended.now.extended_texts)) }
+        ++ map text_shown (map mark_in extended.now.texts)) }
 {
     for i in 0..extended.text_count() {
         put_text(&mut texts[from + i], extended.text(i));
@@ -197,7 +197,7 @@ fn has_room(
     texts: usize,
     names: usize,
 ) -> bool
-    requires { extended.now ≡ entry.now }
+    requires { extended.now ≡ entry.now.extended }
     ensures { IsTrue result ↔ HasRoom entry.now flags numbers texts names }
 {
     let flag_names = extended.flag_count();
@@ -226,7 +226,7 @@ pub(crate) fn put_counts<'a>(
     entry: &Entry<'a>,
     extended: &Extended<'a>,
 )
-    requires { extended.now ≡ entry.now }
+    requires { extended.now ≡ entry.now.extended }
     ensures told { Tells counts.new entry.now }
     ensures untold { counts.new.place ≡ counts.old.place }
 {
@@ -242,8 +242,8 @@ pub(crate) fn put_counts<'a>(
 
 /// Puts the names of all extended capabilities at the front of an array: of flags, then numbers, then texts.
 fn put_all_names<'a>(extended: &Extended<'a>, names: &mut [Bytes<'a>])
-    requires { length (extended_names extended.now) ≤ length names.old }
-    ensures { StartsWith bytes_held names.old names.new (extended_names extended.now) }
+    requires { length (part_names extended.now) ≤ length names.old }
+    ensures { StartsWith bytes_held names.old names.new (part_names extended.now) }
 {
     let numbers_from = extended.flag_count();
     let texts_from = numbers_from + extended.number_count();
@@ -261,13 +261,13 @@ fn fill<'a>(
     texts: &mut [TextItem<'a>],
     names: &mut [Bytes<'a>],
 )
-    requires same { extended.now ≡ entry.now }
+    requires same { extended.now ≡ entry.now.extended }
     requires room { HasRoom entry.now (length flags.old) (length numbers.old) (length texts.old)
         (length names.old) }
     ensures flags { StartsWith itself flags.old flags.new (flag_marks entry.now) }
     ensures numbers { StartsWith itself numbers.old numbers.new (number_words entry.now) }
     ensures texts { StartsWith text_held texts.old texts.new (texts_shown entry.now) }
-    ensures names { StartsWith bytes_held names.old names.new (extended_names entry.now) }
+    ensures names { StartsWith bytes_held names.old names.new (part_names entry.now.extended) }
 {
     put_flags(entry, flags);
     put_extended_flags(extended, flags, entry.flag_count());
@@ -319,7 +319,7 @@ pub extern "C" fn ti_read<'a>(
     ensures texts { result ≡ done → ForEntry bytes.now (λ v.
         StartsWith text_held texts.old texts.new (texts_shown v)) }
     ensures names { result ≡ done → ForEntry bytes.now (λ v.
-        StartsWith bytes_held names.old names.new (extended_names v)) }
+        StartsWith bytes_held names.old names.new (part_names v.extended)) }
 {
     let found = match read(bytes) {
         Ok(found) => found,

@@ -85,7 +85,7 @@ fn entry_of<'a>(view: &View<'a>) -> Option<Entry<'a>>
 #[unsafe(no_mangle)]
 pub extern "C" fn ti_view_flag(view: &View<'_>, index: usize) -> i8
     ensures { (v : EntryValue) → IsOpen view.now v
-        → result ≡ the_flag_mark (get_or v.flags index Flag.No) }
+        → result ≡ the_flag_mark (get_or v.standard.flags index Flag.No) }
 {
     match entry_of(view) {
         Some(entry) => flag_mark(entry.flag(index)),
@@ -97,7 +97,7 @@ pub extern "C" fn ti_view_flag(view: &View<'_>, index: usize) -> i8
 #[unsafe(no_mangle)]
 pub extern "C" fn ti_view_number(view: &View<'_>, index: usize) -> i32
     ensures { (v : EntryValue) → IsOpen view.now v
-        → result ≡ the_word_of_number (get_or v.numbers index Number.Absent) }
+        → result ≡ the_word_of_number (get_or v.standard.numbers index Number.Absent) }
 {
     match entry_of(view) {
         Some(entry) => number_word(entry.number(index)),
@@ -109,9 +109,9 @@ pub extern "C" fn ti_view_number(view: &View<'_>, index: usize) -> i32
 #[unsafe(no_mangle)]
 pub extern "C" fn ti_view_text<'a>(view: &View<'a>, index: usize, text: &mut Bytes<'a>) -> i8
     ensures mark { (v : EntryValue) → IsOpen view.now v
-        → result ≡ (text_shown (get_or v.texts index AbsentText)).0 }
+        → result ≡ (text_shown (get_or v.standard.texts index AbsentText)).0 }
     ensures text { (v : EntryValue) → IsOpen view.now v → result ≡ pos 0
-        → text.new.bytes.now ≡ (text_shown (get_or v.texts index AbsentText)).1 }
+        → text.new.bytes.now ≡ (text_shown (get_or v.standard.texts index AbsentText)).1 }
     ensures kept { (result ≡ pos 0) ⊎ (text.new ≡ text.old) }
 {
     let Some(entry) = entry_of(view) else {

@@ -8,10 +8,10 @@ use Rattle.ti_words.specs.Texts.{TextValue, AbsentText, CancelledText, TextOf}
 use Rattle.ti_words.specs.Value.{EntryValue}
 use Rattle.ti_base.specs.Limits.{most_entry_bytes}
 use Rattle.ti_words.specs.Widths.{number_size}
-use Rattle.ti_words.specs.Spelling.{mark_in, extended_names}
+use Rattle.ti_words.specs.Spelling.{mark_in, part_names}
 use Rattle.ti_draft.specs.Canonical.{canonical, plain_bytes, extended_bytes, texts_table, names_table, present_count}
 use Rattle.ti_draft.specs.Unfit.{encode_fault, has_bad_name, has_bad_text, has_bad_number, is_too_long}
-use Rattle.ti_draft.proofs.LengthLemmas.{length_plain, length_both, length_extended_names}
+use Rattle.ti_draft.proofs.LengthLemmas.{length_plain, length_both, length_part_names}
 
 pub record Fit (v : EntryValue) : Type 0 where
   pub good_names : has_bad_name v ≡ false
@@ -40,10 +40,10 @@ fit v h =
 
 pub record Small (v : EntryValue) : Type 0 where
   pub names : length v.names + 1 < 2 ^ 15
-  pub flags : length v.flags < 2 ^ 15
-  pub numbers : length v.numbers < 2 ^ 15
-  pub texts : length v.texts < 2 ^ 15
-  pub table : length (texts_table v.texts) < 2 ^ 15
+  pub flags : length v.standard.flags < 2 ^ 15
+  pub numbers : length v.standard.numbers < 2 ^ 15
+  pub texts : length v.standard.texts < 2 ^ 15
+  pub table : length (texts_table v.standard.texts) < 2 ^ 15
 
 at_least : (w : Width) (n : ℕ) → n ≤ n * number_size w
 at_least Legacy n = omega arith
@@ -52,9 +52,9 @@ at_least Wide n = omega arith
 pub small : (v : EntryValue) → encode_fault v ≡ None → Small v
 small v h =
     let whole = (fit v h).short in
-    let split = length-append (plain_bytes v) (if length (extended_names v) == 0 then [] else extended_bytes v) in
+    let split = length-append (plain_bytes v) (if length (part_names v.extended) == 0 then [] else extended_bytes v) in
     let plain = length_plain v in
-    let each = at_least v.width (length v.numbers) in
+    let each = at_least v.width (length v.standard.numbers) in
     record {
       names = omega (arith, whole, split, plain, each);
       flags = omega (arith, whole, split, plain, each);
@@ -66,11 +66,11 @@ small v h =
 -- ---- the extended part
 
 pub record SmallExtended (v : EntryValue) : Type 0 where
-  pub flags : length v.extended_flags < 2 ^ 15
-  pub numbers : length v.extended_numbers < 2 ^ 15
-  pub texts : length v.extended_texts < 2 ^ 15
-  pub items : present_count (map mark_in v.extended_texts) + length (extended_names v) < 2 ^ 15
-  pub table : length (texts_table (map mark_in v.extended_texts)) + length (names_table (extended_names v)) < 2 ^ 15
+  pub flags : length v.extended.flags < 2 ^ 15
+  pub numbers : length v.extended.numbers < 2 ^ 15
+  pub texts : length v.extended.texts < 2 ^ 15
+  pub items : present_count (map mark_in v.extended.texts) + length (part_names v.extended) < 2 ^ 15
+  pub table : length (texts_table (map mark_in v.extended.texts)) + length (names_table (part_names v.extended)) < 2 ^ 15
 
 present_within : (ts : List TextValue) → present_count ts ≤ length (texts_table ts)
 present_within [] = omega arith
@@ -82,14 +82,14 @@ names_within : (names : List (List ℕ)) → length names ≤ length (names_tabl
 names_within [] = omega arith
 names_within (name ∷ names) = omega (arith, length-append (name ++ 0 ∷ []) (names_table names), length-append name (0 ∷ []), names_within names)
 
-pub small_extended : (v : EntryValue) → encode_fault v ≡ None → (length (extended_names v) == 0) ≡ false → SmallExtended v
+pub small_extended : (v : EntryValue) → encode_fault v ≡ None → (length (part_names v.extended) == 0) ≡ false → SmallExtended v
 small_extended v h e =
     let whole = (fit v h).short in
     let split = length_both v e in
     let plain = length_plain v in
-    let there = present_within (map mark_in v.extended_texts) in
-    let named = names_within (extended_names v) in
-    let each = length_extended_names v in
+    let there = present_within (map mark_in v.extended.texts) in
+    let named = names_within (part_names v.extended) in
+    let each = length_part_names v.extended in
     record {
       flags = omega (arith, whole, split, plain, there, named, each);
       numbers = omega (arith, whole, split, plain, there, named, each);

@@ -9,11 +9,11 @@ use Rattle.ti_words.specs.declared.Number.TheVariants as numbers
 use Rattle.ti_words.specs.declared.Width.{Width}
 use Rattle.ti_words.specs.declared.Width.TheVariants.{Legacy, Wide}
 use Rattle.ti_words.specs.Texts.{TextValue, AbsentText, CancelledText, TextOf, is_nul}
-use Rattle.ti_words.specs.Value.{EntryValue}
-use Rattle.ti_words.specs.Spelling.{Spells, HasSections, HasExtendedPart, HasNoNul, FitsWidth, Has, IsText, IsName, Each, mark_in, text_size, texts_size, extended_names}
+use Rattle.ti_words.specs.Value.{NamedPart, EntryValue, no_named}
+use Rattle.ti_words.specs.Spelling.{Spells, HasSections, HasExtendedPart, HasNoNul, FitsWidth, Has, IsText, IsName, Each, mark_in, text_size, texts_size, part_names}
 use Rattle.ti_draft.specs.Canonical.{canonical, plain_bytes, extended_bytes, text_bytes, texts_table, text_words, names_table, name_words}
 use Rattle.ti_draft.specs.Unfit.{encode_fault, has_nul, text_has_nul, is_out_of_range}
-use Rattle.ti_draft.proofs.LengthLemmas.{is_plain_bytes, is_both, length_extended_names}
+use Rattle.ti_draft.proofs.LengthLemmas.{is_plain_bytes, is_both, length_part_names}
 use Rattle.ti_draft.proofs.EncodeFaultLemmas.{fit, small, small_extended}
 
 -- ---- what has no fault
@@ -91,38 +91,38 @@ base_is (t ∷ ts) = omega (arith, size_of t.1, base_is ts, length-append (text_
 
 -- ---- both parts
 
-sections_of : (v : EntryValue) (rest : List ℕ) → encode_fault v ≡ None → HasSections v (texts_table v.texts) rest (plain_bytes v ++ rest)
+sections_of : (v : EntryValue) (rest : List ℕ) → encode_fault v ≡ None → HasSections v (texts_table v.standard.texts) rest (plain_bytes v ++ rest)
 sections_of v rest h =
     let f = fit v h in
     let few = small v h in
-    let front = neither ((length v.names == 0) || has_nul v.names) (list_any has_nul (extended_names v)) f.good_names in
+    let front = neither ((length v.names == 0) || has_nul v.names) (list_any has_nul (part_names v.extended)) f.good_names in
     let named = neither (length v.names == 0) (has_nul v.names) front.0 in
     let there = eqb-false (length v.names) 0 named.0 in
-    let text = neither (list_any text_has_nul v.texts) (list_any text_has_nul (map mark_in v.extended_texts)) f.good_texts in
-    let number = neither (list_any (is_out_of_range v.width) v.numbers) (list_any (is_out_of_range v.width) (map mark_in v.extended_numbers)) f.good_numbers in
-    let put = texts_put [] v.texts [] (none_of text_has_nul IsClean clean_text v.texts text.0) in
-    let P : List ℕ → Type 0 = λ table. Each (IsText table) (text_words 0 v.texts) v.texts in
+    let text = neither (list_any text_has_nul v.standard.texts) (list_any text_has_nul (map mark_in v.extended.texts)) f.good_texts in
+    let number = neither (list_any (is_out_of_range v.width) v.standard.numbers) (list_any (is_out_of_range v.width) (map mark_in v.extended.numbers)) f.good_numbers in
+    let put = texts_put [] v.standard.texts [] (none_of text_has_nul IsClean clean_text v.standard.texts text.0) in
+    let P : List ℕ → Type 0 = λ table. Each (IsText table) (text_words 0 v.standard.texts) v.standard.texts in
     record {
-      offsets = text_words 0 v.texts;
+      offsets = text_words 0 v.standard.texts;
       joined = refl;
       counts = (few.names, (few.flags, (few.numbers, (few.texts, (few.table, tt)))));
       named = omega (arith, there);
       names_fit = clean v.names named.1;
-      numbers_fit = none_of (is_out_of_range v.width) (FitsWidth v.width) (fits_width v.width) v.numbers number.0;
-      texts_there = subst P (append-nil (texts_table v.texts)) put;
+      numbers_fit = none_of (is_out_of_range v.width) (FitsWidth v.width) (fits_width v.width) v.standard.numbers number.0;
+      texts_there = subst P (append-nil (texts_table v.standard.texts)) put;
     }
 
-extended_of : (v : EntryValue) → encode_fault v ≡ None → (length (extended_names v) == 0) ≡ false
-    → HasExtendedPart v (length (texts_table v.texts)) (extended_bytes v)
+extended_of : (v : EntryValue) → encode_fault v ≡ None → (length (part_names v.extended) == 0) ≡ false
+    → HasExtendedPart v (length (texts_table v.standard.texts)) (extended_bytes v)
 extended_of v h e =
     let f = fit v h in
     let few = small_extended v h e in
-    let texts = map mark_in v.extended_texts in
-    let names = extended_names v in
+    let texts = map mark_in v.extended.texts in
+    let names = part_names v.extended in
     let values = texts_table texts in
     let named = neither ((length v.names == 0) || has_nul v.names) (list_any has_nul names) f.good_names in
-    let text = neither (list_any text_has_nul v.texts) (list_any text_has_nul texts) f.good_texts in
-    let number = neither (list_any (is_out_of_range v.width) v.numbers) (list_any (is_out_of_range v.width) (map mark_in v.extended_numbers)) f.good_numbers in
+    let text = neither (list_any text_has_nul v.standard.texts) (list_any text_has_nul texts) f.good_texts in
+    let number = neither (list_any (is_out_of_range v.width) v.standard.numbers) (list_any (is_out_of_range v.width) (map mark_in v.extended.numbers)) f.good_numbers in
     let long : length (values ++ names_table names) < 2 ^ 15 = omega (arith, length-append values (names_table names), few.table) in
     let P : ℕ → Type 0 = λ base. Each (IsName (values ++ names_table names) base) (name_words 0 names) names in
     let put = names_put values (length values) 0 names (omega arith) (none_of has_nul HasNoNul clean names named.1) in
@@ -134,31 +134,35 @@ extended_of v h e =
       joined = refl;
       counts = (few.flags, (few.numbers, (few.texts, (long, tt))));
       items_size = refl;
-      numbers_fit = none_of (is_out_of_range v.width) (FitsWidth v.width) (fits_width v.width) (map mark_in v.extended_numbers) number.1;
+      numbers_fit = none_of (is_out_of_range v.width) (FitsWidth v.width) (fits_width v.width) (map mark_in v.extended.numbers) number.1;
       texts_there = texts_put [] texts (names_table names) (none_of text_has_nul IsClean clean_text texts text.1);
-      names_there = subst P (sym (base_is v.extended_texts)) put;
+      names_there = subst P (sym (base_is v.extended.texts)) put;
     }
 
 nothing : {X : Type 0} → (xs : List X) → length xs ≡ 0 → xs ≡ []
 nothing [] h = refl
 nothing (x ∷ xs) h = absurd (omega arith)
 
-spells_under : (v : EntryValue) (b : Bool) → (length (extended_names v) == 0) ≡ b → encode_fault v ≡ None → Spells (canonical v) v
+none_named : (p : NamedPart) → length (part_names p) ≡ 0 → p ≡ no_named
+none_named p h =
+    let each = length_part_names p in
+    let flags = nothing p.flags (omega (arith, h, each)) in
+    let numbers = nothing p.numbers (omega (arith, h, each)) in
+    let texts = nothing p.texts (omega (arith, h, each)) in
+    let fields : ◌≡◌ {A = NamedPart} (record { flags = p.flags; numbers = p.numbers; texts = p.texts }) no_named = rw (flags, numbers, texts) refl in fields
+
+spells_under : (v : EntryValue) (b : Bool) → (length (part_names v.extended) == 0) ≡ b → encode_fault v ≡ None → Spells (canonical v) v
 spells_under v true e h =
     let P : List ℕ → Type 0 = λ bytes. Spells bytes v in
     let is : canonical v ≡ plain_bytes v ++ [] = is_plain_bytes v e ∙ sym (append-nil (plain_bytes v)) in
-    let none = eqb-true (length (extended_names v)) 0 e in
-    let each = length_extended_names v in
     subst P (sym is) record {
       fits = omega (arith, (fit v h).short, ap length is);
-      table = texts_table v.texts;
+      table = texts_table v.standard.texts;
       rest = [];
       sections = sections_of v [] h;
       extended = inl record {
         ends = refl;
-        no_flags = nothing v.extended_flags (omega (arith, none, each));
-        no_numbers = nothing v.extended_numbers (omega (arith, none, each));
-        no_texts = nothing v.extended_texts (omega (arith, none, each));
+        none = none_named v.extended (eqb-true (length (part_names v.extended)) 0 e);
       };
     }
 spells_under v false e h =
@@ -166,11 +170,11 @@ spells_under v false e h =
     let is = is_both v e in
     subst P (sym is) record {
       fits = omega (arith, (fit v h).short, ap length is);
-      table = texts_table v.texts;
+      table = texts_table v.standard.texts;
       rest = extended_bytes v;
       sections = sections_of v (extended_bytes v) h;
       extended = inr (extended_of v h e);
     }
 
 pub canonical_spells : (v : EntryValue) → encode_fault v ≡ None → Spells (canonical v) v
-canonical_spells v h = spells_under v (length (extended_names v) == 0) refl h
+canonical_spells v h = spells_under v (length (part_names v.extended) == 0) refl h

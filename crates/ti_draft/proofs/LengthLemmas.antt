@@ -7,9 +7,9 @@ use Rattle.ti_words.specs.declared.Width.{Width}
 use Rattle.ti_words.specs.Texts.{TextValue, AbsentText, CancelledText, TextOf}
 use Rattle.ti_words.specs.Marks.{byte_of_flag, word_of_number}
 use Rattle.ti_words.specs.Word.{low_bytes, word}
-use Rattle.ti_words.specs.Value.{EntryValue}
+use Rattle.ti_words.specs.Value.{NamedPart, EntryValue}
 use Rattle.ti_words.specs.Widths.{number_size}
-use Rattle.ti_words.specs.Spelling.{pad_len, magic, words_of, numbers_of, pad, mark_in, name_in, extended_names}
+use Rattle.ti_words.specs.Spelling.{pad_len, magic, words_of, numbers_of, pad, mark_in, name_in, part_names}
 use Rattle.ti_draft.specs.Canonical.{text_words, texts_table, name_words, names_table, plain_bytes, extended_bytes, canonical}
 use Rattle.ti_draft.specs.Lengths.{extended_length}
 
@@ -58,60 +58,60 @@ names_table_append (x ∷ xs) ys = ap (λ l. (x ++ 0 ∷ []) ++ l) (names_table_
 -- how long the plain bytes are
 abbrev pub plain_length : EntryValue → ℕ
 plain_length v =
-    13 + pad_len (length v.names + 1 + length v.flags) + length v.names + length v.flags
-    + length v.numbers * number_size v.width + length v.texts * 2 + length (texts_table v.texts)
+    13 + pad_len (length v.names + 1 + length v.standard.flags) + length v.names + length v.standard.flags
+    + length v.standard.numbers * number_size v.width + length v.standard.texts * 2 + length (texts_table v.standard.texts)
 
 pub length_plain : (v : EntryValue) → length (plain_bytes v) ≡ plain_length v
 length_plain v =
-    let words = text_words 0 v.texts in
+    let words = text_words 0 v.standard.texts in
     let magic_two = length_magic v.width in
-    let flags = length_flags byte_of_flag v.flags in
-    let the_pad = length_pad (length v.names + 1 + length v.flags) in
-    let the_numbers = length_numbers v.width v.numbers in
+    let flags = length_flags byte_of_flag v.standard.flags in
+    let the_pad = length_pad (length v.names + 1 + length v.standard.flags) in
+    let the_numbers = length_numbers v.width v.standard.numbers in
     let the_words = length_words words in
-    let the_texts = length_text_words 0 v.texts in
+    let the_texts = length_text_words 0 v.standard.texts in
     simp length-append (omega (arith, magic_two, flags, the_pad, the_numbers, the_words, the_texts))
 
-pub length_extended_names : (v : EntryValue) → length (extended_names v) ≡ length v.extended_flags + length v.extended_numbers + length v.extended_texts
-length_extended_names v = simp (length-append, length-map)
+pub length_part_names : (p : NamedPart) → length (part_names p) ≡ length p.flags + length p.numbers + length p.texts
+length_part_names p = simp (length-append, length-map)
 
-pub length_extended : (v : EntryValue) → length (extended_bytes v) ≡ pad_len (length (texts_table v.texts)) + extended_length v
+pub length_extended : (v : EntryValue) → length (extended_bytes v) ≡ pad_len (length (texts_table v.standard.texts)) + extended_length v
 length_extended v =
-    let texts = map mark_in v.extended_texts in
-    let names = extended_names v in
-    let first_pad = length_pad (length (texts_table v.texts)) in
-    let flags = length_flags byte_of_flag (map mark_in v.extended_flags) in
-    let flags_in = length-map v.extended_flags mark_in in
-    let the_pad = length_pad (length v.extended_flags) in
-    let the_numbers : length (numbers_of v.width (map mark_in v.extended_numbers)) ≡ length v.extended_numbers * number_size v.width =
-    length_numbers v.width (map mark_in v.extended_numbers) ∙ ap (λ n. n * number_size v.width) (length-map v.extended_numbers mark_in) in
+    let texts = map mark_in v.extended.texts in
+    let names = part_names v.extended in
+    let first_pad = length_pad (length (texts_table v.standard.texts)) in
+    let flags = length_flags byte_of_flag (map mark_in v.extended.flags) in
+    let flags_in = length-map v.extended.flags mark_in in
+    let the_pad = length_pad (length v.extended.flags) in
+    let the_numbers : length (numbers_of v.width (map mark_in v.extended.numbers)) ≡ length v.extended.numbers * number_size v.width =
+    length_numbers v.width (map mark_in v.extended.numbers) ∙ ap (λ n. n * number_size v.width) (length-map v.extended.numbers mark_in) in
     let the_words = length_words (text_words 0 texts) in
     let the_texts = length_text_words 0 texts in
-    let texts_in = length-map v.extended_texts mark_in in
+    let texts_in = length-map v.extended.texts mark_in in
     let the_name_words = length_words (name_words 0 names) in
     let the_names = length_name_words 0 names in
-    let names_in = length_extended_names v in
-    let parts = mul-add (length v.extended_numbers) (number_size v.width) 2 in
+    let names_in = length_part_names v.extended in
+    let parts = mul-add (length v.extended.numbers) (number_size v.width) 2 in
     simp length-append (omega (arith, first_pad, flags, flags_in, the_pad, the_numbers, the_words, the_texts, texts_in, the_name_words, the_names, names_in, parts))
 
-pub length_names_tables : (v : EntryValue) → length (names_table (extended_names v)) ≡ length (names_table (map name_in v.extended_flags)) + length (names_table (map name_in v.extended_numbers)) + length (names_table (map name_in v.extended_texts))
-length_names_tables v =
-    let f = map name_in v.extended_flags in
-    let n = map name_in v.extended_numbers in
-    let t = map name_in v.extended_texts in
+pub length_names_tables : (p : NamedPart) → length (names_table (part_names p)) ≡ length (names_table (map name_in p.flags)) + length (names_table (map name_in p.numbers)) + length (names_table (map name_in p.texts))
+length_names_tables p =
+    let f = map name_in p.flags in
+    let n = map name_in p.numbers in
+    let t = map name_in p.texts in
     ap length (names_table_append (f ++ n) t ∙ ap (λ l. l ++ names_table t) (names_table_append f n)) ∙ simp length-append
 
 -- ---- the whole
 
-pub is_plain_bytes : (v : EntryValue) → (length (extended_names v) == 0) ≡ true → canonical v ≡ plain_bytes v
+pub is_plain_bytes : (v : EntryValue) → (length (part_names v.extended) == 0) ≡ true → canonical v ≡ plain_bytes v
 is_plain_bytes v e = rw e (append-nil (plain_bytes v))
 
-pub is_both : (v : EntryValue) → (length (extended_names v) == 0) ≡ false → canonical v ≡ plain_bytes v ++ extended_bytes v
+pub is_both : (v : EntryValue) → (length (part_names v.extended) == 0) ≡ false → canonical v ≡ plain_bytes v ++ extended_bytes v
 is_both v e = rw e refl
 
-pub length_both : (v : EntryValue) → (length (extended_names v) == 0) ≡ false
-    → length (canonical v) ≡ length (plain_bytes v) + pad_len (length (texts_table v.texts)) + extended_length v
+pub length_both : (v : EntryValue) → (length (part_names v.extended) == 0) ≡ false
+    → length (canonical v) ≡ length (plain_bytes v) + pad_len (length (texts_table v.standard.texts)) + extended_length v
 length_both v e = ap length (is_both v e) ∙ length-append (plain_bytes v) (extended_bytes v) ∙ omega (arith, length_extended v)
 
-pub table_within : (v : EntryValue) → length (texts_table v.texts) ≤ length (plain_bytes v)
+pub table_within : (v : EntryValue) → length (texts_table v.standard.texts) ≤ length (plain_bytes v)
 table_within v = omega (arith, length_plain v)

@@ -2,7 +2,7 @@
 use Rattle.std.specs.Prelude.{ℕ, ◌+◌, ℤ, pos, negsuc, List, [], ◌∷◌, ◌++◌, length, map, if◌then◌else◌, ◌==◌}
 use Rattle.ti_words.specs.Texts.{TextValue, AbsentText, CancelledText, TextOf}
 use Rattle.ti_words.specs.Value.{EntryValue}
-use Rattle.ti_words.specs.Spelling.{magic, count_word, words_of, numbers_of, flags_of, pad, mark_in, extended_names}
+use Rattle.ti_words.specs.Spelling.{magic, count_word, words_of, numbers_of, flags_of, pad, mark_in, part_names}
 
 -- the texts that are there, in their order, each with its NUL
 abbrev pub text_bytes : TextValue → List ℕ
@@ -39,39 +39,39 @@ present_count (CancelledText ∷ ts) = present_count ts
 -- the sections up to the end of the string table
 abbrev pub plain_bytes : EntryValue → List ℕ
 plain_bytes v =
-    let table = texts_table v.texts in
+    let table = texts_table v.standard.texts in
     magic v.width
     ++ count_word (length v.names + 1)
-    ++ count_word (length v.flags)
-    ++ count_word (length v.numbers)
-    ++ count_word (length v.texts)
+    ++ count_word (length v.standard.flags)
+    ++ count_word (length v.standard.numbers)
+    ++ count_word (length v.standard.texts)
     ++ count_word (length table)
     ++ (v.names ++ 0 ∷ [])
-    ++ flags_of v.flags
-    ++ pad (length v.names + 1 + length v.flags)
-    ++ numbers_of v.width v.numbers
-    ++ words_of (text_words 0 v.texts)
+    ++ flags_of v.standard.flags
+    ++ pad (length v.names + 1 + length v.standard.flags)
+    ++ numbers_of v.width v.standard.numbers
+    ++ words_of (text_words 0 v.standard.texts)
     ++ table
 
 -- the extended part; its word items counts the texts that are there and the names
 abbrev pub extended_bytes : EntryValue → List ℕ
 extended_bytes v =
-    let texts = map mark_in v.extended_texts in
-    let names = extended_names v in
+    let texts = map mark_in v.extended.texts in
+    let names = part_names v.extended in
     let table = texts_table texts ++ names_table names in
-    pad (length (texts_table v.texts))
-    ++ count_word (length v.extended_flags)
-    ++ count_word (length v.extended_numbers)
-    ++ count_word (length v.extended_texts)
+    pad (length (texts_table v.standard.texts))
+    ++ count_word (length v.extended.flags)
+    ++ count_word (length v.extended.numbers)
+    ++ count_word (length v.extended.texts)
     ++ count_word (present_count texts + length names)
     ++ count_word (length table)
-    ++ flags_of (map mark_in v.extended_flags)
-    ++ pad (length v.extended_flags)
-    ++ numbers_of v.width (map mark_in v.extended_numbers)
+    ++ flags_of (map mark_in v.extended.flags)
+    ++ pad (length v.extended.flags)
+    ++ numbers_of v.width (map mark_in v.extended.numbers)
     ++ words_of (text_words 0 texts)
     ++ words_of (name_words 0 names)
     ++ table
 
 -- an extended part is written if there is a name
 abbrev pub canonical : EntryValue → List ℕ
-canonical v = plain_bytes v ++ (if length (extended_names v) == 0 then [] else extended_bytes v)
+canonical v = plain_bytes v ++ (if length (part_names v.extended) == 0 then [] else extended_bytes v)

@@ -8,6 +8,6 @@ use Rattle.ti_draft.specs.Lengths.{capped_count, extended_table_length}
 
 -- the sizes of the tables of an entry, and of its canonical bytes
 pub record AreSizes (sizes : Sizes) (v : EntryValue) : Type 0 where
-  pub table : sizes.table ≡ capped_count (length (texts_table v.texts))
+  pub table : sizes.table ≡ capped_count (length (texts_table v.standard.texts))
   pub extended_table : sizes.extended_table ≡ capped_count (extended_table_length v)
   pub whole : sizes.whole ≡ capped_count (length (canonical v))

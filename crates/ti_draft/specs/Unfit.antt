@@ -10,7 +10,7 @@ use Rattle.ti_draft.specs.declared.unfit.EncodeFault.{EncodeFault}
 use Rattle.ti_draft.specs.declared.unfit.EncodeFault.TheVariants as faults
 use Rattle.ti_words.specs.Value.{EntryValue}
 use Rattle.ti_base.specs.Limits.{most_entry_bytes, greatest_word, greatest_wide_word}
-use Rattle.ti_words.specs.Spelling.{mark_in, extended_names}
+use Rattle.ti_words.specs.Spelling.{mark_in, part_names}
 use Rattle.ti_draft.specs.Canonical.{canonical}
 
 abbrev pub has_nul : List ℕ → Bool
@@ -18,7 +18,7 @@ has_nul bytes = list_any is_nul bytes
 
 -- the names are empty or hold a NUL, or an extended name holds one
 abbrev pub has_bad_name : EntryValue → Bool
-has_bad_name v = (length v.names == 0) || has_nul v.names || list_any has_nul (extended_names v)
+has_bad_name v = (length v.names == 0) || has_nul v.names || list_any has_nul (part_names v.extended)
 
 abbrev pub text_has_nul : TextValue → Bool
 text_has_nul AbsentText = false
@@ -27,7 +27,7 @@ text_has_nul (TextOf text) = has_nul text
 
 -- a text holds a NUL
 abbrev pub has_bad_text : EntryValue → Bool
-has_bad_text v = list_any text_has_nul v.texts || list_any text_has_nul (map mark_in v.extended_texts)
+has_bad_text v = list_any text_has_nul v.standard.texts || list_any text_has_nul (map mark_in v.extended.texts)
 
 -- the greatest number of a format
 abbrev pub greatest_number : Width → ℕ
@@ -43,8 +43,8 @@ is_out_of_range w (numbers.Value (negsuc n)) = true
 -- a number is negative, or too great for the format
 abbrev pub has_bad_number : EntryValue → Bool
 has_bad_number v =
-    list_any (is_out_of_range v.width) v.numbers
-    || list_any (is_out_of_range v.width) (map mark_in v.extended_numbers)
+    list_any (is_out_of_range v.width) v.standard.numbers
+    || list_any (is_out_of_range v.width) (map mark_in v.extended.numbers)
 
 -- its bytes are too many for an entry
 abbrev pub is_too_long : EntryValue → Bool

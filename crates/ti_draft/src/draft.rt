@@ -5,7 +5,7 @@
 
 ghost use Rattle.std.specs.Prelude.{◌≡◌, ◌==◌, ◌+◌, ◌++◌, ◌∷◌, [], length, map, IsOk, OnOk, OnErr};
 ghost use Rattle.ti_words.specs.Texts.{text_value};
-ghost use Rattle.ti_words.specs.Spelling.{name_in, mark_in, extended_names};
+ghost use Rattle.ti_words.specs.Spelling.{name_in, mark_in, part_names};
 
 use crate::named::Named;
 use std::alloc::{AllocError, Allocator, Global};
@@ -36,12 +36,16 @@ impl<'a, A: Allocator> Model for Draft<'a, A> {
     ghost view = { λ d. record {
       width = d.width;
       names = d.names.now;
-      flags = d.flags.items;
-      numbers = d.numbers.items;
-      texts = map text_value d.texts.items;
-      extended_flags = d.extended_flags;
-      extended_numbers = d.extended_numbers;
-      extended_texts = map (λ x. (x.0, text_value x.1)) d.extended_texts;
+      standard = record {
+        flags = d.flags.items;
+        numbers = d.numbers.items;
+        texts = map text_value d.texts.items;
+      };
+      extended = record {
+        flags = d.extended_flags;
+        numbers = d.extended_numbers;
+        texts = map (λ x. (x.0, text_value x.1)) d.extended_texts;
+      };
     } };
 }
 
@@ -87,7 +91,7 @@ impl<'a, A: Allocator> Draft<'a, A> {
     /// Memory was refused, and the draft is as before. The same holds for each push.
     pub fn push_flag(&mut self, flag: Flag) -> Result<(), AllocError>
         ensures added { OnOk result (self.new ≡ record self.old {
-          flags = self.old.flags ++ flag ∷ [];
+          standard = record self.old.standard { flags = self.old.standard.flags ++ flag ∷ [] };
         }) }
         ensures unchanged { OnErr result (self.new ≡ self.old) }
     {
@@ -98,7 +102,7 @@ impl<'a, A: Allocator> Draft<'a, A> {
     /// Adds a number after the others.
     pub fn push_number(&mut self, number: Number) -> Result<(), AllocError>
         ensures added { OnOk result (self.new ≡ record self.old {
-          numbers = self.old.numbers ++ number ∷ [];
+          standard = record self.old.standard { numbers = self.old.standard.numbers ++ number ∷ [] };
         }) }
         ensures unchanged { OnErr result (self.new ≡ self.old) }
     {
@@ -109,7 +113,7 @@ impl<'a, A: Allocator> Draft<'a, A> {
     /// Adds a text after the others.
     pub fn push_text(&mut self, text: Text<'a>) -> Result<(), AllocError>
         ensures added { OnOk result (self.new ≡ record self.old {
-          texts = self.old.texts ++ text_value text.entry ∷ [];
+          standard = record self.old.standard { texts = self.old.standard.texts ++ text_value text.entry ∷ [] };
         }) }
         ensures unchanged { OnErr result (self.new ≡ self.old) }
     {
@@ -120,7 +124,9 @@ impl<'a, A: Allocator> Draft<'a, A> {
     /// Adds a flag with its name after the other extended flags.
     pub fn push_extended_flag(&mut self, name: &'a [u8], flag: Flag) -> Result<(), AllocError>
         ensures added { OnOk result (self.new ≡ record self.old {
-          extended_flags = self.old.extended_flags ++ (name.now, flag) ∷ [];
+          extended = record self.old.extended {
+            flags = self.old.extended.flags ++ (name.now, flag) ∷ [];
+          };
         }) }
         ensures unchanged { OnErr result (self.new ≡ self.old) }
     {
@@ -130,7 +136,9 @@ impl<'a, A: Allocator> Draft<'a, A> {
     /// Adds a number with its name after the other extended numbers.
     pub fn push_extended_number(&mut self, name: &'a [u8], number: Number) -> Result<(), AllocError>
         ensures added { OnOk result (self.new ≡ record self.old {
-          extended_numbers = self.old.extended_numbers ++ (name.now, number) ∷ [];
+          extended = record self.old.extended {
+            numbers = self.old.extended.numbers ++ (name.now, number) ∷ [];
+          };
         }) }
         ensures unchanged { OnErr result (self.new ≡ self.old) }
     {
@@ -140,7 +148,9 @@ impl<'a, A: Allocator> Draft<'a, A> {
     /// Adds a text with its name after the other extended texts.
     pub fn push_extended_text(&mut self, name: &'a [u8], text: Text<'a>) -> Result<(), AllocError>
         ensures added { OnOk result (self.new ≡ record self.old {
-          extended_texts = self.old.extended_texts ++ (name.now, text_value text.entry) ∷ [];
+          extended = record self.old.extended {
+            texts = self.old.extended.texts ++ (name.now, text_value text.entry) ∷ [];
+          };
         }) }
         ensures unchanged { OnErr result (self.new ≡ self.old) }
     {
@@ -188,70 +198,70 @@ impl<'a, A: Allocator> Draft<'a, A> {
 
     /// The flags.
     pub(crate) fn flags(&self) -> &[Flag]
-        ensures { result.now ≡ self.now.flags }
+        ensures { result.now ≡ self.now.standard.flags }
     {
         self.flags.as_slice()
     }
 
     /// The numbers.
     pub(crate) fn numbers(&self) -> &[Number]
-        ensures { result.now ≡ self.now.numbers }
+        ensures { result.now ≡ self.now.standard.numbers }
     {
         self.numbers.as_slice()
     }
 
     /// The texts.
     pub(crate) fn texts(&self) -> &[Text<'a>]
-        ensures { map text_value result.now ≡ self.now.texts }
+        ensures { map text_value result.now ≡ self.now.standard.texts }
     {
         self.texts.as_slice()
     }
 
     /// The names of the extended flags.
     pub(crate) fn flag_names(&self) -> &[&'a [u8]]
-        ensures { map (λ name. name.now) result.now ≡ map name_in self.now.extended_flags }
+        ensures { map (λ name. name.now) result.now ≡ map name_in self.now.extended.flags }
     {
         self.extended_flags.names()
     }
 
     /// The extended flags.
     pub(crate) fn extended_flags(&self) -> &[Flag]
-        ensures { result.now ≡ map mark_in self.now.extended_flags }
+        ensures { result.now ≡ map mark_in self.now.extended.flags }
     {
         self.extended_flags.marks()
     }
 
     /// The names of the extended numbers.
     pub(crate) fn number_names(&self) -> &[&'a [u8]]
-        ensures { map (λ name. name.now) result.now ≡ map name_in self.now.extended_numbers }
+        ensures { map (λ name. name.now) result.now ≡ map name_in self.now.extended.numbers }
     {
         self.extended_numbers.names()
     }
 
     /// The extended numbers.
     pub(crate) fn extended_numbers(&self) -> &[Number]
-        ensures { result.now ≡ map mark_in self.now.extended_numbers }
+        ensures { result.now ≡ map mark_in self.now.extended.numbers }
     {
         self.extended_numbers.marks()
     }
 
     /// The names of the extended texts.
     pub(crate) fn text_names(&self) -> &[&'a [u8]]
-        ensures { map (λ name. name.now) result.now ≡ map name_in self.now.extended_texts }
+        ensures { map (λ name. name.now) result.now ≡ map name_in self.now.extended.texts }
     {
         self.extended_texts.names()
     }
 
     /// The extended texts.
     pub(crate) fn extended_texts(&self) -> &[Text<'a>]
-        ensures { map text_value result.now ≡ map mark_in self.now.extended_texts }
+        ensures { map text_value result.now ≡ map mark_in self.now.extended.texts }
     {
         self.extended_texts.marks()
     }
 
     /// Whether it has no extended capability.
     pub(crate) fn is_plain(&self) -> bool
-        ensures { result ≡ (length (extended_names self.now) == 0) }
+        ensures { result ≡ (length (part_names self.now.extended) == 0) }
     {
         self.flag_names().is_empty()
             && self.number_names().is_empty()

@@ -5,7 +5,7 @@
 
 ghost use Rattle.std.specs.Prelude.{◌≡◌, ◌++◌, ◌≤◌, ◌⊎◌, ◌==◌, false, length, map, Some, None, Err, IfOk, IfErr, OnOk};
 ghost use Rattle.ti_words.specs.Texts.{text_value};
-ghost use Rattle.ti_words.specs.Spelling.{Spells, words_of, extended_names};
+ghost use Rattle.ti_words.specs.Spelling.{Spells, words_of, part_names};
 ghost use Rattle.ti_draft.specs.Canonical.{canonical, plain_bytes, extended_bytes, names_table, name_words, present_count as the_present_count};
 ghost use Rattle.ti_draft.specs.Unfit.{encode_fault};
 ghost use Rattle.ti_draft.specs.Lengths.{plain_head, extended_head};
@@ -141,7 +141,7 @@ fn put_extended_head<A: Allocator, D: Allocator>(
 ) -> Result<(), AllocError>
     requires fit { encode_fault draft.now ≡ None }
     requires sizes { AreSizes sizes.now draft.now }
-    requires extended { (length (extended_names draft.now) == 0) ≡ false }
+    requires extended { (length (part_names draft.now.extended) == 0) ≡ false }
     ensures { OnOk result (out.new.items ≡ out.old.items ++ extended_head draft.now) }
 {
     let flags = draft.extended_flags().len();
@@ -165,9 +165,9 @@ fn put_all_name_words<A: Allocator, D: Allocator>(
     draft: &Draft<'_, D>,
 ) -> Result<(), AllocError>
     requires fit { encode_fault draft.now ≡ None }
-    requires extended { (length (extended_names draft.now) == 0) ≡ false }
+    requires extended { (length (part_names draft.now.extended) == 0) ≡ false }
     ensures { OnOk result
-        (out.new.items ≡ out.old.items ++ words_of (name_words 0 (extended_names draft.now))) }
+        (out.new.items ≡ out.old.items ++ words_of (name_words 0 (part_names draft.now.extended))) }
 {
     let after_flags = put_name_words(out, 0, draft.flag_names())?;
     let after_numbers = put_name_words(out, after_flags, draft.number_names())?;
@@ -181,7 +181,7 @@ fn put_all_names<A: Allocator, D: Allocator>(
     draft: &Draft<'_, D>,
 ) -> Result<(), AllocError>
     ensures { OnOk result
-        (out.new.items ≡ out.old.items ++ names_table (extended_names draft.now)) }
+        (out.new.items ≡ out.old.items ++ names_table (part_names draft.now.extended)) }
 {
     put_names(out, draft.flag_names())?;
     put_names(out, draft.number_names())?;
@@ -197,7 +197,7 @@ fn put_extended<A: Allocator, D: Allocator>(
 ) -> Result<(), AllocError>
     requires fit { encode_fault draft.now ≡ None }
     requires sizes { AreSizes sizes.now draft.now }
-    requires extended { (length (extended_names draft.now) == 0) ≡ false }
+    requires extended { (length (part_names draft.now.extended) == 0) ≡ false }
     ensures { OnOk result (out.new.items ≡ out.old.items ++ extended_bytes draft.now) }
 {
     put_extended_head(out, draft, sizes)?;

@@ -61,7 +61,7 @@ fn items_len(count: usize, size: usize) -> u64
 
 /// The bytes up to the end of a string table of this size.
 fn plain_len<A: Allocator>(draft: &Draft<'_, A>, table: u64) -> u64
-    requires { table ≡ capped_count (length (texts_table draft.now.texts)) }
+    requires { table ≡ capped_count (length (texts_table draft.now.standard.texts)) }
     ensures { result ≡ capped_count (length (plain_bytes draft.now)) }
 {
     let names = draft.names().len();
@@ -112,7 +112,7 @@ pub(crate) struct Sizes {
 
 /// The sizes of a draft, for which each of its lists is gone over once.
 pub(crate) fn sizes_of<A: Allocator>(draft: &Draft<'_, A>) -> Sizes
-    ensures table { result.table ≡ capped_count (length (texts_table draft.now.texts)) }
+    ensures table { result.table ≡ capped_count (length (texts_table draft.now.standard.texts)) }
     ensures extended_table { result.extended_table
         ≡ capped_count (extended_table_length draft.now) }
     ensures whole { result.whole ≡ capped_count (length (canonical draft.now)) }
@@ -128,7 +128,7 @@ pub(crate) fn sizes_of<A: Allocator>(draft: &Draft<'_, A>) -> Sizes
 
 /// All bytes, if the tables have these sizes.
 fn whole_len<A: Allocator>(draft: &Draft<'_, A>, table: u64, extended_table: u64) -> u64
-    requires table { table ≡ capped_count (length (texts_table draft.now.texts)) }
+    requires table { table ≡ capped_count (length (texts_table draft.now.standard.texts)) }
     requires extended_table { extended_table ≡ capped_count (extended_table_length draft.now) }
     ensures { result ≡ capped_count (length (canonical draft.now)) }
 {

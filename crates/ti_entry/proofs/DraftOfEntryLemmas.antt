@@ -30,22 +30,22 @@ grown : {X : Type 0} → (a : List X) (x : X) (rest whole : List X) → whole �
 grown a x rest whole e = append_assoc a (x ∷ []) rest ∙ ap (λ l. a ++ l) (sym e)
 
 pub one_flag : (o n : EntryValue) (x : List ℕ × Flag) (rest whole : List (List ℕ × Flag))
-    → n ≡ record o { extended_flags = o.extended_flags ++ x ∷ [] } → whole ≡ x ∷ rest
-    → record n { extended_flags = n.extended_flags ++ rest } ≡ record o { extended_flags = o.extended_flags ++ whole }
+    → n ≡ record o { extended = record o.extended { flags = o.extended.flags ++ x ∷ [] } } → whole ≡ x ∷ rest
+    → record n { extended = record n.extended { flags = n.extended.flags ++ rest } } ≡ record o { extended = record o.extended { flags = o.extended.flags ++ whole } }
 one_flag o n x rest whole e f =
-    ap (λ (d : EntryValue). record d { extended_flags = d.extended_flags ++ rest }) e
-    ∙ ap (λ l. record o { extended_flags = l }) (grown o.extended_flags x rest whole f)
+    ap (λ (d : EntryValue). record d { extended = record d.extended { flags = d.extended.flags ++ rest } }) e
+    ∙ ap (λ l. record o { extended = record o.extended { flags = l } }) (grown o.extended.flags x rest whole f)
 
 pub one_number : (o n : EntryValue) (x : List ℕ × Number) (rest whole : List (List ℕ × Number))
-    → n ≡ record o { extended_numbers = o.extended_numbers ++ x ∷ [] } → whole ≡ x ∷ rest
-    → record n { extended_numbers = n.extended_numbers ++ rest } ≡ record o { extended_numbers = o.extended_numbers ++ whole }
+    → n ≡ record o { extended = record o.extended { numbers = o.extended.numbers ++ x ∷ [] } } → whole ≡ x ∷ rest
+    → record n { extended = record n.extended { numbers = n.extended.numbers ++ rest } } ≡ record o { extended = record o.extended { numbers = o.extended.numbers ++ whole } }
 one_number o n x rest whole e f =
-    ap (λ (d : EntryValue). record d { extended_numbers = d.extended_numbers ++ rest }) e
-    ∙ ap (λ l. record o { extended_numbers = l }) (grown o.extended_numbers x rest whole f)
+    ap (λ (d : EntryValue). record d { extended = record d.extended { numbers = d.extended.numbers ++ rest } }) e
+    ∙ ap (λ l. record o { extended = record o.extended { numbers = l } }) (grown o.extended.numbers x rest whole f)
 
 pub one_text : (o n : EntryValue) (x : List ℕ × TextValue) (rest whole : List (List ℕ × TextValue))
-    → n ≡ record o { extended_texts = o.extended_texts ++ x ∷ [] } → whole ≡ x ∷ rest
-    → record n { extended_texts = n.extended_texts ++ rest } ≡ record o { extended_texts = o.extended_texts ++ whole }
+    → n ≡ record o { extended = record o.extended { texts = o.extended.texts ++ x ∷ [] } } → whole ≡ x ∷ rest
+    → record n { extended = record n.extended { texts = n.extended.texts ++ rest } } ≡ record o { extended = record o.extended { texts = o.extended.texts ++ whole } }
 one_text o n x rest whole e f =
-    ap (λ (d : EntryValue). record d { extended_texts = d.extended_texts ++ rest }) e
-    ∙ ap (λ l. record o { extended_texts = l }) (grown o.extended_texts x rest whole f)
+    ap (λ (d : EntryValue). record d { extended = record d.extended { texts = d.extended.texts ++ rest } }) e
+    ∙ ap (λ l. record o { extended = record o.extended { texts = l } }) (grown o.extended.texts x rest whole f)

@@ -5,7 +5,7 @@ use Rattle.ti_words.specs.declared.Number.TheVariants as numbers
 use Rattle.ti_words.specs.declared.Width.TheVariants.{Legacy, Wide}
 use Rattle.ti_words.specs.Texts.{AbsentText, TextOf}
 use Rattle.ti_layout.specs.declared.fault.Fault.TheVariants.{Truncated, BadMagic, BadHeader, HeaderTooBig, BadNames, BadFlag, BadPad, BadNumber, BadOffset, Unterminated, BadExtendedHeader, ExtendedTooBig, BadExtendedName, Trailing}
-use Rattle.ti_words.specs.Value.{EntryValue}
+use Rattle.ti_words.specs.Value.{EntryValue, no_values, no_named}
 use Rattle.ti_layout.specs.Layout.{places}
 use Rattle.ti_layout.specs.Checks.{refusal_at}
 use Rattle.ti_layout.specs.Refusal.{refusal}
@@ -89,32 +89,38 @@ abbrev small_entry : EntryValue
 small_entry = record {
   width = Legacy;
   names = 0x74 ∷ [];
-  flags = flags.Yes ∷ [];
-  numbers = numbers.Value (pos 80) ∷ [];
-  texts = AbsentText ∷ TextOf (0x07 ∷ []) ∷ [];
-  extended_flags = [];
-  extended_numbers = [];
-  extended_texts = [];
+  standard = record {
+    flags = flags.Yes ∷ [];
+    numbers = numbers.Value (pos 80) ∷ [];
+    texts = AbsentText ∷ TextOf (0x07 ∷ []) ∷ [];
+  };
+  extended = no_named;
 }
 
 abbrev extended_entry : EntryValue
 extended_entry = record small_entry {
-  extended_flags = (0x41 ∷ 0x58 ∷ [], flags.Yes) ∷ [];
-  extended_texts = (0x45 ∷ 0x33 ∷ [], TextOf (0x1b ∷ 0x5b ∷ 0x33 ∷ 0x4a ∷ [])) ∷ [];
+  extended = record {
+    flags = (0x41 ∷ 0x58 ∷ [], flags.Yes) ∷ [];
+    numbers = [];
+    texts = (0x45 ∷ 0x33 ∷ [], TextOf (0x1b ∷ 0x5b ∷ 0x33 ∷ 0x4a ∷ [])) ∷ [];
+  };
 }
 
 abbrev shared_entry : EntryValue
-shared_entry = record small_entry { flags = []; numbers = []; texts = TextOf (0x07 ∷ []) ∷ TextOf (0x07 ∷ []) ∷ [] }
+shared_entry = record small_entry { standard = record no_values { texts = TextOf (0x07 ∷ []) ∷ TextOf (0x07 ∷ []) ∷ [] } }
 
 -- U8 = 80 alone, by its extended name
 abbrev number_entry : EntryValue
-number_entry = record small_entry { flags = []; numbers = []; texts = []; extended_numbers = (0x55 ∷ 0x38 ∷ [], numbers.Value (pos 80)) ∷ [] }
+number_entry = record small_entry {
+  standard = no_values;
+  extended = record no_named { numbers = (0x55 ∷ 0x38 ∷ [], numbers.Value (pos 80)) ∷ [] };
+}
 
 abbrev wide_entry : EntryValue
 wide_entry = record small_entry { width = Wide }
 
 abbrev wide_extended_entry : EntryValue
-wide_extended_entry = record wide_entry { extended_numbers = (0x55 ∷ 0x38 ∷ [], numbers.Value (pos 70000)) ∷ [] }
+wide_extended_entry = record wide_entry { extended = record no_named { numbers = (0x55 ∷ 0x38 ∷ [], numbers.Value (pos 70000)) ∷ [] } }
 
 -- ---- what the bytes spell
 
@@ -132,7 +138,7 @@ small_spells = record {
     numbers_fit = (omega arith, tt);
     texts_there = (refl, ((0, refl, (omega arith, tt), record { found = refl }), tt));
   };
-  extended = inl (record { ends = refl; no_flags = refl; no_numbers = refl; no_texts = refl });
+  extended = inl (record { ends = refl; none = refl });
 }
 
 shared_spells : Spells shared shared_entry
@@ -149,7 +155,7 @@ shared_spells = record {
     numbers_fit = tt;
     texts_there = ((0, refl, (omega arith, tt), record { found = refl }), ((0, refl, (omega arith, tt), record { found = refl }), tt));
   };
-  extended = inl (record { ends = refl; no_flags = refl; no_numbers = refl; no_texts = refl });
+  extended = inl (record { ends = refl; none = refl });
 }
 
 wide_spells : Spells wide wide_entry
@@ -166,7 +172,7 @@ wide_spells = record {
     numbers_fit = (omega arith, tt);
     texts_there = (refl, ((0, refl, (omega arith, tt), record { found = refl }), tt));
   };
-  extended = inl (record { ends = refl; no_flags = refl; no_numbers = refl; no_texts = refl });
+  extended = inl (record { ends = refl; none = refl });
 }
 
 -- with each word items
@@ -211,8 +217,8 @@ wide_content : map content (wide ∷ wide_extended ∷ []) ≡ wide_entry ∷ wi
 wide_content = refl
 
 wide_marks : map content (with_number 0xff 0xff 0xff 0xff ∷ with_number 0xfe 0xff 0xff 0xff ∷ with_number 0xff 0xff 0xff 0x7f ∷ [])
-    ≡ record wide_entry { numbers = numbers.Absent ∷ [] } ∷ record wide_entry { numbers = numbers.Cancelled ∷ [] }
-    ∷ record wide_entry { numbers = numbers.Value (pos 2147483647) ∷ [] } ∷ []
+    ≡ record wide_entry { standard = record small_entry.standard { numbers = numbers.Absent ∷ [] } } ∷ record wide_entry { standard = record small_entry.standard { numbers = numbers.Cancelled ∷ [] } }
+    ∷ record wide_entry { standard = record small_entry.standard { numbers = numbers.Value (pos 2147483647) ∷ [] } } ∷ []
 wide_marks = refl
 
 shared_content : content shared ≡ shared_entry
@@ -290,7 +296,7 @@ names_unended = refl
 flag_wrong : refusal (slice_set small 14 0x02) ≡ Some (refusal_at BadFlag 14)
 flag_wrong = refl
 
-flag_cancelled : content (slice_set small 14 0xfe) ≡ record small_entry { flags = flags.Cancelled ∷ [] }
+flag_cancelled : content (slice_set small 14 0xfe) ≡ record small_entry { standard = record small_entry.standard { flags = flags.Cancelled ∷ [] } }
 flag_cancelled = refl
 
 flag_cancelled_accepted : refusal (slice_set small 14 0xfe) ≡ None
@@ -309,7 +315,7 @@ wide_number_below = refl
 wide_number_cut : refusal (take 19 (with_number 0xfd 0xff 0xff 0xff)) ≡ Some (refusal_at Truncated 19)
 wide_number_cut = refl
 
-number_cancelled : content (slice_set (slice_set small 16 0xfe) 17 0xff) ≡ record small_entry { numbers = numbers.Cancelled ∷ [] }
+number_cancelled : content (slice_set (slice_set small 16 0xfe) 17 0xff) ≡ record small_entry { standard = record small_entry.standard { numbers = numbers.Cancelled ∷ [] } }
 number_cancelled = refl
 
 number_cancelled_accepted : refusal (slice_set (slice_set small 16 0xfe) 17 0xff) ≡ None

@@ -8,12 +8,13 @@ use Rattle.ti_base.specs.Limits.{most_entry_bytes}
 use Rattle.ti_words.specs.declared.Flag.{Flag}
 use Rattle.ti_words.specs.declared.Number.{Number}
 use Rattle.ti_words.specs.declared.Width.{Width}
+use Rattle.ti_words.specs.Value.{PartValue}
 use Rattle.ti_words.specs.declared.Width.TheVariants.{Legacy}
 use Rattle.ti_layout.specs.declared.fault.Fault.TheVariants.{BadExtendedHeader, BadExtendedName, Unterminated, Trailing}
 use Rattle.ti_layout.specs.declared.part.Part.{Part}
 use Rattle.ti_words.specs.Word.{unsigned_at, word_at}
 use Rattle.ti_layout.specs.Layout.{standard, extended_after, no_capability, places, flags_end, numbers_from, offsets_from, names_from, end_of, extended_from}
-use Rattle.ti_words.specs.Spelling.{pad_len, FitsWidth, Spells, HasExtendedPart, IsText, IsName, Each, count_word, words_of, numbers_of, flags_of, pad, extended_names, mark_in}
+use Rattle.ti_words.specs.Spelling.{pad_len, FitsWidth, Spells, HasExtendedPart, IsText, IsName, Each, count_word, words_of, numbers_of, flags_of, pad, part_names, mark_in}
 use Rattle.ti_layout.specs.Table.{ends_in, table_of, base_of}
 use Rattle.ti_layout.specs.Checks.{check, Passes, Ends, Fails, verdict, refusal_at, is_not_negative, sign_check, sign_checks, pad_checks, offset_checks, ending_check, table_check, name_place_checks, all_name_place_checks, end_check}
 use Rattle.ti_layout.specs.declared.section.Half.TheVariants.{Extended}
@@ -27,7 +28,7 @@ use Rattle.ti_layout.proofs.SectionReadLemmas.{both_pass, Passed, each_passed, e
 use Rattle.ti_layout.proofs.NamePlaceChecksLemmas.{table_length}
 use Rattle.ti_entry.proofs.TextLemmas.{ends}
 use Rattle.ti_entry.proofs.KindsFoundLemmas.{IsCount, count_is, pad_is, numbers_fit, texts_are}
-use Rattle.ti_entry.proofs.NamedItemsLemmas.{flag_marks, number_marks, text_marks, flag_count, number_count, text_count, all_names_in, sizes_are_base}
+use Rattle.ti_entry.proofs.NamedItemsLemmas.{values_are, named_counts, all_names_in, sizes_are_base}
 use Rattle.ti_entry.proofs.PartLemmas.{end_even, PartPasses, part_passes, front_after, part_joined, offset_words, name_words}
 use Rattle.ti_entry.proofs.FoundLemmas.{HasPlain, sections_found}
 
@@ -127,37 +128,39 @@ extended_found bytes s x fits is k =
     let c1 : IsCount bytes (from + 2) = count_is bytes (from + 2) fits s1.long s1.holds in
     let c2 : IsCount bytes (from + 4) = count_is bytes (from + 4) fits s2.long s2.holds in
     let c3 : IsCount bytes (from + 8) = count_is bytes (from + 8) fits s3.long s3.holds in
-    let n0 : length v.extended_flags ≡ unsigned_at 2 bytes from = flag_count bytes s x (base_of bytes x) ∙ ap (λ (p : Part). p.flags) is in
-    let n1 : length v.extended_numbers ≡ unsigned_at 2 bytes (from + 2) = number_count bytes s x (base_of bytes x) ∙ ap (λ (p : Part). p.numbers) is in
-    let n2 : length v.extended_texts ≡ unsigned_at 2 bytes (from + 4) = text_count bytes s x (base_of bytes x) ∙ ap (λ (p : Part). p.texts) is in
+    let counts = named_counts bytes x (base_of bytes x) in
+    let said = values_are bytes x (base_of bytes x) in
+    let n0 : length v.extended.flags ≡ unsigned_at 2 bytes from = counts.of_flags ∙ ap (λ (p : Part). p.flags) is in
+    let n1 : length v.extended.numbers ≡ unsigned_at 2 bytes (from + 2) = counts.of_numbers ∙ ap (λ (p : Part). p.numbers) is in
+    let n2 : length v.extended.texts ≡ unsigned_at 2 bytes (from + 4) = counts.of_texts ∙ ap (λ (p : Part). p.texts) is in
     let n3 : length table ≡ unsigned_at 2 bytes (from + 8) = size ∙ ap (λ (p : Part). p.table) is in
-    let flags_len = flag_count bytes s x (base_of bytes x) in
-    let ef = flag_marks bytes s x (base_of bytes x) in
-    let en = number_marks bytes s x (base_of bytes x) in
-    let et = text_marks bytes s x (base_of bytes x) in
-    let m = length v.extended_flags in
+    let flags_len = counts.of_flags in
+    let ef = ap (λ (p : PartValue). p.flags) said in
+    let en = ap (λ (p : PartValue). p.numbers) said in
+    let et = ap (λ (p : PartValue). p.texts) said in
+    let m = length v.extended.flags in
     let k0 = pad_len s.table in
     let pad_even = end_even s in
     let y0 = pad s.table in
-    let y1 = y0 ++ count_word (length v.extended_flags) in
-    let y2 = y1 ++ count_word (length v.extended_numbers) in
-    let y3 = y2 ++ count_word (length v.extended_texts) in
+    let y1 = y0 ++ count_word (length v.extended.flags) in
+    let y2 = y1 ++ count_word (length v.extended.numbers) in
+    let y3 = y2 ++ count_word (length v.extended.texts) in
     let y4 = y3 ++ items in
     let y5 = y4 ++ count_word (length table) in
     let t0 : take k0 (drop e bytes) ≡ y0 = pad_is bytes e s.table pad_even k.outer_pad in
-    let t1 : take (k0 + 2) (drop e bytes) ≡ y1 = front_after bytes e k0 from 2 y0 (count_word (length v.extended_flags)) (omega arith) t0 (c0.bytes_are ∙ ap count_word (sym n0)) in
-    let t2 : take (k0 + 2 + 2) (drop e bytes) ≡ y2 = front_after bytes e (k0 + 2) (from + 2) 2 y1 (count_word (length v.extended_numbers)) (omega arith) t1 (c1.bytes_are ∙ ap count_word (sym n1)) in
-    let t3 : take (k0 + 2 + 2 + 2) (drop e bytes) ≡ y3 = front_after bytes e (k0 + 2 + 2) (from + 4) 2 y2 (count_word (length v.extended_texts)) (omega arith) t2 (c2.bytes_are ∙ ap count_word (sym n2)) in
+    let t1 : take (k0 + 2) (drop e bytes) ≡ y1 = front_after bytes e k0 from 2 y0 (count_word (length v.extended.flags)) (omega arith) t0 (c0.bytes_are ∙ ap count_word (sym n0)) in
+    let t2 : take (k0 + 2 + 2) (drop e bytes) ≡ y2 = front_after bytes e (k0 + 2) (from + 2) 2 y1 (count_word (length v.extended.numbers)) (omega arith) t1 (c1.bytes_are ∙ ap count_word (sym n1)) in
+    let t3 : take (k0 + 2 + 2 + 2) (drop e bytes) ≡ y3 = front_after bytes e (k0 + 2 + 2) (from + 4) 2 y2 (count_word (length v.extended.texts)) (omega arith) t2 (c2.bytes_are ∙ ap count_word (sym n2)) in
     let t4 : take (k0 + 2 + 2 + 2 + 2) (drop e bytes) ≡ y4 = front_after bytes e (k0 + 2 + 2 + 2) (from + 6) 2 y3 items (omega arith) t3 refl in
     let t5 : take (k0 + 2 + 2 + 2 + 2 + 2) (drop e bytes) ≡ y5 = front_after bytes e (k0 + 2 + 2 + 2 + 2) (from + 8) 2 y4 (count_word (length table)) (omega arith) t4 (c3.bytes_are ∙ ap count_word (sym n3)) in
     let even : flags_end x % 2 ≡ pad_len m = omega arith in
     let shape : Width → List Flag → List Number → List ℕ = λ w fs ns. y5 ++ flags_of fs ++ pad m ++ numbers_of w ns ++ words_of values ++ words_of names ++ table in
-    let joined : drop e bytes ≡ shape s.width (map mark_in v.extended_flags) (map mark_in v.extended_numbers) =
+    let joined : drop e bytes ≡ shape s.width (map mark_in v.extended.flags) (map mark_in v.extended.numbers) =
     sym (take_all (end_of x - e) (drop e bytes) (omega (arith, length-drop e bytes)))
     ∙ part_joined bytes y5 e (k0 + 2 + 2 + 2 + 2 + 2) m x fits k.part (omega arith) (omega arith) even t5
     ∙ ap (λ w. shape w (flags_in bytes x) (numbers_in bytes x)) width
     ∙ ap (λ fs. shape s.width fs (numbers_in bytes x)) (sym ef)
-    ∙ ap (λ ns. shape s.width (map mark_in v.extended_flags) ns) (sym en) in
+    ∙ ap (λ ns. shape s.width (map mark_in v.extended.flags) ns) (sym en) in
     let base = base_of bytes x in
     let signed_names = each_passed (sign_check bytes BadExtendedName) len (names_from x) 2 x.names k.part.names in
     let ended_names = names_pass bytes table base len (end_of x) (names_from x) x.names k.part.name_places in
@@ -174,9 +177,9 @@ extended_found bytes s x fits is k =
       joined = joined;
       counts = (rw n0 c0.small, (rw n1 c1.small, (rw n2 c2.small, (rw n3 c3.small, tt))));
       items_size = length-take-le 2 (drop (from + 6) bytes) (omega (arith, length-drop (from + 6) bytes));
-      numbers_fit = subst (λ w. AllByRecursion (FitsWidth w) (map mark_in v.extended_numbers)) width (subst (AllByRecursion (FitsWidth x.width)) (sym en) (numbers_fit x.width bytes (numbers_from x) x.numbers fits));
+      numbers_fit = subst (λ w. AllByRecursion (FitsWidth w) (map mark_in v.extended.numbers)) width (subst (AllByRecursion (FitsWidth x.width)) (sym en) (numbers_fit x.width bytes (numbers_from x) x.numbers fits));
       texts_there = subst (λ l. Each (IsText table) values l) (sym et) (texts_are bytes table (end_of x) (offsets_from x) x.texts (k.part.offsets ∙ ap (λ n. verdict len (offset_checks bytes n (offsets_from x) x.texts)) (sym size)) k.part.endings);
-      names_there = subst (λ b. Each (IsName table b) names (extended_names v)) (sym (sizes_are_base bytes s x (base_of bytes x))) (subst (λ l. Each (IsName table base) names l) (sym (all_names_in bytes s x (base_of bytes x) named)) there);
+      names_there = subst (λ b. Each (IsName table b) names (part_names v.extended)) (sym (sizes_are_base bytes x (base_of bytes x))) (subst (λ l. Each (IsName table base) names l) (sym (all_names_in bytes x (base_of bytes x) named)) there);
     }
 
 -- ---- the whole
@@ -197,7 +200,7 @@ found bytes fits h =
           table = table_of bytes (standard bytes);
           rest = drop (end_of (standard bytes)) bytes;
           sections = plain.sections no_capability;
-          extended = inl (record { ends = drop_all (end_of (standard bytes)) bytes le; no_flags = refl; no_numbers = refl; no_texts = refl });
+          extended = inl (record { ends = drop_all (end_of (standard bytes)) bytes le; none = refl });
         }
     by_end false e plain k =
         let s = standard bytes in

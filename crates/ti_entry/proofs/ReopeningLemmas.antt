@@ -109,6 +109,6 @@ spelled_by bytes v fits s =
     let x = extended bytes in
     record {
       parts = parts_fit bytes fits read.passes;
-      base = ap base_of_names read.same ∙ sizes_are_base bytes (standard bytes) x (base_of bytes x);
+      base = ap base_of_names read.same ∙ sizes_are_base bytes x (base_of bytes x);
       same = read.same;
     }

@@ -5,10 +5,10 @@ use Rattle.std.proofs.lemmas.Bool.{lt-ltb, le-leb, lt-leb}
 use Rattle.ti_base.specs.Limits.{most_entry_bytes}
 use Rattle.ti_layout.specs.declared.fault.Fault.TheVariants.{BadExtendedHeader}
 use Rattle.ti_layout.specs.declared.part.Part.{Part}
-use Rattle.ti_words.specs.Value.{EntryValue}
+use Rattle.ti_words.specs.Value.{PartValue, EntryValue}
 use Rattle.ti_words.specs.Word.{unsigned_at}
 use Rattle.ti_layout.specs.Layout.{standard, extended_after, no_capability, flags_end, end_of, extended_from}
-use Rattle.ti_words.specs.Spelling.{pad_len, Spells, HasExtendedPart, HasNoExtendedPart, count_word, words_of, numbers_of, flags_of, pad, texts_size, extended_names, mark_in}
+use Rattle.ti_words.specs.Spelling.{pad_len, Spells, HasExtendedPart, HasNoExtendedPart, count_word, words_of, numbers_of, flags_of, pad, texts_size, part_names, unnamed, mark_in}
 use Rattle.ti_layout.specs.Table.{base_of}
 use Rattle.ti_layout.specs.Checks.{Passes, Ends, verdict, sign_check, sign_checks, pad_checks, end_check}
 use Rattle.std.specs.List.{AllByRecursion, flat_map}
@@ -16,12 +16,13 @@ use Rattle.ti_layout.specs.declared.section.Half.TheVariants.{Extended}
 use Rattle.ti_layout.specs.declared.section.Section.TheVariants.{TableEnd, End}
 use Rattle.ti_layout.specs.Refusal.{room_check, extended_size_check, extended_header_checks, section_checks, standard_sections, extended_sections, checks}
 use Rattle.ti_layout.proofs.EndsLemmas.{SectionPasses, passed_sections}
-use Rattle.ti_entry.specs.Content.{texts_in, content_with, content}
+use Rattle.ti_entry.specs.Content.{texts_in, part_in, content_with, content}
 use Rattle.ti_entry.proofs.SpelledItemsLemmas.{passes_one}
 use Rattle.ti_entry.proofs.KindsSpelledLemmas.{append_pass, count_read, sign_passed, pad_read}
-use Rattle.ti_entry.proofs.NamedItemsLemmas.{flag_marks, number_marks, text_marks, all_names_in, sizes_are_base, names_length}
+use Rattle.ti_entry.proofs.NamedItemsLemmas.{values_are, all_names_in, sizes_are_base}
+use Rattle.ti_draft.proofs.LengthLemmas.{length_part_names}
 use Rattle.ti_entry.proofs.PartLemmas.{end_even, PartPasses, passes_part, step, longer, Sections, part_with, part_read}
-use Rattle.ti_entry.proofs.SpellsAtMostOneLemmas.{SameExtended, grouped_part, same_sizes, same_extended, same_value}
+use Rattle.ti_entry.proofs.SpellsAtMostOneLemmas.{grouped_part, same_sizes, same_named, same_value}
 use Rattle.ti_entry.proofs.SpelledLemmas.{PlainRead, plain_read}
 
 pub record IsRead (bytes : List ℕ) (v : EntryValue) : Type 0 where
@@ -32,28 +33,28 @@ pub record IsRead (bytes : List ℕ) (v : EntryValue) : Type 0 where
 record ExtendedRead (bytes : List ℕ) (v : EntryValue) (h : Part) : Type 0 where
   passes : verdict (length bytes) (flat_map (section_checks bytes) (TableEnd ∷ (extended_sections ++ (End ∷ [])))) ≡ Ends true
   follows : end_of h < length bytes
-  same : SameExtended v (content_with bytes h (extended_after h bytes))
+  same : v.extended ≡ (content_with bytes h (extended_after h bytes)).extended
 
 extended_read : (bytes front rest : List ℕ) (v : EntryValue) (h : Part) → h ≡ standard bytes → h.width ≡ v.width → bytes ≡ front ++ rest → length front ≡ end_of h → length bytes ≤ most_entry_bytes → HasExtendedPart v h.table rest → ExtendedRead bytes v h
 extended_read bytes front rest v h is width split l0 short s =
     let len = length bytes in
     let w = v.width in
-    let ef = map mark_in v.extended_flags in
-    let en = map mark_in v.extended_numbers in
-    let et = map mark_in v.extended_texts in
-    let nf : length ef ≡ length v.extended_flags = length-map v.extended_flags mark_in in
-    let nn : length en ≡ length v.extended_numbers = length-map v.extended_numbers mark_in in
-    let nt : length et ≡ length v.extended_texts = length-map v.extended_texts mark_in in
+    let ef = map mark_in v.extended.flags in
+    let en = map mark_in v.extended.numbers in
+    let et = map mark_in v.extended.texts in
+    let nf : length ef ≡ length v.extended.flags = length-map v.extended.flags mark_in in
+    let nn : length en ≡ length v.extended.numbers = length-map v.extended.numbers mark_in in
+    let nt : length et ≡ length v.extended.texts = length-map v.extended.texts mark_in in
     let from = extended_from h in
-    let secs : Sections = record { flags = ef; numbers = en; offsets = s.values; texts = et; name_offsets = s.names; names = extended_names v; table = s.table } in
+    let secs : Sections = record { flags = ef; numbers = en; offsets = s.values; texts = et; name_offsets = s.names; names = part_names v.extended; table = s.table } in
     let x = part_with w (from + 10) secs in
-    let m = length v.extended_flags in
+    let m = length v.extended.flags in
     let small : length s.table < 2 ^ 15 = omega (arith, s.counts.1.1.1.0) in
     let pad_even = end_even h in
     let a0 = pad h.table in
-    let a1 = count_word (length v.extended_flags) in
-    let a2 = count_word (length v.extended_numbers) in
-    let a3 = count_word (length v.extended_texts) in
+    let a1 = count_word (length v.extended.flags) in
+    let a2 = count_word (length v.extended.numbers) in
+    let a3 = count_word (length v.extended.texts) in
     let a5 = count_word (length s.table) in
     let a6 = flags_of ef in
     let a7 = pad m in
@@ -88,30 +89,30 @@ extended_read bytes front rest v h is width split l0 short s =
     let even : flags_end x % 2 ≡ pad_len m = omega arith in
     let to_end : bytes ≡ x6 ++ (a6 ++ (a7 ++ (a8 ++ (a9 ++ (a10 ++ (s.table ++ [])))))) = e6 ∙ ap (λ t. x6 ++ (a6 ++ (a7 ++ (a8 ++ (a9 ++ (a10 ++ t)))))) (sym (append-nil s.table)) in
     let c = content_with bytes h x in
-    let base_is : texts_in bytes x ≡ et → base_of bytes x ≡ texts_size v.extended_texts = λ e.
-    sym (sizes_are_base bytes h x (base_of bytes x)) ∙ sym (same_sizes v.extended_texts c.extended_texts (sym (text_marks bytes h x (base_of bytes x) ∙ e))) in
-    let r = part_read bytes x6 [] w (from + 10) m (texts_size v.extended_texts) secs to_end l6 even (record { small = small; fit = s.numbers_fit; texts = s.texts_there; names = s.names_there }) base_is in
+    let values = values_are bytes x (base_of bytes x) in
+    let base_is : texts_in bytes x ≡ et → base_of bytes x ≡ texts_size v.extended.texts = λ e.
+    sym (sizes_are_base bytes x (base_of bytes x)) ∙ sym (same_sizes v.extended.texts c.extended.texts (sym (ap (λ (p : PartValue). p.texts) values ∙ e))) in
+    let r = part_read bytes x6 [] w (from + 10) m (texts_size v.extended.texts) secs to_end l6 even (record { small = small; fit = s.numbers_fit; texts = s.texts_there; names = s.names_there }) base_is in
     let whole : len ≡ end_of x = let n = r.size in omega arith in
-    let h1 : unsigned_at 2 bytes from ≡ length v.extended_flags = count_read bytes x1 q2 from (length v.extended_flags) e1 l1 s.counts.0 in
-    let h2 : unsigned_at 2 bytes (from + 2) ≡ length v.extended_numbers = count_read bytes x2 q3 (from + 2) (length v.extended_numbers) e2 l2 s.counts.1.0 in
-    let h3 : unsigned_at 2 bytes (from + 4) ≡ length v.extended_texts = count_read bytes x3 q4 (from + 4) (length v.extended_texts) e3 l3 s.counts.1.1.0 in
+    let h1 : unsigned_at 2 bytes from ≡ length v.extended.flags = count_read bytes x1 q2 from (length v.extended.flags) e1 l1 s.counts.0 in
+    let h2 : unsigned_at 2 bytes (from + 2) ≡ length v.extended.numbers = count_read bytes x2 q3 (from + 2) (length v.extended.numbers) e2 l2 s.counts.1.0 in
+    let h3 : unsigned_at 2 bytes (from + 4) ≡ length v.extended.texts = count_read bytes x3 q4 (from + 4) (length v.extended.texts) e3 l3 s.counts.1.1.0 in
     let h4 : unsigned_at 2 bytes (from + 8) ≡ length s.table = count_read bytes x5 q6 (from + 8) (length s.table) e5 l5 s.counts.1.1.1.0 in
-    let count = names_length v in
-    let named : length ef + length en + length et ≡ length (extended_names v) = omega arith in
-    let sum : unsigned_at 2 bytes from + unsigned_at 2 bytes (from + 2) + unsigned_at 2 bytes (from + 4) ≡ length (extended_names v) = omega arith in
+    let count = length_part_names v.extended in
+    let named : length ef + length en + length et ≡ length (part_names v.extended) = omega arith in
+    let sum : unsigned_at 2 bytes from + unsigned_at 2 bytes (from + 2) + unsigned_at 2 bytes (from + 4) ≡ length (part_names v.extended) = omega arith in
     let header : extended_after h bytes ≡ x = same_part (extended_after h bytes) x width refl (h1 ∙ sym nf) (h2 ∙ sym nn) (h3 ∙ sym nt) sum h4 in
-    let mf : ef ≡ map mark_in c.extended_flags = sym (flag_marks bytes h x (base_of bytes x) ∙ r.flags) in
-    let mn : en ≡ map mark_in c.extended_numbers = sym (number_marks bytes h x (base_of bytes x) ∙ r.numbers) in
-    let mt : et ≡ map mark_in c.extended_texts = sym (text_marks bytes h x (base_of bytes x) ∙ r.texts) in
-    let names_same : extended_names v ≡ extended_names c = sym r.names ∙ sym (all_names_in bytes h x (base_of bytes x) named) in
+    let in_part : part_in bytes x ≡ unnamed v.extended = rw (r.flags, r.numbers, r.texts) refl in
+    let values_same : unnamed v.extended ≡ unnamed c.extended = sym (values ∙ in_part) in
+    let names_same : part_names v.extended ≡ part_names c.extended = sym r.names ∙ sym (all_names_in bytes x (base_of bytes x) named) in
     -- the checks
     let at_end : end_of x ≤ len = omega arith in
     let outer : Passes ≡ verdict len (pad_checks bytes (end_of h)) = pad_read bytes front q1 (end_of h) h.table pad_even e0 l0 in
-    let third : unsigned_at 2 bytes (from + 2 + 2) ≡ length v.extended_texts = (let at : from + 2 + 2 ≡ from + 4 = omega arith in ap (unsigned_at 2 bytes) at ∙ h3) in
+    let third : unsigned_at 2 bytes (from + 2 + 2) ≡ length v.extended.texts = (let at : from + 2 + 2 ≡ from + 4 = omega arith in ap (unsigned_at 2 bytes) at ∙ h3) in
     let signs : Passes ≡ verdict len (sign_checks bytes BadExtendedHeader from 3) =
-    passes_one len (sign_check bytes BadExtendedHeader from) (sign_check bytes BadExtendedHeader (from + 2) ∷ sign_check bytes BadExtendedHeader (from + 2 + 2) ∷ []) (sign_passed bytes BadExtendedHeader from (length v.extended_flags) (omega arith) s.counts.0 h1)
-    (passes_one len (sign_check bytes BadExtendedHeader (from + 2)) (sign_check bytes BadExtendedHeader (from + 2 + 2) ∷ []) (sign_passed bytes BadExtendedHeader (from + 2) (length v.extended_numbers) (omega arith) s.counts.1.0 h2)
-    (passes_one len (sign_check bytes BadExtendedHeader (from + 2 + 2)) [] (sign_passed bytes BadExtendedHeader (from + 2 + 2) (length v.extended_texts) (omega arith) s.counts.1.1.0 third) refl)) in
+    passes_one len (sign_check bytes BadExtendedHeader from) (sign_check bytes BadExtendedHeader (from + 2) ∷ sign_check bytes BadExtendedHeader (from + 2 + 2) ∷ []) (sign_passed bytes BadExtendedHeader from (length v.extended.flags) (omega arith) s.counts.0 h1)
+    (passes_one len (sign_check bytes BadExtendedHeader (from + 2)) (sign_check bytes BadExtendedHeader (from + 2 + 2) ∷ []) (sign_passed bytes BadExtendedHeader (from + 2) (length v.extended.numbers) (omega arith) s.counts.1.0 h2)
+    (passes_one len (sign_check bytes BadExtendedHeader (from + 2 + 2)) [] (sign_passed bytes BadExtendedHeader (from + 2 + 2) (length v.extended.texts) (omega arith) s.counts.1.1.0 third) refl)) in
     let room : Passes ≡ verdict len (room_check h ∷ pad_checks bytes (end_of h)) = passes_one len (room_check h) (pad_checks bytes (end_of h)) (record { long = omega arith; holds = le-leb _ _ (omega arith) }) outer in
     let size : Passes ≡ verdict len (extended_size_check x ∷ []) = passes_one len (extended_size_check x) [] (record { long = omega arith; holds = le-leb _ _ (omega arith) }) refl in
     let closing : Passes ≡ verdict len (sign_check bytes BadExtendedHeader (from + 8) ∷ extended_size_check x ∷ []) =
@@ -130,7 +131,7 @@ extended_read bytes front rest v h is width split l0 short s =
     record {
       passes = passed_sections bytes (TableEnd ∷ extended_sections) (End ∷ []) all ∙ ap (λ q. verdict len (end_check (end_of q) ∷ [])) known ∙ last;
       follows = omega arith;
-      same = subst (λ y. SameExtended v (content_with bytes h y)) (sym header) (same_extended v c mf mn mt names_same);
+      same = subst (λ y. v.extended ≡ (content_with bytes h y).extended) (sym header) (same_named v.extended c.extended values_same names_same);
     }
   where
     same_part : (y x : Part) → y.width ≡ x.width → y.flags_from ≡ x.flags_from → y.flags ≡ x.flags → y.numbers ≡ x.numbers → y.texts ≡ x.texts → y.names ≡ x.names → y.table ≡ x.table → y ≡ x
@@ -146,8 +147,8 @@ only bytes v s = by_rest s.extended
     from_table : verdict (length bytes) (checks bytes) ≡ verdict (length bytes) (flat_map (section_checks bytes) (TableEnd ∷ (extended_sections ++ (End ∷ []))))
     from_table = passed_sections bytes standard_sections (TableEnd ∷ (extended_sections ++ (End ∷ []))) plain.passes
 
-    same_with : (x : Part) → SameExtended v (content_with bytes (standard bytes) x) → v ≡ content_with bytes (standard bytes) x
-    same_with x same = same_value v (content_with bytes (standard bytes) x) (sym plain.width) (sym plain.names) (sym plain.flags) (sym plain.numbers) (sym plain.texts) same
+    same_with : (x : Part) → v.extended ≡ (content_with bytes (standard bytes) x).extended → v ≡ content_with bytes (standard bytes) x
+    same_with x same = same_value v (content_with bytes (standard bytes) x) (sym plain.width) (sym plain.names) (sym plain.said) same
 
     by_rest : HasNoExtendedPart v s.rest ⊎ HasExtendedPart v (length s.table) s.rest → IsRead bytes v
     by_rest (inl none) =
@@ -157,7 +158,7 @@ only bytes v s = by_rest s.extended
         let at_end : leb len (end_of h) ≡ true = le-leb _ _ (omega arith) in
         record {
           passes = from_table ∙ rw (lt-ltb len (end_of h + 1) (omega arith)) refl;
-          same = same_with no_capability (record { flags = none.no_flags; numbers = none.no_numbers; texts = none.no_texts })
+          same = same_with no_capability none.none
               ∙ (let is : content_with bytes h no_capability ≡ content bytes = rw at_end refl in is);
         }
     by_rest (inr part) =

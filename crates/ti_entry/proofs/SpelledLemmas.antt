@@ -20,7 +20,7 @@ use Rattle.std.specs.List.{AllByRecursion}
 use Rattle.ti_layout.specs.declared.section.Half.TheVariants.{Standard}
 use Rattle.ti_layout.specs.Refusal.{magic_check, size_check, named_check, size_checks, standard_sections}
 use Rattle.ti_layout.proofs.EndsLemmas.{SectionPasses}
-use Rattle.ti_entry.specs.Content.{flags_in, numbers_in, texts_in}
+use Rattle.ti_entry.specs.Content.{part_in}
 use Rattle.ti_layout.proofs.SectionReadLemmas.{Passed}
 use Rattle.ti_layout.proofs.WordLemmas.{reads_count}
 use Rattle.ti_entry.proofs.KindsSpelledLemmas.{append_pass, moved, byte, bytes_flat, sign_passed}
@@ -36,9 +36,7 @@ pub record PlainRead (bytes : List ℕ) (v : EntryValue) (table rest : List ℕ)
   pub passes : AllByRecursion (SectionPasses bytes) standard_sections
   pub width : (standard bytes).width ≡ v.width
   pub names : slice_range bytes 12 ((standard bytes).flags_from - 1) ≡ v.names
-  pub flags : flags_in bytes (standard bytes) ≡ v.flags
-  pub numbers : numbers_in bytes (standard bytes) ≡ v.numbers
-  pub texts : texts_in bytes (standard bytes) ≡ v.texts
+  pub said : part_in bytes (standard bytes) ≡ v.standard
   pub table_size : (standard bytes).table ≡ length table
   pub front : List ℕ
   pub split : bytes ≡ front ++ rest
@@ -48,9 +46,9 @@ pub plain_read : (bytes : List ℕ) (v : EntryValue) (table rest : List ℕ) →
 plain_read bytes v table rest s short =
     let w = v.width in
     let names = v.names in
-    let fs = v.flags in
-    let ns = v.numbers in
-    let ts = v.texts in
+    let fs = v.standard.flags in
+    let ns = v.standard.numbers in
+    let ts = v.standard.texts in
     let offsets = s.offsets in
     let counts = s.counts in
     let some = s.named in
@@ -122,6 +120,7 @@ plain_read bytes v table rest s short =
     ∙ ap (take (length names)) (drop_at x5 p5 12 l5 ∙ append_assoc names (0 ∷ []) p6)
     ∙ take_at names (0 ∷ p6) (length names) refl in
     let back = sym hd in
+    let read : part_in bytes hv ≡ v.standard = rw (r.flags, r.numbers, r.texts) refl in
     record {
       passes = (
         passes_one len (magic_check bytes) [] magic_ok refl,
@@ -135,9 +134,7 @@ plain_read bytes v table rest s short =
       );
       width = ap (λ (h : Part). h.width) hd;
       names = subst (λ (h : Part). slice_range bytes 12 (h.flags_from - 1) ≡ names) back names_same;
-      flags = subst (λ h. flags_in bytes h ≡ fs) back r.flags;
-      numbers = subst (λ h. numbers_in bytes h ≡ ns) back r.numbers;
-      texts = subst (λ h. texts_in bytes h ≡ ts) back r.texts;
+      said = subst (λ h. part_in bytes h ≡ v.standard) back read;
       table_size = h5;
       front = r.front;
       split = r.split;

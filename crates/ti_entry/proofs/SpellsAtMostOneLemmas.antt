@@ -11,13 +11,13 @@ use Rattle.ti_words.specs.declared.Width.{Width}
 use Rattle.ti_words.specs.declared.Width.TheVariants.{Legacy, Wide}
 use Rattle.ti_words.specs.Marks.{byte_of_flag, flag_of_byte, word_of_number, number_of_word}
 use Rattle.ti_words.specs.Texts.{TextValue}
-use Rattle.ti_words.specs.Value.{EntryValue}
+use Rattle.ti_words.specs.Value.{PartValue, NamedPart, EntryValue}
 use Rattle.ti_words.specs.Word.{unsigned_at, word_at, word}
 use Rattle.ti_words.specs.Widths.{number_size}
 use Rattle.ti_layout.specs.Table.{text_of_word}
-use Rattle.ti_words.specs.Spelling.{FitsWidth, magic, count_word, words_of, numbers_of, flags_of, pad, text_size, texts_size, name_in, mark_in, extended_names, HasSections, HasExtendedPart, HasNoExtendedPart}
+use Rattle.ti_words.specs.Spelling.{FitsWidth, magic, count_word, words_of, numbers_of, flags_of, pad, text_size, texts_size, name_in, mark_in, unnamed, part_names, HasSections, HasExtendedPart, HasNoExtendedPart}
 use Rattle.ti_entry.specs.Laws.{SpellsAtMostOne}
-use Rattle.ti_entry.proofs.NamedItemsLemmas.{names_length}
+use Rattle.ti_draft.proofs.LengthLemmas.{length_part_names}
 use Rattle.ti_layout.proofs.WordLemmas.{reads_count}
 use Rattle.ti_draft.proofs.LengthLemmas.{length_word}
 use Rattle.ti_entry.proofs.SpelledItemsLemmas.{IsShort, word_read, IsGood, all_good, short_number, read_again, flag_read}
@@ -158,9 +158,7 @@ part_again w base base' m n s z r q h h' c e =
 pub record SameSections (v w : EntryValue) (t u r q : List ℕ) : Type 0 where
   pub width : v.width ≡ w.width
   pub names : v.names ≡ w.names
-  pub flags : v.flags ≡ w.flags
-  pub numbers : v.numbers ≡ w.numbers
-  pub texts : v.texts ≡ w.texts
+  pub standard : v.standard ≡ w.standard
   pub table : t ≡ u
   pub rest : r ≡ q
 
@@ -216,12 +214,13 @@ same_sections v w t u r q bytes s z =
     let back = sym same in
     let jz = rw back at z.joined in
     let fz = rw back at z.numbers_fit in
-    let a : Sections = record { flags = v.flags; numbers = v.numbers; offsets = s.offsets; texts = v.texts; name_offsets = []; names = []; table = t } in
-    let b : Sections = record { flags = w.flags; numbers = w.numbers; offsets = z.offsets; texts = w.texts; name_offsets = []; names = []; table = u } in
+    let a : Sections = record { flags = v.standard.flags; numbers = v.standard.numbers; offsets = s.offsets; texts = v.standard.texts; name_offsets = []; names = []; table = t } in
+    let b : Sections = record { flags = w.standard.flags; numbers = w.standard.numbers; offsets = z.offsets; texts = w.standard.texts; name_offsets = []; names = []; table = u } in
     let h : IsSpelled v.width 0 a = record { small = omega (arith, s.counts.1.1.1.1.0); fit = s.numbers_fit; texts = s.texts_there; names = tt } in
     let h' : IsSpelled v.width 0 b = record { small = omega (arith, z.counts.1.1.1.1.0); fit = fz; texts = z.texts_there; names = tt } in
     let k = sections_again v.width v.names w.names a b r q (sym s.joined ∙ jz) s.counts z.counts refl refl refl refl h h' in
-    record { width = same; names = k.0; flags = k.1.flags; numbers = k.1.numbers; texts = k.1.texts; table = k.1.table; rest = k.1.rest }
+    let standard : ◌≡◌ {A = PartValue} (record { flags = v.standard.flags; numbers = v.standard.numbers; texts = v.standard.texts }) w.standard = rw (k.1.flags, k.1.numbers, k.1.texts) refl in
+    record { width = same; names = k.0; standard = standard; table = k.1.table; rest = k.1.rest }
 
 -- ---- the extended part
 
@@ -251,37 +250,30 @@ pub grouped_part : (a b c d e f g h i j k l : List ℕ)
     → a ++ b ++ c ++ d ++ e ++ f ++ g ++ h ++ i ++ j ++ k ++ l ≡ a ++ (b ++ (c ++ (d ++ (e ++ (f ++ (g ++ (h ++ (i ++ (j ++ (k ++ l))))))))))
 grouped_part a b c d e f g h i j k l = simp append_assoc
 
-pub record SameExtended (v w : EntryValue) : Type 0 where
-  pub flags : v.extended_flags ≡ w.extended_flags
-  pub numbers : v.extended_numbers ≡ w.extended_numbers
-  pub texts : v.extended_texts ≡ w.extended_texts
-
--- two extended parts with the same marks and the same names
-pub same_extended : (v w : EntryValue) → map mark_in v.extended_flags ≡ map mark_in w.extended_flags → map mark_in v.extended_numbers ≡ map mark_in w.extended_numbers → map mark_in v.extended_texts ≡ map mark_in w.extended_texts
-    → extended_names v ≡ extended_names w → SameExtended v w
-same_extended v w f n t all =
-    let flag_count : length v.extended_flags ≡ length w.extended_flags = sym (length-map v.extended_flags mark_in) ∙ ap length f ∙ length-map w.extended_flags mark_in in
-    let number_count : length v.extended_numbers ≡ length w.extended_numbers = sym (length-map v.extended_numbers mark_in) ∙ ap length n ∙ length-map w.extended_numbers mark_in in
-    let text_count : length v.extended_texts ≡ length w.extended_texts = sym (length-map v.extended_texts mark_in) ∙ ap length t ∙ length-map w.extended_texts mark_in in
-    let vf = map name_in v.extended_flags in
-    let vn = map name_in v.extended_numbers in
-    let vt = map name_in v.extended_texts in
-    let wf = map name_in w.extended_flags in
-    let wn = map name_in w.extended_numbers in
-    let wt = map name_in w.extended_texts in
-    let nf : length vf ≡ length wf = length-map v.extended_flags name_in ∙ flag_count ∙ sym (length-map w.extended_flags name_in) in
-    let nn : length vn ≡ length wn = length-map v.extended_numbers name_in ∙ number_count ∙ sym (length-map w.extended_numbers name_in) in
-    let nt : length vt ≡ length wt = length-map v.extended_texts name_in ∙ text_count ∙ sym (length-map w.extended_texts name_in) in
+-- parts with the same values and the same names
+pub same_named : (v w : NamedPart) → unnamed v ≡ unnamed w → part_names v ≡ part_names w → v ≡ w
+same_named v w values all =
+    let f : map mark_in v.flags ≡ map mark_in w.flags = ap (λ (p : PartValue). p.flags) values in
+    let n : map mark_in v.numbers ≡ map mark_in w.numbers = ap (λ (p : PartValue). p.numbers) values in
+    let t : map mark_in v.texts ≡ map mark_in w.texts = ap (λ (p : PartValue). p.texts) values in
+    let vf = map name_in v.flags in
+    let vn = map name_in v.numbers in
+    let wf = map name_in w.flags in
+    let wn = map name_in w.numbers in
+    let nf : length vf ≡ length wf = same_count v.flags w.flags f in
+    let nn : length vn ≡ length wn = same_count v.numbers w.numbers n in
     let front : length (vf ++ vn) ≡ length (wf ++ wn) = length-append vf vn ∙ (let s : length vf + length vn ≡ length wf + length wn = omega arith in s) ∙ sym (length-append wf wn) in
-    let c = cut (vf ++ vn) (wf ++ wn) vt wt front all in
+    let c = cut (vf ++ vn) (wf ++ wn) (map name_in v.texts) (map name_in w.texts) front all in
     let d = cut vf wf vn wn nf c.first in
-    record {
-      flags = pairs_again v.extended_flags w.extended_flags d.first f;
-      numbers = pairs_again v.extended_numbers w.extended_numbers d.rest n;
-      texts = pairs_again v.extended_texts w.extended_texts c.rest t;
-    }
+    let flags = pairs_again v.flags w.flags d.first f in
+    let numbers = pairs_again v.numbers w.numbers d.rest n in
+    let texts = pairs_again v.texts w.texts c.rest t in
+    let fields : ◌≡◌ {A = NamedPart} (record { flags = v.flags; numbers = v.numbers; texts = v.texts }) w = rw (flags, numbers, texts) refl in fields
+  where
+    same_count : {A : Type 0} (xs ys : List (List ℕ × A)) → map mark_in xs ≡ map mark_in ys → length (map name_in xs) ≡ length (map name_in ys)
+    same_count xs ys e = length-map xs name_in ∙ sym (length-map xs mark_in) ∙ ap length e ∙ length-map ys mark_in ∙ sym (length-map ys name_in)
 
-extended_same : (v w : EntryValue) (size size' : ℕ) (q : List ℕ) → HasExtendedPart v size q → HasExtendedPart w size' q → v.width ≡ w.width → size ≡ size' → SameExtended v w
+extended_same : (v w : EntryValue) (size size' : ℕ) (q : List ℕ) → HasExtendedPart v size q → HasExtendedPart w size' q → v.width ≡ w.width → size ≡ size' → v.extended ≡ w.extended
 extended_same v w size size' q s z width same =
     let of = v.width in
     let back = sym width in
@@ -289,65 +281,63 @@ extended_same v w size size' q s z width same =
     let fz = rw back at z.numbers_fit in
     let c = s.counts in
     let c' = z.counts in
-    let a : Sections = record { flags = map mark_in v.extended_flags; numbers = map mark_in v.extended_numbers; offsets = s.values; texts = map mark_in v.extended_texts; name_offsets = s.names; names = extended_names v; table = s.table } in
-    let b : Sections = record { flags = map mark_in w.extended_flags; numbers = map mark_in w.extended_numbers; offsets = z.values; texts = map mark_in w.extended_texts; name_offsets = z.names; names = extended_names w; table = z.table } in
-    let m = length v.extended_flags in
-    let n = length w.extended_flags in
-    let h : IsSpelled of (texts_size v.extended_texts) a = record { small = omega (arith, c.1.1.1.0); fit = s.numbers_fit; texts = s.texts_there; names = s.names_there } in
-    let h' : IsSpelled of (texts_size w.extended_texts) b = record { small = omega (arith, c'.1.1.1.0); fit = fz; texts = z.texts_there; names = z.names_there } in
+    let a : Sections = record { flags = map mark_in v.extended.flags; numbers = map mark_in v.extended.numbers; offsets = s.values; texts = map mark_in v.extended.texts; name_offsets = s.names; names = part_names v.extended; table = s.table } in
+    let b : Sections = record { flags = map mark_in w.extended.flags; numbers = map mark_in w.extended.numbers; offsets = z.values; texts = map mark_in w.extended.texts; name_offsets = z.names; names = part_names w.extended; table = z.table } in
+    let m = length v.extended.flags in
+    let n = length w.extended.flags in
+    let h : IsSpelled of (texts_size v.extended.texts) a = record { small = omega (arith, c.1.1.1.0); fit = s.numbers_fit; texts = s.texts_there; names = s.names_there } in
+    let h' : IsSpelled of (texts_size w.extended.texts) b = record { small = omega (arith, c'.1.1.1.0); fit = fz; texts = z.texts_there; names = z.names_there } in
     let whole =
-    sym (grouped_part (pad size) (count_word m) (count_word (length v.extended_numbers)) (count_word (length v.extended_texts)) s.items (count_word (length s.table)) (flags_of a.flags) (pad m) (numbers_of of a.numbers) (words_of s.values) (words_of s.names) s.table)
+    sym (grouped_part (pad size) (count_word m) (count_word (length v.extended.numbers)) (count_word (length v.extended.texts)) s.items (count_word (length s.table)) (flags_of a.flags) (pad m) (numbers_of of a.numbers) (words_of s.values) (words_of s.names) s.table)
     ∙ sym s.joined ∙ jz
-    ∙ grouped_part (pad size') (count_word n) (count_word (length w.extended_numbers)) (count_word (length w.extended_texts)) z.items (count_word (length z.table)) (flags_of b.flags) (pad n) (numbers_of of b.numbers) (words_of z.values) (words_of z.names) z.table in
+    ∙ grouped_part (pad size') (count_word n) (count_word (length w.extended.numbers)) (count_word (length w.extended.texts)) z.items (count_word (length z.table)) (flags_of b.flags) (pad n) (numbers_of of b.numbers) (words_of z.values) (words_of z.names) z.table in
     let k0 = cut (pad size) (pad size') _ _ (ap (λ k. length (pad k)) same) whole in
     let k1 = cut (count_word m) (count_word n) _ _ refl k0.rest in
-    let k2 = cut (count_word (length v.extended_numbers)) (count_word (length w.extended_numbers)) _ _ refl k1.rest in
-    let k3 = cut (count_word (length v.extended_texts)) (count_word (length w.extended_texts)) _ _ refl k2.rest in
+    let k2 = cut (count_word (length v.extended.numbers)) (count_word (length w.extended.numbers)) _ _ refl k1.rest in
+    let k3 = cut (count_word (length v.extended.texts)) (count_word (length w.extended.texts)) _ _ refl k2.rest in
     let k4 = cut s.items z.items _ _ (s.items_size ∙ sym z.items_size) k3.rest in
     let k5 = cut (count_word (length s.table)) (count_word (length z.table)) _ _ refl k4.rest in
     let n1 : m ≡ n = count_again _ _ (omega (arith, c.0)) (omega (arith, c'.0)) k1.first in
-    let n2 : length v.extended_numbers ≡ length w.extended_numbers = count_again _ _ (omega (arith, c.1.0)) (omega (arith, c'.1.0)) k2.first in
-    let n3 : length v.extended_texts ≡ length w.extended_texts = count_again _ _ (omega (arith, c.1.1.0)) (omega (arith, c'.1.1.0)) k3.first in
+    let n2 : length v.extended.numbers ≡ length w.extended.numbers = count_again _ _ (omega (arith, c.1.0)) (omega (arith, c'.1.0)) k2.first in
+    let n3 : length v.extended.texts ≡ length w.extended.texts = count_again _ _ (omega (arith, c.1.1.0)) (omega (arith, c'.1.1.0)) k3.first in
     let n5 : length s.table ≡ length z.table = count_again _ _ (omega (arith, c.1.1.1.0)) (omega (arith, c'.1.1.1.0)) k5.first in
-    let names : length (extended_names v) ≡ length (extended_names w) = omega (arith, names_length v, names_length w) in
+    let names : length (part_names v.extended) ≡ length (part_names w.extended) = omega (arith, length_part_names v.extended, length_part_names w.extended) in
     let counts : SameCounts m n a b = record {
       pads = n1;
-      flags = length-map v.extended_flags mark_in ∙ n1 ∙ sym (length-map w.extended_flags mark_in);
-      numbers = length-map v.extended_numbers mark_in ∙ n2 ∙ sym (length-map w.extended_numbers mark_in);
-      texts = length-map v.extended_texts mark_in ∙ n3 ∙ sym (length-map w.extended_texts mark_in);
+      flags = length-map v.extended.flags mark_in ∙ n1 ∙ sym (length-map w.extended.flags mark_in);
+      numbers = length-map v.extended.numbers mark_in ∙ n2 ∙ sym (length-map w.extended.numbers mark_in);
+      texts = length-map v.extended.texts mark_in ∙ n3 ∙ sym (length-map w.extended.texts mark_in);
       names = names;
       table = n5;
     } in
     let to_end : (k : ℕ) (o : Sections) → bytes_of of k o [] ≡ flags_of o.flags ++ (pad k ++ (numbers_of of o.numbers ++ (words_of o.offsets ++ (words_of o.name_offsets ++ o.table)))) = λ k o.
     ap (λ t. flags_of o.flags ++ (pad k ++ (numbers_of of o.numbers ++ (words_of o.offsets ++ (words_of o.name_offsets ++ t))))) (append-nil o.table) in
-    let p = part_again of (texts_size v.extended_texts) (texts_size w.extended_texts) m n a b [] [] h h' counts (to_end m a ∙ k5.rest ∙ sym (to_end n b)) in
-    same_extended v w p.flags p.numbers p.texts (p.names (same_sizes v.extended_texts w.extended_texts p.texts))
+    let p = part_again of (texts_size v.extended.texts) (texts_size w.extended.texts) m n a b [] [] h h' counts (to_end m a ∙ k5.rest ∙ sym (to_end n b)) in
+    let values : unnamed v.extended ≡ unnamed w.extended = rw (p.flags, p.numbers, p.texts) refl in
+    same_named v.extended w.extended values (p.names (same_sizes v.extended.texts w.extended.texts p.texts))
 
 -- an extended part has bytes
 some_part : (v : EntryValue) (size : ℕ) (q : List ℕ) → HasExtendedPart v size q → q ≡ [] → ⊥
 some_part v size q s e =
-    let words = numbers_of v.width (map mark_in v.extended_numbers) in
-    let others = count_word (length v.extended_numbers) ++ (count_word (length v.extended_texts) ++ (s.items ++ (count_word (length s.table) ++ (flags_of (map mark_in v.extended_flags) ++ (pad (length v.extended_flags) ++ (words ++ (words_of s.values ++ (words_of s.names ++ s.table)))))))) in
-    let j : q ≡ pad size ++ (count_word (length v.extended_flags) ++ others) =
-    s.joined ∙ grouped_part (pad size) (count_word (length v.extended_flags)) (count_word (length v.extended_numbers)) (count_word (length v.extended_texts)) s.items (count_word (length s.table)) (flags_of (map mark_in v.extended_flags)) (pad (length v.extended_flags)) words (words_of s.values) (words_of s.names) s.table in
-    let n : 0 ≡ length (pad size) + suc (suc (length others)) = ap length (sym e ∙ j) ∙ length-append (pad size) (count_word (length v.extended_flags) ++ others) in
+    let words = numbers_of v.width (map mark_in v.extended.numbers) in
+    let others = count_word (length v.extended.numbers) ++ (count_word (length v.extended.texts) ++ (s.items ++ (count_word (length s.table) ++ (flags_of (map mark_in v.extended.flags) ++ (pad (length v.extended.flags) ++ (words ++ (words_of s.values ++ (words_of s.names ++ s.table)))))))) in
+    let j : q ≡ pad size ++ (count_word (length v.extended.flags) ++ others) =
+    s.joined ∙ grouped_part (pad size) (count_word (length v.extended.flags)) (count_word (length v.extended.numbers)) (count_word (length v.extended.texts)) s.items (count_word (length s.table)) (flags_of (map mark_in v.extended.flags)) (pad (length v.extended.flags)) words (words_of s.values) (words_of s.names) s.table in
+    let n : 0 ≡ length (pad size) + suc (suc (length others)) = ap length (sym e ∙ j) ∙ length-append (pad size) (count_word (length v.extended.flags) ++ others) in
     omega arith
 
-extended_again : (v w : EntryValue) (t u : List ℕ) (r : List ℕ) → v.width ≡ w.width → t ≡ u → HasNoExtendedPart v r ⊎ HasExtendedPart v (length t) r → HasNoExtendedPart w r ⊎ HasExtendedPart w (length u) r → SameExtended v w
-extended_again v w t u r width e (inl s) (inl z) = record { flags = s.no_flags ∙ sym z.no_flags; numbers = s.no_numbers ∙ sym z.no_numbers; texts = s.no_texts ∙ sym z.no_texts }
+extended_again : (v w : EntryValue) (t u : List ℕ) (r : List ℕ) → v.width ≡ w.width → t ≡ u → HasNoExtendedPart v r ⊎ HasExtendedPart v (length t) r → HasNoExtendedPart w r ⊎ HasExtendedPart w (length u) r → v.extended ≡ w.extended
+extended_again v w t u r width e (inl s) (inl z) = s.none ∙ sym z.none
 extended_again v w t u r width e (inl s) (inr z) = absurd (some_part w (length u) r z s.ends)
 extended_again v w t u r width e (inr s) (inl z) = absurd (some_part v (length t) r s z.ends)
 extended_again v w t u r width e (inr s) (inr z) = extended_same v w (length t) (length u) r s z width (ap length e)
 
-pub same_value : (v w : EntryValue) → v.width ≡ w.width → v.names ≡ w.names → v.flags ≡ w.flags → v.numbers ≡ w.numbers → v.texts ≡ w.texts → SameExtended v w → v ≡ w
-same_value v w width names flags numbers texts more =
-    let fields : ◌≡◌ {A = EntryValue}
-    (record { width = v.width; names = v.names; flags = v.flags; numbers = v.numbers; texts = v.texts; extended_flags = v.extended_flags; extended_numbers = v.extended_numbers; extended_texts = v.extended_texts }) w =
-    rw (width, names, flags, numbers, texts, more.flags, more.numbers, more.texts) refl in
-    fields
+pub same_value : (v w : EntryValue) → v.width ≡ w.width → v.names ≡ w.names → v.standard ≡ w.standard → v.extended ≡ w.extended → v ≡ w
+same_value v w width names standard extended =
+    let fields : ◌≡◌ {A = EntryValue} (record { width = v.width; names = v.names; standard = v.standard; extended = v.extended }) w = rw (width, names, standard, extended) refl in fields
 
 pub at_most_one : SpellsAtMostOne
 at_most_one bytes v w s z =
     let same = same_sections v w s.table z.table s.rest z.rest bytes s.sections z.sections in
     let more = extended_again v w s.table z.table z.rest same.width same.table (subst (λ r. HasNoExtendedPart v r ⊎ HasExtendedPart v (length s.table) r) same.rest s.extended) z.extended in
-    same_value v w same.width same.names same.flags same.numbers same.texts more
+    same_value v w same.width same.names same.standard more

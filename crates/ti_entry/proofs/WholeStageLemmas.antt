@@ -49,7 +49,7 @@ view_of xs s x base e f g = ap (content_from xs s x) g ∙ ap (content_with xs s
 counted_of : (xs : List ℕ) (x : Part) (base : ℕ) → x ≡ extended xs → base ≡ base_of xs x → base ≡ base_of_names (content xs)
 counted_of xs x base f g =
     let y = extended xs in
-    g ∙ ap (base_of xs) f ∙ sym (sizes_are_base xs (standard xs) y (base_of xs y))
+    g ∙ ap (base_of xs) f ∙ sym (sizes_are_base xs y (base_of xs y))
 
 -- without names there is no text either
 base_is : (xs : List ℕ) (x : Part) → x.texts ≤ x.names → names_base xs x ≡ base_of xs x

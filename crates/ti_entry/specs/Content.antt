@@ -11,7 +11,7 @@ use Rattle.ti_words.specs.declared.Number.TheVariants as numbers
 use Rattle.ti_words.specs.Marks.{flag_of_byte, number_of_word}
 use Rattle.ti_words.specs.Texts.{TextValue}
 use Rattle.ti_words.specs.Word.{unsigned_at, word_at}
-use Rattle.ti_words.specs.Value.{EntryValue}
+use Rattle.ti_words.specs.Value.{PartValue, NamedPart, EntryValue}
 use Rattle.ti_layout.specs.declared.part.Part.{Part}
 use Rattle.ti_layout.specs.Layout.{places, numbers_from, offsets_from, end_of, count_of_kind, kind_names_from, standard, extended_after, no_capability}
 use Rattle.ti_words.specs.Widths.{number_size}
@@ -49,6 +49,18 @@ texts_in bytes p = map (text_at (table_of bytes p) bytes) (places (offsets_from 
 abbrev pub names_in : List ℕ → Part → ℕ → Kind → List (List ℕ)
 names_in bytes p base kind = map (name_from bytes p base) (places (kind_names_from p kind) 2 (count_of_kind p kind))
 
+-- what a part says
+abbrev pub part_in : List ℕ → Part → PartValue
+part_in bytes p = record { flags = flags_in bytes p; numbers = numbers_in bytes p; texts = texts_in bytes p }
+
+-- the same, with the names that are counted from a base
+abbrev pub named_part_in : List ℕ → Part → ℕ → NamedPart
+named_part_in bytes p base = record {
+  flags = zip (names_in bytes p base kinds.Flag) (flags_in bytes p);
+  numbers = zip (names_in bytes p base kinds.Number) (numbers_in bytes p);
+  texts = zip (names_in bytes p base kinds.Text) (texts_in bytes p);
+}
+
 -- ---- the whole
 
 -- the entry of two parts, the names of the second counted from a base
@@ -56,12 +68,8 @@ abbrev pub content_from : List ℕ → Part → Part → ℕ → EntryValue
 content_from bytes s x base = record {
   width = s.width;
   names = slice_range bytes 12 (s.flags_from - 1);
-  flags = flags_in bytes s;
-  numbers = numbers_in bytes s;
-  texts = texts_in bytes s;
-  extended_flags = zip (names_in bytes x base kinds.Flag) (flags_in bytes x);
-  extended_numbers = zip (names_in bytes x base kinds.Number) (numbers_in bytes x);
-  extended_texts = zip (names_in bytes x base kinds.Text) (texts_in bytes x);
+  standard = part_in bytes s;
+  extended = named_part_in bytes x base;
 }
 
 -- the entry of two parts

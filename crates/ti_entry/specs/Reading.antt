@@ -20,7 +20,7 @@ answer_for bytes = answer_under (refusal bytes) (content bytes)
 
 -- what the offsets of an entry's names are counted from: the end of its extended texts
 abbrev pub base_of_names : EntryValue → ℕ
-base_of_names v = texts_size v.extended_texts
+base_of_names v = texts_size v.extended.texts
 
 -- ---- the reader
 

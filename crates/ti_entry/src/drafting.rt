@@ -4,7 +4,7 @@
 //! them.
 
 ghost use Rattle.std.specs.Prelude.{◌≡◌, ◌++◌, length, IsOk, IfOk, OnOk};
-ghost use Rattle.ti_words.specs.Value.{bare};
+ghost use Rattle.ti_words.specs.Value.{bare, no_values, no_named};
 
 use crate::entry::Entry;
 use crate::extended::Extended;
@@ -15,9 +15,11 @@ use ti_words::Kind;
 /// Adds the flags of an entry.
 fn add_flags<A: Allocator>(draft: &mut Draft<'_, A>, entry: &Entry<'_>) -> Result<(), AllocError>
     ensures added { OnOk result (draft.new ≡ record draft.old {
-      flags = draft.old.flags ++ entry.now.flags;
+      standard = record draft.old.standard {
+        flags = draft.old.standard.flags ++ entry.now.standard.flags;
+      };
     }) }
-    ensures no_memory { length entry.now.flags ≡ 0 → IsOk result }
+    ensures no_memory { length entry.now.standard.flags ≡ 0 → IsOk result }
 {
     for i in 0..entry.flag_count() {
         draft.push_flag(entry.flag(i))?;
@@ -28,9 +30,11 @@ fn add_flags<A: Allocator>(draft: &mut Draft<'_, A>, entry: &Entry<'_>) -> Resul
 /// Adds the numbers of an entry.
 fn add_numbers<A: Allocator>(draft: &mut Draft<'_, A>, entry: &Entry<'_>) -> Result<(), AllocError>
     ensures added { OnOk result (draft.new ≡ record draft.old {
-      numbers = draft.old.numbers ++ entry.now.numbers;
+      standard = record draft.old.standard {
+        numbers = draft.old.standard.numbers ++ entry.now.standard.numbers;
+      };
     }) }
-    ensures no_memory { length entry.now.numbers ≡ 0 → IsOk result }
+    ensures no_memory { length entry.now.standard.numbers ≡ 0 → IsOk result }
 {
     for i in 0..entry.number_count() {
         draft.push_number(entry.number(i))?;
@@ -44,9 +48,11 @@ fn add_texts<'a, A: Allocator>(
     entry: &Entry<'a>,
 ) -> Result<(), AllocError>
     ensures added { OnOk result (draft.new ≡ record draft.old {
-      texts = draft.old.texts ++ entry.now.texts;
+      standard = record draft.old.standard {
+        texts = draft.old.standard.texts ++ entry.now.standard.texts;
+      };
     }) }
-    ensures no_memory { length entry.now.texts ≡ 0 → IsOk result }
+    ensures no_memory { length entry.now.standard.texts ≡ 0 → IsOk result }
 {
     let mut texts = entry.texts();
     for i in 0..entry.text_count() {
@@ -61,9 +67,11 @@ fn add_extended_flags<'a, A: Allocator>(
     extended: &Extended<'a>,
 ) -> Result<(), AllocError>
     ensures added { OnOk result (draft.new ≡ record draft.old {
-      extended_flags = draft.old.extended_flags ++ extended.now.extended_flags;
+      extended = record draft.old.extended {
+        flags = draft.old.extended.flags ++ extended.now.flags;
+      };
     }) }
-    ensures no_memory { length extended.now.extended_flags ≡ 0 → IsOk result }
+    ensures no_memory { length extended.now.flags ≡ 0 → IsOk result }
 {
     for i in 0..extended.flag_count() {
         if let Some(name) = extended.name(Kind::Flag, i) {
@@ -79,9 +87,11 @@ fn add_extended_numbers<'a, A: Allocator>(
     extended: &Extended<'a>,
 ) -> Result<(), AllocError>
     ensures added { OnOk result (draft.new ≡ record draft.old {
-      extended_numbers = draft.old.extended_numbers ++ extended.now.extended_numbers;
+      extended = record draft.old.extended {
+        numbers = draft.old.extended.numbers ++ extended.now.numbers;
+      };
     }) }
-    ensures no_memory { length extended.now.extended_numbers ≡ 0 → IsOk result }
+    ensures no_memory { length extended.now.numbers ≡ 0 → IsOk result }
 {
     for i in 0..extended.number_count() {
         if let Some(name) = extended.name(Kind::Number, i) {
@@ -97,9 +107,11 @@ fn add_extended_texts<'a, A: Allocator>(
     extended: &Extended<'a>,
 ) -> Result<(), AllocError>
     ensures added { OnOk result (draft.new ≡ record draft.old {
-      extended_texts = draft.old.extended_texts ++ extended.now.extended_texts;
+      extended = record draft.old.extended {
+        texts = draft.old.extended.texts ++ extended.now.texts;
+      };
     }) }
-    ensures no_memory { length extended.now.extended_texts ≡ 0 → IsOk result }
+    ensures no_memory { length extended.now.texts ≡ 0 → IsOk result }
 {
     for i in 0..extended.text_count() {
         if let Some(name) = extended.name(Kind::Text, i) {
@@ -115,11 +127,13 @@ fn add_standard<'a, A: Allocator>(
     entry: &Entry<'a>,
 ) -> Result<(), AllocError>
     ensures added { OnOk result (draft.new ≡ record draft.old {
-      flags = draft.old.flags ++ entry.now.flags;
-      numbers = draft.old.numbers ++ entry.now.numbers;
-      texts = draft.old.texts ++ entry.now.texts;
+      standard = record {
+        flags = draft.old.standard.flags ++ entry.now.standard.flags;
+        numbers = draft.old.standard.numbers ++ entry.now.standard.numbers;
+        texts = draft.old.standard.texts ++ entry.now.standard.texts;
+      };
     }) }
-    ensures no_memory { entry.now ≡ bare entry.now.width entry.now.names → IsOk result }
+    ensures no_memory { entry.now.standard ≡ no_values → IsOk result }
 {
     draft.reserve(entry.flag_count(), entry.number_count(), entry.text_count())?;
     add_flags(draft, entry)?;
@@ -133,11 +147,13 @@ fn add_extended<'a, A: Allocator>(
     extended: &Extended<'a>,
 ) -> Result<(), AllocError>
     ensures added { OnOk result (draft.new ≡ record draft.old {
-      extended_flags = draft.old.extended_flags ++ extended.now.extended_flags;
-      extended_numbers = draft.old.extended_numbers ++ extended.now.extended_numbers;
-      extended_texts = draft.old.extended_texts ++ extended.now.extended_texts;
+      extended = record {
+        flags = draft.old.extended.flags ++ extended.now.flags;
+        numbers = draft.old.extended.numbers ++ extended.now.numbers;
+        texts = draft.old.extended.texts ++ extended.now.texts;
+      };
     }) }
-    ensures no_memory { extended.now ≡ bare extended.now.width extended.now.names → IsOk result }
+    ensures no_memory { extended.now ≡ no_named → IsOk result }
 {
     draft.reserve_extended(
         extended.flag_count(),

@@ -124,49 +124,49 @@ impl<'a> Entry<'a> {
 
     /// How many flags it has.
     pub fn flag_count(&self) -> usize
-        ensures { result ≡ length self.now.flags }
+        ensures { result ≡ length self.now.standard.flags }
     {
         self.standard.count(Kind::Flag)
     }
 
     /// How many numbers it has.
     pub fn number_count(&self) -> usize
-        ensures { result ≡ length self.now.numbers }
+        ensures { result ≡ length self.now.standard.numbers }
     {
         self.standard.count(Kind::Number)
     }
 
     /// How many texts it has.
     pub fn text_count(&self) -> usize
-        ensures { result ≡ length self.now.texts }
+        ensures { result ≡ length self.now.standard.texts }
     {
         self.standard.count(Kind::Text)
     }
 
     /// The flag at an index; at or above the count No.
     pub fn flag(&self, i: usize) -> Flag
-        ensures { result ≡ get_or self.now.flags i Flag.No }
+        ensures { result ≡ get_or self.now.standard.flags i Flag.No }
     {
         flag(self.bytes, &self.standard, i)
     }
 
     /// The number at an index; at or above the count Absent.
     pub fn number(&self, i: usize) -> Number
-        ensures { result ≡ get_or self.now.numbers i Number.Absent }
+        ensures { result ≡ get_or self.now.standard.numbers i Number.Absent }
     {
         number(self.bytes, &self.standard, i)
     }
 
     /// The text at an index; at or above the count Absent.
     pub fn text(&self, i: usize) -> Text<'a>
-        ensures { text_value result ≡ get_or self.now.texts i AbsentText }
+        ensures { text_value result ≡ get_or self.now.standard.texts i AbsentText }
     {
         text(self.bytes, &self.standard, i)
     }
 
     /// Its texts, to be read one after another.
     pub(crate) fn texts(&self) -> Texts<'a>
-        ensures { result ≡ self.now.texts }
+        ensures { result ≡ self.now.standard.texts }
     {
         let standard = &self.standard;
         texts_of(
@@ -179,7 +179,7 @@ impl<'a> Entry<'a> {
 
     /// Its extended part, with no capability if it has none.
     pub fn extended(&self) -> Extended<'a>
-        ensures { result ≡ self.now }
+        ensures { result ≡ self.now.extended }
     {
         extended_of(self.bytes, self.extended, self.base)
     }

@@ -8,8 +8,8 @@ ghost use Rattle.std.specs.Prelude.{◌≡◌, ◌+◌, ◌*◌, ◌<◌, ◌≤
 ghost use Rattle.std.specs.Option.{option_map};
 ghost use Rattle.ti_base.specs.Limits.{most_entry_bytes};
 ghost use Rattle.ti_words.specs.Texts.{text_value, AbsentText};
-ghost use Rattle.ti_layout.specs.Layout.{places, standard};
-ghost use Rattle.ti_entry.specs.Content.{content_from, name_from};
+ghost use Rattle.ti_layout.specs.Layout.{places};
+ghost use Rattle.ti_entry.specs.Content.{named_part_in, name_from};
 ghost use Rattle.ti_entry.specs.Views.{IsExtended};
 ghost use Rattle.ti_words.specs.Spelling.{mark_in};
 ghost use Rattle.ti_entry.specs.Finding.{IsLeastIndex, IsFirstNamed, names_of};
@@ -31,15 +31,13 @@ pub struct Extended<'a> {
 }
 
 impl<'a> Model for Extended<'a> {
-    ghost use Rattle.ti_words.specs.Value.{EntryValue};
-    ghost use Rattle.ti_layout.specs.Layout.{standard};
-    ghost use Rattle.ti_entry.specs.Content.{content_from};
+    ghost use Rattle.ti_words.specs.Value.{NamedPart};
+    ghost use Rattle.ti_entry.specs.Content.{named_part_in};
     ghost use Rattle.ti_entry.specs.Views.{IsExtended};
 
-    ghost Value = { EntryValue };
+    ghost Value = { NamedPart };
 
-    // The entry that it is a part of.
-    ghost view = { λ e. content_from e.bytes.now (standard e.bytes.now) e.part e.base };
+    ghost view = { λ e. named_part_in e.bytes.now e.part e.base };
 
     ghost invariant = { λ e. IsExtended e.bytes.now e.part e.base };
 }
@@ -47,7 +45,7 @@ impl<'a> Model for Extended<'a> {
 /// The extended part of an entry.
 pub(crate) fn extended_of<'a>(bytes: &'a [u8], part: Part, base: usize) -> Extended<'a>
     requires { IsExtended bytes.now part base }
-    ensures { result ≡ content_from bytes.now (standard bytes.now) part base }
+    ensures { result ≡ named_part_in bytes.now part base }
 {
     Extended { bytes, part, base }
 }
@@ -55,42 +53,42 @@ pub(crate) fn extended_of<'a>(bytes: &'a [u8], part: Part, base: usize) -> Exten
 impl<'a> Extended<'a> {
     /// How many flags it has.
     pub fn flag_count(&self) -> usize
-        ensures { result ≡ length self.now.extended_flags }
+        ensures { result ≡ length self.now.flags }
     {
         self.part.count(Kind::Flag)
     }
 
     /// How many numbers it has.
     pub fn number_count(&self) -> usize
-        ensures { result ≡ length self.now.extended_numbers }
+        ensures { result ≡ length self.now.numbers }
     {
         self.part.count(Kind::Number)
     }
 
     /// How many texts it has.
     pub fn text_count(&self) -> usize
-        ensures { result ≡ length self.now.extended_texts }
+        ensures { result ≡ length self.now.texts }
     {
         self.part.count(Kind::Text)
     }
 
     /// The flag at an index; at or above the count No.
     pub fn flag(&self, i: usize) -> Flag
-        ensures { result ≡ get_or (map mark_in self.now.extended_flags) i Flag.No }
+        ensures { result ≡ get_or (map mark_in self.now.flags) i Flag.No }
     {
         flag(self.bytes, &self.part, i)
     }
 
     /// The number at an index; at or above the count Absent.
     pub fn number(&self, i: usize) -> Number
-        ensures { result ≡ get_or (map mark_in self.now.extended_numbers) i Number.Absent }
+        ensures { result ≡ get_or (map mark_in self.now.numbers) i Number.Absent }
     {
         number(self.bytes, &self.part, i)
     }
 
     /// The text at an index; at or above the count Absent.
     pub fn text(&self, i: usize) -> Text<'a>
-        ensures { text_value result ≡ get_or (map mark_in self.now.extended_texts) i AbsentText }
+        ensures { text_value result ≡ get_or (map mark_in self.now.texts) i AbsentText }
     {
         text(self.bytes, &self.part, i)
     }

@@ -7,7 +7,7 @@ use Rattle.ti_words.specs.declared.all_names.NameTable.{NameTable}
 use Rattle.ti_words.specs.Names.{Place}
 use Rattle.ti_words.specs.AllNames.{place_in}
 use Rattle.ti_words.specs.Texts.{TextValue, AbsentText}
-use Rattle.ti_words.specs.Value.{EntryValue}
+use Rattle.ti_words.specs.Value.{NamedPart, EntryValue}
 use Rattle.ti_entry.specs.Finding.{Lacks, IsLeastIndex, names_of}
 use Rattle.ti_tool.specs.Names.{IsLabel, IsExtendedCalled, IsNamedText, IsCalled, text_found}
 
@@ -33,15 +33,15 @@ one_first names name (Some i) (Some j) f o = ap Some (one_index names name i j f
 
 -- ---- the text of a name
 
-one_extended : (name : List ℕ) (v : EntryValue) (s t : TextValue) → IsExtendedCalled name v s → IsExtendedCalled name v t → s ≡ t
-one_extended name v s t (found, first, is) (other, again, same) =
-    is ∙ ap (λ (o : Option ℕ). text_found o v) (one_first (names_of v kinds.Text) name found other first again) ∙ sym same
+one_extended : (name : List ℕ) (p : NamedPart) (s t : TextValue) → IsExtendedCalled name p s → IsExtendedCalled name p t → s ≡ t
+one_extended name p s t (found, first, is) (other, again, same) =
+    is ∙ ap (λ (o : Option ℕ). text_found o p) (one_first (names_of p kinds.Text) name found other first again) ∙ sym same
 
 one_named : (place : Option Place) (name : List ℕ) (v : EntryValue) (s t : TextValue) → IsNamedText place name v s → IsNamedText place name v t → s ≡ t
-one_named None name v s t a b = one_extended name v s t a b
+one_named None name v s t a b = one_extended name v.extended s t a b
 one_named (Some (kinds.Text, index)) name v s t a b = a ∙ sym b
-one_named (Some (kinds.Flag, index)) name v s t a b = one_extended name v s t a b
-one_named (Some (kinds.Number, index)) name v s t a b = one_extended name v s t a b
+one_named (Some (kinds.Flag, index)) name v s t a b = one_extended name v.extended s t a b
+one_named (Some (kinds.Number, index)) name v s t a b = one_extended name v.extended s t a b
 
 one_label : (name : List ℕ) (i j : ℕ) → IsLabel name i → IsLabel name j → i ≡ j
 one_label name i j (digits, is, numeral, few, value) (others, same, numerals, fews, values) =
@@ -51,7 +51,7 @@ one_label name i j (digits, is, numeral, few, value) (others, same, numerals, fe
 
 pub one_called : (names : NameTable) (name : List ℕ) (v : EntryValue) (s t : TextValue) → IsCalled names name v s → IsCalled names name v t → s ≡ t
 one_called names name v s t (inl (i, label, is)) (inl (j, other, same)) =
-    is ∙ ap (λ k. get_or v.texts k AbsentText) (one_label name i j label other) ∙ sym same
+    is ∙ ap (λ k. get_or v.standard.texts k AbsentText) (one_label name i j label other) ∙ sym same
 one_called names name v s t (inl (i, label, is)) (inr (none, named)) = absurd (none i label)
 one_called names name v s t (inr (none, named)) (inl (j, other, same)) = absurd (none j other)
 one_called names name v s t (inr (none, named)) (inr (neither, again)) = one_named (place_in names name) name v s t named again

@@ -243,8 +243,8 @@ one_lines IsLineOf once index (x ∷ xs) lines others sound as_sound (line, more
 
 one_verdicts : (naming : Naming) (v : EntryValue) (lines others : List ℕ) (sound as_sound : Bool) → AreVerdicts naming v lines sound → AreVerdicts naming v others as_sound → (lines ≡ others) × (sound ≡ as_sound)
 one_verdicts naming v lines others sound as_sound (first, second, one, other, a, b, joined, both) (first', second', one', other', a', b', joined', both') =
-    let front = one_lines (IsStandardLine naming.table) (λ index x line lines s t. one_line (codes "text ") (label_of naming.table kinds.Text index) x line lines s t) 0 v.texts first first' one one' a a' in
-    let back = one_lines (IsExtendedLine naming.form) (λ index x line lines s t. one_line (codes "text+ ") (own_label naming.form x.0) x.1 line lines s t) 0 v.extended_texts second second' other other' b b' in (
+    let front = one_lines (IsStandardLine naming.table) (λ index x line lines s t. one_line (codes "text ") (label_of naming.table kinds.Text index) x line lines s t) 0 v.standard.texts first first' one one' a a' in
+    let back = one_lines (IsExtendedLine naming.form) (λ index x line lines s t. one_line (codes "text+ ") (own_label naming.form x.0) x.1 line lines s t) 0 v.extended.texts second second' other other' b b' in (
       joined ∙ ap (λ l. l ++ second) front.0 ∙ ap (λ l. first' ++ l) back.0 ∙ sym joined',
       both ∙ ap (λ b. b && other) front.1 ∙ ap (λ b. one' && b) back.1 ∙ sym both',
     )

@@ -176,22 +176,22 @@ all_lines line count each index [] = none
 all_lines line count each index (x ∷ xs) = joined_lines (count x) (lines_due count xs) (line index x) (lines_from line (suc index) xs) (each index x) (all_lines line count each (suc index) xs)
 
 standard_text_lines : (look : Look) (v : EntryValue) → look.form ≡ forms.Notation
-    → ArePrintableLines (lines_due flag_lines v.flags + lines_due number_lines v.numbers + lines_due text_lines v.texts) (standard_lines look v)
+    → ArePrintableLines (lines_due flag_lines v.standard.flags + lines_due number_lines v.standard.numbers + lines_due text_lines v.standard.texts) (standard_lines look v.standard)
 standard_text_lines look v e =
     joined_lines _ _ _ _
     (joined_lines _ _ _ _
-    (all_lines (standard_flag look.naming.table) flag_lines (λ index flag. flag_text (codes "flag ") (label_of look.naming.table kinds.Flag index) flag refl (label_text look.naming.table kinds.Flag index)) 0 v.flags)
-    (all_lines (standard_number look.naming.table) number_lines (λ index number. number_text (codes "number ") (label_of look.naming.table kinds.Number index) number refl (label_text look.naming.table kinds.Number index)) 0 v.numbers))
-    (all_lines (standard_text look) text_lines (λ index text. text_text look.form (codes "text ") (label_of look.naming.table kinds.Text index) text e refl (label_text look.naming.table kinds.Text index)) 0 v.texts)
+    (all_lines (standard_flag look.naming.table) flag_lines (λ index flag. flag_text (codes "flag ") (label_of look.naming.table kinds.Flag index) flag refl (label_text look.naming.table kinds.Flag index)) 0 v.standard.flags)
+    (all_lines (standard_number look.naming.table) number_lines (λ index number. number_text (codes "number ") (label_of look.naming.table kinds.Number index) number refl (label_text look.naming.table kinds.Number index)) 0 v.standard.numbers))
+    (all_lines (standard_text look) text_lines (λ index text. text_text look.form (codes "text ") (label_of look.naming.table kinds.Text index) text e refl (label_text look.naming.table kinds.Text index)) 0 v.standard.texts)
 
 extended_text_lines : (look : Look) (v : EntryValue) → look.form ≡ forms.Notation → look.naming.form ≡ name_forms.Notation
-    → ArePrintableLines (lines_due (λ item. flag_lines (mark_in item)) v.extended_flags + lines_due (λ item. number_lines (mark_in item)) v.extended_numbers + lines_due (λ item. text_lines (mark_in item)) v.extended_texts) (extended_lines look v)
+    → ArePrintableLines (lines_due (λ item. flag_lines (mark_in item)) v.extended.flags + lines_due (λ item. number_lines (mark_in item)) v.extended.numbers + lines_due (λ item. text_lines (mark_in item)) v.extended.texts) (extended_lines look v.extended)
 extended_text_lines look v e n =
     joined_lines _ _ _ _
     (joined_lines _ _ _ _
-    (all_lines (extended_flag look.naming.form) (λ item. flag_lines (mark_in item)) (λ index item. flag_text (codes "flag+ ") (own_label look.naming.form item.0) item.1 refl (own_text look.naming.form item.0 n)) 0 v.extended_flags)
-    (all_lines (extended_number look.naming.form) (λ item. number_lines (mark_in item)) (λ index item. number_text (codes "number+ ") (own_label look.naming.form item.0) item.1 refl (own_text look.naming.form item.0 n)) 0 v.extended_numbers))
-    (all_lines (extended_text look) (λ item. text_lines (mark_in item)) (λ index item. text_text look.form (codes "text+ ") (own_label look.naming.form item.0) item.1 e refl (own_text look.naming.form item.0 n)) 0 v.extended_texts)
+    (all_lines (extended_flag look.naming.form) (λ item. flag_lines (mark_in item)) (λ index item. flag_text (codes "flag+ ") (own_label look.naming.form item.0) item.1 refl (own_text look.naming.form item.0 n)) 0 v.extended.flags)
+    (all_lines (extended_number look.naming.form) (λ item. number_lines (mark_in item)) (λ index item. number_text (codes "number+ ") (own_label look.naming.form item.0) item.1 refl (own_text look.naming.form item.0 n)) 0 v.extended.numbers))
+    (all_lines (extended_text look) (λ item. text_lines (mark_in item)) (λ index item. text_text look.form (codes "text+ ") (own_label look.naming.form item.0) item.1 e refl (own_text look.naming.form item.0 n)) 0 v.extended.texts)
 
 format_text : (width : Width) → IsText (codes "format: " ++ format_name width)
 format_text Legacy = refl
@@ -268,8 +268,8 @@ check_lines naming input out sound n (inr (v, spells, (first, second, this, othe
       spells,
       subst P (sym e) (
           joined_lines _ _ _ _
-          (each_line (IsStandardLine naming.table) verdict_lines (λ index text line sound is. line_text (codes "text ") (label_of naming.table kinds.Text index) text line sound refl (label_text naming.table kinds.Text index) is) 0 v.texts first this are)
-          (each_line (IsExtendedLine naming.form) (λ item. verdict_lines (mark_in item)) (λ index item line sound is. line_text (codes "text+ ") (own_label naming.form item.0) item.1 line sound refl (own_text naming.form item.0 n) is) 0 v.extended_texts second other are_too)),
+          (each_line (IsStandardLine naming.table) verdict_lines (λ index text line sound is. line_text (codes "text ") (label_of naming.table kinds.Text index) text line sound refl (label_text naming.table kinds.Text index) is) 0 v.standard.texts first this are)
+          (each_line (IsExtendedLine naming.form) (λ item. verdict_lines (mark_in item)) (λ index item line sound is. line_text (codes "text+ ") (own_label naming.form item.0) item.1 line sound refl (own_text naming.form item.0 n) is) 0 v.extended.texts second other are_too)),
     )
 
 -- ---- outputs

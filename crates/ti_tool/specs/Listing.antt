@@ -12,7 +12,7 @@ use Rattle.ti_words.specs.declared.Number.TheVariants as numbers
 use Rattle.ti_words.specs.declared.Width.{Width}
 use Rattle.ti_words.specs.declared.Width.TheVariants.{Legacy, Wide}
 use Rattle.ti_words.specs.Texts.{TextValue, AbsentText, CancelledText, TextOf}
-use Rattle.ti_words.specs.Value.{EntryValue}
+use Rattle.ti_words.specs.Value.{PartValue, NamedPart, EntryValue}
 use Rattle.ti_line.specs.declared.look.Look.{Look}
 use Rattle.ti_line.specs.declared.look.NameForm.{NameForm}
 use Rattle.ti_tool.specs.Labels.{label_of, own_label, own_names}
@@ -67,17 +67,17 @@ lines_from line index [] = []
 lines_from line index (x ∷ xs) = line index x ++ lines_from line (suc index) xs
 
 -- flags, numbers and texts in the order of their indices
-abbrev pub standard_lines : Look → EntryValue → List ℕ
-standard_lines look v =
-    lines_from (standard_flag look.naming.table) 0 v.flags
-    ++ lines_from (standard_number look.naming.table) 0 v.numbers
-    ++ lines_from (standard_text look) 0 v.texts
+abbrev pub standard_lines : Look → PartValue → List ℕ
+standard_lines look p =
+    lines_from (standard_flag look.naming.table) 0 p.flags
+    ++ lines_from (standard_number look.naming.table) 0 p.numbers
+    ++ lines_from (standard_text look) 0 p.texts
 
-abbrev pub extended_lines : Look → EntryValue → List ℕ
-extended_lines look v =
-    lines_from (extended_flag look.naming.form) 0 v.extended_flags
-    ++ lines_from (extended_number look.naming.form) 0 v.extended_numbers
-    ++ lines_from (extended_text look) 0 v.extended_texts
+abbrev pub extended_lines : Look → NamedPart → List ℕ
+extended_lines look p =
+    lines_from (extended_flag look.naming.form) 0 p.flags
+    ++ lines_from (extended_number look.naming.form) 0 p.numbers
+    ++ lines_from (extended_text look) 0 p.texts
 
 -- the name of a format
 abbrev pub format_name : Width → List ℕ
@@ -89,4 +89,4 @@ abbrev pub entry_lines : Look → EntryValue → List ℕ
 entry_lines look v =
     codes "format: " ++ format_name v.width
     ++ codes "\nnames: " ++ own_names look.naming.form v.names ++ codes "\n"
-    ++ standard_lines look v ++ extended_lines look v
+    ++ standard_lines look v.standard ++ extended_lines look v.extended

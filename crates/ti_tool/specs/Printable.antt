@@ -60,16 +60,16 @@ lines_due lines_of (x ∷ xs) = lines_of x + lines_due lines_of xs
 -- of a whole entry: in `show` the format and the names come first
 abbrev pub listed_lines : EntryValue → ℕ
 listed_lines v =
-    2 + (lines_due flag_lines v.flags + lines_due number_lines v.numbers
-    + lines_due text_lines v.texts)
-    + (lines_due (λ item. flag_lines (mark_in item)) v.extended_flags
-    + lines_due (λ item. number_lines (mark_in item)) v.extended_numbers
-    + lines_due (λ item. text_lines (mark_in item)) v.extended_texts)
+    2 + (lines_due flag_lines v.standard.flags + lines_due number_lines v.standard.numbers
+    + lines_due text_lines v.standard.texts)
+    + (lines_due (λ item. flag_lines (mark_in item)) v.extended.flags
+    + lines_due (λ item. number_lines (mark_in item)) v.extended.numbers
+    + lines_due (λ item. text_lines (mark_in item)) v.extended.texts)
 
 abbrev pub checked_lines : EntryValue → ℕ
 checked_lines v =
-    lines_due verdict_lines v.texts
-    + lines_due (λ item. verdict_lines (mark_in item)) v.extended_texts
+    lines_due verdict_lines v.standard.texts
+    + lines_due (λ item. verdict_lines (mark_in item)) v.extended.texts
 
 -- ---- results under `--escape`
 

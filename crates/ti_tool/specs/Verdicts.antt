@@ -66,6 +66,6 @@ AreLines IsLineOf index (x ∷ xs) lines sound =
 abbrev pub AreVerdicts : Naming → EntryValue → List ℕ → Bool → Type 0
 AreVerdicts naming v lines sound =
     (first : List ℕ) × (second : List ℕ) × (one : Bool) × (other : Bool)
-    × AreLines (IsStandardLine naming.table) 0 v.texts first one
-    × AreLines (IsExtendedLine naming.form) 0 v.extended_texts second other
+    × AreLines (IsStandardLine naming.table) 0 v.standard.texts first one
+    × AreLines (IsExtendedLine naming.form) 0 v.extended.texts second other
     × (lines ≡ first ++ second) × (sound ≡ (one && other))

@@ -21,7 +21,7 @@ fn push_flags<A: Allocator>(
     entry: &Entry<'_>,
 ) -> Result<(), AllocError>
     ensures { OnOk result (out.new.items
-        ≡ out.old.items ++ lines_from (standard_flag table) 0 entry.now.flags) }
+        ≡ out.old.items ++ lines_from (standard_flag table) 0 entry.now.standard.flags) }
 {
     for index in 0..entry.flag_count() {
         let kind = Kind::Flag;
@@ -38,7 +38,7 @@ fn push_numbers<A: Allocator>(
     entry: &Entry<'_>,
 ) -> Result<(), AllocError>
     ensures { OnOk result (out.new.items
-        ≡ out.old.items ++ lines_from (standard_number table) 0 entry.now.numbers) }
+        ≡ out.old.items ++ lines_from (standard_number table) 0 entry.now.standard.numbers) }
 {
     for index in 0..entry.number_count() {
         let kind = Kind::Number;
@@ -55,7 +55,7 @@ fn push_texts<A: Allocator>(
     entry: &Entry<'_>,
 ) -> Result<(), AllocError>
     ensures { OnOk result (out.new.items
-        ≡ out.old.items ++ lines_from (standard_text look) 0 entry.now.texts) }
+        ≡ out.old.items ++ lines_from (standard_text look) 0 entry.now.standard.texts) }
 {
     let table = look.naming.table;
     for index in 0..entry.text_count() {
@@ -72,7 +72,7 @@ fn push_standard<A: Allocator>(
     look: Look,
     entry: &Entry<'_>,
 ) -> Result<(), AllocError>
-    ensures { OnOk result (out.new.items ≡ out.old.items ++ standard_lines look entry.now) }
+    ensures { OnOk result (out.new.items ≡ out.old.items ++ standard_lines look entry.now.standard) }
 {
     push_flags(out, look.naming.table, entry)?;
     push_numbers(out, look.naming.table, entry)?;
@@ -86,7 +86,7 @@ fn push_extended_flags<A: Allocator>(
     extended: &Extended<'_>,
 ) -> Result<(), AllocError>
     ensures { OnOk result (out.new.items
-        ≡ out.old.items ++ lines_from (extended_flag form) 0 extended.now.extended_flags) }
+        ≡ out.old.items ++ lines_from (extended_flag form) 0 extended.now.flags) }
 {
     for index in 0..extended.flag_count() {
         let kind = Kind::Flag;
@@ -108,7 +108,7 @@ fn push_extended_numbers<A: Allocator>(
     extended: &Extended<'_>,
 ) -> Result<(), AllocError>
     ensures { OnOk result (out.new.items
-        ≡ out.old.items ++ lines_from (extended_number form) 0 extended.now.extended_numbers) }
+        ≡ out.old.items ++ lines_from (extended_number form) 0 extended.now.numbers) }
 {
     for index in 0..extended.number_count() {
         let kind = Kind::Number;
@@ -130,7 +130,7 @@ fn push_extended_texts<A: Allocator>(
     extended: &Extended<'_>,
 ) -> Result<(), AllocError>
     ensures { OnOk result (out.new.items
-        ≡ out.old.items ++ lines_from (extended_text look) 0 extended.now.extended_texts) }
+        ≡ out.old.items ++ lines_from (extended_text look) 0 extended.now.texts) }
 {
     let form = look.naming.form;
     for index in 0..extended.text_count() {

@@ -8,7 +8,7 @@ use Rattle.ti_words.specs.declared.Width.{Width}
 use Rattle.ti_words.specs.Marks.{byte_of_flag, word_of_number}
 use Rattle.ti_words.specs.Texts.{TextValue, AbsentText, CancelledText, TextOf}
 use Rattle.ti_words.specs.Word.{word}
-use Rattle.ti_words.specs.Value.{EntryValue}
+use Rattle.ti_words.specs.Value.{PartValue, NamedPart, EntryValue, no_named}
 use Rattle.ti_base.specs.Limits.{most_entry_bytes}
 use Rattle.ti_words.specs.Widths.{number_size, magic_number}
 
@@ -79,23 +79,23 @@ pub record HasSections (v : EntryValue) (table : List ℕ) (rest : List ℕ) (by
   pub offsets : List ℤ
   pub joined : bytes ≡ magic v.width
       ++ count_word (length v.names + 1)
-      ++ count_word (length v.flags)
-      ++ count_word (length v.numbers)
-      ++ count_word (length v.texts)
+      ++ count_word (length v.standard.flags)
+      ++ count_word (length v.standard.numbers)
+      ++ count_word (length v.standard.texts)
       ++ count_word (length table)
       ++ (v.names ++ 0 ∷ [])
-      ++ flags_of v.flags
-      ++ pad (length v.names + 1 + length v.flags)
-      ++ numbers_of v.width v.numbers
+      ++ flags_of v.standard.flags
+      ++ pad (length v.names + 1 + length v.standard.flags)
+      ++ numbers_of v.width v.standard.numbers
       ++ words_of offsets
       ++ table
       ++ rest
   pub counts : AllByRecursion (λ n. n < 2 ^ 15)
-      ((length v.names + 1) ∷ length v.flags ∷ length v.numbers ∷ length v.texts ∷ length table ∷ [])
+      ((length v.names + 1) ∷ length v.standard.flags ∷ length v.standard.numbers ∷ length v.standard.texts ∷ length table ∷ [])
   pub named : 0 < length v.names
   pub names_fit : HasNoNul v.names
-  pub numbers_fit : AllByRecursion (FitsWidth v.width) v.numbers
-  pub texts_there : Each (IsText table) offsets v.texts
+  pub numbers_fit : AllByRecursion (FitsWidth v.width) v.standard.numbers
+  pub texts_there : Each (IsText table) offsets v.standard.texts
 
 -- ---- the extended part
 
@@ -115,9 +115,13 @@ name_in x = x.0
 abbrev pub mark_in : {A : Type 0} → List ℕ × A → A
 mark_in x = x.1
 
+-- without the names
+abbrev pub unnamed : NamedPart → PartValue
+unnamed p = record { flags = map mark_in p.flags; numbers = map mark_in p.numbers; texts = map mark_in p.texts }
+
 -- the names of flags, then numbers, then texts
-abbrev pub extended_names : EntryValue → List (List ℕ)
-extended_names v = map name_in v.extended_flags ++ map name_in v.extended_numbers ++ map name_in v.extended_texts
+abbrev pub part_names : NamedPart → List (List ℕ)
+part_names p = map name_in p.flags ++ map name_in p.numbers ++ map name_in p.texts
 
 -- the bytes after a string table of this size are the extended part; its word items may be anything
 pub record HasExtendedPart (v : EntryValue) (table_size : ℕ) (bytes : List ℕ) : Type 0 where
@@ -126,29 +130,27 @@ pub record HasExtendedPart (v : EntryValue) (table_size : ℕ) (bytes : List ℕ
   pub items : List ℕ
   pub table : List ℕ
   pub joined : bytes ≡ pad table_size
-      ++ count_word (length v.extended_flags)
-      ++ count_word (length v.extended_numbers)
-      ++ count_word (length v.extended_texts)
+      ++ count_word (length v.extended.flags)
+      ++ count_word (length v.extended.numbers)
+      ++ count_word (length v.extended.texts)
       ++ items
       ++ count_word (length table)
-      ++ flags_of (map mark_in v.extended_flags)
-      ++ pad (length v.extended_flags)
-      ++ numbers_of v.width (map mark_in v.extended_numbers)
+      ++ flags_of (map mark_in v.extended.flags)
+      ++ pad (length v.extended.flags)
+      ++ numbers_of v.width (map mark_in v.extended.numbers)
       ++ words_of values
       ++ words_of names
       ++ table
   pub counts : AllByRecursion (λ n. n < 2 ^ 15)
-      (length v.extended_flags ∷ length v.extended_numbers ∷ length v.extended_texts ∷ length table ∷ [])
+      (length v.extended.flags ∷ length v.extended.numbers ∷ length v.extended.texts ∷ length table ∷ [])
   pub items_size : length items ≡ 2
-  pub numbers_fit : AllByRecursion (FitsWidth v.width) (map mark_in v.extended_numbers)
-  pub texts_there : Each (IsText table) values (map mark_in v.extended_texts)
-  pub names_there : Each (IsName table (texts_size v.extended_texts)) names (extended_names v)
+  pub numbers_fit : AllByRecursion (FitsWidth v.width) (map mark_in v.extended.numbers)
+  pub texts_there : Each (IsText table) values (map mark_in v.extended.texts)
+  pub names_there : Each (IsName table (texts_size v.extended.texts)) names (part_names v.extended)
 
 pub record HasNoExtendedPart (v : EntryValue) (bytes : List ℕ) : Type 0 where
   pub ends : bytes ≡ []
-  pub no_flags : v.extended_flags ≡ []
-  pub no_numbers : v.extended_numbers ≡ []
-  pub no_texts : v.extended_texts ≡ []
+  pub none : v.extended ≡ no_named
 
 -- ---- the whole
 

@@ -5,26 +5,31 @@ use Rattle.ti_words.specs.declared.Number.{Number}
 use Rattle.ti_words.specs.declared.Width.{Width}
 use Rattle.ti_words.specs.Texts.{TextValue}
 
-pub record EntryValue : Type 0 where
-  pub width : Width
-  pub names : List ℕ
+-- what a part says: its capabilities of each kind, by their index
+pub record PartValue : Type 0 where
   pub flags : List Flag
   pub numbers : List Number
   pub texts : List TextValue
-  -- the capabilities of the extended part, each with its name; no extended part means no such capability
-  pub extended_flags : List (List ℕ × Flag)
-  pub extended_numbers : List (List ℕ × Number)
-  pub extended_texts : List (List ℕ × TextValue)
+
+-- the same of a part whose capabilities have names of their own
+pub record NamedPart : Type 0 where
+  pub flags : List (List ℕ × Flag)
+  pub numbers : List (List ℕ × Number)
+  pub texts : List (List ℕ × TextValue)
+
+-- an entry without an extended part has one without capabilities
+pub record EntryValue : Type 0 where
+  pub width : Width
+  pub names : List ℕ
+  pub standard : PartValue
+  pub extended : NamedPart
+
+abbrev pub no_values : PartValue
+no_values = record { flags = []; numbers = []; texts = [] }
+
+abbrev pub no_named : NamedPart
+no_named = record { flags = []; numbers = []; texts = [] }
 
 -- an entry with names and nothing else
 abbrev pub bare : Width → List ℕ → EntryValue
-bare width names = record {
-  width = width;
-  names = names;
-  flags = [];
-  numbers = [];
-  texts = [];
-  extended_flags = [];
-  extended_numbers = [];
-  extended_texts = [];
-}
+bare width names = record { width = width; names = names; standard = no_values; extended = no_named }

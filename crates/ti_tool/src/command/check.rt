@@ -22,7 +22,7 @@ fn push_standard<A: Allocator>(
     entry: &Entry<'_>,
 ) -> Result<bool, AllocError>
     ensures { IfOk result
-        (AddsLines (IsStandardLine table) entry.now.texts out.old.items out.new.items) }
+        (AddsLines (IsStandardLine table) entry.now.standard.texts out.old.items out.new.items) }
 {
     let mut sound = true;
     let mut last = judge(b"");
@@ -45,7 +45,7 @@ fn push_extended<A: Allocator>(
     extended: &Extended<'_>,
 ) -> Result<bool, AllocError>
     ensures { IfOk result
-        (AddsLines (IsExtendedLine form) extended.now.extended_texts out.old.items out.new.items) }
+        (AddsLines (IsExtendedLine form) extended.now.texts out.old.items out.new.items) }
 {
     let mut sound = true;
     let mut last = judge(b"");

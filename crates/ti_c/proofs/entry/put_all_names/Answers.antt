@@ -9,14 +9,14 @@ use Rattle.ti_c.proofs.entry.put_all_names.Goals as goal
 
 pub returns : goal.returns
 returns c =
-    let v = c.args.extended.now in
-    let flags = names_of v kinds.Flag in
-    let numbers = names_of v kinds.Number in
-    let texts = names_of v kinds.Text in
+    let p = c.args.extended.now in
+    let flags = names_of p kinds.Flag in
+    let numbers = names_of p kinds.Number in
+    let texts = names_of p kinds.Text in
     let before = c.args.names.now in
     let numbers_from = c.flag_count-numbers_from.result in
     let texts_from = numbers_from + c.number_count.result in
-    let after_flags : numbers_from ≡ length flags = omega (arith, c.flag_count-numbers_from.ensures, length-map v.extended_flags name_in) in
-    let after_numbers : texts_from ≡ length (flags ++ numbers) = omega (arith, after_flags, c.number_count.ensures, length-map v.extended_numbers name_in, length-append flags numbers) in
+    let after_flags : numbers_from ≡ length flags = omega (arith, c.flag_count-numbers_from.ensures, length-map p.flags name_in) in
+    let after_numbers : texts_from ≡ length (flags ++ numbers) = omega (arith, after_flags, c.number_count.ensures, length-map p.numbers name_in, length-append flags numbers) in
     let two = starts_on bytes_held before c.put_names.new.names c.put_names-2.new.names flags numbers numbers_from c.put_names.ensures after_flags c.put_names-2.ensures in
     starts_on bytes_held before c.put_names-2.new.names c.put_names-3.new.names (flags ++ numbers) texts texts_from two after_numbers c.put_names-3.ensures

@@ -5,4 +5,4 @@ use Rattle.ti_c.proofs.StartsWithLemmas.{put_values}
 use Rattle.ti_c.proofs.entry.put_extended_flags.Given as goal
 
 abbrev pub invariant-loop-i : goal.invariant-loop-i
-invariant-loop-i l = StartsWith itself l.initial.flags l.flags (put_values itself flag_mark l.initial.flags l.from (map mark_in l.extended.extended_flags) l.i)
+invariant-loop-i l = StartsWith itself l.initial.flags l.flags (put_values itself flag_mark l.initial.flags l.from (map mark_in l.extended.flags) l.i)

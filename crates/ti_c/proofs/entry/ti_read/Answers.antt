@@ -1,5 +1,5 @@
 use Rattle.std.proofs.Common.{inl, sym, ◌∙◌, subst, length, true≢false}
-use Rattle.ti_words.specs.Spelling.{extended_names}
+use Rattle.ti_words.specs.Spelling.{part_names}
 use Rattle.ti_words.specs.Value.{EntryValue}
 use Rattle.ti_c.specs.Entries.{text_held, bytes_held, itself, flag_marks, number_words, texts_shown, StartsWith, HasRoom, Tells}
 use Rattle.ti_c.proofs.AmpleRoomLemmas.{enough}
@@ -71,7 +71,7 @@ returns-clause-texts c = λ _ v spelled.
 
 pub returns-clause-names : goal.returns-clause-names
 returns-clause-names c = λ _ v spelled.
-    let P : EntryValue → Type 0 = λ x. StartsWith bytes_held c.args.names.now c.fill.new.names (extended_names x) in
+    let P : EntryValue → Type 0 = λ x. StartsWith bytes_held c.args.names.now c.fill.new.names (part_names x.extended) in
     subst P (c.in-Ok.ensures.only v spelled) c.fill.ensures.names
 
 pub returns-then-not-has_room-clause-ample : goal.returns-then-not-has_room-clause-ample

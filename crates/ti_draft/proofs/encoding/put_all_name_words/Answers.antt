@@ -12,7 +12,7 @@ put_name_words-requires g c =
     let v = c.args.draft.now in
     let room = (small_extended v c.requires.fit c.requires.extended).table in
     let flags = ap (λ ns. length (names_table ns)) c.flag_names.ensures in
-    omega (arith, room, length_names_tables v, flags)
+    omega (arith, room, length_names_tables v.extended, flags)
 
 pub put_name_words-requires-2 : goal.put_name_words-requires-2
 put_name_words-requires-2 g c =
@@ -21,7 +21,7 @@ put_name_words-requires-2 g c =
     let flags = ap (λ ns. length (names_table ns)) c.flag_names.ensures in
     let numbers = ap (λ ns. length (names_table ns)) c.number_names.ensures in
     let end = c.in_ok-after_flags.ensures.end in
-    omega (arith, room, length_names_tables v, flags, numbers, end)
+    omega (arith, room, length_names_tables v.extended, flags, numbers, end)
 
 pub put_name_words-requires-3 : goal.put_name_words-requires-3
 put_name_words-requires-3 g c =
@@ -32,15 +32,15 @@ put_name_words-requires-3 g c =
     let texts = ap (λ ns. length (names_table ns)) c.text_names.ensures in
     let end = c.in_ok-after_flags.ensures.end in
     let end2 = c.in_ok-after_numbers.ensures.end in
-    omega (arith, room, length_names_tables v, flags, numbers, texts, end, end2)
+    omega (arith, room, length_names_tables v.extended, flags, numbers, texts, end, end2)
 
 pub returns : goal.returns
 returns g c =
     let v = c.args.draft.now in
     let out = c.args.out.now.items in
-    let flags = map name_in v.extended_flags in
-    let numbers = map name_in v.extended_numbers in
-    let texts = map name_in v.extended_texts in
+    let flags = map name_in v.extended.flags in
+    let numbers = map name_in v.extended.numbers in
+    let texts = map name_in v.extended.texts in
     let first : c.in_ok-after_flags.after_flags ≡ length (names_table flags) =
     omega (arith, c.in_ok-after_flags.ensures.end, ap (λ ns. length (names_table ns)) c.flag_names.ensures) in
     let both : length (names_table (flags ++ numbers)) ≡ length (names_table flags) + length (names_table numbers) =

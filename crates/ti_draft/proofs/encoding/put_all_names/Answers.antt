@@ -9,9 +9,9 @@ pub returns : goal.returns
 returns g c =
     let v = c.args.draft.now in
     let out = c.args.out.now.items in
-    let flags = map name_in v.extended_flags in
-    let numbers = map name_in v.extended_numbers in
-    let texts = map name_in v.extended_texts in
+    let flags = map name_in v.extended.flags in
+    let numbers = map name_in v.extended.numbers in
+    let texts = map name_in v.extended.texts in
     let a : c.put_names.new.out.items ≡ out ++ names_table flags =
     c.in_ok-put_names.ensures ∙ ap (λ ns. out ++ names_table ns) c.flag_names.ensures in
     let b : c.put_names-2.new.out.items ≡ out ++ (names_table flags ++ names_table numbers) =

@@ -11,7 +11,7 @@ returns g c =
     let out = c.args.out.now.items in
     let b = after_as out _ c.put_flags.new.out.items _ _ _ c.in_ok-put_extended_head.ensures c.in_ok-put_flags.ensures (ap flags_of c.extended_flags.ensures) in
     let d = after_as out _ c.put_pad.new.out.items _ _ _ b c.in_ok-put_pad.ensures
-    (ap pad (ap length c.extended_flags-2.ensures ∙ length-map v.extended_flags mark_in)) in
+    (ap pad (ap length c.extended_flags-2.ensures ∙ length-map v.extended.flags mark_in)) in
     let e = after_as out _ c.put_numbers.new.out.items _ _ _ d c.in_ok-put_numbers.ensures
     (ap (λ w. numbers_of w c.extended_numbers.result.now) c.width.ensures ∙ ap (numbers_of v.width) c.extended_numbers.ensures) in
     let f = after_as out _ c.put_text_words.new.out.items _ _ _ e c.in_ok-put_text_words.ensures (ap (λ ts. words_of (text_words 0 ts)) c.extended_texts.ensures) in

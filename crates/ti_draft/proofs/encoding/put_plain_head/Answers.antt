@@ -20,7 +20,7 @@ pub put_count-requires-6 : goal.put_count-requires-6
 put_count-requires-6 g c =
     let v = c.args.draft.now in
     let few = (small v c.requires.fit).table in
-    let table = whole (length (texts_table v.texts)) c.args.sizes.now.table few c.requires.sizes.table in
+    let table = whole (length (texts_table v.standard.texts)) c.args.sizes.now.table few c.requires.sizes.table in
     omega (arith, table, few)
 
 pub returns : goal.returns
@@ -28,8 +28,8 @@ returns g c =
     let v = c.args.draft.now in
     let out = c.args.out.now.items in
     let few = (small v c.requires.fit).table in
-    let table = whole (length (texts_table v.texts)) c.args.sizes.now.table few c.requires.sizes.table in
-    let texts : length c.texts.result.now ≡ length v.texts = sym (length-map c.texts.result.now text_value) ∙ ap length c.texts.ensures in
+    let table = whole (length (texts_table v.standard.texts)) c.args.sizes.now.table few c.requires.sizes.table in
+    let texts : length c.texts.result.now ≡ length v.standard.texts = sym (length-map c.texts.result.now text_value) ∙ ap length c.texts.ensures in
     let a : c.put_count.new.out.items ≡ out ++ magic v.width = c.in_ok-put_count.ensures ∙ ap (λ n. out ++ count_word n) (c.magic_number.ensures.value ∙ ap magic_number c.width.ensures) in
     let b = after_as out _ c.put_count-2.new.out.items _ _ _ a c.in_ok-put_count-2.ensures (ap (λ l. count_word (length l + 1)) c.names.ensures) in
     let d = after_as out _ c.put_count-3.new.out.items _ _ _ b c.in_ok-put_count-3.ensures (ap (λ l. count_word (length l)) c.flags.ensures) in

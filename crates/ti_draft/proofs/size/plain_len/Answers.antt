@@ -14,9 +14,9 @@ returns g c =
     let v = c.args.draft.now in
     let m = 2 ^ 64 - 1 in
     let names = length v.names in
-    let flags = length v.flags in
-    let numbers = length v.numbers * number_size v.width in
-    let texts = length v.texts * 2 in
+    let flags = length v.standard.flags in
+    let numbers = length v.standard.numbers * number_size v.width in
+    let texts = length v.standard.texts * 2 in
     let front = 13 + pad_len (names + 1 + flags) in
     let names_are : length c.names-names.result.now ≡ names = ap length c.names-names.ensures in
     let flags_are : length c.flags-flags.result.now ≡ flags = ap length c.flags-flags.ensures in
@@ -38,5 +38,5 @@ returns g c =
     let e : c.saturating_add-4.result ≡ capped_count (front + names + flags + numbers + texts) =
     c.saturating_add-4.ensures ∙ twice m c.saturating_add-3.result c.items_len-2.result (front + names + flags + numbers) texts d t in
     c.saturating_add-5.ensures
-    ∙ twice m c.saturating_add-4.result c.args.table (front + names + flags + numbers + texts) (length (texts_table v.texts)) e c.requires
+    ∙ twice m c.saturating_add-4.result c.args.table (front + names + flags + numbers + texts) (length (texts_table v.standard.texts)) e c.requires
     ∙ ap capped_count (sym (length_plain v))

@@ -9,13 +9,13 @@ use Rattle.ti_entry.proofs.drafting.add_extended_flags.Goals.{in-Some+in_ok-push
 
 pub loop-i-preserved : goal.loop-i-preserved
 loop-i-preserved g c =
-    let xs = c.args.extended.now.extended_flags in
+    let xs = c.args.extended.now.flags in
     let i = c.loop-i.i in
     let rest = drop (i + 1) xs in
     elim c.match-name.branch [
       | in-Some+in_ok-push_extended_flag w ↦
           (let name : slice_get (map name_in xs) i ≡ Some w.in-Some.name.now = sym c.name.ensures ∙ ap (option_map (λ n. n.now)) w.in-Some.is in
-          ap (λ (d : EntryValue). record d { extended_flags = d.extended_flags ++ rest }) w.draft-is
+          ap (λ (d : EntryValue). record d { extended = record d.extended { flags = d.extended.flags ++ rest } }) w.draft-is
           ∙ one_flag c.loop-i.draft w.push_extended_flag.new.self (w.in-Some.name.now, w.flag.result) rest (drop i xs)
           w.in_ok-push_extended_flag.ensures.added (taken xs i No w.in-Some.name.now w.flag.result name w.flag.ensures)
           ∙ c.loop-i.invariant)

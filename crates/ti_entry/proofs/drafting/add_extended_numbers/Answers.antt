@@ -9,13 +9,13 @@ use Rattle.ti_entry.proofs.drafting.add_extended_numbers.Goals.{in-Some+in_ok-pu
 
 pub loop-i-preserved : goal.loop-i-preserved
 loop-i-preserved g c =
-    let xs = c.args.extended.now.extended_numbers in
+    let xs = c.args.extended.now.numbers in
     let i = c.loop-i.i in
     let rest = drop (i + 1) xs in
     elim c.match-name.branch [
       | in-Some+in_ok-push_extended_number w ↦
           (let name : slice_get (map name_in xs) i ≡ Some w.in-Some.name.now = sym c.name.ensures ∙ ap (option_map (λ n. n.now)) w.in-Some.is in
-          ap (λ (d : EntryValue). record d { extended_numbers = d.extended_numbers ++ rest }) w.draft-is
+          ap (λ (d : EntryValue). record d { extended = record d.extended { numbers = d.extended.numbers ++ rest } }) w.draft-is
           ∙ one_number c.loop-i.draft w.push_extended_number.new.self (w.in-Some.name.now, w.number.result) rest (drop i xs)
           w.in_ok-push_extended_number.ensures.added (taken xs i Absent w.in-Some.name.now w.number.result name w.number.ensures)
           ∙ c.loop-i.invariant)

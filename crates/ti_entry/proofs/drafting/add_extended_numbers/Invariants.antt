@@ -2,4 +2,8 @@ use Rattle.std.proofs.Common.{◌≡◌, ◌++◌, drop}
 use Rattle.ti_entry.proofs.drafting.add_extended_numbers.Given as goal
 
 abbrev pub invariant-loop-i : goal.invariant-loop-i
-invariant-loop-i g l = record l.draft { extended_numbers = l.draft.extended_numbers ++ drop l.i l.extended.extended_numbers } ≡ record l.initial.draft { extended_numbers = l.initial.draft.extended_numbers ++ l.extended.extended_numbers }
+invariant-loop-i g l =
+    let now = l.draft.extended in
+    let start = l.initial.draft.extended in
+    record l.draft { extended = record now { numbers = now.numbers ++ drop l.i l.extended.numbers } }
+    ≡ record l.initial.draft { extended = record start { numbers = start.numbers ++ l.extended.numbers } }

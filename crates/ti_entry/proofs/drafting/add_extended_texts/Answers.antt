@@ -9,13 +9,13 @@ use Rattle.ti_entry.proofs.drafting.add_extended_texts.Goals.{in-Some+in_ok-push
 
 pub loop-i-preserved : goal.loop-i-preserved
 loop-i-preserved g c =
-    let xs = c.args.extended.now.extended_texts in
+    let xs = c.args.extended.now.texts in
     let i = c.loop-i.i in
     let rest = drop (i + 1) xs in
     elim c.match-name.branch [
       | in-Some+in_ok-push_extended_text w ↦
           (let name : slice_get (map name_in xs) i ≡ Some w.in-Some.name.now = sym c.name.ensures ∙ ap (option_map (λ n. n.now)) w.in-Some.is in
-          ap (λ (d : EntryValue). record d { extended_texts = d.extended_texts ++ rest }) w.draft-is
+          ap (λ (d : EntryValue). record d { extended = record d.extended { texts = d.extended.texts ++ rest } }) w.draft-is
           ∙ one_text c.loop-i.draft w.push_extended_text.new.self (w.in-Some.name.now, (text_value w.text.result)) rest (drop i xs)
           w.in_ok-push_extended_text.ensures.added (taken xs i AbsentText w.in-Some.name.now (text_value w.text.result) name w.text.ensures)
           ∙ c.loop-i.invariant)

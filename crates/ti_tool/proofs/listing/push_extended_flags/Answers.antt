@@ -9,8 +9,8 @@ use Rattle.ti_tool.proofs.listing.push_extended_flags.Goals as goal
 
 pub loop-index-preserved : goal.loop-index-preserved
 loop-index-preserved g c =
-    extended_next (λ name. flag_line (codes "flag+ ") (own_label c.args.form name)) c.args.extended.now.extended_flags c.loop-index.index flags.No c.flag.result c.loop-index.out.items c.push_flag.new.out.items _
+    extended_next (λ name. flag_line (codes "flag+ ") (own_label c.args.form name)) c.args.extended.now.flags c.loop-index.index flags.No c.flag.result c.loop-index.out.items c.push_flag.new.out.items _
     (omega (arith, c.loop-index-test.true, c.flag_count-index-end.ensures)) c.flag.ensures c.loop-index.invariant c.in_ok-push_flag.ensures
 
 pub returns : goal.returns
-returns g c = lines_end (extended_flag c.args.form) c.args.extended.now.extended_flags c.loop-index.index c.loop-index.out.items _ (omega (arith, c.loop-index-test.false, c.flag_count-index-end.ensures)) c.loop-index.invariant
+returns g c = lines_end (extended_flag c.args.form) c.args.extended.now.flags c.loop-index.index c.loop-index.out.items _ (omega (arith, c.loop-index-test.false, c.flag_count-index-end.ensures)) c.loop-index.invariant

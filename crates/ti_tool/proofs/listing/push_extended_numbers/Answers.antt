@@ -9,8 +9,8 @@ use Rattle.ti_tool.proofs.listing.push_extended_numbers.Goals as goal
 
 pub loop-index-preserved : goal.loop-index-preserved
 loop-index-preserved g c =
-    extended_next (λ name. number_line (codes "number+ ") (own_label c.args.form name)) c.args.extended.now.extended_numbers c.loop-index.index numbers.Absent c.number.result c.loop-index.out.items c.push_number.new.out.items _
+    extended_next (λ name. number_line (codes "number+ ") (own_label c.args.form name)) c.args.extended.now.numbers c.loop-index.index numbers.Absent c.number.result c.loop-index.out.items c.push_number.new.out.items _
     (omega (arith, c.loop-index-test.true, c.number_count-index-end.ensures)) c.number.ensures c.loop-index.invariant c.in_ok-push_number.ensures
 
 pub returns : goal.returns
-returns g c = lines_end (extended_number c.args.form) c.args.extended.now.extended_numbers c.loop-index.index c.loop-index.out.items _ (omega (arith, c.loop-index-test.false, c.number_count-index-end.ensures)) c.loop-index.invariant
+returns g c = lines_end (extended_number c.args.form) c.args.extended.now.numbers c.loop-index.index c.loop-index.out.items _ (omega (arith, c.loop-index-test.false, c.number_count-index-end.ensures)) c.loop-index.invariant

@@ -3,4 +3,4 @@ use Rattle.ti_tool.specs.Listing.{lines_from, standard_flag}
 use Rattle.ti_tool.proofs.listing.push_flags.Given as goal
 
 abbrev pub invariant-loop-index : goal.invariant-loop-index
-invariant-loop-index g l = l.out.items ++ lines_from (standard_flag l.table) l.index (drop l.index l.entry.flags) ≡ l.initial.out.items ++ lines_from (standard_flag l.table) 0 l.entry.flags
+invariant-loop-index g l = l.out.items ++ lines_from (standard_flag l.table) l.index (drop l.index l.entry.standard.flags) ≡ l.initial.out.items ++ lines_from (standard_flag l.table) 0 l.entry.standard.flags

@@ -9,4 +9,4 @@ pub returns : goal.returns
 returns g c =
     ap (map text_value) c.marks.ensures
     ∙ seconds_through text_value c.self.inside.extended_texts
-    ∙ ap (λ (v : EntryValue). map mark_in v.extended_texts) c.self.view_is
+    ∙ ap (λ (v : EntryValue). map mark_in v.extended.texts) c.self.view_is

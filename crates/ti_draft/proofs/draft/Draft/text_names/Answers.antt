@@ -9,4 +9,4 @@ pub returns : goal.returns
 returns g c =
     c.names.ensures
     ∙ firsts_through text_value c.self.inside.extended_texts
-    ∙ ap (λ (v : EntryValue). map name_in v.extended_texts) c.self.view_is
+    ∙ ap (λ (v : EntryValue). map name_in v.extended.texts) c.self.view_is

@@ -13,4 +13,4 @@ returns c =
     ∙ ap (λ t. map (text_at t bytes) (places c.offsets_from.result 2 c.count.result)) c.table.ensures
     ∙ ap (λ n. map (text_at (table_of bytes s) bytes) (places n 2 c.count.result)) c.offsets_from.ensures
     ∙ ap (λ n. map (text_at (table_of bytes s) bytes) (places (offsets_from s) 2 n)) c.count.ensures
-    ∙ ap (λ (v : EntryValue). v.texts) c.self.view_is
+    ∙ ap (λ (v : EntryValue). v.standard.texts) c.self.view_is

@@ -1,10 +1,9 @@
 use Rattle.std.proofs.Common.{◌∙◌, length, sym, ap}
-use Rattle.ti_words.specs.Value.{EntryValue}
-use Rattle.ti_layout.specs.Layout.{standard}
-use Rattle.ti_entry.proofs.NamedItemsLemmas.{flag_count}
+use Rattle.ti_words.specs.Value.{NamedPart}
+use Rattle.ti_entry.proofs.NamedItemsLemmas.{named_counts}
 use Rattle.ti_entry.proofs.extended.Extended.flag_count.Goals as goal
 
 pub returns : goal.returns
 returns c =
-    let bytes = c.self.inside.bytes.now in
-    c.count.ensures ∙ sym (flag_count bytes (standard bytes) c.self.inside.part c.self.inside.base) ∙ ap (λ (v : EntryValue). length v.extended_flags) c.self.view_is
+    let e = c.self.inside in
+    c.count.ensures ∙ sym (named_counts e.bytes.now e.part e.base).of_flags ∙ ap (λ (p : NamedPart). length p.flags) c.self.view_is

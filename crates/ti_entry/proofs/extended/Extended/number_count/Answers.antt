@@ -1,10 +1,9 @@
 use Rattle.std.proofs.Common.{◌∙◌, length, sym, ap}
-use Rattle.ti_words.specs.Value.{EntryValue}
-use Rattle.ti_layout.specs.Layout.{standard}
-use Rattle.ti_entry.proofs.NamedItemsLemmas.{number_count}
+use Rattle.ti_words.specs.Value.{NamedPart}
+use Rattle.ti_entry.proofs.NamedItemsLemmas.{named_counts}
 use Rattle.ti_entry.proofs.extended.Extended.number_count.Goals as goal
 
 pub returns : goal.returns
 returns c =
-    let bytes = c.self.inside.bytes.now in
-    c.count.ensures ∙ sym (number_count bytes (standard bytes) c.self.inside.part c.self.inside.base) ∙ ap (λ (v : EntryValue). length v.extended_numbers) c.self.view_is
+    let e = c.self.inside in
+    c.count.ensures ∙ sym (named_counts e.bytes.now e.part e.base).of_numbers ∙ ap (λ (p : NamedPart). length p.numbers) c.self.view_is

@@ -1,14 +1,12 @@
-use Rattle.std.proofs.Common.{◌∙◌, map, get_or, sym, ap}
+use Rattle.std.proofs.Common.{◌∙◌, get_or, sym, ap}
 use Rattle.ti_words.specs.Texts.{AbsentText}
-use Rattle.ti_words.specs.Value.{EntryValue}
-use Rattle.ti_words.specs.Spelling.{mark_in}
-use Rattle.ti_layout.specs.Layout.{standard}
-use Rattle.ti_entry.proofs.NamedItemsLemmas.{text_marks}
+use Rattle.ti_words.specs.Value.{PartValue, NamedPart}
+use Rattle.ti_words.specs.Spelling.{unnamed}
+use Rattle.ti_entry.proofs.NamedItemsLemmas.{values_are}
 use Rattle.ti_entry.proofs.extended.Extended.text.Goals as goal
 
 pub returns : goal.returns
 returns c =
-    let bytes = c.self.inside.bytes.now in
+    let e = c.self.inside in
     c.text.ensures
-    ∙ ap (λ l. get_or l c.args.i AbsentText) (sym (text_marks bytes (standard bytes) c.self.inside.part c.self.inside.base))
-    ∙ ap (λ (v : EntryValue). get_or (map mark_in v.extended_texts) c.args.i AbsentText) c.self.view_is
+    ∙ ap (λ (p : PartValue). get_or p.texts c.args.i AbsentText) (sym (values_are e.bytes.now e.part e.base) ∙ ap unnamed c.self.view_is)

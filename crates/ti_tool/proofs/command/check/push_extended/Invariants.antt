@@ -5,6 +5,6 @@ use Rattle.ti_tool.proofs.command.check.push_extended.Given as goal
 
 abbrev pub invariant-loop-index : goal.invariant-loop-index
 invariant-loop-index g l = record {
-  lines : GoesOn (IsExtendedLine l.form) l.extended.extended_texts l.initial.out.items l.index l.out.items l.sound;
+  lines : GoesOn (IsExtendedLine l.form) l.extended.texts l.initial.out.items l.index l.out.items l.sound;
   judged : IsJudged l.last.text.now l.last.verdict;
 }

@@ -13,20 +13,20 @@ use Rattle.ti_tool.proofs.command.check.push_standard.Goals as goal
 pub loop-index-preserved : goal.loop-index-preserved
 loop-index-preserved g c =
     let i = c.loop-index.invariant in
-    let h : c.loop-index.index < length c.args.entry.now.texts = omega (arith, c.loop-index-test.true, c.text_count-index-end.ensures) in
-    let GoesOnWith : Bool → Type 0 = λ sound. GoesOn (IsStandardLine c.args.table) c.args.entry.now.texts c.args.out.now.items (c.loop-index.index + 1) c.match-text.out.items sound in
+    let h : c.loop-index.index < length c.args.entry.now.standard.texts = omega (arith, c.loop-index-test.true, c.text_count-index-end.ensures) in
+    let GoesOnWith : Bool → Type 0 = λ sound. GoesOn (IsStandardLine c.args.table) c.args.entry.now.standard.texts c.args.out.now.items (c.loop-index.index + 1) c.match-text.out.items sound in
     let IsJudgedText : JudgedText → Type 0 = λ last. IsJudged last.text.now last.verdict in
     elim c.match-text.branch [
       | in-Value+in_ok-push_line w ↦ record {
         lines = subst GoesOnWith (sym w.sound-is) (
-            standard_next c.args.table c.args.entry.now.texts c.loop-index.index (text_value c.text.result) c.args.out.now.items c.loop-index.out.items c.match-text.out.items c.loop-index.sound w.is_sound-sound.result h c.text.ensures i.lines
+            standard_next c.args.table c.args.entry.now.standard.texts c.loop-index.index (text_value c.text.result) c.args.out.now.items c.loop-index.out.items c.match-text.out.items c.loop-index.sound w.is_sound-sound.result h c.text.ensures i.lines
             (line_of_text (codes "text ") (label_of c.args.table kinds.Text c.loop-index.index) c.loop-index.out.items c.match-text.out.items c.text.result w.in-Value.text.now w.next-last.result.verdict w.is_sound-sound.result (ap text_value w.in-Value.is) w.next-last.ensures.verdict w.is_sound-sound.ensures (ap (λ v. v.items) w.out-is ∙ w.in_ok-push_line.ensures))
             );
         judged = subst IsJudgedText (sym w.last-is) (subst (λ text. IsJudged text w.next-last.result.verdict) (sym w.next-last.ensures.text) w.next-last.ensures.verdict);
       }
       | in_default w ↦ record {
         lines = subst GoesOnWith (and_true c.loop-index.sound ∙ sym w.sound-is) (
-            standard_next c.args.table c.args.entry.now.texts c.loop-index.index (text_value c.text.result) c.args.out.now.items c.loop-index.out.items c.match-text.out.items c.loop-index.sound true h c.text.ensures i.lines
+            standard_next c.args.table c.args.entry.now.standard.texts c.loop-index.index (text_value c.text.result) c.args.out.now.items c.loop-index.out.items c.match-text.out.items c.loop-index.sound true h c.text.ensures i.lines
             (line_of_none (codes "text ") (label_of c.args.table kinds.Text c.loop-index.index) c.loop-index.out.items c.match-text.out.items c.text.result w.in_default.not-Value (ap (λ v. v.items) w.out-is))
             );
         judged = subst IsJudgedText (sym w.last-is) i.judged;
@@ -35,5 +35,5 @@ loop-index-preserved g c =
 
 pub returns : goal.returns
 returns g c =
-    goes_end (IsStandardLine c.args.table) c.args.entry.now.texts c.loop-index.index c.args.out.now.items c.loop-index.out.items c.loop-index.sound (omega (arith, c.loop-index-test.false, c.text_count-index-end.ensures))
+    goes_end (IsStandardLine c.args.table) c.args.entry.now.standard.texts c.loop-index.index c.args.out.now.items c.loop-index.out.items c.loop-index.sound (omega (arith, c.loop-index-test.false, c.text_count-index-end.ensures))
     c.loop-index.invariant.lines

@@ -5,6 +5,6 @@ use Rattle.ti_tool.proofs.command.check.push_standard.Given as goal
 
 abbrev pub invariant-loop-index : goal.invariant-loop-index
 invariant-loop-index g l = record {
-  lines : GoesOn (IsStandardLine l.table) l.entry.texts l.initial.out.items l.index l.out.items l.sound;
+  lines : GoesOn (IsStandardLine l.table) l.entry.standard.texts l.initial.out.items l.index l.out.items l.sound;
   judged : IsJudged l.last.text.now l.last.verdict;
 }
