@@ -7,6 +7,7 @@ pub mod SectionReadLemmas
 pub mod WholeSectionLemmas
 pub mod UntilNulLemmas
 pub mod NamePlaceChecksLemmas
+pub mod ChunksLemmas
 pub mod EndsLemmas
 pub mod AlikeLemmas
 pub mod StageStepLemmas

@@ -14,7 +14,7 @@ ghost use Rattle.ti_layout.specs.Reach.{reach_check, all_name_reach_checks};
 
 use crate::checks::NameTable;
 use crate::fault::Fault;
-use crate::word::{unsigned_at, wide_unsigned_at};
+use byteorder::{ByteOrder, LittleEndian};
 use ti_base::{GREATEST_WIDE_WORD, GREATEST_WORD};
 use ti_words::Width;
 
@@ -30,8 +30,8 @@ fn greatest_byte(bytes: &[u8], from: usize, count: usize, lift: u8) -> u8
     ensures { (i : ℕ) → i < count → (slice_index bytes.now (from + 1 * i) + lift) % 256 ≤ result }
 {
     let mut greatest = 0;
-    for i in 0..count {
-        greatest = greatest.max(bytes[from + i].wrapping_add(lift));
+    for byte in &bytes[from..from + count] {
+        greatest = greatest.max(byte.wrapping_add(lift));
     }
     greatest
 }
@@ -43,8 +43,9 @@ fn greatest_word(bytes: &[u8], from: usize, count: usize, lift: u16) -> u16
         → (unsigned_at 2 bytes.now (from + 2 * i) + lift) % 65536 ≤ result }
 {
     let mut greatest = 0;
-    for i in 0..count {
-        greatest = greatest.max(unsigned_at(bytes, from + 2 * i).wrapping_add(lift));
+    let (words, _) = bytes[from..from + 2 * count].as_chunks::<2>();
+    for word in words {
+        greatest = greatest.max(LittleEndian::read_u16(word).wrapping_add(lift));
     }
     greatest
 }
@@ -56,8 +57,9 @@ fn greatest_wide_word(bytes: &[u8], from: usize, count: usize) -> u32
         → (unsigned_at 4 bytes.now (from + 4 * i) + 2) % 4294967296 ≤ result }
 {
     let mut greatest = 0;
-    for i in 0..count {
-        greatest = greatest.max(wide_unsigned_at(bytes, from + 4 * i).wrapping_add(2));
+    let (words, _) = bytes[from..from + 4 * count].as_chunks::<4>();
+    for word in words {
+        greatest = greatest.max(LittleEndian::read_u32(word).wrapping_add(2));
     }
     greatest
 }

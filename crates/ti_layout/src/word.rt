@@ -23,14 +23,6 @@ pub(crate) fn unsigned_at(bytes: &[u8], at: usize) -> u16
     LittleEndian::read_u16(&bytes[at..])
 }
 
-/// The word of 32 bits at a place, read without a sign.
-pub(crate) fn wide_unsigned_at(bytes: &[u8], at: usize) -> u32
-    requires { at + 4 ≤ length bytes.now }
-    ensures { result ≡ the_unsigned_at 4 bytes.now at }
-{
-    LittleEndian::read_u32(&bytes[at..])
-}
-
 /// The count or size at a place, read without a sign.
 pub fn count_at(bytes: &[u8], at: usize) -> usize
     requires { at + 2 ≤ length bytes.now }
