@@ -12,7 +12,8 @@ use Rattle.ti_cap.proofs.PassesLemmas.{Over, walk_passes, Split, passes_split, p
 use Rattle.ti_cap.proofs.IsWalkLemmas.{Walked, walk_of}
 use Rattle.ti_cap.proofs.StraightLemmas.{met_front}
 use Rattle.ti_cap.proofs.PartsLemmas.{allowed, Leads, leads_front, begins_leads}
-use Rattle.ti_cap.proofs.ProgressLemmas.{value_of, Comes, is_met, path_of-snoc}
+use Rattle.ti_cap.proofs.ReachesLemmas.{state_of, is_met, path_of-snoc}
+use Rattle.ti_cap.proofs.ProgressLemmas.{Comes}
 use Rattle.ti_cap.proofs.IsGreatestLemmas.{Peaks, peak, value-le}
 
 -- a pass can always go on
@@ -22,7 +23,7 @@ passes_on m (k ∷ ks) =
     let r : (w : Walk) × (o : Mode) × Passes (next_mode m k false) ks w o = passes_on (next_mode m k false) ks in
     (is_met m k false ∷ r.0, r.1, (false, r.0, refl, r.2))
 
-end-value : (x : ℕ) (path : List Token) → value_of next_height x path ≡ end_height x path
+end-value : (x : ℕ) (path : List Token) → state_of next_height x path ≡ end_height x path
 end-value x [] = refl
 end-value x (k ∷ path) = end-value (next_height x k) path
 
@@ -36,8 +37,8 @@ climbs_low before k h d p c =
     let e : path_of c.walk (before ++ k ∷ []) ≡ path_of s.front (before ++ k ∷ []) =
     ap (λ x. path_of x (before ++ k ∷ [])) s.joined ∙ met_front (before ++ k ∷ []) Running s.between s.front s.back s.first in
     let top : peak next_height 0 (path_of s.front (before ++ k ∷ [])) ≤ d = p.above_all s.between s.front s.first in
-    let low : value_of next_height 0 (path_of s.front (before ++ k ∷ [])) ≤ peak next_height 0 (path_of s.front (before ++ k ∷ [])) = value-le next_height 0 (path_of s.front (before ++ k ∷ [])) in
-    let v : value_of next_height 0 (path_of s.front (before ++ k ∷ [])) ≡ h = end-value 0 (path_of s.front (before ++ k ∷ [])) ∙ ap (λ x. end_height 0 x) (sym e) ∙ c.height_is in
+    let low : state_of next_height 0 (path_of s.front (before ++ k ∷ [])) ≤ peak next_height 0 (path_of s.front (before ++ k ∷ [])) = value-le next_height 0 (path_of s.front (before ++ k ∷ [])) in
+    let v : state_of next_height 0 (path_of s.front (before ++ k ∷ [])) ≡ h = end-value 0 (path_of s.front (before ++ k ∷ [])) ∙ ap (λ x. end_height 0 x) (sym e) ∙ c.height_is in
     omega arith
 
 -- where a token may stand, some walk climbs with it to the greatest height that now runs

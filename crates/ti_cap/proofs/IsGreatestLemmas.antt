@@ -10,7 +10,8 @@ use Rattle.ti_cap.specs.Height.{IsGreatest, IsDepth, height, height_from, next_h
 use Rattle.ti_cap.specs.inner.Analysis.{Frame, Progress, greatest_of}
 use Rattle.ti_cap.proofs.PassesLemmas.{Over, walk_passes, Split, passes_split, passes-append}
 use Rattle.ti_cap.proofs.IsWalkLemmas.{Walked, walk_of}
-use Rattle.ti_cap.proofs.ProgressLemmas.{Act, value_of, Comes, comes_on, Certain, IsBest, Sums, waiting, comings, max_is, best_above, best_comes, is_met, after, path_of-snoc}
+use Rattle.ti_cap.proofs.ReachesLemmas.{state_of, is_met, passed_by, path_of-snoc, reaches_on}
+use Rattle.ti_cap.proofs.ProgressLemmas.{Act, Comes, Certain, IsBest, Sums, waiting, comings, max_is, best_above, best_comes}
 
 top-above : (fs : List Frame) (y : ℕ) → y ≤ greatest_of fs y
 top-above [] y = omega arith
@@ -55,13 +56,13 @@ top_comes act before s sums = elim (top_is s.frames s.running) [
     runs e = let h : IsBest act before Running Certain s.running = sums Running in (Running, (let P : ℕ → Type 0 = λ x. Comes act before Running x in subst P e h.1))
 
 -- the greatest final value over the paths
-pub greatest_value : (act : Act) (tree : Sequence) (s : Progress) (measure : List Token → ℕ) → IsTree tree → ((path : List Token) → value_of act 0 path ≡ measure path)
+pub greatest_value : (act : Act) (tree : Sequence) (s : Progress) (measure : List Token → ℕ) → IsTree tree → ((path : List Token) → state_of act 0 path ≡ measure path)
     → Sums act (tokens tree) s → IsGreatest tree measure (greatest_of s.frames s.running)
 greatest_value act tree s measure formed is sums = record {
   above_all = λ path p.
       let o : Over true Running (tokens tree) p.0 = walk_passes true tree p.0 formed p.1 in
-      let low : value_of act 0 (path_of p.0 (tokens tree)) ≤ greatest_of s.frames s.running = top_above act (tokens tree) s sums o.to _ (record { walk = p.0; passes = o.passes; value = refl }) in
-      let e : measure path ≡ value_of act 0 (path_of p.0 (tokens tree)) = ap measure p.2 ∙ sym (is _) in
+      let low : state_of act 0 (path_of p.0 (tokens tree)) ≤ greatest_of s.frames s.running = top_above act (tokens tree) s sums o.to _ (record { walk = p.0; passes = o.passes; value = refl }) in
+      let e : measure path ≡ state_of act 0 (path_of p.0 (tokens tree)) = ap measure p.2 ∙ sym (is _) in
       omega arith;
   reached =
       let c : (m : Mode) × Comes act (tokens tree) m (greatest_of s.frames s.running) = top_comes act (tokens tree) s sums in
@@ -74,11 +75,11 @@ abbrev pub peak : Act → ℕ → List Token → ℕ
 peak act x [] = x
 peak act x (k ∷ ks) = max x (peak act (act x k) ks)
 
-peak-snoc : (act : Act) (x : ℕ) (a : List Token) (k : Token) → peak act x (a ++ k ∷ []) ≡ max (peak act x a) (act (value_of act x a) k)
+peak-snoc : (act : Act) (x : ℕ) (a : List Token) (k : Token) → peak act x (a ++ k ∷ []) ≡ max (peak act x a) (act (state_of act x a) k)
 peak-snoc act x [] k = refl
 peak-snoc act x (l ∷ a) k = ap (λ y. max x y) (peak-snoc act (act x l) a k) ∙ omega arith
 
-pub value-le : (act : Act) (x : ℕ) (a : List Token) → value_of act x a ≤ peak act x a
+pub value-le : (act : Act) (x : ℕ) (a : List Token) → state_of act x a ≤ peak act x a
 value-le act x [] = omega arith
 value-le act x (k ∷ a) = omega (arith, value-le act (act x k) a)
 
@@ -100,7 +101,7 @@ falls act CondElse f x flat = inr (flat.1 x)
 falls act CondThen false x flat = inl refl
 falls act _ f x flat = inl refl
 
-peak-mark : (act : Act) (a : List Token) (k : Token) (b : Bool) → peak act 0 (a ++ cond b (k ∷ []) []) ≡ cond b (max (peak act 0 a) (act (value_of act 0 a) k)) (peak act 0 a)
+peak-mark : (act : Act) (a : List Token) (k : Token) (b : Bool) → peak act 0 (a ++ cond b (k ∷ []) []) ≡ cond b (max (peak act 0 a) (act (state_of act 0 a) k)) (peak act 0 a)
 peak-mark act a k true = peak-snoc act 0 a k
 peak-mark act a k false = ap (λ x. peak act 0 x) (append-nil a)
 
@@ -142,9 +143,9 @@ peaks_step act before k d s flat p sums = record {
 
     to_run : (source : Mode) (f : Bool) (v : ℕ) → Comes act before source v → is_met source k f ≡ true → next_mode source k f ≡ Running → act v k ≤ s.running
     to_run source f v c b e =
-        let P : Mode → Type 0 = λ y. Comes act (before ++ k ∷ []) y (after act source k f v) in
-        let up : after act source k f v ≤ s.running = here.0 _ (subst P e (comes_on act before k source f v c)) in
-        let is : after act source k f v ≡ act v k = ap (λ y. cond y (act v k) v) b in
+        let P : Mode → Type 0 = λ y. Comes act (before ++ k ∷ []) y (passed_by act source k f v) in
+        let up : passed_by act source k f v ≤ s.running = here.0 _ (subst P e (reaches_on act 0 before k source f v c)) in
+        let is : passed_by act source k f v ≡ act v k = ap (λ y. cond y (act v k) v) b in
         omega arith
 
     met_low : (source : Mode) (f : Bool) (v : ℕ) → Comes act before source v → v ≤ d → is_met source k f ≡ true → act v k ≤ max d s.running
@@ -167,10 +168,10 @@ peaks_step act before k d s flat p sums = record {
         let e : path_of w (before ++ k ∷ []) ≡ path_of c.front before ++ cond (is_met c.between k f) (k ∷ []) [] =
         ap (λ y. path_of y (before ++ k ∷ [])) (c.joined ∙ ap (λ y. c.front ++ y) back) ∙ path_of-snoc before Running c.between c.front k (is_met c.between k f) c.first in
         let old : peak act 0 (path_of c.front before) ≤ d = p.above_all c.between c.front c.first in
-        let low : value_of act 0 (path_of c.front before) ≤ d = omega (arith, value-le act 0 (path_of c.front before), old) in
-        let all : cond (is_met c.between k f) (max (peak act 0 (path_of c.front before)) (act (value_of act 0 (path_of c.front before)) k)) (peak act 0 (path_of c.front before)) ≤ max d s.running =
+        let low : state_of act 0 (path_of c.front before) ≤ d = omega (arith, value-le act 0 (path_of c.front before), old) in
+        let all : cond (is_met c.between k f) (max (peak act 0 (path_of c.front before)) (act (state_of act 0 (path_of c.front before)) k)) (peak act 0 (path_of c.front before)) ≤ max d s.running =
         cond-le (is_met c.between k f) _ _ _ (omega arith)
-        (λ b. met_low c.between f (value_of act 0 (path_of c.front before)) (record { walk = c.front; passes = c.first; value = refl }) low b) in
+        (λ b. met_low c.between f (state_of act 0 (path_of c.front before)) (record { walk = c.front; passes = c.first; value = refl }) low b) in
         rw e (rw (peak-mark act (path_of c.front before) k (is_met c.between k f)) all)
 
     best_walk : (s.running ≤ d) ⊎ (d < s.running) → (m : Mode) × (w : Walk) × Passes Running (before ++ k ∷ []) w m × (peak act 0 (path_of w (before ++ k ∷ [])) ≡ max d s.running)
@@ -178,16 +179,16 @@ peaks_step act before k d s flat p sums = record {
         let w : Walk = p.walk ++ is_met p.mode k false ∷ [] in
         let q : Passes Running (before ++ k ∷ []) w (next_mode p.mode k false) =
         passes-append before (k ∷ []) Running p.mode (next_mode p.mode k false) p.walk (is_met p.mode k false ∷ []) p.passes (false, [], refl, (refl, refl)) in
-        let e : peak act 0 (path_of w (before ++ k ∷ [])) ≡ cond (is_met p.mode k false) (max (peak act 0 (path_of p.walk before)) (act (value_of act 0 (path_of p.walk before)) k)) (peak act 0 (path_of p.walk before)) =
+        let e : peak act 0 (path_of w (before ++ k ∷ [])) ≡ cond (is_met p.mode k false) (max (peak act 0 (path_of p.walk before)) (act (state_of act 0 (path_of p.walk before)) k)) (peak act 0 (path_of p.walk before)) =
         ap (λ y. peak act 0 y) (path_of-snoc before Running p.mode p.walk k (is_met p.mode k false) p.passes) ∙ peak-mark act (path_of p.walk before) k (is_met p.mode k false) in
-        let low : peak act 0 (path_of p.walk before) ≤ cond (is_met p.mode k false) (max (peak act 0 (path_of p.walk before)) (act (value_of act 0 (path_of p.walk before)) k)) (peak act 0 (path_of p.walk before)) =
+        let low : peak act 0 (path_of p.walk before) ≤ cond (is_met p.mode k false) (max (peak act 0 (path_of p.walk before)) (act (state_of act 0 (path_of p.walk before)) k)) (peak act 0 (path_of p.walk before)) =
         cond-ge (is_met p.mode k false) _ _ in
         let high : peak act 0 (path_of w (before ++ k ∷ [])) ≤ max d s.running = above _ w q in
         (next_mode p.mode k false, w, q, closes _ _ d s.running h p.is low e high)
     best_walk (inr h) =
         let c : Comes act (before ++ k ∷ []) Running s.running = here.1 in
         let high : peak act 0 (path_of c.walk (before ++ k ∷ [])) ≤ max d s.running = above Running c.walk c.passes in
-        let low : value_of act 0 (path_of c.walk (before ++ k ∷ [])) ≤ peak act 0 (path_of c.walk (before ++ k ∷ [])) = value-le act 0 _ in
+        let low : state_of act 0 (path_of c.walk (before ++ k ∷ [])) ≤ peak act 0 (path_of c.walk (before ++ k ∷ [])) = value-le act 0 _ in
         (Running, c.walk, c.passes, tops _ _ d s.running h c.value low high)
       where
         tops : (v u d now : ℕ) → d < now → v ≡ now → v ≤ u → u ≤ max d now → u ≡ max d now

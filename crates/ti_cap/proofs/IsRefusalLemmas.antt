@@ -25,7 +25,8 @@ use Rattle.ti_cap.proofs.IsUnreadableLemmas.{unreadable}
 use Rattle.ti_cap.proofs.WrittenLemmas.{Same, one_form, one_cutting, cut_once, spelled_long, written-append, written_one}
 use Rattle.ti_cap.proofs.PartsLemmas.{allowed, Leads, leads-append, AreSettled}
 use Rattle.ti_cap.proofs.BeginsLemmas.{Context, context_start, context_step, context_begins, context_ends}
-use Rattle.ti_cap.proofs.ProgressLemmas.{Comes, comes_on, From, comes_from, after, is_met, Certain, IsBest, Sums, sums_start}
+use Rattle.ti_cap.proofs.ReachesLemmas.{is_met, passed_by, Came, came_from, reaches_on}
+use Rattle.ti_cap.proofs.ProgressLemmas.{Comes, Certain, IsBest, Sums, sums_start}
 use Rattle.ti_cap.proofs.IsGreatestLemmas.{Peaks, peak, value-le, peaks_start, peaks_step, greatest_value, height_rising, height_flat}
 use Rattle.ti_cap.proofs.IsGreatestLemmas
 use Rattle.ti_cap.proofs.ClimbsLemmas.{climbs_low, climbs_now}
@@ -160,8 +161,8 @@ height_still = ((λ x. omega arith), (λ x. omega arith))
 mark_low : (before : List Token) (k : Token) (s : Progress) (d : ℕ) → ((x : ℕ) → next_height x k ≡ x) → Peaks next_height before d → Sums next_height (before ++ k ∷ []) s → s.running ≤ d
 mark_low before k s d still p sums =
     let h : IsBest next_height (before ++ k ∷ []) Running Certain s.running = sums Running in
-    let r : From next_height before k Running s.running = comes_from next_height before k Running s.running h.1 in
-    let same : after next_height r.source k r.fails r.old ≡ r.old = either (is_met r.source k r.fails) in
+    let r : Came next_height (Comes next_height before) k Running s.running = came_from next_height 0 before k Running s.running h.1 in
+    let same : passed_by next_height r.source k r.fails r.old ≡ r.old = either (is_met r.source k r.fails) in
     omega (arith, comes_low before r.source r.old d p r.comes, r.gives)
   where
     pick : (b : Bool) (x y : ℕ) → y ≡ x → cond b y x ≡ x
@@ -355,7 +356,7 @@ parse_fault bytes longest place count found f fits short more p e =
 climbs_by_one : (before : List Token) (k : Token) (s : Progress) → Sums next_height before s → s.running ≤ most_values → most_values < next_height s.running k → Comes next_height (before ++ k ∷ []) Running (suc most_values)
 climbs_by_one before k s sums low high =
     let h : IsBest next_height before Running Certain s.running = sums Running in
-    let c : Comes next_height (before ++ k ∷ []) (next_mode Running k false) (next_height s.running k) = comes_on next_height before k Running false s.running h.1 in
+    let c : Comes next_height (before ++ k ∷ []) (next_mode Running k false) (next_height s.running k) = reaches_on next_height 0 before k Running false s.running h.1 in
     let P : Mode → Type 0 = λ m. Comes next_height (before ++ k ∷ []) m (next_height s.running k) in
     let Q : ℕ → Type 0 = λ x. Comes next_height (before ++ k ∷ []) Running x in
     let top : next_height s.running k ≡ suc most_values = omega (arith, pushes-le k) in

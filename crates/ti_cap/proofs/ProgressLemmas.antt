@@ -4,95 +4,19 @@ use Rattle.ti_cap.specs.declared.language.Token.{Token}
 use Rattle.ti_cap.specs.declared.language.Token.TheVariants.{CondOpen, CondThen, CondElse, CondClose}
 use Rattle.ti_cap.specs.Tree.{IsSimple}
 use Rattle.ti_cap.specs.Path.{Walk, path_of}
-use Rattle.ti_cap.specs.Pass.{Mode, Running, Past, next_mode, is_running, Passes, Until, ElseOrEnd, EndOnly}
+use Rattle.ti_cap.specs.Pass.{Mode, Running, Past, next_mode, is_running, Until, ElseOrEnd, EndOnly}
 use Rattle.ti_cap.specs.declared.scan.Part.{Part}
 use Rattle.ti_cap.specs.declared.scan.Part.TheVariants.{FirstTest, Body, Otherwise}
 use Rattle.ti_cap.specs.inner.Analysis.{Frame, Progress}
-use Rattle.ti_cap.proofs.PassesLemmas.{Split, passes_split, passes-append}
+use Rattle.ti_cap.proofs.ReachesLemmas.{is_met, state_of, passed_by, Reaches, reaches_on, Came, came_from}
 
 -- how a token that is met changes a value
 abbrev pub Act : Type 0
 Act = ℕ → Token → ℕ
 
--- the value after the tokens
-abbrev pub value_of : Act → ℕ → List Token → ℕ
-value_of act x [] = x
-value_of act x (k ∷ ks) = value_of act (act x k) ks
-
-abbrev pub is_met : Mode → Token → Bool → Bool
-is_met m k fails = is_running m || is_running (next_mode m k fails)
-
--- the value after a token that is met or passed over
-abbrev pub after : Act → Mode → Token → Bool → ℕ → ℕ
-after act m k fails x = cond (is_met m k fails) (act x k) x
-
 -- some pass over the tokens comes to the mode with the value
-pub record Comes (act : Act) (before : List Token) (m : Mode) (x : ℕ) : Type 0 where
-  pub walk : Walk
-  pub passes : Passes Running before walk m
-  pub value : value_of act 0 (path_of walk before) ≡ x
-
--- where a token more comes from
-pub record From (act : Act) (before : List Token) (k : Token) (m : Mode) (x : ℕ) : Type 0 where
-  pub source : Mode
-  pub fails : Bool
-  pub old : ℕ
-  pub comes : Comes act before source old
-  pub leads : next_mode source k fails ≡ m
-  pub gives : x ≡ after act source k fails old
-
-pub value_of-append : (act : Act) (x : ℕ) (a b : List Token) → value_of act x (a ++ b) ≡ value_of act (value_of act x a) b
-value_of-append act x [] b = refl
-value_of-append act x (k ∷ a) b = value_of-append act (act x k) a b
-
--- what a walk and one mark more meet of the tokens and one more
-pub path_of-snoc : (ks : List Token) (m o : Mode) (w : Walk) (k : Token) (mark : Bool) → Passes m ks w o
-    → path_of (w ++ mark ∷ []) (ks ++ k ∷ []) ≡ path_of w ks ++ cond mark (k ∷ []) []
-path_of-snoc [] m o w k mark p = rw p.0 (one mark)
-  where
-    one : (mark : Bool) → path_of (mark ∷ []) (k ∷ []) ≡ cond mark (k ∷ []) []
-    one true = refl
-    one false = refl
-path_of-snoc (l ∷ ks) m o w k mark (fails, more, e, p) =
-    rw e (both (is_running m || is_running (next_mode m l fails)) (path_of-snoc ks (next_mode m l fails) o more k mark p))
-  where
-    both : (b : Bool) → path_of (more ++ mark ∷ []) (ks ++ k ∷ []) ≡ path_of more ks ++ cond mark (k ∷ []) []
-        → path_of (b ∷ (more ++ mark ∷ [])) (l ∷ (ks ++ k ∷ [])) ≡ path_of (b ∷ more) (l ∷ ks) ++ cond mark (k ∷ []) []
-    both true h = ap (λ x. l ∷ x) h
-    both false h = h
-
-value-mark : (act : Act) (x : ℕ) (k : Token) (mark : Bool) → value_of act x (cond mark (k ∷ []) []) ≡ cond mark (act x k) x
-value-mark act x k true = refl
-value-mark act x k false = refl
-
-pub comes_on : (act : Act) (before : List Token) (k : Token) (m : Mode) (fails : Bool) (x : ℕ) → Comes act before m x
-    → Comes act (before ++ k ∷ []) (next_mode m k fails) (after act m k fails x)
-comes_on act before k m fails x c = record {
-  walk = c.walk ++ is_met m k fails ∷ [];
-  passes = passes-append before (k ∷ []) Running m (next_mode m k fails) c.walk (is_met m k fails ∷ []) c.passes (fails, [], refl, (refl, refl));
-  value = ap (λ y. value_of act 0 y) (path_of-snoc before Running m c.walk k (is_met m k fails) c.passes)
-      ∙ value_of-append act 0 (path_of c.walk before) (cond (is_met m k fails) (k ∷ []) [])
-      ∙ value-mark act (value_of act 0 (path_of c.walk before)) k (is_met m k fails)
-      ∙ ap (λ y. cond (is_met m k fails) (act y k) y) c.value;
-}
-
-pub comes_from : (act : Act) (before : List Token) (k : Token) (m : Mode) (x : ℕ) → Comes act (before ++ k ∷ []) m x → From act before k m x
-comes_from act before k m x c =
-    let s : Split before (k ∷ []) Running m c.walk = passes_split before (k ∷ []) Running m c.walk c.passes in
-    let fails : Bool = s.second.0 in
-    let back : s.back ≡ is_met s.between k fails ∷ [] = s.second.2 ∙ ap (λ y. is_met s.between k fails ∷ y) s.second.3.0 in
-    record {
-      source = s.between;
-      fails = fails;
-      old = value_of act 0 (path_of s.front before);
-      comes = record { walk = s.front; passes = s.first; value = refl };
-      leads = sym s.second.3.1;
-      gives = sym c.value
-          ∙ ap (λ y. value_of act 0 (path_of y (before ++ k ∷ []))) (s.joined ∙ ap (λ y. s.front ++ y) back)
-          ∙ ap (λ y. value_of act 0 y) (path_of-snoc before Running s.between s.front k (is_met s.between k fails) s.first)
-          ∙ value_of-append act 0 (path_of s.front before) (cond (is_met s.between k fails) (k ∷ []) [])
-          ∙ value-mark act (value_of act 0 (path_of s.front before)) k (is_met s.between k fails);
-    }
+abbrev pub Comes : Act → List Token → Mode → ℕ → Type 0
+Comes act before m x = Reaches act 0 before m x
 
 -- whether some pass comes to a mode
 pub data Comings : Type 0 where
@@ -145,23 +69,23 @@ keep : (act : Act) (before : List Token) (k : Token) (m n : Mode) (fails : Bool)
     → (c : Comings) (v : ℕ) → IsBest act before m c v → IsBest act (before ++ k ∷ []) n c v
 keep act before k m n fails leads past past' only c v h = all c v h
   where
-    unmet : (f : Bool) → next_mode m k f ≡ n → (x : ℕ) → after act m k f x ≡ x
+    unmet : (f : Bool) → next_mode m k f ≡ n → (x : ℕ) → passed_by act m k f x ≡ x
     unmet f e x = ap (λ b. cond (b || is_running (next_mode m k f)) (act x k) x) past ∙ ap (λ b. cond b (act x k) x) (ap is_running e ∙ past')
 
     back : (x : ℕ) → Comes act (before ++ k ∷ []) n x → Comes act before m x
     back x c =
-        let r : From act before k n x = comes_from act before k n x c in
+        let r : Came act (Comes act before) k n x = came_from act 0 before k n x c in
         let is : r.source ≡ m = only r.source r.fails r.leads in
         let P : Mode → Type 0 = λ y. Comes act before y r.old in
         let Q : ℕ → Type 0 = λ y. Comes act before m y in
         let L : Mode → Type 0 = λ y. next_mode y k r.fails ≡ n in
-        subst Q (sym (r.gives ∙ ap (λ y. after act y k r.fails r.old) is ∙ unmet r.fails (subst L is r.leads) r.old)) (subst P is r.comes)
+        subst Q (sym (r.gives ∙ ap (λ y. passed_by act y k r.fails r.old) is ∙ unmet r.fails (subst L is r.leads) r.old)) (subst P is r.comes)
 
     on : (x : ℕ) → Comes act before m x → Comes act (before ++ k ∷ []) n x
     on x c =
         let P : Mode → Type 0 = λ y. Comes act (before ++ k ∷ []) y x in
         let Q : ℕ → Type 0 = λ y. Comes act (before ++ k ∷ []) (next_mode m k fails) y in
-        subst P leads (subst Q (unmet fails leads x) (comes_on act before k m fails x c))
+        subst P leads (subst Q (unmet fails leads x) (reaches_on act 0 before k m fails x c))
 
     all : (c : Comings) (v : ℕ) → IsBest act before m c v → IsBest act (before ++ k ∷ []) n c v
     all Never v h = ((λ x c. h.0 x (back x c)), h.1)
@@ -171,7 +95,7 @@ keep act before k m n fails leads past past' only c v h = all c v h
 -- a mode that is not reached
 dead : (act : Act) (before : List Token) (k : Token) (n : Mode) → ((source : Mode) (f : Bool) → next_mode source k f ≡ n → ⊥)
     → IsBest act (before ++ k ∷ []) n Never 0
-dead act before k n never = ((λ x c. let r : From act before k n x = comes_from act before k n x c in never r.source r.fails r.leads), refl)
+dead act before k n never = ((λ x c. let r : Came act (Comes act before) k n x = came_from act 0 before k n x c in never r.source r.fails r.leads), refl)
 
 possible : (act : Act) (before : List Token) (m : Mode) (v : ℕ) → IsBest act before m Never v → IsBest act before m Possible v
 possible act before m v h = ((λ x c. absurd (h.0 x c)), inr h.1)
@@ -183,24 +107,24 @@ move : (act : Act) (before : List Token) (k : Token) (m n : Mode) (fails : Bool)
     → IsBest act before m Certain v → IsBest act (before ++ k ∷ []) n Certain (act v k)
 move act before k m n fails v rising leads meets only h = (upper, reach)
   where
-    acts : (f : Bool) → next_mode m k f ≡ n → (x : ℕ) → after act m k f x ≡ act x k
+    acts : (f : Bool) → next_mode m k f ≡ n → (x : ℕ) → passed_by act m k f x ≡ act x k
     acts f e x = ap (λ b. cond b (act x k) x) (meets f e)
 
     upper : (x : ℕ) → Comes act (before ++ k ∷ []) n x → x ≤ act v k
     upper x c =
-        let r : From act before k n x = comes_from act before k n x c in
+        let r : Came act (Comes act before) k n x = came_from act 0 before k n x c in
         let is : r.source ≡ m = only r.source r.fails r.old r.comes r.leads in
         let P : Mode → Type 0 = λ y. Comes act before y r.old in
         let L : Mode → Type 0 = λ y. next_mode y k r.fails ≡ n in
         let low : act r.old k ≤ act v k = rising k r.old v (h.0 r.old (subst P is r.comes)) in
-        let e : x ≡ act r.old k = r.gives ∙ ap (λ y. after act y k r.fails r.old) is ∙ acts r.fails (subst L is r.leads) r.old in
+        let e : x ≡ act r.old k = r.gives ∙ ap (λ y. passed_by act y k r.fails r.old) is ∙ acts r.fails (subst L is r.leads) r.old in
         omega arith
 
     reach : Comes act (before ++ k ∷ []) n (act v k)
     reach =
         let P : Mode → Type 0 = λ y. Comes act (before ++ k ∷ []) y (act v k) in
         let Q : ℕ → Type 0 = λ y. Comes act (before ++ k ∷ []) (next_mode m k fails) y in
-        subst P leads (subst Q (acts fails leads v) (comes_on act before k m fails v h.1))
+        subst P leads (subst Q (acts fails leads v) (reaches_on act 0 before k m fails v h.1))
 
 run_simple : (k : Token) (f : Bool) → IsSimple k → next_mode Running k f ≡ Running
 run_simple CondOpen f h = absurd h
@@ -303,12 +227,12 @@ best_comes act before m Never v h = inr h.1
 best_comes act before m Possible v h = h.1
 best_comes act before m Certain v h = inl h.1
 
-arrive : (act : Act) (before : List Token) (k : Token) (m n : Mode) (fails : Bool) (x y : ℕ) → next_mode m k fails ≡ n → after act m k fails x ≡ y
+arrive : (act : Act) (before : List Token) (k : Token) (m n : Mode) (fails : Bool) (x y : ℕ) → next_mode m k fails ≡ n → passed_by act m k fails x ≡ y
     → Comes act before m x → Comes act (before ++ k ∷ []) n y
 arrive act before k m n fails x y leads gives c =
     let P : Mode → Type 0 = λ z. Comes act (before ++ k ∷ []) z y in
     let Q : ℕ → Type 0 = λ z. Comes act (before ++ k ∷ []) (next_mode m k fails) z in
-    subst P leads (subst Q gives (comes_on act before k m fails x c))
+    subst P leads (subst Q gives (reaches_on act 0 before k m fails x c))
 
 -- a `%e` after a body: the test that failed goes on, and the body waits for the end
 pub sums_else : (act : Act) (before : List Token) (now : ℕ) (f : Frame) (fs : List Frame) → IsRising act → f.part ≡ Body
@@ -340,7 +264,7 @@ sums_else act before now f fs rising some sums (Past ElseOrEnd zero) = dead act 
     never (Past EndOnly zero) g e = absurd (cc)
 sums_else act before now f fs rising some sums (Past EndOnly zero) = (upper, reach)
   where
-    bounded : (source : Mode) (g : Bool) (old y : ℕ) → Comes act before source old → next_mode source CondElse g ≡ Past EndOnly zero → y ≡ after act source CondElse g old → y ≤ max f.done (act now CondElse)
+    bounded : (source : Mode) (g : Bool) (old y : ℕ) → Comes act before source old → next_mode source CondElse g ≡ Past EndOnly zero → y ≡ passed_by act source CondElse g old → y ≤ max f.done (act now CondElse)
     bounded Running g old y c e gives =
         let h : IsBest act before Running Certain now = sums Running in
         let low : act old CondElse ≤ act now CondElse = rising CondElse old now (h.0 old c) in
@@ -353,7 +277,7 @@ sums_else act before now f fs rising some sums (Past EndOnly zero) = (upper, rea
 
     upper : (y : ℕ) → Comes act (before ++ CondElse ∷ []) (Past EndOnly zero) y → y ≤ max f.done (act now CondElse)
     upper y c =
-        let r : From act before CondElse (Past EndOnly zero) y = comes_from act before CondElse (Past EndOnly zero) y c in
+        let r : Came act (Comes act before) CondElse (Past EndOnly zero) y = came_from act 0 before CondElse (Past EndOnly zero) y c in
         bounded r.source r.fails r.old y r.comes r.leads r.gives
 
     reach : Comes act (before ++ CondElse ∷ []) (Past EndOnly zero) (max f.done (act now CondElse)) ⊎ (max f.done (act now CondElse) ≡ 0)
@@ -384,7 +308,7 @@ sums_close act before now f fs rising sums Running = (upper, reach)
     all : ℕ
     all = max f.done (max f.failed now)
 
-    bounded : (source : Mode) (g : Bool) (old y : ℕ) → Comes act before source old → next_mode source CondClose g ≡ Running → y ≡ after act source CondClose g old → y ≤ act (max f.done (max f.failed now)) CondClose
+    bounded : (source : Mode) (g : Bool) (old y : ℕ) → Comes act before source old → next_mode source CondClose g ≡ Running → y ≡ passed_by act source CondClose g old → y ≤ act (max f.done (max f.failed now)) CondClose
     bounded Running g old y c e gives =
         let h : IsBest act before Running Certain now = sums Running in
         let low : act old CondClose ≤ act (max f.done (max f.failed now)) CondClose = rising CondClose old _ (omega (arith, h.0 old c)) in
@@ -401,7 +325,7 @@ sums_close act before now f fs rising sums Running = (upper, reach)
 
     upper : (y : ℕ) → Comes act (before ++ CondClose ∷ []) Running y → y ≤ act (max f.done (max f.failed now)) CondClose
     upper y c =
-        let r : From act before CondClose Running y = comes_from act before CondClose Running y c in
+        let r : Came act (Comes act before) CondClose Running y = came_from act 0 before CondClose Running y c in
         bounded r.source r.fails r.old y r.comes r.leads r.gives
 
     -- from a mode with the greatest value, which comes or is 0
@@ -430,7 +354,7 @@ sums_close act before now f fs rising sums Running = (upper, reach)
 pub sums_start : (act : Act) → Sums act [] (record { running = 0; frames = [] })
 sums_start act Running = ((λ x c. omega (arith, sym c.value, nothing c.walk)), record { walk = []; passes = (refl, refl); value = refl })
   where
-    nothing : (w : Walk) → value_of act 0 (path_of w []) ≡ 0
+    nothing : (w : Walk) → state_of act 0 (path_of w []) ≡ 0
     nothing [] = refl
     nothing (b ∷ w) = refl
 sums_start act (Past b n) = ((λ x c. let e : Past b n ≡ Running = c.passes.1 in absurd (cc)), refl)

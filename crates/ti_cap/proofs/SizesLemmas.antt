@@ -8,7 +8,8 @@ use Rattle.ti_cap.specs.Height.{size}
 use Rattle.ti_cap.specs.Spelling.{Written}
 use Rattle.ti_cap.proofs.TokenSizeLemmas.{spelled_size}
 use Rattle.ti_cap.proofs.WrittenLemmas.{spelled_long}
-use Rattle.ti_cap.proofs.ProgressLemmas.{Act, IsRising, value_of}
+use Rattle.ti_cap.proofs.ProgressLemmas.{Act, IsRising}
+use Rattle.ti_cap.proofs.ReachesLemmas.{state_of}
 use Rattle.ti_cap.proofs.NextProgressLemmas.{IsStill}
 
 -- each token adds its size
@@ -22,7 +23,7 @@ pub size_still : (longest : ℕ) → IsStill (size_act longest)
 size_still longest = ((λ x. omega arith), (λ x. omega arith))
 
 value-from : (longest : ℕ) (ks : List Token) (bytes : List ℕ) (w : Walk) (x : ℕ) → longest < 2 ^ 16 → Written ks bytes
-    → value_of (size_act longest) x (path_of w ks) ≤ x + 65535 * length bytes
+    → state_of (size_act longest) x (path_of w ks) ≤ x + 65535 * length bytes
 value-from longest ks bytes [] x h q = omega arith
 value-from longest [] bytes (b ∷ w) x h q = omega arith
 value-from longest (k ∷ ks) bytes (true ∷ w) x h (s, tail, p, q, e) =
@@ -32,13 +33,13 @@ value-from longest (k ∷ ks) bytes (false ∷ w) x h (s, tail, p, q, e) =
 
 -- no walk over tokens that bytes spell is larger than so much for each byte
 pub value-size : (longest : ℕ) (ks : List Token) (bytes : List ℕ) (w : Walk) → longest < 2 ^ 16 → Written ks bytes
-    → value_of (size_act longest) 0 (path_of w ks) ≤ 65535 * length bytes
+    → state_of (size_act longest) 0 (path_of w ks) ≤ 65535 * length bytes
 value-size longest ks bytes w h q = omega (arith, value-from longest ks bytes w 0 h q)
 
-size-from : (longest x : ℕ) (path : List Token) → value_of (size_act longest) x path ≡ x + size path longest
+size-from : (longest x : ℕ) (path : List Token) → state_of (size_act longest) x path ≡ x + size path longest
 size-from longest x [] = omega arith
 size-from longest x (k ∷ path) = size-from longest (x + token_size longest k) path ∙ omega (arith, sum_by-cons (token_size longest) k path)
 
 -- the value of a path is its size
-pub value_is : (longest : ℕ) (path : List Token) → value_of (size_act longest) 0 path ≡ size path longest
+pub value_is : (longest : ℕ) (path : List Token) → state_of (size_act longest) 0 path ≡ size path longest
 value_is longest path = size-from longest 0 path ∙ omega arith

@@ -3,6 +3,7 @@ pub mod Path
 pub mod Sizes
 pub mod Height
 pub mod Pass
+pub mod Sources
 pub mod Spelling
 pub mod FaultNames
 pub mod Refusal

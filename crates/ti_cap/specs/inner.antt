@@ -2,3 +2,4 @@
 pub mod Analysis
 pub mod Scan
 pub mod Lexer
+pub mod Gathering

@@ -5,13 +5,18 @@
 #![tactic(auto)]
 
 mod extent;
+mod gathering;
 mod language;
 pub mod laws;
 mod lexer;
 mod limits;
+mod origins;
+mod parameter_set;
 mod parse;
 mod read_format;
 mod scan;
 
+pub use gathering::Parameters;
 pub use language::{CapFault, CapRefused, Conversion, Format, Op, Token};
+pub use parameter_set::ParameterSet;
 pub use parse::{Capability, Tape};

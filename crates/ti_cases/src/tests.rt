@@ -15,6 +15,7 @@ macro_rules! assert_that {
 }
 
 mod capability_faults;
+mod capability_parameters;
 mod capability_sizes;
 mod changed_bytes;
 mod cut_entries;
