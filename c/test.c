@@ -227,11 +227,19 @@ static void needs(const char *text, uint16_t longest, size_t depth, size_t nest,
     expect(are_unwritten(&limits.place, sizeof limits.place), "no place of a capability");
 }
 
+/* The masks of the parameters that it names, and that it takes as texts. */
+static void takes(const char *text, uint16_t named, uint16_t texts) {
+    memset(&limits, UNWRITTEN, sizeof limits);
+    uint32_t answer = check(text, strlen(text), 0);
+    expect(answer == TI_DONE && limits.named == named && limits.texts == texts, text);
+}
+
 static void refused(const char *text, uint32_t fault, size_t place) {
     memset(&limits, UNWRITTEN, sizeof limits);
     uint32_t answer = check(text, strlen(text), 0);
     expect(answer == fault && limits.place == place, text);
     expect(are_unwritten(&limits, offsetof(ti_limits, place)), "limits are kept after a refusal");
+    expect(are_unwritten(&limits.named, sizeof limits.named + sizeof limits.texts), "and the masks");
 }
 
 /* So many times a text of two or three bytes. */
@@ -253,6 +261,13 @@ static void test_checks(void) {
     needs("%p1%s", 0, 1, 0, 0);
     needs("%p1%s", 32767, 1, 0, 32767);
     needs("%p1%.2s%p1%:-6s", 100, 1, 0, 102);
+    takes("", 0, 0);
+    takes(CUP, 0x3, 0);
+    takes(E "]52;%p1%s;%p2%s" "\a", 0x3, 0x3);
+    takes("%p1%p2%d%s", 0x3, 0x1);
+    takes("%p2%l%d", 0x2, 0x2);
+    takes("%?%p1%t%p2%e%p3%;%s", 0x7, 0x6);
+    takes("%p9%PA%gA%s", 0x100, 0);
     expect(ti_check(NULL, 0, 0, &limits) == TI_DONE && limits.bound == 0, "no bytes, and a null pointer");
     expect(ti_expand(NULL, 0, NULL, 0, &vars, NULL, 0, &run) == TI_DONE && run.written == 0 && run.ran == 0,
            "an expansion of no bytes into no room");

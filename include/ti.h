@@ -165,12 +165,14 @@ typedef struct {
     int32_t values[52];
 } ti_vars;
 
-/* The most that a capability needs, or where its fault is. */
+/* The most that a capability needs, and its parameters, or where its fault is. */
 typedef struct {
     size_t depth;   /* values on the stack */
     size_t nest;    /* conditionals that are open at once */
     uint64_t bound; /* bytes of output */
     size_t place;   /* of a fault */
+    uint16_t named; /* the parameters that it names, by %p1 to %p9: bit N - 1 is for parameter N */
+    uint16_t texts; /* those that it takes as texts, by %s or %l */
 } ti_limits;
 
 /* How an expansion went, or where its fault is. */
@@ -240,15 +242,18 @@ uint32_t ti_read(const unsigned char *bytes, size_t length, int8_t *flags, size_
                  size_t number_room, ti_text_item *texts, size_t text_room, ti_bytes *names, size_t name_room,
                  ti_entry *entry);
 
-/* Checks a capability. TI_DONE: depth, nest and bound are written, and the place is as it was. 101 to 113: the place alone
+/* Checks a capability. TI_DONE: all but the place is written, and the place is as it was. 101 to 113: the place alone
  * is written. longest_text is the length of the longest text among the parameters, 0 if all are numbers; ti_expand needs
- * room for bound bytes.
+ * room for bound bytes. The masks are exact: a bit is set if some way through the conditionals names the parameter, or takes
+ * its value as a text. So a capability of an untrusted file can be held against what the program hands over.
  *
  *     ti_limits limits;
  *     if (ti_check(cup, cup_length, 0, &limits) == TI_DONE)
  *         out = malloc(limits.bound);
  *     else
- *         fprintf(stderr, "fault at byte %zu\n", limits.place); */
+ *         fprintf(stderr, "fault at byte %zu\n", limits.place);
+ *     if (limits.texts & 1)
+ *         puts("its first parameter has to be a text"); */
 uint32_t ti_check(const unsigned char *capability, size_t length, uint16_t longest_text, ti_limits *limits);
 
 /* Expands a capability. Marks of padding, such as $<5>, are written as they stand.
@@ -337,8 +342,9 @@ TI_LAYOUT(offsetof(ti_value, kind) == 20);
 TI_LAYOUT(sizeof(ti_parameter) == 24 && offsetof(ti_parameter, text) == 0);
 TI_LAYOUT(offsetof(ti_parameter, number) == 16 && offsetof(ti_parameter, is_text) == 20);
 TI_LAYOUT(sizeof(ti_vars) == 208 && offsetof(ti_vars, values) == 0);
-TI_LAYOUT(sizeof(ti_limits) == 32 && offsetof(ti_limits, depth) == 0 && offsetof(ti_limits, nest) == 8);
+TI_LAYOUT(sizeof(ti_limits) == 40 && offsetof(ti_limits, depth) == 0 && offsetof(ti_limits, nest) == 8);
 TI_LAYOUT(offsetof(ti_limits, bound) == 16 && offsetof(ti_limits, place) == 24);
+TI_LAYOUT(offsetof(ti_limits, named) == 32 && offsetof(ti_limits, texts) == 34);
 TI_LAYOUT(sizeof(ti_run) == 40 && offsetof(ti_run, written) == 0 && offsetof(ti_run, ran) == 8);
 TI_LAYOUT(offsetof(ti_run, passed) == 16 && offsetof(ti_run, peak) == 24 && offsetof(ti_run, place) == 32);
 TI_LAYOUT(sizeof(ti_padding) == 12 && offsetof(ti_padding, rate) == 0 && offsetof(ti_padding, affected_lines) == 4);

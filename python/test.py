@@ -65,7 +65,7 @@ def test_expand() -> None:
 
 
 def test_check_and_pad() -> None:
-    expect(ti.check(b"\x1b[%i%p1%d;%p2%dH") == ti.Limits(1, 0, 26), f"limits of cup: {ti.check(ti.Entry(LINUX).text('cup'))}")
+    expect(ti.check(b"\x1b[%i%p1%d;%p2%dH") == ti.Limits(1, 0, 26, frozenset({1, 2}), frozenset()), f"limits of cup: {ti.check(ti.Entry(LINUX).text('cup'))}")
     expect(ti.check(b"%p1%s", 5).bound == 5, "the bound for a text")
     expect(ti.pad(b"a$<5>b", 960) == b"a\0\0\0\0\0b" and ti.pad(b"a$<5>b") == b"ab", "padding")
     expect(fault_of(ti.pad, b"", 1000001) == (301, "BadPadding", None), "a rate above the limit")

@@ -62,7 +62,9 @@ class _Variables(Structure):
 
 
 class _Limits(Structure):
-    _fields_ = [("depth", c_size_t), ("nest", c_size_t), ("bound", c_uint64), ("place", c_size_t)]
+    _fields_ = [
+        ("depth", c_size_t), ("nest", c_size_t), ("bound", c_uint64), ("place", c_size_t), ("named", c_uint16), ("texts", c_uint16)
+    ]
 
 
 class _Run(Structure):
@@ -171,6 +173,8 @@ class Limits:
     depth: int
     nest: int
     bound: int
+    named: frozenset[int]
+    texts: frozenset[int]
 
 
 @dataclass
@@ -180,12 +184,17 @@ class Variables:
     values: list[int] = field(default_factory=lambda: [0] * 52)
 
 
+def _numbers(mask: int) -> frozenset[int]:
+    """The parameters of a mask: bit N - 1 is for parameter N."""
+    return frozenset(number for number in range(1, 10) if mask >> (number - 1) & 1)
+
+
 def check(capability: bytes, longest_text: int = 0) -> Limits:
     """Checks a capability, for texts of this length among the parameters. Raises Fault if the bytes are no capability."""
     limits = _Limits()
     if fault := _library.ti_check(bytes(capability), len(capability), longest_text, byref(limits)):
         raise Fault(fault, limits.place)
-    return Limits(limits.depth, limits.nest, limits.bound)
+    return Limits(limits.depth, limits.nest, limits.bound, _numbers(limits.named), _numbers(limits.texts))
 
 
 def expand(capability: bytes, *parameters: int | bytes | str, variables: Variables | None = None) -> bytes:

@@ -1,8 +1,9 @@
 //! Checking a capability for C.
 
-ghost use Rattle.std.specs.Prelude.{◌≡◌, ◌⊎◌, ℕ};
+ghost use Rattle.std.specs.Prelude.{◌≡◌, ◌⊎◌, ◌↔◌, ℕ};
 ghost use Rattle.ti_cap.specs.Capability.{HasDepth, HasBound, HasNest, IsWellFormed};
 ghost use Rattle.ti_cap.specs.Refusal.{IsFaultless};
+ghost use Rattle.ti_cap.specs.Sources.{Has, IsNamed, IsTakenAsText};
 ghost use Rattle.ti_c.specs.Numbers.{done};
 ghost use Rattle.ti_c.specs.Given.{IsRefusedAs};
 
@@ -21,6 +22,10 @@ pub struct Limits {
     pub bound: u64,
     /// Where the fault stands, in bytes from the start.
     pub place: usize,
+    /// The parameters that it names, as a mask: bit N - 1 is for parameter N.
+    pub named: u16,
+    /// The parameters that it takes as texts, as a mask.
+    pub texts: u16,
 }
 
 /// Checks bytes as a capability, and returns 0 with its limits, or the number of its fault with the place. Nothing else is
@@ -40,12 +45,20 @@ pub extern "C" fn ti_check(capability: &[u8], longest_text: u16, limits: &mut Li
     ensures depth { result ≡ done → HasDepth capability.now limits.new.depth }
     ensures nest { result ≡ done → HasNest capability.now limits.new.nest }
     ensures bound { result ≡ done → HasBound capability.now longest_text limits.new.bound }
+    // The masks have exactly the parameters that some path names, and that some path takes as a text.
+    ensures named { result ≡ done → (which : ℕ)
+        → Has (record { mask = limits.new.named }) which ↔ IsNamed capability.now which }
+    ensures texts { result ≡ done → (which : ℕ)
+        → Has (record { mask = limits.new.texts }) which ↔ IsTakenAsText capability.now which }
 {
     match Capability::parse(capability) {
         Ok(capability) => {
             limits.depth = capability.depth();
             limits.nest = capability.nest();
             limits.bound = capability.bound(longest_text);
+            let parameters = capability.parameters();
+            limits.named = parameters.named.mask;
+            limits.texts = parameters.texts.mask;
             DONE
         }
         Err(refused) => {

@@ -1,5 +1,6 @@
-use Rattle.std.proofs.Common.{ℕ, List, inl, inr, refl, sym, ◌∙◌, subst}
+use Rattle.std.proofs.Common.{ℕ, List, inl, inr, refl, sym, ◌∙◌, ◌↔◌, subst}
 use Rattle.ti_cap.specs.Capability.{HasDepth, HasNest, HasBound}
+use Rattle.ti_cap.specs.Sources.{Has, IsNamed, IsTakenAsText}
 use Rattle.ti_c.proofs.NumbersLemmas.{not_done}
 use Rattle.ti_c.proofs.OneFaultLemmas.{one_refused, none_refused}
 use Rattle.ti_c.proofs.capability.ti_check.Goals as goal
@@ -55,3 +56,13 @@ returns-in-Err-clause-nest c = λ e. absurd (not_done c.in-Err.refused.fault (sy
 
 pub returns-in-Err-clause-bound : goal.returns-in-Err-clause-bound
 returns-in-Err-clause-bound c = λ e. absurd (not_done c.in-Err.refused.fault (sym c.capability_number.ensures ∙ e))
+
+pub returns-in-Ok-clause-named : goal.returns-in-Ok-clause-named
+returns-in-Ok-clause-named c =
+    let P : List ℕ → Type 0 = λ x. (which : ℕ) → Has c.parameters-parameters.result.named which ↔ IsNamed x which in
+    λ _. subst P c.in-Ok.ensures.value c.parameters-parameters.ensures.named
+
+pub returns-in-Ok-clause-texts : goal.returns-in-Ok-clause-texts
+returns-in-Ok-clause-texts c =
+    let P : List ℕ → Type 0 = λ x. (which : ℕ) → Has c.parameters-parameters.result.texts which ↔ IsTakenAsText x which in
+    λ _. subst P c.in-Ok.ensures.value c.parameters-parameters.ensures.texts
