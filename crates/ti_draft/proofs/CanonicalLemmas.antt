@@ -1,21 +1,21 @@
 -- What is appended piece by piece.
 use Rattle.std.proofs.Common.{◌≡◌, ℕ, ◌+◌, List, [], ◌∷◌, ◌++◌, length, sym, ap, ◌∙◌, pos, arith, append_assoc}
-use Rattle.std.proofs.lemmas.List.{length-append}
+use Rattle.std.proofs.lemmas.List.{append-nil, length-append}
 use Rattle.std.proofs.lemmas.List.Concat.{flat_map-append}
 use Rattle.ti_words.specs.Word.{word}
 use Rattle.ti_words.specs.Spelling.{words_of}
 use Rattle.ti_draft.specs.Canonical.{names_table, name_words}
 
-pub after : (o p q a b : List ℕ) → p ≡ o ++ a → q ≡ p ++ b → q ≡ o ++ (a ++ b)
-after o p q a b e f = f ∙ ap (λ l. l ++ b) e ∙ append_assoc o a b
+-- one piece, and then others
+pub after : (o a b : List ℕ) {p q : List ℕ} → p ≡ o ++ a → q ≡ p ++ b → q ≡ o ++ (a ++ b)
+after o a b e f = f ∙ ap (λ l. l ++ b) e ∙ append_assoc o a b
 
--- the same, if the second piece is known by another name
-pub after_as : (o p q a b b' : List ℕ) → p ≡ o ++ a → q ≡ p ++ b → b ≡ b' → q ≡ o ++ (a ++ b')
-after_as o p q a b b' e f k = after o p q a b' e (f ∙ ap (λ l. p ++ l) k)
+-- the same, if the first piece is known by another name
+pub after_as : (o a b c : List ℕ) {p q : List ℕ} → a ≡ c → p ≡ o ++ a → q ≡ p ++ b → q ≡ o ++ (c ++ b)
+after_as o a b c k e f = after o c b (e ∙ ap (λ l. o ++ l) k) f
 
--- two pieces that are one
-pub both_tables : (o a p q r b d : List ℕ) → p ≡ o ++ a → q ≡ p ++ b → r ≡ q ++ d → r ≡ o ++ (a ++ (b ++ d))
-both_tables o a p q r b d e f h = after o p r a (b ++ d) e (after p q r b d f h)
+pub last : (o a : List ℕ) {p : List ℕ} → p ≡ o ++ a → p ≡ o ++ (a ++ [])
+last o a e = e ∙ ap (λ l. o ++ l) (sym (append-nil a))
 
 pub name_words_append : (from : ℕ) (xs ys : List (List ℕ)) → name_words from (xs ++ ys) ≡ name_words from xs ++ name_words (from + length (names_table xs)) ys
 name_words_append from [] ys = ap (λ k. name_words k ys) (omega arith)

@@ -1,5 +1,5 @@
 -- Sums that stop at a greatest number.
-use Rattle.std.proofs.Common.{◌≡◌, ℕ, ◌+◌, ◌%◌, ◌^◌, ◌≤◌, ◌<◌, Bool, true, false, ltb, min, refl, ap, ◌∙◌, arith}
+use Rattle.std.proofs.Common.{◌≡◌, ℕ, ◌+◌, ◌-◌, ◌%◌, ◌^◌, ◌≤◌, ◌<◌, Bool, true, false, ltb, min, refl, ap, ◌∙◌, arith}
 use Rattle.std.proofs.lemmas.Bool.{ltb-true, ltb-false}
 use Rattle.ti_draft.specs.Lengths.{capped_count}
 
@@ -27,6 +27,13 @@ padded m t p x h le =
 
 pub odd_sum : (a b : ℕ) → (a % 2 + b % 2 + 1) % 2 ≡ (a + 1 + b) % 2
 odd_sum a b = omega arith
+
+-- sums whose parts may have stopped early
+pub sum : (a b : ℕ) {r x y : ℕ} → r ≡ min (x + y) (2 ^ 64 - 1) → x ≡ capped_count a → y ≡ capped_count b → r ≡ capped_count (a + b)
+sum a b {x = x} {y = y} e f g = e ∙ twice (2 ^ 64 - 1) x y a b f g
+
+pub sum_more : (a b : ℕ) {r x : ℕ} → r ≡ min (x + b) (2 ^ 64 - 1) → x ≡ capped_count a → r ≡ capped_count (a + b)
+sum_more a b {x = x} e f = e ∙ once (2 ^ 64 - 1) x a b f
 
 -- a few are not stopped
 pub whole : (t x : ℕ) → t < 2 ^ 15 → x ≡ capped_count t → x ≡ t

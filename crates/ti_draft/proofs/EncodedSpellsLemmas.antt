@@ -9,12 +9,13 @@ use Rattle.ti_words.specs.declared.Number.TheVariants as numbers
 use Rattle.ti_words.specs.declared.Width.{Width}
 use Rattle.ti_words.specs.declared.Width.TheVariants.{Legacy, Wide}
 use Rattle.ti_words.specs.Texts.{TextValue, AbsentText, CancelledText, TextOf, is_nul}
-use Rattle.ti_words.specs.Value.{NamedPart, EntryValue, no_named}
-use Rattle.ti_words.specs.Spelling.{Spells, HasSections, HasExtendedPart, HasNoNul, FitsWidth, Has, IsText, IsName, Each, mark_in, text_size, texts_size, part_names}
-use Rattle.ti_draft.specs.Canonical.{canonical, plain_bytes, extended_bytes, text_bytes, texts_table, text_words, names_table, name_words}
+use Rattle.ti_words.specs.Value.{PartValue, NamedPart, EntryValue, no_named}
+use Rattle.ti_words.specs.Spelling.{Spells, SpellsPart, HasStandardPart, HasExtendedPart, HasNoNul, FitsWidth, Has, IsText, IsName, Each, count_word, join, standard_spelling, text_size, texts_size, unnamed, part_names}
+use Rattle.ti_draft.specs.Canonical.{canonical, text_bytes, texts_table, text_words, names_table, name_words, strings_of, standard_strings, extended_strings, items_of, extended_bytes}
+use Rattle.ti_draft.specs.Lengths.{AreFew}
 use Rattle.ti_draft.specs.Unfit.{encode_fault, has_nul, text_has_nul, is_out_of_range}
-use Rattle.ti_draft.proofs.LengthLemmas.{is_plain_bytes, is_both, length_part_names}
-use Rattle.ti_draft.proofs.EncodeFaultLemmas.{fit, small, small_extended}
+use Rattle.ti_draft.proofs.LengthLemmas.{is_standard, is_both, length_part_names, table_is}
+use Rattle.ti_draft.proofs.EncodeFaultLemmas.{fit, few_standard, few_extended}
 
 -- ---- what has no fault
 
@@ -85,58 +86,69 @@ size_of AbsentText = refl
 size_of CancelledText = refl
 size_of (TextOf text) = sym (length-append text (0 ∷ []))
 
-pub base_is : (ts : List (List ℕ × TextValue)) → texts_size ts ≡ length (texts_table (map mark_in ts))
+pub base_is : (ts : List TextValue) → texts_size ts ≡ length (texts_table ts)
 base_is [] = refl
-base_is (t ∷ ts) = omega (arith, size_of t.1, base_is ts, length-append (text_bytes t.1) (texts_table (map mark_in ts)))
+base_is (t ∷ ts) = omega (arith, size_of t, base_is ts, length-append (text_bytes t) (texts_table ts))
 
 -- ---- both parts
 
-sections_of : (v : EntryValue) (rest : List ℕ) → encode_fault v ≡ None → HasSections v (texts_table v.standard.texts) rest (plain_bytes v ++ rest)
-sections_of v rest h =
-    let f = fit v h in
-    let few = small v h in
-    let front = neither ((length v.names == 0) || has_nul v.names) (list_any has_nul (part_names v.extended)) f.good_names in
-    let named = neither (length v.names == 0) (has_nul v.names) front.0 in
-    let there = eqb-false (length v.names) 0 named.0 in
-    let text = neither (list_any text_has_nul v.standard.texts) (list_any text_has_nul (map mark_in v.extended.texts)) f.good_texts in
-    let number = neither (list_any (is_out_of_range v.width) v.standard.numbers) (list_any (is_out_of_range v.width) (map mark_in v.extended.numbers)) f.good_numbers in
-    let put = texts_put [] v.standard.texts [] (none_of text_has_nul IsClean clean_text v.standard.texts text.0) in
-    let P : List ℕ → Type 0 = λ table. Each (IsText table) (text_words 0 v.standard.texts) v.standard.texts in
+part_put : (w : Width) (p : PartValue) (names : List (List ℕ)) → AreFew p names
+    → list_any text_has_nul p.texts ≡ false → list_any (is_out_of_range w) p.numbers ≡ false → list_any has_nul names ≡ false
+    → SpellsPart w (strings_of p names) p names
+part_put w p names few text number named =
+    let values = texts_table p.texts in
+    let P : ℕ → Type 0 = λ base. Each (IsName (values ++ names_table names) base) (name_words 0 names) names in
     record {
-      offsets = text_words 0 v.standard.texts;
-      joined = refl;
-      counts = (few.names, (few.flags, (few.numbers, (few.texts, (few.table, tt)))));
-      named = omega (arith, there);
-      names_fit = clean v.names named.1;
-      numbers_fit = none_of (is_out_of_range v.width) (FitsWidth v.width) (fits_width v.width) v.standard.numbers number.0;
-      texts_there = subst P (append-nil (texts_table v.standard.texts)) put;
+      few_flags = few.flags;
+      few_numbers = few.numbers;
+      few_texts = few.texts;
+      small_table = omega (arith, table_is p names, few.table);
+      numbers_fit = none_of (is_out_of_range w) (FitsWidth w) (fits_width w) p.numbers number;
+      texts_there = texts_put [] p.texts (names_table names) (none_of text_has_nul IsClean clean_text p.texts text);
+      names_there = subst P (sym (base_is p.texts)) (names_put values (length values) 0 names (omega arith) (none_of has_nul HasNoNul clean names named));
     }
 
-extended_of : (v : EntryValue) → encode_fault v ≡ None → (length (part_names v.extended) == 0) ≡ false
-    → HasExtendedPart v (length (texts_table v.standard.texts)) (extended_bytes v)
-extended_of v h e =
+-- what has no fault, part by part
+record IsGood (v : EntryValue) : Type 0 where
+  named : (length v.names == 0) ≡ false
+  names : has_nul v.names ≡ false
+  own_names : list_any has_nul (part_names v.extended) ≡ false
+  texts : list_any text_has_nul v.standard.texts ≡ false
+  own_texts : list_any text_has_nul (unnamed v.extended).texts ≡ false
+  numbers : list_any (is_out_of_range v.width) v.standard.numbers ≡ false
+  own_numbers : list_any (is_out_of_range v.width) (unnamed v.extended).numbers ≡ false
+
+good : (v : EntryValue) → encode_fault v ≡ None → IsGood v
+good v h =
     let f = fit v h in
-    let few = small_extended v h e in
-    let texts = map mark_in v.extended.texts in
-    let names = part_names v.extended in
-    let values = texts_table texts in
-    let named = neither ((length v.names == 0) || has_nul v.names) (list_any has_nul names) f.good_names in
-    let text = neither (list_any text_has_nul v.standard.texts) (list_any text_has_nul texts) f.good_texts in
-    let number = neither (list_any (is_out_of_range v.width) v.standard.numbers) (list_any (is_out_of_range v.width) (map mark_in v.extended.numbers)) f.good_numbers in
-    let long : length (values ++ names_table names) < 2 ^ 15 = omega (arith, length-append values (names_table names), few.table) in
-    let P : ℕ → Type 0 = λ base. Each (IsName (values ++ names_table names) base) (name_words 0 names) names in
-    let put = names_put values (length values) 0 names (omega arith) (none_of has_nul HasNoNul clean names named.1) in
+    let front = neither ((length v.names == 0) || has_nul v.names) (list_any has_nul (part_names v.extended)) f.good_names in
+    let name = neither (length v.names == 0) (has_nul v.names) front.0 in
+    let text = neither (list_any text_has_nul v.standard.texts) (list_any text_has_nul (unnamed v.extended).texts) f.good_texts in
+    let number = neither (list_any (is_out_of_range v.width) v.standard.numbers) (list_any (is_out_of_range v.width) (unnamed v.extended).numbers) f.good_numbers in
+    record { named = name.0; names = name.1; own_names = front.1; texts = text.0; own_texts = text.1; numbers = number.0; own_numbers = number.1 }
+
+standard_of : (v : EntryValue) (rest : List ℕ) → encode_fault v ≡ None → HasStandardPart v (standard_strings v) rest (join (standard_spelling v (standard_strings v)) rest)
+standard_of v rest h =
+    let g = good v h in
+    let few = few_standard v h in
+    let some = eqb-false (length v.names) 0 g.named in
     record {
-      values = text_words 0 texts;
-      names = name_words 0 names;
-      items = _;
-      table = values ++ names_table names;
       joined = refl;
-      counts = (few.flags, (few.numbers, (few.texts, (long, tt))));
+      named = omega (arith, some);
+      few_names = omega arith;
+      names_fit = clean v.names g.names;
+      part = part_put v.width v.standard [] few.part g.texts g.numbers refl;
+    }
+
+extended_of : (v : EntryValue) → encode_fault v ≡ None → (length (part_names v.extended) == 0) ≡ false → HasExtendedPart v (length (standard_strings v).table) (extended_bytes v)
+extended_of v h e =
+    let g = good v h in
+    record {
+      items = count_word (items_of v.extended);
+      strings = extended_strings v;
+      joined = refl;
       items_size = refl;
-      numbers_fit = none_of (is_out_of_range v.width) (FitsWidth v.width) (fits_width v.width) (map mark_in v.extended.numbers) number.1;
-      texts_there = texts_put [] texts (names_table names) (none_of text_has_nul IsClean clean_text texts text.1);
-      names_there = subst P (sym (base_is v.extended.texts)) put;
+      part = part_put v.width (unnamed v.extended) (part_names v.extended) (few_extended v h e) g.own_texts g.own_numbers g.own_names;
     }
 
 nothing : {X : Type 0} → (xs : List X) → length xs ≡ 0 → xs ≡ []
@@ -154,25 +166,22 @@ none_named p h =
 spells_under : (v : EntryValue) (b : Bool) → (length (part_names v.extended) == 0) ≡ b → encode_fault v ≡ None → Spells (canonical v) v
 spells_under v true e h =
     let P : List ℕ → Type 0 = λ bytes. Spells bytes v in
-    let is : canonical v ≡ plain_bytes v ++ [] = is_plain_bytes v e ∙ sym (append-nil (plain_bytes v)) in
+    let is = is_standard v e in
     subst P (sym is) record {
       fits = omega (arith, (fit v h).short, ap length is);
-      table = texts_table v.standard.texts;
+      strings = standard_strings v;
       rest = [];
-      sections = sections_of v [] h;
-      extended = inl record {
-        ends = refl;
-        none = none_named v.extended (eqb-true (length (part_names v.extended)) 0 e);
-      };
+      standard = standard_of v [] h;
+      extended = inl record { ends = refl; none = none_named v.extended (eqb-true (length (part_names v.extended)) 0 e) };
     }
 spells_under v false e h =
     let P : List ℕ → Type 0 = λ bytes. Spells bytes v in
     let is = is_both v e in
     subst P (sym is) record {
       fits = omega (arith, (fit v h).short, ap length is);
-      table = texts_table v.standard.texts;
+      strings = standard_strings v;
       rest = extended_bytes v;
-      sections = sections_of v (extended_bytes v) h;
+      standard = standard_of v (extended_bytes v) h;
       extended = inr (extended_of v h e);
     }
 

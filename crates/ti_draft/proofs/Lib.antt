@@ -1,5 +1,6 @@
 pub mod NamedLemmas
 pub mod CappedCountLemmas
+pub mod JoinLemmas
 pub mod LengthLemmas
 pub mod TableRoomLemmas
 pub mod EncodeFaultLemmas

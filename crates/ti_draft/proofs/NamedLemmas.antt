@@ -3,6 +3,7 @@ use Rattle.std.proofs.Common.{◌≡◌, ℕ, List, [], ◌∷◌, ◌++◌, len
 use Rattle.std.proofs.lemmas.List.{map-append, length-map}
 use Rattle.std.specs.List.{zip}
 use Rattle.ti_words.specs.Spelling.{name_in, mark_in}
+use Rattle.ti_draft.specs.Lists.{lent}
 
 pub zip_push : {A B : Type 0} → (xs : List A) (ys : List B) (x : A) (y : B) → length xs ≡ length ys
     → zip (xs ++ x ∷ []) (ys ++ y ∷ []) ≡ zip xs ys ++ (x, y) ∷ []
@@ -23,9 +24,6 @@ seconds (x ∷ xs) [] h = absurd (omega arith)
 seconds (x ∷ xs) (y ∷ ys) h = ap (λ l. y ∷ l) (seconds xs ys (omega arith))
 
 -- ---- names that lie somewhere, beside what they name
-
-abbrev pub lent : List (Bor (List ℕ)) → List (List ℕ)
-lent names = map (λ name. name.now) names
 
 pub pushed : {B : Type 0} → (names more : List (Bor (List ℕ))) (marks others : List B) (name : Bor (List ℕ)) (mark : B)
     → length names ≡ length marks → more ≡ names ++ name ∷ [] → others ≡ marks ++ mark ∷ []

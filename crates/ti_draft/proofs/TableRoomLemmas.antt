@@ -2,7 +2,7 @@
 use Rattle.std.proofs.Common.{◌≡◌, ℕ, ◌+◌, ◌-◌, ◌<◌, ◌≤◌, ◌^◌, List, [], ◌∷◌, ◌++◌, length, drop, Bor, ◌∙◌, arith}
 use Rattle.std.proofs.lemmas.List.{length-append, length-map, length-drop}
 use Rattle.ti_draft.specs.Canonical.{names_table}
-use Rattle.ti_draft.proofs.NamedLemmas.{lent}
+use Rattle.ti_draft.specs.Lists.{lent}
 
 some_name : (names : List (List ℕ)) → 0 < length names → 0 < length (names_table names)
 some_name [] h = h

@@ -1,8 +1,8 @@
 -- The one layout in which an entry is written: no text is shared, and no byte of a table is left out.
 use Rattle.std.specs.Prelude.{ℕ, ◌+◌, ℤ, pos, negsuc, List, [], ◌∷◌, ◌++◌, length, map, if◌then◌else◌, ◌==◌}
 use Rattle.ti_words.specs.Texts.{TextValue, AbsentText, CancelledText, TextOf}
-use Rattle.ti_words.specs.Value.{EntryValue}
-use Rattle.ti_words.specs.Spelling.{magic, count_word, words_of, numbers_of, flags_of, pad, mark_in, part_names}
+use Rattle.ti_words.specs.Value.{PartValue, NamedPart, EntryValue}
+use Rattle.ti_words.specs.Spelling.{Strings, join, count_word, mark_in, unnamed, part_names, standard_spelling, extended_spelling}
 
 -- the texts that are there, in their order, each with its NUL
 abbrev pub text_bytes : TextValue → List ℕ
@@ -36,42 +36,29 @@ present_count (TextOf text ∷ ts) = 1 + present_count ts
 present_count (AbsentText ∷ ts) = present_count ts
 present_count (CancelledText ∷ ts) = present_count ts
 
--- the sections up to the end of the string table
-abbrev pub plain_bytes : EntryValue → List ℕ
-plain_bytes v =
-    let table = texts_table v.standard.texts in
-    magic v.width
-    ++ count_word (length v.names + 1)
-    ++ count_word (length v.standard.flags)
-    ++ count_word (length v.standard.numbers)
-    ++ count_word (length v.standard.texts)
-    ++ count_word (length table)
-    ++ (v.names ++ 0 ∷ [])
-    ++ flags_of v.standard.flags
-    ++ pad (length v.names + 1 + length v.standard.flags)
-    ++ numbers_of v.width v.standard.numbers
-    ++ words_of (text_words 0 v.standard.texts)
-    ++ table
+-- the strings of a part: its texts in their order, and then its names
+abbrev pub strings_of : PartValue → List (List ℕ) → Strings
+strings_of p names = record {
+  offsets = text_words 0 p.texts;
+  name_offsets = name_words 0 names;
+  table = texts_table p.texts ++ names_table names;
+}
 
--- the extended part; its word items counts the texts that are there and the names
+abbrev pub standard_strings : EntryValue → Strings
+standard_strings v = strings_of v.standard []
+
+abbrev pub extended_strings : EntryValue → Strings
+extended_strings v = strings_of (unnamed v.extended) (part_names v.extended)
+
+-- the word items counts the texts that are there and the names
+abbrev pub items_of : NamedPart → ℕ
+items_of p = present_count (map mark_in p.texts) + length (part_names p)
+
 abbrev pub extended_bytes : EntryValue → List ℕ
 extended_bytes v =
-    let texts = map mark_in v.extended.texts in
-    let names = part_names v.extended in
-    let table = texts_table texts ++ names_table names in
-    pad (length (texts_table v.standard.texts))
-    ++ count_word (length v.extended.flags)
-    ++ count_word (length v.extended.numbers)
-    ++ count_word (length v.extended.texts)
-    ++ count_word (present_count texts + length names)
-    ++ count_word (length table)
-    ++ flags_of (map mark_in v.extended.flags)
-    ++ pad (length v.extended.flags)
-    ++ numbers_of v.width (map mark_in v.extended.numbers)
-    ++ words_of (text_words 0 texts)
-    ++ words_of (name_words 0 names)
-    ++ table
+    join (extended_spelling (length (standard_strings v).table) (count_word (items_of v.extended)) v.width (unnamed v.extended) (extended_strings v)) []
 
 -- an extended part is written if there is a name
 abbrev pub canonical : EntryValue → List ℕ
-canonical v = plain_bytes v ++ (if length (part_names v.extended) == 0 then [] else extended_bytes v)
+canonical v =
+    join (standard_spelling v (standard_strings v)) (if length (part_names v.extended) == 0 then [] else extended_bytes v)

@@ -1,51 +1,35 @@
 -- Canonical bytes piece by piece: how long they are, in numbers that 64 bits hold, and single words.
 -- Only private functions of the crate cite this.
-use Rattle.std.specs.Prelude.{ℕ, ◌+◌, ◌-◌, ◌*◌, ◌^◌, ℤ, pos, negsuc, List, ◌++◌, length, map, min}
+use Rattle.std.specs.Prelude.{ℕ, ◌+◌, ◌-◌, ◌*◌, ◌^◌, ◌<◌, ℤ, pos, negsuc, List, length, min}
+use Rattle.ti_words.specs.declared.Width.{Width}
 use Rattle.ti_words.specs.Texts.{TextValue, AbsentText, CancelledText, TextOf}
-use Rattle.ti_words.specs.Value.{EntryValue}
+use Rattle.ti_words.specs.Value.{PartValue}
 use Rattle.ti_words.specs.Widths.{number_size}
-use Rattle.ti_words.specs.Spelling.{pad_len, magic, count_word, pad, mark_in, part_names}
 use Rattle.ti_draft.specs.Canonical.{texts_table, names_table, present_count}
 
 -- the number, or the greatest one of 64 bits
 abbrev pub capped_count : ℕ → ℕ
 capped_count n = min n (2 ^ 64 - 1)
 
--- the tables of the extended part, of its values and of its names
-abbrev pub extended_table_length : EntryValue → ℕ
-extended_table_length v =
-    length (texts_table (map mark_in v.extended.texts)) + length (names_table (part_names v.extended))
+-- the table of a part
+abbrev pub table_length : PartValue → List (List ℕ) → ℕ
+table_length p names = length (texts_table p.texts) + length (names_table names)
 
--- the extended part after its first pad
-abbrev pub extended_length : EntryValue → ℕ
-extended_length v =
-    10 + pad_len (length v.extended.flags)
-    + length v.extended.flags * 3
-    + length v.extended.numbers * (number_size v.width + 2)
-    + length v.extended.texts * 4
-    + extended_table_length v
+-- a part after its counts, without the pad
+abbrev pub part_length : Width → PartValue → List (List ℕ) → ℕ
+part_length w p names =
+    length p.flags + length p.numbers * number_size w + length p.texts * 2 + length names * 2 + table_length p names
+
+-- words can hold the counts of a part
+pub record AreFew (p : PartValue) (names : List (List ℕ)) : Type 0 where
+  pub flags : length p.flags < 2 ^ 15
+  pub numbers : length p.numbers < 2 ^ 15
+  pub texts : length p.texts < 2 ^ 15
+  pub items : present_count p.texts + length names < 2 ^ 15
+  pub table : table_length p names < 2 ^ 15
 
 -- the word of a text that is put at a place, or of its mark
 abbrev pub text_word : ℕ → TextValue → ℤ
 text_word place AbsentText = negsuc 0
 text_word place CancelledText = negsuc 1
 text_word place (TextOf text) = pos place
-
--- the headers of both parts
-abbrev pub plain_head : EntryValue → List ℕ
-plain_head v =
-    magic v.width
-    ++ count_word (length v.names + 1)
-    ++ count_word (length v.standard.flags)
-    ++ count_word (length v.standard.numbers)
-    ++ count_word (length v.standard.texts)
-    ++ count_word (length (texts_table v.standard.texts))
-
-abbrev pub extended_head : EntryValue → List ℕ
-extended_head v =
-    pad (length (texts_table v.standard.texts))
-    ++ count_word (length v.extended.flags)
-    ++ count_word (length v.extended.numbers)
-    ++ count_word (length v.extended.texts)
-    ++ count_word (present_count (map mark_in v.extended.texts) + length (part_names v.extended))
-    ++ count_word (length (texts_table (map mark_in v.extended.texts) ++ names_table (part_names v.extended)))

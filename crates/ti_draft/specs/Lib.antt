@@ -1,4 +1,5 @@
 pub mod Canonical
+pub mod Lists
 pub mod Lengths
 pub mod Unfit
 pub mod Sizes

@@ -3,9 +3,10 @@
 //! A draft lends its names and texts and copies none. A push takes memory as a vector does: now and then, and then for
 //! as many again as there are.
 
-ghost use Rattle.std.specs.Prelude.{◌≡◌, ◌==◌, ◌+◌, ◌++◌, ◌∷◌, [], length, map, IsOk, OnOk, OnErr};
+ghost use Rattle.std.specs.Prelude.{◌≡◌, ◌==◌, ◌+◌, ◌++◌, ◌∷◌, [], length, IsOk, OnOk, OnErr};
 ghost use Rattle.ti_words.specs.Texts.{text_value};
-ghost use Rattle.ti_words.specs.Spelling.{name_in, mark_in, part_names};
+ghost use Rattle.ti_words.specs.Spelling.{unnamed, part_names};
+ghost use Rattle.ti_draft.specs.Lists.{values_lent, names_lent};
 
 use crate::named::Named;
 use std::alloc::{AllocError, Allocator, Global};
@@ -196,75 +197,60 @@ impl<'a, A: Allocator> Draft<'a, A> {
         self.names
     }
 
-    /// The flags.
-    pub(crate) fn flags(&self) -> &[Flag]
-        ensures { result.now ≡ self.now.standard.flags }
+    /// The lists of the standard part.
+    pub(crate) fn standard(&self) -> Lists<'_, 'a>
+        ensures values { values_lent result ≡ self.now.standard }
+        ensures names { names_lent result ≡ [] }
     {
-        self.flags.as_slice()
+        Lists {
+            flags: self.flags.as_slice(),
+            numbers: self.numbers.as_slice(),
+            texts: self.texts.as_slice(),
+            flag_names: no_names(),
+            number_names: no_names(),
+            text_names: no_names(),
+        }
     }
 
-    /// The numbers.
-    pub(crate) fn numbers(&self) -> &[Number]
-        ensures { result.now ≡ self.now.standard.numbers }
+    /// The lists of the extended part.
+    pub(crate) fn extended(&self) -> Lists<'_, 'a>
+        ensures values { values_lent result ≡ unnamed self.now.extended }
+        ensures names { names_lent result ≡ part_names self.now.extended }
     {
-        self.numbers.as_slice()
+        Lists {
+            flags: self.extended_flags.marks(),
+            numbers: self.extended_numbers.marks(),
+            texts: self.extended_texts.marks(),
+            flag_names: self.extended_flags.names(),
+            number_names: self.extended_numbers.names(),
+            text_names: self.extended_texts.names(),
+        }
     }
+}
 
-    /// The texts.
-    pub(crate) fn texts(&self) -> &[Text<'a>]
-        ensures { map text_value result.now ≡ self.now.standard.texts }
-    {
-        self.texts.as_slice()
-    }
+/// The lists of a part, each lent as a slice. Capabilities of the standard part have no names.
+#[derive(Clone, Copy)]
+pub(crate) struct Lists<'d, 'a> {
+    pub(crate) flags: &'d [Flag],
+    pub(crate) numbers: &'d [Number],
+    pub(crate) texts: &'d [Text<'a>],
+    pub(crate) flag_names: &'d [&'a [u8]],
+    pub(crate) number_names: &'d [&'a [u8]],
+    pub(crate) text_names: &'d [&'a [u8]],
+}
 
-    /// The names of the extended flags.
-    pub(crate) fn flag_names(&self) -> &[&'a [u8]]
-        ensures { map (λ name. name.now) result.now ≡ map name_in self.now.extended.flags }
+impl<'d, 'a> Lists<'d, 'a> {
+    /// Whether no capability has a name.
+    pub(crate) fn is_nameless(&self) -> bool
+        ensures { result ≡ (length (names_lent self.now) == 0) }
     {
-        self.extended_flags.names()
+        self.flag_names.is_empty() && self.number_names.is_empty() && self.text_names.is_empty()
     }
+}
 
-    /// The extended flags.
-    pub(crate) fn extended_flags(&self) -> &[Flag]
-        ensures { result.now ≡ map mark_in self.now.extended.flags }
-    {
-        self.extended_flags.marks()
-    }
-
-    /// The names of the extended numbers.
-    pub(crate) fn number_names(&self) -> &[&'a [u8]]
-        ensures { map (λ name. name.now) result.now ≡ map name_in self.now.extended.numbers }
-    {
-        self.extended_numbers.names()
-    }
-
-    /// The extended numbers.
-    pub(crate) fn extended_numbers(&self) -> &[Number]
-        ensures { result.now ≡ map mark_in self.now.extended.numbers }
-    {
-        self.extended_numbers.marks()
-    }
-
-    /// The names of the extended texts.
-    pub(crate) fn text_names(&self) -> &[&'a [u8]]
-        ensures { map (λ name. name.now) result.now ≡ map name_in self.now.extended.texts }
-    {
-        self.extended_texts.names()
-    }
-
-    /// The extended texts.
-    pub(crate) fn extended_texts(&self) -> &[Text<'a>]
-        ensures { map text_value result.now ≡ map mark_in self.now.extended.texts }
-    {
-        self.extended_texts.marks()
-    }
-
-    /// Whether it has no extended capability.
-    pub(crate) fn is_plain(&self) -> bool
-        ensures { result ≡ (length (part_names self.now.extended) == 0) }
-    {
-        self.flag_names().is_empty()
-            && self.number_names().is_empty()
-            && self.text_names().is_empty()
-    }
+/// No names.
+fn no_names<'d, 'a>() -> &'d [&'a [u8]]
+    ensures { result.now ≡ [] }
+{
+    &[]
 }

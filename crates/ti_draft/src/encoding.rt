@@ -3,15 +3,17 @@
 //! There is one layout in which an entry is written, so that two drafts of equal entries give equal bytes. The faults
 //! are looked for first; then memory is taken once, for exactly the bytes, and each section is written in one pass.
 
-ghost use Rattle.std.specs.Prelude.{◌≡◌, ◌++◌, ◌≤◌, ◌⊎◌, ◌==◌, false, length, map, Some, None, Err, IfOk, IfErr, OnOk};
+ghost use Rattle.std.specs.Prelude.{◌≡◌, ◌+◌, ◌++◌, ◌≤◌, ◌⊎◌, ◌==◌, [], false, length, map, Some, None, Err, IfOk, IfErr, OnOk};
+ghost use Rattle.std.specs.List.{list_any};
 ghost use Rattle.ti_words.specs.Texts.{text_value};
-ghost use Rattle.ti_words.specs.Spelling.{Spells, words_of, part_names};
-ghost use Rattle.ti_draft.specs.Canonical.{canonical, plain_bytes, extended_bytes, names_table, name_words, present_count as the_present_count};
-ghost use Rattle.ti_draft.specs.Unfit.{encode_fault};
-ghost use Rattle.ti_draft.specs.Lengths.{plain_head, extended_head};
+ghost use Rattle.ti_words.specs.Spelling.{Spells, join, counts_spelling, part_spelling, standard_spelling, words_of, part_names};
+ghost use Rattle.ti_draft.specs.Canonical.{canonical, strings_of, standard_strings, extended_bytes, names_table, name_words, present_count as the_present_count};
+ghost use Rattle.ti_draft.specs.Unfit.{encode_fault, is_out_of_range};
+ghost use Rattle.ti_draft.specs.Lists.{values_lent, names_lent};
+ghost use Rattle.ti_draft.specs.Lengths.{AreFew};
 ghost use Rattle.ti_draft.specs.Sizes.{AreSizes};
 
-use crate::draft::Draft;
+use crate::draft::{Draft, Lists};
 use crate::put::{
     put_count, put_flags, put_name_words, put_names, put_numbers, put_pad, put_text_words,
     put_texts,
@@ -19,7 +21,7 @@ use crate::put::{
 use crate::size::{Sizes, sizes_of};
 use crate::unfit::{EncodeFault, first_fault};
 use std::alloc::{AllocError, Allocator};
-use ti_words::{Text, magic_number};
+use ti_words::{Text, Width, magic_number};
 
 /// The bytes of the entry that a draft is (term(5)).
 ///
@@ -72,50 +74,92 @@ fn canonical_bytes<A: Allocator + Copy, D: Allocator>(
     ensures { IfOk result (λ bytes. bytes.items ≡ canonical draft.now) }
 {
     let mut out = Vec::with_capacity(alloc, sizes.whole as usize)?;
-    put_plain(&mut out, draft, sizes)?;
-    if !draft.is_plain() {
+    put_standard(&mut out, draft, sizes)?;
+    if !draft.extended().is_nameless() {
         put_extended(&mut out, draft, sizes)?;
     }
     Ok(out)
 }
 
-/// The magic and the words of the header.
-fn put_plain_head<A: Allocator, D: Allocator>(
+/// The sections up to the end of the string table.
+fn put_standard<A: Allocator, D: Allocator>(
     out: &mut Vec<u8, A>,
     draft: &Draft<'_, D>,
     sizes: &Sizes,
 ) -> Result<(), AllocError>
     requires fit { encode_fault draft.now ≡ None }
     requires sizes { AreSizes sizes.now draft.now }
-    ensures { OnOk result (out.new.items ≡ out.old.items ++ plain_head draft.now) }
+    ensures { OnOk result (out.new.items
+        ≡ out.old.items ++ join (standard_spelling draft.now (standard_strings draft.now)) []) }
 {
+    let part = draft.standard();
+    let names = draft.names();
     put_count(out, magic_number(draft.width()))?;
-    put_count(out, draft.names().len() + 1)?;
-    put_count(out, draft.flags().len())?;
-    put_count(out, draft.numbers().len())?;
-    put_count(out, draft.texts().len())?;
+    put_count(out, names.len() + 1)?;
+    put_counts(out, &part)?;
     put_count(out, sizes.table as usize)?;
+    out.extend_from_slice(names)?;
+    out.push(0)?;
+    put_part(
+        out,
+        draft.width(),
+        names.len() + 1 + part.flags.len(),
+        &part,
+    )?;
     Ok(())
 }
 
-/// The sections up to the end of the string table.
-fn put_plain<A: Allocator, D: Allocator>(
+/// The extended part.
+fn put_extended<A: Allocator, D: Allocator>(
     out: &mut Vec<u8, A>,
     draft: &Draft<'_, D>,
     sizes: &Sizes,
 ) -> Result<(), AllocError>
     requires fit { encode_fault draft.now ≡ None }
     requires sizes { AreSizes sizes.now draft.now }
-    ensures { OnOk result (out.new.items ≡ out.old.items ++ plain_bytes draft.now) }
+    requires extended { (length (part_names draft.now.extended) == 0) ≡ false }
+    ensures { OnOk result (out.new.items ≡ out.old.items ++ extended_bytes draft.now) }
 {
-    put_plain_head(out, draft, sizes)?;
-    out.extend_from_slice(draft.names())?;
-    out.push(0)?;
-    put_flags(out, draft.flags())?;
-    put_pad(out, draft.names().len() + 1 + draft.flags().len())?;
-    put_numbers(out, draft.width(), draft.numbers())?;
-    put_text_words(out, draft.texts())?;
-    put_texts(out, draft.texts())?;
+    let part = draft.extended();
+    put_pad(out, sizes.table as usize)?;
+    put_counts(out, &part)?;
+    put_count(out, items_count(&part))?;
+    put_count(out, sizes.extended_table as usize)?;
+    put_part(out, draft.width(), part.flags.len(), &part)?;
+    Ok(())
+}
+
+/// The counts of a part.
+fn put_counts<A: Allocator>(out: &mut Vec<u8, A>, part: &Lists<'_, '_>) -> Result<(), AllocError>
+    requires { AreFew (values_lent part.now) (names_lent part.now) }
+    ensures { OnOk result (out.new.items
+        ≡ out.old.items ++ join (counts_spelling (values_lent part.now)) []) }
+{
+    put_count(out, part.flags.len())?;
+    put_count(out, part.numbers.len())?;
+    put_count(out, part.texts.len())?;
+    Ok(())
+}
+
+/// The sections of a part after its counts, with a pad after a count of bytes.
+fn put_part<A: Allocator>(
+    out: &mut Vec<u8, A>,
+    width: Width,
+    count: usize,
+    part: &Lists<'_, '_>,
+) -> Result<(), AllocError>
+    requires numbers { list_any (is_out_of_range width) part.now.numbers.now ≡ false }
+    requires few { AreFew (values_lent part.now) (names_lent part.now) }
+    ensures { OnOk result (out.new.items ≡ out.old.items ++ join (part_spelling width count
+        (values_lent part.now) (strings_of (values_lent part.now) (names_lent part.now))) []) }
+{
+    put_flags(out, part.flags)?;
+    put_pad(out, count)?;
+    put_numbers(out, width, part.numbers)?;
+    put_text_words(out, part.texts)?;
+    put_all_name_words(out, part)?;
+    put_texts(out, part.texts)?;
+    put_all_names(out, part)?;
     Ok(())
 }
 
@@ -133,80 +177,37 @@ fn present_count(texts: &[Text<'_>]) -> usize
     count
 }
 
-/// The pad after an odd string table, and the words of the extended header.
-fn put_extended_head<A: Allocator, D: Allocator>(
-    out: &mut Vec<u8, A>,
-    draft: &Draft<'_, D>,
-    sizes: &Sizes,
-) -> Result<(), AllocError>
-    requires fit { encode_fault draft.now ≡ None }
-    requires sizes { AreSizes sizes.now draft.now }
-    requires extended { (length (part_names draft.now.extended) == 0) ≡ false }
-    ensures { OnOk result (out.new.items ≡ out.old.items ++ extended_head draft.now) }
+/// What the word items of an extended header counts: the texts that are there, and the names.
+fn items_count(part: &Lists<'_, '_>) -> usize
+    requires { AreFew (values_lent part.now) (names_lent part.now) }
+    ensures { result
+        ≡ the_present_count (values_lent part.now).texts + length (names_lent part.now) }
 {
-    let flags = draft.extended_flags().len();
-    let numbers = draft.extended_numbers().len();
-    let texts = draft.extended_texts().len();
-    put_pad(out, sizes.table as usize)?;
-    put_count(out, flags)?;
-    put_count(out, numbers)?;
-    put_count(out, texts)?;
-    put_count(
-        out,
-        present_count(draft.extended_texts()) + flags + numbers + texts,
-    )?;
-    put_count(out, sizes.extended_table as usize)?;
-    Ok(())
+    let names = part.flag_names.len() + part.number_names.len() + part.text_names.len();
+    present_count(part.texts) + names
 }
 
-/// Where the names of the extended part are put, counted from the end of its values.
-fn put_all_name_words<A: Allocator, D: Allocator>(
+/// Where the names of a part are put, counted from the end of its texts.
+fn put_all_name_words<A: Allocator>(
     out: &mut Vec<u8, A>,
-    draft: &Draft<'_, D>,
+    part: &Lists<'_, '_>,
 ) -> Result<(), AllocError>
-    requires fit { encode_fault draft.now ≡ None }
-    requires extended { (length (part_names draft.now.extended) == 0) ≡ false }
+    requires { AreFew (values_lent part.now) (names_lent part.now) }
     ensures { OnOk result
-        (out.new.items ≡ out.old.items ++ words_of (name_words 0 (part_names draft.now.extended))) }
+        (out.new.items ≡ out.old.items ++ words_of (name_words 0 (names_lent part.now))) }
 {
-    let after_flags = put_name_words(out, 0, draft.flag_names())?;
-    let after_numbers = put_name_words(out, after_flags, draft.number_names())?;
-    put_name_words(out, after_numbers, draft.text_names())?;
+    let after_flags = put_name_words(out, 0, part.flag_names)?;
+    let after_numbers = put_name_words(out, after_flags, part.number_names)?;
+    put_name_words(out, after_numbers, part.text_names)?;
     Ok(())
 }
 
-/// The names of the extended part, of flags, then numbers, then texts.
-fn put_all_names<A: Allocator, D: Allocator>(
-    out: &mut Vec<u8, A>,
-    draft: &Draft<'_, D>,
-) -> Result<(), AllocError>
-    ensures { OnOk result
-        (out.new.items ≡ out.old.items ++ names_table (part_names draft.now.extended)) }
+/// The names of a part, of flags, then numbers, then texts.
+fn put_all_names<A: Allocator>(out: &mut Vec<u8, A>, part: &Lists<'_, '_>) -> Result<(), AllocError>
+    ensures { OnOk result (out.new.items ≡ out.old.items ++ names_table (names_lent part.now)) }
 {
-    put_names(out, draft.flag_names())?;
-    put_names(out, draft.number_names())?;
-    put_names(out, draft.text_names())?;
-    Ok(())
-}
-
-/// The extended part.
-fn put_extended<A: Allocator, D: Allocator>(
-    out: &mut Vec<u8, A>,
-    draft: &Draft<'_, D>,
-    sizes: &Sizes,
-) -> Result<(), AllocError>
-    requires fit { encode_fault draft.now ≡ None }
-    requires sizes { AreSizes sizes.now draft.now }
-    requires extended { (length (part_names draft.now.extended) == 0) ≡ false }
-    ensures { OnOk result (out.new.items ≡ out.old.items ++ extended_bytes draft.now) }
-{
-    put_extended_head(out, draft, sizes)?;
-    put_flags(out, draft.extended_flags())?;
-    put_pad(out, draft.extended_flags().len())?;
-    put_numbers(out, draft.width(), draft.extended_numbers())?;
-    put_text_words(out, draft.extended_texts())?;
-    put_all_name_words(out, draft)?;
-    put_texts(out, draft.extended_texts())?;
-    put_all_names(out, draft)?;
+    put_names(out, part.flag_names)?;
+    put_names(out, part.number_names)?;
+    put_names(out, part.text_names)?;
     Ok(())
 }

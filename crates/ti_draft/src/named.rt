@@ -5,6 +5,7 @@
 
 ghost use Rattle.std.specs.Prelude.{◌≡◌, ◌++◌, ◌∷◌, [], map, IsOk, OnOk, OnErr};
 ghost use Rattle.ti_words.specs.Spelling.{name_in, mark_in};
+ghost use Rattle.ti_draft.specs.Lists.{lent};
 
 use std::alloc::{AllocError, Allocator};
 use std::marker::Model;
@@ -69,7 +70,7 @@ impl<'a, T, A: Allocator> Named<'a, T, A> {
 
     /// The names.
     pub(crate) fn names(&self) -> &[&'a [u8]]
-        ensures { map (λ name. name.now) result.now ≡ map name_in self.now }
+        ensures { lent result.now ≡ map name_in self.now }
     {
         self.names.as_slice()
     }

@@ -12,6 +12,7 @@ ghost use Rattle.ti_words.specs.Widths.{number_size};
 ghost use Rattle.ti_words.specs.Spelling.{count_word, words_of, numbers_of, flags_of, pad};
 ghost use Rattle.ti_draft.specs.Canonical.{text_bytes, texts_table, text_words, names_table, name_words};
 ghost use Rattle.ti_draft.specs.Unfit.{is_out_of_range};
+ghost use Rattle.ti_draft.specs.Lists.{lent};
 ghost use Rattle.ti_draft.specs.Lengths.{text_word};
 
 use byteorder::{ByteOrder, LittleEndian};
@@ -172,11 +173,11 @@ pub(crate) fn put_name_words<A: Allocator>(
     from: usize,
     names: &[&[u8]],
 ) -> Result<usize, AllocError>
-    requires { from + length (names_table (map (λ name. name.now) names.now)) ≤ 2 ^ 15 }
+    requires { from + length (names_table (lent names.now)) ≤ 2 ^ 15 }
     ensures words { OnOk result (out.new.items
-        ≡ out.old.items ++ words_of (name_words from (map (λ name. name.now) names.now))) }
+        ≡ out.old.items ++ words_of (name_words from (lent names.now))) }
     ensures end { IfOk result
-        (λ end. end ≡ from + length (names_table (map (λ name. name.now) names.now))) }
+        (λ end. end ≡ from + length (names_table (lent names.now))) }
 {
     let mut place = from;
     for name in names {
@@ -192,7 +193,7 @@ pub(crate) fn put_names<A: Allocator>(
     names: &[&[u8]],
 ) -> Result<(), AllocError>
     ensures { OnOk result
-        (out.new.items ≡ out.old.items ++ names_table (map (λ name. name.now) names.now)) }
+        (out.new.items ≡ out.old.items ++ names_table (lent names.now)) }
 {
     for name in names {
         out.extend_from_slice(name)?;

@@ -3,15 +3,17 @@
 //! Each list is gone over once, and no memory is taken. Sums that 64 bits cannot hold stay at the greatest
 //! number.
 
-ghost use Rattle.std.specs.Prelude.{◌≡◌, ◌+◌, ◌*◌, ◌%◌, length, map, min};
+ghost use Rattle.std.specs.Prelude.{◌≡◌, ◌+◌, ◌*◌, ◌%◌, ◌≤◌, [], length, map, min};
 ghost use Rattle.ti_words.specs.Texts.{text_value};
-ghost use Rattle.ti_words.specs.Spelling.{pad_len as the_pad_len};
-ghost use Rattle.ti_draft.specs.Canonical.{canonical, text_bytes, texts_table, names_table, plain_bytes};
-ghost use Rattle.ti_draft.specs.Lengths.{capped_count, extended_table_length, extended_length};
+ghost use Rattle.ti_words.specs.Spelling.{pad_len as the_pad_len, join, standard_spelling};
+ghost use Rattle.ti_draft.specs.Canonical.{canonical, text_bytes, texts_table, names_table, standard_strings, extended_strings};
+ghost use Rattle.ti_draft.specs.Lists.{lent, values_lent, names_lent};
+ghost use Rattle.ti_draft.specs.Lengths.{capped_count, table_length, part_length};
+ghost use Rattle.ti_draft.specs.Sizes.{AreSizes};
 
-use crate::draft::Draft;
+use crate::draft::{Draft, Lists};
 use std::alloc::Allocator;
-use ti_words::{Text, number_size};
+use ti_words::{Text, Width, number_size};
 
 /// The bytes after this count.
 fn pad_len(count: usize) -> u64
@@ -43,7 +45,7 @@ pub(crate) fn texts_len(texts: &[Text<'_>]) -> u64
 
 /// The bytes of names, each with its NUL.
 fn names_len(names: &[&[u8]]) -> u64
-    ensures { result ≡ capped_count (length (names_table (map (λ name. name.now) names.now))) }
+    ensures { result ≡ capped_count (length (names_table (lent names.now))) }
 {
     let mut total = 0u64;
     for name in names {
@@ -59,43 +61,31 @@ fn items_len(count: usize, size: usize) -> u64
     (count as u64).saturating_mul(size as u64)
 }
 
-/// The bytes up to the end of a string table of this size.
-fn plain_len<A: Allocator>(draft: &Draft<'_, A>, table: u64) -> u64
-    requires { table ≡ capped_count (length (texts_table draft.now.standard.texts)) }
-    ensures { result ≡ capped_count (length (plain_bytes draft.now)) }
+/// The bytes of the table of a part.
+fn table_len(part: &Lists<'_, '_>) -> u64
+    ensures { result
+        ≡ capped_count (table_length (values_lent part.now) (names_lent part.now)) }
 {
-    let names = draft.names().len();
-    let flags = draft.flags().len();
-    (13 + (names as u64 % 2 + flags as u64 % 2 + 1) % 2)
-        .saturating_add(names as u64)
-        .saturating_add(flags as u64)
-        .saturating_add(items_len(draft.numbers().len(), number_size(draft.width())))
-        .saturating_add(items_len(draft.texts().len(), 2))
-        .saturating_add(table)
+    texts_len(part.texts)
+        .saturating_add(names_len(part.flag_names))
+        .saturating_add(names_len(part.number_names))
+        .saturating_add(names_len(part.text_names))
 }
 
-/// The bytes of the tables of the extended part, of its values and of its names.
-fn extended_table_len<A: Allocator>(draft: &Draft<'_, A>) -> u64
-    ensures { result ≡ capped_count (extended_table_length draft.now) }
+/// The bytes of a part after its counts, with a pad of this length and a table of this size.
+fn part_len(width: Width, pad: u64, part: &Lists<'_, '_>, table: u64) -> u64
+    requires pad { pad ≤ 1 }
+    requires table { table
+        ≡ capped_count (table_length (values_lent part.now) (names_lent part.now)) }
+    ensures { result
+        ≡ capped_count (pad + part_length width (values_lent part.now) (names_lent part.now)) }
 {
-    texts_len(draft.extended_texts())
-        .saturating_add(names_len(draft.flag_names()))
-        .saturating_add(names_len(draft.number_names()))
-        .saturating_add(names_len(draft.text_names()))
-}
-
-/// The bytes of the extended part after its first pad, with a table of this size.
-fn extended_len<A: Allocator>(draft: &Draft<'_, A>, table: u64) -> u64
-    requires { table ≡ capped_count (extended_table_length draft.now) }
-    ensures { result ≡ capped_count (extended_length draft.now) }
-{
-    let flags = draft.extended_flags().len();
-    let numbers = draft.extended_numbers().len();
-    let texts = draft.extended_texts().len();
-    (10 + pad_len(flags))
-        .saturating_add(items_len(flags, 3))
-        .saturating_add(items_len(numbers, number_size(draft.width()) + 2))
-        .saturating_add(items_len(texts, 4))
+    pad.saturating_add(part.flags.len() as u64)
+        .saturating_add(items_len(part.numbers.len(), number_size(width)))
+        .saturating_add(items_len(part.texts.len(), 2))
+        .saturating_add(items_len(part.flag_names.len(), 2))
+        .saturating_add(items_len(part.number_names.len(), 2))
+        .saturating_add(items_len(part.text_names.len(), 2))
         .saturating_add(table)
 }
 
@@ -112,13 +102,10 @@ pub(crate) struct Sizes {
 
 /// The sizes of a draft, for which each of its lists is gone over once.
 pub(crate) fn sizes_of<A: Allocator>(draft: &Draft<'_, A>) -> Sizes
-    ensures table { result.table ≡ capped_count (length (texts_table draft.now.standard.texts)) }
-    ensures extended_table { result.extended_table
-        ≡ capped_count (extended_table_length draft.now) }
-    ensures whole { result.whole ≡ capped_count (length (canonical draft.now)) }
+    ensures { AreSizes result draft.now }
 {
-    let table = texts_len(draft.texts());
-    let extended_table = extended_table_len(draft);
+    let table = table_len(&draft.standard());
+    let extended_table = table_len(&draft.extended());
     Sizes {
         table,
         extended_table,
@@ -126,19 +113,37 @@ pub(crate) fn sizes_of<A: Allocator>(draft: &Draft<'_, A>) -> Sizes
     }
 }
 
+/// The bytes up to the end of a string table of this size.
+fn standard_len<A: Allocator>(draft: &Draft<'_, A>, table: u64) -> u64
+    requires { table ≡ capped_count (length (standard_strings draft.now).table) }
+    ensures { result
+        ≡ capped_count (length (join (standard_spelling draft.now (standard_strings draft.now)) [])) }
+{
+    let part = draft.standard();
+    let names = draft.names().len() as u64;
+    let odd = (names % 2 + part.flags.len() as u64 % 2 + 1) % 2;
+    part_len(draft.width(), odd, &part, table)
+        .saturating_add(names)
+        .saturating_add(13)
+}
+
 /// All bytes, if the tables have these sizes.
 fn whole_len<A: Allocator>(draft: &Draft<'_, A>, table: u64, extended_table: u64) -> u64
-    requires table { table ≡ capped_count (length (texts_table draft.now.standard.texts)) }
-    requires extended_table { extended_table ≡ capped_count (extended_table_length draft.now) }
+    requires table { table ≡ capped_count (length (standard_strings draft.now).table) }
+    requires extended_table { extended_table
+        ≡ capped_count (length (extended_strings draft.now).table) }
     ensures { result ≡ capped_count (length (canonical draft.now)) }
 {
-    let plain = plain_len(draft, table);
-    if draft.is_plain() {
-        return plain;
+    let standard = standard_len(draft, table);
+    let part = draft.extended();
+    if part.is_nameless() {
+        return standard;
     }
-    plain
+    let pad = pad_len(part.flags.len());
+    standard
         .saturating_add(table % 2)
-        .saturating_add(extended_len(draft, extended_table))
+        .saturating_add(10)
+        .saturating_add(part_len(draft.width(), pad, &part, extended_table))
 }
 
 /// The count of bytes that [`encode`](crate::encode) writes, or would write were there no limit; at most [`u64::MAX`].

@@ -7,6 +7,7 @@ ghost use Rattle.std.specs.Prelude.{◌≡◌, pos, map, length};
 ghost use Rattle.std.specs.List.{list_any};
 ghost use Rattle.ti_words.specs.Texts.{text_value};
 ghost use Rattle.ti_draft.specs.Canonical.{canonical};
+ghost use Rattle.ti_draft.specs.Lists.{lent};
 ghost use Rattle.ti_draft.specs.Lengths.{capped_count};
 ghost use Rattle.ti_draft.specs.Unfit.{has_nul as the_has_nul, text_has_nul as the_text_has_nul, greatest_number as the_greatest_number, is_out_of_range as the_is_out_of_range, has_bad_name as the_has_bad_name, has_bad_text as the_has_bad_text, has_bad_number as the_has_bad_number, encode_fault};
 
@@ -81,7 +82,7 @@ fn has_nul(bytes: &[u8]) -> bool
 
 /// Whether a name holds a NUL.
 fn any_has_nul(names: &[&[u8]]) -> bool
-    ensures { result ≡ list_any the_has_nul (map (λ name. name.now) names.now) }
+    ensures { result ≡ list_any the_has_nul (lent names.now) }
 {
     for name in names {
         if has_nul(name) {
@@ -149,26 +150,27 @@ fn any_out_of_range(width: Width, numbers: &[Number]) -> bool
 fn has_bad_name<A: Allocator>(draft: &Draft<'_, A>) -> bool
     ensures { result ≡ the_has_bad_name draft.now }
 {
+    let part = draft.extended();
     draft.names().is_empty()
         || has_nul(draft.names())
-        || any_has_nul(draft.flag_names())
-        || any_has_nul(draft.number_names())
-        || any_has_nul(draft.text_names())
+        || any_has_nul(part.flag_names)
+        || any_has_nul(part.number_names)
+        || any_has_nul(part.text_names)
 }
 
 /// A text holds a NUL.
 fn has_bad_text<A: Allocator>(draft: &Draft<'_, A>) -> bool
     ensures { result ≡ the_has_bad_text draft.now }
 {
-    any_text_has_nul(draft.texts()) || any_text_has_nul(draft.extended_texts())
+    any_text_has_nul(draft.standard().texts) || any_text_has_nul(draft.extended().texts)
 }
 
 /// A number is negative, or too great for the format.
 fn has_bad_number<A: Allocator>(draft: &Draft<'_, A>) -> bool
     ensures { result ≡ the_has_bad_number draft.now }
 {
-    any_out_of_range(draft.width(), draft.numbers())
-        || any_out_of_range(draft.width(), draft.extended_numbers())
+    any_out_of_range(draft.width(), draft.standard().numbers)
+        || any_out_of_range(draft.width(), draft.extended().numbers)
 }
 
 /// The first fault that a draft of this size has.

@@ -1,5 +1,6 @@
 -- The definitions at known bytes: what they spell, why they are refused, how their entries are written.
-use Rattle.std.proofs.Common.{◌≡◌, ℕ, pos, negsuc, List, [], ◌∷◌, ◌++◌, map, take, drop, replicate, slice_set, Some, None, refl, inl, inr, arith}
+use Rattle.ti_words.specs.declared.Width.{Width}
+use Rattle.std.proofs.Common.{◌≡◌, ℕ, pos, negsuc, List, [], ◌∷◌, ◌++◌, map, take, drop, replicate, slice_set, Some, None, refl, inl, inr, arith, ℤ}
 use Rattle.ti_words.specs.declared.Flag.TheVariants as flags
 use Rattle.ti_words.specs.declared.Number.TheVariants as numbers
 use Rattle.ti_words.specs.declared.Width.TheVariants.{Legacy, Wide}
@@ -10,7 +11,7 @@ use Rattle.ti_layout.specs.Layout.{places}
 use Rattle.ti_layout.specs.Checks.{refusal_at}
 use Rattle.ti_layout.specs.Refusal.{refusal}
 use Rattle.ti_entry.specs.Content.{content}
-use Rattle.ti_words.specs.Spelling.{Spells}
+use Rattle.ti_words.specs.Spelling.{Spells, Strings, FitsWidth, SpellsPart}
 use Rattle.ti_draft.specs.Canonical.{canonical}
 
 -- ---- bytes
@@ -124,36 +125,49 @@ wide_extended_entry = record wide_entry { extended = record no_named { numbers =
 
 -- ---- what the bytes spell
 
+-- the bell as the only text of the table
+abbrev bell : List ℤ → Strings
+bell offsets = record { offsets = offsets; name_offsets = []; table = 0x07 ∷ 0x00 ∷ [] }
+
+some_standard : (w : Width) → FitsWidth w (numbers.Value (pos 80)) → SpellsPart w (bell (negsuc 0 ∷ pos 0 ∷ [])) small_entry.standard []
+some_standard w fits = record {
+  few_flags = omega arith;
+  few_numbers = omega arith;
+  few_texts = omega arith;
+  small_table = omega arith;
+  numbers_fit = (fits, tt);
+  texts_there = (refl, ((0, refl, (omega arith, tt), record { found = refl }), tt));
+  names_there = tt;
+}
+
 small_spells : Spells small small_entry
 small_spells = record {
   fits = omega arith;
-  table = 0x07 ∷ 0x00 ∷ [];
+  strings = bell (negsuc 0 ∷ pos 0 ∷ []);
   rest = [];
-  sections = record {
-    offsets = negsuc 0 ∷ pos 0 ∷ [];
-    joined = refl;
-    counts = (omega arith, (omega arith, (omega arith, (omega arith, (omega arith, tt)))));
-    named = omega arith;
-    names_fit = (omega arith, tt);
-    numbers_fit = (omega arith, tt);
-    texts_there = (refl, ((0, refl, (omega arith, tt), record { found = refl }), tt));
-  };
+  standard = record { joined = refl; named = omega arith; few_names = omega arith; names_fit = (omega arith, tt); part = some_standard Legacy (omega arith) };
   extended = inl (record { ends = refl; none = refl });
 }
 
 shared_spells : Spells shared shared_entry
 shared_spells = record {
   fits = omega arith;
-  table = 0x07 ∷ 0x00 ∷ [];
+  strings = bell (pos 0 ∷ pos 0 ∷ []);
   rest = [];
-  sections = record {
-    offsets = pos 0 ∷ pos 0 ∷ [];
+  standard = record {
     joined = refl;
-    counts = (omega arith, (omega arith, (omega arith, (omega arith, (omega arith, tt)))));
     named = omega arith;
+    few_names = omega arith;
     names_fit = (omega arith, tt);
-    numbers_fit = tt;
-    texts_there = ((0, refl, (omega arith, tt), record { found = refl }), ((0, refl, (omega arith, tt), record { found = refl }), tt));
+    part = record {
+      few_flags = omega arith;
+      few_numbers = omega arith;
+      few_texts = omega arith;
+      small_table = omega arith;
+      numbers_fit = tt;
+      texts_there = ((0, refl, (omega arith, tt), record { found = refl }), ((0, refl, (omega arith, tt), record { found = refl }), tt));
+      names_there = tt;
+    };
   };
   extended = inl (record { ends = refl; none = refl });
 }
@@ -161,17 +175,9 @@ shared_spells = record {
 wide_spells : Spells wide wide_entry
 wide_spells = record {
   fits = omega arith;
-  table = 0x07 ∷ 0x00 ∷ [];
+  strings = bell (negsuc 0 ∷ pos 0 ∷ []);
   rest = [];
-  sections = record {
-    offsets = negsuc 0 ∷ pos 0 ∷ [];
-    joined = refl;
-    counts = (omega arith, (omega arith, (omega arith, (omega arith, (omega arith, tt)))));
-    named = omega arith;
-    names_fit = (omega arith, tt);
-    numbers_fit = (omega arith, tt);
-    texts_there = (refl, ((0, refl, (omega arith, tt), record { found = refl }), tt));
-  };
+  standard = record { joined = refl; named = omega arith; few_names = omega arith; names_fit = (omega arith, tt); part = some_standard Wide (omega arith) };
   extended = inl (record { ends = refl; none = refl });
 }
 
@@ -182,28 +188,23 @@ with_items low high = slice_set (slice_set extended 30 low) 31 high
 extended_spells : (low high : ℕ) → Spells (with_items low high) extended_entry
 extended_spells low high = record {
   fits = omega arith;
-  table = 0x07 ∷ 0x00 ∷ [];
+  strings = bell (negsuc 0 ∷ pos 0 ∷ []);
   rest = drop 24 (with_items low high);
-  sections = record {
-    offsets = negsuc 0 ∷ pos 0 ∷ [];
-    joined = refl;
-    counts = (omega arith, (omega arith, (omega arith, (omega arith, (omega arith, tt)))));
-    named = omega arith;
-    names_fit = (omega arith, tt);
-    numbers_fit = (omega arith, tt);
-    texts_there = (refl, ((0, refl, (omega arith, tt), record { found = refl }), tt));
-  };
+  standard = record { joined = refl; named = omega arith; few_names = omega arith; names_fit = (omega arith, tt); part = some_standard Legacy (omega arith) };
   extended = inr (record {
-    values = pos 0 ∷ [];
-    names = pos 0 ∷ pos 3 ∷ [];
     items = low ∷ high ∷ [];
-    table = drop 18 extension;
+    strings = record { offsets = pos 0 ∷ []; name_offsets = pos 0 ∷ pos 3 ∷ []; table = drop 18 extension };
     joined = refl;
-    counts = (omega arith, (omega arith, (omega arith, (omega arith, tt))));
     items_size = refl;
-    numbers_fit = tt;
-    texts_there = ((0, refl, (omega arith, (omega arith, (omega arith, (omega arith, tt)))), record { found = refl }), tt);
-    names_there = ((0, refl, (omega arith, (omega arith, tt)), record { found = refl }), ((3, refl, (omega arith, (omega arith, tt)), record { found = refl }), tt));
+    part = record {
+      few_flags = omega arith;
+      few_numbers = omega arith;
+      few_texts = omega arith;
+      small_table = omega arith;
+      numbers_fit = tt;
+      texts_there = ((0, refl, (omega arith, (omega arith, (omega arith, (omega arith, tt)))), record { found = refl }), tt);
+      names_there = ((0, refl, (omega arith, (omega arith, tt)), record { found = refl }), ((3, refl, (omega arith, (omega arith, tt)), record { found = refl }), tt));
+    };
   });
 }
 

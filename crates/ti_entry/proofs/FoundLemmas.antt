@@ -12,7 +12,7 @@ use Rattle.ti_layout.specs.declared.part.Part.{Part}
 use Rattle.ti_words.specs.Word.{unsigned_at}
 use Rattle.ti_layout.specs.Layout.{standard, places, flags_end, numbers_from, offsets_from, end_of}
 use Rattle.ti_words.specs.Widths.{magic_number, number_size}
-use Rattle.ti_words.specs.Spelling.{pad_len, HasSections, magic, count_word, words_of, numbers_of, flags_of, pad}
+use Rattle.ti_words.specs.Spelling.{pad_len, HasStandardPart, magic, count_word, join, part_spelling}
 use Rattle.ti_words.specs.Texts.{is_nul}
 use Rattle.ti_layout.specs.Table.{table_of}
 use Rattle.ti_layout.specs.Checks.{verdict, sign_check, sign_checks, name_check, nul_check, offset_checks, ending_check, table_check}
@@ -21,13 +21,15 @@ use Rattle.ti_layout.specs.declared.section.Half.TheVariants.{Standard}
 use Rattle.ti_layout.specs.declared.section.Section.TheVariants.{Magic, Header}
 use Rattle.ti_layout.specs.Refusal.{magic_check, size_check, named_check, size_checks, standard_sections}
 use Rattle.ti_layout.proofs.EndsLemmas.{SectionPasses}
-use Rattle.ti_entry.specs.Content.{flag_at, number_at, text_at, content_with}
+use Rattle.ti_entry.specs.Content.{content_with}
 use Rattle.ti_layout.proofs.PlacesLemmas.{length_places}
 use Rattle.ti_layout.proofs.PassesLemmas.{first_passes}
 use Rattle.ti_layout.proofs.WordLemmas.{IsBytes, bytes_again, one_byte}
 use Rattle.ti_layout.proofs.NamePlaceChecksLemmas.{table_length}
-use Rattle.ti_entry.proofs.KindsFoundLemmas.{IsCount, count_is, numbers_fit, texts_are}
-use Rattle.ti_entry.proofs.PartLemmas.{part_passes, front_after, part_joined, offset_words}
+use Rattle.ti_entry.proofs.KindsFoundLemmas.{IsCount, count_is}
+use Rattle.ti_entry.proofs.NamedItemsLemmas.{part_counts}
+use Rattle.ti_draft.proofs.JoinLemmas.{join_then}
+use Rattle.ti_entry.proofs.PartLemmas.{part_passes, front_after, strings_in, part_joined, part_found}
 use Rattle.ti_layout.proofs.SectionReadLemmas.{both_pass, each_passed, no_nuls}
 
 -- the width of a magic number
@@ -103,7 +105,7 @@ pub record HasPlain (bytes : List ℕ) : Type 0 where
   pub fits : end_of (standard bytes) ≤ most_entry_bytes
   pub there : end_of (standard bytes) ≤ length bytes
   pub table_size : length (table_of bytes (standard bytes)) ≡ (standard bytes).table
-  pub sections : (x : Part) → HasSections (content_with bytes (standard bytes) x) (table_of bytes (standard bytes)) (drop (end_of (standard bytes)) bytes) bytes
+  pub sections : (x : Part) → HasStandardPart (content_with bytes (standard bytes) x) (strings_in bytes (standard bytes)) (drop (end_of (standard bytes)) bytes) bytes
 
 pub sections_found : (bytes : List ℕ) → IsBytes bytes → AllByRecursion (SectionPasses bytes) standard_sections → HasPlain bytes
 sections_found bytes fits h =
@@ -119,46 +121,45 @@ sections_found bytes fits h =
     let there : end_of s ≤ len = at_end.long in
     let f = front_is bytes fits h.0 h.1.0 in
     let v = content_with bytes s s in
-    let table = table_of bytes s in
+    let counts = part_counts bytes s in
+    let strings = strings_in bytes s in
     let rest = drop (end_of s) bytes in
-    let table_len : length table ≡ s.table = table_length bytes s there in
+    let table_len : length strings.table ≡ s.table = table_length bytes s there in
     let limit = f.fits in
     let some = f.named in
     let names_len : length v.names + 1 ≡ size = names_length bytes size (omega arith) (omega arith) in
-    let flags_len : length v.standard.flags ≡ s.flags = length_places (flag_at bytes) s.flags_from 1 s.flags in
-    let numbers_len : length v.standard.numbers ≡ s.numbers = length_places (number_at (number_size w) bytes) (numbers_from s) (number_size w) s.numbers in
-    let texts_len : length v.standard.texts ≡ s.texts = length_places (text_at table bytes) (offsets_from s) 2 s.texts in
+    let flags_len = counts.of_flags in
     let x0 = magic w in
     let x1 = x0 ++ count_word (length v.names + 1) in
     let x2 = x1 ++ count_word (length v.standard.flags) in
     let x3 = x2 ++ count_word (length v.standard.numbers) in
     let x4 = x3 ++ count_word (length v.standard.texts) in
-    let x5 = x4 ++ count_word (length table) in
-    let x6 = x5 ++ (v.names ++ 0 ∷ []) in
+    let x5 = x4 ++ count_word (length strings.table) in
     let m = length v.names + 1 + length v.standard.flags in
-    let x10 = x6 ++ flags_of v.standard.flags ++ pad m ++ numbers_of w v.standard.numbers ++ words_of (offset_words bytes s) in
+    let part = part_spelling w m v.standard strings in
     let t1 : take 4 bytes ≡ x1 = front_after bytes 0 2 2 2 x0 (count_word (length v.names + 1)) refl f.starts (f.names.bytes_are ∙ ap count_word (sym names_len)) in
-    let t2 : take 6 bytes ≡ x2 = front_after bytes 0 4 4 2 x1 (count_word (length v.standard.flags)) refl t1 (f.flags.bytes_are ∙ ap count_word (sym flags_len)) in
-    let t3 : take 8 bytes ≡ x3 = front_after bytes 0 6 6 2 x2 (count_word (length v.standard.numbers)) refl t2 (f.numbers.bytes_are ∙ ap count_word (sym numbers_len)) in
-    let t4 : take 10 bytes ≡ x4 = front_after bytes 0 8 8 2 x3 (count_word (length v.standard.texts)) refl t3 (f.texts.bytes_are ∙ ap count_word (sym texts_len)) in
-    let t5 : take 12 bytes ≡ x5 = front_after bytes 0 10 10 2 x4 (count_word (length table)) refl t4 (f.table.bytes_are ∙ ap count_word (sym table_len)) in
-    let t6 : take (12 + size) bytes ≡ x6 = front_after bytes 0 12 12 size x5 (v.names ++ 0 ∷ []) refl t5 (names_are bytes size (omega arith) (omega arith) named.holds) in
+    let t2 : take 6 bytes ≡ x2 = front_after bytes 0 4 4 2 x1 (count_word (length v.standard.flags)) refl t1 (f.flags.bytes_are ∙ ap count_word (sym counts.of_flags)) in
+    let t3 : take 8 bytes ≡ x3 = front_after bytes 0 6 6 2 x2 (count_word (length v.standard.numbers)) refl t2 (f.numbers.bytes_are ∙ ap count_word (sym counts.of_numbers)) in
+    let t4 : take 10 bytes ≡ x4 = front_after bytes 0 8 8 2 x3 (count_word (length v.standard.texts)) refl t3 (f.texts.bytes_are ∙ ap count_word (sym counts.of_texts)) in
+    let t5 : take 12 bytes ≡ x5 = front_after bytes 0 10 10 2 x4 (count_word (length strings.table)) refl t4 (f.table.bytes_are ∙ ap count_word (sym table_len)) in
     let even : flags_end s % 2 ≡ pad_len m = omega arith in
-    let t11 : take (end_of s - 0) bytes ≡ x10 ++ [] ++ table = part_joined bytes x6 0 (12 + size) m s fits p there (omega arith) even t6 in
-    let all : end_of s ≡ end_of s - 0 = omega arith in
-    let joined : bytes ≡ x10 ++ table ++ rest =
-    sym (take-append-drop (end_of s) bytes) ∙ ap (λ t. t ++ rest) (ap (λ k. take k bytes) all ∙ t11 ∙ ap (λ t. t ++ table) (append-nil x10)) in
+    let t7 = part_joined bytes m s fits p there even in
+    let t6 = front_after bytes 12 size s.flags_from (end_of s - s.flags_from) (v.names ++ 0 ∷ []) (join part []) refl (names_are bytes size (omega arith) (omega arith) named.holds) t7 in
+    let front : take (12 + (size + (end_of s - s.flags_from))) bytes ≡ x5 ++ ((v.names ++ 0 ∷ []) ++ join part []) =
+    front_after bytes 0 12 12 (size + (end_of s - s.flags_from)) x5 ((v.names ++ 0 ∷ []) ++ join part []) refl t5 t6 in
+    let all : end_of s ≡ 12 + (size + (end_of s - s.flags_from)) = omega arith in
+    let joined : bytes ≡ x5 ++ ((v.names ++ 0 ∷ []) ++ join part rest) =
+    sym (take-append-drop (end_of s) bytes) ∙ ap (λ t. t ++ rest) (ap (λ k. take k bytes) all ∙ front)
+    ∙ sym (join_then (x5 ∷ (v.names ++ 0 ∷ []) ∷ part) rest) in
     record {
       fits = limit;
       there = there;
       table_size = table_len;
       sections = λ x. record {
-        offsets = offset_words bytes s;
         joined = joined;
-        counts = (rw names_len f.names.small, (rw flags_len f.flags.small, (rw numbers_len f.numbers.small, (rw texts_len f.texts.small, (rw table_len f.table.small, tt)))));
         named = omega arith;
+        few_names = rw names_len f.names.small;
         names_fit = no_nuls bytes 12 (s.flags_from - 1 - 12) (omega arith) (λ i lt. (each_name i (omega arith)).holds);
-        numbers_fit = numbers_fit w bytes (numbers_from s) s.numbers fits;
-        texts_there = texts_are bytes table (end_of s) (offsets_from s) s.texts (p.offsets ∙ ap (λ n. verdict len (offset_checks bytes n (offsets_from s) s.texts)) (sym table_len)) p.endings;
+        part = part_found bytes s fits p there record { flags = f.flags.small; numbers = f.numbers.small; texts = f.texts.small; table = f.table.small };
       };
     }

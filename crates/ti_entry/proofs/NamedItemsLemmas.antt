@@ -95,11 +95,12 @@ same_size table bytes p = of_word (word_at 2 bytes p)
     of_word (negsuc zero) = refl
     of_word (negsuc (suc n)) = refl
 
-sizes_in : (name : ℕ → List ℕ) (table bytes : List ℕ) (from place count : ℕ) → texts_size (zip (map name (places from 2 count)) (map (text_at table bytes) (places place 2 count))) ≡ sizes_at bytes table (places place 2 count)
-sizes_in name table bytes from place zero = refl
-sizes_in name table bytes from place (suc count) =
-    ap (λ n. n + texts_size (zip (map name (places (from + 2) 2 count)) (map (text_at table bytes) (places (place + 2) 2 count)))) (same_size table bytes place)
-    ∙ ap (λ n. size_at table (word_at 2 bytes place) + n) (sizes_in name table bytes (from + 2) (place + 2) count)
+sizes_in : (table bytes : List ℕ) (place count : ℕ) → texts_size (map (text_at table bytes) (places place 2 count)) ≡ sizes_at bytes table (places place 2 count)
+sizes_in table bytes place zero = refl
+sizes_in table bytes place (suc count) =
+    ap (λ n. n + texts_size (map (text_at table bytes) (places (place + 2) 2 count))) (same_size table bytes place)
+    ∙ ap (λ n. size_at table (word_at 2 bytes place) + n) (sizes_in table bytes (place + 2) count)
 
-pub sizes_are_base : (bytes : List ℕ) (x : Part) (base : ℕ) → texts_size (named_part_in bytes x base).texts ≡ base_of bytes x
-sizes_are_base bytes x base = sizes_in (name_from bytes x base) (table_of bytes x) bytes (names_from x + 2 * (x.flags + x.numbers)) (offsets_from x) x.texts
+-- the base of a part is the size of its texts
+pub sizes_are_base : (bytes : List ℕ) (p : Part) → texts_size (texts_in bytes p) ≡ base_of bytes p
+sizes_are_base bytes p = sizes_in (table_of bytes p) bytes (offsets_from p) p.texts

@@ -1,5 +1,12 @@
 -- The sections of a part, of whichever half of an entry: their checks one by one, and their bytes one after the other.
-use Rattle.std.proofs.Common.{◌≡◌, ℕ, ◌+◌, ◌-◌, ◌*◌, ◌%◌, ◌^◌, ◌<◌, ◌≤◌, ℤ, suc, List, [], ◌∷◌, ◌++◌, map, length, take, drop, refl, sym, ap, ◌∙◌, arith, append_assoc}
+use Rattle.ti_entry.proofs.NamedItemsLemmas.{part_counts, sizes_are_base}
+use Rattle.ti_entry.proofs.TextLemmas.{ends}
+use Rattle.ti_layout.proofs.NamePlaceChecksLemmas.{table_length}
+use Rattle.ti_layout.proofs.PassesLemmas.{first_passes}
+use Rattle.std.proofs.lemmas.List.Concat.{flat_map-cons}
+use Rattle.std.proofs.lemmas.Bool.{cases_lt}
+use Rattle.ti_words.specs.Value.{PartValue}
+use Rattle.std.proofs.Common.{◌≡◌, ℕ, ◌+◌, ◌-◌, ◌*◌, ◌%◌, ◌^◌, ◌<◌, ◌≤◌, ℤ, suc, List, [], ◌∷◌, ◌++◌, map, length, take, drop, refl, sym, ap, ◌∙◌, arith, append_assoc, append-nil, zero, true, false, pos, inl, inr, subst, ltb, get_or}
 use Rattle.std.proofs.Math.Seq.{take-add}
 use Rattle.std.proofs.lemmas.List.{drop-drop, length-append, length-map, length-replicate, drop_at, take_at}
 use Rattle.std.specs.List.{AllByRecursion}
@@ -11,20 +18,20 @@ use Rattle.ti_words.specs.Marks.{byte_of_flag, word_of_number}
 use Rattle.ti_words.specs.Texts.{TextValue}
 use Rattle.ti_words.specs.Word.{unsigned_at, word_at, word}
 use Rattle.ti_words.specs.Widths.{number_size}
-use Rattle.ti_words.specs.Spelling.{pad_len, FitsWidth, IsText, IsName, Each, words_of, numbers_of, flags_of, pad}
-use Rattle.ti_layout.specs.declared.fault.Fault.TheVariants.{BadExtendedName}
+use Rattle.ti_words.specs.Spelling.{pad_len, FitsWidth, IsText, IsName, Each, words_of, numbers_of, flags_of, pad, Strings, SpellsPart, join, part_spelling, texts_size}
+use Rattle.ti_layout.specs.declared.fault.Fault.TheVariants.{BadExtendedName, Unterminated}
 use Rattle.ti_layout.specs.declared.part.Part.{Part}
 use Rattle.ti_layout.specs.Layout.{places, flags_end, numbers_from, offsets_from, names_from, table_from, end_of, standard, extended_after}
-use Rattle.ti_layout.specs.Table.{text_from, table_of, base_of}
-use Rattle.ti_layout.specs.Checks.{Passes, verdict, sign_checks, flag_checks, pad_checks, number_checks, offset_checks, ending_checks, all_name_place_checks}
+use Rattle.ti_layout.specs.Table.{text_from, table_of, base_of, ends_in}
+use Rattle.ti_layout.specs.Checks.{Passes, verdict, sign_checks, flag_checks, pad_checks, number_checks, offset_checks, ending_checks, all_name_place_checks, check, is_not_negative, sign_check, name_place_checks}
 use Rattle.ti_layout.specs.declared.section.Half.{Half}
 use Rattle.ti_layout.specs.Refusal.{part_of, text_checks, part_sections}
-use Rattle.ti_entry.specs.Content.{text_at, name_at, flags_in, numbers_in, texts_in}
+use Rattle.ti_entry.specs.Content.{text_at, name_at, flags_in, numbers_in, texts_in, part_in}
 use Rattle.ti_layout.proofs.EndsLemmas.{SectionPasses}
-use Rattle.ti_layout.proofs.WordLemmas.{IsBytes}
-use Rattle.ti_layout.proofs.SectionReadLemmas.{both_pass}
+use Rattle.ti_layout.proofs.WordLemmas.{IsBytes, below, above}
+use Rattle.ti_layout.proofs.SectionReadLemmas.{both_pass, each_passed, each_item}
 use Rattle.ti_draft.proofs.LengthLemmas.{length_word}
-use Rattle.ti_entry.proofs.KindsFoundLemmas.{flags_are, pad_is, numbers_are, words_are}
+use Rattle.ti_entry.proofs.KindsFoundLemmas.{flags_are, pad_is, numbers_are, words_are, numbers_fit, texts_are}
 use Rattle.ti_entry.proofs.KindsSpelledLemmas.{append_pass, length_flat, flags_read, pad_read, numbers_read, texts_read, names_read}
 
 -- ---- evenness
@@ -86,36 +93,97 @@ front_after bytes e n p k x s at f g =
     take-add n k (drop e bytes) ∙ ap (λ t. t ++ take k (drop n (drop e bytes))) f
     ∙ ap (λ t. x ++ t) (ap (take k) (drop-drop n e bytes ∙ ap (λ m. drop m bytes) at) ∙ g)
 
--- the words of the texts, and those of the names
-abbrev pub offset_words : List ℕ → Part → List ℤ
-offset_words bytes p = map (word_at 2 bytes) (places (offsets_from p) 2 p.texts)
+-- the words of the texts and of the names, and the table
+abbrev pub strings_in : List ℕ → Part → Strings
+strings_in bytes p = record {
+  offsets = map (word_at 2 bytes) (places (offsets_from p) 2 p.texts);
+  name_offsets = map (word_at 2 bytes) (places (names_from p) 2 p.names);
+  table = table_of bytes p;
+}
 
-abbrev pub name_words : List ℕ → Part → List ℤ
-name_words bytes p = map (word_at 2 bytes) (places (names_from p) 2 p.names)
-
--- the sections of a part after a front, which starts at e
-pub part_joined : (bytes x : List ℕ) (e n m : ℕ) (p : Part) → IsBytes bytes → PartPasses bytes p → end_of p ≤ length bytes → e + n ≡ p.flags_from → flags_end p % 2 ≡ pad_len m → take n (drop e bytes) ≡ x
-    → take (end_of p - e) (drop e bytes) ≡ x ++ flags_of (flags_in bytes p) ++ pad m ++ numbers_of p.width (numbers_in bytes p) ++ words_of (offset_words bytes p) ++ words_of (name_words bytes p) ++ table_of bytes p
-part_joined bytes x e n m p fits h there at even t0 =
+-- the sections of a part
+pub part_joined : (bytes : List ℕ) (m : ℕ) (p : Part) → IsBytes bytes → PartPasses bytes p → end_of p ≤ length bytes → flags_end p % 2 ≡ pad_len m
+    → take (end_of p - p.flags_from) (drop p.flags_from bytes) ≡ join (part_spelling p.width m (part_in bytes p) (strings_in bytes p)) []
+part_joined bytes m p fits h there even =
     let size = number_size p.width in
-    let n1 = n + p.flags in
-    let n2 = n1 + pad_len m in
-    let n3 = n2 + size * p.numbers in
-    let n4 = n3 + 2 * p.texts in
-    let n5 = n4 + 2 * p.names in
-    let x1 = x ++ flags_of (flags_in bytes p) in
-    let x2 = x1 ++ pad m in
-    let x3 = x2 ++ numbers_of p.width (numbers_in bytes p) in
-    let x4 = x3 ++ words_of (offset_words bytes p) in
-    let x5 = x4 ++ words_of (name_words bytes p) in
-    let t1 : take n1 (drop e bytes) ≡ x1 = front_after bytes e n p.flags_from p.flags x (flags_of (flags_in bytes p)) at t0 (flags_are bytes p.flags_from p.flags h.flags) in
-    let t2 : take n2 (drop e bytes) ≡ x2 = front_after bytes e n1 (flags_end p) (pad_len m) x1 (pad m) (omega arith) t1 (pad_is bytes (flags_end p) m even h.zero) in
-    let t3 : take n3 (drop e bytes) ≡ x3 = front_after bytes e n2 (numbers_from p) (size * p.numbers) x2 (numbers_of p.width (numbers_in bytes p)) (omega arith) t2 (numbers_are p.width bytes (numbers_from p) p.numbers fits h.numbers) in
-    let t4 : take n4 (drop e bytes) ≡ x4 = front_after bytes e n3 (offsets_from p) (2 * p.texts) x3 (words_of (offset_words bytes p)) (omega arith) t3 (words_are bytes (offsets_from p) p.texts fits (omega arith)) in
-    let t5 : take n5 (drop e bytes) ≡ x5 = front_after bytes e n4 (names_from p) (2 * p.names) x4 (words_of (name_words bytes p)) (omega arith) t4 (words_are bytes (names_from p) p.names fits (omega arith)) in
-    let t6 : take (n5 + p.table) (drop e bytes) ≡ x5 ++ table_of bytes p = front_after bytes e n5 (table_from p) p.table x5 (table_of bytes p) (omega arith) t5 refl in
-    let whole : end_of p - e ≡ n5 + p.table = omega arith in
-    ap (λ k. take k (drop e bytes)) whole ∙ t6
+    let s = strings_in bytes p in
+    let n5 = 2 * p.names + p.table in
+    let n4 = 2 * p.texts + n5 in
+    let n3 = size * p.numbers + n4 in
+    let n2 = pad_len m + n3 in
+    let t6 = sym (append-nil s.table) in
+    let t5 = front_after bytes (names_from p) (2 * p.names) (table_from p) p.table (words_of s.name_offsets) (s.table ++ []) refl (words_are bytes (names_from p) p.names fits (omega arith)) t6 in
+    let t4 = front_after bytes (offsets_from p) (2 * p.texts) (names_from p) n5 (words_of s.offsets) _ refl (words_are bytes (offsets_from p) p.texts fits (omega arith)) t5 in
+    let t3 = front_after bytes (numbers_from p) (size * p.numbers) (offsets_from p) n4 (numbers_of p.width (numbers_in bytes p)) _ refl (numbers_are p.width bytes (numbers_from p) p.numbers fits h.numbers) t4 in
+    let t2 = front_after bytes (flags_end p) (pad_len m) (numbers_from p) n3 (pad m) _ (omega arith) (pad_is bytes (flags_end p) m even h.zero) t3 in
+    let t1 = front_after bytes p.flags_from p.flags (flags_end p) n2 (flags_of (flags_in bytes p)) _ refl (flags_are bytes p.flags_from p.flags h.flags) t2 in
+    let whole : end_of p - p.flags_from ≡ p.flags + n2 = omega arith in
+    ap (λ k. take k (drop p.flags_from bytes)) whole ∙ t1
+
+-- ---- what a part says whose checks pass
+
+-- the names whose places pass
+names_pass : (bytes table : List ℕ) (base len end from count : ℕ) → Passes ≡ verdict len (all_name_place_checks bytes table base end (places from 2 count))
+    → (i : ℕ) → i < count → ends_in table (base + unsigned_at 2 bytes (from + 2 * i)) ≡ true
+names_pass bytes table base len end from zero h i lt = absurd (omega arith)
+names_pass bytes table base len end from (suc count) h i lt =
+    let o = unsigned_at 2 bytes from in
+    let first = check end (ltb (base + o) (length table)) BadExtendedName from in
+    let second = check end (ends_in table (base + o)) Unterminated from in
+    let more = all_name_place_checks bytes table base end (places (from + 2) 2 count) in
+    let list = flat_map-cons (name_place_checks bytes table base end) from (places (from + 2) 2 count) in
+    let t = first_passes len first (second ∷ more) (h ∙ ap (verdict len) list) in
+    let u = first_passes len second more t.rest in
+    by_index i u.holds (names_pass bytes table base len end (from + 2) count u.rest) lt
+  where
+    by_index : (i : ℕ) → ends_in table (base + unsigned_at 2 bytes from) ≡ true → ((j : ℕ) → j < count → ends_in table (base + unsigned_at 2 bytes (from + 2 + 2 * j)) ≡ true) → i < suc count → ends_in table (base + unsigned_at 2 bytes (from + 2 * i)) ≡ true
+    by_index zero e rest lt = let at : from + 2 * 0 ≡ from = omega arith in rw at e
+    by_index (suc j) e rest lt = let at : from + 2 * suc j ≡ from + 2 + 2 * j = omega arith in rw at (rest j (omega arith))
+
+-- a word that is not negative is a place
+is_place : (bytes : List ℕ) (p : ℕ) → IsBytes bytes → is_not_negative (word_at 2 bytes p) ≡ true → word_at 2 bytes p ≡ pos (unsigned_at 2 bytes p)
+is_place bytes p fits h =
+    let u = unsigned_at 2 bytes p in
+    elim (cases_lt (2 * u) 65536) [
+      | inl lt ↦ below Legacy u lt
+      | inr ge ↦
+          let b0 : get_or bytes p 0 < 256 = fits p in
+          let b1 : get_or bytes (p + 1) 0 < 256 = fits (p + 1) in
+          let e : is_not_negative (word_at 2 bytes p) ≡ false = ap is_not_negative (above Legacy u (65535 - u) (omega arith) ge) in
+          absurd (let f : true ≡ false = sym h ∙ e in cc)
+    ]
+
+-- words can hold the counts of a part
+pub record HasFew (p : Part) : Type 0 where
+  pub flags : p.flags < 2 ^ 15
+  pub numbers : p.numbers < 2 ^ 15
+  pub texts : p.texts < 2 ^ 15
+  pub table : p.table < 2 ^ 15
+
+pub part_found : (bytes : List ℕ) (p : Part) → IsBytes bytes → PartPasses bytes p → end_of p ≤ length bytes → HasFew p
+    → SpellsPart p.width (strings_in bytes p) (part_in bytes p) (map (name_at bytes p) (places (names_from p) 2 p.names))
+part_found bytes p fits h there few =
+    let len = length bytes in
+    let s = strings_in bytes p in
+    let base = base_of bytes p in
+    let counts = part_counts bytes p in
+    let size : length s.table ≡ p.table = table_length bytes p there in
+    let signed = each_passed (sign_check bytes BadExtendedName) len (names_from p) 2 p.names h.names in
+    let ended = names_pass bytes s.table base len (end_of p) (names_from p) p.names h.name_places in
+    let named : Each (IsName s.table base) s.name_offsets (map (name_at bytes p) (places (names_from p) 2 p.names)) =
+    each_item (IsName s.table base) (word_at 2 bytes) (name_at bytes p) (names_from p) 2 p.names (λ i lt.
+    let q = names_from p + 2 * i in
+    let text = ends (drop (base + unsigned_at 2 bytes q) s.table) (ended i lt) in
+    (unsigned_at 2 bytes q, is_place bytes q fits (signed i lt).holds, text.clean, record { found = text.found })) in
+    record {
+      few_flags = rw counts.of_flags few.flags;
+      few_numbers = rw counts.of_numbers few.numbers;
+      few_texts = rw counts.of_texts few.texts;
+      small_table = rw size few.table;
+      numbers_fit = numbers_fit p.width bytes (numbers_from p) p.numbers fits;
+      texts_there = texts_are bytes s.table (end_of p) (offsets_from p) p.texts (h.offsets ∙ ap (λ n. verdict len (offset_checks bytes n (offsets_from p) p.texts)) (sym size)) h.endings;
+      names_there = subst (λ b. Each (IsName s.table b) s.name_offsets (map (name_at bytes p) (places (names_from p) 2 p.names))) (sym (sizes_are_base bytes p)) named;
+    }
 
 -- ---- a part that is spelled
 
@@ -132,61 +200,42 @@ each_length R [] (y ∷ ys) h = absurd h
 each_length R (x ∷ xs) [] h = absurd h
 each_length R (x ∷ xs) (y ∷ ys) h = ap suc (each_length R xs ys h.1)
 
--- what stands in the sections of a part
-pub record Sections : Type 0 where
-  pub flags : List Flag
-  pub numbers : List Number
-  pub offsets : List ℤ
-  pub texts : List TextValue
-  pub name_offsets : List ℤ
-  pub names : List (List ℕ)
-  pub table : List ℕ
-
--- what a spelling says of them, if names are counted from base
-pub record IsSpelled (w : Width) (base : ℕ) (s : Sections) : Type 0 where
-  pub small : length s.table < 2 ^ 15
-  pub fit : AllByRecursion (FitsWidth w) s.numbers
-  pub texts : Each (IsText s.table) s.offsets s.texts
-  pub names : Each (IsName s.table base) s.name_offsets s.names
-
 -- the part that has these sections
-abbrev pub part_with : Width → ℕ → Sections → Part
-part_with w from s = record {
+abbrev pub part_with : Width → ℕ → PartValue → List (List ℕ) → Strings → Part
+part_with w from v names s = record {
   width = w;
   flags_from = from;
-  flags = length s.flags;
-  numbers = length s.numbers;
-  texts = length s.texts;
-  names = length s.names;
+  flags = length v.flags;
+  numbers = length v.numbers;
+  texts = length v.texts;
+  names = length names;
   table = length s.table;
 }
 
 -- what a reading makes of them
-pub record PartRead (bytes : List ℕ) (p : Part) (s : Sections) (rest : List ℕ) : Type 0 where
+pub record PartRead (bytes : List ℕ) (p : Part) (v : PartValue) (own_names : List (List ℕ)) (rest : List ℕ) : Type 0 where
   pub passes : PartPasses bytes p
-  pub flags : flags_in bytes p ≡ s.flags
-  pub numbers : numbers_in bytes p ≡ s.numbers
-  pub texts : texts_in bytes p ≡ s.texts
-  pub names : map (name_at bytes p) (places (names_from p) 2 p.names) ≡ s.names
+  pub said : part_in bytes p ≡ v
+  pub names : map (name_at bytes p) (places (names_from p) 2 p.names) ≡ own_names
   pub size : length bytes ≡ end_of p + length rest
   pub front : List ℕ
   pub split : bytes ≡ front ++ rest
   pub end : length front ≡ end_of p
 
-pub part_read : (bytes x rest : List ℕ) (w : Width) (from m base : ℕ) (s : Sections)
-    → bytes ≡ x ++ (flags_of s.flags ++ (pad m ++ (numbers_of w s.numbers ++ (words_of s.offsets ++ (words_of s.name_offsets ++ (s.table ++ rest))))))
-    → length x ≡ from → flags_end (part_with w from s) % 2 ≡ pad_len m → IsSpelled w base s
-    → (texts_in bytes (part_with w from s) ≡ s.texts → base_of bytes (part_with w from s) ≡ base)
-    → PartRead bytes (part_with w from s) s rest
-part_read bytes x rest w from m base s e0 l0 even h base_is =
+pub part_read : (bytes x rest : List ℕ) (w : Width) (from m : ℕ) (v : PartValue) (own_names : List (List ℕ)) (s : Strings)
+    → bytes ≡ x ++ join (part_spelling w m v s) rest
+    → length x ≡ from → flags_end (part_with w from v own_names s) % 2 ≡ pad_len m → SpellsPart w s v own_names
+    → PartRead bytes (part_with w from v own_names s) v own_names rest
+part_read bytes x rest w from m v own_names s e0 l0 even h =
     let len = length bytes in
-    let p = part_with w from s in
+    let p = part_with w from v own_names s in
+    let base = texts_size v.texts in
     let size = number_size w in
-    let count = each_length (IsText s.table) s.offsets s.texts h.texts in
-    let name_count = each_length (IsName s.table base) s.name_offsets s.names h.names in
-    let a1 = flags_of s.flags in
+    let count = each_length (IsText s.table) s.offsets v.texts h.texts_there in
+    let name_count = each_length (IsName s.table base) s.name_offsets own_names h.names_there in
+    let a1 = flags_of v.flags in
     let a2 = pad m in
-    let a3 = numbers_of w s.numbers in
+    let a3 = numbers_of w v.numbers in
     let a4 = words_of s.offsets in
     let a5 = words_of s.name_offsets in
     let q5 = s.table ++ rest in
@@ -206,22 +255,24 @@ part_read bytes x rest w from m base s e0 l0 even h base_is =
     let e4 : bytes ≡ x4 ++ q4 = step bytes x3 a4 q4 e3 in
     let e5 : bytes ≡ x5 ++ q5 = step bytes x4 a5 q5 e4 in
     let e6 : bytes ≡ x6 ++ rest = step bytes x5 s.table rest e5 in
-    let l1 : length x1 ≡ flags_end p = longer x a1 from (length s.flags) (flags_end p) l0 (length-map s.flags byte_of_flag) refl in
+    let l1 : length x1 ≡ flags_end p = longer x a1 from (length v.flags) (flags_end p) l0 (length-map v.flags byte_of_flag) refl in
     let l2 : length x2 ≡ numbers_from p = longer x1 a2 (flags_end p) (pad_len m) (numbers_from p) l1 (length-replicate (pad_len m) 0) (omega arith) in
-    let l3 : length x3 ≡ offsets_from p = longer x2 a3 (numbers_from p) (size * length s.numbers) (offsets_from p) l2 (length_flat (λ n. word size (word_of_number n)) size s.numbers (λ n. length_word size (word_of_number n))) refl in
-    let l4 : length x4 ≡ names_from p = longer x3 a4 (offsets_from p) (2 * length s.texts) (names_from p) l3 (length_flat (word 2) 2 s.offsets (length_word 2) ∙ ap (λ n. 2 * n) count) refl in
-    let l5 : length x5 ≡ table_from p = longer x4 a5 (names_from p) (2 * length s.names) (table_from p) l4 (length_flat (word 2) 2 s.name_offsets (length_word 2) ∙ ap (λ n. 2 * n) name_count) refl in
+    let l3 : length x3 ≡ offsets_from p = longer x2 a3 (numbers_from p) (size * length v.numbers) (offsets_from p) l2 (length_flat (λ n. word size (word_of_number n)) size v.numbers (λ n. length_word size (word_of_number n))) refl in
+    let l4 : length x4 ≡ names_from p = longer x3 a4 (offsets_from p) (2 * length v.texts) (names_from p) l3 (length_flat (word 2) 2 s.offsets (length_word 2) ∙ ap (λ n. 2 * n) count) refl in
+    let l5 : length x5 ≡ table_from p = longer x4 a5 (names_from p) (2 * length own_names) (table_from p) l4 (length_flat (word 2) 2 s.name_offsets (length_word 2) ∙ ap (λ n. 2 * n) name_count) refl in
     let l6 : length x6 ≡ end_of p = longer x5 s.table (table_from p) (length s.table) (end_of p) l5 refl refl in
     let whole : len ≡ end_of p + length rest = ap length e6 ∙ length-append x6 rest ∙ ap (λ n. n + length rest) l6 in
     let table_is : table_of bytes p ≡ s.table =
     ap (take (length s.table)) (ap (drop (table_from p)) e5 ∙ drop_at x5 q5 (table_from p) l5) ∙ take_at s.table rest (length s.table) refl in
     let there : end_of p ≤ len = omega arith in
-    let f = flags_read bytes x q1 from s.flags e0 l0 in
-    let n = numbers_read w bytes x2 q3 (numbers_from p) s.numbers e2 l2 h.fit in
-    let t = texts_read bytes x3 q4 s.table (offsets_from p) s.offsets s.texts e3 l3 h.small h.texts in
-    let o = names_read bytes x4 q5 s.table base (names_from p) s.name_offsets s.names e4 l4 h.small h.names in
-    let texts_same : texts_in bytes p ≡ s.texts = ap (λ l. map (text_at l bytes) (places (offsets_from p) 2 (length s.texts))) table_is ∙ t.same in
-    let base_same : base_of bytes p ≡ base = base_is texts_same in
+    let f = flags_read bytes x q1 from v.flags e0 l0 in
+    let n = numbers_read w bytes x2 q3 (numbers_from p) v.numbers e2 l2 h.numbers_fit in
+    let t = texts_read bytes x3 q4 s.table (offsets_from p) s.offsets v.texts e3 l3 h.small_table h.texts_there in
+    let o = names_read bytes x4 q5 s.table base (names_from p) s.name_offsets own_names e4 l4 h.small_table h.names_there in
+    let texts_same : texts_in bytes p ≡ v.texts = ap (λ l. map (text_at l bytes) (places (offsets_from p) 2 (length v.texts))) table_is ∙ t.same in
+    let base_same : base_of bytes p ≡ base = sym (sizes_are_base bytes p) ∙ ap texts_size texts_same in
+    let flags_same : flags_in bytes p ≡ v.flags = f.same in
+    let numbers_same : numbers_in bytes p ≡ v.numbers = n.same in
     record {
       passes = record {
         flags = f.passes;
@@ -234,9 +285,7 @@ part_read bytes x rest w from m base s e0 l0 even h base_is =
             ∙ ap (λ b. verdict len (all_name_place_checks bytes s.table b (end_of p) (places (names_from p) 2 p.names))) (sym base_same)
             ∙ ap (λ l. verdict len (all_name_place_checks bytes l (base_of bytes p) (end_of p) (places (names_from p) 2 p.names))) (sym table_is);
       };
-      flags = f.same;
-      numbers = n.same;
-      texts = texts_same;
+      said = rw (flags_same, numbers_same, texts_same) refl;
       names = ap (λ b. map (λ q. text_from (table_of bytes p) (b + unsigned_at 2 bytes q)) (places (names_from p) 2 p.names)) base_same
           ∙ ap (λ l. map (λ q. text_from l (base + unsigned_at 2 bytes q)) (places (names_from p) 2 p.names)) table_is ∙ o.same;
       size = whole;

@@ -21,11 +21,11 @@ use Rattle.ti_layout.specs.Layout.{names_from, offsets_from, places}
 use Rattle.ti_layout.specs.Table.{base_of, ends_in, sizes_at, table_of}
 use Rattle.ti_layout.proofs.NamePlaceChecksLemmas.{table_length}
 use Rattle.ti_layout.proofs.PassesLemmas.{first_passes}
-use Rattle.ti_words.specs.Spelling.{Spells}
-use Rattle.ti_words.specs.Value.{EntryValue}
+use Rattle.ti_words.specs.Spelling.{Spells, texts_size}
+use Rattle.ti_words.specs.Value.{PartValue, EntryValue}
 use Rattle.ti_words.specs.Word.{unsigned_at}
 use Rattle.ti_entry.specs.Reading.{base_of_names}
-use Rattle.ti_entry.proofs.NamedItemsLemmas.{sizes_are_base}
+use Rattle.ti_entry.proofs.NamedItemsLemmas.{values_are, sizes_are_base}
 use Rattle.ti_entry.proofs.PartLemmas.{PartPasses}
 use Rattle.ti_entry.proofs.SpelledExtendedLemmas.{only}
 use Rattle.ti_entry.proofs.FoundExtendedLemmas.{extended_passes}
@@ -109,6 +109,6 @@ spelled_by bytes v fits s =
     let x = extended bytes in
     record {
       parts = parts_fit bytes fits read.passes;
-      base = ap base_of_names read.same ∙ sizes_are_base bytes x (base_of bytes x);
+      base = ap base_of_names read.same ∙ ap (λ (p : PartValue). texts_size p.texts) (values_are bytes x (base_of bytes x)) ∙ sizes_are_base bytes x;
       same = read.same;
     }

@@ -8,7 +8,7 @@ use Rattle.ti_layout.specs.declared.part.Part.{Part}
 use Rattle.ti_words.specs.Value.{PartValue, EntryValue}
 use Rattle.ti_words.specs.Word.{unsigned_at}
 use Rattle.ti_layout.specs.Layout.{standard, extended_after, no_capability, flags_end, end_of, extended_from}
-use Rattle.ti_words.specs.Spelling.{pad_len, Spells, HasExtendedPart, HasNoExtendedPart, count_word, words_of, numbers_of, flags_of, pad, texts_size, part_names, unnamed, mark_in}
+use Rattle.ti_words.specs.Spelling.{pad_len, Spells, HasExtendedPart, HasNoExtendedPart, count_word, pad, join, part_spelling, part_names, unnamed, mark_in}
 use Rattle.ti_layout.specs.Table.{base_of}
 use Rattle.ti_layout.specs.Checks.{Passes, Ends, verdict, sign_check, sign_checks, pad_checks, end_check}
 use Rattle.std.specs.List.{AllByRecursion, flat_map}
@@ -16,13 +16,13 @@ use Rattle.ti_layout.specs.declared.section.Half.TheVariants.{Extended}
 use Rattle.ti_layout.specs.declared.section.Section.TheVariants.{TableEnd, End}
 use Rattle.ti_layout.specs.Refusal.{room_check, extended_size_check, extended_header_checks, section_checks, standard_sections, extended_sections, checks}
 use Rattle.ti_layout.proofs.EndsLemmas.{SectionPasses, passed_sections}
-use Rattle.ti_entry.specs.Content.{texts_in, part_in, content_with, content}
+use Rattle.ti_entry.specs.Content.{content_with, content}
 use Rattle.ti_entry.proofs.SpelledItemsLemmas.{passes_one}
 use Rattle.ti_entry.proofs.KindsSpelledLemmas.{append_pass, count_read, sign_passed, pad_read}
-use Rattle.ti_entry.proofs.NamedItemsLemmas.{values_are, all_names_in, sizes_are_base}
+use Rattle.ti_entry.proofs.NamedItemsLemmas.{values_are, all_names_in}
 use Rattle.ti_draft.proofs.LengthLemmas.{length_part_names}
-use Rattle.ti_entry.proofs.PartLemmas.{end_even, PartPasses, passes_part, step, longer, Sections, part_with, part_read}
-use Rattle.ti_entry.proofs.SpellsAtMostOneLemmas.{grouped_part, same_sizes, same_named, same_value}
+use Rattle.ti_entry.proofs.PartLemmas.{end_even, PartPasses, passes_part, step, longer, part_with, part_read}
+use Rattle.ti_entry.proofs.SpellsAtMostOneLemmas.{same_named, same_value}
 use Rattle.ti_entry.proofs.SpelledLemmas.{PlainRead, plain_read}
 
 pub record IsRead (bytes : List ℕ) (v : EntryValue) : Type 0 where
@@ -39,29 +39,19 @@ extended_read : (bytes front rest : List ℕ) (v : EntryValue) (h : Part) → h 
 extended_read bytes front rest v h is width split l0 short s =
     let len = length bytes in
     let w = v.width in
-    let ef = map mark_in v.extended.flags in
-    let en = map mark_in v.extended.numbers in
-    let et = map mark_in v.extended.texts in
-    let nf : length ef ≡ length v.extended.flags = length-map v.extended.flags mark_in in
-    let nn : length en ≡ length v.extended.numbers = length-map v.extended.numbers mark_in in
-    let nt : length et ≡ length v.extended.texts = length-map v.extended.texts mark_in in
+    let p = unnamed v.extended in
+    let names = part_names v.extended in
+    let few = s.part in
     let from = extended_from h in
-    let secs : Sections = record { flags = ef; numbers = en; offsets = s.values; texts = et; name_offsets = s.names; names = part_names v.extended; table = s.table } in
-    let x = part_with w (from + 10) secs in
-    let m = length v.extended.flags in
-    let small : length s.table < 2 ^ 15 = omega (arith, s.counts.1.1.1.0) in
+    let x = part_with w (from + 10) p names s.strings in
+    let m = length p.flags in
     let pad_even = end_even h in
     let a0 = pad h.table in
-    let a1 = count_word (length v.extended.flags) in
-    let a2 = count_word (length v.extended.numbers) in
-    let a3 = count_word (length v.extended.texts) in
-    let a5 = count_word (length s.table) in
-    let a6 = flags_of ef in
-    let a7 = pad m in
-    let a8 = numbers_of w en in
-    let a9 = words_of s.values in
-    let a10 = words_of s.names in
-    let q6 = a6 ++ (a7 ++ (a8 ++ (a9 ++ (a10 ++ s.table)))) in
+    let a1 = count_word (length p.flags) in
+    let a2 = count_word (length p.numbers) in
+    let a3 = count_word (length p.texts) in
+    let a5 = count_word (length s.strings.table) in
+    let q6 = join (part_spelling w m p s.strings) [] in
     let q5 = a5 ++ q6 in
     let q4 = s.items ++ q5 in
     let q3 = a3 ++ q4 in
@@ -73,7 +63,7 @@ extended_read bytes front rest v h is width split l0 short s =
     let x4 = x3 ++ a3 in
     let x5 = x4 ++ s.items in
     let x6 = x5 ++ a5 in
-    let e0 : bytes ≡ front ++ (a0 ++ q1) = split ∙ ap (λ r. front ++ r) (s.joined ∙ grouped_part a0 a1 a2 a3 s.items a5 a6 a7 a8 a9 a10 s.table) in
+    let e0 : bytes ≡ front ++ (a0 ++ q1) = split ∙ ap (λ r. front ++ r) s.joined in
     let e1 : bytes ≡ x1 ++ q1 = step bytes front a0 q1 e0 in
     let e2 : bytes ≡ x2 ++ q2 = step bytes x1 a1 q2 e1 in
     let e3 : bytes ≡ x3 ++ q3 = step bytes x2 a2 q3 e2 in
@@ -87,36 +77,35 @@ extended_read bytes front rest v h is width split l0 short s =
     let l5 : length x5 ≡ from + 8 = longer x4 s.items (from + 6) 2 (from + 8) l4 s.items_size (omega arith) in
     let l6 : length x6 ≡ from + 10 = longer x5 a5 (from + 8) 2 (from + 10) l5 refl (omega arith) in
     let even : flags_end x % 2 ≡ pad_len m = omega arith in
-    let to_end : bytes ≡ x6 ++ (a6 ++ (a7 ++ (a8 ++ (a9 ++ (a10 ++ (s.table ++ [])))))) = e6 ∙ ap (λ t. x6 ++ (a6 ++ (a7 ++ (a8 ++ (a9 ++ (a10 ++ t)))))) (sym (append-nil s.table)) in
     let c = content_with bytes h x in
     let values = values_are bytes x (base_of bytes x) in
-    let base_is : texts_in bytes x ≡ et → base_of bytes x ≡ texts_size v.extended.texts = λ e.
-    sym (sizes_are_base bytes x (base_of bytes x)) ∙ sym (same_sizes v.extended.texts c.extended.texts (sym (ap (λ (p : PartValue). p.texts) values ∙ e))) in
-    let r = part_read bytes x6 [] w (from + 10) m (texts_size v.extended.texts) secs to_end l6 even (record { small = small; fit = s.numbers_fit; texts = s.texts_there; names = s.names_there }) base_is in
+    let r = part_read bytes x6 [] w (from + 10) m p names s.strings e6 l6 even s.part in
     let whole : len ≡ end_of x = let n = r.size in omega arith in
-    let h1 : unsigned_at 2 bytes from ≡ length v.extended.flags = count_read bytes x1 q2 from (length v.extended.flags) e1 l1 s.counts.0 in
-    let h2 : unsigned_at 2 bytes (from + 2) ≡ length v.extended.numbers = count_read bytes x2 q3 (from + 2) (length v.extended.numbers) e2 l2 s.counts.1.0 in
-    let h3 : unsigned_at 2 bytes (from + 4) ≡ length v.extended.texts = count_read bytes x3 q4 (from + 4) (length v.extended.texts) e3 l3 s.counts.1.1.0 in
-    let h4 : unsigned_at 2 bytes (from + 8) ≡ length s.table = count_read bytes x5 q6 (from + 8) (length s.table) e5 l5 s.counts.1.1.1.0 in
+    let h1 : unsigned_at 2 bytes from ≡ length p.flags = count_read bytes x1 q2 from (length p.flags) e1 l1 few.few_flags in
+    let h2 : unsigned_at 2 bytes (from + 2) ≡ length p.numbers = count_read bytes x2 q3 (from + 2) (length p.numbers) e2 l2 few.few_numbers in
+    let h3 : unsigned_at 2 bytes (from + 4) ≡ length p.texts = count_read bytes x3 q4 (from + 4) (length p.texts) e3 l3 few.few_texts in
+    let h4 : unsigned_at 2 bytes (from + 8) ≡ length s.strings.table = count_read bytes x5 q6 (from + 8) (length s.strings.table) e5 l5 few.small_table in
     let count = length_part_names v.extended in
-    let named : length ef + length en + length et ≡ length (part_names v.extended) = omega arith in
-    let sum : unsigned_at 2 bytes from + unsigned_at 2 bytes (from + 2) + unsigned_at 2 bytes (from + 4) ≡ length (part_names v.extended) = omega arith in
-    let header : extended_after h bytes ≡ x = same_part (extended_after h bytes) x width refl (h1 ∙ sym nf) (h2 ∙ sym nn) (h3 ∙ sym nt) sum h4 in
-    let in_part : part_in bytes x ≡ unnamed v.extended = rw (r.flags, r.numbers, r.texts) refl in
-    let values_same : unnamed v.extended ≡ unnamed c.extended = sym (values ∙ in_part) in
+    let flags_n = length-map v.extended.flags mark_in in
+    let numbers_n = length-map v.extended.numbers mark_in in
+    let texts_n = length-map v.extended.texts mark_in in
+    let named : length p.flags + length p.numbers + length p.texts ≡ length names = omega arith in
+    let sum : unsigned_at 2 bytes from + unsigned_at 2 bytes (from + 2) + unsigned_at 2 bytes (from + 4) ≡ length names = omega arith in
+    let header : extended_after h bytes ≡ x = same_part (extended_after h bytes) x width refl h1 h2 h3 sum h4 in
+    let values_same : unnamed v.extended ≡ unnamed c.extended = sym (values ∙ r.said) in
     let names_same : part_names v.extended ≡ part_names c.extended = sym r.names ∙ sym (all_names_in bytes x (base_of bytes x) named) in
     -- the checks
     let at_end : end_of x ≤ len = omega arith in
     let outer : Passes ≡ verdict len (pad_checks bytes (end_of h)) = pad_read bytes front q1 (end_of h) h.table pad_even e0 l0 in
-    let third : unsigned_at 2 bytes (from + 2 + 2) ≡ length v.extended.texts = (let at : from + 2 + 2 ≡ from + 4 = omega arith in ap (unsigned_at 2 bytes) at ∙ h3) in
+    let third : unsigned_at 2 bytes (from + 2 + 2) ≡ length p.texts = (let at : from + 2 + 2 ≡ from + 4 = omega arith in ap (unsigned_at 2 bytes) at ∙ h3) in
     let signs : Passes ≡ verdict len (sign_checks bytes BadExtendedHeader from 3) =
-    passes_one len (sign_check bytes BadExtendedHeader from) (sign_check bytes BadExtendedHeader (from + 2) ∷ sign_check bytes BadExtendedHeader (from + 2 + 2) ∷ []) (sign_passed bytes BadExtendedHeader from (length v.extended.flags) (omega arith) s.counts.0 h1)
-    (passes_one len (sign_check bytes BadExtendedHeader (from + 2)) (sign_check bytes BadExtendedHeader (from + 2 + 2) ∷ []) (sign_passed bytes BadExtendedHeader (from + 2) (length v.extended.numbers) (omega arith) s.counts.1.0 h2)
-    (passes_one len (sign_check bytes BadExtendedHeader (from + 2 + 2)) [] (sign_passed bytes BadExtendedHeader (from + 2 + 2) (length v.extended.texts) (omega arith) s.counts.1.1.0 third) refl)) in
+    passes_one len (sign_check bytes BadExtendedHeader from) (sign_check bytes BadExtendedHeader (from + 2) ∷ sign_check bytes BadExtendedHeader (from + 2 + 2) ∷ []) (sign_passed bytes BadExtendedHeader from (length p.flags) (omega arith) few.few_flags h1)
+    (passes_one len (sign_check bytes BadExtendedHeader (from + 2)) (sign_check bytes BadExtendedHeader (from + 2 + 2) ∷ []) (sign_passed bytes BadExtendedHeader (from + 2) (length p.numbers) (omega arith) few.few_numbers h2)
+    (passes_one len (sign_check bytes BadExtendedHeader (from + 2 + 2)) [] (sign_passed bytes BadExtendedHeader (from + 2 + 2) (length p.texts) (omega arith) few.few_texts third) refl)) in
     let room : Passes ≡ verdict len (room_check h ∷ pad_checks bytes (end_of h)) = passes_one len (room_check h) (pad_checks bytes (end_of h)) (record { long = omega arith; holds = le-leb _ _ (omega arith) }) outer in
     let size : Passes ≡ verdict len (extended_size_check x ∷ []) = passes_one len (extended_size_check x) [] (record { long = omega arith; holds = le-leb _ _ (omega arith) }) refl in
     let closing : Passes ≡ verdict len (sign_check bytes BadExtendedHeader (from + 8) ∷ extended_size_check x ∷ []) =
-    passes_one len (sign_check bytes BadExtendedHeader (from + 8)) (extended_size_check x ∷ []) (sign_passed bytes BadExtendedHeader (from + 8) (length s.table) (omega arith) s.counts.1.1.1.0 h4) size in
+    passes_one len (sign_check bytes BadExtendedHeader (from + 8)) (extended_size_check x ∷ []) (sign_passed bytes BadExtendedHeader (from + 8) (length s.strings.table) (omega arith) few.small_table h4) size in
     let last : verdict len (end_check (end_of x) ∷ []) ≡ Ends true = rw (lt-ltb len (end_of x + 1) (omega arith)) refl in
     let header_pass : Passes ≡ verdict len (sign_checks bytes BadExtendedHeader from 3 ++ extended_header_checks bytes h) =
     append_pass len (sign_checks bytes BadExtendedHeader from 3) (extended_header_checks bytes h) signs (subst (λ y. Passes ≡ verdict len (sign_check bytes BadExtendedHeader (from + 8) ∷ extended_size_check y ∷ [])) (sym header) closing) in
@@ -141,8 +130,8 @@ extended_read bytes front rest v h is width split l0 short s =
 pub only : (bytes : List ℕ) (v : EntryValue) → Spells bytes v → IsRead bytes v
 only bytes v s = by_rest s.extended
   where
-    plain : PlainRead bytes v s.table s.rest
-    plain = plain_read bytes v s.table s.rest s.sections s.fits
+    plain : PlainRead bytes v s.strings.table s.rest
+    plain = plain_read bytes v s.strings s.rest s.standard s.fits
 
     from_table : verdict (length bytes) (checks bytes) ≡ verdict (length bytes) (flat_map (section_checks bytes) (TableEnd ∷ (extended_sections ++ (End ∷ []))))
     from_table = passed_sections bytes standard_sections (TableEnd ∷ (extended_sections ++ (End ∷ []))) plain.passes
@@ -150,7 +139,7 @@ only bytes v s = by_rest s.extended
     same_with : (x : Part) → v.extended ≡ (content_with bytes (standard bytes) x).extended → v ≡ content_with bytes (standard bytes) x
     same_with x same = same_value v (content_with bytes (standard bytes) x) (sym plain.width) (sym plain.names) (sym plain.said) same
 
-    by_rest : HasNoExtendedPart v s.rest ⊎ HasExtendedPart v (length s.table) s.rest → IsRead bytes v
+    by_rest : HasNoExtendedPart v s.rest ⊎ HasExtendedPart v (length s.strings.table) s.rest → IsRead bytes v
     by_rest (inl none) =
         let len = length bytes in
         let h = standard bytes in

@@ -13,7 +13,7 @@ use Rattle.ti_words.specs.Value.{EntryValue}
 use Rattle.ti_words.specs.Word.{unsigned_at}
 use Rattle.ti_layout.specs.Layout.{standard, width_of, places, flags_end, end_of}
 use Rattle.ti_layout.specs.Table.{base_of}
-use Rattle.ti_words.specs.Spelling.{pad_len, HasSections, magic, count_word, words_of, numbers_of, flags_of, pad}
+use Rattle.ti_words.specs.Spelling.{pad_len, Strings, HasStandardPart, magic, count_word, join, part_spelling}
 use Rattle.ti_words.specs.Texts.{is_nul}
 use Rattle.ti_layout.specs.Checks.{Passes, verdict, sign_check, sign_checks, name_check, nul_check}
 use Rattle.std.specs.List.{AllByRecursion}
@@ -25,7 +25,7 @@ use Rattle.ti_layout.proofs.SectionReadLemmas.{Passed}
 use Rattle.ti_layout.proofs.WordLemmas.{reads_count}
 use Rattle.ti_entry.proofs.KindsSpelledLemmas.{append_pass, moved, byte, bytes_flat, sign_passed}
 use Rattle.ti_entry.proofs.SpelledItemsLemmas.{EachAt, each_at, passes_one, passes_at, at_each, ByteAt, byte_at_is}
-use Rattle.ti_entry.proofs.PartLemmas.{Sections, PartPasses, part_with, passes_part, part_read}
+use Rattle.ti_entry.proofs.PartLemmas.{PartPasses, part_with, passes_part, part_read}
 
 starts : (w : Width) → width_of (magic w) ≡ Some w
 starts Legacy = refl
@@ -42,65 +42,52 @@ pub record PlainRead (bytes : List ℕ) (v : EntryValue) (table rest : List ℕ)
   pub split : bytes ≡ front ++ rest
   pub end : length front ≡ end_of (standard bytes)
 
-pub plain_read : (bytes : List ℕ) (v : EntryValue) (table rest : List ℕ) → HasSections v table rest bytes → length bytes ≤ most_entry_bytes → PlainRead bytes v table rest
-plain_read bytes v table rest s short =
+pub plain_read : (bytes : List ℕ) (v : EntryValue) (s : Strings) (rest : List ℕ) → HasStandardPart v s rest bytes → length bytes ≤ most_entry_bytes → PlainRead bytes v s.table rest
+plain_read bytes v s rest h short =
     let w = v.width in
     let names = v.names in
-    let fs = v.standard.flags in
-    let ns = v.standard.numbers in
-    let ts = v.standard.texts in
-    let offsets = s.offsets in
-    let counts = s.counts in
-    let some = s.named in
+    let p = v.standard in
+    let some = h.named in
+    let few = h.part in
+    let few_names = h.few_names in
     let len = length bytes in
-    let secs : Sections = record { flags = fs; numbers = ns; offsets = offsets; texts = ts; name_offsets = []; names = []; table = table } in
     let from = 12 + (length names + 1) in
-    let hv = part_with w from secs in
-    let m = length names + 1 + length fs in
-    let small_table : length table < 2 ^ 15 = omega (arith, counts.1.1.1.1.0) in
-    let x5 = magic w ++ count_word (length names + 1) ++ count_word (length fs) ++ count_word (length ns) ++ count_word (length ts) ++ count_word (length table) in
+    let hv = part_with w from p [] s in
+    let m = length names + 1 + length p.flags in
+    let x5 = magic w ++ count_word (length names + 1) ++ count_word (length p.flags) ++ count_word (length p.numbers) ++ count_word (length p.texts) ++ count_word (length s.table) in
     let x6 = x5 ++ (names ++ 0 ∷ []) in
-    let x7 = x6 ++ flags_of fs in
-    let x8 = x7 ++ pad m in
-    let x9 = x8 ++ numbers_of w ns in
-    let x10 = x9 ++ words_of offsets in
-    let p10 = table ++ rest in
-    let p9 = words_of offsets ++ p10 in
-    let p8 = numbers_of w ns ++ p9 in
-    let p7 = pad m ++ p8 in
-    let p6 = flags_of fs ++ p7 in
+    let p6 = join (part_spelling w m p s) rest in
     let p5 = (names ++ 0 ∷ []) ++ p6 in
-    let e6 : bytes ≡ x6 ++ p6 =
-    s.joined ∙ append_assoc x10 table rest ∙ append_assoc x9 (words_of offsets) p10 ∙ append_assoc x8 (numbers_of w ns) p9 ∙ append_assoc x7 (pad m) p8 ∙ append_assoc x6 (flags_of fs) p7 in
-    let e5 : bytes ≡ x5 ++ p5 = e6 ∙ append_assoc x5 (names ++ 0 ∷ []) p6 in
+    let e5 : bytes ≡ x5 ++ p5 = h.joined in
+    let e6 : bytes ≡ x6 ++ p6 = e5 ∙ sym (append_assoc x5 (names ++ 0 ∷ []) p6) in
     let l5 : length x5 ≡ 12 = refl in
     let l6 : length x6 ≡ from = length-append x5 (names ++ 0 ∷ []) ∙ ap (λ k. 12 + k) (length-append names (0 ∷ [])) in
     let even : flags_end hv % 2 ≡ pad_len m = omega arith in
-    let r = part_read bytes x6 rest w from m (base_of bytes hv) secs e6 l6 even (record { small = small_table; fit = s.numbers_fit; texts = s.texts_there; names = tt }) (λ e. refl) in
+    let r = part_read bytes x6 rest w from m p [] s e6 l6 even h.part in
     let whole = r.size in
-    let h1 : unsigned_at 2 bytes 2 ≡ length names + 1 = ap (λ b. unsigned_at 2 b 2) e5 ∙ reads_count (length names + 1) (omega (arith, counts.0)) in
-    let h2 : unsigned_at 2 bytes 4 ≡ length fs = ap (λ b. unsigned_at 2 b 4) e5 ∙ reads_count (length fs) (omega (arith, counts.1.0)) in
-    let h3 : unsigned_at 2 bytes 6 ≡ length ns = ap (λ b. unsigned_at 2 b 6) e5 ∙ reads_count (length ns) (omega (arith, counts.1.1.0)) in
-    let h4 : unsigned_at 2 bytes 8 ≡ length ts = ap (λ b. unsigned_at 2 b 8) e5 ∙ reads_count (length ts) (omega (arith, counts.1.1.1.0)) in
-    let h5 : unsigned_at 2 bytes 10 ≡ length table = ap (λ b. unsigned_at 2 b 10) e5 ∙ reads_count (length table) (omega (arith, counts.1.1.1.1.0)) in
+    let h1 : unsigned_at 2 bytes 2 ≡ length names + 1 = ap (λ b. unsigned_at 2 b 2) e5 ∙ reads_count (length names + 1) few_names in
+    let h2 : unsigned_at 2 bytes 4 ≡ length p.flags = ap (λ b. unsigned_at 2 b 4) e5 ∙ reads_count (length p.flags) few.few_flags in
+    let h3 : unsigned_at 2 bytes 6 ≡ length p.numbers = ap (λ b. unsigned_at 2 b 6) e5 ∙ reads_count (length p.numbers) few.few_numbers in
+    let h4 : unsigned_at 2 bytes 8 ≡ length p.texts = ap (λ b. unsigned_at 2 b 8) e5 ∙ reads_count (length p.texts) few.few_texts in
+    let h5 : unsigned_at 2 bytes 10 ≡ length s.table = ap (λ b. unsigned_at 2 b 10) e5 ∙ reads_count (length s.table) few.small_table in
     let h0 : width_of bytes ≡ Some w = ap width_of e5 ∙ starts w in
     let hd : standard bytes ≡ hv = rw (h0, h1, h2, h3, h4, h5) refl in
     let twelve : 12 ≤ len = omega arith in
     let magic_ok : Passed len (magic_check bytes) = record { long = omega arith; holds = ap is_some h0 } in
     let header : Passes ≡ verdict len (sign_checks bytes BadHeader 2 5 ++ size_checks hv) =
     append_pass len (sign_checks bytes BadHeader 2 5) (size_checks hv)
-    (passes_one len (sign_check bytes BadHeader 2) (sign_check bytes BadHeader 4 ∷ sign_check bytes BadHeader 6 ∷ sign_check bytes BadHeader 8 ∷ sign_check bytes BadHeader 10 ∷ []) (sign_passed bytes BadHeader 2 (length names + 1) (omega arith) counts.0 h1)
-    (passes_one len (sign_check bytes BadHeader 4) (sign_check bytes BadHeader 6 ∷ sign_check bytes BadHeader 8 ∷ sign_check bytes BadHeader 10 ∷ []) (sign_passed bytes BadHeader 4 (length fs) (omega arith) counts.1.0 h2)
-    (passes_one len (sign_check bytes BadHeader 6) (sign_check bytes BadHeader 8 ∷ sign_check bytes BadHeader 10 ∷ []) (sign_passed bytes BadHeader 6 (length ns) (omega arith) counts.1.1.0 h3)
-    (passes_one len (sign_check bytes BadHeader 8) (sign_check bytes BadHeader 10 ∷ []) (sign_passed bytes BadHeader 8 (length ts) (omega arith) counts.1.1.1.0 h4)
-    (passes_one len (sign_check bytes BadHeader 10) [] (sign_passed bytes BadHeader 10 (length table) twelve counts.1.1.1.1.0 h5) refl)))))
+    (passes_one len (sign_check bytes BadHeader 2) (sign_check bytes BadHeader 4 ∷ sign_check bytes BadHeader 6 ∷ sign_check bytes BadHeader 8 ∷ sign_check bytes BadHeader 10 ∷ []) (sign_passed bytes BadHeader 2 (length names + 1) (omega arith) few_names h1)
+    (passes_one len (sign_check bytes BadHeader 4) (sign_check bytes BadHeader 6 ∷ sign_check bytes BadHeader 8 ∷ sign_check bytes BadHeader 10 ∷ []) (sign_passed bytes BadHeader 4 (length p.flags) (omega arith) few.few_flags h2)
+    (passes_one len (sign_check bytes BadHeader 6) (sign_check bytes BadHeader 8 ∷ sign_check bytes BadHeader 10 ∷ []) (sign_passed bytes BadHeader 6 (length p.numbers) (omega arith) few.few_numbers h3)
+    (passes_one len (sign_check bytes BadHeader 8) (sign_check bytes BadHeader 10 ∷ []) (sign_passed bytes BadHeader 8 (length p.texts) (omega arith) few.few_texts h4)
+    (passes_one len (sign_check bytes BadHeader 10) [] (sign_passed bytes BadHeader 10 (length s.table) twelve few.small_table h5) refl)))))
     (passes_one len (size_check hv) (named_check hv ∷ []) (record { long = twelve; holds = le-leb _ _ (omega arith) })
     (passes_one len (named_check hv) [] (record { long = twelve; holds = le-leb _ _ (omega arith) }) refl)) in
     -- names
     let section5 : (names ++ 0 ∷ []) ++ p6 ≡ flat_map byte names ++ (0 ∷ p6) = append_assoc names (0 ∷ []) p6 ∙ ap (λ s. s ++ (0 ∷ p6)) (sym (bytes_flat names)) in
     let names_at : EachAt (λ p b. ByteAt bytes p b × (b ≢ 0)) 12 1 names =
     moved (λ y p b. ByteAt y p b × (b ≢ 0)) (x5 ++ (flat_map byte names ++ (0 ∷ p6))) bytes (length x5) 12 1 names (sym (e5 ∙ ap (λ s. x5 ++ s) section5)) l5
-    (each_at byte 1 (λ y p b. ByteAt y p b × (b ≢ 0)) (λ b. b ≢ 0) (λ b. refl) (λ pre post b ok. (byte_at_is pre post b, ok)) x5 (0 ∷ p6) names s.names_fit) in
+    (each_at byte 1 (λ y p b. ByteAt y p b × (b ≢ 0)) (λ b. b ≢ 0) (λ b. refl) (λ pre post b ok. (byte_at_is pre post b, ok)) x5 (0 ∷ p6) names h.names_fit) in
     let names_pass : Passes ≡ verdict len (map (name_check bytes) (places 12 1 (length names))) =
     passes_at (name_check bytes) len 12 1 names (at_each (λ p b. ByteAt bytes p b × (b ≢ 0)) (λ p b. Passed len (name_check bytes p)) 12 1 names
     (λ p b h. let no : eqb b 0 ≡ false = ne_eqb b 0 h.1 in record { long = h.0.room; holds = ap (λ k. not (is_nul k)) h.0.is ∙ ap not no }) names_at) in
@@ -120,7 +107,6 @@ plain_read bytes v table rest s short =
     ∙ ap (take (length names)) (drop_at x5 p5 12 l5 ∙ append_assoc names (0 ∷ []) p6)
     ∙ take_at names (0 ∷ p6) (length names) refl in
     let back = sym hd in
-    let read : part_in bytes hv ≡ v.standard = rw (r.flags, r.numbers, r.texts) refl in
     record {
       passes = (
         passes_one len (magic_check bytes) [] magic_ok refl,
@@ -134,7 +120,7 @@ plain_read bytes v table rest s short =
       );
       width = ap (λ (h : Part). h.width) hd;
       names = subst (λ (h : Part). slice_range bytes 12 (h.flags_from - 1) ≡ names) back names_same;
-      said = subst (λ h. part_in bytes h ≡ v.standard) back read;
+      said = subst (λ h. part_in bytes h ≡ v.standard) back r.said;
       table_size = h5;
       front = r.front;
       split = r.split;

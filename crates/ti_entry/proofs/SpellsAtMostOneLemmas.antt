@@ -15,14 +15,13 @@ use Rattle.ti_words.specs.Value.{PartValue, NamedPart, EntryValue}
 use Rattle.ti_words.specs.Word.{unsigned_at, word_at, word}
 use Rattle.ti_words.specs.Widths.{number_size}
 use Rattle.ti_layout.specs.Table.{text_of_word}
-use Rattle.ti_words.specs.Spelling.{FitsWidth, magic, count_word, words_of, numbers_of, flags_of, pad, text_size, texts_size, name_in, mark_in, unnamed, part_names, HasSections, HasExtendedPart, HasNoExtendedPart}
+use Rattle.ti_words.specs.Spelling.{FitsWidth, Strings, magic, count_word, words_of, numbers_of, flags_of, pad, join, counts_spelling, part_spelling, texts_size, name_in, mark_in, unnamed, part_names, SpellsPart, HasStandardPart, HasExtendedPart, HasNoExtendedPart}
 use Rattle.ti_entry.specs.Laws.{SpellsAtMostOne}
 use Rattle.ti_draft.proofs.LengthLemmas.{length_part_names}
 use Rattle.ti_layout.proofs.WordLemmas.{reads_count}
 use Rattle.ti_draft.proofs.LengthLemmas.{length_word}
 use Rattle.ti_entry.proofs.SpelledItemsLemmas.{IsShort, word_read, IsGood, all_good, short_number, read_again, flag_read}
 use Rattle.ti_entry.proofs.KindsSpelledLemmas.{IsGoodName, name_of_word, all_good_names}
-use Rattle.ti_entry.proofs.PartLemmas.{Sections, IsSpelled}
 
 -- ---- lists
 
@@ -105,66 +104,79 @@ short_names : (table : List ℕ) (base : ℕ) (zs : List ℤ) → AllByRecursion
 short_names table base [] h = tt
 short_names table base (z ∷ zs) h = (rw h.0.is h.0.short, short_names table base zs h.1)
 
--- the bytes of a part, and what follows
-abbrev bytes_of : Width → ℕ → Sections → List ℕ → List ℕ
-bytes_of w m s r = flags_of s.flags ++ (pad m ++ (numbers_of w s.numbers ++ (words_of s.offsets ++ (words_of s.name_offsets ++ (s.table ++ r)))))
-
 -- two parts have as many items of each kind
-record SameCounts (m n : ℕ) (s z : Sections) : Type 0 where
+record SameCounts (m n : ℕ) (p q : PartValue) (s z : Strings) : Type 0 where
   pads : m ≡ n
-  flags : length s.flags ≡ length z.flags
-  numbers : length s.numbers ≡ length z.numbers
-  texts : length s.texts ≡ length z.texts
-  names : length s.names ≡ length z.names
+  flags : length p.flags ≡ length q.flags
+  numbers : length p.numbers ≡ length q.numbers
+  texts : length p.texts ≡ length q.texts
   table : length s.table ≡ length z.table
 
-record SamePart (base base' : ℕ) (s z : Sections) (r q : List ℕ) : Type 0 where
-  flags : s.flags ≡ z.flags
-  numbers : s.numbers ≡ z.numbers
-  texts : s.texts ≡ z.texts
-  names : base ≡ base' → s.names ≡ z.names
+record SamePart (p q : PartValue) (ns ms : List (List ℕ)) (s z : Strings) (r t : List ℕ) : Type 0 where
+  values : p ≡ q
+  names : ns ≡ ms
   table : s.table ≡ z.table
-  rest : r ≡ q
+  rest : r ≡ t
 
-part_again : (w : Width) (base base' m n : ℕ) (s z : Sections) (r q : List ℕ) → IsSpelled w base s → IsSpelled w base' z → SameCounts m n s z → bytes_of w m s r ≡ bytes_of w n z q → SamePart base base' s z r q
-part_again w base base' m n s z r q h h' c e =
+part_again : (w : Width) (m n : ℕ) (p q : PartValue) (ns ms : List (List ℕ)) (s z : Strings) (r t : List ℕ) → SpellsPart w s p ns → SpellsPart w z q ms → SameCounts m n p q s z → length ns ≡ length ms
+    → join (part_spelling w m p s) r ≡ join (part_spelling w n q z) t → SamePart p q ns ms s z r t
+part_again w m n p q ns ms s z r t h h' c named e =
     let size = number_size w in
-    let g = all_good s.table s.offsets s.texts h.small h.texts in
-    let g' = all_good z.table z.offsets z.texts h'.small h'.texts in
-    let o = all_good_names s.table base s.name_offsets s.names h.small h.names in
-    let o' = all_good_names z.table base' z.name_offsets z.names h'.small h'.names in
+    let base = texts_size p.texts in
+    let base' = texts_size q.texts in
+    let g = all_good s.table s.offsets p.texts h.small_table h.texts_there in
+    let g' = all_good z.table z.offsets q.texts h'.small_table h'.texts_there in
+    let o = all_good_names s.table base s.name_offsets ns h.small_table h.names_there in
+    let o' = all_good_names z.table base' z.name_offsets ms h'.small_table h'.names_there in
     let offsets_n : length s.offsets ≡ length z.offsets = g.2 ∙ c.texts ∙ sym g'.2 in
-    let names_n : length s.name_offsets ≡ length z.name_offsets = o.2 ∙ c.names ∙ sym o'.2 in
-    let k1 = cut (flags_of s.flags) (flags_of z.flags) _ _ (length-map s.flags byte_of_flag ∙ c.flags ∙ sym (length-map z.flags byte_of_flag)) e in
+    let names_n : length s.name_offsets ≡ length z.name_offsets = o.2 ∙ named ∙ sym o'.2 in
+    let k1 = cut (flags_of p.flags) (flags_of q.flags) _ _ (length-map p.flags byte_of_flag ∙ c.flags ∙ sym (length-map q.flags byte_of_flag)) e in
     let k2 = cut (pad m) (pad n) _ _ (ap (λ k. length (pad k)) c.pads) k1.rest in
-    let k3 = cut (numbers_of w s.numbers) (numbers_of w z.numbers) _ _ (length_flat (λ x. word size (word_of_number x)) size (λ x. length_word size (word_of_number x)) s.numbers z.numbers c.numbers) k2.rest in
+    let k3 = cut (numbers_of w p.numbers) (numbers_of w q.numbers) _ _ (length_flat (λ x. word size (word_of_number x)) size (λ x. length_word size (word_of_number x)) p.numbers q.numbers c.numbers) k2.rest in
     let k4 = cut (words_of s.offsets) (words_of z.offsets) _ _ (length_flat (word 2) 2 (length_word 2) s.offsets z.offsets offsets_n) k3.rest in
     let k5 = cut (words_of s.name_offsets) (words_of z.name_offsets) _ _ (length_flat (word 2) 2 (length_word 2) s.name_offsets z.name_offsets names_n) k4.rest in
-    let k6 = cut s.table z.table r q c.table k5.rest in
+    let k6 = cut s.table z.table r t c.table k5.rest in
     let offsets : s.offsets ≡ z.offsets = words_again s.offsets z.offsets offsets_n (shorts s.table s.offsets g.0) (shorts z.table z.offsets g'.0) k4.first in
-    let names : s.name_offsets ≡ z.name_offsets = words_again s.name_offsets z.name_offsets names_n (short_names s.table base s.name_offsets o.0) (short_names z.table base' z.name_offsets o'.0) k5.first in
+    let name_offsets : s.name_offsets ≡ z.name_offsets = words_again s.name_offsets z.name_offsets names_n (short_names s.table base s.name_offsets o.0) (short_names z.table base' z.name_offsets o'.0) k5.first in
+    let flags = flags_again p.flags q.flags k1.first in
+    let numbers = numbers_again w p.numbers q.numbers c.numbers h.numbers_fit h'.numbers_fit k3.first in
+    let texts : p.texts ≡ q.texts = sym g.1 ∙ ap (λ l. map (text_of_word l) s.offsets) k6.first ∙ ap (map (text_of_word z.table)) offsets ∙ g'.1 in
+    let values : ◌≡◌ {A = PartValue} (record { flags = p.flags; numbers = p.numbers; texts = p.texts }) q = rw (flags, numbers, texts) refl in
     record {
-      flags = flags_again s.flags z.flags k1.first;
-      numbers = numbers_again w s.numbers z.numbers c.numbers h.fit h'.fit k3.first;
-      texts = sym g.1 ∙ ap (λ t. map (text_of_word t) s.offsets) k6.first ∙ ap (map (text_of_word z.table)) offsets ∙ g'.1;
-      names = λ b. sym o.1 ∙ ap (λ t. map (name_of_word t base) s.name_offsets) k6.first ∙ ap (λ k. map (name_of_word z.table k) s.name_offsets) b ∙ ap (map (name_of_word z.table base')) names ∙ o'.1;
+      values = values;
+      names = sym o.1 ∙ ap (λ l. map (name_of_word l base) s.name_offsets) k6.first ∙ ap (λ k. map (name_of_word z.table (texts_size k)) s.name_offsets) texts ∙ ap (map (name_of_word z.table base')) name_offsets ∙ o'.1;
       table = k6.first;
       rest = k6.rest;
+    }
+
+-- the counts of two parts, and what follows them
+record SameFront (p q : PartValue) (x y : List ℕ) : Type 0 where
+  flags : length p.flags ≡ length q.flags
+  numbers : length p.numbers ≡ length q.numbers
+  texts : length p.texts ≡ length q.texts
+  rest : x ≡ y
+
+counts_again : (w : Width) (p q : PartValue) (ns ms : List (List ℕ)) (s z : Strings) (x y : List ℕ) → SpellsPart w s p ns → SpellsPart w z q ms → join (counts_spelling p) x ≡ join (counts_spelling q) y → SameFront p q x y
+counts_again w p q ns ms s z x y h h' e =
+    let k1 = cut (count_word (length p.flags)) (count_word (length q.flags)) _ _ refl e in
+    let k2 = cut (count_word (length p.numbers)) (count_word (length q.numbers)) _ _ refl k1.rest in
+    let k3 = cut (count_word (length p.texts)) (count_word (length q.texts)) x y refl k2.rest in
+    record {
+      flags = count_again _ _ h.few_flags h'.few_flags k1.first;
+      numbers = count_again _ _ h.few_numbers h'.few_numbers k2.first;
+      texts = count_again _ _ h.few_texts h'.few_texts k3.first;
+      rest = k3.rest;
     }
 
 -- ---- the standard part
 
 -- what of two entries must agree, and what follows
-pub record SameSections (v w : EntryValue) (t u r q : List ℕ) : Type 0 where
+pub record SameSections (v w : EntryValue) (s z : Strings) (r t : List ℕ) : Type 0 where
   pub width : v.width ≡ w.width
   pub names : v.names ≡ w.names
   pub standard : v.standard ≡ w.standard
-  pub table : t ≡ u
-  pub rest : r ≡ q
-
-grouped : (a b c d e f g h i j k l m : List ℕ)
-    → a ++ b ++ c ++ d ++ e ++ f ++ g ++ h ++ i ++ j ++ k ++ l ++ m ≡ a ++ (b ++ (c ++ (d ++ (e ++ (f ++ (g ++ (h ++ (i ++ (j ++ (k ++ (l ++ m)))))))))))
-grouped a b c d e f g h i j k l m = simp append_assoc
+  pub table : s.table ≡ z.table
+  pub rest : r ≡ t
 
 same_magic : (v w : Width) → magic v ≡ magic w → v ≡ w
 same_magic Legacy Legacy e = refl
@@ -172,55 +184,25 @@ same_magic Legacy Wide e = absurd cc
 same_magic Wide Legacy e = absurd cc
 same_magic Wide Wide e = refl
 
--- the sections up to the end of the string table, by their joinings
-sections_again : (w : Width) (names names' : List ℕ) (s z : Sections) (r q : List ℕ)
-    → magic w
-    ++ count_word (length names + 1) ++ count_word (length s.flags) ++ count_word (length s.numbers) ++ count_word (length s.texts) ++ count_word (length s.table)
-    ++ (names ++ 0 ∷ []) ++ flags_of s.flags ++ pad (length names + 1 + length s.flags) ++ numbers_of w s.numbers ++ words_of s.offsets ++ s.table ++ r
-    ≡ magic w
-    ++ count_word (length names' + 1) ++ count_word (length z.flags) ++ count_word (length z.numbers) ++ count_word (length z.texts) ++ count_word (length z.table)
-    ++ (names' ++ 0 ∷ []) ++ flags_of z.flags ++ pad (length names' + 1 + length z.flags) ++ numbers_of w z.numbers ++ words_of z.offsets ++ z.table ++ q
-    → AllByRecursion (λ n. n < 2 ^ 15) ((length names + 1) ∷ length s.flags ∷ length s.numbers ∷ length s.texts ∷ length s.table ∷ [])
-    → AllByRecursion (λ n. n < 2 ^ 15) ((length names' + 1) ∷ length z.flags ∷ length z.numbers ∷ length z.texts ∷ length z.table ∷ [])
-    → s.name_offsets ≡ [] → z.name_offsets ≡ [] → s.names ≡ [] → z.names ≡ [] → IsSpelled w 0 s → IsSpelled w 0 z
-    → (names ≡ names') × SamePart 0 0 s z r q
-sections_again w names names' s z r q e c c' d d' f f' h h' =
-    let m = length names + 1 + length s.flags in
-    let n = length names' + 1 + length z.flags in
-    let none : (o : Sections) (t : List ℕ) → o.name_offsets ≡ [] → words_of o.name_offsets ++ t ≡ t = λ o t g. ap (λ ws. words_of ws ++ t) g in
-    let part : (k : ℕ) (o : Sections) (t : List ℕ) → o.name_offsets ≡ [] → flags_of o.flags ++ (pad k ++ (numbers_of w o.numbers ++ (words_of o.offsets ++ (o.table ++ t)))) ≡ bytes_of w k o t = λ k o t g.
-    ap (λ l. flags_of o.flags ++ (pad k ++ (numbers_of w o.numbers ++ (words_of o.offsets ++ l)))) (sym (none o (o.table ++ t) g)) in
-    let whole =
-    sym (grouped (magic w) (count_word (length names + 1)) (count_word (length s.flags)) (count_word (length s.numbers)) (count_word (length s.texts)) (count_word (length s.table)) (names ++ 0 ∷ []) (flags_of s.flags) (pad m) (numbers_of w s.numbers) (words_of s.offsets) s.table r)
-    ∙ e ∙ grouped (magic w) (count_word (length names' + 1)) (count_word (length z.flags)) (count_word (length z.numbers)) (count_word (length z.texts)) (count_word (length z.table)) (names' ++ 0 ∷ []) (flags_of z.flags) (pad n) (numbers_of w z.numbers) (words_of z.offsets) z.table q in
-    let k0 = cut (magic w) (magic w) _ _ refl whole in
-    let k1 = cut (count_word (length names + 1)) (count_word (length names' + 1)) _ _ refl k0.rest in
-    let k2 = cut (count_word (length s.flags)) (count_word (length z.flags)) _ _ refl k1.rest in
-    let k3 = cut (count_word (length s.numbers)) (count_word (length z.numbers)) _ _ refl k2.rest in
-    let k4 = cut (count_word (length s.texts)) (count_word (length z.texts)) _ _ refl k3.rest in
-    let k5 = cut (count_word (length s.table)) (count_word (length z.table)) _ _ refl k4.rest in
-    let n1 : length names + 1 ≡ length names' + 1 = count_again _ _ (omega (arith, c.0)) (omega (arith, c'.0)) k1.first in
-    let n2 : length s.flags ≡ length z.flags = count_again _ _ (omega (arith, c.1.0)) (omega (arith, c'.1.0)) k2.first in
-    let n3 : length s.numbers ≡ length z.numbers = count_again _ _ (omega (arith, c.1.1.0)) (omega (arith, c'.1.1.0)) k3.first in
-    let n4 : length s.texts ≡ length z.texts = count_again _ _ (omega (arith, c.1.1.1.0)) (omega (arith, c'.1.1.1.0)) k4.first in
-    let n5 : length s.table ≡ length z.table = count_again _ _ (omega (arith, c.1.1.1.1.0)) (omega (arith, c'.1.1.1.1.0)) k5.first in
-    let k6 = cut (names ++ 0 ∷ []) (names' ++ 0 ∷ []) _ _ (length-append names (0 ∷ []) ∙ n1 ∙ sym (length-append names' (0 ∷ []))) k5.rest in
-    let same : SameCounts m n s z = record { pads = omega arith; flags = n2; numbers = n3; texts = n4; names = ap length f ∙ sym (ap length f'); table = n5 } in
-    ((cut names names' (0 ∷ []) (0 ∷ []) (omega arith) k6.first).first, part_again w 0 0 m n s z r q h h' same (sym (part m s r d) ∙ k6.rest ∙ part n z q d'))
-
-pub same_sections : (v w : EntryValue) (t u r q bytes : List ℕ) → HasSections v t r bytes → HasSections w u q bytes → SameSections v w t u r q
-same_sections v w t u r q bytes s z =
-    let same : v.width ≡ w.width = same_magic v.width w.width (ap (take 2) (sym s.joined ∙ z.joined)) in
+pub same_sections : (v w : EntryValue) (s z : Strings) (r t bytes : List ℕ) → HasStandardPart v s r bytes → HasStandardPart w z t bytes → SameSections v w s z r t
+same_sections v w s z r t bytes h h' =
+    let same : v.width ≡ w.width = same_magic v.width w.width (ap (take 2) (sym h.joined ∙ h'.joined)) in
     let back = sym same in
-    let jz = rw back at z.joined in
-    let fz = rw back at z.numbers_fit in
-    let a : Sections = record { flags = v.standard.flags; numbers = v.standard.numbers; offsets = s.offsets; texts = v.standard.texts; name_offsets = []; names = []; table = t } in
-    let b : Sections = record { flags = w.standard.flags; numbers = w.standard.numbers; offsets = z.offsets; texts = w.standard.texts; name_offsets = []; names = []; table = u } in
-    let h : IsSpelled v.width 0 a = record { small = omega (arith, s.counts.1.1.1.1.0); fit = s.numbers_fit; texts = s.texts_there; names = tt } in
-    let h' : IsSpelled v.width 0 b = record { small = omega (arith, z.counts.1.1.1.1.0); fit = fz; texts = z.texts_there; names = tt } in
-    let k = sections_again v.width v.names w.names a b r q (sym s.joined ∙ jz) s.counts z.counts refl refl refl refl h h' in
-    let standard : ◌≡◌ {A = PartValue} (record { flags = v.standard.flags; numbers = v.standard.numbers; texts = v.standard.texts }) w.standard = rw (k.1.flags, k.1.numbers, k.1.texts) refl in
-    record { width = same; names = k.0; standard = standard; table = k.1.table; rest = k.1.rest }
+    let there = rw back at h'.joined in
+    let part : SpellsPart v.width z w.standard [] = subst (λ k. SpellsPart k z w.standard []) back h'.part in
+    let m = length v.names + 1 + length v.standard.flags in
+    let n = length w.names + 1 + length w.standard.flags in
+    let k0 = cut (magic v.width) (magic v.width) _ _ refl (sym h.joined ∙ there) in
+    let k1 = cut (count_word (length v.names + 1)) (count_word (length w.names + 1)) _ _ refl k0.rest in
+    let c = counts_again v.width v.standard w.standard [] [] s z _ _ h.part part k1.rest in
+    let k5 = cut (count_word (length s.table)) (count_word (length z.table)) _ _ refl c.rest in
+    let n1 : length v.names + 1 ≡ length w.names + 1 = count_again _ _ h.few_names h'.few_names k1.first in
+    let n5 : length s.table ≡ length z.table = count_again _ _ h.part.small_table part.small_table k5.first in
+    let k6 = cut (v.names ++ 0 ∷ []) (w.names ++ 0 ∷ []) _ _ (length-append v.names (0 ∷ []) ∙ n1 ∙ sym (length-append w.names (0 ∷ []))) k5.rest in
+    let flags_n = c.flags in
+    let counts : SameCounts m n v.standard w.standard s z = record { pads = omega arith; flags = c.flags; numbers = c.numbers; texts = c.texts; table = n5 } in
+    let p = part_again v.width m n v.standard w.standard [] [] s z r t h.part part counts refl k6.rest in
+    record { width = same; names = (cut v.names w.names (0 ∷ []) (0 ∷ []) (omega arith) k6.first).first; standard = p.values; table = p.table; rest = p.rest }
 
 -- ---- the extended part
 
@@ -236,19 +218,6 @@ pairs_again {A} (x ∷ xs) (y ∷ ys) e f =
     let marks : map mark_in xs ≡ map mark_in ys = cc in
     let one : ◌≡◌ {A = List ℕ × A} x y = ap (λ (n : List ℕ). let p : List ℕ × A = (n, x.1) in p) name ∙ ap (λ (m : A). let p : List ℕ × A = (y.0, m) in p) mark in
     ap (λ (z : List ℕ × A). z ∷ xs) one ∙ ap (λ (zs : List (List ℕ × A)). y ∷ zs) (pairs_again xs ys names marks)
-
-pub same_sizes : (xs ys : List (List ℕ × TextValue)) → map mark_in xs ≡ map mark_in ys → texts_size xs ≡ texts_size ys
-same_sizes [] [] f = refl
-same_sizes [] (y ∷ ys) f = absurd cc
-same_sizes (x ∷ xs) [] f = absurd cc
-same_sizes (x ∷ xs) (y ∷ ys) f =
-    let mark : x.1 ≡ y.1 = cc in
-    let marks : map mark_in xs ≡ map mark_in ys = cc in
-    ap (λ m. text_size m + texts_size xs) mark ∙ ap (λ n. text_size y.1 + n) (same_sizes xs ys marks)
-
-pub grouped_part : (a b c d e f g h i j k l : List ℕ)
-    → a ++ b ++ c ++ d ++ e ++ f ++ g ++ h ++ i ++ j ++ k ++ l ≡ a ++ (b ++ (c ++ (d ++ (e ++ (f ++ (g ++ (h ++ (i ++ (j ++ (k ++ l))))))))))
-grouped_part a b c d e f g h i j k l = simp append_assoc
 
 -- parts with the same values and the same names
 pub same_named : (v w : NamedPart) → unnamed v ≡ unnamed w → part_names v ≡ part_names w → v ≡ w
@@ -273,57 +242,36 @@ same_named v w values all =
     same_count : {A : Type 0} (xs ys : List (List ℕ × A)) → map mark_in xs ≡ map mark_in ys → length (map name_in xs) ≡ length (map name_in ys)
     same_count xs ys e = length-map xs name_in ∙ sym (length-map xs mark_in) ∙ ap length e ∙ length-map ys mark_in ∙ sym (length-map ys name_in)
 
-extended_same : (v w : EntryValue) (size size' : ℕ) (q : List ℕ) → HasExtendedPart v size q → HasExtendedPart w size' q → v.width ≡ w.width → size ≡ size' → v.extended ≡ w.extended
-extended_same v w size size' q s z width same =
-    let of = v.width in
+extended_same : (v w : EntryValue) (size size' : ℕ) (bytes : List ℕ) → HasExtendedPart v size bytes → HasExtendedPart w size' bytes → v.width ≡ w.width → size ≡ size' → v.extended ≡ w.extended
+extended_same v w size size' bytes s z width same =
     let back = sym width in
-    let jz = rw back at z.joined in
-    let fz = rw back at z.numbers_fit in
-    let c = s.counts in
-    let c' = z.counts in
-    let a : Sections = record { flags = map mark_in v.extended.flags; numbers = map mark_in v.extended.numbers; offsets = s.values; texts = map mark_in v.extended.texts; name_offsets = s.names; names = part_names v.extended; table = s.table } in
-    let b : Sections = record { flags = map mark_in w.extended.flags; numbers = map mark_in w.extended.numbers; offsets = z.values; texts = map mark_in w.extended.texts; name_offsets = z.names; names = part_names w.extended; table = z.table } in
-    let m = length v.extended.flags in
-    let n = length w.extended.flags in
-    let h : IsSpelled of (texts_size v.extended.texts) a = record { small = omega (arith, c.1.1.1.0); fit = s.numbers_fit; texts = s.texts_there; names = s.names_there } in
-    let h' : IsSpelled of (texts_size w.extended.texts) b = record { small = omega (arith, c'.1.1.1.0); fit = fz; texts = z.texts_there; names = z.names_there } in
-    let whole =
-    sym (grouped_part (pad size) (count_word m) (count_word (length v.extended.numbers)) (count_word (length v.extended.texts)) s.items (count_word (length s.table)) (flags_of a.flags) (pad m) (numbers_of of a.numbers) (words_of s.values) (words_of s.names) s.table)
-    ∙ sym s.joined ∙ jz
-    ∙ grouped_part (pad size') (count_word n) (count_word (length w.extended.numbers)) (count_word (length w.extended.texts)) z.items (count_word (length z.table)) (flags_of b.flags) (pad n) (numbers_of of b.numbers) (words_of z.values) (words_of z.names) z.table in
-    let k0 = cut (pad size) (pad size') _ _ (ap (λ k. length (pad k)) same) whole in
-    let k1 = cut (count_word m) (count_word n) _ _ refl k0.rest in
-    let k2 = cut (count_word (length v.extended.numbers)) (count_word (length w.extended.numbers)) _ _ refl k1.rest in
-    let k3 = cut (count_word (length v.extended.texts)) (count_word (length w.extended.texts)) _ _ refl k2.rest in
-    let k4 = cut s.items z.items _ _ (s.items_size ∙ sym z.items_size) k3.rest in
-    let k5 = cut (count_word (length s.table)) (count_word (length z.table)) _ _ refl k4.rest in
-    let n1 : m ≡ n = count_again _ _ (omega (arith, c.0)) (omega (arith, c'.0)) k1.first in
-    let n2 : length v.extended.numbers ≡ length w.extended.numbers = count_again _ _ (omega (arith, c.1.0)) (omega (arith, c'.1.0)) k2.first in
-    let n3 : length v.extended.texts ≡ length w.extended.texts = count_again _ _ (omega (arith, c.1.1.0)) (omega (arith, c'.1.1.0)) k3.first in
-    let n5 : length s.table ≡ length z.table = count_again _ _ (omega (arith, c.1.1.1.0)) (omega (arith, c'.1.1.1.0)) k5.first in
-    let names : length (part_names v.extended) ≡ length (part_names w.extended) = omega (arith, length_part_names v.extended, length_part_names w.extended) in
-    let counts : SameCounts m n a b = record {
-      pads = n1;
-      flags = length-map v.extended.flags mark_in ∙ n1 ∙ sym (length-map w.extended.flags mark_in);
-      numbers = length-map v.extended.numbers mark_in ∙ n2 ∙ sym (length-map w.extended.numbers mark_in);
-      texts = length-map v.extended.texts mark_in ∙ n3 ∙ sym (length-map w.extended.texts mark_in);
-      names = names;
-      table = n5;
-    } in
-    let to_end : (k : ℕ) (o : Sections) → bytes_of of k o [] ≡ flags_of o.flags ++ (pad k ++ (numbers_of of o.numbers ++ (words_of o.offsets ++ (words_of o.name_offsets ++ o.table)))) = λ k o.
-    ap (λ t. flags_of o.flags ++ (pad k ++ (numbers_of of o.numbers ++ (words_of o.offsets ++ (words_of o.name_offsets ++ t))))) (append-nil o.table) in
-    let p = part_again of (texts_size v.extended.texts) (texts_size w.extended.texts) m n a b [] [] h h' counts (to_end m a ∙ k5.rest ∙ sym (to_end n b)) in
-    let values : unnamed v.extended ≡ unnamed w.extended = rw (p.flags, p.numbers, p.texts) refl in
-    same_named v.extended w.extended values (p.names (same_sizes v.extended.texts w.extended.texts p.texts))
+    let p = unnamed v.extended in
+    let q = unnamed w.extended in
+    let there = rw back at z.joined in
+    let part : SpellsPart v.width z.strings q (part_names w.extended) = subst (λ k. SpellsPart k z.strings q (part_names w.extended)) back z.part in
+    let k0 = cut (pad size) (pad size') _ _ (ap (λ k. length (pad k)) same) (sym s.joined ∙ there) in
+    let c = counts_again v.width p q (part_names v.extended) (part_names w.extended) s.strings z.strings _ _ s.part part k0.rest in
+    let k4 = cut s.items z.items _ _ (s.items_size ∙ sym z.items_size) c.rest in
+    let k5 = cut (count_word (length s.strings.table)) (count_word (length z.strings.table)) _ _ refl k4.rest in
+    let n5 : length s.strings.table ≡ length z.strings.table = count_again _ _ s.part.small_table part.small_table k5.first in
+    let counts : SameCounts (length p.flags) (length q.flags) p q s.strings z.strings = record { pads = c.flags; flags = c.flags; numbers = c.numbers; texts = c.texts; table = n5 } in
+    let names : length (part_names v.extended) ≡ length (part_names w.extended) =
+    length_part_names v.extended
+    ∙ (let f = length-map v.extended.flags mark_in in let g = length-map w.extended.flags mark_in in
+    let n = length-map v.extended.numbers mark_in in let o = length-map w.extended.numbers mark_in in
+    let t = length-map v.extended.texts mark_in in let u = length-map w.extended.texts mark_in in
+    let a = c.flags in let b = c.numbers in let d = c.texts in
+    let sum : length v.extended.flags + length v.extended.numbers + length v.extended.texts ≡ length w.extended.flags + length w.extended.numbers + length w.extended.texts = omega arith in sum)
+    ∙ sym (length_part_names w.extended) in
+    let again = part_again v.width (length p.flags) (length q.flags) p q (part_names v.extended) (part_names w.extended) s.strings z.strings [] [] s.part part counts names k5.rest in
+    same_named v.extended w.extended again.values again.names
 
 -- an extended part has bytes
-some_part : (v : EntryValue) (size : ℕ) (q : List ℕ) → HasExtendedPart v size q → q ≡ [] → ⊥
-some_part v size q s e =
-    let words = numbers_of v.width (map mark_in v.extended.numbers) in
-    let others = count_word (length v.extended.numbers) ++ (count_word (length v.extended.texts) ++ (s.items ++ (count_word (length s.table) ++ (flags_of (map mark_in v.extended.flags) ++ (pad (length v.extended.flags) ++ (words ++ (words_of s.values ++ (words_of s.names ++ s.table)))))))) in
-    let j : q ≡ pad size ++ (count_word (length v.extended.flags) ++ others) =
-    s.joined ∙ grouped_part (pad size) (count_word (length v.extended.flags)) (count_word (length v.extended.numbers)) (count_word (length v.extended.texts)) s.items (count_word (length s.table)) (flags_of (map mark_in v.extended.flags)) (pad (length v.extended.flags)) words (words_of s.values) (words_of s.names) s.table in
-    let n : 0 ≡ length (pad size) + suc (suc (length others)) = ap length (sym e ∙ j) ∙ length-append (pad size) (count_word (length v.extended.flags) ++ others) in
+some_part : (v : EntryValue) (size : ℕ) (bytes : List ℕ) → HasExtendedPart v size bytes → bytes ≡ [] → ⊥
+some_part v size bytes s e =
+    let p = unnamed v.extended in
+    let others = join (count_word (length p.numbers) ∷ count_word (length p.texts) ∷ s.items ∷ count_word (length s.strings.table) ∷ part_spelling v.width (length p.flags) p s.strings) [] in
+    let n : 0 ≡ length (pad size) + suc (suc (length others)) = ap length (sym e ∙ s.joined) ∙ length-append (pad size) (count_word (length p.flags) ++ others) in
     omega arith
 
 extended_again : (v w : EntryValue) (t u : List ℕ) (r : List ℕ) → v.width ≡ w.width → t ≡ u → HasNoExtendedPart v r ⊎ HasExtendedPart v (length t) r → HasNoExtendedPart w r ⊎ HasExtendedPart w (length u) r → v.extended ≡ w.extended
@@ -338,6 +286,6 @@ same_value v w width names standard extended =
 
 pub at_most_one : SpellsAtMostOne
 at_most_one bytes v w s z =
-    let same = same_sections v w s.table z.table s.rest z.rest bytes s.sections z.sections in
-    let more = extended_again v w s.table z.table z.rest same.width same.table (subst (λ r. HasNoExtendedPart v r ⊎ HasExtendedPart v (length s.table) r) same.rest s.extended) z.extended in
+    let same = same_sections v w s.strings z.strings s.rest z.rest bytes s.standard z.standard in
+    let more = extended_again v w s.strings.table z.strings.table z.rest same.width same.table (subst (λ r. HasNoExtendedPart v r ⊎ HasExtendedPart v (length s.strings.table) r) same.rest s.extended) z.extended in
     same_value v w same.width same.names same.standard more

@@ -15,7 +15,9 @@ use Rattle.ti_layout.specs.Table.{base_of}
 use Rattle.ti_entry.specs.Content.{content, content_from, content_with, extended}
 use Rattle.ti_entry.specs.Views.{IsStandard, IsExtended}
 use Rattle.ti_entry.specs.Reading.{answer_under, answer_for, base_of_names}
-use Rattle.ti_entry.proofs.NamedItemsLemmas.{sizes_are_base}
+use Rattle.ti_entry.proofs.NamedItemsLemmas.{values_are, sizes_are_base}
+use Rattle.ti_words.specs.Value.{PartValue}
+use Rattle.ti_words.specs.Spelling.{texts_size}
 use Rattle.ti_layout.specs.Stages.{StandsAt, Waits, bytes_awaited, is_whole}
 use Rattle.ti_layout.specs.Table.{table_of, sizes_at, names_base}
 use Rattle.ti_layout.proofs.StageStepLemmas.{closing_next}
@@ -49,7 +51,7 @@ view_of xs s x base e f g = ap (content_from xs s x) g ∙ ap (content_with xs s
 counted_of : (xs : List ℕ) (x : Part) (base : ℕ) → x ≡ extended xs → base ≡ base_of xs x → base ≡ base_of_names (content xs)
 counted_of xs x base f g =
     let y = extended xs in
-    g ∙ ap (base_of xs) f ∙ sym (sizes_are_base xs y (base_of xs y))
+    g ∙ ap (base_of xs) f ∙ sym (ap (λ (p : PartValue). texts_size p.texts) (values_are xs y (base_of xs y)) ∙ sizes_are_base xs y)
 
 -- without names there is no text either
 base_is : (xs : List ℕ) (x : Part) → x.texts ≤ x.names → names_base xs x ≡ base_of xs x

@@ -5,7 +5,7 @@ use Rattle.ti_layout.specs.declared.fault.Refused.{Refused}
 use Rattle.ti_entry.specs.declared.source.ReadStop.{ReadStop}
 use Rattle.ti_entry.specs.declared.source.ReadStop.TheVariants as stop
 use Rattle.ti_words.specs.Value.{EntryValue}
-use Rattle.ti_words.specs.Spelling.{texts_size}
+use Rattle.ti_words.specs.Spelling.{texts_size, unnamed}
 use Rattle.ti_layout.specs.Refusal.{refusal, failure}
 use Rattle.ti_entry.specs.Content.{content}
 
@@ -20,7 +20,7 @@ answer_for bytes = answer_under (refusal bytes) (content bytes)
 
 -- what the offsets of an entry's names are counted from: the end of its extended texts
 abbrev pub base_of_names : EntryValue → ℕ
-base_of_names v = texts_size v.extended.texts
+base_of_names v = texts_size (unnamed v.extended).texts
 
 -- ---- the reader
 

@@ -48,6 +48,11 @@ Each R (x ∷ xs) (y ∷ ys) = R x y × Each R xs ys
 
 -- ---- sections
 
+-- sections one after the other, and then what follows
+abbrev pub join : List (List ℕ) → List ℕ → List ℕ
+join [] rest = rest
+join (section ∷ sections) rest = section ++ join sections rest
+
 -- a count as a word
 abbrev pub count_word : ℕ → List ℕ
 count_word n = word 2 (pos n)
@@ -74,40 +79,7 @@ pad_len n = n % 2
 abbrev pub pad : ℕ → List ℕ
 pad n = replicate (pad_len n) 0
 
--- the bytes are the sections up to the end of the string table, and then rest
-pub record HasSections (v : EntryValue) (table : List ℕ) (rest : List ℕ) (bytes : List ℕ) : Type 0 where
-  pub offsets : List ℤ
-  pub joined : bytes ≡ magic v.width
-      ++ count_word (length v.names + 1)
-      ++ count_word (length v.standard.flags)
-      ++ count_word (length v.standard.numbers)
-      ++ count_word (length v.standard.texts)
-      ++ count_word (length table)
-      ++ (v.names ++ 0 ∷ [])
-      ++ flags_of v.standard.flags
-      ++ pad (length v.names + 1 + length v.standard.flags)
-      ++ numbers_of v.width v.standard.numbers
-      ++ words_of offsets
-      ++ table
-      ++ rest
-  pub counts : AllByRecursion (λ n. n < 2 ^ 15)
-      ((length v.names + 1) ∷ length v.standard.flags ∷ length v.standard.numbers ∷ length v.standard.texts ∷ length table ∷ [])
-  pub named : 0 < length v.names
-  pub names_fit : HasNoNul v.names
-  pub numbers_fit : AllByRecursion (FitsWidth v.width) v.standard.numbers
-  pub texts_there : Each (IsText table) offsets v.standard.texts
-
--- ---- the extended part
-
--- the bytes of a text and its NUL, if it is there
-abbrev pub text_size : TextValue → ℕ
-text_size (TextOf text) = length text + 1
-text_size AbsentText = 0
-text_size CancelledText = 0
-
-abbrev pub texts_size : List (List ℕ × TextValue) → ℕ
-texts_size [] = 0
-texts_size (t ∷ ts) = text_size t.1 + texts_size ts
+-- ---- a part
 
 abbrev pub name_in : {A : Type 0} → List ℕ × A → List ℕ
 name_in x = x.0
@@ -123,30 +95,81 @@ unnamed p = record { flags = map mark_in p.flags; numbers = map mark_in p.number
 abbrev pub part_names : NamedPart → List (List ℕ)
 part_names p = map name_in p.flags ++ map name_in p.numbers ++ map name_in p.texts
 
--- the bytes after a string table of this size are the extended part; its word items may be anything
-pub record HasExtendedPart (v : EntryValue) (table_size : ℕ) (bytes : List ℕ) : Type 0 where
-  pub values : List ℤ
-  pub names : List ℤ
-  pub items : List ℕ
+-- the counts of a part
+abbrev pub counts_spelling : PartValue → List (List ℕ)
+counts_spelling p = count_word (length p.flags) ∷ count_word (length p.numbers) ∷ count_word (length p.texts) ∷ []
+
+-- where the texts and the names of a part stand: a word for each, and their table
+pub record Strings : Type 0 where
+  pub offsets : List ℤ
+  pub name_offsets : List ℤ
   pub table : List ℕ
-  pub joined : bytes ≡ pad table_size
-      ++ count_word (length v.extended.flags)
-      ++ count_word (length v.extended.numbers)
-      ++ count_word (length v.extended.texts)
-      ++ items
-      ++ count_word (length table)
-      ++ flags_of (map mark_in v.extended.flags)
-      ++ pad (length v.extended.flags)
-      ++ numbers_of v.width (map mark_in v.extended.numbers)
-      ++ words_of values
-      ++ words_of names
-      ++ table
-  pub counts : AllByRecursion (λ n. n < 2 ^ 15)
-      (length v.extended.flags ∷ length v.extended.numbers ∷ length v.extended.texts ∷ length table ∷ [])
+
+-- the sections of a part after its counts; the flags end after a count of bytes that decides the pad
+abbrev pub part_spelling : Width → ℕ → PartValue → Strings → List (List ℕ)
+part_spelling w n p s =
+    flags_of p.flags
+    ∷ pad n
+    ∷ numbers_of w p.numbers
+    ∷ words_of s.offsets
+    ∷ words_of s.name_offsets
+    ∷ s.table
+    ∷ []
+
+-- the bytes of a text and its NUL, if it is there
+abbrev pub text_size : TextValue → ℕ
+text_size (TextOf text) = length text + 1
+text_size AbsentText = 0
+text_size CancelledText = 0
+
+abbrev pub texts_size : List TextValue → ℕ
+texts_size [] = 0
+texts_size (t ∷ ts) = text_size t + texts_size ts
+
+-- words can hold the counts, the numbers fit, and texts and names stand in the table; a name's place is counted from the
+-- end of the texts
+pub record SpellsPart (w : Width) (s : Strings) (p : PartValue) (names : List (List ℕ)) : Type 0 where
+  pub few_flags : length p.flags < 2 ^ 15
+  pub few_numbers : length p.numbers < 2 ^ 15
+  pub few_texts : length p.texts < 2 ^ 15
+  pub small_table : length s.table < 2 ^ 15
+  pub numbers_fit : AllByRecursion (FitsWidth w) p.numbers
+  pub texts_there : Each (IsText s.table) s.offsets p.texts
+  pub names_there : Each (IsName s.table (texts_size p.texts)) s.name_offsets names
+
+-- ---- the two parts of an entry
+
+-- the sections up to the end of the string table
+abbrev pub standard_spelling : EntryValue → Strings → List (List ℕ)
+standard_spelling v s =
+    (magic v.width ∷ count_word (length v.names + 1) ∷ [])
+    ++ counts_spelling v.standard
+    ++ (count_word (length s.table) ∷ (v.names ++ 0 ∷ []) ∷ [])
+    ++ part_spelling v.width (length v.names + 1 + length v.standard.flags) v.standard s
+
+-- the bytes are these sections, and then rest; no standard capability has a name of its own
+pub record HasStandardPart (v : EntryValue) (s : Strings) (rest : List ℕ) (bytes : List ℕ) : Type 0 where
+  pub joined : bytes ≡ join (standard_spelling v s) rest
+  pub named : 0 < length v.names
+  pub few_names : length v.names + 1 < 2 ^ 15
+  pub names_fit : HasNoNul v.names
+  pub part : SpellsPart v.width s v.standard []
+
+-- the sections after a string table of a size, the word items given
+abbrev pub extended_spelling : ℕ → List ℕ → Width → PartValue → Strings → List (List ℕ)
+extended_spelling table_size items w p s =
+    (pad table_size ∷ [])
+    ++ counts_spelling p
+    ++ (items ∷ count_word (length s.table) ∷ [])
+    ++ part_spelling w (length p.flags) p s
+
+-- the bytes are these sections; the word items may be anything
+pub record HasExtendedPart (v : EntryValue) (table_size : ℕ) (bytes : List ℕ) : Type 0 where
+  pub items : List ℕ
+  pub strings : Strings
+  pub joined : bytes ≡ join (extended_spelling table_size items v.width (unnamed v.extended) strings) []
   pub items_size : length items ≡ 2
-  pub numbers_fit : AllByRecursion (FitsWidth v.width) (map mark_in v.extended.numbers)
-  pub texts_there : Each (IsText table) values (map mark_in v.extended.texts)
-  pub names_there : Each (IsName table (texts_size v.extended.texts)) names (part_names v.extended)
+  pub part : SpellsPart v.width strings (unnamed v.extended) (part_names v.extended)
 
 pub record HasNoExtendedPart (v : EntryValue) (bytes : List ℕ) : Type 0 where
   pub ends : bytes ≡ []
@@ -157,7 +180,7 @@ pub record HasNoExtendedPart (v : EntryValue) (bytes : List ℕ) : Type 0 where
 -- the bytes spell the entry
 pub record Spells (bytes : List ℕ) (v : EntryValue) : Type 0 where
   pub fits : length bytes ≤ most_entry_bytes
-  pub table : List ℕ
+  pub strings : Strings
   pub rest : List ℕ
-  pub sections : HasSections v table rest bytes
-  pub extended : HasNoExtendedPart v rest ⊎ HasExtendedPart v (length table) rest
+  pub standard : HasStandardPart v strings rest bytes
+  pub extended : HasNoExtendedPart v rest ⊎ HasExtendedPart v (length strings.table) rest

@@ -1,7 +1,7 @@
 use Rattle.std.proofs.Common.{◌≡◌, ◌++◌, ◌+◌, length, drop}
 use Rattle.ti_words.specs.Spelling.{words_of}
 use Rattle.ti_draft.specs.Canonical.{name_words, names_table}
-use Rattle.ti_draft.proofs.NamedLemmas.{lent}
+use Rattle.ti_draft.specs.Lists.{lent}
 use Rattle.ti_draft.proofs.put.put_name_words.Given as goal
 
 abbrev pub invariant-loop-name : goal.invariant-loop-name

@@ -1,6 +1,6 @@
 use Rattle.std.proofs.Common.{◌≡◌, ◌++◌, drop}
 use Rattle.ti_draft.specs.Canonical.{names_table}
-use Rattle.ti_draft.proofs.NamedLemmas.{lent}
+use Rattle.ti_draft.specs.Lists.{lent}
 use Rattle.ti_draft.proofs.put.put_names.Given as goal
 
 abbrev pub invariant-loop-name : goal.invariant-loop-name

@@ -1,7 +1,7 @@
 use Rattle.std.proofs.Common.{◌≡◌, ◌+◌, ◌-◌, ◌^◌, ◌≤◌, length, drop}
 use Rattle.ti_draft.specs.Canonical.{names_table}
 use Rattle.ti_draft.specs.Lengths.{capped_count}
-use Rattle.ti_draft.proofs.NamedLemmas.{lent}
+use Rattle.ti_draft.specs.Lists.{lent}
 use Rattle.ti_draft.proofs.size.names_len.Given as goal
 
 abbrev pub invariant-loop-name : goal.invariant-loop-name

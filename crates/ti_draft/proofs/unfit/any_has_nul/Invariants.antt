@@ -1,7 +1,7 @@
 use Rattle.std.proofs.Common.{◌≡◌, drop}
 use Rattle.std.specs.List.{list_any}
 use Rattle.ti_draft.specs.Unfit.{has_nul}
-use Rattle.ti_draft.proofs.NamedLemmas.{lent}
+use Rattle.ti_draft.specs.Lists.{lent}
 use Rattle.ti_draft.proofs.unfit.any_has_nul.Given as goal
 
 abbrev pub invariant-loop-name : goal.invariant-loop-name

@@ -1,6 +1,7 @@
 use Rattle.std.proofs.Common.{map, sym, ap, ◌∙◌}
 use Rattle.ti_words.specs.Spelling.{name_in}
-use Rattle.ti_draft.proofs.NamedLemmas.{lent, lent_names}
+use Rattle.ti_draft.specs.Lists.{lent}
+use Rattle.ti_draft.proofs.NamedLemmas.{lent_names}
 use Rattle.ti_draft.proofs.named.Named.names.Goals as goal
 
 pub returns : goal.returns

@@ -1,6 +1,6 @@
 use Rattle.std.proofs.Common.{◌∙◌, get_or, sym, ap}
 use Rattle.ti_words.specs.Texts.{AbsentText}
-use Rattle.ti_words.specs.Value.{PartValue, NamedPart}
+use Rattle.ti_words.specs.Value.{PartValue}
 use Rattle.ti_words.specs.Spelling.{unnamed}
 use Rattle.ti_entry.proofs.NamedItemsLemmas.{values_are}
 use Rattle.ti_entry.proofs.extended.Extended.text.Goals as goal
