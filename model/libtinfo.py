@@ -29,5 +29,14 @@ def names_of(library, array):
 
 def all_names():
     """The names of each kind by their index; none if the library is not there."""
+    return names_by(ARRAYS)
+
+
+def long_names():
+    """The long names of each kind likewise."""
+    return names_by(LONG_ARRAYS)
+
+
+def names_by(arrays):
     library, _ = installed()
-    return library and {kind: dict(enumerate(names_of(library, array))) for kind, array in ARRAYS.items()}
+    return library and {kind: dict(enumerate(names_of(library, array))) for kind, array in arrays.items()}

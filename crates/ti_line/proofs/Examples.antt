@@ -2,7 +2,7 @@
 use Rattle.std.proofs.Common.{[], ◌∷◌, true, false, refl}
 use Rattle.std.specs.Prelude.{codes}
 use Rattle.clap.proofs.OnLiterals.{clap_on_literals}
-use Rattle.ti_line.specs.CommandLine.{AsksForHelp, Cap, Check, Convert, Expand, IsRefused, Reads, Show, Trace}
+use Rattle.ti_line.specs.CommandLine.{AsksForHelp, Cap, Check, Convert, Expand, Get, IsRefused, Reads, Show, Trace}
 
 -- `ti cap n:4 --hex n:9`
 cap_row : Reads (codes "ti" ∷ codes "cap" ∷ codes "n:4" ∷ codes "--hex" ∷ codes "n:9" ∷ []) (Cap true false (codes "n:4" ∷ codes "n:9" ∷ []))
@@ -43,6 +43,11 @@ both_row = (refl, refl)
 expand_row : Reads (codes "ti" ∷ codes "expand" ∷ codes "--rate" ∷ codes "960" ∷ codes "cup" ∷ []) (Expand (codes "cup") false false false 960 1 false [])
 unfolding clap_on_literals
 expand_row = (refl, refl)
+
+-- `ti get cup 4 -- -9`
+get_row : Reads (codes "ti" ∷ codes "get" ∷ codes "cup" ∷ codes "4" ∷ codes "--" ∷ codes "-9" ∷ []) (Get (codes "cup") false false 0 1 false (codes "4" ∷ codes "-9" ∷ []))
+unfolding clap_on_literals
+get_row = (refl, refl)
 
 -- `ti expand --rate 1000001 bel`
 rate_row : IsRefused (codes "ti" ∷ codes "expand" ∷ codes "--rate" ∷ codes "1000001" ∷ codes "bel" ∷ [])

@@ -23,7 +23,7 @@ use Rattle.clap.specs.declared.builder.value_parser.ValueParser.{ValueParser}
 use Rattle.clap.specs.declared.builder.value_parser.ValueParser.TheVariants as vp
 use Rattle.clap.specs.declared.error.kind.ErrorKind.TheVariants as kind
 use Rattle.ti_base.specs.Limits.{greatest_rate, most_lines}
-use Rattle.ti_line.specs.CommandLine.{Line, expand_app, expand_by, faults, lines_rule, name_rule, rate_rule, number_in, number_or, Reads, line_by, line_in, ti_app}
+use Rattle.ti_line.specs.CommandLine.{Line, expand_app, expand_by, faults, get_app, get_by, lines_rule, name_rule, rate_rule, number_in, number_or, Reads, line_by, line_in, ti_app}
 use Rattle.ti_line.proofs.RowsLemmas.{Each, FirstIs, Fits, Gives, is_count, neither, row_found, rows_fit}
 
 -- ---- the subcommand that a walk stops at is not `help`
@@ -230,6 +230,20 @@ all_rate = (other _ _ _ refl refl, (other _ _ _ refl refl, (other _ _ _ refl ref
 all_lines : Each (Gives (codes "lines") (IsLow 1 most_lines)) expand_shape.rules
 all_lines = (other _ _ _ refl refl, (other _ _ _ refl refl, (other _ _ _ refl refl, (other _ _ _ refl refl, (other _ _ _ refl refl, (lines_gives, (other _ _ _ refl refl, (other _ _ _ refl refl, (other _ _ _ refl refl, tt)))))))))
 
+-- ---- the arguments of `get`
+
+abbrev get_shape : Shape
+get_shape = built_leaf (inherited (built ti_app).top get_app.top)
+
+all_get_name : Each (Gives (codes "NAME") Any) get_shape.rules
+all_get_name = (name_gives, (other _ _ _ refl refl, (other _ _ _ refl refl, (other _ _ _ refl refl, (other _ _ _ refl refl, (other _ _ _ refl refl, (other _ _ _ refl refl, (other _ _ _ refl refl, tt))))))))
+
+all_get_rate : Each (Gives (codes "rate") (IsLow 0 greatest_rate)) get_shape.rules
+all_get_rate = (other _ _ _ refl refl, (other _ _ _ refl refl, (other _ _ _ refl refl, (rate_gives, (other _ _ _ refl refl, (other _ _ _ refl refl, (other _ _ _ refl refl, (other _ _ _ refl refl, tt))))))))
+
+all_get_lines : Each (Gives (codes "lines") (IsLow 1 most_lines)) get_shape.rules
+all_get_lines = (other _ _ _ refl refl, (other _ _ _ refl refl, (other _ _ _ refl refl, (other _ _ _ refl refl, (lines_gives, (other _ _ _ refl refl, (other _ _ _ refl refl, (other _ _ _ refl refl, tt))))))))
+
 -- ---- the line
 
 abbrev HasLine : Option Line → Type 0
@@ -281,6 +295,37 @@ expand_line words e = go (find (λ r. bytes_eq r.id (codes "NAME")) rows) (row_f
     go None f g = absurd (true≢false (sym g))
     go (Some r) f g = named r.values r.reading f
 
+get_line : (words : List Text) → level_fault get_shape [] nothing_held words false [] ≡ [] → HasLine (line_by (codes "get") (rows_after get_shape.rules [] words))
+get_line words e = go (find (λ r. bytes_eq r.id (codes "NAME")) rows) (row_found _ Any rows (rows_fit _ Any get_shape [] words all_get_name e)) given
+  where
+    rows : List Row
+    rows = rows_after get_shape.rules [] words
+
+    end : Held
+    end = (walk get_shape.rules [] nothing_held words).held
+
+    given : is_given (codes "NAME") rows ≡ true
+    given = by (is_given (codes "NAME") rows) (neither (defaults_fault (settled get_shape.rules end).rows get_shape.rules) _ (neither (settle_fault get_shape.rules false end) _ (neither (walk_fault get_shape [] (walk_from nothing_held) words) _ e).1).1).1
+      where
+        by : (g : Bool) → cond (not g || false) (kind.MissingRequiredArgument ∷ []) [] ≡ [] → g ≡ true
+        by true f = refl
+        by false f = absurd (cc)
+
+    low : (nat_le (number_in (codes "rate") 0 rows) greatest_rate && nat_le (number_in (codes "lines") 1 rows) most_lines) ≡ true
+    low = rw (
+      le-leb _ _ (number_low (codes "rate") 0 greatest_rate rows (omega arith) (rows_fit _ _ get_shape [] words all_get_rate e)),
+      le-leb _ _ (number_low (codes "lines") 1 most_lines rows (omega arith) (rows_fit _ _ get_shape [] words all_get_lines e)),
+    ) refl
+
+    named : (values : List Text) (how : Reading) → FirstIs Any how values → HasLine (option_and_then (get_by rows) (slice_get values 0))
+    named [] how f = absurd f
+    named (v ∷ vs) how f = chosen _ _ low
+
+    go : (o : Option Row) → IfSome o (λ r. FirstIs Any r.reading r.values) → option_map_or (λ r. explicit_source r.source) o false ≡ true
+        → HasLine (option_and_then (get_by rows) (option_and_then (λ r. slice_get r.values 0) o))
+    go None f g = absurd (true≢false (sym g))
+    go (Some r) f g = named r.values r.reading f
+
 -- ---- the subcommand
 
 found_so : {X : Type 0} (P : X → Type 0) (test : X → Bool) (xs : List X) → Each (λ x. test x ≡ true → P x) xs → IfSome (find test xs) P
@@ -308,7 +353,10 @@ all_ask p past = (
           λ t e. expand_line p.1 e,
           (
             λ t e. (_, refl),
-            (λ t e. absurd (help t), tt),
+            (
+              λ t e. get_line p.1 e,
+              (λ t e. absurd (help t), tt),
+            ),
           ),
         ),
       ),

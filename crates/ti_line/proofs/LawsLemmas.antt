@@ -7,7 +7,7 @@ use Rattle.clap.specs.Words.{Kinds, Row, Text, first_of}
 use Rattle.clap.specs.declared.error.kind.ErrorKind.{ErrorKind}
 use Rattle.clap.proofs.WalkLemmas.{both}
 use Rattle.ti_base.specs.Limits.{greatest_rate, most_lines}
-use Rattle.ti_line.specs.CommandLine.{Line, line_in, line_by, expand_by, is_help, number_in}
+use Rattle.ti_line.specs.CommandLine.{Line, line_in, line_by, expand_by, get_by, is_help, number_in}
 use Rattle.ti_line.specs.Laws.{IsWithin}
 
 -- ---- options
@@ -54,6 +54,11 @@ named rows None = tt
 named rows (Some name) =
     bounded (number_in (codes "rate") 0 rows) (number_in (codes "lines") 1 rows) _ _ refl (λ h. h)
 
+named_of_get : (rows : List Row) (name : Option Text) → IfSome (option_and_then (get_by rows) name) IsWithin
+named_of_get rows None = tt
+named_of_get rows (Some name) =
+    bounded (number_in (codes "rate") 0 rows) (number_in (codes "lines") 1 rows) _ _ refl (λ h. h)
+
 within : (command : Text) (rows : List Row) → IfSome (line_by command rows) IsWithin
 within command rows =
     chosen (bytes_eq command (codes "cap")) _ _ tt
@@ -61,7 +66,8 @@ within command rows =
     (chosen (bytes_eq command (codes "show")) _ _ tt
     (chosen (bytes_eq command (codes "check")) _ _ tt
     (chosen (bytes_eq command (codes "expand")) _ _ (named rows (first_of (codes "NAME") rows))
-    (chosen (bytes_eq command (codes "convert")) _ _ tt tt)))))
+    (chosen (bytes_eq command (codes "convert")) _ _ tt
+    (chosen (bytes_eq command (codes "get")) _ _ (named_of_get rows (first_of (codes "NAME") rows)) tt))))))
 
 pub within_request : (found : Option (Text × List Row)) (line : Line) → line_in found ≡ Some line → IsWithin line
 within_request None line e = absurd (none_some None line refl e)

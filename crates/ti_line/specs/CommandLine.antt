@@ -85,6 +85,12 @@ expand_app =
 abbrev pub convert_app : App
 convert_app = with_rules (new_app (codes "convert")) (flag_rule (codes "wide") ∷ flag_rule (codes "narrow") ∷ [])
 
+-- `get NAME [--hex] [--escape] [--rate N] [--lines N] [--xon] [PARAM..]`
+abbrev pub get_app : App
+get_app =
+    with_rules (new_app (codes "get"))
+    (name_rule ∷ flag_rule (codes "hex") ∷ flag_rule (codes "escape") ∷ rate_rule ∷ lines_rule ∷ flag_rule (codes "xon") ∷ params_rule ∷ [])
+
 -- `ti` with a version, which wants a subcommand
 abbrev pub start_app : App
 start_app =
@@ -94,7 +100,7 @@ start_app =
 abbrev pub ti_app : App
 ti_app =
     with_commands start_app
-    (cap_app ∷ trace_app ∷ show_app ∷ check_app ∷ expand_app ∷ convert_app ∷ [])
+    (cap_app ∷ trace_app ∷ show_app ∷ check_app ∷ expand_app ∷ convert_app ∷ get_app ∷ [])
 
 -- ---- the values that `clap` found
 
@@ -129,6 +135,8 @@ pub data Line : Type 0 where
   Expand : (name : Text) → (hex escape all_names : Bool) → (rate lines : ℕ) → (xon : Bool)
       → (params : List Text) → Line
   Convert : (wide narrow : Bool) → Line
+  Get : (name : Text) → (hex escape : Bool) → (rate lines : ℕ) → (xon : Bool)
+      → (params : List Text) → Line
 
 -- `expand` with a name and numbers within their ranges
 abbrev pub expand_by : List Row → Text → Option Line
@@ -138,6 +146,16 @@ expand_by rows name =
     if nat_le rate greatest_rate && nat_le lines most_lines
     then Some (Expand name (flag_in (codes "hex") rows) (flag_in (codes "escape") rows)
     (flag_in (codes "all-names") rows) rate lines (flag_in (codes "xon") rows) (params_in rows))
+    else None
+
+-- `get` with a name and numbers within their ranges
+abbrev pub get_by : List Row → Text → Option Line
+get_by rows name =
+    let rate = number_in (codes "rate") 0 rows in
+    let lines = number_in (codes "lines") 1 rows in
+    if nat_le rate greatest_rate && nat_le lines most_lines
+    then Some (Get name (flag_in (codes "hex") rows) (flag_in (codes "escape") rows)
+    rate lines (flag_in (codes "xon") rows) (params_in rows))
     else None
 
 -- what a subcommand and its values ask for
@@ -155,7 +173,9 @@ line_by command rows =
     then option_and_then (expand_by rows) (first_of (codes "NAME") rows)
     else (if bytes_eq command (codes "convert")
     then Some (Convert (flag_in (codes "wide") rows) (flag_in (codes "narrow") rows))
-    else None)))))
+    else (if bytes_eq command (codes "get")
+    then option_and_then (get_by rows) (first_of (codes "NAME") rows)
+    else None))))))
 
 -- what the subcommand that was found asks for
 abbrev pub line_in : Option (Text × List Row) → Option Line

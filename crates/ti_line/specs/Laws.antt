@@ -2,7 +2,7 @@
 use Rattle.std.specs.Prelude.{◌≡◌, ◌⊎◌, ◌≤◌, List, []}
 use Rattle.clap.specs.Words.{Text}
 use Rattle.ti_base.specs.Limits.{greatest_rate, most_lines}
-use Rattle.ti_line.specs.CommandLine.{Line, Cap, Trace, Show, Check, Expand, Convert, AsksForHelp, IsRefused, Reads, faults}
+use Rattle.ti_line.specs.CommandLine.{Line, Cap, Trace, Show, Check, Expand, Convert, Get, AsksForHelp, IsRefused, Reads, faults}
 
 -- words on which `clap` finds no fault make a line
 abbrev pub MakesLine : Type 0
@@ -32,6 +32,8 @@ IsWithin (Check escape all_names) = Unit {0}
 IsWithin (Expand name hex escape all_names rate lines xon params) =
     (rate ≤ greatest_rate) × (lines ≤ most_lines)
 IsWithin (Convert wide narrow) = Unit {0}
+IsWithin (Get name hex escape rate lines xon params) =
+    (rate ≤ greatest_rate) × (lines ≤ most_lines)
 
 -- of each line that is read
 abbrev pub HasNumbersWithin : Type 0

@@ -1,10 +1,13 @@
--- What the words of a command line stand for as parameters of a capability.
-use Rattle.std.specs.Prelude.{◌≡◌, ℕ, ◌<◌, ◌≤◌, ◌-◌, List, [], ◌∷◌, ◌++◌, length, codes, ℤ, pos, neg_ℤ, FitsSigned, ◌⊎◌}
+-- What the words of a command line mean as parameters of a capability.
+use Rattle.std.specs.Prelude.{◌≡◌, ℕ, ◌<◌, ◌≤◌, ◌-◌, List, [], ◌∷◌, ◌++◌, length, codes, ℤ, pos, neg_ℤ, FitsSigned, ◌⊎◌, Option, Some, None}
 use Rattle.std.specs.List.{AllByRecursion}
 use Rattle.std.specs.Int.{w32}
 use Rattle.std.specs.Str.Parse.{IsNumeral, digits_value}
 use Rattle.ti_expand.specs.declared.values.Value.{Value}
 use Rattle.ti_expand.specs.declared.values.Value.TheVariants.{Num, Text}
+use Rattle.ti_line.specs.declared.given.Given.{Given}
+use Rattle.ti_line.specs.declared.given.Param.{Param}
+use Rattle.ti_line.specs.declared.given.Param.TheVariants as params
 use Rattle.ti_line.specs.declared.params.WordFault.{WordFault}
 use Rattle.ti_line.specs.declared.params.WordFault.TheVariants as faults
 
@@ -24,24 +27,54 @@ IsParam word (Text t) = word ≡ codes "s:" ++ t.now
 abbrev pub IsZero : Value → Type 0
 IsZero value = value ≡ Num (pos 0)
 
--- each word stands for the value in its place, and after the words the values are 0
-abbrev pub Stand : List (List ℕ) → List Value → Type 0
-Stand [] values = AllByRecursion IsZero values
-Stand (word ∷ words) [] = ⊥
-Stand (word ∷ words) (value ∷ values) = IsParam word value × Stand words values
+-- each word means the value in its place, and after the words each value is a missing one
+abbrev pub Stand : {V : Type 0} → (List ℕ → V → Type 0) → (V → Type 0) → List (List ℕ) → List V
+    → Type 0
+Stand Means IsMissing [] values = AllByRecursion IsMissing values
+Stand Means IsMissing (word ∷ words) [] = ⊥
+Stand Means IsMissing (word ∷ words) (value ∷ values) =
+    Means word value × Stand Means IsMissing words values
 
--- the words stand for nine parameters
+-- the words stand for nine parameters, of which the missing ones are 0
 abbrev pub AreParams : List (List ℕ) → List Value → Type 0
-AreParams words values = (length values ≡ 9) × Stand words values
+AreParams words values = (length values ≡ 9) × Stand IsParam IsZero words values
 
--- the word in this place, from 1 on, stands for nothing, and each before it stands for something
-abbrev pub IsFirstBad : ℕ → List (List ℕ) → Type 0
-IsFirstBad which [] = ⊥
-IsFirstBad which (word ∷ words) =
-    ((which ≡ 1) × ((value : Value) → ¬ IsParam word value))
-    ⊎ ((1 < which) × ((value : Value) × IsParam word value) × IsFirstBad (which - 1) words)
+-- the word in this place, from 1 on, means nothing, and each before it means something
+abbrev pub IsFirstBad : {V : Type 0} → (List ℕ → V → Type 0) → ℕ → List (List ℕ) → Type 0
+IsFirstBad Means which [] = ⊥
+IsFirstBad {V} Means which (word ∷ words) =
+    ((which ≡ 1) × ((value : V) → ¬ Means word value))
+    ⊎ ((1 < which) × ((value : V) × Means word value) × IsFirstBad Means (which - 1) words)
 
--- why words stand for no parameters
-abbrev pub IsWordFault : List (List ℕ) → WordFault → Type 0
-IsWordFault words faults.TooMany = 9 < length words
-IsWordFault words (faults.BadWord which) = (length words ≤ 9) × IsFirstBad which words
+-- why words mean no parameters
+abbrev pub IsWordFault : {V : Type 0} → (List ℕ → V → Type 0) → List (List ℕ) → WordFault → Type 0
+IsWordFault Means words faults.TooMany = 9 < length words
+IsWordFault Means words (faults.BadWord which) = (length words ≤ 9) × IsFirstBad Means which words
+
+-- ---- the words of `get`
+
+-- `n:` or `s:` stands before a text
+abbrev pub IsMarked : List ℕ → Type 0
+IsMarked word = (text : List ℕ) × ((word ≡ codes "n:" ++ text) ⊎ (word ≡ codes "s:" ++ text))
+
+-- a mark makes a word a number or a text; without one a number of 32 bits may be either, and any other
+-- word is a text
+abbrev pub IsGiven : List ℕ → Param → Type 0
+IsGiven word (params.Number z) = (text : List ℕ) × (word ≡ codes "n:" ++ text) × IsNumber text z
+IsGiven word (params.Text t) =
+    (word ≡ codes "s:" ++ t.now)
+    ⊎ ((¬ IsMarked word) × ((z : ℤ) → ¬ IsNumber word z) × (t.now ≡ word))
+IsGiven word (params.Either z t) = (¬ IsMarked word) × IsNumber word z × (t.now ≡ word)
+
+abbrev pub IsMissing : Param → Type 0
+IsMissing param = param ≡ params.Number (pos 0)
+
+-- the words give nine parameters, of which the missing ones are 0
+abbrev pub AreGiven : List (List ℕ) → List Param → Type 0
+AreGiven words params = (length params ≡ 9) × Stand IsGiven IsMissing words params
+
+-- the parameters of `get`: none if there are no words
+abbrev pub IsGivenBy : List (List ℕ) → Option Given → Type 0
+IsGivenBy [] given = given ≡ None
+IsGivenBy (word ∷ words) given =
+    (g : Given) × (given ≡ Some g) × AreGiven (word ∷ words) g.params

@@ -6,12 +6,14 @@ use Rattle.ti_words.specs.declared.Width.{Width}
 use Rattle.ti_words.specs.declared.Width.TheVariants.{Legacy, Wide}
 use Rattle.ti_expand.specs.declared.values.Value.{Value}
 use Rattle.ti_pad.specs.Setting.{Setting}
-use Rattle.ti_line.specs.CommandLine.{Line, AsksForHelp, Cap, Trace, Show, Check, Expand, Convert, IsRefused, Reads}
+use Rattle.ti_line.specs.CommandLine.{Line, AsksForHelp, Cap, Trace, Show, Check, Expand, Convert, Get, IsRefused, Reads}
 use Rattle.ti_line.specs.Looks.{form_asked, look_asked, names_asked, naming_asked, output_asked}
-use Rattle.ti_line.specs.Params.{AreParams, IsWordFault}
+use Rattle.ti_line.specs.Params.{AreGiven, AreParams, IsGiven, IsGivenBy, IsParam, IsWordFault}
+use Rattle.ti_line.specs.declared.given.Param.{Param}
 use Rattle.ti_line.specs.declared.params.WordFault.{WordFault}
 use Rattle.ti_line.specs.declared.request.Asked.TheVariants.{Capability, Entry}
 use Rattle.ti_line.specs.declared.request.Expand as code
+use Rattle.ti_line.specs.declared.request.Get as code_of_get
 use Rattle.ti_line.specs.declared.request.OfCapability.TheVariants as of_cap
 use Rattle.ti_line.specs.declared.request.OfEntry.TheVariants as of_entry
 use Rattle.ti_line.specs.declared.request.Request.{Request}
@@ -37,7 +39,12 @@ width_asked false false = None
 
 -- the words stand for no parameters, and why
 abbrev pub StandForNone : List Text → WordFault → Type 0
-StandForNone words why = IsWordFault words why × ((values : List Value) → ¬ AreParams words values)
+StandForNone words why =
+    IsWordFault IsParam words why × ((values : List Value) → ¬ AreParams words values)
+
+-- the words give `get` no parameters, and why
+abbrev pub GiveNone : List Text → WordFault → Type 0
+GiveNone words why = IsWordFault IsGiven words why × ((params : List Param) → ¬ AreGiven words params)
 
 -- what a line asks for, by whether results go to a terminal; of two flags that exclude each other at
 -- most one is given, and the words of the parameters stand for them
@@ -59,6 +66,11 @@ Asks terminal (Expand name hex escape all_names rate lines xon words) r =
 Asks terminal (Convert wide narrow) r =
     (wide && narrow ≡ false)
     × (r.asked ≡ Entry (of_entry.Convert (width_asked wide narrow)))
+Asks terminal (Get name hex escape rate lines xon words) r =
+    (hex && escape ≡ false)
+    × ((g : code_of_get.Get) × (r.asked ≡ Entry (of_entry.Get g)) × (g.name.now ≡ name)
+    × IsGivenBy words g.given × (g.padding ≡ setting_of rate lines xon)
+    × (g.output ≡ output_asked hex escape))
 
 -- why that can't be done: both of two such flags are given, or else the words stand for no parameters
 abbrev pub HasFault : Line → LineFault → Type 0
@@ -71,6 +83,9 @@ HasFault (Expand name hex escape all_names rate lines xon words) fault.BothForms
 HasFault (Expand name hex escape all_names rate lines xon words) (fault.Words why) =
     (hex && escape ≡ false) × StandForNone words why
 HasFault (Convert wide narrow) fault.BothWidths = wide && narrow ≡ true
+HasFault (Get name hex escape rate lines xon words) fault.BothFormsOfGet = hex && escape ≡ true
+HasFault (Get name hex escape rate lines xon words) (fault.Words why) =
+    (hex && escape ≡ false) × GiveNone words why
 HasFault _ _ = ⊥
 
 -- a line is answered with what it asks for, or with its fault

@@ -2,7 +2,7 @@
 
 ghost use Rattle.std.specs.Prelude.{◌≡◌, [], ◌∷◌, IfOk, false};
 ghost use Rattle.clap.specs.Words.{App, app_of, new_app, rule_of};
-ghost use Rattle.ti_line.specs.CommandLine.{cap_app, check_app, convert_app, expand_app, flag_rule, name_rule, number_rule, params_rule, show_app, start_app, ti_app, trace_app, with_commands, with_rules};
+ghost use Rattle.ti_line.specs.CommandLine.{cap_app, check_app, convert_app, expand_app, flag_rule, get_app, name_rule, number_rule, params_rule, show_app, start_app, ti_app, trace_app, with_commands, with_rules};
 ghost use Rattle.ti_line.specs.inner.Command.{HasNoGlobals};
 
 use clap::{Arg, ArgAction, Command, value_parser};
@@ -32,26 +32,36 @@ fn number<'a>(alloc: Global, name: &'a str, most: u32, help: &'a str) -> Arg<'a>
         .help(help)
 }
 
-fn params<'a>(alloc: Global) -> Arg<'a>
+/// The argument of parameters, with what help says of them.
+fn params<'a>(alloc: Global, help: &'a str) -> Arg<'a>
     ensures rule { rule_of result ≡ params_rule }
     ensures local { result.global ≡ false }
 {
     Arg::new(alloc, "PARAM")
         .action(ArgAction::Append)
         .num_args(0..)
-        .help(
-            "n:NUMBER (-2147483648 to 2147483647) or s:TEXT; at most nine, missing ones are the number 0",
-        )
+        .help(help)
 }
 
-fn name<'a>(alloc: Global) -> Arg<'a>
+const PARAMS: &str =
+    "n:NUMBER (-2147483648 to 2147483647) or s:TEXT; at most nine, missing ones are the number 0";
+
+const ANY_PARAMS: &str =
+    "A number or a text, as n:NUMBER or s:TEXT or as the text takes it; with none it is not expanded";
+
+/// The argument of a name, with what help says of it.
+fn name<'a>(alloc: Global, help: &'a str) -> Arg<'a>
     ensures rule { rule_of result ≡ name_rule }
     ensures local { result.global ≡ false }
 {
-    Arg::new(alloc, "NAME").required(true).help(
-        "The text: # and its index, as #10, or its name, as cup, or an extended text's name",
-    )
+    Arg::new(alloc, "NAME").required(true).help(help)
 }
+
+const TEXT_NAME: &str =
+    "The text: # and its index, as #10, or its name, as cup, or an extended text's name";
+
+const ANY_NAME: &str =
+    "The capability: a name, as cup, cursor_address or an extended one, or flag#N, number#N or text#N";
 
 const HEX: &str = "Write the output as lower-case hex and one newline";
 
@@ -112,7 +122,7 @@ fn cap<'a>(alloc: Global) -> Result<Command<'a>, AllocError>
         flag(alloc, "hex", HEX),
         flag(alloc, "escape", ESCAPE),
     )?
-    .arg(params(alloc))
+    .arg(params(alloc, PARAMS))
 }
 
 fn trace<'a>(alloc: Global) -> Result<Command<'a>, AllocError>
@@ -125,7 +135,11 @@ fn trace<'a>(alloc: Global) -> Result<Command<'a>, AllocError>
         "Show what each token of one capability on standard input does; padding marks stay as they are",
         "Example, which shows the stack and the output after each token:\n  printf '\\033[%%p1%%dG' | ti trace --escape n:7",
     );
-    with_two(command, params(alloc), flag(alloc, "escape", ESCAPE))
+    with_two(
+        command,
+        params(alloc, PARAMS),
+        flag(alloc, "escape", ESCAPE),
+    )
 }
 
 fn show<'a>(alloc: Global) -> Result<Command<'a>, AllocError>
@@ -172,7 +186,7 @@ fn expand<'a>(alloc: Global) -> Result<Command<'a>, AllocError>
         "Expand and pad one text of the entry on standard input",
         "Example, which moves to line 5, column 10:\n  ti expand cup n:4 n:9 < /lib/terminfo/x/xterm",
     );
-    let command = with_two(command, name(alloc), flag(alloc, "hex", HEX))?;
+    let command = with_two(command, name(alloc, TEXT_NAME), flag(alloc, "hex", HEX))?;
     let command = with_two(
         command,
         flag(alloc, "escape", ESCAPE),
@@ -183,7 +197,7 @@ fn expand<'a>(alloc: Global) -> Result<Command<'a>, AllocError>
         number(alloc, "rate", GREATEST_RATE, RATE),
         number(alloc, "lines", MOST_LINES, LINES),
     )?;
-    with_two(command, flag(alloc, "xon", XON), params(alloc))
+    with_two(command, flag(alloc, "xon", XON), params(alloc, PARAMS))
 }
 
 fn convert<'a>(alloc: Global) -> Result<Command<'a>, AllocError>
@@ -203,10 +217,34 @@ fn convert<'a>(alloc: Global) -> Result<Command<'a>, AllocError>
     )
 }
 
+fn get<'a>(alloc: Global) -> Result<Command<'a>, AllocError>
+    ensures shape { IfOk result (λ c. app_of c ≡ get_app) }
+    ensures local { IfOk result HasNoGlobals }
+{
+    let command = new_command(
+        alloc,
+        "get",
+        "Write the value of one capability of the entry on standard input, as tput does",
+        "Example, which moves to line 5, column 10:\n  ti get cup 4 9 < /lib/terminfo/x/xterm",
+    );
+    let command = command.arg(name(alloc, ANY_NAME))?;
+    let command = with_two(
+        command,
+        flag(alloc, "hex", HEX),
+        flag(alloc, "escape", ESCAPE),
+    )?;
+    let command = with_two(
+        command,
+        number(alloc, "rate", GREATEST_RATE, RATE),
+        number(alloc, "lines", MOST_LINES, LINES),
+    )?;
+    with_two(command, flag(alloc, "xon", XON), params(alloc, ANY_PARAMS))
+}
+
 /// What help says of the exit status.
 const STATUSES: &str = "Status:
   0  done
-  1  check found a fault
+  1  check found a fault, or a flag is not set
   2  the words are wrong
   3  the entry is refused
   4  the capability is refused or absent
@@ -257,5 +295,6 @@ pub(crate) fn program<'a>(alloc: Global) -> Result<Command<'a>, AllocError>
     let first = first_commands(alloc)?;
     let checked = with_made(first, check(alloc))?;
     let expanded = with_made(checked, expand(alloc))?;
-    with_made(expanded, convert(alloc))
+    let converted = with_made(expanded, convert(alloc))?;
+    with_made(converted, get(alloc))
 }

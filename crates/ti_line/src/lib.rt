@@ -12,10 +12,12 @@
 //! | `check [--escape] [--all-names]` | [`OfEntry::Check`] |
 //! | `expand NAME [--hex] [--escape] [--all-names] [--rate N] [--lines N] [--xon] [PARAM..]` | [`OfEntry::Expand`] |
 //! | `convert [--wide] [--narrow]` | [`OfEntry::Convert`] |
+//! | `get NAME [--hex] [--escape] [--rate N] [--lines N] [--xon] [PARAM..]` | [`OfEntry::Get`] |
 #![tactic(auto)]
 
 mod asked;
 mod command;
+mod given;
 pub mod laws;
 mod look;
 mod matches;
@@ -27,9 +29,10 @@ mod read;
 mod request;
 
 pub use asked::{look_asked, naming_asked, output_asked};
+pub use given::{Given, Param, read_given};
 pub use look::{Look, NameForm, Naming, Output};
 pub use message::Message;
 pub use no_line::{LineFault, NoLine};
 pub use params::{WordFault, read_params};
 pub use read::read_line;
-pub use request::{Asked, Expand, OfCapability, OfEntry, Request, TextName};
+pub use request::{Asked, Expand, Get, OfCapability, OfEntry, Request, TextName};

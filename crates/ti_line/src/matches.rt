@@ -3,16 +3,17 @@
 ghost use Rattle.std.specs.Prelude.{◌≡◌, ◌≤◌, Bool, IfSome, IsSome, MatchResult, codes, option_map};
 ghost use Rattle.ti_base.specs.Limits.{greatest_rate, most_lines};
 ghost use Rattle.clap.specs.Words.{first_of};
-ghost use Rattle.ti_line.specs.CommandLine.{Cap, Convert, Trace, expand_by, flag_in, line_by, number_in, params_in};
-ghost use Rattle.ti_line.specs.Params.{AreParams};
-ghost use Rattle.ti_line.specs.Requests.{IsAnswered, StandForNone, setting_of};
+ghost use Rattle.ti_line.specs.CommandLine.{Cap, Convert, Trace, expand_by, flag_in, get_by, line_by, number_in, params_in};
+ghost use Rattle.ti_line.specs.Params.{AreParams, IsGivenBy};
+ghost use Rattle.ti_line.specs.Requests.{GiveNone, IsAnswered, StandForNone, setting_of};
 ghost use Rattle.ti_line.specs.declared.request.Asked.TheVariants.{Entry};
 ghost use Rattle.ti_line.specs.inner.Matches.{given_rows};
 
 use crate::asked::{form_asked, look_asked, names_asked, naming_asked, output_asked, width_asked};
+use crate::given::{Given, read_given};
 use crate::no_line::LineFault;
 use crate::params::{WordFault, read_params};
-use crate::request::{Asked, Expand, OfCapability, OfEntry, Request, TextName};
+use crate::request::{Asked, Expand, Get, OfCapability, OfEntry, Request, TextName};
 use clap::ArgMatches;
 use ti_expand::Value;
 use ti_pad::Padding;
@@ -50,6 +51,15 @@ fn parameters<'a>(given: &ArgMatches<'a>) -> Result<[Value<'a>; 9], WordFault>
     read_params(given.get_strs("PARAM").unwrap_or(&[]))
 }
 
+/// The parameters of `get`.
+fn given_parameters<'a>(given: &ArgMatches<'a>) -> Result<Option<Given<'a>>, WordFault>
+    ensures { MatchResult result
+        (IsGivenBy (params_in (given_rows given.now)))
+        (GiveNone (params_in (given_rows given.now))) }
+{
+    read_given(given.get_strs("PARAM").unwrap_or(&[]))
+}
+
 /// What `cap` requests.
 fn cap<'a>(given: &ArgMatches<'a>) -> Result<Request<'a>, LineFault>
     ensures { (terminal : Bool) → let rows = given_rows given.now in
@@ -77,7 +87,7 @@ fn trace<'a>(given: &ArgMatches<'a>) -> Result<Request<'a>, LineFault>
     })
 }
 
-/// The padding of `expand`, whose numbers are within their ranges.
+/// The padding of `expand` or `get`, whose numbers are within their ranges.
 fn padding(given: &ArgMatches<'_>) -> Padding
     requires within { (number_in (codes "rate") 0 (given_rows given.now) ≤ greatest_rate)
         × (number_in (codes "lines") 1 (given_rows given.now) ≤ most_lines) }
@@ -129,6 +139,27 @@ fn convert<'a>(given: &ArgMatches<'a>) -> Result<Request<'a>, LineFault>
     })
 }
 
+/// What `get` requests of a name.
+fn get<'a>(given: &ArgMatches<'a>, name: &'a str) -> Result<Request<'a>, LineFault>
+    requires within { IsSome (get_by (given_rows given.now) name.now) }
+    ensures { (terminal : Bool) → IfSome (get_by (given_rows given.now) name.entry.now)
+        (λ line. IsAnswered terminal line result) }
+{
+    let (hex, escape) = (flag(given, "hex"), flag(given, "escape"));
+    if hex && escape {
+        return Err(LineFault::BothFormsOfGet);
+    }
+    Ok(Request {
+        parameters: NO_PARAMETERS,
+        asked: Asked::Entry(OfEntry::Get(Get {
+            name,
+            given: given_parameters(given)?,
+            padding: padding(given),
+            output: output_asked(hex, escape),
+        })),
+    })
+}
+
 /// What a subcommand and its values ask for, by whether results go to a terminal.
 pub(crate) fn request_of<'a>(
     terminal: bool,
@@ -156,6 +187,10 @@ pub(crate) fn request_of<'a>(
             None => unreachable!(),
         },
         "convert" => convert(given),
+        "get" => match text(given, "NAME") {
+            Some(name) => get(given, name),
+            None => unreachable!(),
+        },
         _ => unreachable!(),
     }
 }

@@ -16,6 +16,9 @@ pub enum LineFault {
     /// `expand` is to write its output in both forms.
     #[error("BothFormsOfExpand")]
     BothFormsOfExpand,
+    /// `get` is to write its output in both forms.
+    #[error("BothFormsOfGet")]
+    BothFormsOfGet,
     /// `convert` is to write both widths.
     #[error("BothWidths")]
     BothWidths,

@@ -10,7 +10,7 @@ use thiserror::Error;
 use ti_expand::Value;
 
 /// How many parameters a capability has.
-const COUNT: usize = 9;
+pub(crate) const COUNT: usize = 9;
 
 /// Why words are no parameters.
 #[derive(Clone, Copy, Debug, PartialEq, Eq, Error)]
@@ -27,7 +27,7 @@ pub enum WordFault {
 }
 
 /// The number that an optional `-` and decimal digits mean, if it has 32 bits.
-fn number(text: &str) -> Option<i32>
+pub(crate) fn number(text: &str) -> Option<i32>
     ensures some { IfSome result (λ z. IsNumber text.now z) }
     ensures none { IfNone result ((z : ℤ) → ¬ IsNumber text.now z) }
 {
@@ -60,7 +60,7 @@ fn read_into<'a>(words: &[&'a str], values: &mut [Value<'a>; COUNT]) -> Result<(
     ensures values { OnOk result (AreParams (texts_of words.now) values.new) }
     ensures many { (result ≡ Err WordFault.TooMany) ↔ (9 < length words.now) }
     ensures bad { (which : ℕ) → result ≡ Err (WordFault.BadWord which)
-        → IsFirstBad which (texts_of words.now) }
+        → IsFirstBad IsParam which (texts_of words.now) }
 {
     if words.len() > COUNT {
         return Err(WordFault::TooMany);
@@ -75,7 +75,7 @@ fn read_into<'a>(words: &[&'a str], values: &mut [Value<'a>; COUNT]) -> Result<(
 }
 
 /// The value, unless there is an error.
-fn with<T: Drop, E>(done: Result<(), E>, value: T) -> Result<T, E>
+pub(crate) fn with<T: Drop, E>(done: Result<(), E>, value: T) -> Result<T, E>
     ensures { MatchResult done (λ _. result ≡ Ok value) (λ e. result ≡ Err e) }
 {
     match done {
@@ -92,7 +92,7 @@ pub fn read_params<'a>(words: &[&'a str]) -> Result<[Value<'a>; 9], WordFault>
     ensures values { IfOk result (λ values. AreParams (texts_of words.now) values) }
     ensures many { (result ≡ Err WordFault.TooMany) ↔ (9 < length words.now) }
     ensures bad { (which : ℕ) → result ≡ Err (WordFault.BadWord which)
-        → IsFirstBad which (texts_of words.now) }
+        → IsFirstBad IsParam which (texts_of words.now) }
 {
     let mut values = [Value::Num(0); COUNT];
     let read = read_into(words, &mut values);

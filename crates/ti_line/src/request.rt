@@ -1,5 +1,6 @@
 //! What a command line requests, all of it valid.
 
+use crate::given::Given;
 use crate::look::{Look, Naming, Output};
 use ti_escape::Form;
 use ti_expand::Value;
@@ -9,7 +10,8 @@ use ti_words::{NameTable, Width};
 /// What a command line requests.
 #[derive(Debug, Drop)]
 pub struct Request<'a> {
-    /// The parameters of the capability or of the text; all are the number 0 if none are given or taken.
+    /// The parameters of the capability or of the text; all are the number 0 if none are given or taken. Those of `get`
+    /// are in [`Get::given`].
     pub parameters: [Value<'a>; 9],
     /// What is done.
     pub asked: Asked<'a>,
@@ -44,6 +46,8 @@ pub enum OfEntry<'a> {
     Expand(Expand<'a>),
     /// To write it in its canonical layout, in a width or else in its own.
     Convert(Option<Width>),
+    /// To write the value of one of its capabilities.
+    Get(Get<'a>),
 }
 
 /// The text that is expanded, and how.
@@ -54,6 +58,19 @@ pub struct Expand<'a> {
     /// The padding.
     pub padding: Padding,
     /// How the output is written.
+    pub output: Output,
+}
+
+/// The capability whose value is written, and how.
+#[derive(Debug, Drop)]
+pub struct Get<'a> {
+    /// The name of the capability, of any kind.
+    pub name: &'a str,
+    /// The parameters; with none a text is not expanded.
+    pub given: Option<Given<'a>>,
+    /// The padding of a text.
+    pub padding: Padding,
+    /// How a text is written.
     pub output: Output,
 }
 

@@ -37,6 +37,7 @@ mod rows_of_cap;
 mod rows_of_check;
 mod rows_of_convert;
 mod rows_of_expand;
+mod rows_of_get;
 mod rows_of_show;
 mod rows_of_trace;
 mod show_call;

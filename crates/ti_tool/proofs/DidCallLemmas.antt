@@ -32,7 +32,9 @@ failed due held (fault.TextTooLong k) never (inr d) = (d, Keeps-refl held)
 failed due held (fault.Encode unfit) never (inl (e, needs)) = absurd (cc)
 failed due held (fault.Encode unfit) never (inr d) = (d, Keeps-refl held)
 failed due held fault.NoSuchText never (inl (e, needs)) = absurd (cc)
+failed due held fault.NoSuchName never (inl (e, needs)) = absurd (cc)
 failed due held fault.NoSuchText never (inr d) = (d, Keeps-refl held)
+failed due held fault.NoSuchName never (inr d) = (d, Keeps-refl held)
 failed due held (fault.TooMuch need) never (inl (e, needs)) = absurd (cc)
 failed due held (fault.TooMuch need) never (inr d) = (d, Keeps-refl held)
 
@@ -46,6 +48,7 @@ ended enough left (Err (fault.Cap refused)) h = h
 ended enough left (Err (fault.TextTooLong k)) h = h
 ended enough left (Err (fault.Encode unfit)) h = h
 ended enough left (Err fault.NoSuchText) h = h
+ended enough left (Err fault.NoSuchName) h = h
 ended enough left (Err (fault.TooMuch need)) h = h
 
 -- a call that found a fault before it wrote
@@ -67,6 +70,7 @@ wrote_due due out held0 held1 (Err (fault.Cap refused)) d w fails = absurd fails
 wrote_due due out held0 held1 (Err (fault.TextTooLong k)) d w fails = absurd fails
 wrote_due due out held0 held1 (Err (fault.Encode unfit)) d w fails = absurd fails
 wrote_due due out held0 held1 (Err fault.NoSuchText) d w fails = absurd fails
+wrote_due due out held0 held1 (Err fault.NoSuchName) d w fails = absurd fails
 wrote_due due out held0 held1 (Err (fault.TooMuch need)) d w fails = absurd fails
 
 -- a call that wrote what is due

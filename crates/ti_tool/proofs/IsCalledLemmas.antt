@@ -13,12 +13,12 @@ use Rattle.ti_tool.specs.Names.{IsLabel, IsExtendedCalled, IsNamedText, IsCalled
 
 -- ---- the first of a name
 
-not_there : (names : List (List ℕ)) (name : List ℕ) (i : ℕ) → Lacks names name → slice_get names i ≡ Some name → ⊥
+pub not_there : (names : List (List ℕ)) (name : List ℕ) (i : ℕ) → Lacks names name → slice_get names i ≡ Some name → ⊥
 not_there [] name i lacks is = absurd cc
 not_there (n ∷ ns) name zero lacks is = lacks.0 (let same : n ≡ name = cc in same)
 not_there (n ∷ ns) name (suc i) lacks is = not_there ns name i lacks.1 is
 
-one_index : (names : List (List ℕ)) (name : List ℕ) (i j : ℕ) → slice_get names i ≡ Some name → Lacks (take i names) name → slice_get names j ≡ Some name → Lacks (take j names) name → i ≡ j
+pub one_index : (names : List (List ℕ)) (name : List ℕ) (i j : ℕ) → slice_get names i ≡ Some name → Lacks (take i names) name → slice_get names j ≡ Some name → Lacks (take j names) name → i ≡ j
 one_index [] name i j is before other earlier = absurd cc
 one_index (n ∷ ns) name zero zero is before other earlier = refl
 one_index (n ∷ ns) name zero (suc j) is before other earlier = absurd (earlier.0 (let same : n ≡ name = cc in same))
@@ -43,7 +43,7 @@ one_named (Some (kinds.Text, index)) name v s t a b = a ∙ sym b
 one_named (Some (kinds.Flag, index)) name v s t a b = one_extended name v.extended s t a b
 one_named (Some (kinds.Number, index)) name v s t a b = one_extended name v.extended s t a b
 
-one_label : (name : List ℕ) (i j : ℕ) → IsLabel name i → IsLabel name j → i ≡ j
+pub one_label : (name : List ℕ) (i j : ℕ) → IsLabel name i → IsLabel name j → i ≡ j
 one_label name i j (digits, is, numeral, few, value) (others, same, numerals, fews, values) =
     let joined : codes "#" ++ digits ≡ codes "#" ++ others = sym is ∙ same in
     let one : digits ≡ others = cc in

@@ -1,6 +1,6 @@
 -- What is never due: that a write failed, and that memory was refused.
 use Rattle.std.proofs.Common.{ℕ, Bool, inl, inr, List, Err}
-use Rattle.std.specs.Prelude.{Result}
+use Rattle.std.specs.Prelude.{Option, Some, None, Result}
 use Rattle.ti_words.specs.Texts.{TextValue, AbsentText, CancelledText, TextOf}
 use Rattle.ti_expand.specs.declared.values.Value.{Value}
 use Rattle.ti_pad.specs.Setting.{Setting}
@@ -12,6 +12,10 @@ use Rattle.ti_line.specs.declared.request.OfEntry.TheVariants as of_entry
 use Rattle.ti_line.specs.declared.look.Output.{Output}
 use Rattle.ti_tool.specs.declared.fault.ToolFault.{ToolFault}
 use Rattle.ti_tool.specs.declared.fault.ToolFault.TheVariants as fault
+use Rattle.ti_line.specs.declared.given.Given.{Given}
+use Rattle.ti_line.specs.declared.request.Get.{Get}
+use Rattle.ti_tool.specs.Got.{IsExpandedBy, IsTextResult, IsValueResult}
+use Rattle.ti_tool.specs.Items.{FlagItem, ItemValue, NumberItem, TextItem}
 use Rattle.ti_tool.specs.Results.{IsDue, IsDueFrom, IsDueOn, IsOutputOf}
 
 -- the faults of a call itself are not due
@@ -29,6 +33,30 @@ pub output_never : (c : OfCapability) (parameters : List Value) (input : List �
 output_never (of_cap.Cap output) parameters input = record { no_write = λ gone d. d; no_memory = λ d. d }
 output_never (of_cap.Trace form) parameters input = record { no_write = λ gone d. d; no_memory = λ d. d }
 
+-- of a value
+result_never : (text : List ℕ) (given : Option Given) (setting : Setting) (output : Output) → IsNeverOwn (IsTextResult text given setting output)
+result_never text None setting output = record { no_write = λ gone d. d; no_memory = λ d. d }
+result_never text (Some given) setting output = record { no_write = writes; no_memory = takes }
+  where
+    writes : (gone : ℕ) → ¬ IsExpandedBy text given setting output (Err (fault.Write gone))
+    writes gone (inl (refused, why, is)) = absurd (cc)
+    writes gone (inr (sound, (parameters, are, d))) = d
+
+    takes : ¬ IsExpandedBy text given setting output (Err fault.Memory)
+    takes (inl (refused, why, is)) = absurd (cc)
+    takes (inr (sound, (parameters, are, d))) = d
+
+value_never : (item : Option ItemValue) (g : Get) (set : Bool) → IsNeverOwn (IsValueResult item g set)
+value_never None g set = record { no_write = λ gone d. cc (d.1); no_memory = λ d. cc (d.1) }
+value_never (Some (FlagItem flag)) g set = record { no_write = λ gone d. cc (d.1); no_memory = λ d. cc (d.1) }
+value_never (Some (NumberItem number)) g set = record { no_write = λ gone d. cc (d.1); no_memory = λ d. cc (d.1) }
+value_never (Some (TextItem AbsentText)) g set = record { no_write = λ gone d. cc (d.1); no_memory = λ d. cc (d.1) }
+value_never (Some (TextItem CancelledText)) g set = record { no_write = λ gone d. cc (d.1); no_memory = λ d. cc (d.1) }
+value_never (Some (TextItem (TextOf text))) g set = record {
+  no_write = λ gone d. (result_never text g.given g.padding g.output).no_write gone d.1;
+  no_memory = λ d. (result_never text g.given g.padding g.output).no_memory d.1;
+}
+
 on_entry_never : (e : OfEntry) (parameters : List Value) (sound : Bool) (v : EntryValue) → IsNeverOwn (IsDueOn e parameters sound v)
 on_entry_never (of_entry.Show look) parameters sound v = record { no_write = λ gone d. cc; no_memory = λ d. cc }
 on_entry_never (of_entry.Check naming) parameters sound v = record { no_write = λ gone d. d; no_memory = λ d. d }
@@ -37,6 +65,10 @@ on_entry_never (of_entry.Expand e) parameters sound v = record {
   no_memory = λ (text, called, d). (text_never text parameters e.padding e.output).no_memory d;
 }
 on_entry_never (of_entry.Convert width) parameters sound v = record { no_write = λ gone d. d; no_memory = λ d. d }
+on_entry_never (of_entry.Get g) parameters sound v = record {
+  no_write = λ gone (item, called, d). (value_never item g sound).no_write gone d;
+  no_memory = λ (item, called, d). (value_never item g sound).no_memory d;
+}
 
 -- of the bytes of an entry
 pub entry_never : (e : OfEntry) (parameters : List Value) (sound : Bool) (input : List ℕ) → IsNeverOwn (IsDueFrom (IsDueOn e parameters sound) input)

@@ -13,3 +13,5 @@ pub mod AreLinesLemmas
 pub mod WideAndBackLemmas
 pub mod OneResultLemmas
 pub mod PrintableLemmas
+pub mod IsItemCalledLemmas
+pub mod IsGotLemmas

@@ -1,6 +1,6 @@
 -- For given parameters and bytes at most one result is due.
-use Rattle.std.proofs.Common.{◌≡◌, ◌⊎◌, ℕ, zero, suc, ◌<◌, ◌≤◌, Bool, ◌&&◌, List, [], ◌∷◌, ◌++◌, length, Ok, Err, Some, inl, inr, refl, sym, ap, subst, ◌∙◌, arith, pos}
-use Rattle.std.specs.Prelude.{Result, replicate, codes}
+use Rattle.std.proofs.Common.{◌≡◌, ◌⊎◌, ℕ, zero, suc, ◌<◌, ◌≤◌, Bool, ◌&&◌, List, [], ◌∷◌, ◌++◌, length, Ok, Err, Some, None, inl, inr, refl, sym, ap, subst, ◌∙◌, arith, pos}
+use Rattle.std.specs.Prelude.{Option, Result, replicate, codes}
 use Rattle.ti_words.specs.declared.Kind.TheVariants as kinds
 use Rattle.ti_words.specs.Texts.{TextValue, AbsentText, CancelledText, TextOf}
 use Rattle.ti_words.specs.Value.{EntryValue}
@@ -42,7 +42,13 @@ use Rattle.ti_tool.specs.Laws.{CheckHasOneVerdict, HasOneAnswer}
 use Rattle.ti_line.specs.Looks.{output_bytes}
 use Rattle.ti_tool.specs.Results.{IsExpansion, IsUnexpanded, IsCappedAs, IsPadded, IsDue, IsDueFor, IsDueFrom, IsDueOn, IsEncoding, IsJudgement, IsOutputOf, IsTraced, in_width}
 use Rattle.ti_tool.specs.Verdicts.{IsVerdict, IsLine, IsStandardLine, IsExtendedLine, AreLines, AreVerdicts, sound_verdict, fault_verdict}
+use Rattle.ti_line.specs.declared.given.Given.{Given}
+use Rattle.ti_line.specs.declared.request.Get.{Get}
+use Rattle.ti_tool.specs.Got.{IsExpandedBy, IsGot, IsPaddedAlone, IsTextResult, IsValueResult}
+use Rattle.ti_tool.specs.Items.{FlagItem, ItemValue, NumberItem, TextItem}
 use Rattle.ti_tool.proofs.IsCalledLemmas.{one_called}
+use Rattle.ti_tool.proofs.IsGotLemmas.{one_taken}
+use Rattle.ti_tool.proofs.IsItemCalledLemmas.{one_item}
 use Rattle.ti_tool.proofs.NeedsMemoryLemmas.{expandable, faultless_passes, never_refused}
 
 -- at most one result or fault is due
@@ -89,6 +95,7 @@ unexpanded text parameters (fault.TextTooLong k) d = too_long_at k refl d.0 d.1
 unexpanded text parameters (fault.Entry refused) d = absurd d
 unexpanded text parameters (fault.Encode unfit) d = absurd d
 unexpanded text parameters fault.NoSuchText d = absurd d
+unexpanded text parameters fault.NoSuchName d = absurd d
 unexpanded text parameters (fault.TooMuch need) d = absurd d
 unexpanded text parameters fault.Read d = absurd d
 unexpanded text parameters (fault.Write gone) d = absurd d
@@ -130,6 +137,7 @@ unpadded text parameters setting output (fault.TextTooLong k) d = not_expanded d
 unpadded text parameters setting output (fault.Entry refused) d = absurd d
 unpadded text parameters setting output (fault.Encode unfit) d = absurd d
 unpadded text parameters setting output fault.NoSuchText d = absurd d
+unpadded text parameters setting output fault.NoSuchName d = absurd d
 unpadded text parameters setting output fault.Read d = absurd d
 unpadded text parameters setting output (fault.Write gone) d = absurd d
 unpadded text parameters setting output fault.Memory d = absurd d
@@ -184,6 +192,7 @@ encoding_fault v (fault.Entry refused) d = absurd d
 encoding_fault v (fault.Cap r) d = absurd d
 encoding_fault v (fault.TextTooLong k) d = absurd d
 encoding_fault v fault.NoSuchText d = absurd d
+encoding_fault v fault.NoSuchName d = absurd d
 encoding_fault v (fault.TooMuch need) d = absurd d
 encoding_fault v fault.Read d = absurd d
 encoding_fault v (fault.Write gone) d = absurd d
@@ -260,6 +269,49 @@ one_soundness naming input lines others sound as_sound (inr found) (inl (refused
 one_soundness naming input lines others sound as_sound (inr (v, spells, d)) (inr (w, other, h)) =
     (one_verdicts naming v lines others sound as_sound d (subst (λ x. AreVerdicts naming x others as_sound) (at_most_one input w v other spells) h)).1
 
+-- ---- values of capabilities
+
+alone_fault : (text : List ℕ) (setting : Setting) (output : Output) (e : ToolFault) → IsPaddedAlone text setting output (Err e) → (e ≡ fault.TooMuch (length (padded_text text setting))) × (most_padded_bytes < length (padded_text text setting))
+alone_fault text setting output (fault.TooMuch need) d = let P : ℕ → Type 0 = λ n. most_padded_bytes < n in (ap (λ n. fault.TooMuch n) d.0, subst P d.0 d.1)
+alone_fault text setting output (fault.Entry refused) d = absurd d
+alone_fault text setting output (fault.Encode unfit) d = absurd d
+alone_fault text setting output (fault.Cap refused) d = absurd d
+alone_fault text setting output fault.NoSuchText d = absurd d
+alone_fault text setting output fault.NoSuchName d = absurd d
+alone_fault text setting output (fault.TextTooLong k) d = absurd d
+alone_fault text setting output fault.Read d = absurd d
+alone_fault text setting output (fault.Write gone) d = absurd d
+alone_fault text setting output fault.Memory d = absurd d
+
+one_alone : (text : List ℕ) (setting : Setting) (output : Output) → IsOneResult (IsPaddedAlone text setting output)
+one_alone text setting output (Ok a) (Ok b) d h = ap Ok (d.1 ∙ sym h.1)
+one_alone text setting output (Ok a) (Err e) d h = let f = alone_fault text setting output e h in absurd (omega (arith, d.0, f.1))
+one_alone text setting output (Err e) (Ok b) d h = let f = alone_fault text setting output e d in absurd (omega (arith, h.0, f.1))
+one_alone text setting output (Err e) (Err f) d h = ap Err ((alone_fault text setting output e d).0 ∙ sym (alone_fault text setting output f h).0)
+
+one_by : (text : List ℕ) (given : Given) (setting : Setting) (output : Output) → IsOneResult (IsExpandedBy text given setting output)
+one_by text given setting output r s (inl (a, why, is)) (inl (b, because, same)) = is ∙ ap (λ (x : CapRefused). Err (fault.Cap x)) (one_refusal a b text why because) ∙ sym same
+one_by text given setting output r s (inl (a, why, is)) (inr (sound, rest)) = absurd (faultless_passes text a sound why)
+one_by text given setting output r s (inr (sound, rest)) (inl (b, because, same)) = absurd (faultless_passes text b sound because)
+one_by text given setting output r s (inr (sound, (ps, are, d))) (inr (again, (qs, also, h))) =
+    one_padded text ps setting output r s d (subst (λ x. IsPadded text x setting output s) (one_taken text given.params qs ps also are) h)
+
+one_text : (text : List ℕ) (given : Option Given) (setting : Setting) (output : Output) → IsOneResult (IsTextResult text given setting output)
+one_text text None setting output r s d h = one_alone text setting output r s d h
+one_text text (Some given) setting output r s d h = one_by text given setting output r s d h
+
+one_value : (item : Option ItemValue) (g : Get) (set as_set : Bool) (r s : Result (List ℕ) ToolFault) → IsValueResult item g set r → IsValueResult item g as_set s → r ≡ s
+one_value None g set as_set r s d h = d.1 ∙ sym h.1
+one_value (Some (FlagItem flag)) g set as_set r s d h = d.1 ∙ sym h.1
+one_value (Some (NumberItem number)) g set as_set r s d h = d.1 ∙ sym h.1
+one_value (Some (TextItem AbsentText)) g set as_set r s d h = d.1 ∙ sym h.1
+one_value (Some (TextItem CancelledText)) g set as_set r s d h = d.1 ∙ sym h.1
+one_value (Some (TextItem (TextOf text))) g set as_set r s d h = one_text text g.given g.padding g.output r s d.1 h.1
+
+one_got : (g : Get) (set as_set : Bool) (v : EntryValue) (r s : Result (List ℕ) ToolFault) → IsGot g set v r → IsGot g as_set v s → r ≡ s
+one_got g set as_set v r s (item, called, d) (other, again, h) =
+    one_value item g set as_set r s d (subst (λ i. IsValueResult i g as_set s) (one_item v g.name.now other item again called) h)
+
 -- ---- requests
 
 one_output : (c : OfCapability) (parameters : List Value) (input : List ℕ) → IsOneResult (IsOutputOf c parameters input)
@@ -270,6 +322,7 @@ one_on : (e : OfEntry) (parameters : List Value) (sound as_sound : Bool) (v : En
 one_on (of_entry.Show look) parameters sound as_sound v r s d h = d ∙ sym h
 one_on (of_entry.Check naming) parameters sound as_sound v r s d h = one_judgement naming v sound as_sound r s d h
 one_on (of_entry.Expand e) parameters sound as_sound v r s d h = one_due_for e.name.names e.name.name.now parameters e.padding e.output v r s d h
+one_on (of_entry.Get g) parameters sound as_sound v r s d h = one_got g sound as_sound v r s d h
 one_on (of_entry.Convert width) parameters sound as_sound v r s d h = one_encoding (in_width width v) r s d h
 
 pub one_answer : HasOneAnswer

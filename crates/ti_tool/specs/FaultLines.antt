@@ -1,13 +1,18 @@
 -- The lines that the program writes on faults, and what was written of one.
-use Rattle.std.specs.Prelude.{◌<◌, ◌⊎◌, ℕ, List, [], ◌++◌, Option, Result, Ok, Err, codes, decimal, length, take}
+use Rattle.std.specs.Prelude.{◌<◌, ◌⊎◌, ℕ, List, [], ◌++◌, Option, Result, Ok, Err, codes, decimal, length, nat_le, take, if◌then◌else◌, ◌≡◌, Some, None, IfSome}
 use Rattle.std.specs.Io.KnownBytes.{Appends}
 use Rattle.ti_layout.specs.Faults.{fault_word}
 use Rattle.ti_draft.specs.Unfit.{encode_fault_word}
+use Rattle.ti_escape.specs.Notation.{notation}
 use Rattle.ti_cap.specs.FaultNames.{cap_fault_word}
+use Rattle.ti_tool.specs.Near.{IsNearest}
 use Rattle.ti_tool.specs.declared.fault.ToolFault.{ToolFault}
 use Rattle.ti_tool.specs.declared.fault.ToolFault.TheVariants as fault
 use Rattle.ti_line.specs.declared.params.WordFault.{WordFault}
 use Rattle.ti_line.specs.declared.params.WordFault.TheVariants as words
+use Rattle.ti_line.specs.declared.request.Asked.{Asked}
+use Rattle.ti_line.specs.declared.request.Asked.TheVariants.{Entry}
+use Rattle.ti_line.specs.declared.request.OfEntry.TheVariants as of_entry
 use Rattle.ti_line.specs.declared.no_line.LineFault.{LineFault}
 use Rattle.ti_line.specs.declared.no_line.LineFault.TheVariants as line
 
@@ -23,6 +28,7 @@ fault_line (fault.Encode unfit) = codes "entry: " ++ encode_fault_word unfit ++ 
 fault_line (fault.Cap refused) =
     place_line (codes "capability: ") (cap_fault_word refused.fault) refused.place
 fault_line fault.NoSuchText = codes "capability: absent\n"
+fault_line fault.NoSuchName = codes "capability: absent\n"
 fault_line (fault.TextTooLong parameter) =
     codes "capability: TextTooLong " ++ decimal parameter ++ codes "\n"
 fault_line (fault.TooMuch need) = codes "capability: TooMuch " ++ decimal need ++ codes "\n"
@@ -39,13 +45,42 @@ words_line (words.BadWord which) = codes "parameter " ++ decimal which ++ codes 
 abbrev pub line_fault_line : LineFault → List ℕ
 line_fault_line line.BothFormsOfCap = codes "cap: both forms\n"
 line_fault_line line.BothFormsOfExpand = codes "expand: both forms\n"
+line_fault_line line.BothFormsOfGet = codes "get: both forms\n"
 line_fault_line line.BothWidths = codes "convert: both widths\n"
 line_fault_line (line.Words why) = words_line why
 
+-- the most characters of a name in a line on a fault
+abbrev pub most_shown : ℕ
+most_shown = 40
+
+-- a name in the notation, or `..` if that has more characters
+abbrev pub shown_name : List ℕ → List ℕ
+shown_name name =
+    if nat_le (length (notation name)) most_shown then notation name else codes ".."
+
+-- what comes after it if nothing has the name: the nearest name of terminfo(5), if there is one
+abbrev pub no_name_line : Option (List ℕ) → List ℕ
+no_name_line None = codes ": no such capability\n"
+no_name_line (Some near) = codes ": no such capability; nearest: " ++ shown_name near ++ codes "\n"
+
+-- the line on the fault of a call, by what was asked for: `get` names the capability
+abbrev pub asked_line : Asked → Option (List ℕ) → ToolFault → List ℕ
+asked_line (Entry (of_entry.Get g)) near fault.NoSuchText =
+    codes "get: " ++ shown_name g.name.now ++ codes ": absent\n"
+asked_line (Entry (of_entry.Get g)) near fault.NoSuchName =
+    codes "get: " ++ shown_name g.name.now ++ no_name_line near
+asked_line asked near e = fault_line e
+
+-- a name that is told is a nearest one; none is told if none is near, or if memory was refused
+abbrev pub IsTold : Asked → ToolFault → Option (List ℕ) → Type 0
+IsTold (Entry (of_entry.Get g)) fault.NoSuchName near = IfSome near (IsNearest g.name.now)
+IsTold asked e near = near ≡ None
+
 -- the line on an answer, none if it has no fault
-abbrev pub answer_line : {V : Type 0} → Result V ToolFault → List ℕ
-answer_line (Ok v) = []
-answer_line (Err e) = fault_line e
+abbrev pub IsAnswerLine : {V : Type 0} → Asked → Result V ToolFault → List ℕ → Type 0
+IsAnswerLine asked (Ok v) line = line ≡ []
+IsAnswerLine asked (Err e) line =
+    (near : Option (List ℕ)) × IsTold asked e near × (line ≡ asked_line asked near e)
 
 -- a text was written whole, or its first bytes, if the writer failed after them
 abbrev pub Told : List ℕ → Option (List ℕ) → Option (List ℕ) → Type 0

@@ -2,9 +2,13 @@ pub mod Labels
 pub mod Listing
 pub mod Names
 pub mod Verdicts
+pub mod Items
+pub mod Expansions
+pub mod Got
 pub mod Results
 pub mod Printable
 pub mod Calls
+pub mod Near
 pub mod FaultLines
 pub mod Runs
 pub mod Laws

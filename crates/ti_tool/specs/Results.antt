@@ -1,11 +1,7 @@
 -- What each call of the program makes of the bytes that it read.
-use Rattle.std.specs.Prelude.{◌≡◌, ◌≤◌, ◌<◌, ◌⊎◌, ℕ, Bool, true, false, length, List, Result, Ok, Err, Some, None, pos, replicate, Option}
-use Rattle.ti_cap.specs.Tree.{Sequence}
-use Rattle.ti_cap.specs.Spelling.{Writes}
-use Rattle.ti_cap.specs.Refusal.{IsRefusal, IsFaultless}
+use Rattle.std.specs.Prelude.{◌≡◌, ◌⊎◌, ℕ, Bool, true, false, List, Result, Ok, Err, Some, None, Option}
+use Rattle.ti_cap.specs.Refusal.{IsFaultless}
 use Rattle.ti_expand.specs.declared.values.Value.{Value}
-use Rattle.ti_expand.specs.State.{start}
-use Rattle.ti_expand.specs.Meaning.{meaning}
 use Rattle.ti_expand.specs.Expands.{IsFirstTooLong}
 use Rattle.ti_layout.specs.declared.fault.Refused.{Refused}
 use Rattle.ti_words.specs.Value.{EntryValue}
@@ -15,17 +11,17 @@ use Rattle.ti_words.specs.declared.all_names.NameTable.{NameTable}
 use Rattle.ti_words.specs.declared.all_names.NameTable.TheVariants as tables
 use Rattle.ti_words.specs.declared.Width.{Width}
 use Rattle.ti_words.specs.Texts.{TextValue, AbsentText, CancelledText, TextOf}
-use Rattle.ti_base.specs.Limits.{most_padded_bytes}
 use Rattle.ti_escape.specs.declared.form.Form.{Form}
 use Rattle.ti_trace.specs.Trace.{IsTrace}
 use Rattle.ti_pad.specs.Setting.{Setting}
-use Rattle.ti_pad.specs.Padded.{padded_text}
 use Rattle.ti_draft.specs.Canonical.{canonical}
 use Rattle.ti_draft.specs.Unfit.{encode_fault}
 use Rattle.ti_line.specs.declared.look.Look.{Look}
 use Rattle.ti_line.specs.declared.look.Naming.{Naming}
 use Rattle.ti_line.specs.declared.look.Output.{Output}
 use Rattle.ti_line.specs.Looks.{look_asked, naming_asked, output_asked, output_bytes}
+pub use Rattle.ti_tool.specs.Expansions.{IsExpansion, IsPadded, IsUnexpanded}
+use Rattle.ti_tool.specs.Got.{IsGot}
 use Rattle.ti_tool.specs.Verdicts.{AreVerdicts}
 use Rattle.ti_tool.specs.Listing.{entry_lines}
 use Rattle.ti_tool.specs.Names.{IsCalled}
@@ -37,20 +33,6 @@ use Rattle.ti_line.specs.declared.request.OfEntry.{OfEntry}
 use Rattle.ti_line.specs.declared.request.OfEntry.TheVariants as of_entry
 use Rattle.ti_tool.specs.declared.fault.ToolFault.{ToolFault}
 use Rattle.ti_tool.specs.declared.fault.ToolFault.TheVariants as fault
-
--- the bytes that a capability writes with these parameters, if each variable starts as 0
-pub record IsExpansion (capability : List ℕ) (parameters : List Value) (out : List ℕ) : Type 0 where
-  pub tree : Sequence
-  pub writes : Writes tree capability
-  pub short : (k : ℕ) → ¬ IsFirstTooLong parameters k
-  pub is : out ≡ (meaning tree (start (replicate 52 (pos 0)) parameters)).output
-
--- why a capability is not expanded
-abbrev pub IsUnexpanded : List ℕ → List Value → ToolFault → Type 0
-IsUnexpanded capability parameters (fault.Cap refused) = IsRefusal capability refused
-IsUnexpanded capability parameters (fault.TextTooLong k) =
-    IsFaultless capability × IsFirstTooLong parameters k
-IsUnexpanded capability parameters _ = ⊥
 
 -- the result of `cap` as it is asked for, or the first fault
 abbrev pub IsCappedAs : List Value → Output → List ℕ → Result (List ℕ) ToolFault → Type 0
@@ -68,17 +50,6 @@ abbrev pub IsTraced : List Value → Form → List ℕ → Result (List ℕ) Too
 IsTraced parameters form input (Ok out) =
     IsFaultless input × ((k : ℕ) → ¬ IsFirstTooLong parameters k) × IsTrace input parameters form out
 IsTraced parameters form input (Err e) = IsUnexpanded input parameters e
-
--- a text of an entry, expanded and then padded, or the first fault
-abbrev pub IsPadded : List ℕ → List Value → Setting → Output → Result (List ℕ) ToolFault → Type 0
-IsPadded text parameters setting output (Ok out) =
-    (plain : List ℕ) × IsFaultless text × IsExpansion text parameters plain
-    × (length (padded_text plain setting) ≤ most_padded_bytes)
-    × (out ≡ output_bytes output (padded_text plain setting))
-IsPadded text parameters setting output (Err (fault.TooMuch need)) =
-    (plain : List ℕ) × IsFaultless text × IsExpansion text parameters plain
-    × (need ≡ length (padded_text plain setting)) × (most_padded_bytes < need)
-IsPadded text parameters setting output (Err e) = IsUnexpanded text parameters e
 
 -- what is due for a text, or for none
 abbrev pub IsDue : TextValue → List Value → Setting → Output → Result (List ℕ) ToolFault → Type 0
@@ -145,20 +116,22 @@ abbrev pub IsOutputOf : OfCapability → List Value → List ℕ → Result (Lis
 IsOutputOf (of_cap.Cap output) parameters = IsCappedAs parameters output
 IsOutputOf (of_cap.Trace form) parameters = IsTraced parameters form
 
--- on an entry, whose texts are sound or not
+-- on an entry, whose texts are sound or not, or whose flag is set or not
 abbrev pub IsDueOn : OfEntry → List Value → Bool → EntryValue → Result (List ℕ) ToolFault → Type 0
 IsDueOn (of_entry.Show look) parameters sound = IsListed look
 IsDueOn (of_entry.Check naming) parameters sound = IsJudgement naming sound
 IsDueOn (of_entry.Expand e) parameters sound =
     IsDueFor e.name.names e.name.name.now parameters e.padding e.output
 IsDueOn (of_entry.Convert width) parameters sound = λ v. IsEncoding (in_width width v)
+IsDueOn (of_entry.Get g) parameters sound = IsGot g sound
 
 -- on the bytes that were read
 abbrev pub IsAnswer : Asked → List Value → Bool → List ℕ → Result (List ℕ) ToolFault → Type 0
 IsAnswer (Capability c) parameters sound = IsOutputOf c parameters
 IsAnswer (Entry e) parameters sound = IsDueFrom (IsDueOn e parameters sound)
 
--- only `check` finds that texts are not sound
+-- only `check` finds that texts are not sound, and only `get` that a flag is not set
 abbrev pub Finds : Asked → Bool → Type 0
 Finds (Entry (of_entry.Check naming)) sound = Unit {0}
+Finds (Entry (of_entry.Get g)) sound = Unit {0}
 Finds _ sound = sound ≡ true

@@ -12,11 +12,11 @@ use Rattle.ti_line.specs.declared.request.Request.{Request}
 use Rattle.ti_tool.specs.declared.fault.ToolFault.{ToolFault}
 use Rattle.ti_tool.specs.declared.fault.ToolFault.TheVariants as fault
 use Rattle.ti_tool.specs.declared.terminals.Terminals.{Terminals}
-use Rattle.ti_tool.specs.FaultLines.{Told, answer_line, fault_line, line_fault_line}
+use Rattle.ti_tool.specs.FaultLines.{IsAnswerLine, Told, fault_line, line_fault_line}
 use Rattle.ti_tool.specs.Results.{Finds, IsAnswer}
 use Rattle.ti_tool.specs.Calls.{DidCheck, IsEnough, IsFailedWrite}
 
--- the status of a call's answer: 1 if `check` found a text with a fault
+-- the status of a call's answer: 1 if `check` found a text with a fault, or `get` a flag that is not set
 abbrev pub status_for : Result Bool ToolFault → ℕ
 status_for (Ok true) = 0
 status_for (Ok false) = 1
@@ -24,6 +24,7 @@ status_for (Err (fault.Entry refused)) = 3
 status_for (Err (fault.Encode unfit)) = 3
 status_for (Err (fault.Cap refused)) = 4
 status_for (Err fault.NoSuchText) = 4
+status_for (Err fault.NoSuchName) = 4
 status_for (Err (fault.TextTooLong k)) = 4
 status_for (Err (fault.TooMuch need)) = 4
 status_for (Err fault.Read) = 5
@@ -39,7 +40,7 @@ abbrev pub no_terminals : Terminals
 no_terminals = record { input = false; output = false; errors = false }
 
 -- the statuses after which something may have been written as a result: done, a fault that `check`
--- found, a failed read or write
+-- found or a flag that is not set, a failed read or write
 abbrev pub MayHaveWritten : ℕ → Type 0
 MayHaveWritten status = (status ≡ 0) ⊎ ((status ≡ 1) ⊎ (status ≡ 5))
 
@@ -49,9 +50,10 @@ MayHaveWritten status = (status ≡ 0) ⊎ ((status ≡ 1) ⊎ (status ≡ 5))
 -- results is what it was.
 
 -- the status is that of the answer, and its line was written
-abbrev pub Ends : Result Bool ToolFault → Stream → Stream → ℕ → Type 0
-Ends answer told0 told1 status =
-    (status ≡ status_for answer) × Told (answer_line answer) told0 told1
+abbrev pub Ends : Asked → Result Bool ToolFault → Stream → Stream → ℕ → Type 0
+Ends asked answer told0 told1 status =
+    (status ≡ status_for answer)
+    × ((line : List ℕ) × IsAnswerLine asked answer line × Told line told0 told1)
 
 -- a request was carried out; after a fault that is no failed write nothing was written
 abbrev pub RanRequest : Asked → List Value → Type 0 → Stream → Stream → Stream → Stream → Stream
@@ -59,7 +61,7 @@ abbrev pub RanRequest : Asked → List Value → Type 0 → Stream → Stream �
 RanRequest asked parameters unwritten left0 left1 held0 held1 told0 told1 status =
     (answer : Result Bool ToolFault) × IfOk answer (Finds asked)
     × DidCheck (IsAnswer asked parameters) (IsEnough asked) left0 left1 held0 held1 answer
-    × IfErr answer (λ e. IsFailedWrite e ⊎ unwritten) × Ends answer told0 told1 status
+    × IfErr answer (λ e. IsFailedWrite e ⊎ unwritten) × Ends asked answer told0 told1 status
 
 -- a text was written as the result: with status 0 all of it, and nothing is told of a fault; with
 -- status 5 its first bytes and not all of them, and the line on that

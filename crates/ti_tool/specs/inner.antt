@@ -1,5 +1,7 @@
 -- What private clauses alone cite.
 pub mod Dues
+pub mod Item
 pub mod Label
+pub mod Near
 pub mod ReadsInto
 pub mod Verdict

@@ -9,6 +9,7 @@ use crate::command::cap::cap_result;
 use crate::command::check::verdicts_of;
 use crate::command::convert::convert_result;
 use crate::command::expand::expand_result;
+use crate::command::get::get_result;
 use crate::command::trace::trace_result;
 use crate::fault::ToolFault;
 use crate::listing::lines_of;
@@ -17,12 +18,12 @@ use ti_entry::Entry;
 use ti_expand::Value;
 use ti_line::{OfCapability, OfEntry};
 
-/// A result, and whether no text that was analysed has a fault.
+/// A result, and whether it is of no fault that `check` found and of no flag that is not set.
 #[derive(Drop)]
 pub struct Answer<A: Allocator> {
     /// The bytes of the result.
     pub bytes: Vec<u8, A>,
-    /// Whether no text has a fault; true for all requests but to check.
+    /// Whether no text has a fault, and a flag is set; true for all requests but those of `check` and `get`.
     pub sound: bool,
 }
 
@@ -61,6 +62,7 @@ pub fn answer_of_entry<A: Allocator + Copy>(
         OfEntry::Check(naming) => return Ok(verdicts_of(alloc, *naming, entry)?),
         OfEntry::Expand(expand) => expand_result(alloc, entry, expand, parameters)?,
         OfEntry::Convert(width) => convert_result(alloc, entry, *width)?,
+        OfEntry::Get(get) => return get_result(alloc, entry, get),
     };
     Ok(Answer { bytes, sound: true })
 }

@@ -38,7 +38,8 @@ fn call_on_capability<A: Allocator + Copy, R: Read, W: Write>(
     write_result(writer, result.as_slice())
 }
 
-/// Takes what the reader gives as an entry. The result is whether no text that was analysed has a fault.
+/// Takes what the reader gives as an entry. The result is whether no text that was analysed has a fault, and no flag that
+/// was asked for is not set.
 fn call_on_entry<A: Allocator + Copy, R: Read, W: Write>(
     alloc: A,
     asked: &OfEntry<'_>,
@@ -61,14 +62,15 @@ fn call_on_entry<A: Allocator + Copy, R: Read, W: Write>(
 }
 
 /// Does what is asked: what the reader gives is taken as one capability or as an entry, and what is due for it is
-/// written. Each variable of a capability starts as 0. The result is false if `check` found a text with a fault.
+/// written. Each variable of a capability starts as 0. The result is false if `check` found a text with a fault, or `get` a
+/// flag that is not set.
 ///
 /// Nothing is written before the whole result is there: after a fault other than `Write` the writer is as it was.
 ///
 /// # Errors
 ///
-/// In this order: `Read` if reading failed, `Entry` if the bytes are no entry, `NoSuchText` if the text is not there, `Cap`
-/// if it is no capability, `TextTooLong`, `TooMuch` if the padded text has more than 67108864 bytes, `Encode` if a number
+/// In this order: `Read` if reading failed, `Entry` if the bytes are no entry, `NoSuchName` if
+/// nothing has the name that `get` asks for, `NoSuchText` if the text is not there, `Cap` if it is no capability, `TextTooLong`, `TooMuch` if the padded text has more than 67108864 bytes, `Encode` if a number
 /// is above 32767 and the legacy format is requested, or else if the canonical bytes would be more than 32768, which shared
 /// texts or wider numbers can lead to, `Write`; `Memory` if a growth is refused.
 pub fn carry_out<A: Allocator + Copy, R: Read, W: Write>(

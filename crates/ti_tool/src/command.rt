@@ -4,4 +4,5 @@ pub mod cap;
 pub mod check;
 pub mod convert;
 pub mod expand;
+pub mod get;
 pub mod trace;

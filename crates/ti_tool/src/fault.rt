@@ -25,6 +25,9 @@ pub enum ToolFault {
     /// The entry has no such text: it is absent or cancelled.
     #[error("NoSuchText")]
     NoSuchText,
+    /// Nothing has the name that `get` was given.
+    #[error("NoSuchName")]
+    NoSuchName,
     /// The text of this parameter, counted from 1, has more than 32767 bytes; it is the first such.
     #[error("TextTooLong {0}")]
     TextTooLong(u8),

@@ -2,19 +2,23 @@
 //!
 //! A line is put together before any byte of it is written. No memory is taken.
 
-ghost use Rattle.std.specs.Prelude.{◌≡◌, ◌≤◌, ◌+◌, ◌++◌, codes, decimal, flat_map, length};
-ghost use Rattle.ti_tool.specs.FaultLines.{fault_line, line_fault_line, place_line, words_line};
+ghost use Rattle.std.specs.Prelude.{◌≡◌, ◌≤◌, ◌+◌, ◌++◌, codes, decimal, flat_map, length, option_map};
+ghost use Rattle.ti_tool.specs.FaultLines.{asked_line, fault_line, line_fault_line, place_line, words_line, no_name_line, shown_name as the_shown_name};
 
 use crate::fault::ToolFault;
 use arrayvec::ArrayVec;
 use itoa::Buffer;
-use ti_line::{LineFault, WordFault};
+use ti_escape::escape_into;
+use ti_line::{Asked, LineFault, OfEntry, WordFault};
 
 /// The most bytes of a line.
-const MOST_BYTES: usize = 80;
+const MOST_BYTES: usize = 128;
 
 /// The most bytes of the words of a line. Its number, ` at ` and a newline come beside them.
 const MOST_WORD_BYTES: usize = 30;
+
+/// The most characters of a name.
+const MOST_SHOWN: usize = 40;
 
 /// A line on a fault.
 pub type FaultLine = ArrayVec<u8, MOST_BYTES>;
@@ -71,7 +75,7 @@ pub fn fault_line(fault: &ToolFault) -> FaultLine
         ToolFault::Entry(refused) => place_line(b"entry: ", refused.fault.word(), refused.place),
         ToolFault::Encode(unfit) => name_line(b"entry: ", unfit.word()),
         ToolFault::Cap(refused) => place_line(b"capability: ", refused.fault.word(), refused.place),
-        ToolFault::NoSuchText => line_of(&[b"capability: absent\n"]),
+        ToolFault::NoSuchText | ToolFault::NoSuchName => line_of(&[b"capability: absent\n"]),
         ToolFault::TextTooLong(parameter) => {
             let number = u128::from(*parameter);
             number_line(b"capability: TextTooLong ", number, b"\n")
@@ -80,6 +84,54 @@ pub fn fault_line(fault: &ToolFault) -> FaultLine
         ToolFault::Read => line_of(&[b"input: failed\n"]),
         ToolFault::Write(_) => line_of(&[b"output: failed\n"]),
         ToolFault::Memory => line_of(&[b"memory\n"]),
+    }
+}
+
+/// A name in the notation, or `..` if that has too many characters.
+fn shown_name(name: &str) -> ArrayVec<u8, MOST_SHOWN>
+    ensures { result.items ≡ the_shown_name name.now }
+{
+    let mut room = [0; MOST_SHOWN];
+    let mut shown = ArrayVec::new();
+    let _ = match escape_into(name.as_bytes(), &mut room) {
+        Some(len) => shown.try_extend_from_slice(&room[..len]),
+        None => shown.try_extend_from_slice(b".."),
+    };
+    shown
+}
+
+/// The line if nothing has the name that `get` was given.
+fn no_name_line(name: &str, near: Option<&str>) -> FaultLine
+    ensures { result.items ≡ codes "get: " ++ the_shown_name name.now
+        ++ no_name_line (option_map (λ n. n.now) near.entry) }
+{
+    let shown = shown_name(name);
+    match near {
+        Some(near) => {
+            let near = shown_name(near);
+            line_of(&[
+                b"get: ",
+                shown.as_slice(),
+                b": no such capability; nearest: ",
+                near.as_slice(),
+                b"\n",
+            ])
+        }
+        None => line_of(&[b"get: ", shown.as_slice(), b": no such capability\n"]),
+    }
+}
+
+/// The line on the fault of a call that was asked for, with the nearest name if one is told.
+pub fn asked_line(asked: &Asked<'_>, near: Option<&str>, fault: &ToolFault) -> FaultLine
+    ensures { result.items ≡ asked_line asked.now (option_map (λ n. n.now) near.entry) fault.now }
+{
+    match (asked, fault) {
+        (Asked::Entry(OfEntry::Get(get)), ToolFault::NoSuchText) => {
+            let shown = shown_name(get.name);
+            line_of(&[b"get: ", shown.as_slice(), b": absent\n"])
+        }
+        (Asked::Entry(OfEntry::Get(get)), ToolFault::NoSuchName) => no_name_line(get.name, near),
+        _ => fault_line(fault),
     }
 }
 
@@ -102,6 +154,7 @@ pub fn line_fault_line(fault: LineFault) -> FaultLine
     match fault {
         LineFault::BothFormsOfCap => line_of(&[b"cap: both forms\n"]),
         LineFault::BothFormsOfExpand => line_of(&[b"expand: both forms\n"]),
+        LineFault::BothFormsOfGet => line_of(&[b"get: both forms\n"]),
         LineFault::BothWidths => line_of(&[b"convert: both widths\n"]),
         LineFault::Words(why) => words_line(why),
     }

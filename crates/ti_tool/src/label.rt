@@ -32,7 +32,7 @@ pub enum Label<'a> {
 }
 
 /// The name of a standard capability.
-fn standard_name(table: NameTable, kind: Kind, index: usize) -> Option<&'static str>
+pub fn standard_name(table: NameTable, kind: Kind, index: usize) -> Option<&'static str>
     ensures { option_map (λ name. name.now) result ≡ name_in table kind index }
 {
     match kind {

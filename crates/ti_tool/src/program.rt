@@ -1,28 +1,52 @@
 //! The program over its words, a reader and two writers.
 
-ghost use Rattle.std.specs.Prelude.{◌≡◌, ◌≤◌, ◌⊎◌};
+ghost use Rattle.std.specs.Prelude.{◌≡◌, ◌≤◌, ◌⊎◌, option_map};
 ghost use Rattle.ti_line.specs.CommandLine.{Line, Reads};
 ghost use Rattle.ti_line.specs.Requests.{texts_of};
+ghost use Rattle.ti_tool.specs.FaultLines.{IsTold};
 ghost use Rattle.ti_tool.specs.Runs.{DidLine, DidNoLine, Ends, EndsWords, MayHaveWritten, RanRequest, no_terminals};
 
 use crate::call::carry_out;
 use crate::fault::ToolFault;
-use crate::fault_line::{fault_line, line_fault_line};
+use crate::fault_line::{asked_line, fault_line, line_fault_line};
+use crate::near::nearest;
 use crate::status::status;
 use crate::terminals::Terminals;
-use std::alloc::{Allocator, Global};
+use std::alloc::{AllocError, Allocator, Global};
 use std::io::{Read, Write};
 use ti_expand::Value;
-use ti_line::{Asked, NoLine, Request, read_line};
+use ti_line::{Asked, NoLine, OfEntry, Request, read_line};
 use ti_pad::write_out;
 
+/// The name that is told in a line on a fault: the nearest one, if nothing has the name that `get` was given.
+fn told_name<A: Allocator + Copy>(
+    alloc: A,
+    asked: &Asked<'_>,
+    fault: &ToolFault,
+) -> Option<&'static str>
+    ensures { IsTold asked.now fault.now (option_map (λ name. name.now) result) }
+{
+    match (asked, fault) {
+        (Asked::Entry(OfEntry::Get(get)), ToolFault::NoSuchName) => match nearest(alloc, get.name) {
+            Ok(near) => near,
+            Err(AllocError) => None,
+        },
+        _ => None,
+    }
+}
+
 /// The status of a call's answer, whose fault is told.
-fn finish<E: Write>(errors: &mut E, answer: Result<bool, ToolFault>) -> u8
-    ensures ends { Ends answer (E.contents errors.old) (E.contents errors.new) result }
+fn finish<A: Allocator + Copy, E: Write>(
+    alloc: A,
+    errors: &mut E,
+    asked: &Asked<'_>,
+    answer: Result<bool, ToolFault>,
+) -> u8
+    ensures ends { Ends asked.now answer (E.contents errors.old) (E.contents errors.new) result }
     ensures silent { result ≤ 1 → errors.new ≡ errors.old }
 {
     if let Err(fault) = &answer {
-        let line = fault_line(fault);
+        let line = asked_line(asked, told_name(alloc, asked, fault), fault);
         let _ = write_out(errors, line.as_slice());
     }
     status(&answer)
@@ -44,7 +68,7 @@ fn run_request<A: Allocator + Copy, R: Read, W: Write, E: Write>(
     ensures silent { result ≤ 1 → errors.new ≡ errors.old }
 {
     let answer = carry_out(alloc, asked, parameters, input, output);
-    finish(errors, answer)
+    finish(alloc, errors, asked, answer)
 }
 
 /// Words that ask for nothing that can be done: the text of help goes where results go, any other where faults go.
@@ -86,10 +110,10 @@ fn run_no_line<W: Write, E: Write>(why: &NoLine, output: &mut W, errors: &mut E)
 /// | Status | When | Line on `errors` |
 /// |---|---|---|
 /// | 0 | done, or help was requested | none |
-/// | 1 | `check` found a fault | none |
-/// | 2 | the words are no command line or no parameters, or ask for both widths, or for both forms of an output | what is wrong and the usage; `parameters: more than nine`; `parameter K: bad word`; `convert: both widths`; `cap: both forms`; `expand: both forms` |
+/// | 1 | `check` found a fault, or the flag that `get` asks for is not set | none |
+/// | 2 | the words are no command line or no parameters, or ask for both widths, or for both forms of an output | what is wrong and the usage; `parameters: more than nine`; `parameter K: bad word`; `convert: both widths`; `cap: both forms`; `expand: both forms`; `get: both forms` |
 /// | 3 | the entry is refused, or can't be encoded | `entry: WORD at PLACE`; `entry: WORD` |
-/// | 4 | the capability is refused or absent, a text is too long for it, or its padding too much | `capability: WORD at PLACE`; `capability: absent`; `capability: TextTooLong K`; `capability: TooMuch N` |
+/// | 4 | the capability is refused or absent, a text is too long for it, or its padding too much | `capability: WORD at PLACE`; `capability: absent`; `get: NAME: absent`; `get: NAME: no such capability`; `capability: TextTooLong K`; `capability: TooMuch N` |
 /// | 5 | reading or writing failed | `input: failed`; `output: failed` |
 /// | 6 | out of memory | `memory` |
 ///

@@ -5,7 +5,7 @@ ghost use Rattle.ti_tool.specs.Runs.{status_for};
 
 use crate::fault::ToolFault;
 
-/// The status of a call's answer: 1 if `check` found a text with a fault.
+/// The status of a call's answer: 1 if `check` found a text with a fault, or `get` a flag that is not set.
 pub fn status(answer: &Result<bool, ToolFault>) -> u8
     ensures { result ≡ status_for answer.now }
 {
@@ -16,6 +16,7 @@ pub fn status(answer: &Result<bool, ToolFault>) -> u8
         Err(
             ToolFault::Cap(_)
             | ToolFault::NoSuchText
+            | ToolFault::NoSuchName
             | ToolFault::TextTooLong(_)
             | ToolFault::TooMuch(_),
         ) => 4,

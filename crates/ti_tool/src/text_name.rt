@@ -12,7 +12,7 @@ use ti_words::{Kind, NameTable, Text};
 const MOST_DIGITS: usize = 5;
 
 /// The index that `#` and one to five digits mean.
-fn index_of(name: &str) -> Option<usize>
+pub fn index_of(name: &str) -> Option<usize>
     ensures some { IfSome result (λ index. IsLabel name.now index) }
     ensures none { IfNone result ((index : ℕ) → ¬ IsLabel name.now index) }
 {

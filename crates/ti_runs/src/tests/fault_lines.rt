@@ -5,7 +5,7 @@ use ti_fixtures::entries::{QUESTION, SMALL, TEXT};
 use ti_fixtures::{Sink, Source};
 
 /// Words, what is read, the status, and the line on the fault.
-const LINES: [(&[&str], &[u8], u8, &[u8]); 12] = [
+const LINES: [(&[&str], &[u8], u8, &[u8]); 14] = [
     (&["ti", "cap", "n:+1"], b"%d", 2, b"parameter 1: bad word\n"),
     (
         &[
@@ -60,6 +60,13 @@ const LINES: [(&[&str], &[u8], u8, &[u8]); 12] = [
         b"capability: UnknownEscape at 3\n",
     ),
     (&["ti", "expand", "cup"], SMALL, 4, b"capability: absent\n"),
+    (&["ti", "get", "cup"], SMALL, 4, b"get: cup: absent\n"),
+    (
+        &["ti", "get", "\x1b"],
+        SMALL,
+        4,
+        b"get: \\E: no such capability\n",
+    ),
     (
         &[
             "ti",

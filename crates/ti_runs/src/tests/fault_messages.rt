@@ -8,7 +8,7 @@ use ti_tool::{ToolFault, WordFault};
 use ti_trace::TraceFault;
 
 /// Each fault of a call, and its message.
-const FAULTS: [(ToolFault, &str); 9] = [
+const FAULTS: [(ToolFault, &str); 10] = [
     (
         ToolFault::Entry(Refused {
             fault: Fault::Truncated,
@@ -28,6 +28,7 @@ const FAULTS: [(ToolFault, &str); 9] = [
         "Cap CutShort at 2",
     ),
     (ToolFault::NoSuchText, "NoSuchText"),
+    (ToolFault::NoSuchName, "NoSuchName"),
     (ToolFault::TextTooLong(9), "TextTooLong 9"),
     (
         ToolFault::TooMuch(6_553_434_465_000),

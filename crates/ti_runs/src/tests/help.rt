@@ -8,7 +8,7 @@ use ti_fixtures::{Sink, Source};
 use ti_line::{Message, NoLine, read_line};
 
 /// Words that ask for help, and what the help has.
-const HELP: [(&[&str], &[&str]); 10] = [
+const HELP: [(&[&str], &[&str]); 11] = [
     (
         &["ti", "--help"],
         &[
@@ -18,6 +18,7 @@ const HELP: [(&[&str], &[&str]); 10] = [
             "check",
             "expand",
             "convert",
+            "get",
             "--version",
             "Status",
         ],
@@ -57,6 +58,16 @@ const HELP: [(&[&str], &[&str]); 10] = [
     ),
     (&["ti", "check", "--help"], &["status 1", "Example"]),
     (&["ti", "convert", "--help"], &["canonical", "Example"]),
+    (
+        &["ti", "get", "--help"],
+        &[
+            "<NAME>",
+            "cursor_address",
+            "flag#N",
+            "as tput does",
+            "Example",
+        ],
+    ),
     (&["ti", "--version"], &["ti 0.2.0\n"]),
 ];
 
@@ -127,7 +138,7 @@ fn help_is_the_text_of_the_command(rt: HostRuntime) -> Result<(), Fail> {
     let about = "Reads, analyses, expands and writes compiled terminfo entries\n";
     assert_that!(rt; text.starts_with(about));
     assert_that!(rt; text.ends_with("\n"));
-    for command in ["cap", "trace", "show", "check", "expand", "convert"] {
+    for command in ["cap", "trace", "show", "check", "expand", "convert", "get"] {
         assert_that!(rt; text.contains(command));
     }
     Ok(())

@@ -6,6 +6,7 @@ use std::test::Fail;
 use ti_expand::Value;
 use ti_fixtures::capabilities::nine;
 use ti_fixtures::traces::LENGTH_OF_TEXT;
+use ti_line::read_given;
 use ti_tool::read_params;
 
 /// Words, and the parameters that they are, of which the others are the number 0.
@@ -41,6 +42,43 @@ fn words_are_read_as_parameters(rt: HostRuntime) -> Result<(), Fail> {
             assert_that!(rt; is_same(&parameters[i], &expected[i]));
         }
     }
+    Ok(())
+}
+
+/// Words of `get`, and the first two parameters that they give.
+const GIVEN: [(&[&str], &str); 8] = [
+    (
+        &["7", "-7"],
+        "[Either { number: 7, text: [55] }, Either { number: -7, text: [45, 55] }]",
+    ),
+    (&["n:7", "s:7"], "[Number(7), Text([55])]"),
+    (&["s:n:7"], "[Text([110, 58, 55]), Number(0)]"),
+    (&["", "+7"], "[Text([]), Text([43, 55])]"),
+    // as many bits as a number has, and one more
+    (
+        &["2147483647"],
+        "[Either { number: 2147483647, text: [50, 49, 52, 55, 52, 56, 51, 54, 52, 55] }, Number(0)]",
+    ),
+    (
+        &["2147483648"],
+        "[Text([50, 49, 52, 55, 52, 56, 51, 54, 52, 56]), Number(0)]",
+    ),
+    // digits are decimal
+    (
+        &["010", "0x1"],
+        "[Either { number: 10, text: [48, 49, 48] }, Text([48, 120, 49])]",
+    ),
+    (&["n", "-"], "[Text([110]), Text([45])]"),
+];
+
+#[test]
+fn words_give_parameters_to_get(rt: HostRuntime) -> Result<(), Fail> {
+    for (words, expected) in GIVEN {
+        let given = read_given(words).ok().ok_or("words")?.ok_or("none")?;
+        let text = format!(in rt.alloc(); "{:?}", &given.params[..2])?;
+        assert_that!(rt; text.as_str() == expected);
+    }
+    assert_that!(rt; matches!(read_given(&[]), Ok(None)));
     Ok(())
 }
 

@@ -4,7 +4,7 @@ use std::test::Fail;
 use ti_line::{NoLine, Request, read_line};
 
 /// Words, what they ask for, and the first two parameters.
-const READ: [(&[&str], &str, &str); 23] = [
+const READ: [(&[&str], &str, &str); 26] = [
     (
         &["ti", "cap", "n:7"],
         "Capability(Cap(Raw))",
@@ -123,6 +123,21 @@ const READ: [(&[&str], &str, &str); 23] = [
         "[Num(1), Num(0)]",
     ),
     (
+        &["ti", "get", "cup"],
+        "Entry(Get(Get { name: \"cup\", given: None, padding: Padding { rate: 0, lines: 1, xon: false, pad: 0 }, output: Raw }))",
+        "[Num(0), Num(0)]",
+    ),
+    (
+        &["ti", "get", "--escape", "--rate=960", "cursor_address"],
+        "Entry(Get(Get { name: \"cursor_address\", given: None, padding: Padding { rate: 960, lines: 1, xon: false, pad: 0 }, output: Line(Notation) }))",
+        "[Num(0), Num(0)]",
+    ),
+    (
+        &["ti", "get", "bel", "7"],
+        "Entry(Get(Get { name: \"bel\", given: Some(Given { params: [Either { number: 7, text: [55] }, Number(0), Number(0), Number(0), Number(0), Number(0), Number(0), Number(0), Number(0)] }), padding: Padding { rate: 0, lines: 1, xon: false, pad: 0 }, output: Raw }))",
+        "[Num(0), Num(0)]",
+    ),
+    (
         &["ti", "expand", "--", "-X"],
         "Entry(Expand(Expand { name: TextName { name: \"-X\", names: Common }, padding: Padding { rate: 0, lines: 1, xon: false, pad: 0 }, output: Raw }))",
         "[Num(0), Num(0)]",
@@ -130,7 +145,7 @@ const READ: [(&[&str], &str, &str); 23] = [
 ];
 
 /// Words of which the line has a fault, and the fault.
-const FAULTY: [(&[&str], &str); 8] = [
+const FAULTY: [(&[&str], &str); 11] = [
     (&["ti", "cap", "help"], "BadWord 1"),
     (&["ti", "cap", "n:1", "", "s:"], "BadWord 2"),
     (&["ti", "cap", "--", "-5", "--hex"], "BadWord 1"),
@@ -147,6 +162,17 @@ const FAULTY: [(&[&str], &str); 8] = [
         "TooMany",
     ),
     (&["ti", "convert", "--narrow", "--wide"], "BothWidths"),
+    (
+        &["ti", "get", "--escape", "--hex", "bel", "n:x"],
+        "BothFormsOfGet",
+    ),
+    (&["ti", "get", "bel", "x", "n:x"], "BadWord 2"),
+    (
+        &[
+            "ti", "get", "bel", "1", "2", "3", "4", "5", "6", "7", "8", "9", "10",
+        ],
+        "TooMany",
+    ),
 ];
 
 #[test]

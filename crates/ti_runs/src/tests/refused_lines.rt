@@ -7,7 +7,7 @@ use ti_fixtures::entries::SMALL;
 use ti_line::{NoLine, read_line};
 
 /// Words that are refused, and what the text on them has.
-const REFUSED: [(&[&str], &str); 21] = [
+const REFUSED: [(&[&str], &str); 24] = [
     (&[], "subcommand"),
     (&["ti"], "subcommand"),
     (&["ti", "zap"], "'zap'"),
@@ -31,6 +31,9 @@ const REFUSED: [(&[&str], &str); 21] = [
         "'^J9' for '--rate <N>'",
     ),
     (&["ti", "expand"], "<NAME>"),
+    (&["ti", "get"], "<NAME>"),
+    (&["ti", "get", "cup", "-5"], "'-5'"),
+    (&["ti", "get", "--all-names", "cup"], "'--all-names'"),
     (&["ti", "expand", "bel", "--rate"], "--rate <N>"),
     (
         &["ti", "expand", "--rate", "1000001", "bel"],

@@ -57,7 +57,7 @@ fn an_expansion_without_memory_says_so(rt: HostRuntime) -> Result<(), Fail> {
 }
 
 /// Words for each command, and what it reads.
-const COMMANDS: [(&[&str], &[u8]); 10] = [
+const COMMANDS: [(&[&str], &[u8]); 11] = [
     (&["ti", "cap", "--hex", "n:7"], b"\x1b[%p1%40dG"),
     (&["ti", "cap", "--escape", "n:7"], b"\x1b[%p1%40dG"),
     (&["ti", "trace", "n:7"], b"\x1b[%p1%dG"),
@@ -78,6 +78,17 @@ const COMMANDS: [(&[&str], &[u8]); 10] = [
         TEXT,
     ),
     (&["ti", "convert"], EXTENDED),
+    (
+        &[
+            "ti",
+            "get",
+            "--rate",
+            "960",
+            "text#0",
+            "a$<9> and some more bytes after it, as many as sixty or so",
+        ],
+        TEXT,
+    ),
 ];
 
 #[test]

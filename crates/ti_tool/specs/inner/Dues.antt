@@ -4,7 +4,7 @@ use Rattle.ti_expand.specs.declared.values.Value.{Value}
 use Rattle.ti_tool.specs.declared.fault.ToolFault.{ToolFault}
 use Rattle.ti_tool.specs.declared.fault.ToolFault.TheVariants as fault
 use Rattle.ti_tool.specs.Calls.{NeedsMemory}
-use Rattle.ti_tool.specs.Results.{IsUnexpanded}
+use Rattle.ti_tool.specs.Expansions.{IsUnexpanded}
 
 -- the fault that is due, or out of memory if what is due needs memory
 abbrev pub FailsAsDue : (Result (List ℕ) ToolFault → Type 0) → ToolFault → Type 0

@@ -4,6 +4,7 @@
 
 ghost use Rattle.std.specs.Prelude.{◌≡◌, Ok, MatchResult};
 ghost use Rattle.ti_words.specs.Texts.{text_value};
+ghost use Rattle.ti_tool.specs.Got.{IsPaddedAlone};
 ghost use Rattle.ti_tool.specs.Results.{IsDue, IsDueFor, IsPadded};
 ghost use Rattle.ti_tool.specs.inner.Dues.{FailsAsDue};
 
@@ -18,8 +19,26 @@ use ti_line::{Expand, Output};
 use ti_pad::{PadFault, Padding, pad};
 use ti_words::Text;
 
+/// A text that is padded as it stands.
+pub fn padded_output<A: Allocator + Copy>(
+    alloc: A,
+    text: &[u8],
+    padding: &Padding,
+    output: Output,
+) -> Result<Vec<u8, A>, ToolFault>
+    ensures { MatchResult result
+        (λ v. IsPaddedAlone text.now padding.now output (Ok v.items))
+        (FailsAsDue (IsPaddedAlone text.now padding.now output)) }
+{
+    match pad(alloc, text, padding) {
+        Ok(padded) => output_bytes(alloc, padded, output),
+        Err(PadFault::TooMuch { need }) => Err(ToolFault::TooMuch(need)),
+        Err(PadFault::Memory) => Err(ToolFault::Memory),
+    }
+}
+
 /// A text, expanded and then padded.
-fn expand_and_pad<A: Allocator + Copy>(
+pub fn expand_and_pad<A: Allocator + Copy>(
     alloc: A,
     text: &[u8],
     parameters: &[Value<'_>; 9],
@@ -31,11 +50,7 @@ fn expand_and_pad<A: Allocator + Copy>(
         (FailsAsDue (IsPadded text.now parameters.now padding.now output)) }
 {
     let plain = expansion_of(alloc, text, parameters)?;
-    match pad(alloc, plain.as_slice(), padding) {
-        Ok(padded) => output_bytes(alloc, padded, output),
-        Err(PadFault::TooMuch { need }) => Err(ToolFault::TooMuch(need)),
-        Err(PadFault::Memory) => Err(ToolFault::Memory),
-    }
+    padded_output(alloc, plain.as_slice(), padding, output)
 }
 
 /// The result of `expand` for an entry. Padding marks are looked for in the expanded bytes, so one in a text parameter

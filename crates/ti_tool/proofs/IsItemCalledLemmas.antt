@@ -1,0 +1,111 @@
+-- A name means at most one capability of an entry.
+use Rattle.std.proofs.Common.{◌≡◌, ℕ, List, [], ◌∷◌, ◌++◌, take, get_or, refl, sym, ap, ap₂, subst, ◌∙◌, inl, inr, arith}
+use Rattle.std.specs.Prelude.{Option, Some, None, slice_get, option_map, unwrap_or}
+use Rattle.ti_words.specs.declared.Kind.{Kind}
+use Rattle.ti_words.specs.declared.Kind.TheVariants as kinds
+use Rattle.ti_words.specs.Names.{Place}
+use Rattle.ti_words.specs.Spelling.{extended_names}
+use Rattle.ti_words.specs.Value.{EntryValue}
+use Rattle.ti_entry.specs.Finding.{IsPosition, Lacks, names_before, names_of}
+use Rattle.ti_entry.specs.declared.finding.Position.{Position}
+use Rattle.ti_entry.specs.declared.finding.Position.TheVariants.{Standard, Extended}
+use Rattle.ti_tool.specs.Items.{IsItemCalled, IsKindLabel, IsPlaceCalled, ItemValue, item_at, kind_word}
+use Rattle.ti_tool.specs.Names.{IsLabel}
+use Rattle.ti_tool.proofs.IsCalledLemmas.{not_there, one_index, one_label}
+
+-- ---- a label with a kind
+
+-- the three words begin apart
+pub one_kind : (k l : Kind) (a b : List ℕ) → kind_word k ++ a ≡ kind_word l ++ b → (k ≡ l) × (a ≡ b)
+one_kind kinds.Flag kinds.Flag a b e = (refl, cc)
+one_kind kinds.Number kinds.Number a b e = (refl, cc)
+one_kind kinds.Text kinds.Text a b e = (refl, cc)
+one_kind kinds.Flag kinds.Number a b e = let first : 102 ≡ 110 = ap (λ ws. get_or ws 0 0) e in absurd (omega (arith, first))
+one_kind kinds.Flag kinds.Text a b e = let first : 102 ≡ 116 = ap (λ ws. get_or ws 0 0) e in absurd (omega (arith, first))
+one_kind kinds.Number kinds.Flag a b e = let first : 110 ≡ 102 = ap (λ ws. get_or ws 0 0) e in absurd (omega (arith, first))
+one_kind kinds.Number kinds.Text a b e = let first : 110 ≡ 116 = ap (λ ws. get_or ws 0 0) e in absurd (omega (arith, first))
+one_kind kinds.Text kinds.Flag a b e = let first : 116 ≡ 102 = ap (λ ws. get_or ws 0 0) e in absurd (omega (arith, first))
+one_kind kinds.Text kinds.Number a b e = let first : 116 ≡ 110 = ap (λ ws. get_or ws 0 0) e in absurd (omega (arith, first))
+
+-- a name with one of them is no label if what comes after it is none
+pub no_label : (name label : List ℕ) (k : Kind) → name ≡ kind_word k ++ label → ((index : ℕ) → ¬ IsLabel label index) → (l : Kind) (index : ℕ) → ¬ IsKindLabel name l index
+no_label name label k is none l index (other, same, labels) =
+    let one = one_kind l k other label (sym same ∙ is) in
+    none index (subst (λ x. IsLabel x index) one.1 labels)
+
+one_kind_label : (name : List ℕ) (k l : Kind) (i j : ℕ) → IsKindLabel name k i → IsKindLabel name l j → (k ≡ l) × (i ≡ j)
+one_kind_label name k l i j (a, is, labels) (b, same, others) =
+    let one = one_kind k l a b (sym is ∙ same) in
+    (one.0, one_label b i j (subst (λ x. IsLabel x i) one.1 labels) others)
+
+-- ---- the first of a name among the entry's own
+
+lacks_left : (xs ys : List (List ℕ)) (name : List ℕ) → Lacks (xs ++ ys) name → Lacks xs name
+lacks_left [] ys name h = tt
+lacks_left (x ∷ xs) ys name h = (h.0, lacks_left xs ys name h.1)
+
+lacks_right : (xs ys : List (List ℕ)) (name : List ℕ) → Lacks (xs ++ ys) name → Lacks ys name
+lacks_right [] ys name h = h
+lacks_right (x ∷ xs) ys name h = lacks_right xs ys name h.1
+
+module _ (v : EntryValue) (name : List ℕ) where
+  abbrev Fs : List (List ℕ)
+  Fs = names_of v kinds.Flag
+
+  abbrev Ns : List (List ℕ)
+  Ns = names_of v kinds.Number
+
+  abbrev Ts : List (List ℕ)
+  Ts = names_of v kinds.Text
+
+  nowhere : (k : Kind) (i : ℕ) → Lacks (extended_names v) name → slice_get (names_of v k) i ≡ Some name → ⊥
+  nowhere kinds.Flag i lacks is = not_there Fs name i (lacks_left Fs Ns name (lacks_left (Fs ++ Ns) Ts name lacks)) is
+  nowhere kinds.Number i lacks is = not_there Ns name i (lacks_right Fs Ns name (lacks_left (Fs ++ Ns) Ts name lacks)) is
+  nowhere kinds.Text i lacks is = not_there Ts name i (lacks_right (Fs ++ Ns) Ts name lacks) is
+
+  abbrev IsFirst : Kind → ℕ → Type 0
+  IsFirst k i = (slice_get (names_of v k) i ≡ Some name) × Lacks (names_before v k i) name
+
+  one_own : (k l : Kind) (i j : ℕ) → IsFirst k i → IsFirst l j → (k ≡ l) × (i ≡ j)
+  one_own kinds.Flag kinds.Flag i j a b = (refl, one_index Fs name i j a.0 a.1 b.0 b.1)
+  one_own kinds.Number kinds.Number i j a b = (refl, one_index Ns name i j a.0 (lacks_right Fs (take i Ns) name a.1) b.0 (lacks_right Fs (take j Ns) name b.1))
+  one_own kinds.Text kinds.Text i j a b =
+      (refl, one_index Ts name i j a.0 (lacks_right (Fs ++ Ns) (take i Ts) name a.1) b.0 (lacks_right (Fs ++ Ns) (take j Ts) name b.1))
+  one_own kinds.Flag kinds.Number i j a b = absurd (not_there Fs name i (lacks_left Fs (take j Ns) name b.1) a.0)
+  one_own kinds.Flag kinds.Text i j a b = absurd (not_there Fs name i (lacks_left Fs Ns name (lacks_left (Fs ++ Ns) (take j Ts) name b.1)) a.0)
+  one_own kinds.Number kinds.Flag i j a b = absurd (not_there Fs name j (lacks_left Fs (take i Ns) name a.1) b.0)
+  one_own kinds.Number kinds.Text i j a b = absurd (not_there Ns name i (lacks_right Fs Ns name (lacks_left (Fs ++ Ns) (take j Ts) name b.1)) a.0)
+  one_own kinds.Text kinds.Flag i j a b = absurd (not_there Fs name j (lacks_left Fs Ns name (lacks_left (Fs ++ Ns) (take i Ts) name a.1)) b.0)
+  one_own kinds.Text kinds.Number i j a b = absurd (not_there Ns name j (lacks_right Fs Ns name (lacks_left (Fs ++ Ns) (take i Ts) name a.1)) b.0)
+
+  -- ---- the place
+
+  one_position : (a b : Option Position) → IsPosition v name a → IsPosition v name b → a ≡ b
+  one_position None None p q = refl
+  one_position None (Some (Standard k i)) p q = absurd (cc (p.0, q))
+  one_position None (Some (Extended k i)) p q = absurd (nowhere k i p.1 q.1.0)
+  one_position (Some (Standard k i)) None p q = absurd (cc (p, q.0))
+  one_position (Some (Standard k i)) (Some (Standard l j)) p q =
+      let both = sym p ∙ q in
+      let kind = ap (λ (o : Option Place). (unwrap_or o (k, i)).0) both in
+      let index = ap (λ (o : Option Place). (unwrap_or o (k, i)).1) both in
+      ap₂ (λ x y. Some (Standard x y)) kind index
+  one_position (Some (Standard k i)) (Some (Extended l j)) p q = absurd (cc (p, q.0))
+  one_position (Some (Extended k i)) None p q = absurd (nowhere k i q.1 p.1.0)
+  one_position (Some (Extended k i)) (Some (Standard l j)) p q = absurd (cc (p.0, q))
+  one_position (Some (Extended k i)) (Some (Extended l j)) p q =
+      let one = one_own k l i j p.1 q.1 in
+      ap₂ (λ x y. Some (Extended x y)) one.0 one.1
+
+  one_place : (a b : Option Position) → IsPlaceCalled name v a → IsPlaceCalled name v b → a ≡ b
+  one_place a b (inl (k, i, label, is)) (inl (l, j, other, same)) =
+      let one = one_kind_label name k l i j label other in
+      is ∙ ap₂ (λ x y. Some (Standard x y)) one.0 one.1 ∙ sym same
+  one_place a b (inl (k, i, label, is)) (inr (none, at)) = absurd (none k i label)
+  one_place a b (inr (none, at)) (inl (l, j, other, same)) = absurd (none l j other)
+  one_place a b (inr (none, at)) (inr (neither, there)) = one_position a b at there
+
+  -- ---- the value
+
+  pub one_item : (a b : Option ItemValue) → IsItemCalled name v a → IsItemCalled name v b → a ≡ b
+  one_item a b (place, called, is) (other, again, same) = is ∙ ap (option_map (item_at v)) (one_place place other called again) ∙ sym same

@@ -1,0 +1,58 @@
+-- Which capability of an entry a name means, and its value.
+use Rattle.std.specs.Prelude.{◌≡◌, ◌⊎◌, ℕ, List, ◌++◌, codes, get_or, map, Option, Some, option_map}
+use Rattle.ti_words.specs.declared.Flag.{Flag}
+use Rattle.ti_words.specs.declared.Flag.TheVariants as flags
+use Rattle.ti_words.specs.declared.Kind.{Kind}
+use Rattle.ti_words.specs.declared.Kind.TheVariants as kinds
+use Rattle.ti_words.specs.declared.Number.{Number}
+use Rattle.ti_words.specs.declared.Number.TheVariants as numbers
+use Rattle.ti_words.specs.Texts.{TextValue, AbsentText}
+use Rattle.ti_words.specs.Value.{EntryValue}
+use Rattle.ti_words.specs.Spelling.{mark_in}
+use Rattle.ti_entry.specs.Finding.{IsPosition}
+use Rattle.ti_entry.specs.declared.finding.Position.{Position}
+use Rattle.ti_entry.specs.declared.finding.Position.TheVariants.{Standard, Extended}
+use Rattle.ti_tool.specs.Names.{IsLabel}
+
+-- the value of a capability, by its kind
+pub data ItemValue : Type 0 where
+  FlagItem : Flag → ItemValue
+  NumberItem : Number → ItemValue
+  TextItem : TextValue → ItemValue
+
+-- ---- the place
+
+abbrev pub kind_word : Kind → List ℕ
+kind_word kinds.Flag = codes "flag"
+kind_word kinds.Number = codes "number"
+kind_word kinds.Text = codes "text"
+
+-- `flag`, `number` or `text`, then `#` and an index, such as `text#10`
+abbrev pub IsKindLabel : List ℕ → Kind → ℕ → Type 0
+IsKindLabel name kind index =
+    (label : List ℕ) × (name ≡ kind_word kind ++ label) × IsLabel label index
+
+-- the place that such a name tells, or else that of the capability with the name: a short name of
+-- terminfo(5), a long one, or one of the entry's own
+abbrev pub IsPlaceCalled : List ℕ → EntryValue → Option Position → Type 0
+IsPlaceCalled name v place =
+    ((kind : Kind) × (index : ℕ) × IsKindLabel name kind index
+    × (place ≡ Some (Standard kind index)))
+    ⊎ (((kind : Kind) (index : ℕ) → ¬ IsKindLabel name kind index) × IsPosition v name place)
+
+-- ---- the value
+
+-- what an entry says of a place; where it has none, the flag is No and the others are absent
+abbrev pub item_at : EntryValue → Position → ItemValue
+item_at v (Standard kinds.Flag i) = FlagItem (get_or v.flags i flags.No)
+item_at v (Standard kinds.Number i) = NumberItem (get_or v.numbers i numbers.Absent)
+item_at v (Standard kinds.Text i) = TextItem (get_or v.texts i AbsentText)
+item_at v (Extended kinds.Flag i) = FlagItem (get_or (map mark_in v.extended_flags) i flags.No)
+item_at v (Extended kinds.Number i) =
+    NumberItem (get_or (map mark_in v.extended_numbers) i numbers.Absent)
+item_at v (Extended kinds.Text i) = TextItem (get_or (map mark_in v.extended_texts) i AbsentText)
+
+-- the value of the capability that a name means, or none if nothing has the name
+abbrev pub IsItemCalled : List ℕ → EntryValue → Option ItemValue → Type 0
+IsItemCalled name v item =
+    (place : Option Position) × IsPlaceCalled name v place × (item ≡ option_map (item_at v) place)

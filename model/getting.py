@@ -1,0 +1,139 @@
+"""What `ti get` makes of the value of a capability.
+
+Written from the manual page, to be compared with the proved program. Which parameters a capability takes as texts is found
+by going along all paths of its tree, with the stack of each.
+"""
+import re
+
+import capability
+from entry import ABSENT, CANCELLED
+from notation import formed, notation
+
+KINDS = ["flag", "number", "text"]
+
+
+class Failed(Exception):
+    """Why nothing is written, as the line on it."""
+
+
+# ---- the capability
+
+
+def item_of(entry, name, tables):
+    """The kind and the value that a name means, or Failed. The tables have short names, then long ones."""
+    standard = {"flag": entry.flags, "number": entry.numbers, "text": entry.texts}
+    missing = {"flag": "no", "number": -1, "text": ABSENT}
+
+    def at(kind, index):
+        values = standard[kind]
+        return kind, values[index] if index < len(values) else missing[kind]
+
+    label = re.fullmatch(r"(flag|number|text)#([0-9]{1,5})", name)
+    if label:
+        return at(label[1], int(label[2]))
+    for table in tables:
+        for kind in KINDS:
+            for index, its_name in table[kind].items():
+                if its_name == name:
+                    return at(kind, index)
+    own = {"flag": entry.extended_flags, "number": entry.extended_numbers, "text": entry.extended_texts}
+    for kind in KINDS:
+        for its_name, value in own[kind]:
+            if its_name == name.encode():
+                return kind, value
+    near = nearest(name, tables)
+    raise Failed(f"get: {shown_name(name)}: no such capability" + (f"; nearest: {near}" if near else ""))
+
+
+def shown_name(name):
+    shown = notation(name.encode())
+    return shown.decode() if len(shown) <= 40 else ".."
+
+
+def distance(word, name):
+    """The distance of optimal string alignment, by its recursion over the fronts of both."""
+    table = {}
+    for i in range(len(word) + 1):
+        for j in range(len(name) + 1):
+            if not i or not j:
+                table[i, j] = i + j
+                continue
+            ways = [table[i - 1, j] + 1, table[i, j - 1] + 1, table[i - 1, j - 1] + (word[i - 1] != name[j - 1])]
+            if i > 1 and j > 1 and word[i - 1] == name[j - 2] and word[i - 2] == name[j - 1]:
+                ways.append(table[i - 2, j - 2] + 1)
+            table[i, j] = min(ways)
+    return table[len(word), len(name)]
+
+
+def nearest(word, tables):
+    """The first of the names to which fewest edits lead, if there is at most one for each three bytes of the word."""
+    names = [name for table in tables for kind in KINDS for name in table[kind].values()]
+    most = len(word.encode()) // 3
+    near = [name for name in names if abs(len(name) - len(word)) <= most]
+    found = min(near, key=lambda name: distance(word, name), default=None)
+    return found if found and distance(word, found) <= most else None
+
+
+# ---- parameters
+
+
+def stacks_after(items, stacks, texts):
+    """The stacks that the paths through these items may leave, each a tuple of the numbers of parameters, or of None; the
+    parameters that a path takes as texts go into `texts`."""
+    for item in items:
+        if isinstance(item, capability.Token):
+            stacks = {stack_after(item, stack, texts) for stack in stacks}
+            continue
+        ends = set()
+        for test, body in item.arms:
+            stacks = {stack[:-1] for stack in stacks_after(test, stacks, texts)}
+            ends |= stacks_after(body, stacks, texts)
+        stacks = ends | stacks_after(item.otherwise or [], stacks, texts)
+    return stacks
+
+
+def stack_after(token, stack, texts):
+    pops, pushes = capability.POPS_AND_PUSHES.get(token.kind, (0, 0))
+    takes_text = token.kind == "length" or (token.kind == "print" and token.value.conversion == "s")
+    if takes_text and stack:
+        texts.add(stack[-1])
+    rest = stack[:len(stack) - min(pops, len(stack))]
+    return rest + pushes * (token.value if token.kind == "parameter" else None,)
+
+
+def texts_of(text):
+    """The parameters that some path takes as texts."""
+    texts = set()
+    stacks_after(capability.tree_of(text), {()}, texts)
+    return texts
+
+
+def value_of(word, is_text):
+    if word.startswith("n:"):
+        return int(word[2:])
+    if word.startswith("s:"):
+        return word[2:].encode()
+    number = re.fullmatch(r"-?[0-9]+", word)
+    if number and -(2**31) <= int(word) < 2**31 and not is_text:
+        return int(word)
+    return word.encode()
+
+
+# ---- the result
+
+
+def got(entry, name, tables, words, rate, lines, xon, form):
+    """The status and the output, or Failed or Refused."""
+    kind, value = item_of(entry, name, tables)
+    if kind == "flag":
+        return (0 if value == "yes" else 1), b""
+    if kind == "number":
+        return 0, b"%d\n" % max(value, -1)
+    if value in (ABSENT, CANCELLED):
+        raise Failed(f"get: {shown_name(name)}: absent")
+    if words:
+        capability.tokens_of(value)
+        texts = texts_of(value)
+        value = capability.expanded(value, [value_of(word, which in texts) for which, word in enumerate(words, 1)])
+    padded = capability.padded(value, rate, lines, xon)
+    return 0, padded if form is None else formed(padded, form == "--escape") + b"\n"
