@@ -84,10 +84,9 @@ static size_t run_ti_read(const struct item *item) {
     static int32_t numbers[MOST_CAPABILITIES];
     static ti_text_item texts[MOST_CAPABILITIES];
     static ti_bytes names[MOST_CAPABILITIES];
+    ti_arrays arrays = {flags, MOST_CAPABILITIES, numbers, MOST_CAPABILITIES, texts, MOST_CAPABILITIES, names, MOST_CAPABILITIES};
     ti_entry entry;
-    return ti_read((const unsigned char *)item->bytes, item->length, flags, MOST_CAPABILITIES, numbers, MOST_CAPABILITIES, texts,
-                   MOST_CAPABILITIES, names, MOST_CAPABILITIES, &entry)
-           == TI_DONE;
+    return ti_read((const unsigned char *)item->bytes, item->length, &arrays, &entry) == TI_DONE;
 }
 
 static size_t run_ti_open(const struct item *item) {

@@ -377,8 +377,10 @@ static struct reading read_into(const unsigned char *bytes, size_t length, const
     own.texts = (ti_text_item *)room_of(rooms[2] * sizeof *own.texts);
     own.names = (ti_bytes *)room_of(rooms[3] * sizeof *own.names);
     memset(&own.entry, UNWRITTEN, sizeof own.entry);
-    own.answer = ti_read(own.bytes, length, own.flags, rooms[0], own.numbers, rooms[1], own.texts, rooms[2], own.names,
-                         rooms[3], &own.entry);
+    ti_arrays arrays = {own.flags, rooms[0], own.numbers, rooms[1], own.texts, rooms[2], own.names, rooms[3]};
+    ti_arrays before = arrays;
+    own.answer = ti_read(own.bytes, length, &arrays, &own.entry);
+    expect(memcmp(&arrays, &before, sizeof arrays) == 0, "the arrays stay where they are");
     return own;
 }
 
@@ -470,12 +472,13 @@ static void test_rooms(void) {
         release(&own);
     }
     ti_entry entry;
-    expect(ti_read(ENTRY, sizeof ENTRY, NULL, 0, NULL, 0, NULL, 0, NULL, 0, &entry) == TI_ROOM_TOO_SMALL
+    ti_arrays none = {NULL, 0, NULL, 0, NULL, 0, NULL, 0};
+    expect(ti_read(ENTRY, sizeof ENTRY, &none, &entry) == TI_ROOM_TOO_SMALL
            && entry.texts == 4 && entry.extended_texts == 2, "no room, and null pointers");
     static const unsigned char bare[] = {0x1a, 0x01, WORD(2), WORD(0), WORD(0), WORD(0), WORD(0), 'b', 0};
-    expect(ti_read(bare, sizeof bare, NULL, 0, NULL, 0, NULL, 0, NULL, 0, &entry) == TI_DONE && entry.names.length == 1,
+    expect(ti_read(bare, sizeof bare, &none, &entry) == TI_DONE && entry.names.length == 1,
            "an entry that needs no room");
-    expect(ti_read(NULL, 0, NULL, 0, NULL, 0, NULL, 0, NULL, 0, &entry) == TI_TRUNCATED && entry.place == 0,
+    expect(ti_read(NULL, 0, &none, &entry) == TI_TRUNCATED && entry.place == 0,
            "no bytes, and null pointers");
 }
 
@@ -547,7 +550,8 @@ static void test_fresh_memory(void) {
     ti_run *went = (ti_run *)malloc(sizeof *went);
     if (!flags || !numbers || !texts || !names || !room || !entry || !needed || !went) exit(2);
     const unsigned char *cup = (const unsigned char *)CUP;
-    expect(ti_read(ENTRY, sizeof ENTRY, flags, 4, numbers, 4, texts, 6, names, 4, entry) == TI_DONE
+    ti_arrays arrays = {flags, 4, numbers, 4, texts, 6, names, 4};
+    expect(ti_read(ENTRY, sizeof ENTRY, &arrays, entry) == TI_DONE
            && entry->texts == 4 && texts[5].mark == TI_CANCELLED && names[3].length == 2, "an entry into fresh memory");
     expect(ti_check(cup, strlen(CUP), 0, needed) == TI_DONE && needed->bound == 26, "limits into fresh memory");
     memset(&vars, 0, sizeof vars);

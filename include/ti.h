@@ -125,6 +125,18 @@ typedef struct {
     int8_t mark;
 } ti_text_item;
 
+/* The arrays that ti_read fills, each with how many elements it has. Without room, all of it 0, only counts are learnt. */
+typedef struct {
+    int8_t *flags;
+    size_t flag_room;
+    int32_t *numbers;
+    size_t number_room;
+    ti_text_item *texts;
+    size_t text_room;
+    ti_bytes *names; /* of the extended flags, then numbers, then texts */
+    size_t name_room;
+} ti_arrays;
+
 /* The names of an entry and how many capabilities it has, or where its fault is. */
 typedef struct {
     ti_bytes names; /* separated by |, in the entry's bytes */
@@ -234,13 +246,12 @@ uint32_t ti_view_extended(const ti_view *view, uint32_t kind, size_t index, ti_b
  * TI_ROOM_TOO_SMALL: an array has fewer elements than that. The ti_entry is written as after TI_DONE, so you can call once
  * with no room to learn the counts. The arrays are as they were.
  *
- * Room for TI_MOST_FLAGS, TI_MOST_NUMBERS, TI_MOST_TEXTS and TI_MOST_EXTENDED is always enough.
+ * Room for TI_MOST_FLAGS, TI_MOST_NUMBERS, TI_MOST_TEXTS and TI_MOST_EXTENDED is always enough. The ti_arrays itself is as it
+ * was after each call.
  *
  * Afterwards the arrays and the ti_entry hold pointers to the entry's bytes, which must stay where they are. In Go the bytes
  * must so be pinned, or lie in memory of C. */
-uint32_t ti_read(const unsigned char *bytes, size_t length, int8_t *flags, size_t flag_room, int32_t *numbers,
-                 size_t number_room, ti_text_item *texts, size_t text_room, ti_bytes *names, size_t name_room,
-                 ti_entry *entry);
+uint32_t ti_read(const unsigned char *bytes, size_t length, ti_arrays *arrays, ti_entry *entry);
 
 /* Checks a capability. TI_DONE: all but the place is written, and the place is as it was. 101 to 113: the place alone
  * is written. longest_text is the length of the longest text among the parameters, 0 if all are numbers; ti_expand needs
@@ -330,6 +341,10 @@ static inline ti_padding ti_padding_at(uint32_t rate) {
 #ifdef TI_LAYOUT
 TI_LAYOUT(sizeof(ti_bytes) == 16 && offsetof(ti_bytes, bytes) == 0 && offsetof(ti_bytes, length) == 8);
 TI_LAYOUT(sizeof(ti_text_item) == 24 && offsetof(ti_text_item, text) == 0 && offsetof(ti_text_item, mark) == 16);
+TI_LAYOUT(sizeof(ti_arrays) == 64 && offsetof(ti_arrays, flags) == 0 && offsetof(ti_arrays, flag_room) == 8);
+TI_LAYOUT(offsetof(ti_arrays, numbers) == 16 && offsetof(ti_arrays, number_room) == 24);
+TI_LAYOUT(offsetof(ti_arrays, texts) == 32 && offsetof(ti_arrays, text_room) == 40);
+TI_LAYOUT(offsetof(ti_arrays, names) == 48 && offsetof(ti_arrays, name_room) == 56);
 TI_LAYOUT(sizeof(ti_entry) == 80 && offsetof(ti_entry, names) == 0 && offsetof(ti_entry, flags) == 16);
 TI_LAYOUT(offsetof(ti_entry, numbers) == 24 && offsetof(ti_entry, texts) == 32);
 TI_LAYOUT(offsetof(ti_entry, extended_flags) == 40 && offsetof(ti_entry, extended_numbers) == 48);

@@ -13,7 +13,7 @@ Names are those of terminfo(5), such as cup, and those that an entry gives to it
 raises Fault, which has the word that ti(1) prints, and the place.
 """
 
-from ctypes import CDLL, POINTER, Structure, byref, c_char_p, c_int8, c_int32, c_size_t, c_uint8, c_uint16, c_uint32, c_uint64
+from ctypes import CDLL, POINTER, Structure, byref, c_char_p, c_int32, c_size_t, c_uint8, c_uint16, c_uint32, c_uint64
 from ctypes import c_void_p, cast, create_string_buffer, string_at
 from dataclasses import dataclass, field
 from pathlib import PurePath
@@ -22,7 +22,7 @@ __all__ = ["Entry", "Fault", "Limits", "Variables", "check", "expand", "pad", "v
 
 # Where ./install puts the library. If it is not there, the loader looks for the last part of it.
 LIBRARY = "libti.so.0.2"
-DONE, ROOM_TOO_SMALL, TOO_MANY_PARAMETERS, CANCELLED = 0, 402, 201, -2
+DONE, TOO_MANY_PARAMETERS, CANCELLED = 0, 201, -2
 KINDS = ["flag", "number", "text"]
 
 
@@ -44,13 +44,17 @@ class _Bytes(Structure):
         return string_at(self.bytes, self.length) if self.length else b""
 
 
-class _TextItem(Structure):
-    _fields_ = [("text", _Bytes), ("mark", c_int8)]
-
-
 class _Entry(Structure):
     COUNTS = ["flags", "numbers", "texts", "extended_flags", "extended_numbers", "extended_texts"]
     _fields_ = [("names", _Bytes), *((name, c_size_t) for name in COUNTS), ("number_bits", c_uint32), ("place", c_size_t)]
+
+
+class _View(Structure):
+    _fields_ = [("entry", _Entry), ("bytes", _Bytes), ("base", c_size_t)]
+
+
+class _Value(Structure):
+    _fields_ = [("text", _Bytes), ("number", c_int32), ("kind", c_uint32)]
 
 
 class _Parameter(Structure):
@@ -81,8 +85,9 @@ def _declare(name: str, *arguments: object) -> None:
 
 
 _TEXT = (c_char_p, c_size_t)
-_declare("ti_read", *_TEXT, *[c_void_p, c_size_t] * 4, POINTER(_Entry))
-_declare("ti_find", *_TEXT, POINTER(c_uint32), POINTER(c_size_t))
+_declare("ti_open", *_TEXT, POINTER(_View))
+_declare("ti_view_find", POINTER(_View), *_TEXT, POINTER(_Value))
+_declare("ti_view_extended", POINTER(_View), c_uint32, c_size_t, POINTER(_Bytes), POINTER(_Value))
 _declare("ti_check", *_TEXT, c_uint16, POINTER(_Limits))
 _declare("ti_expand", *_TEXT, c_void_p, c_size_t, POINTER(_Variables), c_void_p, c_size_t, POINTER(_Run))
 _declare("ti_pad", *_TEXT, POINTER(_Padding), c_void_p, c_size_t, POINTER(c_size_t))
@@ -108,61 +113,51 @@ class Entry:
     """A compiled entry (term(5)), which has to be all of the bytes."""
 
     def __init__(self, data: bytes) -> None:
-        data, counts = bytes(data), _Entry()
-        if fault := _library.ti_read(data, len(data), *[None, 0] * 4, byref(counts)):
-            if fault != ROOM_TOO_SMALL:
-                raise Fault(fault, counts.place)
-        extended = [counts.extended_flags, counts.extended_numbers, counts.extended_texts]
-        rooms = [counts.flags + extended[0], counts.numbers + extended[1], counts.texts + extended[2], sum(extended)]
-        arrays = [(kind * room)() for kind, room in zip((c_int8, c_int32, _TextItem, _Bytes), rooms)]
-        _library.ti_read(data, len(data), *[word for pair in zip(arrays, rooms) for word in pair], byref(counts))
-        self.names: list[bytes] = counts.names.copy().split(b"|")
+        # The view has pointers into these bytes.
+        self._data, self._view = bytes(data), _View()
+        if fault := _library.ti_open(self._data, len(self._data), byref(self._view)):
+            raise Fault(fault, self._view.entry.place)
+        self.names: list[bytes] = self._view.entry.names.copy().split(b"|")
         """The names of the terminal, the last of which describes it."""
-        self.number_bits: int = counts.number_bits
+        self.number_bits: int = self._view.entry.number_bits
         """How wide the numbers are in the file: 16 or 32."""
-        texts = [item.text.copy() if item.mark == 0 else item.mark for item in arrays[2]]
-        self._items: list[list[int | bytes]] = [list(arrays[0]), list(arrays[1]), texts]
-        self._standard = [counts.flags, counts.numbers, counts.texts]
-        # The first capability with a name counts, so it is put last.
-        places = [(kind, self._standard[kind] + i) for kind in range(3) for i in range(extended[kind])]
-        named = list(zip((name.copy() for name in arrays[3]), places))
-        self._extended = dict(reversed(named))
 
-    def _item(self, kind: int, name: bytes | str) -> int | bytes | None:
-        """What the entry has for a name, or None if the name is a standard one past the end of its items."""
-        word, kind_found, index = _bytes_of(name), c_uint32(), c_size_t()
-        if _library.ti_find(word, len(word), byref(kind_found), byref(index)) == DONE:
-            place = (kind_found.value, index.value)
-            there = index.value < self._standard[kind_found.value]
-        elif there := word in self._extended:
-            place = self._extended[word]
-        else:
+    def _value(self, kind: int, name: bytes | str) -> _Value:
+        """What the entry says of a capability of a kind, by a short, a long or an extended name."""
+        word, value = _bytes_of(name), _Value()
+        if _library.ti_view_find(byref(self._view), word, len(word), byref(value)):
             raise KeyError(name)
-        if place[0] != kind:
-            raise KeyError(f"{name!r} is a {KINDS[place[0]]}")
-        return self._items[kind][place[1]] if there else None
+        if value.kind != kind:
+            raise KeyError(f"{name!r} is a {KINDS[value.kind]}")
+        return value
 
     def flag(self, name: bytes | str) -> bool:
         """Whether a flag is set. KeyError if no flag has the name."""
-        return self._item(0, name) == 1
+        return self._value(0, name).number == 1
 
     def number(self, name: bytes | str) -> int | None:
         """A number, or None if it is absent or cancelled. KeyError if no number has the name."""
-        number = self._item(1, name)
-        return number if isinstance(number, int) and number >= 0 else None
+        number = self._value(1, name).number
+        return number if number >= 0 else None
 
     def text(self, name: bytes | str) -> bytes | None:
         """A text, or None if it is absent or cancelled. KeyError if no text has the name."""
-        text = self._item(2, name)
-        return text if isinstance(text, bytes) else None
+        value = self._value(2, name)
+        return value.text.copy() if value.number == 0 else None
 
     def is_cancelled(self, kind: str, name: bytes | str) -> bool:
         """Whether the flag, the number or the text (the kind) of a name is cancelled."""
-        return self._item(KINDS.index(kind), name) == CANCELLED
+        return self._value(KINDS.index(kind), name).number == CANCELLED
 
     def extended(self) -> dict[bytes, str]:
         """The names of the extended capabilities, each with the kind: flag, number or text."""
-        return {name: KINDS[kind] for name, (kind, _) in reversed(self._extended.items())}
+        named: dict[bytes, str] = {}
+        name, value = _Bytes(), _Value()
+        for kind, word in enumerate(KINDS):
+            for index in range(getattr(self._view.entry, f"extended_{word}s")):
+                _library.ti_view_extended(byref(self._view), kind, index, byref(name), byref(value))
+                named.setdefault(name.copy(), word)
+        return named
 
 
 @dataclass

@@ -10,6 +10,7 @@ use Rattle.ti_words.specs.Widths.{number_size}
 use Rattle.ti_words.specs.Spelling.{Spells, mark_in}
 use Rattle.ti_layout.specs.declared.fault.Fault.{Fault}
 use Rattle.ti_layout.specs.Refusal.{refusal}
+use Rattle.ti_c.specs.declared.entry.Arrays.{Arrays}
 use Rattle.ti_c.specs.declared.entry.TextItem.{TextItem}
 use Rattle.ti_c.specs.declared.entry.EntryCounts.{EntryCounts}
 use Rattle.ti_c.specs.declared.names.Bytes.{Bytes}
@@ -71,6 +72,29 @@ pub record IsAmple (flag_room number_room text_room name_room : ℕ) : Type 0 wh
   pub numbers : most_entry_bytes ≤ 2 * number_room
   pub texts : most_entry_bytes ≤ 2 * text_room
   pub names : most_entry_bytes ≤ 3 * name_room
+
+-- the caller's arrays have room for the entry, or for every entry
+abbrev pub HasRoomIn : Arrays → EntryValue → Type 0
+HasRoomIn arrays v =
+    HasRoom v (length arrays.flags.now) (length arrays.numbers.now) (length arrays.texts.now) (length arrays.names.now)
+
+abbrev pub AreAmple : Arrays → Type 0
+AreAmple arrays =
+    IsAmple (length arrays.flags.now) (length arrays.numbers.now) (length arrays.texts.now) (length arrays.names.now)
+
+-- their items are as they were
+pub record AreKept (old new : Arrays) : Type 0 where
+  pub flags : new.flags.now ≡ old.flags.now
+  pub numbers : new.numbers.now ≡ old.numbers.now
+  pub texts : new.texts.now ≡ old.texts.now
+  pub names : new.names.now ≡ old.names.now
+
+-- the arrays are those that were handed over: each where it was, and as long
+pub record StayInPlace (old new : Arrays) : Type 0 where
+  pub flags : (new.flags.ref_ptr ≡ old.flags.ref_ptr) × (length new.flags.now ≡ length old.flags.now)
+  pub numbers : (new.numbers.ref_ptr ≡ old.numbers.ref_ptr) × (length new.numbers.now ≡ length old.numbers.now)
+  pub texts : (new.texts.ref_ptr ≡ old.texts.ref_ptr) × (length new.texts.now ≡ length old.texts.now)
+  pub names : (new.names.ref_ptr ≡ old.names.ref_ptr) × (length new.names.now ≡ length old.names.now)
 
 -- ---- what is told
 

@@ -11,7 +11,7 @@ ghost use Rattle.ti_words.specs.Value.{EntryValue};
 ghost use Rattle.ti_words.specs.Widths.{number_size};
 ghost use Rattle.ti_entry.specs.Finding.{names_of};
 ghost use Rattle.ti_c.specs.Numbers.{done, room_too_small};
-ghost use Rattle.ti_c.specs.Entries.{flag_mark as the_flag_mark, text_shown, text_held, bytes_held, itself, flag_marks, number_words, texts_shown, StartsWith, HasRoom, IsAmple, Tells, IsRead, SpellsSome, ForEntry, IsEntryRefusedAs};
+ghost use Rattle.ti_c.specs.Entries.{flag_mark as the_flag_mark, text_shown, text_held, bytes_held, itself, flag_marks, number_words, texts_shown, StartsWith, HasRoom, HasRoomIn, AreAmple, AreKept, StayInPlace, Tells, IsRead, SpellsSome, ForEntry, IsEntryRefusedAs};
 
 use crate::faults::{DONE, ROOM_TOO_SMALL, entry_number};
 use crate::names::Bytes;
@@ -42,6 +42,17 @@ pub struct EntryCounts<'a> {
     pub number_bits: u32,
     /// Where the fault stands, in bytes from the start.
     pub place: usize,
+}
+
+/// The arrays that an entry is read into.
+#[repr(C)]
+#[derive(Debug)]
+pub struct Arrays<'a, 'b> {
+    pub flags: &'b mut [i8],
+    pub numbers: &'b mut [i32],
+    pub texts: &'b mut [TextItem<'a>],
+    /// The names of the extended flags, then numbers, then texts.
+    pub names: &'b mut [Bytes<'a>],
 }
 
 /// The mark of a flag: 1 if the terminal has it, 0 if not, -1 missing, -2 cancelled.
@@ -253,29 +264,26 @@ fn put_all_names<'a>(extended: &Extended<'a>, names: &mut [Bytes<'a>])
 }
 
 /// Fills arrays that have room for an entry.
-fn fill<'a>(
-    entry: &Entry<'a>,
-    extended: &Extended<'a>,
-    flags: &mut [i8],
-    numbers: &mut [i32],
-    texts: &mut [TextItem<'a>],
-    names: &mut [Bytes<'a>],
-)
+fn fill<'a>(entry: &Entry<'a>, extended: &Extended<'a>, arrays: &mut Arrays<'a, '_>)
     requires same { extended.now ≡ entry.now.extended }
-    requires room { HasRoom entry.now (length flags.old) (length numbers.old) (length texts.old)
-        (length names.old) }
-    ensures flags { StartsWith itself flags.old flags.new (flag_marks entry.now) }
-    ensures numbers { StartsWith itself numbers.old numbers.new (number_words entry.now) }
-    ensures texts { StartsWith text_held texts.old texts.new (texts_shown entry.now) }
-    ensures names { StartsWith bytes_held names.old names.new (part_names entry.now.extended) }
+    requires room { HasRoomIn arrays.old entry.now }
+    ensures flags { StartsWith itself arrays.old.flags.now arrays.new.flags.now
+        (flag_marks entry.now) }
+    ensures numbers { StartsWith itself arrays.old.numbers.now arrays.new.numbers.now
+        (number_words entry.now) }
+    ensures texts { StartsWith text_held arrays.old.texts.now arrays.new.texts.now
+        (texts_shown entry.now) }
+    ensures names { StartsWith bytes_held arrays.old.names.now arrays.new.names.now
+        (part_names entry.now.extended) }
+    ensures stay { StayInPlace arrays.old arrays.new }
 {
-    put_flags(entry, flags);
-    put_extended_flags(extended, flags, entry.flag_count());
-    put_numbers(entry, numbers);
-    put_extended_numbers(extended, numbers, entry.number_count());
-    put_texts(entry, texts);
-    put_extended_texts(extended, texts, entry.text_count());
-    put_all_names(extended, names);
+    put_flags(entry, arrays.flags);
+    put_extended_flags(extended, arrays.flags, entry.flag_count());
+    put_numbers(entry, arrays.numbers);
+    put_extended_numbers(extended, arrays.numbers, entry.number_count());
+    put_texts(entry, arrays.texts);
+    put_extended_texts(extended, arrays.texts, entry.text_count());
+    put_all_names(extended, arrays.names);
 }
 
 /// Reads an entry into the caller's arrays, and returns 0, or the number of its fault with the place, or that an array is
@@ -286,10 +294,7 @@ fn fill<'a>(
 #[unsafe(no_mangle)]
 pub extern "C" fn ti_read<'a>(
     bytes: &'a [u8],
-    flags: &mut [i8],
-    numbers: &mut [i32],
-    texts: &mut [TextItem<'a>],
-    names: &mut [Bytes<'a>],
+    arrays: &mut Arrays<'a, '_>,
     entry: &mut EntryCounts<'a>,
 ) -> u32
     ensures answer { IsRead result ⊎ IsEntryRefusedAs bytes.now result entry.new.place }
@@ -303,23 +308,22 @@ pub extern "C" fn ti_read<'a>(
     ensures place { IsRead result ⊎ (entry.new ≡ record entry.old { place = entry.new.place }) }
     ensures untold { IsRead result → entry.new.place ≡ entry.old.place }
     // The arrays have room for it, or have not.
-    ensures room { result ≡ done → ForEntry bytes.now (λ v. HasRoom v
-        (length flags.old) (length numbers.old) (length texts.old) (length names.old)) }
-    ensures short { result ≡ room_too_small → ForEntry bytes.now (λ v. ¬ HasRoom v
-        (length flags.old) (length numbers.old) (length texts.old) (length names.old)) }
+    ensures room { result ≡ done → ForEntry bytes.now (HasRoomIn arrays.old) }
+    ensures short { result ≡ room_too_small → ForEntry bytes.now
+        (λ v. ¬ HasRoomIn arrays.old v) }
     // So much room is enough for every entry.
-    ensures ample { IsAmple (length flags.old) (length numbers.old) (length texts.old)
-        (length names.old) → result ≢ room_too_small }
-    ensures kept { (result ≡ done) ⊎ ((flags.new ≡ flags.old) × (numbers.new ≡ numbers.old)
-        × (texts.new ≡ texts.old) × (names.new ≡ names.old)) }
+    ensures ample { AreAmple arrays.old → result ≢ room_too_small }
+    // What is written is in the caller's arrays.
+    ensures stay { StayInPlace arrays.old arrays.new }
+    ensures kept { (result ≡ done) ⊎ AreKept arrays.old arrays.new }
     ensures flags { result ≡ done → ForEntry bytes.now (λ v.
-        StartsWith itself flags.old flags.new (flag_marks v)) }
+        StartsWith itself arrays.old.flags.now arrays.new.flags.now (flag_marks v)) }
     ensures numbers { result ≡ done → ForEntry bytes.now (λ v.
-        StartsWith itself numbers.old numbers.new (number_words v)) }
+        StartsWith itself arrays.old.numbers.now arrays.new.numbers.now (number_words v)) }
     ensures texts { result ≡ done → ForEntry bytes.now (λ v.
-        StartsWith text_held texts.old texts.new (texts_shown v)) }
+        StartsWith text_held arrays.old.texts.now arrays.new.texts.now (texts_shown v)) }
     ensures names { result ≡ done → ForEntry bytes.now (λ v.
-        StartsWith bytes_held names.old names.new (part_names v.extended)) }
+        StartsWith bytes_held arrays.old.names.now arrays.new.names.now (part_names v.extended)) }
 {
     let found = match read(bytes) {
         Ok(found) => found,
@@ -330,8 +334,8 @@ pub extern "C" fn ti_read<'a>(
     };
     let extended = found.extended();
     put_counts(entry, &found, &extended);
-    let (flag_room, number_room) = (flags.len(), numbers.len());
-    let (text_room, name_room) = (texts.len(), names.len());
+    let (flag_room, number_room) = (arrays.flags.len(), arrays.numbers.len());
+    let (text_room, name_room) = (arrays.texts.len(), arrays.names.len());
     if !has_room(
         &found,
         &extended,
@@ -342,6 +346,6 @@ pub extern "C" fn ti_read<'a>(
     ) {
         return ROOM_TOO_SMALL;
     }
-    fill(&found, &extended, flags, numbers, texts, names);
+    fill(&found, &extended, arrays);
     DONE
 }

@@ -10,7 +10,7 @@ use Rattle.ti_c.proofs.entry.fill.Goals as goal
 pub returns-clause-flags : goal.returns-clause-flags
 returns-clause-flags c =
     let standard = map flag_mark c.args.entry.now.standard.flags in
-    let before = c.args.flags.now in
+    let before = c.args.arrays.now.flags.now in
     let after = c.put_extended_flags.new.flags in
     let P : NamedPart → Type 0 = λ p. StartsWith itself before after (standard ++ map flag_mark (map mark_in p.flags)) in
     let at : c.flag_count.result ≡ length standard = omega (arith, length-map c.args.entry.now.standard.flags flag_mark) in
@@ -19,7 +19,7 @@ returns-clause-flags c =
 pub returns-clause-numbers : goal.returns-clause-numbers
 returns-clause-numbers c =
     let standard = map word_of_number c.args.entry.now.standard.numbers in
-    let before = c.args.numbers.now in
+    let before = c.args.arrays.now.numbers.now in
     let after = c.put_extended_numbers.new.numbers in
     let P : NamedPart → Type 0 = λ p. StartsWith itself before after (standard ++ map word_of_number (map mark_in p.numbers)) in
     let at : c.number_count.result ≡ length standard = omega (arith, length-map c.args.entry.now.standard.numbers word_of_number) in
@@ -28,7 +28,7 @@ returns-clause-numbers c =
 pub returns-clause-texts : goal.returns-clause-texts
 returns-clause-texts c =
     let standard = map text_shown c.args.entry.now.standard.texts in
-    let before = c.args.texts.now in
+    let before = c.args.arrays.now.texts.now in
     let after = c.put_extended_texts.new.texts in
     let P : NamedPart → Type 0 = λ p. StartsWith text_held before after (standard ++ map text_shown (map mark_in p.texts)) in
     let at : c.text_count.result ≡ length standard = omega (arith, length-map c.args.entry.now.standard.texts text_shown) in

@@ -38,7 +38,7 @@ returns-then-not-has_room-clause-told c = λ _ v spelled.
 
 pub returns-then-not-has_room-clause-short : goal.returns-then-not-has_room-clause-short
 returns-then-not-has_room-clause-short c = λ _ v spelled room.
-    let P : EntryValue → Type 0 = λ x. HasRoom x (length c.args.flags.now) (length c.args.numbers.now) (length c.args.texts.now) (length c.args.names.now) in
+    let P : EntryValue → Type 0 = λ x. HasRoom x (length c.args.arrays.now.flags.now) (length c.args.arrays.now.numbers.now) (length c.args.arrays.now.texts.now) (length c.args.arrays.now.names.now) in
     true≢false (sym (c.has_room.ensures.1 (subst P (sym (c.in-Ok.ensures.only v spelled)) room)) ∙ c.if-not-has_room.true)
 
 pub fill-requires-clause-room : goal.fill-requires-clause-room
@@ -51,30 +51,30 @@ returns-clause-told c = λ _ v spelled.
 
 pub returns-clause-room : goal.returns-clause-room
 returns-clause-room c = λ _ v spelled.
-    let P : EntryValue → Type 0 = λ x. HasRoom x (length c.args.flags.now) (length c.args.numbers.now) (length c.args.texts.now) (length c.args.names.now) in
+    let P : EntryValue → Type 0 = λ x. HasRoom x (length c.args.arrays.now.flags.now) (length c.args.arrays.now.numbers.now) (length c.args.arrays.now.texts.now) (length c.args.arrays.now.names.now) in
     subst P (c.in-Ok.ensures.only v spelled) (c.has_room.ensures.0 c.if-not-has_room.false)
 
 pub returns-clause-flags : goal.returns-clause-flags
 returns-clause-flags c = λ _ v spelled.
-    let P : EntryValue → Type 0 = λ x. StartsWith itself c.args.flags.now c.fill.new.flags (flag_marks x) in
+    let P : EntryValue → Type 0 = λ x. StartsWith itself c.args.arrays.now.flags.now c.fill.new.arrays.flags.now (flag_marks x) in
     subst P (c.in-Ok.ensures.only v spelled) c.fill.ensures.flags
 
 pub returns-clause-numbers : goal.returns-clause-numbers
 returns-clause-numbers c = λ _ v spelled.
-    let P : EntryValue → Type 0 = λ x. StartsWith itself c.args.numbers.now c.fill.new.numbers (number_words x) in
+    let P : EntryValue → Type 0 = λ x. StartsWith itself c.args.arrays.now.numbers.now c.fill.new.arrays.numbers.now (number_words x) in
     subst P (c.in-Ok.ensures.only v spelled) c.fill.ensures.numbers
 
 pub returns-clause-texts : goal.returns-clause-texts
 returns-clause-texts c = λ _ v spelled.
-    let P : EntryValue → Type 0 = λ x. StartsWith text_held c.args.texts.now c.fill.new.texts (texts_shown x) in
+    let P : EntryValue → Type 0 = λ x. StartsWith text_held c.args.arrays.now.texts.now c.fill.new.arrays.texts.now (texts_shown x) in
     subst P (c.in-Ok.ensures.only v spelled) c.fill.ensures.texts
 
 pub returns-clause-names : goal.returns-clause-names
 returns-clause-names c = λ _ v spelled.
-    let P : EntryValue → Type 0 = λ x. StartsWith bytes_held c.args.names.now c.fill.new.names (part_names x.extended) in
+    let P : EntryValue → Type 0 = λ x. StartsWith bytes_held c.args.arrays.now.names.now c.fill.new.arrays.names.now (part_names x.extended) in
     subst P (c.in-Ok.ensures.only v spelled) c.fill.ensures.names
 
 pub returns-then-not-has_room-clause-ample : goal.returns-then-not-has_room-clause-ample
 returns-then-not-has_room-clause-ample c = λ ample _.
-    let room = enough c.args.bytes.now c.in-Ok.found (length c.args.flags.now) (length c.args.numbers.now) (length c.args.texts.now) (length c.args.names.now) c.in-Ok.ensures.found ample in
+    let room = enough c.args.bytes.now c.in-Ok.found (length c.args.arrays.now.flags.now) (length c.args.arrays.now.numbers.now) (length c.args.arrays.now.texts.now) (length c.args.arrays.now.names.now) c.in-Ok.ensures.found ample in
     true≢false (sym (c.has_room.ensures.1 room) ∙ c.if-not-has_room.true)
