@@ -1,6 +1,7 @@
 //! What the tests of the sources take from Rattle, for those of them that rust/check runs.
 
 use super::{AllocError, Allocator, Global, Vec};
+use crate::made::escape::ReadingFault;
 use crate::made::expand::ExpandFault;
 use core::error::Error;
 use core::fmt;
@@ -66,3 +67,12 @@ impl fmt::Display for ExpandFault {
 }
 
 impl Error for ExpandFault {}
+
+// The crate reads no notation yet.
+impl fmt::Display for ReadingFault {
+    fn fmt(&self, f: &mut fmt::Formatter<'_>) -> fmt::Result {
+        write!(f, "{self:?}")
+    }
+}
+
+impl Error for ReadingFault {}

@@ -41,6 +41,8 @@ mod extended_parts;
 mod large_entry;
 mod names;
 mod notation;
+mod notation_memory;
+mod notation_read;
 mod padding_memory;
 mod padding_rows;
 mod padding_writers;

@@ -1,10 +1,11 @@
 -- Worked rows of the notation: texts of entries as `infocmp -1` writes them, and each rule of the definition.
-use Rattle.std.proofs.Common.{◌≡◌, ◌++◌, [], ◌∷◌, refl}
+use Rattle.std.proofs.Common.{◌≡◌, ◌++◌, [], ◌∷◌, Ok, Err, refl}
 use Rattle.std.specs.Prelude.{codes}
 use Rattle.hex.specs.Hex.{encode_with}
 use Rattle.ti_escape.specs.declared.form.Form.TheVariants as forms
 use Rattle.ti_escape.specs.Forms.{shown}
 use Rattle.ti_escape.specs.Notation.{label_notation, notation}
+use Rattle.ti_escape.specs.declared.reading.NotationFault.TheVariants.{BadControl, CutShort}
 use Rattle.ti_escape.specs.Reading.{read_from, reading}
 
 -- `cup`, `bel`, `kbs`, `kcbt` and `flash` of the Linux console
@@ -112,27 +113,44 @@ nothing_shown : shown forms.Notation [] ≡ codes "-"
 nothing_shown = refl
 
 -- terminfo(5) reads further letters, and a `^` before a small letter
-letters_read : reading (codes "\\e\\n\\l\\r\\t\\b\\f\\s") ≡ 27 ∷ 10 ∷ 10 ∷ 13 ∷ 9 ∷ 8 ∷ 12 ∷ 32 ∷ []
+letters_read : reading (codes "\\e\\n\\l\\r\\t\\b\\f\\s\\a") ≡ Ok (27 ∷ 10 ∷ 10 ∷ 13 ∷ 9 ∷ 8 ∷ 12 ∷ 32 ∷ 7 ∷ [])
 unfolding read_from
 letters_read = refl
 
-carets_read : reading (codes "^g^G^?^[") ≡ 7 ∷ 7 ∷ 127 ∷ 27 ∷ []
+carets_read : reading (codes "^g^G^?^[") ≡ Ok (7 ∷ 7 ∷ 127 ∷ 27 ∷ [])
 unfolding read_from
 carets_read = refl
 
-octal_read : reading (codes "\\033\\0550\\377") ≡ 27 ∷ 45 ∷ 48 ∷ 255 ∷ []
+octal_read : reading (codes "\\033\\0550\\377") ≡ Ok (27 ∷ 45 ∷ 48 ∷ 255 ∷ [])
 unfolding read_from
 octal_read = refl
 
-themselves_read : reading (codes "\\,\\^\\\\\\:") ≡ codes ",^\\:"
+themselves_read : reading (codes "\\,\\^\\\\\\:") ≡ Ok (codes ",^\\:")
 unfolding read_from
 themselves_read = refl
 
 -- as `tic` does, to which a `^` after a `%` is itself, but not after `^%` and not after the octal digits of a `%`
-percent_caret_read : reading (codes "%^G%%^M\\%^G") ≡ codes "%^G%%^M%^G"
+percent_caret_read : reading (codes "%^G%%^M\\%^G") ≡ Ok (codes "%^G%%^M%^G")
 unfolding read_from
 percent_caret_read = refl
 
-other_caret_read : reading (codes "^%^G\\045^G\\^^G%\\s^A") ≡ 5 ∷ 7 ∷ 37 ∷ 7 ∷ 94 ∷ 7 ∷ codes "% " ++ 1 ∷ []
+other_caret_read : reading (codes "^%^G\\045^G\\^^G%\\s^A") ≡ Ok (5 ∷ 7 ∷ 37 ∷ 7 ∷ 94 ∷ 7 ∷ codes "% " ++ 1 ∷ [])
 unfolding read_from
 other_caret_read = refl
+
+-- an octal number ends where its digits end, after three at most, and has eight bits
+short_octal_read : reading (codes "\\78\\19\\1234\\777") ≡ Ok (7 ∷ 56 ∷ 1 ∷ 57 ∷ 83 ∷ 52 ∷ 255 ∷ [])
+unfolding read_from
+short_octal_read = refl
+
+cut_backslash_refused : reading (codes "ab\\") ≡ Err (record { fault = CutShort; place = 2 })
+unfolding read_from
+cut_backslash_refused = refl
+
+cut_caret_refused : reading (codes "%^a^") ≡ Err (record { fault = CutShort; place = 3 })
+unfolding read_from
+cut_caret_refused = refl
+
+control_refused : reading (codes "a^\u{7f}") ≡ Err (record { fault = BadControl; place = 1 })
+unfolding read_from
+control_refused = refl

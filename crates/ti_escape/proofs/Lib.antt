@@ -1,3 +1,4 @@
+pub mod ReadingLemmas
 pub mod Examples
 pub mod NotationLemmas
 pub mod PutLemmas

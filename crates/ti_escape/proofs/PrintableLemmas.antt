@@ -1,10 +1,10 @@
 -- Each character of a notation and of a label can be printed, and none of a label is a space.
 use Rattle.std.proofs.Common.{◌≡◌, ◌∙◌, ◌+◌, ◌/◌, ◌%◌, ◌≤◌, ◌<◌, ℕ, Bool, true, false, List, [], ◌∷◌, ◌++◌, refl, subst, sym, arith, cond, eqb}
 use Rattle.std.specs.List.{list_all}
-use Rattle.std.proofs.lemmas.Bool.{and_from, and_parts, eqb-true, ltb-true}
+use Rattle.std.proofs.lemmas.Bool.{and_from, and_parts, eqb-true}
 use Rattle.std.proofs.lemmas.Bool.Decides.{nat_tests}
 use Rattle.std.proofs.lemmas.List.Folds.{list_all-append}
-use Rattle.ti_escape.specs.Laws.{AreBytes, HasNoSpace, IsPrintable, is_byte, is_label_char, is_printable}
+use Rattle.ti_escape.specs.Laws.{HasNoSpace, IsPrintable, is_label_char, is_printable}
 use Rattle.ti_escape.specs.Notation.{byte_notation, each_notation, end_notation, first_notation, later_notation, looks_like_a_word, octal}
 use Rattle.ti_escape.proofs.ByteFormsLemmas.{byte_forms, end_forms, meaning_forms}
 

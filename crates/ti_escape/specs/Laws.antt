@@ -1,5 +1,5 @@
 -- What holds of the notation of every text.
-use Rattle.std.specs.Prelude.{◌≡◌, ◌≢◌, ◌-◌, ◌&&◌, ℕ, Bool, true, List, codes, length, nat_le, nat_lt, slice_index}
+use Rattle.std.specs.Prelude.{◌≡◌, ◌≢◌, ◌-◌, ◌&&◌, ℕ, Bool, true, List, Ok, codes, length, nat_le, nat_lt, slice_index}
 use Rattle.std.specs.List.{list_all}
 use Rattle.ti_escape.specs.Notation.{label_notation, notation}
 use Rattle.ti_escape.specs.Reading.{reading}
@@ -12,7 +12,7 @@ AreBytes text = list_all is_byte text ≡ true
 
 -- the notation of a text is read as the text
 abbrev pub IsReadBack : Type 0
-IsReadBack = (text : List ℕ) → AreBytes text → reading (notation text) ≡ text
+IsReadBack = (text : List ℕ) → AreBytes text → reading (notation text) ≡ Ok text
 
 -- two texts that look the same are the same
 abbrev pub LooksLikeNoOther : Type 0
@@ -40,7 +40,7 @@ HasNoBlankEnd = (text : List ℕ) → (slice_index (notation text) 0 ≢ 32)
 
 -- the label of a name is read as the name
 abbrev pub IsLabelReadBack : Type 0
-IsLabelReadBack = (name : List ℕ) → AreBytes name → reading (label_notation name) ≡ name
+IsLabelReadBack = (name : List ℕ) → AreBytes name → reading (label_notation name) ≡ Ok name
 
 -- two names whose labels look the same are the same
 abbrev pub LabelLooksLikeNoOther : Type 0

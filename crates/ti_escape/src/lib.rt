@@ -4,8 +4,9 @@
 //! octal right after a `%`, since `%^` is an operator; a space is `\s` if it is first or last; 0 and the bytes from 128 are
 //! `\` and three octal digits. So each character of a notation can be printed, none is lost at an end, and two texts never
 //! look the same. [`push_label`] writes a name with `\s` for each space, so that a line with it splits at its spaces.
-//! [`push_formed`] and [`push_shown`] write a text in this notation or in hex, as a [`Form`] says. The time is linear in
-//! the bytes that are read and written. Only the calls that append to a vector take memory.
+//! [`push_formed`] and [`push_shown`] write a text in this notation or in hex, as a [`Form`] says. [`push_reading`] reads a
+//! notation as its text. The time is linear in the bytes that are read and written. Only the calls that append to a vector
+//! take memory.
 #![tactic(auto)]
 
 mod form;
@@ -14,6 +15,7 @@ mod label;
 pub mod laws;
 mod length;
 mod memory;
+mod reading;
 mod slice;
 mod stretch;
 
@@ -22,4 +24,5 @@ pub use formed::{formed_len, push_formed, push_shown};
 pub use label::push_label;
 pub use length::notation_len;
 pub use memory::push_notation;
+pub use reading::{NotationFault, NotationRefused, ReadingFault, push_reading};
 pub use slice::escape_into;

@@ -1,6 +1,5 @@
-use Rattle.std.proofs.Common.{arith, rules}
+use Rattle.std.proofs.Common.{rules}
 use Rattle.std.proofs.lemmas.Slice.{overwrites}
-use Rattle.std.proofs.lemmas.Grind.{common_steps}
 use Rattle.ti_escape.proofs.slice.put_stretch.Goals as goal
 
 pub returns-in-Plain-clause-rest : goal.returns-in-Plain-clause-rest

@@ -1,0 +1,209 @@
+//! A text from its notation, as terminfo(5) has it and `tic` reads it.
+
+ghost use Rattle.std.specs.Prelude.{◌≡◌, ◌≤◌, ◌+◌, ◌<◌, ◌++◌, ℕ, List, Ok, length, take, OnOk, OnErr, IfOk, IfErr};
+ghost use Rattle.ti_escape.specs.declared.reading.ReadingFault.TheVariants as fault;
+ghost use Rattle.ti_escape.specs.Reading.{IsReadingFault, after_backslash as the_after_backslash, after_caret as the_after_caret, first_octal_digit, letter_meaning as the_letter_meaning, meant_at, octal_meant, reading};
+
+use std::alloc::{AllocError, Allocator};
+
+/// Why characters are no notation.
+#[derive(Clone, Copy, Debug, PartialEq, Eq)]
+pub enum NotationFault {
+    /// They end right after a `\` or a `^`.
+    CutShort,
+    /// No printable ASCII character follows a `^`.
+    BadControl,
+}
+
+/// Why and where characters are no notation.
+#[derive(Clone, Copy, Debug, PartialEq, Eq)]
+pub struct NotationRefused {
+    pub fault: NotationFault,
+    /// The place of the `\` or the `^`.
+    pub place: usize,
+}
+
+/// Why no text is read.
+#[derive(Clone, Copy, Debug, PartialEq, Eq)]
+pub enum ReadingFault {
+    /// The characters are no notation.
+    Refused(NotationRefused),
+    /// Memory was refused.
+    Memory,
+}
+
+impl From<AllocError> for ReadingFault {
+    ghost from_gives = { λ _ e. e ≡ fault.Memory };
+
+    fn from(_refused: AllocError) -> ReadingFault {
+        ReadingFault::Memory
+    }
+}
+
+/// What the first characters mean.
+#[derive(Clone, Copy)]
+pub struct Meant {
+    byte: u8,
+    /// How many characters follow the first of them.
+    more: usize,
+    /// Whether it is a `%`, as it is or after a `\`.
+    percent: bool,
+}
+
+/// The value of an octal digit, if one is at the front.
+fn octal_digit(text: &[u8]) -> Option<u16>
+    ensures { result ≡ first_octal_digit text.now }
+{
+    match text {
+        [digit @ b'0'..=b'7', ..] => Some(u16::from(*digit - b'0')),
+        _ => None,
+    }
+}
+
+/// What one to three octal digits at the front mean, of which the first is known.
+fn octal(first: u16, rest: &[u8]) -> Meant
+    requires { first < 8 }
+    ensures meant { result ≡ octal_meant first rest.now }
+    ensures within { result.more ≤ length rest.now + 1 }
+{
+    let (number, more) = match octal_digit(rest) {
+        None => (first, 1),
+        Some(second) => match octal_digit(&rest[1..]) {
+            None => (8 * first + second, 2),
+            Some(third) => (64 * first + 8 * second + third, 3),
+        },
+    };
+    Meant {
+        byte: (number % 256) as u8,
+        more,
+        percent: false,
+    }
+}
+
+/// The byte that a letter means after a `\`; any other character means itself.
+fn letter_meaning(char: u8) -> u8
+    ensures { result ≡ the_letter_meaning char }
+{
+    match char {
+        b'E' | b'e' => 27,
+        b'n' | b'l' => b'\n',
+        b'r' => b'\r',
+        b't' => b'\t',
+        b'b' => 8,
+        b'f' => 12,
+        b's' => b' ',
+        b'a' => 7,
+        other => other,
+    }
+}
+
+/// What follows a `\`: one to three octal digits, or one character.
+fn after_backslash(rest: &[u8]) -> Result<Meant, NotationFault>
+    ensures meant { result ≡ the_after_backslash rest.now }
+    ensures within { IfOk result (λ m. m.more ≤ length rest.now) }
+{
+    if let Some(first) = octal_digit(rest) {
+        return Ok(octal(first, &rest[1..]));
+    }
+    match rest {
+        [] => Err(NotationFault::CutShort),
+        [char, ..] => Ok(Meant {
+            byte: letter_meaning(*char),
+            more: 1,
+            percent: *char == b'%',
+        }),
+    }
+}
+
+/// What follows a `^`: a printable character, of which the lowest five bits count, or a `?` for DEL.
+fn after_caret(rest: &[u8]) -> Result<Meant, NotationFault>
+    ensures meant { result ≡ the_after_caret rest.now }
+    ensures within { IfOk result (λ m. m.more ≤ length rest.now) }
+{
+    let byte = match rest {
+        [] => return Err(NotationFault::CutShort),
+        [b'?', ..] => 127,
+        [char @ b' '..=b'~', ..] => *char % 32,
+        _ => return Err(NotationFault::BadControl),
+    };
+    Ok(Meant {
+        byte,
+        more: 1,
+        percent: false,
+    })
+}
+
+/// What the first character means with those after it. A `^` right after a `%` is the character itself, since `%^` is an
+/// operator.
+fn meaning(after_percent: bool, text: &[u8]) -> Result<Meant, NotationFault>
+    ensures meant { result ≡ meant_at after_percent text.now }
+    ensures within { IfOk result (λ m. m.more < length text.now) }
+{
+    match text {
+        [] => Err(NotationFault::CutShort),
+        [b'\\', rest @ ..] => after_backslash(rest),
+        [b'^', rest @ ..] if !after_percent => after_caret(rest),
+        [char, ..] => Ok(Meant {
+            byte: *char,
+            more: 0,
+            percent: *char == b'%',
+        }),
+    }
+}
+
+/// Appends the bytes that a notation means, up to its first fault.
+fn push_bytes<A: Allocator>(out: &mut Vec<u8, A>, notation: &[u8]) -> Result<(), ReadingFault>
+    ensures text { OnOk result ((bytes : List ℕ) × (reading notation.now ≡ Ok bytes)
+        × (out.new.items ≡ out.old.items ++ bytes)) }
+    ensures refused { IfErr result (IsReadingFault notation.now) }
+    ensures front { take (length out.old.items) out.new.items ≡ out.old.items }
+{
+    let mut left = notation;
+    let mut after_percent = false;
+    'characters: while !left.is_empty() {
+        match meaning(after_percent, left) {
+            Ok(meant) => {
+                out.push(meant.byte).map_err(AllocError::from)?;
+                after_percent = meant.percent;
+                left = &left[meant.more + 1..];
+            }
+            Err(fault) => {
+                return Err(ReadingFault::Refused(NotationRefused {
+                    fault,
+                    place: notation.len() - left.len(),
+                }))
+            }
+        }
+    }
+    Ok(())
+}
+
+/// Appends the text that a notation means. All that [`push_notation`](crate::push_notation) and
+/// [`push_label`](crate::push_label) write is read back; so are `\e`, `\n`, `\l`, `\r`, `\t`, `\b`, `\f`, `\a`, one to three
+/// octal digits after a `\`, any other character after a `\` as itself, and a `^` with any printable character (terminfo(5)).
+/// The vector grows as it needs to. After an error it holds what it held.
+///
+/// # Errors
+///
+/// [`ReadingFault::Refused`] with the first fault of the notation, and [`ReadingFault::Memory`] if a growth was refused.
+///
+/// # Examples
+///
+/// ```rust
+/// let mut text = Vec::new(rt.alloc());
+/// push_reading(&mut text, shown.as_slice())?;
+/// assert!(rt; text.as_slice() == b"\x1b[%p1%dG\r\n".as_slice());
+/// ```
+pub fn push_reading<A: Allocator>(out: &mut Vec<u8, A>, notation: &[u8]) -> Result<(), ReadingFault>
+    ensures text { OnOk result ((bytes : List ℕ) × (reading notation.now ≡ Ok bytes)
+        × (out.new.items ≡ out.old.items ++ bytes)) }
+    ensures refused { IfErr result (IsReadingFault notation.now) }
+    ensures kept { OnErr result (out.new.items ≡ out.old.items) }
+{
+    let start = out.len();
+    let read = push_bytes(out, notation);
+    if read.is_err() {
+        out.truncate(start);
+    }
+    read
+}
