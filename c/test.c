@@ -945,7 +945,7 @@ int main(void) {
     test_words();
     test_padding();
     test_padding_faults();
-    expect(ti_version() == 512, "version 0.2.0");
+    expect(ti_version() == 768, "version 0.3.0");
     printf("c: %d passed, %d failed\n", passed, failed);
     return failed != 0;
 }

@@ -37,7 +37,7 @@ extern "C" {
 #endif
 
 /* The version of this header, as ti_version() returns that of the library. */
-#define TI_VERSION 0x000200
+#define TI_VERSION 0x000300
 
 enum {
     TI_DONE = 0,
@@ -309,7 +309,7 @@ uint32_t ti_find(const unsigned char *name, size_t length, uint32_t *kind, size_
  * 14, 101 to 113, TI_TEXT_TOO_LONG and TI_TOO_MUCH; the other faults it does not have. */
 uint32_t ti_word(uint32_t number, ti_bytes *word);
 
-/* The version of the library: 65536 times its first number, 256 times its second, and its third. For 0.2.0 it is 512. */
+/* The version of the library: 65536 times its first number, 256 times its second, and its third. For 0.3.0 it is 768. */
 uint32_t ti_version(void);
 
 static inline ti_parameter ti_number(int32_t number) {

@@ -21,7 +21,7 @@ from pathlib import PurePath
 __all__ = ["Entry", "Fault", "Limits", "Variables", "check", "expand", "pad", "version"]
 
 # Where ./install puts the library. If it is not there, the loader looks for the last part of it.
-LIBRARY = "libti.so.0.2"
+LIBRARY = "libti.so.0.3"
 DONE, TOO_MANY_PARAMETERS, CANCELLED = 0, 201, -2
 KINDS = ["flag", "number", "text"]
 

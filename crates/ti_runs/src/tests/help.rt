@@ -68,7 +68,7 @@ const HELP: [(&[&str], &[&str]); 11] = [
             "Example",
         ],
     ),
-    (&["ti", "--version"], &["ti 0.2.0\n"]),
+    (&["ti", "--version"], &["ti 0.3.0\n"]),
 ];
 
 /// What is shown of the help that words ask for.
