@@ -150,11 +150,11 @@ const NAMED: [Row; 28] = [
     },
     // the nearest of all names, if one is near
     Row {
-        words: &["ti", "get", "cpu"],
+        words: &["ti", "get", "cuf11"],
         input: SMALL,
         status: 4,
         output: b"",
-        errors: b"get: cpu: no such capability; nearest: cup\n",
+        errors: b"get: cuf11: no such capability; nearest: cuf1\n",
     },
     Row {
         words: &["ti", "get", "cursor_adress"],
