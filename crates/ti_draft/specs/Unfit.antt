@@ -6,8 +6,8 @@ use Rattle.ti_words.specs.declared.Number.TheVariants as numbers
 use Rattle.ti_words.specs.declared.Width.{Width}
 use Rattle.ti_words.specs.declared.Width.TheVariants.{Legacy, Wide}
 use Rattle.ti_words.specs.Texts.{TextValue, AbsentText, CancelledText, TextOf, is_nul}
-use Rattle.ti_draft.specs.declared.unfit.EncodeFault.{EncodeFault}
-use Rattle.ti_draft.specs.declared.unfit.EncodeFault.TheVariants as faults
+use Rattle.ti_draft.specs.declared.fault.EncodeFault.{EncodeFault}
+use Rattle.ti_draft.specs.declared.fault.EncodeFault.TheVariants as faults
 use Rattle.ti_words.specs.Value.{EntryValue}
 use Rattle.ti_base.specs.Limits.{most_entry_bytes, greatest_word, greatest_wide_word}
 use Rattle.ti_words.specs.Spelling.{mark_in, part_names}

@@ -14,12 +14,12 @@ ghost use Rattle.ti_draft.specs.Lengths.{AreFew};
 ghost use Rattle.ti_draft.specs.Sizes.{AreSizes};
 
 use crate::draft::{Draft, Lists};
+use crate::fault::{EncodeFault, first_fault};
 use crate::put::{
     put_count, put_flags, put_name_words, put_names, put_numbers, put_pad, put_text_words,
     put_texts,
 };
 use crate::size::{Sizes, sizes_of};
-use crate::unfit::{EncodeFault, first_fault};
 use std::alloc::{AllocError, Allocator};
 use ti_words::{Text, Width, magic_number};
 

@@ -7,12 +7,12 @@
 
 mod draft;
 mod encoding;
+mod fault;
 mod named;
 mod put;
 mod size;
-mod unfit;
 
 pub use draft::Draft;
 pub use encoding::encode;
+pub use fault::EncodeFault;
 pub use size::encoded_len;
-pub use unfit::EncodeFault;

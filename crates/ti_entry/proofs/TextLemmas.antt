@@ -49,12 +49,12 @@ until_within (x ∷ xs) (suc k) le = by_nul (eqb x 0) refl (until_within xs k)
         ap (drop (suc k)) goes ∙ rest (omega arith)
 
 -- it is the rest of the other
-pub tail_is : (table in_mind : List ℕ) (start place : ℕ) → in_mind ≡ text_from table start → start ≤ place → place ≤ start + length in_mind
-    → take (length in_mind - (place - start)) (drop (place - start) in_mind) ≡ text_from table place
-tail_is table in_mind start place e low high =
+pub tail_is : (table cached : List ℕ) (start place : ℕ) → cached ≡ text_from table start → start ≤ place → place ≤ start + length cached
+    → take (length cached - (place - start)) (drop (place - start) cached) ≡ text_from table place
+tail_is table cached start place e low high =
     let k = place - start in
-    let n : length in_mind ≡ length (text_from table start) = ap length e in
+    let n : length cached ≡ length (text_from table start) = ap length e in
     let at : start + k ≡ place = omega arith in
-    take_all (length in_mind - k) (drop k in_mind) (omega (arith, length-drop k in_mind))
+    take_all (length cached - k) (drop k cached) (omega (arith, length-drop k cached))
     ∙ ap (drop k) e ∙ until_within (drop start table) k (omega arith)
     ∙ ap until_nul (drop-drop k start table) ∙ ap (text_from table) at

@@ -1,7 +1,7 @@
 //! The texts of one table, read one after another.
 //!
-//! The bytes of the last text whose end was looked for are kept in mind: a text that starts within them ends where they
-//! do. So texts that share one long slice are read in time linear in their count.
+//! The last text whose end was looked for is cached: a text that starts within it ends where it does. So texts that share
+//! one long slice are read in time linear in their count.
 
 ghost use Rattle.std.specs.Prelude.{◌≡◌, ◌+◌, ◌*◌, ◌≤◌, length, map};
 ghost use Rattle.ti_layout.specs.Layout.{places};
@@ -20,9 +20,9 @@ pub(crate) struct Texts<'a> {
     bytes: &'a [u8],
     from: usize,
     count: usize,
-    /// Where the bytes in mind start in the table.
+    /// Where the cached text starts in the table.
     start: usize,
-    in_mind: &'a [u8],
+    cached: &'a [u8],
 }
 
 impl<'a> Model for Texts<'a> {
@@ -37,7 +37,7 @@ impl<'a> Model for Texts<'a> {
     ghost view = { λ t. map (text_at t.table.now t.bytes.now) (places t.from 2 t.count) };
 
     ghost invariant = { λ t. (t.from + 2 * t.count ≤ length t.bytes.now)
-        × (t.in_mind.now ≡ text_from t.table.now t.start) };
+        × (t.cached.now ≡ text_from t.table.now t.start) };
 }
 
 /// The texts of a table, whose offsets stand one after the other from a place on.
@@ -51,7 +51,7 @@ pub(crate) fn texts_of<'a>(table: &'a [u8], bytes: &'a [u8], from: usize, count:
         from,
         count,
         start: 0,
-        in_mind: text_from(table, 0),
+        cached: text_from(table, 0),
     }
 }
 
@@ -71,27 +71,27 @@ impl<'a> Texts<'a> {
         let Some(place) = place_at(self.bytes, at) else {
             return text_at(self.table, self.bytes, at);
         };
-        let (start, in_mind) = bytes_in_mind(self.table, self.start, self.in_mind, place);
+        let (start, cached) = cached_text(self.table, self.start, self.cached, place);
         self.start = start;
-        self.in_mind = in_mind;
-        Text::Value(&in_mind[place - start..])
+        self.cached = cached;
+        Text::Value(&cached[place - start..])
     }
 }
 
-/// The bytes in mind and where they start, so that the text at a place starts within them.
-fn bytes_in_mind<'a>(
+/// The cached text and where it starts, or the text at a place if it does not start within that one.
+fn cached_text<'a>(
     table: &'a [u8],
     start: usize,
-    in_mind: &'a [u8],
+    cached: &'a [u8],
     place: usize,
 ) -> (usize, &'a [u8])
-    requires { in_mind.now ≡ the_text_from table.now start }
+    requires { cached.now ≡ the_text_from table.now start }
     ensures text { result.1.now ≡ the_text_from table.now result.0 }
     ensures low { result.0 ≤ place }
     ensures high { place ≤ result.0 + length result.1.now }
 {
-    if start <= place && place - start <= in_mind.len() {
-        return (start, in_mind);
+    if start <= place && place - start <= cached.len() {
+        return (start, cached);
     }
     (place, text_from(table, place))
 }

@@ -22,7 +22,7 @@ returns-in_default-clause-value c =
 pub returns-clause-value : goal.returns-clause-value
 returns-clause-value c =
     let s = c.self.inside in
-    let m = c.bytes_in_mind-start in
+    let m = c.cached_text-start in
     ap TextOf (tail_is s.table.now m.result.1.now m.result.0 c.in-Some.place m.ensures.text m.ensures.low m.ensures.high)
     ∙ sym (ap (text_of_word s.table.now) c.in-Some.ensures)
     ∙ sym (item_at (text_at s.table.now s.bytes.now) s.from 2 s.count c.args.i AbsentText c.if-i-self.false)

@@ -34,7 +34,7 @@ pub enum EncodeFault {
 }
 
 impl From<AllocError> for EncodeFault {
-    ghost use Rattle.ti_draft.specs.declared.unfit.EncodeFault.TheVariants.{Memory};
+    ghost use Rattle.ti_draft.specs.declared.fault.EncodeFault.TheVariants.{Memory};
 
     ghost from_gives = { λ _ e. e ≡ Memory };
 
