@@ -10,10 +10,6 @@ use Rattle.ti_draft.specs.Canonical.{names_table, name_words}
 pub after : (o a b : List ℕ) {p q : List ℕ} → p ≡ o ++ a → q ≡ p ++ b → q ≡ o ++ (a ++ b)
 after o a b e f = f ∙ ap (λ l. l ++ b) e ∙ append_assoc o a b
 
--- the same, if the first piece is known by another name
-pub after_as : (o a b c : List ℕ) {p q : List ℕ} → a ≡ c → p ≡ o ++ a → q ≡ p ++ b → q ≡ o ++ (c ++ b)
-after_as o a b c k e f = after o c b (e ∙ ap (λ l. o ++ l) k) f
-
 pub last : (o a : List ℕ) {p : List ℕ} → p ≡ o ++ a → p ≡ o ++ (a ++ [])
 last o a e = e ∙ ap (λ l. o ++ l) (sym (append-nil a))
 

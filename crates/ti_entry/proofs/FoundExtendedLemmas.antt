@@ -1,32 +1,27 @@
 -- Bytes that pass all checks spell what they are read as.
-use Rattle.std.proofs.Common.{◌≡◌, ℕ, zero, suc, ◌+◌, ◌-◌, ◌*◌, ◌%◌, ◌<◌, ◌≤◌, Bool, true, false, cond, ltb, leb, List, [], ◌∷◌, ◌++◌, map, length, get_or, take, drop, pos, inl, inr, refl, sym, ap, subst, ◌∙◌, arith}
+use Rattle.std.proofs.Common.{◌≡◌, ℕ, ◌+◌, ◌-◌, ◌*◌, ◌%◌, ◌<◌, ◌≤◌, Bool, true, false, cond, leb, List, [], ◌∷◌, ◌++◌, map, length, take, drop, inl, inr, refl, sym, ap, subst, ◌∙◌, arith}
 use Rattle.std.proofs.lemmas.List.{drop_all, take_all, length-take-le, length-drop}
 use Rattle.std.proofs.lemmas.Bool.{cases_lt, le-ltb, leb-true, leb-false}
-use Rattle.std.proofs.lemmas.List.Concat.{flat_map-cons}
 use Rattle.std.specs.List.{AllByRecursion, flat_map}
 use Rattle.ti_base.specs.Limits.{most_entry_bytes}
-use Rattle.ti_words.specs.declared.Flag.{Flag}
-use Rattle.ti_words.specs.declared.Number.{Number}
 use Rattle.ti_words.specs.declared.Width.{Width}
 use Rattle.ti_words.specs.Value.{PartValue}
-use Rattle.ti_words.specs.declared.Width.TheVariants.{Legacy}
-use Rattle.ti_layout.specs.declared.fault.Fault.TheVariants.{BadExtendedHeader, BadExtendedName, Unterminated, Trailing}
+use Rattle.ti_layout.specs.declared.fault.Fault.TheVariants.{BadExtendedHeader, Trailing}
 use Rattle.ti_layout.specs.declared.part.Part.{Part}
-use Rattle.ti_words.specs.Word.{unsigned_at, word_at}
-use Rattle.ti_layout.specs.Layout.{standard, extended_after, no_capability, places, flags_end, numbers_from, offsets_from, names_from, end_of, extended_from}
+use Rattle.ti_words.specs.Word.{unsigned_at}
+use Rattle.ti_layout.specs.Layout.{standard, extended_after, no_capability, places, flags_end, offsets_from, end_of, extended_from}
 use Rattle.ti_words.specs.Spelling.{pad_len, Spells, SpellsPart, HasExtendedPart, count_word, pad, join, part_spelling, extended_spelling, part_names, unnamed}
-use Rattle.ti_layout.specs.Table.{ends_in, table_of, base_of}
-use Rattle.ti_layout.specs.Checks.{check, Passes, Ends, Fails, verdict, refusal_at, is_not_negative, sign_check, sign_checks, pad_checks, offset_checks, ending_check, table_check, name_place_checks, all_name_place_checks, end_check}
+use Rattle.ti_layout.specs.Table.{table_of, base_of}
+use Rattle.ti_layout.specs.Checks.{Passes, Ends, Fails, verdict, refusal_at, sign_check, sign_checks, pad_checks, ending_check, table_check, end_check}
 use Rattle.ti_layout.specs.declared.section.Half.TheVariants.{Extended}
 use Rattle.ti_layout.specs.declared.section.Section.TheVariants.{TableEnd, End}
 use Rattle.ti_layout.specs.Refusal.{room_check, extended_size_check, extended_header_checks, section_checks, standard_sections, extended_sections, checks}
 use Rattle.ti_layout.proofs.EndsLemmas.{SectionPasses, sections_pass, room_passes}
 use Rattle.ti_entry.specs.Content.{part_in, content_with, content}
 use Rattle.ti_layout.proofs.PassesLemmas.{first_passes}
-use Rattle.ti_layout.proofs.WordLemmas.{IsBytes, below, above}
-use Rattle.ti_layout.proofs.SectionReadLemmas.{both_pass, Passed, each_passed, each_item}
+use Rattle.ti_layout.proofs.WordLemmas.{IsBytes}
+use Rattle.ti_layout.proofs.SectionReadLemmas.{both_pass, Passed, each_passed}
 use Rattle.ti_layout.proofs.NamePlaceChecksLemmas.{table_length}
-use Rattle.ti_entry.proofs.TextLemmas.{ends}
 use Rattle.ti_entry.proofs.KindsFoundLemmas.{IsCount, count_is, pad_is}
 use Rattle.ti_entry.proofs.NamedItemsLemmas.{values_are, part_counts, all_names_in}
 use Rattle.ti_entry.proofs.PartLemmas.{end_even, PartPasses, part_passes, front_after, strings_in, part_joined, HasFew, part_found}

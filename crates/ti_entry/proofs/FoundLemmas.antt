@@ -1,5 +1,5 @@
 -- Bytes that pass the checks up to the end of the string table have the sections that they are read as.
-use Rattle.std.proofs.Common.{◌≡◌, ℕ, ◌+◌, ◌-◌, ◌%◌, ◌≤◌, Bool, true, false, cond, eqb, List, [], ◌∷◌, ◌++◌, map, length, get_or, take, drop, refl, sym, ap, ◌∙◌, arith, append-nil}
+use Rattle.std.proofs.Common.{◌≡◌, ℕ, ◌+◌, ◌-◌, ◌%◌, ◌≤◌, Bool, true, false, cond, eqb, List, [], ◌∷◌, ◌++◌, map, length, get_or, take, drop, refl, sym, ap, ◌∙◌, arith}
 use Rattle.std.proofs.Math.Seq.{take-add}
 use Rattle.std.proofs.lemmas.List.{drop-drop, take-append-drop, length-take-le, length-drop}
 use Rattle.std.proofs.lemmas.Bool.{eqb-true, leb-true}
@@ -10,19 +10,18 @@ use Rattle.ti_words.specs.declared.Width.TheVariants.{Legacy, Wide}
 use Rattle.ti_layout.specs.declared.fault.Fault.TheVariants.{BadHeader, BadNames}
 use Rattle.ti_layout.specs.declared.part.Part.{Part}
 use Rattle.ti_words.specs.Word.{unsigned_at}
-use Rattle.ti_layout.specs.Layout.{standard, places, flags_end, numbers_from, offsets_from, end_of}
-use Rattle.ti_words.specs.Widths.{magic_number, number_size}
+use Rattle.ti_layout.specs.Layout.{standard, places, flags_end, offsets_from, end_of}
+use Rattle.ti_words.specs.Widths.{magic_number}
 use Rattle.ti_words.specs.Spelling.{pad_len, HasStandardPart, magic, count_word, join, part_spelling}
 use Rattle.ti_words.specs.Texts.{is_nul}
 use Rattle.ti_layout.specs.Table.{table_of}
-use Rattle.ti_layout.specs.Checks.{verdict, sign_check, sign_checks, name_check, nul_check, offset_checks, ending_check, table_check}
+use Rattle.ti_layout.specs.Checks.{sign_check, sign_checks, name_check, nul_check, ending_check, table_check}
 use Rattle.std.specs.List.{AllByRecursion}
 use Rattle.ti_layout.specs.declared.section.Half.TheVariants.{Standard}
 use Rattle.ti_layout.specs.declared.section.Section.TheVariants.{Magic, Header}
 use Rattle.ti_layout.specs.Refusal.{magic_check, size_check, named_check, size_checks, standard_sections}
 use Rattle.ti_layout.proofs.EndsLemmas.{SectionPasses}
 use Rattle.ti_entry.specs.Content.{content_with}
-use Rattle.ti_layout.proofs.PlacesLemmas.{length_places}
 use Rattle.ti_layout.proofs.PassesLemmas.{first_passes}
 use Rattle.ti_layout.proofs.WordLemmas.{IsBytes, bytes_again, one_byte}
 use Rattle.ti_layout.proofs.NamePlaceChecksLemmas.{table_length}

@@ -1,7 +1,6 @@
 -- Names in the order of their offsets, and the first that is equal to another.
-use Rattle.std.proofs.Common.{◌≡◌, ◌≢◌, ℕ, zero, suc, ◌+◌, ◌*◌, ◌<◌, ◌≤◌, Bool, true, false, not, eqb, List, [], ◌∷◌, ◌++◌, map, length, take, inl, inr, refl, sym, ap, subst, ◌∙◌, arith}
+use Rattle.std.proofs.Common.{◌≡◌, ◌≢◌, ℕ, zero, suc, ◌+◌, ◌*◌, ◌<◌, ◌≤◌, Bool, true, false, not, eqb, List, [], ◌∷◌, ◌++◌, map, length, take, refl, sym, ap, subst, ◌∙◌, arith}
 use Rattle.std.proofs.lemmas.List.Sums.{take_while-cons}
-use Rattle.std.proofs.lemmas.Bool.{cases_lt}
 use Rattle.std.specs.Prelude.{min, slice_get, Some, None}
 use Rattle.ti_layout.specs.Layout.{places}
 use Rattle.ti_words.specs.Texts.{is_nul}
@@ -63,12 +62,6 @@ take_named f from (suc count) (suc i) le = ap (λ (t : List (List ℕ)). f from 
 -- the names up to an index are others
 abbrev pub OthersBefore : (ℕ → List ℕ) → ℕ → List ℕ → ℕ → Type 0
 OthersBefore f from name i = (j : ℕ) → j < i → f (from + 2 * j) ≢ name
-
-pub one_more_other : (f : ℕ → List ℕ) (from : ℕ) (name : List ℕ) (i : ℕ) → OthersBefore f from name i → f (from + 2 * i) ≢ name → OthersBefore f from name (i + 1)
-one_more_other f from name i before other j lt = elim (cases_lt j i) [
-  | inl less ↦ before j less
-  | inr ge ↦ let at : j ≡ i = omega arith in subst (λ k. f (from + 2 * k) ≢ name) (sym at) other
-]
 
 pub lacks_all : (f : ℕ → List ℕ) (from count : ℕ) (name : List ℕ) (i : ℕ) → count ≤ i → OthersBefore f from name i → Lacks (map f (places from 2 count)) name
 lacks_all f from count name i le before = all_items (λ n. n ≢ name) f from 2 count (λ j lt. before j (omega arith))

@@ -1,9 +1,9 @@
 -- The capabilities of an extended part, each with its name, as lists of names and lists of marks.
-use Rattle.std.proofs.Common.{◌≡◌, ℕ, zero, suc, ◌+◌, ◌*◌, ℤ, pos, negsuc, List, ◌++◌, map, length, refl, sym, ap, ◌∙◌, arith}
+use Rattle.std.proofs.Common.{◌≡◌, ℕ, zero, suc, ◌+◌, ◌*◌, ℤ, pos, negsuc, List, ◌++◌, map, length, refl, sym, ap, ◌∙◌}
 use Rattle.std.specs.List.{zip}
-use Rattle.std.proofs.lemmas.List.{map-append, length-append, length-map}
+use Rattle.std.proofs.lemmas.List.{map-append, length-map}
 use Rattle.std.proofs.lemmas.Slice.Zip.{firsts-zip, seconds-zip}
-use Rattle.ti_words.specs.Value.{PartValue, NamedPart}
+use Rattle.ti_words.specs.Value.{PartValue}
 use Rattle.ti_words.specs.Word.{word_at}
 use Rattle.ti_words.specs.declared.Kind.{Kind}
 use Rattle.ti_words.specs.declared.Kind.TheVariants as kinds

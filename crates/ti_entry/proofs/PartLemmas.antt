@@ -6,19 +6,16 @@ use Rattle.ti_layout.proofs.PassesLemmas.{first_passes}
 use Rattle.std.proofs.lemmas.List.Concat.{flat_map-cons}
 use Rattle.std.proofs.lemmas.Bool.{cases_lt}
 use Rattle.ti_words.specs.Value.{PartValue}
-use Rattle.std.proofs.Common.{◌≡◌, ℕ, ◌+◌, ◌-◌, ◌*◌, ◌%◌, ◌^◌, ◌<◌, ◌≤◌, ℤ, suc, List, [], ◌∷◌, ◌++◌, map, length, take, drop, refl, sym, ap, ◌∙◌, arith, append_assoc, append-nil, zero, true, false, pos, inl, inr, subst, ltb, get_or}
+use Rattle.std.proofs.Common.{◌≡◌, ℕ, ◌+◌, ◌-◌, ◌*◌, ◌%◌, ◌^◌, ◌<◌, ◌≤◌, suc, List, [], ◌∷◌, ◌++◌, map, length, take, drop, refl, sym, ap, ◌∙◌, arith, append_assoc, append-nil, zero, true, false, pos, inl, inr, subst, ltb, get_or}
 use Rattle.std.proofs.Math.Seq.{take-add}
 use Rattle.std.proofs.lemmas.List.{drop-drop, length-append, length-map, length-replicate, drop_at, take_at}
 use Rattle.std.specs.List.{AllByRecursion}
-use Rattle.ti_words.specs.declared.Flag.{Flag}
-use Rattle.ti_words.specs.declared.Number.{Number}
 use Rattle.ti_words.specs.declared.Width.{Width}
 use Rattle.ti_words.specs.declared.Width.TheVariants.{Legacy, Wide}
 use Rattle.ti_words.specs.Marks.{byte_of_flag, word_of_number}
-use Rattle.ti_words.specs.Texts.{TextValue}
 use Rattle.ti_words.specs.Word.{unsigned_at, word_at, word}
 use Rattle.ti_words.specs.Widths.{number_size}
-use Rattle.ti_words.specs.Spelling.{pad_len, FitsWidth, IsText, IsName, Each, words_of, numbers_of, flags_of, pad, Strings, SpellsPart, join, part_spelling, texts_size}
+use Rattle.ti_words.specs.Spelling.{pad_len, IsText, IsName, Each, words_of, numbers_of, flags_of, pad, Strings, SpellsPart, join, part_spelling, texts_size}
 use Rattle.ti_layout.specs.declared.fault.Fault.TheVariants.{BadExtendedName, Unterminated}
 use Rattle.ti_layout.specs.declared.part.Part.{Part}
 use Rattle.ti_layout.specs.Layout.{places, flags_end, numbers_from, offsets_from, names_from, table_from, end_of, standard, extended_after}

@@ -1,11 +1,11 @@
 -- The whole: bytes that spell an entry pass the checks, and are read as it.
-use Rattle.std.proofs.Common.{◌≡◌, ℕ, ◌+◌, ◌%◌, ◌<◌, ◌≤◌, ◌⊎◌, true, false, cond, leb, List, [], ◌∷◌, ◌++◌, map, length, inl, inr, refl, sym, ap, subst, ◌∙◌, arith, append-nil, ◌^◌}
+use Rattle.std.proofs.Common.{◌≡◌, ℕ, ◌+◌, ◌%◌, ◌<◌, ◌≤◌, ◌⊎◌, true, false, cond, leb, List, [], ◌∷◌, ◌++◌, length, inl, inr, refl, sym, ap, subst, ◌∙◌, arith}
 use Rattle.std.proofs.lemmas.List.{length-append, length-map, length-replicate}
 use Rattle.std.proofs.lemmas.Bool.{lt-ltb, le-leb, lt-leb}
 use Rattle.ti_base.specs.Limits.{most_entry_bytes}
 use Rattle.ti_layout.specs.declared.fault.Fault.TheVariants.{BadExtendedHeader}
 use Rattle.ti_layout.specs.declared.part.Part.{Part}
-use Rattle.ti_words.specs.Value.{PartValue, EntryValue}
+use Rattle.ti_words.specs.Value.{EntryValue}
 use Rattle.ti_words.specs.Word.{unsigned_at}
 use Rattle.ti_layout.specs.Layout.{standard, extended_after, no_capability, flags_end, end_of, extended_from}
 use Rattle.ti_words.specs.Spelling.{pad_len, Spells, HasExtendedPart, HasNoExtendedPart, count_word, pad, join, part_spelling, part_names, unnamed, mark_in}

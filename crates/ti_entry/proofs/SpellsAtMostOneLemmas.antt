@@ -1,5 +1,5 @@
 -- Bytes spell at most one entry: equal joinings of sections of equal lengths have equal sections.
-use Rattle.std.proofs.Common.{◌≡◌, ℕ, suc, ◌+◌, ◌<◌, ◌^◌, ◌⊎◌, ℤ, List, [], ◌∷◌, ◌++◌, map, length, take, Some, inl, inr, refl, sym, ap, subst, ◌∙◌, arith, append_assoc, append-nil}
+use Rattle.std.proofs.Common.{◌≡◌, ℕ, suc, ◌+◌, ◌<◌, ◌^◌, ◌⊎◌, ℤ, List, [], ◌∷◌, ◌++◌, map, length, take, Some, inl, inr, refl, sym, ap, subst, ◌∙◌, arith}
 use Rattle.std.proofs.lemmas.List.{length-append, length-map}
 use Rattle.std.proofs.lemmas.List.Concat.{flat_map-cons}
 use Rattle.std.specs.List.{flat_map, AllByRecursion}
@@ -10,7 +10,6 @@ use Rattle.ti_words.specs.declared.Number.TheVariants as numbers
 use Rattle.ti_words.specs.declared.Width.{Width}
 use Rattle.ti_words.specs.declared.Width.TheVariants.{Legacy, Wide}
 use Rattle.ti_words.specs.Marks.{byte_of_flag, flag_of_byte, word_of_number, number_of_word}
-use Rattle.ti_words.specs.Texts.{TextValue}
 use Rattle.ti_words.specs.Value.{PartValue, NamedPart, EntryValue}
 use Rattle.ti_words.specs.Word.{unsigned_at, word_at, word}
 use Rattle.ti_words.specs.Widths.{number_size}

@@ -1,5 +1,5 @@
-use Rattle.std.proofs.Common.{◌≡◌, ◌++◌, ◌==◌, Bool, true, false, length, ap, sym, ◌∙◌}
-use Rattle.ti_words.specs.Spelling.{standard_spelling, part_names}
+use Rattle.std.proofs.Common.{◌++◌, ◌==◌, length, ap, sym, ◌∙◌}
+use Rattle.ti_words.specs.Spelling.{standard_spelling}
 use Rattle.ti_draft.specs.Canonical.{standard_strings, extended_bytes}
 use Rattle.ti_draft.proofs.JoinLemmas.{join_then}
 use Rattle.ti_draft.proofs.LengthLemmas.{standard_bytes, is_standard, is_both}

@@ -1,4 +1,4 @@
-use Rattle.std.proofs.Common.{◌≡◌, ◌+◌, ◌++◌, length, ap, ◌∙◌, arith}
+use Rattle.std.proofs.Common.{◌≡◌, ◌++◌, length, ap, ◌∙◌, arith}
 use Rattle.ti_words.specs.Spelling.{words_of}
 use Rattle.ti_draft.specs.Canonical.{names_table, name_words}
 use Rattle.ti_draft.specs.Lists.{lent}

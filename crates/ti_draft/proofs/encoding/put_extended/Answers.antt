@@ -1,4 +1,4 @@
-use Rattle.std.proofs.Common.{◌≡◌, ◌+◌, ◌++◌, [], List, ℕ, length, ap, sym, ◌∙◌, arith}
+use Rattle.std.proofs.Common.{◌≡◌, ◌+◌, ◌++◌, [], List, ℕ, length, ap, ◌∙◌, arith}
 use Rattle.ti_words.specs.declared.Width.{Width}
 use Rattle.ti_words.specs.Value.{PartValue}
 use Rattle.ti_words.specs.Spelling.{pad, count_word, join, counts_spelling, part_spelling, unnamed, part_names}

@@ -1,7 +1,6 @@
-use Rattle.std.proofs.Common.{◌≡◌, ◌+◌, ◌*◌, length, ap, ◌∙◌, arith}
+use Rattle.std.proofs.Common.{◌*◌, length, ap, ◌∙◌, arith}
 use Rattle.std.proofs.lemmas.List.{length-append, length-map}
-use Rattle.ti_draft.specs.Lists.{lent, values_lent, names_lent}
-use Rattle.ti_draft.specs.Lengths.{capped_count, part_length}
+use Rattle.ti_draft.specs.Lengths.{capped_count}
 use Rattle.ti_draft.proofs.CappedCountLemmas.{sum}
 use Rattle.ti_draft.proofs.size.part_len.Goals as goal
 

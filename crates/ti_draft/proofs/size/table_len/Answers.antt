@@ -1,7 +1,6 @@
-use Rattle.std.proofs.Common.{◌≡◌, ◌+◌, length, ap, sym, ◌∙◌, arith}
-use Rattle.ti_draft.specs.Canonical.{texts_table, names_table}
-use Rattle.ti_draft.specs.Lists.{lent, values_lent, names_lent}
-use Rattle.ti_draft.specs.Lengths.{capped_count, table_length}
+use Rattle.std.proofs.Common.{ap, ◌∙◌, arith}
+use Rattle.ti_draft.specs.Lists.{lent}
+use Rattle.ti_draft.specs.Lengths.{capped_count}
 use Rattle.ti_draft.proofs.CappedCountLemmas.{sum}
 use Rattle.ti_draft.proofs.LengthLemmas.{length_names_tables}
 use Rattle.ti_draft.proofs.size.table_len.Goals as goal

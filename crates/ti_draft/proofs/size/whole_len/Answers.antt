@@ -1,4 +1,4 @@
-use Rattle.std.proofs.Common.{◌≡◌, ◌+◌, ◌-◌, ◌%◌, ◌^◌, ◌==◌, ◌≤◌, Bool, true, false, [], length, min, ap, sym, ◌∙◌, arith}
+use Rattle.std.proofs.Common.{◌≡◌, ◌+◌, ◌-◌, ◌%◌, ◌^◌, ◌==◌, ◌≤◌, true, false, [], length, min, ap, sym, ◌∙◌, arith}
 use Rattle.ti_words.specs.Value.{PartValue}
 use Rattle.ti_words.specs.Spelling.{pad_len, unnamed, part_names}
 use Rattle.ti_draft.specs.Canonical.{standard_strings}

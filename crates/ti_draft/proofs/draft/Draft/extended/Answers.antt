@@ -1,8 +1,7 @@
-use Rattle.std.proofs.Common.{◌≡◌, map, ap, ◌∙◌}
+use Rattle.std.proofs.Common.{map, ap, ◌∙◌}
 use Rattle.ti_words.specs.Texts.{text_value}
 use Rattle.ti_words.specs.Value.{EntryValue}
-use Rattle.ti_words.specs.Spelling.{name_in, mark_in, unnamed, part_names}
-use Rattle.ti_draft.specs.Lists.{lent}
+use Rattle.ti_words.specs.Spelling.{unnamed, part_names}
 use Rattle.ti_draft.proofs.NamedLemmas.{firsts_through, seconds_through}
 use Rattle.ti_draft.proofs.draft.Draft.extended.Goals as goal
 
