@@ -1,5 +1,6 @@
-use Rattle.std.proofs.Common.{ℕ, List, sym, subst}
+use Rattle.std.proofs.Common.{ℕ, List, length, ap, sym, subst, arith, length-append}
 use Rattle.ti_cap.specs.declared.gathering.Gathering.{Gathering}
+use Rattle.ti_cap.proofs.WrittenLemmas.{spelled_long}
 use Rattle.ti_cap.proofs.StandsLemmas.{Stands, stands_start, meets, named_at_end, texts_at_end}
 use Rattle.ti_cap.proofs.gathering.parameters_of.Goals as goal
 
@@ -33,3 +34,8 @@ pub returns-clause-texts : goal.returns-clause-texts
 returns-clause-texts c =
     let P : List ℕ → Type 0 = λ x. Stands c.args.tape.left x c.loop-token.gathering in
     texts_at_end c.args.tape.left c.loop-token.gathering (subst P c.in_default.ensures.none.1 c.loop-token.invariant)
+
+pub loop-token-smaller : goal.loop-token-smaller
+loop-token-smaller c =
+    let e = c.in-Some.ensures.some in
+    omega (arith, spelled_long c.in-Some.token e.0 e.1, ap length e.2, length-append e.0 c.token.new.self.left)
