@@ -7,6 +7,7 @@ use Rattle.std.specs.Option.{option_map_or}
 use Rattle.std.specs.Str.{bytes_eq}
 use Rattle.std.specs.Char.{digit_value}
 use Rattle.std.specs.Str.Parse.{digits_value, without_leading_plus}
+use Rattle.ti_base.specs.Letters.{letter}
 use Rattle.ti_base.specs.Limits.{greatest_rate, most_lines}
 use Rattle.clap.specs.Lexer.{usize_max}
 use Rattle.clap.specs.Words.{App, Kinds, Row, Rule, Text, all_of, fault_of, first_of, new_app, new_rule, one_of, subcommand_of, with_rule, with_subcommand}
@@ -21,6 +22,20 @@ use Rattle.clap.specs.declared.error.kind.ErrorKind.TheVariants as kind
 -- an option without a value
 abbrev pub flag_rule : Text → Rule
 flag_rule name = record (new_rule name) { long = Some name; action = Some SetTrue }
+
+-- the same with a short form of one letter, such as `-e` for `--escape`
+abbrev pub short_rule : Text → Text → Rule
+short_rule name short = record (flag_rule name) { short = Some (letter short) }
+
+-- `-x` or `--hex`, `-e` or `--escape`, `-a` or `--all-names`
+abbrev pub hex_rule : Rule
+hex_rule = short_rule (codes "hex") (codes "x")
+
+abbrev pub escape_rule : Rule
+escape_rule = short_rule (codes "escape") (codes "e")
+
+abbrev pub all_names_rule : Rule
+all_names_rule = short_rule (codes "all-names") (codes "a")
 
 -- an option with a number
 abbrev pub number_rule : Text → ℕ → Rule
@@ -60,25 +75,25 @@ with_commands = fold (λ a sub. with_subcommand a sub.top)
 
 -- `cap [--hex] [--escape] [PARAM..]`
 abbrev pub cap_app : App
-cap_app = with_rules (new_app (codes "cap")) (flag_rule (codes "hex") ∷ flag_rule (codes "escape") ∷ params_rule ∷ [])
+cap_app = with_rules (new_app (codes "cap")) (hex_rule ∷ escape_rule ∷ params_rule ∷ [])
 
 -- `trace [--escape] [PARAM..]`
 abbrev pub trace_app : App
-trace_app = with_rules (new_app (codes "trace")) (params_rule ∷ flag_rule (codes "escape") ∷ [])
+trace_app = with_rules (new_app (codes "trace")) (params_rule ∷ escape_rule ∷ [])
 
 -- `show [--escape] [--all-names]`
 abbrev pub show_app : App
-show_app = with_rules (new_app (codes "show")) (flag_rule (codes "escape") ∷ flag_rule (codes "all-names") ∷ [])
+show_app = with_rules (new_app (codes "show")) (escape_rule ∷ all_names_rule ∷ [])
 
 -- `check [--escape] [--all-names]`
 abbrev pub check_app : App
-check_app = with_rules (new_app (codes "check")) (flag_rule (codes "escape") ∷ flag_rule (codes "all-names") ∷ [])
+check_app = with_rules (new_app (codes "check")) (escape_rule ∷ all_names_rule ∷ [])
 
 -- `expand NAME [--hex] [--escape] [--all-names] [--rate N] [--lines N] [--xon] [PARAM..]`
 abbrev pub expand_app : App
 expand_app =
     with_rules (new_app (codes "expand"))
-    (name_rule ∷ flag_rule (codes "hex") ∷ flag_rule (codes "escape") ∷ flag_rule (codes "all-names") ∷ rate_rule ∷ lines_rule ∷ flag_rule (codes "xon")
+    (name_rule ∷ hex_rule ∷ escape_rule ∷ all_names_rule ∷ rate_rule ∷ lines_rule ∷ flag_rule (codes "xon")
     ∷ params_rule ∷ [])
 
 -- `convert [--wide] [--narrow]`
@@ -89,7 +104,7 @@ convert_app = with_rules (new_app (codes "convert")) (flag_rule (codes "wide") �
 abbrev pub get_app : App
 get_app =
     with_rules (new_app (codes "get"))
-    (name_rule ∷ flag_rule (codes "hex") ∷ flag_rule (codes "escape") ∷ rate_rule ∷ lines_rule ∷ flag_rule (codes "xon") ∷ params_rule ∷ [])
+    (name_rule ∷ hex_rule ∷ escape_rule ∷ rate_rule ∷ lines_rule ∷ flag_rule (codes "xon") ∷ params_rule ∷ [])
 
 -- `ti` with a version, which wants a subcommand
 abbrev pub start_app : App

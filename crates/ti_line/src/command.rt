@@ -2,7 +2,7 @@
 
 ghost use Rattle.std.specs.Prelude.{◌≡◌, [], ◌∷◌, IfOk, false};
 ghost use Rattle.clap.specs.Words.{App, app_of, new_app, rule_of};
-ghost use Rattle.ti_line.specs.CommandLine.{cap_app, check_app, convert_app, expand_app, flag_rule, get_app, name_rule, number_rule, params_rule, show_app, start_app, ti_app, trace_app, with_commands, with_rules};
+ghost use Rattle.ti_line.specs.CommandLine.{all_names_rule, cap_app, check_app, convert_app, escape_rule, expand_app, flag_rule, get_app, hex_rule, name_rule, number_rule, params_rule, show_app, start_app, ti_app, trace_app, with_commands, with_rules};
 ghost use Rattle.ti_line.specs.inner.Command.{HasNoGlobals};
 
 use clap::{Arg, ArgAction, Command, value_parser};
@@ -18,6 +18,30 @@ fn flag<'a>(alloc: Global, name: &'a str, help: &'a str) -> Arg<'a>
         .long(name)
         .action(ArgAction::SetTrue)
         .help(help)
+}
+
+/// `-x` or `--hex`.
+fn hex<'a>(alloc: Global) -> Arg<'a>
+    ensures rule { rule_of result ≡ hex_rule }
+    ensures local { result.global ≡ false }
+{
+    flag(alloc, "hex", HEX).short('x')
+}
+
+/// `-e` or `--escape`.
+fn escape<'a>(alloc: Global) -> Arg<'a>
+    ensures rule { rule_of result ≡ escape_rule }
+    ensures local { result.global ≡ false }
+{
+    flag(alloc, "escape", ESCAPE).short('e')
+}
+
+/// `-a` or `--all-names`.
+fn all_names<'a>(alloc: Global) -> Arg<'a>
+    ensures rule { rule_of result ≡ all_names_rule }
+    ensures local { result.global ≡ false }
+{
+    flag(alloc, "all-names", ALL_NAMES).short('a')
 }
 
 /// An option with a number of at most `most`.
@@ -117,12 +141,7 @@ fn cap<'a>(alloc: Global) -> Result<Command<'a>, AllocError>
         "Expand standard input as one capability; padding marks stay as they are",
         "Example, which writes ESC [ 7 G:\n  printf '\\033[%%p1%%dG' | ti cap n:7",
     );
-    with_two(
-        command,
-        flag(alloc, "hex", HEX),
-        flag(alloc, "escape", ESCAPE),
-    )?
-    .arg(params(alloc, PARAMS))
+    with_two(command, hex(alloc), escape(alloc))?.arg(params(alloc, PARAMS))
 }
 
 fn trace<'a>(alloc: Global) -> Result<Command<'a>, AllocError>
@@ -135,11 +154,7 @@ fn trace<'a>(alloc: Global) -> Result<Command<'a>, AllocError>
         "Show what each token of one capability on standard input does; padding marks stay as they are",
         "Example, which shows the stack and the output after each token:\n  printf '\\033[%%p1%%dG' | ti trace --escape n:7",
     );
-    with_two(
-        command,
-        params(alloc, PARAMS),
-        flag(alloc, "escape", ESCAPE),
-    )
+    with_two(command, params(alloc, PARAMS), escape(alloc))
 }
 
 fn show<'a>(alloc: Global) -> Result<Command<'a>, AllocError>
@@ -152,11 +167,7 @@ fn show<'a>(alloc: Global) -> Result<Command<'a>, AllocError>
         "List the compiled entry on standard input, one line an item",
         "Example:\n  ti show < /lib/terminfo/x/xterm\n\nFor an entry that a stranger wrote:\n  ti show --escape < entry",
     );
-    with_two(
-        command,
-        flag(alloc, "escape", ESCAPE),
-        flag(alloc, "all-names", ALL_NAMES),
-    )
+    with_two(command, escape(alloc), all_names(alloc))
 }
 
 fn check<'a>(alloc: Global) -> Result<Command<'a>, AllocError>
@@ -169,11 +180,7 @@ fn check<'a>(alloc: Global) -> Result<Command<'a>, AllocError>
         "Analyse each text of the entry on standard input; status 1 if one has a fault",
         "Example:\n  ti check < /lib/terminfo/x/xterm\n\nFor an entry that a stranger wrote:\n  ti check --escape < entry",
     );
-    with_two(
-        check,
-        flag(alloc, "escape", ESCAPE),
-        flag(alloc, "all-names", ALL_NAMES),
-    )
+    with_two(check, escape(alloc), all_names(alloc))
 }
 
 fn expand<'a>(alloc: Global) -> Result<Command<'a>, AllocError>
@@ -186,12 +193,8 @@ fn expand<'a>(alloc: Global) -> Result<Command<'a>, AllocError>
         "Expand and pad one text of the entry on standard input",
         "Example, which moves to line 5, column 10:\n  ti expand cup n:4 n:9 < /lib/terminfo/x/xterm",
     );
-    let command = with_two(command, name(alloc, TEXT_NAME), flag(alloc, "hex", HEX))?;
-    let command = with_two(
-        command,
-        flag(alloc, "escape", ESCAPE),
-        flag(alloc, "all-names", ALL_NAMES),
-    )?;
+    let command = with_two(command, name(alloc, TEXT_NAME), hex(alloc))?;
+    let command = with_two(command, escape(alloc), all_names(alloc))?;
     let command = with_two(
         command,
         number(alloc, "rate", GREATEST_RATE, RATE),
@@ -228,11 +231,7 @@ fn get<'a>(alloc: Global) -> Result<Command<'a>, AllocError>
         "Example, which moves to line 5, column 10:\n  ti get cup 4 9 < /lib/terminfo/x/xterm",
     );
     let command = command.arg(name(alloc, ANY_NAME))?;
-    let command = with_two(
-        command,
-        flag(alloc, "hex", HEX),
-        flag(alloc, "escape", ESCAPE),
-    )?;
+    let command = with_two(command, hex(alloc), escape(alloc))?;
     let command = with_two(
         command,
         number(alloc, "rate", GREATEST_RATE, RATE),

@@ -4,7 +4,7 @@ use std::test::Fail;
 use ti_line::{NoLine, Request, read_line};
 
 /// Words, what they ask for, and the first two parameters.
-const READ: [(&[&str], &str, &str); 26] = [
+const READ: [(&[&str], &str, &str); 28] = [
     (
         &["ti", "cap", "n:7"],
         "Capability(Cap(Raw))",
@@ -74,6 +74,16 @@ const READ: [(&[&str], &str, &str); 26] = [
     (
         &["ti", "cap", "--escape", "n:1"],
         "Capability(Cap(Line(Notation)))",
+        "[Num(1), Num(0)]",
+    ),
+    (
+        &["ti", "check", "-ea"],
+        "Entry(Check(Naming { table: All, form: Notation }))",
+        "[Num(0), Num(0)]",
+    ),
+    (
+        &["ti", "cap", "-x", "n:1"],
+        "Capability(Cap(Line(Hex)))",
         "[Num(1), Num(0)]",
     ),
     (

@@ -93,7 +93,7 @@ const ENDED: [&[&str]; 13] = [
     &["ti", "expand", "--rate", "-1", "bel"],
     &["ti", "expand", "--rate", "bel"],
     &["ti", "cap", "--xon"],
-    &["ti", "cap", "-x"],
+    &["ti", "cap", "-y"],
 ];
 
 #[test]

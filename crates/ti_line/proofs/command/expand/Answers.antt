@@ -5,10 +5,10 @@ use Rattle.ti_line.proofs.command.expand.Goals as goal
 
 pub returns-clause-shape : goal.returns-clause-shape
 returns-clause-shape c =
-    let begun = c.in_ok-command.ensures.shape ∙ ap₂ with_rule (ap₂ with_rule c.new_command-command.ensures.shape c.name.ensures.rule) c.flag.ensures.rule in
-    let called = c.in_ok-command-2.ensures.shape ∙ ap₂ with_rule (ap₂ with_rule begun c.flag-2.ensures.rule) c.flag-3.ensures.rule in
+    let begun = c.in_ok-command.ensures.shape ∙ ap₂ with_rule (ap₂ with_rule c.new_command-command.ensures.shape c.name.ensures.rule) c.hex.ensures.rule in
+    let called = c.in_ok-command-2.ensures.shape ∙ ap₂ with_rule (ap₂ with_rule begun c.escape.ensures.rule) c.all_names.ensures.rule in
     let numbered = c.in_ok-command-3.ensures.shape ∙ ap₂ with_rule (ap₂ with_rule called c.number.ensures.rule) c.number-2.ensures.rule in
-    IfOk-weaker c.with_two-4.result _ _ (λ r h. h ∙ ap₂ with_rule (ap₂ with_rule numbered c.flag-4.ensures.rule) c.params.ensures.rule) c.with_two-4.ensures.shape
+    IfOk-weaker c.with_two-4.result _ _ (λ r h. h ∙ ap₂ with_rule (ap₂ with_rule numbered c.flag.ensures.rule) c.params.ensures.rule) c.with_two-4.ensures.shape
 
 -- none of its parts has a global argument
 pub returns-clause-local : goal.returns-clause-local
