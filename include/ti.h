@@ -1,9 +1,10 @@
 /* ti.h: terminfo entries and their capabilities, for C and C++ on x86-64. Link with -lti, as ./install puts it in place.
  *
- * Each call but ti_version and three that return what a view holds returns TI_DONE, or the number of a fault. Nothing is allocated, nothing is kept between calls,
- * and any thread may call. The caller must pass valid pointers with correct lengths: each pointer has as many elements as
- * the length beside it says, and what is written overlaps no other argument. A pointer may be null if its length is 0, the
- * others not. What a call fills may be memory that was never written; only ti_vars is read before it is written.
+ * Each call but ti_version and three that return what a view holds returns TI_DONE, or the number of a fault. Nothing is
+ * allocated, nothing is kept between calls, and any thread may call. The caller must pass valid pointers with correct
+ * lengths: each pointer has as many elements as the length beside it says, and what is written overlaps no other argument.
+ * A pointer may be null if its length is 0, the others not. What a call fills may be memory that was never written; only
+ * ti_vars is read before it is written.
  * Lengths and places are in bytes. Capabilities are bytes as a compiled entry holds them: no NUL ends them, and escape is
  * the byte 27.
  *
@@ -17,7 +18,7 @@
  *     if (ti_expand(cup, cup_length, at, 2, &vars, out, sizeof out, &run) == TI_DONE)
  *         fwrite(out, 1, run.written, stdout);
  *
- * An entry is opened once, and asked for what the program needs. Its texts are pointers into its bytes.
+ * An entry is opened once; then the program takes what it needs. Its texts are pointers into its bytes.
  *
  *     ti_view view;
  *     ti_bytes cup;
@@ -204,7 +205,7 @@ typedef struct {
     uint8_t pad;             /* the pad byte; 0 in nearly all terminals */
 } ti_padding;
 
-/* Opens a compiled entry, which has to be all of the bytes, to be asked by the calls that follow. Nothing is copied.
+/* Opens a compiled entry, which has to be all of the bytes, for the calls that follow. Nothing is copied.
  *
  * TI_DONE: the view is written, but for the place of its entry.
  * 1 to 14: the bytes are no entry; view->entry.place says where. Nothing else is written.
