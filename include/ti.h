@@ -260,12 +260,12 @@ uint32_t ti_read(const unsigned char *bytes, size_t length, ti_arrays *arrays, t
  * its value as a text. So a capability of an untrusted file can be held against what the program hands over.
  *
  *     ti_limits limits;
- *     if (ti_check(cup, cup_length, 0, &limits) == TI_DONE)
- *         out = malloc(limits.bound);
- *     else
+ *     if (ti_check(cup, cup_length, 0, &limits) != TI_DONE)
  *         fprintf(stderr, "fault at byte %zu\n", limits.place);
- *     if (limits.texts & 1)
- *         puts("its first parameter has to be a text"); */
+ *     else if (limits.texts & 1)
+ *         fprintf(stderr, "its first parameter has to be a text\n");
+ *     else
+ *         out = malloc(limits.bound); */
 uint32_t ti_check(const unsigned char *capability, size_t length, uint16_t longest_text, ti_limits *limits);
 
 /* Expands a capability. Marks of padding, such as $<5>, are written as they stand.

@@ -4,7 +4,7 @@ use Rattle.std.specs.Prelude.{Option, Some, None, slice_get, option_map, unwrap_
 use Rattle.ti_words.specs.declared.Kind.{Kind}
 use Rattle.ti_words.specs.declared.Kind.TheVariants as kinds
 use Rattle.ti_words.specs.Names.{Place}
-use Rattle.ti_words.specs.Spelling.{extended_names}
+use Rattle.ti_words.specs.Spelling.{part_names}
 use Rattle.ti_words.specs.Value.{EntryValue}
 use Rattle.ti_entry.specs.Finding.{IsPosition, Lacks, names_before, names_of}
 use Rattle.ti_entry.specs.declared.finding.Position.{Position}
@@ -50,21 +50,21 @@ lacks_right (x ∷ xs) ys name h = lacks_right xs ys name h.1
 
 module _ (v : EntryValue) (name : List ℕ) where
   abbrev Fs : List (List ℕ)
-  Fs = names_of v kinds.Flag
+  Fs = names_of v.extended kinds.Flag
 
   abbrev Ns : List (List ℕ)
-  Ns = names_of v kinds.Number
+  Ns = names_of v.extended kinds.Number
 
   abbrev Ts : List (List ℕ)
-  Ts = names_of v kinds.Text
+  Ts = names_of v.extended kinds.Text
 
-  nowhere : (k : Kind) (i : ℕ) → Lacks (extended_names v) name → slice_get (names_of v k) i ≡ Some name → ⊥
+  nowhere : (k : Kind) (i : ℕ) → Lacks (part_names v.extended) name → slice_get (names_of v.extended k) i ≡ Some name → ⊥
   nowhere kinds.Flag i lacks is = not_there Fs name i (lacks_left Fs Ns name (lacks_left (Fs ++ Ns) Ts name lacks)) is
   nowhere kinds.Number i lacks is = not_there Ns name i (lacks_right Fs Ns name (lacks_left (Fs ++ Ns) Ts name lacks)) is
   nowhere kinds.Text i lacks is = not_there Ts name i (lacks_right (Fs ++ Ns) Ts name lacks) is
 
   abbrev IsFirst : Kind → ℕ → Type 0
-  IsFirst k i = (slice_get (names_of v k) i ≡ Some name) × Lacks (names_before v k i) name
+  IsFirst k i = (slice_get (names_of v.extended k) i ≡ Some name) × Lacks (names_before v.extended k i) name
 
   one_own : (k l : Kind) (i j : ℕ) → IsFirst k i → IsFirst l j → (k ≡ l) × (i ≡ j)
   one_own kinds.Flag kinds.Flag i j a b = (refl, one_index Fs name i j a.0 a.1 b.0 b.1)

@@ -44,13 +44,13 @@ IsPlaceCalled name v place =
 
 -- what an entry says of a place; where it has none, the flag is No and the others are absent
 abbrev pub item_at : EntryValue → Position → ItemValue
-item_at v (Standard kinds.Flag i) = FlagItem (get_or v.flags i flags.No)
-item_at v (Standard kinds.Number i) = NumberItem (get_or v.numbers i numbers.Absent)
-item_at v (Standard kinds.Text i) = TextItem (get_or v.texts i AbsentText)
-item_at v (Extended kinds.Flag i) = FlagItem (get_or (map mark_in v.extended_flags) i flags.No)
+item_at v (Standard kinds.Flag i) = FlagItem (get_or v.standard.flags i flags.No)
+item_at v (Standard kinds.Number i) = NumberItem (get_or v.standard.numbers i numbers.Absent)
+item_at v (Standard kinds.Text i) = TextItem (get_or v.standard.texts i AbsentText)
+item_at v (Extended kinds.Flag i) = FlagItem (get_or (map mark_in v.extended.flags) i flags.No)
 item_at v (Extended kinds.Number i) =
-    NumberItem (get_or (map mark_in v.extended_numbers) i numbers.Absent)
-item_at v (Extended kinds.Text i) = TextItem (get_or (map mark_in v.extended_texts) i AbsentText)
+    NumberItem (get_or (map mark_in v.extended.numbers) i numbers.Absent)
+item_at v (Extended kinds.Text i) = TextItem (get_or (map mark_in v.extended.texts) i AbsentText)
 
 -- the value of the capability that a name means, or none if nothing has the name
 abbrev pub IsItemCalled : List ℕ → EntryValue → Option ItemValue → Type 0
