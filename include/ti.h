@@ -1,4 +1,5 @@
-/* ti.h: terminfo entries and their capabilities, for C and C++ on x86-64. Link with -lti, as ./install puts it in place.
+/* ti.h: terminfo entries and their capabilities, for C and C++ on x86-64. Link with -lti, as ./install puts it in place. It
+ * may be included beside <term.h>, in any order.
  *
  * Each call but ti_version and three that return what a view holds returns TI_DONE, or the number of a fault. Nothing is
  * allocated, nothing is kept between calls, and any thread may call. The caller must pass valid pointers with correct
@@ -49,7 +50,7 @@ enum {
     TI_HEADER_TOO_BIG = 4,        /* by its header the entry has more than 32768 bytes; the place is 0 */
     TI_BAD_NAMES = 5,             /* the names are empty, hold a NUL or do not end with one */
     TI_BAD_FLAG = 6,              /* a byte is no flag */
-    TI_BAD_PAD = 7,               /* the byte after an odd count is not 0 */
+    TI_BAD_PAD = 7,               /* the byte that brings the next section to an even place is not 0 */
     TI_BAD_NUMBER = 8,            /* a number is below -2 */
     TI_BAD_OFFSET = 9,            /* the offset of a text is below -2, or past its table */
     TI_UNTERMINATED = 10,         /* a text or an extended name runs to the end of its table with no NUL */
@@ -229,7 +230,8 @@ int8_t ti_view_text(const ti_view *view, size_t index, ti_bytes *text);
  * was.
  *
  *     ti_value clipboard;
- *     if (ti_view_find(&view, (const unsigned char *)"Ms", 2, &clipboard) == TI_DONE && clipboard.kind == TI_TEXT)
+ *     if (ti_view_find(&view, (const unsigned char *)"Ms", 2, &clipboard) == TI_DONE && clipboard.kind == TI_TEXT
+ *         && clipboard.number == 0)
  *         fault = ti_check(clipboard.text.bytes, clipboard.text.length, 1000, &limits); */
 uint32_t ti_view_find(const ti_view *view, const unsigned char *name, size_t length, ti_value *value);
 
@@ -302,7 +304,7 @@ uint32_t ti_name(uint32_t kind, size_t index, ti_bytes *name);
 
 /* Finds the kind and the index of the capability with a name among these: TI_DONE with both, as ti_name takes them, or
  * TI_NOT_NAMED, and both are as they were. For "cup" they are TI_TEXT and TI_CURSOR_ADDRESS. The names of extended
- * capabilities are the entry's own, which ti_read returns. */
+ * capabilities are the entry's own: ti_view_find finds them, and ti_view_extended lists them. */
 uint32_t ti_find(const unsigned char *name, size_t length, uint32_t *kind, size_t *index);
 
 /* Finds the word of a fault by its number, to be printed: TI_DONE with the word, which lasts as long as the program, or

@@ -6,6 +6,8 @@
     b'\\x1b[%i%p1%d;%p2%dH'
     >>> ti.expand(entry.text("cup"), 4, 9)
     b'\\x1b[5;10H'
+    >>> ti.pad(ti.expand(entry.text("flash")))  # what a terminal gets; text is None if the entry lacks it
+    b'\\x1b[?5h\\x1b[?5l'
     >>> entry.number("colors"), entry.flag("am")
     (8, True)
 
@@ -24,6 +26,13 @@ __all__ = ["Entry", "Fault", "Limits", "Variables", "check", "expand", "pad", "v
 LIBRARY = "libti.so.0.3"
 DONE, TOO_MANY_PARAMETERS, CANCELLED = 0, 201, -2
 KINDS = ["flag", "number", "text"]
+
+
+def _within(value: int, least: int, most: int) -> int:
+    """A number for C, which would be cut to its lowest bits if it did not fit."""
+    if not least <= value <= most:
+        raise ValueError(f"{value} is not between {least} and {most}")
+    return value
 
 
 def _load() -> CDLL:
@@ -195,14 +204,14 @@ def check(capability: bytes, longest_text: int = 0) -> Limits:
 def expand(capability: bytes, *parameters: int | bytes | str, variables: Variables | None = None) -> bytes:
     """The output of a capability for up to nine parameters, each a number of 32 bits or a text. Marks of padding are still in it.
 
-    Raises Fault if the bytes are no capability, there are more parameters, or a text is longer than 32767 bytes. Then the
-    variables are as before.
+    Raises Fault if the bytes are no capability, there are more parameters, or a text is longer than 32767 bytes, and ValueError
+    if a number does not have 32 bits. Then the variables are as before.
     """
     texts = [None if isinstance(value, int) else _bytes_of(value) for value in parameters]
     given = (_Parameter * len(parameters))()
     for one, value, text in zip(given, parameters, texts):
         if text is None:
-            one.number = value
+            one.number = _within(value, -(2**31), 2**31 - 1)
         else:
             one.text.bytes, one.text.length, one.is_text = cast(c_char_p(text), c_void_p), len(text), 1
     kept, run = _Variables((c_int32 * 52)(*(variables.values if variables else []))), _Run()
@@ -218,9 +227,10 @@ def expand(capability: bytes, *parameters: int | bytes | str, variables: Variabl
 
 def pad(text: bytes, rate: int = 0, affected_lines: int = 1, xon: bool = False, pad_byte: int = 0) -> bytes:
     """The text with each mark of padding, such as $<5>, as pad bytes for a line of this rate, in bytes per second. At the rate 0
-    the marks vanish. Raises Fault if the rate, the lines or the padded text are above their limits."""
+    the marks vanish. Raises Fault if the rate, the lines or the padded text are above their limits, and ValueError if a number
+    does not fit C's type of it."""
     text, length = bytes(text), c_size_t()
-    padding = _Padding(rate, affected_lines, xon, pad_byte)
+    padding = _Padding(_within(rate, 0, 2**32 - 1), _within(affected_lines, 0, 2**32 - 1), xon, _within(pad_byte, 0, 255))
     fault, out = DONE, create_string_buffer(len(text) or 1)
     fault = _library.ti_pad(text, len(text), byref(padding), out, len(text), byref(length))
     if fault == 203:

@@ -23,7 +23,7 @@ pub enum Fault {
     BadNames,
     /// A byte is no flag.
     BadFlag,
-    /// The byte after an odd count is not 0.
+    /// The byte that brings the next section to an even place is not 0.
     BadPad,
     /// A number is below -2.
     BadNumber,

@@ -71,7 +71,7 @@ const PARAMS: &str =
     "n:NUMBER (-2147483648 to 2147483647) or s:TEXT; at most nine, missing ones are the number 0";
 
 const ANY_PARAMS: &str =
-    "A number or a text, as n:NUMBER or s:TEXT or as the text takes it; with none it is not expanded";
+    "A number or a text, as n:NUMBER or s:TEXT or as the text takes it; with none it is only padded";
 
 /// The argument of a name, with what help says of it.
 fn name<'a>(alloc: Global, help: &'a str) -> Arg<'a>
@@ -228,7 +228,7 @@ fn get<'a>(alloc: Global) -> Result<Command<'a>, AllocError>
         alloc,
         "get",
         "Write the value of one capability of the entry on standard input, as tput does",
-        "Example, which moves to line 5, column 10:\n  ti get cup 4 9 < /lib/terminfo/x/xterm",
+        "Example, which moves to line 5, column 10:\n  ti get cup 4 9 < /lib/terminfo/x/xterm\n\nOf a flag the status is the answer:\n  ti get am < /lib/terminfo/x/xterm && echo yes",
     );
     let command = command.arg(name(alloc, ANY_NAME))?;
     let command = with_two(command, hex(alloc), escape(alloc))?;
