@@ -11,7 +11,7 @@ HERE = Path(__file__).resolve().parent
 TESTS = {
     "fixtures": ["flushed", "sink", "source", "tally", "traces"],
     "cases": [
-        "draft_growths", "draft_memory", "entry_messages", "entry_sources", "expansion_memory", "expansion_variables",
+        "base", "draft_growths", "draft_memory", "entry_messages", "entry_sources", "expansion_memory", "expansion_variables",
         "notation_memory", "padding_memory", "padding_rows", "padding_writers", "trace", "traces",
     ],
 }

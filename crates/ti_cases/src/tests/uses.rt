@@ -1,5 +1,6 @@
 //! What a caller writes: for each library crate a first program, which its README shows.
 
+mod base;
 mod cap;
 mod draft;
 mod entry;
