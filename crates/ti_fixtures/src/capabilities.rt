@@ -65,25 +65,37 @@ const BOLD_AND_UNDERLINED: [Value<'static>; 9] = [
     Num(0),
 ];
 
-/// Capabilities without a conditional.
-pub const PLAIN: [Expansion; 42] = [
+/// Capabilities that push, pop and print, without a conditional.
+pub const STACK: [Expansion; 13] = [
     (b"\x1b[%p1%dG", &[Num(7)], b"\x1b[7G"),
     (b"%{65}%d%%", &[], b"65%"),
     (b"%p1%p2%d%d", &[Num(1), Num(2)], b"21"),
     (b"%d", &[], b"0"),
     (b"%p1%d", &[Num(-2147483648)], b"-2147483648"),
-    (b"%p1%d", &[Text(b"abc")], b"0"),
     (CUP, &[Num(4), Num(9)], b"\x1b[5;10H"),
     (b"", &[], b""),
-    (b"%p1%{0}%/%d", &[Num(7)], b"0"),
-    (b"%p1%p2%/%d", &[Num(-2147483648), Num(-1)], b"-2147483648"),
     (b"%i%p1%d", &[Num(2147483647)], b"-2147483648"),
     (b"\x1b[%i%d;%dR", &[], b"\x1b[0;0R"),
-    (b"%p1%:-6s|", &[Text(b"abc")], b"abc   |"),
-    (b"%p1%.2s", &[Text(b"abc")], b"ab"),
-    (b"%p1%s", &[Num(5)], b""),
-    (b"%p1%l%d", &[Text(b"abc")], b"3"),
-    (b"%i%p1%s%p2%d", &[Text(b"a"), Num(5)], b"a6"),
+    (b"%p1%PA%gA%gA%*%d", &[Num(12)], b"144"),
+    (b"%gA%d", &[], b"0"),
+    (b"%'''%d", &[], b"39"),
+    (b"%{5}%p1%A%d", &[Text(b"abc")], b"0"),
+];
+
+/// Operations, and `%c`.
+pub const OPERATIONS: [Expansion; 8] = [
+    (b"%p1%{0}%/%d", &[Num(7)], b"0"),
+    (b"%p1%p2%/%d", &[Num(-2147483648), Num(-1)], b"-2147483648"),
+    (b"%p1%{3}%/%d,%p1%{3}%m%d", &[Num(-7)], b"-2,-1"),
+    (b"%p1%p2%-%d", &[Num(3), Num(5)], b"-2"),
+    (b"%p1%~%d%p1%!%d", &[Num(0)], b"-11"),
+    (b"%p1%c", &[Num(0)], b"\x80"),
+    (b"%p1%c", &[Num(256)], b"\x80"),
+    (b"%p1%c", &[Num(65)], b"A"),
+];
+
+/// Formats of numbers.
+pub const FORMATS: [Expansion; 13] = [
     (b"%p1%x", &[Num(-1)], b"ffffffff"),
     (b"%p1%#o", &[Num(8)], b"010"),
     (b"%p1%.0d", &[Num(0)], b""),
@@ -92,21 +104,21 @@ pub const PLAIN: [Expansion; 42] = [
     (b"%p1%2.2X", &[Num(10)], b"0A"),
     (b"%p1%:+d", &[Num(5)], b"+5"),
     (b"%p1%#x", &[Num(0)], b"0"),
-    (b"%p1%c", &[Num(0)], b"\x80"),
-    (b"%p1%c", &[Num(256)], b"\x80"),
-    (b"%p1%c", &[Num(65)], b"A"),
-    (b"%p1%PA%gA%gA%*%d", &[Num(12)], b"144"),
-    (b"%gA%d", &[], b"0"),
     (b"%p1%:-05d|", &[Num(7)], b"7    |"),
     (b"%p1%05.3d", &[Num(7)], b"  007"),
     (b"%p1%#06x", &[Num(255)], b"0x00ff"),
     (b"%p1% d", &[Num(5)], b" 5"),
     (b"%p1%o", &[Num(-1)], b"37777777777"),
-    (b"%p1%{3}%/%d,%p1%{3}%m%d", &[Num(-7)], b"-2,-1"),
-    (b"%p1%p2%-%d", &[Num(3), Num(5)], b"-2"),
-    (b"%p1%~%d%p1%!%d", &[Num(0)], b"-11"),
-    (b"%{5}%p1%A%d", &[Text(b"abc")], b"0"),
-    (b"%'''%d", &[], b"39"),
+];
+
+/// Capabilities with texts among their parameters, or with formats of texts.
+pub const TEXTS: [Expansion; 8] = [
+    (b"%p1%d", &[Text(b"abc")], b"0"),
+    (b"%p1%:-6s|", &[Text(b"abc")], b"abc   |"),
+    (b"%p1%.2s", &[Text(b"abc")], b"ab"),
+    (b"%p1%s", &[Num(5)], b""),
+    (b"%p1%l%d", &[Text(b"abc")], b"3"),
+    (b"%i%p1%s%p2%d", &[Text(b"a"), Num(5)], b"a6"),
     (b"%p1%.s|", &[Text(b"abc")], b"|"),
     (b"%p1%s", &[Text(b"$<5>")], b"$<5>"),
 ];
@@ -127,8 +139,8 @@ pub const CONDITIONAL: [Expansion; 12] = [
     (INNER_PARTS, &[Num(1), Num(0), Num(0)], b"bcf"),
 ];
 
-/// Capabilities of xterm-256color, screen and linux, with what `tput` prints of them.
-pub const REAL: [Expansion; 23] = [
+/// Colours and the cursor of xterm-256color, screen and linux, with what `tput` prints of them.
+pub const COLORS: [Expansion; 14] = [
     (SETAF, &[Num(1)], b"\x1b[31m"),
     (SETAF, &[Num(9)], b"\x1b[91m"),
     (SETAF, &[Num(200)], b"\x1b[38;5;200m"),
@@ -137,15 +149,19 @@ pub const REAL: [Expansion; 23] = [
     (SETAB, &[Num(100)], b"\x1b[48;5;100m"),
     (CUP, &[Num(0), Num(0)], b"\x1b[1;1H"),
     (CUP, &[Num(23), Num(79)], b"\x1b[24;80H"),
-    (XTERM_SGR, &[Num(0); 9], b"\x1b(B\x1b[0m"),
-    (XTERM_SGR, &[Num(1); 9], b"\x1b(0\x1b[0;1;2;4;7;5;8m"),
-    (XTERM_SGR, &BOLD_AND_UNDERLINED, b"\x1b(B\x1b[0;1;4m"),
     (b"\x1b[3%p1%dm", &[Num(1)], b"\x1b[31m"),
     (b"\x1b[3%p1%dm", &[Num(9)], b"\x1b[39m"),
     (b"\x1b[3%p1%dm", &[Num(200)], b"\x1b[3200m"),
     (b"\x1b[4%p1%dm", &[Num(2)], b"\x1b[42m"),
     (b"\x1b[4%p1%dm", &[Num(12)], b"\x1b[412m"),
     (b"\x1b[4%p1%dm", &[Num(100)], b"\x1b[4100m"),
+];
+
+/// `sgr` of xterm-256color, screen and linux, with what `tput` prints of it.
+pub const SGR: [Expansion; 9] = [
+    (XTERM_SGR, &[Num(0); 9], b"\x1b(B\x1b[0m"),
+    (XTERM_SGR, &[Num(1); 9], b"\x1b(0\x1b[0;1;2;4;7;5;8m"),
+    (XTERM_SGR, &BOLD_AND_UNDERLINED, b"\x1b(B\x1b[0;1;4m"),
     (SCREEN_SGR, &[Num(0); 9], b"\x1b[0m\x0f"),
     (SCREEN_SGR, &[Num(1); 9], b"\x1b[0;1;3;4;7;5;2m\x0e"),
     (SCREEN_SGR, &BOLD_AND_UNDERLINED, b"\x1b[0;1;4m\x0f"),

@@ -4,7 +4,9 @@ use super::expanded::{into_slices, into_vector};
 use std::process::Abort;
 use std::test::Fail;
 use ti_expand::{Value, Vars};
-use ti_fixtures::capabilities::{CONDITIONAL, Expansion, PLAIN, REAL, nine};
+use ti_fixtures::capabilities::{
+    COLORS, CONDITIONAL, Expansion, FORMATS, OPERATIONS, SGR, STACK, TEXTS, nine,
+};
 
 /// The length of the longest text among the values.
 fn longest_text(values: &[Value<'static>]) -> u16 {
@@ -36,20 +38,43 @@ fn assert_in_vectors(rt: &(impl Abort + AllocGlobal), rows: &[Expansion]) -> Res
     Ok(())
 }
 
+/// Each row through exact slices and as a vector.
+fn assert_written(rt: &(impl Abort + AllocGlobal), rows: &[Expansion]) -> Result<(), Fail> {
+    assert_in_slices(rt, rows)?;
+    assert_in_vectors(rt, rows)
+}
+
 #[test]
-fn capabilities_write_what_terminfo_says(rt: HostRuntime) -> Result<(), Fail> {
-    assert_in_slices(&rt, &PLAIN)?;
-    assert_in_vectors(&rt, &PLAIN)
+fn the_stack_is_as_terminfo_says(rt: HostRuntime) -> Result<(), Fail> {
+    assert_written(&rt, &STACK)
+}
+
+#[test]
+fn operations_are_as_terminfo_says(rt: HostRuntime) -> Result<(), Fail> {
+    assert_written(&rt, &OPERATIONS)
+}
+
+#[test]
+fn numbers_are_printed_as_terminfo_says(rt: HostRuntime) -> Result<(), Fail> {
+    assert_written(&rt, &FORMATS)
+}
+
+#[test]
+fn texts_are_printed_as_terminfo_says(rt: HostRuntime) -> Result<(), Fail> {
+    assert_written(&rt, &TEXTS)
 }
 
 #[test]
 fn conditionals_write_what_terminfo_says(rt: HostRuntime) -> Result<(), Fail> {
-    assert_in_slices(&rt, &CONDITIONAL)?;
-    assert_in_vectors(&rt, &CONDITIONAL)
+    assert_written(&rt, &CONDITIONAL)
 }
 
 #[test]
-fn real_capabilities_write_what_tput_prints(rt: HostRuntime) -> Result<(), Fail> {
-    assert_in_slices(&rt, &REAL)?;
-    assert_in_vectors(&rt, &REAL)
+fn colors_are_what_tput_prints(rt: HostRuntime) -> Result<(), Fail> {
+    assert_written(&rt, &COLORS)
+}
+
+#[test]
+fn sgr_is_what_tput_prints(rt: HostRuntime) -> Result<(), Fail> {
+    assert_written(&rt, &SGR)
 }

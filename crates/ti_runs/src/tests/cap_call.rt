@@ -8,7 +8,9 @@ use std::test::Fail;
 use ti_cap::{CapFault, CapRefused};
 use ti_escape::Form;
 use ti_expand::Value;
-use ti_fixtures::capabilities::{CONDITIONAL, Expansion, PLAIN, REAL, nine};
+use ti_fixtures::capabilities::{
+    COLORS, CONDITIONAL, Expansion, FORMATS, OPERATIONS, SGR, STACK, TEXTS, nine,
+};
 use ti_fixtures::traces::COLUMN;
 use ti_fixtures::{Endless, Sink, Source, Tally};
 use ti_line::{Asked, OfCapability, Output};
@@ -50,14 +52,38 @@ fn assert_rows(rt: &(impl Abort + AllocGlobal), rows: &[Expansion]) {
 }
 
 #[test]
-fn capabilities_write_what_terminfo_says(rt: HostRuntime) {
-    assert_rows(&rt, &PLAIN);
+fn the_stack_is_as_terminfo_says(rt: HostRuntime) {
+    assert_rows(&rt, &STACK);
+}
+
+#[test]
+fn operations_are_as_terminfo_says(rt: HostRuntime) {
+    assert_rows(&rt, &OPERATIONS);
+}
+
+#[test]
+fn numbers_are_printed_as_terminfo_says(rt: HostRuntime) {
+    assert_rows(&rt, &FORMATS);
+}
+
+#[test]
+fn texts_are_printed_as_terminfo_says(rt: HostRuntime) {
+    assert_rows(&rt, &TEXTS);
+}
+
+#[test]
+fn conditionals_write_what_terminfo_says(rt: HostRuntime) {
     assert_rows(&rt, &CONDITIONAL);
 }
 
 #[test]
-fn real_capabilities_write_what_tput_prints(rt: HostRuntime) {
-    assert_rows(&rt, &REAL);
+fn colors_are_what_tput_prints(rt: HostRuntime) {
+    assert_rows(&rt, &COLORS);
+}
+
+#[test]
+fn sgr_is_what_tput_prints(rt: HostRuntime) {
+    assert_rows(&rt, &SGR);
 }
 
 #[test]
