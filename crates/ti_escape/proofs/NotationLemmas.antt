@@ -1,5 +1,5 @@
 -- A notation, stretch by stretch and from its ends.
-use Rattle.std.proofs.Common.{◌≡◌, ◌∙◌, ◌+◌, ◌-◌, ◌<◌, ℕ, zero, suc, Bool, true, false, List, [], ◌∷◌, ◌++◌, ap, sym, refl, length, drop, take, get_or, arith, cond, one-add, add-zero, append-nil, append_assoc}
+use Rattle.std.proofs.Common.{◌≡◌, ◌∙◌, ◌+◌, ◌-◌, ◌<◌, ℕ, zero, suc, Bool, true, false, List, [], ◌∷◌, ◌++◌, ap, sym, refl, length, drop, take, get_or, arith, cond, one-add, append_assoc}
 use Rattle.std.specs.List.{prefix_len}
 use Rattle.std.proofs.lemmas.Bool.Decides.{nat_tests}
 use Rattle.std.proofs.Math.Numerals.{sub-one}
@@ -67,12 +67,3 @@ notation-ends (byte ∷ []) first last start n j k few last_but_one after is fro
 notation-ends (byte ∷ next ∷ rest) first last start n j k few last_but_one after is front end =
     rw (front, end, is) (ap (λ l. first_notation byte (next ∷ rest) ++ l) (ends_by byte next rest n j k (omega arith) (omega arith) (omega arith))
     ∙ sym (append_assoc (first_notation byte (next ∷ rest)) (spaced_all Kept byte (take n (next ∷ rest))) (end_notation (get_or (byte ∷ next ∷ rest) j 0) (get_or (byte ∷ next ∷ rest) k 0))))
-
--- no bytes are left
-pub length-spaced_none : (space : Space) (before : ℕ) (xs : List ℕ) (total all : ℕ) → length xs ≡ 0 → total + length (spaced_all space before xs) ≡ all → total ≡ all
-length-spaced_none space before [] total all e counted = rw add-zero at counted
-length-spaced_none space before (x ∷ xs) total all e counted = absurd (omega arith)
-
-pub spaced_none : (space : Space) (before : ℕ) (xs out all : List ℕ) → length xs ≡ 0 → out ++ spaced_all space before xs ≡ all → out ≡ all
-spaced_none space before [] out all e made = sym (append-nil out) ∙ made
-spaced_none space before (x ∷ xs) out all e made = absurd (omega arith)

@@ -64,7 +64,7 @@ plain_read after byte none rest =
 octal_digit-read : (n : ℕ) → n < 8 → is_octal_digit (octal_digit n) ≡ true
 octal_digit-read n small = grind (arith, nat_tests)
 
-octal_value-digits : (byte : ℕ) → byte < 256 → (8 * (8 * (48 + byte / 64 % 8 - 48) + (48 + byte / 8 % 8 - 48)) + (48 + byte % 8 - 48)) % 256 ≡ byte
+octal_value-digits : (byte : ℕ) → byte < 256 → (8 * (8 * (0 + (48 + byte / 64 % 8 - 48)) + (48 + byte / 8 % 8 - 48)) + (48 + byte % 8 - 48)) % 256 ≡ byte
 octal_value-digits byte small = omega arith
 
 octal_read : (after : Bool) (byte : ℕ) → byte < 256 → eqb byte 37 ≡ false → IsReadAs after byte (octal byte)

@@ -35,7 +35,3 @@ read_fault after (char ∷ rest) fault some e = ap (λ meant. one_read (suc (len
 pub with_more : (first : List ℕ) (byte : ℕ) (r : Read) → with_bytes first (with_bytes (byte ∷ []) r) ≡ with_bytes (first ++ byte ∷ []) r
 with_more first byte (Ok bytes) = ap Ok (sym (append_assoc first (byte ∷ []) bytes))
 with_more first byte (Err refused) = refl
-
-pub with_none : (r : Read) → with_bytes [] r ≡ r
-with_none (Ok bytes) = refl
-with_none (Err refused) = refl

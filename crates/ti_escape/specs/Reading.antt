@@ -1,5 +1,5 @@
 -- How terminfo(5) reads the notation of a text.
-use Rattle.std.specs.Prelude.{◌≡◌, ◌+◌, ◌-◌, ◌*◌, ◌%◌, ◌&&◌, ◌==◌, ℕ, zero, suc, Bool, not, false, List, [], ◌∷◌, ◌++◌, codes, drop, find, length, Option, Some, None, option_map, unwrap_or, nat_le, nat_lt, if◌then◌else◌, Result, Ok, Err}
+use Rattle.std.specs.Prelude.{◌≡◌, ◌+◌, ◌-◌, ◌*◌, ◌%◌, ◌&&◌, ◌==◌, ℕ, zero, suc, Bool, not, false, List, [], ◌∷◌, ◌++◌, codes, drop, find, fold, length, Option, Some, None, option_map, unwrap_or, nat_le, nat_lt, if◌then◌else◌, Result, Ok, Err}
 use Rattle.ti_base.specs.Letters.{letter}
 use Rattle.ti_escape.specs.declared.reading.Meant.{Meant}
 use Rattle.ti_escape.specs.declared.reading.NotationFault.{NotationFault}
@@ -21,21 +21,25 @@ abbrev pub first_octal_digit : List ℕ → Option ℕ
 first_octal_digit [] = None
 first_octal_digit (char ∷ rest) = if is_octal_digit char then Some (char - letter (codes "0")) else None
 
+-- a digit before those after it, or no digit
+abbrev pub digit_before : Option ℕ → List ℕ → List ℕ
+digit_before None digits = []
+digit_before (Some digit) digits = digit ∷ digits
+
+-- the values of the octal digits at the front, at most so many
+abbrev pub octal_digits : ℕ → List ℕ → List ℕ
+octal_digits zero text = []
+octal_digits (suc most) text = digit_before (first_octal_digit text) (octal_digits most (drop 1 text))
+
+-- the number that they write
+abbrev pub octal_number : List ℕ → ℕ
+octal_number digits = fold (λ number digit. 8 * number + digit) 0 digits
+
 -- three digits can be more than a byte, which keeps the lowest eight bits
-abbrev pub octal : ℕ → ℕ → Meant
-octal number count = record { byte = number % 256; more = count; percent = false }
-
--- the digits after the first two, and after the first: at most three are read
-abbrev pub third_digit : ℕ → Option ℕ → Meant
-third_digit number None = octal number 2
-third_digit number (Some digit) = octal (8 * number + digit) 3
-
-abbrev pub second_digit : ℕ → Option ℕ → List ℕ → Meant
-second_digit number None rest = octal number 1
-second_digit number (Some digit) rest = third_digit (8 * number + digit) (first_octal_digit rest)
-
-abbrev pub octal_meant : ℕ → List ℕ → Meant
-octal_meant first rest = second_digit first (first_octal_digit rest) (drop 1 rest)
+abbrev pub octal_meant : List ℕ → Option Meant
+octal_meant [] = None
+octal_meant (digit ∷ digits) =
+    Some (record { byte = octal_number (digit ∷ digits) % 256; more = length (digit ∷ digits); percent = false })
 
 -- the letters that mean a byte, each with the byte
 abbrev pub letters : List (ℕ × ℕ)
@@ -54,12 +58,13 @@ abbrev pub lone_character : List ℕ → Result Meant NotationFault
 lone_character [] = Err CutShort
 lone_character (char ∷ rest) = Ok (record { byte = letter_meaning char; more = 1; percent = is_percent char })
 
-abbrev pub number_or_character : Option ℕ → List ℕ → Result Meant NotationFault
-number_or_character (Some first) rest = Ok (octal_meant first (drop 1 rest))
-number_or_character None rest = lone_character rest
+abbrev pub octal_or_character : Option Meant → List ℕ → Result Meant NotationFault
+octal_or_character (Some octal) rest = Ok octal
+octal_or_character None rest = lone_character rest
 
+-- one to three octal digits, or else one character
 abbrev pub after_backslash : List ℕ → Result Meant NotationFault
-after_backslash rest = number_or_character (first_octal_digit rest) rest
+after_backslash rest = octal_or_character (octal_meant (octal_digits 3 rest)) rest
 
 -- ---- after a `^`
 

@@ -1,8 +1,8 @@
 //! A text from its notation, as terminfo(5) has it and `tic` reads it.
 
-ghost use Rattle.std.specs.Prelude.{◌≡◌, ◌≤◌, ◌+◌, ◌<◌, ◌++◌, ℕ, List, Ok, length, take, OnOk, OnErr, IfOk, IfErr};
+ghost use Rattle.std.specs.Prelude.{◌≡◌, ◌≢◌, ◌≤◌, ◌+◌, ◌<◌, ◌++◌, ℕ, List, Ok, Err, length, take, vec_len, vec_capacity, OnOk, OnErr, IfOk, IfErr, IfSome};
 ghost use Rattle.ti_escape.specs.declared.reading.ReadingFault.TheVariants as fault;
-ghost use Rattle.ti_escape.specs.Reading.{IsReadingFault, after_backslash as the_after_backslash, after_caret as the_after_caret, first_octal_digit, letter_meaning as the_letter_meaning, meant_at, octal_meant, reading};
+ghost use Rattle.ti_escape.specs.Reading.{IsReadingFault, after_backslash as the_after_backslash, after_caret as the_after_caret, first_octal_digit, letter_meaning as the_letter_meaning, meant_at, octal_digits, octal_meant, reading};
 
 use std::alloc::{AllocError, Allocator};
 
@@ -60,24 +60,24 @@ fn octal_digit(text: &[u8]) -> Option<u16>
     }
 }
 
-/// What one to three octal digits at the front mean, of which the first is known.
-fn octal(first: u16, rest: &[u8]) -> Meant
-    requires { first < 8 }
-    ensures meant { result ≡ octal_meant first rest.now }
-    ensures within { result.more ≤ length rest.now + 1 }
+/// What one to three octal digits at the front mean, if there is one.
+fn octal(text: &[u8]) -> Option<Meant>
+    ensures meant { result ≡ octal_meant (octal_digits 3 text.now) }
+    ensures within { IfSome result (λ m. m.more ≤ length text.now) }
 {
-    let (number, more) = match octal_digit(rest) {
+    let first = octal_digit(text)?;
+    let (number, more) = match octal_digit(&text[1..]) {
         None => (first, 1),
-        Some(second) => match octal_digit(&rest[1..]) {
+        Some(second) => match octal_digit(&text[2..]) {
             None => (8 * first + second, 2),
             Some(third) => (64 * first + 8 * second + third, 3),
         },
     };
-    Meant {
+    Some(Meant {
         byte: (number % 256) as u8,
         more,
         percent: false,
-    }
+    })
 }
 
 /// The byte that a letter means after a `\`; any other character means itself.
@@ -102,8 +102,8 @@ fn after_backslash(rest: &[u8]) -> Result<Meant, NotationFault>
     ensures meant { result ≡ the_after_backslash rest.now }
     ensures within { IfOk result (λ m. m.more ≤ length rest.now) }
 {
-    if let Some(first) = octal_digit(rest) {
-        return Ok(octal(first, &rest[1..]));
+    if let Some(meant) = octal(rest) {
+        return Ok(meant);
     }
     match rest {
         [] => Err(NotationFault::CutShort),
@@ -157,6 +157,8 @@ fn push_bytes<A: Allocator>(out: &mut Vec<u8, A>, notation: &[u8]) -> Result<(),
         × (out.new.items ≡ out.old.items ++ bytes)) }
     ensures refused { IfErr result (IsReadingFault notation.now) }
     ensures front { take (length out.old.items) out.new.items ≡ out.old.items }
+    ensures room { vec_len out.old + length notation.now ≤ vec_capacity out.old
+        → result ≢ Err fault.Memory }
 {
     let mut left = notation;
     let mut after_percent = false;
@@ -181,7 +183,8 @@ fn push_bytes<A: Allocator>(out: &mut Vec<u8, A>, notation: &[u8]) -> Result<(),
 /// Appends the text that a notation means. All that [`push_notation`](crate::push_notation) and
 /// [`push_label`](crate::push_label) write is read back; so are `\e`, `\n`, `\l`, `\r`, `\t`, `\b`, `\f`, `\a`, one to three
 /// octal digits after a `\`, any other character after a `\` as itself, and a `^` with any printable character (terminfo(5)).
-/// The vector grows as it needs to. After an error it holds what it held.
+/// The vector grows as it needs to. If it has room for as many bytes as the notation has characters, no memory is taken.
+/// After an error it holds what it held.
 ///
 /// # Errors
 ///
@@ -199,6 +202,8 @@ pub fn push_reading<A: Allocator>(out: &mut Vec<u8, A>, notation: &[u8]) -> Resu
         × (out.new.items ≡ out.old.items ++ bytes)) }
     ensures refused { IfErr result (IsReadingFault notation.now) }
     ensures kept { OnErr result (out.new.items ≡ out.old.items) }
+    ensures room { vec_len out.old + length notation.now ≤ vec_capacity out.old
+        → result ≢ Err fault.Memory }
 {
     let start = out.len();
     let read = push_bytes(out, notation);

@@ -1,4 +1,4 @@
-use Rattle.std.proofs.Common.{◌≡◌, ◌<◌, ◌≤◌, ◌-◌, ◌+◌, ◌∙◌, ◌++◌, [], ◌∷◌, Ok, length, take, drop, ap, sym, append_assoc, append-nil, arith}
+use Rattle.std.proofs.Common.{◌≡◌, ◌<◌, ◌≤◌, ◌-◌, ◌+◌, ◌∙◌, ◌++◌, [], ◌∷◌, Ok, length, take, drop, ap, sym, append_assoc, append-nil, arith, vec_len}
 use Rattle.std.proofs.lemmas.Grind.{common_steps}
 use Rattle.std.proofs.lemmas.List.{length-drop, take_all}
 use Rattle.ti_escape.specs.Reading.{placed, read_from, with_bytes}
@@ -14,6 +14,7 @@ characters-preserved g c =
     = take_all (length left - (meant.more + 1)) (drop (meant.more + 1) left) (omega (arith, length-drop (meant.more + 1) left)) in
     let shorter : length (take (length left - (meant.more + 1)) (drop (meant.more + 1) left)) ≤ length c.args.notation.now
     = omega (arith, ap length rest, length-drop (meant.more + 1) left, kept.0) in
+    let longer : vec_len c.push.new.self ≡ vec_len c.characters.out + 1 = grind (arith, common_steps) in
     let grown : c.push.new.self.items ≡ c.characters.out.items ++ meant.byte ∷ [] = grind (arith, common_steps) in (
       shorter,
       (
@@ -23,6 +24,7 @@ characters-preserved g c =
             ∙ with_more kept.1.0 meant.byte (read_from meant.percent 0 (drop (meant.more + 1) left))
             ∙ ap (λ r. with_bytes (kept.1.0 ++ meant.byte ∷ []) (read_from meant.percent 0 r)) (sym rest),
       ),
+      λ room. omega (arith, kept.2 room, longer, c.push.ensures.capacity, ap length rest, length-drop (meant.more + 1) left),
     )
 
 pub returns-in-Err-clause-refused : goal.returns-in-Err-clause-refused
