@@ -705,6 +705,11 @@ static void test_any_view(void) {
 
 /* ---- names and the version */
 
+/* After the bytes there is a NUL, and none is in them, so %s prints them. */
+static int ends_with_nul(ti_bytes text) {
+    return text.bytes[text.length] == 0 && strlen((const char *)text.bytes) == text.length;
+}
+
 static void named(uint32_t kind, size_t index, const char *wanted) {
     ti_bytes name = {NULL, 0};
     uint32_t answer = ti_name(kind, index, &name);
@@ -734,6 +739,18 @@ static void test_names(void) {
     not_named(2, SIZE_MAX, "the greatest index");
     not_named(3, 0, "a kind that is none");
     not_named(UINT32_MAX, 0, "the greatest kind");
+}
+
+static void test_ends_of_names(void) {
+    size_t count = 0, ended = 0;
+    for (uint32_t kind = TI_FLAG; kind <= TI_TEXT; kind++) {
+        ti_bytes name = {NULL, 0};
+        for (size_t i = 0; ti_name(kind, i, &name) == TI_DONE; i++) {
+            count++;
+            ended += ends_with_nul(name) ? 1 : 0;
+        }
+    }
+    expect(count == 44 + 39 + 414 && ended == count, "a NUL stands after each name");
 }
 
 /* ---- the way back: a name's kind and index */
@@ -827,7 +844,7 @@ static void test_words(void) {
         ti_bytes word = {NULL, 0};
         uint32_t answer = ti_word(WORDS[i].number, &word);
         expect(answer == TI_DONE && word.length == strlen(WORDS[i].word)
-                   && memcmp(word.bytes, WORDS[i].word, word.length) == 0,
+                   && memcmp(word.bytes, WORDS[i].word, word.length) == 0 && ends_with_nul(word),
                WORDS[i].word);
     }
     size_t known = 0;
@@ -941,6 +958,7 @@ int main(void) {
     test_view_faults();
     test_any_view();
     test_names();
+    test_ends_of_names();
     test_finding();
     test_words();
     test_padding();

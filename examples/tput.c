@@ -24,7 +24,7 @@ static int fail(int status, const char *what, const char *why) {
 static int refuse(const char *what, uint32_t fault) {
     ti_bytes word = {(const unsigned char *)"", 0};
     ti_word(fault, &word);
-    fprintf(stderr, "tput: %s: %.*s\n", what, (int)word.length, (const char *)word.bytes);
+    fprintf(stderr, "tput: %s: %s\n", what, (const char *)word.bytes);
     return REFUSED;
 }
 

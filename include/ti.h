@@ -114,7 +114,7 @@ enum {
     TI_MOST_PADDED_BYTES = 67108864   /* of a padded text */
 };
 
-/* Bytes that are lent; no NUL ends them. */
+/* Bytes that are lent. No NUL ends them, but for the names of ti_name and the words of ti_word. */
 typedef struct {
     const unsigned char *bytes;
     size_t length;
@@ -299,7 +299,8 @@ uint32_t ti_pad(const unsigned char *text, size_t length, const ti_padding *padd
 
 /* Finds the short name of a flag, a number or a text (TI_FLAG, TI_NUMBER, TI_TEXT) by its index in an entry, among all names
  * of the header term.h of ncurses 6.4, which are 44, 39 and 414: TI_DONE with the name, which lasts as long as the program,
- * or TI_NOT_NAMED, and the name is as it was. ti_name(TI_TEXT, TI_CURSOR_ADDRESS, &name) finds "cup". */
+ * or TI_NOT_NAMED, and the name is as it was. After the bytes of the name there is a NUL, which its length does not count, so
+ * %s prints it. ti_name(TI_TEXT, TI_CURSOR_ADDRESS, &name) finds "cup". */
 uint32_t ti_name(uint32_t kind, size_t index, ti_bytes *name);
 
 /* Finds the kind and the index of the capability with a name among these: TI_DONE with both, as ti_name takes them, or
@@ -308,8 +309,12 @@ uint32_t ti_name(uint32_t kind, size_t index, ti_bytes *name);
 uint32_t ti_find(const unsigned char *name, size_t length, uint32_t *kind, size_t *index);
 
 /* Finds the word of a fault by its number, to be printed: TI_DONE with the word, which lasts as long as the program, or
- * TI_NOT_NAMED, and the word is as it was. The word of TI_STRAY_THEN is "StrayThen". ti(1) prints the same words for 1 to
- * 14, 101 to 113, TI_TEXT_TOO_LONG and TI_TOO_MUCH; the other faults it does not have. */
+ * TI_NOT_NAMED, and the word is as it was. After the word there is a NUL, as after a name of ti_name. The word of
+ * TI_STRAY_THEN is "StrayThen". ti(1) prints the same words for 1 to 14, 101 to 113, TI_TEXT_TOO_LONG and TI_TOO_MUCH; the
+ * other faults it does not have.
+ *
+ *     if (ti_word(fault, &word) == TI_DONE)
+ *         fprintf(stderr, "%s\n", (const char *)word.bytes); */
 uint32_t ti_word(uint32_t number, ti_bytes *word);
 
 /* The version of the library: 65536 times its first number, 256 times its second, and its third. For 0.3.0 it is 768. */

@@ -4,6 +4,7 @@
 
 ghost use Rattle.std.specs.Prelude.{◌≡◌, ◌⊎◌, ℕ, List, map, nat_eq, option_map};
 ghost use Rattle.std.specs.Map.{lookup};
+ghost use Rattle.ti_words.specs.AllNames.{front};
 ghost use Rattle.ti_c.specs.Numbers.{done, not_named};
 ghost use Rattle.ti_c.specs.Words.{IsWord};
 ghost use Rattle.ti_c.specs.inner.WordRows.{row_of, word_rows};
@@ -19,13 +20,21 @@ fn rows() -> &'static [(u32, &'static str)]
     &WORDS
 }
 
+/// A word as the table holds it, without the NUL after it.
+fn front_of(word: &'static str) -> &'static [u8]
+    ensures { result.now ≡ front word.now }
+{
+    let bytes = word.as_bytes();
+    &bytes[..bytes.len().saturating_sub(1)]
+}
+
 /// The word of the fault with a number.
-fn word_of(number: u32) -> Option<&'static str>
+fn word_of(number: u32) -> Option<&'static [u8]>
     ensures { option_map (λ word. word.now) result ≡ lookup (nat_eq number) word_rows }
 {
     for row in rows() {
         if number == row.0 {
-            return Some(row.1);
+            return Some(front_of(row.1));
         }
     }
     None
@@ -43,7 +52,7 @@ pub extern "C" fn ti_word(number: u32, word: &mut Bytes<'static>) -> u32
 {
     match word_of(number) {
         Some(found) => {
-            word.bytes = found.as_bytes();
+            word.bytes = found;
             DONE
         }
         None => NOT_NAMED,

@@ -88,7 +88,7 @@ place_only t differ name place named =
 pub some_is : {X : Type 0} (o : Option X) (P : X → Type 0) (x : X) → IfSome o P → o ≡ Some x → P x
 some_is {X = X} o P x h e = subst (λ (q : Option X). IfSome q P) e h
 
-same : {X : Type 0} (x y : X) → Some x ≡ Some y → x ≡ y
+pub same : {X : Type 0} (x y : X) → Some x ≡ Some y → x ≡ y
 same {X = X} x y e = some_is (Some y) (λ z. x ≡ z) y (subst (λ (q : Option X). IfSome q (λ z. x ≡ z)) e refl) refl
 
 pub one_name : (t : Table) → IndicesDiffer t → (kind : Kind) (index : ℕ) (name other : List ℕ)
@@ -127,7 +127,7 @@ place_only_by t differ name r e place named = e ∙ place_only t differ name pla
 
 -- ---- a name is looked for among the flags, then the numbers, then the texts
 
-none_is_none : {X : Type 0} (x : X) → None ≡ Some x → ⊥
+pub none_is_none : {X : Type 0} (x : X) → None ≡ Some x → ⊥
 none_is_none {X = X} x e = subst (λ (q : Option X). IfSome q (λ z. ⊥)) e tt
 
 lookup_left_by : {X : Type 0} (b : Bool) (x : X) (o q : Option X) (v : X) → cond b (Some x) o ≡ Some v → (o ≡ Some v → q ≡ Some v) → cond b (Some x) q ≡ Some v

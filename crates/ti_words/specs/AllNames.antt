@@ -1,5 +1,5 @@
 -- The three tables of names: the common ones, all of the header term.h of ncurses 6.4, and all long ones.
-use Rattle.std.specs.Prelude.{◌≡◌, ◌↔◌, ℕ, Bool, true, List, ◌++◌, length, map, Option, Some, Contains, nat_eq}
+use Rattle.std.specs.Prelude.{◌≡◌, ◌↔◌, ℕ, ◌-◌, Bool, true, List, [], ◌∷◌, ◌++◌, length, map, take, Option, Some, Contains, nat_eq}
 use Rattle.std.specs.Map.{lookup}
 use Rattle.std.specs.Str.{bytes_eq}
 use Rattle.ti_words.specs.declared.Kind.{Kind}
@@ -24,6 +24,14 @@ abbrev pub listed : NameTable → Kind → List (List ℕ)
 listed tables.Common = all_names
 listed tables.All = all_names
 listed tables.Long = long_names
+
+-- a name as the code's lists hold it, for programs in C: with a NUL after it
+abbrev pub with_nul : List ℕ → List ℕ
+with_nul name = name ++ 0 ∷ []
+
+-- the bytes but the last one
+abbrev pub front : List ℕ → List ℕ
+front bytes = take (length bytes - 1) bytes
 
 -- whether a table has the index of a kind, if a capability has it
 abbrev pub has_index : NameTable → Kind → ℕ → Bool

@@ -1,13 +1,13 @@
 //! The names of capabilities by the table that is asked: the common ones, all of `term.h`, or all long ones.
 //!
 //! There is one list of names, the indices of the common ones, and one list of long names. A name is looked for in its list,
-//! and an index among those of the common ones. No call takes memory.
+//! and an index among those of the common ones. In the lists a NUL stands after each name. No call takes memory.
 
-ghost use Rattle.std.specs.Prelude.{◌≡◌, Some, IfSome, map, option_map};
+ghost use Rattle.std.specs.Prelude.{◌≡◌, ℕ, List, Some, IfSome, map, option_map};
 ghost use Rattle.std.specs.Map.{lookup};
 ghost use Rattle.std.specs.Str.{bytes_eq};
 ghost use Rattle.ti_words.specs.declared.Kind.TheVariants as kinds;
-ghost use Rattle.ti_words.specs.AllNames.{IsNamedIn, IsOnlyNameIn, has_index, listed, name_in, place_in, rows_in};
+ghost use Rattle.ti_words.specs.AllNames.{IsNamedIn, IsOnlyNameIn, front, has_index, listed, name_in, place_in, rows_in, with_nul};
 ghost use Rattle.ti_words.specs.LongNames.{long_names};
 ghost use Rattle.ti_words.specs.NameLists.{all_names, common};
 ghost use Rattle.ti_words.specs.Names.{Place, named_place};
@@ -100,7 +100,7 @@ impl NameTable {
 
     /// The list that holds the names of a kind in the table.
     fn list_of(self, kind: Kind) -> &'static [&'static str]
-        ensures { map (λ name. name.now) result.now ≡ listed self kind }
+        ensures { map (λ name. name.now) result.now ≡ map with_nul (listed self kind) }
     {
         match self {
             NameTable::Common | NameTable::All => names_of(kind),
@@ -115,7 +115,8 @@ impl NameTable {
         if !self.has(kind, index) {
             return None;
         }
-        self.list_of(kind).get(index).copied()
+        let listed = self.list_of(kind).get(index).copied()?;
+        without_nul(listed)
     }
 
     /// The place of the capability of a kind that has a name.
@@ -123,7 +124,7 @@ impl NameTable {
         ensures { result ≡ lookup (bytes_eq name.now) (map (named_place kind) (rows_in self kind)) }
     {
         for (index, known) in self.list_of(kind).iter().enumerate() {
-            if name == known.as_bytes() && self.has(kind, index) {
+            if name == front_of(known) && self.has(kind, index) {
                 return Some((kind, index));
             }
         }
@@ -131,9 +132,25 @@ impl NameTable {
     }
 }
 
+/// A name as a list holds it, without the NUL after it.
+fn without_nul(listed: &'static str) -> Option<&'static str>
+    ensures { (name : List ℕ) → listed.now ≡ with_nul name
+        → option_map (λ name. name.now) result ≡ Some name }
+{
+    listed.strip_suffix('\0')
+}
+
+/// The bytes of a text but the last one.
+fn front_of(text: &str) -> &[u8]
+    ensures { result.now ≡ front text.now }
+{
+    let bytes = text.as_bytes();
+    &bytes[..bytes.len().saturating_sub(1)]
+}
+
 /// All names of a kind.
 fn names_of(kind: Kind) -> &'static [&'static str]
-    ensures { map (λ name. name.now) result.now ≡ all_names kind }
+    ensures { map (λ name. name.now) result.now ≡ map with_nul (all_names kind) }
 {
     match kind {
         Kind::Flag => &ALL_FLAG_NAMES,
@@ -144,7 +161,7 @@ fn names_of(kind: Kind) -> &'static [&'static str]
 
 /// The long names of a kind.
 fn long_names_of(kind: Kind) -> &'static [&'static str]
-    ensures { map (λ name. name.now) result.now ≡ long_names kind }
+    ensures { map (λ name. name.now) result.now ≡ map with_nul (long_names kind) }
 {
     match kind {
         Kind::Flag => &LONG_FLAG_NAMES,

@@ -7,13 +7,14 @@ use Rattle.ti_cap.specs.declared.language.CapFault.TheVariants as capability
 use Rattle.ti_layout.specs.Faults.{fault_word}
 use Rattle.ti_layout.specs.declared.fault.Fault.{Fault}
 use Rattle.ti_layout.specs.declared.fault.Fault.TheVariants as entry
+use Rattle.ti_words.specs.AllNames.{front}
 use Rattle.ti_words.specs.Names.{Row}
 use Rattle.ti_c.specs.Numbers.{capability_number, entry_number}
 use Rattle.ti_c.specs.Words.{other_rows}
 
--- a row of the table in the code
+-- a row of the table in the code, without the NUL after the word
 abbrev pub row_of : ℕ × Bor (List ℕ) → Row
-row_of r = (r.0, r.1.now)
+row_of r = (r.0, front r.1.now)
 
 -- a fault as a row of its number and its word
 abbrev pub entry_row : Fault → Row
