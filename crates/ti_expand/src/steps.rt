@@ -7,14 +7,14 @@ ghost use Rattle.ti_cap.specs.Pass.{next_mode};
 ghost use Rattle.ti_cap.specs.Capability.{IsWellFormed, Takes, IsFirst};
 ghost use Rattle.ti_expand.specs.Meaning.{tests_zero};
 ghost use Rattle.ti_expand.specs.Expands.{IsExpandFault};
-ghost use Rattle.ti_expand.specs.Steps.{step_state, is_run_between, did_of, at_start};
+ghost use Rattle.ti_expand.specs.Steps.{step_state, is_run_between, outcome_of, at_start};
 
 use crate::counts::Run;
 use crate::expansion::check;
 use crate::fault::ExpandFault;
 use crate::machine::Machine;
 use crate::modes::Mode;
-use crate::taken::{Did, Taken};
+use crate::step::{Outcome, Step};
 use crate::values::Value;
 use crate::variables::Vars;
 use std::fmt;
@@ -95,19 +95,19 @@ impl<'r, 'p, 'a> Steps<'r, 'p, 'a> {
     }
 
     /// Takes the next token, or none at the end.
-    pub fn step(&mut self) -> Option<Taken>
+    pub fn step(&mut self) -> Option<Step>
         // none exactly if no bytes are left, and nothing changes
         ensures none { IfNone result ((self.new ≡ self.old) × (self.old.spot.left ≡ [])) }
 
         // else the first of the tokens that are left is taken, and the mode and the state move as in `steps`
-        ensures takes { IfSome result (λ taken. Takes taken.token self.old.spot self.new.spot) }
-        ensures order { IfSome result (λ taken. IsFirst taken.token self.old.spot self.new.spot) }
-        ensures mode { IfSome result (λ taken. self.new.mode
-            ≡ next_mode self.old.mode taken.token (tests_zero self.old.state)) }
-        ensures state { IfSome result (λ taken. self.new.state
-            ≡ step_state self.old.mode taken.token self.old.state) }
-        ensures did { IfSome result (λ taken. taken.did
-            ≡ did_of (is_run_between self.old.mode self.new.mode)) }
+        ensures takes { IfSome result (λ step. Takes step.token self.old.spot self.new.spot) }
+        ensures order { IfSome result (λ step. IsFirst step.token self.old.spot self.new.spot) }
+        ensures mode { IfSome result (λ step. self.new.mode
+            ≡ next_mode self.old.mode step.token (tests_zero self.old.state)) }
+        ensures state { IfSome result (λ step. self.new.state
+            ≡ step_state self.old.mode step.token self.old.state) }
+        ensures outcome { IfSome result (λ step. step.outcome
+            ≡ outcome_of (is_run_between self.old.mode self.new.mode)) }
 
         // and it is counted
         ensures ran { IfSome result (λ _. self.new.ran
@@ -123,23 +123,23 @@ impl<'r, 'p, 'a> Steps<'r, 'p, 'a> {
         if self.mode.is_running() {
             self.mode = self.machine.meet(&token);
             self.ran += 1;
-            return Some(Taken {
+            return Some(Step {
                 token,
-                did: Did::Ran,
+                outcome: Outcome::Ran,
             });
         }
         self.mode = self.mode.next(&token, false);
         if self.mode.is_running() {
             self.ran += 1;
-            return Some(Taken {
+            return Some(Step {
                 token,
-                did: Did::Ran,
+                outcome: Outcome::Ran,
             });
         }
         self.passed += 1;
-        Some(Taken {
+        Some(Step {
             token,
-            did: Did::PassedOver,
+            outcome: Outcome::PassedOver,
         })
     }
 

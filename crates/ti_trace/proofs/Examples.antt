@@ -12,7 +12,7 @@ use Rattle.ti_cap.specs.Pass.{Running}
 use Rattle.ti_escape.specs.declared.form.Form.TheVariants.{Hex, Notation}
 use Rattle.ti_expand.specs.declared.values.Value.{Value}
 use Rattle.ti_expand.specs.declared.values.Value.TheVariants.{Num, Text}
-use Rattle.ti_expand.specs.declared.taken.Did.TheVariants.{Ran, PassedOver}
+use Rattle.ti_expand.specs.declared.step.Outcome.TheVariants.{Ran, PassedOver}
 use Rattle.ti_trace.specs.Columns.{at_left, at_right, header}
 use Rattle.ti_trace.specs.Footer.{footer}
 use Rattle.ti_trace.specs.Items.{item, items}

@@ -4,14 +4,14 @@ ghost use Rattle.std.specs.Prelude.{◌≡◌, ◌++◌, codes, OnOk};
 ghost use Rattle.ti_escape.specs.Notation.{notation};
 ghost use Rattle.ti_trace.specs.Columns.{at_left, token_width, run_width, stack_width};
 ghost use Rattle.ti_trace.specs.Items.{items};
-ghost use Rattle.ti_trace.specs.Lines.{did_word};
+ghost use Rattle.ti_trace.specs.Lines.{outcome_word};
 ghost use Rattle.ti_trace.specs.inner.Rows.{row_line};
 
 use crate::columns::{end_column, push_number};
 use crate::items::push_items;
 use std::alloc::{AllocError, Allocator};
 use ti_escape::{Form, push_notation, push_shown};
-use ti_expand::{Did, Value};
+use ti_expand::{Outcome, Value};
 
 const PLACE_WIDTH: usize = 5;
 
@@ -25,7 +25,7 @@ pub struct Row<'r, 'a> {
     /// Where it starts.
     pub place: usize,
     pub spelling: &'r [u8],
-    pub did: Did,
+    pub outcome: Outcome,
     /// The values after it, the bottom first.
     pub stack: &'r [Value<'a>],
     pub wrote: &'r [u8],
@@ -41,14 +41,14 @@ fn push_token<A: Allocator>(out: &mut Vec<u8, A>, spelling: &[u8]) -> Result<(),
     end_column(out, start, TOKEN_WIDTH)
 }
 
-/// Appends what a token did as a column.
-fn push_did<A: Allocator>(out: &mut Vec<u8, A>, did: Did) -> Result<(), AllocError>
+/// Appends whether a token ran, as a column.
+fn push_outcome<A: Allocator>(out: &mut Vec<u8, A>, outcome: Outcome) -> Result<(), AllocError>
     ensures { OnOk result (out.new.items
-        ≡ out.old.items ++ (at_left run_width (did_word did) ++ codes "\t")) }
+        ≡ out.old.items ++ (at_left run_width (outcome_word outcome) ++ codes "\t")) }
 {
-    match did {
-        Did::Ran => out.extend_from_slice(b"ran    \t"),
-        Did::PassedOver => out.extend_from_slice(b"passed \t"),
+    match outcome {
+        Outcome::Ran => out.extend_from_slice(b"ran    \t"),
+        Outcome::PassedOver => out.extend_from_slice(b"passed \t"),
     }
 }
 
@@ -76,7 +76,7 @@ pub fn push_row<A: Allocator>(
 {
     push_number(out, PLACE_WIDTH, row.place)?;
     push_token(out, row.spelling)?;
-    push_did(out, row.did)?;
+    push_outcome(out, row.outcome)?;
     push_stack(out, form, row.stack)?;
     push_shown(out, form, row.wrote)?;
     out.extend_from_slice(b"\n")

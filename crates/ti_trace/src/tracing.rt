@@ -40,13 +40,13 @@ fn push_next<A: Allocator>(
 {
     let place = steps.at();
     let written = steps.output().len();
-    let Some(taken) = steps.step() else {
+    let Some(step) = steps.step() else {
         return Ok(false);
     };
     let row = Row {
         place,
         spelling: &bytes[place..steps.at()],
-        did: taken.did,
+        outcome: step.outcome,
         stack: steps.stack(),
         wrote: &steps.output()[written..],
     };

@@ -2,7 +2,7 @@
 
 use super::expanded::capability_of;
 use std::test::Fail;
-use ti_expand::{Did, ExpandFault, Run, Steps, Value, Vars};
+use ti_expand::{ExpandFault, Outcome, Run, Steps, Value, Vars};
 use ti_fixtures::capabilities::nine;
 
 /// A conditional, whose otherwise part runs.
@@ -10,14 +10,14 @@ const OTHERWISE: &[u8] = b"%?%p1%t1%e2%;";
 
 /// What became of each token with 0 for the parameter, and then the bytes taken, the values on the stack and what was
 /// written.
-const STEPS: [(Did, usize, usize, &[u8]); 7] = [
-    (Did::Ran, 2, 0, b""),
-    (Did::Ran, 5, 1, b""),
-    (Did::Ran, 7, 0, b""),
-    (Did::PassedOver, 8, 0, b""),
-    (Did::Ran, 10, 0, b""),
-    (Did::Ran, 11, 0, b"2"),
-    (Did::Ran, 13, 0, b"2"),
+const STEPS: [(Outcome, usize, usize, &[u8]); 7] = [
+    (Outcome::Ran, 2, 0, b""),
+    (Outcome::Ran, 5, 1, b""),
+    (Outcome::Ran, 7, 0, b""),
+    (Outcome::PassedOver, 8, 0, b""),
+    (Outcome::Ran, 10, 0, b""),
+    (Outcome::Ran, 11, 0, b"2"),
+    (Outcome::Ran, 13, 0, b"2"),
 ];
 
 #[test]
@@ -26,9 +26,9 @@ fn a_pass_stops_after_each_token(rt: HostRuntime) -> Result<(), Fail> {
     let parameters = nine(&[]);
     let (mut vars, mut stack, mut out) = (Vars::new(), [Value::Num(0); 1], [0u8; 1]);
     let mut steps = Steps::new(&capability, &parameters, &mut vars, &mut stack, &mut out)?;
-    for (did, at, values, output) in STEPS {
-        let taken = steps.step().ok_or("no token")?;
-        assert_that!(rt; taken.did == did);
+    for (outcome, at, values, output) in STEPS {
+        let step = steps.step().ok_or("no token")?;
+        assert_that!(rt; step.outcome == outcome);
         assert_that!(rt; steps.at() == at);
         assert_that!(rt; steps.stack().len() == values);
         assert_that!(rt; steps.output() == output);

@@ -9,7 +9,7 @@ use Rattle.ti_trace.specs.Footer.{Totals}
 -- the line of a row
 abbrev pub row_line : Form → Row → List ℕ
 row_line form row =
-    token_line form row.place row.spelling.now row.did row.stack.now row.wrote.now
+    token_line form row.place row.spelling.now row.outcome row.stack.now row.wrote.now
 
 -- the totals that facts tell
 abbrev pub totals_of : Facts → Totals

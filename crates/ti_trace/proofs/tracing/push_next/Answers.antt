@@ -5,5 +5,5 @@ use Rattle.ti_trace.proofs.tracing.push_next.Goals as goal
 pub returns-clause-lines : goal.returns-clause-lines
 returns-clause-lines g c =
     let step = c.in-Some.ensures in
-    row_goes_on c.args.form c.args.bytes.now c.args.out.now.items c.push_row.new.out.items c.args.steps.now c.step.new.self c.in-Some.taken.token c.at-place.result c.at.result (length c.output-written.result.now) c.in-Some.taken.did c.stack.result.now c.output.result.now
-    c.requires step.takes step.mode step.state step.ran step.passed step.peak step.did c.at-place.ensures c.at.ensures c.stack.ensures (ap length c.output-written.ensures) c.output.ensures c.in_ok-push_row.ensures
+    row_goes_on c.args.form c.args.bytes.now c.args.out.now.items c.push_row.new.out.items c.args.steps.now c.step.new.self c.in-Some.step.token c.at-place.result c.at.result (length c.output-written.result.now) c.in-Some.step.outcome c.stack.result.now c.output.result.now
+    c.requires step.takes step.mode step.state step.ran step.passed step.peak step.outcome c.at-place.ensures c.at.ensures c.stack.ensures (ap length c.output-written.ensures) c.output.ensures c.in_ok-push_row.ensures

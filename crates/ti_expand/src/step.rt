@@ -4,18 +4,18 @@ use ti_cap::Token;
 
 /// Whether a token ran.
 #[derive(Clone, Copy, PartialEq, Eq, Debug)]
-pub enum Did {
+pub enum Outcome {
     /// It was met while tokens run, or ended a passing over.
     Ran,
     /// It was passed over.
     PassedOver,
 }
 
-/// A token that was taken.
+/// A step of a pass: the token that was taken, and whether it ran.
 #[derive(Clone, Copy, PartialEq, Eq, Debug)]
-pub struct Taken {
+pub struct Step {
     /// The token.
     pub token: Token,
-    /// What became of it.
-    pub did: Did,
+    /// Whether it ran.
+    pub outcome: Outcome,
 }
