@@ -1,9 +1,8 @@
 -- A padded text in a slice, stretch by stretch.
-use Rattle.std.proofs.Common.{◌≡◌, ◌∙◌, ◌+◌, ◌≤◌, ℕ, List, [], ◌++◌, ap, sym, length, drop, take, arith, append-nil, append_assoc, length-append, length-drop}
-use Rattle.std.proofs.lemmas.List.{drop-drop, drop_at, length-take-le, take-append-drop, take_at}
+use Rattle.std.proofs.Common.{◌≡◌, ◌∙◌, ◌+◌, ◌≤◌, ℕ, List, ◌++◌, ap, sym, length, drop, take, arith, append_assoc, length-append}
+use Rattle.std.proofs.lemmas.List.{drop-drop, length-take-le, take-append-drop}
 use Rattle.ti_pad.specs.Padded.{padded_text}
 use Rattle.ti_pad.specs.Setting.{Setting}
-use Rattle.ti_pad.proofs.AppendsLemmas.{no_bytes}
 use Rattle.ti_pad.proofs.PaddedTextLemmas.{padded_text_none}
 
 -- the next stretch of a text that has room has room
@@ -28,17 +27,3 @@ put-whole rest out before text s at none within made kept =
     let whole : take at out ≡ text = padded_text_none rest (take at out) text s none made in
     let is : length text ≡ at = ap length (sym whole) ∙ length-take-le at out within in
     sym (take-append-drop at out) ∙ ap (λ l. l ++ drop at out) whole ∙ ap (λ l. text ++ l) (kept ∙ ap (λ n. drop n before) (sym is))
-
-drop-nothing : (xs : List ℕ) (n : ℕ) → length xs ≡ n → drop n xs ≡ []
-drop-nothing xs n e = no_bytes (drop n xs) (omega (arith, length-drop n xs))
-
--- a text that fills the slice
-pub put-all : (out before text : List ℕ) → out ≡ text ++ drop (length text) before → length before ≡ length text → out ≡ text
-put-all out before text put same = put ∙ ap (λ l. text ++ l) (drop-nothing before (length text) same) ∙ append-nil text
-
--- the front and the rest of such a slice
-pub put-front : (out before text : List ℕ) (n : ℕ) → n ≡ length text → out ≡ text ++ drop (length text) before → take n out ≡ text
-put-front out before text n is put = ap (take n) put ∙ take_at text (drop (length text) before) n (sym is)
-
-pub put-rest : (out before text : List ℕ) (n : ℕ) → n ≡ length text → out ≡ text ++ drop (length text) before → drop n out ≡ drop n before
-put-rest out before text n is put = ap (drop n) put ∙ drop_at text (drop (length text) before) n (sym is) ∙ ap (λ k. drop k before) (sym is)

@@ -14,9 +14,6 @@ starts bytes front e =
     let same : take (length front) bytes ≡ front = (bytes_eq-Decides (take (length front) bytes) front).0 e in
     sym (take-append-drop (length front) bytes) ∙ ap (λ l. l ++ drop (length front) bytes) same
 
-pub starts_with-append : (front rest : List ℕ) → starts_with (front ++ rest) front ≡ true
-starts_with-append front rest = (bytes_eq-Decides (take (length front) (front ++ rest)) front).1 (take_at front rest (length front) refl)
-
 -- the longest run ends where its first byte does not belong
 pub prefix_len-run : (p : ℕ → Bool) (run rest : List ℕ) → list_all p run ≡ true → prefix_len p rest ≡ 0 → prefix_len p (run ++ rest) ≡ length run
 prefix_len-run p [] rest all e = e

@@ -85,7 +85,7 @@ mark_at bytes = if starts_with bytes (codes "$<") then mark_after_front (drop 2 
 
 -- ---- a text in pieces
 
--- a byte that stands for itself, or a mark
+-- a byte that means itself, or a mark
 pub data Piece : Type 0 where
   literal : ℕ → Piece
   marked : Mark → Piece

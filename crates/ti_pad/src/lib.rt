@@ -1,7 +1,7 @@
 //! Writing the bytes for a terminal to the end, with the padding of their marks.
 //!
 //! A padding mark of terminfo(5) is a delay such as `$<5>`, `$<2.5*>` or `$<10/>`. It is replaced by as many pad bytes
-//! as take its time on the line. What is written is told exactly: all the bytes, or the first so many of them if the
+//! as take its time on the line. What was written is reported exactly: all the bytes, or the first so many of them if the
 //! writer stopped. The time is linear in the bytes that are read and written. Only [`pad`] takes memory.
 #![tactic(auto)]
 

@@ -81,9 +81,9 @@ NameAndPlaceAgreeIn table =
     (kind : Kind) (index : ℕ) (name : List ℕ)
     → (name_in table kind index ≡ Some name) ↔ (place_in table name ≡ Some (kind, index))
 
--- the table Common is the one that the functions without a table ask
-abbrev pub CommonAnswersAlike : Type 0
-CommonAnswersAlike =
+-- the functions without a table return what the table Common has
+abbrev pub CommonCallsAgree : Type 0
+CommonCallsAgree =
     ((kind : Kind) (index : ℕ) → name_in tables.Common kind index ≡ name_of kind index)
     × ((name : List ℕ) → place_in tables.Common name ≡ place_of name)
 

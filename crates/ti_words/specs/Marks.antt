@@ -1,4 +1,4 @@
--- What bytes and words stand for (term(5)).
+-- What bytes and words mean (term(5)).
 use Rattle.std.specs.Prelude.{ℕ, zero, suc, ℤ, pos, negsuc, ◌==◌, if◌then◌else◌, Option, Some, None}
 use Rattle.ti_words.specs.declared.Flag.{Flag}
 use Rattle.ti_words.specs.declared.Flag.TheVariants as flags
@@ -33,7 +33,7 @@ number_of_word (negsuc zero) = Some numbers.Absent
 number_of_word (negsuc (suc zero)) = Some numbers.Cancelled
 number_of_word (negsuc (suc (suc n))) = None
 
--- a number whose word stands for it again: a value is not negative
+-- a number whose word means it again: a value is not negative
 abbrev pub HasWord : Number → Type 0
 HasWord numbers.Absent = Unit {0}
 HasWord numbers.Cancelled = Unit {0}

@@ -22,7 +22,7 @@ HasNoNul bytes = AllByRecursion (λ b. b ≢ 0) bytes
 pub record Has (xs : List ℕ) (place : ℕ) (ys : List ℕ) : Type 0 where
   pub found : take (length ys) (drop place xs) ≡ ys
 
--- a number that a word of this width stands for
+-- a number that a word of this width means
 abbrev pub FitsWidth : Width → Number → Type 0
 FitsWidth w numbers.Absent = Unit {0}
 FitsWidth w numbers.Cancelled = Unit {0}

@@ -1,4 +1,4 @@
-//! The names of capabilities by the table that is asked: the common ones, all of `term.h`, or all long ones.
+//! The names of capabilities in three tables: the common ones, all of `term.h`, and all long ones.
 //!
 //! There is one list of names, the indices of the common ones, and one list of long names. A name is looked for in its list,
 //! and an index among those of the common ones. In the lists a NUL stands after each name. No call takes memory.

@@ -1,6 +1,6 @@
 //! Laws of the tables of names, each proved and with nothing to run.
 
-ghost use Rattle.ti_words.specs.AllNames.{CommonAnswersAlike, EachHasALongName, HasOneNameIn, HasOnePlaceIn, NameAndPlaceAgreeIn, TablesAgree};
+ghost use Rattle.ti_words.specs.AllNames.{CommonCallsAgree, EachHasALongName, HasOneNameIn, HasOnePlaceIn, NameAndPlaceAgreeIn, TablesAgree};
 ghost use Rattle.ti_words.specs.Names.{HasOneName, HasOnePlace, NameAndPlaceAgree};
 ghost use Rattle.ti_words.specs.declared.all_names.NameTable.TheVariants as tables;
 
@@ -27,10 +27,10 @@ pub fn long_names_stand_once()
     ensures inverse { NameAndPlaceAgreeIn tables.Long }
 {}
 
-/// The table of common names is the one of the calls that ask no table, and a common name means the same kind and
-/// index among all names. A capability has a long name exactly if it has a short one.
+/// The calls without a table use the table of common names, and a common name means the same kind and index among all
+/// names. A capability has a long name exactly if it has a short one.
 pub fn tables_agree()
-    ensures common { CommonAnswersAlike }
+    ensures common { CommonCallsAgree }
     ensures all { TablesAgree }
     ensures long { EachHasALongName }
 {}

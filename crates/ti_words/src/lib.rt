@@ -22,7 +22,7 @@ pub use names::{find, flag_name, number_name, text_name};
 /// A flag of an entry (a boolean capability of terminfo(5)).
 #[derive(Clone, Copy, Debug, PartialEq, Eq)]
 pub enum Flag {
-    /// The terminal has it not, or the entry says nothing of it.
+    /// The terminal does not have it, or the entry says nothing of it.
     No,
     /// The terminal has it.
     Yes,

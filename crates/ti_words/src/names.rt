@@ -1,5 +1,5 @@
-//! The common names of capabilities by index: a name and its kind and index determine each other. Each call is that of
-//! [`NameTable::Common`].
+//! The common names of capabilities by index: a name and its kind and index determine each other. Each call does what the
+//! same call of [`NameTable::Common`] does.
 
 ghost use Rattle.std.specs.Prelude.{◌≡◌, Some, IfSome, option_map};
 ghost use Rattle.ti_words.specs.declared.Kind.TheVariants as kinds;
