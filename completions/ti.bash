@@ -56,15 +56,15 @@ _ti() {
         [\<\>]*) return ;;
     esac
     case $(_ti_command) in
-        '') words='cap trace show check expand convert get help --help --version' ;;
+        '') words='show check get expand convert cap trace help --help --version' ;;
         cap) words='--hex --escape --help' ;;
         trace) words='--escape --help' ;;
         show) words='--escape --all-names --help' ;;
         check) words='--escape --all-names --help' ;;
         expand) words="--hex --escape --all-names --rate --lines --xon --help $_ti_texts" ;;
-        convert) words='--wide --narrow --help' ;;
+        convert) words='--wide --narrow --force --help' ;;
         get) words="--hex --escape --rate --lines --xon --help $_ti_names" ;;
-        help) words='cap trace show check expand convert get' ;;
+        help) words='show check get expand convert cap trace' ;;
         *) return ;;
     esac
     mapfile -t COMPREPLY < <(compgen -W "$words" -- "$word")

@@ -1,14 +1,14 @@
 # Completes the words of ti in fish.
 complete -c ti -f
-complete -c ti -n __fish_use_subcommand -a cap -d 'Expand standard input as one capability'
-complete -c ti -n __fish_use_subcommand -a trace -d 'Show what one capability does, token by token'
-complete -c ti -n __fish_use_subcommand -a show -d 'List the compiled entry on standard input'
-complete -c ti -n __fish_use_subcommand -a check -d 'Analyse each text of the entry on standard input'
-complete -c ti -n __fish_use_subcommand -a expand -d 'Expand and pad one text of the entry on standard input'
-complete -c ti -n __fish_use_subcommand -a convert -d 'Write the entry on standard input in its canonical layout'
-complete -c ti -n __fish_use_subcommand -a get -d 'Write the value of one capability of the entry on standard input'
+complete -c ti -n __fish_use_subcommand -a show -d 'List an entry, one line an item'
+complete -c ti -n __fish_use_subcommand -a check -d 'Analyse each text of an entry'
+complete -c ti -n __fish_use_subcommand -a get -d 'Write the value of one capability of an entry'
+complete -c ti -n __fish_use_subcommand -a expand -d 'Expand and pad one text of an entry'
+complete -c ti -n __fish_use_subcommand -a convert -d 'Write an entry in its canonical layout'
+complete -c ti -n __fish_use_subcommand -a cap -d 'Expand one capability'
+complete -c ti -n __fish_use_subcommand -a trace -d 'Show what each token of one capability does'
 complete -c ti -n __fish_use_subcommand -a help -d 'Print what a command does'
-complete -c ti -n '__fish_seen_subcommand_from help' -a 'cap trace show check expand convert get'
+complete -c ti -n '__fish_seen_subcommand_from help' -a 'show check get expand convert cap trace'
 complete -c ti -n __fish_use_subcommand -l version -d 'Print the version'
 complete -c ti -l help -d 'Print help'
 complete -c ti -n '__fish_seen_subcommand_from cap expand get' -l hex -d 'Write lower-case hex and one newline'
@@ -19,6 +19,7 @@ complete -c ti -n '__fish_seen_subcommand_from expand get' -l lines -x -d 'Lines
 complete -c ti -n '__fish_seen_subcommand_from expand get' -l xon -d 'The line has flow control'
 complete -c ti -n '__fish_seen_subcommand_from convert' -l wide -d 'Numbers of 32 bits'
 complete -c ti -n '__fish_seen_subcommand_from convert' -l narrow -d 'Numbers of 16 bits'
+complete -c ti -n '__fish_seen_subcommand_from convert' -l force -d 'Write to a terminal too'
 # The short names of terminfo(5) that expand knows without --all-names, and those that get knows.
 set -g __ti_texts \
     cbt bel cr csr tbc clear el ed hpa cup cud1 home civis cub1 cnorm cuf1 cuu1 cvvis dch1 dl1 smacs blink bold \

@@ -3,7 +3,11 @@
 //! Its words and the three standard streams go to `ti_tool`'s `run_at`, whose result is the exit status.
 #![tactic(auto)]
 
+mod streams;
+
+use crate::streams::{Errors, Input, Output};
 use std::alloc::AllocError;
+use std::cell::Cell;
 use std::io;
 use std::io::{ErrorKind, IsTerminal};
 use std::process::ExitCode;
@@ -25,20 +29,31 @@ fn status(rt: &HostRuntime) -> io::Result<u8> {
     for word in &words {
         texts.push(word.as_str())?;
     }
-    let (mut input, mut output, mut errors) = (rt.stdin(), rt.stdout(), rt.stderr());
+    let (stdin, stdout, stderr) = (rt.stdin(), rt.stdout(), rt.stderr());
     let at = Terminals {
-        input: input.is_terminal(),
-        output: output.is_terminal(),
-        errors: errors.is_terminal(),
+        input: stdin.is_terminal(),
+        output: stdout.is_terminal(),
+        errors: stderr.is_terminal(),
     };
+    let is_closed = Cell::new(false);
     Ok(run_at(
         rt.alloc(),
         rt.alloc(),
         at,
         texts.as_slice(),
-        &mut input,
-        &mut output,
-        &mut errors,
+        &mut Input {
+            stdin,
+            stderr,
+            is_silent: at.input,
+        },
+        &mut Output {
+            stdout,
+            is_closed: &is_closed,
+        },
+        &mut Errors {
+            stderr,
+            is_closed: &is_closed,
+        },
     ))
 }
 

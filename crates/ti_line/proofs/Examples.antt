@@ -30,12 +30,12 @@ unfolding clap_on_literals
 names_row = (refl, refl)
 
 -- `ti convert --wide`
-wide_row : Reads (codes "ti" ∷ codes "convert" ∷ codes "--wide" ∷ []) (Convert true false)
+wide_row : Reads (codes "ti" ∷ codes "convert" ∷ codes "--wide" ∷ []) (Convert true false false)
 unfolding clap_on_literals
 wide_row = (refl, refl)
 
 -- `ti convert --narrow --wide`
-both_row : Reads (codes "ti" ∷ codes "convert" ∷ codes "--narrow" ∷ codes "--wide" ∷ []) (Convert true true)
+both_row : Reads (codes "ti" ∷ codes "convert" ∷ codes "--narrow" ∷ codes "--wide" ∷ []) (Convert true true false)
 unfolding clap_on_literals
 both_row = (refl, refl)
 

@@ -346,15 +346,15 @@ all_ask p past = (
   (
     λ t e. (_, refl),
     (
-      λ t e. (_, refl),
+      λ t e. get_line p.1 e,
       (
-        λ t e. (_, refl),
+        λ t e. expand_line p.1 e,
         (
-          λ t e. expand_line p.1 e,
+          λ t e. (_, refl),
           (
             λ t e. (_, refl),
             (
-              λ t e. get_line p.1 e,
+              λ t e. (_, refl),
               (λ t e. absurd (help t), tt),
             ),
           ),

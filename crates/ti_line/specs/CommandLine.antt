@@ -96,9 +96,11 @@ expand_app =
     (name_rule ∷ hex_rule ∷ escape_rule ∷ all_names_rule ∷ rate_rule ∷ lines_rule ∷ flag_rule (codes "xon")
     ∷ params_rule ∷ [])
 
--- `convert [--wide] [--narrow]`
+-- `convert [--wide] [--narrow] [--force]`
 abbrev pub convert_app : App
-convert_app = with_rules (new_app (codes "convert")) (flag_rule (codes "wide") ∷ flag_rule (codes "narrow") ∷ [])
+convert_app =
+    with_rules (new_app (codes "convert"))
+    (flag_rule (codes "wide") ∷ flag_rule (codes "narrow") ∷ flag_rule (codes "force") ∷ [])
 
 -- `get NAME [--hex] [--escape] [--rate N] [--lines N] [--xon] [PARAM..]`
 abbrev pub get_app : App
@@ -115,7 +117,7 @@ start_app =
 abbrev pub ti_app : App
 ti_app =
     with_commands start_app
-    (cap_app ∷ trace_app ∷ show_app ∷ check_app ∷ expand_app ∷ convert_app ∷ get_app ∷ [])
+    (show_app ∷ check_app ∷ get_app ∷ expand_app ∷ convert_app ∷ cap_app ∷ trace_app ∷ [])
 
 -- ---- the values that `clap` found
 
@@ -149,7 +151,7 @@ pub data Line : Type 0 where
   Check : (escape all_names : Bool) → Line
   Expand : (name : Text) → (hex escape all_names : Bool) → (rate lines : ℕ) → (xon : Bool)
       → (params : List Text) → Line
-  Convert : (wide narrow : Bool) → Line
+  Convert : (wide narrow force : Bool) → Line
   Get : (name : Text) → (hex escape : Bool) → (rate lines : ℕ) → (xon : Bool)
       → (params : List Text) → Line
 
@@ -187,7 +189,8 @@ line_by command rows =
     else (if bytes_eq command (codes "expand")
     then option_and_then (expand_by rows) (first_of (codes "NAME") rows)
     else (if bytes_eq command (codes "convert")
-    then Some (Convert (flag_in (codes "wide") rows) (flag_in (codes "narrow") rows))
+    then Some (Convert (flag_in (codes "wide") rows) (flag_in (codes "narrow") rows)
+    (flag_in (codes "force") rows))
     else (if bytes_eq command (codes "get")
     then option_and_then (get_by rows) (first_of (codes "NAME") rows)
     else None))))))

@@ -31,7 +31,7 @@ IsWithin (Show escape all_names) = Unit {0}
 IsWithin (Check escape all_names) = Unit {0}
 IsWithin (Expand name hex escape all_names rate lines xon params) =
     (rate ≤ greatest_rate) × (lines ≤ most_lines)
-IsWithin (Convert wide narrow) = Unit {0}
+IsWithin (Convert wide narrow force) = Unit {0}
 IsWithin (Get name hex escape rate lines xon params) =
     (rate ≤ greatest_rate) × (lines ≤ most_lines)
 

@@ -1,5 +1,5 @@
 -- What a line asks for, or why that can't be done, and what an answer tells of the words.
-use Rattle.std.specs.Prelude.{◌≡◌, ◌<◌, ◌&&◌, ℕ, Bool, true, false, List, Option, Some, None, Result, Ok, Err, length, map}
+use Rattle.std.specs.Prelude.{◌≡◌, ◌<◌, ◌&&◌, ℕ, Bool, true, false, not, List, Option, Some, None, Result, Ok, Err, length, map}
 use Rattle.std.specs.Borrow.{Bor}
 use Rattle.clap.specs.Words.{Text}
 use Rattle.ti_words.specs.declared.Width.{Width}
@@ -47,7 +47,8 @@ abbrev pub GiveNone : List Text → WordFault → Type 0
 GiveNone words why = IsWordFault IsGiven words why × ((params : List Param) → ¬ AreGiven words params)
 
 -- what a line asks for, by whether results go to a terminal; of two flags that exclude each other at
--- most one is given, and the words of the parameters stand for them
+-- most one is given, the words of the parameters stand for them, and an entry goes to a terminal only
+-- by force
 abbrev pub Asks : Bool → Line → Request → Type 0
 Asks terminal (Cap hex escape words) r =
     (hex && escape ≡ false) × AreParams words r.parameters
@@ -63,8 +64,8 @@ Asks terminal (Expand name hex escape all_names rate lines xon words) r =
     × ((e : code.Expand) × (r.asked ≡ Entry (of_entry.Expand e))
     × (e.name.name.now ≡ name) × (e.name.names ≡ names_asked all_names)
     × (e.padding ≡ setting_of rate lines xon) × (e.output ≡ output_asked hex escape))
-Asks terminal (Convert wide narrow) r =
-    (wide && narrow ≡ false)
+Asks terminal (Convert wide narrow force) r =
+    (wide && narrow ≡ false) × (terminal && not force ≡ false)
     × (r.asked ≡ Entry (of_entry.Convert (width_asked wide narrow)))
 Asks terminal (Get name hex escape rate lines xon words) r =
     (hex && escape ≡ false)
@@ -72,39 +73,43 @@ Asks terminal (Get name hex escape rate lines xon words) r =
     × IsGivenBy words g.given × (g.padding ≡ setting_of rate lines xon)
     × (g.output ≡ output_asked hex escape))
 
--- why that can't be done: both of two such flags are given, or else the words stand for no parameters
-abbrev pub HasFault : Line → LineFault → Type 0
-HasFault (Cap hex escape words) fault.BothFormsOfCap = hex && escape ≡ true
-HasFault (Cap hex escape words) (fault.Words why) =
+-- why that can't be done: both of two such flags are given, or else the words stand for no parameters,
+-- or an entry would go to a terminal
+abbrev pub HasFault : Bool → Line → LineFault → Type 0
+HasFault terminal (Cap hex escape words) fault.BothFormsOfCap = hex && escape ≡ true
+HasFault terminal (Cap hex escape words) (fault.Words why) =
     (hex && escape ≡ false) × StandForNone words why
-HasFault (Trace escape words) (fault.Words why) = StandForNone words why
-HasFault (Expand name hex escape all_names rate lines xon words) fault.BothFormsOfExpand =
+HasFault terminal (Trace escape words) (fault.Words why) = StandForNone words why
+HasFault terminal (Expand name hex escape all_names rate lines xon words) fault.BothFormsOfExpand =
     hex && escape ≡ true
-HasFault (Expand name hex escape all_names rate lines xon words) (fault.Words why) =
+HasFault terminal (Expand name hex escape all_names rate lines xon words) (fault.Words why) =
     (hex && escape ≡ false) × StandForNone words why
-HasFault (Convert wide narrow) fault.BothWidths = wide && narrow ≡ true
-HasFault (Get name hex escape rate lines xon words) fault.BothFormsOfGet = hex && escape ≡ true
-HasFault (Get name hex escape rate lines xon words) (fault.Words why) =
+HasFault terminal (Convert wide narrow force) fault.BothWidths = wide && narrow ≡ true
+HasFault terminal (Convert wide narrow force) fault.ToTerminal =
+    (wide && narrow ≡ false) × (terminal && not force ≡ true)
+HasFault terminal (Get name hex escape rate lines xon words) fault.BothFormsOfGet = hex && escape ≡ true
+HasFault terminal (Get name hex escape rate lines xon words) (fault.Words why) =
     (hex && escape ≡ false) × GiveNone words why
-HasFault _ _ = ⊥
+HasFault _ _ _ = ⊥
 
 -- a line is answered with what it asks for, or with its fault
 abbrev pub IsAnswered : Bool → Line → Result Request LineFault → Type 0
 IsAnswered terminal line (Ok request) = Asks terminal line request
-IsAnswered terminal line (Err why) = HasFault line why
+IsAnswered terminal line (Err why) = HasFault terminal line why
 
 -- and words that are read as it the same way, or with out of memory
 abbrev pub IsReadAs : Bool → Line → Result Request NoLine → Type 0
 IsReadAs terminal line (Ok request) = Asks terminal line request
-IsReadAs terminal line (Err (no_line.Fault why)) = HasFault line why
+IsReadAs terminal line (Err (no_line.Fault why)) = HasFault terminal line why
 IsReadAs terminal line (Err why) = why ≡ no_line.Memory
 
 -- why the words give no request; out of memory says nothing of them
-abbrev pub Explains : List Text → NoLine → Type 0
-Explains words (no_line.Help message) = AsksForHelp words
-Explains words (no_line.Refused message) = IsRefused words
-Explains words (no_line.Fault why) = (line : Line) × Reads words line × HasFault line why
-Explains words no_line.Memory = Unit {0}
+abbrev pub Explains : Bool → List Text → NoLine → Type 0
+Explains terminal words (no_line.Help message) = AsksForHelp words
+Explains terminal words (no_line.Refused message) = IsRefused words
+Explains terminal words (no_line.Fault why) =
+    (line : Line) × Reads words line × HasFault terminal line why
+Explains terminal words no_line.Memory = Unit {0}
 
 -- what is said of the words is not empty
 abbrev pub HasText : NoLine → Type 0

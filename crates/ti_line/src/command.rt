@@ -67,11 +67,13 @@ fn params<'a>(alloc: Global, help: &'a str) -> Arg<'a>
         .help(help)
 }
 
-const PARAMS: &str =
-    "n:NUMBER (-2147483648 to 2147483647) or s:TEXT; at most nine, missing ones are the number 0";
+// A line of a help text has at most 58 characters, so that help fits into 80 columns.
 
-const ANY_PARAMS: &str =
-    "A number or a text, as n:NUMBER or s:TEXT or as the text takes it; with none it is only padded";
+const PARAMS: &str = "n:NUMBER (-2147483648 to 2147483647) or s:TEXT;
+at most nine, missing ones are the number 0";
+
+const ANY_PARAMS: &str = "A number or a text: n:NUMBER, s:TEXT, or the word alone,
+which is what the text takes; with none it is only padded";
 
 /// The argument of a name, with what help says of it.
 fn name<'a>(alloc: Global, help: &'a str) -> Arg<'a>
@@ -81,37 +83,49 @@ fn name<'a>(alloc: Global, help: &'a str) -> Arg<'a>
     Arg::new(alloc, "NAME").required(true).help(help)
 }
 
-const TEXT_NAME: &str =
-    "The text: # and its index, as #10, or its name, as cup, or an extended text's name";
+const TEXT_NAME: &str = "The text: # and its index, such as #10, or its name,
+such as cup, or the name of an extended text";
 
-const ANY_NAME: &str =
-    "The capability: a name, as cup, cursor_address or an extended one, or flag#N, number#N or text#N";
+const ANY_NAME: &str = "The capability: a name, such as cup, cursor_address or
+an extended one, or flag#N, number#N or text#N";
 
 const HEX: &str = "Write the output as lower-case hex and one newline";
 
-const ESCAPE: &str = "Write names, texts and outputs in the notation of terminfo(5), such as \\E[H";
+const ESCAPE: &str = "Write names, texts and outputs in the notation of
+terminfo(5), such as \\E[H";
 
-const ALL_NAMES: &str = "Use the names of all 497 capabilities, in place of the 114 common ones";
+const ALL_NAMES: &str = "Use the names of all 497 capabilities, in place of
+the 114 common ones";
 
-const RATE: &str =
-    "Bytes per second of the line, 0 to 1000000; without it 0, at which padding takes no byte";
+const RATE: &str = "Bytes per second of the line, 0 to 1000000; default 0,
+at which padding takes no byte";
 
-const LINES: &str =
-    "Lines that the text affects, 0 to 65535, by which padding with * is multiplied; without it 1";
+const LINES: &str = "Lines that the text affects, 0 to 65535, by which
+padding with * is multiplied; default 1";
 
-const XON: &str = "The line has flow control: write only padding that is mandatory (marked by /)";
+const XON: &str = "The line has flow control: write only padding that is
+mandatory (marked by /)";
 
 const WIDE: &str = "Write the format with numbers of 32 bits";
 
-const NARROW: &str =
-    "Write the format with numbers of 16 bits, which are at most 32767; not with --wide";
+const NARROW: &str = "Write the format with numbers of 16 bits, which are
+at most 32767; not with --wide";
 
-/// A command with its name, a line on what it does, and what its long help has at its end.
-fn new_command<'a>(alloc: Global, name: &'a str, about: &'a str, example: &'a str) -> Command<'a>
+const FORCE: &str = "Write the entry to a terminal too";
+
+/// A command with its name, its usage, a line on what it does, and what its long help has at its end.
+fn new_command<'a>(
+    alloc: Global,
+    name: &'a str,
+    usage: &'a str,
+    about: &'a str,
+    example: &'a str,
+) -> Command<'a>
     ensures shape { app_of result ≡ new_app name.entry.now }
     ensures local { HasNoGlobals result }
 {
     Command::new(alloc, name)
+        .override_usage(usage)
         .about(about)
         .after_long_help(example)
 }
@@ -131,32 +145,6 @@ fn with_two<'a>(
     command.arg(first)?.arg(second)
 }
 
-fn cap<'a>(alloc: Global) -> Result<Command<'a>, AllocError>
-    ensures shape { IfOk result (λ c. app_of c ≡ cap_app) }
-    ensures local { IfOk result HasNoGlobals }
-{
-    let command = new_command(
-        alloc,
-        "cap",
-        "Expand standard input as one capability; padding marks stay as they are",
-        "Example, which writes ESC [ 7 G:\n  printf '\\033[%%p1%%dG' | ti cap n:7",
-    );
-    with_two(command, hex(alloc), escape(alloc))?.arg(params(alloc, PARAMS))
-}
-
-fn trace<'a>(alloc: Global) -> Result<Command<'a>, AllocError>
-    ensures shape { IfOk result (λ c. app_of c ≡ trace_app) }
-    ensures local { IfOk result HasNoGlobals }
-{
-    let command = new_command(
-        alloc,
-        "trace",
-        "Show what each token of one capability on standard input does; padding marks stay as they are",
-        "Example, which shows the stack and the output after each token:\n  printf '\\033[%%p1%%dG' | ti trace --escape n:7",
-    );
-    with_two(command, params(alloc, PARAMS), escape(alloc))
-}
-
 fn show<'a>(alloc: Global) -> Result<Command<'a>, AllocError>
     ensures shape { IfOk result (λ c. app_of c ≡ show_app) }
     ensures local { IfOk result HasNoGlobals }
@@ -164,7 +152,8 @@ fn show<'a>(alloc: Global) -> Result<Command<'a>, AllocError>
     let command = new_command(
         alloc,
         "show",
-        "List the compiled entry on standard input, one line an item",
+        "ti show [OPTIONS] < ENTRY",
+        "List an entry, one line an item",
         "Example:\n  ti show < /lib/terminfo/x/xterm\n\nFor an entry that a stranger wrote:\n  ti show --escape < entry",
     );
     with_two(command, escape(alloc), all_names(alloc))
@@ -177,10 +166,32 @@ fn check<'a>(alloc: Global) -> Result<Command<'a>, AllocError>
     let check = new_command(
         alloc,
         "check",
-        "Analyse each text of the entry on standard input; status 1 if one has a fault",
+        "ti check [OPTIONS] < ENTRY",
+        "Analyse each text of an entry; status 1 if one has a fault",
         "Example:\n  ti check < /lib/terminfo/x/xterm\n\nFor an entry that a stranger wrote:\n  ti check --escape < entry",
     );
     with_two(check, escape(alloc), all_names(alloc))
+}
+
+fn get<'a>(alloc: Global) -> Result<Command<'a>, AllocError>
+    ensures shape { IfOk result (λ c. app_of c ≡ get_app) }
+    ensures local { IfOk result HasNoGlobals }
+{
+    let command = new_command(
+        alloc,
+        "get",
+        "ti get [OPTIONS] <NAME> [PARAM]... < ENTRY",
+        "Write the value of one capability of an entry, as tput does",
+        "Example, which moves to line 5, column 10:\n  ti get cup 4 9 < /lib/terminfo/x/xterm\n\nOf a flag the status is the answer:\n  ti get am < /lib/terminfo/x/xterm && echo yes",
+    );
+    let command = command.arg(name(alloc, ANY_NAME))?;
+    let command = with_two(command, hex(alloc), escape(alloc))?;
+    let command = with_two(
+        command,
+        number(alloc, "rate", GREATEST_RATE, RATE),
+        number(alloc, "lines", MOST_LINES, LINES),
+    )?;
+    with_two(command, flag(alloc, "xon", XON), params(alloc, ANY_PARAMS))
 }
 
 fn expand<'a>(alloc: Global) -> Result<Command<'a>, AllocError>
@@ -190,7 +201,8 @@ fn expand<'a>(alloc: Global) -> Result<Command<'a>, AllocError>
     let command = new_command(
         alloc,
         "expand",
-        "Expand and pad one text of the entry on standard input",
+        "ti expand [OPTIONS] <NAME> [PARAM]... < ENTRY",
+        "Expand and pad one text of an entry",
         "Example, which moves to line 5, column 10:\n  ti expand cup n:4 n:9 < /lib/terminfo/x/xterm",
     );
     let command = with_two(command, name(alloc, TEXT_NAME), hex(alloc))?;
@@ -210,37 +222,47 @@ fn convert<'a>(alloc: Global) -> Result<Command<'a>, AllocError>
     let command = new_command(
         alloc,
         "convert",
-        "Write the entry on standard input in its canonical layout",
+        "ti convert [OPTIONS] < ENTRY",
+        "Write an entry in its canonical layout",
         "Example, which writes the entry with numbers of 32 bits:\n  ti convert --wide < entry > wide",
     );
     with_two(
         command,
         flag(alloc, "wide", WIDE),
         flag(alloc, "narrow", NARROW),
-    )
+    )?
+    .arg(flag(alloc, "force", FORCE))
 }
 
-fn get<'a>(alloc: Global) -> Result<Command<'a>, AllocError>
-    ensures shape { IfOk result (λ c. app_of c ≡ get_app) }
+fn cap<'a>(alloc: Global) -> Result<Command<'a>, AllocError>
+    ensures shape { IfOk result (λ c. app_of c ≡ cap_app) }
     ensures local { IfOk result HasNoGlobals }
 {
     let command = new_command(
         alloc,
-        "get",
-        "Write the value of one capability of the entry on standard input, as tput does",
-        "Example, which moves to line 5, column 10:\n  ti get cup 4 9 < /lib/terminfo/x/xterm\n\nOf a flag the status is the answer:\n  ti get am < /lib/terminfo/x/xterm && echo yes",
+        "cap",
+        "ti cap [OPTIONS] [PARAM]... < CAPABILITY",
+        "Expand one capability; padding marks stay as they are",
+        "Example, which writes ESC [ 7 G:\n  printf '\\033[%%p1%%dG' | ti cap n:7",
     );
-    let command = command.arg(name(alloc, ANY_NAME))?;
-    let command = with_two(command, hex(alloc), escape(alloc))?;
-    let command = with_two(
-        command,
-        number(alloc, "rate", GREATEST_RATE, RATE),
-        number(alloc, "lines", MOST_LINES, LINES),
-    )?;
-    with_two(command, flag(alloc, "xon", XON), params(alloc, ANY_PARAMS))
+    with_two(command, hex(alloc), escape(alloc))?.arg(params(alloc, PARAMS))
 }
 
-/// What help says of the exit status.
+fn trace<'a>(alloc: Global) -> Result<Command<'a>, AllocError>
+    ensures shape { IfOk result (λ c. app_of c ≡ trace_app) }
+    ensures local { IfOk result HasNoGlobals }
+{
+    let command = new_command(
+        alloc,
+        "trace",
+        "ti trace [OPTIONS] [PARAM]... < CAPABILITY",
+        "Show what each token of one capability does",
+        "Example, which shows the stack and the output after each token:\n  printf '\\033[%%p1%%dG' | ti trace --escape n:7",
+    );
+    with_two(command, params(alloc, PARAMS), escape(alloc))
+}
+
+/// What help says of the exit status, and an example.
 const STATUSES: &str = "Status:
   0  done
   1  check found a fault, or a flag is not set
@@ -248,7 +270,10 @@ const STATUSES: &str = "Status:
   3  the entry is refused
   4  the capability is refused or absent
   5  reading or writing failed
-  6  out of memory";
+  6  out of memory
+
+Example:
+  ti show --escape < /lib/terminfo/x/xterm";
 
 /// `ti` itself, before its subcommands.
 fn start<'a>(alloc: Global) -> Command<'a>
@@ -279,12 +304,12 @@ fn with_made<'a>(
 /// `ti` with its first three subcommands.
 fn first_commands<'a>(alloc: Global) -> Result<Command<'a>, AllocError>
     ensures shape { IfOk result (λ c. app_of c
-        ≡ with_commands start_app (cap_app ∷ trace_app ∷ show_app ∷ [])) }
+        ≡ with_commands start_app (show_app ∷ check_app ∷ get_app ∷ [])) }
     ensures local { IfOk result HasNoGlobals }
 {
-    let capped = with_made(start(alloc), cap(alloc))?;
-    let traced = with_made(capped, trace(alloc))?;
-    with_made(traced, show(alloc))
+    let shown = with_made(start(alloc), show(alloc))?;
+    let checked = with_made(shown, check(alloc))?;
+    with_made(checked, get(alloc))
 }
 
 /// `ti` whole.
@@ -292,8 +317,8 @@ pub(crate) fn program<'a>(alloc: Global) -> Result<Command<'a>, AllocError>
     ensures { IfOk result (λ c. app_of c ≡ ti_app) }
 {
     let first = first_commands(alloc)?;
-    let checked = with_made(first, check(alloc))?;
-    let expanded = with_made(checked, expand(alloc))?;
+    let expanded = with_made(first, expand(alloc))?;
     let converted = with_made(expanded, convert(alloc))?;
-    with_made(converted, get(alloc))
+    let capped = with_made(converted, cap(alloc))?;
+    with_made(capped, trace(alloc))
 }

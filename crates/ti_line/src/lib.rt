@@ -11,7 +11,7 @@
 //! | `show [--escape] [--all-names]` | [`OfEntry::Show`] |
 //! | `check [--escape] [--all-names]` | [`OfEntry::Check`] |
 //! | `expand NAME [--hex] [--escape] [--all-names] [--rate N] [--lines N] [--xon] [PARAM..]` | [`OfEntry::Expand`] |
-//! | `convert [--wide] [--narrow]` | [`OfEntry::Convert`] |
+//! | `convert [--wide] [--narrow] [--force]` | [`OfEntry::Convert`] |
 //! | `get NAME [--hex] [--escape] [--rate N] [--lines N] [--xon] [PARAM..]` | [`OfEntry::Get`] |
 #![tactic(auto)]
 

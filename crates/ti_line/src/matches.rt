@@ -124,14 +124,17 @@ fn expand<'a>(given: &ArgMatches<'a>, name: &'a str) -> Result<Request<'a>, Line
 }
 
 /// What `convert` requests.
-fn convert<'a>(given: &ArgMatches<'a>) -> Result<Request<'a>, LineFault>
-    ensures { (terminal : Bool) → let rows = given_rows given.now in
-        IsAnswered terminal (Convert (flag_in (codes "wide") rows) (flag_in (codes "narrow") rows))
-        result }
+fn convert<'a>(terminal: bool, given: &ArgMatches<'a>) -> Result<Request<'a>, LineFault>
+    ensures { let rows = given_rows given.now in
+        IsAnswered terminal (Convert (flag_in (codes "wide") rows) (flag_in (codes "narrow") rows)
+        (flag_in (codes "force") rows)) result }
 {
     let (wide, narrow) = (flag(given, "wide"), flag(given, "narrow"));
     if wide && narrow {
         return Err(LineFault::BothWidths);
+    }
+    if terminal && !flag(given, "force") {
+        return Err(LineFault::ToTerminal);
     }
     Ok(Request {
         parameters: NO_PARAMETERS,
@@ -186,7 +189,7 @@ pub(crate) fn request_of<'a>(
             Some(name) => expand(given, name),
             None => unreachable!(),
         },
-        "convert" => convert(given),
+        "convert" => convert(terminal, given),
         "get" => match text(given, "NAME") {
             Some(name) => get(given, name),
             None => unreachable!(),

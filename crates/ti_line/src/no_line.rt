@@ -22,6 +22,9 @@ pub enum LineFault {
     /// `convert` is to write both widths.
     #[error("BothWidths")]
     BothWidths,
+    /// `convert` is to write to a terminal, and is not forced.
+    #[error("ToTerminal")]
+    ToTerminal,
     /// The words of the parameters are none.
     #[error("{0}")]
     Words(WordFault),

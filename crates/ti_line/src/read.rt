@@ -68,8 +68,8 @@ fn no_line<'a>(alloc: Global, words: &'a [&'a str], error: &Error) -> NoLine
 /// # Errors
 ///
 /// [`NoLine::Help`] if help or the version is requested, [`NoLine::Refused`] if the words are no command line,
-/// [`NoLine::Fault`] if the line requests both forms or both widths, or its parameters are none, and [`NoLine::Memory`] if
-/// a growth was refused. A message shows no byte of a word but printable ASCII characters: the others are in the notation
+/// [`NoLine::Fault`] if the line requests both forms or both widths, its parameters are none, or an entry would go to a
+/// terminal, and [`NoLine::Memory`] if a growth was refused. A message shows no byte of a word but printable ASCII characters: the others are in the notation
 /// of terminfo(5).
 ///
 /// # Examples
@@ -87,7 +87,7 @@ pub fn read_line<'a>(
         × Asks terminal line request) }
     ensures only { (line : Line) → Reads (texts_of words.entry.now) line
         → IsReadAs terminal line result }
-    ensures none { IfErr result (Explains (texts_of words.entry.now)) }
+    ensures none { IfErr result (Explains terminal (texts_of words.entry.now)) }
     // A message is never empty.
     ensures says { IfErr result HasText }
 {

@@ -1,6 +1,6 @@
 -- Results under `--escape` are printable lines, as many as are due.
 use Rattle.std.proofs.Common.{◌≡◌, ◌∙◌, ◌+◌, ◌/◌, ◌%◌, ◌<◌, ℕ, zero, suc, Bool, true, false, List, [], ◌∷◌, ◌++◌, Some, cond, inl, inr, refl, sym, ap, subst, arith, append_assoc}
-use Rattle.std.specs.Prelude.{Option, ℤ, pos, negsuc, codes, decimal, nat_eq, unwrap_or}
+use Rattle.std.specs.Prelude.{Option, None, Ok, ◌⊎◌, ℤ, pos, negsuc, codes, decimal, nat_eq, unwrap_or}
 use Rattle.std.specs.List.{flat_map, list_all}
 use Rattle.std.specs.Map.{lookup}
 use Rattle.std.specs.Fmt.{digit_glyph, digits, digits_onto, signed_decimal}
@@ -38,10 +38,16 @@ use Rattle.ti_pad.specs.Padded.{padded_text}
 use Rattle.ti_line.specs.declared.look.Look.{Look}
 use Rattle.ti_line.specs.declared.look.NameForm.{NameForm}
 use Rattle.ti_line.specs.declared.look.NameForm.TheVariants as name_forms
+use Rattle.ti_line.specs.declared.given.Given.{Given}
+use Rattle.ti_line.specs.declared.look.Output.{Output}
+use Rattle.ti_line.specs.declared.look.Output.TheVariants as outputs
+use Rattle.ti_pad.specs.Setting.{Setting}
+use Rattle.ti_tool.specs.Got.{IsTextResult, IsValueResult, number_or_none, number_result}
+use Rattle.ti_tool.specs.Items.{ItemValue, FlagItem, NumberItem, TextItem}
 use Rattle.ti_tool.specs.Labels.{label_of, own_label, own_names}
 use Rattle.ti_tool.specs.Listing.{entry_lines, flag_line, number_line, text_line, lines_from, standard_flag, standard_number, standard_text, extended_flag, extended_number, extended_text, standard_lines, extended_lines, format_name}
 use Rattle.ti_tool.specs.Verdicts.{IsLine, IsStandardLine, IsExtendedLine, AreLines, IsVerdict}
-use Rattle.ti_tool.specs.Printable.{ArePrintableLines, flag_lines, number_lines, text_lines, verdict_lines, lines_due, listed_lines, checked_lines, ShowIsPrintable, CheckIsPrintable, CapIsPrintable, ExpandIsPrintable}
+use Rattle.ti_tool.specs.Printable.{ArePrintableLines, flag_lines, number_lines, text_lines, verdict_lines, lines_due, listed_lines, checked_lines, ShowIsPrintable, CheckIsPrintable, CapIsPrintable, ExpandIsPrintable, GetIsPrintable}
 
 abbrev IsText : List ℕ → Type 0
 IsText text = list_all is_printable text ≡ true
@@ -283,3 +289,27 @@ expand_line names name parameters setting input out (inr (v, spells, (AbsentText
 expand_line names name parameters setting input out (inr (v, spells, (CancelledText, called, e))) = absurd cc
 expand_line names name parameters setting input out (inr (v, spells, (TextOf text, called, (plain, faultless, expansion, short, is)))) =
     one (notation (padded_text plain setting)) out (is_printable_all (padded_text plain setting)) is
+
+got_text : (text : List ℕ) (given : Option Given) (setting : Setting) (output : Output) (out : List ℕ) → output ≡ outputs.Line forms.Notation → IsTextResult text given setting output (Ok out) → ArePrintableLines 1 out
+got_text text given setting output out e due = go given (let P : Output → Type 0 = λ o. IsTextResult text given setting o (Ok out) in subst P e due)
+  where
+    go : (given : Option Given) → IsTextResult text given setting (outputs.Line forms.Notation) (Ok out) → ArePrintableLines 1 out
+    go None (short, is) = one (notation (padded_text text setting)) out (is_printable_all (padded_text text setting)) is
+    go (Some given) (inl (refused, r, same)) = absurd cc
+    go (Some given) (inr (faultless, (parameters, taken, (plain, passes, expansion, short, is)))) =
+        one (notation (padded_text plain setting)) out (is_printable_all (padded_text plain setting)) is
+
+pub got_lines : GetIsPrintable
+got_lines g set input out e (inl (refused, is, same)) = absurd cc
+got_lines g set input out e (inr (v, spells, (item, called, due))) = go item due
+  where
+    go : (item : Option ItemValue) → IsValueResult item g set (Ok out) → ArePrintableLines 0 out ⊎ ArePrintableLines 1 out
+    go None (s, same) = absurd cc
+    go (Some (FlagItem flag)) (s, same) =
+        let is : out ≡ [] = cc in
+        let P : List ℕ → Type 0 = λ x. ArePrintableLines 0 x in inl (subst P (sym is) none)
+    go (Some (NumberItem number)) (s, same) =
+        let is : out ≡ number_result number = cc in inr (one (signed_decimal (number_or_none number)) out (signed_text (number_or_none number)) is)
+    go (Some (TextItem AbsentText)) (s, same) = absurd cc
+    go (Some (TextItem CancelledText)) (s, same) = absurd cc
+    go (Some (TextItem (TextOf text))) (s, due) = inr (got_text text g.given g.padding g.output out e due)

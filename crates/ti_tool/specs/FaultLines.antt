@@ -47,6 +47,7 @@ line_fault_line line.BothFormsOfCap = codes "cap: both forms\n"
 line_fault_line line.BothFormsOfExpand = codes "expand: both forms\n"
 line_fault_line line.BothFormsOfGet = codes "get: both forms\n"
 line_fault_line line.BothWidths = codes "convert: both widths\n"
+line_fault_line line.ToTerminal = codes "convert: not to a terminal without --force\n"
 line_fault_line (line.Words why) = words_line why
 
 -- the most characters of a name in a line on a fault

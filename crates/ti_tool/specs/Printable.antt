@@ -1,6 +1,6 @@
 -- What the program shows of an entry that a stranger wrote: lines that can be printed, and no more than
 -- are due.
-use Rattle.std.specs.Prelude.{◌≡◌, ℕ, ◌+◌, Bool, true, List, [], ◌∷◌, ◌++◌, Ok, codes, length}
+use Rattle.std.specs.Prelude.{◌≡◌, ◌⊎◌, ℕ, ◌+◌, Bool, true, List, [], ◌∷◌, ◌++◌, Ok, codes, length}
 use Rattle.std.specs.List.{flat_map, list_all}
 use Rattle.ti_words.specs.declared.Flag.{Flag}
 use Rattle.ti_words.specs.declared.Flag.TheVariants as flags
@@ -18,6 +18,8 @@ use Rattle.ti_line.specs.declared.look.Look.{Look}
 use Rattle.ti_line.specs.declared.look.NameForm.TheVariants as name_forms
 use Rattle.ti_line.specs.declared.look.Naming.{Naming}
 use Rattle.ti_line.specs.declared.look.Output.TheVariants as outputs
+use Rattle.ti_line.specs.declared.request.Get.{Get}
+use Rattle.ti_tool.specs.Got.{IsGot}
 use Rattle.ti_tool.specs.Results.{IsCappedAs, IsDueFor, IsDueFrom, IsJudgement, IsListed}
 
 -- so many lines, each of them characters from the space to `~`, and one newline
@@ -92,3 +94,9 @@ ExpandIsPrintable = (names : NameTable) (name : List ℕ) (parameters : List Val
     (setting : Setting) (input out : List ℕ)
     → IsDueFrom (IsDueFor names name parameters setting (outputs.Line forms.Notation)) input (Ok out)
     → ArePrintableLines 1 out
+
+-- of a flag nothing, else one line
+abbrev pub GetIsPrintable : Type 0
+GetIsPrintable = (g : Get) (set : Bool) (input out : List ℕ)
+    → g.output ≡ outputs.Line forms.Notation → IsDueFrom (IsGot g set) input (Ok out)
+    → ArePrintableLines 0 out ⊎ ArePrintableLines 1 out

@@ -95,8 +95,8 @@ DidLine at line unread unwritten left0 left1 held0 held1 told0 told1 status =
 
 -- words that are no line: they ask for help or are refused, with a message of at least one byte, or
 -- memory was refused; nothing is read
-abbrev pub DidNoLine : List (List ℕ) → Type 0 → Type 0 → Stream → Stream → Stream → Stream → ℕ
+abbrev pub DidNoLine : Terminals → List (List ℕ) → Type 0 → Type 0 → Stream → Stream → Stream → Stream → ℕ
     → Type 0
-DidNoLine words unread unwritten held0 held1 told0 told1 status =
-    (why : NoLine) × Explains words why × HasText why
+DidNoLine at words unread unwritten held0 held1 told0 told1 status =
+    (why : NoLine) × Explains at.output words why × HasText why
     × unread × EndsWords why unwritten held0 held1 told0 told1 status

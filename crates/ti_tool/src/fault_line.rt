@@ -156,6 +156,7 @@ pub fn line_fault_line(fault: LineFault) -> FaultLine
         LineFault::BothFormsOfExpand => line_of(&[b"expand: both forms\n"]),
         LineFault::BothFormsOfGet => line_of(&[b"get: both forms\n"]),
         LineFault::BothWidths => line_of(&[b"convert: both widths\n"]),
+        LineFault::ToTerminal => line_of(&[b"convert: not to a terminal without --force\n"]),
         LineFault::Words(why) => words_line(why),
     }
 }

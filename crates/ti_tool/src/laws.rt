@@ -1,6 +1,6 @@
 //! Laws of the program's results, each the contract of a function that does nothing.
 
-ghost use Rattle.ti_tool.specs.Printable.{CapIsPrintable, CheckIsPrintable, ExpandIsPrintable, ShowIsPrintable};
+ghost use Rattle.ti_tool.specs.Printable.{CapIsPrintable, CheckIsPrintable, ExpandIsPrintable, GetIsPrintable, ShowIsPrintable};
 ghost use Rattle.ti_tool.specs.Laws.{CheckHasOneVerdict, HasOneAnswer, WideAndBack};
 
 /// Where an entry of the legacy format is converted to the one with numbers of 32 bits and back, its canonical bytes
@@ -22,4 +22,5 @@ pub fn escaped_results_are_printable()
     ensures check { CheckIsPrintable }
     ensures cap { CapIsPrintable }
     ensures expand { ExpandIsPrintable }
+    ensures get { GetIsPrintable }
 {}

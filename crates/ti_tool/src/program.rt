@@ -111,7 +111,7 @@ fn run_no_line<W: Write, E: Write>(why: &NoLine, output: &mut W, errors: &mut E)
 /// |---|---|---|
 /// | 0 | done, or help was requested | none |
 /// | 1 | `check` found a fault, or the flag that `get` asks for is not set | none |
-/// | 2 | the words are no command line or no parameters, or ask for both widths, or for both forms of an output | what is wrong and the usage; `parameters: more than nine`; `parameter K: bad word`; `convert: both widths`; `cap: both forms`; `expand: both forms`; `get: both forms` |
+/// | 2 | the words are no command line or no parameters, or ask for both widths, or for both forms of an output, or for an entry at a terminal | what is wrong and the usage; `parameters: more than nine`; `parameter K: bad word`; `convert: both widths`; `cap: both forms`; `expand: both forms`; `get: both forms`; `convert: not to a terminal without --force` |
 /// | 3 | the entry is refused, or can't be encoded | `entry: WORD at PLACE`; `entry: WORD` |
 /// | 4 | the capability is refused or absent, a text is too long for it, or its padding too much | `capability: WORD at PLACE`; `capability: absent`; `get: NAME: absent`; `get: NAME: no such capability`; `capability: TextTooLong K`; `capability: TooMuch N` |
 /// | 5 | reading or writing failed | `input: failed`; `output: failed` |
@@ -137,7 +137,7 @@ pub fn run_at<A: Allocator + Copy, R: Read, W: Write, E: Write>(
         (E.contents errors.old) (E.contents errors.new) result }
     // If it does not, help was written, or the words are refused, unless memory was refused.
     ensures unread { ((line : Line) → ¬ Reads (texts_of words.now) line)
-        → DidNoLine (texts_of words.now)
+        → DidNoLine at (texts_of words.now)
         (input.new ≡ input.old) (output.new ≡ output.old)
         (W.contents output.old) (W.contents output.new)
         (E.contents errors.old) (E.contents errors.new) result }
@@ -185,7 +185,7 @@ pub fn run<A: Allocator + Copy, R: Read, W: Write, E: Write>(
         (E.contents errors.old) (E.contents errors.new) result }
     // If it does not, help was written, or the words are refused, unless memory was refused.
     ensures unread { ((line : Line) → ¬ Reads (texts_of words.now) line)
-        → DidNoLine (texts_of words.now)
+        → DidNoLine no_terminals (texts_of words.now)
         (input.new ≡ input.old) (output.new ≡ output.old)
         (W.contents output.old) (W.contents output.new)
         (E.contents errors.old) (E.contents errors.new) result }

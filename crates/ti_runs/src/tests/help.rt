@@ -12,22 +12,29 @@ const HELP: [(&[&str], &[&str]); 11] = [
     (
         &["ti", "--help"],
         &[
-            "cap",
-            "trace",
             "show",
             "check",
+            "get",
             "expand",
             "convert",
-            "get",
+            "cap",
+            "trace",
             "--version",
             "Status",
+            "Example",
         ],
     ),
     (&["ti", "-h"], &["Usage: ti <COMMAND>"]),
     (&["ti", "help"], &["Usage: ti <COMMAND>"]),
     (
         &["ti", "help", "show"],
-        &["Usage: ti show", "--escape", "--all-names", "\\E[H"],
+        &[
+            "Usage: ti show",
+            "< ENTRY",
+            "--escape",
+            "--all-names",
+            "\\E[H",
+        ],
     ),
     (
         &["ti", "cap", "--help"],
@@ -57,7 +64,10 @@ const HELP: [(&[&str], &[&str]); 11] = [
         ],
     ),
     (&["ti", "check", "--help"], &["status 1", "Example"]),
-    (&["ti", "convert", "--help"], &["canonical", "Example"]),
+    (
+        &["ti", "convert", "--help"],
+        &["canonical", "--force", "Example"],
+    ),
     (
         &["ti", "get", "--help"],
         &[
@@ -85,6 +95,9 @@ fn help_says_what_a_person_needs(rt: HostRuntime) -> Result<(), Fail> {
         let text = help_of(rt.alloc(), words)?;
         for part in parts.iter() {
             assert_that!(rt; text.as_str().contains(*part));
+        }
+        for line in text.as_str().split('\n') {
+            assert_that!(rt; line.len() <= 80);
         }
     }
     Ok(())

@@ -1,7 +1,7 @@
 //! Words that are read as a command line, and what it requests.
 
 use std::test::Fail;
-use ti_line::{NoLine, Request, read_line};
+use ti_line::{LineFault, NoLine, Request, read_line};
 
 /// Words, what they ask for, and the first two parameters.
 const READ: [(&[&str], &str, &str); 28] = [
@@ -173,6 +173,10 @@ const FAULTY: [(&[&str], &str); 11] = [
     ),
     (&["ti", "convert", "--narrow", "--wide"], "BothWidths"),
     (
+        &["ti", "convert", "--narrow", "--wide", "--force"],
+        "BothWidths",
+    ),
+    (
         &["ti", "get", "--escape", "--hex", "bel", "n:x"],
         "BothFormsOfGet",
     ),
@@ -220,5 +224,27 @@ fn a_terminal_asks_for_the_notation_of_names(rt: HostRuntime) -> Result<(), Fail
     };
     let text = format!(in rt.alloc(); "{asked:?}")?;
     assert_that!(rt; text.as_str() == "Entry(Check(Naming { table: Common, form: Notation }))");
+    Ok(())
+}
+
+#[test]
+fn an_entry_goes_to_a_terminal_by_force_alone(rt: HostRuntime) -> Result<(), Fail> {
+    let Err(NoLine::Fault(LineFault::ToTerminal)) = read_line(
+        rt.alloc(),
+        true,
+        &["ti", "convert", "--wide"],
+    ) else {
+        return Err(Fail::from("no fault"));
+    };
+    for words in [
+        &["ti", "convert", "--force", "--wide"],
+        &["ti", "convert", "--wide", "--force"],
+    ] {
+        let Ok(Request { asked, .. }) = read_line(rt.alloc(), true, words) else {
+            return Err(Fail::from("no line"));
+        };
+        let text = format!(in rt.alloc(); "{asked:?}")?;
+        assert_that!(rt; text.as_str() == "Entry(Convert(Some(Wide)))");
+    }
     Ok(())
 }

@@ -7,4 +7,4 @@ pub returns-in-trace : goal.returns-in-trace
 returns-in-trace c = rw c.in-trace.is (c.trace.ensures c.args.terminal)
 
 pub returns-in-convert : goal.returns-in-convert
-returns-in-convert c = rw c.in-convert.is (c.convert.ensures c.args.terminal)
+returns-in-convert c = rw c.in-convert.is c.convert.ensures
