@@ -9,7 +9,7 @@ use Rattle.ti_layout.specs.Checks.{Verdict, Passes, Ends, Fails, verdict, refusa
 use Rattle.ti_layout.specs.Refusal.{checks, failure}
 use Rattle.ti_entry.specs.Reading.{Reading, length_before_failure, front_before_failure, reading_of, reading_after, final_answer, answer_under, answer_for}
 use Rattle.ti_entry.specs.Content.{content}
-use Rattle.ti_entry.specs.Laws.{FailureLasts, FailureRefuses, AnyCutting, AnyCuttingAnswersAlike}
+use Rattle.ti_entry.specs.Laws.{FailureLasts, FailureRefuses, AnyCutting, AnyCuttingReadsAlike}
 use Rattle.ti_layout.proofs.FailureLastsLemmas.{failure_stays}
 
 -- ---- failures
@@ -164,7 +164,7 @@ final_answer-of bytes =
     ap final_answer (reading_of-refused bytes r some)
     ∙ sym (ap (λ (o : Option Refused). answer_under o (content bytes)) (failure_refuses bytes r some)))
 
-pub any_cutting_answers_alike : AnyCuttingAnswersAlike
+pub any_cutting_answers_alike : AnyCuttingReadsAlike
 any_cutting_answers_alike pieces = ap final_answer (any_cutting pieces) ∙ final_answer-of (concat pieces)
 
 -- if a piece is taken, so many bytes more are kept

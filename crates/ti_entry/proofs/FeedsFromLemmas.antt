@@ -1,13 +1,12 @@
 -- What a source lost and a reader was fed.
 use Rattle.std.proofs.Common.{◌≡◌, ℕ, List, [], ◌++◌, take, refl, sym, ap, subst, ◌∙◌, append_assoc, append-nil}
-use Rattle.std.specs.Prelude.{Option, Some, None, Err}
-use Rattle.std.specs.Io.KnownBytes.{Consumes, Keeps}
-use Rattle.std.proofs.KnownBytes.{Consumes-trans, Consumes-nil, Consumes-kept}
+use Rattle.std.specs.Prelude.{Option, Some, None}
+use Rattle.std.specs.Io.KnownBytes.{Consumes}
+use Rattle.std.proofs.KnownBytes.{Consumes-trans, Consumes-nil}
 use Rattle.ti_layout.specs.declared.fault.Refused.{Refused}
 use Rattle.ti_layout.specs.Refusal.{failure}
-use Rattle.ti_entry.specs.Content.{content}
-use Rattle.ti_entry.specs.Reading.{Reading, new_reading, reading_of, reading_after, answer_under, answer_for, FeedsFrom}
-use Rattle.ti_entry.proofs.FeedLemmas.{reading_of-passed, reading_of-none, reading_after-none, failure_refuses}
+use Rattle.ti_entry.specs.Reading.{Reading, new_reading, reading_of, reading_after, FeedsFrom}
+use Rattle.ti_entry.proofs.FeedLemmas.{reading_of-passed, reading_of-none, reading_after-none}
 
 pub FeedsFrom-nil : (a : Option (List ℕ)) (r : Reading) → r.refusal ≡ None → failure r.kept ≡ None → FeedsFrom a a r r
 FeedsFrom-nil a r none passes =
@@ -25,10 +24,6 @@ FeedsFrom-end a b c old mid n buf e before took =
     let (bytes, taken, is_fed) = before in
     let none : Consumes b c [] = subst (λ k. Consumes b c (take k buf)) e took in
     (bytes, subst (Consumes a c) (append-nil bytes) (Consumes-trans a b c bytes [] taken none), is_fed)
-
-pub FeedsFrom-kept : (a b c : Option (List ℕ)) (old mid : Reading) → FeedsFrom a b old mid → Keeps b c → FeedsFrom a c old mid
-FeedsFrom-kept a b c old mid before same =
-    let (bytes, taken, is_fed) = before in (bytes, Consumes-kept a b c bytes taken same, is_fed)
 
 pub FeedsFrom-next : (a b c : Option (List ℕ)) (old mid new : Reading) (piece : List ℕ) → old.refusal ≡ None → mid.refusal ≡ None
     → FeedsFrom a b old mid → Consumes b c piece → new ≡ reading_after mid piece → FeedsFrom a c old new
@@ -49,11 +44,3 @@ FeedsFrom-whole a b new h none =
     let (bytes, taken, is_fed) = h in
     let kept : new.kept ≡ bytes = ap (λ r. r.kept) (is_fed ∙ reading_of-none bytes (sym (ap (λ r. r.refusal) is_fed) ∙ none)) in
     subst (Consumes a b) (sym kept) taken
-
--- if one was, all that the source lost is refused so
-pub FeedsFrom-refusal : (a b : Option (List ℕ)) (new : Reading) (r : Refused) → FeedsFrom a b new_reading new → new.refusal ≡ Some r
-    → (bytes : List ℕ) × Consumes a b bytes × (answer_for bytes ≡ Err r)
-FeedsFrom-refusal a b new r h some =
-    let (bytes, taken, is_fed) = h in
-    let failed : failure bytes ≡ Some r = sym (ap (λ r. r.refusal) is_fed) ∙ some in
-    (bytes, taken, ap (λ o. answer_under o (content bytes)) (failure_refuses bytes r failed))

@@ -1,5 +1,5 @@
 -- Names in the order of their offsets, and the first that is equal to another.
-use Rattle.std.proofs.Common.{◌≡◌, ◌≢◌, ℕ, zero, suc, ◌+◌, ◌*◌, ◌<◌, ◌≤◌, Bool, true, false, not, eqb, List, [], ◌∷◌, ◌++◌, map, length, take, refl, sym, ap, subst, ◌∙◌, arith}
+use Rattle.std.proofs.Common.{◌≡◌, ◌≢◌, ℕ, zero, suc, ◌+◌, ◌*◌, ◌<◌, ◌≤◌, Bool, true, false, not, eqb, List, [], ◌∷◌, map, length, take, refl, sym, ap, subst, ◌∙◌, arith}
 use Rattle.std.proofs.lemmas.List.Sums.{take_while-cons}
 use Rattle.std.specs.Prelude.{min, slice_get, Some, None}
 use Rattle.ti_layout.specs.Layout.{places}
@@ -69,7 +69,3 @@ lacks_all f from count name i le before = all_items (λ n. n ≢ name) f from 2 
 pub first_is : (f : ℕ → List ℕ) (from count : ℕ) (name : List ℕ) (i : ℕ) → i < count → OthersBefore f from name i → f (from + 2 * i) ≡ name → IsLeastIndex (map f (places from 2 count)) name (Some i)
 first_is f from count name i lt before e =
     (get_named f from count i lt ∙ ap Some e, subst (λ l. Lacks l name) (sym (take_named f from count i (omega arith))) (lacks_all f from i name i (omega arith) before))
-
-pub lacks_append : (xs ys : List (List ℕ)) (name : List ℕ) → Lacks xs name → Lacks ys name → Lacks (xs ++ ys) name
-lacks_append [] ys name h k = k
-lacks_append (x ∷ xs) ys name h k = (h.0, lacks_append xs ys name h.1 k)

@@ -13,7 +13,7 @@ use Rattle.ti_entry.specs.Reading.{new_reading, reading_of, reading_after, final
 abbrev pub SpellsAtMostOne : Type 0
 SpellsAtMostOne = (bytes : List ℕ) (v w : EntryValue) → Spells bytes v → Spells bytes w → v ≡ w
 
--- a check that has failed has failed with the same answer on every continuation
+-- a check that has failed has failed with the same refusal on every continuation
 abbrev pub FailureLasts : Type 0
 FailureLasts = (bytes more : List ℕ) (refused : Refused)
     → failure bytes ≡ Some refused → failure (bytes ++ more) ≡ Some refused
@@ -23,9 +23,9 @@ abbrev pub FailureRefuses : Type 0
 FailureRefuses = (bytes : List ℕ) (refused : Refused)
     → failure bytes ≡ Some refused → refusal bytes ≡ Some refused
 
--- however an input is cut into pieces, a new reader that is fed them answers what a read of the whole answers
-abbrev pub AnyCuttingAnswersAlike : Type 0
-AnyCuttingAnswersAlike = (pieces : List (List ℕ))
+-- however an input is cut into pieces, a new reader that is fed them returns what a read of the whole returns
+abbrev pub AnyCuttingReadsAlike : Type 0
+AnyCuttingReadsAlike = (pieces : List (List ℕ))
     → final_answer (fold reading_after new_reading pieces) ≡ answer_for (concat pieces)
 
 -- however an input is cut into pieces, the reader holds what the whole makes of it

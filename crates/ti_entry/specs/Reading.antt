@@ -1,4 +1,4 @@
--- What a read of bytes answers, what a reader of entries holds, and what a piece makes of it.
+-- What a read of bytes returns, what a reader of entries holds, and what a piece makes of it.
 use Rattle.std.specs.Prelude.{◌≡◌, ℕ, zero, suc, List, [], ◌++◌, Option, Some, None, Result, Ok, Err, length, take, is_some, if◌then◌else◌}
 use Rattle.std.specs.Io.KnownBytes.{Consumes}
 use Rattle.ti_layout.specs.declared.fault.Refused.{Refused}
@@ -14,7 +14,7 @@ abbrev pub answer_under : {A : Type 0} → Option Refused → A → Result A Ref
 answer_under None v = Ok v
 answer_under (Some refused) v = Err refused
 
--- what a read of the bytes answers
+-- what a read of the bytes returns
 abbrev pub answer_for : List ℕ → Result EntryValue Refused
 answer_for bytes = answer_under (refusal bytes) (content bytes)
 
@@ -59,7 +59,7 @@ reading_under (Some refused) r piece = r
 abbrev pub reading_after : Reading → List ℕ → Reading
 reading_after r piece = reading_under r.refusal r piece
 
--- what is answered if nothing more comes: the refusal that lasts, else what a read of the kept bytes answers
+-- what is returned if nothing more comes: the refusal that lasts, else what a read of the kept bytes returns
 abbrev pub final_answer_under : Option Refused → List ℕ → Result EntryValue Refused
 final_answer_under None kept = answer_for kept
 final_answer_under (Some refused) kept = Err refused

@@ -62,7 +62,7 @@ pub fn read(bytes: &[u8]) -> Result<Entry<'_>, Refused>
     ensures only { (v : EntryValue) → Spells bytes.now v → IsOkAnd result (λ e. e ≡ v) }
     // Why bytes are refused.
     ensures refused { IfErr result (λ r. refusal bytes.now ≡ Some r) }
-    // The answer in one equation.
+    // The result in one equation.
     ensures answer { result ≡ answer_for bytes.now }
 {
     let mut stage = Stage::new();

@@ -1,13 +1,13 @@
 //! Laws of the definitions, each the contract of a function that does nothing.
 
-ghost use Rattle.ti_entry.specs.Laws.{SpellsAtMostOne, FailureLasts, FailureRefuses, AnyCutting, AnyCuttingAnswersAlike, EncodedSpells, EqualEntriesHaveEqualBytes, EqualBytesAreOfEqualEntries, EncodedReads};
+ghost use Rattle.ti_entry.specs.Laws.{SpellsAtMostOne, FailureLasts, FailureRefuses, AnyCutting, AnyCuttingReadsAlike, EncodedSpells, EqualEntriesHaveEqualBytes, EqualBytesAreOfEqualEntries, EncodedReads};
 
 /// Bytes spell at most one entry.
 pub fn one_entry()
     ensures { SpellsAtMostOne }
 {}
 
-/// A check that has failed on some bytes has failed, with the same answer, whatever bytes follow.
+/// A check that has failed on some bytes has failed, with the same refusal, whatever bytes follow.
 pub fn failure_lasts()
     ensures { FailureLasts }
 {}
@@ -20,7 +20,7 @@ pub fn failure_refuses()
 /// However an input is cut into pieces, a new reader that is fed them returns at the end what [`read`](crate::read)
 /// returns for their joining: its `finish` is the `final_answer` of what it then holds.
 pub fn any_cutting()
-    ensures answer { AnyCuttingAnswersAlike }
+    ensures answer { AnyCuttingReadsAlike }
     // It holds what the joining makes of it.
     ensures reading { AnyCutting }
 {}

@@ -5,7 +5,7 @@
 //! Reading is linear in the bytes and takes no memory. `Entry::extended` shows the capabilities that an entry names itself.
 //!
 //! The checks are those of `ti_layout`, and `Entry::draft` makes a draft of `ti_draft`, which writes entries: what callers
-//! need of both stands here too.
+//! need of both is here too.
 #![tactic(auto)]
 
 mod drafting;

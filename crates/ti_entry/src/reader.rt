@@ -82,7 +82,7 @@ impl EntryReader {
         self.take_each(piece)
     }
 
-    /// Takes a piece at once. Where it has no room, or a check fails on it, nothing changes and the answer is no.
+    /// Takes a piece at once, and returns whether it did: if it has no room, or a check fails on it, nothing changes.
     fn take_whole(&mut self, piece: &[u8]) -> bool
         requires { self.old.refusal ≡ None }
         ensures taken { result ≡ true → self.new ≡ reading_after self.old piece.now }
@@ -94,7 +94,7 @@ impl EntryReader {
         let Ok(()) = self.kept.try_extend_from_slice(piece) else {
             return false;
         };
-        if self.kept.as_slice().len() < self.stage.need() {
+        if self.kept.as_slice().len() < self.stage.bytes_awaited() {
             return true;
         }
         let mut stage = self.stage;
@@ -134,7 +134,7 @@ impl EntryReader {
             return Err(refused);
         }
         self.kept.push(byte);
-        if self.kept.as_slice().len() < self.stage.need() {
+        if self.kept.as_slice().len() < self.stage.bytes_awaited() {
             return Ok(());
         }
         if let Err(refused) = self.stage.advance(self.kept.as_slice()) {
@@ -159,7 +159,7 @@ impl EntryReader {
     ///
     /// The refusal of an earlier `feed`; else `Truncated` at the number of bytes kept, if these end before an entry does.
     pub fn finish(&self) -> Result<Entry<'_>, Refused>
-        // The answer in one equation: after a refusal that refusal, else what `read` returns of the kept bytes.
+        // The result in one equation: after a refusal that refusal, else what `read` returns of the kept bytes.
         ensures answer { result ≡ final_answer self.now }
 
         // After a refusal, that refusal.

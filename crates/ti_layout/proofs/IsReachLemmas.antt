@@ -1,7 +1,7 @@
 -- The place after the last NUL of a table tells which texts and names have theirs.
-use Rattle.std.proofs.Common.{◌≡◌, ◌≢◌, ℕ, zero, suc, ◌+◌, ◌-◌, ◌<◌, ◌≤◌, ltb, ℤ, pos, negsuc, Bool, true, false, ◌||◌, eqb, List, [], ◌∷◌, ◌++◌, map, length, get_or, inl, inr, refl, sym, ap, ◌∙◌, arith}
+use Rattle.std.proofs.Common.{◌≡◌, ℕ, zero, suc, ◌+◌, ◌-◌, ◌<◌, ◌≤◌, ltb, ℤ, pos, negsuc, Bool, true, false, ◌||◌, List, [], ◌∷◌, ◌++◌, map, length, get_or, inl, inr, refl, sym, ap, ◌∙◌, arith}
 use Rattle.std.proofs.lemmas.List.{drop_more, drop_all}
-use Rattle.std.proofs.lemmas.Bool.{cases_lt, le-ltb, lt-ltb, ltb-true, ne_eqb}
+use Rattle.std.proofs.lemmas.Bool.{cases_lt, le-ltb, lt-ltb, ltb-true}
 use Rattle.std.specs.List.{list_any}
 use Rattle.std.specs.Prelude.{min}
 use Rattle.std.proofs.lemmas.List.Concat.{flat_map-cons}
@@ -32,13 +32,6 @@ past_table table place le = ap (list_any is_nul) (drop_all place table le)
 -- at the end of the table there is none
 pub none_at_end : (table : List ℕ) → ends_in table (length table) ≡ false
 none_at_end table = past_table table (length table) (omega arith)
-
--- one byte further to the front that is no NUL
-pub none_before : (table : List ℕ) (reach place : ℕ) → reach ≡ place + 1 → reach ≤ length table → get_or table place 0 ≢ 0 → ends_in table reach ≡ false → ends_in table place ≡ false
-none_before table reach place e le other none =
-    let at : ends_in table (place + 1) ≡ false = ap (ends_in table) (sym e) ∙ none in
-    let no : eqb (get_or table place 0) 0 ≡ false = ne_eqb (get_or table place 0) 0 other in
-    opened table place (omega arith) ∙ rw (no, at) refl
 
 -- if there is none from a place on, there is none later
 none_later : (table : List ℕ) (reach more : ℕ) → ends_in table reach ≡ false → ends_in table (reach + more) ≡ false

@@ -24,10 +24,6 @@ pub within : (w : Width) (i count : ℕ) → i < count → number_size w * i + n
 within Legacy i count lt = omega arith
 within Wide i count lt = omega arith
 
-pub at_most_four : (w : Width) (count : ℕ) → number_size w * count ≤ 4 * count
-at_most_four Legacy count = omega arith
-at_most_four Wide count = omega arith
-
 pub places_append : (from size a b : ℕ) → places from size (a + b) ≡ places from size a ++ places (from + size * a) size b
 places_append from size zero b =
     let at : from ≡ from + size * 0 = omega arith in

@@ -1,5 +1,5 @@
 -- Going over a section item by item.
-use Rattle.std.proofs.Common.{◌≡◌, ℕ, suc, ◌+◌, ◌-◌, ◌*◌, ◌<◌, ◌≤◌, true, false, cond, ltb, List, [], ◌∷◌, ◌++◌, map, refl, sym, ap, ◌∙◌, arith}
+use Rattle.std.proofs.Common.{◌≡◌, ℕ, suc, ◌+◌, ◌-◌, ◌*◌, ◌<◌, true, false, cond, ltb, List, [], ◌∷◌, ◌++◌, map, refl, sym, ap, ◌∙◌, arith}
 use Rattle.std.specs.List.{flat_map}
 use Rattle.std.proofs.lemmas.List.Concat.{flat_map-cons}
 use Rattle.ti_layout.specs.declared.fault.Refused.{Refused}
@@ -51,12 +51,6 @@ pub stops : (f : ℕ → Check) (len from size count i place : ℕ) (total : Ver
     → Fails r ≡ verdict len (f place ∷ []) → rest_of f len from size count i ≡ total → Fails r ≡ total
 stops f len from size count i place total r lt e fails so_far =
     sym (opened f len from size count i place lt e ∙ first_fails len (f place) _ r fails) ∙ so_far
-
-pub all_hold : (f : ℕ → Check) (len from size count i : ℕ) (total : Verdict) → count ≤ i → rest_of f len from size count i ≡ total → Passes ≡ total
-all_hold f len from size count i total le so_far =
-    let k : count - i ≡ 0 = omega arith in
-    let none : rest_of f len from size count i ≡ Passes = rw k refl in
-    sym none ∙ so_far
 
 -- ---- sections of items with several checks each
 

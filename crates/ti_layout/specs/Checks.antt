@@ -1,5 +1,5 @@
--- Checks of an input in a fixed order, and what the first one that is not passed answers.
-use Rattle.std.specs.Prelude.{ℕ, ◌+◌, ◌-◌, ◌%◌, ℤ, pos, negsuc, Bool, true, false, not, List, [], ◌∷◌, ◌++◌, length, map, slice_index, Option, Some, None, Result, Ok, Err, nat_lt, if◌then◌else◌, is_some}
+-- Checks of an input in a fixed order, and the refusal of the first one that is not passed.
+use Rattle.std.specs.Prelude.{ℕ, ◌+◌, ◌%◌, ℤ, pos, negsuc, Bool, true, false, not, List, [], ◌∷◌, length, map, slice_index, Option, Some, None, Result, Ok, Err, nat_lt, if◌then◌else◌, is_some}
 use Rattle.std.specs.List.{flat_map}
 use Rattle.ti_words.specs.Marks.{flag_of_byte}
 use Rattle.ti_layout.specs.declared.fault.Fault.{Fault}
@@ -10,8 +10,8 @@ use Rattle.ti_layout.specs.Layout.{places}
 use Rattle.ti_words.specs.Texts.{is_nul}
 use Rattle.ti_layout.specs.Table.{ends_in}
 
--- one check: the length of the prefix that it reads, whether an entry may end before it, what must hold of it, and what is
--- answered if it does not hold
+-- one check: the length of the prefix that it reads, whether an entry may end before it, what must hold of it, and the
+-- fault and the place if it does not hold
 pub record Check : Type 0 where
   pub prefix : ℕ
   pub may_end : Bool
@@ -55,7 +55,7 @@ failure_of Passes = None
 failure_of (Ends may_end) = None
 failure_of (Fails r) = Some r
 
--- the verdict that a result tells
+-- the verdict that a result means
 abbrev pub result_verdict : {A : Type 0} → Result A Refused → Verdict
 result_verdict (Ok x) = Passes
 result_verdict (Err r) = Fails r
@@ -96,10 +96,6 @@ name_check bytes p = check (p + 1) (not (is_nul (slice_index bytes p))) BadNames
 abbrev pub nul_check : List ℕ → Fault → ℕ → Check
 nul_check bytes fault p = check (p + 1) (is_nul (slice_index bytes p)) fault p
 
--- each byte of the names, which end there, is no NUL, but the last
-abbrev pub name_checks : List ℕ → ℕ → List Check
-name_checks bytes end = map (name_check bytes) (places 12 1 (end - 13)) ++ nul_check bytes BadNames (end - 1) ∷ []
-
 abbrev pub flag_check : List ℕ → ℕ → Check
 flag_check bytes p = check (p + 1) (is_some (flag_of_byte (slice_index bytes p))) BadFlag p
 
@@ -122,7 +118,7 @@ offset_check bytes table_size p = check (p + 2) (is_offset_below table_size (wor
 abbrev pub offset_checks : List ℕ → ℕ → ℕ → ℕ → List Check
 offset_checks bytes table_size from count = map (offset_check bytes table_size) (places from 2 count)
 
--- the table, which ends at end, is there: asked also if no offset is a place in it
+-- the table, which ends at end, is there: checked also if no offset is a place in it
 abbrev pub table_check : ℕ → Check
 table_check end = check end true Unterminated end
 

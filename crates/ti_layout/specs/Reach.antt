@@ -1,4 +1,4 @@
--- How all texts and names of a table are asked for their NULs at once: by the place after its last NUL.
+-- How all texts and names of a table are checked for their NULs at once: by the place after its last NUL.
 -- Only private functions of the crate cite this.
 use Rattle.std.specs.Prelude.{◌≡◌, ℕ, ◌+◌, ℤ, pos, negsuc, Bool, true, List, [], ◌∷◌, nat_lt}
 use Rattle.std.specs.List.{flat_map}

@@ -130,9 +130,9 @@ impl Stage {
         Ok(())
     }
 
-    /// With fewer bytes no further check is made.
+    /// How many bytes the next check awaits: with fewer no further check is made.
     #[inline(always)]
-    pub fn need(&self) -> usize
+    pub fn bytes_awaited(&self) -> usize
         requires within { self.now.items.at + item_size self.now.items.item * self.now.items.left
             ≤ most_entry_bytes }
         requires fits { end_of self.now.standard ≤ most_entry_bytes }
@@ -166,7 +166,7 @@ impl Stage {
         ensures failed { IfErr result (λ refused. failure bytes.now ≡ Some refused) }
         ensures stood { IfErr result (λ refused. Stands bytes.now self.new) }
     {
-        'steps: while self.need() <= bytes.len() {
+        'steps: while self.bytes_awaited() <= bytes.len() {
             self.step(bytes)?;
         }
         Ok(())

@@ -49,7 +49,7 @@ pub fn until_nul(bytes: &[u8]) -> &[u8]
     until_far_nul(bytes)
 }
 
-/// The place of the first NUL among the first 16 bytes, where nine texts of ten have theirs.
+/// The place of the first NUL among the first 16 bytes, in which nine texts of ten have theirs.
 #[inline(always)]
 fn first_nul(bytes: &[u8]) -> Option<usize>
     requires { 16 ≤ length bytes.now }

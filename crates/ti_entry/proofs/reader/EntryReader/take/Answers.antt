@@ -50,22 +50,22 @@ advance-requires c =
 
 -- ---- too few bytes for a check
 
-pub need-requires-clause-within : goal.need-requires-clause-within
-need-requires-clause-within c = (c.self.invariant.stands (ap (λ (r : Reading). r.refusal) c.self.view_is ∙ c.requires) []).within
+pub bytes_awaited-requires-clause-within : goal.bytes_awaited-requires-clause-within
+bytes_awaited-requires-clause-within c = (c.self.invariant.stands (ap (λ (r : Reading). r.refusal) c.self.view_is ∙ c.requires) []).within
 
-pub need-requires-clause-fits : goal.need-requires-clause-fits
-need-requires-clause-fits c = (c.self.invariant.stands (ap (λ (r : Reading). r.refusal) c.self.view_is ∙ c.requires) []).fits
+pub bytes_awaited-requires-clause-fits : goal.bytes_awaited-requires-clause-fits
+bytes_awaited-requires-clause-fits c = (c.self.invariant.stands (ap (λ (r : Reading). r.refusal) c.self.view_is ∙ c.requires) []).fits
 
-pub need-requires-clause-extended_fits : goal.need-requires-clause-extended_fits
-need-requires-clause-extended_fits c = (c.self.invariant.stands (ap (λ (r : Reading). r.refusal) c.self.view_is ∙ c.requires) []).extended_fits
+pub bytes_awaited-requires-clause-extended_fits : goal.bytes_awaited-requires-clause-extended_fits
+bytes_awaited-requires-clause-extended_fits c = (c.self.invariant.stands (ap (λ (r : Reading). r.refusal) c.self.view_is ∙ c.requires) []).extended_fits
 
-pub invariant_of-self-then-as_slice-need : goal.invariant_of-self-then-as_slice-need
-invariant_of-self-then-as_slice-need c =
+pub invariant_of-self-then-as_slice-bytes_awaited : goal.invariant_of-self-then-as_slice-bytes_awaited
+invariant_of-self-then-as_slice-bytes_awaited c =
     let now = c.push.new.self.items in
     let none : c.self.inside.refusal ≡ None = ap (λ (r : Reading). r.refusal) c.self.view_is ∙ c.requires in
     let stands = subst (λ (k : List ℕ). Stands k c.self.inside.stage) (sym c.push.ensures.items) (stands_on c.self.inside.kept.items (c.args.byte ∷ []) c.self.inside.stage (c.self.invariant.stands none)) in
     let long : length c.as_slice-2.result.now ≡ length now = ap length c.as_slice-2.ensures.value in
-    let waits = c.need.ensures.waits now (stands_now now c.self.inside.stage stands) (omega arith) in
+    let waits = c.bytes_awaited.ensures.waits now (stands_now now c.self.inside.stage stands) (omega arith) in
     record {
       most = subst (λ (k : List ℕ). length k ≤ most_entry_bytes) c.as_slice-2.ensures.value c.as_slice-2.ensures.fits;
       none_failed = waits_none_failed now c.self.inside.stage waits;
@@ -73,14 +73,14 @@ invariant_of-self-then-as_slice-need c =
       waits = λ e. waits;
     }
 
-pub returns-then-as_slice-need-clause-fed : goal.returns-then-as_slice-need-clause-fed
-returns-then-as_slice-need-clause-fed c =
+pub returns-then-as_slice-bytes_awaited-clause-fed : goal.returns-then-as_slice-bytes_awaited-clause-fed
+returns-then-as_slice-bytes_awaited-clause-fed c =
     let kept = c.self.inside.kept.items in
     let now = c.push.new.self.items in
     let none : c.self.inside.refusal ≡ None = ap (λ (r : Reading). r.refusal) c.self.view_is ∙ c.requires in
     let stands = subst (λ (k : List ℕ). Stands k c.self.inside.stage) (sym c.push.ensures.items) (stands_on kept (c.args.byte ∷ []) c.self.inside.stage (c.self.invariant.stands none)) in
     let long : length c.as_slice-2.result.now ≡ length now = ap length c.as_slice-2.ensures.value in
-    let waits = c.need.ensures.waits now (stands_now now c.self.inside.stage stands) (omega arith) in
+    let waits = c.bytes_awaited.ensures.waits now (stands_now now c.self.inside.stage stands) (omega arith) in
     let passes : failure (kept ++ c.args.byte ∷ []) ≡ None = ap failure (sym c.push.ensures.items) ∙ waits_none_failed now c.self.inside.stage waits in
     same_reading kept c.args.self.now _ (c.args.byte ∷ []) c.self.inside.refusal c.self.view_is none
     (ap (λ (k : List ℕ). reading_with k c.self.inside.refusal) c.push.ensures.items ∙ ap (reading_with (kept ++ c.args.byte ∷ [])) none ∙ reading_after-passes kept (c.args.byte ∷ []) passes)

@@ -18,22 +18,22 @@ advance-requires c =
 
 -- ---- too few bytes for a check
 
-pub need-requires-clause-within : goal.need-requires-clause-within
-need-requires-clause-within c = (c.self.invariant.stands (ap (λ (r : Reading). r.refusal) c.self.view_is ∙ c.requires) []).within
+pub bytes_awaited-requires-clause-within : goal.bytes_awaited-requires-clause-within
+bytes_awaited-requires-clause-within c = (c.self.invariant.stands (ap (λ (r : Reading). r.refusal) c.self.view_is ∙ c.requires) []).within
 
-pub need-requires-clause-fits : goal.need-requires-clause-fits
-need-requires-clause-fits c = (c.self.invariant.stands (ap (λ (r : Reading). r.refusal) c.self.view_is ∙ c.requires) []).fits
+pub bytes_awaited-requires-clause-fits : goal.bytes_awaited-requires-clause-fits
+bytes_awaited-requires-clause-fits c = (c.self.invariant.stands (ap (λ (r : Reading). r.refusal) c.self.view_is ∙ c.requires) []).fits
 
-pub need-requires-clause-extended_fits : goal.need-requires-clause-extended_fits
-need-requires-clause-extended_fits c = (c.self.invariant.stands (ap (λ (r : Reading). r.refusal) c.self.view_is ∙ c.requires) []).extended_fits
+pub bytes_awaited-requires-clause-extended_fits : goal.bytes_awaited-requires-clause-extended_fits
+bytes_awaited-requires-clause-extended_fits c = (c.self.invariant.stands (ap (λ (r : Reading). r.refusal) c.self.view_is ∙ c.requires) []).extended_fits
 
-pub invariant_of-self-then-as_slice-need : goal.invariant_of-self-then-as_slice-need
-invariant_of-self-then-as_slice-need c =
+pub invariant_of-self-then-as_slice-bytes_awaited : goal.invariant_of-self-then-as_slice-bytes_awaited
+invariant_of-self-then-as_slice-bytes_awaited c =
     let now = c.try_extend_from_slice.new.self.items in
     let none : c.self.inside.refusal ≡ None = ap (λ (r : Reading). r.refusal) c.self.view_is ∙ c.requires in
     let stands = subst (λ (k : List ℕ). Stands k c.self.inside.stage) (sym c.in-Ok.ensures.ok) (stands_on c.self.inside.kept.items c.args.piece.now c.self.inside.stage (c.self.invariant.stands none)) in
     let long : length c.as_slice.result.now ≡ length now = ap length c.as_slice.ensures.value in
-    let waits = c.need.ensures.waits now (stands_now now c.self.inside.stage stands) (omega arith) in
+    let waits = c.bytes_awaited.ensures.waits now (stands_now now c.self.inside.stage stands) (omega arith) in
     record {
       most = subst (λ (k : List ℕ). length k ≤ most_entry_bytes) c.as_slice.ensures.value c.as_slice.ensures.fits;
       none_failed = waits_none_failed now c.self.inside.stage waits;
@@ -41,15 +41,15 @@ invariant_of-self-then-as_slice-need c =
       waits = λ e. waits;
     }
 
-pub returns-then-as_slice-need-clause-taken : goal.returns-then-as_slice-need-clause-taken
-returns-then-as_slice-need-clause-taken c = λ e.
+pub returns-then-as_slice-bytes_awaited-clause-taken : goal.returns-then-as_slice-bytes_awaited-clause-taken
+returns-then-as_slice-bytes_awaited-clause-taken c = λ e.
     let kept = c.self.inside.kept.items in
     let piece = c.args.piece.now in
     let now = c.try_extend_from_slice.new.self.items in
     let none : c.self.inside.refusal ≡ None = ap (λ (r : Reading). r.refusal) c.self.view_is ∙ c.requires in
     let stands = subst (λ (k : List ℕ). Stands k c.self.inside.stage) (sym c.in-Ok.ensures.ok) (stands_on kept piece c.self.inside.stage (c.self.invariant.stands none)) in
     let long : length c.as_slice.result.now ≡ length now = ap length c.as_slice.ensures.value in
-    let waits = c.need.ensures.waits now (stands_now now c.self.inside.stage stands) (omega arith) in
+    let waits = c.bytes_awaited.ensures.waits now (stands_now now c.self.inside.stage stands) (omega arith) in
     let passes : failure (kept ++ piece) ≡ None = ap failure (sym c.in-Ok.ensures.ok) ∙ waits_none_failed now c.self.inside.stage waits in
     same_reading kept c.args.self.now _ piece c.self.inside.refusal c.self.view_is none
     (ap (λ (k : List ℕ). reading_with k c.self.inside.refusal) c.in-Ok.ensures.ok ∙ ap (reading_with (kept ++ piece)) none ∙ reading_after-passes kept piece passes)

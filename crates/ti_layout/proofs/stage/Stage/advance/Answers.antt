@@ -5,14 +5,14 @@ use Rattle.ti_layout.specs.Stages.{Stands}
 use Rattle.ti_layout.proofs.StageStepLemmas.{stands_now}
 use Rattle.ti_layout.proofs.stage.Stage.advance.Goals as goal
 
-pub need-requires-clause-within : goal.need-requires-clause-within
-need-requires-clause-within c = (stands_now c.args.bytes.now c.steps.self c.steps.invariant).within
+pub bytes_awaited-requires-clause-within : goal.bytes_awaited-requires-clause-within
+bytes_awaited-requires-clause-within c = (stands_now c.args.bytes.now c.steps.self c.steps.invariant).within
 
-pub need-requires-clause-fits : goal.need-requires-clause-fits
-need-requires-clause-fits c = (stands_now c.args.bytes.now c.steps.self c.steps.invariant).fits
+pub bytes_awaited-requires-clause-fits : goal.bytes_awaited-requires-clause-fits
+bytes_awaited-requires-clause-fits c = (stands_now c.args.bytes.now c.steps.self c.steps.invariant).fits
 
-pub need-requires-clause-extended_fits : goal.need-requires-clause-extended_fits
-need-requires-clause-extended_fits c = (stands_now c.args.bytes.now c.steps.self c.steps.invariant).extended_fits
+pub bytes_awaited-requires-clause-extended_fits : goal.bytes_awaited-requires-clause-extended_fits
+bytes_awaited-requires-clause-extended_fits c = (stands_now c.args.bytes.now c.steps.self c.steps.invariant).extended_fits
 
 pub returns-in_err-step-clause-stood : goal.returns-in_err-step-clause-stood
 returns-in_err-step-clause-stood c =
@@ -20,4 +20,4 @@ returns-in_err-step-clause-stood c =
     rw p.1 (subst (λ (s : Stage). Stands c.args.bytes.now s) (sym c.in_err-step.ensures.same) c.steps.invariant)
 
 pub returns-clause-waits : goal.returns-clause-waits
-returns-clause-waits c = c.need.ensures.waits c.args.bytes.now (stands_now c.args.bytes.now c.steps.self c.steps.invariant) (omega arith)
+returns-clause-waits c = c.bytes_awaited.ensures.waits c.args.bytes.now (stands_now c.args.bytes.now c.steps.self c.steps.invariant) (omega arith)
