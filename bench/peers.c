@@ -85,8 +85,8 @@ static size_t run_ti_read(const struct item *item) {
     static ti_text_item texts[MOST_CAPABILITIES];
     static ti_bytes names[MOST_CAPABILITIES];
     ti_arrays arrays = {flags, MOST_CAPABILITIES, numbers, MOST_CAPABILITIES, texts, MOST_CAPABILITIES, names, MOST_CAPABILITIES};
-    ti_entry entry;
-    return ti_read((const unsigned char *)item->bytes, item->length, &arrays, &entry) == TI_DONE;
+    ti_counts counts;
+    return ti_read((const unsigned char *)item->bytes, item->length, &arrays, &counts) == TI_DONE;
 }
 
 static size_t run_ti_open(const struct item *item) {

@@ -357,7 +357,7 @@ struct reading {
     int32_t *numbers;
     ti_text_item *texts;
     ti_bytes *names;
-    ti_entry entry;
+    ti_counts counts;
     uint32_t answer;
 };
 
@@ -376,10 +376,10 @@ static struct reading read_into(const unsigned char *bytes, size_t length, const
     own.numbers = (int32_t *)room_of(rooms[1] * sizeof *own.numbers);
     own.texts = (ti_text_item *)room_of(rooms[2] * sizeof *own.texts);
     own.names = (ti_bytes *)room_of(rooms[3] * sizeof *own.names);
-    memset(&own.entry, UNWRITTEN, sizeof own.entry);
+    memset(&own.counts, UNWRITTEN, sizeof own.counts);
     ti_arrays arrays = {own.flags, rooms[0], own.numbers, rooms[1], own.texts, rooms[2], own.names, rooms[3]};
     ti_arrays before = arrays;
-    own.answer = ti_read(own.bytes, length, &arrays, &own.entry);
+    own.answer = ti_read(own.bytes, length, &arrays, &own.counts);
     expect(memcmp(&arrays, &before, sizeof arrays) == 0, "the arrays stay where they are");
     return own;
 }
@@ -421,20 +421,20 @@ static int has_mark(const struct reading *own, size_t index, int8_t mark) {
 }
 
 static int has_no_place(const struct reading *own) {
-    return are_unwritten(&own->entry.place, sizeof own->entry.place);
+    return are_unwritten(&own->counts.place, sizeof own->counts.place);
 }
 
 /* Of the entry the place alone was written. */
 static int has_place(const struct reading *own, size_t place) {
-    size_t end = offsetof(ti_entry, number_bits) + sizeof own->entry.number_bits;
-    return own->entry.place == place && are_unwritten(&own->entry, end);
+    size_t end = offsetof(ti_counts, number_bits) + sizeof own->counts.number_bits;
+    return own->counts.place == place && are_unwritten(&own->counts, end);
 }
 
 static int has_counts(const struct reading *own) {
-    const ti_entry *entry = &own->entry;
-    return is_lent(own, entry->names, "t|test") && entry->flags == 3 && entry->numbers == 3 && entry->texts == 4
-        && entry->extended_flags == 1 && entry->extended_numbers == 1 && entry->extended_texts == 2
-        && entry->number_bits == 16;
+    const ti_counts *counts = &own->counts;
+    return is_lent(own, counts->names, "t|test") && counts->flags == 3 && counts->numbers == 3 && counts->texts == 4
+        && counts->extended_flags == 1 && counts->extended_numbers == 1 && counts->extended_texts == 2
+        && counts->number_bits == 16;
 }
 
 static void test_reading(void) {
@@ -456,7 +456,7 @@ static void test_reading(void) {
         release(&own);
     }
     struct reading own = read_into(WIDE, sizeof WIDE, AMPLE);
-    expect(own.answer == TI_DONE && own.entry.number_bits == 32 && own.entry.texts == 0, "a wide entry");
+    expect(own.answer == TI_DONE && own.counts.number_bits == 32 && own.counts.texts == 0, "a wide entry");
     expect(own.flags[0] == 0 && own.numbers[0] == 70000 && own.numbers[1] == TI_CANCELLED, "numbers of 32 bits");
     release(&own);
 }
@@ -471,14 +471,14 @@ static void test_rooms(void) {
         expect(are_kept(&own, NONE, rooms), "arrays are kept if one is too short");
         release(&own);
     }
-    ti_entry entry;
+    ti_counts counts;
     ti_arrays none = {NULL, 0, NULL, 0, NULL, 0, NULL, 0};
-    expect(ti_read(ENTRY, sizeof ENTRY, &none, &entry) == TI_ROOM_TOO_SMALL
-           && entry.texts == 4 && entry.extended_texts == 2, "no room, and null pointers");
+    expect(ti_read(ENTRY, sizeof ENTRY, &none, &counts) == TI_ROOM_TOO_SMALL
+           && counts.texts == 4 && counts.extended_texts == 2, "no room, and null pointers");
     static const unsigned char bare[] = {0x1a, 0x01, WORD(2), WORD(0), WORD(0), WORD(0), WORD(0), 'b', 0};
-    expect(ti_read(bare, sizeof bare, &none, &entry) == TI_DONE && entry.names.length == 1,
+    expect(ti_read(bare, sizeof bare, &none, &counts) == TI_DONE && counts.names.length == 1,
            "an entry that needs no room");
-    expect(ti_read(NULL, 0, &none, &entry) == TI_TRUNCATED && entry.place == 0,
+    expect(ti_read(NULL, 0, &none, &counts) == TI_TRUNCATED && counts.place == 0,
            "no bytes, and null pointers");
 }
 
@@ -545,14 +545,14 @@ static void test_fresh_memory(void) {
     ti_text_item *texts = (ti_text_item *)malloc(6 * sizeof *texts);
     ti_bytes *names = (ti_bytes *)malloc(4 * sizeof *names);
     unsigned char *room = (unsigned char *)malloc(26);
-    ti_entry *entry = (ti_entry *)malloc(sizeof *entry);
+    ti_counts *counts = (ti_counts *)malloc(sizeof *counts);
     ti_limits *needed = (ti_limits *)malloc(sizeof *needed);
     ti_run *went = (ti_run *)malloc(sizeof *went);
-    if (!flags || !numbers || !texts || !names || !room || !entry || !needed || !went) exit(2);
+    if (!flags || !numbers || !texts || !names || !room || !counts || !needed || !went) exit(2);
     const unsigned char *cup = (const unsigned char *)CUP;
     ti_arrays arrays = {flags, 4, numbers, 4, texts, 6, names, 4};
-    expect(ti_read(ENTRY, sizeof ENTRY, &arrays, entry) == TI_DONE
-           && entry->texts == 4 && texts[5].mark == TI_CANCELLED && names[3].length == 2, "an entry into fresh memory");
+    expect(ti_read(ENTRY, sizeof ENTRY, &arrays, counts) == TI_DONE
+           && counts->texts == 4 && texts[5].mark == TI_CANCELLED && names[3].length == 2, "an entry into fresh memory");
     expect(ti_check(cup, strlen(CUP), 0, needed) == TI_DONE && needed->bound == 26, "limits into fresh memory");
     memset(&vars, 0, sizeof vars);
     expect(ti_expand(cup, strlen(CUP), NULL, 0, &vars, room, 26, went) == TI_DONE && went->written == 6
@@ -562,7 +562,7 @@ static void test_fresh_memory(void) {
     free(texts);
     free(names);
     free(room);
-    free(entry);
+    free(counts);
     free(needed);
     free(went);
 }
@@ -623,8 +623,8 @@ static void has_no_extended(uint32_t kind, size_t index) {
 
 static void test_views(void) {
     expect(open_copy(ENTRY, sizeof ENTRY) == TI_DONE, "an entry is opened");
-    expect(is_text(view.entry.names, "t|test") && view.entry.flags == 3 && view.entry.extended_texts == 2, "its counts");
-    expect(are_unwritten(&view.entry.place, sizeof view.entry.place), "no place of an entry that is opened");
+    expect(is_text(view.counts.names, "t|test") && view.counts.flags == 3 && view.counts.extended_texts == 2, "its counts");
+    expect(are_unwritten(&view.counts.place, sizeof view.counts.place), "no place of an entry that is opened");
     expect(ti_view_flag(&view, 0) == 1 && ti_view_flag(&view, 1) == 0 && ti_view_flag(&view, 2) == TI_CANCELLED, "flags");
     expect(ti_view_flag(&view, 3) == 0 && ti_view_flag(&view, SIZE_MAX) == 0, "a flag that the entry is too short for");
     expect(ti_view_number(&view, 0) == 80 && ti_view_number(&view, 1) == TI_ABSENT, "numbers");
@@ -665,8 +665,8 @@ static void test_view_names(void) {
 static void test_view_faults(void) {
     for (size_t length = 0; length < sizeof ENTRY; length++) {
         if (length == TABLE_END) continue;
-        expect(open_copy(ENTRY, length) == TI_TRUNCATED && view.entry.place == length, "an entry that is cut short");
-        expect(are_unwritten(&view, offsetof(ti_view, entry.place)), "nothing before the place is written");
+        expect(open_copy(ENTRY, length) == TI_TRUNCATED && view.counts.place == length, "an entry that is cut short");
+        expect(are_unwritten(&view, offsetof(ti_view, counts.place)), "nothing before the place is written");
         expect(are_unwritten(&view.bytes, sizeof view - offsetof(ti_view, bytes)), "nor after it");
         close_copy();
     }

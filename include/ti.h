@@ -107,8 +107,8 @@ enum {
     TI_MOST_CAPABILITY_BYTES = 32767, /* of a capability */
     TI_MOST_PARAMETERS = 9,           /* of an expansion */
     TI_MOST_TEXT_BYTES = 32767,       /* of a text among the parameters */
-    TI_MOST_VALUES = 32,              /* on the stack of a capability */
-    TI_MOST_OPEN = 32,                /* conditionals of a capability that are open at once */
+    TI_MOST_DEPTH = 32,               /* values on the stack of a capability */
+    TI_MOST_NEST = 32,                /* conditionals of a capability that are open at once */
     TI_MOST_RATE = 1000000,           /* bytes per second */
     TI_MOST_AFFECTED_LINES = 65535,   /* of a padding */
     TI_MOST_PADDED_BYTES = 67108864   /* of a padded text */
@@ -150,14 +150,14 @@ typedef struct {
     size_t extended_texts;
     uint32_t number_bits; /* how wide its numbers are: 16 or 32 */
     size_t place;         /* of a fault */
-} ti_entry;
+} ti_counts;
 
 /* An entry that was opened: what ti_open fills, and the calls of a view take. It may be copied and moved, but must not be
  * changed, and the bytes must stay as they are and where they are. */
 typedef struct {
-    ti_entry entry; /* the names and the counts, or where the fault is */
-    ti_bytes bytes; /* those that were opened */
-    size_t base;    /* for the calls alone */
+    ti_counts counts; /* with the names, or where the fault is */
+    ti_bytes bytes;   /* those that were opened */
+    size_t base;      /* for the calls alone */
 } ti_view;
 
 /* What an entry says of a capability. */
@@ -208,8 +208,8 @@ typedef struct {
 
 /* Opens a compiled entry, which has to be all of the bytes, for the calls that follow. Nothing is copied.
  *
- * TI_DONE: the view is written, but for the place of its entry.
- * 1 to 14: the bytes are no entry; view->entry.place says where. Nothing else is written.
+ * TI_DONE: the view is written, but for the place of its counts.
+ * 1 to 14: the bytes are no entry; view->counts.place says where. Nothing else is written.
  *
  * The view holds pointers into the bytes. In Go they must so be pinned, or lie in memory of C. */
 uint32_t ti_open(const unsigned char *bytes, size_t length, ti_view *view);
@@ -235,7 +235,7 @@ int8_t ti_view_text(const ti_view *view, size_t index, ti_bytes *text);
  *         fault = ti_check(clipboard.text.bytes, clipboard.text.length, 1000, &limits); */
 uint32_t ti_view_find(const ti_view *view, const unsigned char *name, size_t length, ti_value *value);
 
-/* Finds the name and the value of an extended flag, number or text by its index, from 0 to below the count in view->entry:
+/* Finds the name and the value of an extended flag, number or text by its index, from 0 to below the count in view->counts:
  * TI_DONE with both, or TI_NOT_NAMED, and both are as they were. */
 uint32_t ti_view_extended(const ti_view *view, uint32_t kind, size_t index, ti_bytes *name, ti_value *value);
 
@@ -244,17 +244,17 @@ uint32_t ti_view_extended(const ti_view *view, uint32_t kind, size_t index, ti_b
  * TI_DONE: the arrays start with the flags, the numbers and the texts, in each the standard ones by their index and after
  * them the extended ones, and with the names of the extended flags, then numbers, then texts. A flag is 1 or 0, or one of
  * the marks; a number is its value, from 0, or one of the marks. Texts and names point into the entry's bytes. What lies
- * in an array past these items is as it was. Of the ti_entry all is written but the place.
+ * in an array past these items is as it was. Of the ti_counts all is written but the place.
  * 1 to 14: the bytes are no entry; the place says where. Nothing else is written.
- * TI_ROOM_TOO_SMALL: an array has fewer elements than that. The ti_entry is written as after TI_DONE, so you can call once
+ * TI_ROOM_TOO_SMALL: an array has fewer elements than that. The ti_counts is written as after TI_DONE, so you can call once
  * with no room to learn the counts. The arrays are as they were.
  *
  * Room for TI_MOST_FLAGS, TI_MOST_NUMBERS, TI_MOST_TEXTS and TI_MOST_EXTENDED is always enough. The ti_arrays itself is as it
  * was after each call.
  *
- * Afterwards the arrays and the ti_entry hold pointers to the entry's bytes, which must stay where they are. In Go the bytes
+ * Afterwards the arrays and the ti_counts hold pointers to the entry's bytes, which must stay where they are. In Go the bytes
  * must so be pinned, or lie in memory of C. */
-uint32_t ti_read(const unsigned char *bytes, size_t length, ti_arrays *arrays, ti_entry *entry);
+uint32_t ti_read(const unsigned char *bytes, size_t length, ti_arrays *arrays, ti_counts *counts);
 
 /* Checks a capability. TI_DONE: all but the place is written, and the place is as it was. 101 to 113: the place alone
  * is written. longest_text is the length of the longest text among the parameters, 0 if all are numbers; ti_expand needs
@@ -353,12 +353,12 @@ TI_LAYOUT(sizeof(ti_arrays) == 64 && offsetof(ti_arrays, flags) == 0 && offsetof
 TI_LAYOUT(offsetof(ti_arrays, numbers) == 16 && offsetof(ti_arrays, number_room) == 24);
 TI_LAYOUT(offsetof(ti_arrays, texts) == 32 && offsetof(ti_arrays, text_room) == 40);
 TI_LAYOUT(offsetof(ti_arrays, names) == 48 && offsetof(ti_arrays, name_room) == 56);
-TI_LAYOUT(sizeof(ti_entry) == 80 && offsetof(ti_entry, names) == 0 && offsetof(ti_entry, flags) == 16);
-TI_LAYOUT(offsetof(ti_entry, numbers) == 24 && offsetof(ti_entry, texts) == 32);
-TI_LAYOUT(offsetof(ti_entry, extended_flags) == 40 && offsetof(ti_entry, extended_numbers) == 48);
-TI_LAYOUT(offsetof(ti_entry, extended_texts) == 56 && offsetof(ti_entry, number_bits) == 64);
-TI_LAYOUT(offsetof(ti_entry, place) == 72);
-TI_LAYOUT(sizeof(ti_view) == 104 && offsetof(ti_view, entry) == 0 && offsetof(ti_view, bytes) == 80);
+TI_LAYOUT(sizeof(ti_counts) == 80 && offsetof(ti_counts, names) == 0 && offsetof(ti_counts, flags) == 16);
+TI_LAYOUT(offsetof(ti_counts, numbers) == 24 && offsetof(ti_counts, texts) == 32);
+TI_LAYOUT(offsetof(ti_counts, extended_flags) == 40 && offsetof(ti_counts, extended_numbers) == 48);
+TI_LAYOUT(offsetof(ti_counts, extended_texts) == 56 && offsetof(ti_counts, number_bits) == 64);
+TI_LAYOUT(offsetof(ti_counts, place) == 72);
+TI_LAYOUT(sizeof(ti_view) == 104 && offsetof(ti_view, counts) == 0 && offsetof(ti_view, bytes) == 80);
 TI_LAYOUT(offsetof(ti_view, base) == 96);
 TI_LAYOUT(sizeof(ti_value) == 24 && offsetof(ti_value, text) == 0 && offsetof(ti_value, number) == 16);
 TI_LAYOUT(offsetof(ti_value, kind) == 20);

@@ -53,13 +53,13 @@ class _Bytes(Structure):
         return string_at(self.bytes, self.length) if self.length else b""
 
 
-class _Entry(Structure):
+class _Counts(Structure):
     COUNTS = ["flags", "numbers", "texts", "extended_flags", "extended_numbers", "extended_texts"]
     _fields_ = [("names", _Bytes), *((name, c_size_t) for name in COUNTS), ("number_bits", c_uint32), ("place", c_size_t)]
 
 
 class _View(Structure):
-    _fields_ = [("entry", _Entry), ("bytes", _Bytes), ("base", c_size_t)]
+    _fields_ = [("counts", _Counts), ("bytes", _Bytes), ("base", c_size_t)]
 
 
 class _Value(Structure):
@@ -125,10 +125,10 @@ class Entry:
         # The view has pointers into these bytes.
         self._data, self._view = bytes(data), _View()
         if fault := _library.ti_open(self._data, len(self._data), byref(self._view)):
-            raise Fault(fault, self._view.entry.place)
-        self.names: list[bytes] = self._view.entry.names.copy().split(b"|")
+            raise Fault(fault, self._view.counts.place)
+        self.names: list[bytes] = self._view.counts.names.copy().split(b"|")
         """The names of the terminal, the last of which describes it."""
-        self.number_bits: int = self._view.entry.number_bits
+        self.number_bits: int = self._view.counts.number_bits
         """How wide the numbers are in the file: 16 or 32."""
 
     def _value(self, kind: int, name: bytes | str) -> _Value:
@@ -163,7 +163,7 @@ class Entry:
         named: dict[bytes, str] = {}
         name, value = _Bytes(), _Value()
         for kind, word in enumerate(KINDS):
-            for index in range(getattr(self._view.entry, f"extended_{word}s")):
+            for index in range(getattr(self._view.counts, f"extended_{word}s")):
                 _library.ti_view_extended(byref(self._view), kind, index, byref(name), byref(value))
                 named.setdefault(name.copy(), word)
         return named

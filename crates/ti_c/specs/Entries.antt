@@ -1,4 +1,4 @@
--- What C is told of an entry, and what it finds in the arrays that an entry was read into.
+-- What C gets of an entry, and what it finds in the arrays that an entry was read into.
 use Rattle.std.specs.Prelude.{◌≡◌, ℕ, ◌+◌, ◌*◌, ◌≤◌, ℤ, pos, negsuc, List, [], ◌++◌, length, map, take, drop, ◌⊎◌, Some}
 use Rattle.ti_base.specs.Limits.{most_entry_bytes}
 use Rattle.ti_words.specs.declared.Flag.{Flag}
@@ -38,7 +38,7 @@ text_held item = (item.mark, item.text.now)
 abbrev pub bytes_held : Bytes → List ℕ
 bytes_held item = item.bytes.now
 
--- an item that stands for itself
+-- an item that is its own value
 abbrev pub itself : {A : Type 0} → A → A
 itself item = item
 
@@ -96,20 +96,20 @@ pub record StayInPlace (old new : Arrays) : Type 0 where
   pub texts : (new.texts.ref_ptr ≡ old.texts.ref_ptr) × (length new.texts.now ≡ length old.texts.now)
   pub names : (new.names.ref_ptr ≡ old.names.ref_ptr) × (length new.names.now ≡ length old.names.now)
 
--- ---- what is told
+-- ---- names, counts and faults
 
 -- the names, the counts and the width are those of the entry
-pub record Tells (told : EntryCounts) (v : EntryValue) : Type 0 where
-  pub names : told.names.now ≡ v.names
-  pub flags : told.flags ≡ length v.standard.flags
-  pub numbers : told.numbers ≡ length v.standard.numbers
-  pub texts : told.texts ≡ length v.standard.texts
-  pub extended_flags : told.extended_flags ≡ length v.extended.flags
-  pub extended_numbers : told.extended_numbers ≡ length v.extended.numbers
-  pub extended_texts : told.extended_texts ≡ length v.extended.texts
-  pub number_bits : told.number_bits ≡ 8 * number_size v.width
+pub record AreCountsOf (counts : EntryCounts) (v : EntryValue) : Type 0 where
+  pub names : counts.names.now ≡ v.names
+  pub flags : counts.flags ≡ length v.standard.flags
+  pub numbers : counts.numbers ≡ length v.standard.numbers
+  pub texts : counts.texts ≡ length v.standard.texts
+  pub extended_flags : counts.extended_flags ≡ length v.extended.flags
+  pub extended_numbers : counts.extended_numbers ≡ length v.extended.numbers
+  pub extended_texts : counts.extended_texts ≡ length v.extended.texts
+  pub number_bits : counts.number_bits ≡ 8 * number_size v.width
 
--- the answer of a call that has read an entry
+-- the number that is returned after an entry was read
 abbrev pub IsRead : ℕ → Type 0
 IsRead answer = (answer ≡ done) ⊎ (answer ≡ room_too_small)
 

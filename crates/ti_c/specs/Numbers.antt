@@ -65,6 +65,6 @@ too_much = 302
 abbrev pub not_named : ℕ
 not_named = 401
 
--- an array has less room than the entry asks for
+-- an array has less room than the entry requires
 abbrev pub room_too_small : ℕ
 room_too_small = 402

@@ -1,4 +1,4 @@
--- What C is told of an entry that it has opened.
+-- What C gets of an entry that it has opened.
 use Rattle.std.specs.Prelude.{⊤, ◌≡◌, ℕ, ℤ, List, [], Option, Some, None, get_or, map, slice_get}
 use Rattle.ti_words.specs.declared.Flag.{Flag}
 use Rattle.ti_words.specs.declared.Flag.TheVariants as flags

@@ -11,7 +11,7 @@ ghost use Rattle.ti_words.specs.Value.{EntryValue};
 ghost use Rattle.ti_words.specs.Widths.{number_size};
 ghost use Rattle.ti_entry.specs.Finding.{names_of};
 ghost use Rattle.ti_c.specs.Numbers.{done, room_too_small};
-ghost use Rattle.ti_c.specs.Entries.{flag_mark as the_flag_mark, text_shown, text_held, bytes_held, itself, flag_marks, number_words, texts_shown, StartsWith, HasRoom, HasRoomIn, AreAmple, AreKept, StayInPlace, Tells, IsRead, SpellsSome, ForEntry, IsEntryRefusedAs};
+ghost use Rattle.ti_c.specs.Entries.{flag_mark as the_flag_mark, text_shown, text_held, bytes_held, itself, flag_marks, number_words, texts_shown, StartsWith, HasRoom, HasRoomIn, AreAmple, AreKept, StayInPlace, AreCountsOf, IsRead, SpellsSome, ForEntry, IsEntryRefusedAs};
 
 use crate::faults::{DONE, ROOM_TOO_SMALL, entry_number};
 use crate::names::Bytes;
@@ -238,7 +238,7 @@ pub(crate) fn put_counts<'a>(
     extended: &Extended<'a>,
 )
     requires { extended.now ≡ entry.now.extended }
-    ensures told { Tells counts.new entry.now }
+    ensures told { AreCountsOf counts.new entry.now }
     ensures untold { counts.new.place ≡ counts.old.place }
 {
     counts.names = entry.names();
@@ -295,18 +295,18 @@ fn fill<'a>(entry: &Entry<'a>, extended: &Extended<'a>, arrays: &mut Arrays<'a, 
 pub extern "C" fn ti_read<'a>(
     bytes: &'a [u8],
     arrays: &mut Arrays<'a, '_>,
-    entry: &mut EntryCounts<'a>,
+    counts: &mut EntryCounts<'a>,
 ) -> u32
-    ensures answer { IsRead result ⊎ IsEntryRefusedAs bytes.now result entry.new.place }
+    ensures answer { IsRead result ⊎ IsEntryRefusedAs bytes.now result counts.new.place }
     ensures refused { (number place : ℕ) → IsEntryRefusedAs bytes.now number place
-        → (result ≡ number) × (entry.new.place ≡ place) }
-    // An entry is read if the bytes spell one, and only then, and it is told.
+        → (result ≡ number) × (counts.new.place ≡ place) }
+    // An entry is read if the bytes spell one, and only then, and its names and counts are written.
     ensures only { SpellsSome bytes.now → IsRead result }
     ensures spelled { IsRead result → SpellsSome bytes.now }
-    ensures told { IsRead result → ForEntry bytes.now (λ v. Tells entry.new v) }
-    // After a refusal nothing of the entry is written but the place, and else no place is.
-    ensures place { IsRead result ⊎ (entry.new ≡ record entry.old { place = entry.new.place }) }
-    ensures untold { IsRead result → entry.new.place ≡ entry.old.place }
+    ensures told { IsRead result → ForEntry bytes.now (λ v. AreCountsOf counts.new v) }
+    // After a refusal nothing of the counts is written but the place, and else no place is.
+    ensures place { IsRead result ⊎ (counts.new ≡ record counts.old { place = counts.new.place }) }
+    ensures untold { IsRead result → counts.new.place ≡ counts.old.place }
     // The arrays have room for it, or have not.
     ensures room { result ≡ done → ForEntry bytes.now (HasRoomIn arrays.old) }
     ensures short { result ≡ room_too_small → ForEntry bytes.now
@@ -328,12 +328,12 @@ pub extern "C" fn ti_read<'a>(
     let found = match read(bytes) {
         Ok(found) => found,
         Err(refused) => {
-            entry.place = refused.place;
+            counts.place = refused.place;
             return entry_number(refused.fault);
         }
     };
     let extended = found.extended();
-    put_counts(entry, &found, &extended);
+    put_counts(counts, &found, &extended);
     let (flag_room, number_room) = (arrays.flags.len(), arrays.numbers.len());
     let (text_room, name_room) = (arrays.texts.len(), arrays.names.len());
     if !has_room(

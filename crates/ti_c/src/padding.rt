@@ -30,7 +30,7 @@ fn padding_of(given: &GivenPadding) -> Option<Padding>
     Padding::new(given.rate, given.affected_lines, given.xon != 0, given.pad)
 }
 
-/// A length as C is told it.
+/// A length as C gets it.
 fn told_length(need: u128) -> usize
     ensures { result ≡ told_length need }
 {

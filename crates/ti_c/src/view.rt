@@ -9,7 +9,7 @@ ghost use Rattle.ti_words.specs.Value.{EntryValue};
 ghost use Rattle.ti_entry.specs.Finding.{IsPosition};
 ghost use Rattle.ti_c.specs.Numbers.{done, not_named};
 ghost use Rattle.ti_c.specs.Names.{kind_at};
-ghost use Rattle.ti_c.specs.Entries.{flag_mark as the_flag_mark, text_shown, Tells, SpellsSome, ForEntry, IsEntryRefusedAs};
+ghost use Rattle.ti_c.specs.Entries.{flag_mark as the_flag_mark, text_shown, AreCountsOf, SpellsSome, ForEntry, IsEntryRefusedAs};
 ghost use Rattle.ti_c.specs.Views.{IsOpen, HasExtended, IsFoundIn, LacksExtended, flag_shown, number_shown, text_value_shown, value_at, value_held};
 
 use crate::entry::{EntryCounts, flag_mark, number_word, put_counts};
@@ -24,7 +24,7 @@ use ti_words::{Flag, Kind, Number, Text};
 #[derive(Clone, Copy, Debug)]
 pub struct View<'a> {
     /// The names and the counts, or the place of the fault.
-    pub entry: EntryCounts<'a>,
+    pub counts: EntryCounts<'a>,
     /// The bytes of the entry.
     pub bytes: &'a [u8],
     /// What the offsets of the extended names are counted from.
@@ -48,29 +48,29 @@ pub struct Found<'a> {
 /// The place is written after a refusal alone, and then nothing else is.
 #[unsafe(no_mangle)]
 pub extern "C" fn ti_open<'a>(bytes: &'a [u8], view: &mut View<'a>) -> u32
-    ensures answer { (result ≡ done) ⊎ IsEntryRefusedAs bytes.now result view.new.entry.place }
+    ensures answer { (result ≡ done) ⊎ IsEntryRefusedAs bytes.now result view.new.counts.place }
     ensures refused { (number place : ℕ) → IsEntryRefusedAs bytes.now number place
-        → (result ≡ number) × (view.new.entry.place ≡ place) }
-    // An entry is opened if the bytes spell one, and only then, and it is told.
+        → (result ≡ number) × (view.new.counts.place ≡ place) }
+    // An entry is opened if the bytes spell one, and only then, and its names and counts are written.
     ensures only { SpellsSome bytes.now → result ≡ done }
     ensures spelled { result ≡ done → SpellsSome bytes.now }
     ensures opened { result ≡ done → ForEntry bytes.now (λ v. IsOpen view.new v) }
-    ensures told { result ≡ done → ForEntry bytes.now (λ v. Tells view.new.entry v) }
+    ensures told { result ≡ done → ForEntry bytes.now (λ v. AreCountsOf view.new.counts v) }
     // After a refusal nothing of the view is written but the place, and else no place is.
     ensures place { (result ≡ done) ⊎ (view.new
-        ≡ record view.old { entry = record view.old.entry { place = view.new.entry.place } }) }
-    ensures untold { result ≡ done → view.new.entry.place ≡ view.old.entry.place }
+        ≡ record view.old { counts = record view.old.counts { place = view.new.counts.place } }) }
+    ensures untold { result ≡ done → view.new.counts.place ≡ view.old.counts.place }
 {
     let (entry, base) = match read_with_base(bytes) {
         Ok(found) => found,
         Err(refused) => {
-            view.entry.place = refused.place;
+            view.counts.place = refused.place;
             return entry_number(refused.fault);
         }
     };
     view.bytes = bytes;
     view.base = base;
-    put_counts(&mut view.entry, &entry, &entry.extended());
+    put_counts(&mut view.counts, &entry, &entry.extended());
     DONE
 }
 

@@ -1,7 +1,7 @@
 use Rattle.std.proofs.Common.{inl, sym, ◌∙◌, subst, length, true≢false}
 use Rattle.ti_words.specs.Spelling.{part_names}
 use Rattle.ti_words.specs.Value.{EntryValue}
-use Rattle.ti_c.specs.Entries.{text_held, bytes_held, itself, flag_marks, number_words, texts_shown, StartsWith, HasRoom, Tells}
+use Rattle.ti_c.specs.Entries.{text_held, bytes_held, itself, flag_marks, number_words, texts_shown, StartsWith, HasRoom, AreCountsOf}
 use Rattle.ti_c.proofs.AmpleRoomLemmas.{enough}
 use Rattle.ti_c.proofs.NumbersLemmas.{not_read}
 use Rattle.ti_c.proofs.OneFaultLemmas.{one_entry_refused, none_entry_refused}
@@ -33,7 +33,7 @@ returns-in-Err-clause-room c = λ is. absurd (not_read c.in-Err.refused.fault c.
 
 pub returns-then-not-has_room-clause-told : goal.returns-then-not-has_room-clause-told
 returns-then-not-has_room-clause-told c = λ _ v spelled.
-    let P : EntryValue → Type 0 = λ x. Tells c.put_counts.new.counts x in
+    let P : EntryValue → Type 0 = λ x. AreCountsOf c.put_counts.new.counts x in
     subst P (c.in-Ok.ensures.only v spelled) c.put_counts.ensures.told
 
 pub returns-then-not-has_room-clause-short : goal.returns-then-not-has_room-clause-short
@@ -46,7 +46,7 @@ fill-requires-clause-room c = c.has_room.ensures.0 c.if-not-has_room.false
 
 pub returns-clause-told : goal.returns-clause-told
 returns-clause-told c = λ _ v spelled.
-    let P : EntryValue → Type 0 = λ x. Tells c.put_counts.new.counts x in
+    let P : EntryValue → Type 0 = λ x. AreCountsOf c.put_counts.new.counts x in
     subst P (c.in-Ok.ensures.only v spelled) c.put_counts.ensures.told
 
 pub returns-clause-room : goal.returns-clause-room

@@ -1,7 +1,7 @@
 use Rattle.std.proofs.Common.{◌∙◌, ap, inl, subst}
 use Rattle.ti_words.specs.Value.{EntryValue}
 use Rattle.ti_entry.specs.Reading.{base_of_names}
-use Rattle.ti_c.specs.Entries.{Tells}
+use Rattle.ti_c.specs.Entries.{AreCountsOf}
 use Rattle.ti_c.proofs.NumbersLemmas.{not_read}
 use Rattle.ti_c.proofs.OneFaultLemmas.{none_spelled_refused}
 use Rattle.ti_c.proofs.view.ti_open.Goals as goal
@@ -24,5 +24,5 @@ returns-clause-opened c = λ _ v spelled. (spelled, c.in-Ok.ensures.base ∙ ap 
 
 pub returns-clause-told : goal.returns-clause-told
 returns-clause-told c = λ _ v spelled.
-    let P : EntryValue → Type 0 = λ x. Tells c.put_counts.new.counts x in
+    let P : EntryValue → Type 0 = λ x. AreCountsOf c.put_counts.new.counts x in
     subst P (c.in-Ok.ensures.only v spelled) c.put_counts.ensures.told
