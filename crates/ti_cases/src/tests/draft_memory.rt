@@ -128,17 +128,17 @@ fn each_list_of_a_draft_grows_once(rt: HostRuntime) -> Result<(), Fail> {
 
 #[test]
 fn the_bytes_of_a_draft_grow_once(rt: HostRuntime) -> Result<(), Fail> {
-    let draft = entry_of(&TMUX)?.draft(rt.alloc())?;
+    let draft = entry_of(TMUX)?.draft(rt.alloc())?;
     let heap = LocalHeap::new(rt.alloc(), block(TMUX.len()))?;
     let bytes = encode(&heap, &draft).ok().ok_or("encode")?;
-    assert_that!(rt; bytes.as_slice() == TMUX.as_slice());
+    assert_that!(rt; bytes.as_slice() == TMUX);
     assert_that!(rt; bytes.capacity() == TMUX.len());
     Ok(())
 }
 
 #[test]
 fn the_bytes_of_a_draft_need_their_length(rt: HostRuntime) -> Result<(), Fail> {
-    let draft = entry_of(&TMUX)?.draft(rt.alloc())?;
+    let draft = entry_of(TMUX)?.draft(rt.alloc())?;
     let heap = LocalHeap::new(rt.alloc(), block(TMUX.len()).saturating_sub(16))?;
     assert_that!(rt; matches!(encode(&heap, &draft), Err(EncodeFault::Memory)));
     Ok(())

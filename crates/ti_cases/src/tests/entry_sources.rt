@@ -25,7 +25,7 @@ fn interruptions_are_counted_over_all_reads_of_a_call(rt: HostRuntime) {
 /// Up to 512 bytes come with a read, and the last one brings none.
 #[test]
 fn a_source_is_read_in_pieces_of_512_bytes(rt: HostRuntime) {
-    let rows: [(&[u8], usize); 3] = [(SMALL, 2), (&DUMB, 2), (&TMUX, 8)];
+    let rows: [(&[u8], usize); 3] = [(SMALL, 2), (DUMB, 2), (TMUX, 8)];
     for (bytes, reads) in rows {
         let mut source = Source::new(bytes, usize::MAX);
         let mut reader = EntryReader::new();

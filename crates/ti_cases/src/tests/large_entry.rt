@@ -49,20 +49,20 @@ fn push_extended<'a>(draft: &mut Draft<'a>, extended: &Extended<'a>) -> Result<(
 fn assert_tmux(rt: &impl Abort, alloc: Global, draft: &Draft<'_>) -> Result<(), Fail> {
     assert_that!(rt; encoded_len(draft) == 3171);
     let bytes = encode(alloc, draft).ok().ok_or("encode")?;
-    assert_that!(rt; bytes.as_slice() == TMUX.as_slice());
-    assert_equal(rt, &entry_of(&TMUX)?, &entry_of(bytes.as_slice())?);
+    assert_that!(rt; bytes.as_slice() == TMUX);
+    assert_equal(rt, &entry_of(TMUX)?, &entry_of(bytes.as_slice())?);
     Ok(())
 }
 
 /// What tic wrote is canonical, so it is written again as it was.
 #[test]
 fn a_large_entry_is_drafted_and_written(rt: HostRuntime) -> Result<(), Fail> {
-    assert_tmux(&rt, rt.alloc(), &entry_of(&TMUX)?.draft(rt.alloc())?)
+    assert_tmux(&rt, rt.alloc(), &entry_of(TMUX)?.draft(rt.alloc())?)
 }
 
 #[test]
 fn a_large_entry_is_pushed_and_written(rt: HostRuntime) -> Result<(), Fail> {
-    let entry = entry_of(&TMUX)?;
+    let entry = entry_of(TMUX)?;
     assert_tmux(&rt, rt.alloc(), &pushed(rt.alloc(), &entry)?)
 }
 
@@ -85,7 +85,7 @@ fn assert_expanded(
 #[test]
 fn all_texts_of_a_large_entry_are_expanded(rt: HostRuntime) -> Result<(), Fail> {
     let padding = Padding::new(960, 1, false, 0).ok_or("padding")?;
-    let entry = entry_of(&TMUX)?;
+    let entry = entry_of(TMUX)?;
     let mut count = 0u32;
     for i in 0..entry.text_count() {
         if let Text::Value(text) = entry.text(i) {

@@ -42,12 +42,12 @@ const ROWS: [Row; 11] = [
         sound: true,
     },
     Row {
-        entry: &DUMB,
+        entry: DUMB,
         lines: b"text bel ok depth 0 bound 1\ntext cr ok depth 0 bound 1\ntext cud1 ok depth 0 bound 1\ntext ind ok depth 0 bound 1\n",
         sound: true,
     },
     Row {
-        entry: &EXTENDED_BY_TIC,
+        entry: EXTENDED_BY_TIC,
         lines: b"text bel ok depth 0 bound 1\ntext cr ok depth 0 bound 1\ntext clear ok depth 0 bound 7\ntext cup ok depth 1 bound 26\ntext+ E3 ok depth 0 bound 4\ntext+ Smulx ok depth 1 bound 16\ntext+ kUP5 ok depth 0 bound 6\n",
         sound: true,
     },
@@ -127,7 +127,7 @@ fn a_writer_of_verdicts_fails_at_each_byte(rt: HostRuntime) {
 /// Whether an entry is checked with so much memory, all of which is given back.
 fn is_checked(rt: &impl Abort, global: Global, memory: usize) -> Result<bool, Fail> {
     let heap = LocalHeap::new(global, memory)?;
-    let verdicts = checked(&heap, Source::new(&DUMB, 512), Sink::new(global));
+    let verdicts = checked(&heap, Source::new(DUMB, 512), Sink::new(global));
     match verdicts.result {
         Ok(sound) => assert_that!(rt; sound),
         Err(fault) => {

@@ -20,9 +20,9 @@ const CANONICAL: [&[u8]; 14] = [
     QUESTION,
     TEXT,
     // what tic and tic -x write
-    &DUMB,
-    &EXTENDED_BY_TIC,
-    &WIDE_BY_TIC,
+    DUMB,
+    EXTENDED_BY_TIC,
+    WIDE_BY_TIC,
     // an odd table
     b"\x1a\x01\x02\0\x01\0\x01\0\x02\0\x03\0t\0\x01\0P\0\xff\xff\0\0\x07\x07\0",
     // an extended number alone
@@ -209,12 +209,12 @@ fn a_large_entry_is_widened_and_narrowed(rt: HostRuntime) {
     let alloc = rt.alloc();
     let wide = converted(
         alloc,
-        Source::new(&TMUX, 512),
+        Source::new(TMUX, 512),
         Some(Width::Wide),
         Sink::new(alloc),
     );
     assert_that!(rt; wide.result.is_ok());
     // 15 numbers, and one of the extended part, have two bytes more.
     assert_that!(rt; wide.taken.len() == 3203);
-    assert_converted(&rt, wide.taken.as_slice(), Some(Width::Legacy), &TMUX);
+    assert_converted(&rt, wide.taken.as_slice(), Some(Width::Legacy), TMUX);
 }

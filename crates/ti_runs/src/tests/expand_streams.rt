@@ -97,7 +97,7 @@ fn a_text_of_a_large_entry_is_expanded(rt: HostRuntime) -> Result<(), Fail> {
     let parameters = nine(&[Value::Num(23), Value::Num(79)]);
     let padding = padding_of(960, 1, false)?;
     let mut writer = Sink::new(rt.alloc());
-    let mut source = Source::new(&TMUX, 512);
+    let mut source = Source::new(TMUX, 512);
     let result = expand_named(
         rt.alloc(),
         &mut source,

@@ -79,17 +79,17 @@ const ROWS: [Row; 16] = [
     },
     // what infocmp -x prints of it, as bytes
     Row {
-        entry: &EXTENDED_BY_TIC,
+        entry: EXTENDED_BY_TIC,
         lines: b"format: legacy\nnames: mog|mogyarsu test terminal\nflag am\nnumber cols 80\nnumber lines 24\ntext bel 07\ntext cr 0d\ntext clear 1b5b481b5b324a\ntext cup 1b5b256925703125643b257032256448\nflag+ AX\nflag+ XT\nnumber+ U8 1\ntext+ E3 1b5b334a\ntext+ Smulx 1b5b343a25703125646d\ntext+ kUP5 1b5b313b3541\n",
     },
     // the same of an entry with numbers of 32 bits
     Row {
-        entry: &WIDE_BY_TIC,
+        entry: WIDE_BY_TIC,
         lines: b"format: wide\nnames: mogw|mogyarsu wide terminal\nflag am\nnumber cols 80\nnumber colors 16777216\nnumber pairs 65536\ntext bel 07\ntext cr 0d\nflag+ AX\nnumber+ U8 70000\ntext+ E3 1b5b334a\n",
     },
     // infocmp: am, cols#80, bel=^G, cr=\r, cud1=\n, ind=\n
     Row {
-        entry: &DUMB,
+        entry: DUMB,
         lines: b"format: legacy\nnames: dumb|80-column dumb tty\nflag am\nnumber cols 80\ntext bel 07\ntext cr 0d\ntext cud1 0a\ntext ind 0a\n",
     },
 ];
@@ -152,7 +152,7 @@ fn a_source_that_fails_lists_nothing(rt: HostRuntime) {
 /// Whether an entry is listed with so much memory, all of which is given back.
 fn is_shown(rt: &impl Abort, global: Global, memory: usize) -> Result<bool, Fail> {
     let heap = LocalHeap::new(global, memory)?;
-    let listed = shown(global, &heap, Source::new(&DUMB, 512));
+    let listed = shown(global, &heap, Source::new(DUMB, 512));
     if let Err(fault) = listed.result {
         assert_that!(rt; fault == ToolFault::Memory);
         assert_that!(rt; listed.taken.is_empty());
