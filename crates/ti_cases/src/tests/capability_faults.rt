@@ -1,10 +1,14 @@
 //! Which bytes are no capability, and where they are at fault.
 
+use std::process::Abort;
 use std::test::Fail;
 use ti_cap::{CapFault, CapRefused, Capability};
 
 /// Bytes that are no capability, the word of the fault, and its place.
-const REFUSED: [(&[u8], &str, usize); 26] = [
+type Refusal = (&'static [u8], &'static str, usize);
+
+/// With an escape that is none.
+const ESCAPES: [Refusal; 15] = [
     (b"%q", "UnknownEscape", 0),
     (b"%{}", "BadConstant", 0),
     (b"%{2147483648", "BadConstant", 0),
@@ -17,6 +21,13 @@ const REFUSED: [(&[u8], &str, usize); 26] = [
     (b"ab%", "CutShort", 2),
     (b"%'ab", "BadConstant", 0),
     (b"%{2147483648}", "BadConstant", 0),
+    (b"%''%d", "BadConstant", 0),
+    (b"%:%", "BadFormat", 0),
+    (b"\x1b[?%[;0123456789]c", "UnknownEscape", 3),
+];
+
+/// Of escapes that no tree writes, or that climb or nest too high.
+const TREES: [Refusal; 11] = [
     (b"%t", "StrayThen", 0),
     (b"%e", "StrayElse", 0),
     (b"%;", "StrayEnd", 0),
@@ -32,8 +43,6 @@ const REFUSED: [(&[u8], &str, usize); 26] = [
         "StackTooDeep",
         96,
     ),
-    (b"%''%d", "BadConstant", 0),
-    (b"%:%", "BadFormat", 0),
     (b"%?%p1%tA%eB%eC%;", "StrayElse", 11),
     (b"%?%p1%t%p2%t%;", "StrayThen", 10),
     (b"%?%?%p1%tA", "NoThen", 10),
@@ -42,17 +51,26 @@ const REFUSED: [(&[u8], &str, usize); 26] = [
         "StackTooDeep",
         203,
     ),
-    (b"\x1b[?%[;0123456789]c", "UnknownEscape", 3),
 ];
 
-#[test]
-fn faults_stand_where_they_are(rt: HostRuntime) -> Result<(), Fail> {
-    for (bytes, word, place) in REFUSED {
-        let refused = Capability::parse(bytes).err().ok_or("accepted")?;
-        assert_that!(rt; refused.fault.word() == word);
-        assert_that!(rt; refused.place == place);
+/// Each is refused for its fault, at its place.
+fn assert_refused(rt: &impl Abort, rows: &[Refusal]) -> Result<(), Fail> {
+    for (bytes, word, place) in rows {
+        let refused = Capability::parse(*bytes).err().ok_or("accepted")?;
+        assert_that!(rt; refused.fault.word() == *word);
+        assert_that!(rt; refused.place == *place);
     }
     Ok(())
+}
+
+#[test]
+fn faults_of_escapes_stand_where_they_are(rt: HostRuntime) -> Result<(), Fail> {
+    assert_refused(&rt, &ESCAPES)
+}
+
+#[test]
+fn faults_of_trees_stand_where_they_are(rt: HostRuntime) -> Result<(), Fail> {
+    assert_refused(&rt, &TREES)
 }
 
 #[test]
