@@ -53,7 +53,7 @@ _ti() {
             return
             ;;
         # Without words of its own, bash completes a file.
-        [\<\>]*) return ;;
+        --entry | [\<\>]*) return ;;
     esac
     case $(_ti_command) in
         '') words='show check get expand convert cap trace help --help --version' ;;
@@ -61,9 +61,9 @@ _ti() {
         trace) words='--escape --help' ;;
         show) words='--escape --all-names --help' ;;
         check) words='--escape --all-names --help' ;;
-        expand) words="--hex --escape --all-names --rate --lines --xon --help $_ti_texts" ;;
+        expand) words="--hex --escape --all-names --rate --lines --xon --entry --help $_ti_texts" ;;
         convert) words='--wide --narrow --force --help' ;;
-        get) words="--hex --escape --rate --lines --xon --help $_ti_names" ;;
+        get) words="--hex --escape --rate --lines --xon --entry --help $_ti_names" ;;
         help) words='show check get expand convert cap trace' ;;
         *) return ;;
     esac

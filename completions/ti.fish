@@ -17,6 +17,8 @@ complete -c ti -n '__fish_seen_subcommand_from show check expand' -l all-names -
 complete -c ti -n '__fish_seen_subcommand_from expand get' -l rate -x -d 'Bytes per second of the line'
 complete -c ti -n '__fish_seen_subcommand_from expand get' -l lines -x -d 'Lines that the text affects'
 complete -c ti -n '__fish_seen_subcommand_from expand get' -l xon -d 'The line has flow control'
+complete -c ti -n '__fish_seen_subcommand_from expand get' -l entry -r -F -d 'The entry, in place of standard input'
+complete -c ti -n '__fish_seen_subcommand_from show check convert' -F
 complete -c ti -n '__fish_seen_subcommand_from convert' -l wide -d 'Numbers of 32 bits'
 complete -c ti -n '__fish_seen_subcommand_from convert' -l narrow -d 'Numbers of 16 bits'
 complete -c ti -n '__fish_seen_subcommand_from convert' -l force -d 'Write to a terminal too'

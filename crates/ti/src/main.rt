@@ -3,8 +3,10 @@
 //! Its words and the three standard streams go to `ti_tool`'s `run_at`, whose result is the exit status.
 #![tactic(auto)]
 
+mod disk;
 mod streams;
 
+use crate::disk::Disk;
 use crate::streams::{Errors, Input, Output};
 use std::alloc::AllocError;
 use std::cell::Cell;
@@ -37,6 +39,7 @@ fn status(rt: &HostRuntime) -> io::Result<u8> {
     };
     let is_closed = Cell::new(false);
     Ok(run_at(
+        &Disk { rt },
         rt.alloc(),
         rt.alloc(),
         at,

@@ -222,13 +222,13 @@ abbrev expand_shape : Shape
 expand_shape = built_leaf (inherited (built ti_app).top expand_app.top)
 
 all_name : Each (Gives (codes "NAME") Any) expand_shape.rules
-all_name = (name_gives, (other _ _ _ refl refl, (other _ _ _ refl refl, (other _ _ _ refl refl, (other _ _ _ refl refl, (other _ _ _ refl refl, (other _ _ _ refl refl, (other _ _ _ refl refl, (other _ _ _ refl refl, tt)))))))))
+all_name = (name_gives, (other _ _ _ refl refl, (other _ _ _ refl refl, (other _ _ _ refl refl, (other _ _ _ refl refl, (other _ _ _ refl refl, (other _ _ _ refl refl, (other _ _ _ refl refl, (other _ _ _ refl refl, (other _ _ _ refl refl, tt))))))))))
 
 all_rate : Each (Gives (codes "rate") (IsLow 0 greatest_rate)) expand_shape.rules
-all_rate = (other _ _ _ refl refl, (other _ _ _ refl refl, (other _ _ _ refl refl, (other _ _ _ refl refl, (rate_gives, (other _ _ _ refl refl, (other _ _ _ refl refl, (other _ _ _ refl refl, (other _ _ _ refl refl, tt)))))))))
+all_rate = (other _ _ _ refl refl, (other _ _ _ refl refl, (other _ _ _ refl refl, (other _ _ _ refl refl, (rate_gives, (other _ _ _ refl refl, (other _ _ _ refl refl, (other _ _ _ refl refl, (other _ _ _ refl refl, (other _ _ _ refl refl, tt))))))))))
 
 all_lines : Each (Gives (codes "lines") (IsLow 1 most_lines)) expand_shape.rules
-all_lines = (other _ _ _ refl refl, (other _ _ _ refl refl, (other _ _ _ refl refl, (other _ _ _ refl refl, (other _ _ _ refl refl, (lines_gives, (other _ _ _ refl refl, (other _ _ _ refl refl, (other _ _ _ refl refl, tt)))))))))
+all_lines = (other _ _ _ refl refl, (other _ _ _ refl refl, (other _ _ _ refl refl, (other _ _ _ refl refl, (other _ _ _ refl refl, (lines_gives, (other _ _ _ refl refl, (other _ _ _ refl refl, (other _ _ _ refl refl, (other _ _ _ refl refl, tt))))))))))
 
 -- ---- the arguments of `get`
 
@@ -236,13 +236,13 @@ abbrev get_shape : Shape
 get_shape = built_leaf (inherited (built ti_app).top get_app.top)
 
 all_get_name : Each (Gives (codes "NAME") Any) get_shape.rules
-all_get_name = (name_gives, (other _ _ _ refl refl, (other _ _ _ refl refl, (other _ _ _ refl refl, (other _ _ _ refl refl, (other _ _ _ refl refl, (other _ _ _ refl refl, (other _ _ _ refl refl, tt))))))))
+all_get_name = (name_gives, (other _ _ _ refl refl, (other _ _ _ refl refl, (other _ _ _ refl refl, (other _ _ _ refl refl, (other _ _ _ refl refl, (other _ _ _ refl refl, (other _ _ _ refl refl, (other _ _ _ refl refl, tt)))))))))
 
 all_get_rate : Each (Gives (codes "rate") (IsLow 0 greatest_rate)) get_shape.rules
-all_get_rate = (other _ _ _ refl refl, (other _ _ _ refl refl, (other _ _ _ refl refl, (rate_gives, (other _ _ _ refl refl, (other _ _ _ refl refl, (other _ _ _ refl refl, (other _ _ _ refl refl, tt))))))))
+all_get_rate = (other _ _ _ refl refl, (other _ _ _ refl refl, (other _ _ _ refl refl, (rate_gives, (other _ _ _ refl refl, (other _ _ _ refl refl, (other _ _ _ refl refl, (other _ _ _ refl refl, (other _ _ _ refl refl, tt)))))))))
 
 all_get_lines : Each (Gives (codes "lines") (IsLow 1 most_lines)) get_shape.rules
-all_get_lines = (other _ _ _ refl refl, (other _ _ _ refl refl, (other _ _ _ refl refl, (other _ _ _ refl refl, (lines_gives, (other _ _ _ refl refl, (other _ _ _ refl refl, (other _ _ _ refl refl, tt))))))))
+all_get_lines = (other _ _ _ refl refl, (other _ _ _ refl refl, (other _ _ _ refl refl, (other _ _ _ refl refl, (lines_gives, (other _ _ _ refl refl, (other _ _ _ refl refl, (other _ _ _ refl refl, (other _ _ _ refl refl, tt)))))))))
 
 -- ---- the line
 

@@ -4,5 +4,6 @@ pub mod LawsLemmas
 pub mod RowsLemmas
 pub mod FaultlessLemmas
 pub mod ExplainsLemmas
+pub mod TaskLemmas
 pub mod Examples
 pub mod AreParamsLemmas

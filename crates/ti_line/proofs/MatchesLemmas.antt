@@ -12,7 +12,7 @@ use Rattle.std.specs.Bool.{Decides}
 use Rattle.clap.specs.Words.{Text, ReadsOne, first_of, first_value, matched_of, one_text, raw_values, rows_of}
 use Rattle.clap.specs.declared.parser.matches.Found.{Found}
 use Rattle.clap.proofs.WalkLemmas.{both, first_value-rows, one_text-rows, raw_values-rows}
-use Rattle.ti_line.specs.CommandLine.{flag_in, number_in, number_or, params_in}
+use Rattle.ti_line.specs.CommandLine.{flag_in, number_in, number_or, is_input, named_files, words_in}
 
 decided_no : {P : Type 0} (b : Bool) → Decides b P → (P → ⊥) → b ≡ false
 decided_no true d never = absurd (never (d.0 refl))
@@ -73,15 +73,15 @@ pub number_read : (E : Type 0) (G : Text → Result ℕ E → Type 0) → ((t : 
 number_read E G parses f id default r none some =
     number_from E G parses default (one_text f id) r none some ∙ ap (λ (o : Option Text). option_map_or (number_or default) o default) (one_text-rows f id)
 
-params_from : (o : Option (List Text)) (r : Option (Bor (List (Bor Text)))) (d : Bor (List (Bor Text))) → d.now ≡ [] → option_map (λ s. map (λ v. v.now) s.now) r ≡ o
+words_from : (o : Option (List Text)) (r : Option (Bor (List (Bor Text)))) (d : Bor (List (Bor Text))) → d.now ≡ [] → option_map (λ s. map (λ v. v.now) s.now) r ≡ o
     → map (λ v. v.now) (unwrap_or r d).now ≡ unwrap_or o []
-params_from o None d empty e = rw (← e, empty) refl
-params_from o (Some s) d empty e = rw (← e) refl
+words_from o None d empty e = rw (← e, empty) refl
+words_from o (Some s) d empty e = rw (← e) refl
 
-pub params_read : (f : Found) (r : Option (Bor (List (Bor Text)))) (d : Bor (List (Bor Text))) → d.now ≡ []
-    → option_map (λ s. map (λ v. v.now) s.now) r ≡ option_map raw_values (matched_of f (codes "PARAM"))
-    → map (λ v. v.now) (unwrap_or r d).now ≡ params_in (rows_of f)
-params_read f r d empty e = params_from _ r d empty (e ∙ raw_values-rows f (codes "PARAM"))
+pub words_read : (f : Found) (id : Text) (r : Option (Bor (List (Bor Text)))) (d : Bor (List (Bor Text))) → d.now ≡ []
+    → option_map (λ s. map (λ v. v.now) s.now) r ≡ option_map raw_values (matched_of f id)
+    → map (λ v. v.now) (unwrap_or r d).now ≡ words_in id (rows_of f)
+words_read f id r d empty e = words_from _ r d empty (e ∙ raw_values-rows f id)
 
 text_from : (o : Option Text) (r : Option (Bor Text)) (d : Bor Text) → d.now ≡ [] → option_map (λ s. s.now) r ≡ o → (unwrap_or r d).now ≡ unwrap_or o []
 text_from o None d empty e = rw (← e, empty) refl
@@ -90,3 +90,9 @@ text_from o (Some s) d empty e = rw (← e) refl
 pub text_read : (f : Found) (id : Text) (r : Option (Bor Text)) (d : Bor Text) → d.now ≡ [] → option_map (λ s. s.now) r ≡ first_value f id
     → (unwrap_or r d).now ≡ unwrap_or (first_of id (rows_of f)) []
 text_read f id r d empty e = text_from _ r d empty (e ∙ first_value-rows f id)
+
+pub no_files : (words names files : List Text) → words ≡ names → is_input words ≡ true → files ≡ [] → files ≡ named_files names
+no_files words names files e input none = rw (← e, input) none
+
+pub all_files : (words names files : List Text) → words ≡ names → is_input words ≡ false → files ≡ words → files ≡ named_files names
+all_files words names files e input all = rw (← e, input) all

@@ -7,7 +7,7 @@ use Rattle.clap.specs.declared.parser.matches.ArgMatches.{ArgMatches}
 use Rattle.clap.specs.declared.parser.matches.ArgMatches.TheViews.{out-ArgMatches}
 use Rattle.clap.specs.Faults.{is_simple_and_free, fault_of}
 use Rattle.clap.proofs.OnLiterals.{clap_on_literals}
-use Rattle.ti_line.specs.CommandLine.{line_in, line_by, ti_app}
+use Rattle.ti_line.specs.CommandLine.{ti_app}
 use Rattle.ti_line.proofs.LawsLemmas.{none_some, same}
 
 pub ti_is_simple : is_simple ti_app ≡ true
@@ -37,11 +37,11 @@ paired : {B : Type 0} (o : Option B) (f : B → Text) (g : B → List Row) (name
 paired None f g name rows e h = absurd (none_some None name refl e)
 paired (Some b) f g name rows e h = ap₂ (λ n r. Some (n, r)) (same _ _ name refl e) (same _ _ rows refl h)
 
--- what the subcommand and its values ask for is what the definition gives
-pub ti_asks : (a : App) (words : List Text) (m : ArgMatches) (name : Text) (rows : List Row) → a ≡ ti_app → HasMatchesOf a words m
+-- the subcommand and its values are those that the definition gives
+pub ti_finds : (a : App) (words : List Text) (m : ArgMatches) (name : Text) (rows : List Row) → a ≡ ti_app → HasMatchesOf a words m
     → subcommand_name_of m ≡ Some name → option_map (λ p. p.1) (subcommand_rows (out-ArgMatches m).subcommand) ≡ Some rows
-    → line_by name rows ≡ line_in (subcommand_of ti_app words)
-ti_asks a words m name rows e h named given =
+    → Some (name, rows) ≡ subcommand_of ti_app words
+ti_finds a words m name rows e h named given =
     let here = paired (out-ArgMatches m).subcommand _ _ name rows named given in
     let there = (subst (λ (x : App). is_simple x ≡ true → (rows_of (found_of m) ≡ matches_of x words) × (subcommand_rows_of m ≡ subcommand_of x words)) e h) ti_is_simple in
-    ap line_in (sym here ∙ there.1)
+    sym here ∙ there.1

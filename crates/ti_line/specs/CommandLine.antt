@@ -53,6 +53,21 @@ params_rule = record (new_rule (codes "PARAM")) {
   range = Some (record { start_inclusive = 0; end_inclusive = usize_max });
 }
 
+-- `FILE..`: any number of words
+abbrev pub files_rule : Rule
+files_rule = record (new_rule (codes "FILE")) {
+  action = Some Append;
+  range = Some (record { start_inclusive = 0; end_inclusive = usize_max });
+}
+
+-- `FILE`: at most one word
+abbrev pub file_rule : Rule
+file_rule = new_rule (codes "FILE")
+
+-- `--entry FILE`
+abbrev pub entry_rule : Rule
+entry_rule = record file_rule { long = Some (codes "entry") }
+
 -- `NAME`
 abbrev pub name_rule : Rule
 name_rule = record (new_rule (codes "NAME")) { required = true }
@@ -81,32 +96,34 @@ cap_app = with_rules (new_app (codes "cap")) (hex_rule ∷ escape_rule ∷ param
 abbrev pub trace_app : App
 trace_app = with_rules (new_app (codes "trace")) (params_rule ∷ escape_rule ∷ [])
 
--- `show [--escape] [--all-names]`
+-- `show [--escape] [--all-names] [FILE..]`
 abbrev pub show_app : App
-show_app = with_rules (new_app (codes "show")) (escape_rule ∷ all_names_rule ∷ [])
+show_app = with_rules (new_app (codes "show")) (escape_rule ∷ all_names_rule ∷ files_rule ∷ [])
 
--- `check [--escape] [--all-names]`
+-- `check [--escape] [--all-names] [FILE..]`
 abbrev pub check_app : App
-check_app = with_rules (new_app (codes "check")) (escape_rule ∷ all_names_rule ∷ [])
+check_app = with_rules (new_app (codes "check")) (escape_rule ∷ all_names_rule ∷ files_rule ∷ [])
 
--- `expand NAME [--hex] [--escape] [--all-names] [--rate N] [--lines N] [--xon] [PARAM..]`
+-- `expand NAME [--hex] [--escape] [--all-names] [--rate N] [--lines N] [--xon] [--entry FILE] [PARAM..]`
 abbrev pub expand_app : App
 expand_app =
     with_rules (new_app (codes "expand"))
     (name_rule ∷ hex_rule ∷ escape_rule ∷ all_names_rule ∷ rate_rule ∷ lines_rule ∷ flag_rule (codes "xon")
-    ∷ params_rule ∷ [])
+    ∷ entry_rule ∷ params_rule ∷ [])
 
--- `convert [--wide] [--narrow] [--force]`
+-- `convert [--wide] [--narrow] [--force] [FILE]`
 abbrev pub convert_app : App
 convert_app =
     with_rules (new_app (codes "convert"))
-    (flag_rule (codes "wide") ∷ flag_rule (codes "narrow") ∷ flag_rule (codes "force") ∷ [])
+    (flag_rule (codes "wide") ∷ flag_rule (codes "narrow") ∷ flag_rule (codes "force")
+    ∷ file_rule ∷ [])
 
--- `get NAME [--hex] [--escape] [--rate N] [--lines N] [--xon] [PARAM..]`
+-- `get NAME [--hex] [--escape] [--rate N] [--lines N] [--xon] [--entry FILE] [PARAM..]`
 abbrev pub get_app : App
 get_app =
     with_rules (new_app (codes "get"))
-    (name_rule ∷ hex_rule ∷ escape_rule ∷ rate_rule ∷ lines_rule ∷ flag_rule (codes "xon") ∷ params_rule ∷ [])
+    (name_rule ∷ hex_rule ∷ escape_rule ∷ rate_rule ∷ lines_rule ∷ flag_rule (codes "xon")
+    ∷ entry_rule ∷ params_rule ∷ [])
 
 -- `ti` with a version, which wants a subcommand
 abbrev pub start_app : App
@@ -137,9 +154,22 @@ number_or default text =
 abbrev pub number_in : Text → ℕ → List Row → ℕ
 number_in id default rows = option_map_or (number_or default) (one_of id rows) default
 
--- the words of the parameters, in their order
+-- the words of an argument, in their order
+abbrev pub words_in : Text → List Row → List Text
+words_in id rows = unwrap_or (all_of id rows) []
+
+-- those of the parameters
 abbrev pub params_in : List Row → List Text
-params_in rows = unwrap_or (all_of (codes "PARAM") rows) []
+params_in = words_in (codes "PARAM")
+
+-- names of files are that of standard input, `-`
+abbrev pub is_input : List Text → Bool
+is_input (name ∷ []) = bytes_eq name (codes "-")
+is_input _ = false
+
+-- the files that are named, none for standard input
+abbrev pub named_files : List Text → List Text
+named_files names = if is_input names then [] else names
 
 -- ---- what a command line asks for
 
@@ -198,6 +228,13 @@ line_by command rows =
 -- what the subcommand that was found asks for
 abbrev pub line_in : Option (Text × List Row) → Option Line
 line_in found = option_and_then (λ p. line_by p.0 p.1) found
+
+-- the files that the words name
+abbrev pub files_found : Option (Text × List Row) → List Text
+files_found found = option_map_or (λ p. named_files (words_in (codes "FILE") p.1)) found []
+
+abbrev pub files_of : List Text → List Text
+files_of words = files_found (subcommand_of ti_app words)
 
 -- ---- which words are a command line
 

@@ -6,7 +6,7 @@ use Rattle.ti_words.specs.declared.Width.{Width}
 use Rattle.ti_words.specs.declared.Width.TheVariants.{Legacy, Wide}
 use Rattle.ti_expand.specs.declared.values.Value.{Value}
 use Rattle.ti_pad.specs.Setting.{Setting}
-use Rattle.ti_line.specs.CommandLine.{Line, AsksForHelp, Cap, Trace, Show, Check, Expand, Convert, Get, IsRefused, Reads}
+use Rattle.ti_line.specs.CommandLine.{Line, AsksForHelp, Cap, Trace, Show, Check, Expand, Convert, Get, IsRefused, Reads, files_of}
 use Rattle.ti_line.specs.Looks.{form_asked, look_asked, names_asked, naming_asked, output_asked}
 use Rattle.ti_line.specs.Params.{AreGiven, AreParams, IsGiven, IsGivenBy, IsParam, IsWordFault}
 use Rattle.ti_line.specs.declared.given.Param.{Param}
@@ -17,6 +17,7 @@ use Rattle.ti_line.specs.declared.request.Get as code_of_get
 use Rattle.ti_line.specs.declared.request.OfCapability.TheVariants as of_cap
 use Rattle.ti_line.specs.declared.request.OfEntry.TheVariants as of_entry
 use Rattle.ti_line.specs.declared.request.Request.{Request}
+use Rattle.ti_line.specs.declared.request.Task.{Task}
 use Rattle.ti_line.specs.declared.no_line.LineFault.{LineFault}
 use Rattle.ti_line.specs.declared.no_line.LineFault.TheVariants as fault
 use Rattle.ti_line.specs.declared.no_line.NoLine.{NoLine}
@@ -73,6 +74,11 @@ Asks terminal (Get name hex escape rate lines xon words) r =
     × IsGivenBy words g.given × (g.padding ≡ setting_of rate lines xon)
     × (g.output ≡ output_asked hex escape))
 
+-- a task is what a line asks for, of the files that the words name
+abbrev pub IsTask : Bool → List Text → Line → Task → Type 0
+IsTask terminal words line task =
+    Asks terminal line task.request × (texts_of task.files.items ≡ files_of words)
+
 -- why that can't be done: both of two such flags are given, or else the words stand for no parameters,
 -- or an entry would go to a terminal
 abbrev pub HasFault : Bool → Line → LineFault → Type 0
@@ -97,11 +103,11 @@ abbrev pub IsAnswered : Bool → Line → Result Request LineFault → Type 0
 IsAnswered terminal line (Ok request) = Asks terminal line request
 IsAnswered terminal line (Err why) = HasFault terminal line why
 
--- and words that are read as it the same way, or with out of memory
-abbrev pub IsReadAs : Bool → Line → Result Request NoLine → Type 0
-IsReadAs terminal line (Ok request) = Asks terminal line request
-IsReadAs terminal line (Err (no_line.Fault why)) = HasFault terminal line why
-IsReadAs terminal line (Err why) = why ≡ no_line.Memory
+-- and words that are read as it the same way, with the files that they name, or with out of memory
+abbrev pub IsReadAs : Bool → List Text → Line → Result Task NoLine → Type 0
+IsReadAs terminal words line (Ok task) = IsTask terminal words line task
+IsReadAs terminal words line (Err (no_line.Fault why)) = HasFault terminal line why
+IsReadAs terminal words line (Err why) = why ≡ no_line.Memory
 
 -- why the words give no request; out of memory says nothing of them
 abbrev pub Explains : Bool → List Text → NoLine → Type 0

@@ -2,7 +2,7 @@
 
 ghost use Rattle.std.specs.Prelude.{◌≡◌, [], ◌∷◌, IfOk, false};
 ghost use Rattle.clap.specs.Words.{App, app_of, new_app, rule_of};
-ghost use Rattle.ti_line.specs.CommandLine.{all_names_rule, cap_app, check_app, convert_app, escape_rule, expand_app, flag_rule, get_app, hex_rule, name_rule, number_rule, params_rule, show_app, start_app, ti_app, trace_app, with_commands, with_rules};
+ghost use Rattle.ti_line.specs.CommandLine.{all_names_rule, cap_app, check_app, convert_app, entry_rule, escape_rule, expand_app, file_rule, files_rule, flag_rule, get_app, hex_rule, name_rule, number_rule, params_rule, show_app, start_app, ti_app, trace_app, with_commands, with_rules};
 ghost use Rattle.ti_line.specs.inner.Command.{HasNoGlobals};
 
 use clap::{Arg, ArgAction, Command, value_parser};
@@ -74,6 +74,38 @@ at most nine, missing ones are the number 0";
 
 const ANY_PARAMS: &str = "A number or a text: n:NUMBER, s:TEXT, or the word alone,
 which is what the text takes; with none it is only padded";
+
+/// `FILE..`: any number of files.
+fn files<'a>(alloc: Global) -> Arg<'a>
+    ensures rule { rule_of result ≡ files_rule }
+    ensures local { result.global ≡ false }
+{
+    Arg::new(alloc, "FILE")
+        .action(ArgAction::Append)
+        .num_args(0..)
+        .help(FILES)
+}
+
+/// `FILE`: at most one file.
+fn file<'a>(alloc: Global) -> Arg<'a>
+    ensures rule { rule_of result ≡ file_rule }
+    ensures local { result.global ≡ false }
+{
+    Arg::new(alloc, "FILE").help(FILE)
+}
+
+/// `--entry FILE`.
+fn entry<'a>(alloc: Global) -> Arg<'a>
+    ensures rule { rule_of result ≡ entry_rule }
+    ensures local { result.global ≡ false }
+{
+    Arg::new(alloc, "FILE").long("entry").help(FILE)
+}
+
+const FILES: &str = "Compiled entries, and folders with such in them;
+none, or -, is standard input";
+
+const FILE: &str = "A compiled entry; none, or -, is standard input";
 
 /// The argument of a name, with what help says of it.
 fn name<'a>(alloc: Global, help: &'a str) -> Arg<'a>
@@ -152,11 +184,11 @@ fn show<'a>(alloc: Global) -> Result<Command<'a>, AllocError>
     let command = new_command(
         alloc,
         "show",
-        "ti show [OPTIONS] < ENTRY",
+        "ti show [OPTIONS] [FILE]...",
         "List an entry, one line an item",
-        "Example:\n  ti show < /lib/terminfo/x/xterm\n\nFor an entry that a stranger wrote:\n  ti show --escape < entry",
+        "Example:\n  ti show /lib/terminfo/x/xterm\n\nFor an entry that a stranger wrote:\n  ti show --escape < entry",
     );
-    with_two(command, escape(alloc), all_names(alloc))
+    with_two(command, escape(alloc), all_names(alloc))?.arg(files(alloc))
 }
 
 fn check<'a>(alloc: Global) -> Result<Command<'a>, AllocError>
@@ -166,11 +198,11 @@ fn check<'a>(alloc: Global) -> Result<Command<'a>, AllocError>
     let check = new_command(
         alloc,
         "check",
-        "ti check [OPTIONS] < ENTRY",
+        "ti check [OPTIONS] [FILE]...",
         "Analyse each text of an entry; status 1 if one has a fault",
-        "Example:\n  ti check < /lib/terminfo/x/xterm\n\nFor an entry that a stranger wrote:\n  ti check --escape < entry",
+        "Example, of all entries in a folder:\n  ti check /lib/terminfo\n\nFor an entry that a stranger wrote:\n  ti check --escape < entry",
     );
-    with_two(check, escape(alloc), all_names(alloc))
+    with_two(check, escape(alloc), all_names(alloc))?.arg(files(alloc))
 }
 
 fn get<'a>(alloc: Global) -> Result<Command<'a>, AllocError>
@@ -191,7 +223,7 @@ fn get<'a>(alloc: Global) -> Result<Command<'a>, AllocError>
         number(alloc, "rate", GREATEST_RATE, RATE),
         number(alloc, "lines", MOST_LINES, LINES),
     )?;
-    with_two(command, flag(alloc, "xon", XON), params(alloc, ANY_PARAMS))
+    with_two(command, flag(alloc, "xon", XON), entry(alloc))?.arg(params(alloc, ANY_PARAMS))
 }
 
 fn expand<'a>(alloc: Global) -> Result<Command<'a>, AllocError>
@@ -212,7 +244,7 @@ fn expand<'a>(alloc: Global) -> Result<Command<'a>, AllocError>
         number(alloc, "rate", GREATEST_RATE, RATE),
         number(alloc, "lines", MOST_LINES, LINES),
     )?;
-    with_two(command, flag(alloc, "xon", XON), params(alloc, PARAMS))
+    with_two(command, flag(alloc, "xon", XON), entry(alloc))?.arg(params(alloc, PARAMS))
 }
 
 fn convert<'a>(alloc: Global) -> Result<Command<'a>, AllocError>
@@ -222,16 +254,17 @@ fn convert<'a>(alloc: Global) -> Result<Command<'a>, AllocError>
     let command = new_command(
         alloc,
         "convert",
-        "ti convert [OPTIONS] < ENTRY",
+        "ti convert [OPTIONS] [FILE]",
         "Write an entry in its canonical layout",
-        "Example, which writes the entry with numbers of 32 bits:\n  ti convert --wide < entry > wide",
+        "Example, which writes the entry with numbers of 32 bits:\n  ti convert --wide entry > wide",
     );
     with_two(
         command,
         flag(alloc, "wide", WIDE),
         flag(alloc, "narrow", NARROW),
     )?
-    .arg(flag(alloc, "force", FORCE))
+    .arg(flag(alloc, "force", FORCE))?
+    .arg(file(alloc))
 }
 
 fn cap<'a>(alloc: Global) -> Result<Command<'a>, AllocError>
@@ -273,7 +306,7 @@ const STATUSES: &str = "Status:
   6  out of memory
 
 Example:
-  ti show --escape < /lib/terminfo/x/xterm";
+  ti show --escape /lib/terminfo/x/xterm";
 
 /// `ti` itself, before its subcommands.
 fn start<'a>(alloc: Global) -> Command<'a>

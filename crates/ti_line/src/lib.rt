@@ -8,11 +8,11 @@
 //! |---|---|
 //! | `cap [--hex] [--escape] [PARAM..]` | [`OfCapability::Cap`] |
 //! | `trace [--escape] [PARAM..]` | [`OfCapability::Trace`] |
-//! | `show [--escape] [--all-names]` | [`OfEntry::Show`] |
-//! | `check [--escape] [--all-names]` | [`OfEntry::Check`] |
-//! | `expand NAME [--hex] [--escape] [--all-names] [--rate N] [--lines N] [--xon] [PARAM..]` | [`OfEntry::Expand`] |
-//! | `convert [--wide] [--narrow] [--force]` | [`OfEntry::Convert`] |
-//! | `get NAME [--hex] [--escape] [--rate N] [--lines N] [--xon] [PARAM..]` | [`OfEntry::Get`] |
+//! | `show [--escape] [--all-names] [FILE..]` | [`OfEntry::Show`] |
+//! | `check [--escape] [--all-names] [FILE..]` | [`OfEntry::Check`] |
+//! | `expand NAME [--hex] [--escape] [--all-names] [--rate N] [--lines N] [--xon] [--entry FILE] [PARAM..]` | [`OfEntry::Expand`] |
+//! | `convert [--wide] [--narrow] [--force] [FILE]` | [`OfEntry::Convert`] |
+//! | `get NAME [--hex] [--escape] [--rate N] [--lines N] [--xon] [--entry FILE] [PARAM..]` | [`OfEntry::Get`] |
 #![tactic(auto)]
 
 mod asked;
@@ -35,4 +35,4 @@ pub use message::Message;
 pub use no_line::{LineFault, NoLine};
 pub use params::{WordFault, read_params};
 pub use read::read_line;
-pub use request::{Asked, Expand, Get, OfCapability, OfEntry, Request, TextName};
+pub use request::{Asked, Expand, Get, OfCapability, OfEntry, Request, Task, TextName};

@@ -1,11 +1,11 @@
 //! The values that `clap` found of a subcommand, as a request.
 
-ghost use Rattle.std.specs.Prelude.{◌≡◌, ◌≤◌, Bool, IfSome, IsSome, MatchResult, codes, option_map};
+ghost use Rattle.std.specs.Prelude.{◌≡◌, ◌≤◌, Bool, IfOk, IfSome, IsSome, MatchResult, codes, option_map};
 ghost use Rattle.ti_base.specs.Limits.{greatest_rate, most_lines};
 ghost use Rattle.clap.specs.Words.{first_of};
-ghost use Rattle.ti_line.specs.CommandLine.{Cap, Convert, Trace, expand_by, flag_in, get_by, line_by, number_in, params_in};
+ghost use Rattle.ti_line.specs.CommandLine.{Cap, Convert, Trace, expand_by, flag_in, get_by, is_input as the_is_input, line_by, named_files, number_in, params_in, words_in};
 ghost use Rattle.ti_line.specs.Params.{AreParams, IsGivenBy};
-ghost use Rattle.ti_line.specs.Requests.{GiveNone, IsAnswered, StandForNone, setting_of};
+ghost use Rattle.ti_line.specs.Requests.{GiveNone, IsAnswered, StandForNone, setting_of, texts_of};
 ghost use Rattle.ti_line.specs.declared.request.Asked.TheVariants.{Entry};
 ghost use Rattle.ti_line.specs.inner.Matches.{given_rows};
 
@@ -15,6 +15,7 @@ use crate::no_line::LineFault;
 use crate::params::{WordFault, read_params};
 use crate::request::{Asked, Expand, Get, OfCapability, OfEntry, Request, TextName};
 use clap::ArgMatches;
+use std::alloc::{AllocError, Global};
 use ti_expand::Value;
 use ti_pad::Padding;
 
@@ -40,6 +41,30 @@ fn text<'a>(given: &ArgMatches<'a>, id: &str) -> Option<&'a str>
     ensures { option_map (λ t. t.now) result ≡ first_of id.now (given_rows given.now) }
 {
     given.get_str(id)
+}
+
+/// Whether words name standard input alone.
+fn is_input(words: &[&str]) -> bool
+    ensures { result ≡ the_is_input (texts_of words.now) }
+{
+    match words {
+        [name] => *name == "-",
+        _ => false,
+    }
+}
+
+/// The files that are named, none for standard input, which `-` alone names too.
+pub(crate) fn files<'a>(alloc: Global, given: &ArgMatches<'a>) -> Result<Vec<&'a str>, AllocError>
+    ensures { IfOk result (λ v. texts_of v.items
+        ≡ named_files (words_in (codes "FILE") (given_rows given.now))) }
+{
+    let words = given.get_strs("FILE").unwrap_or(&[]);
+    let mut files = Vec::new(alloc);
+    if is_input(words) {
+        return Ok(files);
+    }
+    files.extend_from_slice(words)?;
+    Ok(files)
 }
 
 /// The parameters.

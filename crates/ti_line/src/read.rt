@@ -3,17 +3,17 @@
 ghost use Rattle.std.specs.Prelude.{◌≡◌, ◌<◌, IfErr, IfOk, Some, length};
 ghost use Rattle.clap.specs.Words.{FailsBy, kind_of, subcommand_of};
 ghost use Rattle.ti_line.specs.CommandLine.{Line, Reads, line_in, faults, ti_app};
-ghost use Rattle.ti_line.specs.Requests.{Asks, Explains, HasText, IsReadAs, texts_of};
+ghost use Rattle.ti_line.specs.Requests.{Explains, HasText, IsReadAs, IsTask, texts_of};
 ghost use Rattle.ti_line.specs.inner.Matches.{IsSaidOf};
 ghost use Rattle.ti_line.specs.Message.{message_text};
 ghost use Rattle.ti_line.specs.inner.Errors.{TellsOf};
 
 use crate::command::program;
-use crate::matches::request_of;
+use crate::matches::{files, request_of};
 use crate::message::Message;
 use crate::no_line::{LineFault, NoLine};
 use crate::printable::printable_text;
-use crate::request::Request;
+use crate::request::Task;
 use clap::Error;
 use clap::error::ErrorKind;
 use std::alloc::{AllocError, Global};
@@ -23,14 +23,20 @@ fn read_words<'a>(
     alloc: Global,
     terminal: bool,
     words: &'a [&'a str],
-) -> Result<Result<Request<'a>, LineFault>, Error>
-    ensures read { IfOk result (λ answer. IsSaidOf terminal
+) -> Result<Result<Task<'a>, LineFault>, Error>
+    ensures read { IfOk result (λ answer. IsSaidOf terminal (texts_of words.entry.now)
         (line_in (subcommand_of ti_app (texts_of words.entry.now))) answer) }
     ensures kinds { FailsBy (faults (texts_of words.entry.now)) result }
 {
     let matches = program(alloc)?.try_get_matches_from(words)?;
     match matches.subcommand() {
-        Some((command, given)) => Ok(request_of(terminal, command, given)),
+        Some((command, given)) => {
+            let files = files(alloc, given)?;
+            match request_of(terminal, command, given) {
+                Ok(request) => Ok(Ok(Task { request, files })),
+                Err(fault) => Ok(Err(fault)),
+            }
+        }
         None => unreachable!(),
     }
 }
@@ -75,24 +81,24 @@ fn no_line<'a>(alloc: Global, words: &'a [&'a str], error: &Error) -> NoLine
 /// # Examples
 ///
 /// ```rust
-/// let request = read_line(rt.alloc(), false, &["ti", "cap", "n:7"])?;
+/// let Task { request, .. } = read_line(rt.alloc(), false, &["ti", "cap", "n:7"])?;
 /// assert!(rt; matches!(request.asked, Asked::Capability(OfCapability::Cap(_))));
 /// ```
 pub fn read_line<'a>(
     alloc: Global,
     terminal: bool,
     words: &'a [&'a str],
-) -> Result<Request<'a>, NoLine>
-    ensures read { IfOk result (λ request. (line : Line) × Reads (texts_of words.entry.now) line
-        × Asks terminal line request) }
+) -> Result<Task<'a>, NoLine>
+    ensures read { IfOk result (λ task. (line : Line) × Reads (texts_of words.entry.now) line
+        × IsTask terminal (texts_of words.entry.now) line task) }
     ensures only { (line : Line) → Reads (texts_of words.entry.now) line
-        → IsReadAs terminal line result }
+        → IsReadAs terminal (texts_of words.entry.now) line result }
     ensures none { IfErr result (Explains terminal (texts_of words.entry.now)) }
     // A message is never empty.
     ensures says { IfErr result HasText }
 {
     match read_words(alloc, terminal, words) {
-        Ok(Ok(request)) => Ok(request),
+        Ok(Ok(task)) => Ok(task),
         Ok(Err(fault)) => Err(NoLine::Fault(fault)),
         Err(error) => Err(no_line(alloc, words, &error)),
     }

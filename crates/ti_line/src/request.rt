@@ -7,7 +7,7 @@ use ti_expand::Value;
 use ti_pad::Padding;
 use ti_words::{NameTable, Width};
 
-/// What a command line requests.
+/// What a command line requests of an input.
 #[derive(Debug, Drop)]
 pub struct Request<'a> {
     /// The parameters of the capability or of the text; all are the number 0 if none are given or taken. Those of `get`
@@ -17,12 +17,21 @@ pub struct Request<'a> {
     pub asked: Asked<'a>,
 }
 
-/// What is requested of standard input.
+/// What a command line requests, and of which files.
+#[derive(Debug, Drop)]
+pub struct Task<'a> {
+    /// What is requested of each.
+    pub request: Request<'a>,
+    /// The names of the files, in their order. None is standard input.
+    pub files: Vec<&'a str>,
+}
+
+/// What is requested of an input.
 #[derive(Debug, Drop)]
 pub enum Asked<'a> {
-    /// Something of standard input as one capability.
+    /// Something of an input as one capability.
     Capability(OfCapability),
-    /// Something of standard input as an entry.
+    /// Something of an input as an entry.
     Entry(OfEntry<'a>),
 }
 

@@ -15,3 +15,4 @@ pub mod OneResultLemmas
 pub mod PrintableLemmas
 pub mod IsItemCalledLemmas
 pub mod IsGotLemmas
+pub mod FileLemmas

@@ -10,6 +10,7 @@ pub mod Printable
 pub mod Calls
 pub mod Near
 pub mod FaultLines
+pub mod Files
 pub mod Runs
 pub mod Laws
 pub mod inner

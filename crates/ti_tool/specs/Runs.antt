@@ -84,13 +84,13 @@ EndsWords no_line.Memory unwritten held0 held1 told0 told1 status =
     (status ≡ 6) × unwritten × Told (fault_line fault.Memory) told0 told1
 
 -- what a line asks for was done; or nothing is read, since the line has a fault, or memory was refused
-abbrev pub DidLine : Terminals → Line → Type 0 → Type 0 → Stream → Stream → Stream → Stream
+abbrev pub DidLine : Terminals → List (List ℕ) → Line → Type 0 → Type 0 → Stream → Stream → Stream → Stream
     → Stream → Stream → ℕ → Type 0
-DidLine at line unread unwritten left0 left1 held0 held1 told0 told1 status =
+DidLine at words line unread unwritten left0 left1 held0 held1 told0 told1 status =
     ((request : Request) × Asks at.output line request
     × RanRequest request.asked request.parameters unwritten
     left0 left1 held0 held1 told0 told1 status)
-    ⊎ ((why : NoLine) × IsReadAs at.output line (Err why)
+    ⊎ ((why : NoLine) × IsReadAs at.output words line (Err why)
     × unread × EndsWords why unwritten held0 held1 told0 told1 status)
 
 -- words that are no line: they ask for help or are refused, with a message of at least one byte, or

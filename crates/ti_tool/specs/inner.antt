@@ -5,3 +5,4 @@ pub mod Label
 pub mod Near
 pub mod ReadsInto
 pub mod Verdict
+pub mod Files

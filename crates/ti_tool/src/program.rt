@@ -1,7 +1,7 @@
 //! The program over its words, a reader and two writers.
 
-ghost use Rattle.std.specs.Prelude.{◌≡◌, ◌≤◌, ◌⊎◌, option_map};
-ghost use Rattle.ti_line.specs.CommandLine.{Line, Reads};
+ghost use Rattle.std.specs.Prelude.{◌≡◌, ◌≢◌, ◌≤◌, ◌⊎◌, [], option_map};
+ghost use Rattle.ti_line.specs.CommandLine.{Line, Reads, files_of};
 ghost use Rattle.ti_line.specs.Requests.{texts_of};
 ghost use Rattle.ti_tool.specs.FaultLines.{IsTold};
 ghost use Rattle.ti_tool.specs.Runs.{DidLine, DidNoLine, Ends, EndsWords, MayHaveWritten, RanRequest, no_terminals};
@@ -9,17 +9,19 @@ ghost use Rattle.ti_tool.specs.Runs.{DidLine, DidNoLine, Ends, EndsWords, MayHav
 use crate::call::carry_out;
 use crate::fault::ToolFault;
 use crate::fault_line::{asked_line, fault_line, line_fault_line};
+use crate::files::{Errand, run_files};
 use crate::near::nearest;
 use crate::status::status;
+use crate::store::{NoStore, Store};
 use crate::terminals::Terminals;
 use std::alloc::{AllocError, Allocator, Global};
 use std::io::{Read, Write};
 use ti_expand::Value;
-use ti_line::{Asked, NoLine, OfEntry, Request, read_line};
+use ti_line::{Asked, NoLine, OfEntry, Request, Task, read_line};
 use ti_pad::write_out;
 
 /// The name that is told in a line on a fault: the nearest one, if nothing has the name that `get` was given.
-fn told_name<A: Allocator + Copy>(
+pub(crate) fn told_name<A: Allocator + Copy>(
     alloc: A,
     asked: &Asked<'_>,
     fault: &ToolFault,
@@ -71,6 +73,39 @@ fn run_request<A: Allocator + Copy, R: Read, W: Write, E: Write>(
     finish(alloc, errors, asked, answer)
 }
 
+/// Does what is requested, of standard input or of files.
+fn run_task<S: Store, A: Allocator + Copy, R: Read, W: Write, E: Write>(
+    store: &S,
+    alloc: A,
+    asked: &Asked<'_>,
+    parameters: &[Value<'_>; 9],
+    files: &[&str],
+    input: &mut R,
+    output: &mut W,
+    errors: &mut E,
+) -> u8
+    ensures ran { texts_of files.now ≡ [] → RanRequest asked.now parameters.now
+        (output.new ≡ output.old)
+        (R.remaining input.old) (R.remaining input.new)
+        (W.contents output.old) (W.contents output.new)
+        (E.contents errors.old) (E.contents errors.new) result }
+    ensures known { result ≢ 2 }
+    ensures silent { result ≤ 1 → errors.new ≡ errors.old }
+{
+    match asked {
+        Asked::Entry(of_entry) if !files.is_empty() => {
+            let errand = Errand {
+                asked,
+                of_entry,
+                parameters,
+                has_several: files.len() > 1,
+            };
+            run_files(store, alloc, &errand, files, input, output, errors)
+        }
+        _ => run_request(alloc, asked, parameters, input, output, errors),
+    }
+}
+
 /// Words that ask for nothing that can be done: the text of help goes where results go, any other where faults go.
 fn run_no_line<W: Write, E: Write>(why: &NoLine, output: &mut W, errors: &mut E) -> u8
     ensures ends { EndsWords why.now (output.new ≡ output.old)
@@ -105,7 +140,8 @@ fn run_no_line<W: Write, E: Write>(why: &NoLine, output: &mut W, errors: &mut E)
 }
 
 /// Runs the program: `words` start with its own name, results go to `output` and lines on faults to `errors`; `at` tells
-/// which of the streams are terminals. The result is the exit status.
+/// which of the streams are terminals. If the words name files, these are read from `store` in place of `input`, one after
+/// another. The result is the exit status, of several files the greatest.
 ///
 /// | Status | When | Line on `errors` |
 /// |---|---|---|
@@ -117,10 +153,14 @@ fn run_no_line<W: Write, E: Write>(why: &NoLine, output: &mut W, errors: &mut E)
 /// | 5 | reading or writing failed | `input: failed`; `output: failed` |
 /// | 6 | out of memory | `memory` |
 ///
+/// After a word that names a file a fault line starts with `FILE: `, but for a failed write, and status 5 has the system's
+/// reason, such as `FILE: No such file or directory (os error 2)`.
+///
 /// A fault line that cannot be written changes no status. No byte of an entry or of a word goes to `errors` but printable
 /// ASCII characters. If `output` is a terminal, `show` and `check` write names and labels in the notation of terminfo(5),
 /// as with `--escape`.
-pub fn run_at<A: Allocator + Copy, R: Read, W: Write, E: Write>(
+pub fn run_at<S: Store, A: Allocator + Copy, R: Read, W: Write, E: Write>(
+    store: &S,
     global: Global,
     alloc: A,
     at: Terminals,
@@ -129,8 +169,9 @@ pub fn run_at<A: Allocator + Copy, R: Read, W: Write, E: Write>(
     output: &mut W,
     errors: &mut E,
 ) -> u8
-    // If `clap` reads the words, the named call did its work, unless memory was refused.
-    ensures read { (line : Line) → Reads (texts_of words.now) line → DidLine at line
+    // If `clap` reads the words, and they name no file, the named call did its work, unless memory was refused.
+    ensures read { (line : Line) → Reads (texts_of words.now) line
+        → files_of (texts_of words.now) ≡ [] → DidLine at (texts_of words.now) line
         (input.new ≡ input.old) (output.new ≡ output.old)
         (R.remaining input.old) (R.remaining input.new)
         (W.contents output.old) (W.contents output.new)
@@ -146,21 +187,33 @@ pub fn run_at<A: Allocator + Copy, R: Read, W: Write, E: Write>(
     // If the words are no line, nothing is read.
     ensures no_input { ((line : Line) → ¬ Reads (texts_of words.now) line)
         → input.new ≡ input.old }
-    // After any other status than 0, 1 and 5 the writer of results is what it was.
-    ensures unwritten { MayHaveWritten result ⊎ (output.new ≡ output.old) }
+    // If the words name no file, the writer of results is what it was after any other status than 0, 1 and 5.
+    ensures unwritten { files_of (texts_of words.now) ≡ []
+        → MayHaveWritten result ⊎ (output.new ≡ output.old) }
     // Without a fault nothing is written to `errors`.
     ensures silent { result ≤ 1 → errors.new ≡ errors.old }
 {
     match read_line(global, at.output, &*words) {
-        Ok(request) => {
+        Ok(task) => {
+            let Task { request, files } = task;
             let Request { parameters, asked } = request;
-            run_request(alloc, &asked, &parameters, input, output, errors)
+            let files = files.as_slice();
+            run_task(
+                store,
+                alloc,
+                &asked,
+                &parameters,
+                files,
+                input,
+                output,
+                errors,
+            )
         }
         Err(why) => run_no_line(&why, output, errors),
     }
 }
 
-/// [`run_at`] with no stream that is a terminal.
+/// [`run_at`] with no stream that is a terminal, and with no file that can be read.
 ///
 /// # Examples
 ///
@@ -177,8 +230,9 @@ pub fn run<A: Allocator + Copy, R: Read, W: Write, E: Write>(
     output: &mut W,
     errors: &mut E,
 ) -> u8
-    // If `clap` reads the words, the named call did its work, unless memory was refused.
-    ensures read { (line : Line) → Reads (texts_of words.now) line → DidLine no_terminals line
+    // If `clap` reads the words, and they name no file, the named call did its work, unless memory was refused.
+    ensures read { (line : Line) → Reads (texts_of words.now) line
+        → files_of (texts_of words.now) ≡ [] → DidLine no_terminals (texts_of words.now) line
         (input.new ≡ input.old) (output.new ≡ output.old)
         (R.remaining input.old) (R.remaining input.new)
         (W.contents output.old) (W.contents output.new)
@@ -194,10 +248,12 @@ pub fn run<A: Allocator + Copy, R: Read, W: Write, E: Write>(
     // If the words are no line, nothing is read.
     ensures no_input { ((line : Line) → ¬ Reads (texts_of words.now) line)
         → input.new ≡ input.old }
-    // After any other status than 0, 1 and 5 the writer of results is what it was.
-    ensures unwritten { MayHaveWritten result ⊎ (output.new ≡ output.old) }
+    // If the words name no file, the writer of results is what it was after any other status than 0, 1 and 5.
+    ensures unwritten { files_of (texts_of words.now) ≡ []
+        → MayHaveWritten result ⊎ (output.new ≡ output.old) }
     // Without a fault nothing is written to `errors`.
     ensures silent { result ≤ 1 → errors.new ≡ errors.old }
 {
-    run_at(global, alloc, Terminals::NONE, words, input, output, errors)
+    let at = Terminals::NONE;
+    run_at(&NoStore, global, alloc, at, words, input, output, errors)
 }

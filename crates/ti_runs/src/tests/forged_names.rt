@@ -2,7 +2,7 @@
 
 use std::alloc::Global;
 use ti_fixtures::{Sink, Source};
-use ti_tool::{Terminals, run_at};
+use ti_tool::{NoStore, Terminals, run_at};
 
 /// A names section with a newline and a line on a flag, and with ESC.
 const FORGED_FLAG: &[u8] =
@@ -133,6 +133,7 @@ fn end_at(alloc: Global, row: &Row) -> (u8, Vec<u8>, Vec<u8>) {
         ..Terminals::NONE
     };
     let status = run_at(
+        &NoStore,
         alloc,
         alloc,
         at,

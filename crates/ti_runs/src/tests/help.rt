@@ -29,8 +29,7 @@ const HELP: [(&[&str], &[&str]); 11] = [
     (
         &["ti", "help", "show"],
         &[
-            "Usage: ti show",
-            "< ENTRY",
+            "Usage: ti show [OPTIONS] [FILE]...",
             "--escape",
             "--all-names",
             "\\E[H",
@@ -72,6 +71,8 @@ const HELP: [(&[&str], &[&str]); 11] = [
         &["ti", "get", "--help"],
         &[
             "<NAME>",
+            "< ENTRY",
+            "--entry <FILE>",
             "cursor_address",
             "flag#N",
             "as tput does",

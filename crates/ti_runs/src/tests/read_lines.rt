@@ -1,7 +1,7 @@
 //! Words that are read as a command line, and what it requests.
 
 use std::test::Fail;
-use ti_line::{LineFault, NoLine, Request, read_line};
+use ti_line::{LineFault, NoLine, Request, Task, read_line};
 
 /// Words, what they ask for, and the first two parameters.
 const READ: [(&[&str], &str, &str); 28] = [
@@ -192,10 +192,11 @@ const FAULTY: [(&[&str], &str); 11] = [
 #[test]
 fn words_are_read_as_requests(rt: HostRuntime) -> Result<(), Fail> {
     for (words, asked_text, parameters_text) in READ.iter() {
-        let Ok(request) = read_line(rt.alloc(), false, words) else {
+        let Ok(task) = read_line(rt.alloc(), false, words) else {
             return Err(Fail::from("no line"));
         };
-        let Request { parameters, asked } = request;
+        assert_that!(rt; task.files.is_empty());
+        let Request { parameters, asked } = task.request;
         let text = format!(in rt.alloc(); "{asked:?}")?;
         assert_that!(rt; text.as_str() == *asked_text);
         let text = format!(in rt.alloc(); "{:?}", &parameters[..2])?;
@@ -219,10 +220,10 @@ fn lines_have_faults(rt: HostRuntime) -> Result<(), Fail> {
 /// Names go to a terminal in the notation alone.
 #[test]
 fn a_terminal_asks_for_the_notation_of_names(rt: HostRuntime) -> Result<(), Fail> {
-    let Ok(Request { asked, .. }) = read_line(rt.alloc(), true, &["ti", "check"]) else {
+    let Ok(Task { request, .. }) = read_line(rt.alloc(), true, &["ti", "check"]) else {
         return Err(Fail::from("no line"));
     };
-    let text = format!(in rt.alloc(); "{asked:?}")?;
+    let text = format!(in rt.alloc(); "{:?}", request.asked)?;
     assert_that!(rt; text.as_str() == "Entry(Check(Naming { table: Common, form: Notation }))");
     Ok(())
 }
@@ -240,11 +241,39 @@ fn an_entry_goes_to_a_terminal_by_force_alone(rt: HostRuntime) -> Result<(), Fai
         &["ti", "convert", "--force", "--wide"],
         &["ti", "convert", "--wide", "--force"],
     ] {
-        let Ok(Request { asked, .. }) = read_line(rt.alloc(), true, words) else {
+        let Ok(Task { request, .. }) = read_line(rt.alloc(), true, words) else {
             return Err(Fail::from("no line"));
         };
-        let text = format!(in rt.alloc(); "{asked:?}")?;
+        let text = format!(in rt.alloc(); "{:?}", request.asked)?;
         assert_that!(rt; text.as_str() == "Entry(Convert(Some(Wide)))");
+    }
+    Ok(())
+}
+
+/// Words, and the files that they name.
+const FILES: [(&[&str], &str); 9] = [
+    (&["ti", "show", "a"], "[\"a\"]"),
+    (
+        &["ti", "check", "a", "-e", "-", "a"],
+        "[\"a\", \"-\", \"a\"]",
+    ),
+    (&["ti", "check", "-"], "[]"),
+    (&["ti", "check", "--", "-a", "--"], "[\"-a\", \"--\"]"),
+    (&["ti", "convert", "a", "--wide"], "[\"a\"]"),
+    (&["ti", "get", "--entry", "a", "cup", "4"], "[\"a\"]"),
+    (&["ti", "get", "cup", "4", "--entry=-"], "[]"),
+    (&["ti", "expand", "cup", "n:4", "--entry", ""], "[\"\"]"),
+    (&["ti", "cap", "n:4"], "[]"),
+];
+
+#[test]
+fn words_name_files(rt: HostRuntime) -> Result<(), Fail> {
+    for (words, expected) in FILES.iter() {
+        let Ok(task) = read_line(rt.alloc(), false, words) else {
+            return Err(Fail::from("no line"));
+        };
+        let text = format!(in rt.alloc(); "{:?}", task.files)?;
+        assert_that!(rt; text.as_str() == *expected);
     }
     Ok(())
 }

@@ -11,7 +11,7 @@ const REFUSED: [(&[&str], &str); 24] = [
     (&[], "subcommand"),
     (&["ti"], "subcommand"),
     (&["ti", "zap"], "'zap'"),
-    (&["ti", "show", "x"], "'x'"),
+    (&["ti", "trace", "--entry", "x"], "'--entry'"),
     (&["ti", "cap", "--xon"], "'--xon'"),
     (&["ti", "cap", "-5"], "'-5'"),
     (&["ti", "cap", "--hex", "--hex"], "--hex"),
@@ -22,7 +22,7 @@ const REFUSED: [(&[&str], &str); 24] = [
     // no byte of a word is shown but printable ones
     (&["ti", "a\x1b]0;b\x07\nentry: c"], "'a\\E]0;b^G^Jentry: c'"),
     (
-        &["ti", "show", "\u{e9}\u{9b}\r"],
+        &["ti", "convert", "x", "\u{e9}\u{9b}\r"],
         "'\\303\\251\\302\\233^M'",
     ),
     (&["ti", "cap", "--\x1b[2K"], "'--\\E[2K'"),
@@ -84,8 +84,8 @@ const ENDED: [&[&str]; 13] = [
     &[],
     &["ti"],
     &["ti", "Cap"],
-    &["ti", "show", "x"],
-    &["ti", "convert", "x"],
+    &["ti", "trace", "--entry", "x"],
+    &["ti", "convert", "x", "y"],
     &["ti", "show", "--hex"],
     &["ti", "expand"],
     &["ti", "expand", "--rate", "1000001", "bel"],

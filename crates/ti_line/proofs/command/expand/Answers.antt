@@ -1,4 +1,4 @@
-use Rattle.std.proofs.Common.{◌∙◌, ap₂}
+use Rattle.std.proofs.Common.{◌∙◌, ◌||◌, ap₂}
 use Rattle.std.proofs.lemmas.Result.{IfOk-weaker}
 use Rattle.clap.specs.Words.{with_rule}
 use Rattle.ti_line.proofs.command.expand.Goals as goal
@@ -8,10 +8,12 @@ returns-clause-shape c =
     let begun = c.in_ok-command.ensures.shape ∙ ap₂ with_rule (ap₂ with_rule c.new_command-command.ensures.shape c.name.ensures.rule) c.hex.ensures.rule in
     let called = c.in_ok-command-2.ensures.shape ∙ ap₂ with_rule (ap₂ with_rule begun c.escape.ensures.rule) c.all_names.ensures.rule in
     let numbered = c.in_ok-command-3.ensures.shape ∙ ap₂ with_rule (ap₂ with_rule called c.number.ensures.rule) c.number-2.ensures.rule in
-    IfOk-weaker c.with_two-4.result _ _ (λ r h. h ∙ ap₂ with_rule (ap₂ with_rule numbered c.flag.ensures.rule) c.params.ensures.rule) c.with_two-4.ensures.shape
+    let named = c.in_ok-with_two.ensures.shape ∙ ap₂ with_rule (ap₂ with_rule numbered c.flag.ensures.rule) c.entry.ensures.rule in
+    IfOk-weaker c.arg.result _ _ (λ r h. h.shape c.params.ensures.local ∙ ap₂ with_rule named c.params.ensures.rule) c.arg.ensures
 
 -- none of its parts has a global argument
 pub returns-clause-local : goal.returns-clause-local
 returns-clause-local c =
     let begun = c.in_ok-command.ensures.local c.new_command-command.ensures.local in
-    c.with_two-4.ensures.local (c.in_ok-command-3.ensures.local (c.in_ok-command-2.ensures.local begun))
+    let ended = c.in_ok-with_two.ensures.local (c.in_ok-command-3.ensures.local (c.in_ok-command-2.ensures.local begun)) in
+    IfOk-weaker c.arg.result _ _ (λ r h. h.globals ∙ ap₂ (λ x y. x || y) ended c.params.ensures.local) c.arg.ensures

@@ -1,9 +1,11 @@
 use Rattle.std.proofs.Common.{◌∙◌, Ok, Err, ap, is_some, sym}
 use Rattle.clap.specs.Words.{found_of, rows_of}
+use Rattle.ti_line.specs.CommandLine.{files_found, line_in}
 use Rattle.ti_line.specs.Requests.{IsAnswered, texts_of}
 use Rattle.ti_line.proofs.FaultlessLemmas.{has_line}
 use Rattle.ti_line.proofs.LawsLemmas.{some_is}
-use Rattle.ti_line.proofs.TiAppLemmas.{fails_again, ti_asks, ti_fails}
+use Rattle.ti_line.proofs.TaskLemmas.{is_fault, is_request}
+use Rattle.ti_line.proofs.TiAppLemmas.{fails_again, ti_fails, ti_finds}
 use Rattle.ti_line.proofs.read.read_words.Goals as goal
 
 pub returns-in_err-matches-clause-kinds : goal.returns-in_err-matches-clause-kinds
@@ -13,17 +15,29 @@ returns-in_err-matches-clause-kinds c =
 
 pub request_of-requires : goal.request_of-requires
 request_of-requires c =
-    let asked = ti_asks _ _ c.in_ok-matches.matches c.in-Some.command.now (rows_of (found_of c.in-Some.given.now)) c.in_ok-program.ensures c.in_ok-matches.ensures.matches
+    let found = ti_finds _ _ c.in_ok-matches.matches c.in-Some.command.now (rows_of (found_of c.in-Some.given.now)) c.in_ok-program.ensures c.in_ok-matches.ensures.matches
     (sym c.in-Some.ensures.name) (sym c.in-Some.ensures.rows) in
     let line = has_line (texts_of c.args.words.now) (ti_fails _ _ (Ok c.in_ok-matches.matches) c.in_ok-program.ensures c.in_ok-matches.ensures.kinds) in
-    ap is_some (asked ∙ line.1)
+    ap is_some (ap line_in found ∙ line.1)
 
-pub returns-clause-kinds : goal.returns-clause-kinds
-returns-clause-kinds c = ti_fails _ _ (Ok c.in_ok-matches.matches) c.in_ok-program.ensures c.in_ok-matches.ensures.kinds
+pub returns-in-Ok-clause-kinds : goal.returns-in-Ok-clause-kinds
+returns-in-Ok-clause-kinds c = ti_fails _ _ (Ok c.in_ok-matches.matches) c.in_ok-program.ensures c.in_ok-matches.ensures.kinds
 
-pub returns-clause-read : goal.returns-clause-read
-returns-clause-read c =
-    let asked = ti_asks _ _ c.in_ok-matches.matches c.in-Some.command.now (rows_of (found_of c.in-Some.given.now)) c.in_ok-program.ensures c.in_ok-matches.ensures.matches
+pub returns-in-Some-clause-kinds : goal.returns-in-Some-clause-kinds
+returns-in-Some-clause-kinds c = ti_fails _ _ (Ok c.in_ok-matches.matches) c.in_ok-program.ensures c.in_ok-matches.ensures.kinds
+
+pub returns-in-Ok-clause-read : goal.returns-in-Ok-clause-read
+returns-in-Ok-clause-read c =
+    let found = ti_finds _ _ c.in_ok-matches.matches c.in-Some.command.now (rows_of (found_of c.in-Some.given.now)) c.in_ok-program.ensures c.in_ok-matches.ensures.matches
     (sym c.in-Some.ensures.name) (sym c.in-Some.ensures.rows) in
     let line = has_line (texts_of c.args.words.now) (ti_fails _ _ (Ok c.in_ok-matches.matches) c.in_ok-program.ensures c.in_ok-matches.ensures.kinds) in
-    (line.0, line.1, some_is _ (λ l. IsAnswered c.args.terminal l c.request_of.result) line.0 c.request_of.ensures (asked ∙ line.1))
+    let answered = some_is _ (λ l. IsAnswered c.args.terminal l c.request_of.result) line.0 c.request_of.ensures (ap line_in found ∙ line.1) in
+    (line.0, line.1, (is_request c.args.terminal line.0 c.request_of.result answered c.in-Ok.request c.in-Ok.is, c.in_ok-files-in-Some.ensures ∙ ap files_found found))
+
+pub returns-in-Some-clause-read : goal.returns-in-Some-clause-read
+returns-in-Some-clause-read c =
+    let found = ti_finds _ _ c.in_ok-matches.matches c.in-Some.command.now (rows_of (found_of c.in-Some.given.now)) c.in_ok-program.ensures c.in_ok-matches.ensures.matches
+    (sym c.in-Some.ensures.name) (sym c.in-Some.ensures.rows) in
+    let line = has_line (texts_of c.args.words.now) (ti_fails _ _ (Ok c.in_ok-matches.matches) c.in_ok-program.ensures c.in_ok-matches.ensures.kinds) in
+    let answered = some_is _ (λ l. IsAnswered c.args.terminal l c.request_of.result) line.0 c.request_of.ensures (ap line_in found ∙ line.1) in
+    (line.0, line.1, is_fault c.args.terminal line.0 c.request_of.result answered _ c.in-Err.is)

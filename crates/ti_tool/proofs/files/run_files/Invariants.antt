@@ -1,0 +1,6 @@
+use Rattle.std.proofs.Common.{◌≡◌, ◌≤◌, ◌≢◌}
+use Rattle.ti_tool.proofs.files.run_files.Given as goal
+
+-- nothing was reported while the status is one without a line
+abbrev pub invariant-loop-word : goal.invariant-loop-word
+invariant-loop-word g l = (l.greatest ≢ 2) × (l.greatest ≤ 1 → l.errors ≡ l.initial.errors)

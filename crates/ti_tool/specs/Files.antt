@@ -1,0 +1,45 @@
+-- What is due for a file that was named, from its contents, and the line on its fault.
+use Rattle.std.specs.Prelude.{◌≡◌, ◌==◌, ℕ, Bool, true, false, List, [], ◌∷◌, ◌++◌, Result, Ok, Err, codes}
+use Rattle.ti_base.specs.Letters.{letter}
+use Rattle.ti_expand.specs.declared.values.Value.{Value}
+use Rattle.ti_escape.specs.Notation.{notation}
+use Rattle.ti_line.specs.declared.look.NameForm.{NameForm}
+use Rattle.ti_line.specs.declared.look.NameForm.TheVariants as name_forms
+use Rattle.ti_line.specs.declared.request.OfEntry.{OfEntry}
+use Rattle.ti_line.specs.declared.request.OfEntry.TheVariants as of_entry
+use Rattle.ti_tool.specs.declared.fault.ToolFault.{ToolFault}
+use Rattle.ti_tool.specs.Results.{IsDueFrom, IsDueOn}
+
+-- the name of a file in a result: as it stands, or in the notation
+abbrev pub shown_file : NameForm → List ℕ → List ℕ
+shown_file name_forms.Raw name = name
+shown_file name_forms.Notation name = notation name
+
+-- lines with something before each of them, from the start of a line or from within one
+abbrev pub each_line : List ℕ → Bool → List ℕ → List ℕ
+each_line before at_start [] = []
+each_line before true (b ∷ bs) = before ++ b ∷ each_line before (b == letter (codes "\n")) bs
+each_line before false (b ∷ bs) = b ∷ each_line before (b == letter (codes "\n")) bs
+
+-- the result of one of several files: a listing after a line with the name, each verdict after the name
+abbrev pub one_of_several : OfEntry → List ℕ → List ℕ → List ℕ
+one_of_several (of_entry.Show look) name out =
+    codes "file: " ++ shown_file look.naming.form name ++ codes "\n" ++ out
+one_of_several (of_entry.Check naming) name out =
+    each_line (shown_file naming.form name ++ codes ": ") true out
+one_of_several _ name out = out
+
+-- the result of a file; of one alone it is as of an entry on standard input
+abbrev pub result_of_file : Bool → OfEntry → List ℕ → List ℕ → List ℕ
+result_of_file true asked name out = one_of_several asked name out
+result_of_file false asked name out = out
+
+-- what is due for the contents of a file is what is due for an entry of these bytes, with the name
+abbrev pub IsDueOfFile : Bool → OfEntry → List Value → List ℕ → Bool → List ℕ → List ℕ → Type 0
+IsDueOfFile several asked parameters name sound contents out =
+    (plain : List ℕ) × IsDueFrom (IsDueOn asked parameters sound) contents (Ok plain)
+    × (out ≡ result_of_file several asked name plain)
+
+-- the line on the fault of a file
+abbrev pub file_line : List ℕ → List ℕ → List ℕ
+file_line name line = notation name ++ codes ": " ++ line

@@ -1,0 +1,218 @@
+//! A request of files, one after another: each is read, what is due for its contents is written, and a fault is reported
+//! after its name.
+//!
+//! What is due for contents is made by `named`, with a contract; here it is read, written and counted, without one but on
+//! the status. A file that can't be read does not keep the others from being read; results that can't be written do.
+
+ghost use Rattle.std.specs.Prelude.{◌≡◌, ◌≢◌, ◌<◌, ◌≤◌, IfOk, IfSome};
+ghost use Rattle.ti_tool.specs.inner.Files.{EndsFile};
+
+use crate::fault::ToolFault;
+use crate::fault_line::{asked_line, fault_line};
+use crate::named::{Named, answer_of_file, file_line};
+use crate::program::told_name;
+use crate::result::write_result;
+use crate::status::status;
+use crate::store::{Found, Store, one_file, read_contents};
+use std::alloc::{AllocError, Allocator};
+use std::io;
+use std::io::{ErrorKind, Read, Write};
+use ti_expand::Value;
+use ti_line::{Asked, OfEntry};
+use ti_pad::write_out;
+
+/// What is requested of each file.
+#[derive(Clone, Copy)]
+pub struct Errand<'a> {
+    /// The request.
+    pub asked: &'a Asked<'a>,
+    /// What it is of an entry.
+    pub of_entry: &'a OfEntry<'a>,
+    /// The parameters.
+    pub parameters: &'a [Value<'a>; 9],
+    /// Whether there are several files.
+    pub has_several: bool,
+}
+
+/// What a file leads to: a result or a line on its fault, and the status.
+#[derive(Drop)]
+pub struct Outcome<A: Allocator> {
+    pub bytes: Vec<u8, A>,
+    pub line: Vec<u8, A>,
+    pub status: u8,
+}
+
+/// What a fault leads to.
+fn fault_outcome<A: Allocator + Copy>(
+    alloc: A,
+    name: &str,
+    line: &[u8],
+    status: u8,
+) -> Result<Outcome<A>, AllocError>
+    requires { 2 < status }
+    ensures { IfOk result (λ o. EndsFile o.status o.line.items) }
+{
+    Ok(Outcome {
+        bytes: Vec::new(alloc),
+        line: file_line(alloc, name, line)?,
+        status,
+    })
+}
+
+/// What a file leads to if the system does not give it.
+fn refused_outcome<A: Allocator + Copy>(
+    alloc: A,
+    name: &str,
+    error: &io::Error,
+) -> Result<Outcome<A>, AllocError>
+    ensures { IfOk result (λ o. EndsFile o.status o.line.items) }
+{
+    if error.kind() == ErrorKind::OutOfMemory {
+        return Err(AllocError);
+    }
+    let reason = format!(in alloc; "{error}\n")?;
+    fault_outcome(alloc, name, reason.as_bytes(), 5)
+}
+
+/// What the contents of a file lead to.
+fn outcome_of<A: Allocator + Copy>(
+    alloc: A,
+    errand: &Errand<'_>,
+    file: Named<'_>,
+    contents: &[u8],
+) -> Result<Outcome<A>, AllocError>
+    ensures { IfOk result (λ o. EndsFile o.status o.line.items) }
+{
+    match answer_of_file(alloc, errand.of_entry, errand.parameters, file, contents) {
+        Ok(answer) => Ok(Outcome {
+            bytes: answer.bytes,
+            line: Vec::new(alloc),
+            status: status(&Ok(answer.sound)),
+        }),
+        Err(fault) => {
+            let line = asked_line(errand.asked, told_name(alloc, errand.asked, &fault), &fault);
+            fault_outcome(alloc, file.name, line.as_slice(), status(&Err(fault)))
+        }
+    }
+}
+
+/// Reads a file that was found; `-` is standard input.
+fn outcome_of_found<S: Store, A: Allocator + Copy, R: Read>(
+    store: &S,
+    alloc: A,
+    errand: &Errand<'_>,
+    found: &Found<A>,
+    is_one_of_several: bool,
+    input: &mut R,
+) -> Result<Outcome<A>, AllocError>
+    ensures { IfOk result (λ o. EndsFile o.status o.line.items) }
+{
+    let name = found.name.as_str();
+    if let Some(error) = &found.fault {
+        return refused_outcome(alloc, name, error);
+    }
+    let mut contents = Vec::new(alloc);
+    let read = if name == "-" {
+        read_contents(input, &mut contents)
+    } else {
+        store.read(name, &mut contents)
+    };
+    if let Err(error) = read {
+        return refused_outcome(alloc, name, &error);
+    }
+    let file = Named {
+        name,
+        is_one_of_several,
+    };
+    outcome_of(alloc, errand, file, contents.as_slice())
+}
+
+/// Writes what a file led to. The result is the status, or none if the results can't be written.
+fn deliver<A: Allocator, W: Write, E: Write>(
+    outcome: Result<Outcome<A>, AllocError>,
+    output: &mut W,
+    errors: &mut E,
+) -> Option<u8>
+    requires { IfOk outcome (λ o. EndsFile o.status o.line.items) }
+    ensures known { IfSome result (λ status. status ≢ 2) }
+    ensures silent { IfSome result (λ status. status ≤ 1 → errors.new ≡ errors.old) }
+{
+    let Ok(outcome) = outcome else {
+        let _ = write_out(errors, fault_line(&ToolFault::Memory).as_slice());
+        return Some(6);
+    };
+    if let Err(fault) = write_result(output, outcome.bytes.as_slice()) {
+        let _ = write_out(errors, fault_line(&fault).as_slice());
+        return None;
+    }
+    let _ = write_out(errors, outcome.line.as_slice());
+    Some(outcome.status)
+}
+
+/// The greater of two statuses.
+fn greater(one: u8, other: u8) -> u8
+    ensures known { one ≢ 2 → other ≢ 2 → result ≢ 2 }
+    ensures first { one ≤ result }
+    ensures second { other ≤ result }
+{
+    if one < other { other } else { one }
+}
+
+/// Whether a folder stands for the files in it.
+fn takes_folders(of_entry: &OfEntry<'_>) -> bool {
+    matches!(of_entry, OfEntry::Show(_) | OfEntry::Check(_))
+}
+
+/// Does what is requested of all files that a word names.
+fn run_word<S: Store, A: Allocator + Copy, R: Read, W: Write, E: Write>(
+    store: &S,
+    alloc: A,
+    errand: &Errand<'_>,
+    word: &str,
+    input: &mut R,
+    output: &mut W,
+    errors: &mut E,
+) -> Option<u8>
+    ensures known { IfSome result (λ status. status ≢ 2) }
+    ensures silent { IfSome result (λ status. status ≤ 1 → errors.new ≡ errors.old) }
+{
+    let found = if word != "-" && takes_folders(errand.of_entry) {
+        store.find(alloc, word)
+    } else {
+        one_file(alloc, word, None)
+    };
+    let files = match found {
+        Ok(files) => files,
+        Err(error) => return deliver(refused_outcome(alloc, word, &error), output, errors),
+    };
+    let is_one_of_several = errand.has_several || files.are_in_folder;
+    let mut greatest = 0;
+    for found in &files.found {
+        let outcome = outcome_of_found(store, alloc, errand, found, is_one_of_several, input);
+        greatest = greater(greatest, deliver(outcome, output, errors)?);
+    }
+    Some(greatest)
+}
+
+/// Does what is requested of the files that words name, one after another. The result is the greatest status.
+pub fn run_files<S: Store, A: Allocator + Copy, R: Read, W: Write, E: Write>(
+    store: &S,
+    alloc: A,
+    errand: &Errand<'_>,
+    words: &[&str],
+    input: &mut R,
+    output: &mut W,
+    errors: &mut E,
+) -> u8
+    ensures known { result ≢ 2 }
+    ensures silent { result ≤ 1 → errors.new ≡ errors.old }
+{
+    let mut greatest = 0;
+    for word in words {
+        match run_word(store, alloc, errand, word, input, output, errors) {
+            Some(status) => greatest = greater(greatest, status),
+            None => return greater(greatest, 5),
+        }
+    }
+    greatest
+}

@@ -1,0 +1,153 @@
+//! What is due for a file that was named, from its contents: nothing here reads or writes.
+
+ghost use Rattle.std.specs.Prelude.{◌≡◌, ◌⊎◌, ◌++◌, codes, Err, OnOk, IfErr, IfOk, true};
+ghost use Rattle.ti_line.specs.declared.request.Asked.TheVariants as asks;
+ghost use Rattle.ti_tool.specs.declared.fault.ToolFault.TheVariants as fault;
+ghost use Rattle.ti_tool.specs.Files.{IsDueOfFile, each_line, file_line as the_file_line, one_of_several as the_one_of_several, result_of_file, shown_file};
+ghost use Rattle.ti_tool.specs.Results.{Finds, IsDueFrom, IsDueOn};
+
+use crate::answer::{Answer, answer_of_entry};
+use crate::fault::ToolFault;
+use std::alloc::{AllocError, Allocator};
+use ti_entry::read;
+use ti_escape::push_notation;
+use ti_expand::Value;
+use ti_line::{NameForm, OfEntry};
+
+/// A file that was named.
+#[derive(Clone, Copy, Debug)]
+pub struct Named<'a> {
+    /// Its name.
+    pub name: &'a str,
+    /// Whether it is one of several, or lies in a folder that was named: then its result tells its name.
+    pub is_one_of_several: bool,
+}
+
+/// Writes the name of a file.
+fn push_name<A: Allocator>(
+    out: &mut Vec<u8, A>,
+    form: NameForm,
+    name: &str,
+) -> Result<(), AllocError>
+    ensures { OnOk result (out.new.items ≡ out.old.items ++ shown_file form name.now) }
+{
+    match form {
+        NameForm::Raw => out.extend_from_slice(name.as_bytes()),
+        NameForm::Notation => push_notation(out, name.as_bytes()),
+    }
+}
+
+/// Writes lines with something before each.
+fn push_each_line<A: Allocator>(
+    out: &mut Vec<u8, A>,
+    before: &[u8],
+    lines: &[u8],
+) -> Result<(), AllocError>
+    ensures { OnOk result
+        (out.new.items ≡ out.old.items ++ each_line before.now true lines.now) }
+{
+    let mut at_start = true;
+    for byte in lines {
+        if at_start {
+            out.extend_from_slice(before)?;
+        }
+        out.push(*byte)?;
+        at_start = *byte == b'\n';
+    }
+    Ok(())
+}
+
+/// A listing after a line with the name of its file.
+fn after_name<A: Allocator + Copy>(
+    alloc: A,
+    form: NameForm,
+    name: &str,
+    listing: &[u8],
+) -> Result<Vec<u8, A>, AllocError>
+    ensures { IfOk result (λ v. v.items
+        ≡ codes "file: " ++ shown_file form name.now ++ codes "\n" ++ listing.now) }
+{
+    let mut out = Vec::new(alloc);
+    out.extend_from_slice(b"file: ")?;
+    push_name(&mut out, form, name)?;
+    out.extend_from_slice(b"\n")?;
+    out.extend_from_slice(listing)?;
+    Ok(out)
+}
+
+/// Verdicts, each after the name of their file.
+fn by_name<A: Allocator + Copy>(
+    alloc: A,
+    form: NameForm,
+    name: &str,
+    verdicts: &[u8],
+) -> Result<Vec<u8, A>, AllocError>
+    ensures { IfOk result (λ v. v.items
+        ≡ each_line (shown_file form name.now ++ codes ": ") true verdicts.now) }
+{
+    let mut before = Vec::new(alloc);
+    push_name(&mut before, form, name)?;
+    before.extend_from_slice(b": ")?;
+    let mut out = Vec::new(alloc);
+    push_each_line(&mut out, before.as_slice(), verdicts)?;
+    Ok(out)
+}
+
+/// The result of one of several files.
+fn one_of_several<A: Allocator + Copy>(
+    alloc: A,
+    asked: &OfEntry<'_>,
+    name: &str,
+    plain: Vec<u8, A>,
+) -> Result<Vec<u8, A>, AllocError>
+    ensures { IfOk result (λ v. v.items ≡ the_one_of_several asked.now name.now plain.items) }
+{
+    match asked {
+        OfEntry::Show(look) => after_name(alloc, look.naming.form, name, plain.as_slice()),
+        OfEntry::Check(naming) => by_name(alloc, naming.form, name, plain.as_slice()),
+        OfEntry::Expand(_) | OfEntry::Convert(_) | OfEntry::Get(_) => Ok(plain),
+    }
+}
+
+/// What is due for the contents of a file: what is due for an entry of these bytes, with the name of the file if it is one
+/// of several.
+///
+/// # Errors
+///
+/// Those of the entry; [`ToolFault::Memory`] if a growth is refused.
+pub fn answer_of_file<A: Allocator + Copy>(
+    alloc: A,
+    asked: &OfEntry<'_>,
+    parameters: &[Value<'_>; 9],
+    file: Named<'_>,
+    contents: &[u8],
+) -> Result<Answer<A>, ToolFault>
+    ensures finds { IfOk result (λ a. Finds (asks.Entry asked.now) a.sound) }
+    ensures due { IfOk result (λ a. IsDueOfFile file.entry.is_one_of_several asked.now
+        parameters.now file.entry.name.now a.sound contents.now a.bytes.items) }
+    ensures fault { IfErr result (λ e. (e ≡ fault.Memory)
+        ⊎ IsDueFrom (IsDueOn asked.now parameters.now true) contents.now (Err e)) }
+{
+    let entry = read(contents)?;
+    let Answer { bytes, sound } = answer_of_entry(alloc, asked, parameters, &entry)?;
+    if file.is_one_of_several {
+        let bytes = one_of_several(alloc, asked, file.name, bytes)?;
+        return Ok(Answer { bytes, sound });
+    }
+    Ok(Answer { bytes, sound })
+}
+
+/// The line on the fault of a file, after its name, of which each character can be printed.
+pub fn file_line<A: Allocator + Copy>(
+    alloc: A,
+    name: &str,
+    line: &[u8],
+) -> Result<Vec<u8, A>, AllocError>
+    ensures { IfOk result (λ v. v.items ≡ the_file_line name.now line.now) }
+{
+    let mut out = Vec::new(alloc);
+    push_notation(&mut out, name.as_bytes())?;
+    out.extend_from_slice(b": ")?;
+    out.extend_from_slice(line)?;
+    Ok(out)
+}
