@@ -121,7 +121,7 @@ pub record Parsed (bytes : List ℕ) (longest place count : ℕ) (found : Findin
   pub nested : levels 0 before ≡ found.nest
   pub few : found.nest ≤ most_open
 
-are_bytes : (xs : List ℕ) → ((i : ℕ) → get_or xs i 0 < 256) → AreBytes xs
+pub are_bytes : (xs : List ℕ) → ((i : ℕ) → get_or xs i 0 < 256) → AreBytes xs
 are_bytes [] h = tt
 are_bytes (x ∷ xs) h = (h 0, are_bytes xs (λ i. h (suc i)))
 

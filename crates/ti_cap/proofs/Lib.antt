@@ -29,6 +29,7 @@ pub mod PlaceFaultLemmas
 pub mod PlainFormatLemmas
 pub mod ProgressLemmas
 pub mod ReachesLemmas
+pub mod ReaderLemmas
 pub mod ScanLemmas
 pub mod SeenLemmas
 pub mod SizesLemmas

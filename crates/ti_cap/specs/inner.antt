@@ -3,3 +3,4 @@ pub mod Analysis
 pub mod Scan
 pub mod Lexer
 pub mod Gathering
+pub mod Reading

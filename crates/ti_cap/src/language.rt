@@ -194,6 +194,7 @@ pub struct CapRefused {
 
 impl Format {
     /// The most bytes that a print by this format writes, if no text is longer than `longest` bytes.
+    #[inline(always)]
     pub fn size(&self, longest: u16) -> u64
         ensures exact { result ≡ format_size self.now longest }
         ensures small { result ≤ u16.MAX }

@@ -84,7 +84,7 @@ fn lone(letter: u8) -> Option<Token>
 }
 
 /// After `%p`: a digit from 1 to 9.
-fn read_parameter(bytes: &[u8]) -> Result<u8, CapFault>
+pub fn read_parameter(bytes: &[u8]) -> Result<u8, CapFault>
     ensures { read_as (λ number. (Token.Param number, 3)) result ≡ parameter_read bytes.now }
 {
     match bytes {
@@ -117,7 +117,7 @@ fn read_quoted(bytes: &[u8]) -> Result<i32, CapFault>
 }
 
 /// After `%{`: at least one digit, and a brace. The number, and how many bytes spell it with the `%{` before them.
-fn read_digits(bytes: &[u8]) -> Result<(i32, usize), CapFault>
+pub fn read_digits(bytes: &[u8]) -> Result<(i32, usize), CapFault>
     ensures { read_as (λ (number, long). (Token.Constant number, long)) result
         ≡ digits_read 0 0 bytes.now }
 {

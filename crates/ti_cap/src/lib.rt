@@ -14,9 +14,11 @@ mod origins;
 mod parameter_set;
 mod parse;
 mod read_format;
+mod reader;
 mod scan;
 
 pub use gathering::Parameters;
 pub use language::{CapFault, CapRefused, Conversion, Format, Op, Token};
 pub use parameter_set::ParameterSet;
 pub use parse::{Capability, Tape};
+pub use reader::{Opens, Reader, Take};

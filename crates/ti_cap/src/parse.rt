@@ -14,7 +14,7 @@ use std::marker::Model;
 use ti_base::{MOST_CAPABILITY_BYTES, MOST_OPEN};
 
 /// Nearly all capabilities nest no deeper, and less room takes less time to make.
-const FEW_OPEN: usize = 4;
+pub const FEW_OPEN: usize = 4;
 
 /// Bytes that are a capability.
 #[derive(Debug, Drop)]
@@ -63,6 +63,15 @@ impl<'a> Capability<'a> {
             Err(refused) => return Err(refused),
         };
         Ok(Capability { bytes, limits })
+    }
+
+    /// A capability whose limits are known.
+    #[inline(always)]
+    pub(crate) fn known(bytes: &'a [u8], limits: Limits) -> Self
+        requires { IsCapability bytes.now 0 limits }
+        ensures { result ≡ bytes.entry.now }
+    {
+        Capability { bytes, limits }
     }
 
     /// How many bytes it has.

@@ -42,7 +42,7 @@ pub fn read_format(bytes: &[u8]) -> Result<(Token, usize), CapFault>
 
 /// The format of a conversion alone.
 #[inline]
-fn plain(conversion: Conversion) -> Format
+pub fn plain(conversion: Conversion) -> Format
     ensures { result ≡ plain_format conversion }
 {
     Format {

@@ -55,7 +55,7 @@ pub struct Scan {
 }
 
 impl Scan {
-    ghost use Rattle.std.specs.Prelude.{ℕ, ◌≡◌, ◌≤◌, ◌<◌, ◌+◌, ◌-◌, ◌^◌, List, length, map, Some, None, OnOk, IfErr};
+    ghost use Rattle.std.specs.Prelude.{ℕ, ◌≡◌, ◌≤◌, ◌<◌, ◌+◌, ◌-◌, ◌^◌, List, length, map, Some, None, OnOk, OnErr, IfErr};
     ghost use Rattle.ti_base.specs.Limits.{most_open, most_values};
     ghost use Rattle.ti_cap.specs.declared.language.Token.{Token};
     ghost use Rattle.ti_cap.specs.declared.language.CapFault.{CapFault};
@@ -93,6 +93,7 @@ impl Scan {
         ensures taken { OnOk result (Brings longest token self.old opens.old self.new opens.new) }
         ensures fine { OnOk result (fault_at self.old opens.old token ≡ None) }
         ensures order { OnOk result (IsInOrder ROOM self.new) }
+        ensures kept { OnErr result ((self.new ≡ self.old) × (opens.new ≡ opens.old)) }
     {
         match token {
             Token::Byte(_) => self.write(0, 1),
@@ -130,6 +131,7 @@ impl Scan {
             × (most_values < self.old.here.height - popped + 1)) }
         ensures taken { OnOk result (self.new ≡ after_push self.old popped) }
         ensures fine { OnOk result (self.old.here.height - popped + 1 ≤ most_values) }
+        ensures kept { OnErr result (self.new ≡ self.old) }
     {
         let height = self.here.height.saturating_sub(popped) + 1;
         if height > MOST_VALUES as u32 {
@@ -151,6 +153,7 @@ impl Scan {
         ensures taken { OnOk result (Brings 0 Token.CondOpen self.old opens.old self.new opens.new) }
         ensures fine { OnOk result (fault_at self.old opens.old Token.CondOpen ≡ None) }
         ensures order { OnOk result (IsInOrder ROOM self.new) }
+        ensures kept { OnErr result ((self.new ≡ self.old) × (opens.new ≡ opens.old)) }
     {
         if self.nesting >= ROOM {
             return Err(CapFault::NestTooDeep);
@@ -171,6 +174,7 @@ impl Scan {
         ensures taken { OnOk result (Brings 0 Token.CondThen self.old opens.old self.new opens.new) }
         ensures fine { OnOk result (fault_at self.old opens.old Token.CondThen ≡ None) }
         ensures order { OnOk result (IsInOrder ROOM self.new) }
+        ensures kept { OnErr result ((self.new ≡ self.old) × (opens.new ≡ opens.old)) }
     {
         if self.nesting == 0 {
             return Err(CapFault::StrayThen);
@@ -195,6 +199,7 @@ impl Scan {
         ensures taken { OnOk result (Brings 0 Token.CondElse self.old opens.old self.new opens.new) }
         ensures fine { OnOk result (fault_at self.old opens.old Token.CondElse ≡ None) }
         ensures order { OnOk result (IsInOrder ROOM self.new) }
+        ensures kept { OnErr result ((self.new ≡ self.old) × (opens.new ≡ opens.old)) }
     {
         if self.nesting == 0 {
             return Err(CapFault::StrayElse);
@@ -224,6 +229,7 @@ impl Scan {
         ensures taken { OnOk result (Brings 0 Token.CondClose self.old opens.now self.new opens.now) }
         ensures fine { OnOk result (fault_at self.old opens.now Token.CondClose ≡ None) }
         ensures order { OnOk result (IsInOrder ROOM self.new) }
+        ensures kept { OnErr result (self.new ≡ self.old) }
     {
         if self.nesting == 0 {
             return Err(CapFault::StrayEnd);
@@ -239,6 +245,7 @@ impl Scan {
     }
 
     /// The greatest height so far.
+    #[inline(always)]
     pub fn depth(&self) -> u32
         ensures { result ≡ self.now.depth }
     {
@@ -246,6 +253,7 @@ impl Scan {
     }
 
     /// The greatest number of open conditionals so far.
+    #[inline(always)]
     pub fn nest(&self) -> usize
         ensures { result ≡ self.now.nest }
     {
@@ -254,6 +262,7 @@ impl Scan {
 
     /// The most bytes that any path writes, were this the end.
     #[tactic(auto, using(crate::proofs::ScanLemmas::greatest_end_size))]
+    #[inline(always)]
     pub fn bound<const ROOM: usize>(&self, opens: &[Open; ROOM]) -> u64
         requires order { IsInOrder ROOM self.now }
         ensures { result ≡ greatest_size self.now opens.now }
@@ -262,6 +271,7 @@ impl Scan {
     }
 
     /// How far any path has come, were this the end.
+    #[inline(always)]
     fn end<const ROOM: usize>(&self, opens: &[Open; ROOM]) -> Extent
         requires order { IsInOrder ROOM self.now }
         ensures { result ≡ greatest_end (innermost_first self.now.nesting opens.now) self.now.here }
@@ -275,6 +285,7 @@ impl Scan {
     }
 
     /// Whether a conditional is still in its first test.
+    #[inline(always)]
     pub fn is_in_first_test<const ROOM: usize>(&self, opens: &[Open; ROOM]) -> bool
         requires order { IsInOrder ROOM self.now }
         ensures { result
