@@ -155,7 +155,7 @@ const READ: [(&[&str], &str, &str); 28] = [
 ];
 
 /// Words of which the line has a fault, and the fault.
-const FAULTY: [(&[&str], &str); 11] = [
+const FAULTY: [(&[&str], &str); 12] = [
     (&["ti", "cap", "help"], "BadWord 1"),
     (&["ti", "cap", "n:1", "", "s:"], "BadWord 2"),
     (&["ti", "cap", "--", "-5", "--hex"], "BadWord 1"),
