@@ -1,6 +1,6 @@
 pub mod CommandLine
 pub mod inner
-pub mod Looks
+pub mod Options
 pub mod Params
 pub mod Requests
 pub mod Message

@@ -7,7 +7,7 @@ use Rattle.ti_words.specs.declared.Width.TheVariants.{Legacy, Wide}
 use Rattle.ti_expand.specs.declared.values.Value.{Value}
 use Rattle.ti_pad.specs.Setting.{Setting}
 use Rattle.ti_line.specs.CommandLine.{Line, AsksForHelp, Cap, Trace, Show, Check, Expand, Convert, Get, IsRefused, Reads, files_of}
-use Rattle.ti_line.specs.Looks.{form_asked, look_asked, names_asked, naming_asked, output_asked}
+use Rattle.ti_line.specs.Options.{form_asked, list_options, names_asked, naming_asked, output_asked}
 use Rattle.ti_line.specs.Params.{AreGiven, AreParams, IsGiven, IsGivenBy, IsParam, IsWordFault}
 use Rattle.ti_line.specs.declared.given.Param.{Param}
 use Rattle.ti_line.specs.declared.params.WordFault.{WordFault}
@@ -57,7 +57,7 @@ Asks terminal (Cap hex escape words) r =
 Asks terminal (Trace escape words) r =
     AreParams words r.parameters × (r.asked ≡ Capability (of_cap.Trace (form_asked escape)))
 Asks terminal (Show escape all_names) r =
-    r.asked ≡ Entry (of_entry.Show (look_asked all_names escape terminal))
+    r.asked ≡ Entry (of_entry.Show (list_options all_names escape terminal))
 Asks terminal (Check escape all_names) r =
     r.asked ≡ Entry (of_entry.Check (naming_asked all_names escape terminal))
 Asks terminal (Expand name hex escape all_names rate lines xon words) r =

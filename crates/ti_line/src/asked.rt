@@ -1,10 +1,10 @@
-//! The look that the flags of a line ask for.
+//! The options that the flags of a line request.
 
 ghost use Rattle.std.specs.Prelude.{◌≡◌};
 ghost use Rattle.ti_line.specs.Requests.{width_asked as the_width_asked};
-ghost use Rattle.ti_line.specs.Looks.{form_asked as the_form_asked, look_asked as the_look_asked, names_asked as the_names_asked, naming_asked as the_naming_asked, output_asked as the_output_asked};
+ghost use Rattle.ti_line.specs.Options.{form_asked as the_form_asked, list_options as the_list_options, names_asked as the_names_asked, naming_asked as the_naming_asked, output_asked as the_output_asked};
 
-use crate::look::{Look, NameForm, Naming, Output};
+use crate::options::{ListOptions, NameForm, Naming, Output};
 use ti_escape::Form;
 use ti_words::{NameTable, Width};
 
@@ -51,11 +51,11 @@ pub fn naming_asked(all_names: bool, escape: bool, terminal: bool) -> Naming
     }
 }
 
-/// The look of a listing by its flags, and by whether it goes to a terminal.
-pub fn look_asked(all_names: bool, escape: bool, terminal: bool) -> Look
-    ensures { result ≡ the_look_asked all_names escape terminal }
+/// The options of a listing by its flags, and by whether it goes to a terminal.
+pub fn list_options(all_names: bool, escape: bool, terminal: bool) -> ListOptions
+    ensures { result ≡ the_list_options all_names escape terminal }
 {
-    Look {
+    ListOptions {
         naming: naming_asked(all_names, escape, terminal),
         form: form_asked(escape),
     }

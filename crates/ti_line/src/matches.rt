@@ -9,7 +9,9 @@ ghost use Rattle.ti_line.specs.Requests.{GiveNone, IsAnswered, StandForNone, set
 ghost use Rattle.ti_line.specs.declared.request.Asked.TheVariants.{Entry};
 ghost use Rattle.ti_line.specs.inner.Matches.{given_rows};
 
-use crate::asked::{form_asked, look_asked, names_asked, naming_asked, output_asked, width_asked};
+use crate::asked::{
+    form_asked, list_options, names_asked, naming_asked, output_asked, width_asked,
+};
 use crate::given::{Given, read_given};
 use crate::no_line::LineFault;
 use crate::params::{WordFault, read_params};
@@ -204,7 +206,7 @@ pub(crate) fn request_of<'a>(
         "trace" => trace(given),
         "show" => Ok(Request {
             parameters: NO_PARAMETERS,
-            asked: Asked::Entry(OfEntry::Show(look_asked(all_names, escape, terminal))),
+            asked: Asked::Entry(OfEntry::Show(list_options(all_names, escape, terminal))),
         }),
         "check" => Ok(Request {
             parameters: NO_PARAMETERS,

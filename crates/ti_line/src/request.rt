@@ -1,7 +1,7 @@
 //! What a command line requests, all of it valid.
 
 use crate::given::Given;
-use crate::look::{Look, Naming, Output};
+use crate::options::{ListOptions, Naming, Output};
 use ti_escape::Form;
 use ti_expand::Value;
 use ti_pad::Padding;
@@ -48,7 +48,7 @@ pub enum OfCapability {
 #[derive(Debug, Drop)]
 pub enum OfEntry<'a> {
     /// To list it.
-    Show(Look),
+    Show(ListOptions),
     /// To analyse each of its texts.
     Check(Naming),
     /// To expand and pad one of its texts.

@@ -9,7 +9,7 @@ use Rattle.ti_line.specs.declared.request.OfCapability.{OfCapability}
 use Rattle.ti_line.specs.declared.request.OfCapability.TheVariants as of_cap
 use Rattle.ti_line.specs.declared.request.OfEntry.{OfEntry}
 use Rattle.ti_line.specs.declared.request.OfEntry.TheVariants as of_entry
-use Rattle.ti_line.specs.declared.look.Output.{Output}
+use Rattle.ti_line.specs.declared.options.Output.{Output}
 use Rattle.ti_tool.specs.declared.fault.ToolFault.{ToolFault}
 use Rattle.ti_tool.specs.declared.fault.ToolFault.TheVariants as fault
 use Rattle.ti_line.specs.declared.given.Given.{Given}
@@ -58,7 +58,7 @@ value_never (Some (TextItem (TextOf text))) g set = record {
 }
 
 on_entry_never : (e : OfEntry) (parameters : List Value) (sound : Bool) (v : EntryValue) → IsNeverOwn (IsDueOn e parameters sound v)
-on_entry_never (of_entry.Show look) parameters sound v = record { no_write = λ gone d. cc; no_memory = λ d. cc }
+on_entry_never (of_entry.Show options) parameters sound v = record { no_write = λ gone d. cc; no_memory = λ d. cc }
 on_entry_never (of_entry.Check naming) parameters sound v = record { no_write = λ gone d. d; no_memory = λ d. d }
 on_entry_never (of_entry.Expand e) parameters sound v = record {
   no_write = λ gone (text, called, d). (text_never text parameters e.padding e.output).no_write gone d;

@@ -4,7 +4,7 @@ use Rattle.std.specs.Prelude.{codes}
 use Rattle.std.proofs.lemmas.List.{get_or-map}
 use Rattle.ti_words.specs.Texts.{TextValue, AbsentText}
 use Rattle.ti_words.specs.Spelling.{name_in, mark_in}
-use Rattle.ti_line.specs.declared.look.NameForm.{NameForm}
+use Rattle.ti_line.specs.declared.options.NameForm.{NameForm}
 use Rattle.ti_tool.specs.Labels.{own_label}
 use Rattle.ti_tool.specs.Listing.{lines_from}
 use Rattle.ti_tool.specs.Verdicts.{IsExtendedLine, IsLine}

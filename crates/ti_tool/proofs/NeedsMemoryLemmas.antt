@@ -20,13 +20,13 @@ use Rattle.ti_pad.specs.Padded.{padded_text}
 use Rattle.ti_entry.proofs.SpellsAtMostOneLemmas.{at_most_one}
 use Rattle.ti_entry.proofs.SpelledExtendedLemmas.{only}
 use Rattle.ti_words.specs.declared.all_names.NameTable.{NameTable}
-use Rattle.ti_line.specs.declared.look.Look.{Look}
-use Rattle.ti_line.specs.declared.look.Output.{Output}
+use Rattle.ti_line.specs.declared.options.ListOptions.{ListOptions}
+use Rattle.ti_line.specs.declared.options.Output.{Output}
 use Rattle.ti_tool.specs.declared.fault.ToolFault.{ToolFault}
 use Rattle.ti_tool.specs.declared.fault.ToolFault.TheVariants as fault
 use Rattle.ti_tool.specs.Calls.{NeedsMemory}
 use Rattle.ti_tool.specs.Names.{IsCalled}
-use Rattle.ti_line.specs.Looks.{output_bytes}
+use Rattle.ti_line.specs.Options.{output_bytes}
 use Rattle.ti_tool.specs.Results.{IsExpansion, IsUnexpanded, IsCappedAs, IsPadded, IsDue, IsDueFor, IsDueFrom, IsListed, IsTraced}
 use Rattle.ti_tool.specs.inner.Dues.{FailsAsDue, IsExpandable}
 use Rattle.ti_tool.proofs.IsCalledLemmas.{one_called}
@@ -135,8 +135,8 @@ unrefused input v spells = ap (refusal_of (length input)) (only input v spells).
 pub never_refused : (input : List ℕ) (v : EntryValue) (r : Refused) → Spells input v → refusal input ≡ Some r → ⊥
 never_refused input v r spells is = let e : None ≡ Some r = sym (unrefused input v spells) ∙ is in absurd cc
 
-pub listed_needs : (look : Look) (v : EntryValue) → NeedsMemory (IsListed look v)
-listed_needs look v e d = absurd (cc)
+pub listed_needs : (options : ListOptions) (v : EntryValue) → NeedsMemory (IsListed options v)
+listed_needs options v e d = absurd (cc)
 
 -- what is due for an entry is due for the bytes that spell it
 pub due_from : (due : EntryValue → Result (List ℕ) ToolFault → Type 0) (input : List ℕ) (v : EntryValue) (e : ToolFault) → Spells input v → FailsAsDue (due v) e → FailsAsDue (IsDueFrom due input) e

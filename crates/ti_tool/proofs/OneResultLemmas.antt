@@ -28,8 +28,8 @@ use Rattle.ti_pad.specs.Padded.{padded_text}
 use Rattle.ti_base.specs.Limits.{most_padded_bytes}
 use Rattle.ti_entry.proofs.SpellsAtMostOneLemmas.{at_most_one}
 use Rattle.ti_words.specs.declared.all_names.NameTable.{NameTable}
-use Rattle.ti_line.specs.declared.look.Naming.{Naming}
-use Rattle.ti_line.specs.declared.look.Output.{Output}
+use Rattle.ti_line.specs.declared.options.Naming.{Naming}
+use Rattle.ti_line.specs.declared.options.Output.{Output}
 use Rattle.ti_line.specs.declared.request.Asked.TheVariants.{Capability, Entry}
 use Rattle.ti_line.specs.declared.request.OfCapability.{OfCapability}
 use Rattle.ti_line.specs.declared.request.OfCapability.TheVariants as of_cap
@@ -39,7 +39,7 @@ use Rattle.ti_tool.specs.declared.fault.ToolFault.{ToolFault}
 use Rattle.ti_tool.specs.declared.fault.ToolFault.TheVariants as fault
 use Rattle.ti_tool.specs.Labels.{label_of, own_label}
 use Rattle.ti_tool.specs.Laws.{CheckHasOneVerdict, HasOneAnswer}
-use Rattle.ti_line.specs.Looks.{output_bytes}
+use Rattle.ti_line.specs.Options.{output_bytes}
 use Rattle.ti_tool.specs.Results.{IsExpansion, IsUnexpanded, IsCappedAs, IsPadded, IsDue, IsDueFor, IsDueFrom, IsDueOn, IsEncoding, IsJudgement, IsOutputOf, IsTraced, in_width}
 use Rattle.ti_tool.specs.Verdicts.{IsVerdict, IsLine, IsStandardLine, IsExtendedLine, AreLines, AreVerdicts, sound_verdict, fault_verdict}
 use Rattle.ti_line.specs.declared.given.Given.{Given}
@@ -319,7 +319,7 @@ one_output (of_cap.Cap output) parameters input = one_capped parameters output i
 one_output (of_cap.Trace form) parameters input = one_traced parameters form input
 
 one_on : (e : OfEntry) (parameters : List Value) (sound as_sound : Bool) (v : EntryValue) (r s : Result (List ℕ) ToolFault) → IsDueOn e parameters sound v r → IsDueOn e parameters as_sound v s → r ≡ s
-one_on (of_entry.Show look) parameters sound as_sound v r s d h = d ∙ sym h
+one_on (of_entry.Show options) parameters sound as_sound v r s d h = d ∙ sym h
 one_on (of_entry.Check naming) parameters sound as_sound v r s d h = one_judgement naming v sound as_sound r s d h
 one_on (of_entry.Expand e) parameters sound as_sound v r s d h = one_due_for e.name.names e.name.name.now parameters e.padding e.output v r s d h
 one_on (of_entry.Get g) parameters sound as_sound v r s d h = one_got g sound as_sound v r s d h

@@ -35,12 +35,12 @@ use Rattle.ti_escape.specs.declared.form.Form.{Form}
 use Rattle.ti_escape.specs.declared.form.Form.TheVariants as forms
 use Rattle.ti_escape.proofs.PrintableLemmas.{has_no_space, is_printable_all, label_chars_printable}
 use Rattle.ti_pad.specs.Padded.{padded_text}
-use Rattle.ti_line.specs.declared.look.Look.{Look}
-use Rattle.ti_line.specs.declared.look.NameForm.{NameForm}
-use Rattle.ti_line.specs.declared.look.NameForm.TheVariants as name_forms
+use Rattle.ti_line.specs.declared.options.ListOptions.{ListOptions}
+use Rattle.ti_line.specs.declared.options.NameForm.{NameForm}
+use Rattle.ti_line.specs.declared.options.NameForm.TheVariants as name_forms
 use Rattle.ti_line.specs.declared.given.Given.{Given}
-use Rattle.ti_line.specs.declared.look.Output.{Output}
-use Rattle.ti_line.specs.declared.look.Output.TheVariants as outputs
+use Rattle.ti_line.specs.declared.options.Output.{Output}
+use Rattle.ti_line.specs.declared.options.Output.TheVariants as outputs
 use Rattle.ti_pad.specs.Setting.{Setting}
 use Rattle.ti_tool.specs.Got.{IsTextResult, IsValueResult, number_or_none, number_result}
 use Rattle.ti_tool.specs.Items.{ItemValue, FlagItem, NumberItem, TextItem}
@@ -181,23 +181,23 @@ all_lines : {X : Type 0} (line : ℕ → X → List ℕ) (count : X → ℕ) →
 all_lines line count each index [] = none
 all_lines line count each index (x ∷ xs) = joined_lines (count x) (lines_due count xs) (line index x) (lines_from line (suc index) xs) (each index x) (all_lines line count each (suc index) xs)
 
-standard_text_lines : (look : Look) (v : EntryValue) → look.form ≡ forms.Notation
-    → ArePrintableLines (lines_due flag_lines v.standard.flags + lines_due number_lines v.standard.numbers + lines_due text_lines v.standard.texts) (standard_lines look v.standard)
-standard_text_lines look v e =
+standard_text_lines : (options : ListOptions) (v : EntryValue) → options.form ≡ forms.Notation
+    → ArePrintableLines (lines_due flag_lines v.standard.flags + lines_due number_lines v.standard.numbers + lines_due text_lines v.standard.texts) (standard_lines options v.standard)
+standard_text_lines options v e =
     joined_lines _ _ _ _
     (joined_lines _ _ _ _
-    (all_lines (standard_flag look.naming.table) flag_lines (λ index flag. flag_text (codes "flag ") (label_of look.naming.table kinds.Flag index) flag refl (label_text look.naming.table kinds.Flag index)) 0 v.standard.flags)
-    (all_lines (standard_number look.naming.table) number_lines (λ index number. number_text (codes "number ") (label_of look.naming.table kinds.Number index) number refl (label_text look.naming.table kinds.Number index)) 0 v.standard.numbers))
-    (all_lines (standard_text look) text_lines (λ index text. text_text look.form (codes "text ") (label_of look.naming.table kinds.Text index) text e refl (label_text look.naming.table kinds.Text index)) 0 v.standard.texts)
+    (all_lines (standard_flag options.naming.table) flag_lines (λ index flag. flag_text (codes "flag ") (label_of options.naming.table kinds.Flag index) flag refl (label_text options.naming.table kinds.Flag index)) 0 v.standard.flags)
+    (all_lines (standard_number options.naming.table) number_lines (λ index number. number_text (codes "number ") (label_of options.naming.table kinds.Number index) number refl (label_text options.naming.table kinds.Number index)) 0 v.standard.numbers))
+    (all_lines (standard_text options) text_lines (λ index text. text_text options.form (codes "text ") (label_of options.naming.table kinds.Text index) text e refl (label_text options.naming.table kinds.Text index)) 0 v.standard.texts)
 
-extended_text_lines : (look : Look) (v : EntryValue) → look.form ≡ forms.Notation → look.naming.form ≡ name_forms.Notation
-    → ArePrintableLines (lines_due (λ item. flag_lines (mark_in item)) v.extended.flags + lines_due (λ item. number_lines (mark_in item)) v.extended.numbers + lines_due (λ item. text_lines (mark_in item)) v.extended.texts) (extended_lines look v.extended)
-extended_text_lines look v e n =
+extended_text_lines : (options : ListOptions) (v : EntryValue) → options.form ≡ forms.Notation → options.naming.form ≡ name_forms.Notation
+    → ArePrintableLines (lines_due (λ item. flag_lines (mark_in item)) v.extended.flags + lines_due (λ item. number_lines (mark_in item)) v.extended.numbers + lines_due (λ item. text_lines (mark_in item)) v.extended.texts) (extended_lines options v.extended)
+extended_text_lines options v e n =
     joined_lines _ _ _ _
     (joined_lines _ _ _ _
-    (all_lines (extended_flag look.naming.form) (λ item. flag_lines (mark_in item)) (λ index item. flag_text (codes "flag+ ") (own_label look.naming.form item.0) item.1 refl (own_text look.naming.form item.0 n)) 0 v.extended.flags)
-    (all_lines (extended_number look.naming.form) (λ item. number_lines (mark_in item)) (λ index item. number_text (codes "number+ ") (own_label look.naming.form item.0) item.1 refl (own_text look.naming.form item.0 n)) 0 v.extended.numbers))
-    (all_lines (extended_text look) (λ item. text_lines (mark_in item)) (λ index item. text_text look.form (codes "text+ ") (own_label look.naming.form item.0) item.1 e refl (own_text look.naming.form item.0 n)) 0 v.extended.texts)
+    (all_lines (extended_flag options.naming.form) (λ item. flag_lines (mark_in item)) (λ index item. flag_text (codes "flag+ ") (own_label options.naming.form item.0) item.1 refl (own_text options.naming.form item.0 n)) 0 v.extended.flags)
+    (all_lines (extended_number options.naming.form) (λ item. number_lines (mark_in item)) (λ index item. number_text (codes "number+ ") (own_label options.naming.form item.0) item.1 refl (own_text options.naming.form item.0 n)) 0 v.extended.numbers))
+    (all_lines (extended_text options) (λ item. text_lines (mark_in item)) (λ index item. text_text options.form (codes "text+ ") (own_label options.naming.form item.0) item.1 e refl (own_text options.naming.form item.0 n)) 0 v.extended.texts)
 
 format_text : (width : Width) → IsText (codes "format: " ++ format_name width)
 format_text Legacy = refl
@@ -213,16 +213,16 @@ head_lines format names of_format of_names =
     rejoin format names = simp append_assoc
 
 pub shown_lines : ShowIsPrintable
-shown_lines look input out e n (inl (refused, is, same)) = absurd cc
-shown_lines look input out e n (inr (v, spells, listed)) =
-    let is : out ≡ entry_lines look v = cc in
+shown_lines options input out e n (inl (refused, is, same)) = absurd cc
+shown_lines options input out e n (inr (v, spells, listed)) =
+    let is : out ≡ entry_lines options v = cc in
     let P : List ℕ → Type 0 = λ x. ArePrintableLines (listed_lines v) x in (
       v,
       spells,
       subst P (sym is) (
           joined_lines _ _ _ _
-          (joined_lines _ _ _ _ (head_lines (codes "format: " ++ format_name v.width) (own_names look.naming.form v.names) (format_text v.width) (own_names_text look.naming.form v.names n)) (standard_text_lines look v e))
-          (extended_text_lines look v e n)),
+          (joined_lines _ _ _ _ (head_lines (codes "format: " ++ format_name v.width) (own_names options.naming.form v.names) (format_text v.width) (own_names_text options.naming.form v.names n)) (standard_text_lines options v e))
+          (extended_text_lines options v e n)),
     )
 
 -- ---- verdicts

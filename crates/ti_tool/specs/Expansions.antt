@@ -10,8 +10,8 @@ use Rattle.ti_expand.specs.Meaning.{meaning}
 use Rattle.ti_expand.specs.Expands.{IsFirstTooLong}
 use Rattle.ti_pad.specs.Setting.{Setting}
 use Rattle.ti_pad.specs.Padded.{padded_text}
-use Rattle.ti_line.specs.declared.look.Output.{Output}
-use Rattle.ti_line.specs.Looks.{output_bytes}
+use Rattle.ti_line.specs.declared.options.Output.{Output}
+use Rattle.ti_line.specs.Options.{output_bytes}
 use Rattle.ti_tool.specs.declared.fault.ToolFault.{ToolFault}
 use Rattle.ti_tool.specs.declared.fault.ToolFault.TheVariants as fault
 

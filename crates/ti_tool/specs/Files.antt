@@ -3,8 +3,8 @@ use Rattle.std.specs.Prelude.{◌≡◌, ◌==◌, ℕ, Bool, true, false, List,
 use Rattle.ti_base.specs.Letters.{letter}
 use Rattle.ti_expand.specs.declared.values.Value.{Value}
 use Rattle.ti_escape.specs.Notation.{notation}
-use Rattle.ti_line.specs.declared.look.NameForm.{NameForm}
-use Rattle.ti_line.specs.declared.look.NameForm.TheVariants as name_forms
+use Rattle.ti_line.specs.declared.options.NameForm.{NameForm}
+use Rattle.ti_line.specs.declared.options.NameForm.TheVariants as name_forms
 use Rattle.ti_line.specs.declared.request.OfEntry.{OfEntry}
 use Rattle.ti_line.specs.declared.request.OfEntry.TheVariants as of_entry
 use Rattle.ti_tool.specs.declared.fault.ToolFault.{ToolFault}
@@ -23,8 +23,8 @@ each_line before false (b ∷ bs) = b ∷ each_line before (b == letter (codes "
 
 -- the result of one of several files: a listing after a line with the name, each verdict after the name
 abbrev pub one_of_several : OfEntry → List ℕ → List ℕ → List ℕ
-one_of_several (of_entry.Show look) name out =
-    codes "file: " ++ shown_file look.naming.form name ++ codes "\n" ++ out
+one_of_several (of_entry.Show options) name out =
+    codes "file: " ++ shown_file options.naming.form name ++ codes "\n" ++ out
 one_of_several (of_entry.Check naming) name out =
     each_line (shown_file naming.form name ++ codes ": ") true out
 one_of_several _ name out = out

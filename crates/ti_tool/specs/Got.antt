@@ -18,9 +18,9 @@ use Rattle.ti_pad.specs.Padded.{padded_text}
 use Rattle.ti_line.specs.declared.given.Given.{Given}
 use Rattle.ti_line.specs.declared.given.Param.{Param}
 use Rattle.ti_line.specs.declared.given.Param.TheVariants as params
-use Rattle.ti_line.specs.declared.look.Output.{Output}
+use Rattle.ti_line.specs.declared.options.Output.{Output}
 use Rattle.ti_line.specs.declared.request.Get.{Get}
-use Rattle.ti_line.specs.Looks.{output_bytes}
+use Rattle.ti_line.specs.Options.{output_bytes}
 use Rattle.ti_tool.specs.Expansions.{IsPadded}
 use Rattle.ti_tool.specs.Items.{IsItemCalled, ItemValue, FlagItem, NumberItem, TextItem}
 use Rattle.ti_tool.specs.declared.fault.ToolFault.{ToolFault}

@@ -4,8 +4,8 @@ use Rattle.ti_words.specs.declared.Kind.{Kind}
 use Rattle.ti_words.specs.declared.all_names.NameTable.{NameTable}
 use Rattle.ti_words.specs.AllNames.{name_in}
 use Rattle.ti_escape.specs.Notation.{label_notation, notation}
-use Rattle.ti_line.specs.declared.look.NameForm.{NameForm}
-use Rattle.ti_line.specs.declared.look.NameForm.TheVariants as forms
+use Rattle.ti_line.specs.declared.options.NameForm.{NameForm}
+use Rattle.ti_line.specs.declared.options.NameForm.TheVariants as forms
 
 -- the label of a standard capability: its name, or `#` and its index if the table of names that
 -- is asked has none

@@ -5,7 +5,7 @@ use Rattle.ti_words.specs.Value.{EntryValue}
 use Rattle.ti_words.specs.Spelling.{Spells}
 use Rattle.ti_draft.specs.Canonical.{canonical}
 use Rattle.ti_expand.specs.declared.values.Value.{Value}
-use Rattle.ti_line.specs.declared.look.Naming.{Naming}
+use Rattle.ti_line.specs.declared.options.Naming.{Naming}
 use Rattle.ti_line.specs.declared.request.Asked.{Asked}
 use Rattle.ti_tool.specs.declared.fault.ToolFault.{ToolFault}
 use Rattle.ti_tool.specs.Results.{IsAnswer, IsConverted, IsDueFrom, IsJudgement}

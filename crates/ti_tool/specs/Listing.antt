@@ -13,8 +13,8 @@ use Rattle.ti_words.specs.declared.Width.{Width}
 use Rattle.ti_words.specs.declared.Width.TheVariants.{Legacy, Wide}
 use Rattle.ti_words.specs.Texts.{TextValue, AbsentText, CancelledText, TextOf}
 use Rattle.ti_words.specs.Value.{PartValue, NamedPart, EntryValue}
-use Rattle.ti_line.specs.declared.look.Look.{Look}
-use Rattle.ti_line.specs.declared.look.NameForm.{NameForm}
+use Rattle.ti_line.specs.declared.options.ListOptions.{ListOptions}
+use Rattle.ti_line.specs.declared.options.NameForm.{NameForm}
 use Rattle.ti_tool.specs.Labels.{label_of, own_label, own_names}
 
 -- a word and a label, and after the label nothing, or a blank and a word; No has no line
@@ -45,9 +45,9 @@ abbrev pub standard_number : NameTable → ℕ → Number → List ℕ
 standard_number table index number =
     number_line (codes "number ") (label_of table kinds.Number index) number
 
-abbrev pub standard_text : Look → ℕ → TextValue → List ℕ
-standard_text look index text =
-    text_line look.form (codes "text ") (label_of look.naming.table kinds.Text index) text
+abbrev pub standard_text : ListOptions → ℕ → TextValue → List ℕ
+standard_text options index text =
+    text_line options.form (codes "text ") (label_of options.naming.table kinds.Text index) text
 
 -- those of the extended part have a name of their own, whatever their index
 abbrev pub extended_flag : NameForm → ℕ → List ℕ × Flag → List ℕ
@@ -57,9 +57,9 @@ abbrev pub extended_number : NameForm → ℕ → List ℕ × Number → List �
 extended_number form index (name, number) =
     number_line (codes "number+ ") (own_label form name) number
 
-abbrev pub extended_text : Look → ℕ → List ℕ × TextValue → List ℕ
-extended_text look index (name, text) =
-    text_line look.form (codes "text+ ") (own_label look.naming.form name) text
+abbrev pub extended_text : ListOptions → ℕ → List ℕ × TextValue → List ℕ
+extended_text options index (name, text) =
+    text_line options.form (codes "text+ ") (own_label options.naming.form name) text
 
 -- a line for each item from an index on
 abbrev pub lines_from : {X : Type 0} → (ℕ → X → List ℕ) → ℕ → List X → List ℕ
@@ -67,17 +67,17 @@ lines_from line index [] = []
 lines_from line index (x ∷ xs) = line index x ++ lines_from line (suc index) xs
 
 -- flags, numbers and texts in the order of their indices
-abbrev pub standard_lines : Look → PartValue → List ℕ
-standard_lines look p =
-    lines_from (standard_flag look.naming.table) 0 p.flags
-    ++ lines_from (standard_number look.naming.table) 0 p.numbers
-    ++ lines_from (standard_text look) 0 p.texts
+abbrev pub standard_lines : ListOptions → PartValue → List ℕ
+standard_lines options p =
+    lines_from (standard_flag options.naming.table) 0 p.flags
+    ++ lines_from (standard_number options.naming.table) 0 p.numbers
+    ++ lines_from (standard_text options) 0 p.texts
 
-abbrev pub extended_lines : Look → NamedPart → List ℕ
-extended_lines look p =
-    lines_from (extended_flag look.naming.form) 0 p.flags
-    ++ lines_from (extended_number look.naming.form) 0 p.numbers
-    ++ lines_from (extended_text look) 0 p.texts
+abbrev pub extended_lines : ListOptions → NamedPart → List ℕ
+extended_lines options p =
+    lines_from (extended_flag options.naming.form) 0 p.flags
+    ++ lines_from (extended_number options.naming.form) 0 p.numbers
+    ++ lines_from (extended_text options) 0 p.texts
 
 -- the name of a format
 abbrev pub format_name : Width → List ℕ
@@ -85,8 +85,8 @@ format_name Legacy = codes "legacy"
 format_name Wide = codes "wide"
 
 -- the format and the names, then the standard capabilities and those of the extended part
-abbrev pub entry_lines : Look → EntryValue → List ℕ
-entry_lines look v =
+abbrev pub entry_lines : ListOptions → EntryValue → List ℕ
+entry_lines options v =
     codes "format: " ++ format_name v.width
-    ++ codes "\nnames: " ++ own_names look.naming.form v.names ++ codes "\n"
-    ++ standard_lines look v.standard ++ extended_lines look v.extended
+    ++ codes "\nnames: " ++ own_names options.naming.form v.names ++ codes "\n"
+    ++ standard_lines options v.standard ++ extended_lines options v.extended

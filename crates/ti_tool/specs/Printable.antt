@@ -14,10 +14,10 @@ use Rattle.ti_escape.specs.Laws.{is_printable}
 use Rattle.ti_escape.specs.declared.form.Form.TheVariants as forms
 use Rattle.ti_expand.specs.declared.values.Value.{Value}
 use Rattle.ti_pad.specs.Setting.{Setting}
-use Rattle.ti_line.specs.declared.look.Look.{Look}
-use Rattle.ti_line.specs.declared.look.NameForm.TheVariants as name_forms
-use Rattle.ti_line.specs.declared.look.Naming.{Naming}
-use Rattle.ti_line.specs.declared.look.Output.TheVariants as outputs
+use Rattle.ti_line.specs.declared.options.ListOptions.{ListOptions}
+use Rattle.ti_line.specs.declared.options.NameForm.TheVariants as name_forms
+use Rattle.ti_line.specs.declared.options.Naming.{Naming}
+use Rattle.ti_line.specs.declared.options.Output.TheVariants as outputs
 use Rattle.ti_line.specs.declared.request.Get.{Get}
 use Rattle.ti_tool.specs.Got.{IsGot}
 use Rattle.ti_tool.specs.Results.{IsCappedAs, IsDueFor, IsDueFrom, IsJudgement, IsListed}
@@ -76,8 +76,8 @@ checked_lines v =
 -- ---- results under `--escape`
 
 abbrev pub ShowIsPrintable : Type 0
-ShowIsPrintable = (look : Look) (input out : List ℕ) → look.form ≡ forms.Notation
-    → look.naming.form ≡ name_forms.Notation → IsDueFrom (IsListed look) input (Ok out)
+ShowIsPrintable = (options : ListOptions) (input out : List ℕ) → options.form ≡ forms.Notation
+    → options.naming.form ≡ name_forms.Notation → IsDueFrom (IsListed options) input (Ok out)
     → (v : EntryValue) × Spells input v × ArePrintableLines (listed_lines v) out
 
 abbrev pub CheckIsPrintable : Type 0

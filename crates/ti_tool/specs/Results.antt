@@ -16,10 +16,10 @@ use Rattle.ti_trace.specs.Trace.{IsTrace}
 use Rattle.ti_pad.specs.Setting.{Setting}
 use Rattle.ti_draft.specs.Canonical.{canonical}
 use Rattle.ti_draft.specs.Unfit.{encode_fault}
-use Rattle.ti_line.specs.declared.look.Look.{Look}
-use Rattle.ti_line.specs.declared.look.Naming.{Naming}
-use Rattle.ti_line.specs.declared.look.Output.{Output}
-use Rattle.ti_line.specs.Looks.{look_asked, naming_asked, output_asked, output_bytes}
+use Rattle.ti_line.specs.declared.options.ListOptions.{ListOptions}
+use Rattle.ti_line.specs.declared.options.Naming.{Naming}
+use Rattle.ti_line.specs.declared.options.Output.{Output}
+use Rattle.ti_line.specs.Options.{list_options, naming_asked, output_asked, output_bytes}
 pub use Rattle.ti_tool.specs.Expansions.{IsExpansion, IsPadded, IsUnexpanded}
 use Rattle.ti_tool.specs.Got.{IsGot}
 use Rattle.ti_tool.specs.Verdicts.{AreVerdicts}
@@ -78,12 +78,12 @@ IsExpanded name parameters setting hex =
     IsDueFrom (IsDueFor tables.Common name parameters setting (output_asked hex false))
 
 -- the lines of `show`
-abbrev pub IsListed : Look → EntryValue → Result (List ℕ) ToolFault → Type 0
-IsListed look v answer = answer ≡ Ok (entry_lines look v)
+abbrev pub IsListed : ListOptions → EntryValue → Result (List ℕ) ToolFault → Type 0
+IsListed options v answer = answer ≡ Ok (entry_lines options v)
 
 -- by the common names, with names as they stand in the entry, and texts in hex
 abbrev pub IsShown : List ℕ → Result (List ℕ) ToolFault → Type 0
-IsShown = IsDueFrom (IsListed (look_asked false false false))
+IsShown = IsDueFrom (IsListed (list_options false false false))
 
 -- the lines of `check`, which are those of sound texts alone or not
 abbrev pub IsJudgement : Naming → Bool → EntryValue → Result (List ℕ) ToolFault → Type 0
@@ -118,7 +118,7 @@ IsOutputOf (of_cap.Trace form) parameters = IsTraced parameters form
 
 -- on an entry, whose texts are sound or not, or whose flag is set or not
 abbrev pub IsDueOn : OfEntry → List Value → Bool → EntryValue → Result (List ℕ) ToolFault → Type 0
-IsDueOn (of_entry.Show look) parameters sound = IsListed look
+IsDueOn (of_entry.Show options) parameters sound = IsListed options
 IsDueOn (of_entry.Check naming) parameters sound = IsJudgement naming sound
 IsDueOn (of_entry.Expand e) parameters sound =
     IsDueFor e.name.names e.name.name.now parameters e.padding e.output

@@ -8,8 +8,8 @@ use Rattle.ti_cap.specs.declared.language.CapRefused.{CapRefused}
 use Rattle.ti_cap.specs.Capability.{HasDepth, HasBound}
 use Rattle.ti_cap.specs.Refusal.{IsFaultless, IsRefusal}
 use Rattle.ti_cap.specs.FaultNames.{cap_fault_word}
-use Rattle.ti_line.specs.declared.look.NameForm.{NameForm}
-use Rattle.ti_line.specs.declared.look.Naming.{Naming}
+use Rattle.ti_line.specs.declared.options.NameForm.{NameForm}
+use Rattle.ti_line.specs.declared.options.Naming.{Naming}
 use Rattle.ti_tool.specs.Labels.{label_of, own_label}
 
 -- what the line of a text says of it: its depth and bound, or its fault and the place

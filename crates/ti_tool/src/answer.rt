@@ -58,7 +58,7 @@ pub fn answer_of_entry<A: Allocator + Copy>(
         (FailsAsDue (IsDueOn asked.now parameters.now true entry.now)) }
 {
     let bytes = match asked {
-        OfEntry::Show(look) => lines_of(alloc, *look, entry)?,
+        OfEntry::Show(options) => lines_of(alloc, *options, entry)?,
         OfEntry::Check(naming) => return Ok(verdicts_of(alloc, *naming, entry)?),
         OfEntry::Expand(expand) => expand_result(alloc, entry, expand, parameters)?,
         OfEntry::Convert(width) => convert_result(alloc, entry, *width)?,

@@ -1,4 +1,4 @@
-//! The calls of the program with a plain look, one request each.
+//! The calls of the program with no option, one request each.
 
 ghost use Rattle.std.specs.Prelude.{◌⊎◌, ◌≡◌, IfErr};
 ghost use Rattle.ti_tool.specs.Calls.{DidCall, DidCheck, HasFailed, IsFailedWrite, IsFull, without_value as the_answer_without_value};
@@ -10,7 +10,7 @@ use std::alloc::Allocator;
 use std::io::{Read, Write};
 use ti_expand::Value;
 use ti_line::{
-    Asked, Expand, OfCapability, OfEntry, TextName, look_asked, naming_asked, output_asked,
+    Asked, Expand, OfCapability, OfEntry, TextName, list_options, naming_asked, output_asked,
 };
 use ti_pad::Padding;
 use ti_words::{NameTable, Width};
@@ -61,7 +61,7 @@ pub fn show<A: Allocator + Copy, R: Read, W: Write>(
     // After a fault other than `Write` the writer is as it was.
     ensures unwritten { IfErr result (λ e. IsFailedWrite e ⊎ (writer.new ≡ writer.old)) }
 {
-    let asked = Asked::Entry(OfEntry::Show(look_asked(false, false, false)));
+    let asked = Asked::Entry(OfEntry::Show(list_options(false, false, false)));
     without_value(carry_out(alloc, &asked, &NO_PARAMETERS, reader, writer))
 }
 

@@ -11,7 +11,7 @@ use crate::label::Label;
 use std::alloc::{AllocError, Allocator};
 use ti_entry::{Entry, Extended};
 use ti_escape::push_notation;
-use ti_line::{Look, NameForm};
+use ti_line::{ListOptions, NameForm};
 use ti_words::{Kind, NameTable, Width};
 
 /// Writes the lines of the flags.
@@ -51,17 +51,17 @@ fn push_numbers<A: Allocator>(
 /// Writes the lines of the texts.
 fn push_texts<A: Allocator>(
     out: &mut Vec<u8, A>,
-    look: Look,
+    options: ListOptions,
     entry: &Entry<'_>,
 ) -> Result<(), AllocError>
     ensures { OnOk result (out.new.items
-        ≡ out.old.items ++ lines_from (standard_text look) 0 entry.now.standard.texts) }
+        ≡ out.old.items ++ lines_from (standard_text options) 0 entry.now.standard.texts) }
 {
-    let table = look.naming.table;
+    let table = options.naming.table;
     for index in 0..entry.text_count() {
         let kind = Kind::Text;
         let label = Label::Standard { table, kind, index };
-        push_text(out, b"text ", label, look.form, entry.text(index))?;
+        push_text(out, b"text ", label, options.form, entry.text(index))?;
     }
     Ok(())
 }
@@ -69,14 +69,14 @@ fn push_texts<A: Allocator>(
 /// Writes the lines of the standard capabilities.
 fn push_standard<A: Allocator>(
     out: &mut Vec<u8, A>,
-    look: Look,
+    options: ListOptions,
     entry: &Entry<'_>,
 ) -> Result<(), AllocError>
-    ensures { OnOk result (out.new.items ≡ out.old.items ++ standard_lines look entry.now.standard) }
+    ensures { OnOk result (out.new.items ≡ out.old.items ++ standard_lines options entry.now.standard) }
 {
-    push_flags(out, look.naming.table, entry)?;
-    push_numbers(out, look.naming.table, entry)?;
-    push_texts(out, look, entry)
+    push_flags(out, options.naming.table, entry)?;
+    push_numbers(out, options.naming.table, entry)?;
+    push_texts(out, options, entry)
 }
 
 /// Writes the lines of the extended flags.
@@ -126,13 +126,13 @@ fn push_extended_numbers<A: Allocator>(
 /// Writes the lines of the extended texts.
 fn push_extended_texts<A: Allocator>(
     out: &mut Vec<u8, A>,
-    look: Look,
+    options: ListOptions,
     extended: &Extended<'_>,
 ) -> Result<(), AllocError>
     ensures { OnOk result (out.new.items
-        ≡ out.old.items ++ lines_from (extended_text look) 0 extended.now.texts) }
+        ≡ out.old.items ++ lines_from (extended_text options) 0 extended.now.texts) }
 {
-    let form = look.naming.form;
+    let form = options.naming.form;
     for index in 0..extended.text_count() {
         let kind = Kind::Text;
         let label = Label::Own {
@@ -141,7 +141,7 @@ fn push_extended_texts<A: Allocator>(
             kind,
             index,
         };
-        push_text(out, b"text+ ", label, look.form, extended.text(index))?;
+        push_text(out, b"text+ ", label, options.form, extended.text(index))?;
     }
     Ok(())
 }
@@ -149,14 +149,14 @@ fn push_extended_texts<A: Allocator>(
 /// Writes the lines of the extended capabilities.
 fn push_extended<A: Allocator>(
     out: &mut Vec<u8, A>,
-    look: Look,
+    options: ListOptions,
     extended: &Extended<'_>,
 ) -> Result<(), AllocError>
-    ensures { OnOk result (out.new.items ≡ out.old.items ++ extended_lines look extended.now) }
+    ensures { OnOk result (out.new.items ≡ out.old.items ++ extended_lines options extended.now) }
 {
-    push_extended_flags(out, look.naming.form, extended)?;
-    push_extended_numbers(out, look.naming.form, extended)?;
-    push_extended_texts(out, look, extended)
+    push_extended_flags(out, options.naming.form, extended)?;
+    push_extended_numbers(out, options.naming.form, extended)?;
+    push_extended_texts(out, options, extended)
 }
 
 /// The name of a format.
@@ -186,17 +186,17 @@ fn push_names<A: Allocator>(
 /// The listing of an entry, as it is requested.
 pub fn lines_of<A: Allocator + Copy>(
     alloc: A,
-    look: Look,
+    options: ListOptions,
     entry: &Entry<'_>,
 ) -> Result<Vec<u8, A>, AllocError>
-    ensures { IfOk result (λ out. out.items ≡ entry_lines look entry.now) }
+    ensures { IfOk result (λ out. out.items ≡ entry_lines options entry.now) }
 {
     let mut out = Vec::from_slice(alloc, b"format: ")?;
     out.extend_from_slice(format_name(entry.width()).as_bytes())?;
     out.extend_from_slice(b"\nnames: ")?;
-    push_names(&mut out, look.naming.form, entry.names())?;
+    push_names(&mut out, options.naming.form, entry.names())?;
     out.push(b'\n')?;
-    push_standard(&mut out, look, entry)?;
-    push_extended(&mut out, look, &entry.extended())?;
+    push_standard(&mut out, options, entry)?;
+    push_extended(&mut out, options, &entry.extended())?;
     Ok(out)
 }

@@ -103,7 +103,7 @@ fn one_of_several<A: Allocator + Copy>(
     ensures { IfOk result (λ v. v.items ≡ the_one_of_several asked.now name.now plain.items) }
 {
     match asked {
-        OfEntry::Show(look) => after_name(alloc, look.naming.form, name, plain.as_slice()),
+        OfEntry::Show(options) => after_name(alloc, options.naming.form, name, plain.as_slice()),
         OfEntry::Check(naming) => by_name(alloc, naming.form, name, plain.as_slice()),
         OfEntry::Expand(_) | OfEntry::Convert(_) | OfEntry::Get(_) => Ok(plain),
     }

@@ -3,7 +3,7 @@
 ghost use Rattle.std.specs.Prelude.{◌≡◌, ◌++◌, codes, Ok, IfOk, IfErr};
 ghost use Rattle.ti_tool.specs.declared.fault.ToolFault.TheVariants as fault;
 ghost use Rattle.ti_escape.specs.Forms.{formed};
-ghost use Rattle.ti_line.specs.Looks.{output_bytes as the_output_bytes};
+ghost use Rattle.ti_line.specs.Options.{output_bytes as the_output_bytes};
 ghost use Rattle.ti_tool.specs.Calls.{IsFailedWrite, Wrote};
 
 use crate::fault::ToolFault;

@@ -4,7 +4,7 @@ use super::rows_of_show::UNCOMMON;
 use ti_escape::Form;
 use ti_expand::Value;
 use ti_fixtures::{Sink, Source, TMUX};
-use ti_line::{Asked, Look, NameForm, Naming, OfEntry};
+use ti_line::{Asked, ListOptions, NameForm, Naming, OfEntry};
 use ti_tool::{carry_out, check, show};
 use ti_words::NameTable;
 
@@ -18,7 +18,7 @@ const NAMING: Naming = Naming {
 
 #[test]
 fn a_listing_has_the_look_that_is_asked(rt: HostRuntime) {
-    let asked = Asked::Entry(OfEntry::Show(Look {
+    let asked = Asked::Entry(OfEntry::Show(ListOptions {
         naming: NAMING,
         form: Form::Notation,
     }));

@@ -43,17 +43,17 @@ const READ: [(&[&str], &str, &str); 28] = [
     ),
     (
         &["ti", "show"],
-        "Entry(Show(Look { naming: Naming { table: Common, form: Raw }, form: Hex }))",
+        "Entry(Show(ListOptions { naming: Naming { table: Common, form: Raw }, form: Hex }))",
         "[Num(0), Num(0)]",
     ),
     (
         &["ti", "show", "--escape"],
-        "Entry(Show(Look { naming: Naming { table: Common, form: Notation }, form: Notation }))",
+        "Entry(Show(ListOptions { naming: Naming { table: Common, form: Notation }, form: Notation }))",
         "[Num(0), Num(0)]",
     ),
     (
         &["ti", "show", "--all-names"],
-        "Entry(Show(Look { naming: Naming { table: All, form: Raw }, form: Hex }))",
+        "Entry(Show(ListOptions { naming: Naming { table: All, form: Raw }, form: Hex }))",
         "[Num(0), Num(0)]",
     ),
     (

@@ -9,8 +9,8 @@ use Rattle.ti_tool.proofs.listing.push_extended_texts.Goals as goal
 
 pub loop-index-preserved : goal.loop-index-preserved
 loop-index-preserved g c =
-    extended_next (λ name. text_line c.args.look.form (codes "text+ ") (own_label c.args.look.naming.form name)) c.args.extended.now.texts c.loop-index.index AbsentText (text_value c.text.result) c.loop-index.out.items c.push_text.new.out.items _
+    extended_next (λ name. text_line c.args.options.form (codes "text+ ") (own_label c.args.options.naming.form name)) c.args.extended.now.texts c.loop-index.index AbsentText (text_value c.text.result) c.loop-index.out.items c.push_text.new.out.items _
     (omega (arith, c.loop-index-test.true, c.text_count-index-end.ensures)) c.text.ensures c.loop-index.invariant c.in_ok-push_text.ensures
 
 pub returns : goal.returns
-returns g c = lines_end (extended_text c.args.look) c.args.extended.now.texts c.loop-index.index c.loop-index.out.items _ (omega (arith, c.loop-index-test.false, c.text_count-index-end.ensures)) c.loop-index.invariant
+returns g c = lines_end (extended_text c.args.options) c.args.extended.now.texts c.loop-index.index c.loop-index.out.items _ (omega (arith, c.loop-index-test.false, c.text_count-index-end.ensures)) c.loop-index.invariant

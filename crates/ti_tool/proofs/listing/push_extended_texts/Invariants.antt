@@ -4,5 +4,5 @@ use Rattle.ti_tool.proofs.listing.push_extended_texts.Given as goal
 
 abbrev pub invariant-loop-index : goal.invariant-loop-index
 invariant-loop-index g l =
-    l.out.items ++ lines_from (extended_text l.look) l.index (drop l.index l.extended.texts)
-    ≡ l.initial.out.items ++ lines_from (extended_text l.look) 0 l.extended.texts
+    l.out.items ++ lines_from (extended_text l.options) l.index (drop l.index l.extended.texts)
+    ≡ l.initial.out.items ++ lines_from (extended_text l.options) 0 l.extended.texts

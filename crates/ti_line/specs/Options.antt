@@ -1,16 +1,16 @@
--- How results look: as the flags of a line ask for, or plainly.
+-- How results are written: as the flags of a line request, or plainly.
 use Rattle.std.specs.Prelude.{ℕ, Bool, true, false, List, ◌++◌, codes}
 use Rattle.ti_words.specs.declared.all_names.NameTable.{NameTable}
 use Rattle.ti_words.specs.declared.all_names.NameTable.TheVariants as tables
 use Rattle.ti_escape.specs.declared.form.Form.{Form}
 use Rattle.ti_escape.specs.declared.form.Form.TheVariants as forms
 use Rattle.ti_escape.specs.Forms.{formed}
-use Rattle.ti_line.specs.declared.look.Look.{Look}
-use Rattle.ti_line.specs.declared.look.NameForm.{NameForm}
-use Rattle.ti_line.specs.declared.look.NameForm.TheVariants as name_forms
-use Rattle.ti_line.specs.declared.look.Naming.{Naming}
-use Rattle.ti_line.specs.declared.look.Output.{Output}
-use Rattle.ti_line.specs.declared.look.Output.TheVariants as outputs
+use Rattle.ti_line.specs.declared.options.ListOptions.{ListOptions}
+use Rattle.ti_line.specs.declared.options.NameForm.{NameForm}
+use Rattle.ti_line.specs.declared.options.NameForm.TheVariants as name_forms
+use Rattle.ti_line.specs.declared.options.Naming.{Naming}
+use Rattle.ti_line.specs.declared.options.Output.{Output}
+use Rattle.ti_line.specs.declared.options.Output.TheVariants as outputs
 
 -- an output: its bytes as they stand, or in a form with a newline
 abbrev pub output_bytes : Output → List ℕ → List ℕ
@@ -46,7 +46,7 @@ abbrev pub naming_asked : Bool → Bool → Bool → Naming
 naming_asked all_names escape terminal =
     record { table = names_asked all_names; form = name_form_asked escape terminal }
 
--- the look of a listing by the same
-abbrev pub look_asked : Bool → Bool → Bool → Look
-look_asked all_names escape terminal =
+-- the options of a listing by the same
+abbrev pub list_options : Bool → Bool → Bool → ListOptions
+list_options all_names escape terminal =
     record { naming = naming_asked all_names escape terminal; form = form_asked escape }

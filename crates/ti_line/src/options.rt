@@ -1,4 +1,4 @@
-//! How results look.
+//! How results are written.
 
 use ti_escape::Form;
 use ti_words::NameTable;
@@ -21,9 +21,9 @@ pub struct Naming {
     pub form: NameForm,
 }
 
-/// How a listing of an entry looks.
+/// How a listing of an entry is written.
 #[derive(Clone, Copy, Debug, PartialEq, Eq)]
-pub struct Look {
+pub struct ListOptions {
     /// What the entry and its capabilities are called.
     pub naming: Naming,
     /// How the bytes of texts are shown.
