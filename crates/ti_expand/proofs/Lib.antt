@@ -1,5 +1,6 @@
 pub mod ArePlainLemmas
 pub mod AreShortLemmas
+pub mod AtOnceLemmas
 pub mod CanPassLemmas
 pub mod CanRunLemmas
 pub mod DecimalLemmas

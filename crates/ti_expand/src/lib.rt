@@ -7,6 +7,7 @@
 //! variables and the counts are those of the tree that writes the capability.
 #![tactic(auto)]
 
+mod at_once;
 mod counts;
 mod digits;
 mod eval;
@@ -27,6 +28,7 @@ mod values;
 mod variables;
 mod write;
 
+pub use at_once::expand_at_once;
 pub use counts::Run;
 pub use expansion::{expand, expand_into};
 pub use fault::ExpandFault;

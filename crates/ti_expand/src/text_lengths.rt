@@ -34,7 +34,7 @@ fn is_text(value: &Value<'_>) -> bool
 
 /// Whether a parameter is a text. Each is looked at, which takes less than to stop at the first.
 #[inline(always)]
-fn has_text(parameters: &[Value<'_>; 9]) -> bool
+pub(crate) fn has_text(parameters: &[Value<'_>; 9]) -> bool
     ensures { OnFalse result (AreShort parameters.now 0) }
 {
     let mut found = false;

@@ -49,6 +49,16 @@ impl Vars {
         Vars { values: [0; COUNT] }
     }
 
+    /// Others with the same numbers.
+    #[inline(always)]
+    pub(crate) fn copy(&self) -> Vars
+        ensures { result ≡ self.now }
+    {
+        Vars {
+            values: self.values,
+        }
+    }
+
     /// All numbers, each of which fits 32 bits.
     pub(crate) fn numbers(&self) -> &[i32]
         ensures all { result.now ≡ self.now }
