@@ -10,7 +10,7 @@ ghost use Rattle.ti_c.specs.Given.{value_given, values_given, HasNoFault, IsDeep
 use crate::faults::{DONE, OUT_TOO_SMALL, TEXT_TOO_LONG, TOO_MANY_PARAMETERS, capability_number};
 use ti_base::MOST_VALUES;
 use ti_cap::Capability;
-use ti_expand::{ExpandFault, Value, Vars, expand_into};
+use ti_expand::{ExpandFault, Value, Vars, expand_at_once, expand_into};
 
 /// Nearly all capabilities have no greater depth, and less room takes less time to make.
 const FEW_VALUES: usize = 4;
@@ -158,6 +158,16 @@ pub extern "C" fn ti_expand<'a>(
     if parameters.len() > 9 {
         return TOO_MANY_PARAMETERS;
     }
+    let mut values = [Value::Num(0); 9];
+    put_values(&mut values, parameters);
+    // Most capabilities are checked and run in one pass; those that are not go by the tape.
+    match expand_at_once(capability, &values, variables, out) {
+        Some(found) => {
+            run.counts = found;
+            return DONE;
+        }
+        None => {}
+    }
     let capability = match Capability::parse(capability) {
         Ok(capability) => capability,
         Err(refused) => {
@@ -165,8 +175,6 @@ pub extern "C" fn ti_expand<'a>(
             return capability_number(refused.fault);
         }
     };
-    let mut values = [Value::Num(0); 9];
-    put_values(&mut values, parameters);
     if capability.depth() <= FEW_VALUES {
         let mut stack = [Value::Num(0); FEW_VALUES];
         return expand_on(&capability, &values, variables, &mut stack, out, run);
