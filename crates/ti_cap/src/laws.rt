@@ -1,4 +1,4 @@
-//! Laws of the capability language, each the contract of a function that does nothing.
+//! Laws of the capability language, each stated as the contract of an empty function.
 
 ghost use Rattle.std.specs.Prelude.{◌≡◌, ℕ, List, [], ◌++◌};
 ghost use Rattle.ti_cap.specs.declared.language.CapRefused.{CapRefused};

@@ -134,7 +134,7 @@ fn is_out_of_range(width: Width, number: Number) -> bool
     }
 }
 
-/// Whether a number among these is.
+/// Whether any number is out of range.
 fn any_out_of_range(width: Width, numbers: &[Number]) -> bool
     ensures { result ≡ list_any (the_is_out_of_range width) numbers.now }
 {

@@ -1,4 +1,4 @@
-//! Laws of the definitions, each the contract of a function that does nothing.
+//! Laws of the definitions, each stated as the contract of an empty function.
 
 ghost use Rattle.ti_entry.specs.Laws.{SpellsAtMostOne, FailureLasts, FailureRefuses, AnyCutting, AnyCuttingReadsAlike, EncodedSpells, EqualEntriesHaveEqualBytes, EqualBytesAreOfEqualEntries, EncodedReads};
 

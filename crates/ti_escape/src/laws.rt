@@ -1,4 +1,4 @@
-//! The laws of the notation and of labels, each the contract of a function that does nothing.
+//! The laws of the notation and of labels, each stated as the contract of an empty function.
 
 ghost use Rattle.ti_escape.specs.Laws.{HasNoBlankEnd, HasNoSpace, IsLabelReadBack, IsPrintable, IsReadBack, LabelLooksLikeNoOther, LooksLikeNoOther, LooksLikeNoWord};
 

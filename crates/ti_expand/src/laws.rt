@@ -1,4 +1,4 @@
-//! The laws of the flat pass, each the contract of a function that does nothing.
+//! The laws of the flat pass, each stated as the contract of an empty function.
 
 ghost use Rattle.ti_expand.specs.Steps.{OnePassFollows, CountsStayLow, TakenIsPath, StepsAreThePass};
 ghost use Rattle.ti_expand.specs.StackHeight.{TokenHeightIsStack, PathHeightIsStack, TakenPathIsMeaning};

@@ -107,7 +107,7 @@ impl Items {
         Items { item, at, left }
     }
 
-    /// How many of them lie within so many bytes.
+    /// How many of the items the first `len` bytes cover.
     pub(crate) fn count_within(self, len: usize) -> usize
         requires some { 0 < self.left }
         requires within { self.at + item_size self.item * self.left ≤ most_entry_bytes }

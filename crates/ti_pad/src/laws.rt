@@ -1,4 +1,4 @@
-//! The laws of padding marks, each the contract of a function that does nothing.
+//! The laws of padding marks, each stated as the contract of an empty function.
 
 ghost use Rattle.ti_pad.specs.Laws.{CountsEnough, CountsLeast, FindsMarks, MarksLieApart, PassesOver, PiecesJoin};
 

@@ -1,4 +1,4 @@
-//! Laws of the program's results, each the contract of a function that does nothing.
+//! Laws of the program's results, each stated as the contract of an empty function.
 
 ghost use Rattle.ti_tool.specs.Printable.{CapIsPrintable, CheckIsPrintable, ExpandIsPrintable, GetIsPrintable, ShowIsPrintable};
 ghost use Rattle.ti_tool.specs.Laws.{CheckHasOneVerdict, HasOneAnswer, WideAndBack};

@@ -8,7 +8,7 @@ use itoa::Buffer;
 use std::alloc::{AllocError, Allocator};
 use ti_escape::{Form, push_shown};
 
-/// What these lines tell.
+/// What the summary lines report.
 #[derive(Clone, Copy)]
 pub struct Facts<'r> {
     pub output: &'r [u8],
@@ -19,7 +19,7 @@ pub struct Facts<'r> {
     pub bound: u64,
 }
 
-/// Appends the line of a number.
+/// Appends the summary line of a number.
 fn push_fact<A: Allocator>(out: &mut Vec<u8, A>, label: &str, number: u64) -> Result<(), AllocError>
     ensures { OnOk result (out.new.items ≡ out.old.items ++ number_line label.now number) }
 {
@@ -30,7 +30,7 @@ fn push_fact<A: Allocator>(out: &mut Vec<u8, A>, label: &str, number: u64) -> Re
     out.extend_from_slice(b"\n")
 }
 
-/// Appends the lines.
+/// Appends the summary lines.
 pub fn push_footer<A: Allocator>(
     out: &mut Vec<u8, A>,
     form: Form,
