@@ -1,6 +1,6 @@
 /* Writes what a text of an entry sends, as tput does: tput ENTRY-FILE NAME [PARAM..]
- * A parameter that is a decimal number is one, any other is a text. The status is 2 for a wrong call, 3 for a file that can't
- * be read, and 4 if the entry, its text or the parameters are refused.
+ * A parameter that is a decimal number of 32 bits is one, any other is a text. The status is 2 for a wrong call, 3 if the file
+ * can't be read or the output can't be written, and 4 if the entry, its text or the parameters are refused.
  *
  *     cc -o tput tput.c $(pkg-config --cflags --libs ti)
  */
@@ -11,7 +11,7 @@
 
 #include <ti.h>
 
-enum { WRONG_CALL = 2, UNREADABLE = 3, REFUSED = 4, ROOM = 65536 };
+enum { WRONG_CALL = 2, FAILED = 3, REFUSED = 4, ROOM = 65536 };
 
 /* One byte more than an entry can have, so that a longer file is refused. */
 static unsigned char file[TI_MOST_BYTES + 1], out[ROOM], padded[ROOM];
@@ -31,7 +31,8 @@ static int refuse(const char *what, uint32_t fault) {
 static ti_parameter parameter(const char *word) {
     char *end;
     long number = strtol(word, &end, 10);
-    return end != word && *end == 0 ? ti_number((int32_t)number) : ti_text(word, strlen(word));
+    int is_number = end != word && *end == 0 && number >= INT32_MIN && number <= INT32_MAX;
+    return is_number ? ti_number((int32_t)number) : ti_text(word, strlen(word));
 }
 
 int main(int argc, char **argv) {
@@ -46,10 +47,10 @@ int main(int argc, char **argv) {
         return fail(WRONG_CALL, "call it as", "tput ENTRY-FILE NAME [PARAM..]");
     FILE *input = fopen(argv[1], "rb");
     if (input == NULL)
-        return fail(UNREADABLE, argv[1], strerror(errno));
+        return fail(FAILED, argv[1], strerror(errno));
     length = fread(file, 1, sizeof file, input);
     if (ferror(input))
-        return fail(UNREADABLE, argv[1], strerror(errno));
+        return fail(FAILED, argv[1], strerror(errno));
     uint32_t fault = ti_open(file, length, &view);
     if (fault != TI_DONE)
         return refuse(argv[1], fault);
@@ -63,5 +64,5 @@ int main(int argc, char **argv) {
         fault = ti_pad(out, run.written, &no_line, padded, ROOM, &length);
     if (fault != TI_DONE)
         return refuse(argv[2], fault);
-    return fwrite(padded, 1, length, stdout) == length ? 0 : UNREADABLE;
+    return fwrite(padded, 1, length, stdout) == length && fflush(stdout) == 0 ? 0 : FAILED;
 }

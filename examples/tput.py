@@ -1,8 +1,8 @@
 #!/usr/bin/env python3
 """Writes what a text of an entry sends, as tput does: tput.py ENTRY-FILE NAME [PARAM..]
 
-A parameter that is a decimal number is one, any other is a text. The status is 2 for a wrong call, 3 for a file that can't be
-read, and 4 if the entry, its text or the parameters are refused.
+A parameter that is a decimal number of 32 bits is one, any other is a text. The status is 2 for a wrong call, 3 for a file that
+can't be read, and 4 if the entry, its text or the parameters are refused.
 """
 import re
 import sys
@@ -12,7 +12,8 @@ import ti
 
 
 def parameter(word):
-    return int(word) if re.fullmatch(r"-?\d+", word) else word
+    is_number = re.fullmatch(r"-?\d+", word) and -(2**31) <= int(word) < 2**31
+    return int(word) if is_number else word
 
 
 def fail(status, why):
@@ -21,7 +22,7 @@ def fail(status, why):
 
 
 def main():
-    if len(sys.argv) < 3:
+    if not 3 <= len(sys.argv) <= 12:
         fail(2, "tput.py ENTRY-FILE NAME [PARAM..]")
     path, name, *words = sys.argv[1:]
     try:

@@ -1,7 +1,7 @@
 /* ti.h: terminfo entries and their capabilities, for C and C++ on x86-64. Link with -lti, as ./install puts it in place. It
  * may be included beside <term.h>, in any order.
  *
- * Each call but ti_version and three that return what a view holds returns TI_DONE, or the number of a fault. Nothing is
+ * A call that returns a uint32_t returns TI_DONE or the number of a fault, but for ti_version. Nothing is
  * allocated, nothing is kept between calls, and any thread may call. The caller must pass valid pointers with correct
  * lengths: each pointer has as many elements as the length beside it says, and what is written overlaps no other argument.
  * A pointer may be null if its length is 0, the others not. What a call fills may be memory that was never written; only
@@ -79,8 +79,8 @@ enum {
     /* Faults of padding. */
     TI_BAD_PADDING = 301,         /* a rate above 1000000, or affected lines above 65535; no length is written */
     TI_TOO_MUCH = 302,            /* the padded text would have more than 67108864 bytes */
-    /* Faults of a search. */
-    TI_NOT_NAMED = 401,           /* no capability has this kind and index, or this name, or no fault this number */
+    /* Faults of a search, and of ti_read. */
+    TI_NOT_NAMED = 401,           /* nothing has this index, this name or this fault number */
     TI_ROOM_TOO_SMALL = 402       /* an array has less room than the entry requires; the counts are written */
 };
 
@@ -127,7 +127,7 @@ typedef struct {
     int8_t mark;
 } ti_text_item;
 
-/* The arrays that ti_read fills, each with how many elements it has. Without room, all of it 0, only counts are learnt. */
+/* The arrays that ti_read fills, each with how many elements it has. If every room is 0, only the counts are written. */
 typedef struct {
     int8_t *flags;
     size_t flag_room;
@@ -211,7 +211,7 @@ typedef struct {
  * TI_DONE: the view is written, but for the place of its counts.
  * 1 to 14: the bytes are no entry; view->counts.place says where. Nothing else is written.
  *
- * The view holds pointers into the bytes. In Go they must so be pinned, or lie in memory of C. */
+ * The view holds pointers into the bytes. A Go program must therefore pin them or keep them in C memory. */
 uint32_t ti_open(const unsigned char *bytes, size_t length, ti_view *view);
 
 /* What the entry of a view says of the standard flag, number or text at an index, such as TI_AUTO_RIGHT_MARGIN, TI_MAX_COLORS
@@ -252,14 +252,14 @@ uint32_t ti_view_extended(const ti_view *view, uint32_t kind, size_t index, ti_b
  * Room for TI_MOST_FLAGS, TI_MOST_NUMBERS, TI_MOST_TEXTS and TI_MOST_EXTENDED is always enough. The ti_arrays itself is as it
  * was after each call.
  *
- * Afterwards the arrays and the ti_counts hold pointers to the entry's bytes, which must stay where they are. In Go the bytes
- * must so be pinned, or lie in memory of C. */
+ * Afterwards the arrays and the ti_counts hold pointers to the entry's bytes, which must stay where they are. A Go program
+ * must therefore pin them or keep them in C memory. */
 uint32_t ti_read(const unsigned char *bytes, size_t length, ti_arrays *arrays, ti_counts *counts);
 
 /* Checks a capability. TI_DONE: all but the place is written, and the place is as it was. 101 to 113: the place alone
  * is written. longest_text is the length of the longest text among the parameters, 0 if all are numbers; ti_expand needs
  * room for bound bytes. The masks are exact: a bit is set if some way through the conditionals names the parameter, or takes
- * its value as a text. So a capability of an untrusted file can be held against what the program hands over.
+ * its value as a text. So you can compare an untrusted capability with the parameters that you pass.
  *
  *     ti_limits limits;
  *     if (ti_check(cup, cup_length, 0, &limits) != TI_DONE)
@@ -267,7 +267,7 @@ uint32_t ti_read(const unsigned char *bytes, size_t length, ti_arrays *arrays, t
  *     else if (limits.texts & 1)
  *         fprintf(stderr, "its first parameter has to be a text\n");
  *     else
- *         out = malloc(limits.bound); */
+ *         room = malloc(limits.bound); */
 uint32_t ti_check(const unsigned char *capability, size_t length, uint16_t longest_text, ti_limits *limits);
 
 /* Expands a capability. Marks of padding, such as $<5>, are written as they stand.
@@ -311,7 +311,7 @@ uint32_t ti_find(const unsigned char *name, size_t length, uint32_t *kind, size_
 /* Finds the word of a fault by its number, to be printed: TI_DONE with the word, which lasts as long as the program, or
  * TI_NOT_NAMED, and the word is as it was. After the word there is a NUL, as after a name of ti_name. The word of
  * TI_STRAY_THEN is "StrayThen". ti(1) prints the same words for 1 to 14, 101 to 113, TI_TEXT_TOO_LONG and TI_TOO_MUCH; the
- * other faults it does not have.
+ * words of the other faults are their names without TI_, such as "OutTooSmall".
  *
  *     if (ti_word(fault, &word) == TI_DONE)
  *         fprintf(stderr, "%s\n", (const char *)word.bytes); */
