@@ -195,8 +195,9 @@ fn words_are_read_as_requests(rt: HostRuntime) -> Result<(), Fail> {
         let Ok(task) = read_line(rt.alloc(), false, words) else {
             return Err(Fail::from("no line"));
         };
-        assert_that!(rt; task.files.is_empty());
-        let Request { parameters, asked } = task.request;
+        let Task { request, files } = task;
+        let Request { parameters, asked } = request;
+        assert_that!(rt; files.is_empty());
         let text = format!(in rt.alloc(); "{asked:?}")?;
         assert_that!(rt; text.as_str() == *asked_text);
         let text = format!(in rt.alloc(); "{:?}", &parameters[..2])?;
@@ -220,31 +221,32 @@ fn lines_have_faults(rt: HostRuntime) -> Result<(), Fail> {
 /// Names go to a terminal in the notation alone.
 #[test]
 fn a_terminal_asks_for_the_notation_of_names(rt: HostRuntime) -> Result<(), Fail> {
-    let Ok(Task { request, .. }) = read_line(rt.alloc(), true, &["ti", "check"]) else {
+    let Ok(task) = read_line(rt.alloc(), true, &["ti", "check"]) else {
         return Err(Fail::from("no line"));
     };
-    let text = format!(in rt.alloc(); "{:?}", request.asked)?;
+    let Task { request, .. } = task;
+    let Request { asked, .. } = request;
+    let text = format!(in rt.alloc(); "{asked:?}")?;
     assert_that!(rt; text.as_str() == "Entry(Check(Naming { table: Common, form: Notation }))");
     Ok(())
 }
 
 #[test]
 fn an_entry_goes_to_a_terminal_by_force_alone(rt: HostRuntime) -> Result<(), Fail> {
-    let Err(NoLine::Fault(LineFault::ToTerminal)) = read_line(
-        rt.alloc(),
-        true,
-        &["ti", "convert", "--wide"],
-    ) else {
+    let Err(NoLine::Fault(fault)) = read_line(rt.alloc(), true, &["ti", "convert", "--wide"]) else {
         return Err(Fail::from("no fault"));
     };
+    assert_that!(rt; fault == LineFault::ToTerminal);
     for words in [
         &["ti", "convert", "--force", "--wide"],
         &["ti", "convert", "--wide", "--force"],
     ] {
-        let Ok(Task { request, .. }) = read_line(rt.alloc(), true, words) else {
+        let Ok(task) = read_line(rt.alloc(), true, words) else {
             return Err(Fail::from("no line"));
         };
-        let text = format!(in rt.alloc(); "{:?}", request.asked)?;
+        let Task { request, .. } = task;
+        let Request { asked, .. } = request;
+        let text = format!(in rt.alloc(); "{asked:?}")?;
         assert_that!(rt; text.as_str() == "Entry(Convert(Some(Wide)))");
     }
     Ok(())
@@ -272,7 +274,8 @@ fn words_name_files(rt: HostRuntime) -> Result<(), Fail> {
         let Ok(task) = read_line(rt.alloc(), false, words) else {
             return Err(Fail::from("no line"));
         };
-        let text = format!(in rt.alloc(); "{:?}", task.files)?;
+        let Task { files, .. } = task;
+        let text = format!(in rt.alloc(); "{files:?}")?;
         assert_that!(rt; text.as_str() == *expected);
     }
     Ok(())
