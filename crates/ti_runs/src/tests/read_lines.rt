@@ -200,6 +200,10 @@ fn words_are_read_as_requests(rt: HostRuntime) -> Result<(), Fail> {
         assert_that!(rt; files.is_empty());
         let text = format!(in rt.alloc(); "{asked:?}")?;
         assert_that!(rt; text.as_str() == *asked_text);
+        let parameters = parameters.as_slice();
+        if parameters.len() < 2 {
+            return Err(Fail::from("no parameters"));
+        }
         let text = format!(in rt.alloc(); "{:?}", &parameters[..2])?;
         assert_that!(rt; text.as_str() == *parameters_text);
     }
