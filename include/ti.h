@@ -38,12 +38,12 @@
 extern "C" {
 #endif
 
-/* The version of this header, as ti_version() returns that of the library. */
+/* The version of this header; ti_version() returns the version of the library. */
 #define TI_VERSION 0x000300
 
 enum {
     TI_DONE = 0,
-    /* Faults of an entry (term(5)): the first check that does not hold. The place is that of the item at fault. */
+    /* Faults of an entry (term(5)): the first check that does not hold. The place is where the item at fault is. */
     TI_TRUNCATED = 1,             /* the bytes end before a section does; the place is the length */
     TI_BAD_MAGIC = 2,             /* the first two bytes are neither 1a 01 nor 1e 02 */
     TI_BAD_HEADER = 3,            /* a size or a count of the header is negative */
@@ -225,7 +225,7 @@ int32_t ti_view_number(const ti_view *view, size_t index);
 int8_t ti_view_text(const ti_view *view, size_t index, ti_bytes *text);
 
 /* Finds what the entry of a view says of the capability with a name: a short name of terminfo(5), such as "cup", else a long
- * one, such as "cursor_address", else the first name equal to it among those of the entry's extended flags, numbers and texts.
+ * one, such as "cursor_address", else the first name equal to it among the entry's extended flags, numbers and texts.
  * TI_DONE with the value, which has a mark if the entry lacks a standard capability, or TI_NOT_NAMED, and the value is as it
  * was.
  *
@@ -274,7 +274,7 @@ uint32_t ti_check(const unsigned char *capability, size_t length, uint16_t longe
  *
  * TI_DONE: the room starts with the output, the variables are those that the capability leaves, and the counts are
  * written. The place and the rest of the room are as they were.
- * Else the number is that of the first fault in this order, and the output, the variables and the counts are as they were:
+ * Otherwise the first fault in this order is returned, and the output, the variables and the counts are as they were:
  * TI_TOO_MANY_PARAMETERS: nothing is written at all.
  * 101 to 113: the bytes are no capability; the place says where.
  * TI_TEXT_TOO_LONG: the place is the first parameter whose text is too long, counted from 1.

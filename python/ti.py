@@ -11,7 +11,7 @@
     >>> entry.number("colors"), entry.flag("am")
     (8, True)
 
-Names are those of terminfo(5), such as cup, and those that an entry gives to its extended capabilities. What is refused
+Names are the ones of terminfo(5), such as cup, and the ones that an entry gives to its extended capabilities. What is refused
 raises Fault, which has the word of ti_word (ti(3)) and the place; a name that nothing has raises KeyError.
 """
 
