@@ -4,8 +4,8 @@
  * A call that returns a uint32_t returns TI_DONE or the number of a fault, but for ti_version. Nothing is
  * allocated, nothing is kept between calls, and any thread may call. The caller must pass valid pointers with correct
  * lengths: each pointer has as many elements as the length beside it says, and what is written overlaps no other argument.
- * A pointer may be null if its length is 0, the others not. What a call fills may be memory that was never written; only
- * ti_vars is read before it is written.
+ * A pointer may be null if its length is 0, the others not. Memory that a call fills may never have been written
+ * before; only ti_vars is read first.
  * Lengths and places are in bytes. Capabilities are bytes as a compiled entry holds them: no NUL ends them, and escape is
  * the byte 27.
  *
@@ -243,8 +243,8 @@ uint32_t ti_view_extended(const ti_view *view, uint32_t kind, size_t index, ti_b
  *
  * TI_DONE: the arrays start with the flags, the numbers and the texts, in each the standard ones by their index and after
  * them the extended ones, and with the names of the extended flags, then numbers, then texts. A flag is 1 or 0, or one of
- * the marks; a number is its value, from 0, or one of the marks. Texts and names point into the entry's bytes. What lies
- * in an array past these items is as it was. Of the ti_counts all is written but the place.
+ * the marks; a number is its value, from 0, or one of the marks. Texts and names point into the entry's bytes. The
+ * rest of an array stays as it was. Of the ti_counts all is written but the place.
  * 1 to 14: the bytes are no entry; the place says where. Nothing else is written.
  * TI_ROOM_TOO_SMALL: an array has fewer elements than that. The ti_counts is written as after TI_DONE, so you can call once
  * with no room to learn the counts. The arrays are as they were.

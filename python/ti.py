@@ -11,8 +11,8 @@
     >>> entry.number("colors"), entry.flag("am")
     (8, True)
 
-Names are the ones of terminfo(5), such as cup, and the ones that an entry gives to its extended capabilities. What is refused
-raises Fault, which has the word of ti_word (ti(3)) and the place; a name that nothing has raises KeyError.
+Names are the ones of terminfo(5), such as cup, and the ones that an entry gives to its extended capabilities. Refused
+bytes raise Fault, which has the word of ti_word (ti(3)) and the place; a name that nothing has raises KeyError.
 """
 
 from ctypes import CDLL, POINTER, Structure, byref, c_char_p, c_int32, c_size_t, c_uint8, c_uint16, c_uint32, c_uint64
