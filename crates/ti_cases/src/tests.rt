@@ -40,6 +40,7 @@ mod expansion_steps;
 mod expansion_variables;
 mod extended_parts;
 mod large_entry;
+mod lint_findings;
 mod names;
 mod notation;
 mod notation_memory;

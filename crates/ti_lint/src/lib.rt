@@ -1,0 +1,19 @@
+//! What is wrong with a capability on some of its paths, found exactly over all of them.
+//!
+//! [`Findings`] goes over the tokens of a capability once and reports for each what is wrong with it on some path: a pop of
+//! the empty stack, a parameter that the capability does not have, a second `%i`, a variable that was not set. A finding is
+//! reported exactly if it holds. The cost is constant a token, and no memory is taken.
+#![tactic(auto)]
+
+mod expected;
+mod facts;
+mod finding;
+mod findings;
+mod heights;
+mod pass;
+mod variables;
+
+pub use expected::Expected;
+pub use finding::Finding;
+pub use findings::{Findings, Judged};
+pub use variables::Variables;
