@@ -8,3 +8,6 @@ pub mod OnSomePathLemmas
 pub mod PassLemmas
 pub mod PassStepLemmas
 pub mod ReachedLemmas
+pub mod StoredLemmas
+pub mod UnusedLemmas
+pub mod VariablesLemmas

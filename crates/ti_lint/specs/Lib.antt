@@ -1,4 +1,5 @@
 pub mod Variables
+pub mod Classes
 pub mod OnSomePath
 pub mod Findings
 pub mod FindingWords

@@ -5,15 +5,23 @@
 //! reported exactly if it holds. The cost is constant a token, and no memory is taken.
 #![tactic(auto)]
 
+mod class;
+mod class_table;
 mod expected;
 mod facts;
 mod finding;
 mod findings;
 mod heights;
+pub mod laws;
+mod parameters;
 mod pass;
+mod stored;
 mod variables;
 
+pub use class::{Class, class_of};
 pub use expected::Expected;
 pub use finding::Finding;
 pub use findings::{Findings, Judged};
+pub use parameters::unused_parameters;
+pub use stored::stored_by;
 pub use variables::Variables;

@@ -1,6 +1,6 @@
 //! Sets of variables, as bits. Each call takes constant time.
 
-ghost use Rattle.std.specs.Prelude.{◌≡◌, ◌≤◌, ◌↔◌, IsTrue};
+ghost use Rattle.std.specs.Prelude.{◌≡◌, ℕ, ◌≤◌, ◌↔◌, ◌⊎◌, IsTrue};
 ghost use Rattle.ti_lint.specs.Variables.{HasVariable};
 ghost use Rattle.ti_lint.specs.inner.Facts.{has_bit, place_of, stored_also, both_sets};
 
@@ -22,11 +22,7 @@ impl Variables {
     pub fn contains(self, letter: u8) -> bool
         ensures exact { IsTrue result ↔ HasVariable self letter }
     {
-        let mask = self.mask;
-        if !letter.is_ascii_alphabetic() {
-            return false;
-        }
-        mask >> (letter - b'A') & 1 == 1
+        letter.is_ascii_alphabetic() && self.has(letter)
     }
 
     /// The same for what is known to be a letter.
@@ -36,6 +32,16 @@ impl Variables {
         ensures { result ≡ has_bit self.mask (place_of letter) }
     {
         self.mask >> (letter - b'A') & 1 == 1
+    }
+
+    /// What is in either of two sets.
+    pub fn union(self, other: Variables) -> Variables
+        ensures exact { (which : ℕ) → HasVariable result which
+            ↔ (HasVariable self which ⊎ HasVariable other which) }
+    {
+        Variables {
+            mask: self.mask | other.mask,
+        }
     }
 
     /// The set with one variable more.
