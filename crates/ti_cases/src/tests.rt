@@ -40,6 +40,8 @@ mod expansion_steps;
 mod expansion_variables;
 mod extended_parts;
 mod large_entry;
+mod lint_findings;
+mod lint_texts;
 mod names;
 mod notation;
 mod notation_memory;

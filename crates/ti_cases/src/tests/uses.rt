@@ -7,6 +7,7 @@ mod entry;
 mod escape;
 mod expand;
 mod layout;
+mod lint;
 mod pad;
 mod trace;
 mod words;

@@ -1,0 +1,64 @@
+//! What terminfo(5) says of the texts, and what capabilities store and leave out.
+
+use std::test::Fail;
+use ti_cap::Capability;
+use ti_fixtures::capabilities::CUP;
+use ti_lint::{Class, Variables, class_of, stored_by, unused_parameters};
+use ti_words::{Kind, NameTable};
+
+/// Names of texts with what they are. In micro mode a text has the parameters of the text that it is like.
+const CLASSES: [(&str, Class); 16] = [
+    ("cup", Class::Parameterized(2)),
+    ("sgr", Class::Parameterized(9)),
+    ("setaf", Class::Parameterized(1)),
+    ("csr", Class::Parameterized(2)),
+    ("tsl", Class::Parameterized(1)),
+    ("wind", Class::Parameterized(4)),
+    ("initc", Class::Parameterized(4)),
+    ("initp", Class::Parameterized(7)),
+    ("mcuf", Class::Parameterized(1)),
+    ("smcup", Class::Plain),
+    ("is2", Class::Plain),
+    ("kf1", Class::Key),
+    ("lf1", Class::Label),
+    ("acsc", Class::List),
+    ("if", Class::File),
+    ("u6", Class::Input),
+];
+
+#[test]
+fn texts_have_their_classes(rt: HostRuntime) -> Result<(), Fail> {
+    for (name, class) in CLASSES {
+        let (kind, index) = NameTable::All.find(name).ok_or("name")?;
+        assert_that!(rt; kind == Kind::Text);
+        assert_that!(rt; class_of(index) == Some(class));
+    }
+    assert_that!(rt; class_of(413).is_some());
+    assert_that!(rt; class_of(414).is_none());
+    Ok(())
+}
+
+#[test]
+fn capabilities_store_into_variables(rt: HostRuntime) -> Result<(), Fail> {
+    // `setf` of qnx stores into `f` alone.
+    let stored = stored_by(&Capability::parse(b"\x1b@%p1%Pf%gb%gf%d%d")?);
+    assert_that!(rt; stored.contains(b'f'));
+    assert_that!(rt; !stored.contains(b'b'));
+    let both = stored_by(&Capability::parse(b"%?%p1%t%{1}%PA%e%{2}%PZ%;")?);
+    assert_that!(rt; both == Variables { mask: 1 | 1 << 25 });
+    assert_that!(rt; both.union(stored).contains(b'f'));
+    Ok(())
+}
+
+#[test]
+fn parameters_are_left_out(rt: HostRuntime) -> Result<(), Fail> {
+    let cup = Capability::parse(CUP)?;
+    assert_that!(rt; unused_parameters(&cup, 2).mask == 0);
+    assert_that!(rt; unused_parameters(&cup, 4).mask == 0b1100);
+    assert_that!(rt; unused_parameters(&cup, 0).mask == 0);
+    // A path that is not always taken pushes it.
+    let one = Capability::parse(b"%?%p1%t%p3%d%;")?;
+    assert_that!(rt; unused_parameters(&one, 3).mask == 0b10);
+    assert_that!(rt; unused_parameters(&one, 9).contains(9));
+    Ok(())
+}

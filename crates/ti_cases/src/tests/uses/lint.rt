@@ -1,0 +1,30 @@
+//! What is wrong with a text that was taken over from termcap.
+
+use std::test::Fail;
+use ti_cap::Capability;
+use ti_lint::{Expected, Finding, Findings, Variables};
+
+/// `tsl` as the entry of the IBM 8514 has it. Its parameter is a column.
+const TSL: &[u8] = b"\x1bj\x1bYI%+ \x1bo";
+
+#[test]
+fn a_text_of_termcap(rt: HostRuntime) -> Result<(), Fail> {
+    let expected = Expected {
+        parameters: 1,
+        stored: Variables::NONE,
+    };
+    let mut findings = Findings::new(&Capability::parse(TSL)?, expected);
+    for place in 0..5 {
+        assert!(rt; findings.at() == place);
+        assert!(rt;
+            findings
+                .token()
+                .is_some_and(|judged| judged.finding.is_none())
+        );
+    }
+    // The sum pops two values, and nothing pushes any: termcap has `%+ ` for what terminfo writes as `%p1%' '%+%c`.
+    let sum = findings.token().ok_or("end")?;
+    assert!(rt; sum.finding == Some(Finding::TermcapParameter));
+    assert!(rt; Finding::TermcapParameter.word() == "termcap-parameter");
+    Ok(())
+}

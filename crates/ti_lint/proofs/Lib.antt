@@ -1,0 +1,13 @@
+pub mod AtLemmas
+pub mod Examples
+pub mod FactsLemmas
+pub mod FoundLemmas
+pub mod HeightsLemmas
+pub mod HoldsLemmas
+pub mod OnSomePathLemmas
+pub mod PassLemmas
+pub mod PassStepLemmas
+pub mod ReachedLemmas
+pub mod StoredLemmas
+pub mod UnusedLemmas
+pub mod VariablesLemmas

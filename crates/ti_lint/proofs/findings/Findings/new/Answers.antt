@@ -1,0 +1,20 @@
+-- The pass starts at the first token, and the capability names no parameter exactly if the set of those named is empty.
+use Rattle.std.proofs.Common.{[], ◌↔◌, Bool, IsTrue, nat_eq, sym, subst}
+use Rattle.ti_cap.specs.Capability.{Spot, whole}
+use Rattle.ti_lint.specs.declared.pass.Pass.{Pass}
+use Rattle.ti_lint.specs.Findings.{NamesNone}
+use Rattle.ti_lint.specs.inner.Pass.{IsAt}
+use Rattle.ti_lint.proofs.AtLemmas.{at_start}
+use Rattle.ti_lint.proofs.FoundLemmas.{names_none}
+use Rattle.ti_lint.proofs.findings.Findings.new.Goals as goal
+
+pub invariant_of-result : goal.invariant_of-result
+invariant_of-result c =
+    let bytes = c.args.capability.now in
+    let start : Spot = record { taken = []; left = bytes } in
+    let named = c.parameters.result.named in
+    let P : Pass → Type 0 = λ x. IsAt start x in
+    let Q : Bool → Type 0 = λ x. IsTrue x ↔ NamesNone (whole start) in
+    let R : Spot → Type 0 = λ x. IsAt x c.new.result × (IsTrue c.eq.result ↔ NamesNone (whole x)) in
+    let none : IsTrue (nat_eq named.mask 0) ↔ NamesNone (whole start) = names_none bytes named c.parameters.ensures.named in
+    subst R (sym c.tape.ensures.start) (subst P (sym c.new.ensures) (at_start bytes c.depth-depth.ensures.tree), subst Q (sym c.eq.ensures) none)

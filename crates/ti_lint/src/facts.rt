@@ -1,0 +1,102 @@
+//! What is true on some path that comes to a place. No fact depends on which way a test went, so what is found is exact.
+
+ghost use Rattle.std.specs.Prelude.{◌≡◌, ◌≤◌};
+ghost use Rattle.ti_lint.specs.inner.Facts.{after_token, joined, IsLettered, judgement, is_unset, found_if, underflow};
+
+use crate::expected::Expected;
+use crate::finding::Finding;
+use crate::heights::Heights;
+use crate::variables::Variables;
+use ti_cap::Token;
+
+/// What is true on some path here.
+#[derive(Clone, Copy)]
+pub struct Facts {
+    /// The heights of the stack, each on some path.
+    heights: Heights,
+    /// Whether some path has met `%i`.
+    incremented: bool,
+    /// The variables into which every path has stored.
+    stored: Variables,
+}
+
+impl Facts {
+    /// No path comes here.
+    pub const NONE: Facts = Facts {
+        heights: Heights::NONE,
+        incremented: false,
+        stored: Variables::ALL,
+    };
+
+    /// The start of a capability.
+    pub const START: Facts = Facts {
+        heights: Heights::EMPTY_STACK,
+        incremented: false,
+        stored: Variables::NONE,
+    };
+
+    /// Other paths come to the same place.
+    pub fn join(&mut self, other: &Facts)
+        ensures { self.new ≡ joined self.old other.now }
+    {
+        self.heights = self.heights.union(other.heights);
+        self.incremented = self.incremented || other.incremented;
+        self.stored = self.stored.intersection(other.stored);
+    }
+
+    /// All paths here meet a token.
+    pub fn meet(&mut self, token: Token)
+        requires { IsLettered token }
+        ensures { self.new ≡ after_token token self.old }
+    {
+        self.heights = self.heights.after(token);
+        match token {
+            Token::Increment => self.incremented = true,
+            Token::Store(letter) => self.stored = self.stored.with(letter),
+            _ => {}
+        }
+    }
+
+    /// What is wrong with a token on some path here. `termcap` says that the capability names no parameter.
+    pub fn judge(&self, token: Token, expected: &Expected, termcap: bool) -> Option<Finding>
+        requires { IsLettered token }
+        ensures { result ≡ judgement expected.now termcap token self.now }
+    {
+        match token {
+            Token::Param(which) => found_if(which > expected.parameters, Finding::ParameterRange),
+            Token::Increment => found_if(self.incremented, Finding::RepeatedIncrement),
+            Token::Load(letter) => {
+                found_if(self.is_unset(letter, expected), Finding::UnsetVariable)
+            }
+            _ => found_if(self.heights.lacks(token), underflow(termcap)),
+        }
+    }
+
+    /// Whether nothing was stored into a variable on some path here, and no text of the entry stores into it what it keeps.
+    fn is_unset(&self, letter: u8, expected: &Expected) -> bool
+        requires low { 65 ≤ letter }
+        requires high { letter ≤ 122 }
+        ensures { result ≡ is_unset expected.now letter self.now }
+    {
+        let is_kept = letter <= b'Z' && expected.stored.has(letter);
+        !self.stored.has(letter) && !is_kept
+    }
+}
+
+/// A finding, if it holds.
+fn found_if(holds: bool, finding: Finding) -> Option<Finding>
+    ensures { result ≡ found_if holds finding }
+{
+    if holds { Some(finding) } else { None }
+}
+
+/// The finding for a pop of the empty stack.
+fn underflow(termcap: bool) -> Finding
+    ensures { result ≡ underflow termcap }
+{
+    if termcap {
+        Finding::TermcapParameter
+    } else {
+        Finding::StackUnderflow
+    }
+}
