@@ -82,18 +82,18 @@ IsTask terminal words line task =
 -- why that can't be done: both of two such flags are given, or else the words stand for no parameters,
 -- or an entry would go to a terminal
 abbrev pub HasFault : Bool → Line → LineFault → Type 0
-HasFault terminal (Cap hex escape words) fault.BothFormsOfCap = hex && escape ≡ true
+HasFault terminal (Cap hex escape words) fault.BothForms = hex && escape ≡ true
 HasFault terminal (Cap hex escape words) (fault.Words why) =
     (hex && escape ≡ false) × StandForNone words why
 HasFault terminal (Trace escape words) (fault.Words why) = StandForNone words why
-HasFault terminal (Expand name hex escape all_names rate lines xon words) fault.BothFormsOfExpand =
+HasFault terminal (Expand name hex escape all_names rate lines xon words) fault.BothForms =
     hex && escape ≡ true
 HasFault terminal (Expand name hex escape all_names rate lines xon words) (fault.Words why) =
     (hex && escape ≡ false) × StandForNone words why
 HasFault terminal (Convert wide narrow force) fault.BothWidths = wide && narrow ≡ true
 HasFault terminal (Convert wide narrow force) fault.ToTerminal =
     (wide && narrow ≡ false) × (terminal && not force ≡ true)
-HasFault terminal (Get name hex escape rate lines xon words) fault.BothFormsOfGet = hex && escape ≡ true
+HasFault terminal (Get name hex escape rate lines xon words) fault.BothForms = hex && escape ≡ true
 HasFault terminal (Get name hex escape rate lines xon words) (fault.Words why) =
     (hex && escape ≡ false) × GiveNone words why
 HasFault _ _ _ = ⊥

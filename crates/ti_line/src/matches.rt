@@ -1,11 +1,13 @@
 //! The values that `clap` found of a subcommand, as a request.
 
-ghost use Rattle.std.specs.Prelude.{◌≡◌, ◌≤◌, Bool, IfOk, IfSome, IsSome, MatchResult, codes, option_map};
+ghost use Rattle.std.specs.Prelude.{◌≡◌, ◌≤◌, ◌&&◌, true, false, Bool, IfOk, IfSome, IsSome, MatchResult, codes, option_map};
 ghost use Rattle.ti_base.specs.Limits.{greatest_rate, most_lines};
 ghost use Rattle.clap.specs.Words.{first_of};
 ghost use Rattle.ti_line.specs.CommandLine.{Cap, Convert, Trace, expand_by, flag_in, get_by, is_input as the_is_input, line_by, named_files, number_in, params_in, words_in};
 ghost use Rattle.ti_line.specs.Params.{AreParams, IsGivenBy};
 ghost use Rattle.ti_line.specs.Requests.{GiveNone, IsAnswered, StandForNone, setting_of, texts_of};
+ghost use Rattle.ti_line.specs.Options.{output_asked as the_output_asked};
+ghost use Rattle.ti_line.specs.declared.no_line.LineFault.TheVariants as fault;
 ghost use Rattle.ti_line.specs.declared.request.Asked.TheVariants.{Entry};
 ghost use Rattle.ti_line.specs.inner.Matches.{given_rows};
 
@@ -14,6 +16,7 @@ use crate::asked::{
 };
 use crate::given::{Given, read_given};
 use crate::no_line::LineFault;
+use crate::options::Output;
 use crate::params::{WordFault, read_params};
 use crate::request::{Asked, Expand, Get, OfCapability, OfEntry, Request, TextName};
 use clap::ArgMatches;
@@ -87,19 +90,31 @@ fn given_parameters<'a>(given: &ArgMatches<'a>) -> Result<Option<Given<'a>>, Wor
     read_given(given.get_strs("PARAM").unwrap_or(&[]))
 }
 
+/// How an output is written, by `--hex` and `--escape`, which exclude each other.
+fn output(given: &ArgMatches<'_>) -> Result<Output, LineFault>
+    ensures { let hex = flag_in (codes "hex") (given_rows given.now) in
+        let escape = flag_in (codes "escape") (given_rows given.now) in
+        MatchResult result
+        (λ output. (hex && escape ≡ false) × (output ≡ the_output_asked hex escape))
+        (λ why. (hex && escape ≡ true) × (why ≡ fault.BothForms)) }
+{
+    let (hex, escape) = (flag(given, "hex"), flag(given, "escape"));
+    if hex && escape {
+        return Err(LineFault::BothForms);
+    }
+    Ok(output_asked(hex, escape))
+}
+
 /// What `cap` requests.
 fn cap<'a>(given: &ArgMatches<'a>) -> Result<Request<'a>, LineFault>
     ensures { (terminal : Bool) → let rows = given_rows given.now in
         IsAnswered terminal
         (Cap (flag_in (codes "hex") rows) (flag_in (codes "escape") rows) (params_in rows)) result }
 {
-    let (hex, escape) = (flag(given, "hex"), flag(given, "escape"));
-    if hex && escape {
-        return Err(LineFault::BothFormsOfCap);
-    }
+    let output = output(given)?;
     Ok(Request {
         parameters: parameters(given)?,
-        asked: Asked::Capability(OfCapability::Cap(output_asked(hex, escape))),
+        asked: Asked::Capability(OfCapability::Cap(output)),
     })
 }
 
@@ -135,17 +150,14 @@ fn expand<'a>(given: &ArgMatches<'a>, name: &'a str) -> Result<Request<'a>, Line
     ensures { (terminal : Bool) → IfSome (expand_by (given_rows given.now) name.entry.now)
         (λ line. IsAnswered terminal line result) }
 {
-    let (hex, escape) = (flag(given, "hex"), flag(given, "escape"));
-    if hex && escape {
-        return Err(LineFault::BothFormsOfExpand);
-    }
+    let output = output(given)?;
     let names = names_asked(flag(given, "all-names"));
     Ok(Request {
         parameters: parameters(given)?,
         asked: Asked::Entry(OfEntry::Expand(Expand {
             name: TextName { name, names },
             padding: padding(given),
-            output: output_asked(hex, escape),
+            output,
         })),
     })
 }
@@ -175,17 +187,14 @@ fn get<'a>(given: &ArgMatches<'a>, name: &'a str) -> Result<Request<'a>, LineFau
     ensures { (terminal : Bool) → IfSome (get_by (given_rows given.now) name.entry.now)
         (λ line. IsAnswered terminal line result) }
 {
-    let (hex, escape) = (flag(given, "hex"), flag(given, "escape"));
-    if hex && escape {
-        return Err(LineFault::BothFormsOfGet);
-    }
+    let output = output(given)?;
     Ok(Request {
         parameters: NO_PARAMETERS,
         asked: Asked::Entry(OfEntry::Get(Get {
             name,
             given: given_parameters(given)?,
             padding: padding(given),
-            output: output_asked(hex, escape),
+            output,
         })),
     })
 }

@@ -10,15 +10,9 @@ use thiserror::Error;
 /// Why what a line requests can't be done.
 #[derive(Clone, Copy, Debug, PartialEq, Eq, Error)]
 pub enum LineFault {
-    /// `cap` is to write its output in both forms.
-    #[error("BothFormsOfCap")]
-    BothFormsOfCap,
-    /// `expand` is to write its output in both forms.
-    #[error("BothFormsOfExpand")]
-    BothFormsOfExpand,
-    /// `get` is to write its output in both forms.
-    #[error("BothFormsOfGet")]
-    BothFormsOfGet,
+    /// An output is to be written in both forms, by `--hex` and `--escape`.
+    #[error("BothForms")]
+    BothForms,
     /// `convert` is to write both widths.
     #[error("BothWidths")]
     BothWidths,

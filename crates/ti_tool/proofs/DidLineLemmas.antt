@@ -10,7 +10,8 @@ use Rattle.ti_tool.specs.declared.fault.ToolFault.{ToolFault}
 use Rattle.ti_tool.specs.declared.fault.ToolFault.TheVariants as fault
 use Rattle.ti_tool.specs.FaultLines.{Told}
 use Rattle.ti_tool.specs.Calls.{IsFailedWrite}
-use Rattle.ti_tool.specs.Runs.{EndsWords, MayHaveWritten, RanRequest, Stream, status_for}
+use Rattle.ti_tool.specs.Runs.{EndsWords, MayHaveWritten, RanRequest, Stream}
+use Rattle.ti_tool.specs.Statuses.{status_for}
 
 -- nothing is told if there is no fault
 pub told_nothing : (a : Option (List ℕ)) → Told [] a a

@@ -1,6 +1,6 @@
 -- What is due for a file, and how it ends.
-use Rattle.std.proofs.Common.{◌≡◌, ◌<◌, ◌⊎◌, ℕ, Bool, List, arith, inl, inr}
-use Rattle.std.specs.Prelude.{Result, Ok, Err}
+use Rattle.std.proofs.Common.{◌≡◌, ◌<◌, ℕ, Bool, List, arith, inr}
+use Rattle.std.specs.Prelude.{Ok, Err}
 use Rattle.ti_words.specs.Spelling.{Spells}
 use Rattle.ti_words.specs.Value.{EntryValue}
 use Rattle.ti_tool.specs.declared.fault.ToolFault.{ToolFault}
@@ -8,8 +8,8 @@ use Rattle.ti_tool.specs.declared.fault.ToolFault.TheVariants as fault
 use Rattle.ti_expand.specs.declared.values.Value.{Value}
 use Rattle.ti_line.specs.declared.request.OfEntry.{OfEntry}
 use Rattle.ti_tool.specs.Files.{IsDueOfFile, result_of_file}
-use Rattle.ti_tool.specs.Results.{IsDueFrom, IsDueOn}
-use Rattle.ti_tool.specs.Runs.{status_for}
+use Rattle.ti_tool.specs.Results.{IsDueOn}
+use Rattle.ti_tool.specs.Statuses.{status_for}
 
 -- what is due for an entry, with the name of the file, is due for the bytes that spell it
 pub due_of_file : (several : Bool) (asked : OfEntry) (parameters : List Value) (name : List ℕ) (sound : Bool) (contents : List ℕ) (v : EntryValue) (plain out : List ℕ)

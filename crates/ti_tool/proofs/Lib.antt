@@ -16,3 +16,4 @@ pub mod PrintableLemmas
 pub mod IsItemCalledLemmas
 pub mod IsGotLemmas
 pub mod FileLemmas
+pub mod FileRunsLemmas

@@ -43,9 +43,7 @@ words_line (words.BadWord which) = codes "parameter " ++ decimal which ++ codes 
 
 -- the line on what a command line can't ask for
 abbrev pub line_fault_line : LineFault → List ℕ
-line_fault_line line.BothFormsOfCap = codes "cap: both forms\n"
-line_fault_line line.BothFormsOfExpand = codes "expand: both forms\n"
-line_fault_line line.BothFormsOfGet = codes "get: both forms\n"
+line_fault_line line.BothForms = codes "--hex and --escape exclude each other\n"
 line_fault_line line.BothWidths = codes "convert: both widths\n"
 line_fault_line line.ToTerminal = codes "convert: not to a terminal without --force\n"
 line_fault_line (line.Words why) = words_line why

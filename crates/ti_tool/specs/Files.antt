@@ -1,5 +1,5 @@
 -- What is due for a file that was named, from its contents, and the line on its fault.
-use Rattle.std.specs.Prelude.{◌≡◌, ◌==◌, ℕ, Bool, true, false, List, [], ◌∷◌, ◌++◌, Result, Ok, Err, codes}
+use Rattle.std.specs.Prelude.{◌≡◌, ◌==◌, ℕ, Bool, true, false, List, [], ◌∷◌, ◌++◌, Ok, codes}
 use Rattle.ti_base.specs.Letters.{letter}
 use Rattle.ti_expand.specs.declared.values.Value.{Value}
 use Rattle.ti_escape.specs.Notation.{notation}
@@ -7,7 +7,6 @@ use Rattle.ti_line.specs.declared.options.NameForm.{NameForm}
 use Rattle.ti_line.specs.declared.options.NameForm.TheVariants as name_forms
 use Rattle.ti_line.specs.declared.request.OfEntry.{OfEntry}
 use Rattle.ti_line.specs.declared.request.OfEntry.TheVariants as of_entry
-use Rattle.ti_tool.specs.declared.fault.ToolFault.{ToolFault}
 use Rattle.ti_tool.specs.Results.{IsDueFrom, IsDueOn}
 
 -- the name of a file in a result: as it stands, or in the notation

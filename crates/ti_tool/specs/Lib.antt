@@ -11,6 +11,8 @@ pub mod Calls
 pub mod Near
 pub mod FaultLines
 pub mod Files
+pub mod Statuses
+pub mod FileRuns
 pub mod Runs
 pub mod Laws
 pub mod inner

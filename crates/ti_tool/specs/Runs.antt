@@ -1,35 +1,23 @@
 -- What a run of the program does.
-use Rattle.std.specs.Prelude.{◌≡◌, ◌<◌, ◌⊎◌, ℕ, Bool, true, false, List, Option, Result, Ok, Err, IfErr, IfOk, length, take}
+use Rattle.std.specs.Prelude.{◌≡◌, ◌<◌, ◌⊎◌, ℕ, Bool, false, List, [], ◌∷◌, Option, Result, Err, IfErr, IfOk, length, nat_lt, take}
 use Rattle.std.specs.Io.KnownBytes.{Appends, Keeps}
 use Rattle.ti_expand.specs.declared.values.Value.{Value}
-use Rattle.ti_line.specs.CommandLine.{Line}
+use Rattle.ti_line.specs.CommandLine.{Line, files_of}
 use Rattle.ti_line.specs.Message.{message_text}
 use Rattle.ti_line.specs.Requests.{Asks, Explains, HasText, IsReadAs}
 use Rattle.ti_line.specs.declared.no_line.NoLine.{NoLine}
 use Rattle.ti_line.specs.declared.no_line.NoLine.TheVariants as no_line
 use Rattle.ti_line.specs.declared.request.Asked.{Asked}
+use Rattle.ti_line.specs.declared.request.Asked.TheVariants.{Capability, Entry}
 use Rattle.ti_line.specs.declared.request.Request.{Request}
 use Rattle.ti_tool.specs.declared.fault.ToolFault.{ToolFault}
 use Rattle.ti_tool.specs.declared.fault.ToolFault.TheVariants as fault
 use Rattle.ti_tool.specs.declared.terminals.Terminals.{Terminals}
 use Rattle.ti_tool.specs.FaultLines.{IsAnswerLine, Told, fault_line, line_fault_line}
+use Rattle.ti_tool.specs.FileRuns.{RanFiles}
 use Rattle.ti_tool.specs.Results.{Finds, IsAnswer}
+use Rattle.ti_tool.specs.Statuses.{status_for}
 use Rattle.ti_tool.specs.Calls.{DidCheck, IsEnough, IsFailedWrite}
-
--- the status of a call's answer: 1 if `check` found a text with a fault, or `get` a flag that is not set
-abbrev pub status_for : Result Bool ToolFault → ℕ
-status_for (Ok true) = 0
-status_for (Ok false) = 1
-status_for (Err (fault.Entry refused)) = 3
-status_for (Err (fault.Encode unfit)) = 3
-status_for (Err (fault.Cap refused)) = 4
-status_for (Err fault.NoSuchText) = 4
-status_for (Err fault.NoSuchName) = 4
-status_for (Err (fault.TextTooLong k)) = 4
-status_for (Err (fault.TooMuch need)) = 4
-status_for (Err fault.Read) = 5
-status_for (Err (fault.Write gone)) = 5
-status_for (Err fault.Memory) = 6
 
 -- what is known of the bytes that a reader has left, or that a writer holds
 abbrev pub Stream : Type 0
@@ -63,6 +51,17 @@ RanRequest asked parameters unwritten left0 left1 held0 held1 told0 told1 status
     × DidCheck (IsAnswer asked parameters) (IsEnough asked) left0 left1 held0 held1 answer
     × IfErr answer (λ e. IsFailedWrite e ⊎ unwritten) × Ends asked answer told0 told1 status
 
+-- a request was carried out, of an entry for the files that are named, if there are any
+abbrev pub RanTask : List (List ℕ) → Asked → List Value → Type 0 → Stream → Stream → Stream → Stream
+    → Stream → Stream → ℕ → Type 0
+RanTask [] asked parameters unwritten left0 left1 held0 held1 told0 told1 status =
+    RanRequest asked parameters unwritten left0 left1 held0 held1 told0 told1 status
+RanTask (file ∷ files) (Entry e) parameters unwritten left0 left1 held0 held1 told0 told1 status =
+    RanFiles (Entry e) e parameters (nat_lt 1 (length (file ∷ files))) (file ∷ files)
+    held0 held1 told0 told1 status
+RanTask (file ∷ files) (Capability c) parameters unwritten left0 left1 held0 held1 told0 told1 status =
+    RanRequest (Capability c) parameters unwritten left0 left1 held0 held1 told0 told1 status
+
 -- a text was written as the result: with status 0 all of it, and nothing is told of a fault; with
 -- status 5 its first bytes and not all of them, and the line on that
 abbrev pub Answers : List ℕ → Stream → Stream → Stream → Stream → ℕ → Type 0
@@ -83,12 +82,12 @@ EndsWords (no_line.Fault why) unwritten held0 held1 told0 told1 status =
 EndsWords no_line.Memory unwritten held0 held1 told0 told1 status =
     (status ≡ 6) × unwritten × Told (fault_line fault.Memory) told0 told1
 
--- what a line asks for was done; or nothing is read, since the line has a fault, or memory was refused
+-- what a line asks for was done, of the files that it names; or nothing is read, since the line has a fault, or memory was refused
 abbrev pub DidLine : Terminals → List (List ℕ) → Line → Type 0 → Type 0 → Stream → Stream → Stream → Stream
     → Stream → Stream → ℕ → Type 0
 DidLine at words line unread unwritten left0 left1 held0 held1 told0 told1 status =
     ((request : Request) × Asks at.output line request
-    × RanRequest request.asked request.parameters unwritten
+    × RanTask (files_of words) request.asked request.parameters unwritten
     left0 left1 held0 held1 told0 told1 status)
     ⊎ ((why : NoLine) × IsReadAs at.output words line (Err why)
     × unread × EndsWords why unwritten held0 held1 told0 told1 status)

@@ -152,9 +152,7 @@ pub fn line_fault_line(fault: LineFault) -> FaultLine
     ensures { result.items ≡ line_fault_line fault }
 {
     match fault {
-        LineFault::BothFormsOfCap => line_of(&[b"cap: both forms\n"]),
-        LineFault::BothFormsOfExpand => line_of(&[b"expand: both forms\n"]),
-        LineFault::BothFormsOfGet => line_of(&[b"get: both forms\n"]),
+        LineFault::BothForms => line_of(&[b"--hex and --escape exclude each other\n"]),
         LineFault::BothWidths => line_of(&[b"convert: both widths\n"]),
         LineFault::ToTerminal => line_of(&[b"convert: not to a terminal without --force\n"]),
         LineFault::Words(why) => words_line(why),

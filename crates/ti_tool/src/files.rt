@@ -1,11 +1,17 @@
 //! A request of files, one after another: each is read, what is due for its contents is written, and a fault is reported
 //! after its name.
 //!
-//! What is due for contents is made by `named`, with a contract; here it is read, written and counted, without one but on
-//! the status. A file that can't be read does not keep the others from being read; results that can't be written do.
+//! What is due for contents is made by `named`; here it is read, written and counted. What a file holds, no clause can say:
+//! what is done with what the system gives of it is said by `RanFiles`. A file that can't be read does not keep the others
+//! from being read; results that can't be written do.
 
-ghost use Rattle.std.specs.Prelude.{◌≡◌, ◌≢◌, ◌<◌, ◌≤◌, IfOk, IfSome};
-ghost use Rattle.ti_tool.specs.inner.Files.{EndsFile};
+ghost use Rattle.std.specs.Prelude.{◌≡◌, ◌≢◌, ◌<◌, ◌≤◌, ◌⊎◌, ◌∷◌, [], IfErr, IfOk, IfSome, MatchResult, map, max, string_bytes, true, false};
+ghost use Rattle.ti_line.specs.Requests.{texts_of};
+ghost use Rattle.ti_tool.specs.FaultLines.{fault_line as the_fault_line};
+ghost use Rattle.ti_tool.specs.FileRuns.{IsOutcome, IsOutcomeOfContents, IsUnread, RanFiles, Supply, takes_folders as the_takes_folders};
+ghost use Rattle.ti_tool.specs.Files.{file_line as the_file_line};
+ghost use Rattle.ti_tool.specs.declared.fault.ToolFault.TheVariants as fault;
+ghost use Rattle.ti_tool.specs.inner.Files.{Delivered, EndsFile, RanFound, RanWord};
 
 use crate::fault::ToolFault;
 use crate::fault_line::{asked_line, fault_line};
@@ -13,7 +19,7 @@ use crate::named::{Named, answer_of_file, file_line};
 use crate::program::told_name;
 use crate::result::write_result;
 use crate::status::status;
-use crate::store::{Found, Store, one_file, read_contents};
+use crate::store::{Files, Found, Store, one_file, read_contents};
 use std::alloc::{AllocError, Allocator};
 use std::io;
 use std::io::{ErrorKind, Read, Write};
@@ -50,7 +56,9 @@ fn fault_outcome<A: Allocator + Copy>(
     status: u8,
 ) -> Result<Outcome<A>, AllocError>
     requires { 2 < status }
-    ensures { IfOk result (λ o. EndsFile o.status o.line.items) }
+    ensures ends { IfOk result (λ o. EndsFile o.status o.line.items) }
+    ensures led { IfOk result (λ o. (o.bytes.items ≡ [])
+        × (o.line.items ≡ the_file_line name.now line.now) × (o.status ≡ status)) }
 {
     Ok(Outcome {
         bytes: Vec::new(alloc),
@@ -65,7 +73,8 @@ fn refused_outcome<A: Allocator + Copy>(
     name: &str,
     error: &io::Error,
 ) -> Result<Outcome<A>, AllocError>
-    ensures { IfOk result (λ o. EndsFile o.status o.line.items) }
+    ensures ends { IfOk result (λ o. EndsFile o.status o.line.items) }
+    ensures led { IfOk result (λ o. IsUnread name.now o.bytes.items o.line.items o.status) }
 {
     if error.kind() == ErrorKind::OutOfMemory {
         return Err(AllocError);
@@ -81,7 +90,10 @@ fn outcome_of<A: Allocator + Copy>(
     file: Named<'_>,
     contents: &[u8],
 ) -> Result<Outcome<A>, AllocError>
-    ensures { IfOk result (λ o. EndsFile o.status o.line.items) }
+    ensures ends { IfOk result (λ o. EndsFile o.status o.line.items) }
+    ensures led { IfOk result (λ o. IsOutcomeOfContents errand.now.asked.now errand.now.of_entry.now
+        errand.now.parameters.now file.entry.is_one_of_several file.entry.name.now contents.now
+        o.bytes.items o.line.items o.status) }
 {
     match answer_of_file(alloc, errand.of_entry, errand.parameters, file, contents) {
         Ok(answer) => Ok(Outcome {
@@ -105,7 +117,10 @@ fn outcome_of_found<S: Store, A: Allocator + Copy, R: Read>(
     is_one_of_several: bool,
     input: &mut R,
 ) -> Result<Outcome<A>, AllocError>
-    ensures { IfOk result (λ o. EndsFile o.status o.line.items) }
+    ensures ends { IfOk result (λ o. EndsFile o.status o.line.items) }
+    ensures led { IfOk result (λ o. (supply : Supply) × IsOutcome errand.now.asked.now
+        errand.now.of_entry.now errand.now.parameters.now is_one_of_several
+        (string_bytes found.now.name) supply o.bytes.items o.line.items o.status) }
 {
     let name = found.name.as_str();
     if let Some(error) = &found.fault {
@@ -136,6 +151,11 @@ fn deliver<A: Allocator, W: Write, E: Write>(
     requires { IfOk outcome (λ o. EndsFile o.status o.line.items) }
     ensures known { IfSome result (λ status. status ≢ 2) }
     ensures silent { IfSome result (λ status. status ≤ 1 → errors.new ≡ errors.old) }
+    ensures delivered { let IsDelivered = Delivered
+        (W.contents output.old) (W.contents output.new)
+        (E.contents errors.old) (E.contents errors.new) result in
+        MatchResult outcome (λ o. IsDelivered o.bytes.items o.line.items o.status)
+        (λ _. IsDelivered [] (the_fault_line fault.Memory) 6) }
 {
     let Ok(outcome) = outcome else {
         let _ = write_out(errors, fault_line(&ToolFault::Memory).as_slice());
@@ -152,18 +172,68 @@ fn deliver<A: Allocator, W: Write, E: Write>(
 /// The greater of two statuses.
 fn greater(one: u8, other: u8) -> u8
     ensures known { one ≢ 2 → other ≢ 2 → result ≢ 2 }
-    ensures first { one ≤ result }
-    ensures second { other ≤ result }
+    ensures value { result ≡ max one other }
 {
     if one < other { other } else { one }
 }
 
 /// Whether a folder stands for the files in it.
-fn takes_folders(of_entry: &OfEntry<'_>) -> bool {
+fn takes_folders(of_entry: &OfEntry<'_>) -> bool
+    ensures { result ≡ the_takes_folders of_entry.now }
+{
     matches!(of_entry, OfEntry::Show(_) | OfEntry::Check(_))
 }
 
-/// Does what is requested of all files that a word names.
+/// The files that a word names, or what it leads to if the system does not give them.
+fn files_named<S: Store, A: Allocator + Copy>(
+    store: &S,
+    alloc: A,
+    errand: &Errand<'_>,
+    word: &str,
+) -> io::Result<Files<A>>
+    ensures { IfOk result (λ files. ((files.are_in_folder ≡ false)
+        × (map (λ f. string_bytes f.name) files.found.items ≡ word.now ∷ []))
+        ⊎ ((files.are_in_folder ≡ true) × (the_takes_folders errand.now.of_entry.now ≡ true))) }
+{
+    if word != "-" && takes_folders(errand.of_entry) {
+        store.find(alloc, word)
+    } else {
+        one_file(alloc, word, None)
+    }
+}
+
+/// Does what is requested of files that were found, one after another. The result is the greatest status; it is an error if
+/// the results can't be written.
+fn run_found<S: Store, A: Allocator + Copy, R: Read, W: Write, E: Write>(
+    store: &S,
+    alloc: A,
+    errand: &Errand<'_>,
+    files: &[Found<A>],
+    is_one_of_several: bool,
+    input: &mut R,
+    output: &mut W,
+    errors: &mut E,
+) -> Result<u8, u8>
+    ensures known { IfOk result (λ status. status ≢ 2) }
+    ensures stopped { IfErr result (λ status. 2 < status) }
+    ensures silent { IfOk result (λ status. status ≤ 1 → errors.new ≡ errors.old) }
+    ensures ran { RanFound errand.now.asked.now errand.now.of_entry.now errand.now.parameters.now
+        is_one_of_several (map (λ f. string_bytes f.name) files.now)
+        (W.contents output.old) (W.contents output.new)
+        (E.contents errors.old) (E.contents errors.new) result }
+{
+    let mut greatest = 0;
+    for found in files {
+        let outcome = outcome_of_found(store, alloc, errand, found, is_one_of_several, input);
+        match deliver(outcome, output, errors) {
+            Some(status) => greatest = greater(greatest, status),
+            None => return Err(greater(greatest, 5)),
+        }
+    }
+    Ok(greatest)
+}
+
+/// Does what is requested of all files that a word names, as [`run_found`] does.
 fn run_word<S: Store, A: Allocator + Copy, R: Read, W: Write, E: Write>(
     store: &S,
     alloc: A,
@@ -172,26 +242,35 @@ fn run_word<S: Store, A: Allocator + Copy, R: Read, W: Write, E: Write>(
     input: &mut R,
     output: &mut W,
     errors: &mut E,
-) -> Option<u8>
-    ensures known { IfSome result (λ status. status ≢ 2) }
-    ensures silent { IfSome result (λ status. status ≤ 1 → errors.new ≡ errors.old) }
+) -> Result<u8, u8>
+    ensures known { IfOk result (λ status. status ≢ 2) }
+    ensures stopped { IfErr result (λ status. 2 < status) }
+    ensures silent { IfOk result (λ status. status ≤ 1 → errors.new ≡ errors.old) }
+    ensures ran { RanWord errand.now.asked.now errand.now.of_entry.now errand.now.parameters.now
+        errand.now.has_several word.now
+        (W.contents output.old) (W.contents output.new)
+        (E.contents errors.old) (E.contents errors.new) result }
 {
-    let found = if word != "-" && takes_folders(errand.of_entry) {
-        store.find(alloc, word)
-    } else {
-        one_file(alloc, word, None)
-    };
-    let files = match found {
-        Ok(files) => files,
-        Err(error) => return deliver(refused_outcome(alloc, word, &error), output, errors),
-    };
-    let is_one_of_several = errand.has_several || files.are_in_folder;
-    let mut greatest = 0;
-    for found in &files.found {
-        let outcome = outcome_of_found(store, alloc, errand, found, is_one_of_several, input);
-        greatest = greater(greatest, deliver(outcome, output, errors)?);
+    match files_named(store, alloc, errand, word) {
+        Ok(files) => {
+            let is_one_of_several = errand.has_several || files.are_in_folder;
+            let found = files.found.as_slice();
+            run_found(
+                store,
+                alloc,
+                errand,
+                found,
+                is_one_of_several,
+                input,
+                output,
+                errors,
+            )
+        }
+        Err(error) => {
+            let outcome = refused_outcome(alloc, word, &error);
+            deliver(outcome, output, errors).ok_or(5)
+        }
     }
-    Some(greatest)
 }
 
 /// Does what is requested of the files that words name, one after another. The result is the greatest status.
@@ -206,12 +285,16 @@ pub fn run_files<S: Store, A: Allocator + Copy, R: Read, W: Write, E: Write>(
 ) -> u8
     ensures known { result ≢ 2 }
     ensures silent { result ≤ 1 → errors.new ≡ errors.old }
+    ensures ran { RanFiles errand.now.asked.now errand.now.of_entry.now errand.now.parameters.now
+        errand.now.has_several (texts_of words.now)
+        (W.contents output.old) (W.contents output.new)
+        (E.contents errors.old) (E.contents errors.new) result }
 {
     let mut greatest = 0;
     for word in words {
         match run_word(store, alloc, errand, word, input, output, errors) {
-            Some(status) => greatest = greater(greatest, status),
-            None => return greater(greatest, 5),
+            Ok(status) => greatest = greater(greatest, status),
+            Err(status) => return greater(greatest, status),
         }
     }
     greatest

@@ -4,7 +4,7 @@ ghost use Rattle.std.specs.Prelude.{◌≡◌, ◌≢◌, ◌≤◌, ◌⊎◌, 
 ghost use Rattle.ti_line.specs.CommandLine.{Line, Reads, files_of};
 ghost use Rattle.ti_line.specs.Requests.{texts_of};
 ghost use Rattle.ti_tool.specs.FaultLines.{IsTold};
-ghost use Rattle.ti_tool.specs.Runs.{DidLine, DidNoLine, Ends, EndsWords, MayHaveWritten, RanRequest, no_terminals};
+ghost use Rattle.ti_tool.specs.Runs.{DidLine, DidNoLine, Ends, EndsWords, MayHaveWritten, RanRequest, RanTask, no_terminals};
 
 use crate::call::carry_out;
 use crate::fault::ToolFault;
@@ -84,8 +84,7 @@ fn run_task<S: Store, A: Allocator + Copy, R: Read, W: Write, E: Write>(
     output: &mut W,
     errors: &mut E,
 ) -> u8
-    ensures ran { texts_of files.now ≡ [] → RanRequest asked.now parameters.now
-        (output.new ≡ output.old)
+    ensures ran { RanTask (texts_of files.now) asked.now parameters.now (output.new ≡ output.old)
         (R.remaining input.old) (R.remaining input.new)
         (W.contents output.old) (W.contents output.new)
         (E.contents errors.old) (E.contents errors.new) result }
@@ -147,7 +146,7 @@ fn run_no_line<W: Write, E: Write>(why: &NoLine, output: &mut W, errors: &mut E)
 /// |---|---|---|
 /// | 0 | done, or help was requested | none |
 /// | 1 | `check` found a fault, or the flag that `get` asks for is not set | none |
-/// | 2 | the words are no command line or no parameters, or ask for both widths, or for both forms of an output, or for an entry at a terminal | what is wrong and the usage; `parameters: more than nine`; `parameter K: bad word`; `convert: both widths`; `cap: both forms`; `expand: both forms`; `get: both forms`; `convert: not to a terminal without --force` |
+/// | 2 | the words are no command line or no parameters, or ask for both widths, or for both forms of an output, or for an entry at a terminal | what is wrong and the usage; `parameters: more than nine`; `parameter K: bad word`; `convert: both widths`; `--hex and --escape exclude each other`; `convert: not to a terminal without --force` |
 /// | 3 | the entry is refused, or can't be encoded | `entry: WORD at PLACE`; `entry: WORD` |
 /// | 4 | the capability is refused or absent, a text is too long for it, or its padding too much | `capability: WORD at PLACE`; `capability: absent`; `get: NAME: absent`; `get: NAME: no such capability`; `capability: TextTooLong K`; `capability: TooMuch N` |
 /// | 5 | reading or writing failed | `input: failed`; `output: failed` |
@@ -169,9 +168,9 @@ pub fn run_at<S: Store, A: Allocator + Copy, R: Read, W: Write, E: Write>(
     output: &mut W,
     errors: &mut E,
 ) -> u8
-    // If `clap` reads the words, and they name no file, the named call did its work, unless memory was refused.
+    // If `clap` reads the words, the named call did its work, of each file that they name, unless memory was refused.
     ensures read { (line : Line) → Reads (texts_of words.now) line
-        → files_of (texts_of words.now) ≡ [] → DidLine at (texts_of words.now) line
+        → DidLine at (texts_of words.now) line
         (input.new ≡ input.old) (output.new ≡ output.old)
         (R.remaining input.old) (R.remaining input.new)
         (W.contents output.old) (W.contents output.new)
@@ -230,9 +229,9 @@ pub fn run<A: Allocator + Copy, R: Read, W: Write, E: Write>(
     output: &mut W,
     errors: &mut E,
 ) -> u8
-    // If `clap` reads the words, and they name no file, the named call did its work, unless memory was refused.
+    // If `clap` reads the words, the named call did its work, of each file that they name, unless memory was refused.
     ensures read { (line : Line) → Reads (texts_of words.now) line
-        → files_of (texts_of words.now) ≡ [] → DidLine no_terminals (texts_of words.now) line
+        → DidLine no_terminals (texts_of words.now) line
         (input.new ≡ input.old) (output.new ≡ output.old)
         (R.remaining input.old) (R.remaining input.new)
         (W.contents output.old) (W.contents output.new)

@@ -1,7 +1,7 @@
 //! The status that the program ends with.
 
 ghost use Rattle.std.specs.Prelude.{◌≡◌};
-ghost use Rattle.ti_tool.specs.Runs.{status_for};
+ghost use Rattle.ti_tool.specs.Statuses.{status_for};
 
 use crate::fault::ToolFault;
 

@@ -1,6 +1,6 @@
 //! Where files are, and what is in them.
 
-ghost use Rattle.std.specs.Prelude.{◌≡◌, IfOk, false};
+ghost use Rattle.std.specs.Prelude.{◌≡◌, ◌∷◌, ◌⊎◌, [], IfOk, map, string_bytes, true, false};
 ghost use Rattle.std.specs.Io.{StartsWith};
 
 use std::alloc::{AllocError, Allocator};
@@ -29,7 +29,10 @@ pub struct Files<A: Allocator> {
 /// Where files are.
 pub trait Store {
     /// The files that a word names: the one of this name, or if it is a folder all below it.
-    fn find<A: Allocator + Copy>(&self, alloc: A, name: &str) -> io::Result<Files<A>>;
+    fn find<A: Allocator + Copy>(&self, alloc: A, name: &str) -> io::Result<Files<A>>
+        ensures { IfOk result (λ files. ((files.are_in_folder ≡ false)
+            × (map (λ f. string_bytes f.name) files.found.items ≡ name.now ∷ []))
+            ⊎ (files.are_in_folder ≡ true)) };
 
     /// Appends what a file holds, up to one byte more than an entry can have.
     fn read<A: Allocator>(&self, name: &str, contents: &mut Vec<u8, A>) -> io::Result<()>;
@@ -56,6 +59,8 @@ pub fn one_file<A: Allocator + Copy>(
     fault: Option<io::Error>,
 ) -> io::Result<Files<A>>
     ensures alone { IfOk result (λ files. files.are_in_folder ≡ false) }
+    ensures called { IfOk result
+        (λ files. map (λ f. string_bytes f.name) files.found.items ≡ name.now ∷ []) }
 {
     let mut found = Vec::new(alloc);
     found

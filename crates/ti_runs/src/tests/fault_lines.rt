@@ -25,13 +25,13 @@ const LINES: [(&[&str], &[u8], u8, &[u8]); 14] = [
         &["ti", "cap", "--hex", "--escape"],
         b"%d",
         2,
-        b"cap: both forms\n",
+        b"--hex and --escape exclude each other\n",
     ),
     (
         &["ti", "expand", "--hex", "--escape", "bel"],
         SMALL,
         2,
-        b"expand: both forms\n",
+        b"--hex and --escape exclude each other\n",
     ),
     (
         &["ti", "trace", "n:1", "x"],

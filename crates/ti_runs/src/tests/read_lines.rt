@@ -160,10 +160,10 @@ const FAULTY: [(&[&str], &str); 12] = [
     (&["ti", "cap", "n:1", "", "s:"], "BadWord 2"),
     (&["ti", "cap", "--", "-5", "--hex"], "BadWord 1"),
     (&["ti", "trace", "--", "--escape"], "BadWord 1"),
-    (&["ti", "cap", "--escape", "--hex", "x"], "BothFormsOfCap"),
+    (&["ti", "cap", "--escape", "--hex", "x"], "BothForms"),
     (
         &["ti", "expand", "--escape", "--hex", "bel", "x"],
-        "BothFormsOfExpand",
+        "BothForms",
     ),
     (
         &[
@@ -178,7 +178,7 @@ const FAULTY: [(&[&str], &str); 12] = [
     ),
     (
         &["ti", "get", "--escape", "--hex", "bel", "n:x"],
-        "BothFormsOfGet",
+        "BothForms",
     ),
     (&["ti", "get", "bel", "x", "n:x"], "BadWord 2"),
     (

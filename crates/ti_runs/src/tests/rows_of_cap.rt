@@ -119,7 +119,7 @@ const FORMED: [Row; 6] = [
         input: b"%d",
         status: 2,
         output: b"",
-        errors: b"cap: both forms\n",
+        errors: b"--hex and --escape exclude each other\n",
     },
     // both forms are refused before the parameters
     Row {
@@ -127,7 +127,7 @@ const FORMED: [Row; 6] = [
         input: b"%d",
         status: 2,
         output: b"",
-        errors: b"cap: both forms\n",
+        errors: b"--hex and --escape exclude each other\n",
     },
 ];
 

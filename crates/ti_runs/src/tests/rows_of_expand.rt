@@ -177,7 +177,7 @@ const FORMED: [Row; 7] = [
         input: SMALL,
         status: 2,
         output: b"",
-        errors: b"expand: both forms\n",
+        errors: b"--hex and --escape exclude each other\n",
     },
 ];
 

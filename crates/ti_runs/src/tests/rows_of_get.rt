@@ -337,7 +337,7 @@ const GIVEN: [Row; 17] = [
         input: SMALL,
         status: 2,
         output: b"",
-        errors: b"get: both forms\n",
+        errors: b"--hex and --escape exclude each other\n",
     },
     Row {
         words: &["ti", "get", "bel", "n:x"],
