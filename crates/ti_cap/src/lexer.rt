@@ -43,7 +43,10 @@ fn read_escape(bytes: &[u8]) -> Result<(Token, usize), CapFault>
         }
         [letter, ..] => match lone(*letter) {
             Some(token) => Ok((token, 2)),
-            None => read_format(bytes),
+            None => {
+                let (token, long) = read_format(bytes)?;
+                Ok((token, long))
+            }
         },
     }
 }

@@ -43,22 +43,22 @@ fn compute(op: Op, stack: &mut Stack<'_, '_>)
 
 /// Prints what lies on the stack, from a place on, and returns the place after it.
 #[inline(always)]
-fn print(format: &Format, stack: &mut Stack<'_, '_>, out: &mut [u8], written: usize) -> usize
-    requires { written + length (print_for format.now.conversion format.now (values_on stack.old))
+fn print(format: Format, stack: &mut Stack<'_, '_>, out: &mut [u8], written: usize) -> usize
+    requires { written + length (print_for format.conversion format (values_on stack.old))
         ≤ length out.old }
     ensures room { length stack.new.slots.now ≡ length stack.old.slots.now }
     ensures height { stack.new.height ≡ stack.old.height - 1 }
     ensures highest { stack.new.highest ≡ stack.old.highest }
     ensures held { values_on stack.new ≡ without_top (values_on stack.old) }
     ensures written { take result out.new
-        ≡ take written out.old ++ print_for format.now.conversion format.now (values_on stack.old) }
+        ≡ take written out.old ++ print_for format.conversion format (values_on stack.old) }
     ensures end { result
-        ≡ written + length (print_for format.now.conversion format.now (values_on stack.old)) }
+        ≡ written + length (print_for format.conversion format (values_on stack.old)) }
     ensures rest { drop result out.new ≡ drop result out.old }
 {
     match format.conversion {
-        Conversion::Text => print_text(*format, stack.pop_text(), out, written),
-        _ => print_number(*format, stack.pop_number(), out, written),
+        Conversion::Text => print_text(format, stack.pop_text(), out, written),
+        _ => print_number(format, stack.pop_number(), out, written),
     }
 }
 
@@ -113,7 +113,7 @@ pub fn meet<'a>(
             Mode::Run,
             put_byte(out, written, byte_of(stack.pop_number())),
         ),
-        Token::Print(format) => return (Mode::Run, print(format, stack, out, written)),
+        Token::Print(format) => return (Mode::Run, print(*format, stack, out, written)),
         Token::CondThen => {
             let zero = stack.pop_number() == 0;
             return (Mode::Run.next(token, zero), written);

@@ -64,6 +64,7 @@ pub(crate) fn check(
 /// let run = expand_into(cup.tape(), &parameters, &mut vars, &mut stack, &mut room)?;
 /// assert!(rt; &room[..run.written] == b"\x1b[5;10H".as_slice());
 /// ```
+#[inline(always)]
 pub fn expand_into<'a>(
     tape: Tape<'a>,
     parameters: &[Value<'a>; 9],

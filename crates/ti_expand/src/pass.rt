@@ -82,6 +82,7 @@ pub(crate) fn run_tape<'a>(
 }
 
 /// The same, token by token. A token that was not passed over ran.
+#[inline(always)]
 fn run_tokens<'a>(
     mut tape: Tape<'_>,
     parameters: &[Value<'a>; 9],
