@@ -1,7 +1,9 @@
--- The word for each finding.
+-- The word for each finding, of a token and of a text.
 use Rattle.std.specs.Prelude.{ℕ, List, codes}
 use Rattle.ti_lint.specs.declared.finding.Finding.{Finding}
 use Rattle.ti_lint.specs.declared.finding.Finding.TheVariants.{StackUnderflow, TermcapParameter, ParameterRange, RepeatedIncrement, UnsetVariable}
+use Rattle.ti_lint.specs.declared.text_finding.TextFinding.{TextFinding}
+use Rattle.ti_lint.specs.declared.text_finding.TextFinding.TheVariants.{Malformed, UnusedParameter, UninterpretedEscape, UninterpretedPercent, EqualPair}
 
 abbrev pub finding_word : Finding → List ℕ
 finding_word StackUnderflow = codes "stack-underflow"
@@ -9,3 +11,10 @@ finding_word TermcapParameter = codes "termcap-parameter"
 finding_word ParameterRange = codes "parameter-range"
 finding_word RepeatedIncrement = codes "%i-repeated"
 finding_word UnsetVariable = codes "unset-variable"
+
+abbrev pub text_finding_word : TextFinding → List ℕ
+text_finding_word Malformed = codes "malformed"
+text_finding_word UnusedParameter = codes "parameter-unused"
+text_finding_word UninterpretedEscape = codes "uninterpreted-escape"
+text_finding_word UninterpretedPercent = codes "uninterpreted-percent"
+text_finding_word EqualPair = codes "pair-equal"

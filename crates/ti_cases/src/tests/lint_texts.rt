@@ -1,9 +1,12 @@
 //! What terminfo(5) says of the texts, and what capabilities store and leave out.
 
 use std::test::Fail;
-use ti_cap::Capability;
+use ti_cap::{Capability, Token};
 use ti_fixtures::capabilities::CUP;
-use ti_lint::{Class, Variables, class_of, stored_by, unused_parameters};
+use ti_lint::{
+    Class, TextFinding, Variables, class_of, find_double_percent, is_meant_to_expand, stored_by,
+    undoing_pairs, unused_parameters,
+};
 use ti_words::{Kind, NameTable};
 
 /// Names of texts with what they are. In micro mode a text has the parameters of the text that it is like.
@@ -60,5 +63,48 @@ fn parameters_are_left_out(rt: HostRuntime) -> Result<(), Fail> {
     let one = Capability::parse(b"%?%p1%t%p3%d%;")?;
     assert_that!(rt; unused_parameters(&one, 3).mask == 0b10);
     assert_that!(rt; unused_parameters(&one, 9).contains(9));
+    Ok(())
+}
+
+#[test]
+fn two_percent_signs_are_found(rt: HostRuntime) -> Result<(), Fail> {
+    // `kf50` of d200, and `rmacs` of f110 and of tvi955.
+    assert_that!(rt; find_double_percent(b"\x1e%%", 0) == Some(1));
+    assert_that!(rt; find_double_percent(b"\x1b%%", 0) == Some(1));
+    assert_that!(rt; find_double_percent(b"\x1b%", 0).is_none());
+    assert_that!(rt; find_double_percent(b"%a%%%", 0) == Some(2));
+    assert_that!(rt; find_double_percent(b"%a%%%", 4).is_none());
+    assert_that!(rt; find_double_percent(b"%%", 7).is_none());
+    assert_that!(rt; find_double_percent(b"", 0).is_none());
+    Ok(())
+}
+
+#[test]
+fn some_tokens_are_meant_to_be_expanded(rt: HostRuntime) -> Result<(), Fail> {
+    // `op` of d220 begins with ESC, `[` and `%?%gD%t`.
+    assert_that!(rt; is_meant_to_expand(Token::CondOpen));
+    assert_that!(rt; is_meant_to_expand(Token::Load(b'D')));
+    assert_that!(rt; !is_meant_to_expand(Token::CondThen));
+    assert_that!(rt; !is_meant_to_expand(Token::Byte(b'%')));
+    Ok(())
+}
+
+#[test]
+fn pairs_undo_each_other(rt: HostRuntime) -> Result<(), Fail> {
+    for (names, pair) in [("sc", "rc"), ("smam", "rmam")].iter().zip(undoing_pairs()) {
+        assert_that!(rt; NameTable::All.text_name(pair.0) == Some(names.0));
+        assert_that!(rt; NameTable::All.text_name(pair.1) == Some(names.1));
+    }
+    assert_that!(rt; undoing_pairs().len() == 6);
+    Ok(())
+}
+
+#[test]
+fn each_finding_of_a_text_has_a_word(rt: HostRuntime) -> Result<(), Fail> {
+    assert_that!(rt; TextFinding::Malformed.word() == "malformed");
+    assert_that!(rt; TextFinding::UnusedParameter.word() == "parameter-unused");
+    assert_that!(rt; TextFinding::UninterpretedEscape.word() == "uninterpreted-escape");
+    assert_that!(rt; TextFinding::UninterpretedPercent.word() == "uninterpreted-percent");
+    assert_that!(rt; TextFinding::EqualPair.word() == "pair-equal");
     Ok(())
 }

@@ -1,0 +1,34 @@
+//! The findings of whole texts, each with its word.
+
+ghost use Rattle.std.specs.Prelude.{◌≡◌};
+ghost use Rattle.ti_lint.specs.FindingWords.{text_finding_word};
+
+/// What is wrong with a text, whatever its paths.
+#[derive(Clone, Copy, Debug, PartialEq, Eq)]
+pub enum TextFinding {
+    /// A text with parameters is no capability: [`ti_cap::Capability::parse`] refuses it.
+    Malformed,
+    /// No path pushes a parameter that the text has: [`crate::unused_parameters`] has it.
+    UnusedParameter,
+    /// A text that is sent as it stands has a token that [`crate::is_meant_to_expand`].
+    UninterpretedEscape,
+    /// A text that is sent as it stands, or that a key sends, has two percent signs: [`crate::find_double_percent`].
+    UninterpretedPercent,
+    /// Two texts that undo each other, such as `sc` and `rc`, are the same: [`crate::undoing_pairs`] has their indices.
+    EqualPair,
+}
+
+impl TextFinding {
+    /// The word for the finding.
+    pub fn word(self) -> &'static str
+        ensures name { result.now ≡ text_finding_word self }
+    {
+        match self {
+            TextFinding::Malformed => "malformed",
+            TextFinding::UnusedParameter => "parameter-unused",
+            TextFinding::UninterpretedEscape => "uninterpreted-escape",
+            TextFinding::UninterpretedPercent => "uninterpreted-percent",
+            TextFinding::EqualPair => "pair-equal",
+        }
+    }
+}
