@@ -4,7 +4,6 @@ pub mod PaddingExamples
 pub mod PaddingLemmas
 pub mod WordsExamples
 pub mod WordsLemmas
-pub mod DeepEnoughLemmas
 pub mod StartsWithLemmas
 pub mod ValuesLemmas
 pub mod AmpleRoomLemmas

@@ -1,15 +1,14 @@
 -- A call has one first fault.
-use Rattle.std.proofs.Common.{◌≡◌, ◌≤◌, ◌⊎◌, ◌∙◌, ℕ, List, Option, None, Some, length, Result, Ok, Err, inl, inr, ap, sym, subst, arith, ℤ}
+use Rattle.std.proofs.Common.{◌≡◌, ◌∙◌, ℕ, List, Option, None, Some, length, Result, Ok, Err, ap, sym}
 use Rattle.ti_cap.specs.declared.language.CapRefused.{CapRefused}
 use Rattle.ti_cap.specs.Refusal.{IsFaultless}
+use Rattle.ti_cap.proofs.IsRefusalLemmas.{never_refused}
 use Rattle.ti_cap.proofs.OneRefusalLemmas.{one_refusal}
 use Rattle.ti_entry.specs.Content.{content}
 use Rattle.ti_entry.specs.Reading.{answer_for, answer_under}
-use Rattle.ti_expand.specs.declared.values.Value.{Value}
-use Rattle.ti_expand.specs.declared.counts.Run.{Run}
-use Rattle.ti_expand.specs.Expands.{IsExpansion, longest_text}
-use Rattle.ti_expand.proofs.AreShortLemmas.{one_first, none_too_long}
-use Rattle.ti_expand.proofs.CanRunLemmas.{one_bound}
+use Rattle.ti_expand.specs.declared.fault.BytesFault.{BytesFault}
+use Rattle.ti_expand.specs.declared.fault.BytesFault.TheVariants.{Refused as RefusedBytes, Failed}
+use Rattle.ti_expand.specs.declared.fault.ExpandFault.TheVariants.{TextTooLong, StackTooSmall, OutTooSmall, Memory}
 use Rattle.ti_layout.specs.declared.fault.Refused.{Refused}
 use Rattle.ti_layout.specs.Refusal.{refusal}
 use Rattle.ti_words.specs.Spelling.{Spells}
@@ -17,8 +16,8 @@ use Rattle.ti_words.specs.Value.{EntryValue}
 use Rattle.ti_layout.specs.Checks.{refusal_of}
 use Rattle.ti_entry.proofs.SpelledExtendedLemmas.{only}
 use Rattle.ti_c.specs.Entries.{IsEntryRefusedAs}
-use Rattle.ti_c.specs.Numbers.{capability_number, done, entry_number, too_many_parameters}
-use Rattle.ti_c.specs.Given.{IsRefusedAs, IsFaultOf, HasNoFault, IsExpansionFault}
+use Rattle.ti_c.specs.Numbers.{capability_number, entry_number}
+use Rattle.ti_c.specs.Given.{IsRefusedAs, IsToldAs}
 
 -- ---- entries
 
@@ -59,65 +58,13 @@ one_refused bytes n p m q (f, n_is, one) (g, m_is, other) =
     (n_is ∙ ap (λ (r : CapRefused). capability_number r.fault) same ∙ sym m_is, ap (λ (r : CapRefused). r.place) same)
 
 -- bytes with no fault have none
-pub none_refused : (bytes : List ℕ) (number place : ℕ) → IsFaultless bytes → ¬ IsRefusedAs bytes number place
-none_refused bytes number place sound (fault, is, inl (long, same)) = let short = sound.0 in omega arith
-none_refused bytes number place sound (fault, is, inr (short, has, below)) = sound.1 fault place has
+pub none_refused_as : (bytes : List ℕ) (number place : ℕ) → IsFaultless bytes → ¬ IsRefusedAs bytes number place
+none_refused_as bytes number place sound (fault, is, refused) = never_refused bytes (record { fault = fault; place = place }) sound refused
 
-one_fault : (bytes : List ℕ) (values : List Value) (room n p m q : ℕ) → IsFaultOf bytes values room n p → IsFaultOf bytes values room m q
-    → (n ≡ m) × (p ≡ q)
-one_fault bytes values room n p m q (inl (n_is, one)) (inl (m_is, other)) = (n_is ∙ sym m_is, one_first values p q one other)
-one_fault bytes values room n p m q (inl (n_is, one)) (inr (m_is, more)) = absurd (none_too_long values p more.texts one)
-one_fault bytes values room n p m q (inr (n_is, more)) (inl (m_is, other)) = absurd (none_too_long values q more.texts other)
-one_fault bytes values room n p m q (inr (n_is, one)) (inr (m_is, other)) =
-    (n_is ∙ sym m_is, one_bound bytes (longest_text values) p q one.bound other.bound)
-
-module _ (bytes : List ℕ) (values : List Value) (given room : ℕ) where
-  -- an expansion has one first fault
-  pub one_first_fault : (n p m q : ℕ) → IsExpansionFault bytes values given room n p → IsExpansionFault bytes values given room m q
-      → (n ≡ m) × ((m ≡ too_many_parameters) ⊎ (p ≡ q))
-  one_first_fault n p m q (inl (many, n_is)) (inl (also, m_is)) = (n_is ∙ sym m_is, inl m_is)
-  one_first_fault n p m q (inl (many, n_is)) (inr (few, other)) = absurd (omega arith)
-  one_first_fault n p m q (inr (few, one)) (inl (many, m_is)) = absurd (omega arith)
-  one_first_fault n p m q (inr (few, inl one)) (inr (also, inl other)) =
-      let same = one_refused bytes n p m q one other in (same.0, inr same.1)
-  one_first_fault n p m q (inr (few, inl one)) (inr (also, inr (sound, other))) = absurd (none_refused bytes n p sound one)
-  one_first_fault n p m q (inr (few, inr (sound, one))) (inr (also, inl other)) = absurd (none_refused bytes m q sound other)
-  one_first_fault n p m q (inr (few, inr (sound, one))) (inr (also, inr (unrefused, other))) =
-      let same = one_fault bytes values room n p m q one other in (same.0, inr same.1)
-
-  -- and none if no step has one
-  pub none_due : (number place : ℕ) → given ≤ 9 → IsFaultless bytes → HasNoFault bytes values room
-      → ¬ IsExpansionFault bytes values given room number place
-  none_due number place few sound none (inl (many, is)) = omega arith
-  none_due number place few sound none (inr (also, inl refused)) = none_refused bytes number place sound refused
-  none_due number place few sound none (inr (also, inr (unrefused, fault))) = none number place fault
-
--- what an expansion of a capability with some values returns, if it is of the bytes and with the values that C hands over
-module _ (own bytes : List ℕ) (made values : List Value) (given room number place : ℕ) (same : own ≡ bytes) (alike : made ≡ values) where
-  moved : IsFaultOf own made room number place → IsFaultOf bytes values room number place
-  moved is =
-      subst (λ (b : List ℕ). IsFaultOf b values room number place) same
-      (subst (λ (v : List Value). IsFaultOf own v room number place) alike is)
-
-  pub moved_none : HasNoFault own made room → HasNoFault bytes values room
-  moved_none none =
-      subst (λ (b : List ℕ). HasNoFault b values room) same (subst (λ (v : List Value). HasNoFault own v room) alike none)
-
-  pub expansion_answer : given ≤ 9 → IsFaultless bytes → ((number ≡ done) ⊎ IsFaultOf own made room number place)
-      → (number ≡ done) ⊎ IsExpansionFault bytes values given room number place
-  expansion_answer few sound (inl is) = inl is
-  expansion_answer few sound (inr fault) = inr (inr (few, inr (sound, moved fault)))
-
-  pub expansion_only : given ≤ 9 → IsFaultless bytes → ((number ≡ done) ⊎ IsFaultOf own made room number place)
-      → (number ≡ done → HasNoFault own made room) → (n p : ℕ) → IsExpansionFault bytes values given room n p
-      → (number ≡ n) × ((n ≡ too_many_parameters) ⊎ (place ≡ p))
-  expansion_only few sound (inl is) none n p due = absurd (none_due bytes values given room n p few sound (moved_none (none is)) due)
-  expansion_only few sound (inr fault) none n p due =
-      one_first_fault bytes values given room number place n p (inr (few, inr (sound, moved fault))) due
-
--- an expansion of a capability with some values is one of the bytes and with the values that C hands over
-pub expansion_of : (bytes own : List ℕ) (values made : List Value) (before after : List ℤ) (out : List ℕ) (run : Run) → own ≡ bytes → made ≡ values
-    → IsExpansion own made before after out run → IsExpansion bytes values before after out run
-expansion_of bytes own values made before after out run same alike is =
-    subst (λ (b : List ℕ). IsExpansion b values before after out run) same
-    (subst (λ (v : List Value). IsExpansion own v before after out run) alike is)
+-- a fault has one number and one place
+pub told_once : (fault : BytesFault) (n p m q : ℕ) → IsToldAs fault n p → IsToldAs fault m q → (n ≡ m) × (p ≡ q)
+told_once (RefusedBytes r) n p m q (one, at) (other, beside) = (one ∙ sym other, at ∙ sym beside)
+told_once (Failed (TextTooLong k)) n p m q (one, at) (other, beside) = (one ∙ sym other, at ∙ sym beside)
+told_once (Failed (OutTooSmall need)) n p m q (one, at) (other, beside) = (one ∙ sym other, at ∙ sym beside)
+told_once (Failed (StackTooSmall need)) n p m q told other = absurd told
+told_once (Failed Memory) n p m q told other = absurd told

@@ -1,12 +1,13 @@
 -- What C hands to an expansion, and the number and the place that it returns.
 use Rattle.std.specs.Prelude.{◌≡◌, ℕ, ◌<◌, ◌≤◌, ◌⊎◌, if◌then◌else◌, nat_eq, List, [], ◌∷◌, map, get_or, pos}
 use Rattle.ti_cap.specs.declared.language.CapFault.{CapFault}
-use Rattle.ti_cap.specs.Capability.{HasBound, HasDepth}
-use Rattle.ti_cap.specs.Refusal.{IsFaultless, IsRefusal}
+use Rattle.ti_cap.specs.Refusal.{IsRefusal}
 use Rattle.ti_c.specs.declared.expansion.Parameter.{Parameter}
-use Rattle.ti_base.specs.Limits.{most_text_bytes}
 use Rattle.ti_c.specs.Numbers.{capability_number, out_too_small, text_too_long, too_many_parameters}
-use Rattle.ti_expand.specs.Expands.{IsFirstTooLong, longest_text}
+use Rattle.ti_expand.specs.Expands.{IsBytesFault}
+use Rattle.ti_expand.specs.declared.fault.BytesFault.{BytesFault}
+use Rattle.ti_expand.specs.declared.fault.BytesFault.TheVariants.{Refused, Failed}
+use Rattle.ti_expand.specs.declared.fault.ExpandFault.TheVariants.{TextTooLong, OutTooSmall}
 use Rattle.ti_expand.specs.declared.values.Value.{Value}
 use Rattle.ti_expand.specs.declared.values.Value.TheVariants.{Num, Text}
 
@@ -28,31 +29,17 @@ IsRefusedAs bytes number place =
     (fault : CapFault) × (number ≡ capability_number fault)
     × IsRefusal bytes (record { fault = fault; place = place })
 
--- a stack of so many places is deep enough for the capability
-abbrev pub IsDeepEnough : List ℕ → ℕ → Type 0
-IsDeepEnough bytes places = (depth : ℕ) × HasDepth bytes depth × (depth ≤ places)
-
--- no text is too long, and the output needs more room: its bound for the longest text is above the room
-pub record NeedsMoreRoom (bytes : List ℕ) (values : List Value) (room need : ℕ) : Type 0 where
-  pub texts : longest_text values ≤ most_text_bytes
-  pub bound : HasBound bytes (longest_text values) need
-  pub short : room < need
-
--- the number is that of the first fault of an expansion with these values into so much room; the place is the parameter
--- whose text is too long, counted from 1, or the bound
-abbrev pub IsFaultOf : List ℕ → List Value → ℕ → ℕ → ℕ → Type 0
-IsFaultOf bytes values room number place =
-    ((number ≡ text_too_long) × IsFirstTooLong values place)
-    ⊎ ((number ≡ out_too_small) × NeedsMoreRoom bytes values room place)
-
--- an expansion with these values into so much room has no fault
-abbrev pub HasNoFault : List ℕ → List Value → ℕ → Type 0
-HasNoFault bytes values room = (number place : ℕ) → ¬ IsFaultOf bytes values room number place
+-- the number of a fault, and its place: that of a refusal, the parameter whose text is too long, counted from 1, or the bytes
+-- that the output needs; of other faults C is never told
+abbrev pub IsToldAs : BytesFault → ℕ → ℕ → Type 0
+IsToldAs (Refused refused) number place = (number ≡ capability_number refused.fault) × (place ≡ refused.place)
+IsToldAs (Failed (TextTooLong k)) number place = (number ≡ text_too_long) × (place ≡ k)
+IsToldAs (Failed (OutTooSmall need)) number place = (number ≡ out_too_small) × (place ≡ need)
+IsToldAs fault number place = ⊥
 
 -- the number is that of the first fault of an expansion with so many parameters, with its place: first there are too many
 -- parameters, which has no place, then the bytes are refused, then a capability with no fault has one of an expansion
 abbrev pub IsExpansionFault : List ℕ → List Value → ℕ → ℕ → ℕ → ℕ → Type 0
 IsExpansionFault bytes values given room number place =
     ((9 < given) × (number ≡ too_many_parameters))
-    ⊎ ((given ≤ 9) × (IsRefusedAs bytes number place
-    ⊎ (IsFaultless bytes × IsFaultOf bytes values room number place)))
+    ⊎ ((given ≤ 9) × (fault : BytesFault) × IsToldAs fault number place × IsBytesFault bytes values room fault)

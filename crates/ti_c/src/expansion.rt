@@ -2,18 +2,13 @@
 
 ghost use Rattle.std.specs.Prelude.{◌≡◌, ◌≤◌, ◌<◌, ◌⊎◌, ℕ, [], length, take, drop};
 ghost use Rattle.ti_cap.specs.Refusal.{IsFaultless};
-ghost use Rattle.ti_expand.specs.Expands.{IsExpansion};
+ghost use Rattle.ti_expand.specs.Expands.{IsExpansion, IsBytesFault, IsRefusalTextOrRoom};
 ghost use Rattle.ti_c.specs.Numbers.{done, too_many_parameters};
-ghost use Rattle.ti_base.specs.Limits.{most_values};
-ghost use Rattle.ti_c.specs.Given.{value_given, values_given, HasNoFault, IsDeepEnough, IsExpansionFault, IsFaultOf};
+ghost use Rattle.ti_c.specs.Given.{value_given, values_given, IsExpansionFault, IsToldAs};
 
 use crate::faults::{DONE, OUT_TOO_SMALL, TEXT_TOO_LONG, TOO_MANY_PARAMETERS, capability_number};
-use ti_base::MOST_VALUES;
-use ti_cap::Capability;
-use ti_expand::{ExpandFault, Value, Vars, expand_at_once, expand_into};
-
-/// Nearly all capabilities have no greater depth, and less room takes less time to make.
-const FEW_VALUES: usize = 4;
+use ti_cap::CapRefused;
+use ti_expand::{BytesFault, ExpandFault, Value, Vars, expand_bytes};
 
 /// A parameter: the number if `is_text` is 0, else the text.
 #[repr(C)]
@@ -57,69 +52,20 @@ fn put_values<'a>(values: &mut [Value<'a>; 9], parameters: &[Parameter<'a>])
     }
 }
 
-/// Expands on a stack that is deep enough, as [`ti_expand`] does.
-fn expand_on<'a>(
-    capability: &Capability<'a>,
-    values: &[Value<'a>; 9],
-    variables: &mut Vars,
-    stack: &mut [Value<'a>],
-    out: &mut [u8],
-    run: &mut Run,
-) -> u32
-    requires { IsDeepEnough capability.now (length stack.old) }
-    ensures answer { (result ≡ done)
-        ⊎ IsFaultOf capability.now values.now (length out.old) result run.new.place }
-    ensures faultless { result ≡ done → HasNoFault capability.now values.now (length out.old) }
-    ensures kept { (result ≡ done) ⊎ ((variables.new ≡ variables.old) × (out.new ≡ out.old)) }
-    ensures place { (result ≡ done) ⊎ (run.new ≡ record run.old { place = run.new.place }) }
-    ensures untold { result ≡ done → run.new.place ≡ run.old.place }
-    ensures expansion { result ≡ done → IsExpansion capability.now values.now
-        variables.old variables.new (take run.new.counts.written out.new) run.new.counts }
-    ensures rest { result ≡ done
-        → drop run.new.counts.written out.new ≡ drop run.new.counts.written out.old }
+/// The number of a fault, with its place.
+fn number_and_place(fault: BytesFault) -> (u32, usize)
+    requires { IsRefusalTextOrRoom fault }
+    ensures { IsToldAs fault result.0 result.1 }
 {
-    match expand_into(capability.tape(), values, variables, stack, out) {
-        Ok(counts) => {
-            run.counts = counts;
-            DONE
+    match fault {
+        BytesFault::Refused(CapRefused { fault, place }) => (capability_number(fault), place),
+        BytesFault::Failed(ExpandFault::TextTooLong { parameter }) => {
+            (TEXT_TOO_LONG, parameter as usize)
         }
-        Err(ExpandFault::TextTooLong { parameter }) => {
-            run.place = parameter as usize;
-            TEXT_TOO_LONG
-        }
-        Err(ExpandFault::OutTooSmall { need }) => {
-            run.place = need as usize;
-            OUT_TOO_SMALL
-        }
-        Err(ExpandFault::StackTooSmall { .. }) => unreachable!(),
-        Err(ExpandFault::Memory) => unreachable!(),
+        BytesFault::Failed(ExpandFault::OutTooSmall { need }) => (OUT_TOO_SMALL, need as usize),
+        BytesFault::Failed(ExpandFault::StackTooSmall { .. }) => unreachable!(),
+        BytesFault::Failed(ExpandFault::Memory) => unreachable!(),
     }
-}
-
-/// Expands on a stack of the most values, as [`ti_expand`] does. It is a function of its own, since the stack of a function is
-/// cleared whether or not it is needed.
-#[inline(never)]
-fn expand_deep<'a>(
-    capability: &Capability<'a>,
-    values: &[Value<'a>; 9],
-    variables: &mut Vars,
-    out: &mut [u8],
-    run: &mut Run,
-) -> u32
-    requires { IsDeepEnough capability.now most_values }
-    ensures answer { (result ≡ done)
-        ⊎ IsFaultOf capability.now values.now (length out.old) result run.new.place }
-    ensures faultless { result ≡ done → HasNoFault capability.now values.now (length out.old) }
-    ensures kept { (result ≡ done) ⊎ ((variables.new ≡ variables.old) × (out.new ≡ out.old)) }
-    ensures place { (result ≡ done) ⊎ (run.new ≡ record run.old { place = run.new.place }) }
-    ensures untold { result ≡ done → run.new.place ≡ run.old.place }
-    ensures expansion { result ≡ done → IsExpansion capability.now values.now
-        variables.old variables.new (take run.new.counts.written out.new) run.new.counts }
-    ensures rest { result ≡ done
-        → drop run.new.counts.written out.new ≡ drop run.new.counts.written out.old }
-{
-    let mut stack = [Value::Num(0); MOST_VALUES];
-    expand_on(capability, values, variables, &mut stack, out, run)
 }
 
 /// Expands a capability into the caller's bytes, and returns 0 with the counts, or the number of the first fault with the
@@ -145,8 +91,8 @@ pub extern "C" fn ti_expand<'a>(
     ensures many { 9 < length parameters.now
         → (result ≡ too_many_parameters) × (run.new ≡ run.old) }
     ensures accepted { result ≡ done → IsFaultless capability.now }
-    ensures faultless { result ≡ done
-        → HasNoFault capability.now (values_given parameters.now) (length out.old) }
+    ensures faultless { result ≡ done → (fault : BytesFault)
+        → ¬ IsBytesFault capability.now (values_given parameters.now) (length out.old) fault }
     ensures kept { (result ≡ done) ⊎ ((variables.new ≡ variables.old) × (out.new ≡ out.old)) }
     ensures place { (result ≡ done) ⊎ (run.new ≡ record run.old { place = run.new.place }) }
     ensures untold { result ≡ done → run.new.place ≡ run.old.place }
@@ -160,24 +106,15 @@ pub extern "C" fn ti_expand<'a>(
     }
     let mut values = [Value::Num(0); 9];
     put_values(&mut values, parameters);
-    // Most capabilities are checked and run in one pass; those that are not go by the tape.
-    match expand_at_once(capability, &values, variables, out) {
-        Some(found) => {
-            run.counts = found;
-            return DONE;
+    match expand_bytes(capability, &values, variables, out) {
+        Ok(counts) => {
+            run.counts = counts;
+            DONE
         }
-        None => {}
-    }
-    let capability = match Capability::parse(capability) {
-        Ok(capability) => capability,
-        Err(refused) => {
-            run.place = refused.place;
-            return capability_number(refused.fault);
+        Err(fault) => {
+            let (number, place) = number_and_place(fault);
+            run.place = place;
+            number
         }
-    };
-    if capability.depth() <= FEW_VALUES {
-        let mut stack = [Value::Num(0); FEW_VALUES];
-        return expand_on(&capability, &values, variables, &mut stack, out, run);
     }
-    expand_deep(&capability, &values, variables, out, run)
 }

@@ -1,15 +1,22 @@
 -- Bytes that are as many as their tokens.
-use Rattle.std.proofs.Common.{◌≡◌, ℕ, ◌+◌, ◌<◌, ◌≤◌, inl, inr, Ok, Err, List, [], ◌∷◌, ◌++◌, length, map, take, drop, refl, sym, ◌∙◌, ap, subst, arith, length-append}
-use Rattle.std.proofs.lemmas.List.{take_all, drop_all, length-map}
+use Rattle.std.proofs.Common.{◌≡◌, ℕ, ◌+◌, ◌<◌, ◌≤◌, get_or, inl, inr, Ok, Err, List, [], ◌∷◌, ◌++◌, length, map, take, drop, refl, sym, ◌∙◌, ap, subst, arith, length-append}
+use Rattle.std.specs.Prelude.{Bool, true, false, ◌||◌, nat_eq}
+use Rattle.std.proofs.lemmas.Bool.{eqb-false, ne_eqb}
+use Rattle.std.proofs.lemmas.List.{append-nil, take_all, drop_all, length-map}
+use Rattle.ti_base.specs.Limits.{most_capability_bytes}
 use Rattle.ti_cap.specs.declared.language.Token.{Token}
 use Rattle.ti_cap.specs.declared.language.Token.TheVariants.{Byte}
 use Rattle.ti_cap.specs.declared.language.CapFault.TheVariants.{CutShort}
 use Rattle.ti_cap.specs.declared.limits.Limits.{Limits}
 use Rattle.ti_cap.specs.Tree.{tokens}
 use Rattle.ti_cap.specs.Spelling.{Spells, Written}
+use Rattle.ti_cap.specs.inner.Analysis.{Findings, no_findings}
 use Rattle.ti_cap.specs.inner.Lexer.{token_read}
-use Rattle.ti_cap.specs.Capability.{Spot, whole, ArePlain, IsTape}
+use Rattle.ti_cap.specs.inner.Reading.{Finds}
+use Rattle.ti_cap.specs.Capability.{Spot, whole, ArePlain, IsCapability, IsTape, has_escape}
+use Rattle.ti_cap.proofs.IsRefusalLemmas.{Parsed, parse_start, parse_done}
 use Rattle.ti_cap.proofs.IsTapeLemmas.{whole_is}
+use Rattle.ti_cap.proofs.ReaderLemmas.{parsed_on}
 use Rattle.ti_cap.proofs.SpellsLemmas.{token_again}
 use Rattle.ti_cap.proofs.WrittenLemmas.{spelled_long, one_cutting}
 
@@ -62,3 +69,48 @@ module _ (bytes : List ℕ) (at : ℕ) (limits : Limits) (t : IsTape bytes at li
       let c = t.capability in
       let P : List ℕ → Type 0 = λ x. Written (tokens c.tree) x in
       record { done = tokens c.tree; todo = []; within = omega arith; taken = subst P (sym (take_all (length bytes) bytes (omega arith))) c.writes.written; left = drop_all (length bytes) bytes (omega arith); capability = c }
+
+-- ---- bytes without escapes
+
+neither : (a b : Bool) → (a || b) ≡ false → (a ≡ false) × (b ≡ false)
+neither false b e = (refl, e)
+neither true b e = absurd (cc)
+
+-- each is a token
+pub plain_bytes : (bytes : List ℕ) → has_escape bytes ≡ false → ArePlain bytes
+plain_bytes [] none = refl
+plain_bytes (b ∷ bytes) none =
+    let n = neither (nat_eq b 37) (has_escape bytes) none in
+    (b ∷ [], bytes, inl (b, refl, eqb-false b 37 n.0, refl), plain_bytes bytes n.1, refl)
+
+-- and tokens of one byte begin no escape
+pub plain_none : (bytes : List ℕ) → ArePlain bytes → has_escape bytes ≡ false
+plain_none [] w = refl
+plain_none (b ∷ bytes) (s, tail, inl (c, token, other, spells), w, is) =
+    let split : b ∷ bytes ≡ c ∷ tail = is ∙ ap (λ x. x ++ tail) spells in
+    let same : b ≡ c = cc in
+    let rest : tail ≡ bytes = cc in
+    let P : List ℕ → Type 0 = λ x. Written (map (λ b. Byte b) bytes) x in
+    ap (λ x. x || has_escape bytes) (ne_eqb b 37 (λ e. other (sym same ∙ e))) ∙ plain_none bytes (subst P rest w)
+plain_none (b ∷ bytes) (s, tail, inr (escape, e, spells), w, is) =
+    absurd (omega (arith, length-written (map (λ b. Byte b) bytes) tail w, length-map bytes (λ b. Byte b), ap length is, ap length spells, ap length e.1, length-append s tail))
+
+-- what has been found of some bytes, each of which is a token
+abbrev pub found_plain : ℕ → Findings
+found_plain n = record no_findings { sizes = record { running = n; frames = [] } }
+
+plain_finds : (bytes : List ℕ) (n : ℕ) → Finds (found_plain n) (map (λ b. Byte b) bytes) (found_plain (n + length bytes))
+plain_finds [] n = let same : n + 0 ≡ n = omega arith in ap found_plain same
+plain_finds (b ∷ bytes) n =
+    let same : n + 1 + length bytes ≡ n + length (b ∷ bytes) = omega arith in
+    (refl, let P : ℕ → Type 0 = λ x. Finds (found_plain (n + 1)) (map (λ b. Byte b) bytes) (found_plain x) in subst P same (plain_finds bytes (n + 1)))
+
+pub plain_capability : (bytes : List ℕ) → ((i : ℕ) → get_or bytes i 0 < 256) → length bytes ≤ most_capability_bytes → has_escape bytes ≡ false
+    → IsCapability bytes 0 (record { tokens = length bytes; depth = 0; nest = 0; bound = length bytes })
+plain_capability bytes fits short none =
+    let all = map (λ b. Byte b) bytes in
+    let same : 0 + length bytes ≡ length bytes = omega arith in
+    let P : ℕ → Type 0 = λ x. Finds (found_plain 0) all (found_plain x) in
+    let p : Parsed bytes 0 (0 + length bytes) (0 + length all) (found_plain (length bytes)) =
+    parsed_on bytes 0 0 no_findings all bytes [] (found_plain (length bytes)) fits (parse_start bytes 0 0 refl) (sym (append-nil bytes)) (plain_bytes bytes none) (subst P same (plain_finds bytes 0)) in
+    parse_done bytes 0 (0 + length bytes) (0 + length all) (found_plain (length bytes)) _ short (omega arith) p refl (omega (arith, length-map bytes (λ b. Byte b))) refl refl refl

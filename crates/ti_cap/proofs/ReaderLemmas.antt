@@ -1,5 +1,5 @@
 -- What a reader keeps: what holds of parsing where it stands, and its next place.
-use Rattle.std.proofs.Common.{◌≡◌, ℕ, ◌+◌, ◌-◌, ◌<◌, ◌≤◌, inr, inl, List, [], ◌∷◌, ◌++◌, length, take, drop, get_or, get_or-drop, refl, sym, ◌∙◌, ap, subst, arith, Ok, append_assoc, length-append, length-drop}
+use Rattle.std.proofs.Common.{◌≡◌, ℕ, ◌+◌, ◌-◌, ◌<◌, ◌≤◌, inr, inl, List, [], ◌∷◌, ◌++◌, length, take, drop, get_or, get_or-drop, refl, sym, ◌∙◌, ap, subst, arith, Ok, append_assoc, length-append}
 use Rattle.std.specs.Prelude.{None}
 use Rattle.std.proofs.lemmas.List.{take_at, drop_at, drop-drop, take-append-drop, length-take-le}
 use Rattle.std.proofs.Math.Seq.{take-add}
@@ -8,7 +8,7 @@ use Rattle.ti_cap.specs.declared.language.Token.{Token}
 use Rattle.ti_cap.specs.declared.scan.Open.{Open}
 use Rattle.ti_cap.specs.declared.scan.Scan.{Scan}
 use Rattle.ti_cap.specs.declared.language.Conversion.TheVariants.{Signed}
-use Rattle.ti_cap.specs.Spelling.{Spells, SpellsEscape, SpellsFormat, Written}
+use Rattle.ti_cap.specs.Spelling.{SpellsEscape, SpellsFormat, Written}
 use Rattle.ti_cap.specs.Capability.{Spot, Takes, IsFirst, whole}
 use Rattle.ti_cap.specs.inner.Analysis.{Findings, no_findings, findings_after, fault_of}
 use Rattle.ti_cap.specs.inner.Lexer.{token_read, plain_format}
@@ -20,7 +20,7 @@ use Rattle.ti_cap.proofs.IsRefusalLemmas.{Parsed, Stepped, parse_start, parse_st
 use Rattle.ti_cap.proofs.IsTapeLemmas.{tape_first}
 
 -- parsing goes on over tokens that are written next
-parsed_on : (bytes : List ℕ) (place count : ℕ) (found : Findings) (ks : List Token) (s rest : List ℕ) (end : Findings)
+pub parsed_on : (bytes : List ℕ) (place count : ℕ) (found : Findings) (ks : List Token) (s rest : List ℕ) (end : Findings)
     → ((i : ℕ) → get_or bytes i 0 < 256) → Parsed bytes 0 place count found → drop place bytes ≡ s ++ rest → Written ks s → Finds found ks end
     → Parsed bytes 0 (place + length s) (count + length ks) end
 parsed_on bytes place count found [] s rest end fits p e w f =

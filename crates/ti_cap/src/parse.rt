@@ -1,10 +1,10 @@
 //! A parsed capability, and the tape that gives its tokens.
 
-ghost use Rattle.std.specs.Prelude.{◌≡◌, ℕ, ◌≤◌, ◌++◌, [], ◌∷◌, List, length, take, drop, IfOk, IfErr, IfSome, IfNone};
+ghost use Rattle.std.specs.Prelude.{◌≡◌, ℕ, ◌≤◌, ◌<◌, ◌++◌, [], ◌∷◌, List, length, take, drop, IfOk, IfErr, IfSome, IfNone};
 ghost use Rattle.ti_base.specs.Limits.{most_capability_bytes, most_open, most_values};
 ghost use Rattle.ti_cap.specs.Refusal.{IsRefusal, IsFaultless};
 ghost use Rattle.ti_cap.specs.inner.Scan.{IsSure};
-ghost use Rattle.ti_cap.specs.Capability.{HasCount, HasDepth, HasBound, HasNest, IsWellFormed, Spot, Takes, IsFirst, ArePlain, IsCapability, whole};
+ghost use Rattle.ti_cap.specs.Capability.{HasCount, HasDepth, HasBound, HasNest, IsWellFormed, Spot, Takes, IsFirst, ArePlain, IsCapability, has_escape, whole};
 
 use crate::language::{CapFault, CapRefused, Token};
 use crate::lexer::read_token;
@@ -65,6 +65,29 @@ impl<'a> Capability<'a> {
         Ok(Capability { bytes, limits })
     }
 
+    /// Bytes without escapes as a capability, which takes less than to parse them; none if there is an escape, or if they are
+    /// too many.
+    #[inline(always)]
+    pub fn plain(bytes: &'a [u8]) -> Option<Self>
+        ensures value { IfSome result (λ c. c ≡ bytes.now) }
+        ensures plain { IfSome result (λ _. ArePlain bytes.now) }
+        ensures accepted { IfSome result (λ _. IsFaultless bytes.now) }
+        ensures exact { IfNone result
+            (ArePlain bytes.now → most_capability_bytes < length bytes.now) }
+    {
+        let count = bytes.len();
+        if count > MOST_CAPABILITY_BYTES || has_escape(bytes) {
+            return None;
+        }
+        let limits = Limits {
+            tokens: count,
+            depth: 0,
+            nest: 0,
+            bound: count as u64,
+        };
+        Some(Capability { bytes, limits })
+    }
+
     /// A capability whose limits are known.
     #[inline(always)]
     pub(crate) fn known(bytes: &'a [u8], limits: Limits) -> Self
@@ -104,6 +127,14 @@ impl<'a> Capability<'a> {
     {
         self.limits.nest
     }
+}
+
+/// Whether an escape begins at some byte. Most capabilities begin with one, or soon come to it.
+#[inline(always)]
+fn has_escape(bytes: &[u8]) -> bool
+    ensures { result ≡ has_escape bytes.now }
+{
+    bytes.iter().any(|byte| *byte == b'%')
 }
 
 /// The limits of a capability if no text is longer than `longest`, with room for so many open conditionals. With room for
@@ -185,6 +216,7 @@ impl<'a> Capability<'a> {
     }
 
     /// The greatest number of bytes over all paths, if no text is longer than `longest`.
+    #[inline(always)]
     pub fn bound(&self, longest: u16) -> u64
         ensures exact { HasBound self.now longest result }
     {
@@ -193,6 +225,7 @@ impl<'a> Capability<'a> {
 }
 
 /// The greatest number of bytes over all paths of a capability with these limits.
+#[inline(always)]
 fn bound_of(bytes: &[u8], limits: &Limits, longest: u16) -> u64
     requires { IsCapability bytes.now 0 limits.now }
     ensures { HasBound bytes.now longest result }

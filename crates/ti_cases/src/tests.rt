@@ -30,7 +30,7 @@ mod entry_refusals;
 mod entry_sources;
 mod entry_views;
 mod expanded;
-mod expansion_at_once;
+mod expansion_bytes;
 mod expansion_faults;
 mod expansion_limits;
 mod expansion_memory;

@@ -10,6 +10,7 @@ pub mod FillLemmas
 pub mod FlatGrowsLemmas
 pub mod FlatLemmas
 pub mod HeightLemmas
+pub mod IsBytesFaultLemmas
 pub mod IsExpandFaultLemmas
 pub mod IsExpansionLemmas
 pub mod OctalPrefixLemmas

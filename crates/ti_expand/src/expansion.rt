@@ -130,24 +130,47 @@ pub fn expand<'a, A: Allocator + Copy>(
     let longest = longest_text(parameters)?;
     let bound = capability.bound(longest) as usize;
     let mut out = Vec::from_elem(alloc, 0, bound)?;
-    let run = if capability.depth() <= FEW_VALUES {
-        let mut stack = [Value::Num(0); FEW_VALUES];
-        let out = out.as_mut_slice();
-        run_tape(capability.tape(), parameters, vars, &mut stack, out)
-    } else {
-        run_deep(capability.tape(), parameters, vars, out.as_mut_slice())
-    };
+    // No capability is deeper than its own stack may be.
+    let _depth = capability.depth();
+    let run = run_capability(capability, parameters, vars, out.as_mut_slice());
     out.truncate(run.written);
     Ok(out)
 }
 
-/// Runs a tape from its start, with room for the most values.
-fn run_deep<'a>(tape: Tape<'_>, parameters: &[Value<'a>; 9], vars: &mut Vars, out: &mut [u8]) -> Run
-    requires start { tape.taken ≡ [] }
-    requires ready { IsReady tape.left parameters.now most_values (length out.old) }
-    ensures { IsExpansion tape.entry.left parameters.now vars.old vars.new
+/// Runs a capability on a stack of its own.
+#[inline(always)]
+pub(crate) fn run_capability(
+    capability: &Capability<'_>,
+    parameters: &[Value<'_>; 9],
+    vars: &mut Vars,
+    out: &mut [u8],
+) -> Run
+    requires ready { IsReady capability.now parameters.now most_values (length out.old) }
+    ensures expansion { IsExpansion capability.now parameters.now vars.old vars.new
         (take result.written out.new) result }
+    ensures rest { drop result.written out.new ≡ drop result.written out.old }
+{
+    if capability.depth() > FEW_VALUES {
+        return run_deep(capability, parameters, vars, out);
+    }
+    let mut stack = [Value::Num(0); FEW_VALUES];
+    run_tape(capability.tape(), parameters, vars, &mut stack, out)
+}
+
+/// The same, with room for the most values. It is a function of its own, since the stack of a function is cleared whether or
+/// not it is needed.
+#[inline(never)]
+fn run_deep(
+    capability: &Capability<'_>,
+    parameters: &[Value<'_>; 9],
+    vars: &mut Vars,
+    out: &mut [u8],
+) -> Run
+    requires ready { IsReady capability.now parameters.now most_values (length out.old) }
+    ensures expansion { IsExpansion capability.now parameters.now vars.old vars.new
+        (take result.written out.new) result }
+    ensures rest { drop result.written out.new ≡ drop result.written out.old }
 {
     let mut stack = [Value::Num(0); MOST_VALUES];
-    run_tape(tape, parameters, vars, &mut stack, out)
+    run_tape(capability.tape(), parameters, vars, &mut stack, out)
 }

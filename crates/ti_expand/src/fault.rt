@@ -5,6 +5,7 @@ ghost use Rattle.ti_expand.specs.declared.fault.ExpandFault.TheVariants as fault
 
 use std::alloc::AllocError;
 use thiserror::Error;
+use ti_cap::CapRefused;
 
 /// Why a capability is not expanded. As an error it prints its name, and its number after a blank.
 #[derive(Clone, Copy, PartialEq, Eq, Debug, Error)]
@@ -30,4 +31,15 @@ impl From<AllocError> for ExpandFault {
     fn from(_refused: AllocError) -> ExpandFault {
         ExpandFault::Memory
     }
+}
+
+/// Why the bytes of a capability are not expanded.
+#[derive(Clone, Copy, PartialEq, Eq, Debug, Error)]
+pub enum BytesFault {
+    /// They are refused.
+    #[error("{0}")]
+    Refused(CapRefused),
+    /// They are a capability, and its expansion has this fault.
+    #[error("{0}")]
+    Failed(ExpandFault),
 }

@@ -8,6 +8,7 @@
 #![tactic(auto)]
 
 mod at_once;
+mod bytes;
 mod counts;
 mod digits;
 mod eval;
@@ -28,10 +29,10 @@ mod values;
 mod variables;
 mod write;
 
-pub use at_once::expand_at_once;
+pub use bytes::expand_bytes;
 pub use counts::Run;
 pub use expansion::{expand, expand_into};
-pub use fault::ExpandFault;
+pub use fault::{BytesFault, ExpandFault};
 pub use modes::Mode;
 pub use print::{format_number, format_text};
 pub use step::{Outcome, Step};

@@ -2,7 +2,7 @@ use Rattle.std.proofs.Common.{ℕ, List, inl, inr, refl, sym, ◌∙◌, ◌↔�
 use Rattle.ti_cap.specs.Capability.{HasDepth, HasNest, HasBound}
 use Rattle.ti_cap.specs.Sources.{Has, IsNamed, IsTakenAsText}
 use Rattle.ti_c.proofs.NumbersLemmas.{not_done}
-use Rattle.ti_c.proofs.OneFaultLemmas.{one_refused, none_refused}
+use Rattle.ti_c.proofs.OneFaultLemmas.{one_refused, none_refused_as}
 use Rattle.ti_c.proofs.capability.ti_check.Goals as goal
 
 pub returns-in-Ok-clause-answer : goal.returns-in-Ok-clause-answer
@@ -15,7 +15,7 @@ pub returns-in-Ok-clause-accepted : goal.returns-in-Ok-clause-accepted
 returns-in-Ok-clause-accepted c = λ _. c.in-Ok.ensures.accepted
 
 pub returns-in-Ok-clause-only : goal.returns-in-Ok-clause-only
-returns-in-Ok-clause-only c = λ number place refused. absurd (none_refused c.args.capability.now number place c.in-Ok.ensures.accepted refused)
+returns-in-Ok-clause-only c = λ number place refused. absurd (none_refused_as c.args.capability.now number place c.in-Ok.ensures.accepted refused)
 
 pub returns-in-Ok-clause-depth : goal.returns-in-Ok-clause-depth
 returns-in-Ok-clause-depth c =

@@ -4,19 +4,20 @@ use Rattle.ti_expand.proofs.AreShortLemmas.{none_too_long}
 use Rattle.ti_expand.proofs.IsExpansionLemmas.{made_low}
 use Rattle.ti_expand.proofs.expansion.expand.Goals as goal
 
-pub run_deep-run-requires-clause-ready : goal.run_deep-run-requires-clause-ready
-run_deep-run-requires-clause-ready g c =
-    rw c.tape-else-depth-le-FEW_VALUES.ensures.start (record {
-      longest = c.in_ok-longest.longest;
-      texts = c.in_ok-longest.ensures.short;
-      well_formed = c.depth.ensures.tree;
-      depth = c.depth.result;
-      deep = c.depth.ensures.exact;
-      high = c.depth.ensures.low;
-      bound = c.bound-bound.result;
-      bounded = c.bound-bound.ensures.exact;
-      long = omega (arith, c.as_mut_slice.ensures.len, c.in_ok-out.ensures.len);
-    })
+pub run_capability-run-requires : goal.run_capability-run-requires
+run_capability-run-requires g c = record {
+  ready = record {
+    longest = c.in_ok-longest.longest;
+    texts = c.in_ok-longest.ensures.short;
+    well_formed = c.depth-depth.ensures.tree;
+    depth = c.depth-depth.result;
+    deep = c.depth-depth.ensures.exact;
+    high = c.depth-depth.ensures.low;
+    bound = c.bound-bound.result;
+    bounded = c.bound-bound.ensures.exact;
+    long = omega (arith, c.as_mut_slice.ensures.len, c.in_ok-out.ensures.len);
+  };
+}
 
 pub returns-clause-too_long : goal.returns-clause-too_long
 returns-clause-too_long g c = λ k. (λ e. absurd (cc), λ h. absurd (none_too_long c.args.parameters.now k (omega (arith, c.in_ok-longest.ensures.short.short, c.in_ok-longest.ensures.short.longest_is)) h))

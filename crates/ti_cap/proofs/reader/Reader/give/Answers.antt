@@ -1,7 +1,7 @@
-use Rattle.std.proofs.Common.{◌+◌, ◌-◌, arith, sym, ◌∙◌, ap, length, take, drop, rules}
+use Rattle.std.proofs.Common.{arith, ◌∙◌, ap, rules}
 use Rattle.ti_cap.specs.inner.Lexer.{token_read}
 use Rattle.ti_cap.proofs.IsRefusalLemmas.{parsed_low, parsed_small, parsed_few}
-use Rattle.ti_cap.proofs.ReaderLemmas.{Further, reading_parsed, reading_on}
+use Rattle.ti_cap.proofs.ReaderLemmas.{reading_parsed, reading_on}
 use Rattle.ti_cap.proofs.reader.Reader.give.Goals as goal
 
 pub take-requires : goal.take-requires
