@@ -194,16 +194,19 @@ fn files_stop_where_results_cannot_be_written(rt: HostRuntime) {
     assert_that!(rt; errors.as_slice() == b"output: failed\n".as_slice());
 }
 
+/// Faults of files before one whose result can't be written, and a file after it.
+const FAULTS: [Row; 1] = [Row {
+    words: &["ti", "check", "cut", "none", "small", "small"],
+    at_terminal: false,
+    status: 5,
+    output: b"",
+    errors: b"cut: entry: Truncated at 5\nnone: entity not found\noutput: failed\n",
+}];
+
 #[test]
 fn faults_before_a_failed_write_are_told(rt: HostRuntime) {
-    let row = Row {
-        words: &["ti", "check", "cut", "none", "small", "small"],
-        at_terminal: false,
-        status: 5,
-        output: b"",
-        errors: b"cut: entry: Truncated at 5\nnone: entity not found\noutput: failed\n",
-    };
-    let (status, output, errors) = end_at(rt.alloc(), &row, 1);
+    let row = &FAULTS[0];
+    let (status, output, errors) = end_at(rt.alloc(), row, 1);
     assert_that!(rt; status == row.status);
     assert_that!(rt; output.as_slice() == row.output);
     assert_that!(rt; errors.as_slice() == row.errors);
