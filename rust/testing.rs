@@ -2,7 +2,7 @@
 
 use super::{AllocError, Allocator, Global, Vec};
 use crate::made::escape::ReadingFault;
-use crate::made::expand::ExpandFault;
+use crate::made::expand::{BytesFault, ExpandFault};
 use core::error::Error;
 use core::fmt;
 use std::boxed::Box;
@@ -67,6 +67,17 @@ impl fmt::Display for ExpandFault {
 }
 
 impl Error for ExpandFault {}
+
+impl fmt::Display for BytesFault {
+    fn fmt(&self, f: &mut fmt::Formatter<'_>) -> fmt::Result {
+        match self {
+            BytesFault::Refused(refused) => refused.fmt(f),
+            BytesFault::Failed(fault) => fault.fmt(f),
+        }
+    }
+}
+
+impl Error for BytesFault {}
 
 // The crate reads no notation yet.
 impl fmt::Display for ReadingFault {
