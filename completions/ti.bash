@@ -1,6 +1,6 @@
 # Completes the words of ti in bash.
 
-# The short names of terminfo(5) that expand knows without --all-names, and those that get knows.
+# The short names of terminfo(5) that expand knows without --all-names, and those that get and trace --of know.
 _ti_texts='
     cbt bel cr csr tbc clear el ed hpa cup cud1 home civis cub1 cnorm cuf1 cuu1 cvvis dch1 dl1 smacs blink bold smcup
     dim smir invis rev smso smul ech rmacs sgr0 rmcup rmir rmso rmul flash ich1 il1 kbs kdch1 kcud1 kf1 kf10 kf2 kf3
@@ -54,11 +54,15 @@ _ti() {
             ;;
         # Without words of its own, bash completes a file.
         --entry | [\<\>]*) return ;;
+        --of)
+            mapfile -t COMPREPLY < <(compgen -W "$_ti_names" -- "$word")
+            return
+            ;;
     esac
     case $(_ti_command) in
         '') words='show check get expand convert cap trace help --help --version' ;;
         cap) words='--hex --escape --help' ;;
-        trace) words='--escape --help' ;;
+        trace) words='--of --escape --entry --help' ;;
         show) words='--escape --all-names --help' ;;
         check) words='--escape --all-names --help' ;;
         expand) words="--hex --escape --all-names --rate --lines --xon --entry --help $_ti_texts" ;;

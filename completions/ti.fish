@@ -17,12 +17,12 @@ complete -c ti -n '__fish_seen_subcommand_from show check expand' -l all-names -
 complete -c ti -n '__fish_seen_subcommand_from expand get' -l rate -x -d 'Bytes per second of the line'
 complete -c ti -n '__fish_seen_subcommand_from expand get' -l lines -x -d 'Lines that the text affects'
 complete -c ti -n '__fish_seen_subcommand_from expand get' -l xon -d 'The line has flow control'
-complete -c ti -n '__fish_seen_subcommand_from expand get' -l entry -r -F -d 'The entry, in place of standard input'
+complete -c ti -n '__fish_seen_subcommand_from expand get trace' -l entry -r -F -d 'The entry, in place of standard input'
 complete -c ti -n '__fish_seen_subcommand_from show check convert' -F
 complete -c ti -n '__fish_seen_subcommand_from convert' -l wide -d 'Numbers of 32 bits'
 complete -c ti -n '__fish_seen_subcommand_from convert' -l narrow -d 'Numbers of 16 bits'
 complete -c ti -n '__fish_seen_subcommand_from convert' -l force -d 'Write to a terminal too'
-# The short names of terminfo(5) that expand knows without --all-names, and those that get knows.
+# The short names of terminfo(5) that expand knows without --all-names, and those that get and trace --of know.
 set -g __ti_texts \
     cbt bel cr csr tbc clear el ed hpa cup cud1 home civis cub1 cnorm cuf1 cuu1 cvvis dch1 dl1 smacs blink bold \
     smcup dim smir invis rev smso smul ech rmacs sgr0 rmcup rmir rmso rmul flash ich1 il1 kbs kdch1 kcud1 kf1 \
@@ -54,3 +54,4 @@ set -g __ti_names \
     OTGL OTGU OTGD OTGH OTGV OTGC meml memu box1
 complete -c ti -n '__fish_seen_subcommand_from expand' -a "$__ti_texts"
 complete -c ti -n '__fish_seen_subcommand_from get' -a "$__ti_names"
+complete -c ti -n '__fish_seen_subcommand_from trace' -l of -x -a "$__ti_names" -d 'The capability of an entry'

@@ -1,4 +1,4 @@
-"""What `ti get` makes of the value of a capability.
+"""What `ti get` makes of the value of a capability, and `ti trace --of` of a text.
 
 Written from the manual page, to be compared with the proved program. Which parameters a capability takes as texts is found
 by going along all paths of its tree, with the stack of each.
@@ -19,7 +19,7 @@ class Failed(Exception):
 # ---- the capability
 
 
-def item_of(entry, name, tables):
+def item_of(entry, name, tables, command):
     """The kind and the value that a name means, or Failed. The tables have short names, then long ones."""
     standard = {"flag": entry.flags, "number": entry.numbers, "text": entry.texts}
     missing = {"flag": "no", "number": -1, "text": ABSENT}
@@ -42,7 +42,7 @@ def item_of(entry, name, tables):
             if its_name == name.encode():
                 return kind, value
     near = nearest(name, tables)
-    raise Failed(f"get: {shown_name(name)}: no such capability" + (f"; nearest: {near}" if near else ""))
+    raise Failed(f"{command}: {shown_name(name)}: no such capability" + (f"; nearest: {near}" if near else ""))
 
 
 def shown_name(name):
@@ -119,12 +119,19 @@ def value_of(word, is_text):
     return word.encode()
 
 
+def parameters_of(text, words):
+    """The values of the words for a text, or Refused."""
+    capability.tokens_of(text)
+    texts = texts_of(text)
+    return [value_of(word, which in texts) for which, word in enumerate(words, 1)]
+
+
 # ---- the result
 
 
 def got(entry, name, tables, words, rate, lines, xon, form):
     """The status and the output, or Failed or Refused."""
-    kind, value = item_of(entry, name, tables)
+    kind, value = item_of(entry, name, tables, "get")
     if kind == "flag":
         return (0 if value == "yes" else 1), b""
     if kind == "number":
@@ -132,8 +139,14 @@ def got(entry, name, tables, words, rate, lines, xon, form):
     if value in (ABSENT, CANCELLED):
         raise Failed(f"get: {shown_name(name)}: absent")
     if words:
-        capability.tokens_of(value)
-        texts = texts_of(value)
-        value = capability.expanded(value, [value_of(word, which in texts) for which, word in enumerate(words, 1)])
+        value = capability.expanded(value, parameters_of(value, words))
     padded = capability.padded(value, rate, lines, xon)
     return 0, padded if form is None else formed(padded, form == "--escape") + b"\n"
+
+
+def traced(entry, name, tables, words, escape):
+    """The status and the trace, or Failed or Refused."""
+    kind, value = item_of(entry, name, tables, "trace")
+    if kind != "text" or value in (ABSENT, CANCELLED):
+        raise Failed(f"trace: {shown_name(name)}: no such text")
+    return 0, capability.trace(value, parameters_of(value, words), escape)

@@ -1,6 +1,6 @@
 -- Worked rows of the command line.
 use Rattle.std.proofs.Common.{◌≡◌, [], ◌∷◌, true, false, refl}
-use Rattle.std.specs.Prelude.{codes}
+use Rattle.std.specs.Prelude.{None, Some, codes}
 use Rattle.clap.proofs.OnLiterals.{clap_on_literals}
 use Rattle.ti_line.specs.CommandLine.{AsksForHelp, Cap, Check, Convert, Expand, Get, IsRefused, Reads, Show, Trace, files_of}
 
@@ -10,9 +10,14 @@ unfolding clap_on_literals
 cap_row = (refl, refl)
 
 -- `ti trace n:7 --escape`
-trace_row : Reads (codes "ti" ∷ codes "trace" ∷ codes "n:7" ∷ codes "--escape" ∷ []) (Trace true (codes "n:7" ∷ []))
+trace_row : Reads (codes "ti" ∷ codes "trace" ∷ codes "n:7" ∷ codes "--escape" ∷ []) (Trace None true false (codes "n:7" ∷ []))
 unfolding clap_on_literals
 trace_row = (refl, refl)
+
+-- `ti trace --of cup 7 --entry a`
+trace_of_row : Reads (codes "ti" ∷ codes "trace" ∷ codes "--of" ∷ codes "cup" ∷ codes "7" ∷ codes "--entry" ∷ codes "a" ∷ []) (Trace (Some (codes "cup")) false true (codes "7" ∷ []))
+unfolding clap_on_literals
+trace_of_row = (refl, refl)
 
 -- `ti show`
 show_row : Reads (codes "ti" ∷ codes "show" ∷ []) (Show false false)

@@ -1,7 +1,7 @@
 -- The command line of `ti`: the command that is handed to `clap`, what words ask for by it, and the
 -- words that it refuses or answers with help. `fault_of` and `subcommand_of` are `clap`'s own
 -- definition of a simple command.
-use Rattle.std.specs.Prelude.{◌≡◌, ◌^◌, ◌&&◌, ℕ, Bool, true, false, not, List, [], ◌∷◌, fold, Option, Some, None, codes, pos, unwrap_or, option_and_then, if◌then◌else◌, nat_lt, nat_le, length}
+use Rattle.std.specs.Prelude.{◌≡◌, ◌^◌, ◌&&◌, ℕ, Bool, true, false, not, List, [], ◌∷◌, fold, Option, Some, None, is_some, codes, pos, unwrap_or, option_and_then, if◌then◌else◌, nat_lt, nat_le, length}
 use Rattle.std.specs.List.{list_all, list_any}
 use Rattle.std.specs.Option.{option_map_or}
 use Rattle.std.specs.Str.{bytes_eq}
@@ -68,6 +68,10 @@ file_rule = new_rule (codes "FILE")
 abbrev pub entry_rule : Rule
 entry_rule = record file_rule { long = Some (codes "entry") }
 
+-- `--of NAME`
+abbrev pub of_rule : Rule
+of_rule = record (new_rule (codes "NAME")) { long = Some (codes "of") }
+
 -- `NAME`
 abbrev pub name_rule : Rule
 name_rule = record (new_rule (codes "NAME")) { required = true }
@@ -92,9 +96,10 @@ with_commands = fold (λ a sub. with_subcommand a sub.top)
 abbrev pub cap_app : App
 cap_app = with_rules (new_app (codes "cap")) (hex_rule ∷ escape_rule ∷ params_rule ∷ [])
 
--- `trace [--escape] [PARAM..]`
+-- `trace [--of NAME] [--escape] [--entry FILE] [PARAM..]`
 abbrev pub trace_app : App
-trace_app = with_rules (new_app (codes "trace")) (params_rule ∷ escape_rule ∷ [])
+trace_app =
+    with_rules (new_app (codes "trace")) (of_rule ∷ escape_rule ∷ entry_rule ∷ params_rule ∷ [])
 
 -- `show [--escape] [--all-names] [FILE..]`
 abbrev pub show_app : App
@@ -142,6 +147,10 @@ ti_app =
 abbrev pub flag_in : Text → List Row → Bool
 flag_in id rows = option_map_or (λ t. bytes_eq t (codes "true")) (one_of id rows) false
 
+-- an argument was given
+abbrev pub is_given_in : Text → List Row → Bool
+is_given_in id rows = is_some (first_of id rows)
+
 -- the number that a text spells in decimal, below 2^32, or else `default`
 abbrev pub number_or : ℕ → Text → ℕ
 number_or default text =
@@ -176,7 +185,7 @@ named_files names = if is_input names then [] else names
 -- what a line asks for, of which parameters are the words as they were given
 pub data Line : Type 0 where
   Cap : (hex escape : Bool) → (params : List Text) → Line
-  Trace : (escape : Bool) → (params : List Text) → Line
+  Trace : (of_name : Option Text) → (escape has_entry : Bool) → (params : List Text) → Line
   Show : (escape all_names : Bool) → Line
   Check : (escape all_names : Bool) → Line
   Expand : (name : Text) → (hex escape all_names : Bool) → (rate lines : ℕ) → (xon : Bool)
@@ -211,7 +220,8 @@ line_by command rows =
     if bytes_eq command (codes "cap")
     then Some (Cap (flag_in (codes "hex") rows) (flag_in (codes "escape") rows) (params_in rows))
     else (if bytes_eq command (codes "trace")
-    then Some (Trace (flag_in (codes "escape") rows) (params_in rows))
+    then Some (Trace (first_of (codes "NAME") rows) (flag_in (codes "escape") rows)
+    (is_given_in (codes "FILE") rows) (params_in rows))
     else (if bytes_eq command (codes "show")
     then Some (Show (flag_in (codes "escape") rows) (flag_in (codes "all-names") rows))
     else (if bytes_eq command (codes "check")

@@ -2,7 +2,7 @@
 use Rattle.std.specs.Prelude.{◌≡◌, ◌⊎◌, ◌≤◌, List, []}
 use Rattle.clap.specs.Words.{Text}
 use Rattle.ti_base.specs.Limits.{greatest_rate, most_lines}
-use Rattle.ti_line.specs.CommandLine.{Line, Cap, Trace, Show, Check, Expand, Convert, Get, AsksForHelp, IsRefused, Reads, faults}
+use Rattle.ti_line.specs.CommandLine.{Line, Expand, Get, AsksForHelp, IsRefused, Reads, faults}
 
 -- words on which `clap` finds no fault make a line
 abbrev pub MakesLine : Type 0
@@ -25,15 +25,11 @@ IsOneOfThree = (words : List Text)
 
 -- the numbers of a line are within their ranges
 abbrev pub IsWithin : Line → Type 0
-IsWithin (Cap hex escape params) = Unit {0}
-IsWithin (Trace escape params) = Unit {0}
-IsWithin (Show escape all_names) = Unit {0}
-IsWithin (Check escape all_names) = Unit {0}
 IsWithin (Expand name hex escape all_names rate lines xon params) =
     (rate ≤ greatest_rate) × (lines ≤ most_lines)
-IsWithin (Convert wide narrow force) = Unit {0}
 IsWithin (Get name hex escape rate lines xon params) =
     (rate ≤ greatest_rate) × (lines ≤ most_lines)
+IsWithin _ = Unit {0}
 
 -- of each line that is read
 abbrev pub HasNumbersWithin : Type 0

@@ -14,6 +14,7 @@ use Rattle.ti_line.specs.declared.params.WordFault.{WordFault}
 use Rattle.ti_line.specs.declared.request.Asked.TheVariants.{Capability, Entry}
 use Rattle.ti_line.specs.declared.request.Expand as code
 use Rattle.ti_line.specs.declared.request.Get as code_of_get
+use Rattle.ti_line.specs.declared.request.TraceOf as code_of_trace
 use Rattle.ti_line.specs.declared.request.OfCapability.TheVariants as of_cap
 use Rattle.ti_line.specs.declared.request.OfEntry.TheVariants as of_entry
 use Rattle.ti_line.specs.declared.request.Request.{Request}
@@ -48,14 +49,18 @@ abbrev pub GiveNone : List Text → WordFault → Type 0
 GiveNone words why = IsWordFault IsGiven words why × ((params : List Param) → ¬ AreGiven words params)
 
 -- what a line asks for, by whether results go to a terminal; of two flags that exclude each other at
--- most one is given, the words of the parameters stand for them, and an entry goes to a terminal only
--- by force
+-- most one is given, an entry to trace in only with a name, the words of the parameters stand for them,
+-- and an entry goes to a terminal only by force
 abbrev pub Asks : Bool → Line → Request → Type 0
 Asks terminal (Cap hex escape words) r =
     (hex && escape ≡ false) × AreParams words r.parameters
     × (r.asked ≡ Capability (of_cap.Cap (output_asked hex escape)))
-Asks terminal (Trace escape words) r =
-    AreParams words r.parameters × (r.asked ≡ Capability (of_cap.Trace (form_asked escape)))
+Asks terminal (Trace None escape has_entry words) r =
+    (has_entry ≡ false) × AreParams words r.parameters
+    × (r.asked ≡ Capability (of_cap.Trace (form_asked escape)))
+Asks terminal (Trace (Some name) escape has_entry words) r =
+    (t : code_of_trace.TraceOf) × (r.asked ≡ Entry (of_entry.Trace t)) × (t.name.now ≡ name)
+    × IsGivenBy words t.given × (t.form ≡ form_asked escape)
 Asks terminal (Show escape all_names) r =
     r.asked ≡ Entry (of_entry.Show (list_options all_names escape terminal))
 Asks terminal (Check escape all_names) r =
@@ -79,13 +84,16 @@ abbrev pub IsTask : Bool → List Text → Line → Task → Type 0
 IsTask terminal words line task =
     Asks terminal line task.request × (texts_of task.files.items ≡ files_of words)
 
--- why that can't be done: both of two such flags are given, or else the words stand for no parameters,
--- or an entry would go to a terminal
+-- why that can't be done: both of two such flags are given, or an entry and no name of a capability in
+-- it, or else the words stand for no parameters, or an entry would go to a terminal
 abbrev pub HasFault : Bool → Line → LineFault → Type 0
 HasFault terminal (Cap hex escape words) fault.BothForms = hex && escape ≡ true
 HasFault terminal (Cap hex escape words) (fault.Words why) =
     (hex && escape ≡ false) × StandForNone words why
-HasFault terminal (Trace escape words) (fault.Words why) = StandForNone words why
+HasFault terminal (Trace None escape has_entry words) fault.EntryWithoutName = has_entry ≡ true
+HasFault terminal (Trace None escape has_entry words) (fault.Words why) =
+    (has_entry ≡ false) × StandForNone words why
+HasFault terminal (Trace (Some name) escape has_entry words) (fault.Words why) = GiveNone words why
 HasFault terminal (Expand name hex escape all_names rate lines xon words) fault.BothForms =
     hex && escape ≡ true
 HasFault terminal (Expand name hex escape all_names rate lines xon words) (fault.Words why) =

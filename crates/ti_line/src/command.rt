@@ -2,7 +2,7 @@
 
 ghost use Rattle.std.specs.Prelude.{◌≡◌, [], ◌∷◌, IfOk, false};
 ghost use Rattle.clap.specs.Words.{App, app_of, new_app, rule_of};
-ghost use Rattle.ti_line.specs.CommandLine.{all_names_rule, cap_app, check_app, convert_app, entry_rule, escape_rule, expand_app, file_rule, files_rule, flag_rule, get_app, hex_rule, name_rule, number_rule, params_rule, show_app, start_app, ti_app, trace_app, with_commands, with_rules};
+ghost use Rattle.ti_line.specs.CommandLine.{all_names_rule, cap_app, check_app, convert_app, entry_rule, escape_rule, expand_app, file_rule, files_rule, flag_rule, get_app, hex_rule, name_rule, number_rule, of_rule, params_rule, show_app, start_app, ti_app, trace_app, with_commands, with_rules};
 ghost use Rattle.ti_line.specs.inner.Command.{HasNoGlobals};
 
 use clap::{Arg, ArgAction, Command, value_parser};
@@ -72,6 +72,9 @@ fn params<'a>(alloc: Global, help: &'a str) -> Arg<'a>
 const PARAMS: &str = "n:NUMBER (-2147483648 to 2147483647) or s:TEXT;
 at most nine, missing ones are the number 0";
 
+const TRACE_PARAMS: &str = "n:NUMBER or s:TEXT; at most nine, missing ones are the
+number 0; with --of also a number or a text alone";
+
 const ANY_PARAMS: &str = "A number or a text: n:NUMBER, s:TEXT, or the word alone,
 which is what the text takes; with none it is only padded";
 
@@ -106,6 +109,17 @@ const FILES: &str = "Compiled entries, and folders with such in them;
 none, or -, is standard input";
 
 const FILE: &str = "A compiled entry; none, or -, is standard input";
+
+/// `--of NAME`.
+fn of<'a>(alloc: Global) -> Arg<'a>
+    ensures rule { rule_of result ≡ of_rule }
+    ensures local { result.global ≡ false }
+{
+    Arg::new(alloc, "NAME").long("of").help(OF)
+}
+
+const OF: &str = "Trace this capability of an entry, which is read in
+place of one: a name, as ti get takes it";
 
 /// The argument of a name, with what help says of it.
 fn name<'a>(alloc: Global, help: &'a str) -> Arg<'a>
@@ -288,11 +302,12 @@ fn trace<'a>(alloc: Global) -> Result<Command<'a>, AllocError>
     let command = new_command(
         alloc,
         "trace",
-        "ti trace [OPTIONS] [PARAM]... < CAPABILITY",
+        "ti trace [OPTIONS] [PARAM]... < CAPABILITY\n       ti trace --of <NAME> [OPTIONS] [PARAM]... < ENTRY",
         "Show what each token of one capability does",
-        "Example, which shows the stack and the output after each token:\n  printf '\\033[%%p1%%dG' | ti trace --escape n:7",
+        "Example, which shows the stack and the output after each token:\n  printf '\\033[%%p1%%dG' | ti trace --escape n:7\n\nOf an entry:\n  ti trace --escape --of cup 4 9 < /lib/terminfo/x/xterm",
     );
-    with_two(command, params(alloc, PARAMS), escape(alloc))
+    let command = with_two(command, of(alloc), escape(alloc))?;
+    with_two(command, entry(alloc), params(alloc, TRACE_PARAMS))
 }
 
 /// What help says of the exit status, and an example.

@@ -8,6 +8,7 @@
 //! |---|---|
 //! | `cap [--hex] [--escape] [PARAM..]` | [`OfCapability::Cap`] |
 //! | `trace [--escape] [PARAM..]` | [`OfCapability::Trace`] |
+//! | `trace --of NAME [--escape] [--entry FILE] [PARAM..]` | [`OfEntry::Trace`] |
 //! | `show [--escape] [--all-names] [FILE..]` | [`OfEntry::Show`] |
 //! | `check [--escape] [--all-names] [FILE..]` | [`OfEntry::Check`] |
 //! | `expand NAME [--hex] [--escape] [--all-names] [--rate N] [--lines N] [--xon] [--entry FILE] [PARAM..]` | [`OfEntry::Expand`] |
@@ -35,4 +36,4 @@ pub use no_line::{LineFault, NoLine};
 pub use options::{ListOptions, NameForm, Naming, Output};
 pub use params::{WordFault, read_params};
 pub use read::read_line;
-pub use request::{Asked, Expand, Get, OfCapability, OfEntry, Request, Task, TextName};
+pub use request::{Asked, Expand, Get, OfCapability, OfEntry, Request, Task, TextName, TraceOf};

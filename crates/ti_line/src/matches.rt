@@ -3,10 +3,10 @@
 ghost use Rattle.std.specs.Prelude.{◌≡◌, ◌≤◌, ◌&&◌, true, false, Bool, IfOk, IfSome, IsSome, MatchResult, codes, option_map};
 ghost use Rattle.ti_base.specs.Limits.{greatest_rate, most_lines};
 ghost use Rattle.clap.specs.Words.{first_of};
-ghost use Rattle.ti_line.specs.CommandLine.{Cap, Convert, Trace, expand_by, flag_in, get_by, is_input as the_is_input, line_by, named_files, number_in, params_in, words_in};
+ghost use Rattle.ti_line.specs.CommandLine.{Cap, Convert, Trace, expand_by, flag_in, get_by, is_given_in, is_input as the_is_input, line_by, named_files, number_in, params_in, words_in};
 ghost use Rattle.ti_line.specs.Params.{AreParams, IsGivenBy};
 ghost use Rattle.ti_line.specs.Requests.{GiveNone, IsAnswered, StandForNone, setting_of, texts_of};
-ghost use Rattle.ti_line.specs.Options.{output_asked as the_output_asked};
+ghost use Rattle.ti_line.specs.Options.{form_asked as the_form_asked, output_asked as the_output_asked};
 ghost use Rattle.ti_line.specs.declared.no_line.LineFault.TheVariants as fault;
 ghost use Rattle.ti_line.specs.declared.request.Asked.TheVariants.{Entry};
 ghost use Rattle.ti_line.specs.inner.Matches.{given_rows};
@@ -18,9 +18,10 @@ use crate::given::{Given, read_given};
 use crate::no_line::LineFault;
 use crate::options::Output;
 use crate::params::{WordFault, read_params};
-use crate::request::{Asked, Expand, Get, OfCapability, OfEntry, Request, TextName};
+use crate::request::{Asked, Expand, Get, OfCapability, OfEntry, Request, TextName, TraceOf};
 use clap::ArgMatches;
 use std::alloc::{AllocError, Global};
+use ti_escape::Form;
 use ti_expand::Value;
 use ti_pad::Padding;
 
@@ -118,15 +119,56 @@ fn cap<'a>(given: &ArgMatches<'a>) -> Result<Request<'a>, LineFault>
     })
 }
 
+/// The form of the texts in a trace.
+fn form(given: &ArgMatches<'_>) -> Form
+    ensures { result ≡ the_form_asked (flag_in (codes "escape") (given_rows given.now)) }
+{
+    form_asked(flag(given, "escape"))
+}
+
+/// What `trace` requests of the capability with a name.
+fn trace_of<'a>(given: &ArgMatches<'a>, name: &'a str) -> Result<Request<'a>, LineFault>
+    ensures { (terminal has_entry : Bool) → let rows = given_rows given.now in
+        IsAnswered terminal
+        (Trace (Some name.entry.now) (flag_in (codes "escape") rows) has_entry (params_in rows)) result }
+{
+    Ok(Request {
+        parameters: NO_PARAMETERS,
+        asked: Asked::Entry(OfEntry::Trace(TraceOf {
+            name,
+            given: given_parameters(given)?,
+            form: form(given),
+        })),
+    })
+}
+
+/// What `trace` requests of the capability that is read.
+fn trace_input<'a>(given: &ArgMatches<'a>) -> Result<Request<'a>, LineFault>
+    ensures { (terminal : Bool) → let rows = given_rows given.now in
+        IsAnswered terminal
+        (Trace None (flag_in (codes "escape") rows) (is_given_in (codes "FILE") rows) (params_in rows))
+        result }
+{
+    if text(given, "FILE").is_some() {
+        return Err(LineFault::EntryWithoutName);
+    }
+    Ok(Request {
+        parameters: parameters(given)?,
+        asked: Asked::Capability(OfCapability::Trace(form(given))),
+    })
+}
+
 /// What `trace` requests.
 fn trace<'a>(given: &ArgMatches<'a>) -> Result<Request<'a>, LineFault>
     ensures { (terminal : Bool) → let rows = given_rows given.now in
-        IsAnswered terminal (Trace (flag_in (codes "escape") rows) (params_in rows)) result }
+        IsAnswered terminal
+        (Trace (first_of (codes "NAME") rows) (flag_in (codes "escape") rows)
+        (is_given_in (codes "FILE") rows) (params_in rows)) result }
 {
-    Ok(Request {
-        parameters: parameters(given)?,
-        asked: Asked::Capability(OfCapability::Trace(form_asked(flag(given, "escape")))),
-    })
+    match text(given, "NAME") {
+        Some(name) => trace_of(given, name),
+        None => trace_input(given),
+    }
 }
 
 /// The padding of `expand` or `get`, whose numbers are within their ranges.

@@ -13,6 +13,9 @@ pub enum LineFault {
     /// An output is to be written in both forms, by `--hex` and `--escape`.
     #[error("BothForms")]
     BothForms,
+    /// `trace` is given an entry, and no name of a capability in it.
+    #[error("EntryWithoutName")]
+    EntryWithoutName,
     /// `convert` is to write both widths.
     #[error("BothWidths")]
     BothWidths,

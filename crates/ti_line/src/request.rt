@@ -11,7 +11,7 @@ use ti_words::{NameTable, Width};
 #[derive(Debug, Drop)]
 pub struct Request<'a> {
     /// The parameters of the capability or of the text; all are the number 0 if none are given or taken. Those of `get`
-    /// are in [`Get::given`].
+    /// and of a trace of an entry's text are in [`Get::given`] and [`TraceOf::given`].
     pub parameters: [Value<'a>; 9],
     /// What is done.
     pub asked: Asked<'a>,
@@ -57,6 +57,8 @@ pub enum OfEntry<'a> {
     Convert(Option<Width>),
     /// To write the value of one of its capabilities.
     Get(Get<'a>),
+    /// To show what each token of one of its texts does.
+    Trace(TraceOf<'a>),
 }
 
 /// The text that is expanded, and how.
@@ -81,6 +83,17 @@ pub struct Get<'a> {
     pub padding: Padding,
     /// How a text is written.
     pub output: Output,
+}
+
+/// The text of an entry that is traced, and how.
+#[derive(Debug, Drop)]
+pub struct TraceOf<'a> {
+    /// The name of the capability, as [`Get`] takes it.
+    pub name: &'a str,
+    /// The parameters; with none all are the number 0.
+    pub given: Option<Given<'a>>,
+    /// The form of the texts in the trace.
+    pub form: Form,
 }
 
 /// The name of a text.

@@ -14,7 +14,10 @@ use Rattle.ti_tool.specs.declared.fault.ToolFault.{ToolFault}
 use Rattle.ti_tool.specs.declared.fault.ToolFault.TheVariants as fault
 use Rattle.ti_line.specs.declared.given.Given.{Given}
 use Rattle.ti_line.specs.declared.request.Get.{Get}
-use Rattle.ti_tool.specs.Got.{IsExpandedBy, IsTextResult, IsValueResult}
+use Rattle.ti_line.specs.declared.request.TraceOf.{TraceOf}
+use Rattle.ti_tool.specs.Expansions.{IsPadded}
+use Rattle.ti_tool.specs.Got.{IsDueBy, IsTextResult, IsValueResult}
+use Rattle.ti_tool.specs.Traces.{IsTraced, IsTracedBy, IsTracedValue}
 use Rattle.ti_tool.specs.Items.{FlagItem, ItemValue, NumberItem, TextItem}
 use Rattle.ti_tool.specs.Results.{IsDue, IsDueFrom, IsDueOn, IsOutputOf}
 
@@ -33,18 +36,23 @@ pub output_never : (c : OfCapability) (parameters : List Value) (input : List �
 output_never (of_cap.Cap output) parameters input = record { no_write = λ gone d. d; no_memory = λ d. d }
 output_never (of_cap.Trace form) parameters input = record { no_write = λ gone d. d; no_memory = λ d. d }
 
+-- of a text with parameters that words gave
+by_never : (text : List ℕ) (given : Given) (due : List Value → Result (List ℕ) ToolFault → Type 0) → ((parameters : List Value) → IsNeverOwn (due parameters)) → IsNeverOwn (IsDueBy text given due)
+by_never text given due never = record { no_write = writes; no_memory = takes }
+  where
+    writes : (gone : ℕ) → ¬ IsDueBy text given due (Err (fault.Write gone))
+    writes gone (inl (refused, why, is)) = absurd (cc)
+    writes gone (inr (sound, (parameters, are, d))) = (never parameters).no_write gone d
+
+    takes : ¬ IsDueBy text given due (Err fault.Memory)
+    takes (inl (refused, why, is)) = absurd (cc)
+    takes (inr (sound, (parameters, are, d))) = (never parameters).no_memory d
+
 -- of a value
 result_never : (text : List ℕ) (given : Option Given) (setting : Setting) (output : Output) → IsNeverOwn (IsTextResult text given setting output)
 result_never text None setting output = record { no_write = λ gone d. d; no_memory = λ d. d }
-result_never text (Some given) setting output = record { no_write = writes; no_memory = takes }
-  where
-    writes : (gone : ℕ) → ¬ IsExpandedBy text given setting output (Err (fault.Write gone))
-    writes gone (inl (refused, why, is)) = absurd (cc)
-    writes gone (inr (sound, (parameters, are, d))) = d
-
-    takes : ¬ IsExpandedBy text given setting output (Err fault.Memory)
-    takes (inl (refused, why, is)) = absurd (cc)
-    takes (inr (sound, (parameters, are, d))) = d
+result_never text (Some given) setting output =
+    by_never text given (λ parameters. IsPadded text parameters setting output) (λ parameters. record { no_write = λ gone d. d; no_memory = λ d. d })
 
 value_never : (item : Option ItemValue) (g : Get) (set : Bool) → IsNeverOwn (IsValueResult item g set)
 value_never None g set = record { no_write = λ gone d. cc (d.1); no_memory = λ d. cc (d.1) }
@@ -57,6 +65,19 @@ value_never (Some (TextItem (TextOf text))) g set = record {
   no_memory = λ d. (result_never text g.given g.padding g.output).no_memory d.1;
 }
 
+-- of a trace of a value
+traced_never : (item : Option ItemValue) (t : TraceOf) → IsNeverOwn (IsTracedValue item t)
+traced_never None t = record { no_write = λ gone d. cc; no_memory = λ d. cc }
+traced_never (Some (FlagItem flag)) t = record { no_write = λ gone d. cc; no_memory = λ d. cc }
+traced_never (Some (NumberItem number)) t = record { no_write = λ gone d. cc; no_memory = λ d. cc }
+traced_never (Some (TextItem AbsentText)) t = record { no_write = λ gone d. cc; no_memory = λ d. cc }
+traced_never (Some (TextItem CancelledText)) t = record { no_write = λ gone d. cc; no_memory = λ d. cc }
+traced_never (Some (TextItem (TextOf text))) t = by (t.given)
+  where
+    by : (given : Option Given) → IsNeverOwn (IsTracedBy text given t.form)
+    by None = record { no_write = λ gone d. d; no_memory = λ d. d }
+    by (Some given) = by_never text given (λ parameters. IsTraced parameters t.form text) (λ parameters. record { no_write = λ gone d. d; no_memory = λ d. d })
+
 on_entry_never : (e : OfEntry) (parameters : List Value) (sound : Bool) (v : EntryValue) → IsNeverOwn (IsDueOn e parameters sound v)
 on_entry_never (of_entry.Show options) parameters sound v = record { no_write = λ gone d. cc; no_memory = λ d. cc }
 on_entry_never (of_entry.Check naming) parameters sound v = record { no_write = λ gone d. d; no_memory = λ d. d }
@@ -68,6 +89,10 @@ on_entry_never (of_entry.Convert width) parameters sound v = record { no_write =
 on_entry_never (of_entry.Get g) parameters sound v = record {
   no_write = λ gone (item, called, d). (value_never item g sound).no_write gone d;
   no_memory = λ (item, called, d). (value_never item g sound).no_memory d;
+}
+on_entry_never (of_entry.Trace t) parameters sound v = record {
+  no_write = λ gone (item, called, d). (traced_never item t).no_write gone d;
+  no_memory = λ (item, called, d). (traced_never item t).no_memory d;
 }
 
 -- of the bytes of an entry

@@ -16,13 +16,15 @@ use Rattle.ti_line.specs.declared.given.Param.{Param}
 use Rattle.ti_line.specs.declared.given.Param.TheVariants as params
 use Rattle.ti_line.specs.declared.options.Output.{Output}
 use Rattle.ti_line.specs.declared.request.Get.{Get}
+use Rattle.ti_line.specs.declared.request.TraceOf.{TraceOf}
 use Rattle.ti_line.specs.Options.{output_bytes}
 use Rattle.ti_tool.specs.declared.fault.ToolFault.{ToolFault}
 use Rattle.ti_tool.specs.declared.fault.ToolFault.TheVariants as fault
 use Rattle.ti_tool.specs.Calls.{NeedsMemory}
 use Rattle.ti_tool.specs.Expansions.{IsExpansion, IsPadded}
-use Rattle.ti_tool.specs.Got.{AreTaken, AreTakenFrom, IsExpandedBy, IsGot, IsPaddedAlone, IsTaken, IsTextResult, IsValueResult}
+use Rattle.ti_tool.specs.Got.{AreTaken, AreTakenFrom, IsDueBy, IsGot, IsPaddedAlone, IsTaken, IsTextResult, IsValueResult}
 use Rattle.ti_tool.specs.Items.{IsItemCalled, ItemValue, NumberItem, TextItem}
+use Rattle.ti_tool.specs.Traces.{IsTracedOf, IsTracedValue}
 use Rattle.ti_tool.specs.inner.Dues.{FailsAsDue}
 use Rattle.ti_tool.proofs.IsItemCalledLemmas.{one_item}
 use Rattle.ti_tool.proofs.NeedsMemoryLemmas.{expandable, faultless_passes, padded_needs}
@@ -115,18 +117,14 @@ expanded_of (Err e) bytes_of text parameters setting output plain sound p (inr d
 
 -- ---- a text with parameters
 
-module _ (text : List ℕ) (given : Given) (setting : Setting) (output : Output) where
-  abbrev IsDueBy : Result (List ℕ) ToolFault → Type 0
-  IsDueBy = IsExpandedBy text given setting output
-
-  by_needs : (parameters : List Value) → IsFaultless text → AreTaken text given.params parameters → NeedsMemory (IsPadded text parameters setting output) → NeedsMemory IsDueBy
+module _ (text : List ℕ) (given : Given) (due : List Value → Result (List ℕ) ToolFault → Type 0) where
+  by_needs : (parameters : List Value) → IsFaultless text → AreTaken text given.params parameters → NeedsMemory (due parameters) → NeedsMemory (IsDueBy text given due)
   by_needs parameters sound are needs e (inl (refused, why, is)) = absurd (faultless_passes text refused sound why)
-  by_needs parameters sound are needs e (inr (again, (others, also, d))) =
-      needs e (subst (λ ps. IsPadded text ps setting output (Err e)) (one_taken text given.params others parameters also are) d)
+  by_needs parameters sound are needs e (inr (again, (others, also, d))) = needs e (subst (λ ps. due ps (Err e)) (one_taken text given.params others parameters also are) d)
 
   pub given_of : {V : Type 0} (r : Result V ToolFault) (bytes_of : V → List ℕ) (parameters : List Value) → IsFaultless text → AreTaken text given.params parameters
-      → MatchResult r (λ v. IsPadded text parameters setting output (Ok (bytes_of v))) (FailsAsDue (IsPadded text parameters setting output))
-      → MatchResult r (λ v. IsDueBy (Ok (bytes_of v))) (FailsAsDue IsDueBy)
+      → MatchResult r (λ v. due parameters (Ok (bytes_of v))) (FailsAsDue (due parameters))
+      → MatchResult r (λ v. IsDueBy text given due (Ok (bytes_of v))) (FailsAsDue (IsDueBy text given due))
   given_of (Ok v) bytes_of parameters sound are h = inr (sound, (parameters, are, h))
   given_of (Err e) bytes_of parameters sound are (inl (is, needs)) = inl (is, by_needs parameters sound are needs)
   given_of (Err e) bytes_of parameters sound are (inr d) = inr (inr (sound, (parameters, are, d)))
@@ -150,3 +148,13 @@ got_of (Ok a) set_of bytes_of g v item called h = (item, called, h)
 got_of (Err e) set_of bytes_of g v item called (inr d) = inr (item, called, d)
 got_of (Err e) set_of bytes_of g v item called (inl (is, needs)) =
     inl (is, λ f (other, again, d). needs f (subst (λ i. IsValueResult i g true (Err f)) (one_item v g.name.now other item again called) d))
+
+-- ---- a trace
+
+pub traced_of : {V : Type 0} (r : Result V ToolFault) (bytes_of : V → List ℕ) (t : TraceOf) (v : EntryValue) (item : Option ItemValue) → IsItemCalled t.name.now v item
+    → MatchResult r (λ a. IsTracedValue item t (Ok (bytes_of a))) (FailsAsDue (IsTracedValue item t))
+    → MatchResult r (λ a. IsTracedOf t v (Ok (bytes_of a))) (FailsAsDue (IsTracedOf t v))
+traced_of (Ok a) bytes_of t v item called h = (item, called, h)
+traced_of (Err e) bytes_of t v item called (inr d) = inr (item, called, d)
+traced_of (Err e) bytes_of t v item called (inl (is, needs)) =
+    inl (is, λ f (other, again, d). needs f (subst (λ i. IsTracedValue i t (Err f)) (one_item v t.name.now other item again called) d))

@@ -40,11 +40,13 @@ use Rattle.ti_tool.specs.declared.fault.ToolFault.TheVariants as fault
 use Rattle.ti_tool.specs.Labels.{label_of, own_label}
 use Rattle.ti_tool.specs.Laws.{CheckHasOneVerdict, HasOneAnswer}
 use Rattle.ti_line.specs.Options.{output_bytes}
-use Rattle.ti_tool.specs.Results.{IsExpansion, IsUnexpanded, IsCappedAs, IsPadded, IsDue, IsDueFor, IsDueFrom, IsDueOn, IsEncoding, IsJudgement, IsOutputOf, IsTraced, in_width}
+use Rattle.ti_tool.specs.Results.{IsExpansion, IsUnexpanded, IsCappedAs, IsPadded, IsDue, IsDueFor, IsDueFrom, IsDueOn, IsEncoding, IsJudgement, IsOutputOf, in_width}
+use Rattle.ti_tool.specs.Traces.{IsTraced, IsTracedBy, IsTracedOf, IsTracedValue, no_values}
 use Rattle.ti_tool.specs.Verdicts.{IsVerdict, IsLine, IsStandardLine, IsExtendedLine, AreLines, AreVerdicts, sound_verdict, fault_verdict}
 use Rattle.ti_line.specs.declared.given.Given.{Given}
 use Rattle.ti_line.specs.declared.request.Get.{Get}
-use Rattle.ti_tool.specs.Got.{IsExpandedBy, IsGot, IsPaddedAlone, IsTextResult, IsValueResult}
+use Rattle.ti_line.specs.declared.request.TraceOf.{TraceOf}
+use Rattle.ti_tool.specs.Got.{IsDueBy, IsGot, IsPaddedAlone, IsTextResult, IsValueResult}
 use Rattle.ti_tool.specs.Items.{FlagItem, ItemValue, NumberItem, TextItem}
 use Rattle.ti_tool.proofs.IsCalledLemmas.{one_called}
 use Rattle.ti_tool.proofs.IsGotLemmas.{one_taken}
@@ -289,16 +291,17 @@ one_alone text setting output (Ok a) (Err e) d h = let f = alone_fault text sett
 one_alone text setting output (Err e) (Ok b) d h = let f = alone_fault text setting output e d in absurd (omega (arith, h.0, f.1))
 one_alone text setting output (Err e) (Err f) d h = ap Err ((alone_fault text setting output e d).0 ∙ sym (alone_fault text setting output f h).0)
 
-one_by : (text : List ℕ) (given : Given) (setting : Setting) (output : Output) → IsOneResult (IsExpandedBy text given setting output)
-one_by text given setting output r s (inl (a, why, is)) (inl (b, because, same)) = is ∙ ap (λ (x : CapRefused). Err (fault.Cap x)) (one_refusal a b text why because) ∙ sym same
-one_by text given setting output r s (inl (a, why, is)) (inr (sound, rest)) = absurd (faultless_passes text a sound why)
-one_by text given setting output r s (inr (sound, rest)) (inl (b, because, same)) = absurd (faultless_passes text b sound because)
-one_by text given setting output r s (inr (sound, (ps, are, d))) (inr (again, (qs, also, h))) =
-    one_padded text ps setting output r s d (subst (λ x. IsPadded text x setting output s) (one_taken text given.params qs ps also are) h)
+one_by : (text : List ℕ) (given : Given) (due : List Value → Result (List ℕ) ToolFault → Type 0) → ((parameters : List Value) → IsOneResult (due parameters)) → IsOneResult (IsDueBy text given due)
+one_by text given due once r s (inl (a, why, is)) (inl (b, because, same)) = is ∙ ap (λ (x : CapRefused). Err (fault.Cap x)) (one_refusal a b text why because) ∙ sym same
+one_by text given due once r s (inl (a, why, is)) (inr (sound, rest)) = absurd (faultless_passes text a sound why)
+one_by text given due once r s (inr (sound, rest)) (inl (b, because, same)) = absurd (faultless_passes text b sound because)
+one_by text given due once r s (inr (sound, (ps, are, d))) (inr (again, (qs, also, h))) =
+    once ps r s d (subst (λ x. due x s) (one_taken text given.params qs ps also are) h)
 
 one_text : (text : List ℕ) (given : Option Given) (setting : Setting) (output : Output) → IsOneResult (IsTextResult text given setting output)
 one_text text None setting output r s d h = one_alone text setting output r s d h
-one_text text (Some given) setting output r s d h = one_by text given setting output r s d h
+one_text text (Some given) setting output r s d h =
+    one_by text given (λ parameters. IsPadded text parameters setting output) (λ parameters. one_padded text parameters setting output) r s d h
 
 one_value : (item : Option ItemValue) (g : Get) (set as_set : Bool) (r s : Result (List ℕ) ToolFault) → IsValueResult item g set r → IsValueResult item g as_set s → r ≡ s
 one_value None g set as_set r s d h = d.1 ∙ sym h.1
@@ -312,6 +315,25 @@ one_got : (g : Get) (set as_set : Bool) (v : EntryValue) (r s : Result (List ℕ
 one_got g set as_set v r s (item, called, d) (other, again, h) =
     one_value item g set as_set r s d (subst (λ i. IsValueResult i g as_set s) (one_item v g.name.now other item again called) h)
 
+-- ---- traces of capabilities
+
+one_traced_by : (text : List ℕ) (given : Option Given) (form : Form) → IsOneResult (IsTracedBy text given form)
+one_traced_by text None form r s d h = one_traced no_values form text r s d h
+one_traced_by text (Some given) form r s d h =
+    one_by text given (λ parameters. IsTraced parameters form text) (λ parameters. one_traced parameters form text) r s d h
+
+one_traced_value : (item : Option ItemValue) (t : TraceOf) → IsOneResult (IsTracedValue item t)
+one_traced_value None t r s d h = d ∙ sym h
+one_traced_value (Some (FlagItem flag)) t r s d h = d ∙ sym h
+one_traced_value (Some (NumberItem number)) t r s d h = d ∙ sym h
+one_traced_value (Some (TextItem AbsentText)) t r s d h = d ∙ sym h
+one_traced_value (Some (TextItem CancelledText)) t r s d h = d ∙ sym h
+one_traced_value (Some (TextItem (TextOf text))) t r s d h = one_traced_by text t.given t.form r s d h
+
+one_traced_of : (t : TraceOf) (v : EntryValue) → IsOneResult (IsTracedOf t v)
+one_traced_of t v r s (item, called, d) (other, again, h) =
+    one_traced_value item t r s d (subst (λ i. IsTracedValue i t s) (one_item v t.name.now other item again called) h)
+
 -- ---- requests
 
 one_output : (c : OfCapability) (parameters : List Value) (input : List ℕ) → IsOneResult (IsOutputOf c parameters input)
@@ -323,6 +345,7 @@ one_on (of_entry.Show options) parameters sound as_sound v r s d h = d ∙ sym h
 one_on (of_entry.Check naming) parameters sound as_sound v r s d h = one_judgement naming v sound as_sound r s d h
 one_on (of_entry.Expand e) parameters sound as_sound v r s d h = one_due_for e.name.names e.name.name.now parameters e.padding e.output v r s d h
 one_on (of_entry.Get g) parameters sound as_sound v r s d h = one_got g sound as_sound v r s d h
+one_on (of_entry.Trace t) parameters sound as_sound v r s d h = one_traced_of t v r s d h
 one_on (of_entry.Convert width) parameters sound as_sound v r s d h = one_encoding (in_width width v) r s d h
 
 pub one_answer : HasOneAnswer

@@ -44,6 +44,7 @@ words_line (words.BadWord which) = codes "parameter " ++ decimal which ++ codes 
 -- the line on what a command line can't ask for
 abbrev pub line_fault_line : LineFault → List ℕ
 line_fault_line line.BothForms = codes "--hex and --escape exclude each other\n"
+line_fault_line line.EntryWithoutName = codes "trace: --entry without --of\n"
 line_fault_line line.BothWidths = codes "convert: both widths\n"
 line_fault_line line.ToTerminal = codes "convert: not to a terminal without --force\n"
 line_fault_line (line.Words why) = words_line why
@@ -62,17 +63,23 @@ abbrev pub no_name_line : Option (List ℕ) → List ℕ
 no_name_line None = codes ": no such capability\n"
 no_name_line (Some near) = codes ": no such capability; nearest: " ++ shown_name near ++ codes "\n"
 
--- the line on the fault of a call, by what was asked for: `get` names the capability
+-- the line on the fault of a call, by what was asked for: `get`, and `trace` of an entry, name the
+-- capability
 abbrev pub asked_line : Asked → Option (List ℕ) → ToolFault → List ℕ
 asked_line (Entry (of_entry.Get g)) near fault.NoSuchText =
     codes "get: " ++ shown_name g.name.now ++ codes ": absent\n"
 asked_line (Entry (of_entry.Get g)) near fault.NoSuchName =
     codes "get: " ++ shown_name g.name.now ++ no_name_line near
+asked_line (Entry (of_entry.Trace t)) near fault.NoSuchText =
+    codes "trace: " ++ shown_name t.name.now ++ codes ": no such text\n"
+asked_line (Entry (of_entry.Trace t)) near fault.NoSuchName =
+    codes "trace: " ++ shown_name t.name.now ++ no_name_line near
 asked_line asked near e = fault_line e
 
 -- a name that is told is a nearest one; none is told if none is near, or if memory was refused
 abbrev pub IsTold : Asked → ToolFault → Option (List ℕ) → Type 0
 IsTold (Entry (of_entry.Get g)) fault.NoSuchName near = IfSome near (IsNearest g.name.now)
+IsTold (Entry (of_entry.Trace t)) fault.NoSuchName near = IfSome near (IsNearest t.name.now)
 IsTold asked e near = near ≡ None
 
 -- the line on an answer, none if it has no fault

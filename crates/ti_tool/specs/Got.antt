@@ -60,12 +60,18 @@ IsPaddedAlone text setting output (Err (fault.TooMuch need)) =
     (need ≡ length (padded_text text setting)) × (most_padded_bytes < need)
 IsPaddedAlone text setting output (Err e) = ⊥
 
+-- the refusal of a text, or what is due for it with the values of parameters
+abbrev pub IsDueBy : List ℕ → Given → (List Value → Result (List ℕ) ToolFault → Type 0)
+    → Result (List ℕ) ToolFault → Type 0
+IsDueBy text given due answer =
+    ((refused : CapRefused) × IsRefusal text refused × (answer ≡ Err (fault.Cap refused)))
+    ⊎ (IsFaultless text
+    × ((parameters : List Value) × AreTaken text given.params parameters × due parameters answer))
+
 -- a text that is expanded and padded, or the first fault
 abbrev pub IsExpandedBy : List ℕ → Given → Setting → Output → Result (List ℕ) ToolFault → Type 0
-IsExpandedBy text given setting output answer =
-    ((refused : CapRefused) × IsRefusal text refused × (answer ≡ Err (fault.Cap refused)))
-    ⊎ (IsFaultless text × ((parameters : List Value) × AreTaken text given.params parameters
-    × IsPadded text parameters setting output answer))
+IsExpandedBy text given setting output =
+    IsDueBy text given (λ parameters. IsPadded text parameters setting output)
 
 -- with no parameters it is not expanded
 abbrev pub IsTextResult : List ℕ → Option Given → Setting → Output → Result (List ℕ) ToolFault

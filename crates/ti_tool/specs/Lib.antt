@@ -5,6 +5,7 @@ pub mod Verdicts
 pub mod Items
 pub mod Expansions
 pub mod Got
+pub mod Traces
 pub mod Results
 pub mod Printable
 pub mod Calls

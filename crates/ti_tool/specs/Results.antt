@@ -2,7 +2,6 @@
 use Rattle.std.specs.Prelude.{◌≡◌, ◌⊎◌, ℕ, Bool, true, false, List, Result, Ok, Err, Some, None, Option}
 use Rattle.ti_cap.specs.Refusal.{IsFaultless}
 use Rattle.ti_expand.specs.declared.values.Value.{Value}
-use Rattle.ti_expand.specs.Expands.{IsFirstTooLong}
 use Rattle.ti_layout.specs.declared.fault.Refused.{Refused}
 use Rattle.ti_words.specs.Value.{EntryValue}
 use Rattle.ti_words.specs.Spelling.{Spells}
@@ -11,8 +10,6 @@ use Rattle.ti_words.specs.declared.all_names.NameTable.{NameTable}
 use Rattle.ti_words.specs.declared.all_names.NameTable.TheVariants as tables
 use Rattle.ti_words.specs.declared.Width.{Width}
 use Rattle.ti_words.specs.Texts.{TextValue, AbsentText, CancelledText, TextOf}
-use Rattle.ti_escape.specs.declared.form.Form.{Form}
-use Rattle.ti_trace.specs.Trace.{IsTrace}
 use Rattle.ti_pad.specs.Setting.{Setting}
 use Rattle.ti_draft.specs.Canonical.{canonical}
 use Rattle.ti_draft.specs.Unfit.{encode_fault}
@@ -22,6 +19,7 @@ use Rattle.ti_line.specs.declared.options.Output.{Output}
 use Rattle.ti_line.specs.Options.{list_options, naming_asked, output_asked, output_bytes}
 pub use Rattle.ti_tool.specs.Expansions.{IsExpansion, IsPadded, IsUnexpanded}
 use Rattle.ti_tool.specs.Got.{IsGot}
+pub use Rattle.ti_tool.specs.Traces.{IsTraced, IsTracedOf}
 use Rattle.ti_tool.specs.Verdicts.{AreVerdicts}
 use Rattle.ti_tool.specs.Listing.{entry_lines}
 use Rattle.ti_tool.specs.Names.{IsCalled}
@@ -44,12 +42,6 @@ IsCappedAs parameters output input (Err e) = IsUnexpanded input parameters e
 -- its bytes, or the same in hex
 abbrev pub IsCapped : List Value → Bool → List ℕ → Result (List ℕ) ToolFault → Type 0
 IsCapped parameters hex = IsCappedAs parameters (output_asked hex false)
-
--- the trace of a capability, or the first fault
-abbrev pub IsTraced : List Value → Form → List ℕ → Result (List ℕ) ToolFault → Type 0
-IsTraced parameters form input (Ok out) =
-    IsFaultless input × ((k : ℕ) → ¬ IsFirstTooLong parameters k) × IsTrace input parameters form out
-IsTraced parameters form input (Err e) = IsUnexpanded input parameters e
 
 -- what is due for a text, or for none
 abbrev pub IsDue : TextValue → List Value → Setting → Output → Result (List ℕ) ToolFault → Type 0
@@ -124,6 +116,7 @@ IsDueOn (of_entry.Expand e) parameters sound =
     IsDueFor e.name.names e.name.name.now parameters e.padding e.output
 IsDueOn (of_entry.Convert width) parameters sound = λ v. IsEncoding (in_width width v)
 IsDueOn (of_entry.Get g) parameters sound = IsGot g sound
+IsDueOn (of_entry.Trace t) parameters sound = IsTracedOf t
 
 -- on the bytes that were read
 abbrev pub IsAnswer : Asked → List Value → Bool → List ℕ → Result (List ℕ) ToolFault → Type 0

@@ -10,7 +10,7 @@ use crate::command::check::verdicts_of;
 use crate::command::convert::convert_result;
 use crate::command::expand::expand_result;
 use crate::command::get::get_result;
-use crate::command::trace::trace_result;
+use crate::command::trace::{trace_of_result, trace_result};
 use crate::fault::ToolFault;
 use crate::listing::lines_of;
 use std::alloc::Allocator;
@@ -63,6 +63,7 @@ pub fn answer_of_entry<A: Allocator + Copy>(
         OfEntry::Expand(expand) => expand_result(alloc, entry, expand, parameters)?,
         OfEntry::Convert(width) => convert_result(alloc, entry, *width)?,
         OfEntry::Get(get) => return get_result(alloc, entry, get),
+        OfEntry::Trace(of) => trace_of_result(alloc, entry, of)?,
     };
     Ok(Answer { bytes, sound: true })
 }

@@ -17,6 +17,9 @@ const MOST_BYTES: usize = 128;
 /// The most bytes of the words of a line. Its number, ` at ` and a newline come beside them.
 const MOST_WORD_BYTES: usize = 30;
 
+/// The most bytes of a command's name, a colon and a space.
+const MOST_COMMAND_BYTES: usize = 7;
+
 /// The most characters of a name.
 const MOST_SHOWN: usize = 40;
 
@@ -100,9 +103,10 @@ fn shown_name(name: &str) -> ArrayVec<u8, MOST_SHOWN>
     shown
 }
 
-/// The line if nothing has the name that `get` was given.
-fn no_name_line(name: &str, near: Option<&str>) -> FaultLine
-    ensures { result.items ≡ codes "get: " ++ the_shown_name name.now
+/// The line if nothing has the name that a command was given.
+fn no_name_line(command: &[u8], name: &str, near: Option<&str>) -> FaultLine
+    requires { length command.now ≤ MOST_COMMAND_BYTES }
+    ensures { result.items ≡ command.now ++ the_shown_name name.now
         ++ no_name_line (option_map (λ n. n.now) near.entry) }
 {
     let shown = shown_name(name);
@@ -110,14 +114,14 @@ fn no_name_line(name: &str, near: Option<&str>) -> FaultLine
         Some(near) => {
             let near = shown_name(near);
             line_of(&[
-                b"get: ",
+                command,
                 shown.as_slice(),
                 b": no such capability; nearest: ",
                 near.as_slice(),
                 b"\n",
             ])
         }
-        None => line_of(&[b"get: ", shown.as_slice(), b": no such capability\n"]),
+        None => line_of(&[command, shown.as_slice(), b": no such capability\n"]),
     }
 }
 
@@ -130,7 +134,16 @@ pub fn asked_line(asked: &Asked<'_>, near: Option<&str>, fault: &ToolFault) -> F
             let shown = shown_name(get.name);
             line_of(&[b"get: ", shown.as_slice(), b": absent\n"])
         }
-        (Asked::Entry(OfEntry::Get(get)), ToolFault::NoSuchName) => no_name_line(get.name, near),
+        (Asked::Entry(OfEntry::Get(get)), ToolFault::NoSuchName) => {
+            no_name_line(b"get: ", get.name, near)
+        }
+        (Asked::Entry(OfEntry::Trace(of)), ToolFault::NoSuchText) => {
+            let shown = shown_name(of.name);
+            line_of(&[b"trace: ", shown.as_slice(), b": no such text\n"])
+        }
+        (Asked::Entry(OfEntry::Trace(of)), ToolFault::NoSuchName) => {
+            no_name_line(b"trace: ", of.name, near)
+        }
         _ => fault_line(fault),
     }
 }
@@ -153,6 +166,7 @@ pub fn line_fault_line(fault: LineFault) -> FaultLine
 {
     match fault {
         LineFault::BothForms => line_of(&[b"--hex and --escape exclude each other\n"]),
+        LineFault::EntryWithoutName => line_of(&[b"trace: --entry without --of\n"]),
         LineFault::BothWidths => line_of(&[b"convert: both widths\n"]),
         LineFault::ToTerminal => line_of(&[b"convert: not to a terminal without --force\n"]),
         LineFault::Words(why) => words_line(why),

@@ -105,7 +105,7 @@ fn one_of_several<A: Allocator + Copy>(
     match asked {
         OfEntry::Show(options) => after_name(alloc, options.naming.form, name, plain.as_slice()),
         OfEntry::Check(naming) => by_name(alloc, naming.form, name, plain.as_slice()),
-        OfEntry::Expand(_) | OfEntry::Convert(_) | OfEntry::Get(_) => Ok(plain),
+        OfEntry::Expand(_) | OfEntry::Convert(_) | OfEntry::Get(_) | OfEntry::Trace(_) => Ok(plain),
     }
 }
 

@@ -17,10 +17,10 @@ use crate::terminals::Terminals;
 use std::alloc::{AllocError, Allocator, Global};
 use std::io::{Read, Write};
 use ti_expand::Value;
-use ti_line::{Asked, NoLine, OfEntry, Request, Task, read_line};
+use ti_line::{Asked, Get, NoLine, OfEntry, Request, Task, TraceOf, read_line};
 use ti_pad::write_out;
 
-/// The name that is told in a line on a fault: the nearest one, if nothing has the name that `get` was given.
+/// The name that is told in a line on a fault: the nearest one, if nothing has the name that was given.
 pub(crate) fn told_name<A: Allocator + Copy>(
     alloc: A,
     asked: &Asked<'_>,
@@ -29,10 +29,13 @@ pub(crate) fn told_name<A: Allocator + Copy>(
     ensures { IsTold asked.now fault.now (option_map (λ name. name.now) result) }
 {
     match (asked, fault) {
-        (Asked::Entry(OfEntry::Get(get)), ToolFault::NoSuchName) => match nearest(alloc, get.name) {
-            Ok(near) => near,
-            Err(AllocError) => None,
-        },
+        (Asked::Entry(OfEntry::Get(Get { name, .. })), ToolFault::NoSuchName)
+        | (Asked::Entry(OfEntry::Trace(TraceOf { name, .. })), ToolFault::NoSuchName) => {
+            match nearest(alloc, name) {
+                Ok(near) => near,
+                Err(AllocError) => None,
+            }
+        }
         _ => None,
     }
 }
@@ -146,9 +149,9 @@ fn run_no_line<W: Write, E: Write>(why: &NoLine, output: &mut W, errors: &mut E)
 /// |---|---|---|
 /// | 0 | done, or help was requested | none |
 /// | 1 | `check` found a fault, or the flag that `get` asks for is not set | none |
-/// | 2 | the words are no command line or no parameters, or ask for both widths, or for both forms of an output, or for an entry at a terminal | what is wrong and the usage; `parameters: more than nine`; `parameter K: bad word`; `convert: both widths`; `--hex and --escape exclude each other`; `convert: not to a terminal without --force` |
+/// | 2 | the words are no command line or no parameters, or ask for both widths, or for both forms of an output, or for an entry at a terminal | what is wrong and the usage; `parameters: more than nine`; `parameter K: bad word`; `convert: both widths`; `--hex and --escape exclude each other`; `trace: --entry without --of`; `convert: not to a terminal without --force` |
 /// | 3 | the entry is refused, or can't be encoded | `entry: WORD at PLACE`; `entry: WORD` |
-/// | 4 | the capability is refused or absent, a text is too long for it, or its padding too much | `capability: WORD at PLACE`; `capability: absent`; `get: NAME: absent`; `get: NAME: no such capability`; `capability: TextTooLong K`; `capability: TooMuch N` |
+/// | 4 | the capability is refused or absent, a text is too long for it, or its padding too much | `capability: WORD at PLACE`; `capability: absent`; `get: NAME: absent`; `trace: NAME: no such text`; `get: NAME: no such capability`, and the same of `trace`; `capability: TextTooLong K`; `capability: TooMuch N` |
 /// | 5 | reading or writing failed | `input: failed`; `output: failed` |
 /// | 6 | out of memory | `memory` |
 ///

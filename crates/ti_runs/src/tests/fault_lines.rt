@@ -5,7 +5,7 @@ use ti_fixtures::entries::{QUESTION, SMALL, TEXT};
 use ti_fixtures::{Sink, Source};
 
 /// Words, what is read, the status, and the line on the fault.
-const LINES: [(&[&str], &[u8], u8, &[u8]); 14] = [
+const LINES: [(&[&str], &[u8], u8, &[u8]); 15] = [
     (&["ti", "cap", "n:+1"], b"%d", 2, b"parameter 1: bad word\n"),
     (
         &[
@@ -32,6 +32,12 @@ const LINES: [(&[&str], &[u8], u8, &[u8]); 14] = [
         SMALL,
         2,
         b"--hex and --escape exclude each other\n",
+    ),
+    (
+        &["ti", "trace", "--entry", "x"],
+        SMALL,
+        2,
+        b"trace: --entry without --of\n",
     ),
     (
         &["ti", "trace", "n:1", "x"],

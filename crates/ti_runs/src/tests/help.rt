@@ -48,7 +48,15 @@ const HELP: [(&[&str], &[&str]); 11] = [
     ),
     (
         &["ti", "trace", "--help"],
-        &["--escape", "[PARAM]...", "n:NUMBER", "s:TEXT", "Example"],
+        &[
+            "--of <NAME>",
+            "--entry <FILE>",
+            "--escape",
+            "[PARAM]...",
+            "n:NUMBER",
+            "s:TEXT",
+            "Example",
+        ],
     ),
     (
         &["ti", "expand", "--help"],

@@ -4,7 +4,7 @@ use std::test::Fail;
 use ti_line::{LineFault, NoLine, Request, Task, read_line};
 
 /// Words, what they ask for, and the first two parameters.
-const READ: [(&[&str], &str, &str); 28] = [
+const READ: [(&[&str], &str, &str); 30] = [
     (
         &["ti", "cap", "n:7"],
         "Capability(Cap(Raw))",
@@ -40,6 +40,16 @@ const READ: [(&[&str], &str, &str); 28] = [
         &["ti", "trace", "n:4", "--escape", "s:-x"],
         "Capability(Trace(Notation))",
         "[Num(4), Text([45, 120])]",
+    ),
+    (
+        &["ti", "trace", "--of", "cup", "-e"],
+        "Entry(Trace(TraceOf { name: \"cup\", given: None, form: Notation }))",
+        "[Num(0), Num(0)]",
+    ),
+    (
+        &["ti", "trace", "4", "--of=cursor_address", "--entry", "-"],
+        "Entry(Trace(TraceOf { name: \"cursor_address\", given: Some(Given { params: [Either { number: 4, text: [52] }, Number(0), Number(0), Number(0), Number(0), Number(0), Number(0), Number(0), Number(0)] }), form: Hex }))",
+        "[Num(0), Num(0)]",
     ),
     (
         &["ti", "show"],
@@ -155,11 +165,13 @@ const READ: [(&[&str], &str, &str); 28] = [
 ];
 
 /// Words of which the line has a fault, and the fault.
-const FAULTY: [(&[&str], &str); 12] = [
+const FAULTY: [(&[&str], &str); 14] = [
     (&["ti", "cap", "help"], "BadWord 1"),
     (&["ti", "cap", "n:1", "", "s:"], "BadWord 2"),
     (&["ti", "cap", "--", "-5", "--hex"], "BadWord 1"),
     (&["ti", "trace", "--", "--escape"], "BadWord 1"),
+    (&["ti", "trace", "--of", "cup", "4", "n:x"], "BadWord 2"),
+    (&["ti", "trace", "--entry", "-", "x"], "EntryWithoutName"),
     (&["ti", "cap", "--escape", "--hex", "x"], "BothForms"),
     (
         &["ti", "expand", "--escape", "--hex", "bel", "x"],

@@ -1,10 +1,14 @@
 //! Runs of `ti trace`.
 
 use super::ending::{Row, assert_rows};
+use ti_fixtures::entries::{QUESTION, SMALL};
 use ti_fixtures::traces::{
-    CHOICE, CHOICE_OF_3, CHOICE_OF_3_ESCAPED, CUT_TEXT, MARKS, NESTED, NESTED_OF_0, NOTHING,
-    VARIABLES, VARIABLES_OF_4,
+    CHOICE, CHOICE_OF_3, CHOICE_OF_3_ESCAPED, COLUMN_OF_7, CUT_TEXT, MARKS, NESTED, NESTED_OF_0,
+    NOTHING, VARIABLES, VARIABLES_OF_4,
 };
+
+/// An entry of which cbt moves to a column.
+const COLUMN_ENTRY: &[u8] = b"\x1a\x01\x02\0\0\0\0\0\x01\0\x09\0t\0\0\0\x1b[%p1%dG\0";
 
 /// Runs of the command.
 const ROWS: [Row; 13] = [
@@ -107,4 +111,84 @@ const ROWS: [Row; 13] = [
 #[test]
 fn runs_of_trace_end_as_they_should(rt: HostRuntime) {
     assert_rows(&rt, &ROWS);
+}
+
+/// Runs of the command for a capability of an entry.
+const OF_AN_ENTRY: [Row; 10] = [
+    Row {
+        words: &["ti", "trace", "--of", "cbt", "7"],
+        input: COLUMN_ENTRY,
+        status: 0,
+        output: COLUMN_OF_7,
+        errors: b"",
+    },
+    Row {
+        words: &["ti", "trace", "n:7", "--of=back_tab"],
+        input: COLUMN_ENTRY,
+        status: 0,
+        output: COLUMN_OF_7,
+        errors: b"",
+    },
+    Row {
+        words: &["ti", "trace", "--of", "text#0", "--entry", "-", "--", "7"],
+        input: COLUMN_ENTRY,
+        status: 0,
+        output: COLUMN_OF_7,
+        errors: b"",
+    },
+    // absent, a flag, and a number
+    Row {
+        words: &["ti", "trace", "--of", "cup"],
+        input: SMALL,
+        status: 4,
+        output: b"",
+        errors: b"trace: cup: no such text\n",
+    },
+    Row {
+        words: &["ti", "trace", "--of", "bw"],
+        input: SMALL,
+        status: 4,
+        output: b"",
+        errors: b"trace: bw: no such text\n",
+    },
+    Row {
+        words: &["ti", "trace", "--of", "cols", "1"],
+        input: SMALL,
+        status: 4,
+        output: b"",
+        errors: b"trace: cols: no such text\n",
+    },
+    Row {
+        words: &["ti", "trace", "--of", "cursor_adress"],
+        input: SMALL,
+        status: 4,
+        output: b"",
+        errors: b"trace: cursor_adress: no such capability; nearest: cursor_address\n",
+    },
+    Row {
+        words: &["ti", "trace", "--of", "bel"],
+        input: QUESTION,
+        status: 4,
+        output: b"",
+        errors: b"capability: UnknownEscape at 3\n",
+    },
+    Row {
+        words: &["ti", "trace", "--of", "bel"],
+        input: b"\x1a\x01\x02\0\x01",
+        status: 3,
+        output: b"",
+        errors: b"entry: Truncated at 5\n",
+    },
+    Row {
+        words: &["ti", "trace", "--of", "bel", "n:x"],
+        input: SMALL,
+        status: 2,
+        output: b"",
+        errors: b"parameter 1: bad word\n",
+    },
+];
+
+#[test]
+fn texts_of_an_entry_are_traced(rt: HostRuntime) {
+    assert_rows(&rt, &OF_AN_ENTRY);
 }

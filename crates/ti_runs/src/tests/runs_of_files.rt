@@ -63,7 +63,7 @@ struct Row {
     errors: &'static [u8],
 }
 
-const ROWS: [Row; 12] = [
+const ROWS: [Row; 13] = [
     Row {
         words: &["ti", "show", "small"],
         at_terminal: false,
@@ -141,6 +141,13 @@ const ROWS: [Row; 12] = [
         status: 4,
         output: b"",
         errors: b"small: get: cup: absent\n",
+    },
+    Row {
+        words: &["ti", "trace", "--of", "cup", "--entry", "small"],
+        at_terminal: false,
+        status: 4,
+        output: b"",
+        errors: b"small: trace: cup: no such text\n",
     },
     Row {
         words: &["ti", "expand", "bel", "-x", "--entry=small"],

@@ -1,14 +1,25 @@
-//! `trace`: what one capability does, token by token.
+//! `trace`: what one capability does, token by token, also one of an entry.
 
-ghost use Rattle.std.specs.Prelude.{Ok, MatchResult};
-ghost use Rattle.ti_tool.specs.Results.{IsTraced};
+ghost use Rattle.std.specs.Prelude.{Ok, MatchResult, option_map};
+ghost use Rattle.ti_tool.specs.Got.{IsDueBy};
+ghost use Rattle.ti_tool.specs.Traces.{IsTraced, IsTracedBy, IsTracedOf, IsTracedValue};
+ghost use Rattle.ti_tool.specs.inner.Item.{item_value};
 ghost use Rattle.ti_tool.specs.inner.Dues.{FailsAsDue};
 
 use crate::fault::ToolFault;
+use crate::item::{Item, item_called};
+use crate::taken::values_for;
 use std::alloc::Allocator;
+use ti_cap::Capability;
+use ti_entry::Entry;
 use ti_escape::Form;
 use ti_expand::Value;
+use ti_line::{Given, TraceOf};
 use ti_trace::{TraceFault, trace};
+use ti_words::Text;
+
+/// The parameters if no word gives one.
+const NO_VALUES: [Value<'static>; 9] = [Value::Num(0); 9];
 
 /// The result of `trace` for an input.
 pub fn trace_result<A: Allocator + Copy>(
@@ -27,4 +38,64 @@ pub fn trace_result<A: Allocator + Copy>(
         Err(TraceFault::TextTooLong(parameter)) => Err(ToolFault::TextTooLong(parameter)),
         Err(TraceFault::Memory) => Err(ToolFault::Memory),
     }
+}
+
+/// The trace of a text with the parameters that words gave.
+fn trace_given<A: Allocator + Copy>(
+    alloc: A,
+    text: &[u8],
+    given: &Given<'_>,
+    form: Form,
+) -> Result<Vec<u8, A>, ToolFault>
+    ensures { let IsDue = IsDueBy text.now given.now (λ parameters. IsTraced parameters form text.now) in
+        MatchResult result (λ v. IsDue (Ok v.items)) (FailsAsDue IsDue) }
+{
+    let capability = Capability::parse(text)?;
+    let parameters = values_for(&capability, given.params);
+    trace_result(alloc, text, &parameters, form)
+}
+
+/// The trace of a text. With no parameter all are the number 0.
+fn trace_text<A: Allocator + Copy>(
+    alloc: A,
+    text: &[u8],
+    asked: &TraceOf<'_>,
+) -> Result<Vec<u8, A>, ToolFault>
+    ensures { let IsDue = IsTracedBy text.now asked.now.given asked.now.form in
+        MatchResult result (λ v. IsDue (Ok v.items)) (FailsAsDue IsDue) }
+{
+    match &asked.given {
+        Some(given) => trace_given(alloc, text, given, asked.form),
+        None => trace_result(alloc, text, &NO_VALUES, asked.form),
+    }
+}
+
+/// The trace of a value, if it is a text that is there.
+fn trace_value<A: Allocator + Copy>(
+    alloc: A,
+    item: Option<Item<'_>>,
+    asked: &TraceOf<'_>,
+) -> Result<Vec<u8, A>, ToolFault>
+    ensures { let IsDue = IsTracedValue (option_map item_value item.entry) asked.now in
+        MatchResult result (λ v. IsDue (Ok v.items)) (FailsAsDue IsDue) }
+{
+    match item {
+        Some(Item::Text(Text::Value(text))) => trace_text(alloc, text, asked),
+        Some(Item::Text(Text::Absent | Text::Cancelled)) => Err(ToolFault::NoSuchText),
+        Some(Item::Flag(_)) | Some(Item::Number(_)) => Err(ToolFault::NoSuchText),
+        None => Err(ToolFault::NoSuchName),
+    }
+}
+
+/// The result of `trace` for a capability of an entry.
+pub fn trace_of_result<A: Allocator + Copy>(
+    alloc: A,
+    entry: &Entry<'_>,
+    asked: &TraceOf<'_>,
+) -> Result<Vec<u8, A>, ToolFault>
+    ensures { MatchResult result
+        (λ v. IsTracedOf asked.now entry.now (Ok v.items))
+        (FailsAsDue (IsTracedOf asked.now entry.now)) }
+{
+    trace_value(alloc, item_called(entry, asked.name), asked)
 }
