@@ -138,7 +138,7 @@ pub fn expand<'a, A: Allocator + Copy>(
 }
 
 /// Runs a capability on a stack of its own.
-#[inline(always)]
+#[inline(never)]
 pub(crate) fn run_capability(
     capability: &Capability<'_>,
     parameters: &[Value<'_>; 9],
