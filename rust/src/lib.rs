@@ -17,7 +17,7 @@ mod expand;
 #[allow(missing_docs)]
 mod kit;
 // The sources are written for their proofs too, and parts of them are for other users.
-#[allow(clippy::complexity, clippy::style, dead_code, unused_imports, unused_labels, unused_variables, missing_docs)]
+#[allow(clippy::complexity, clippy::manual_contains, clippy::style, dead_code, unused_imports, unused_labels, unused_variables, missing_docs)]
 mod made;
 mod mark;
 mod name;

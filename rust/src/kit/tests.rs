@@ -6,13 +6,15 @@ use std::format;
 use std::vec::Vec;
 
 #[test]
-fn bitmasks_have_a_bit_for_each_equal_byte() {
+fn masks_have_the_place_of_the_first_equal_byte() {
     let bytes: Vec<u8> = (0..64).map(|i| [0, 1, 0x80, 0xff, 0, 0, 7][i * i % 7]).collect();
     for start in 0..32 {
-        for byte in [0, 1, 0x80, 0xff] {
-            let bits = |count: usize| (0..count).map(|i| u64::from(bytes[start + i] == byte) << i).sum::<u64>();
-            assert_eq!(u8x16::from_slice(&bytes[start..]).simd_eq(u8x16::splat(byte)).to_bitmask(), bits(16));
-            assert_eq!(u8x32::from_slice(&bytes[start..]).simd_eq(u8x32::splat(byte)).to_bitmask(), bits(32));
+        for byte in [0, 1, 0x80, 0xff, 7, 9] {
+            let first = |count: usize| bytes[start..start + count].iter().position(|other| *other == byte);
+            let near = u8x16::from_slice(&bytes[start..]).simd_eq(u8x16::splat(byte)).to_bitmask();
+            assert_eq!((near != 0).then(|| near.trailing_zeros() as usize), first(16));
+            let far = u8x32::from_slice(&bytes[start..]).simd_eq(u8x32::splat(byte)).to_bitmask();
+            assert_eq!((far != 0).then(|| far.trailing_zeros() as usize), first(32));
         }
     }
 }
