@@ -19,6 +19,7 @@ pub mod IsTapeLemmas
 pub mod IsUnreadableLemmas
 pub mod IsWalkLemmas
 pub mod NestLemmas
+pub mod NextModeLemmas
 pub mod NextProgressLemmas
 pub mod OneRefusalLemmas
 pub mod OneTreeLemmas

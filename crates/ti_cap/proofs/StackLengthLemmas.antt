@@ -5,7 +5,9 @@ use Rattle.std.proofs.lemmas.List.{length-replicate}
 use Rattle.ti_cap.specs.declared.language.Token.{Token}
 use Rattle.ti_cap.specs.Tree.{Sequence, tokens, IsTree}
 use Rattle.ti_cap.specs.Path.{Walk, IsPath, path_of}
-use Rattle.ti_cap.specs.Pass.{Mode, Running, next_mode, is_running, Passes}
+use Rattle.ti_cap.specs.declared.mode.Mode.{Mode}
+use Rattle.ti_cap.specs.declared.mode.Mode.TheVariants.{Run}
+use Rattle.ti_cap.specs.Pass.{next_mode, is_running, Passes}
 use Rattle.ti_cap.specs.Height.{pops, pushes, next_height, end_height, height_from, height}
 use Rattle.ti_cap.specs.Sources.{source, next_sources}
 use Rattle.ti_cap.proofs.PassesLemmas.{passes-append}
@@ -43,9 +45,9 @@ pub stack_low : (tree : Sequence) (before after : List Token) (most : ℕ) (m : 
     → ((path : List Token) → IsPath tree path → height path ≤ most) → Reaches next_sources [] before m stack → length stack ≤ most
 stack_low tree before after most m stack formed spans low r =
     let more : (w : Walk) × (o : Mode) × Passes m after w o = passes_on m after in
-    let P : List Token → Type 0 = λ x. Passes Running x (r.walk ++ more.0) more.1 in
-    let w : Walked true tree (r.walk ++ more.0) more.1 = walk_of true tree (r.walk ++ more.0) more.1 formed (subst P (sym spans) (passes-append before after Running m more.1 r.walk more.0 r.passes more.2)) in
+    let P : List Token → Type 0 = λ x. Passes Run x (r.walk ++ more.0) more.1 in
+    let w : Walked true tree (r.walk ++ more.0) more.1 = walk_of true tree (r.walk ++ more.0) more.1 formed (subst P (sym spans) (passes-append before after Run m more.1 r.walk more.0 r.passes more.2)) in
     let top : height (path_of (r.walk ++ more.0) (tokens tree)) ≤ most = low _ (r.walk ++ more.0, w.walk, refl) in
     let e : path_of (r.walk ++ more.0) (tokens tree) ≡ path_of r.walk before ++ path_of more.0 after =
-    ap (λ x. path_of (r.walk ++ more.0) x) spans ∙ path_of-append before after Running m r.walk more.0 r.passes in
+    ap (λ x. path_of (r.walk ++ more.0) x) spans ∙ path_of-append before after Run m r.walk more.0 r.passes in
     omega (arith, top, ap height e, end-front 0 (path_of r.walk before) (path_of more.0 after), length-state [] (path_of r.walk before), ap length r.value)

@@ -5,11 +5,14 @@ use Rattle.std.specs.List.{AllByRecursion}
 use Rattle.ti_cap.specs.declared.language.Token.{Token}
 use Rattle.ti_cap.specs.Tree.{Sequence, Empty, Simple, tokens, IsSimple, IsTree}
 use Rattle.ti_cap.specs.Path.{Walk, IsWalk, path_of, all_met}
-use Rattle.ti_cap.specs.Pass.{Mode, Running, next_mode, is_running, Passes}
+use Rattle.ti_cap.specs.declared.mode.Mode.{Mode}
+use Rattle.ti_cap.specs.declared.mode.Mode.TheVariants.{Run}
+use Rattle.ti_cap.specs.Pass.{next_mode, is_running, Passes}
 use Rattle.ti_cap.specs.Height.{end_height, IsGreatest}
 use Rattle.ti_cap.specs.Refusal.{Begins, Climbs}
 use Rattle.ti_cap.proofs.PassesLemmas.{Split, passes_split, Over, walk_passes}
-use Rattle.ti_cap.proofs.IsWalkLemmas.{Step, run_simple_only}
+use Rattle.ti_cap.proofs.NextModeLemmas.{simple_stays}
+use Rattle.ti_cap.proofs.IsWalkLemmas.{Step, step_only}
 
 abbrev pub AreSimple : List Token → Type 0
 AreSimple ks = AllByRecursion IsSimple ks
@@ -48,19 +51,19 @@ met_front (k ∷ ks) m o u v (fails, more, e, p) =
     both false h = h
 
 -- simple tokens are all met
-pub simple_met : (ks : List Token) (w : Walk) (o : Mode) → AreSimple ks → Passes Running ks w o → path_of w ks ≡ ks
+pub simple_met : (ks : List Token) (w : Walk) (o : Mode) → AreSimple ks → Passes Run ks w o → path_of w ks ≡ ks
 simple_met [] w o h p = rw p.0 refl
 simple_met (k ∷ ks) w o h p =
-    let q : Step true Running ks w o = run_simple_only k ks w o h.0 p in
+    let q : Step true Run ks w o = step_only true Run Run k ks w o (λ f. simple_stays Run k f h.0) refl p in
     rw q.marks (ap (λ x. k ∷ x) (simple_met ks q.more o h.1 q.passes))
 
 -- some tree's walk meets simple tokens at its front
 pub simple_front : (tree : Sequence) (ks after : List Token) (w : Walk) → IsTree tree → tokens tree ≡ ks ++ after → IsWalk tree w → AreSimple ks → path_of w ks ≡ ks
 simple_front tree ks after w formed spans walked h =
-    let r : Over true Running (tokens tree) w = walk_passes true tree w formed walked in
-    let P : List Token → Type 0 = λ x. Passes Running x w r.to in
-    let c : Split ks after Running r.to w = passes_split ks after Running r.to w (subst P spans r.passes) in
-    rw c.joined (met_front ks Running c.between c.front c.back c.first ∙ simple_met ks c.front c.between h c.first)
+    let r : Over true Run (tokens tree) w = walk_passes true tree w formed walked in
+    let P : List Token → Type 0 = λ x. Passes Run x w r.to in
+    let c : Split ks after Run r.to w = passes_split ks after Run r.to w (subst P spans r.passes) in
+    rw c.joined (met_front ks Run c.between c.front c.back c.first ∙ simple_met ks c.front c.between h c.first)
 
 -- the height that simple tokens climb to is their own
 pub simple_climb : (before : List Token) (k : Token) (h : ℕ) → AreSimple (before ++ k ∷ []) → Climbs before k h → end_height 0 (before ++ k ∷ []) ≡ h

@@ -8,18 +8,16 @@ ghost use Rattle.ti_expand.specs.inner.Machine.{values_on, state_of};
 ghost use Rattle.ti_expand.specs.Sound.{IsSound};
 ghost use Rattle.ti_expand.specs.Effect.{after_operation, print_for};
 ghost use Rattle.ti_cap.specs.Pass.{next_mode};
-ghost use Rattle.ti_expand.specs.Mode.{mode_of};
 ghost use Rattle.ti_expand.specs.Meaning.{tests_zero};
 ghost use Rattle.ti_expand.specs.Steps.{meet};
 
-use crate::modes::Mode;
 use crate::operation::{apply, byte_of, complement, logical_not};
 use crate::parameters::Parameters;
 use crate::print::{print_number, print_text};
 use crate::stack::Stack;
 use crate::variables::Vars;
 use crate::write::put_byte;
-use ti_cap::{Conversion, Format, Op, Token};
+use ti_cap::{Conversion, Format, Mode, Op, Token};
 
 /// Computes from the numbers on top.
 #[inline(always)]
@@ -80,7 +78,7 @@ pub fn meet<'a>(
     requires within { written ≤ length out.old }
     requires room { length (meet token.now
         (state_of stack.old vars.old parameters.old out.old written)).output ≤ length out.old }
-    ensures mode { mode_of result.0 ≡ next_mode (mode_of Mode.Run) token.now
+    ensures mode { result.0 ≡ next_mode Mode.Run token.now
         (tests_zero (state_of stack.old vars.old parameters.old out.old written)) }
     ensures state { state_of stack.new vars.new parameters.new out.new result.1
         ≡ meet token.now (state_of stack.old vars.old parameters.old out.old written) }

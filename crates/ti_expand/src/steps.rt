@@ -13,13 +13,12 @@ use crate::counts::Run;
 use crate::expansion::check;
 use crate::fault::ExpandFault;
 use crate::machine::Machine;
-use crate::modes::Mode;
 use crate::step::{Outcome, Step};
 use crate::values::Value;
 use crate::variables::Vars;
 use std::fmt;
 use std::marker::Model;
-use ti_cap::{Capability, Tape};
+use ti_cap::{Capability, Mode, Tape};
 
 /// A pass over a capability that stops after each token. It goes forward only.
 #[derive(Drop)]
@@ -32,7 +31,6 @@ pub struct Steps<'r, 'p, 'a> {
 }
 
 impl<'r, 'p, 'a> Model for Steps<'r, 'p, 'a> {
-    ghost use Rattle.ti_expand.specs.Mode.{mode_of};
     ghost use Rattle.ti_expand.specs.Steps.{Underway};
     ghost use Rattle.ti_expand.specs.inner.Held.{IsPaused};
 
@@ -40,14 +38,14 @@ impl<'r, 'p, 'a> Model for Steps<'r, 'p, 'a> {
 
     ghost view = { λ s. record {
       spot = s.tape;
-      mode = mode_of s.mode;
+      mode = s.mode;
       state = s.machine.state;
       ran = s.ran;
       passed = s.passed;
       peak = s.machine.highest;
     } };
 
-    ghost invariant = { λ s. IsPaused s.tape.left (mode_of s.mode) s.machine s.ran s.passed };
+    ghost invariant = { λ s. IsPaused s.tape.left s.mode s.machine s.ran s.passed };
 }
 
 // It names the type alone.

@@ -4,7 +4,8 @@ use Rattle.std.proofs.Math.Seq.{drop-append_seam}
 use Rattle.std.proofs.lemmas.List.{reverse-reverse, take_at, take_rest}
 use Rattle.ti_cap.specs.declared.language.Token.{Token}
 use Rattle.ti_cap.specs.Capability.{Takes, whole}
-use Rattle.ti_cap.specs.Pass.{Mode, next_mode}
+use Rattle.ti_cap.specs.declared.mode.Mode.{Mode}
+use Rattle.ti_cap.specs.Pass.{next_mode}
 use Rattle.ti_escape.specs.declared.form.Form.{Form}
 use Rattle.ti_expand.specs.declared.step.Outcome.{Outcome}
 use Rattle.ti_expand.specs.declared.values.Value.{Value}

@@ -1,10 +1,9 @@
 use Rattle.std.proofs.Common.{ℕ, List, ◌++◌, ◌<◌, ◌≤◌, length, arith, refl, subst, ◌∙◌}
 use Rattle.std.proofs.lemmas.List.{length-take}
-use Rattle.ti_cap.specs.Pass.{Running}
+use Rattle.ti_cap.specs.declared.mode.Mode.TheVariants.{Run}
 use Rattle.ti_cap.specs.Capability.{HasCount}
 use Rattle.ti_expand.specs.State.{State, start}
 use Rattle.ti_expand.specs.inner.Machine.{machine}
-use Rattle.ti_expand.specs.Mode.{mode_of}
 use Rattle.ti_expand.specs.Steps.{step_state}
 use Rattle.ti_expand.proofs.CanRunLemmas.{can_run}
 use Rattle.ti_expand.proofs.HeightLemmas.{meet_fits}
@@ -19,7 +18,7 @@ pub loop-token-init : goal.loop-token-init
 loop-token-init c =
     let a = c.args in
     let initial : State = start a.vars.now a.parameters.now in
-    let first : IsUnderway a.tape.left initial (length a.stack.now) (length a.out.now) a.tape.left Running initial 0 0 0 =
+    let first : IsUnderway a.tape.left initial (length a.stack.now) (length a.out.now) a.tape.left Run initial 0 0 0 =
     underway_start a.tape.left initial (length a.stack.now) (length a.out.now) refl (can_run a.tape.left a.vars.now a.parameters.now (length a.stack.now) (length a.out.now) c.requires.ready c.numbers-numbers.ensures.numbers) in
     record { here = record { ran = 0; underway = rw (c.new-parameters.ensures, c.new-stack.ensures.empty, c.new-stack.ensures.low) first }; slots = c.new-stack.ensures.room; within = omega arith; rest = refl }
 
@@ -27,16 +26,16 @@ pub meet-after-requires-clause-height : goal.meet-after-requires-clause-height
 meet-after-requires-clause-height c =
     let l = c.loop-token in
     let s : State = machine l.stack.slots.now l.stack.height l.vars l.parameters l.out l.written in
-    let high : length (step_state Running c.in-Some.token s).stack ≤ length c.args.stack.now =
+    let high : length (step_state Run c.in-Some.token s).stack ≤ length c.args.stack.now =
     underway_height _ _ _ _ _ _ _ _ _ _ _ _ l.invariant.here.underway c.in-Some.ensures.order in
-    let fits : length (step_state Running c.in-Some.token s).stack ≤ length l.stack.slots.now = omega (arith, high, l.invariant.slots) in
+    let fits : length (step_state Run c.in-Some.token s).stack ≤ length l.stack.slots.now = omega (arith, high, l.invariant.slots) in
     meet_fits c.in-Some.token l.stack.slots.now l.stack.height l.vars l.parameters l.out l.written _ fits
 
 pub meet-after-requires-clause-room : goal.meet-after-requires-clause-room
 meet-after-requires-clause-room c =
     let l = c.loop-token in
     let s : State = machine l.stack.slots.now l.stack.height l.vars l.parameters l.out l.written in
-    let long : length (step_state Running c.in-Some.token s).output ≤ length c.args.out.now =
+    let long : length (step_state Run c.in-Some.token s).output ≤ length c.args.out.now =
     underway_output _ _ _ _ _ _ _ _ _ _ _ _ l.invariant.here.underway c.in-Some.ensures.order in
     omega (arith, long)
 
@@ -54,7 +53,7 @@ pass_over-requires c =
       here = record {
         ran = _;
         underway =
-            underway_ran _ _ _ _ _ _ _ _ _ _ _ m.new.stack.slots.now m.new.stack.height m.new.vars m.new.parameters m.new.out m.result.1 (mode_of m.result.0) m.new.stack.highest
+            underway_ran _ _ _ _ _ _ _ _ _ _ _ m.new.stack.slots.now m.new.stack.height m.new.vars m.new.parameters m.new.out m.result.1 m.result.0 m.new.stack.highest
             l.invariant.here.underway c.in-Some.ensures.order m.ensures.mode m.ensures.state m.ensures.highest;
       };
     }
@@ -70,7 +69,7 @@ loop-token-preserved c =
     let l = c.loop-token in
     let m = c.meet-after in
     let met =
-    underway_ran _ _ _ _ _ _ _ _ _ _ _ m.new.stack.slots.now m.new.stack.height m.new.vars m.new.parameters m.new.out m.result.1 (mode_of m.result.0) m.new.stack.highest
+    underway_ran _ _ _ _ _ _ _ _ _ _ _ m.new.stack.slots.now m.new.stack.height m.new.vars m.new.parameters m.new.out m.result.1 m.result.0 m.new.stack.highest
     l.invariant.here.underway c.in-Some.ensures.order m.ensures.mode m.ensures.state m.ensures.highest in
     record {
       here = c.pass_over.ensures.onward _ _ _ _ _ _ (record { ran = _; underway = met });
