@@ -10,9 +10,8 @@ use Rattle.ti_cap.specs.Pass.{next_mode, is_running, Passes}
 use Rattle.ti_cap.specs.Height.{next_height, end_height}
 use Rattle.ti_cap.specs.declared.scan.Part.{Part}
 use Rattle.ti_cap.specs.Refusal.{Begins, Climbs}
-use Rattle.ti_cap.proofs.PassesLemmas.{Over, walk_passes, Split, passes_split, passes-append}
+use Rattle.ti_cap.proofs.PassesLemmas.{Over, walk_passes, Split, passes_split, passes-append, met_front}
 use Rattle.ti_cap.proofs.IsWalkLemmas.{Walked, walk_of}
-use Rattle.ti_cap.proofs.StraightLemmas.{met_front}
 use Rattle.ti_cap.proofs.PartsLemmas.{allowed, Leads, leads_front, begins_leads}
 use Rattle.ti_cap.proofs.ReachesLemmas.{state_of, is_met, path_of-snoc}
 use Rattle.ti_cap.proofs.ProgressLemmas.{Comes}

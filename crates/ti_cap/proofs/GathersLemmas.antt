@@ -7,11 +7,11 @@ use Rattle.ti_cap.specs.declared.parameter_set.ParameterSet.{ParameterSet}
 use Rattle.ti_cap.specs.declared.origins.Origins.{Origins}
 use Rattle.ti_cap.specs.declared.gathering.Gathering.{Gathering}
 use Rattle.ti_cap.specs.declared.scan.Part.{Part}
-use Rattle.ti_cap.specs.Path.{Walk, path_of}
 use Rattle.ti_cap.specs.declared.mode.Mode.{Mode}
 use Rattle.ti_cap.specs.declared.mode.Mode.TheVariants.{Run, ToElse, ToEnd}
 use Rattle.ti_cap.specs.Sources.{next_sources, takes_text, Has, Names, TakesAsText}
 use Rattle.ti_cap.specs.inner.Gathering.{united, only, with_named, fresh, no_gathering}
+use Rattle.ti_cap.proofs.PassesLemmas.{no_path}
 use Rattle.ti_cap.proofs.HasLemmas.{has_none, has_united, has_only}
 use Rattle.ti_cap.proofs.PartsLemmas.{Leads}
 use Rattle.ti_cap.proofs.ReachesLemmas.{state_of, Reaches, Moved, Next, reaches_next, next_reaches}
@@ -34,10 +34,6 @@ pub record Gathers (before : List Token) (parts : List Part) (g : Gathering) : T
   pub done : (j n : ℕ) → suc (j + n) ≡ g.nesting → Holds (get_or g.opens j fresh).done (Stacks before (ToEnd n))
   pub named : (which : ℕ) → Has g.found.named which ↔ Seen (λ path. Names path which) before
   pub texts : (which : ℕ) → Has g.found.texts which ↔ Seen (λ path. TakesAsText path which) before
-
-no_path : (w : Walk) → path_of w [] ≡ []
-no_path [] = refl
-no_path (b ∷ w) = refl
 
 pub gathers_start : Gathers [] [] no_gathering
 gathers_start = record {

@@ -11,7 +11,7 @@ use Rattle.ti_cap.specs.Pass.{next_mode, Passes}
 use Rattle.ti_cap.specs.Height.{IsGreatest, IsDepth, height, height_from, next_height}
 use Rattle.ti_cap.specs.inner.Analysis.{Frame, Progress, greatest_of}
 use Rattle.ti_cap.proofs.NextModeLemmas.{running}
-use Rattle.ti_cap.proofs.PassesLemmas.{Over, walk_passes, Split, passes_split, passes-append}
+use Rattle.ti_cap.proofs.PassesLemmas.{no_path, Over, walk_passes, Split, passes_split, passes-append}
 use Rattle.ti_cap.proofs.IsWalkLemmas.{Walked, walk_of}
 use Rattle.ti_cap.proofs.ReachesLemmas.{state_of, is_met, passed_by, path_of-snoc, reaches_on}
 use Rattle.ti_cap.proofs.ProgressLemmas.{Act, Comes, Certain, IsBest, Sums, frame_at, best, coming, max_is, best_above, best_comes}
@@ -119,16 +119,12 @@ peak-mark act a k false = ap (λ x. peak act 0 x) (append-nil a)
 
 pub peaks_start : (act : Act) → Peaks act [] 0
 peaks_start act = record {
-  above_all = λ m w p. nothing w;
+  above_all = λ m w p. omega (arith, ap (λ x. peak act 0 x) (no_path w));
   mode = Run;
   walk = [];
   passes = (refl, refl);
   is = refl;
 }
-  where
-    nothing : (w : Walk) → peak act 0 (path_of w []) ≤ 0
-    nothing [] = omega arith
-    nothing (b ∷ w) = omega arith
 
 pub peaks_step : (act : Act) (before : List Token) (k : Token) (d : ℕ) (s : Progress) → IsFlat act → Peaks act before d → Sums act (before ++ k ∷ []) s
     → Peaks act (before ++ k ∷ []) (max d s.running)

@@ -40,6 +40,5 @@ pub mod SpellsFormatLemmas
 pub mod SpellsLemmas
 pub mod StackLengthLemmas
 pub mod StandsLemmas
-pub mod StraightLemmas
 pub mod TokenSizeLemmas
 pub mod WrittenLemmas

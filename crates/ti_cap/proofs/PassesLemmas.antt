@@ -4,7 +4,7 @@ use Rattle.std.proofs.lemmas.List.{map-append, append-nil}
 use Rattle.ti_cap.specs.declared.language.Token.{Token}
 use Rattle.ti_cap.specs.declared.language.Token.TheVariants.{CondOpen, CondThen, CondElse, CondClose}
 use Rattle.ti_cap.specs.Tree.{Sequence, Empty, Simple, Conditional, Arms, Lone, Else, ElseIf, tokens, arm_tokens, IsFormed, AreFormed}
-use Rattle.ti_cap.specs.Path.{Walk, IsWalk, IsArmWalk, none_met}
+use Rattle.ti_cap.specs.Path.{Walk, IsWalk, IsArmWalk, none_met, path_of}
 use Rattle.ti_cap.specs.declared.mode.Mode.{Mode}
 use Rattle.ti_cap.specs.declared.mode.Mode.TheVariants.{Run, ToElse, ToEnd}
 use Rattle.ti_cap.specs.Pass.{next_mode, is_running, Passes}
@@ -30,6 +30,31 @@ passes_split [] b m o w p = record { between = m; front = []; back = w; first = 
 passes_split (k ∷ a) b m o w (fails, more, e, p) =
     let r : Split a b (next_mode m k fails) o more = passes_split a b (next_mode m k fails) o more p in
     record { between = r.between; front = _ ∷ r.front; back = r.back; first = (fails, r.front, refl, r.first); second = r.second; joined = e ∙ ap (λ x. (is_running m || is_running (next_mode m k fails)) ∷ x) r.joined }
+
+-- ---- what a walk meets
+
+-- what a walk meets of some tokens, and then of others
+pub path_of-append : (ks ls : List Token) (m o : Mode) (u v : Walk) → Passes m ks u o → path_of (u ++ v) (ks ++ ls) ≡ path_of u ks ++ path_of v ls
+path_of-append [] ls m o u v p = ap (λ x. path_of (x ++ v) ls) p.0 ∙ ap (λ x. path_of x [] ++ path_of v ls) (sym p.0)
+path_of-append (k ∷ ks) ls m o u v (fails, more, e, p) =
+    ap (λ x. path_of (x ++ v) (k ∷ (ks ++ ls))) e ∙ both (is_running m || is_running (next_mode m k fails)) (path_of-append ks ls (next_mode m k fails) o more v p)
+    ∙ ap (λ x. path_of x (k ∷ ks) ++ path_of v ls) (sym e)
+  where
+    both : (b : Bool) → path_of (more ++ v) (ks ++ ls) ≡ path_of more ks ++ path_of v ls
+        → path_of (b ∷ (more ++ v)) (k ∷ (ks ++ ls)) ≡ path_of (b ∷ more) (k ∷ ks) ++ path_of v ls
+    both true h = ap (λ x. k ∷ x) h
+    both false h = h
+
+pub no_path : (w : Walk) → path_of w [] ≡ []
+no_path [] = refl
+no_path (b ∷ w) = refl
+
+-- the marks beyond a list's end do not matter
+pub met_front : (ks : List Token) (m o : Mode) (u v : Walk) → Passes m ks u o → path_of (u ++ v) ks ≡ path_of u ks
+met_front ks m o u v p =
+    ap (λ x. path_of (u ++ v) x) (sym (append-nil ks)) ∙ path_of-append ks [] m o u v p ∙ ap (λ x. path_of u ks ++ x) (no_path v) ∙ append-nil (path_of u ks)
+
+-- ---- one token more
 
 -- a token that leads from a mode to another, of which it is known whether it is met
 pub step_on : (mark : Bool) (m n : Mode) (k : Token) (fails : Bool) (ks : List Token) (v : Walk) (o : Mode) → next_mode m k fails ≡ n → (is_running m || is_running n) ≡ mark

@@ -3,7 +3,6 @@ use Rattle.std.proofs.Common.{◌≡◌, ℕ, zero, suc, ◌≤◌, ◌⊎◌, i
 use Rattle.ti_cap.specs.declared.language.Token.{Token}
 use Rattle.ti_cap.specs.declared.language.Token.TheVariants.{CondOpen, CondThen, CondElse, CondClose}
 use Rattle.ti_cap.specs.Tree.{IsSimple}
-use Rattle.ti_cap.specs.Path.{Walk, path_of}
 use Rattle.ti_cap.specs.declared.mode.Mode.{Mode}
 use Rattle.ti_cap.specs.declared.mode.Mode.TheVariants.{Run, ToElse, ToEnd}
 use Rattle.ti_cap.specs.Pass.{next_mode, is_running}
@@ -11,6 +10,7 @@ use Rattle.ti_cap.specs.declared.scan.Part.{Part}
 use Rattle.ti_cap.specs.declared.scan.Part.TheVariants.{FirstTest, Body, Otherwise}
 use Rattle.ti_cap.specs.inner.Analysis.{Frame, Progress}
 use Rattle.ti_cap.proofs.NextModeLemmas.{simple_stays, opened_from, tested_from, turned_from, closed_from}
+use Rattle.ti_cap.proofs.PassesLemmas.{no_path}
 use Rattle.ti_cap.proofs.ReachesLemmas.{is_met, state_of, passed_by, Reaches, reaches_on, Came, came_from}
 
 -- how a token that is met changes a value
@@ -319,10 +319,6 @@ sums_close act before now f fs rising sums Run = (upper, reach)
         ]
 
 pub sums_start : (act : Act) → Sums act [] (record { running = 0; frames = [] })
-sums_start act Run = ((λ x c. omega (arith, sym c.value, nothing c.walk)), record { walk = []; passes = (refl, refl); value = refl })
-  where
-    nothing : (w : Walk) → state_of act 0 (path_of w []) ≡ 0
-    nothing [] = refl
-    nothing (b ∷ w) = refl
+sums_start act Run = ((λ x c. omega (arith, sym c.value, ap (λ p. state_of act 0 p) (no_path c.walk))), record { walk = []; passes = (refl, refl); value = refl })
 sums_start act (ToElse n) = ((λ x c. let e : ToElse n ≡ Run = c.passes.1 in absurd (cc)), refl)
 sums_start act (ToEnd n) = ((λ x c. let e : ToEnd n ≡ Run = c.passes.1 in absurd (cc)), inr refl)

@@ -8,7 +8,7 @@ use Rattle.ti_cap.specs.declared.mode.Mode.{Mode}
 use Rattle.ti_cap.specs.declared.mode.Mode.TheVariants.{Run, ToElse, ToEnd}
 use Rattle.ti_cap.specs.Pass.{next_mode, is_running, Passes}
 use Rattle.ti_cap.proofs.NextModeLemmas.{deeper}
-use Rattle.ti_cap.proofs.PassesLemmas.{Split, passes_split, passes-append}
+use Rattle.ti_cap.proofs.PassesLemmas.{Split, passes_split, passes-append, path_of-append}
 
 -- whether a token is met, if tests go so
 abbrev pub is_met : Mode → Token → Bool → Bool
@@ -32,18 +32,11 @@ pub record Reaches {S : Type 0} (act : S → Token → S) (start : S) (before : 
 -- what a walk and one mark more meet of the tokens and one more
 pub path_of-snoc : (ks : List Token) (m o : Mode) (w : Walk) (k : Token) (mark : Bool) → Passes m ks w o
     → path_of (w ++ mark ∷ []) (ks ++ k ∷ []) ≡ path_of w ks ++ cond mark (k ∷ []) []
-path_of-snoc [] m o w k mark p = rw p.0 (one mark)
+path_of-snoc ks m o w k mark p = path_of-append ks (k ∷ []) m o w (mark ∷ []) p ∙ ap (λ x. path_of w ks ++ x) (one mark)
   where
     one : (mark : Bool) → path_of (mark ∷ []) (k ∷ []) ≡ cond mark (k ∷ []) []
     one true = refl
     one false = refl
-path_of-snoc (l ∷ ks) m o w k mark (fails, more, e, p) =
-    rw e (both (is_running m || is_running (next_mode m l fails)) (path_of-snoc ks (next_mode m l fails) o more k mark p))
-  where
-    both : (b : Bool) → path_of (more ++ mark ∷ []) (ks ++ k ∷ []) ≡ path_of more ks ++ cond mark (k ∷ []) []
-        → path_of (b ∷ (more ++ mark ∷ [])) (l ∷ (ks ++ k ∷ [])) ≡ path_of (b ∷ more) (l ∷ ks) ++ cond mark (k ∷ []) []
-    both true h = ap (λ x. l ∷ x) h
-    both false h = h
 
 pub state_of-append : {S : Type 0} (act : S → Token → S) (x : S) (a b : List Token) → state_of act x (a ++ b) ≡ state_of act (state_of act x a) b
 state_of-append act x [] b = refl

@@ -1,5 +1,5 @@
 -- No walk over the front of a tree has more values on the stack than the tree's height allows.
-use Rattle.std.proofs.Common.{◌≡◌, ℕ, ◌≤◌, List, [], ◌∷◌, ◌++◌, length, drop, replicate, refl, sym, ◌∙◌, ap, subst, arith, Bool, true, false, ◌||◌, length-append, length-drop}
+use Rattle.std.proofs.Common.{◌≡◌, ℕ, ◌≤◌, List, [], ◌∷◌, ◌++◌, length, drop, replicate, refl, sym, ◌∙◌, ap, subst, arith, true, length-append, length-drop}
 use Rattle.std.specs.Prelude.{Option}
 use Rattle.std.proofs.lemmas.List.{length-replicate}
 use Rattle.ti_cap.specs.declared.language.Token.{Token}
@@ -7,10 +7,10 @@ use Rattle.ti_cap.specs.Tree.{Sequence, tokens, IsTree}
 use Rattle.ti_cap.specs.Path.{Walk, IsPath, path_of}
 use Rattle.ti_cap.specs.declared.mode.Mode.{Mode}
 use Rattle.ti_cap.specs.declared.mode.Mode.TheVariants.{Run}
-use Rattle.ti_cap.specs.Pass.{next_mode, is_running, Passes}
+use Rattle.ti_cap.specs.Pass.{Passes}
 use Rattle.ti_cap.specs.Height.{pops, pushes, next_height, end_height, height_from, height}
 use Rattle.ti_cap.specs.Sources.{source, next_sources}
-use Rattle.ti_cap.proofs.PassesLemmas.{passes-append}
+use Rattle.ti_cap.proofs.PassesLemmas.{passes-append, path_of-append}
 use Rattle.ti_cap.proofs.IsWalkLemmas.{Walked, walk_of}
 use Rattle.ti_cap.proofs.ClimbsLemmas.{passes_on}
 use Rattle.ti_cap.proofs.ReachesLemmas.{state_of, Reaches}
@@ -28,18 +28,6 @@ end-front : (h : ℕ) (a b : List Token) → end_height h a ≤ height_from h (a
 end-front h [] [] = omega arith
 end-front h [] (k ∷ b) = omega arith
 end-front h (k ∷ a) b = omega (arith, end-front (next_height h k) a b)
-
--- what a walk meets of some tokens, and then of others
-pub path_of-append : (ks ls : List Token) (m o : Mode) (u v : Walk) → Passes m ks u o → path_of (u ++ v) (ks ++ ls) ≡ path_of u ks ++ path_of v ls
-path_of-append [] ls m o u v p = ap (λ x. path_of (x ++ v) ls) p.0 ∙ ap (λ x. path_of x [] ++ path_of v ls) (sym p.0)
-path_of-append (k ∷ ks) ls m o u v (fails, more, e, p) =
-    ap (λ x. path_of (x ++ v) (k ∷ (ks ++ ls))) e ∙ both (is_running m || is_running (next_mode m k fails)) (path_of-append ks ls (next_mode m k fails) o more v p)
-    ∙ ap (λ x. path_of x (k ∷ ks) ++ path_of v ls) (sym e)
-  where
-    both : (b : Bool) → path_of (more ++ v) (ks ++ ls) ≡ path_of more ks ++ path_of v ls
-        → path_of (b ∷ (more ++ v)) (k ∷ (ks ++ ls)) ≡ path_of (b ∷ more) (k ∷ ks) ++ path_of v ls
-    both true h = ap (λ x. k ∷ x) h
-    both false h = h
 
 pub stack_low : (tree : Sequence) (before after : List Token) (most : ℕ) (m : Mode) (stack : List (Option ℕ)) → IsTree tree → tokens tree ≡ before ++ after
     → ((path : List Token) → IsPath tree path → height path ≤ most) → Reaches next_sources [] before m stack → length stack ≤ most

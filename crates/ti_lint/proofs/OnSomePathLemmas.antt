@@ -10,9 +10,8 @@ use Rattle.ti_cap.specs.declared.mode.Mode.TheVariants.{Run}
 use Rattle.ti_cap.specs.Pass.{next_mode, is_running, Passes}
 use Rattle.ti_cap.specs.Capability.{Spot, whole}
 use Rattle.ti_cap.proofs.WrittenLemmas.{one_cutting}
-use Rattle.ti_cap.proofs.PassesLemmas.{Over, walk_passes, Split, passes_split, passes-append}
+use Rattle.ti_cap.proofs.PassesLemmas.{Over, walk_passes, Split, passes_split, passes-append, met_front}
 use Rattle.ti_cap.proofs.IsWalkLemmas.{Walked, walk_of}
-use Rattle.ti_cap.proofs.StraightLemmas.{met_front}
 use Rattle.ti_cap.proofs.ClimbsLemmas.{passes_on}
 use Rattle.ti_cap.proofs.ReachesLemmas.{is_met, path_of-snoc}
 use Rattle.ti_lint.specs.declared.pass.Pass.{Pass}

@@ -8,10 +8,9 @@ use Rattle.ti_cap.specs.declared.mode.Mode.{Mode}
 use Rattle.ti_cap.specs.declared.mode.Mode.TheVariants.{Run}
 use Rattle.ti_cap.specs.Pass.{Passes}
 use Rattle.ti_cap.specs.Height.{next_height, end_height, height_from, height}
-use Rattle.ti_cap.proofs.PassesLemmas.{passes-append}
+use Rattle.ti_cap.proofs.PassesLemmas.{passes-append, path_of-append}
 use Rattle.ti_cap.proofs.IsWalkLemmas.{Walked, walk_of}
 use Rattle.ti_cap.proofs.ClimbsLemmas.{passes_on}
-use Rattle.ti_cap.proofs.StackLengthLemmas.{path_of-append}
 use Rattle.ti_cap.proofs.ReachesLemmas.{state_of, Reaches}
 use Rattle.ti_lint.proofs.HoldsLemmas.{Path, snoc}
 
