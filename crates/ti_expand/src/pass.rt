@@ -7,9 +7,7 @@ ghost use Rattle.ti_expand.specs.inner.Running.{IsReady};
 ghost use Rattle.ti_expand.specs.inner.Underway.{IsOnTheWay, GoesOn};
 
 use crate::counts::Run;
-use crate::eval::meet;
-use crate::parameters::Parameters;
-use crate::stack::Stack;
+use crate::machine::Machine;
 use crate::values::Value;
 use crate::variables::Vars;
 use ti_cap::{Mode, Tape};
@@ -97,15 +95,19 @@ fn run_tokens<'a>(
     // Each variable fits 32 bits, on which the bound rests.
     let _numbers = vars.numbers();
     let tokens = tape.token_count();
-    let mut parameters = Parameters::new(parameters);
-    let mut stack = Stack::new(stack);
-    let mut written = 0;
+    let mut machine = Machine::new(parameters, vars, stack, out);
     let mut passed = 0;
     while let Some(token) = tape.token() {
-        let (after, end) = meet(&token, &mut parameters, vars, &mut stack, out, written);
-        written = end;
+        let after = machine.meet(&token);
         pass_over(&mut tape, after, &mut passed);
     }
+    let Machine {
+        vars: _vars,
+        out: _out,
+        written,
+        stack,
+        parameters: _parameters,
+    } = machine;
     Run {
         written,
         ran: tokens - passed,

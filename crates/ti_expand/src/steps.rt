@@ -24,7 +24,7 @@ use ti_cap::{Capability, Mode, Tape};
 #[derive(Drop)]
 pub struct Steps<'r, 'p, 'a> {
     tape: Tape<'a>,
-    machine: Machine<'r, 'p, 'a>,
+    machine: Machine<'r, 'r, 'p, 'a>,
     mode: Mode,
     ran: usize,
     passed: usize,
@@ -32,20 +32,20 @@ pub struct Steps<'r, 'p, 'a> {
 
 impl<'r, 'p, 'a> Model for Steps<'r, 'p, 'a> {
     ghost use Rattle.ti_expand.specs.Steps.{Underway};
-    ghost use Rattle.ti_expand.specs.inner.Held.{IsPaused};
+    ghost use Rattle.ti_expand.specs.inner.Held.{held, IsPaused};
 
     ghost Value = { Underway };
 
     ghost view = { λ s. record {
       spot = s.tape;
       mode = s.mode;
-      state = s.machine.state;
+      state = (held s.machine).state;
       ran = s.ran;
       passed = s.passed;
-      peak = s.machine.highest;
+      peak = (held s.machine).highest;
     } };
 
-    ghost invariant = { λ s. IsPaused s.tape.left s.mode s.machine s.ran s.passed };
+    ghost invariant = { λ s. IsPaused s.tape.left s.mode (held s.machine) s.ran s.passed };
 }
 
 // It names the type alone.
