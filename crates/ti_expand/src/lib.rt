@@ -11,7 +11,6 @@ mod at_once;
 mod bytes;
 mod counts;
 mod digits;
-mod eval;
 mod expansion;
 mod fault;
 pub mod laws;

@@ -1,13 +1,14 @@
-use Rattle.std.proofs.Common.{◌≡◌, ℕ, List, ◌++◌, ◌<◌, ◌≤◌, length, arith, refl, subst, sym, ◌∙◌, ap, drop}
+use Rattle.std.proofs.Common.{ℕ, List, ◌++◌, ◌<◌, ◌≤◌, length, arith, refl, subst, ◌∙◌}
 use Rattle.std.proofs.lemmas.List.{length-take}
 use Rattle.ti_cap.specs.declared.mode.Mode.TheVariants.{Run}
 use Rattle.ti_cap.specs.Capability.{HasCount}
 use Rattle.ti_expand.specs.State.{State, start}
 use Rattle.ti_expand.specs.Steps.{step_state}
 use Rattle.ti_expand.specs.inner.Held.{held}
-use Rattle.ti_expand.specs.inner.Underway.{IsUnderway, HasPassed}
+use Rattle.ti_expand.specs.inner.Underway.{IsUnderway}
 use Rattle.ti_expand.proofs.AtOnceLemmas.{ran_on}
 use Rattle.ti_expand.proofs.CanRunLemmas.{can_run}
+use Rattle.ti_expand.proofs.HeightLemmas.{meet_fits, has_run}
 use Rattle.ti_expand.proofs.IsExpansionLemmas.{is_expansion, given_back}
 use Rattle.ti_expand.proofs.PausedLemmas.{in_place_on}
 use Rattle.ti_expand.proofs.UnderwayLemmas.{underway_start, underway_height, underway_output, passed_few, counted}
@@ -33,7 +34,7 @@ meet-after-requires-clause-height c =
     let l = c.loop-token in
     let high : length (step_state Run c.in-Some.token (held l.machine).state).stack ≤ length c.args.stack.now =
     underway_height _ _ _ _ _ _ _ _ _ _ _ _ l.invariant.here.underway c.in-Some.ensures.order in
-    omega (arith, high, l.invariant.places)
+    meet_fits l.machine c.in-Some.token _ (omega (arith, high, l.invariant.places))
 
 pub meet-after-requires-clause-room : goal.meet-after-requires-clause-room
 meet-after-requires-clause-room c =
@@ -44,7 +45,8 @@ meet-after-requires-clause-room c =
 
 pub pass_over-requires : goal.pass_over-requires
 pass_over-requires c =
-    let m = c.meet-after.ensures.ran in
+    let e = c.meet-after.ensures in
+    let m = has_run c.loop-token.machine c.meet-after.new.self c.in-Some.token c.meet-after.result e.mode e.state e.highest e.places e.room in
     record {
       bytes = _;
       initial = _;
@@ -64,12 +66,13 @@ loop-token-smaller c =
 pub loop-token-preserved : goal.loop-token-preserved
 loop-token-preserved c =
     let l = c.loop-token in
-    let m = c.meet-after.ensures.ran in
+    let e = c.meet-after.ensures in
+    let m = has_run c.loop-token.machine c.meet-after.new.self c.in-Some.token c.meet-after.result e.mode e.state e.highest e.places e.room in
     record {
       here = c.pass_over.ensures.onward _ _ _ _ _ _ (ran_on _ _ _ _ _ _ _ _ _ c.in-Some.ensures.order m.mode_is m.state m.highest _ _ _ _ l.invariant.here);
       places = m.places ∙ l.invariant.places;
       room = m.room ∙ l.invariant.room;
-      place = in_place_on _ _ _ l.invariant.place c.meet-after.ensures.place;
+      place = in_place_on _ _ _ l.invariant.place e.place;
     }
 
 pub overflow_sub-result : goal.overflow_sub-result
