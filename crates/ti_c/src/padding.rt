@@ -1,8 +1,8 @@
 //! Padding a text for C.
 
-ghost use Rattle.std.specs.Prelude.{◌≡◌, ◌⊎◌, IsTrue, IfNone, IfSome, false, true, length, take, drop};
+ghost use Rattle.std.specs.Prelude.{◌≡◌, ◌⊎◌, ℕ, IsTrue, IfNone, IfSome, false, true, length, take, drop};
 ghost use Rattle.ti_c.specs.Numbers.{bad_padding, done};
-ghost use Rattle.ti_c.specs.Padding.{is_within_limits, padded_as_given, padding_answer, setting_given, told_length};
+ghost use Rattle.ti_c.specs.Padding.{is_within_limits, padded_as_given, IsPaddingFault, setting_given, told_length};
 
 use crate::faults::{BAD_PADDING, DONE, OUT_TOO_SMALL, TOO_MUCH};
 use ti_pad::{PadIntoFault, Padding, pad_into};
@@ -48,7 +48,10 @@ pub extern "C" fn ti_pad(
     out: &mut [u8],
     padded_length: &mut usize,
 ) -> u32
-    ensures answer { result ≡ padding_answer text.now padding.now (length out.old) }
+    ensures answer { (result ≡ done)
+        ⊎ IsPaddingFault text.now padding.now (length out.old) result }
+    ensures only { (number : ℕ) → IsPaddingFault text.now padding.now (length out.old) number
+        → result ≡ number }
     ensures kept { (result ≡ done) ⊎ (out.new ≡ out.old) }
     ensures told { (result ≡ bad_padding)
         ⊎ (padded_length.new ≡ told_length (length (padded_as_given text.now padding.now))) }

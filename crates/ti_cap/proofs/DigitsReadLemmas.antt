@@ -1,5 +1,5 @@
 -- Reading digits: one step at a place of a list.
-use Rattle.std.proofs.Common.{◌≡◌, ℕ, suc, ◌+◌, ◌-◌, ◌*◌, ◌<◌, ◌≤◌, ◌≢◌, ◌⊎◌, pos, List, [], ◌∷◌, ◌++◌, length, drop, get_or, drop-cons, add-one, refl, ◌∙◌, arith, ap, Ok, Err}
+use Rattle.std.proofs.Common.{◌≡◌, ℕ, suc, ◌+◌, ◌<◌, ◌≤◌, ◌≢◌, ◌⊎◌, pos, List, [], ◌∷◌, ◌++◌, length, drop, get_or, drop-cons, add-one, refl, ◌∙◌, arith, ap, Ok, Err}
 use Rattle.std.proofs.lemmas.Grind.{common_steps}
 use Rattle.ti_base.specs.Limits.{greatest_constant}
 use Rattle.ti_cap.specs.declared.language.Token.TheVariants.{Constant}
@@ -15,10 +15,6 @@ number_from-ge n (c ∷ cs) = let h : with_digit n c ≤ number_from (with_digit
 pub number_from-append : (n : ℕ) (ds es : List ℕ) → number_from n (ds ++ es) ≡ number_from (number_from n ds) es
 number_from-append n [] es = refl
 number_from-append n (c ∷ cs) es = number_from-append (with_digit n c) cs es
-
--- the digit at a place is the next
-pub number_from-next : (n i : ℕ) (ds : List ℕ) → i < length ds → number_from n (drop i ds) ≡ number_from (10 * n + (get_or ds i 0 - 48)) (drop (i + 1) ds)
-number_from-next n i ds h = rw add-one (ap (λ x. number_from n x) (drop-cons ds i 0 h))
 
 pub digit_step : (n i c : ℕ) (cs : List ℕ) → 48 ≤ c → c ≤ 57 → with_digit n c ≤ greatest_constant
     → digits_read n i (c ∷ cs) ≡ digits_read (with_digit n c) (i + 1) cs

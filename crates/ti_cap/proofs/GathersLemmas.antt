@@ -2,16 +2,16 @@
 use Rattle.std.proofs.Common.{◌≡◌, ℕ, suc, ◌+◌, ◌⊎◌, inl, inr, ◌↔◌, List, [], ◌∷◌, ◌++◌, length, get_or, refl, sym, ◌∙◌, ap, subst, arith, Bool, true, false, cond, IsTrue}
 use Rattle.ti_base.specs.Limits.{most_open}
 use Rattle.ti_cap.specs.declared.language.Token.{Token}
-use Rattle.ti_cap.specs.declared.language.Token.TheVariants.{Param, CondOpen, CondThen, CondElse, CondClose}
+use Rattle.ti_cap.specs.declared.language.Token.TheVariants.{Param}
 use Rattle.ti_cap.specs.declared.parameter_set.ParameterSet.{ParameterSet}
 use Rattle.ti_cap.specs.declared.origins.Origins.{Origins}
 use Rattle.ti_cap.specs.declared.gathering.Gathering.{Gathering}
 use Rattle.ti_cap.specs.declared.scan.Part.{Part}
-use Rattle.ti_cap.specs.Tree.{IsSimple}
-use Rattle.ti_cap.specs.Path.{Walk, path_of}
-use Rattle.ti_cap.specs.Pass.{Mode, Running, Past, ElseOrEnd, EndOnly, Until}
+use Rattle.ti_cap.specs.declared.mode.Mode.{Mode}
+use Rattle.ti_cap.specs.declared.mode.Mode.TheVariants.{Run, ToElse, ToEnd}
 use Rattle.ti_cap.specs.Sources.{next_sources, takes_text, Has, Names, TakesAsText}
 use Rattle.ti_cap.specs.inner.Gathering.{united, only, with_named, fresh, no_gathering}
+use Rattle.ti_cap.proofs.PassesLemmas.{no_path}
 use Rattle.ti_cap.proofs.HasLemmas.{has_none, has_united, has_only}
 use Rattle.ti_cap.proofs.PartsLemmas.{Leads}
 use Rattle.ti_cap.proofs.ReachesLemmas.{state_of, Reaches, Moved, Next, reaches_next, next_reaches}
@@ -29,15 +29,11 @@ pub record Gathers (before : List Token) (parts : List Part) (g : Gathering) : T
   pub count : length parts ≡ g.nesting
   pub alive : IsAlive parts before
   pub room : length g.opens ≡ most_open
-  pub running : Holds g.here (Stacks before Running)
-  pub failed : (j n : ℕ) → suc (j + n) ≡ g.nesting → Holds (get_or g.opens j fresh).failed (Stacks before (Past ElseOrEnd n))
-  pub done : (j n : ℕ) → suc (j + n) ≡ g.nesting → Holds (get_or g.opens j fresh).done (Stacks before (Past EndOnly n))
+  pub running : Holds g.here (Stacks before Run)
+  pub failed : (j n : ℕ) → suc (j + n) ≡ g.nesting → Holds (get_or g.opens j fresh).failed (Stacks before (ToElse n))
+  pub done : (j n : ℕ) → suc (j + n) ≡ g.nesting → Holds (get_or g.opens j fresh).done (Stacks before (ToEnd n))
   pub named : (which : ℕ) → Has g.found.named which ↔ Seen (λ path. Names path which) before
   pub texts : (which : ℕ) → Has g.found.texts which ↔ Seen (λ path. TakesAsText path which) before
-
-no_path : (w : Walk) → path_of w [] ≡ []
-no_path [] = refl
-no_path (b ∷ w) = refl
 
 pub gathers_start : Gathers [] [] no_gathering
 gathers_start = record {
@@ -45,7 +41,7 @@ gathers_start = record {
   count = refl;
   alive = alive_start;
   room = refl;
-  running = holds_empty (Stacks [] Running) (λ x r. sym r.value ∙ ap (λ p. state p) (no_path r.walk));
+  running = holds_empty (Stacks [] Run) (λ x r. sym r.value ∙ ap (λ p. state p) (no_path r.walk));
   failed = λ j n e. absurd (omega arith);
   done = λ j n e. absurd (omega arith);
   named = λ which. ((λ h. absurd (has_none which h)), (λ s. absurd (unnamed which s)));
@@ -74,20 +70,6 @@ both f g x = (f x, g x)
 pub after_step : (before : List Token) (k : Token) (m : Mode) (x : Stack)
     → Next next_sources (Stacks before) k m x ↔ Stacks (before ++ k ∷ []) m x
 after_step before k m x = (next_reaches next_sources [] before k m x, reaches_next next_sources [] before k m x)
-
-pub simple_running : (before : List Token) (k : Token) → IsSimple k → (x : Stack) → Moved next_sources (Stacks before Running) k x ↔ Stacks (before ++ k ∷ []) Running x
-simple_running before CondOpen h x = absurd h
-simple_running before CondThen h x = absurd h
-simple_running before CondElse h x = absurd h
-simple_running before CondClose h x = absurd h
-simple_running before k h x = after_step before k Running x
-
-pub simple_waiting : (before : List Token) (k : Token) (b : Until) (n : ℕ) → IsSimple k → (x : Stack) → Stacks before (Past b n) x ↔ Stacks (before ++ k ∷ []) (Past b n) x
-simple_waiting before CondOpen b n h x = absurd h
-simple_waiting before CondThen b n h x = absurd h
-simple_waiting before CondElse b n h x = absurd h
-simple_waiting before CondClose b n h x = absurd h
-simple_waiting before k b n h x = after_step before k (Past b n) x
 
 -- a token that moves no value
 unmoved : (within : Stack → Type 0) (k : Token) → ((x : Stack) → next_sources x k ≡ x) → (x : Stack) → within x ↔ Moved next_sources within k x

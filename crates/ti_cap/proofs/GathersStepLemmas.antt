@@ -11,22 +11,22 @@ use Rattle.ti_cap.specs.declared.gathering.Open.{Open}
 use Rattle.ti_cap.specs.declared.scan.Part.{Part}
 use Rattle.ti_cap.specs.Tree.{IsSimple}
 use Rattle.ti_cap.specs.Path.{path_of}
-use Rattle.ti_cap.specs.Pass.{Running, Past, ElseOrEnd, EndOnly}
+use Rattle.ti_cap.specs.declared.mode.Mode.TheVariants.{Run, ToElse, ToEnd}
 use Rattle.ti_cap.specs.Sources.{next_sources, takes_text, Has, Names, TakesAsText}
 use Rattle.ti_cap.specs.inner.Gathering.{no_parameter, no_origins, popped, joined, after_token, found_by, fresh, innermost, gathered, IsTakeable}
 use Rattle.ti_cap.proofs.PartsLemmas.{allowed, Leads, leads-append}
 use Rattle.ti_cap.proofs.NestLemmas.{below, level_after, allowed_level}
-use Rattle.ti_cap.proofs.ReachesLemmas.{state_of, Moved, reaches_next}
+use Rattle.ti_cap.proofs.ReachesLemmas.{state_of, Moved, reaches_next, simple_running, simple_waiting}
 use Rattle.ti_cap.proofs.HoldsLemmas.{Stack, Holds, IsFit, holds_same, holds_nothing, holds_joined, holds_token}
 use Rattle.ti_cap.proofs.IsAliveLemmas.{alive_step}
 use Rattle.ti_cap.proofs.SeenLemmas.{Seen, Runs, TakesTop, names_step, texts_step}
-use Rattle.ti_cap.proofs.GathersLemmas.{Stacks, Gathers, after_step, simple_running, simple_waiting, holds_unmoved, swapped, regrouped, frame_named, frame_texts, chain, has_with_named, has_texts}
+use Rattle.ti_cap.proofs.GathersLemmas.{Stacks, Gathers, after_step, holds_unmoved, swapped, regrouped, frame_named, frame_texts, chain, has_with_named, has_texts}
 
 -- where it may stand, and what is known of the stacks after it
 pub record Goes (before : List Token) (k : Token) (parts onto : List Part) (g : Gathering) : Type 0 where
   pub old : Gathers before parts g
   pub stands : allowed k parts ≡ Some onto
-  pub low : (x : Stack) → Stacks (before ++ k ∷ []) Running x → length x ≤ most_values
+  pub low : (x : Stack) → Stacks (before ++ k ∷ []) Run x → length x ≤ most_values
   pub takeable : IsTakeable k g.nesting
   pub fit : IsFit k
 
@@ -34,15 +34,15 @@ leads_on : (before : List Token) (k : Token) (parts onto : List Part) (g : Gathe
 leads_on before k parts onto g w = leads-append [] parts onto before (k ∷ []) w.old.leads (onto, w.stands, refl)
 
 -- some stack runs here
-runs : (before : List Token) (parts : List Part) (g : Gathering) → Gathers before parts g → (x : Stack) × Stacks before Running x
+runs : (before : List Token) (parts : List Part) (g : Gathering) → Gathers before parts g → (x : Stack) × Stacks before Run x
 runs before parts g w = (state_of next_sources [] (path_of w.alive.runs.0 before), record { walk = w.alive.runs.0; passes = w.alive.runs.1; value = refl })
 
 -- a token that all walks here meet
 holds_met : (before : List Token) (k : Token) (parts onto : List Part) (g : Gathering) → Goes before k parts onto g
-    → ((x : Stack) → Moved next_sources (Stacks before Running) k x → Stacks (before ++ k ∷ []) Running x) → Holds (after_token k g.here) (Moved next_sources (Stacks before Running) k)
+    → ((x : Stack) → Moved next_sources (Stacks before Run) k x → Stacks (before ++ k ∷ []) Run x) → Holds (after_token k g.here) (Moved next_sources (Stacks before Run) k)
 holds_met before k parts onto g w on =
-    let r : (x : Stack) × Stacks before Running x = runs before parts g w.old in
-    holds_token k g.here (Stacks before Running) r.0 w.fit r.1 (λ x s. w.low (next_sources x k) (on (next_sources x k) (x, s, refl))) w.old.running
+    let r : (x : Stack) × Stacks before Run x = runs before parts g w.old in
+    holds_token k g.here (Stacks before Run) r.0 w.fit r.1 (λ x s. w.low (next_sources x k) (on (next_sources x k) (x, s, refl))) w.old.running
 
 simple_step : (before : List Token) (k : Token) (parts onto : List Part) (g : Gathering) → IsSimple k → level_after (length parts) k ≡ length parts → Goes before k parts onto g
     → Gathers (before ++ k ∷ []) onto (record g { here = after_token k g.here; found = found_by k g })
@@ -51,10 +51,10 @@ simple_step before k parts onto g simple level w = record {
   count = sym (allowed_level k parts onto w.stands) ∙ level ∙ w.old.count;
   alive = alive_step before k parts onto w.stands w.old.alive;
   room = w.old.room;
-  running = holds_same (after_token k g.here) _ (Stacks (before ++ k ∷ []) Running) (simple_running before k simple)
-      (holds_met before k parts onto g w (λ x. (simple_running before k simple x).0));
-  failed = λ j n e. holds_same _ (Stacks before (Past ElseOrEnd n)) _ (simple_waiting before k ElseOrEnd n simple) (w.old.failed j n e);
-  done = λ j n e. holds_same _ (Stacks before (Past EndOnly n)) _ (simple_waiting before k EndOnly n simple) (w.old.done j n e);
+  running = holds_same (after_token k g.here) _ (Stacks (before ++ k ∷ []) Run) (simple_running next_sources [] before k simple)
+      (holds_met before k parts onto g w (λ x. (simple_running next_sources [] before k simple x).0));
+  failed = λ j n e. holds_same _ (Stacks before (ToElse n)) _ (simple_waiting next_sources [] before k (ToElse n) refl simple) (w.old.failed j n e);
+  done = λ j n e. holds_same _ (Stacks before (ToEnd n)) _ (simple_waiting next_sources [] before k (ToEnd n) refl simple) (w.old.done j n e);
   named = λ which. chain (has_with_named k g.found.named which w.fit) (chain (names_now which) (turn (names_step before k which)));
   texts = λ which. chain (has_texts g.found.texts (get_or g.here.sets 0 no_parameter) which (takes_text k)) (chain (texts_now which) (turn (texts_step before k which)));
 }
@@ -67,7 +67,7 @@ simple_step before k parts onto g simple level w = record {
       where
         there : Has g.found.named which ⊎ (k ≡ Param which) → Seen (λ path. Names path which) before ⊎ Runs before (λ stack. k ≡ Param which)
         there (inl h) = inl ((w.old.named which).0 h)
-        there (inr e) = let r : (x : Stack) × Stacks before Running x = runs before parts g w.old in inr (r.0, r.1, e)
+        there (inr e) = let r : (x : Stack) × Stacks before Run x = runs before parts g w.old in inr (r.0, r.1, e)
 
         back : Seen (λ path. Names path which) before ⊎ Runs before (λ stack. k ≡ Param which) → Has g.found.named which ⊎ (k ≡ Param which)
         back (inl s) = inl ((w.old.named which).1 s)
@@ -100,8 +100,8 @@ open_step before parts onto g w = record {
   count = omega (arith, allowed_level CondOpen parts onto w.stands, w.old.count);
   alive = alive_step before CondOpen parts onto w.stands w.old.alive;
   room = length-set g.opens g.nesting fresh ∙ w.old.room;
-  running = holds_same g.here _ (Stacks (before ++ CondOpen ∷ []) Running) (after_step before CondOpen Running)
-      (holds_unmoved g.here (Stacks before Running) CondOpen (λ x. refl) w.old.running);
+  running = holds_same g.here _ (Stacks (before ++ CondOpen ∷ []) Run) (after_step before CondOpen Run)
+      (holds_unmoved g.here (Stacks before Run) CondOpen (λ x. refl) w.old.running);
   failed = failed;
   done = done;
   named = λ which. chain (w.old.named which) (frame_named before CondOpen which (λ e. absurd (cc)));
@@ -111,23 +111,23 @@ open_step before parts onto g w = record {
     within : g.nesting < length g.opens
     within = omega (arith, w.old.room, w.takeable)
 
-    failed : (j n : ℕ) → suc (j + n) ≡ g.nesting + 1 → Holds (get_or (set g.opens g.nesting fresh) j fresh).failed (Stacks (before ++ CondOpen ∷ []) (Past ElseOrEnd n))
+    failed : (j n : ℕ) → suc (j + n) ≡ g.nesting + 1 → Holds (get_or (set g.opens g.nesting fresh) j fresh).failed (Stacks (before ++ CondOpen ∷ []) (ToElse n))
     failed j zero e = holds_along _ no_origins _ (ap (λ o. o.failed) (at_same g.opens g.nesting j fresh (omega arith) within))
-        (holds_nothing _ (λ x r. reaches_next next_sources [] before CondOpen (Past ElseOrEnd zero) x r))
+        (holds_nothing _ (λ x r. reaches_next next_sources [] before CondOpen (ToElse zero) x r))
     failed j (suc n) e = holds_along _ _ _ (ap (λ o. o.failed) (at_other g.opens g.nesting j fresh (λ i. omega arith)))
-        (holds_same _ (Stacks before (Past ElseOrEnd n)) _ (after_step before CondOpen (Past ElseOrEnd (suc n))) (w.old.failed j n (omega arith)))
+        (holds_same _ (Stacks before (ToElse n)) _ (after_step before CondOpen (ToElse (suc n))) (w.old.failed j n (omega arith)))
 
-    done : (j n : ℕ) → suc (j + n) ≡ g.nesting + 1 → Holds (get_or (set g.opens g.nesting fresh) j fresh).done (Stacks (before ++ CondOpen ∷ []) (Past EndOnly n))
+    done : (j n : ℕ) → suc (j + n) ≡ g.nesting + 1 → Holds (get_or (set g.opens g.nesting fresh) j fresh).done (Stacks (before ++ CondOpen ∷ []) (ToEnd n))
     done j zero e = holds_along _ no_origins _ (ap (λ o. o.done) (at_same g.opens g.nesting j fresh (omega arith) within))
-        (holds_nothing _ (λ x r. reaches_next next_sources [] before CondOpen (Past EndOnly zero) x r))
+        (holds_nothing _ (λ x r. reaches_next next_sources [] before CondOpen (ToEnd zero) x r))
     done j (suc n) e = holds_along _ _ _ (ap (λ o. o.done) (at_other g.opens g.nesting j fresh (λ i. omega arith)))
-        (holds_same _ (Stacks before (Past EndOnly n)) _ (after_step before CondOpen (Past EndOnly (suc n))) (w.old.done j n (omega arith)))
+        (holds_same _ (Stacks before (ToEnd n)) _ (after_step before CondOpen (ToEnd (suc n))) (w.old.done j n (omega arith)))
 
 -- the innermost conditional is that of the last place
-holds_innermost_failed : (before : List Token) (parts : List Part) (g : Gathering) → Gathers before parts g → 0 < g.nesting → Holds (innermost g).failed (Stacks before (Past ElseOrEnd zero))
+holds_innermost_failed : (before : List Token) (parts : List Part) (g : Gathering) → Gathers before parts g → 0 < g.nesting → Holds (innermost g).failed (Stacks before (ToElse zero))
 holds_innermost_failed before parts g w some = w.failed (g.nesting - 1) zero (omega arith)
 
-holds_innermost_done : (before : List Token) (parts : List Part) (g : Gathering) → Gathers before parts g → 0 < g.nesting → Holds (innermost g).done (Stacks before (Past EndOnly zero))
+holds_innermost_done : (before : List Token) (parts : List Part) (g : Gathering) → Gathers before parts g → 0 < g.nesting → Holds (innermost g).done (Stacks before (ToEnd zero))
 holds_innermost_done before parts g w some = w.done (g.nesting - 1) zero (omega arith)
 
 -- there is room for what is open
@@ -140,7 +140,7 @@ then_step before parts onto g w few = record {
   count = sym (allowed_level CondThen parts onto w.stands) ∙ w.old.count;
   alive = alive_step before CondThen parts onto w.stands w.old.alive;
   room = length-set g.opens (g.nesting - 1) written ∙ w.old.room;
-  running = holds_same (popped g.here) _ (Stacks (before ++ CondThen ∷ []) Running) (after_step before CondThen Running) met;
+  running = holds_same (popped g.here) _ (Stacks (before ++ CondThen ∷ []) Run) (after_step before CondThen Run) met;
   failed = failed;
   done = done;
   named = λ which. chain (w.old.named which) (frame_named before CondThen which (λ e. absurd (cc)));
@@ -153,21 +153,21 @@ then_step before parts onto g w few = record {
     within : g.nesting - 1 < length g.opens
     within = omega (arith, few_open before parts g w.old few, w.takeable)
 
-    met : Holds (popped g.here) (Moved next_sources (Stacks before Running) CondThen)
-    met = holds_met before CondThen parts onto g w (λ x. (after_step before CondThen Running x).0)
+    met : Holds (popped g.here) (Moved next_sources (Stacks before Run) CondThen)
+    met = holds_met before CondThen parts onto g w (λ x. (after_step before CondThen Run x).0)
 
-    failed : (j n : ℕ) → suc (j + n) ≡ g.nesting → Holds (get_or (set g.opens (g.nesting - 1) written) j fresh).failed (Stacks (before ++ CondThen ∷ []) (Past ElseOrEnd n))
+    failed : (j n : ℕ) → suc (j + n) ≡ g.nesting → Holds (get_or (set g.opens (g.nesting - 1) written) j fresh).failed (Stacks (before ++ CondThen ∷ []) (ToElse n))
     failed j zero e = holds_along _ (joined (innermost g).failed (popped g.here)) _ (ap (λ o. o.failed) (at_same g.opens (g.nesting - 1) j written (omega arith) within))
-        (holds_same _ _ _ (λ x. chain (swapped (Stacks before (Past ElseOrEnd zero)) (Moved next_sources (Stacks before Running) CondThen) x) (after_step before CondThen (Past ElseOrEnd zero) x))
+        (holds_same _ _ _ (λ x. chain (swapped (Stacks before (ToElse zero)) (Moved next_sources (Stacks before Run) CondThen) x) (after_step before CondThen (ToElse zero) x))
         (holds_joined (innermost g).failed (popped g.here) _ _ (holds_innermost_failed before parts g w.old w.takeable) met))
     failed j (suc n) e = holds_along _ _ _ (ap (λ o. o.failed) (at_other g.opens (g.nesting - 1) j written (λ i. omega arith)))
-        (holds_same _ (Stacks before (Past ElseOrEnd (suc n))) _ (after_step before CondThen (Past ElseOrEnd (suc n))) (w.old.failed j (suc n) e))
+        (holds_same _ (Stacks before (ToElse (suc n))) _ (after_step before CondThen (ToElse (suc n))) (w.old.failed j (suc n) e))
 
-    done : (j n : ℕ) → suc (j + n) ≡ g.nesting → Holds (get_or (set g.opens (g.nesting - 1) written) j fresh).done (Stacks (before ++ CondThen ∷ []) (Past EndOnly n))
+    done : (j n : ℕ) → suc (j + n) ≡ g.nesting → Holds (get_or (set g.opens (g.nesting - 1) written) j fresh).done (Stacks (before ++ CondThen ∷ []) (ToEnd n))
     done j zero e = holds_along _ (innermost g).done _ (ap (λ o. o.done) (at_same g.opens (g.nesting - 1) j written (omega arith) within))
-        (holds_same _ (Stacks before (Past EndOnly zero)) _ (after_step before CondThen (Past EndOnly zero)) (holds_innermost_done before parts g w.old w.takeable))
+        (holds_same _ (Stacks before (ToEnd zero)) _ (after_step before CondThen (ToEnd zero)) (holds_innermost_done before parts g w.old w.takeable))
     done j (suc n) e = holds_along _ _ _ (ap (λ o. o.done) (at_other g.opens (g.nesting - 1) j written (λ i. omega arith)))
-        (holds_same _ (Stacks before (Past EndOnly (suc n))) _ (after_step before CondThen (Past EndOnly (suc n))) (w.old.done j (suc n) e))
+        (holds_same _ (Stacks before (ToEnd (suc n))) _ (after_step before CondThen (ToEnd (suc n))) (w.old.done j (suc n) e))
 
 else_step : (before : List Token) (parts onto : List Part) (g : Gathering) → Goes before CondElse parts onto g → length parts ≤ most_open → Gathers (before ++ CondElse ∷ []) onto (gathered g CondElse)
 else_step before parts onto g w few = record {
@@ -175,8 +175,8 @@ else_step before parts onto g w few = record {
   count = sym (allowed_level CondElse parts onto w.stands) ∙ w.old.count;
   alive = alive_step before CondElse parts onto w.stands w.old.alive;
   room = length-set g.opens (g.nesting - 1) written ∙ w.old.room;
-  running = holds_same (innermost g).failed _ (Stacks (before ++ CondElse ∷ []) Running) (after_step before CondElse Running)
-      (holds_unmoved (innermost g).failed (Stacks before (Past ElseOrEnd zero)) CondElse (λ x. refl) (holds_innermost_failed before parts g w.old w.takeable));
+  running = holds_same (innermost g).failed _ (Stacks (before ++ CondElse ∷ []) Run) (after_step before CondElse Run)
+      (holds_unmoved (innermost g).failed (Stacks before (ToElse zero)) CondElse (λ x. refl) (holds_innermost_failed before parts g w.old w.takeable));
   failed = failed;
   done = done;
   named = λ which. chain (w.old.named which) (frame_named before CondElse which (λ e. absurd (cc)));
@@ -189,18 +189,18 @@ else_step before parts onto g w few = record {
     within : g.nesting - 1 < length g.opens
     within = omega (arith, few_open before parts g w.old few, w.takeable)
 
-    failed : (j n : ℕ) → suc (j + n) ≡ g.nesting → Holds (get_or (set g.opens (g.nesting - 1) written) j fresh).failed (Stacks (before ++ CondElse ∷ []) (Past ElseOrEnd n))
+    failed : (j n : ℕ) → suc (j + n) ≡ g.nesting → Holds (get_or (set g.opens (g.nesting - 1) written) j fresh).failed (Stacks (before ++ CondElse ∷ []) (ToElse n))
     failed j zero e = holds_along _ no_origins _ (ap (λ o. o.failed) (at_same g.opens (g.nesting - 1) j written (omega arith) within))
-        (holds_nothing _ (λ x r. reaches_next next_sources [] before CondElse (Past ElseOrEnd zero) x r))
+        (holds_nothing _ (λ x r. reaches_next next_sources [] before CondElse (ToElse zero) x r))
     failed j (suc n) e = holds_along _ _ _ (ap (λ o. o.failed) (at_other g.opens (g.nesting - 1) j written (λ i. omega arith)))
-        (holds_same _ (Stacks before (Past ElseOrEnd (suc n))) _ (after_step before CondElse (Past ElseOrEnd (suc n))) (w.old.failed j (suc n) e))
+        (holds_same _ (Stacks before (ToElse (suc n))) _ (after_step before CondElse (ToElse (suc n))) (w.old.failed j (suc n) e))
 
-    done : (j n : ℕ) → suc (j + n) ≡ g.nesting → Holds (get_or (set g.opens (g.nesting - 1) written) j fresh).done (Stacks (before ++ CondElse ∷ []) (Past EndOnly n))
+    done : (j n : ℕ) → suc (j + n) ≡ g.nesting → Holds (get_or (set g.opens (g.nesting - 1) written) j fresh).done (Stacks (before ++ CondElse ∷ []) (ToEnd n))
     done j zero e = holds_along _ (joined (innermost g).done g.here) _ (ap (λ o. o.done) (at_same g.opens (g.nesting - 1) j written (omega arith) within))
-        (holds_same _ _ _ (λ x. chain (swapped (Stacks before (Past EndOnly zero)) (Moved next_sources (Stacks before Running) CondElse) x) (after_step before CondElse (Past EndOnly zero) x))
-        (holds_joined (innermost g).done g.here _ _ (holds_innermost_done before parts g w.old w.takeable) (holds_unmoved g.here (Stacks before Running) CondElse (λ x. refl) w.old.running)))
+        (holds_same _ _ _ (λ x. chain (swapped (Stacks before (ToEnd zero)) (Moved next_sources (Stacks before Run) CondElse) x) (after_step before CondElse (ToEnd zero) x))
+        (holds_joined (innermost g).done g.here _ _ (holds_innermost_done before parts g w.old w.takeable) (holds_unmoved g.here (Stacks before Run) CondElse (λ x. refl) w.old.running)))
     done j (suc n) e = holds_along _ _ _ (ap (λ o. o.done) (at_other g.opens (g.nesting - 1) j written (λ i. omega arith)))
-        (holds_same _ (Stacks before (Past EndOnly (suc n))) _ (after_step before CondElse (Past EndOnly (suc n))) (w.old.done j (suc n) e))
+        (holds_same _ (Stacks before (ToEnd (suc n))) _ (after_step before CondElse (ToEnd (suc n))) (w.old.done j (suc n) e))
 
 close_step : (before : List Token) (parts onto : List Part) (g : Gathering) → Goes before CondClose parts onto g → Gathers (before ++ CondClose ∷ []) onto (gathered g CondClose)
 close_step before parts onto g w = record {
@@ -208,14 +208,14 @@ close_step before parts onto g w = record {
   count = omega (arith, allowed_level CondClose parts onto w.stands, less (length parts), w.old.count);
   alive = alive_step before CondClose parts onto w.stands w.old.alive;
   room = w.old.room;
-  running = holds_same _ _ (Stacks (before ++ CondClose ∷ []) Running)
-      (λ x. chain (regrouped (Moved next_sources (Stacks before Running) CondClose) (Moved next_sources (Stacks before (Past ElseOrEnd zero)) CondClose) (Moved next_sources (Stacks before (Past EndOnly zero)) CondClose) x) (after_step before CondClose Running x))
+  running = holds_same _ _ (Stacks (before ++ CondClose ∷ []) Run)
+      (λ x. chain (regrouped (Moved next_sources (Stacks before Run) CondClose) (Moved next_sources (Stacks before (ToElse zero)) CondClose) (Moved next_sources (Stacks before (ToEnd zero)) CondClose) x) (after_step before CondClose Run x))
       (holds_joined (joined g.here (innermost g).failed) (innermost g).done _ _
-      (holds_joined g.here (innermost g).failed _ _ (holds_unmoved g.here (Stacks before Running) CondClose (λ x. refl) w.old.running)
-      (holds_unmoved (innermost g).failed (Stacks before (Past ElseOrEnd zero)) CondClose (λ x. refl) (holds_innermost_failed before parts g w.old w.takeable)))
-      (holds_unmoved (innermost g).done (Stacks before (Past EndOnly zero)) CondClose (λ x. refl) (holds_innermost_done before parts g w.old w.takeable)));
-  failed = λ j n e. holds_same _ (Stacks before (Past ElseOrEnd (suc n))) _ (after_step before CondClose (Past ElseOrEnd n)) (w.old.failed j (suc n) (omega arith));
-  done = λ j n e. holds_same _ (Stacks before (Past EndOnly (suc n))) _ (after_step before CondClose (Past EndOnly n)) (w.old.done j (suc n) (omega arith));
+      (holds_joined g.here (innermost g).failed _ _ (holds_unmoved g.here (Stacks before Run) CondClose (λ x. refl) w.old.running)
+      (holds_unmoved (innermost g).failed (Stacks before (ToElse zero)) CondClose (λ x. refl) (holds_innermost_failed before parts g w.old w.takeable)))
+      (holds_unmoved (innermost g).done (Stacks before (ToEnd zero)) CondClose (λ x. refl) (holds_innermost_done before parts g w.old w.takeable)));
+  failed = λ j n e. holds_same _ (Stacks before (ToElse (suc n))) _ (after_step before CondClose (ToElse n)) (w.old.failed j (suc n) (omega arith));
+  done = λ j n e. holds_same _ (Stacks before (ToEnd (suc n))) _ (after_step before CondClose (ToEnd n)) (w.old.done j (suc n) (omega arith));
   named = λ which. chain (w.old.named which) (frame_named before CondClose which (λ e. absurd (cc)));
   texts = λ which. chain (w.old.texts which) (frame_texts before CondClose which (λ e. absurd (cc)));
 }

@@ -6,17 +6,19 @@ use Rattle.ti_cap.specs.declared.language.Token.TheVariants.{CondOpen, CondThen,
 use Rattle.ti_cap.specs.declared.scan.Part.{Part}
 use Rattle.ti_cap.specs.declared.scan.Part.TheVariants.{FirstTest, Body, Otherwise}
 use Rattle.ti_cap.specs.Path.{Walk}
-use Rattle.ti_cap.specs.Pass.{Mode, Running, Past, next_mode, Passes, ElseOrEnd}
+use Rattle.ti_cap.specs.declared.mode.Mode.{Mode}
+use Rattle.ti_cap.specs.declared.mode.Mode.TheVariants.{Run, ToElse}
+use Rattle.ti_cap.specs.Pass.{next_mode, Passes}
 use Rattle.ti_cap.proofs.PassesLemmas.{passes-append}
 use Rattle.ti_cap.proofs.PartsLemmas.{allowed, at_then, at_else, at_close}
 use Rattle.ti_cap.proofs.ReachesLemmas.{is_met}
 
 abbrev pub Comes : List Token → Mode → Type 0
-Comes before m = (w : Walk) × Passes Running before w m
+Comes before m = (w : Walk) × Passes Run before w m
 
 pub record IsAlive (parts : List Part) (before : List Token) : Type 0 where
-  pub runs : Comes before Running
-  pub waits : (n : ℕ) → get_or parts n FirstTest ≡ Body → Comes before (Past ElseOrEnd n)
+  pub runs : Comes before Run
+  pub waits : (n : ℕ) → get_or parts n FirstTest ≡ Body → Comes before (ToElse n)
 
 pub alive_start : IsAlive [] []
 alive_start = record { runs = ([], (refl, refl)); waits = λ n e. absurd (cc) }
@@ -24,36 +26,36 @@ alive_start = record { runs = ([], (refl, refl)); waits = λ n e. absurd (cc) }
 more : (before : List Token) (k : Token) (m o : Mode) (fails : Bool) → next_mode m k fails ≡ o → Comes before m → Comes (before ++ k ∷ []) o
 more before k m o fails leads c =
     let P : Mode → Type 0 = λ x. Comes (before ++ k ∷ []) x in
-    subst P leads (c.0 ++ is_met m k fails ∷ [], passes-append before (k ∷ []) Running m (next_mode m k fails) c.0 (is_met m k fails ∷ []) c.1 (fails, [], refl, (refl, refl)))
+    subst P leads (c.0 ++ is_met m k fails ∷ [], passes-append before (k ∷ []) Run m (next_mode m k fails) c.0 (is_met m k fails ∷ []) c.1 (fails, [], refl, (refl, refl)))
 
 along : (before : List Token) (qs rs : List Part) → qs ≡ rs → IsAlive qs before → IsAlive rs before
 along before qs rs e a = let P : List Part → Type 0 = λ x. IsAlive x before in subst P e a
 
 alive_open : (before : List Token) (ps : List Part) → IsAlive ps before → IsAlive (FirstTest ∷ ps) (before ++ CondOpen ∷ [])
-alive_open before ps a = record { runs = more before CondOpen Running Running false refl a.runs; waits = each }
+alive_open before ps a = record { runs = more before CondOpen Run Run false refl a.runs; waits = each }
   where
-    each : (n : ℕ) → get_or (FirstTest ∷ ps) n FirstTest ≡ Body → Comes (before ++ CondOpen ∷ []) (Past ElseOrEnd n)
+    each : (n : ℕ) → get_or (FirstTest ∷ ps) n FirstTest ≡ Body → Comes (before ++ CondOpen ∷ []) (ToElse n)
     each zero e = absurd (cc)
-    each (suc n) e = more before CondOpen (Past ElseOrEnd n) (Past ElseOrEnd (suc n)) false refl (a.waits n e)
+    each (suc n) e = more before CondOpen (ToElse n) (ToElse (suc n)) false refl (a.waits n e)
 
 alive_then : (before : List Token) (part : Part) (ps : List Part) → IsAlive (part ∷ ps) before → IsAlive (Body ∷ ps) (before ++ CondThen ∷ [])
-alive_then before part ps a = record { runs = more before CondThen Running Running false refl a.runs; waits = each }
+alive_then before part ps a = record { runs = more before CondThen Run Run false refl a.runs; waits = each }
   where
-    each : (n : ℕ) → get_or (Body ∷ ps) n FirstTest ≡ Body → Comes (before ++ CondThen ∷ []) (Past ElseOrEnd n)
-    each zero e = more before CondThen Running (Past ElseOrEnd zero) true refl a.runs
-    each (suc n) e = more before CondThen (Past ElseOrEnd (suc n)) (Past ElseOrEnd (suc n)) false refl (a.waits (suc n) e)
+    each : (n : ℕ) → get_or (Body ∷ ps) n FirstTest ≡ Body → Comes (before ++ CondThen ∷ []) (ToElse n)
+    each zero e = more before CondThen Run (ToElse zero) true refl a.runs
+    each (suc n) e = more before CondThen (ToElse (suc n)) (ToElse (suc n)) false refl (a.waits (suc n) e)
 
 alive_else : (before : List Token) (ps : List Part) → IsAlive (Body ∷ ps) before → IsAlive (Otherwise ∷ ps) (before ++ CondElse ∷ [])
-alive_else before ps a = record { runs = more before CondElse (Past ElseOrEnd zero) Running false refl (a.waits zero refl); waits = each }
+alive_else before ps a = record { runs = more before CondElse (ToElse zero) Run false refl (a.waits zero refl); waits = each }
   where
-    each : (n : ℕ) → get_or (Otherwise ∷ ps) n FirstTest ≡ Body → Comes (before ++ CondElse ∷ []) (Past ElseOrEnd n)
+    each : (n : ℕ) → get_or (Otherwise ∷ ps) n FirstTest ≡ Body → Comes (before ++ CondElse ∷ []) (ToElse n)
     each zero e = absurd (cc)
-    each (suc n) e = more before CondElse (Past ElseOrEnd (suc n)) (Past ElseOrEnd (suc n)) false refl (a.waits (suc n) e)
+    each (suc n) e = more before CondElse (ToElse (suc n)) (ToElse (suc n)) false refl (a.waits (suc n) e)
 
 alive_close : (before : List Token) (part : Part) (ps : List Part) → IsAlive (part ∷ ps) before → IsAlive ps (before ++ CondClose ∷ [])
 alive_close before part ps a = record {
-  runs = more before CondClose Running Running false refl a.runs;
-  waits = λ n e. more before CondClose (Past ElseOrEnd (suc n)) (Past ElseOrEnd n) false refl (a.waits (suc n) e);
+  runs = more before CondClose Run Run false refl a.runs;
+  waits = λ n e. more before CondClose (ToElse (suc n)) (ToElse n) false refl (a.waits (suc n) e);
 }
 
 by_then : (before : List Token) (ps qs : List Part) → at_then ps ≡ Some qs → IsAlive ps before → IsAlive qs (before ++ CondThen ∷ [])
@@ -74,11 +76,11 @@ by_close before (FirstTest ∷ ps) qs e a = absurd (cc)
 by_close before (Body ∷ ps) qs e a = along (before ++ CondClose ∷ []) ps qs (cc) (alive_close before Body ps a)
 by_close before (Otherwise ∷ ps) qs e a = along (before ++ CondClose ∷ []) ps qs (cc) (alive_close before Otherwise ps a)
 
-by_simple : (before : List Token) (k : Token) (ps qs : List Part) → next_mode Running k false ≡ Running → ((n : ℕ) → next_mode (Past ElseOrEnd n) k false ≡ Past ElseOrEnd n)
+by_simple : (before : List Token) (k : Token) (ps qs : List Part) → next_mode Run k false ≡ Run → ((n : ℕ) → next_mode (ToElse n) k false ≡ ToElse n)
     → Some ps ≡ Some qs → IsAlive ps before → IsAlive qs (before ++ k ∷ [])
 by_simple before k ps qs runs waits e a = along (before ++ k ∷ []) ps qs (cc) (record {
-  runs = more before k Running Running false runs a.runs;
-  waits = λ n b. more before k (Past ElseOrEnd n) (Past ElseOrEnd n) false (waits n) (a.waits n b);
+  runs = more before k Run Run false runs a.runs;
+  waits = λ n b. more before k (ToElse n) (ToElse n) false (waits n) (a.waits n b);
 })
 
 -- one token more, where it may stand

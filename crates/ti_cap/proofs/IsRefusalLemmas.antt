@@ -13,7 +13,9 @@ use Rattle.ti_cap.specs.declared.limits.Limits.{Limits}
 use Rattle.ti_cap.specs.Tree.{Sequence, IsTree, tokens}
 use Rattle.ti_cap.specs.Height.{pushes, next_height, size, IsDepth, IsBound}
 use Rattle.ti_cap.specs.Path.{path_of}
-use Rattle.ti_cap.specs.Pass.{Mode, Running, next_mode}
+use Rattle.ti_cap.specs.declared.mode.Mode.{Mode}
+use Rattle.ti_cap.specs.declared.mode.Mode.TheVariants.{Run}
+use Rattle.ti_cap.specs.Pass.{next_mode}
 use Rattle.ti_cap.specs.Spelling.{Spells, Written}
 use Rattle.ti_cap.specs.inner.Lexer.{token_read}
 use Rattle.ti_cap.specs.declared.scan.Part.{Part}
@@ -152,7 +154,7 @@ comes_low : (before : List Token) (m : Mode) (x d : ℕ) → Peaks next_height b
 comes_low before m x d p c = omega (arith, c.value, p.above_all m c.walk c.passes, value-le next_height 0 (path_of c.walk before))
 
 running_low : (before : List Token) (s : Progress) (d : ℕ) → Peaks next_height before d → Sums next_height before s → s.running ≤ d
-running_low before s d p sums = let h : IsBest next_height before Running Certain s.running = sums Running in comes_low before Running s.running d p h.1
+running_low before s d p sums = let h : IsBest next_height before Run Certain s.running = sums Run in comes_low before Run s.running d p h.1
 
 height_still : IsStill next_height
 height_still = ((λ x. omega arith), (λ x. omega arith))
@@ -160,8 +162,8 @@ height_still = ((λ x. omega arith), (λ x. omega arith))
 -- a `%e` or `%;` climbs no higher than before
 mark_low : (before : List Token) (k : Token) (s : Progress) (d : ℕ) → ((x : ℕ) → next_height x k ≡ x) → Peaks next_height before d → Sums next_height (before ++ k ∷ []) s → s.running ≤ d
 mark_low before k s d still p sums =
-    let h : IsBest next_height (before ++ k ∷ []) Running Certain s.running = sums Running in
-    let r : Came next_height (Comes next_height before) k Running s.running = came_from next_height 0 before k Running s.running h.1 in
+    let h : IsBest next_height (before ++ k ∷ []) Run Certain s.running = sums Run in
+    let r : Came next_height (Comes next_height before) k Run s.running = came_from next_height 0 before k Run s.running h.1 in
     let same : passed_by next_height r.source k r.fails r.old ≡ r.old = either (is_met r.source k r.fails) in
     omega (arith, comes_low before r.source r.old d p r.comes, r.gives)
   where
@@ -189,7 +191,7 @@ parsed_low bytes longest place count found p = omega (arith, running_low p.befor
 -- the greatest size is far from the greatest number
 pub parsed_small : (bytes : List ℕ) (longest place count : ℕ) (found : Findings) → longest < 2 ^ 16 → length bytes ≤ most_capability_bytes → Parsed bytes longest place count found → found.sizes.running < 2 ^ 31
 parsed_small bytes longest place count found h short p =
-    let b : IsBest (size_act longest) p.before Running Certain found.sizes.running = p.sizes Running in
+    let b : IsBest (size_act longest) p.before Run Certain found.sizes.running = p.sizes Run in
     omega (arith, value-size longest p.before (take place bytes) b.1.walk h p.written, b.1.value, length-take-le place bytes p.within, p.within)
 
 -- no more tokens than bytes
@@ -353,16 +355,16 @@ parse_fault bytes longest place count found f fits short more p e =
     )
 
 -- a token that ran from the greatest height climbs by one
-climbs_by_one : (before : List Token) (k : Token) (s : Progress) → Sums next_height before s → s.running ≤ most_values → most_values < next_height s.running k → Comes next_height (before ++ k ∷ []) Running (suc most_values)
+climbs_by_one : (before : List Token) (k : Token) (s : Progress) → Sums next_height before s → s.running ≤ most_values → most_values < next_height s.running k → Comes next_height (before ++ k ∷ []) Run (suc most_values)
 climbs_by_one before k s sums low high =
-    let h : IsBest next_height before Running Certain s.running = sums Running in
-    let c : Comes next_height (before ++ k ∷ []) (next_mode Running k false) (next_height s.running k) = reaches_on next_height 0 before k Running false s.running h.1 in
+    let h : IsBest next_height before Run Certain s.running = sums Run in
+    let c : Comes next_height (before ++ k ∷ []) (next_mode Run k false) (next_height s.running k) = reaches_on next_height 0 before k Run false s.running h.1 in
     let P : Mode → Type 0 = λ m. Comes next_height (before ++ k ∷ []) m (next_height s.running k) in
-    let Q : ℕ → Type 0 = λ x. Comes next_height (before ++ k ∷ []) Running x in
+    let Q : ℕ → Type 0 = λ x. Comes next_height (before ++ k ∷ []) Run x in
     let top : next_height s.running k ≡ suc most_values = omega (arith, pushes-le k) in
     subst Q top (subst P (to_run k high) c)
   where
-    to_run : (k : Token) → most_values < next_height s.running k → next_mode Running k false ≡ Running
+    to_run : (k : Token) → most_values < next_height s.running k → next_mode Run k false ≡ Run
     to_run CondElse high = absurd (omega arith)
     to_run CondThen high = refl
     to_run _ high = refl

@@ -19,6 +19,7 @@ pub mod IsTapeLemmas
 pub mod IsUnreadableLemmas
 pub mod IsWalkLemmas
 pub mod NestLemmas
+pub mod NextModeLemmas
 pub mod NextProgressLemmas
 pub mod OneRefusalLemmas
 pub mod OneTreeLemmas
@@ -39,6 +40,5 @@ pub mod SpellsFormatLemmas
 pub mod SpellsLemmas
 pub mod StackLengthLemmas
 pub mod StandsLemmas
-pub mod StraightLemmas
 pub mod TokenSizeLemmas
 pub mod WrittenLemmas

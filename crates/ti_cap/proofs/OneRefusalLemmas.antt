@@ -14,6 +14,7 @@ use Rattle.ti_cap.specs.declared.scan.Part.{Part}
 use Rattle.ti_cap.specs.declared.scan.Part.TheVariants.{FirstTest, Body, Otherwise}
 use Rattle.ti_cap.specs.Refusal.{Begins, Climbs, open_parts, IsInFirstTest, IsNext, IsStray, IsUnreadable, IsFaultBetween, HasFault, IsSoundBelow, IsRefusal, escape_fault}
 use Rattle.ti_cap.proofs.WrittenLemmas.{Same, one_form, one_cutting, spelled_long}
+use Rattle.ti_cap.proofs.PassesLemmas.{no_path}
 
 -- ---- a height is reached at a token
 
@@ -25,10 +26,6 @@ record Reaches (w : Walk) (before : List Token) (h n : ℕ) : Type 0 where
   spans : before ≡ front ++ token ∷ back
   on_path : path_of w (front ++ token ∷ []) ≡ path_of w front ++ token ∷ []
   height_is : end_height h (path_of w (front ++ token ∷ [])) ≡ n
-
-path_of-nil : (w : Walk) → path_of w [] ≡ []
-path_of-nil [] = refl
-path_of-nil (m ∷ w) = refl
 
 alike : (x n : ℕ) → (x ≡ n) ⊎ (x ≢ n)
 alike x n = elim (low x n) [
@@ -48,8 +45,8 @@ reaches (true ∷ w) (k ∷ ks) h n other e = elim (alike (next_height h k) n) [
     token = k;
     back = ks;
     spans = refl;
-    on_path = ap (λ x. k ∷ x) (path_of-nil w);
-    height_is = ap (λ x. end_height (next_height h k) x) (path_of-nil w) ∙ is;
+    on_path = ap (λ x. k ∷ x) (no_path w);
+    height_is = ap (λ x. end_height (next_height h k) x) (no_path w) ∙ is;
   }
   | inr apart ↦
       let r : Reaches w ks (next_height h k) n = reaches w ks (next_height h k) n apart e in

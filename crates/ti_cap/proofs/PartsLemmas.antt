@@ -71,9 +71,6 @@ pub record ArmsOpen (loose : Bool) (from : Part) (ps : List Part) (ks : List Tok
   pub ended : part ≢ FirstTest
   pub closed : loose ≡ false → new ≡ []
 
-IsTest : Part → Type 0
-IsTest p = (ps : List Part) → at_then (p ∷ ps) ≡ Some (Body ∷ ps)
-
 closes : (p : Part) (ps : List Part) → p ≢ FirstTest → at_close (p ∷ ps) ≡ Some ps
 closes FirstTest ps h = absurd (h refl)
 closes Body ps h = refl

@@ -1,13 +1,16 @@
 -- The greatest value with which a pass can come to each mode, kept for the modes of the open conditionals.
-use Rattle.std.proofs.Common.{◌≡◌, ℕ, zero, suc, ◌≤◌, ◌⊎◌, inl, inr, max, List, [], ◌∷◌, ◌++◌, refl, sym, ◌∙◌, ap, subst, arith, Bool, true, false, ◌||◌, cond}
+use Rattle.std.proofs.Common.{◌≡◌, ℕ, zero, suc, ◌≤◌, ◌⊎◌, inl, inr, max, List, [], ◌∷◌, ◌++◌, get_or, refl, sym, ◌∙◌, ap, subst, arith, Bool, true, false, ◌||◌, cond}
 use Rattle.ti_cap.specs.declared.language.Token.{Token}
 use Rattle.ti_cap.specs.declared.language.Token.TheVariants.{CondOpen, CondThen, CondElse, CondClose}
 use Rattle.ti_cap.specs.Tree.{IsSimple}
-use Rattle.ti_cap.specs.Path.{Walk, path_of}
-use Rattle.ti_cap.specs.Pass.{Mode, Running, Past, next_mode, is_running, Until, ElseOrEnd, EndOnly}
+use Rattle.ti_cap.specs.declared.mode.Mode.{Mode}
+use Rattle.ti_cap.specs.declared.mode.Mode.TheVariants.{Run, ToElse, ToEnd}
+use Rattle.ti_cap.specs.Pass.{next_mode, is_running}
 use Rattle.ti_cap.specs.declared.scan.Part.{Part}
 use Rattle.ti_cap.specs.declared.scan.Part.TheVariants.{FirstTest, Body, Otherwise}
 use Rattle.ti_cap.specs.inner.Analysis.{Frame, Progress}
+use Rattle.ti_cap.proofs.NextModeLemmas.{simple_stays, opened_from, tested_from, turned_from, closed_from}
+use Rattle.ti_cap.proofs.PassesLemmas.{no_path}
 use Rattle.ti_cap.proofs.ReachesLemmas.{is_met, state_of, passed_by, Reaches, reaches_on, Came, came_from}
 
 -- how a token that is met changes a value
@@ -30,30 +33,24 @@ IsBest act before m Certain v = ((x : ℕ) → Comes act before m x → x ≤ v)
 IsBest act before m Possible v = ((x : ℕ) → Comes act before m x → x ≤ v) × (Comes act before m v ⊎ (v ≡ 0))
 IsBest act before m Never v = ((x : ℕ) → ¬ Comes act before m x) × (v ≡ 0)
 
-abbrev pub waiting : Until → List Frame → ℕ → ℕ
-waiting b [] n = 0
-waiting b (f ∷ fs) (suc n) = waiting b fs n
-waiting ElseOrEnd (f ∷ fs) zero = f.failed
-waiting EndOnly (f ∷ fs) zero = f.done
+-- what waits in a conditional, counted from the innermost, and in one that is not open
+abbrev pub frame_at : List Frame → ℕ → Frame
+frame_at frames n = get_or frames n (record { part = FirstTest; failed = 0; done = 0 })
 
 -- a test has failed if a body is being passed through
 abbrev pub failing : Part → Comings
 failing Body = Certain
 failing _ = Never
 
-abbrev pub comings : Until → List Frame → ℕ → Comings
-comings b [] n = Never
-comings b (f ∷ fs) (suc n) = comings b fs n
-comings ElseOrEnd (f ∷ fs) zero = failing f.part
-comings EndOnly (f ∷ fs) zero = Possible
-
 abbrev pub best : Progress → Mode → ℕ
-best s Running = s.running
-best s (Past b n) = waiting b s.frames n
+best s Run = s.running
+best s (ToElse n) = (frame_at s.frames n).failed
+best s (ToEnd n) = (frame_at s.frames n).done
 
 abbrev pub coming : Progress → Mode → Comings
-coming s Running = Certain
-coming s (Past b n) = comings b s.frames n
+coming s Run = Certain
+coming s (ToElse n) = failing (frame_at s.frames n).part
+coming s (ToEnd n) = Possible
 
 -- the state is the greatest value of each mode
 abbrev pub Sums : Act → List Token → Progress → Type 0
@@ -126,91 +123,64 @@ move act before k m n fails v rising leads meets only h = (upper, reach)
         let Q : ℕ → Type 0 = λ y. Comes act (before ++ k ∷ []) (next_mode m k fails) y in
         subst P leads (subst Q (acts fails leads v) (reaches_on act 0 before k m fails v h.1))
 
-run_simple : (k : Token) (f : Bool) → IsSimple k → next_mode Running k f ≡ Running
-run_simple CondOpen f h = absurd h
-run_simple CondThen f h = absurd h
-run_simple CondElse f h = absurd h
-run_simple CondClose f h = absurd h
-run_simple _ f h = refl
-
-past_simple : (b : Until) (n : ℕ) (k : Token) (f : Bool) → IsSimple k → next_mode (Past b n) k f ≡ Past b n
-past_simple b n CondOpen f h = absurd h
-past_simple b n CondThen f h = absurd h
-past_simple b n CondElse f h = absurd h
-past_simple b n CondClose f h = absurd h
-past_simple b n _ f h = refl
-
-simple_only : (m : Mode) (k : Token) (f : Bool) → IsSimple k → next_mode m k f ≡ m
-simple_only Running k f h = run_simple k f h
-simple_only (Past b n) k f h = past_simple b n k f h
+-- a mode in which the token is passed over, and changes nothing
+still : (act : Act) (before : List Token) (k : Token) (m : Mode) (s : Progress) → is_running m ≡ false → next_mode m k false ≡ m
+    → ((source : Mode) (f : Bool) → next_mode source k f ≡ m → source ≡ m) → Sums act before s → IsBest act (before ++ k ∷ []) m (coming s m) (best s m)
+still act before k m s past stays only sums = keep act before k m m false stays past past only (coming s m) (best s m) (sums m)
 
 pub sums_simple : (act : Act) (before : List Token) (s : Progress) (k : Token) → IsRising act → IsSimple k → Sums act before s
     → Sums act (before ++ k ∷ []) (record { running = act s.running k; frames = s.frames })
-sums_simple act before s k rising h sums Running =
-    move act before k Running Running false s.running rising (run_simple k false h) (λ f e. refl)
-    (λ source f x c e. sym (simple_only source k f h) ∙ e) (sums Running)
-sums_simple act before s k rising h sums (Past b n) =
-    keep act before k (Past b n) (Past b n) false (past_simple b n k false h) refl refl
-    (λ source f e. sym (simple_only source k f h) ∙ e) (comings b s.frames n) (waiting b s.frames n) (sums (Past b n))
+sums_simple act before s k rising h sums Run =
+    move act before k Run Run false s.running rising (simple_stays Run k false h) (λ f e. refl)
+    (λ source f x c e. sym (simple_stays source k f h) ∙ e) (sums Run)
+sums_simple act before s k rising h sums (ToElse n) =
+    still act before k (ToElse n) s refl (simple_stays (ToElse n) k false h) (λ source f e. sym (simple_stays source k f h) ∙ e) sums
+sums_simple act before s k rising h sums (ToEnd n) =
+    still act before k (ToEnd n) s refl (simple_stays (ToEnd n) k false h) (λ source f e. sym (simple_stays source k f h) ∙ e) sums
 
 pub sums_open : (act : Act) (before : List Token) (s : Progress) → IsRising act → Sums act before s
     → Sums act (before ++ CondOpen ∷ []) (record { running = act s.running CondOpen; frames = record { part = FirstTest; failed = 0; done = 0 } ∷ s.frames })
-sums_open act before s rising sums Running =
-    move act before CondOpen Running Running false s.running rising refl (λ f e. refl) (λ source f x c e. only source f e) (sums Running)
+sums_open act before s rising sums Run =
+    move act before CondOpen Run Run false s.running rising refl (λ f e. refl) (λ source f x c e. opened_from source Run f e) (sums Run)
+sums_open act before s rising sums (ToElse (suc n)) =
+    keep act before CondOpen (ToElse n) (ToElse (suc n)) false refl refl refl (λ source f e. opened_from source (ToElse n) f e) (coming s (ToElse n)) (best s (ToElse n)) (sums (ToElse n))
+sums_open act before s rising sums (ToEnd (suc n)) =
+    keep act before CondOpen (ToEnd n) (ToEnd (suc n)) false refl refl refl (λ source f e. opened_from source (ToEnd n) f e) Possible (best s (ToEnd n)) (sums (ToEnd n))
+sums_open act before s rising sums (ToElse zero) = dead act before CondOpen (ToElse zero) never
   where
-    only : (source : Mode) (f : Bool) → next_mode source CondOpen f ≡ Running → source ≡ Running
-    only Running f e = refl
-    only (Past b n) f e = absurd (cc)
-sums_open act before s rising sums (Past b (suc n)) =
-    keep act before CondOpen (Past b n) (Past b (suc n)) false refl refl refl only (comings b s.frames n) (waiting b s.frames n) (sums (Past b n))
+    never : (source : Mode) (f : Bool) → next_mode source CondOpen f ≡ ToElse zero → ⊥
+    never Run f e = absurd (cc)
+    never (ToElse i) f e = absurd (cc)
+    never (ToEnd i) f e = absurd (cc)
+sums_open act before s rising sums (ToEnd zero) = possible act (before ++ CondOpen ∷ []) (ToEnd zero) 0 (dead act before CondOpen (ToEnd zero) never)
   where
-    only : (source : Mode) (f : Bool) → next_mode source CondOpen f ≡ Past b (suc n) → source ≡ Past b n
-    only Running f e = absurd (cc)
-    only (Past c i) f e = cc
-sums_open act before s rising sums (Past ElseOrEnd zero) = dead act before CondOpen (Past ElseOrEnd zero) never
-  where
-    never : (source : Mode) (f : Bool) → next_mode source CondOpen f ≡ Past ElseOrEnd zero → ⊥
-    never Running f e = absurd (cc)
-    never (Past c i) f e = absurd (cc)
-sums_open act before s rising sums (Past EndOnly zero) = possible act (before ++ CondOpen ∷ []) (Past EndOnly zero) 0 (dead act before CondOpen (Past EndOnly zero) never)
-  where
-    never : (source : Mode) (f : Bool) → next_mode source CondOpen f ≡ Past EndOnly zero → ⊥
-    never Running f e = absurd (cc)
-    never (Past c i) f e = absurd (cc)
+    never : (source : Mode) (f : Bool) → next_mode source CondOpen f ≡ ToEnd zero → ⊥
+    never Run f e = absurd (cc)
+    never (ToElse i) f e = absurd (cc)
+    never (ToEnd i) f e = absurd (cc)
 
 -- a `%t` if no test has failed at this level
 pub sums_then : (act : Act) (before : List Token) (now : ℕ) (f : Frame) (fs : List Frame) → IsRising act → failing f.part ≡ Never
     → Sums act before (record { running = now; frames = f ∷ fs })
     → Sums act (before ++ CondThen ∷ []) (record { running = act now CondThen; frames = record { part = Body; failed = act now CondThen; done = f.done } ∷ fs })
-sums_then act before now f fs rising none sums Running =
-    move act before CondThen Running Running false now rising refl (λ g e. refl) (λ source g x c e. only source g e) (sums Running)
+sums_then act before now f fs rising none sums Run =
+    move act before CondThen Run Run false now rising refl (λ g e. refl) (λ source g x c e. tested_from source Run g (λ i. absurd (cc)) e) (sums Run)
+sums_then act before now f fs rising none sums (ToElse (suc n)) =
+    still act before CondThen (ToElse (suc n)) (record { running = now; frames = f ∷ fs }) refl refl (λ source g e. tested_from source (ToElse (suc n)) g (λ i. absurd (cc)) e) sums
+sums_then act before now f fs rising none sums (ToEnd (suc n)) =
+    still act before CondThen (ToEnd (suc n)) (record { running = now; frames = f ∷ fs }) refl refl (λ source g e. tested_from source (ToEnd (suc n)) g (λ i. absurd (cc)) e) sums
+sums_then act before now f fs rising none sums (ToEnd zero) =
+    still act before CondThen (ToEnd zero) (record { running = now; frames = f ∷ fs }) refl refl (λ source g e. tested_from source (ToEnd zero) g (λ i. absurd (cc)) e) sums
+sums_then act before now f fs rising none sums (ToElse zero) =
+    move act before CondThen Run (ToElse zero) true now rising refl (λ g e. refl) only (sums Run)
   where
-    only : (source : Mode) (g : Bool) → next_mode source CondThen g ≡ Running → source ≡ Running
-    only Running g e = refl
-    only (Past b n) g e = absurd (cc)
-sums_then act before now f fs rising none sums (Past b (suc n)) =
-    keep act before CondThen (Past b (suc n)) (Past b (suc n)) false refl refl refl only (comings b fs n) (waiting b fs n) (sums (Past b (suc n)))
-  where
-    only : (source : Mode) (g : Bool) → next_mode source CondThen g ≡ Past b (suc n) → source ≡ Past b (suc n)
-    only Running true e = absurd (cc)
-    only Running false e = absurd (cc)
-    only (Past c i) g e = e
-sums_then act before now f fs rising none sums (Past EndOnly zero) =
-    keep act before CondThen (Past EndOnly zero) (Past EndOnly zero) false refl refl refl only Possible f.done (sums (Past EndOnly zero))
-  where
-    only : (source : Mode) (g : Bool) → next_mode source CondThen g ≡ Past EndOnly zero → source ≡ Past EndOnly zero
-    only Running true e = absurd (cc)
-    only Running false e = absurd (cc)
-    only (Past c i) g e = e
-sums_then act before now f fs rising none sums (Past ElseOrEnd zero) =
-    move act before CondThen Running (Past ElseOrEnd zero) true now rising refl (λ g e. refl) only (sums Running)
-  where
-    absent : IsBest act before (Past ElseOrEnd zero) Never f.failed
-    absent = let P : Comings → Type 0 = λ y. IsBest act before (Past ElseOrEnd zero) y f.failed in subst P none (sums (Past ElseOrEnd zero))
+    absent : IsBest act before (ToElse zero) Never f.failed
+    absent = let P : Comings → Type 0 = λ y. IsBest act before (ToElse zero) y f.failed in subst P none (sums (ToElse zero))
 
-    only : (source : Mode) (g : Bool) (x : ℕ) → Comes act before source x → next_mode source CondThen g ≡ Past ElseOrEnd zero → source ≡ Running
-    only Running g x c e = refl
-    only (Past d i) g x c e = let P : Mode → Type 0 = λ y. Comes act before y x in absurd (absent.0 x (subst P e c))
+    only : (source : Mode) (g : Bool) (x : ℕ) → Comes act before source x → next_mode source CondThen g ≡ ToElse zero → source ≡ Run
+    only Run g x c e = refl
+    only (ToElse i) g x c e = let P : Mode → Type 0 = λ y. Comes act before y x in absurd (absent.0 x (subst P e c))
+    only (ToEnd i) g x c e = absurd (cc)
 
 pub max_is : (a b : ℕ) → (max a b ≡ b) ⊎ (max a b ≡ a)
 max_is a b = grind arith
@@ -238,56 +208,53 @@ arrive act before k m n fails x y leads gives c =
 pub sums_else : (act : Act) (before : List Token) (now : ℕ) (f : Frame) (fs : List Frame) → IsRising act → f.part ≡ Body
     → Sums act before (record { running = now; frames = f ∷ fs })
     → Sums act (before ++ CondElse ∷ []) (record { running = act f.failed CondElse; frames = record { part = Otherwise; failed = 0; done = max f.done (act now CondElse) } ∷ fs })
-sums_else act before now f fs rising some sums Running =
-    move act before CondElse (Past ElseOrEnd zero) Running false f.failed rising refl (λ g e. refl) (λ source g y c e. only source g e)
-    (let P : Part → Type 0 = λ y. IsBest act before (Past ElseOrEnd zero) (failing y) f.failed in subst P some (sums (Past ElseOrEnd zero)))
+sums_else act before now f fs rising some sums Run =
+    move act before CondElse (ToElse zero) Run false f.failed rising refl (λ g e. refl) (λ source g y c e. only source g e)
+    (let P : Part → Type 0 = λ y. IsBest act before (ToElse zero) (failing y) f.failed in subst P some (sums (ToElse zero)))
   where
-    only : (source : Mode) (g : Bool) → next_mode source CondElse g ≡ Running → source ≡ Past ElseOrEnd zero
-    only Running g e = absurd (cc)
-    only (Past b (suc n)) g e = absurd (cc)
-    only (Past ElseOrEnd zero) g e = refl
-    only (Past EndOnly zero) g e = absurd (cc)
-sums_else act before now f fs rising some sums (Past b (suc n)) =
-    keep act before CondElse (Past b (suc n)) (Past b (suc n)) false refl refl refl only (comings b fs n) (waiting b fs n) (sums (Past b (suc n)))
+    only : (source : Mode) (g : Bool) → next_mode source CondElse g ≡ Run → source ≡ ToElse zero
+    only Run g e = absurd (cc)
+    only (ToElse zero) g e = refl
+    only (ToElse (suc n)) g e = absurd (cc)
+    only (ToEnd n) g e = absurd (cc)
+sums_else act before now f fs rising some sums (ToElse (suc n)) =
+    still act before CondElse (ToElse (suc n)) (record { running = now; frames = f ∷ fs }) refl refl (λ source g e. turned_from source (ToElse (suc n)) g (λ i. absurd (cc)) (λ i. absurd (cc)) e) sums
+sums_else act before now f fs rising some sums (ToEnd (suc n)) =
+    still act before CondElse (ToEnd (suc n)) (record { running = now; frames = f ∷ fs }) refl refl (λ source g e. turned_from source (ToEnd (suc n)) g (λ i. absurd (cc)) (λ i. absurd (cc)) e) sums
+sums_else act before now f fs rising some sums (ToElse zero) = dead act before CondElse (ToElse zero) never
   where
-    only : (source : Mode) (g : Bool) → next_mode source CondElse g ≡ Past b (suc n) → source ≡ Past b (suc n)
-    only Running g e = absurd (cc)
-    only (Past c (suc i)) g e = e
-    only (Past ElseOrEnd zero) g e = absurd (cc)
-    only (Past EndOnly zero) g e = absurd (cc)
-sums_else act before now f fs rising some sums (Past ElseOrEnd zero) = dead act before CondElse (Past ElseOrEnd zero) never
+    never : (source : Mode) (g : Bool) → next_mode source CondElse g ≡ ToElse zero → ⊥
+    never Run g e = absurd (cc)
+    never (ToElse zero) g e = absurd (cc)
+    never (ToElse (suc i)) g e = absurd (cc)
+    never (ToEnd i) g e = absurd (cc)
+sums_else act before now f fs rising some sums (ToEnd zero) = (upper, reach)
   where
-    never : (source : Mode) (g : Bool) → next_mode source CondElse g ≡ Past ElseOrEnd zero → ⊥
-    never Running g e = absurd (cc)
-    never (Past c (suc i)) g e = absurd (cc)
-    never (Past ElseOrEnd zero) g e = absurd (cc)
-    never (Past EndOnly zero) g e = absurd (cc)
-sums_else act before now f fs rising some sums (Past EndOnly zero) = (upper, reach)
-  where
-    bounded : (source : Mode) (g : Bool) (old y : ℕ) → Comes act before source old → next_mode source CondElse g ≡ Past EndOnly zero → y ≡ passed_by act source CondElse g old → y ≤ max f.done (act now CondElse)
-    bounded Running g old y c e gives =
-        let h : IsBest act before Running Certain now = sums Running in
+    bounded : (source : Mode) (g : Bool) (old y : ℕ) → Comes act before source old → next_mode source CondElse g ≡ ToEnd zero → y ≡ passed_by act source CondElse g old → y ≤ max f.done (act now CondElse)
+    bounded Run g old y c e gives =
+        let h : IsBest act before Run Certain now = sums Run in
         let low : act old CondElse ≤ act now CondElse = rising CondElse old now (h.0 old c) in
         omega arith
-    bounded (Past b (suc i)) g old y c e gives = absurd (cc)
-    bounded (Past ElseOrEnd zero) g old y c e gives = absurd (cc)
-    bounded (Past EndOnly zero) g old y c e gives =
-        let h : IsBest act before (Past EndOnly zero) Possible f.done = sums (Past EndOnly zero) in
+    bounded (ToElse zero) g old y c e gives = absurd (cc)
+    bounded (ToElse (suc i)) g old y c e gives = absurd (cc)
+    bounded (ToEnd (suc i)) g old y c e gives = absurd (cc)
+    bounded (ToEnd zero) g old y c e gives =
+        let h : IsBest act before (ToEnd zero) Possible f.done = sums (ToEnd zero) in
         omega (arith, h.0 old c)
 
-    upper : (y : ℕ) → Comes act (before ++ CondElse ∷ []) (Past EndOnly zero) y → y ≤ max f.done (act now CondElse)
+    upper : (y : ℕ) → Comes act (before ++ CondElse ∷ []) (ToEnd zero) y → y ≤ max f.done (act now CondElse)
     upper y c =
-        let r : Came act (Comes act before) CondElse (Past EndOnly zero) y = came_from act 0 before CondElse (Past EndOnly zero) y c in
+        let r : Came act (Comes act before) CondElse (ToEnd zero) y = came_from act 0 before CondElse (ToEnd zero) y c in
         bounded r.source r.fails r.old y r.comes r.leads r.gives
 
-    reach : Comes act (before ++ CondElse ∷ []) (Past EndOnly zero) (max f.done (act now CondElse)) ⊎ (max f.done (act now CondElse) ≡ 0)
+    reach : Comes act (before ++ CondElse ∷ []) (ToEnd zero) (max f.done (act now CondElse)) ⊎ (max f.done (act now CondElse) ≡ 0)
     reach =
-        let done : IsBest act before (Past EndOnly zero) Possible f.done = sums (Past EndOnly zero) in
-        let run : IsBest act before Running Certain now = sums Running in
+        let done : IsBest act before (ToEnd zero) Possible f.done = sums (ToEnd zero) in
+        let run : IsBest act before Run Certain now = sums Run in
         elim (max_is f.done (act now CondElse)) [
-          | inl e ↦ inl (arrive act before CondElse Running (Past EndOnly zero) false now _ refl (sym e) run.1)
+          | inl e ↦ inl (arrive act before CondElse Run (ToEnd zero) false now _ refl (sym e) run.1)
           | inr e ↦ elim done.1 [
-            | inl c ↦ inl (arrive act before CondElse (Past EndOnly zero) (Past EndOnly zero) false f.done _ refl (sym e) c)
+            | inl c ↦ inl (arrive act before CondElse (ToEnd zero) (ToEnd zero) false f.done _ refl (sym e) c)
             | inr z ↦ inr (e ∙ z)
           ]
         ]
@@ -296,65 +263,62 @@ sums_else act before now f fs rising some sums (Past EndOnly zero) = (upper, rea
 pub sums_close : (act : Act) (before : List Token) (now : ℕ) (f : Frame) (fs : List Frame) → IsRising act
     → Sums act before (record { running = now; frames = f ∷ fs })
     → Sums act (before ++ CondClose ∷ []) (record { running = act (max f.done (max f.failed now)) CondClose; frames = fs })
-sums_close act before now f fs rising sums (Past b n) =
-    keep act before CondClose (Past b (suc n)) (Past b n) false refl refl refl only (comings b fs n) (waiting b fs n) (sums (Past b (suc n)))
-  where
-    only : (source : Mode) (g : Bool) → next_mode source CondClose g ≡ Past b n → source ≡ Past b (suc n)
-    only Running g e = absurd (cc)
-    only (Past c (suc i)) g e = cc
-    only (Past c zero) g e = absurd (cc)
-sums_close act before now f fs rising sums Running = (upper, reach)
+sums_close act before now f fs rising sums (ToElse n) =
+    keep act before CondClose (ToElse (suc n)) (ToElse n) false refl refl refl (λ source g e. closed_from source (ToElse n) g refl e)
+    (coming (record { running = now; frames = fs }) (ToElse n)) (best (record { running = now; frames = fs }) (ToElse n)) (sums (ToElse (suc n)))
+sums_close act before now f fs rising sums (ToEnd n) =
+    keep act before CondClose (ToEnd (suc n)) (ToEnd n) false refl refl refl (λ source g e. closed_from source (ToEnd n) g refl e)
+    Possible (best (record { running = now; frames = fs }) (ToEnd n)) (sums (ToEnd (suc n)))
+sums_close act before now f fs rising sums Run = (upper, reach)
   where
     all : ℕ
     all = max f.done (max f.failed now)
 
-    bounded : (source : Mode) (g : Bool) (old y : ℕ) → Comes act before source old → next_mode source CondClose g ≡ Running → y ≡ passed_by act source CondClose g old → y ≤ act (max f.done (max f.failed now)) CondClose
-    bounded Running g old y c e gives =
-        let h : IsBest act before Running Certain now = sums Running in
+    bounded : (source : Mode) (g : Bool) (old y : ℕ) → Comes act before source old → next_mode source CondClose g ≡ Run → y ≡ passed_by act source CondClose g old → y ≤ act (max f.done (max f.failed now)) CondClose
+    bounded Run g old y c e gives =
+        let h : IsBest act before Run Certain now = sums Run in
         let low : act old CondClose ≤ act (max f.done (max f.failed now)) CondClose = rising CondClose old _ (omega (arith, h.0 old c)) in
         omega arith
-    bounded (Past b (suc i)) g old y c e gives = absurd (cc)
-    bounded (Past ElseOrEnd zero) g old y c e gives =
-        let under : old ≤ f.failed = best_above act before (Past ElseOrEnd zero) (failing f.part) f.failed old (sums (Past ElseOrEnd zero)) c in
+    bounded (ToElse (suc i)) g old y c e gives = absurd (cc)
+    bounded (ToEnd (suc i)) g old y c e gives = absurd (cc)
+    bounded (ToElse zero) g old y c e gives =
+        let under : old ≤ f.failed = best_above act before (ToElse zero) (failing f.part) f.failed old (sums (ToElse zero)) c in
         let low : act old CondClose ≤ act (max f.done (max f.failed now)) CondClose = rising CondClose old _ (omega arith) in
         omega arith
-    bounded (Past EndOnly zero) g old y c e gives =
-        let under : old ≤ f.done = best_above act before (Past EndOnly zero) Possible f.done old (sums (Past EndOnly zero)) c in
+    bounded (ToEnd zero) g old y c e gives =
+        let under : old ≤ f.done = best_above act before (ToEnd zero) Possible f.done old (sums (ToEnd zero)) c in
         let low : act old CondClose ≤ act (max f.done (max f.failed now)) CondClose = rising CondClose old _ (omega arith) in
         omega arith
 
-    upper : (y : ℕ) → Comes act (before ++ CondClose ∷ []) Running y → y ≤ act (max f.done (max f.failed now)) CondClose
+    upper : (y : ℕ) → Comes act (before ++ CondClose ∷ []) Run y → y ≤ act (max f.done (max f.failed now)) CondClose
     upper y c =
-        let r : Came act (Comes act before) CondClose Running y = came_from act 0 before CondClose Running y c in
+        let r : Came act (Comes act before) CondClose Run y = came_from act 0 before CondClose Run y c in
         bounded r.source r.fails r.old y r.comes r.leads r.gives
 
     -- from a mode with the greatest value, which comes or is 0
-    from : (m : Mode) (x : ℕ) → next_mode m CondClose false ≡ Running → is_met m CondClose false ≡ true → x ≡ max f.done (max f.failed now) → Comes act before m x
-        → Comes act (before ++ CondClose ∷ []) Running (act (max f.done (max f.failed now)) CondClose)
+    from : (m : Mode) (x : ℕ) → next_mode m CondClose false ≡ Run → is_met m CondClose false ≡ true → x ≡ max f.done (max f.failed now) → Comes act before m x
+        → Comes act (before ++ CondClose ∷ []) Run (act (max f.done (max f.failed now)) CondClose)
     from m x leads met is c =
-        arrive act before CondClose m Running false x _ leads (ap (λ b. cond b (act x CondClose) x) met ∙ ap (λ z. act z CondClose) is) c
+        arrive act before CondClose m Run false x _ leads (ap (λ b. cond b (act x CondClose) x) met ∙ ap (λ z. act z CondClose) is) c
 
-    reach : Comes act (before ++ CondClose ∷ []) Running (act (max f.done (max f.failed now)) CondClose)
+    reach : Comes act (before ++ CondClose ∷ []) Run (act (max f.done (max f.failed now)) CondClose)
     reach =
-        let run : IsBest act before Running Certain now = sums Running in
+        let run : IsBest act before Run Certain now = sums Run in
         elim (max_is f.done (max f.failed now)) [
-          | inr e ↦ elim (best_comes act before (Past EndOnly zero) Possible f.done (sums (Past EndOnly zero))) [
-            | inl c ↦ from (Past EndOnly zero) f.done refl refl (sym e) c
-            | inr z ↦ from Running now refl refl (omega arith) run.1
+          | inr e ↦ elim (best_comes act before (ToEnd zero) Possible f.done (sums (ToEnd zero))) [
+            | inl c ↦ from (ToEnd zero) f.done refl refl (sym e) c
+            | inr z ↦ from Run now refl refl (omega arith) run.1
           ]
           | inl d ↦ elim (max_is f.failed now) [
-            | inr e ↦ elim (best_comes act before (Past ElseOrEnd zero) (failing f.part) f.failed (sums (Past ElseOrEnd zero))) [
-              | inl c ↦ from (Past ElseOrEnd zero) f.failed refl refl (sym (d ∙ e)) c
-              | inr z ↦ from Running now refl refl (omega arith) run.1
+            | inr e ↦ elim (best_comes act before (ToElse zero) (failing f.part) f.failed (sums (ToElse zero))) [
+              | inl c ↦ from (ToElse zero) f.failed refl refl (sym (d ∙ e)) c
+              | inr z ↦ from Run now refl refl (omega arith) run.1
             ]
-            | inl e ↦ from Running now refl refl (sym (d ∙ e)) run.1
+            | inl e ↦ from Run now refl refl (sym (d ∙ e)) run.1
           ]
         ]
 
 pub sums_start : (act : Act) → Sums act [] (record { running = 0; frames = [] })
-sums_start act Running = ((λ x c. omega (arith, sym c.value, nothing c.walk)), record { walk = []; passes = (refl, refl); value = refl })
-  where
-    nothing : (w : Walk) → state_of act 0 (path_of w []) ≡ 0
-    nothing [] = refl
-    nothing (b ∷ w) = refl
-sums_start act (Past b n) = ((λ x c. let e : Past b n ≡ Running = c.passes.1 in absurd (cc)), refl)
+sums_start act Run = ((λ x c. omega (arith, sym c.value, ap (λ p. state_of act 0 p) (no_path c.walk))), record { walk = []; passes = (refl, refl); value = refl })
+sums_start act (ToElse n) = ((λ x c. let e : ToElse n ≡ Run = c.passes.1 in absurd (cc)), refl)
+sums_start act (ToEnd n) = ((λ x c. let e : ToEnd n ≡ Run = c.passes.1 in absurd (cc)), inr refl)

@@ -1,10 +1,14 @@
 -- Which states the walks come to, for any step along a path: one pass over the tokens, with a set of states for each mode.
-use Rattle.std.proofs.Common.{◌≡◌, zero, suc, ◌⊎◌, inl, inr, List, [], ◌∷◌, ◌++◌, refl, sym, ◌∙◌, ap, subst, Bool, true, false, ◌||◌, cond}
+use Rattle.std.proofs.Common.{◌≡◌, zero, suc, ◌⊎◌, inl, inr, ◌↔◌, List, [], ◌∷◌, ◌++◌, refl, sym, ◌∙◌, ap, subst, Bool, true, false, ◌||◌, cond}
 use Rattle.ti_cap.specs.declared.language.Token.{Token}
 use Rattle.ti_cap.specs.declared.language.Token.TheVariants.{CondOpen, CondThen, CondElse, CondClose}
+use Rattle.ti_cap.specs.Tree.{IsSimple}
 use Rattle.ti_cap.specs.Path.{Walk, path_of}
-use Rattle.ti_cap.specs.Pass.{Mode, Running, Past, next_mode, is_running, Passes, ElseOrEnd, EndOnly}
-use Rattle.ti_cap.proofs.PassesLemmas.{Split, passes_split, passes-append}
+use Rattle.ti_cap.specs.declared.mode.Mode.{Mode}
+use Rattle.ti_cap.specs.declared.mode.Mode.TheVariants.{Run, ToElse, ToEnd}
+use Rattle.ti_cap.specs.Pass.{next_mode, is_running, Passes}
+use Rattle.ti_cap.proofs.NextModeLemmas.{deeper}
+use Rattle.ti_cap.proofs.PassesLemmas.{Split, passes_split, passes-append, path_of-append}
 
 -- whether a token is met, if tests go so
 abbrev pub is_met : Mode → Token → Bool → Bool
@@ -22,24 +26,17 @@ passed_by act m k fails x = cond (is_met m k fails) (act x k) x
 -- some walk over the tokens comes to the mode with the state
 pub record Reaches {S : Type 0} (act : S → Token → S) (start : S) (before : List Token) (m : Mode) (x : S) : Type 0 where
   pub walk : Walk
-  pub passes : Passes Running before walk m
+  pub passes : Passes Run before walk m
   pub value : state_of act start (path_of walk before) ≡ x
 
 -- what a walk and one mark more meet of the tokens and one more
 pub path_of-snoc : (ks : List Token) (m o : Mode) (w : Walk) (k : Token) (mark : Bool) → Passes m ks w o
     → path_of (w ++ mark ∷ []) (ks ++ k ∷ []) ≡ path_of w ks ++ cond mark (k ∷ []) []
-path_of-snoc [] m o w k mark p = rw p.0 (one mark)
+path_of-snoc ks m o w k mark p = path_of-append ks (k ∷ []) m o w (mark ∷ []) p ∙ ap (λ x. path_of w ks ++ x) (one mark)
   where
     one : (mark : Bool) → path_of (mark ∷ []) (k ∷ []) ≡ cond mark (k ∷ []) []
     one true = refl
     one false = refl
-path_of-snoc (l ∷ ks) m o w k mark (fails, more, e, p) =
-    rw e (both (is_running m || is_running (next_mode m l fails)) (path_of-snoc ks (next_mode m l fails) o more k mark p))
-  where
-    both : (b : Bool) → path_of (more ++ mark ∷ []) (ks ++ k ∷ []) ≡ path_of more ks ++ cond mark (k ∷ []) []
-        → path_of (b ∷ (more ++ mark ∷ [])) (l ∷ (ks ++ k ∷ [])) ≡ path_of (b ∷ more) (l ∷ ks) ++ cond mark (k ∷ []) []
-    both true h = ap (λ x. l ∷ x) h
-    both false h = h
 
 pub state_of-append : {S : Type 0} (act : S → Token → S) (x : S) (a b : List Token) → state_of act x (a ++ b) ≡ state_of act (state_of act x a) b
 state_of-append act x [] b = refl
@@ -54,8 +51,8 @@ pub reaches_on : {S : Type 0} (act : S → Token → S) (start : S) (before : Li
     → Reaches act start (before ++ k ∷ []) (next_mode m k fails) (passed_by act m k fails x)
 reaches_on act start before k m fails x c = record {
   walk = c.walk ++ is_met m k fails ∷ [];
-  passes = passes-append before (k ∷ []) Running m (next_mode m k fails) c.walk (is_met m k fails ∷ []) c.passes (fails, [], refl, (refl, refl));
-  value = ap (λ y. state_of act start y) (path_of-snoc before Running m c.walk k (is_met m k fails) c.passes)
+  passes = passes-append before (k ∷ []) Run m (next_mode m k fails) c.walk (is_met m k fails ∷ []) c.passes (fails, [], refl, (refl, refl));
+  value = ap (λ y. state_of act start y) (path_of-snoc before Run m c.walk k (is_met m k fails) c.passes)
       ∙ state_of-append act start (path_of c.walk before) (cond (is_met m k fails) (k ∷ []) [])
       ∙ state-mark act (state_of act start (path_of c.walk before)) k (is_met m k fails)
       ∙ ap (λ y. cond (is_met m k fails) (act y k) y) c.value;
@@ -73,7 +70,7 @@ pub record Came {S : Type 0} (act : S → Token → S) (set : Mode → S → Typ
 pub came_from : {S : Type 0} (act : S → Token → S) (start : S) (before : List Token) (k : Token) (m : Mode) (y : S) → Reaches act start (before ++ k ∷ []) m y
     → Came act (Reaches act start before) k m y
 came_from act start before k m y c =
-    let s : Split before (k ∷ []) Running m c.walk = passes_split before (k ∷ []) Running m c.walk c.passes in
+    let s : Split before (k ∷ []) Run m c.walk = passes_split before (k ∷ []) Run m c.walk c.passes in
     let fails : Bool = s.second.0 in
     let back : s.back ≡ is_met s.between k fails ∷ [] = s.second.2 ∙ ap (λ w. is_met s.between k fails ∷ w) s.second.3.0 in
     record {
@@ -84,7 +81,7 @@ came_from act start before k m y c =
       leads = sym s.second.3.1;
       gives = sym c.value
           ∙ ap (λ w. state_of act start (path_of w (before ++ k ∷ []))) (s.joined ∙ ap (λ w. s.front ++ w) back)
-          ∙ ap (λ w. state_of act start w) (path_of-snoc before Running s.between s.front k (is_met s.between k fails) s.first)
+          ∙ ap (λ w. state_of act start w) (path_of-snoc before Run s.between s.front k (is_met s.between k fails) s.first)
           ∙ state_of-append act start (path_of s.front before) (cond (is_met s.between k fails) (k ∷ []) [])
           ∙ state-mark act (state_of act start (path_of s.front before)) k (is_met s.between k fails);
     }
@@ -105,67 +102,66 @@ Moved {S = S} act from k y = (x : S) × from x × (y ≡ act x k)
 -- the set of each mode after a token, by the sets before it: a `%?` moves all that waits down by one conditional and a `%;`
 -- up, a `%t` lets some wait for the next `%e` or `%;`, a `%e` goes on with these and lets the others wait for the `%;`
 abbrev pub Next : {S : Type 0} → (S → Token → S) → (Mode → S → Type 0) → Token → Mode → S → Type 0
-Next act set CondOpen Running y = Moved act (set Running) CondOpen y
-Next act set CondOpen (Past b (suc n)) y = set (Past b n) y
-Next act set CondOpen (Past b zero) y = ⊥
-Next act set CondThen Running y = Moved act (set Running) CondThen y
-Next act set CondThen (Past ElseOrEnd zero) y = Moved act (set Running) CondThen y ⊎ set (Past ElseOrEnd zero) y
-Next act set CondThen (Past ElseOrEnd (suc n)) y = set (Past ElseOrEnd (suc n)) y
-Next act set CondThen (Past EndOnly n) y = set (Past EndOnly n) y
-Next act set CondElse Running y = Moved act (set (Past ElseOrEnd zero)) CondElse y
-Next act set CondElse (Past b (suc n)) y = set (Past b (suc n)) y
-Next act set CondElse (Past ElseOrEnd zero) y = ⊥
-Next act set CondElse (Past EndOnly zero) y = Moved act (set Running) CondElse y ⊎ set (Past EndOnly zero) y
-Next act set CondClose Running y =
-    Moved act (set Running) CondClose y ⊎ (Moved act (set (Past ElseOrEnd zero)) CondClose y ⊎ Moved act (set (Past EndOnly zero)) CondClose y)
-Next act set CondClose (Past b n) y = set (Past b (suc n)) y
-Next act set k Running y = Moved act (set Running) k y
-Next act set k (Past b n) y = set (Past b n) y
+Next act set CondOpen Run y = Moved act (set Run) CondOpen y
+Next act set CondOpen (ToElse (suc n)) y = set (ToElse n) y
+Next act set CondOpen (ToEnd (suc n)) y = set (ToEnd n) y
+Next act set CondOpen m y = ⊥
+Next act set CondThen Run y = Moved act (set Run) CondThen y
+Next act set CondThen (ToElse zero) y = Moved act (set Run) CondThen y ⊎ set (ToElse zero) y
+Next act set CondThen m y = set m y
+Next act set CondElse Run y = Moved act (set (ToElse zero)) CondElse y
+Next act set CondElse (ToElse zero) y = ⊥
+Next act set CondElse (ToEnd zero) y = Moved act (set Run) CondElse y ⊎ set (ToEnd zero) y
+Next act set CondElse m y = set m y
+Next act set CondClose Run y =
+    Moved act (set Run) CondClose y ⊎ (Moved act (set (ToElse zero)) CondClose y ⊎ Moved act (set (ToEnd zero)) CondClose y)
+Next act set CondClose m y = set (deeper m) y
+Next act set k Run y = Moved act (set Run) k y
+Next act set k m y = set m y
 
 onward : {S : Type 0} (act : S → Token → S) (set : Mode → S → Type 0) (k : Token) (m : Mode) (f : Bool) (x : S) → set m x
     → Next act set k (next_mode m k f) (passed_by act m k f x)
-onward act set CondOpen Running f x h = (x, h, refl)
-onward act set CondOpen (Past b n) f x h = h
-onward act set CondThen Running true x h = inl (x, h, refl)
-onward act set CondThen Running false x h = (x, h, refl)
-onward act set CondThen (Past ElseOrEnd zero) f x h = inr h
-onward act set CondThen (Past ElseOrEnd (suc n)) f x h = h
-onward act set CondThen (Past EndOnly n) f x h = h
-onward act set CondElse Running f x h = inl (x, h, refl)
-onward act set CondElse (Past b (suc n)) f x h = h
-onward act set CondElse (Past ElseOrEnd zero) f x h = (x, h, refl)
-onward act set CondElse (Past EndOnly zero) f x h = inr h
-onward act set CondClose Running f x h = inl (x, h, refl)
-onward act set CondClose (Past b (suc n)) f x h = h
-onward act set CondClose (Past ElseOrEnd zero) f x h = inr (inl (x, h, refl))
-onward act set CondClose (Past EndOnly zero) f x h = inr (inr (x, h, refl))
-onward act set k Running f x h = (x, h, refl)
-onward act set k (Past b n) f x h = h
+onward act set CondOpen Run f x h = (x, h, refl)
+onward act set CondOpen m f x h = h
+onward act set CondThen Run true x h = inl (x, h, refl)
+onward act set CondThen Run false x h = (x, h, refl)
+onward act set CondThen (ToElse zero) f x h = inr h
+onward act set CondThen m f x h = h
+onward act set CondElse Run f x h = inl (x, h, refl)
+onward act set CondElse (ToElse zero) f x h = (x, h, refl)
+onward act set CondElse (ToEnd zero) f x h = inr h
+onward act set CondElse m f x h = h
+onward act set CondClose Run f x h = inl (x, h, refl)
+onward act set CondClose (ToElse zero) f x h = inr (inl (x, h, refl))
+onward act set CondClose (ToEnd zero) f x h = inr (inr (x, h, refl))
+onward act set CondClose m f x h = h
+onward act set k Run f x h = (x, h, refl)
+onward act set k m f x h = h
 
 came : {S : Type 0} (act : S → Token → S) (set : Mode → S → Type 0) (k : Token) (source m : Mode) (fails : Bool) (old y : S) → set source old
     → next_mode source k fails ≡ m → y ≡ passed_by act source k fails old → Came act set k m y
 came act set k source m fails old y h e g = record { source = source; fails = fails; old = old; comes = h; leads = e; gives = g }
 
 backward : {S : Type 0} (act : S → Token → S) (set : Mode → S → Type 0) (k : Token) (m : Mode) (y : S) → Next act set k m y → Came act set k m y
-backward act set CondOpen Running y (x, h, e) = came act set CondOpen Running Running false x y h refl e
-backward act set CondOpen (Past b (suc n)) y h = came act set CondOpen (Past b n) (Past b (suc n)) false y y h refl refl
-backward act set CondOpen (Past b zero) y h = absurd h
-backward act set CondThen Running y (x, h, e) = came act set CondThen Running Running false x y h refl e
-backward act set CondThen (Past ElseOrEnd zero) y (inl (x, h, e)) = came act set CondThen Running (Past ElseOrEnd zero) true x y h refl e
-backward act set CondThen (Past ElseOrEnd zero) y (inr h) = came act set CondThen (Past ElseOrEnd zero) (Past ElseOrEnd zero) false y y h refl refl
-backward act set CondThen (Past ElseOrEnd (suc n)) y h = came act set CondThen (Past ElseOrEnd (suc n)) (Past ElseOrEnd (suc n)) false y y h refl refl
-backward act set CondThen (Past EndOnly n) y h = came act set CondThen (Past EndOnly n) (Past EndOnly n) false y y h refl refl
-backward act set CondElse Running y (x, h, e) = came act set CondElse (Past ElseOrEnd zero) Running false x y h refl e
-backward act set CondElse (Past b (suc n)) y h = came act set CondElse (Past b (suc n)) (Past b (suc n)) false y y h refl refl
-backward act set CondElse (Past ElseOrEnd zero) y h = absurd h
-backward act set CondElse (Past EndOnly zero) y (inl (x, h, e)) = came act set CondElse Running (Past EndOnly zero) false x y h refl e
-backward act set CondElse (Past EndOnly zero) y (inr h) = came act set CondElse (Past EndOnly zero) (Past EndOnly zero) false y y h refl refl
-backward act set CondClose Running y (inl (x, h, e)) = came act set CondClose Running Running false x y h refl e
-backward act set CondClose Running y (inr (inl (x, h, e))) = came act set CondClose (Past ElseOrEnd zero) Running false x y h refl e
-backward act set CondClose Running y (inr (inr (x, h, e))) = came act set CondClose (Past EndOnly zero) Running false x y h refl e
-backward act set CondClose (Past b n) y h = came act set CondClose (Past b (suc n)) (Past b n) false y y h refl refl
-backward act set k Running y h = came act set k Running Running false h.0 y h.1 refl h.2
-backward act set k (Past b n) y h = came act set k (Past b n) (Past b n) false y y h refl refl
+backward act set CondOpen Run y (x, h, e) = came act set CondOpen Run Run false x y h refl e
+backward act set CondOpen (ToElse (suc n)) y h = came act set CondOpen (ToElse n) (ToElse (suc n)) false y y h refl refl
+backward act set CondOpen (ToEnd (suc n)) y h = came act set CondOpen (ToEnd n) (ToEnd (suc n)) false y y h refl refl
+backward act set CondOpen m y h = absurd h
+backward act set CondThen Run y (x, h, e) = came act set CondThen Run Run false x y h refl e
+backward act set CondThen (ToElse zero) y (inl (x, h, e)) = came act set CondThen Run (ToElse zero) true x y h refl e
+backward act set CondThen (ToElse zero) y (inr h) = came act set CondThen (ToElse zero) (ToElse zero) false y y h refl refl
+backward act set CondThen m y h = came act set CondThen m m false y y h refl refl
+backward act set CondElse Run y (x, h, e) = came act set CondElse (ToElse zero) Run false x y h refl e
+backward act set CondElse (ToElse zero) y h = absurd h
+backward act set CondElse (ToEnd zero) y (inl (x, h, e)) = came act set CondElse Run (ToEnd zero) false x y h refl e
+backward act set CondElse (ToEnd zero) y (inr h) = came act set CondElse (ToEnd zero) (ToEnd zero) false y y h refl refl
+backward act set CondElse m y h = came act set CondElse m m false y y h refl refl
+backward act set CondClose Run y (inl (x, h, e)) = came act set CondClose Run Run false x y h refl e
+backward act set CondClose Run y (inr (inl (x, h, e))) = came act set CondClose (ToElse zero) Run false x y h refl e
+backward act set CondClose Run y (inr (inr (x, h, e))) = came act set CondClose (ToEnd zero) Run false x y h refl e
+backward act set CondClose m y h = came act set CondClose (deeper m) m false y y h refl refl
+backward act set k Run y h = came act set k Run Run false h.0 y h.1 refl h.2
+backward act set k m y h = came act set k m m false y y h refl refl
 
 -- the states that walks come to with one token more are those of one step of the pass, and no others
 pub reaches_next : {S : Type 0} (act : S → Token → S) (start : S) (before : List Token) (k : Token) (m : Mode) (y : S)
@@ -179,3 +175,22 @@ reaches_next {S = S} act start before k m y r =
 pub next_reaches : {S : Type 0} (act : S → Token → S) (start : S) (before : List Token) (k : Token) (m : Mode) (y : S)
     → Next act (Reaches act start before) k m y → Reaches act start (before ++ k ∷ []) m y
 next_reaches act start before k m y h = came_reaches act start before k m y (backward act (Reaches act start before) k m y h)
+
+-- ---- a simple token
+
+pub simple_running : {S : Type 0} (act : S → Token → S) (start : S) (before : List Token) (k : Token) → IsSimple k → (x : S)
+    → Moved act (Reaches act start before Run) k x ↔ Reaches act start (before ++ k ∷ []) Run x
+simple_running act start before CondOpen h x = absurd h
+simple_running act start before CondThen h x = absurd h
+simple_running act start before CondElse h x = absurd h
+simple_running act start before CondClose h x = absurd h
+simple_running act start before k h x = (next_reaches act start before k Run x, reaches_next act start before k Run x)
+
+pub simple_waiting : {S : Type 0} (act : S → Token → S) (start : S) (before : List Token) (k : Token) (m : Mode) → is_running m ≡ false → IsSimple k → (x : S)
+    → Reaches act start before m x ↔ Reaches act start (before ++ k ∷ []) m x
+simple_waiting act start before CondOpen m past h x = absurd h
+simple_waiting act start before CondThen m past h x = absurd h
+simple_waiting act start before CondElse m past h x = absurd h
+simple_waiting act start before CondClose m past h x = absurd h
+simple_waiting act start before k Run past h x = absurd (cc)
+simple_waiting act start before k m past h x = (next_reaches act start before k m x, reaches_next act start before k m x)

@@ -6,7 +6,9 @@ use Rattle.std.proofs.lemmas.List.Elements.{Contains-append_left, Contains-appen
 use Rattle.ti_cap.specs.declared.language.Token.{Token}
 use Rattle.ti_cap.specs.declared.language.Token.TheVariants.{Param, CondOpen, CondThen, CondElse, CondClose}
 use Rattle.ti_cap.specs.Path.{Walk, path_of}
-use Rattle.ti_cap.specs.Pass.{Mode, Running, Past, next_mode, Passes}
+use Rattle.ti_cap.specs.declared.mode.Mode.{Mode}
+use Rattle.ti_cap.specs.declared.mode.Mode.TheVariants.{Run}
+use Rattle.ti_cap.specs.Pass.{next_mode, Passes}
 use Rattle.ti_cap.specs.Sources.{next_sources, sources, sources_from, takes_text, Names, TakesAsText}
 use Rattle.ti_cap.proofs.PassesLemmas.{Split, passes_split, passes-append}
 use Rattle.ti_cap.proofs.ReachesLemmas.{is_met, path_of-snoc, state_of, Reaches}
@@ -16,7 +18,7 @@ Stack = List (Option ℕ)
 
 -- it is true of the path of some walk over the tokens
 abbrev pub Seen : (List Token → Type 0) → List Token → Type 0
-Seen holds before = (m : Mode) × (w : Walk) × Passes Running before w m × holds (path_of w before)
+Seen holds before = (m : Mode) × (w : Walk) × Passes Run before w m × holds (path_of w before)
 
 -- it becomes true with this token, if the stack is so
 abbrev pub Becomes : (List Token → Type 0) → Token → (Stack → Type 0) → Type 0
@@ -24,11 +26,11 @@ Becomes holds k now = (path : List Token) → holds (path ++ k ∷ []) ↔ (hold
 
 -- some stack that runs here is so
 abbrev pub Runs : List Token → (Stack → Type 0) → Type 0
-Runs before now = (stack : Stack) × Reaches next_sources [] before Running stack × now stack
+Runs before now = (stack : Stack) × Reaches next_sources [] before Run stack × now stack
 
 -- it does not become true if the token is passed over
 abbrev pub IsMetOnly : Token → (Stack → Type 0) → Type 0
-IsMetOnly k now = (source : Mode) (fails : Bool) → is_met source k fails ≡ true → (source ≡ Running) ⊎ ((stack : Stack) → ¬ now stack)
+IsMetOnly k now = (source : Mode) (fails : Bool) → is_met source k fails ≡ true → (source ≡ Run) ⊎ ((stack : Stack) → ¬ now stack)
 
 pub seen_step : (holds : List Token → Type 0) (before : List Token) (k : Token) (now : Stack → Type 0) → Becomes holds k now → IsMetOnly k now
     → Seen holds (before ++ k ∷ []) ↔ (Seen holds before ⊎ Runs before now)
@@ -36,32 +38,32 @@ seen_step holds before k now becomes only = (earlier, later)
   where
     earlier : Seen holds (before ++ k ∷ []) → Seen holds before ⊎ Runs before now
     earlier (m, w, p, h) =
-        let s : Split before (k ∷ []) Running m w = passes_split before (k ∷ []) Running m w p in
+        let s : Split before (k ∷ []) Run m w = passes_split before (k ∷ []) Run m w p in
         let f : Bool = s.second.0 in
         let back : s.back ≡ is_met s.between k f ∷ [] = s.second.2 ∙ ap (λ y. is_met s.between k f ∷ y) s.second.3.0 in
         let e : path_of w (before ++ k ∷ []) ≡ path_of s.front before ++ cond (is_met s.between k f) (k ∷ []) [] =
-        ap (λ y. path_of y (before ++ k ∷ [])) (s.joined ∙ ap (λ y. s.front ++ y) back) ∙ path_of-snoc before Running s.between s.front k (is_met s.between k f) s.first in
+        ap (λ y. path_of y (before ++ k ∷ [])) (s.joined ∙ ap (λ y. s.front ++ y) back) ∙ path_of-snoc before Run s.between s.front k (is_met s.between k f) s.first in
         by s.between s.front f s.first (is_met s.between k f) refl (subst holds e h)
       where
-        by : (source : Mode) (u : Walk) (f : Bool) → Passes Running before u source → (mark : Bool) → is_met source k f ≡ mark
+        by : (source : Mode) (u : Walk) (f : Bool) → Passes Run before u source → (mark : Bool) → is_met source k f ≡ mark
             → holds (path_of u before ++ cond mark (k ∷ []) []) → Seen holds before ⊎ Runs before now
         by source u f q false e h = inl (source, u, q, subst holds (append-nil (path_of u before)) h)
         by source u f q true e h = elim ((becomes (path_of u before)).0 h) [
           | inl old ↦ inl (source, u, q, old)
           | inr new ↦ elim (only source f e) [
             | inl runs ↦
-                let P : Mode → Type 0 = λ x. Passes Running before u x in
+                let P : Mode → Type 0 = λ x. Passes Run before u x in
                 inr (state_of next_sources [] (path_of u before), record { walk = u; passes = subst P runs q; value = refl }, new)
             | inr never ↦ absurd (never _ new)
           ]
         ]
 
-    on : (m : Mode) (w : Walk) → Passes Running before w m → holds (path_of w before ++ cond (is_met m k false) (k ∷ []) []) → Seen holds (before ++ k ∷ [])
+    on : (m : Mode) (w : Walk) → Passes Run before w m → holds (path_of w before ++ cond (is_met m k false) (k ∷ []) []) → Seen holds (before ++ k ∷ [])
     on m w p h = (
       next_mode m k false,
       w ++ is_met m k false ∷ [],
-      passes-append before (k ∷ []) Running m (next_mode m k false) w (is_met m k false ∷ []) p (false, [], refl, (refl, refl)),
-      subst holds (sym (path_of-snoc before Running m w k (is_met m k false) p)) h,
+      passes-append before (k ∷ []) Run m (next_mode m k false) w (is_met m k false ∷ []) p (false, [], refl, (refl, refl)),
+      subst holds (sym (path_of-snoc before Run m w k (is_met m k false) p)) h,
     )
 
     later : Seen holds before ⊎ Runs before now → Seen holds (before ++ k ∷ [])
@@ -70,17 +72,17 @@ seen_step holds before k now becomes only = (earlier, later)
         kept : (mark : Bool) → holds (path_of w before ++ cond mark (k ∷ []) [])
         kept true = (becomes (path_of w before)).1 (inl h)
         kept false = subst holds (sym (append-nil (path_of w before))) h
-    later (inr (stack, r, h)) = on Running r.walk r.passes ((becomes (path_of r.walk before)).1 (inr (subst now (sym r.value) h)))
+    later (inr (stack, r, h)) = on Run r.walk r.passes ((becomes (path_of r.walk before)).1 (inr (subst now (sym r.value) h)))
 
 -- ---- names
 
-names_only : (k : Token) (which : ℕ) (source : Mode) (f : Bool) → is_met source k f ≡ true → (source ≡ Running) ⊎ (¬ (k ≡ Param which))
-names_only k which Running f e = inl refl
-names_only CondOpen which (Past b n) f e = inr (λ p. absurd (cc))
-names_only CondThen which (Past b n) f e = inr (λ p. absurd (cc))
-names_only CondElse which (Past b n) f e = inr (λ p. absurd (cc))
-names_only CondClose which (Past b n) f e = inr (λ p. absurd (cc))
-names_only _ which (Past b n) f e = absurd (cc)
+names_only : (k : Token) (which : ℕ) (source : Mode) (f : Bool) → is_met source k f ≡ true → (source ≡ Run) ⊎ (¬ (k ≡ Param which))
+names_only k which Run f e = inl refl
+names_only CondOpen which m f e = inr (λ p. absurd (cc))
+names_only CondThen which m f e = inr (λ p. absurd (cc))
+names_only CondElse which m f e = inr (λ p. absurd (cc))
+names_only CondClose which m f e = inr (λ p. absurd (cc))
+names_only _ which m f e = absurd (cc)
 
 one_is : (k l : Token) → Contains (k ∷ []) l ↔ (k ≡ l)
 one_is k l = (first, (λ e. (0, omega arith, e)))
@@ -124,13 +126,13 @@ last_or_later (p ∷ path) (b ∷ before) k token after e = elim (last_or_later 
   | inr r ↦ let same : p ≡ b = cc in inr (r.0, cc (r.1, same))
 ]
 
-texts_only : (k : Token) (source : Mode) (f : Bool) → is_met source k f ≡ true → (source ≡ Running) ⊎ (¬ IsTrue (takes_text k))
-texts_only k Running f e = inl refl
-texts_only CondOpen (Past b n) f e = inr (λ t. absurd (cc))
-texts_only CondThen (Past b n) f e = inr (λ t. absurd (cc))
-texts_only CondElse (Past b n) f e = inr (λ t. absurd (cc))
-texts_only CondClose (Past b n) f e = inr (λ t. absurd (cc))
-texts_only _ (Past b n) f e = absurd (cc)
+texts_only : (k : Token) (source : Mode) (f : Bool) → is_met source k f ≡ true → (source ≡ Run) ⊎ (¬ IsTrue (takes_text k))
+texts_only k Run f e = inl refl
+texts_only CondOpen m f e = inr (λ t. absurd (cc))
+texts_only CondThen m f e = inr (λ t. absurd (cc))
+texts_only CondElse m f e = inr (λ t. absurd (cc))
+texts_only CondClose m f e = inr (λ t. absurd (cc))
+texts_only _ m f e = absurd (cc)
 
 -- the token takes a text, and the value of the parameter is on top
 abbrev pub TakesTop : Token → ℕ → Stack → Type 0

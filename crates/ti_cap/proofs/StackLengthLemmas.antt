@@ -1,14 +1,16 @@
 -- No walk over the front of a tree has more values on the stack than the tree's height allows.
-use Rattle.std.proofs.Common.{◌≡◌, ℕ, ◌≤◌, List, [], ◌∷◌, ◌++◌, length, drop, replicate, refl, sym, ◌∙◌, ap, subst, arith, Bool, true, false, ◌||◌, length-append, length-drop}
+use Rattle.std.proofs.Common.{◌≡◌, ℕ, ◌≤◌, List, [], ◌∷◌, ◌++◌, length, drop, replicate, refl, sym, ◌∙◌, ap, subst, arith, true, length-append, length-drop}
 use Rattle.std.specs.Prelude.{Option}
 use Rattle.std.proofs.lemmas.List.{length-replicate}
 use Rattle.ti_cap.specs.declared.language.Token.{Token}
 use Rattle.ti_cap.specs.Tree.{Sequence, tokens, IsTree}
 use Rattle.ti_cap.specs.Path.{Walk, IsPath, path_of}
-use Rattle.ti_cap.specs.Pass.{Mode, Running, next_mode, is_running, Passes}
+use Rattle.ti_cap.specs.declared.mode.Mode.{Mode}
+use Rattle.ti_cap.specs.declared.mode.Mode.TheVariants.{Run}
+use Rattle.ti_cap.specs.Pass.{Passes}
 use Rattle.ti_cap.specs.Height.{pops, pushes, next_height, end_height, height_from, height}
 use Rattle.ti_cap.specs.Sources.{source, next_sources}
-use Rattle.ti_cap.proofs.PassesLemmas.{passes-append}
+use Rattle.ti_cap.proofs.PassesLemmas.{passes-append, path_of-append}
 use Rattle.ti_cap.proofs.IsWalkLemmas.{Walked, walk_of}
 use Rattle.ti_cap.proofs.ClimbsLemmas.{passes_on}
 use Rattle.ti_cap.proofs.ReachesLemmas.{state_of, Reaches}
@@ -27,25 +29,13 @@ end-front h [] [] = omega arith
 end-front h [] (k ∷ b) = omega arith
 end-front h (k ∷ a) b = omega (arith, end-front (next_height h k) a b)
 
--- what a walk meets of some tokens, and then of others
-pub path_of-append : (ks ls : List Token) (m o : Mode) (u v : Walk) → Passes m ks u o → path_of (u ++ v) (ks ++ ls) ≡ path_of u ks ++ path_of v ls
-path_of-append [] ls m o u v p = ap (λ x. path_of (x ++ v) ls) p.0 ∙ ap (λ x. path_of x [] ++ path_of v ls) (sym p.0)
-path_of-append (k ∷ ks) ls m o u v (fails, more, e, p) =
-    ap (λ x. path_of (x ++ v) (k ∷ (ks ++ ls))) e ∙ both (is_running m || is_running (next_mode m k fails)) (path_of-append ks ls (next_mode m k fails) o more v p)
-    ∙ ap (λ x. path_of x (k ∷ ks) ++ path_of v ls) (sym e)
-  where
-    both : (b : Bool) → path_of (more ++ v) (ks ++ ls) ≡ path_of more ks ++ path_of v ls
-        → path_of (b ∷ (more ++ v)) (k ∷ (ks ++ ls)) ≡ path_of (b ∷ more) (k ∷ ks) ++ path_of v ls
-    both true h = ap (λ x. k ∷ x) h
-    both false h = h
-
 pub stack_low : (tree : Sequence) (before after : List Token) (most : ℕ) (m : Mode) (stack : List (Option ℕ)) → IsTree tree → tokens tree ≡ before ++ after
     → ((path : List Token) → IsPath tree path → height path ≤ most) → Reaches next_sources [] before m stack → length stack ≤ most
 stack_low tree before after most m stack formed spans low r =
     let more : (w : Walk) × (o : Mode) × Passes m after w o = passes_on m after in
-    let P : List Token → Type 0 = λ x. Passes Running x (r.walk ++ more.0) more.1 in
-    let w : Walked true tree (r.walk ++ more.0) more.1 = walk_of true tree (r.walk ++ more.0) more.1 formed (subst P (sym spans) (passes-append before after Running m more.1 r.walk more.0 r.passes more.2)) in
+    let P : List Token → Type 0 = λ x. Passes Run x (r.walk ++ more.0) more.1 in
+    let w : Walked true tree (r.walk ++ more.0) more.1 = walk_of true tree (r.walk ++ more.0) more.1 formed (subst P (sym spans) (passes-append before after Run m more.1 r.walk more.0 r.passes more.2)) in
     let top : height (path_of (r.walk ++ more.0) (tokens tree)) ≤ most = low _ (r.walk ++ more.0, w.walk, refl) in
     let e : path_of (r.walk ++ more.0) (tokens tree) ≡ path_of r.walk before ++ path_of more.0 after =
-    ap (λ x. path_of (r.walk ++ more.0) x) spans ∙ path_of-append before after Running m r.walk more.0 r.passes in
+    ap (λ x. path_of (r.walk ++ more.0) x) spans ∙ path_of-append before after Run m r.walk more.0 r.passes in
     omega (arith, top, ap height e, end-front 0 (path_of r.walk before) (path_of more.0 after), length-state [] (path_of r.walk before), ap length r.value)

@@ -9,7 +9,8 @@ use Rattle.ti_cap.specs.declared.gathering.Gathering.{Gathering}
 use Rattle.ti_cap.specs.declared.scan.Part.{Part}
 use Rattle.ti_cap.specs.Tree.{Sequence, tokens}
 use Rattle.ti_cap.specs.Path.{IsPath, path_of}
-use Rattle.ti_cap.specs.Pass.{Running, Passes}
+use Rattle.ti_cap.specs.declared.mode.Mode.TheVariants.{Run}
+use Rattle.ti_cap.specs.Pass.{Passes}
 use Rattle.ti_cap.specs.Spelling.{Spells, Written, Writes}
 use Rattle.ti_cap.specs.Capability.{IsWellFormed}
 use Rattle.ti_cap.specs.Sources.{Has, Names, TakesAsText, IsNamed, IsTakenAsText}
@@ -87,7 +88,7 @@ meets bytes left rest k g w first s spelled =
         gathers = gathers_step w.before k w.parts l.2.0 g (record {
           old = w.gathers;
           stands = stands;
-          low = λ x r. stack_low w.formed.tree (w.before ++ k ∷ []) next.0 most_values Running x w.formed.writes.formed spans w.formed.heights r;
+          low = λ x r. stack_low w.formed.tree (w.before ++ k ∷ []) next.0 most_values Run x w.formed.writes.formed spans w.formed.heights r;
           takeable = takeable;
           fit = spelled_fit k s spelled;
         }) few;
@@ -115,15 +116,15 @@ seen_is bytes g w holds = (there, back)
 
     there : Seen holds w.before → (tree : Sequence) × (path : List Token) × Writes tree bytes × IsPath tree path × holds path
     there (m, u, p, h) =
-        let P : List Token → Type 0 = λ x. Passes Running x u m in
+        let P : List Token → Type 0 = λ x. Passes Run x u m in
         let walked : Walked true w.formed.tree u m = walk_of true w.formed.tree u m w.formed.writes.formed (subst P end p) in
         (w.formed.tree, path_of u w.before, w.formed.writes, (u, walked.walk, ap (λ x. path_of u x) end), h)
 
     back : (tree : Sequence) × (path : List Token) × Writes tree bytes × IsPath tree path × holds path → Seen holds w.before
     back (tree, path, writes, (u, walk, is), h) =
         let same : tokens tree ≡ w.before = one_cutting (tokens tree) (tokens w.formed.tree) bytes writes.written w.formed.writes.written ∙ sym end in
-        let over : Over true Running (tokens tree) u = walk_passes true tree u writes.formed walk in
-        let P : List Token → Type 0 = λ x. Passes Running x u over.to in
+        let over : Over true Run (tokens tree) u = walk_passes true tree u writes.formed walk in
+        let P : List Token → Type 0 = λ x. Passes Run x u over.to in
         (over.to, u, subst P same over.passes, subst holds (is ∙ ap (λ x. path_of u x) same) h)
 
 pub named_at_end : (bytes : List ℕ) (g : Gathering) → Stands bytes [] g → (which : ℕ) → Has g.found.named which ↔ IsNamed bytes which

@@ -10,6 +10,7 @@ mod language;
 pub mod laws;
 mod lexer;
 mod limits;
+mod mode;
 mod origins;
 mod parameter_set;
 mod parse;
@@ -19,6 +20,7 @@ mod scan;
 
 pub use gathering::Parameters;
 pub use language::{CapFault, CapRefused, Conversion, Format, Op, Token};
+pub use mode::Mode;
 pub use parameter_set::ParameterSet;
 pub use parse::{Capability, Tape};
 pub use reader::{Opens, Reader, Take};

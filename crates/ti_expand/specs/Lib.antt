@@ -2,7 +2,6 @@ pub mod State
 pub mod Printed
 pub mod Effect
 pub mod Meaning
-pub mod Mode
 pub mod Steps
 pub mod StackHeight
 pub mod Sound

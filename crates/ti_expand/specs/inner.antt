@@ -2,5 +2,5 @@
 pub mod Underway
 pub mod Held
 pub mod Decimal
-pub mod Machine
+pub mod Slots
 pub mod Running

@@ -1,8 +1,12 @@
-//! The operations on numbers.
+//! The operations on numbers, and on the stack.
 
-ghost use Rattle.std.specs.Prelude.{◌≡◌, ◌+ℤ◌, pos};
-ghost use Rattle.ti_expand.specs.Effect.{combine, complement, is_zero, flag_number, wrap, char_byte};
+ghost use Rattle.std.specs.Prelude.{◌≡◌, ◌≤◌, ◌+ℤ◌, pos, length, max};
+ghost use Rattle.ti_cap.specs.declared.language.Token.TheVariants.{Compute};
+ghost use Rattle.ti_cap.specs.Height.{next_height};
+ghost use Rattle.ti_expand.specs.Effect.{combine, complement, is_zero, flag_number, wrap, char_byte, after_operation};
+ghost use Rattle.ti_expand.specs.inner.Slots.{values_on};
 
+use crate::stack::Stack;
 use ti_cap::Op;
 
 /// What an operation makes of the two numbers that were popped.
@@ -56,4 +60,24 @@ pub fn byte_of(number: i32) -> u8
 {
     let low = (number.cast_unsigned() % 256) as u8;
     if low == 0 { 0x80 } else { low }
+}
+
+/// Computes from the numbers on top.
+#[inline(always)]
+pub fn compute(op: Op, stack: &mut Stack<'_, '_>)
+    requires { next_height stack.old.height (Compute op) ≤ length stack.old.slots.now }
+    ensures room { length stack.new.slots.now ≡ length stack.old.slots.now }
+    ensures height { stack.new.height ≡ next_height stack.old.height (Compute op) }
+    ensures highest { stack.new.highest ≡ max stack.old.highest stack.new.height }
+    ensures held { values_on stack.new ≡ after_operation op (values_on stack.old) }
+{
+    let number = match op {
+        Op::Not => logical_not(stack.pop_number()),
+        Op::BitNot => complement(stack.pop_number()),
+        _ => {
+            let (left, right) = stack.pop_two();
+            apply(op, left, right)
+        }
+    };
+    stack.push_number(number);
 }

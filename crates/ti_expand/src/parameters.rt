@@ -1,7 +1,7 @@
 //! The nine parameters while a capability runs. `%i` changes the first two alone, so only these are copied.
 
 ghost use Rattle.std.specs.Prelude.{◌≡◌, ◌+◌, ◌<◌, ◌∷◌, length, max};
-ghost use Rattle.ti_expand.specs.inner.Machine.{values_on};
+ghost use Rattle.ti_expand.specs.inner.Slots.{values_on};
 ghost use Rattle.ti_expand.specs.State.{parameter};
 ghost use Rattle.ti_expand.specs.Effect.{one_more, with_increments};
 

@@ -2,26 +2,22 @@
 //! memory, and make no test of the room on the stack or in the output.
 
 ghost use Rattle.std.specs.Prelude.{◌≡◌, ℕ, ◌+◌, ◌≤◌, [], length, take, drop};
-ghost use Rattle.ti_expand.specs.Mode.{mode_of};
 ghost use Rattle.ti_expand.specs.Expands.{IsExpansion};
 ghost use Rattle.ti_expand.specs.inner.Running.{IsReady};
 ghost use Rattle.ti_expand.specs.inner.Underway.{IsOnTheWay, GoesOn};
 
 use crate::counts::Run;
-use crate::eval::meet;
-use crate::modes::Mode;
-use crate::parameters::Parameters;
-use crate::stack::Stack;
+use crate::machine::Machine;
 use crate::values::Value;
 use crate::variables::Vars;
-use ti_cap::Tape;
+use ti_cap::{Mode, Tape};
 
 /// Passes tokens over from a mode on, up to the one that ends that, and returns how many were passed over.
 #[inline(always)]
 fn pass_from(tape: &mut Tape<'_>, from: Mode) -> usize
-    requires { (passed : ℕ) × IsOnTheWay tape.old.left (mode_of from) passed }
-    ensures onward { (passed : ℕ) → GoesOn tape.old.left (mode_of from) passed
-        tape.new.left (mode_of Mode.Run) (passed + result) }
+    requires { (passed : ℕ) × IsOnTheWay tape.old.left from passed }
+    ensures onward { (passed : ℕ) → GoesOn tape.old.left from passed
+        tape.new.left Mode.Run (passed + result) }
     ensures forward { length tape.new.left ≤ length tape.old.left }
 {
     let mut mode = from;
@@ -41,9 +37,9 @@ fn pass_from(tape: &mut Tape<'_>, from: Mode) -> usize
 /// The same, added to how many were passed over before. Each mode has a loop of its own, in which only its count changes.
 #[inline(always)]
 fn pass_over(tape: &mut Tape<'_>, from: Mode, passed: &mut usize)
-    requires { IsOnTheWay tape.old.left (mode_of from) passed.old }
-    ensures onward { GoesOn tape.old.left (mode_of from) passed.old
-        tape.new.left (mode_of Mode.Run) passed.new }
+    requires { IsOnTheWay tape.old.left from passed.old }
+    ensures onward { GoesOn tape.old.left from passed.old
+        tape.new.left Mode.Run passed.new }
     ensures forward { length tape.new.left ≤ length tape.old.left }
 {
     match from {
@@ -99,15 +95,19 @@ fn run_tokens<'a>(
     // Each variable fits 32 bits, on which the bound rests.
     let _numbers = vars.numbers();
     let tokens = tape.token_count();
-    let mut parameters = Parameters::new(parameters);
-    let mut stack = Stack::new(stack);
-    let mut written = 0;
+    let mut machine = Machine::new(parameters, vars, stack, out);
     let mut passed = 0;
     while let Some(token) = tape.token() {
-        let (after, end) = meet(&token, &mut parameters, vars, &mut stack, out, written);
-        written = end;
+        let after = machine.meet(&token);
         pass_over(&mut tape, after, &mut passed);
     }
+    let Machine {
+        vars: _vars,
+        out: _out,
+        written,
+        stack,
+        parameters: _parameters,
+    } = machine;
     Run {
         written,
         ran: tokens - passed,

@@ -1,15 +1,19 @@
 //! What `%d`, `%o`, `%x`, `%X` and `%s` print, written straight into the caller's slice: the bytes are those of
 //! `print_of_number` and `print_of_text`, and no value needs more of them than the format's size.
 
-ghost use Rattle.std.specs.Prelude.{◌≡◌, ◌≢◌, ◌+◌, ◌<◌, ◌≤◌, ◌++◌, length, take, drop, replicate, codes};
+ghost use Rattle.std.specs.Prelude.{◌≡◌, ◌≢◌, ◌+◌, ◌-◌, ◌<◌, ◌≤◌, ◌++◌, length, take, drop, replicate, codes};
 ghost use Rattle.std.specs.Bool.{OnTrue};
 ghost use Rattle.ti_base.specs.Letters.{letter};
 ghost use Rattle.ti_base.specs.Limits.{most_text_bytes};
 ghost use Rattle.ti_cap.specs.Sizes.{format_size};
+ghost use Rattle.ti_expand.specs.Effect.{print_for};
+ghost use Rattle.ti_expand.specs.State.{without_top};
 ghost use Rattle.ti_expand.specs.inner.Decimal.{IsPlainDecimal, decimal_digits};
+ghost use Rattle.ti_expand.specs.inner.Slots.{values_on};
 ghost use Rattle.ti_expand.specs.Printed.{magnitude, least_count, front_for, print_of_number, print_of_text, after_zeros, field};
 
 use crate::digits::Digits;
+use crate::stack::Stack;
 use crate::write::{put, put_repeated};
 use ti_cap::{Conversion, Format};
 
@@ -199,4 +203,25 @@ pub(crate) fn print_text(format: Format, text: &[u8], out: &mut [u8], at: usize)
     }
     let start = put_repeated(out, at, b' ', missing);
     put(out, start, shown)
+}
+
+/// Prints what lies on the stack, from a place on, and returns the place after it.
+#[inline(always)]
+pub fn print(format: Format, stack: &mut Stack<'_, '_>, out: &mut [u8], written: usize) -> usize
+    requires { written + length (print_for format.conversion format (values_on stack.old))
+        ≤ length out.old }
+    ensures room { length stack.new.slots.now ≡ length stack.old.slots.now }
+    ensures height { stack.new.height ≡ stack.old.height - 1 }
+    ensures highest { stack.new.highest ≡ stack.old.highest }
+    ensures held { values_on stack.new ≡ without_top (values_on stack.old) }
+    ensures written { take result out.new
+        ≡ take written out.old ++ print_for format.conversion format (values_on stack.old) }
+    ensures end { result
+        ≡ written + length (print_for format.conversion format (values_on stack.old)) }
+    ensures rest { drop result out.new ≡ drop result out.old }
+{
+    match format.conversion {
+        Conversion::Text => print_text(format, stack.pop_text(), out, written),
+        _ => print_number(format, stack.pop_number(), out, written),
+    }
 }

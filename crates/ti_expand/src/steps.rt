@@ -13,41 +13,39 @@ use crate::counts::Run;
 use crate::expansion::check;
 use crate::fault::ExpandFault;
 use crate::machine::Machine;
-use crate::modes::Mode;
 use crate::step::{Outcome, Step};
 use crate::values::Value;
 use crate::variables::Vars;
 use std::fmt;
 use std::marker::Model;
-use ti_cap::{Capability, Tape};
+use ti_cap::{Capability, Mode, Tape};
 
 /// A pass over a capability that stops after each token. It goes forward only.
 #[derive(Drop)]
 pub struct Steps<'r, 'p, 'a> {
     tape: Tape<'a>,
-    machine: Machine<'r, 'p, 'a>,
+    machine: Machine<'r, 'r, 'p, 'a>,
     mode: Mode,
     ran: usize,
     passed: usize,
 }
 
 impl<'r, 'p, 'a> Model for Steps<'r, 'p, 'a> {
-    ghost use Rattle.ti_expand.specs.Mode.{mode_of};
     ghost use Rattle.ti_expand.specs.Steps.{Underway};
-    ghost use Rattle.ti_expand.specs.inner.Held.{IsPaused};
+    ghost use Rattle.ti_expand.specs.inner.Held.{held, IsPaused};
 
     ghost Value = { Underway };
 
     ghost view = { λ s. record {
       spot = s.tape;
-      mode = mode_of s.mode;
-      state = s.machine.state;
+      mode = s.mode;
+      state = (held s.machine).state;
       ran = s.ran;
       passed = s.passed;
-      peak = s.machine.highest;
+      peak = (held s.machine).highest;
     } };
 
-    ghost invariant = { λ s. IsPaused s.tape.left (mode_of s.mode) s.machine s.ran s.passed };
+    ghost invariant = { λ s. IsPaused s.tape.left s.mode (held s.machine) s.ran s.passed };
 }
 
 // It names the type alone.

@@ -7,7 +7,7 @@ use Rattle.ti_cap.specs.declared.language.Token.{Token}
 use Rattle.ti_cap.specs.declared.language.Token.TheVariants.{Store, Load, CondOpen, CondThen, CondElse, CondClose}
 use Rattle.ti_cap.specs.declared.scan.Part.{Part}
 use Rattle.ti_cap.specs.Tree.{tokens}
-use Rattle.ti_cap.specs.Pass.{Running}
+use Rattle.ti_cap.specs.declared.mode.Mode.TheVariants.{Run}
 use Rattle.ti_cap.specs.Spelling.{Spells, Written}
 use Rattle.ti_cap.specs.Capability.{Spot, IsWellFormed, Takes, IsFirst, whole}
 use Rattle.ti_cap.proofs.WrittenLemmas.{one_cutting, written-append, written_one}
@@ -77,7 +77,7 @@ goes_onto bytes f before after k parts p spans lettered w =
       knows = knows_step before k parts l.2.0 p (record {
         old = w;
         stands = stands;
-        low = λ x r. omega (arith, path_low f.tree before (k ∷ after) most_values Running x f.writes.formed spans f.heights r);
+        low = λ x r. omega (arith, path_low f.tree before (k ∷ after) most_values Run x f.writes.formed spans f.heights r);
         lettered = lettered;
       }) room few;
     }

@@ -1,16 +1,17 @@
 -- The walks of the tree that meet a token, against the paths that come to it.
-use Rattle.std.proofs.Common.{◌≡◌, ◌≢◌, ℕ, ◌⊎◌, inl, inr, List, [], ◌∷◌, ◌++◌, length, refl, sym, ◌∙◌, ap, subst, arith, Bool, true, false, cond, append_assoc, length-append}
+use Rattle.std.proofs.Common.{◌≡◌, ◌≢◌, ◌⊎◌, inl, inr, List, [], ◌∷◌, ◌++◌, length, refl, sym, ◌∙◌, ap, subst, arith, Bool, true, false, cond, append_assoc, length-append}
 use Rattle.std.proofs.lemmas.List.{append-nil}
 use Rattle.ti_cap.specs.declared.language.Token.{Token}
-use Rattle.ti_cap.specs.declared.language.Token.TheVariants.{CondOpen, CondThen, CondElse, CondClose}
+use Rattle.ti_cap.specs.declared.language.Token.TheVariants.{CondElse, CondClose}
 use Rattle.ti_cap.specs.Tree.{tokens}
 use Rattle.ti_cap.specs.Path.{Walk, path_of}
-use Rattle.ti_cap.specs.Pass.{Mode, Running, Past, Until, next_mode, Passes}
+use Rattle.ti_cap.specs.declared.mode.Mode.{Mode}
+use Rattle.ti_cap.specs.declared.mode.Mode.TheVariants.{Run}
+use Rattle.ti_cap.specs.Pass.{next_mode, is_running, Passes}
 use Rattle.ti_cap.specs.Capability.{Spot, whole}
 use Rattle.ti_cap.proofs.WrittenLemmas.{one_cutting}
-use Rattle.ti_cap.proofs.PassesLemmas.{Over, walk_passes, Split, passes_split, passes-append}
+use Rattle.ti_cap.proofs.PassesLemmas.{Over, walk_passes, Split, passes_split, passes-append, met_front}
 use Rattle.ti_cap.proofs.IsWalkLemmas.{Walked, walk_of}
-use Rattle.ti_cap.proofs.StraightLemmas.{met_front}
 use Rattle.ti_cap.proofs.ClimbsLemmas.{passes_on}
 use Rattle.ti_cap.proofs.ReachesLemmas.{is_met, path_of-snoc}
 use Rattle.ti_lint.specs.declared.pass.Pass.{Pass}
@@ -21,19 +22,18 @@ use Rattle.ti_lint.proofs.AtLemmas.{Stands}
 
 -- a path that comes to the place is so
 abbrev pub Comes : List Token → (Path → Type 0) → Type 0
-Comes before is_so = (path : Path) × Paths before Running path × is_so path
+Comes before is_so = (path : Path) × Paths before Run path × is_so path
 
 -- a token that walks meet which pass over what stands before it
-past_met : (k : Token) (b : Until) (n : ℕ) (f : Bool) → is_met (Past b n) k f ≡ true → (k ≡ CondElse) ⊎ (k ≡ CondClose)
-past_met CondOpen b n f e = absurd (cc)
-past_met CondThen b n f e = absurd (cc)
-past_met CondElse b n f e = inl refl
-past_met CondClose b n f e = inr refl
-past_met _ b n f e = absurd (cc)
+past_met : (k : Token) (m : Mode) (f : Bool) → is_running m ≡ false → is_met m k f ≡ true → (k ≡ CondElse) ⊎ (k ≡ CondClose)
+past_met CondElse m f past e = inl refl
+past_met CondClose m f past e = inr refl
+past_met _ Run f past e = absurd (cc)
+past_met _ m f past e = absurd (cc)
 
-met_running : (k : Token) (m : Mode) (f : Bool) → k ≢ CondElse → k ≢ CondClose → is_met m k f ≡ true → m ≡ Running
-met_running k Running f no_else no_close e = refl
-met_running k (Past b n) f no_else no_close e = elim (past_met k b n f e) [ inl a ↦ absurd (no_else a) | inr a ↦ absurd (no_close a) ]
+met_running : (k : Token) (m : Mode) (f : Bool) → k ≢ CondElse → k ≢ CondClose → is_met m k f ≡ true → m ≡ Run
+met_running k Run f no_else no_close e = refl
+met_running k m f no_else no_close e = elim (past_met k m f refl e) [ inl a ↦ absurd (no_else a) | inr a ↦ absurd (no_close a) ]
 
 longer : (path : Path) (k : Token) → path ≢ path ++ k ∷ []
 longer path k e = absurd (omega (arith, ap length e, length-append path (k ∷ [])))
@@ -41,26 +41,26 @@ longer path k e = absurd (omega (arith, ap length e, length-append path (k ∷ [
 pub comes_of : (spot : Spot) (p : Pass) (k : Token) (is_so : Path → Type 0) (s : Stands spot p) → k ≢ CondElse → k ≢ CondClose
     → OnSomePath (whole spot) spot.taken k is_so → Comes s.before is_so
 comes_of spot p k is_so s no_else no_close o =
-    let over : Over true Running (tokens o.tree) o.walk = walk_passes true o.tree o.walk o.writes.formed o.walked in
-    let P : List Token → Type 0 = λ x. Passes Running x o.walk over.to in
-    let passes : Passes Running (o.before ++ k ∷ o.after) o.walk over.to = subst P o.spans over.passes in
-    let a : Split o.before (k ∷ o.after) Running over.to o.walk = passes_split o.before (k ∷ o.after) Running over.to o.walk passes in
+    let over : Over true Run (tokens o.tree) o.walk = walk_passes true o.tree o.walk o.writes.formed o.walked in
+    let P : List Token → Type 0 = λ x. Passes Run x o.walk over.to in
+    let passes : Passes Run (o.before ++ k ∷ o.after) o.walk over.to = subst P o.spans over.passes in
+    let a : Split o.before (k ∷ o.after) Run over.to o.walk = passes_split o.before (k ∷ o.after) Run over.to o.walk passes in
     let f : Bool = a.second.0 in
     let same : o.before ≡ s.before = one_cutting o.before s.before spot.taken o.written s.taken in
-    let front : path_of o.walk o.before ≡ path_of a.front o.before = ap (λ x. path_of x o.before) a.joined ∙ met_front o.before Running a.between a.front a.back a.first in
-    let b : Split (o.before ++ k ∷ []) o.after Running over.to o.walk =
-    passes_split (o.before ++ k ∷ []) o.after Running over.to o.walk (subst (λ (x : List Token). Passes Running x o.walk over.to) (sym (append_assoc o.before (k ∷ []) o.after)) passes) in
+    let front : path_of o.walk o.before ≡ path_of a.front o.before = ap (λ x. path_of x o.before) a.joined ∙ met_front o.before Run a.between a.front a.back a.first in
+    let b : Split (o.before ++ k ∷ []) o.after Run over.to o.walk =
+    passes_split (o.before ++ k ∷ []) o.after Run over.to o.walk (subst (λ (x : List Token). Passes Run x o.walk over.to) (sym (append_assoc o.before (k ∷ []) o.after)) passes) in
     let marked : path_of o.walk (o.before ++ k ∷ []) ≡ path_of a.front o.before ++ cond (is_met a.between k f) (k ∷ []) [] =
     ap (λ x. path_of x (o.before ++ k ∷ [])) (a.joined ∙ ap (λ x. a.front ++ x) a.second.2 ∙ sym (append_assoc a.front (is_met a.between k f ∷ []) a.second.1))
-    ∙ met_front (o.before ++ k ∷ []) Running (next_mode a.between k f) (a.front ++ is_met a.between k f ∷ []) a.second.1
-    (passes-append o.before (k ∷ []) Running a.between (next_mode a.between k f) a.front (is_met a.between k f ∷ []) a.first (f, [], refl, (refl, refl)))
-    ∙ path_of-snoc o.before Running a.between a.front k (is_met a.between k f) a.first in
+    ∙ met_front (o.before ++ k ∷ []) Run (next_mode a.between k f) (a.front ++ is_met a.between k f ∷ []) a.second.1
+    (passes-append o.before (k ∷ []) Run a.between (next_mode a.between k f) a.front (is_met a.between k f ∷ []) a.first (f, [], refl, (refl, refl)))
+    ∙ path_of-snoc o.before Run a.between a.front k (is_met a.between k f) a.first in
     let met : is_met a.between k f ≡ true = by (is_met a.between k f) (path_of a.front o.before) (sym marked ∙ o.met ∙ ap (λ x. x ++ k ∷ []) front) in
-    let runs : a.between ≡ Running = met_running k a.between f no_else no_close met in
-    let Q : Mode → Type 0 = λ x. Passes Running o.before a.front x in
-    let R : List Token → Type 0 = λ x. Paths x Running (path_of a.front o.before) in (
+    let runs : a.between ≡ Run = met_running k a.between f no_else no_close met in
+    let Q : Mode → Type 0 = λ x. Passes Run o.before a.front x in
+    let R : List Token → Type 0 = λ x. Paths x Run (path_of a.front o.before) in (
       path_of a.front o.before,
-      subst R same (reaches_by o.before Running a.front (subst Q runs a.first)),
+      subst R same (reaches_by o.before Run a.front (subst Q runs a.first)),
       subst is_so front o.before_it,
     )
   where
@@ -73,17 +73,17 @@ pub on_some_path : (spot : Spot) (p : Pass) (k : Token) (is_so : Path → Type 0
 on_some_path spot p k is_so s rest is (path, r, so) =
     let spans : tokens s.formed.tree ≡ s.before ++ k ∷ rest = s.spans ∙ ap (λ x. s.before ++ x) is in
     let further : tokens s.formed.tree ≡ (s.before ++ k ∷ []) ++ rest = spans ∙ sym (append_assoc s.before (k ∷ []) rest) in
-    let m : Mode = next_mode Running k false in
+    let m : Mode = next_mode Run k false in
     let w : Walk = r.walk ++ true ∷ [] in
-    let first : Passes Running (s.before ++ k ∷ []) w m = passes-append s.before (k ∷ []) Running Running m r.walk (true ∷ []) r.passes (false, [], refl, (refl, refl)) in
+    let first : Passes Run (s.before ++ k ∷ []) w m = passes-append s.before (k ∷ []) Run Run m r.walk (true ∷ []) r.passes (false, [], refl, (refl, refl)) in
     let more : (v : Walk) × (o : Mode) × Passes m rest v o = passes_on m rest in
-    let P : List Token → Type 0 = λ x. Passes Running x (w ++ more.0) more.1 in
+    let P : List Token → Type 0 = λ x. Passes Run x (w ++ more.0) more.1 in
     let over : Walked true s.formed.tree (w ++ more.0) more.1 =
-    walk_of true s.formed.tree (w ++ more.0) more.1 s.formed.writes.formed (subst P (sym further) (passes-append (s.before ++ k ∷ []) rest Running m more.1 w more.0 first more.2)) in
+    walk_of true s.formed.tree (w ++ more.0) more.1 s.formed.writes.formed (subst P (sym further) (passes-append (s.before ++ k ∷ []) rest Run m more.1 w more.0 first more.2)) in
     let front : path_of (w ++ more.0) s.before ≡ path_of r.walk s.before =
-    ap (λ x. path_of x s.before) (append_assoc r.walk (true ∷ []) more.0) ∙ met_front s.before Running Running r.walk ((true ∷ []) ++ more.0) r.passes in
+    ap (λ x. path_of x s.before) (append_assoc r.walk (true ∷ []) more.0) ∙ met_front s.before Run Run r.walk ((true ∷ []) ++ more.0) r.passes in
     let ahead : path_of (w ++ more.0) (s.before ++ k ∷ []) ≡ path_of r.walk s.before ++ k ∷ [] =
-    met_front (s.before ++ k ∷ []) Running m w more.0 first ∙ path_of-snoc s.before Running Running r.walk k true r.passes in
+    met_front (s.before ++ k ∷ []) Run m w more.0 first ∙ path_of-snoc s.before Run Run r.walk k true r.passes in
     record {
       tree = s.formed.tree;
       writes = s.formed.writes;
@@ -94,5 +94,5 @@ on_some_path spot p k is_so s rest is (path, r, so) =
       walk = w ++ more.0;
       walked = over.walk;
       met = ahead ∙ ap (λ x. x ++ k ∷ []) (sym front);
-      before_it = subst is_so (sym (front ∙ path-is s.before Running path r)) so;
+      before_it = subst is_so (sym (front ∙ path-is s.before Run path r)) so;
     }

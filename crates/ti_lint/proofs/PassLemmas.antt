@@ -3,13 +3,12 @@ use Rattle.std.proofs.Common.{◌≡◌, ℕ, suc, ◌+◌, ◌⊎◌, inl, inr,
 use Rattle.std.specs.Prelude.{Some}
 use Rattle.ti_base.specs.Limits.{most_open}
 use Rattle.ti_cap.specs.declared.language.Token.{Token}
-use Rattle.ti_cap.specs.declared.language.Token.TheVariants.{CondOpen, CondThen, CondElse, CondClose}
 use Rattle.ti_cap.specs.declared.scan.Part.{Part}
-use Rattle.ti_cap.specs.Tree.{IsSimple}
 use Rattle.ti_cap.specs.Path.{path_of}
-use Rattle.ti_cap.specs.Pass.{Mode, Running, Past, ElseOrEnd, EndOnly, Until}
+use Rattle.ti_cap.specs.declared.mode.Mode.{Mode}
+use Rattle.ti_cap.specs.declared.mode.Mode.TheVariants.{Run, ToElse, ToEnd}
 use Rattle.ti_cap.proofs.PartsLemmas.{allowed, Leads, leads-append}
-use Rattle.ti_cap.proofs.ReachesLemmas.{Moved, Next, reaches_next, next_reaches}
+use Rattle.ti_cap.proofs.ReachesLemmas.{Next, reaches_next, next_reaches}
 use Rattle.ti_cap.proofs.IsAliveLemmas.{IsAlive, alive_start}
 use Rattle.ti_lint.specs.declared.pass.Pass.{Pass}
 use Rattle.ti_lint.specs.inner.Facts.{IsLettered}
@@ -23,9 +22,9 @@ pub record Knows (before : List Token) (parts : List Part) (p : Pass) : Type 0 w
   pub count : length parts ≡ p.nesting
   pub alive : IsAlive parts before
   pub room : length p.opens ≡ most_open
-  pub running : Holds p.here (Paths before Running)
-  pub failed : (j n : ℕ) → suc (j + n) ≡ p.nesting → Holds (get_or p.opens j fresh).failed (Paths before (Past ElseOrEnd n))
-  pub done : (j n : ℕ) → suc (j + n) ≡ p.nesting → Holds (get_or p.opens j fresh).done (Paths before (Past EndOnly n))
+  pub running : Holds p.here (Paths before Run)
+  pub failed : (j n : ℕ) → suc (j + n) ≡ p.nesting → Holds (get_or p.opens j fresh).failed (Paths before (ToElse n))
+  pub done : (j n : ℕ) → suc (j + n) ≡ p.nesting → Holds (get_or p.opens j fresh).done (Paths before (ToEnd n))
 
 pub knows_start : Knows [] [] first_pass
 knows_start = record {
@@ -33,45 +32,31 @@ knows_start = record {
   count = refl;
   alive = alive_start;
   room = refl;
-  running = holds_first (Paths [] Running) (reaches_by [] Running [] (refl, refl)) empty;
+  running = holds_first (Paths [] Run) (reaches_by [] Run [] (refl, refl)) empty;
   failed = λ j n e. absurd (omega arith);
   done = λ j n e. absurd (omega arith);
 }
   where
-    empty : (x : Path) → Paths [] Running x → x ≡ []
-    empty x r = sym (path-is [] Running x r) ∙ ap (λ w. path_of w []) r.passes.0
+    empty : (x : Path) → Paths [] Run x → x ≡ []
+    empty x r = sym (path-is [] Run x r) ∙ ap (λ w. path_of w []) r.passes.0
 
 -- where a token may stand, and what is known of the paths before it
 pub record Goes (before : List Token) (k : Token) (parts onto : List Part) (p : Pass) : Type 0 where
   pub old : Knows before parts p
   pub stands : allowed k parts ≡ Some onto
-  pub low : AreLow (Paths before Running)
+  pub low : AreLow (Paths before Run)
   pub lettered : IsLettered k
 
 pub leads_on : (before : List Token) (k : Token) (parts onto : List Part) (p : Pass) → Goes before k parts onto p → Leads [] (before ++ k ∷ []) onto
 leads_on before k parts onto p w = leads-append [] parts onto before (k ∷ []) w.old.leads (onto, w.stands, refl)
 
 -- some path runs here
-pub runs : (before : List Token) (parts : List Part) (p : Pass) → Knows before parts p → (x : Path) × Paths before Running x
-runs before parts p w = (path_of w.alive.runs.0 before, reaches_by before Running w.alive.runs.0 w.alive.runs.1)
+pub runs : (before : List Token) (parts : List Part) (p : Pass) → Knows before parts p → (x : Path) × Paths before Run x
+runs before parts p w = (path_of w.alive.runs.0 before, reaches_by before Run w.alive.runs.0 w.alive.runs.1)
 
 -- sets of paths that are one step apart
 pub after_step : (before : List Token) (k : Token) (m : Mode) (x : Path) → Next snoc (Paths before) k m x ↔ Paths (before ++ k ∷ []) m x
 after_step before k m x = (next_reaches snoc [] before k m x, reaches_next snoc [] before k m x)
-
-pub simple_running : (before : List Token) (k : Token) → IsSimple k → (x : Path) → Moved snoc (Paths before Running) k x ↔ Paths (before ++ k ∷ []) Running x
-simple_running before CondOpen h x = absurd h
-simple_running before CondThen h x = absurd h
-simple_running before CondElse h x = absurd h
-simple_running before CondClose h x = absurd h
-simple_running before k h x = after_step before k Running x
-
-pub simple_waiting : (before : List Token) (k : Token) (b : Until) (n : ℕ) → IsSimple k → (x : Path) → Paths before (Past b n) x ↔ Paths (before ++ k ∷ []) (Past b n) x
-simple_waiting before CondOpen b n h x = absurd h
-simple_waiting before CondThen b n h x = absurd h
-simple_waiting before CondElse b n h x = absurd h
-simple_waiting before CondClose b n h x = absurd h
-simple_waiting before k b n h x = after_step before k (Past b n) x
 
 pub swapped : (A B : Path → Type 0) (x : Path) → (A x ⊎ B x) ↔ (B x ⊎ A x)
 swapped A B x = (turn, back)

@@ -6,9 +6,9 @@ use Rattle.ti_cap.specs.declared.language.Token.{Token}
 use Rattle.ti_cap.specs.declared.language.Token.TheVariants.{CondOpen, CondThen, CondElse, CondClose}
 use Rattle.ti_cap.specs.declared.scan.Part.{Part}
 use Rattle.ti_cap.specs.Tree.{IsSimple}
-use Rattle.ti_cap.specs.Pass.{Running, Past, ElseOrEnd, EndOnly}
+use Rattle.ti_cap.specs.declared.mode.Mode.TheVariants.{Run, ToElse, ToEnd}
 use Rattle.ti_cap.proofs.NestLemmas.{below, level_after, allowed_level}
-use Rattle.ti_cap.proofs.ReachesLemmas.{Moved, reaches_next}
+use Rattle.ti_cap.proofs.ReachesLemmas.{Moved, reaches_next, simple_running, simple_waiting}
 use Rattle.ti_cap.proofs.IsAliveLemmas.{alive_step}
 use Rattle.ti_lint.specs.declared.facts.Facts.{Facts}
 use Rattle.ti_lint.specs.declared.pass.Open.{Open}
@@ -17,13 +17,13 @@ use Rattle.ti_lint.specs.inner.Facts.{no_facts, joined, after_token}
 use Rattle.ti_lint.specs.inner.Pass.{fresh, innermost, passed}
 use Rattle.ti_lint.proofs.HoldsLemmas.{Path, snoc, Holds, IsStill, holds_same, holds_nothing, holds_joined, holds_token, holds_still}
 use Rattle.ti_lint.proofs.ReachedLemmas.{Paths}
-use Rattle.ti_lint.proofs.PassLemmas.{Knows, Goes, leads_on, runs, after_step, simple_running, simple_waiting, swapped, regrouped, chain}
+use Rattle.ti_lint.proofs.PassLemmas.{Knows, Goes, leads_on, runs, after_step, swapped, regrouped, chain}
 
 -- a token that all walks here meet
-holds_met : (before : List Token) (k : Token) (parts onto : List Part) (p : Pass) → Goes before k parts onto p → Holds (after_token k p.here) (Moved snoc (Paths before Running) k)
+holds_met : (before : List Token) (k : Token) (parts onto : List Part) (p : Pass) → Goes before k parts onto p → Holds (after_token k p.here) (Moved snoc (Paths before Run) k)
 holds_met before k parts onto p w =
-    let r : (x : Path) × Paths before Running x = runs before parts p w.old in
-    holds_token k p.here (Paths before Running) r.0 w.lettered r.1 w.low w.old.running
+    let r : (x : Path) × Paths before Run x = runs before parts p w.old in
+    holds_token k p.here (Paths before Run) r.0 w.lettered r.1 w.low w.old.running
 
 simple_step : (before : List Token) (k : Token) (parts onto : List Part) (p : Pass) → IsSimple k → level_after (length parts) k ≡ length parts → Goes before k parts onto p
     → Knows (before ++ k ∷ []) onto (record p { here = after_token k p.here })
@@ -32,9 +32,9 @@ simple_step before k parts onto p simple level w = record {
   count = sym (allowed_level k parts onto w.stands) ∙ level ∙ w.old.count;
   alive = alive_step before k parts onto w.stands w.old.alive;
   room = w.old.room;
-  running = holds_same (after_token k p.here) _ (Paths (before ++ k ∷ []) Running) (simple_running before k simple) (holds_met before k parts onto p w);
-  failed = λ j n e. holds_same _ (Paths before (Past ElseOrEnd n)) _ (simple_waiting before k ElseOrEnd n simple) (w.old.failed j n e);
-  done = λ j n e. holds_same _ (Paths before (Past EndOnly n)) _ (simple_waiting before k EndOnly n simple) (w.old.done j n e);
+  running = holds_same (after_token k p.here) _ (Paths (before ++ k ∷ []) Run) (simple_running snoc [] before k simple) (holds_met before k parts onto p w);
+  failed = λ j n e. holds_same _ (Paths before (ToElse n)) _ (simple_waiting snoc [] before k (ToElse n) refl simple) (w.old.failed j n e);
+  done = λ j n e. holds_same _ (Paths before (ToEnd n)) _ (simple_waiting snoc [] before k (ToEnd n) refl simple) (w.old.done j n e);
 }
 
 -- the open conditionals, of which one is written
@@ -63,7 +63,7 @@ open_step before parts onto p w room = record {
   count = omega (arith, allowed_level CondOpen parts onto w.stands, w.old.count);
   alive = alive_step before CondOpen parts onto w.stands w.old.alive;
   room = length-set p.opens p.nesting fresh ∙ w.old.room;
-  running = holds_same p.here _ (Paths (before ++ CondOpen ∷ []) Running) (after_step before CondOpen Running) (holds_still CondOpen p.here (Paths before Running) still_open w.old.running);
+  running = holds_same p.here _ (Paths (before ++ CondOpen ∷ []) Run) (after_step before CondOpen Run) (holds_still CondOpen p.here (Paths before Run) still_open w.old.running);
   failed = failed;
   done = done;
 }
@@ -71,23 +71,23 @@ open_step before parts onto p w room = record {
     within : p.nesting < length p.opens
     within = omega (arith, w.old.room, room)
 
-    failed : (j n : ℕ) → suc (j + n) ≡ p.nesting + 1 → Holds (get_or (set p.opens p.nesting fresh) j fresh).failed (Paths (before ++ CondOpen ∷ []) (Past ElseOrEnd n))
+    failed : (j n : ℕ) → suc (j + n) ≡ p.nesting + 1 → Holds (get_or (set p.opens p.nesting fresh) j fresh).failed (Paths (before ++ CondOpen ∷ []) (ToElse n))
     failed j zero e = holds_along _ no_facts _ (ap (λ o. o.failed) (at_same p.opens p.nesting j fresh (omega arith) within))
-        (holds_nothing _ (λ x r. reaches_next snoc [] before CondOpen (Past ElseOrEnd zero) x r))
+        (holds_nothing _ (λ x r. reaches_next snoc [] before CondOpen (ToElse zero) x r))
     failed j (suc n) e = holds_along _ _ _ (ap (λ o. o.failed) (at_other p.opens p.nesting j fresh (λ i. omega arith)))
-        (holds_same _ (Paths before (Past ElseOrEnd n)) _ (after_step before CondOpen (Past ElseOrEnd (suc n))) (w.old.failed j n (omega arith)))
+        (holds_same _ (Paths before (ToElse n)) _ (after_step before CondOpen (ToElse (suc n))) (w.old.failed j n (omega arith)))
 
-    done : (j n : ℕ) → suc (j + n) ≡ p.nesting + 1 → Holds (get_or (set p.opens p.nesting fresh) j fresh).done (Paths (before ++ CondOpen ∷ []) (Past EndOnly n))
+    done : (j n : ℕ) → suc (j + n) ≡ p.nesting + 1 → Holds (get_or (set p.opens p.nesting fresh) j fresh).done (Paths (before ++ CondOpen ∷ []) (ToEnd n))
     done j zero e = holds_along _ no_facts _ (ap (λ o. o.done) (at_same p.opens p.nesting j fresh (omega arith) within))
-        (holds_nothing _ (λ x r. reaches_next snoc [] before CondOpen (Past EndOnly zero) x r))
+        (holds_nothing _ (λ x r. reaches_next snoc [] before CondOpen (ToEnd zero) x r))
     done j (suc n) e = holds_along _ _ _ (ap (λ o. o.done) (at_other p.opens p.nesting j fresh (λ i. omega arith)))
-        (holds_same _ (Paths before (Past EndOnly n)) _ (after_step before CondOpen (Past EndOnly (suc n))) (w.old.done j n (omega arith)))
+        (holds_same _ (Paths before (ToEnd n)) _ (after_step before CondOpen (ToEnd (suc n))) (w.old.done j n (omega arith)))
 
 -- the innermost conditional is that of the last place
-innermost_failed : (before : List Token) (parts : List Part) (p : Pass) → Knows before parts p → 0 < p.nesting → Holds (innermost p).failed (Paths before (Past ElseOrEnd zero))
+innermost_failed : (before : List Token) (parts : List Part) (p : Pass) → Knows before parts p → 0 < p.nesting → Holds (innermost p).failed (Paths before (ToElse zero))
 innermost_failed before parts p w some = w.failed (p.nesting - 1) zero (omega arith)
 
-innermost_done : (before : List Token) (parts : List Part) (p : Pass) → Knows before parts p → 0 < p.nesting → Holds (innermost p).done (Paths before (Past EndOnly zero))
+innermost_done : (before : List Token) (parts : List Part) (p : Pass) → Knows before parts p → 0 < p.nesting → Holds (innermost p).done (Paths before (ToEnd zero))
 innermost_done before parts p w some = w.done (p.nesting - 1) zero (omega arith)
 
 -- there is room for what is open
@@ -100,7 +100,7 @@ then_step before parts onto p w some few = record {
   count = sym (allowed_level CondThen parts onto w.stands) ∙ w.old.count;
   alive = alive_step before CondThen parts onto w.stands w.old.alive;
   room = length-set p.opens (p.nesting - 1) written ∙ w.old.room;
-  running = holds_same (after_token CondThen p.here) _ (Paths (before ++ CondThen ∷ []) Running) (after_step before CondThen Running) met;
+  running = holds_same (after_token CondThen p.here) _ (Paths (before ++ CondThen ∷ []) Run) (after_step before CondThen Run) met;
   failed = failed;
   done = done;
 }
@@ -111,21 +111,21 @@ then_step before parts onto p w some few = record {
     within : p.nesting - 1 < length p.opens
     within = omega (arith, few_open before parts p w.old few, some)
 
-    met : Holds (after_token CondThen p.here) (Moved snoc (Paths before Running) CondThen)
+    met : Holds (after_token CondThen p.here) (Moved snoc (Paths before Run) CondThen)
     met = holds_met before CondThen parts onto p w
 
-    failed : (j n : ℕ) → suc (j + n) ≡ p.nesting → Holds (get_or (set p.opens (p.nesting - 1) written) j fresh).failed (Paths (before ++ CondThen ∷ []) (Past ElseOrEnd n))
+    failed : (j n : ℕ) → suc (j + n) ≡ p.nesting → Holds (get_or (set p.opens (p.nesting - 1) written) j fresh).failed (Paths (before ++ CondThen ∷ []) (ToElse n))
     failed j zero e = holds_along _ (joined (innermost p).failed (after_token CondThen p.here)) _ (ap (λ o. o.failed) (at_same p.opens (p.nesting - 1) j written (omega arith) within))
-        (holds_same _ _ _ (λ x. chain (swapped (Paths before (Past ElseOrEnd zero)) (Moved snoc (Paths before Running) CondThen) x) (after_step before CondThen (Past ElseOrEnd zero) x))
+        (holds_same _ _ _ (λ x. chain (swapped (Paths before (ToElse zero)) (Moved snoc (Paths before Run) CondThen) x) (after_step before CondThen (ToElse zero) x))
         (holds_joined (innermost p).failed (after_token CondThen p.here) _ _ (innermost_failed before parts p w.old some) met))
     failed j (suc n) e = holds_along _ _ _ (ap (λ o. o.failed) (at_other p.opens (p.nesting - 1) j written (λ i. omega arith)))
-        (holds_same _ (Paths before (Past ElseOrEnd (suc n))) _ (after_step before CondThen (Past ElseOrEnd (suc n))) (w.old.failed j (suc n) e))
+        (holds_same _ (Paths before (ToElse (suc n))) _ (after_step before CondThen (ToElse (suc n))) (w.old.failed j (suc n) e))
 
-    done : (j n : ℕ) → suc (j + n) ≡ p.nesting → Holds (get_or (set p.opens (p.nesting - 1) written) j fresh).done (Paths (before ++ CondThen ∷ []) (Past EndOnly n))
+    done : (j n : ℕ) → suc (j + n) ≡ p.nesting → Holds (get_or (set p.opens (p.nesting - 1) written) j fresh).done (Paths (before ++ CondThen ∷ []) (ToEnd n))
     done j zero e = holds_along _ (innermost p).done _ (ap (λ o. o.done) (at_same p.opens (p.nesting - 1) j written (omega arith) within))
-        (holds_same _ (Paths before (Past EndOnly zero)) _ (after_step before CondThen (Past EndOnly zero)) (innermost_done before parts p w.old some))
+        (holds_same _ (Paths before (ToEnd zero)) _ (after_step before CondThen (ToEnd zero)) (innermost_done before parts p w.old some))
     done j (suc n) e = holds_along _ _ _ (ap (λ o. o.done) (at_other p.opens (p.nesting - 1) j written (λ i. omega arith)))
-        (holds_same _ (Paths before (Past EndOnly (suc n))) _ (after_step before CondThen (Past EndOnly (suc n))) (w.old.done j (suc n) e))
+        (holds_same _ (Paths before (ToEnd (suc n))) _ (after_step before CondThen (ToEnd (suc n))) (w.old.done j (suc n) e))
 
 else_step : (before : List Token) (parts onto : List Part) (p : Pass) → Goes before CondElse parts onto p → 0 < p.nesting → length parts ≤ most_open → Knows (before ++ CondElse ∷ []) onto (passed p CondElse)
 else_step before parts onto p w some few = record {
@@ -133,8 +133,8 @@ else_step before parts onto p w some few = record {
   count = sym (allowed_level CondElse parts onto w.stands) ∙ w.old.count;
   alive = alive_step before CondElse parts onto w.stands w.old.alive;
   room = length-set p.opens (p.nesting - 1) written ∙ w.old.room;
-  running = holds_same (innermost p).failed _ (Paths (before ++ CondElse ∷ []) Running) (after_step before CondElse Running)
-      (holds_still CondElse (innermost p).failed (Paths before (Past ElseOrEnd zero)) still_else (innermost_failed before parts p w.old some));
+  running = holds_same (innermost p).failed _ (Paths (before ++ CondElse ∷ []) Run) (after_step before CondElse Run)
+      (holds_still CondElse (innermost p).failed (Paths before (ToElse zero)) still_else (innermost_failed before parts p w.old some));
   failed = failed;
   done = done;
 }
@@ -145,18 +145,18 @@ else_step before parts onto p w some few = record {
     within : p.nesting - 1 < length p.opens
     within = omega (arith, few_open before parts p w.old few, some)
 
-    failed : (j n : ℕ) → suc (j + n) ≡ p.nesting → Holds (get_or (set p.opens (p.nesting - 1) written) j fresh).failed (Paths (before ++ CondElse ∷ []) (Past ElseOrEnd n))
+    failed : (j n : ℕ) → suc (j + n) ≡ p.nesting → Holds (get_or (set p.opens (p.nesting - 1) written) j fresh).failed (Paths (before ++ CondElse ∷ []) (ToElse n))
     failed j zero e = holds_along _ no_facts _ (ap (λ o. o.failed) (at_same p.opens (p.nesting - 1) j written (omega arith) within))
-        (holds_nothing _ (λ x r. reaches_next snoc [] before CondElse (Past ElseOrEnd zero) x r))
+        (holds_nothing _ (λ x r. reaches_next snoc [] before CondElse (ToElse zero) x r))
     failed j (suc n) e = holds_along _ _ _ (ap (λ o. o.failed) (at_other p.opens (p.nesting - 1) j written (λ i. omega arith)))
-        (holds_same _ (Paths before (Past ElseOrEnd (suc n))) _ (after_step before CondElse (Past ElseOrEnd (suc n))) (w.old.failed j (suc n) e))
+        (holds_same _ (Paths before (ToElse (suc n))) _ (after_step before CondElse (ToElse (suc n))) (w.old.failed j (suc n) e))
 
-    done : (j n : ℕ) → suc (j + n) ≡ p.nesting → Holds (get_or (set p.opens (p.nesting - 1) written) j fresh).done (Paths (before ++ CondElse ∷ []) (Past EndOnly n))
+    done : (j n : ℕ) → suc (j + n) ≡ p.nesting → Holds (get_or (set p.opens (p.nesting - 1) written) j fresh).done (Paths (before ++ CondElse ∷ []) (ToEnd n))
     done j zero e = holds_along _ (joined (innermost p).done p.here) _ (ap (λ o. o.done) (at_same p.opens (p.nesting - 1) j written (omega arith) within))
-        (holds_same _ _ _ (λ x. chain (swapped (Paths before (Past EndOnly zero)) (Moved snoc (Paths before Running) CondElse) x) (after_step before CondElse (Past EndOnly zero) x))
-        (holds_joined (innermost p).done p.here _ _ (innermost_done before parts p w.old some) (holds_still CondElse p.here (Paths before Running) still_else w.old.running)))
+        (holds_same _ _ _ (λ x. chain (swapped (Paths before (ToEnd zero)) (Moved snoc (Paths before Run) CondElse) x) (after_step before CondElse (ToEnd zero) x))
+        (holds_joined (innermost p).done p.here _ _ (innermost_done before parts p w.old some) (holds_still CondElse p.here (Paths before Run) still_else w.old.running)))
     done j (suc n) e = holds_along _ _ _ (ap (λ o. o.done) (at_other p.opens (p.nesting - 1) j written (λ i. omega arith)))
-        (holds_same _ (Paths before (Past EndOnly (suc n))) _ (after_step before CondElse (Past EndOnly (suc n))) (w.old.done j (suc n) e))
+        (holds_same _ (Paths before (ToEnd (suc n))) _ (after_step before CondElse (ToEnd (suc n))) (w.old.done j (suc n) e))
 
 close_step : (before : List Token) (parts onto : List Part) (p : Pass) → Goes before CondClose parts onto p → 0 < p.nesting → Knows (before ++ CondClose ∷ []) onto (passed p CondClose)
 close_step before parts onto p w some = record {
@@ -164,14 +164,14 @@ close_step before parts onto p w some = record {
   count = omega (arith, allowed_level CondClose parts onto w.stands, less (length parts), w.old.count);
   alive = alive_step before CondClose parts onto w.stands w.old.alive;
   room = w.old.room;
-  running = holds_same _ _ (Paths (before ++ CondClose ∷ []) Running)
-      (λ x. chain (regrouped (Moved snoc (Paths before Running) CondClose) (Moved snoc (Paths before (Past ElseOrEnd zero)) CondClose) (Moved snoc (Paths before (Past EndOnly zero)) CondClose) x) (after_step before CondClose Running x))
+  running = holds_same _ _ (Paths (before ++ CondClose ∷ []) Run)
+      (λ x. chain (regrouped (Moved snoc (Paths before Run) CondClose) (Moved snoc (Paths before (ToElse zero)) CondClose) (Moved snoc (Paths before (ToEnd zero)) CondClose) x) (after_step before CondClose Run x))
       (holds_joined (joined p.here (innermost p).failed) (innermost p).done _ _
-      (holds_joined p.here (innermost p).failed _ _ (holds_still CondClose p.here (Paths before Running) still_close w.old.running)
-      (holds_still CondClose (innermost p).failed (Paths before (Past ElseOrEnd zero)) still_close (innermost_failed before parts p w.old some)))
-      (holds_still CondClose (innermost p).done (Paths before (Past EndOnly zero)) still_close (innermost_done before parts p w.old some)));
-  failed = λ j n e. holds_same _ (Paths before (Past ElseOrEnd (suc n))) _ (after_step before CondClose (Past ElseOrEnd n)) (w.old.failed j (suc n) (omega arith));
-  done = λ j n e. holds_same _ (Paths before (Past EndOnly (suc n))) _ (after_step before CondClose (Past EndOnly n)) (w.old.done j (suc n) (omega arith));
+      (holds_joined p.here (innermost p).failed _ _ (holds_still CondClose p.here (Paths before Run) still_close w.old.running)
+      (holds_still CondClose (innermost p).failed (Paths before (ToElse zero)) still_close (innermost_failed before parts p w.old some)))
+      (holds_still CondClose (innermost p).done (Paths before (ToEnd zero)) still_close (innermost_done before parts p w.old some)));
+  failed = λ j n e. holds_same _ (Paths before (ToElse (suc n))) _ (after_step before CondClose (ToElse n)) (w.old.failed j (suc n) (omega arith));
+  done = λ j n e. holds_same _ (Paths before (ToEnd (suc n))) _ (after_step before CondClose (ToEnd n)) (w.old.done j (suc n) (omega arith));
 }
   where
     less : (n : ℕ) → below n ≡ n - 1

@@ -4,12 +4,13 @@ use Rattle.std.proofs.lemmas.List.{append-nil}
 use Rattle.ti_cap.specs.declared.language.Token.{Token}
 use Rattle.ti_cap.specs.Tree.{Sequence, tokens, IsTree}
 use Rattle.ti_cap.specs.Path.{Walk, IsPath, path_of}
-use Rattle.ti_cap.specs.Pass.{Mode, Running, Passes}
+use Rattle.ti_cap.specs.declared.mode.Mode.{Mode}
+use Rattle.ti_cap.specs.declared.mode.Mode.TheVariants.{Run}
+use Rattle.ti_cap.specs.Pass.{Passes}
 use Rattle.ti_cap.specs.Height.{next_height, end_height, height_from, height}
-use Rattle.ti_cap.proofs.PassesLemmas.{passes-append}
+use Rattle.ti_cap.proofs.PassesLemmas.{passes-append, path_of-append}
 use Rattle.ti_cap.proofs.IsWalkLemmas.{Walked, walk_of}
 use Rattle.ti_cap.proofs.ClimbsLemmas.{passes_on}
-use Rattle.ti_cap.proofs.StackLengthLemmas.{path_of-append}
 use Rattle.ti_cap.proofs.ReachesLemmas.{state_of, Reaches}
 use Rattle.ti_lint.proofs.HoldsLemmas.{Path, snoc}
 
@@ -25,7 +26,7 @@ state-is x (k ∷ path) = state-is (snoc x k) path ∙ append_assoc x (k ∷ [])
 pub path-is : (before : List Token) (m : Mode) (path : Path) (r : Paths before m path) → path_of r.walk before ≡ path
 path-is before m path r = sym (state-is [] (path_of r.walk before)) ∙ r.value
 
-pub reaches_by : (before : List Token) (m : Mode) (w : Walk) → Passes Running before w m → Paths before m (path_of w before)
+pub reaches_by : (before : List Token) (m : Mode) (w : Walk) → Passes Run before w m → Paths before m (path_of w before)
 reaches_by before m w p = record { walk = w; passes = p; value = state-is [] (path_of w before) }
 
 -- the walk goes on to the end of the tree
@@ -34,14 +35,14 @@ pub record Onward (tree : Sequence) (before after : List Token) (w : Walk) : Typ
   pub path : path_of (w ++ more) (tokens tree) ≡ path_of w before ++ path_of more after
   pub is_path : IsPath tree (path_of (w ++ more) (tokens tree))
 
-pub goes_on : (tree : Sequence) (before after : List Token) (m : Mode) (w : Walk) → IsTree tree → tokens tree ≡ before ++ after → Passes Running before w m → Onward tree before after w
+pub goes_on : (tree : Sequence) (before after : List Token) (m : Mode) (w : Walk) → IsTree tree → tokens tree ≡ before ++ after → Passes Run before w m → Onward tree before after w
 goes_on tree before after m w formed spans p =
     let more : (v : Walk) × (o : Mode) × Passes m after v o = passes_on m after in
-    let P : List Token → Type 0 = λ x. Passes Running x (w ++ more.0) more.1 in
-    let whole : Walked true tree (w ++ more.0) more.1 = walk_of true tree (w ++ more.0) more.1 formed (subst P (sym spans) (passes-append before after Running m more.1 w more.0 p more.2)) in
+    let P : List Token → Type 0 = λ x. Passes Run x (w ++ more.0) more.1 in
+    let whole : Walked true tree (w ++ more.0) more.1 = walk_of true tree (w ++ more.0) more.1 formed (subst P (sym spans) (passes-append before after Run m more.1 w more.0 p more.2)) in
     record {
       more = more.0;
-      path = ap (λ x. path_of (w ++ more.0) x) spans ∙ path_of-append before after Running m w more.0 p;
+      path = ap (λ x. path_of (w ++ more.0) x) spans ∙ path_of-append before after Run m w more.0 p;
       is_path = (w ++ more.0, whole.walk, refl);
     }
 

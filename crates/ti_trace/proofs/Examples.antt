@@ -8,7 +8,7 @@ use Rattle.ti_cap.specs.declared.language.Conversion.TheVariants.{Signed}
 use Rattle.ti_cap.specs.declared.language.Op.TheVariants.{Less}
 use Rattle.ti_cap.specs.declared.language.Token.{Token}
 use Rattle.ti_cap.specs.declared.language.Token.TheVariants.{Byte, Param, Constant, Compute, Print, CondOpen, CondThen, CondElse, CondClose}
-use Rattle.ti_cap.specs.Pass.{Running}
+use Rattle.ti_cap.specs.declared.mode.Mode.TheVariants.{Run}
 use Rattle.ti_escape.specs.declared.form.Form.TheVariants.{Hex, Notation}
 use Rattle.ti_expand.specs.declared.values.Value.{Value}
 use Rattle.ti_expand.specs.declared.values.Value.TheVariants.{Num, Text}
@@ -80,7 +80,7 @@ choice =
     ∷ spelled (Print (record { conversion = Signed; left = false; plus = false; space = false; alternate = false; zero = false; width = 0; precision = None })) (codes "%d")
     ∷ spelled CondElse (codes "%e") ∷ spelled (Byte 57) (codes "9") ∷ spelled CondClose (codes "%;") ∷ []
 
-first_body : pass_lines Hex 0 Running (first_state (Num (pos 3) ∷ replicate 8 (Num (pos 0)))) choice
+first_body : pass_lines Hex 0 Run (first_state (Num (pos 3) ∷ replicate 8 (Num (pos 0)))) choice
     ≡ codes "    0\t%?             \tran    \t-                      \t-\n"
     ++ codes "    2\t%p1            \tran    \t3                      \t-\n"
     ++ codes "    5\t%{8}           \tran    \t3,8                    \t-\n"
@@ -95,7 +95,7 @@ first_body : pass_lines Hex 0 Running (first_state (Num (pos 3) ∷ replicate 8 
 unfolding int_wrap digits encode_with spelled choice
 first_body = refl
 
-other_body : pass_lines Notation 0 Running (first_state (Num (pos 9) ∷ replicate 8 (Num (pos 0)))) choice
+other_body : pass_lines Notation 0 Run (first_state (Num (pos 9) ∷ replicate 8 (Num (pos 0)))) choice
     ≡ codes "    0\t%?             \tran    \t-                      \t-\n"
     ++ codes "    2\t%p1            \tran    \t9                      \t-\n"
     ++ codes "    5\t%{8}           \tran    \t9,8                    \t-\n"

@@ -1,10 +1,11 @@
 -- The row of the next token.
-use Rattle.std.proofs.Common.{◌≡◌, ◌∙◌, ℕ, ◌+◌, ◌-◌, List, ◌++◌, length, drop, take, reverse, ap, arith, refl, sym, append_assoc, length-append, if◌then◌else◌, max}
+use Rattle.std.proofs.Common.{◌≡◌, ◌∙◌, ℕ, ◌+◌, ◌-◌, List, ◌++◌, length, drop, take, reverse, ap, arith, refl, sym, length-append, if◌then◌else◌, max}
 use Rattle.std.proofs.Math.Seq.{drop-append_seam}
 use Rattle.std.proofs.lemmas.List.{reverse-reverse, take_at, take_rest}
 use Rattle.ti_cap.specs.declared.language.Token.{Token}
 use Rattle.ti_cap.specs.Capability.{Takes, whole}
-use Rattle.ti_cap.specs.Pass.{Mode, next_mode}
+use Rattle.ti_cap.specs.declared.mode.Mode.{Mode}
+use Rattle.ti_cap.specs.Pass.{next_mode}
 use Rattle.ti_escape.specs.declared.form.Form.{Form}
 use Rattle.ti_expand.specs.declared.step.Outcome.{Outcome}
 use Rattle.ti_expand.specs.declared.values.Value.{Value}
@@ -56,8 +57,3 @@ row_goes_on form bytes before after old new t place to written outcome stack out
     (sym (reverse-reverse stack) ∙ ap reverse held ∙ ap (λ (x : State). reverse x.stack) state)
     (take_rest output written ∙ ap (λ (n : ℕ). drop n output) long ∙ ap (drop (length old.state.output)) made ∙ ap (λ (x : State). drop (length old.state.output) x.output) state) in
     goes_on form bytes before after (token_line form place (take (to - place) (drop place bytes)) outcome stack (take (length output - written) (drop written output))) old new t s spells left taken mode state ran passed peak put line
-
--- all bytes stay the same, and fewer are left
-pub whole_stays : (bytes : List ℕ) (old new : Underway) (t : Token) → whole old.spot ≡ bytes → Takes t old.spot new.spot → whole new.spot ≡ bytes
-whole_stays bytes old new t all (s, spells, left, taken) =
-    ap (λ (l : List ℕ). l ++ new.spot.left) taken ∙ append_assoc old.spot.taken s new.spot.left ∙ ap (λ (l : List ℕ). old.spot.taken ++ l) (sym left) ∙ all

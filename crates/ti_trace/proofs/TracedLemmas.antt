@@ -4,7 +4,9 @@ use Rattle.std.proofs.lemmas.List.{length-map}
 use Rattle.ti_cap.specs.declared.language.Token.{Token}
 use Rattle.ti_cap.specs.Capability.{HasBound, HasDepth}
 use Rattle.ti_cap.specs.Height.{height, height_from}
-use Rattle.ti_cap.specs.Pass.{Mode, Running, next_mode}
+use Rattle.ti_cap.specs.declared.mode.Mode.{Mode}
+use Rattle.ti_cap.specs.declared.mode.Mode.TheVariants.{Run}
+use Rattle.ti_cap.specs.Pass.{next_mode}
 use Rattle.ti_cap.specs.Spelling.{Spells, Writes}
 use Rattle.ti_cap.specs.Tree.{Sequence, tokens}
 use Rattle.ti_cap.proofs.WrittenLemmas.{one_cutting}
@@ -26,7 +28,7 @@ use Rattle.ti_trace.proofs.CutLemmas.{Cutting, IsNext, cut_none, cutting, next, 
 -- ---- the start
 
 fresh_is : (form : Form) (bytes before : List ℕ) (s : State) (tree : Sequence) → s.stack ≡ [] → s.output ≡ [] → Writes tree bytes
-    → IsTraced form bytes s (record { spot = record { taken = []; left = bytes }; mode = Running; state = s; ran = 0; passed = 0; peak = 0 }) before before
+    → IsTraced form bytes s (record { spot = record { taken = []; left = bytes }; mode = Run; state = s; ran = 0; passed = 0; peak = 0 }) before before
 fresh_is form bytes before s tree none nothing w =
     let c : Cutting (tokens tree) bytes = cutting (tokens tree) bytes w.written in
     record {
@@ -98,8 +100,8 @@ step_traced form bytes first begun text u t s beyond spells taken tr =
     let after : Mode = next_mode u.mode t (tests_zero u.state) in
     let now : State = step_state u.mode t u.state in
     let b : Bool = is_run_between u.mode after in
-    let whole : List ℕ = begun ++ pass_lines form 0 Running first tr.all in
-    let path : List Token = tokens_run (steps Running first (tokens_of tr.all)) in
+    let whole : List ℕ = begun ++ pass_lines form 0 Run first tr.all in
+    let path : List Token = tokens_run (steps Run first (tokens_of tr.all)) in
     let xs : List Token = tokens_run (steps after now (tokens_of n.later)) in
     let here : Spelled = record { token = t; spelling = s } in
     let lines : text ++ pass_lines form (length u.spot.taken) u.mode u.state (here ∷ n.later) ≡ whole =
@@ -118,7 +120,7 @@ step_traced form bytes first begun text u t s beyond spells taken tr =
           append_assoc text (its_line form u t s) (pass_lines form (length (u.spot.taken ++ s)) after now n.later)
           ∙ ap (λ (k : ℕ). text ++ (its_line form u t s ++ pass_lines form k after now n.later)) (length-append u.spot.taken s)
           ∙ lines;
-      state = subst (λ (r : List Spelled). last_state u.state (steps_left u r) ≡ last_state first (steps Running first (tokens_of tr.all))) n.is tr.state;
+      state = subst (λ (r : List Spelled). last_state u.state (steps_left u r) ≡ last_state first (steps Run first (tokens_of tr.all))) n.is tr.state;
       ran = ran_more b t xs u.ran (length path) ran;
       counted = counted_more b u.ran u.passed (length n.later) (length tr.all) (subst (λ (r : List Spelled). u.ran + u.passed + length r ≡ length tr.all) n.is tr.counted);
       height = omega arith;
@@ -154,7 +156,7 @@ goes_on form bytes before after line old new t s spells left taken mode state ra
 pub record Finished (form : Form) (bytes : List ℕ) (first : State) (tree : Sequence) (u : Underway) (before text : List ℕ) : Type 0 where
   pub cut : List Spelled
   pub cuts : IsCut cut bytes
-  pub lines : text ≡ before ++ pass_lines form 0 Running first cut
+  pub lines : text ≡ before ++ pass_lines form 0 Run first cut
   pub state : u.state ≡ meaning tree first
   pub ran : u.ran ≡ length (taken_path tree first)
   pub passed : u.passed ≡ length (tokens tree) - length (taken_path tree first)
@@ -164,16 +166,16 @@ over : (form : Form) (bytes : List ℕ) (first : State) (tree : Sequence) (u : U
     → (t : IsTraced form bytes first u before text) → t.rest ≡ [] → Finished form bytes first tree u before text
 over form bytes first tree u before text w tr none =
     let same : tokens_of tr.all ≡ tokens tree = one_cutting (tokens_of tr.all) (tokens tree) bytes (written tr.all bytes tr.cuts) w.written in
-    let f : AreThePass tree first (steps Running first (tokens tree)) = steps_are_the_pass tree first w.formed in
-    let path : List Token = tokens_run (steps Running first (tokens_of tr.all)) in
-    let taken : path ≡ taken_path tree first = ap (λ (ks : List Token). tokens_run (steps Running first ks)) same ∙ f.ran in
+    let f : AreThePass tree first (steps Run first (tokens tree)) = steps_are_the_pass tree first w.formed in
+    let path : List Token = tokens_run (steps Run first (tokens_of tr.all)) in
+    let taken : path ≡ taken_path tree first = ap (λ (ks : List Token). tokens_run (steps Run first ks)) same ∙ f.ran in
     let long : length path ≡ length (taken_path tree first) = ap length taken in
-    let lines : text ++ [] ≡ before ++ pass_lines form 0 Running first tr.all =
-    subst (λ (r : List Spelled). text ++ pass_lines form (length u.spot.taken) u.mode u.state r ≡ before ++ pass_lines form 0 Running first tr.all) none tr.lines in
+    let lines : text ++ [] ≡ before ++ pass_lines form 0 Run first tr.all =
+    subst (λ (r : List Spelled). text ++ pass_lines form (length u.spot.taken) u.mode u.state r ≡ before ++ pass_lines form 0 Run first tr.all) none tr.lines in
     let ran : u.ran + 0 ≡ length path = subst (λ (r : List Spelled). u.ran + length (tokens_run (steps_left u r)) ≡ length path) none tr.ran in
     let counted : u.ran + u.passed + 0 ≡ length tr.all = subst (λ (r : List Spelled). u.ran + u.passed + length r ≡ length tr.all) none tr.counted in
-    let state : u.state ≡ last_state first (steps Running first (tokens_of tr.all)) =
-    subst (λ (r : List Spelled). last_state u.state (steps_left u r) ≡ last_state first (steps Running first (tokens_of tr.all))) none tr.state in
+    let state : u.state ≡ last_state first (steps Run first (tokens_of tr.all)) =
+    subst (λ (r : List Spelled). last_state u.state (steps_left u r) ≡ last_state first (steps Run first (tokens_of tr.all))) none tr.state in
     let peak : max u.peak (length u.state.stack) ≡ height_from 0 path =
     subst (λ (r : List Spelled). max u.peak (height_from (length u.state.stack) (tokens_run (steps_left u r))) ≡ height_from 0 path) none tr.peak in
     let all : length tr.all ≡ length (tokens tree) = sym (length-map tr.all (λ (x : Spelled). x.token)) ∙ ap length same in
@@ -182,7 +184,7 @@ over form bytes first tree u before text w tr none =
       cut = tr.all;
       cuts = tr.cuts;
       lines = sym (append-nil text) ∙ lines;
-      state = state ∙ ap (λ (ks : List Token). last_state first (steps Running first ks)) same ∙ f.state;
+      state = state ∙ ap (λ (ks : List Token). last_state first (steps Run first ks)) same ∙ f.state;
       ran = omega (arith, ran, long);
       passed = omega (arith, ran, long, counted, all);
       peak = sym low ∙ peak ∙ ap (height_from 0) taken;
@@ -213,7 +215,7 @@ trace_is form bytes parameters tree u depth bound first text out output ran pass
       bounded = bounded;
       is =
           put ∙ ap (λ (l : List ℕ). l ++ footer form (record { output = output; ran = ran; passed = passed; height = peak; depth = depth; bound = bound })) f.lines
-          ∙ append_assoc header (pass_lines form 0 Running first f.cut) (footer form (record { output = output; ran = ran; passed = passed; height = peak; depth = depth; bound = bound }))
-          ∙ ap (λ (t : Totals). header ++ (pass_lines form 0 Running first f.cut ++ footer form t)) totals_are
+          ∙ append_assoc header (pass_lines form 0 Run first f.cut) (footer form (record { output = output; ran = ran; passed = passed; height = peak; depth = depth; bound = bound }))
+          ∙ ap (λ (t : Totals). header ++ (pass_lines form 0 Run first f.cut ++ footer form t)) totals_are
           ∙ ap (λ (s : State). trace_text form tree s f.cut depth bound) start;
     }

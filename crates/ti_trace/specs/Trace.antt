@@ -3,7 +3,8 @@ use Rattle.std.specs.Prelude.{◌≡◌, ℕ, ◌+◌, ◌-◌, List, [], ◌∷
 use Rattle.ti_cap.specs.declared.language.Token.{Token}
 use Rattle.ti_cap.specs.Capability.{HasBound, HasDepth}
 use Rattle.ti_cap.specs.Height.{height}
-use Rattle.ti_cap.specs.Pass.{Mode, Running}
+use Rattle.ti_cap.specs.declared.mode.Mode.{Mode}
+use Rattle.ti_cap.specs.declared.mode.Mode.TheVariants.{Run}
 use Rattle.ti_cap.specs.Spelling.{Spells, Writes}
 use Rattle.ti_cap.specs.Tree.{Sequence, tokens}
 use Rattle.ti_escape.specs.declared.form.Form.{Form}
@@ -60,7 +61,7 @@ totals tree s depth bound =
 
 abbrev pub trace_text : Form → Sequence → State → List Spelled → (depth bound : ℕ) → List ℕ
 trace_text form tree s cut depth bound =
-    header ++ pass_lines form 0 Running s cut ++ footer form (totals tree s depth bound)
+    header ++ pass_lines form 0 Run s cut ++ footer form (totals tree s depth bound)
 
 -- each variable starts as 0
 abbrev pub first_state : List Value → State

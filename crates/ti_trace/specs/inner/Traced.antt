@@ -1,7 +1,7 @@
 -- How far the lines of a pass have come.
 use Rattle.std.specs.Prelude.{◌≡◌, ℕ, ◌+◌, ◌≤◌, max, List, ◌++◌, length}
 use Rattle.ti_cap.specs.Height.{height_from}
-use Rattle.ti_cap.specs.Pass.{Running}
+use Rattle.ti_cap.specs.declared.mode.Mode.TheVariants.{Run}
 use Rattle.ti_escape.specs.declared.form.Form.{Form}
 use Rattle.ti_expand.specs.declared.values.Value.{Value}
 use Rattle.ti_expand.specs.Expands.{IsFirstTooLong}
@@ -25,12 +25,12 @@ pub record IsTraced (form : Form) (bytes : List ℕ) (first : State) (u : Underw
   pub rest : List Spelled
   pub cuts : IsCut all bytes
   pub unread : IsCut rest u.spot.left
-  pub lines : text ++ pass_lines form (length u.spot.taken) u.mode u.state rest ≡ before ++ pass_lines form 0 Running first all
-  pub state : last_state u.state (steps_left u rest) ≡ last_state first (steps Running first (tokens_of all))
-  pub ran : u.ran + length (tokens_run (steps_left u rest)) ≡ length (tokens_run (steps Running first (tokens_of all)))
+  pub lines : text ++ pass_lines form (length u.spot.taken) u.mode u.state rest ≡ before ++ pass_lines form 0 Run first all
+  pub state : last_state u.state (steps_left u rest) ≡ last_state first (steps Run first (tokens_of all))
+  pub ran : u.ran + length (tokens_run (steps_left u rest)) ≡ length (tokens_run (steps Run first (tokens_of all)))
   pub counted : u.ran + u.passed + length rest ≡ length all
   pub height : length u.state.stack ≤ u.peak
-  pub peak : max u.peak (height_from (length u.state.stack) (tokens_run (steps_left u rest))) ≡ height_from 0 (tokens_run (steps Running first (tokens_of all)))
+  pub peak : max u.peak (height_from (length u.state.stack) (tokens_run (steps_left u rest))) ≡ height_from 0 (tokens_run (steps Run first (tokens_of all)))
 
 -- what was so before a token is so after it
 abbrev pub GoesOn : Form → List ℕ → (old new : Underway) → (before after : List ℕ) → Type 0

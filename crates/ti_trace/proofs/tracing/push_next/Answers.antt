@@ -1,6 +1,16 @@
-use Rattle.std.proofs.Common.{ap, length}
+use Rattle.std.proofs.Common.{ap, arith, length}
+use Rattle.ti_expand.proofs.FlatGrowsLemmas.{output_grows}
 use Rattle.ti_trace.proofs.RowLemmas.{row_goes_on}
 use Rattle.ti_trace.proofs.tracing.push_next.Goals as goal
+
+-- what was written before the token is still there
+pub slice_bounds-row-count-2 : goal.slice_bounds-row-count-2
+slice_bounds-row-count-2 g c =
+    let grows = output_grows c.args.steps.now.mode c.in-Some.step.token c.args.steps.now.state in
+    omega (arith, grows, ap length c.output-written.ensures, ap length c.output.ensures, ap (λ s. length s.output) c.in-Some.ensures.state)
+
+pub slice_bounds-row-start-2 : goal.slice_bounds-row-start-2
+slice_bounds-row-start-2 g c = slice_bounds-row-count-2 g c
 
 pub returns-clause-lines : goal.returns-clause-lines
 returns-clause-lines g c =

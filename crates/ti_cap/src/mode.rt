@@ -1,11 +1,10 @@
-//! The control of a flat pass over the tokens.
+//! The control of a pass over the tokens.
 
 ghost use Rattle.std.specs.Prelude.{◌≡◌, ◌<◌};
-ghost use Rattle.std.specs.Bool.{OnTrue};
-ghost use Rattle.ti_cap.specs.Pass.{next_mode, is_running};
-ghost use Rattle.ti_expand.specs.Mode.{mode_of, open_count, greatest_count};
+ghost use Rattle.ti_cap.specs.Pass.{next_mode, is_running, open_count, greatest_count};
 
-use ti_cap::{Take, Token};
+use crate::language::Token;
+use crate::reader::Take;
 
 /// Whether tokens run, or up to where they are passed over. The number counts the conditionals that were
 /// opened while passing over.
@@ -24,7 +23,7 @@ impl Mode {
     #[inline(always)]
     pub fn next(self, token: &Token, zero: bool) -> Mode
         requires { open_count self < greatest_count }
-        ensures { mode_of result ≡ next_mode (mode_of self) token.now zero }
+        ensures { result ≡ next_mode self token.now zero }
     {
         match (self, token) {
             (Mode::Run, Token::CondThen) if zero => Mode::ToElse(0),
@@ -39,21 +38,10 @@ impl Mode {
         }
     }
 
-    /// Whether one conditional more may be counted.
-    #[inline(always)]
-    pub(crate) fn has_room(self) -> bool
-        ensures { OnTrue result (open_count self < greatest_count) }
-    {
-        match self {
-            Mode::Run => true,
-            Mode::ToElse(opened) | Mode::ToEnd(opened) => opened < u8::MAX,
-        }
-    }
-
     /// Whether tokens run.
     #[inline(always)]
-    pub(crate) fn is_running(self) -> bool
-        ensures { result ≡ is_running (mode_of self) }
+    pub fn is_running(self) -> bool
+        ensures { result ≡ is_running self }
     {
         matches!(self, Mode::Run)
     }
@@ -62,14 +50,13 @@ impl Mode {
 // A token is passed over, or ends that.
 impl Take for Mode {
     ghost use Rattle.std.specs.Prelude.{◌≡◌, ◌<◌, false};
-    ghost use Rattle.ti_cap.specs.Pass.{next_mode};
-    ghost use Rattle.ti_expand.specs.Mode.{mode_of, open_count, greatest_count};
+    ghost use Rattle.ti_cap.specs.Pass.{next_mode, open_count, greatest_count};
 
     type Answer = ();
 
     ghost may_take = { λ m. open_count m < greatest_count };
 
-    ghost gives = { λ old token answer new. mode_of new ≡ next_mode (mode_of old) token false };
+    ghost gives = { λ old token answer new. new ≡ next_mode old token false };
 
     #[inline(always)]
     fn take(&mut self, token: &Token) -> Option<()> {
