@@ -288,3 +288,31 @@ def listing(entry, names, escape):
     lines += [number_line(b"number+ ", own_label(name, escape), number) for name, number in entry.extended_numbers]
     lines += [text_line(b"text+ ", own_label(name, escape), text, escape) for name, text in entry.extended_texts]
     return b"".join(lines)
+
+
+def items(entry, names):
+    """The lines of `show --escape` with labels by these names, kind by kind, each by what an item is found by: the index of a
+    standard capability, the name of an extended one, of which the first counts."""
+    makers = {"flag": flag_line, "number": number_line, "text": lambda *words: text_line(*words, True)}
+    own_names = notation(entry.names)
+    found = {"head": {0: b"format: " + (b"wide" if entry.wide else b"legacy") + b"\n", 1: b"names: " + own_names + b"\n"}}
+    for kind, values in (("flag", entry.flags), ("number", entry.numbers), ("text", entry.texts)):
+        word = kind.encode() + b" "
+        found[kind] = {i: makers[kind](word, label(names[kind], i), value) for i, value in enumerate(values)}
+    for kind, pairs in (("flag", entry.extended_flags), ("number", entry.extended_numbers), ("text", entry.extended_texts)):
+        own = found[kind + "+"] = {}
+        for name, value in pairs:
+            own.setdefault(name, makers[kind](kind.encode() + b"+ ", own_label(name, True), value))
+    return found
+
+
+def differences(one, other, names):
+    """What `diff` writes, with labels by these names."""
+    lines, first, second = [], items(one, names), items(other, names)
+    for kind in first:
+        keys = list(first[kind]) + [key for key in second[kind] if key not in first[kind]]
+        for key in keys if kind.endswith("+") else sorted(keys):
+            sides = [(sign, side[kind].get(key, b"")) for sign, side in ((b"- ", first), (b"+ ", second))]
+            if sides[0][1] != sides[1][1]:
+                lines += [sign + line for sign, line in sides if line]
+    return b"".join(lines)

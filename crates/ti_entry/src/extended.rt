@@ -129,7 +129,7 @@ impl<'a> Extended<'a> {
     }
 
     /// The least index of a capability of a kind with a name.
-    fn find_of(&self, kind: Kind, name: &[u8]) -> Option<usize>
+    pub fn find_of(&self, kind: Kind, name: &[u8]) -> Option<usize>
         ensures { IsLeastIndex (names_of self.now kind) name.now result }
     {
         first_named(

@@ -1,6 +1,6 @@
 -- Words on which `clap` finds no fault make a line.
 use Rattle.std.proofs.Common.{◌≡◌, ◌≤◌, ◌==◌, ◌||◌, ◌&&◌, ℕ, Bool, true, false, not, zero, suc, length, refl, sym, ◌∙◌, subst, true≢false, arith, List, [], ◌∷◌, Option, Some, None, is_some, cond, IfSome, nat_lt, nat_le, leb-true, le-leb, codes, drop, unwrap_or}
-use Rattle.std.specs.Prelude.{int_le, pos, neg_ℤ, slice_get, option_and_then, option_map}
+use Rattle.std.specs.Prelude.{int_le, pos, neg_ℤ, slice_get, option_and_then, option_map, if◌then◌else◌}
 use Rattle.std.specs.Char.{digit_value}
 use Rattle.std.specs.List.{find, fold}
 use Rattle.std.specs.Option.{option_map_or}
@@ -9,6 +9,7 @@ use Rattle.std.specs.Str.Parse.{digits_value, without_leading_plus}
 use Rattle.std.proofs.lemmas.Bool.{eqb-true}
 use Rattle.std.proofs.lemmas.Slice.Eq.{bytes_eq-Decides}
 use Rattle.clap.proofs.WalkLemmas.{both}
+use Rattle.clap.specs.Words.{first_of}
 use Rattle.clap.specs.Lexer.{long_of, short_of, without_minus}
 use Rattle.clap.specs.Kinds.{or_else, range_kinds, value_kinds, values_kinds}
 use Rattle.clap.specs.Simple.{Shape, argument_words, built, built_leaf, entered, filled, inherited, label_of, names_of, rows_at, subcommand_of, with_index}
@@ -23,7 +24,9 @@ use Rattle.clap.specs.declared.builder.value_parser.ValueParser.{ValueParser}
 use Rattle.clap.specs.declared.builder.value_parser.ValueParser.TheVariants as vp
 use Rattle.clap.specs.declared.error.kind.ErrorKind.TheVariants as kind
 use Rattle.ti_base.specs.Limits.{greatest_rate, most_lines}
-use Rattle.ti_line.specs.CommandLine.{Line, expand_app, expand_by, faults, get_app, get_by, lines_rule, name_rule, rate_rule, number_in, number_or, Reads, line_by, line_in, ti_app}
+use Rattle.ti_line.specs.CommandLine.{Diff, Line, expand_app, expand_by, expand_of, faults, get_app, get_by, get_of, lines_rule, name_rule, number_rule, rate_rule, number_in, number_or, ranged, Reads, line_by, line_in, ti_app, words_in}
+use Rattle.ti_line.specs.Laws.{IsWithin}
+use Rattle.ti_line.proofs.LawsLemmas.{none_some, some_is}
 use Rattle.ti_line.proofs.RowsLemmas.{Each, FirstIs, Fits, Gives, is_count, neither, row_found, rows_fit}
 
 -- ---- the subcommand that a walk stops at is not `help`
@@ -154,7 +157,7 @@ in_range most (x ∷ xs) e = go (x == 45) e
 within : (default most : ℕ) (text : Text) → default ≤ most → is_signed_in (pos 0) (pos most) text ≡ true → number_or default (without_minus text) ≤ most
 within default most text low e = or_default _ _ default most (in_range most text e) low
 
--- ---- the arguments of `expand`
+-- ---- the arguments of a command with a name and numbers
 
 -- another argument than that of the id
 other : (id : Text) (P : Reading → Text → Type 0) (a : Rule) → is_count (action_of a) ≡ false → bytes_eq a.id id ≡ false → Gives id P a
@@ -182,12 +185,6 @@ IsLow default most how v = number_or default (read_as how v) ≤ most
 abbrev built_name : Rule
 built_name = with_index 1 (filled name_rule)
 
-abbrev built_rate : Rule
-built_rate = filled rate_rule
-
-abbrev built_lines : Rule
-built_lines = filled lines_rule
-
 name_gives : Gives (codes "NAME") Any built_name
 name_gives = record { uncounted = refl; given = first; defaults = λ same. refl }
   where
@@ -196,62 +193,48 @@ name_gives = record { uncounted = refl; given = first; defaults = λ same. refl 
     first again [] rows e same = absurd (cc)
     first again (v ∷ vs) rows e same = tt
 
-rate_gives : Gives (codes "rate") (IsLow 0 greatest_rate) built_rate
-rate_gives = record { uncounted = refl; given = first; defaults = λ same. refl }
+number_gives : (id : Text) (default most : ℕ) → default ≤ most → Gives id (IsLow default most) (filled (number_rule id most))
+number_gives id default most low = record { uncounted = refl; given = first; defaults = λ same. refl }
   where
-    first : (again : Bool) (values : List Text) (rows : List Row) → use_fault again built_rate values rows ≡ [] → bytes_eq built_rate.id (codes "rate") ≡ true
-        → FirstIs (IsLow 0 greatest_rate) (reading_by built_rate) (values_or_missing built_rate values)
+    a : Rule
+    a = filled (number_rule id most)
+
+    first : (again : Bool) (values : List Text) (rows : List Row) → use_fault again a values rows ≡ [] → bytes_eq a.id id ≡ true → FirstIs (IsLow default most) (reading_by a) (values_or_missing a values)
     first again [] rows e same = absurd (cc)
     first again (v ∷ vs) rows e same =
         let used = (neither (range_kinds 1 1 (length (v ∷ vs))) _ e).1 in
-        let passed = (neither (repeat_fault again (codes "rate") rows) _ used).1 in
-        within 0 greatest_rate v (omega arith) (first_accepted false (vp.Signed (pos 0) (pos greatest_rate)) v vs passed)
+        let passed = (neither (repeat_fault again id rows) _ used).1 in
+        within default most v low (first_accepted false (vp.Signed (pos 0) (pos most)) v vs passed)
 
-lines_gives : Gives (codes "lines") (IsLow 1 most_lines) built_lines
-lines_gives = record { uncounted = refl; given = first; defaults = λ same. refl }
-  where
-    first : (again : Bool) (values : List Text) (rows : List Row) → use_fault again built_lines values rows ≡ [] → bytes_eq built_lines.id (codes "lines") ≡ true
-        → FirstIs (IsLow 1 most_lines) (reading_by built_lines) (values_or_missing built_lines values)
-    first again [] rows e same = absurd (cc)
-    first again (v ∷ vs) rows e same =
-        let used = (neither (range_kinds 1 1 (length (v ∷ vs))) _ e).1 in
-        let passed = (neither (repeat_fault again (codes "lines") rows) _ used).1 in
-        within 1 most_lines v (omega arith) (first_accepted false (vp.Signed (pos 0) (pos most_lines)) v vs passed)
+-- a use of an argument gives a name, and numbers within their ranges
+abbrev GivesEach : Rule → Type 0
+GivesEach a = Gives (codes "NAME") Any a × Gives (codes "rate") (IsLow 0 greatest_rate) a × Gives (codes "lines") (IsLow 1 most_lines) a
 
-abbrev expand_shape : Shape
-expand_shape = built_leaf (inherited (built ti_app).top expand_app.top)
+named : GivesEach built_name
+named = (name_gives, other _ _ _ refl refl, other _ _ _ refl refl)
 
-all_name : Each (Gives (codes "NAME") Any) expand_shape.rules
-all_name = (name_gives, (other _ _ _ refl refl, (other _ _ _ refl refl, (other _ _ _ refl refl, (other _ _ _ refl refl, (other _ _ _ refl refl, (other _ _ _ refl refl, (other _ _ _ refl refl, (other _ _ _ refl refl, (other _ _ _ refl refl, tt))))))))))
+rated : GivesEach (filled rate_rule)
+rated = (other _ _ _ refl refl, number_gives (codes "rate") 0 greatest_rate (omega arith), other _ _ _ refl refl)
 
-all_rate : Each (Gives (codes "rate") (IsLow 0 greatest_rate)) expand_shape.rules
-all_rate = (other _ _ _ refl refl, (other _ _ _ refl refl, (other _ _ _ refl refl, (other _ _ _ refl refl, (rate_gives, (other _ _ _ refl refl, (other _ _ _ refl refl, (other _ _ _ refl refl, (other _ _ _ refl refl, (other _ _ _ refl refl, tt))))))))))
+lined : GivesEach (filled lines_rule)
+lined = (other _ _ _ refl refl, other _ _ _ refl refl, number_gives (codes "lines") 1 most_lines (omega arith))
 
-all_lines : Each (Gives (codes "lines") (IsLow 1 most_lines)) expand_shape.rules
-all_lines = (other _ _ _ refl refl, (other _ _ _ refl refl, (other _ _ _ refl refl, (other _ _ _ refl refl, (other _ _ _ refl refl, (lines_gives, (other _ _ _ refl refl, (other _ _ _ refl refl, (other _ _ _ refl refl, (other _ _ _ refl refl, tt))))))))))
+-- an argument that is none of the three
+none : (a : Rule) → is_count (action_of a) ≡ false → bytes_eq a.id (codes "NAME") ≡ false → bytes_eq a.id (codes "rate") ≡ false → bytes_eq a.id (codes "lines") ≡ false → GivesEach a
+none a u n r l = (other _ _ a u n, other _ _ a u r, other _ _ a u l)
 
--- ---- the arguments of `get`
-
-abbrev get_shape : Shape
-get_shape = built_leaf (inherited (built ti_app).top get_app.top)
-
-all_get_name : Each (Gives (codes "NAME") Any) get_shape.rules
-all_get_name = (name_gives, (other _ _ _ refl refl, (other _ _ _ refl refl, (other _ _ _ refl refl, (other _ _ _ refl refl, (other _ _ _ refl refl, (other _ _ _ refl refl, (other _ _ _ refl refl, (other _ _ _ refl refl, tt)))))))))
-
-all_get_rate : Each (Gives (codes "rate") (IsLow 0 greatest_rate)) get_shape.rules
-all_get_rate = (other _ _ _ refl refl, (other _ _ _ refl refl, (other _ _ _ refl refl, (rate_gives, (other _ _ _ refl refl, (other _ _ _ refl refl, (other _ _ _ refl refl, (other _ _ _ refl refl, (other _ _ _ refl refl, tt)))))))))
-
-all_get_lines : Each (Gives (codes "lines") (IsLow 1 most_lines)) get_shape.rules
-all_get_lines = (other _ _ _ refl refl, (other _ _ _ refl refl, (other _ _ _ refl refl, (other _ _ _ refl refl, (lines_gives, (other _ _ _ refl refl, (other _ _ _ refl refl, (other _ _ _ refl refl, (other _ _ _ refl refl, tt)))))))))
+each_weaker : {X : Type 0} (P Q : X → Type 0) (xs : List X) → ((x : X) → P x → Q x) → Each P xs → Each Q xs
+each_weaker P Q [] f h = tt
+each_weaker P Q (x ∷ xs) f h = (f x h.0, each_weaker P Q xs f h.1)
 
 -- ---- the line
 
 abbrev HasLine : Option Line → Type 0
 HasLine o = (line : Line) × (o ≡ Some line)
 
-chosen : (b : Bool) (line : Line) → b ≡ true → HasLine (cond b (Some line) None)
-chosen true line e = (line, refl)
-chosen false line e = absurd (true≢false (sym e))
+made : (b : Bool) (line : Line) → b ≡ true → HasLine (cond b (Some line) None)
+made true line e = (line, refl)
+made false line e = absurd (true≢false (sym e))
 
 number_low : (id : Text) (default most : ℕ) (rows : List Row) → default ≤ most → Each (Fits id (IsLow default most)) rows → number_in id default rows ≤ most
 number_low id default most rows low all = go (find (λ r. bytes_eq r.id id) rows) (row_found id (IsLow default most) rows all)
@@ -264,67 +247,62 @@ number_low id default most rows low all = go (find (λ r. bytes_eq r.id id) rows
     go None f = low
     go (Some r) f = by r.reading r.values f
 
-expand_line : (words : List Text) → level_fault expand_shape [] nothing_held words false [] ≡ [] → HasLine (line_by (codes "expand") (rows_after expand_shape.rules [] words))
-expand_line words e = go (find (λ r. bytes_eq r.id (codes "NAME")) rows) (row_found _ Any rows (rows_fit _ Any expand_shape [] words all_name e)) given
+-- the numbers that were found are within their ranges
+abbrev are_within : List Row → Bool
+are_within rows = nat_le (number_in (codes "rate") 0 rows) greatest_rate && nat_le (number_in (codes "lines") 1 rows) most_lines
+
+-- a command that wants a name, and makes a line of it and of numbers within their ranges
+named_line : (s : Shape) (by : List Row → Text → Option Line) → Each GivesEach s.rules → ((rows : List Row) → check_fault s rows false ≡ [] → is_given (codes "NAME") rows ≡ true)
+    → ((rows : List Row) (name : Text) → are_within rows ≡ true → HasLine (by rows name)) → (words : List Text) → level_fault s [] nothing_held words false [] ≡ []
+    → HasLine (option_and_then (by (rows_after s.rules [] words)) (first_of (codes "NAME") (rows_after s.rules [] words)))
+named_line s by all wants makes words e =
+    go (find (λ r. bytes_eq r.id (codes "NAME")) rows) (row_found _ Any rows (rows_fit _ Any s [] words (each_weaker GivesEach _ s.rules (λ a g. g.0) all) e)) given
   where
     rows : List Row
-    rows = rows_after expand_shape.rules [] words
+    rows = rows_after s.rules [] words
 
     end : Held
-    end = (walk expand_shape.rules [] nothing_held words).held
+    end = (walk s.rules [] nothing_held words).held
 
     given : is_given (codes "NAME") rows ≡ true
-    given = by (is_given (codes "NAME") rows) (neither (defaults_fault (settled expand_shape.rules end).rows expand_shape.rules) _ (neither (settle_fault expand_shape.rules false end) _ (neither (walk_fault expand_shape [] (walk_from nothing_held) words) _ e).1).1).1
-      where
-        by : (g : Bool) → cond (not g || false) (kind.MissingRequiredArgument ∷ []) [] ≡ [] → g ≡ true
-        by true f = refl
-        by false f = absurd (cc)
+    given = wants rows (neither (defaults_fault (settled s.rules end).rows s.rules) _ (neither (settle_fault s.rules s.args_override_self end) _ (neither (walk_fault s [] (walk_from nothing_held) words) _ e).1).1).1
 
-    low : (nat_le (number_in (codes "rate") 0 rows) greatest_rate && nat_le (number_in (codes "lines") 1 rows) most_lines) ≡ true
+    low : are_within rows ≡ true
     low = rw (
-      le-leb _ _ (number_low (codes "rate") 0 greatest_rate rows (omega arith) (rows_fit _ _ expand_shape [] words all_rate e)),
-      le-leb _ _ (number_low (codes "lines") 1 most_lines rows (omega arith) (rows_fit _ _ expand_shape [] words all_lines e)),
+      le-leb _ _ (number_low (codes "rate") 0 greatest_rate rows (omega arith) (rows_fit _ _ s [] words (each_weaker GivesEach _ s.rules (λ a g. g.1) all) e)),
+      le-leb _ _ (number_low (codes "lines") 1 most_lines rows (omega arith) (rows_fit _ _ s [] words (each_weaker GivesEach _ s.rules (λ a g. g.2) all) e)),
     ) refl
 
-    named : (values : List Text) (how : Reading) → FirstIs Any how values → HasLine (option_and_then (expand_by rows) (slice_get values 0))
-    named [] how f = absurd f
-    named (v ∷ vs) how f = chosen _ _ low
+    called : (values : List Text) (how : Reading) → FirstIs Any how values → HasLine (option_and_then (by rows) (slice_get values 0))
+    called [] how f = absurd f
+    called (v ∷ vs) how f = makes rows v low
 
     go : (o : Option Row) → IfSome o (λ r. FirstIs Any r.reading r.values) → option_map_or (λ r. explicit_source r.source) o false ≡ true
-        → HasLine (option_and_then (expand_by rows) (option_and_then (λ r. slice_get r.values 0) o))
+        → HasLine (option_and_then (by rows) (option_and_then (λ r. slice_get r.values 0) o))
     go None f g = absurd (true≢false (sym g))
-    go (Some r) f g = named r.values r.reading f
+    go (Some r) f g = called r.values r.reading f
+
+wanted : (g : Bool) → cond (not g || false) (kind.MissingRequiredArgument ∷ []) [] ≡ [] → g ≡ true
+wanted true f = refl
+wanted false f = absurd (cc)
+
+abbrev expand_shape : Shape
+expand_shape = built_leaf (inherited (built ti_app).top expand_app.top)
+
+expand_line : (words : List Text) → level_fault expand_shape [] nothing_held words false [] ≡ [] → HasLine (line_by (codes "expand") (rows_after expand_shape.rules [] words))
+expand_line = named_line expand_shape expand_by all (λ rows f. wanted (is_given (codes "NAME") rows) f) (λ rows name low. made _ _ low)
+  where
+    all : Each GivesEach expand_shape.rules
+    all = (named, (none _ refl refl refl refl, (none _ refl refl refl refl, (none _ refl refl refl refl, (rated, (lined, (none _ refl refl refl refl, (none _ refl refl refl refl, (none _ refl refl refl refl, (none _ refl refl refl refl, tt))))))))))
+
+abbrev get_shape : Shape
+get_shape = built_leaf (inherited (built ti_app).top get_app.top)
 
 get_line : (words : List Text) → level_fault get_shape [] nothing_held words false [] ≡ [] → HasLine (line_by (codes "get") (rows_after get_shape.rules [] words))
-get_line words e = go (find (λ r. bytes_eq r.id (codes "NAME")) rows) (row_found _ Any rows (rows_fit _ Any get_shape [] words all_get_name e)) given
+get_line = named_line get_shape get_by all (λ rows f. wanted (is_given (codes "NAME") rows) f) (λ rows name low. made _ _ low)
   where
-    rows : List Row
-    rows = rows_after get_shape.rules [] words
-
-    end : Held
-    end = (walk get_shape.rules [] nothing_held words).held
-
-    given : is_given (codes "NAME") rows ≡ true
-    given = by (is_given (codes "NAME") rows) (neither (defaults_fault (settled get_shape.rules end).rows get_shape.rules) _ (neither (settle_fault get_shape.rules false end) _ (neither (walk_fault get_shape [] (walk_from nothing_held) words) _ e).1).1).1
-      where
-        by : (g : Bool) → cond (not g || false) (kind.MissingRequiredArgument ∷ []) [] ≡ [] → g ≡ true
-        by true f = refl
-        by false f = absurd (cc)
-
-    low : (nat_le (number_in (codes "rate") 0 rows) greatest_rate && nat_le (number_in (codes "lines") 1 rows) most_lines) ≡ true
-    low = rw (
-      le-leb _ _ (number_low (codes "rate") 0 greatest_rate rows (omega arith) (rows_fit _ _ get_shape [] words all_get_rate e)),
-      le-leb _ _ (number_low (codes "lines") 1 most_lines rows (omega arith) (rows_fit _ _ get_shape [] words all_get_lines e)),
-    ) refl
-
-    named : (values : List Text) (how : Reading) → FirstIs Any how values → HasLine (option_and_then (get_by rows) (slice_get values 0))
-    named [] how f = absurd f
-    named (v ∷ vs) how f = chosen _ _ low
-
-    go : (o : Option Row) → IfSome o (λ r. FirstIs Any r.reading r.values) → option_map_or (λ r. explicit_source r.source) o false ≡ true
-        → HasLine (option_and_then (get_by rows) (option_and_then (λ r. slice_get r.values 0) o))
-    go None f g = absurd (true≢false (sym g))
-    go (Some r) f g = named r.values r.reading f
+    all : Each GivesEach get_shape.rules
+    all = (named, (none _ refl refl refl refl, (none _ refl refl refl refl, (rated, (lined, (none _ refl refl refl refl, (none _ refl refl refl refl, (none _ refl refl refl refl, (none _ refl refl refl refl, tt)))))))))
 
 -- ---- the subcommand
 
@@ -341,28 +319,8 @@ abbrev Asks : Text × List Text → Shape → Type 0
 Asks p s = level_fault s [] nothing_held p.1 false [] ≡ [] → HasLine (line_by s.name (rows_after s.rules [] p.1))
 
 all_ask : (p : Text × List Text) → NotHelp p.0 → Each (λ s. answers_to p.0 (label_of s) ≡ true → Asks p s) (built ti_app).subs
-all_ask p past = (
-  λ t e. (_, refl),
-  (
-    λ t e. (_, refl),
-    (
-      λ t e. get_line p.1 e,
-      (
-        λ t e. expand_line p.1 e,
-        (
-          λ t e. (_, refl),
-          (
-            λ t e. (_, refl),
-            (
-              λ t e. (_, refl),
-              (λ t e. absurd (help t), tt),
-            ),
-          ),
-        ),
-      ),
-    ),
-  ),
-)
+all_ask p past =
+    (λ t e. (_, refl), (λ t e. (_, refl), (λ t e. get_line p.1 e, (λ t e. (_, refl), (λ t e. expand_line p.1 e, (λ t e. (_, refl), (λ t e. (_, refl), (λ t e. (_, refl), (λ t e. absurd (help t), tt)))))))))
   where
     help : (bytes_eq (codes "help") p.0 || false) ≡ true → ⊥
     help t = go (bytes_eq (codes "help") p.0) refl t
@@ -413,3 +371,34 @@ pub line_made : (words : List Text) → faults words ≡ [] → (line : Line) ×
 line_made words e =
     let asked = has_line words e in
     (asked.0, (e, asked.1))
+
+-- ---- the numbers of a line
+
+either : (b : Bool) (x y : Option Line) → IfSome x IsWithin → IfSome y IsWithin → IfSome (if b then x else y) IsWithin
+either true x y h k = h
+either false x y h k = k
+
+-- numbers that make a line are within their ranges
+bounded : (rows : List Row) (line : Text → ℕ → ℕ → Line) → ((name : Text) (rate lines : ℕ) → (rate ≤ greatest_rate) × (lines ≤ most_lines) → IsWithin (line name rate lines))
+    → (name : Option Text) → IfSome (option_and_then (λ n. ranged rows (line n)) name) IsWithin
+bounded rows line h None = tt
+bounded rows line h (Some name) = go (are_within rows) refl
+  where
+    go : (b : Bool) → are_within rows ≡ b → IfSome (if b then Some (line name (number_in (codes "rate") 0 rows) (number_in (codes "lines") 1 rows)) else None) IsWithin
+    go false e = tt
+    go true e = let parts = both _ _ e in h name _ _ (leb-true _ _ parts.0, leb-true _ _ parts.1)
+
+line_within : (command : Text) (rows : List Row) → IfSome (line_by command rows) IsWithin
+line_within command rows =
+    either (bytes_eq command (codes "cap")) _ _ tt
+    (either (bytes_eq command (codes "trace")) _ _ tt
+    (either (bytes_eq command (codes "show")) _ _ tt
+    (either (bytes_eq command (codes "check")) _ _ tt
+    (either (bytes_eq command (codes "expand")) _ _ (bounded rows (expand_of rows) (λ name rate lines low. low) (first_of (codes "NAME") rows))
+    (either (bytes_eq command (codes "convert")) _ _ tt
+    (either (bytes_eq command (codes "get")) _ _ (bounded rows (get_of rows) (λ name rate lines low. low) (first_of (codes "NAME") rows))
+    (either (bytes_eq command (codes "diff")) (Some (Diff (words_in (codes "FILE") rows))) None tt tt)))))))
+
+pub within_request : (found : Option (Text × List Row)) (line : Line) → line_in found ≡ Some line → IsWithin line
+within_request None line e = absurd (none_some None line refl e)
+within_request (Some p) line e = some_is (line_by p.0 p.1) IsWithin line (line_within p.0 p.1) e

@@ -9,9 +9,9 @@ use Rattle.std.specs.Char.{digit_value}
 use Rattle.std.specs.Str.Parse.{AllDigits, ParsesBool, ParsesUnsigned, digits_value, without_leading_plus}
 use Rattle.std.proofs.lemmas.Slice.Eq.{bytes_eq-Decides}
 use Rattle.std.specs.Bool.{Decides}
-use Rattle.clap.specs.Words.{Text, ReadsOne, first_of, first_value, matched_of, one_text, raw_values, rows_of}
+use Rattle.clap.specs.Words.{Text, ReadsOne, matched_of, one_text, raw_values, rows_of}
 use Rattle.clap.specs.declared.parser.matches.Found.{Found}
-use Rattle.clap.proofs.WalkLemmas.{both, first_value-rows, one_text-rows, raw_values-rows}
+use Rattle.clap.proofs.WalkLemmas.{both, one_text-rows, raw_values-rows}
 use Rattle.ti_line.specs.CommandLine.{flag_in, number_in, number_or, is_input, named_files, words_in}
 
 decided_no : {P : Type 0} (b : Bool) → Decides b P → (P → ⊥) → b ≡ false
@@ -82,14 +82,6 @@ pub words_read : (f : Found) (id : Text) (r : Option (Bor (List (Bor Text)))) (d
     → option_map (λ s. map (λ v. v.now) s.now) r ≡ option_map raw_values (matched_of f id)
     → map (λ v. v.now) (unwrap_or r d).now ≡ words_in id (rows_of f)
 words_read f id r d empty e = words_from _ r d empty (e ∙ raw_values-rows f id)
-
-text_from : (o : Option Text) (r : Option (Bor Text)) (d : Bor Text) → d.now ≡ [] → option_map (λ s. s.now) r ≡ o → (unwrap_or r d).now ≡ unwrap_or o []
-text_from o None d empty e = rw (← e, empty) refl
-text_from o (Some s) d empty e = rw (← e) refl
-
-pub text_read : (f : Found) (id : Text) (r : Option (Bor Text)) (d : Bor Text) → d.now ≡ [] → option_map (λ s. s.now) r ≡ first_value f id
-    → (unwrap_or r d).now ≡ unwrap_or (first_of id (rows_of f)) []
-text_read f id r d empty e = text_from _ r d empty (e ∙ first_value-rows f id)
 
 pub no_files : (words names files : List Text) → words ≡ names → is_input words ≡ true → files ≡ [] → files ≡ named_files names
 no_files words names files e input none = rw (← e, input) none

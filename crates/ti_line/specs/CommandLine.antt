@@ -130,6 +130,10 @@ get_app =
     (name_rule ∷ hex_rule ∷ escape_rule ∷ rate_rule ∷ lines_rule ∷ flag_rule (codes "xon")
     ∷ entry_rule ∷ params_rule ∷ [])
 
+-- `diff [FILE..]`: the other entry, or the first and the other
+abbrev pub diff_app : App
+diff_app = with_rules (new_app (codes "diff")) (files_rule ∷ [])
+
 -- `ti` with a version, which wants a subcommand
 abbrev pub start_app : App
 start_app =
@@ -139,7 +143,7 @@ start_app =
 abbrev pub ti_app : App
 ti_app =
     with_commands start_app
-    (show_app ∷ check_app ∷ get_app ∷ expand_app ∷ convert_app ∷ cap_app ∷ trace_app ∷ [])
+    (show_app ∷ check_app ∷ get_app ∷ diff_app ∷ expand_app ∷ convert_app ∷ cap_app ∷ trace_app ∷ [])
 
 -- ---- the values that `clap` found
 
@@ -191,28 +195,32 @@ pub data Line : Type 0 where
   Expand : (name : Text) → (hex escape all_names : Bool) → (rate lines : ℕ) → (xon : Bool)
       → (params : List Text) → Line
   Convert : (wide narrow force : Bool) → Line
+  Diff : (files : List Text) → Line
   Get : (name : Text) → (hex escape : Bool) → (rate lines : ℕ) → (xon : Bool)
       → (params : List Text) → Line
 
--- `expand` with a name and numbers within their ranges
-abbrev pub expand_by : List Row → Text → Option Line
-expand_by rows name =
+-- a line of a rate and a number of lines within their ranges
+abbrev pub ranged : List Row → (ℕ → ℕ → Line) → Option Line
+ranged rows line =
     let rate = number_in (codes "rate") 0 rows in
     let lines = number_in (codes "lines") 1 rows in
-    if nat_le rate greatest_rate && nat_le lines most_lines
-    then Some (Expand name (flag_in (codes "hex") rows) (flag_in (codes "escape") rows)
-    (flag_in (codes "all-names") rows) rate lines (flag_in (codes "xon") rows) (params_in rows))
-    else None
+    if nat_le rate greatest_rate && nat_le lines most_lines then Some (line rate lines) else None
 
--- `get` with a name and numbers within their ranges
+abbrev pub expand_of : List Row → Text → ℕ → ℕ → Line
+expand_of rows name rate lines =
+    Expand name (flag_in (codes "hex") rows) (flag_in (codes "escape") rows)
+    (flag_in (codes "all-names") rows) rate lines (flag_in (codes "xon") rows) (params_in rows)
+
+abbrev pub expand_by : List Row → Text → Option Line
+expand_by rows name = ranged rows (expand_of rows name)
+
+abbrev pub get_of : List Row → Text → ℕ → ℕ → Line
+get_of rows name rate lines =
+    Get name (flag_in (codes "hex") rows) (flag_in (codes "escape") rows)
+    rate lines (flag_in (codes "xon") rows) (params_in rows)
+
 abbrev pub get_by : List Row → Text → Option Line
-get_by rows name =
-    let rate = number_in (codes "rate") 0 rows in
-    let lines = number_in (codes "lines") 1 rows in
-    if nat_le rate greatest_rate && nat_le lines most_lines
-    then Some (Get name (flag_in (codes "hex") rows) (flag_in (codes "escape") rows)
-    rate lines (flag_in (codes "xon") rows) (params_in rows))
-    else None
+get_by rows name = ranged rows (get_of rows name)
 
 -- what a subcommand and its values ask for
 abbrev pub line_by : Text → List Row → Option Line
@@ -233,7 +241,9 @@ line_by command rows =
     (flag_in (codes "force") rows))
     else (if bytes_eq command (codes "get")
     then option_and_then (get_by rows) (first_of (codes "NAME") rows)
-    else None))))))
+    else (if bytes_eq command (codes "diff")
+    then Some (Diff (words_in (codes "FILE") rows))
+    else None)))))))
 
 -- what the subcommand that was found asks for
 abbrev pub line_in : Option (Text × List Row) → Option Line

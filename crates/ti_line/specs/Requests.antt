@@ -1,17 +1,19 @@
 -- What a line asks for, or why that can't be done, and what an answer tells of the words.
-use Rattle.std.specs.Prelude.{◌≡◌, ◌<◌, ◌&&◌, ℕ, Bool, true, false, not, List, Option, Some, None, Result, Ok, Err, length, map}
+use Rattle.std.specs.Prelude.{◌≡◌, ◌<◌, ◌&&◌, ℕ, Bool, true, false, not, List, Option, Some, None, Result, Ok, Err, length, map, [], ◌∷◌, codes}
 use Rattle.std.specs.Borrow.{Bor}
 use Rattle.clap.specs.Words.{Text}
 use Rattle.ti_words.specs.declared.Width.{Width}
 use Rattle.ti_words.specs.declared.Width.TheVariants.{Legacy, Wide}
 use Rattle.ti_expand.specs.declared.values.Value.{Value}
 use Rattle.ti_pad.specs.Setting.{Setting}
-use Rattle.ti_line.specs.CommandLine.{Line, AsksForHelp, Cap, Trace, Show, Check, Expand, Convert, Get, IsRefused, Reads, files_of}
+use Rattle.ti_line.specs.CommandLine.{Line, AsksForHelp, Cap, Trace, Show, Check, Expand, Convert, Diff, Get, IsRefused, Reads, files_of}
 use Rattle.ti_line.specs.Options.{form_asked, list_options, names_asked, naming_asked, output_asked}
 use Rattle.ti_line.specs.Params.{AreGiven, AreParams, IsGiven, IsGivenBy, IsParam, IsWordFault}
 use Rattle.ti_line.specs.declared.given.Param.{Param}
 use Rattle.ti_line.specs.declared.params.WordFault.{WordFault}
 use Rattle.ti_line.specs.declared.request.Asked.TheVariants.{Capability, Entry}
+use Rattle.ti_line.specs.declared.request.Asked.TheVariants as asks
+use Rattle.ti_line.specs.declared.request.Difference as code_of_diff
 use Rattle.ti_line.specs.declared.request.Expand as code
 use Rattle.ti_line.specs.declared.request.Get as code_of_get
 use Rattle.ti_line.specs.declared.request.TraceOf as code_of_trace
@@ -38,6 +40,12 @@ abbrev pub width_asked : Bool → Bool → Option Width
 width_asked true narrow = Some Wide
 width_asked false true = Some Legacy
 width_asked false false = None
+
+-- the files that `diff` compares: two, or standard input, `-`, and one
+abbrev pub compared : List Text → Option (Text × Text)
+compared (other ∷ []) = Some (codes "-", other)
+compared (file ∷ (other ∷ [])) = Some (file, other)
+compared _ = None
 
 -- the words stand for no parameters, and why
 abbrev pub StandForNone : List Text → WordFault → Type 0
@@ -78,6 +86,9 @@ Asks terminal (Get name hex escape rate lines xon words) r =
     × ((g : code_of_get.Get) × (r.asked ≡ Entry (of_entry.Get g)) × (g.name.now ≡ name)
     × IsGivenBy words g.given × (g.padding ≡ setting_of rate lines xon)
     × (g.output ≡ output_asked hex escape))
+Asks terminal (Diff files) r =
+    (d : code_of_diff.Difference) × (r.asked ≡ asks.Difference d)
+    × (compared files ≡ Some (d.file.now, d.other.now))
 
 -- a task is what a line asks for, of the files that the words name
 abbrev pub IsTask : Bool → List Text → Line → Task → Type 0
@@ -85,7 +96,8 @@ IsTask terminal words line task =
     Asks terminal line task.request × (texts_of task.files.items ≡ files_of words)
 
 -- why that can't be done: both of two such flags are given, or an entry and no name of a capability in
--- it, or else the words stand for no parameters, or an entry would go to a terminal
+-- it, or else the words stand for no parameters, or an entry would go to a terminal, or the files to
+-- compare are not one or two
 abbrev pub HasFault : Bool → Line → LineFault → Type 0
 HasFault terminal (Cap hex escape words) fault.BothForms = hex && escape ≡ true
 HasFault terminal (Cap hex escape words) (fault.Words why) =
@@ -104,6 +116,7 @@ HasFault terminal (Convert wide narrow force) fault.ToTerminal =
 HasFault terminal (Get name hex escape rate lines xon words) fault.BothForms = hex && escape ≡ true
 HasFault terminal (Get name hex escape rate lines xon words) (fault.Words why) =
     (hex && escape ≡ false) × GiveNone words why
+HasFault terminal (Diff files) fault.FileCount = compared files ≡ None
 HasFault _ _ _ = ⊥
 
 -- a line is answered with what it asks for, or with its fault

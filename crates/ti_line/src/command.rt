@@ -2,7 +2,7 @@
 
 ghost use Rattle.std.specs.Prelude.{◌≡◌, [], ◌∷◌, IfOk, false};
 ghost use Rattle.clap.specs.Words.{App, app_of, new_app, rule_of};
-ghost use Rattle.ti_line.specs.CommandLine.{all_names_rule, cap_app, check_app, convert_app, entry_rule, escape_rule, expand_app, file_rule, files_rule, flag_rule, get_app, hex_rule, name_rule, number_rule, of_rule, params_rule, show_app, start_app, ti_app, trace_app, with_commands, with_rules};
+ghost use Rattle.ti_line.specs.CommandLine.{all_names_rule, cap_app, check_app, convert_app, diff_app, entry_rule, escape_rule, expand_app, file_rule, files_rule, flag_rule, get_app, hex_rule, name_rule, number_rule, of_rule, params_rule, show_app, start_app, ti_app, trace_app, with_commands, with_rules};
 ghost use Rattle.ti_line.specs.inner.Command.{HasNoGlobals};
 
 use clap::{Arg, ArgAction, Command, value_parser};
@@ -78,15 +78,15 @@ number 0; with --of also a number or a text alone";
 const ANY_PARAMS: &str = "A number or a text: n:NUMBER, s:TEXT, or the word alone,
 which is what the text takes; with none it is only padded";
 
-/// `FILE..`: any number of files.
-fn files<'a>(alloc: Global) -> Arg<'a>
+/// `FILE..`: any number of files, with what help says of them.
+fn files<'a>(alloc: Global, help: &'a str) -> Arg<'a>
     ensures rule { rule_of result ≡ files_rule }
     ensures local { result.global ≡ false }
 {
     Arg::new(alloc, "FILE")
         .action(ArgAction::Append)
         .num_args(0..)
-        .help(FILES)
+        .help(help)
 }
 
 /// `FILE`: at most one file.
@@ -109,6 +109,9 @@ const FILES: &str = "Compiled entries, and folders with such in them;
 none, or -, is standard input";
 
 const FILE: &str = "A compiled entry; none, or -, is standard input";
+
+const PAIR: &str = "The other entry, or an entry and the other; the first is
+standard input if it is -, or not named";
 
 /// `--of NAME`.
 fn of<'a>(alloc: Global) -> Arg<'a>
@@ -202,7 +205,7 @@ fn show<'a>(alloc: Global) -> Result<Command<'a>, AllocError>
         "List an entry, one line an item",
         "Example:\n  ti show /lib/terminfo/x/xterm\n\nFor an entry that a stranger wrote:\n  ti show --escape < entry",
     );
-    with_two(command, escape(alloc), all_names(alloc))?.arg(files(alloc))
+    with_two(command, escape(alloc), all_names(alloc))?.arg(files(alloc, FILES))
 }
 
 fn check<'a>(alloc: Global) -> Result<Command<'a>, AllocError>
@@ -216,7 +219,7 @@ fn check<'a>(alloc: Global) -> Result<Command<'a>, AllocError>
         "Analyse each text of an entry; status 1 if one has a fault",
         "Example, of all entries in a folder:\n  ti check /lib/terminfo\n\nFor an entry that a stranger wrote:\n  ti check --escape < entry",
     );
-    with_two(check, escape(alloc), all_names(alloc))?.arg(files(alloc))
+    with_two(check, escape(alloc), all_names(alloc))?.arg(files(alloc, FILES))
 }
 
 fn get<'a>(alloc: Global) -> Result<Command<'a>, AllocError>
@@ -259,6 +262,20 @@ fn expand<'a>(alloc: Global) -> Result<Command<'a>, AllocError>
         number(alloc, "lines", MOST_LINES, LINES),
     )?;
     with_two(command, flag(alloc, "xon", XON), entry(alloc))?.arg(params(alloc, PARAMS))
+}
+
+fn diff<'a>(alloc: Global) -> Result<Command<'a>, AllocError>
+    ensures shape { IfOk result (λ c. app_of c ≡ diff_app) }
+    ensures local { IfOk result HasNoGlobals }
+{
+    let command = new_command(
+        alloc,
+        "diff",
+        "ti diff [FILE] <OTHER>",
+        "Tell two entries apart, one line an item; status 1 if they differ",
+        "Example, - for what only the first has, + for the other:\n  ti diff /lib/terminfo/x/xterm /lib/terminfo/x/xterm-color",
+    );
+    command.arg(files(alloc, PAIR))
 }
 
 fn convert<'a>(alloc: Global) -> Result<Command<'a>, AllocError>
@@ -313,7 +330,7 @@ fn trace<'a>(alloc: Global) -> Result<Command<'a>, AllocError>
 /// What help says of the exit status, and an example.
 const STATUSES: &str = "Status:
   0  done
-  1  check found a fault, or a flag is not set
+  1  check found a fault, diff a difference, or a flag is not set
   2  the words are wrong
   3  the entry is refused
   4  the capability is refused or absent
@@ -349,15 +366,16 @@ fn with_made<'a>(
     program.subcommand(made?)
 }
 
-/// `ti` with its first three subcommands.
+/// `ti` with its first four subcommands.
 fn first_commands<'a>(alloc: Global) -> Result<Command<'a>, AllocError>
     ensures shape { IfOk result (λ c. app_of c
-        ≡ with_commands start_app (show_app ∷ check_app ∷ get_app ∷ [])) }
+        ≡ with_commands start_app (show_app ∷ check_app ∷ get_app ∷ diff_app ∷ [])) }
     ensures local { IfOk result HasNoGlobals }
 {
     let shown = with_made(start(alloc), show(alloc))?;
     let checked = with_made(shown, check(alloc))?;
-    with_made(checked, get(alloc))
+    let got = with_made(checked, get(alloc))?;
+    with_made(got, diff(alloc))
 }
 
 /// `ti` whole.

@@ -3,17 +3,6 @@
 //! [`read_line`] reads the words by `clap`. What the words mean is defined in `specs/CommandLine.antt`: the definition
 //! of the command that is handed to `clap`, and the value of what `clap` finds; and in `specs/Requests.antt`: what that
 //! requests, or why it can't be done. Nothing here reads or writes.
-//!
-//! | Command | Value |
-//! |---|---|
-//! | `cap [--hex] [--escape] [PARAM..]` | [`OfCapability::Cap`] |
-//! | `trace [--escape] [PARAM..]` | [`OfCapability::Trace`] |
-//! | `trace --of NAME [--escape] [--entry FILE] [PARAM..]` | [`OfEntry::Trace`] |
-//! | `show [--escape] [--all-names] [FILE..]` | [`OfEntry::Show`] |
-//! | `check [--escape] [--all-names] [FILE..]` | [`OfEntry::Check`] |
-//! | `expand NAME [--hex] [--escape] [--all-names] [--rate N] [--lines N] [--xon] [--entry FILE] [PARAM..]` | [`OfEntry::Expand`] |
-//! | `convert [--wide] [--narrow] [--force] [FILE]` | [`OfEntry::Convert`] |
-//! | `get NAME [--hex] [--escape] [--rate N] [--lines N] [--xon] [--entry FILE] [PARAM..]` | [`OfEntry::Get`] |
 #![tactic(auto)]
 
 mod asked;
@@ -36,4 +25,6 @@ pub use no_line::{LineFault, NoLine};
 pub use options::{ListOptions, NameForm, Naming, Output};
 pub use params::{WordFault, read_params};
 pub use read::read_line;
-pub use request::{Asked, Expand, Get, OfCapability, OfEntry, Request, Task, TextName, TraceOf};
+pub use request::{
+    Asked, Difference, Expand, Get, OfCapability, OfEntry, Request, Task, TextName, TraceOf,
+};

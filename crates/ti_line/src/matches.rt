@@ -3,9 +3,9 @@
 ghost use Rattle.std.specs.Prelude.{◌≡◌, ◌≤◌, ◌&&◌, true, false, Bool, IfOk, IfSome, IsSome, MatchResult, codes, option_map};
 ghost use Rattle.ti_base.specs.Limits.{greatest_rate, most_lines};
 ghost use Rattle.clap.specs.Words.{first_of};
-ghost use Rattle.ti_line.specs.CommandLine.{Cap, Convert, Trace, expand_by, flag_in, get_by, is_given_in, is_input as the_is_input, line_by, named_files, number_in, params_in, words_in};
+ghost use Rattle.ti_line.specs.CommandLine.{Cap, Convert, Diff, Trace, expand_by, flag_in, get_by, is_given_in, is_input as the_is_input, line_by, named_files, number_in, params_in, words_in};
 ghost use Rattle.ti_line.specs.Params.{AreParams, IsGivenBy};
-ghost use Rattle.ti_line.specs.Requests.{GiveNone, IsAnswered, StandForNone, setting_of, texts_of};
+ghost use Rattle.ti_line.specs.Requests.{GiveNone, IsAnswered, StandForNone, compared, setting_of, texts_of};
 ghost use Rattle.ti_line.specs.Options.{form_asked as the_form_asked, output_asked as the_output_asked};
 ghost use Rattle.ti_line.specs.declared.no_line.LineFault.TheVariants as fault;
 ghost use Rattle.ti_line.specs.declared.request.Asked.TheVariants.{Entry};
@@ -18,7 +18,9 @@ use crate::given::{Given, read_given};
 use crate::no_line::LineFault;
 use crate::options::Output;
 use crate::params::{WordFault, read_params};
-use crate::request::{Asked, Expand, Get, OfCapability, OfEntry, Request, TextName, TraceOf};
+use crate::request::{
+    Asked, Difference, Expand, Get, OfCapability, OfEntry, Request, TextName, TraceOf,
+};
 use clap::ArgMatches;
 use std::alloc::{AllocError, Global};
 use ti_escape::Form;
@@ -223,6 +225,37 @@ fn convert<'a>(terminal: bool, given: &ArgMatches<'a>) -> Result<Request<'a>, Li
     })
 }
 
+/// The files that words name to be compared.
+fn pair<'a>(words: &[&'a str]) -> Option<Difference<'a>>
+    ensures { option_map (λ d. (d.file.now, d.other.now)) result ≡ compared (texts_of words.now) }
+{
+    match words {
+        [other] => Some(Difference {
+            file: "-",
+            other: *other,
+        }),
+        [file, other] => Some(Difference {
+            file: *file,
+            other: *other,
+        }),
+        _ => None,
+    }
+}
+
+/// What `diff` requests.
+fn diff<'a>(given: &ArgMatches<'a>) -> Result<Request<'a>, LineFault>
+    ensures { (terminal : Bool) → IsAnswered terminal
+        (Diff (words_in (codes "FILE") (given_rows given.now))) result }
+{
+    match pair(given.get_strs("FILE").unwrap_or(&[])) {
+        Some(pair) => Ok(Request {
+            parameters: NO_PARAMETERS,
+            asked: Asked::Difference(pair),
+        }),
+        None => Err(LineFault::FileCount),
+    }
+}
+
 /// What `get` requests of a name.
 fn get<'a>(given: &ArgMatches<'a>, name: &'a str) -> Result<Request<'a>, LineFault>
     requires within { IsSome (get_by (given_rows given.now) name.now) }
@@ -268,6 +301,7 @@ pub(crate) fn request_of<'a>(
             None => unreachable!(),
         },
         "convert" => convert(terminal, given),
+        "diff" => diff(given),
         "get" => match text(given, "NAME") {
             Some(name) => get(given, name),
             None => unreachable!(),

@@ -22,6 +22,9 @@ pub enum LineFault {
     /// `convert` is to write to a terminal, and is not forced.
     #[error("ToTerminal")]
     ToTerminal,
+    /// `diff` is to compare no files, or more than two.
+    #[error("FileCount")]
+    FileCount,
     /// The words of the parameters are none.
     #[error("{0}")]
     Words(WordFault),

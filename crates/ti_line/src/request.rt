@@ -33,6 +33,17 @@ pub enum Asked<'a> {
     Capability(OfCapability),
     /// Something of an input as an entry.
     Entry(OfEntry<'a>),
+    /// What two entries do not have alike.
+    Difference(Difference<'a>),
+}
+
+/// The two files that are compared. `-` is standard input.
+#[derive(Clone, Copy, Debug, PartialEq, Eq)]
+pub struct Difference<'a> {
+    /// The file of the first entry.
+    pub file: &'a str,
+    /// The file of the other.
+    pub other: &'a str,
 }
 
 /// What is requested of a capability.

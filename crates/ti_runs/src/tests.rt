@@ -40,6 +40,7 @@ mod rows_of_expand;
 mod rows_of_get;
 mod rows_of_show;
 mod rows_of_trace;
+mod runs_of_diff;
 mod runs_of_files;
 mod show_call;
 mod trace_call;

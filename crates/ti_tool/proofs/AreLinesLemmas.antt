@@ -30,9 +30,6 @@ pub and_true : (a : Bool) → (a && true) ≡ a
 and_true true = refl
 and_true false = refl
 
-pub goes_first : {X : Type 0} (L : ℕ → X → List ℕ → Bool → Type 0) (xs : List X) (out : List ℕ) → GoesOn L xs out 0 out true
-goes_first L xs out more rest h = (more, h, refl)
-
 pub goes_next : {X : Type 0} (L : ℕ → X → List ℕ → Bool → Type 0) (xs : List X) (i : ℕ) (d : X) (before out new line : List ℕ) (sound one : Bool) → i < length xs
     → GoesOn L xs before i out sound → L i (get_or xs i d) line one → new ≡ out ++ line → GoesOn L xs before (i + 1) new (sound && one)
 goes_next L xs i d before out new line sound one h goes is n more rest later =

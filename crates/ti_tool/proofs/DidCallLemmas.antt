@@ -21,35 +21,14 @@ failed : (due : Result (List ℕ) ToolFault → Type 0) (held : Option (List ℕ
 failed due held fault.Read never h = Keeps-refl held
 failed due held fault.Memory never (inl (e, needs)) = (needs, Keeps-refl held)
 failed due held fault.Memory never (inr d) = absurd (never.no_memory d)
-failed due held (fault.Write gone) never (inl (e, needs)) = absurd (cc)
 failed due held (fault.Write gone) never (inr d) = absurd (never.no_write gone d)
-failed due held (fault.Entry refused) never (inl (e, needs)) = absurd (cc)
-failed due held (fault.Entry refused) never (inr d) = (d, Keeps-refl held)
-failed due held (fault.Cap refused) never (inl (e, needs)) = absurd (cc)
-failed due held (fault.Cap refused) never (inr d) = (d, Keeps-refl held)
-failed due held (fault.TextTooLong k) never (inl (e, needs)) = absurd (cc)
-failed due held (fault.TextTooLong k) never (inr d) = (d, Keeps-refl held)
-failed due held (fault.Encode unfit) never (inl (e, needs)) = absurd (cc)
-failed due held (fault.Encode unfit) never (inr d) = (d, Keeps-refl held)
-failed due held fault.NoSuchText never (inl (e, needs)) = absurd (cc)
-failed due held fault.NoSuchName never (inl (e, needs)) = absurd (cc)
-failed due held fault.NoSuchText never (inr d) = (d, Keeps-refl held)
-failed due held fault.NoSuchName never (inr d) = (d, Keeps-refl held)
-failed due held (fault.TooMuch need) never (inl (e, needs)) = absurd (cc)
-failed due held (fault.TooMuch need) never (inr d) = (d, Keeps-refl held)
+failed due held other never (inl (e, needs)) = absurd (cc)
+failed due held other never (inr d) = (d, Keeps-refl held)
 
 ended : (enough : Type 0) (left : Option (List ℕ)) (answer : Result (Unit {0}) ToolFault) → enough ⊎ IsAtEnd left → HasReadEnough enough left answer
 ended enough left (Ok u) h = h
 ended enough left (Err fault.Read) h = tt
-ended enough left (Err fault.Memory) h = h
-ended enough left (Err (fault.Write gone)) h = h
-ended enough left (Err (fault.Entry refused)) h = h
-ended enough left (Err (fault.Cap refused)) h = h
-ended enough left (Err (fault.TextTooLong k)) h = h
-ended enough left (Err (fault.Encode unfit)) h = h
-ended enough left (Err fault.NoSuchText) h = h
-ended enough left (Err fault.NoSuchName) h = h
-ended enough left (Err (fault.TooMuch need)) h = h
+ended enough left (Err other) h = h
 
 -- a call that found a fault before it wrote
 pub did_fail : (due : List ℕ → Result (List ℕ) ToolFault → Type 0) (enough : List ℕ → Type 0) (left0 left1 held : Option (List ℕ)) (input : List ℕ) (e : ToolFault)
@@ -63,15 +42,7 @@ wrote_due : (due : Result (List ℕ) ToolFault → Type 0) (out : List ℕ) (hel
     → Wrote (λ d. d ≡ Ok out) held0 held1 answer → IfErr answer IsFailedWrite → Wrote due held0 held1 answer
 wrote_due due out held0 held1 (Ok u) d (x, is, a) fails = (x, (let P : Result (List ℕ) ToolFault → Type 0 = λ r. due r in subst P (sym is) d), a)
 wrote_due due out held0 held1 (Err (fault.Write gone)) d (x, is, l, a) fails = (x, (let P : Result (List ℕ) ToolFault → Type 0 = λ r. due r in subst P (sym is) d), l, a)
-wrote_due due out held0 held1 (Err fault.Read) d w fails = absurd fails
-wrote_due due out held0 held1 (Err fault.Memory) d w fails = absurd fails
-wrote_due due out held0 held1 (Err (fault.Entry refused)) d w fails = absurd fails
-wrote_due due out held0 held1 (Err (fault.Cap refused)) d w fails = absurd fails
-wrote_due due out held0 held1 (Err (fault.TextTooLong k)) d w fails = absurd fails
-wrote_due due out held0 held1 (Err (fault.Encode unfit)) d w fails = absurd fails
-wrote_due due out held0 held1 (Err fault.NoSuchText) d w fails = absurd fails
-wrote_due due out held0 held1 (Err fault.NoSuchName) d w fails = absurd fails
-wrote_due due out held0 held1 (Err (fault.TooMuch need)) d w fails = absurd fails
+wrote_due due out held0 held1 (Err other) d w fails = absurd fails
 
 -- a call that wrote what is due
 pub did_write : (due : List ℕ → Result (List ℕ) ToolFault → Type 0) (enough : List ℕ → Type 0) (left0 left1 held0 held1 : Option (List ℕ)) (input out written : List ℕ) (answer : Result (Unit {0}) ToolFault)

@@ -1,36 +1,22 @@
 -- What a run did, from its status.
-use Rattle.std.proofs.Common.{◌≡◌, ◌⊎◌, ◌∙◌, ℕ, Bool, true, false, [], inl, inr, List, sym}
-use Rattle.std.specs.Prelude.{Option, Result, Ok, Err, IfErr}
-use Rattle.std.proofs.KnownBytes.{Appends-nil}
+use Rattle.std.proofs.Common.{◌≡◌, ◌⊎◌, ◌∙◌, ℕ, Bool, true, false, inl, inr, List, sym}
+use Rattle.std.specs.Prelude.{Result, Ok, Err, IfErr}
 use Rattle.ti_line.specs.declared.no_line.NoLine.{NoLine}
 use Rattle.ti_line.specs.declared.no_line.NoLine.TheVariants as no_line
 use Rattle.ti_expand.specs.declared.values.Value.{Value}
 use Rattle.ti_line.specs.declared.request.Asked.{Asked}
 use Rattle.ti_tool.specs.declared.fault.ToolFault.{ToolFault}
 use Rattle.ti_tool.specs.declared.fault.ToolFault.TheVariants as fault
-use Rattle.ti_tool.specs.FaultLines.{Told}
 use Rattle.ti_tool.specs.Calls.{IsFailedWrite}
 use Rattle.ti_tool.specs.Runs.{EndsWords, MayHaveWritten, RanRequest, Stream}
 use Rattle.ti_tool.specs.Statuses.{status_for}
-
--- nothing is told if there is no fault
-pub told_nothing : (a : Option (List ℕ)) → Told [] a a
-told_nothing a = inl (Appends-nil a)
 
 -- no answer ends with the status of refused words
 not_two : (answer : Result Bool ToolFault) → status_for answer ≡ 2 → ⊥
 not_two (Ok true) e = cc
 not_two (Ok false) e = cc
 not_two (Err (fault.Entry refused)) e = cc
-not_two (Err (fault.Encode unfit)) e = cc
-not_two (Err (fault.Cap refused)) e = cc
-not_two (Err fault.NoSuchText) e = cc
-not_two (Err fault.NoSuchName) e = cc
-not_two (Err (fault.TextTooLong k)) e = cc
-not_two (Err (fault.TooMuch need)) e = cc
-not_two (Err fault.Read) e = cc
-not_two (Err (fault.Write gone)) e = cc
-not_two (Err fault.Memory) e = cc
+not_two (Err other) e = cc
 
 -- what was written, by the status
 answer_writes : (answer : Result Bool ToolFault) (V : Type 0) (status : ℕ) → status ≡ status_for answer → IfErr answer (λ e. IsFailedWrite e ⊎ V) → MayHaveWritten status ⊎ V
@@ -38,15 +24,7 @@ answer_writes (Ok true) V status e quiet = inl (inl e)
 answer_writes (Ok false) V status e quiet = inl (inr (inl e))
 answer_writes (Err f) V status e (inr same) = inr same
 answer_writes (Err (fault.Write gone)) V status e (inl failed) = inl (inr (inr e))
-answer_writes (Err (fault.Entry refused)) V status e (inl failed) = absurd failed
-answer_writes (Err (fault.Encode unfit)) V status e (inl failed) = absurd failed
-answer_writes (Err (fault.Cap refused)) V status e (inl failed) = absurd failed
-answer_writes (Err fault.NoSuchText) V status e (inl failed) = absurd failed
-answer_writes (Err fault.NoSuchName) V status e (inl failed) = absurd failed
-answer_writes (Err (fault.TextTooLong k)) V status e (inl failed) = absurd failed
-answer_writes (Err (fault.TooMuch need)) V status e (inl failed) = absurd failed
-answer_writes (Err fault.Read) V status e (inl failed) = absurd failed
-answer_writes (Err fault.Memory) V status e (inl failed) = absurd failed
+answer_writes (Err other) V status e (inl failed) = absurd failed
 
 module _ (V : Type 0) (left0 left1 held0 held1 told0 told1 : Stream) (status : ℕ) (asked : Asked) (parameters : List Value) where
   pub never_refused : RanRequest asked parameters V left0 left1 held0 held1 told0 told1 status → status ≡ 2 → ⊥

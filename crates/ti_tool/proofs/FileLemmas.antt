@@ -20,12 +20,4 @@ due_of_file several asked parameters name sound contents v plain out spells due 
 -- a fault ends with a status above that of refused words
 pub fault_is_high : (e : ToolFault) → 2 < status_for (Err e)
 fault_is_high (fault.Entry refused) = omega arith
-fault_is_high (fault.Encode unfit) = omega arith
-fault_is_high (fault.Cap refused) = omega arith
-fault_is_high fault.NoSuchText = omega arith
-fault_is_high fault.NoSuchName = omega arith
-fault_is_high (fault.TextTooLong k) = omega arith
-fault_is_high (fault.TooMuch need) = omega arith
-fault_is_high fault.Read = omega arith
-fault_is_high (fault.Write gone) = omega arith
-fault_is_high fault.Memory = omega arith
+fault_is_high other = omega arith

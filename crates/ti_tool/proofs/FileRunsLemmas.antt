@@ -21,9 +21,9 @@ use Rattle.ti_tool.specs.Files.{file_line}
 use Rattle.ti_tool.specs.Results.{IsDueFrom, IsDueOn}
 use Rattle.ti_tool.specs.Runs.{RanTask}
 use Rattle.ti_tool.specs.Statuses.{status_for}
-use Rattle.ti_tool.specs.FileRuns.{AllTold, AreAllNamed, AreNamed, Contents, DidFiles, DoneFile, Held, IsDone, IsOutcome, IsOutcomeOfContents, IsUnread, NoMemory, Unread, RanFiles, StoppedAt, Supply, greatest_status, takes_folders}
+use Rattle.ti_tool.specs.FileRuns.{AllTold, AreAllNamed, AreNamed, Contents, Delivered, DidFiles, DoneFile, Held, IsDone, IsOutcome, IsOutcomeOfContents, IsUnread, NoMemory, Unread, RanFiles, StoppedAt, Supply, greatest_status, takes_folders}
 use Rattle.ti_line.specs.Requests.{texts_of}
-use Rattle.ti_tool.specs.inner.Files.{AreCalled, Delivered, RanFound, RanWord}
+use Rattle.ti_tool.specs.inner.Files.{AreCalled, RanFound, RanWord}
 
 -- ---- lists of files
 
@@ -174,9 +174,6 @@ module _ (asked : Asked) (e : OfEntry) (parameters : List Value) where
         all-append (λ f. f.is_one_of_several ≡ several) files (file ∷ []) called.1 (s, tt),
       )
 
-  pub found_none : (several : Bool) (held told : Held) → RanFound asked e parameters several [] held held told told (Ok 0)
-  found_none several held told = ([], (refl, tt), did_none held told, refl)
-
   pub found_next : (several : Bool) (names : List (List ℕ)) (name : List ℕ) (held0 held1 held2 told0 told1 told2 : Held) (greatest s : ℕ)
       → RanFound asked e parameters several names held0 held1 told0 told1 (Ok greatest) → IsNext several name (Delivered held1 held2 told1 told2 (Some s))
       → RanFound asked e parameters several (names ++ name ∷ []) held0 held2 told0 told2 (Ok (max greatest s))
@@ -274,9 +271,6 @@ module _ (asked : Asked) (e : OfEntry) (parameters : List Value) where
   abbrev pub RanSome : Bool → List (List ℕ) → Held → Held → Held → Held → ℕ → Type 0
   RanSome several words held0 held1 told0 told1 greatest =
       (files : List DoneFile) × AreAllNamed e several words files × DidFiles asked e parameters held0 held1 told0 told1 files × (greatest ≡ greatest_status files)
-
-  pub words_none : (several : Bool) (held told : Held) → RanSome several [] held held told told 0
-  words_none several held told = ([], refl, did_none held told, refl)
 
   pub words_next : (several : Bool) (words : List (List ℕ)) (word : List ℕ) (held0 held1 held2 told0 told1 told2 : Held) (greatest status : ℕ)
       → RanSome several words held0 held1 told0 told1 greatest → RanWord asked e parameters several word held1 held2 told1 told2 (Ok status)

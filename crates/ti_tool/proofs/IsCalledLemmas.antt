@@ -25,7 +25,7 @@ one_index (n ∷ ns) name zero (suc j) is before other earlier = absurd (earlier
 one_index (n ∷ ns) name (suc i) zero is before other earlier = absurd (before.0 (let same : n ≡ name = cc in same))
 one_index (n ∷ ns) name (suc i) (suc j) is before other earlier = ap suc (one_index ns name i j is before.1 other earlier.1)
 
-one_first : (names : List (List ℕ)) (name : List ℕ) (found other : Option ℕ) → IsLeastIndex names name found → IsLeastIndex names name other → found ≡ other
+pub one_first : (names : List (List ℕ)) (name : List ℕ) (found other : Option ℕ) → IsLeastIndex names name found → IsLeastIndex names name other → found ≡ other
 one_first names name None None f o = refl
 one_first names name None (Some j) f o = absurd (not_there names name j f o.0)
 one_first names name (Some i) None f o = absurd (not_there names name i o f.0)

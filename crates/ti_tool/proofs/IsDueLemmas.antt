@@ -4,11 +4,8 @@ use Rattle.std.specs.Prelude.{Option, Some, None, Result}
 use Rattle.ti_words.specs.Texts.{TextValue, AbsentText, CancelledText, TextOf}
 use Rattle.ti_expand.specs.declared.values.Value.{Value}
 use Rattle.ti_pad.specs.Setting.{Setting}
-use Rattle.ti_words.specs.Value.{EntryValue}
 use Rattle.ti_line.specs.declared.request.OfCapability.{OfCapability}
 use Rattle.ti_line.specs.declared.request.OfCapability.TheVariants as of_cap
-use Rattle.ti_line.specs.declared.request.OfEntry.{OfEntry}
-use Rattle.ti_line.specs.declared.request.OfEntry.TheVariants as of_entry
 use Rattle.ti_line.specs.declared.options.Output.{Output}
 use Rattle.ti_tool.specs.declared.fault.ToolFault.{ToolFault}
 use Rattle.ti_tool.specs.declared.fault.ToolFault.TheVariants as fault
@@ -19,14 +16,14 @@ use Rattle.ti_tool.specs.Expansions.{IsPadded}
 use Rattle.ti_tool.specs.Got.{IsDueBy, IsTextResult, IsValueResult}
 use Rattle.ti_tool.specs.Traces.{IsTraced, IsTracedBy, IsTracedValue}
 use Rattle.ti_tool.specs.Items.{FlagItem, ItemValue, NumberItem, TextItem}
-use Rattle.ti_tool.specs.Results.{IsDue, IsDueFrom, IsDueOn, IsOutputOf}
+use Rattle.ti_tool.specs.Results.{IsDue, IsOutputOf}
 
 -- the faults of a call itself are not due
 pub record IsNeverOwn (due : Result (List ℕ) ToolFault → Type 0) : Type 0 where
   pub no_write : (gone : ℕ) → ¬ due (Err (fault.Write gone))
   pub no_memory : ¬ due (Err fault.Memory)
 
-text_never : (text : TextValue) (parameters : List Value) (setting : Setting) (output : Output) → IsNeverOwn (IsDue text parameters setting output)
+pub text_never : (text : TextValue) (parameters : List Value) (setting : Setting) (output : Output) → IsNeverOwn (IsDue text parameters setting output)
 text_never AbsentText parameters setting output = record { no_write = λ gone d. cc; no_memory = λ d. cc }
 text_never CancelledText parameters setting output = record { no_write = λ gone d. cc; no_memory = λ d. cc }
 text_never (TextOf text) parameters setting output = record { no_write = λ gone d. d; no_memory = λ d. d }
@@ -54,7 +51,7 @@ result_never text None setting output = record { no_write = λ gone d. d; no_mem
 result_never text (Some given) setting output =
     by_never text given (λ parameters. IsPadded text parameters setting output) (λ parameters. record { no_write = λ gone d. d; no_memory = λ d. d })
 
-value_never : (item : Option ItemValue) (g : Get) (set : Bool) → IsNeverOwn (IsValueResult item g set)
+pub value_never : (item : Option ItemValue) (g : Get) (set : Bool) → IsNeverOwn (IsValueResult item g set)
 value_never None g set = record { no_write = λ gone d. cc (d.1); no_memory = λ d. cc (d.1) }
 value_never (Some (FlagItem flag)) g set = record { no_write = λ gone d. cc (d.1); no_memory = λ d. cc (d.1) }
 value_never (Some (NumberItem number)) g set = record { no_write = λ gone d. cc (d.1); no_memory = λ d. cc (d.1) }
@@ -66,7 +63,7 @@ value_never (Some (TextItem (TextOf text))) g set = record {
 }
 
 -- of a trace of a value
-traced_never : (item : Option ItemValue) (t : TraceOf) → IsNeverOwn (IsTracedValue item t)
+pub traced_never : (item : Option ItemValue) (t : TraceOf) → IsNeverOwn (IsTracedValue item t)
 traced_never None t = record { no_write = λ gone d. cc; no_memory = λ d. cc }
 traced_never (Some (FlagItem flag)) t = record { no_write = λ gone d. cc; no_memory = λ d. cc }
 traced_never (Some (NumberItem number)) t = record { no_write = λ gone d. cc; no_memory = λ d. cc }
@@ -77,32 +74,3 @@ traced_never (Some (TextItem (TextOf text))) t = by (t.given)
     by : (given : Option Given) → IsNeverOwn (IsTracedBy text given t.form)
     by None = record { no_write = λ gone d. d; no_memory = λ d. d }
     by (Some given) = by_never text given (λ parameters. IsTraced parameters t.form text) (λ parameters. record { no_write = λ gone d. d; no_memory = λ d. d })
-
-on_entry_never : (e : OfEntry) (parameters : List Value) (sound : Bool) (v : EntryValue) → IsNeverOwn (IsDueOn e parameters sound v)
-on_entry_never (of_entry.Show options) parameters sound v = record { no_write = λ gone d. cc; no_memory = λ d. cc }
-on_entry_never (of_entry.Check naming) parameters sound v = record { no_write = λ gone d. d; no_memory = λ d. d }
-on_entry_never (of_entry.Expand e) parameters sound v = record {
-  no_write = λ gone (text, called, d). (text_never text parameters e.padding e.output).no_write gone d;
-  no_memory = λ (text, called, d). (text_never text parameters e.padding e.output).no_memory d;
-}
-on_entry_never (of_entry.Convert width) parameters sound v = record { no_write = λ gone d. d; no_memory = λ d. d }
-on_entry_never (of_entry.Get g) parameters sound v = record {
-  no_write = λ gone (item, called, d). (value_never item g sound).no_write gone d;
-  no_memory = λ (item, called, d). (value_never item g sound).no_memory d;
-}
-on_entry_never (of_entry.Trace t) parameters sound v = record {
-  no_write = λ gone (item, called, d). (traced_never item t).no_write gone d;
-  no_memory = λ (item, called, d). (traced_never item t).no_memory d;
-}
-
--- of the bytes of an entry
-pub entry_never : (e : OfEntry) (parameters : List Value) (sound : Bool) (input : List ℕ) → IsNeverOwn (IsDueFrom (IsDueOn e parameters sound) input)
-entry_never e parameters sound input = record { no_write = writes; no_memory = takes }
-  where
-    writes : (gone : ℕ) → ¬ IsDueFrom (IsDueOn e parameters sound) input (Err (fault.Write gone))
-    writes gone (inl (refused, is, same)) = absurd (cc)
-    writes gone (inr (v, spells, d)) = (on_entry_never e parameters sound v).no_write gone d
-
-    takes : ¬ IsDueFrom (IsDueOn e parameters sound) input (Err fault.Memory)
-    takes (inl (refused, is, same)) = absurd (cc)
-    takes (inr (v, spells, d)) = (on_entry_never e parameters sound v).no_memory d

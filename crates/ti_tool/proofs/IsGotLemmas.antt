@@ -4,7 +4,6 @@ use Rattle.std.specs.Prelude.{Option, Result, IfOk, IfErr, MatchResult, slice_se
 use Rattle.std.proofs.Math.Seq.{take-suc}
 use Rattle.std.proofs.lemmas.List.{length-take-le}
 use Rattle.ti_base.specs.Limits.{most_padded_bytes}
-use Rattle.ti_words.specs.declared.Number.{Number}
 use Rattle.ti_words.specs.Texts.{TextOf}
 use Rattle.ti_words.specs.Value.{EntryValue}
 use Rattle.ti_cap.specs.Refusal.{IsFaultless}
@@ -23,7 +22,7 @@ use Rattle.ti_tool.specs.declared.fault.ToolFault.TheVariants as fault
 use Rattle.ti_tool.specs.Calls.{NeedsMemory}
 use Rattle.ti_tool.specs.Expansions.{IsExpansion, IsPadded}
 use Rattle.ti_tool.specs.Got.{AreTaken, AreTakenFrom, IsDueBy, IsGot, IsPaddedAlone, IsTaken, IsTextResult, IsValueResult}
-use Rattle.ti_tool.specs.Items.{IsItemCalled, ItemValue, NumberItem, TextItem}
+use Rattle.ti_tool.specs.Items.{IsItemCalled, ItemValue, TextItem}
 use Rattle.ti_tool.specs.Traces.{IsTracedOf, IsTracedValue}
 use Rattle.ti_tool.specs.inner.Dues.{FailsAsDue}
 use Rattle.ti_tool.proofs.IsItemCalledLemmas.{one_item}
@@ -130,10 +129,6 @@ module _ (text : List ℕ) (given : Given) (due : List Value → Result (List �
   given_of (Err e) bytes_of parameters sound are (inr d) = inr (inr (sound, (parameters, are, d)))
 
 -- ---- a value
-
--- a number needs memory alone
-pub number_fails : (g : Get) (n : Number) (e : ToolFault) → e ≡ fault.Memory → FailsAsDue (IsValueResult (Some (NumberItem n)) g true) e
-number_fails g n e is = inl (is, λ f d. absurd (cc (d.1)))
 
 -- a text fails as it is due
 pub text_fails : (g : Get) (text : List ℕ) (e : ToolFault) → FailsAsDue (IsTextResult text g.given g.padding g.output) e → FailsAsDue (IsValueResult (Some (TextItem (TextOf text))) g true) e

@@ -17,3 +17,6 @@ pub mod IsItemCalledLemmas
 pub mod IsGotLemmas
 pub mod FileLemmas
 pub mod FileRunsLemmas
+pub mod DifferencesLemmas
+pub mod AreAlikeLemmas
+pub mod ComparisonLemmas

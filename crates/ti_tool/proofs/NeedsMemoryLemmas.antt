@@ -20,14 +20,13 @@ use Rattle.ti_pad.specs.Padded.{padded_text}
 use Rattle.ti_entry.proofs.SpellsAtMostOneLemmas.{at_most_one}
 use Rattle.ti_entry.proofs.SpelledExtendedLemmas.{only}
 use Rattle.ti_words.specs.declared.all_names.NameTable.{NameTable}
-use Rattle.ti_line.specs.declared.options.ListOptions.{ListOptions}
 use Rattle.ti_line.specs.declared.options.Output.{Output}
 use Rattle.ti_tool.specs.declared.fault.ToolFault.{ToolFault}
 use Rattle.ti_tool.specs.declared.fault.ToolFault.TheVariants as fault
 use Rattle.ti_tool.specs.Calls.{NeedsMemory}
 use Rattle.ti_tool.specs.Names.{IsCalled}
 use Rattle.ti_line.specs.Options.{output_bytes}
-use Rattle.ti_tool.specs.Results.{IsExpansion, IsUnexpanded, IsCappedAs, IsPadded, IsDue, IsDueFor, IsDueFrom, IsListed, IsTraced}
+use Rattle.ti_tool.specs.Results.{IsExpansion, IsUnexpanded, IsCappedAs, IsPadded, IsDue, IsDueFor, IsDueFrom, IsTraced}
 use Rattle.ti_tool.specs.inner.Dues.{FailsAsDue, IsExpandable}
 use Rattle.ti_tool.proofs.IsCalledLemmas.{one_called}
 
@@ -40,14 +39,7 @@ faultless_passes bytes r sound (inr (short, has, below)) = sound.1 r.fault r.pla
 pub expandable : (text : List ℕ) (parameters : List Value) → IsFaultless text → ((k : ℕ) → ¬ IsFirstTooLong parameters k) → IsExpandable text parameters
 expandable text parameters sound short (fault.Cap refused) d = faultless_passes text refused sound d
 expandable text parameters sound short (fault.TextTooLong k) d = short k d.1
-expandable text parameters sound short (fault.Entry refused) d = d
-expandable text parameters sound short (fault.Encode unfit) d = d
-expandable text parameters sound short fault.NoSuchText d = d
-expandable text parameters sound short fault.NoSuchName d = d
-expandable text parameters sound short (fault.TooMuch need) d = d
-expandable text parameters sound short fault.Read d = d
-expandable text parameters sound short (fault.Write gone) d = d
-expandable text parameters sound short fault.Memory d = d
+expandable text parameters sound short other d = d
 
 pub capped_needs : (parameters : List Value) (output : Output) (input : List ℕ) → IsExpandable input parameters → NeedsMemory (IsCappedAs parameters output input)
 capped_needs parameters output input can e d = absurd (can e d)
@@ -56,13 +48,8 @@ pub padded_needs : (text : List ℕ) (parameters : List Value) (setting : Settin
 padded_needs text parameters setting output can (fault.TooMuch need) d = tt
 padded_needs text parameters setting output can (fault.Cap refused) d = absurd (can (fault.Cap refused) d)
 padded_needs text parameters setting output can (fault.TextTooLong k) d = absurd (can (fault.TextTooLong k) d)
-padded_needs text parameters setting output can (fault.Entry refused) d = d
 padded_needs text parameters setting output can (fault.Encode unfit) d = tt
-padded_needs text parameters setting output can fault.NoSuchText d = d
-padded_needs text parameters setting output can fault.NoSuchName d = d
-padded_needs text parameters setting output can fault.Read d = d
-padded_needs text parameters setting output can (fault.Write gone) d = d
-padded_needs text parameters setting output can fault.Memory d = d
+padded_needs text parameters setting output can other d = d
 
 pub traced_needs : (parameters : List Value) (form : Form) (input : List ℕ) → IsExpandable input parameters → NeedsMemory (IsTraced parameters form input)
 traced_needs parameters form input can e d = absurd (can e d)
@@ -95,14 +82,7 @@ pub unexpanded_due : (text : List ℕ) (parameters : List Value) (setting : Sett
 unexpanded_due text parameters setting output e (inl (is, can)) = inl (is, padded_needs text parameters setting output can)
 unexpanded_due text parameters setting output (fault.Cap refused) (inr d) = inr d
 unexpanded_due text parameters setting output (fault.TextTooLong k) (inr d) = inr d
-unexpanded_due text parameters setting output (fault.Entry refused) (inr d) = absurd d
-unexpanded_due text parameters setting output (fault.Encode unfit) (inr d) = absurd d
-unexpanded_due text parameters setting output fault.NoSuchText (inr d) = absurd d
-unexpanded_due text parameters setting output fault.NoSuchName (inr d) = absurd d
-unexpanded_due text parameters setting output (fault.TooMuch need) (inr d) = absurd d
-unexpanded_due text parameters setting output fault.Read (inr d) = absurd d
-unexpanded_due text parameters setting output (fault.Write gone) (inr d) = absurd d
-unexpanded_due text parameters setting output fault.Memory (inr d) = absurd d
+unexpanded_due text parameters setting output other (inr d) = absurd d
 
 -- what is not above the limit is at most it
 pub within_limit : (n : ℕ) (faults : Type 0) → (faults ↔ (most_padded_bytes < n)) → ¬ faults → n ≤ most_padded_bytes
@@ -134,9 +114,6 @@ unrefused input v spells = ap (refusal_of (length input)) (only input v spells).
 
 pub never_refused : (input : List ℕ) (v : EntryValue) (r : Refused) → Spells input v → refusal input ≡ Some r → ⊥
 never_refused input v r spells is = let e : None ≡ Some r = sym (unrefused input v spells) ∙ is in absurd cc
-
-pub listed_needs : (options : ListOptions) (v : EntryValue) → NeedsMemory (IsListed options v)
-listed_needs options v e d = absurd (cc)
 
 -- what is due for an entry is due for the bytes that spell it
 pub due_from : (due : EntryValue → Result (List ℕ) ToolFault → Type 0) (input : List ℕ) (v : EntryValue) (e : ToolFault) → Spells input v → FailsAsDue (due v) e → FailsAsDue (IsDueFrom due input) e

@@ -1,4 +1,4 @@
--- For given parameters and bytes at most one result is due.
+-- For given parameters and bytes at most one result is due, and no fault of a call itself.
 use Rattle.std.proofs.Common.{◌≡◌, ◌⊎◌, ℕ, zero, suc, ◌<◌, ◌≤◌, Bool, ◌&&◌, List, [], ◌∷◌, ◌++◌, length, Ok, Err, Some, None, inl, inr, refl, sym, ap, subst, ◌∙◌, arith, pos}
 use Rattle.std.specs.Prelude.{Option, Result, replicate, codes}
 use Rattle.ti_words.specs.declared.Kind.TheVariants as kinds
@@ -30,7 +30,7 @@ use Rattle.ti_entry.proofs.SpellsAtMostOneLemmas.{at_most_one}
 use Rattle.ti_words.specs.declared.all_names.NameTable.{NameTable}
 use Rattle.ti_line.specs.declared.options.Naming.{Naming}
 use Rattle.ti_line.specs.declared.options.Output.{Output}
-use Rattle.ti_line.specs.declared.request.Asked.TheVariants.{Capability, Entry}
+use Rattle.ti_line.specs.declared.request.Asked.TheVariants.{Capability, Difference, Entry}
 use Rattle.ti_line.specs.declared.request.OfCapability.{OfCapability}
 use Rattle.ti_line.specs.declared.request.OfCapability.TheVariants as of_cap
 use Rattle.ti_line.specs.declared.request.OfEntry.{OfEntry}
@@ -49,6 +49,7 @@ use Rattle.ti_line.specs.declared.request.TraceOf.{TraceOf}
 use Rattle.ti_tool.specs.Got.{IsDueBy, IsGot, IsPaddedAlone, IsTextResult, IsValueResult}
 use Rattle.ti_tool.specs.Items.{FlagItem, ItemValue, NumberItem, TextItem}
 use Rattle.ti_tool.proofs.IsCalledLemmas.{one_called}
+use Rattle.ti_tool.proofs.IsDueLemmas.{IsNeverOwn, text_never, traced_never, value_never}
 use Rattle.ti_tool.proofs.IsGotLemmas.{one_taken}
 use Rattle.ti_tool.proofs.IsItemCalledLemmas.{one_item}
 use Rattle.ti_tool.proofs.NeedsMemoryLemmas.{expandable, faultless_passes, never_refused}
@@ -94,14 +95,7 @@ data Unexpanded (text : List ℕ) (parameters : List Value) (e : ToolFault) : Ty
 unexpanded : (text : List ℕ) (parameters : List Value) (e : ToolFault) → IsUnexpanded text parameters e → Unexpanded text parameters e
 unexpanded text parameters (fault.Cap r) d = refused_as r refl d
 unexpanded text parameters (fault.TextTooLong k) d = too_long_at k refl d.0 d.1
-unexpanded text parameters (fault.Entry refused) d = absurd d
-unexpanded text parameters (fault.Encode unfit) d = absurd d
-unexpanded text parameters fault.NoSuchText d = absurd d
-unexpanded text parameters fault.NoSuchName d = absurd d
-unexpanded text parameters (fault.TooMuch need) d = absurd d
-unexpanded text parameters fault.Read d = absurd d
-unexpanded text parameters (fault.Write gone) d = absurd d
-unexpanded text parameters fault.Memory d = absurd d
+unexpanded text parameters other d = absurd d
 
 one_of_two : (text : List ℕ) (parameters : List Value) (e f : ToolFault) → Unexpanded text parameters e → Unexpanded text parameters f → e ≡ f
 one_of_two text parameters e f (refused_as r is d) (refused_as q same h) = is ∙ ap (λ (x : CapRefused). fault.Cap x) (one_refusal r q text d h) ∙ sym same
@@ -136,13 +130,7 @@ unpadded : (text : List ℕ) (parameters : List Value) (setting : Setting) (outp
 unpadded text parameters setting output (fault.TooMuch need) (plain, sound, p, is, over) = too_much need plain refl sound p is over
 unpadded text parameters setting output (fault.Cap r) d = not_expanded d
 unpadded text parameters setting output (fault.TextTooLong k) d = not_expanded d
-unpadded text parameters setting output (fault.Entry refused) d = absurd d
-unpadded text parameters setting output (fault.Encode unfit) d = absurd d
-unpadded text parameters setting output fault.NoSuchText d = absurd d
-unpadded text parameters setting output fault.NoSuchName d = absurd d
-unpadded text parameters setting output fault.Read d = absurd d
-unpadded text parameters setting output (fault.Write gone) d = absurd d
-unpadded text parameters setting output fault.Memory d = absurd d
+unpadded text parameters setting output other d = absurd d
 
 same_padded : (text : List ℕ) (parameters : List Value) (setting : Setting) (plain other : List ℕ) → IsExpansion text parameters plain → IsExpansion text parameters other → padded_text plain setting ≡ padded_text other setting
 same_padded text parameters setting plain other p q = ap (λ x. padded_text x setting) (one_expansion text parameters plain other p q)
@@ -190,15 +178,7 @@ one_due_for names name parameters setting output v r s (text, called, d) (other,
 
 encoding_fault : (v : EntryValue) (e : ToolFault) → IsEncoding v (Err e) → (unfit : EncodeFault) × (e ≡ fault.Encode unfit) × (encode_fault v ≡ Some unfit)
 encoding_fault v (fault.Encode unfit) d = (unfit, refl, d)
-encoding_fault v (fault.Entry refused) d = absurd d
-encoding_fault v (fault.Cap r) d = absurd d
-encoding_fault v (fault.TextTooLong k) d = absurd d
-encoding_fault v fault.NoSuchText d = absurd d
-encoding_fault v fault.NoSuchName d = absurd d
-encoding_fault v (fault.TooMuch need) d = absurd d
-encoding_fault v fault.Read d = absurd d
-encoding_fault v (fault.Write gone) d = absurd d
-encoding_fault v fault.Memory d = absurd d
+encoding_fault v other d = absurd d
 
 one_encoding : (v : EntryValue) → IsOneResult (IsEncoding v)
 one_encoding v (Ok a) (Ok b) (none, is) (neither, same) = ap Ok (is ∙ sym same)
@@ -275,15 +255,7 @@ one_soundness naming input lines others sound as_sound (inr (v, spells, d)) (inr
 
 alone_fault : (text : List ℕ) (setting : Setting) (output : Output) (e : ToolFault) → IsPaddedAlone text setting output (Err e) → (e ≡ fault.TooMuch (length (padded_text text setting))) × (most_padded_bytes < length (padded_text text setting))
 alone_fault text setting output (fault.TooMuch need) d = let P : ℕ → Type 0 = λ n. most_padded_bytes < n in (ap (λ n. fault.TooMuch n) d.0, subst P d.0 d.1)
-alone_fault text setting output (fault.Entry refused) d = absurd d
-alone_fault text setting output (fault.Encode unfit) d = absurd d
-alone_fault text setting output (fault.Cap refused) d = absurd d
-alone_fault text setting output fault.NoSuchText d = absurd d
-alone_fault text setting output fault.NoSuchName d = absurd d
-alone_fault text setting output (fault.TextTooLong k) d = absurd d
-alone_fault text setting output fault.Read d = absurd d
-alone_fault text setting output (fault.Write gone) d = absurd d
-alone_fault text setting output fault.Memory d = absurd d
+alone_fault text setting output other d = absurd d
 
 one_alone : (text : List ℕ) (setting : Setting) (output : Output) → IsOneResult (IsPaddedAlone text setting output)
 one_alone text setting output (Ok a) (Ok b) d h = ap Ok (d.1 ∙ sym h.1)
@@ -350,5 +322,37 @@ one_on (of_entry.Convert width) parameters sound as_sound v r s d h = one_encodi
 
 pub one_answer : HasOneAnswer
 one_answer (Capability c) parameters input sound as_sound r s d h = one_output c parameters input r s d h
+one_answer (Difference e) parameters input sound as_sound r s d h = elim d [ ]
 one_answer (Entry e) parameters input sound as_sound r s d h =
     one_from input (IsDueOn e parameters sound) (IsDueOn e parameters as_sound) (one_on e parameters sound as_sound) r s d h
+
+-- ---- the faults of a call itself
+
+on_entry_never : (e : OfEntry) (parameters : List Value) (sound : Bool) (v : EntryValue) → IsNeverOwn (IsDueOn e parameters sound v)
+on_entry_never (of_entry.Show options) parameters sound v = record { no_write = λ gone d. cc; no_memory = λ d. cc }
+on_entry_never (of_entry.Check naming) parameters sound v = record { no_write = λ gone d. d; no_memory = λ d. d }
+on_entry_never (of_entry.Expand e) parameters sound v = record {
+  no_write = λ gone (text, called, d). (text_never text parameters e.padding e.output).no_write gone d;
+  no_memory = λ (text, called, d). (text_never text parameters e.padding e.output).no_memory d;
+}
+on_entry_never (of_entry.Convert width) parameters sound v = record { no_write = λ gone d. d; no_memory = λ d. d }
+on_entry_never (of_entry.Get g) parameters sound v = record {
+  no_write = λ gone (item, called, d). (value_never item g sound).no_write gone d;
+  no_memory = λ (item, called, d). (value_never item g sound).no_memory d;
+}
+on_entry_never (of_entry.Trace t) parameters sound v = record {
+  no_write = λ gone (item, called, d). (traced_never item t).no_write gone d;
+  no_memory = λ (item, called, d). (traced_never item t).no_memory d;
+}
+
+-- of the bytes of an entry
+pub entry_never : (e : OfEntry) (parameters : List Value) (sound : Bool) (input : List ℕ) → IsNeverOwn (IsDueFrom (IsDueOn e parameters sound) input)
+entry_never e parameters sound input = record { no_write = writes; no_memory = takes }
+  where
+    writes : (gone : ℕ) → ¬ IsDueFrom (IsDueOn e parameters sound) input (Err (fault.Write gone))
+    writes gone (inl (refused, is, same)) = absurd (cc)
+    writes gone (inr (v, spells, d)) = (on_entry_never e parameters sound v).no_write gone d
+
+    takes : ¬ IsDueFrom (IsDueOn e parameters sound) input (Err fault.Memory)
+    takes (inl (refused, is, same)) = absurd (cc)
+    takes (inr (v, spells, d)) = (on_entry_never e parameters sound v).no_memory d

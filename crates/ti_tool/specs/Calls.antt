@@ -7,7 +7,7 @@ use Rattle.ti_layout.specs.Refusal.{failure}
 use Rattle.ti_entry.specs.declared.source.ReadStop.{ReadStop}
 use Rattle.ti_entry.specs.declared.source.ReadStop.TheVariants as stop
 use Rattle.ti_line.specs.declared.request.Asked.{Asked}
-use Rattle.ti_line.specs.declared.request.Asked.TheVariants.{Capability, Entry}
+use Rattle.ti_line.specs.declared.request.Asked.TheVariants.{Capability, Difference, Entry}
 use Rattle.ti_tool.specs.declared.fault.ToolFault.{ToolFault}
 use Rattle.ti_tool.specs.declared.fault.ToolFault.TheVariants as fault
 
@@ -69,6 +69,7 @@ HasFailed input = (refused : Refused) × (failure input ≡ Some refused)
 abbrev pub IsEnough : Asked → List ℕ → Type 0
 IsEnough (Capability c) = IsFull
 IsEnough (Entry e) = HasFailed
+IsEnough (Difference d) = λ input. ⊥
 
 -- an answer without its value
 abbrev pub without_value : {V : Type 0} → Result V ToolFault → Result (Unit {0}) ToolFault

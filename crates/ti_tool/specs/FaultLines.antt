@@ -47,6 +47,7 @@ line_fault_line line.BothForms = codes "--hex and --escape exclude each other\n"
 line_fault_line line.EntryWithoutName = codes "trace: --entry without --of\n"
 line_fault_line line.BothWidths = codes "convert: both widths\n"
 line_fault_line line.ToTerminal = codes "convert: not to a terminal without --force\n"
+line_fault_line line.FileCount = codes "diff: one file or two\n"
 line_fault_line (line.Words why) = words_line why
 
 -- the most characters of a name in a line on a fault

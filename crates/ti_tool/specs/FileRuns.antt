@@ -1,5 +1,5 @@
 -- What a run does with files that were named, one after another.
-use Rattle.std.specs.Prelude.{◌≡◌, ◌<◌, ◌⊎◌, ℕ, max, Bool, true, false, List, [], ◌∷◌, ◌++◌, Option, Result, Ok, Err, length, take}
+use Rattle.std.specs.Prelude.{◌≡◌, ◌<◌, ◌⊎◌, ℕ, max, Bool, true, false, List, [], ◌∷◌, ◌++◌, Option, Some, None, Result, Ok, Err, length, take}
 use Rattle.std.specs.List.{AllByRecursion, flat_map}
 use Rattle.std.specs.Io.KnownBytes.{Appends}
 use Rattle.ti_expand.specs.declared.values.Value.{Value}
@@ -74,6 +74,14 @@ abbrev pub IsDone : Asked → OfEntry → List Value → DoneFile → Type 0
 IsDone asked e parameters file =
     IsOutcome asked e parameters file.is_one_of_several file.name file.supply
     file.out file.line file.status
+
+-- what a file led to is written, and the status is its; or the writer of results failed
+abbrev pub Delivered : Held → Held → Held → Held → Option ℕ → List ℕ → List ℕ → ℕ → Type 0
+Delivered held0 held1 told0 told1 (Some s) out line status =
+    (s ≡ status) × Appends held0 held1 out × Told line told0 told1
+Delivered held0 held1 told0 told1 None out line status =
+    (gone : ℕ) × (gone < length out) × Appends held0 held1 (take gone out)
+    × Told (fault_line (fault.Write gone)) told0 told1
 
 -- ---- which files
 

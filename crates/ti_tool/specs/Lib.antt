@@ -3,6 +3,7 @@ pub mod Listing
 pub mod Names
 pub mod Verdicts
 pub mod Items
+pub mod Differences
 pub mod Expansions
 pub mod Got
 pub mod Traces
@@ -14,6 +15,7 @@ pub mod FaultLines
 pub mod Files
 pub mod Statuses
 pub mod FileRuns
+pub mod Comparisons
 pub mod Runs
 pub mod Laws
 pub mod inner

@@ -24,7 +24,7 @@ use Rattle.ti_tool.specs.Verdicts.{AreVerdicts}
 use Rattle.ti_tool.specs.Listing.{entry_lines}
 use Rattle.ti_tool.specs.Names.{IsCalled}
 use Rattle.ti_line.specs.declared.request.Asked.{Asked}
-use Rattle.ti_line.specs.declared.request.Asked.TheVariants.{Capability, Entry}
+use Rattle.ti_line.specs.declared.request.Asked.TheVariants.{Capability, Difference, Entry}
 use Rattle.ti_line.specs.declared.request.OfCapability.{OfCapability}
 use Rattle.ti_line.specs.declared.request.OfCapability.TheVariants as of_cap
 use Rattle.ti_line.specs.declared.request.OfEntry.{OfEntry}
@@ -118,10 +118,11 @@ IsDueOn (of_entry.Convert width) parameters sound = λ v. IsEncoding (in_width w
 IsDueOn (of_entry.Get g) parameters sound = IsGot g sound
 IsDueOn (of_entry.Trace t) parameters sound = IsTracedOf t
 
--- on the bytes that were read
+-- on the bytes that were read; two files are compared by a run alone, which reads them
 abbrev pub IsAnswer : Asked → List Value → Bool → List ℕ → Result (List ℕ) ToolFault → Type 0
 IsAnswer (Capability c) parameters sound = IsOutputOf c parameters
 IsAnswer (Entry e) parameters sound = IsDueFrom (IsDueOn e parameters sound)
+IsAnswer (Difference d) parameters sound = λ input answer. ⊥
 
 -- only `check` finds that texts are not sound, and only `get` that a flag is not set
 abbrev pub Finds : Asked → Bool → Type 0

@@ -8,13 +8,14 @@ use Rattle.ti_line.specs.Requests.{Asks, Explains, HasText, IsReadAs}
 use Rattle.ti_line.specs.declared.no_line.NoLine.{NoLine}
 use Rattle.ti_line.specs.declared.no_line.NoLine.TheVariants as no_line
 use Rattle.ti_line.specs.declared.request.Asked.{Asked}
-use Rattle.ti_line.specs.declared.request.Asked.TheVariants.{Capability, Entry}
+use Rattle.ti_line.specs.declared.request.Asked.TheVariants.{Capability, Difference, Entry}
 use Rattle.ti_line.specs.declared.request.Request.{Request}
 use Rattle.ti_tool.specs.declared.fault.ToolFault.{ToolFault}
 use Rattle.ti_tool.specs.declared.fault.ToolFault.TheVariants as fault
 use Rattle.ti_tool.specs.declared.terminals.Terminals.{Terminals}
 use Rattle.ti_tool.specs.FaultLines.{IsAnswerLine, Told, fault_line, line_fault_line}
 use Rattle.ti_tool.specs.FileRuns.{RanFiles}
+use Rattle.ti_tool.specs.Comparisons.{RanDifference}
 use Rattle.ti_tool.specs.Results.{Finds, IsAnswer}
 use Rattle.ti_tool.specs.Statuses.{status_for}
 use Rattle.ti_tool.specs.Calls.{DidCheck, IsEnough, IsFailedWrite}
@@ -51,7 +52,8 @@ RanRequest asked parameters unwritten left0 left1 held0 held1 told0 told1 status
     × DidCheck (IsAnswer asked parameters) (IsEnough asked) left0 left1 held0 held1 answer
     × IfErr answer (λ e. IsFailedWrite e ⊎ unwritten) × Ends asked answer told0 told1 status
 
--- a request was carried out, of an entry for the files that are named, if there are any
+-- a request was carried out, of an entry for the files that are named, if there are any; or two of them
+-- were compared
 abbrev pub RanTask : List (List ℕ) → Asked → List Value → Type 0 → Stream → Stream → Stream → Stream
     → Stream → Stream → ℕ → Type 0
 RanTask [] asked parameters unwritten left0 left1 held0 held1 told0 told1 status =
@@ -61,6 +63,8 @@ RanTask (file ∷ files) (Entry e) parameters unwritten left0 left1 held0 held1 
     held0 held1 told0 told1 status
 RanTask (file ∷ files) (Capability c) parameters unwritten left0 left1 held0 held1 told0 told1 status =
     RanRequest (Capability c) parameters unwritten left0 left1 held0 held1 told0 told1 status
+RanTask (file ∷ files) (Difference d) parameters unwritten left0 left1 held0 held1 told0 told1 status =
+    RanDifference d held0 held1 told0 told1 status
 
 -- a text was written as the result: with status 0 all of it, and nothing is told of a fault; with
 -- status 5 its first bytes and not all of them, and the line on that

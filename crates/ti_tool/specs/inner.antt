@@ -1,4 +1,5 @@
 -- What private clauses alone cite.
+pub mod Differences
 pub mod Dues
 pub mod Item
 pub mod Label

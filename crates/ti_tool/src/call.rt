@@ -7,7 +7,7 @@ ghost use Rattle.ti_line.specs.declared.request.Asked.TheVariants as asks;
 ghost use Rattle.ti_tool.specs.Calls.{DidCall, DidCheck, HasFailed, IsEnough, IsFailedWrite, IsFull};
 ghost use Rattle.ti_tool.specs.Results.{Finds, IsAnswer, IsDueFrom, IsDueOn, IsOutputOf};
 
-use crate::answer::{answer_of_capability, answer_of_entry};
+use crate::command::{answer_of_capability, answer_of_entry};
 use crate::fault::ToolFault;
 use crate::result::write_result;
 use crate::source::read_up_to;
@@ -69,7 +69,7 @@ fn call_on_entry<A: Allocator + Copy, R: Read, W: Write>(
 ///
 /// # Errors
 ///
-/// In this order: `Read` if reading failed, `Entry` if the bytes are no entry, `NoSuchName` if
+/// In this order: `Read` if reading failed, or two files are to be compared, which this call can't read, `Entry` if the bytes are no entry, `NoSuchName` if
 /// nothing has the name that `get` asks for, `NoSuchText` if the text is not there, `Cap` if it is no capability, `TextTooLong`, `TooMuch` if the padded text has more than 67108864 bytes, `Encode` if a number
 /// is above 32767 and the legacy format is requested, or else if the canonical bytes would be more than 32768, which shared
 /// texts or wider numbers can lead to, `Write`; `Memory` if a growth is refused.
@@ -93,5 +93,6 @@ pub fn carry_out<A: Allocator + Copy, R: Read, W: Write>(
             Ok(true)
         }
         Asked::Entry(asked) => call_on_entry(alloc, asked, parameters, reader, writer),
+        Asked::Difference(_) => Err(ToolFault::Read),
     }
 }

@@ -1,8 +1,77 @@
-//! What each subcommand of the program does, a module each.
+//! What is due for a request, from what was read, with a module for each subcommand: nothing here reads or writes.
+
+ghost use Rattle.std.specs.Prelude.{Ok, IfErr, IfOk, MatchResult, true};
+ghost use Rattle.ti_line.specs.declared.request.Asked.TheVariants as asks;
+ghost use Rattle.ti_tool.specs.Results.{Finds, IsDueOn, IsOutputOf};
+ghost use Rattle.ti_tool.specs.inner.Dues.{FailsAsDue};
 
 pub mod cap;
 pub mod check;
 pub mod convert;
+pub mod diff;
 pub mod expand;
 pub mod get;
 pub mod trace;
+
+use crate::command::cap::cap_result;
+use crate::command::check::verdicts_of;
+use crate::command::convert::convert_result;
+use crate::command::expand::expand_result;
+use crate::command::get::get_result;
+use crate::command::trace::{trace_of_result, trace_result};
+use crate::fault::ToolFault;
+use crate::listing::lines_of;
+use std::alloc::Allocator;
+use ti_entry::Entry;
+use ti_expand::Value;
+use ti_line::{OfCapability, OfEntry};
+
+/// A result, and whether it is of no fault that `check` found and of no flag that is not set.
+#[derive(Drop)]
+pub struct Answer<A: Allocator> {
+    /// The bytes of the result.
+    pub bytes: Vec<u8, A>,
+    /// Whether no text has a fault, and a flag is set; true for all requests but those of `check` and `get`.
+    pub sound: bool,
+}
+
+/// What is due for a capability.
+pub fn answer_of_capability<A: Allocator + Copy>(
+    alloc: A,
+    asked: OfCapability,
+    parameters: &[Value<'_>; 9],
+    input: &[u8],
+) -> Result<Vec<u8, A>, ToolFault>
+    ensures { MatchResult result
+        (λ v. IsOutputOf asked parameters.now input.now (Ok v.items))
+        (FailsAsDue (IsOutputOf asked parameters.now input.now)) }
+{
+    match asked {
+        OfCapability::Cap(output) => cap_result(alloc, input, parameters, output),
+        OfCapability::Trace(form) => trace_result(alloc, input, parameters, form),
+    }
+}
+
+/// What is due for an entry.
+pub fn answer_of_entry<A: Allocator + Copy>(
+    alloc: A,
+    asked: &OfEntry<'_>,
+    parameters: &[Value<'_>; 9],
+    entry: &Entry<'_>,
+) -> Result<Answer<A>, ToolFault>
+    ensures finds { IfOk result (λ a. Finds (asks.Entry asked.now) a.sound) }
+    ensures due { IfOk result
+        (λ a. IsDueOn asked.now parameters.now a.sound entry.now (Ok a.bytes.items)) }
+    ensures fault { IfErr result
+        (FailsAsDue (IsDueOn asked.now parameters.now true entry.now)) }
+{
+    let bytes = match asked {
+        OfEntry::Show(options) => lines_of(alloc, *options, entry)?,
+        OfEntry::Check(naming) => return Ok(verdicts_of(alloc, *naming, entry)?),
+        OfEntry::Expand(expand) => expand_result(alloc, entry, expand, parameters)?,
+        OfEntry::Convert(width) => convert_result(alloc, entry, *width)?,
+        OfEntry::Get(get) => return get_result(alloc, entry, get),
+        OfEntry::Trace(of) => trace_of_result(alloc, entry, of)?,
+    };
+    Ok(Answer { bytes, sound: true })
+}

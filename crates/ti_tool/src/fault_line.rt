@@ -169,6 +169,7 @@ pub fn line_fault_line(fault: LineFault) -> FaultLine
         LineFault::EntryWithoutName => line_of(&[b"trace: --entry without --of\n"]),
         LineFault::BothWidths => line_of(&[b"convert: both widths\n"]),
         LineFault::ToTerminal => line_of(&[b"convert: not to a terminal without --force\n"]),
+        LineFault::FileCount => line_of(&[b"diff: one file or two\n"]),
         LineFault::Words(why) => words_line(why),
     }
 }

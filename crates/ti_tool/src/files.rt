@@ -8,10 +8,10 @@
 ghost use Rattle.std.specs.Prelude.{◌≡◌, ◌≢◌, ◌<◌, ◌≤◌, ◌⊎◌, ◌∷◌, [], IfErr, IfOk, IfSome, MatchResult, map, max, string_bytes, true, false};
 ghost use Rattle.ti_line.specs.Requests.{texts_of};
 ghost use Rattle.ti_tool.specs.FaultLines.{fault_line as the_fault_line};
-ghost use Rattle.ti_tool.specs.FileRuns.{IsOutcome, IsOutcomeOfContents, IsUnread, RanFiles, Supply, takes_folders as the_takes_folders};
+ghost use Rattle.ti_tool.specs.FileRuns.{IsOutcome, IsOutcomeOfContents, IsUnread, Delivered, RanFiles, Supply, takes_folders as the_takes_folders};
 ghost use Rattle.ti_tool.specs.Files.{file_line as the_file_line};
 ghost use Rattle.ti_tool.specs.declared.fault.ToolFault.TheVariants as fault;
-ghost use Rattle.ti_tool.specs.inner.Files.{Delivered, EndsFile, RanFound, RanWord};
+ghost use Rattle.ti_tool.specs.inner.Files.{EndsFile, RanFound, RanWord};
 
 use crate::fault::ToolFault;
 use crate::fault_line::{asked_line, fault_line};
@@ -49,7 +49,7 @@ pub struct Outcome<A: Allocator> {
 }
 
 /// What a fault leads to.
-fn fault_outcome<A: Allocator + Copy>(
+pub fn fault_outcome<A: Allocator + Copy>(
     alloc: A,
     name: &str,
     line: &[u8],
@@ -68,7 +68,7 @@ fn fault_outcome<A: Allocator + Copy>(
 }
 
 /// What a file leads to if the system does not give it.
-fn refused_outcome<A: Allocator + Copy>(
+pub fn refused_outcome<A: Allocator + Copy>(
     alloc: A,
     name: &str,
     error: &io::Error,
@@ -108,7 +108,23 @@ fn outcome_of<A: Allocator + Copy>(
     }
 }
 
-/// Reads a file that was found; `-` is standard input.
+/// What is in a file; `-` is standard input.
+pub fn contents_of<S: Store, A: Allocator + Copy, R: Read>(
+    store: &S,
+    alloc: A,
+    name: &str,
+    input: &mut R,
+) -> io::Result<Vec<u8, A>> {
+    let mut contents = Vec::new(alloc);
+    if name == "-" {
+        read_contents(input, &mut contents)?;
+    } else {
+        store.read(name, &mut contents)?;
+    }
+    Ok(contents)
+}
+
+/// Reads a file that was found.
 fn outcome_of_found<S: Store, A: Allocator + Copy, R: Read>(
     store: &S,
     alloc: A,
@@ -126,15 +142,10 @@ fn outcome_of_found<S: Store, A: Allocator + Copy, R: Read>(
     if let Some(error) = &found.fault {
         return refused_outcome(alloc, name, error);
     }
-    let mut contents = Vec::new(alloc);
-    let read = if name == "-" {
-        read_contents(input, &mut contents)
-    } else {
-        store.read(name, &mut contents)
+    let contents = match contents_of(store, alloc, name, input) {
+        Ok(contents) => contents,
+        Err(error) => return refused_outcome(alloc, name, &error),
     };
-    if let Err(error) = read {
-        return refused_outcome(alloc, name, &error);
-    }
     let file = Named {
         name,
         is_one_of_several,
@@ -143,7 +154,7 @@ fn outcome_of_found<S: Store, A: Allocator + Copy, R: Read>(
 }
 
 /// Writes what a file led to. The result is the status, or none if the results can't be written.
-fn deliver<A: Allocator, W: Write, E: Write>(
+pub fn deliver<A: Allocator, W: Write, E: Write>(
     outcome: Result<Outcome<A>, AllocError>,
     output: &mut W,
     errors: &mut E,

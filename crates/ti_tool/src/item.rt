@@ -60,7 +60,7 @@ fn place_called(entry: &Entry<'_>, name: &str) -> Option<Position>
 }
 
 /// The value at a place of an entry.
-fn item_at<'a>(entry: &Entry<'a>, place: Position) -> Item<'a>
+pub fn item_at<'a>(entry: &Entry<'a>, place: Position) -> Item<'a>
     ensures { item_value result ≡ the_item_at entry.now place }
 {
     let own = entry.extended();

@@ -62,7 +62,7 @@ fn push_standard<A: Allocator>(
 }
 
 /// The name of an extended capability.
-fn own_name<'a>(extended: &Extended<'a>, kind: Kind, index: usize) -> &'a [u8]
+pub fn own_name<'a>(extended: &Extended<'a>, kind: Kind, index: usize) -> &'a [u8]
     ensures { result.now ≡ get_or (names_of extended.now kind) index [] }
 {
     match extended.name(kind, index) {

@@ -1,10 +1,11 @@
 //! The program `ti` as functions from the bytes read to the bytes written.
 #![tactic(auto)]
 
-mod answer;
 mod call;
 mod calls;
+mod change;
 mod command;
+mod comparison;
 mod expansion;
 mod fault;
 mod fault_line;
@@ -26,9 +27,10 @@ mod terminals;
 mod text_name;
 mod verdict;
 
-pub use answer::Answer;
 pub use call::carry_out;
 pub use calls::{cap_run, check, convert, expand_named, show};
+pub use command::Answer;
+pub use command::diff::difference_of;
 pub use fault::ToolFault;
 pub use named::{Named, answer_of_file, file_line};
 pub use program::{run, run_at};

@@ -6,7 +6,7 @@ ghost use Rattle.ti_tool.specs.declared.fault.ToolFault.TheVariants as fault;
 ghost use Rattle.ti_tool.specs.Files.{IsDueOfFile, each_line, file_line as the_file_line, one_of_several as the_one_of_several, result_of_file, shown_file};
 ghost use Rattle.ti_tool.specs.Results.{Finds, IsDueFrom, IsDueOn};
 
-use crate::answer::{Answer, answer_of_entry};
+use crate::command::{Answer, answer_of_entry};
 use crate::fault::ToolFault;
 use std::alloc::{AllocError, Allocator};
 use ti_entry::read;
@@ -105,7 +105,7 @@ fn one_of_several<A: Allocator + Copy>(
     match asked {
         OfEntry::Show(options) => after_name(alloc, options.naming.form, name, plain.as_slice()),
         OfEntry::Check(naming) => by_name(alloc, naming.form, name, plain.as_slice()),
-        OfEntry::Expand(_) | OfEntry::Convert(_) | OfEntry::Get(_) | OfEntry::Trace(_) => Ok(plain),
+        _ => Ok(plain),
     }
 }
 

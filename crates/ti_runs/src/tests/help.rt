@@ -8,13 +8,14 @@ use ti_fixtures::{Sink, Source};
 use ti_line::{Message, NoLine, read_line};
 
 /// Words that ask for help, and what the help has.
-const HELP: [(&[&str], &[&str]); 11] = [
+const HELP: [(&[&str], &[&str]); 12] = [
     (
         &["ti", "--help"],
         &[
             "show",
             "check",
             "get",
+            "diff",
             "expand",
             "convert",
             "cap",
@@ -74,6 +75,15 @@ const HELP: [(&[&str], &[&str]); 11] = [
     (
         &["ti", "convert", "--help"],
         &["canonical", "--force", "Example"],
+    ),
+    (
+        &["ti", "diff", "--help"],
+        &[
+            "Usage: ti diff [FILE] <OTHER>",
+            "standard input",
+            "status 1",
+            "Example",
+        ],
     ),
     (
         &["ti", "get", "--help"],

@@ -165,7 +165,8 @@ const READ: [(&[&str], &str, &str); 30] = [
 ];
 
 /// Words of which the line has a fault, and the fault.
-const FAULTY: [(&[&str], &str); 14] = [
+const FAULTY: [(&[&str], &str); 15] = [
+    (&["ti", "diff"], "FileCount"),
     (&["ti", "cap", "help"], "BadWord 1"),
     (&["ti", "cap", "n:1", "", "s:"], "BadWord 2"),
     (&["ti", "cap", "--", "-5", "--hex"], "BadWord 1"),

@@ -3,17 +3,30 @@
 use std::alloc::{Allocator, Global};
 use std::io;
 use std::io::ErrorKind;
-use ti_fixtures::entries::{EXTENDED, QUESTION, SMALL};
+use ti_fixtures::entries::{EXTENDED, EXTENDED_BY_TIC, QUESTION, SMALL, WIDE_BY_TIC, WIDENED};
 use ti_fixtures::{Sink, Source};
 use ti_tool::{Files, Found, Store, Terminals, one_file, read_contents, run_at};
 
+/// The small entry with an extended flag A twice: it is set, and it is not.
+const TWICE: &[u8] =
+    b"\x1a\x01\x02\0\x01\0\x01\0\x02\0\x02\0t\0\x01\0P\0\xff\xff\0\0\x07\0\x02\0\0\0\0\0\x02\0\x04\0\x01\0\0\0\x02\0A\0A\0";
+
+/// The small entry with an extended flag A, which is set.
+const ONCE: &[u8] =
+    b"\x1a\x01\x02\0\x01\0\x01\0\x02\0\x02\0t\0\x01\0P\0\xff\xff\0\0\x07\0\x01\0\0\0\0\0\x01\0\x02\0\x01\0\0\0A\0";
+
 /// The files of a shelf: their names and contents.
-const SHELF: [(&str, &[u8]); 5] = [
+const SHELF: [(&str, &[u8]); 10] = [
     ("small", SMALL),
     ("more\x1b", EXTENDED),
     ("folder/fault", QUESTION),
     ("folder/whole", EXTENDED),
     ("cut", b"\x1a\x01\x02\0\x01"),
+    ("widened", WIDENED),
+    ("tic", EXTENDED_BY_TIC),
+    ("wide", WIDE_BY_TIC),
+    ("twice", TWICE),
+    ("once", ONCE),
 ];
 
 /// Files in memory, and a folder with two of them and a name that is not valid UTF-8.
@@ -55,12 +68,12 @@ impl Store for Shelf {
 }
 
 /// Words, whether results go to a terminal, the status, what is written, and the lines on faults.
-struct Row {
-    words: &'static [&'static str],
-    at_terminal: bool,
-    status: u8,
-    output: &'static [u8],
-    errors: &'static [u8],
+pub struct Row {
+    pub words: &'static [&'static str],
+    pub at_terminal: bool,
+    pub status: u8,
+    pub output: &'static [u8],
+    pub errors: &'static [u8],
 }
 
 const ROWS: [Row; 13] = [
@@ -159,7 +172,7 @@ const ROWS: [Row; 13] = [
 ];
 
 /// Runs the program over the shelf, and a writer that fails at this write.
-fn end_at(alloc: Global, row: &Row, fails_at: usize) -> (u8, Vec<u8>, Vec<u8>) {
+pub fn end_at(alloc: Global, row: &Row, fails_at: usize) -> (u8, Vec<u8>, Vec<u8>) {
     let mut output = Sink::failing_at(alloc, usize::MAX, fails_at);
     let mut errors = Sink::new(alloc);
     let mut input = Source::new(QUESTION, 100);

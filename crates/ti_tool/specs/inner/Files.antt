@@ -1,25 +1,14 @@
 -- How a file ends, and what was done with some.
-use Rattle.std.specs.Prelude.{◌≡◌, ◌≢◌, ◌<◌, ◌≤◌, ◌++◌, ℕ, Bool, List, [], map, Option, Some, None, Result, Ok, Err, length, take}
+use Rattle.std.specs.Prelude.{◌≡◌, ◌≢◌, ◌≤◌, ◌++◌, ℕ, Bool, List, [], map, Result, Ok, Err}
 use Rattle.std.specs.List.{AllByRecursion}
-use Rattle.std.specs.Io.KnownBytes.{Appends}
 use Rattle.ti_expand.specs.declared.values.Value.{Value}
 use Rattle.ti_line.specs.declared.request.Asked.{Asked}
 use Rattle.ti_line.specs.declared.request.OfEntry.{OfEntry}
-use Rattle.ti_tool.specs.declared.fault.ToolFault.TheVariants as fault
-use Rattle.ti_tool.specs.FaultLines.{Told, fault_line}
 use Rattle.ti_tool.specs.FileRuns.{AreNamed, DidFiles, DoneFile, Held, StoppedAt, greatest_status}
 
 -- the status is not that of refused words, and without a fault there is no line
 abbrev pub EndsFile : ℕ → List ℕ → Type 0
 EndsFile status line = (status ≢ 2) × (status ≤ 1 → line ≡ [])
-
--- what a file led to is written, or the writer of results failed
-abbrev pub Delivered : Held → Held → Held → Held → Option ℕ → List ℕ → List ℕ → ℕ → Type 0
-Delivered held0 held1 told0 told1 (Some s) out line status =
-    (s ≡ status) × Appends held0 held1 out × Told line told0 told1
-Delivered held0 held1 told0 told1 None out line status =
-    (gone : ℕ) × (gone < length out) × Appends held0 held1 (take gone out)
-    × Told (fault_line (fault.Write gone)) told0 told1
 
 -- files have these names, in their order
 abbrev pub AreCalled : Bool → List (List ℕ) → List DoneFile → Type 0

@@ -7,7 +7,7 @@ ghost use Rattle.std.specs.Prelude.{IfOk};
 ghost use Rattle.ti_tool.specs.Verdicts.{AreVerdicts, IsExtendedLine, IsStandardLine};
 ghost use Rattle.ti_tool.specs.inner.Verdict.{AddsLines};
 
-use crate::answer::Answer;
+use crate::command::Answer;
 use crate::label::Label;
 use crate::verdict::{judge, push_line};
 use std::alloc::{AllocError, Allocator};

@@ -7,7 +7,7 @@ ghost use Rattle.ti_tool.specs.Got.{IsExpandedBy, IsGot, IsTextResult, IsValueRe
 ghost use Rattle.ti_tool.specs.inner.Dues.{FailsAsDue};
 ghost use Rattle.ti_tool.specs.inner.Item.{item_value};
 
-use crate::answer::Answer;
+use crate::command::Answer;
 use crate::command::expand::{expand_and_pad, padded_output};
 use crate::fault::ToolFault;
 use crate::item::{Item, item_called};

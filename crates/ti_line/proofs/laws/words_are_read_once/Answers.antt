@@ -1,8 +1,8 @@
 use Rattle.std.proofs.Common.{inl, inr, true≢false, sym}
 use Rattle.clap.specs.Words.{subcommand_of}
 use Rattle.ti_line.specs.CommandLine.{line_in, faults, ti_app}
-use Rattle.ti_line.proofs.LawsLemmas.{none_any, same, three, within_request}
-use Rattle.ti_line.proofs.FaultlessLemmas.{line_made}
+use Rattle.ti_line.proofs.LawsLemmas.{none_any, same, three}
+use Rattle.ti_line.proofs.FaultlessLemmas.{line_made, within_request}
 use Rattle.ti_line.proofs.laws.words_are_read_once.Goals as goal
 
 pub returns-clause-one : goal.returns-clause-one

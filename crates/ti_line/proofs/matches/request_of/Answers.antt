@@ -6,5 +6,8 @@ returns-in-cap c = rw c.in-cap.is (c.cap.ensures c.args.terminal)
 pub returns-in-trace : goal.returns-in-trace
 returns-in-trace c = rw c.in-trace.is (c.trace.ensures c.args.terminal)
 
+pub returns-in-diff : goal.returns-in-diff
+returns-in-diff c = rw c.in-diff.is (c.diff.ensures c.args.terminal)
+
 pub returns-in-convert : goal.returns-in-convert
 returns-in-convert c = rw c.in-convert.is c.convert.ensures

@@ -4,7 +4,7 @@ use Rattle.ti_tool.specs.Results.{IsDueFrom, IsDueOn}
 use Rattle.ti_tool.specs.Calls.{HasFailed}
 use Rattle.ti_tool.proofs.NeedsMemoryLemmas.{due_from}
 use Rattle.ti_tool.proofs.DidCallLemmas.{did_fail, did_stop, did_write, keeps_all}
-use Rattle.ti_tool.proofs.IsDueLemmas.{entry_never}
+use Rattle.ti_tool.proofs.OneResultLemmas.{entry_never}
 use Rattle.ti_tool.proofs.call.call_on_entry.Goals as goal
 
 pub returns-in_err-read_from-clause-did : goal.returns-in_err-read_from-clause-did

@@ -1,6 +1,7 @@
 use Rattle.std.proofs.Common.{◌∙◌, ℕ, ◌+◌, List, ◌∷◌, [], ◌++◌, drop, map, subst, sym, take}
 use Rattle.std.specs.Prelude.{Err, None, Ok, Some, string_bytes}
-use Rattle.ti_tool.specs.inner.Files.{Delivered, RanFound}
+use Rattle.ti_tool.specs.FileRuns.{Delivered}
+use Rattle.ti_tool.specs.inner.Files.{RanFound}
 use Rattle.ti_tool.proofs.FileRunsLemmas.{found_next, found_stops, max_low, names_more, names_split, next_file}
 use Rattle.ti_tool.proofs.files.run_found.Goals as goal
 

@@ -1,7 +1,7 @@
 use Rattle.std.proofs.Common.{◌≡◌, ◌||◌, ◌⊎◌, ◌∙◌, ℕ, List, [], ◌∷◌, true, false, ap, map, subst, sym}
 use Rattle.std.specs.Prelude.{Result, string_bytes}
-use Rattle.ti_tool.specs.FileRuns.{takes_folders}
-use Rattle.ti_tool.specs.inner.Files.{Delivered, RanWord}
+use Rattle.ti_tool.specs.FileRuns.{Delivered, takes_folders}
+use Rattle.ti_tool.specs.inner.Files.{RanWord}
 use Rattle.ti_tool.proofs.FileRunsLemmas.{next_unread, word_of_found, word_unread}
 use Rattle.ti_tool.proofs.files.run_word.Goals.{then-errand, else-errand}
 use Rattle.ti_tool.proofs.files.run_word.Goals as goal

@@ -1,0 +1,123 @@
+//! Runs of `ti diff` over files, worked by hand from what they hold.
+
+use super::runs_of_files::{Row, end_at};
+
+const ROWS: [Row; 14] = [
+    Row {
+        words: &["ti", "diff", "tic", "tic"],
+        at_terminal: false,
+        status: 0,
+        output: b"",
+        errors: b"",
+    },
+    Row {
+        words: &["ti", "diff", "more\x1b", "widened"],
+        at_terminal: false,
+        status: 1,
+        output: b"- format: legacy\n+ format: wide\n",
+        errors: b"",
+    },
+    Row {
+        words: &["ti", "diff", "small", "more\x1b"],
+        at_terminal: false,
+        status: 1,
+        output: b"+ flag+ AX\n+ text+ E3 \\E[3J\n",
+        errors: b"",
+    },
+    Row {
+        words: &["ti", "diff", "more\x1b", "small"],
+        at_terminal: false,
+        status: 1,
+        output: b"- flag+ AX\n- text+ E3 \\E[3J\n",
+        errors: b"",
+    },
+    Row {
+        words: &["ti", "diff", "tic", "wide"],
+        at_terminal: false,
+        status: 1,
+        output: b"- format: legacy\n+ format: wide\n- names: mog|mogyarsu test terminal\n+ names: mogw|mogyarsu wide terminal\n- number lines 24\n+ number colors 16777216\n+ number pairs 65536\n- text clear \\E[H\\E[2J\n- text cup \\E[%i%p1%d;%p2%dH\n- flag+ XT\n- number+ U8 1\n+ number+ U8 70000\n- text+ Smulx \\E[4:%p1%dm\n- text+ kUP5 \\E[1;5A\n",
+        errors: b"",
+    },
+    Row {
+        words: &["ti", "diff", "twice", "once"],
+        at_terminal: false,
+        status: 0,
+        output: b"",
+        errors: b"",
+    },
+    // the input has another text
+    Row {
+        words: &["ti", "diff", "small"],
+        at_terminal: false,
+        status: 1,
+        output: b"- text bel \\E[?%[;0123456789]c\n+ text bel ^G\n",
+        errors: b"",
+    },
+    Row {
+        words: &["ti", "diff", "small", "-"],
+        at_terminal: false,
+        status: 1,
+        output: b"- text bel ^G\n+ text bel \\E[?%[;0123456789]c\n",
+        errors: b"",
+    },
+    Row {
+        words: &["ti", "diff", "cut", "small"],
+        at_terminal: false,
+        status: 3,
+        output: b"",
+        errors: b"cut: entry: Truncated at 5\n",
+    },
+    Row {
+        words: &["ti", "diff", "small", "cut"],
+        at_terminal: false,
+        status: 3,
+        output: b"",
+        errors: b"cut: entry: Truncated at 5\n",
+    },
+    Row {
+        words: &["ti", "diff", "small", "none\x1b"],
+        at_terminal: false,
+        status: 5,
+        output: b"",
+        errors: b"none\\E: entity not found\n",
+    },
+    Row {
+        words: &["ti", "diff", "none\x1b", "cut"],
+        at_terminal: false,
+        status: 5,
+        output: b"",
+        errors: b"none\\E: entity not found\n",
+    },
+    Row {
+        words: &["ti", "diff"],
+        at_terminal: false,
+        status: 2,
+        output: b"",
+        errors: b"diff: one file or two\n",
+    },
+    Row {
+        words: &["ti", "diff", "a", "b", "c"],
+        at_terminal: false,
+        status: 2,
+        output: b"",
+        errors: b"diff: one file or two\n",
+    },
+];
+
+#[test]
+fn entries_are_told_apart(rt: HostRuntime) {
+    for row in ROWS.iter() {
+        let (status, output, errors) = end_at(rt.alloc(), row, usize::MAX);
+        assert_that!(rt; status == row.status);
+        assert_that!(rt; output.as_slice() == row.output);
+        assert_that!(rt; errors.as_slice() == row.errors);
+    }
+}
+
+#[test]
+fn a_difference_that_cannot_be_written_is_told(rt: HostRuntime) {
+    let (status, output, errors) = end_at(rt.alloc(), &ROWS[1], 1);
+    assert_that!(rt; status == 5);
+    assert_that!(rt; output.is_empty());
+    assert_that!(rt; errors.as_slice() == b"output: failed\n".as_slice());
+}

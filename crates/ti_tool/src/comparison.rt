@@ -1,0 +1,105 @@
+//! A run of `diff`: two files are read, and what they do not have alike is written.
+//!
+//! As for other files, what is said here is of the contents that the system gives. The first file that can't be read, or
+//! is no entry, ends the run with the line on that.
+
+ghost use Rattle.std.specs.Prelude.{◌≡◌, ◌≢◌, ◌≤◌, IfOk};
+ghost use Rattle.ti_tool.specs.Comparisons.{IsCompared, IsComparison, IsRefusedFile, RanDifference};
+ghost use Rattle.ti_layout.specs.Refusal.{refusal};
+ghost use Rattle.ti_tool.specs.FileRuns.{Supply};
+ghost use Rattle.ti_tool.specs.inner.Files.{EndsFile};
+
+use crate::command::diff::difference_of;
+use crate::fault::ToolFault;
+use crate::fault_line::fault_line;
+use crate::files::{Outcome, contents_of, deliver, fault_outcome, refused_outcome};
+use crate::store::Store;
+use std::alloc::{AllocError, Allocator};
+use std::io::{Read, Write};
+use ti_entry::{Refused, read};
+use ti_line::Difference;
+
+/// What contents lead to that are no entry.
+fn refusal_outcome<A: Allocator + Copy>(
+    alloc: A,
+    name: &str,
+    contents: &[u8],
+    refused: Refused,
+) -> Result<Outcome<A>, AllocError>
+    requires { refusal contents.now ≡ Some refused }
+    ensures ends { IfOk result (λ o. EndsFile o.status o.line.items) }
+    ensures led { IfOk result (λ o. IsRefusedFile name.now contents.now
+        o.bytes.items o.line.items o.status) }
+{
+    let line = fault_line(&ToolFault::Entry(refused));
+    fault_outcome(alloc, name, line.as_slice(), 3)
+}
+
+/// What the contents of two files lead to.
+fn outcome_of_both<A: Allocator + Copy>(
+    alloc: A,
+    pair: &Difference<'_>,
+    contents: &[u8],
+    of_other: &[u8],
+) -> Result<Outcome<A>, AllocError>
+    ensures ends { IfOk result (λ o. EndsFile o.status o.line.items) }
+    ensures led { IfOk result (λ o. IsCompared pair.now.file.now pair.now.other.now
+        contents.now of_other.now o.bytes.items o.line.items o.status) }
+{
+    let one = match read(contents) {
+        Ok(entry) => entry,
+        Err(refused) => return refusal_outcome(alloc, pair.file, contents, refused),
+    };
+    let other = match read(of_other) {
+        Ok(entry) => entry,
+        Err(refused) => return refusal_outcome(alloc, pair.other, of_other, refused),
+    };
+    let bytes = difference_of(alloc, &one, &other)?;
+    let status = if bytes.is_empty() { 0 } else { 1 };
+    Ok(Outcome {
+        bytes,
+        line: Vec::new(alloc),
+        status,
+    })
+}
+
+/// What two files lead to.
+fn outcome_of_pair<S: Store, A: Allocator + Copy, R: Read>(
+    store: &S,
+    alloc: A,
+    pair: &Difference<'_>,
+    input: &mut R,
+) -> Result<Outcome<A>, AllocError>
+    ensures ends { IfOk result (λ o. EndsFile o.status o.line.items) }
+    ensures led { IfOk result (λ o. (one : Supply) × (two : Supply)
+        × IsComparison pair.now.file.now pair.now.other.now one two
+        o.bytes.items o.line.items o.status) }
+{
+    let contents = match contents_of(store, alloc, pair.file, input) {
+        Ok(contents) => contents,
+        Err(error) => return refused_outcome(alloc, pair.file, &error),
+    };
+    let of_other = match contents_of(store, alloc, pair.other, input) {
+        Ok(contents) => contents,
+        Err(error) => return refused_outcome(alloc, pair.other, &error),
+    };
+    outcome_of_both(alloc, pair, contents.as_slice(), of_other.as_slice())
+}
+
+/// Compares two files, and writes what they do not have alike.
+pub fn run_pair<S: Store, A: Allocator + Copy, R: Read, W: Write, E: Write>(
+    store: &S,
+    alloc: A,
+    pair: &Difference<'_>,
+    input: &mut R,
+    output: &mut W,
+    errors: &mut E,
+) -> u8
+    ensures known { result ≢ 2 }
+    ensures silent { result ≤ 1 → errors.new ≡ errors.old }
+    ensures ran { RanDifference pair.now (W.contents output.old) (W.contents output.new)
+        (E.contents errors.old) (E.contents errors.new) result }
+{
+    let outcome = outcome_of_pair(store, alloc, pair, input);
+    deliver(outcome, output, errors).unwrap_or(5)
+}
