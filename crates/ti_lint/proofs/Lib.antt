@@ -1,10 +1,15 @@
+pub mod AheadLemmas
 pub mod AtLemmas
 pub mod Examples
 pub mod FactsLemmas
+pub mod FoundAfterLemmas
+pub mod FoundAtLemmas
 pub mod FoundLemmas
+pub mod GoesOnLemmas
 pub mod HeightsLemmas
 pub mod HoldsLemmas
 pub mod OnSomePathLemmas
+pub mod OutlookLemmas
 pub mod PassLemmas
 pub mod PassStepLemmas
 pub mod ReachedLemmas

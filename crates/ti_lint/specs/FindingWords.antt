@@ -1,7 +1,7 @@
 -- The word for each finding, of a token and of a text.
 use Rattle.std.specs.Prelude.{ℕ, List, codes}
 use Rattle.ti_lint.specs.declared.finding.Finding.{Finding}
-use Rattle.ti_lint.specs.declared.finding.Finding.TheVariants.{StackUnderflow, TermcapParameter, ParameterRange, RepeatedIncrement, UnsetVariable}
+use Rattle.ti_lint.specs.declared.finding.Finding.TheVariants.{StackUnderflow, TermcapParameter, ParameterRange, RepeatedIncrement, UnsetVariable, StackResidue, UnusedIncrement, LateIncrement, DeadStore}
 use Rattle.ti_lint.specs.declared.text_finding.TextFinding.{TextFinding}
 use Rattle.ti_lint.specs.declared.text_finding.TextFinding.TheVariants.{Malformed, UnusedParameter, UninterpretedEscape, UninterpretedPercent, EqualPair}
 
@@ -11,6 +11,10 @@ finding_word TermcapParameter = codes "termcap-parameter"
 finding_word ParameterRange = codes "parameter-range"
 finding_word RepeatedIncrement = codes "%i-repeated"
 finding_word UnsetVariable = codes "unset-variable"
+finding_word StackResidue = codes "stack-residue"
+finding_word UnusedIncrement = codes "%i-unused"
+finding_word LateIncrement = codes "%i-late"
+finding_word DeadStore = codes "dead-store"
 
 abbrev pub text_finding_word : TextFinding → List ℕ
 text_finding_word Malformed = codes "malformed"

@@ -5,4 +5,5 @@ pub mod Plain
 pub mod OnSomePath
 pub mod Findings
 pub mod FindingWords
+pub mod Found
 pub mod inner

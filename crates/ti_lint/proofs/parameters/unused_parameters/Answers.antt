@@ -1,4 +1,4 @@
-use Rattle.std.proofs.Common.{◌<◌, ◌≤◌, min, arith}
+use Rattle.std.proofs.Common.{◌<◌, ◌≤◌, arith}
 use Rattle.ti_lint.proofs.UnusedLemmas.{has_unused}
 use Rattle.ti_lint.proofs.parameters.unused_parameters.Goals as goal
 
