@@ -2,6 +2,7 @@ pub mod Variables
 pub mod Classes
 pub mod Pairs
 pub mod Plain
+pub mod Marks
 pub mod OnSomePath
 pub mod Findings
 pub mod FindingWords

@@ -16,6 +16,12 @@ pub enum TextFinding {
     UninterpretedPercent,
     /// Two texts that undo each other, such as `sc` and `rc`, are the same: [`crate::undoing_pairs`] has their indices.
     EqualPair,
+    /// A `$<` in a text that is sent starts no padding mark: [`crate::find_false_mark`].
+    FalseMark,
+    /// A text that a key sends has a padding mark: [`crate::find_mark`].
+    MarkInKey,
+    /// A list of pairs of bytes, as `acsc` is, has an odd number of them: [`crate::is_half_paired`].
+    HalfPaired,
 }
 
 impl TextFinding {
@@ -29,6 +35,9 @@ impl TextFinding {
             TextFinding::UninterpretedEscape => "uninterpreted-escape",
             TextFinding::UninterpretedPercent => "uninterpreted-percent",
             TextFinding::EqualPair => "pair-equal",
+            TextFinding::FalseMark => "padding-malformed",
+            TextFinding::MarkInKey => "padding-in-key",
+            TextFinding::HalfPaired => "acsc-odd",
         }
     }
 }
