@@ -101,15 +101,15 @@ pub height-snoc : (h : ℕ) (path : List Token) (k : Token) → end_height h (pa
 height-snoc h [] k = refl
 height-snoc h (l ∷ path) k = height-snoc (next_height h l) path k
 
-one_is : (k l : Token) → Contains (k ∷ []) l ↔ (k ≡ l)
-one_is k l = (first, (λ e. (0, omega arith, e)))
+one_is : {X : Type 0} (k l : X) → Contains (k ∷ []) l ↔ (k ≡ l)
+one_is {X = X} k l = (first, (λ e. (0, omega arith, e)))
   where
     first : Contains (k ∷ []) l → k ≡ l
     first (zero, low, e) = e
     first (suc i, low, e) = absurd (omega arith)
 
-pub contains-snoc : (path : List Token) (k l : Token) → Contains (path ++ k ∷ []) l ↔ (Contains path l ⊎ (k ≡ l))
-contains-snoc path k l = (apart, together)
+pub contains-snoc : {X : Type 0} (path : List X) (k l : X) → Contains (path ++ k ∷ []) l ↔ (Contains path l ⊎ (k ≡ l))
+contains-snoc {X = X} path k l = (apart, together)
   where
     apart : Contains (path ++ k ∷ []) l → Contains path l ⊎ (k ≡ l)
     apart h = elim (Contains-append_cases path (k ∷ []) l h) [ inl old ↦ inl old | inr new ↦ inr ((one_is k l).0 new) ]
@@ -118,8 +118,8 @@ contains-snoc path k l = (apart, together)
     together (inl old) = Contains-append_left path (k ∷ []) l old
     together (inr e) = Contains-append_right path (k ∷ []) l ((one_is k l).1 e)
 
-pub contains-cons : (k : Token) (path : List Token) (l : Token) → Contains (k ∷ path) l ↔ (Contains path l ⊎ (k ≡ l))
-contains-cons k path l = (apart, together)
+pub contains-cons : {X : Type 0} (k : X) (path : List X) (l : X) → Contains (k ∷ path) l ↔ (Contains path l ⊎ (k ≡ l))
+contains-cons {X = X} k path l = (apart, together)
   where
     apart : Contains (k ∷ path) l → Contains path l ⊎ (k ≡ l)
     apart h = elim (Contains-append_cases (k ∷ []) path l h) [ inl new ↦ inr ((one_is k l).0 new) | inr old ↦ inl old ]

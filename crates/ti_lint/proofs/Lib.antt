@@ -2,6 +2,7 @@ pub mod AheadLemmas
 pub mod AtLemmas
 pub mod Examples
 pub mod FactsLemmas
+pub mod FirstPartsLemmas
 pub mod FoundAfterLemmas
 pub mod FoundAtLemmas
 pub mod FoundLemmas

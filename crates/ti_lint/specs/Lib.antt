@@ -6,5 +6,6 @@ pub mod Marks
 pub mod OnSomePath
 pub mod Findings
 pub mod FindingWords
+pub mod FirstParts
 pub mod Found
 pub mod inner

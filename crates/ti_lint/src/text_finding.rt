@@ -22,6 +22,8 @@ pub enum TextFinding {
     MarkInKey,
     /// A list of pairs of bytes, as `acsc` is, has an odd number of them: [`crate::is_half_paired`].
     HalfPaired,
+    /// A text that a key sends is the first part of another one: [`crate::first_parts`].
+    KeyPrefix,
 }
 
 impl TextFinding {
@@ -38,6 +40,7 @@ impl TextFinding {
             TextFinding::FalseMark => "padding-malformed",
             TextFinding::MarkInKey => "padding-in-key",
             TextFinding::HalfPaired => "acsc-odd",
+            TextFinding::KeyPrefix => "key-prefix",
         }
     }
 }

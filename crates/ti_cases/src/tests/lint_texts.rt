@@ -5,7 +5,7 @@ use ti_cap::{Capability, Token};
 use ti_fixtures::capabilities::CUP;
 use ti_lint::{
     Class, TextFinding, Variables, class_of, find_double_percent, find_false_mark, find_mark,
-    is_half_paired, is_meant_to_expand, stored_by, undoing_pairs, unused_parameters,
+    first_parts, is_half_paired, is_meant_to_expand, stored_by, undoing_pairs, unused_parameters,
 };
 use ti_words::{Kind, NameTable};
 
@@ -120,6 +120,20 @@ fn pairs_undo_each_other(rt: HostRuntime) -> Result<(), Fail> {
 }
 
 #[test]
+fn first_parts_are_found(rt: HostRuntime) -> Result<(), Fail> {
+    // `kent` of att4418 is the first part of other keys. A text is no part of an equal one.
+    let keys: [&[u8]; 6] = [b"\x1b[B", b"\x1b[", b"\x1bO", b"\x1b[A", b"\x1b[B", b"\x1b"];
+    let parts = first_parts(rt.alloc(), &keys)?;
+    assert_that!(rt; parts.len() == 2);
+    assert_that!(rt; parts.iter().any(|part| *part == b"\x1b["));
+    assert_that!(rt; parts.iter().any(|part| *part == b"\x1b"));
+    let alike: [&[u8]; 2] = [b"\x1b[B", b"\x1b[B"];
+    assert_that!(rt; first_parts(rt.alloc(), &alike)?.is_empty());
+    assert_that!(rt; first_parts(rt.alloc(), &[])?.is_empty());
+    Ok(())
+}
+
+#[test]
 fn each_finding_of_a_text_has_a_word(rt: HostRuntime) -> Result<(), Fail> {
     assert_that!(rt; TextFinding::Malformed.word() == "malformed");
     assert_that!(rt; TextFinding::UnusedParameter.word() == "parameter-unused");
@@ -129,5 +143,6 @@ fn each_finding_of_a_text_has_a_word(rt: HostRuntime) -> Result<(), Fail> {
     assert_that!(rt; TextFinding::FalseMark.word() == "padding-malformed");
     assert_that!(rt; TextFinding::MarkInKey.word() == "padding-in-key");
     assert_that!(rt; TextFinding::HalfPaired.word() == "acsc-odd");
+    assert_that!(rt; TextFinding::KeyPrefix.word() == "key-prefix");
     Ok(())
 }
