@@ -1,17 +1,21 @@
 -- Worked examples of the findings, by hand.
-use Rattle.std.proofs.Common.{◌≡◌, ℕ, zero, suc, [], ◌∷◌, refl, subst, inl, inr, true, false, arith, Contains}
+use Rattle.std.proofs.Common.{◌≡◌, ℕ, zero, suc, ◌≤◌, List, [], ◌∷◌, ◌++◌, length, length-append, refl, ap, subst, inl, inr, true, false, arith, Contains}
 use Rattle.std.specs.Prelude.{codes, None}
+use Rattle.ti_cap.specs.declared.language.Token.{Token}
 use Rattle.ti_cap.specs.declared.language.Token.TheVariants.{Param, Load, Store, Increment, Compute, Print, CondOpen, CondThen, CondClose}
 use Rattle.ti_cap.specs.declared.language.Op.TheVariants.{Add}
 use Rattle.ti_cap.specs.declared.language.Conversion.TheVariants.{Signed}
 use Rattle.ti_cap.specs.declared.language.Format.{Format}
 use Rattle.ti_cap.specs.Capability.{Spot}
-use Rattle.ti_cap.specs.Tree.{Sequence, Empty, Simple, Conditional, Lone}
+use Rattle.ti_cap.specs.Tree.{Sequence, Empty, Simple, Conditional, Lone, tokens}
 use Rattle.ti_cap.specs.Path.{Walk, IsWalk, path_of}
+use Rattle.ti_cap.specs.Spelling.{Written}
+use Rattle.ti_cap.proofs.WrittenLemmas.{one_cutting}
 use Rattle.ti_lint.specs.declared.expected.Expected.{Expected}
 use Rattle.ti_lint.specs.Variables.{HasVariable}
-use Rattle.ti_lint.specs.OnSomePath.{Stands}
-use Rattle.ti_lint.specs.Findings.{Underflows, IsOutOfRange, IsRepeated, IsStoredElsewhere, IsUnset, Keeps, LeavesValue, NamesFirstTwo, IsLate, IsDead}
+use Rattle.ti_lint.specs.OnSomePath.{Stands, OnSomePath}
+use Rattle.ti_lint.specs.Findings.{Underflows, IsOutOfRange, IsRepeated, IsStoredElsewhere, IsUnset, Keeps, LeavesValue, NamesFirstTwo, IsUnused, IsLate, IsDead}
+use Rattle.ti_lint.proofs.FactsLemmas.{nothing_in, names_nothing}
 
 abbrev two : Expected
 two = record { parameters = 2; stored = record { mask = 8 } }
@@ -194,3 +198,45 @@ third_other (inr (suc i, low, e)) = absurd (omega arith)
 -- a variable from A to Z is kept at the end
 kept_store : (spot : Spot) → ¬ IsDead spot (Store 65)
 kept_store spot (which, e, small, n) = let same : 65 ≡ which = cc in omega arith
+
+-- ---- on no path: a token that stands alone has nothing after it
+
+path_short : (w : Walk) (ks : List Token) → length (path_of w ks) ≤ length ks
+path_short [] ks = omega arith
+path_short (m ∷ w) [] = omega arith
+path_short (true ∷ w) (k ∷ ks) = omega (arith, path_short w ks)
+path_short (false ∷ w) (k ∷ ks) = omega (arith, path_short w ks)
+
+nothing_after : (k : Token) (bytes : List ℕ) (is_so : List Token → List Token → Type 0) → Written (k ∷ []) bytes → (o : OnSomePath bytes [] k is_so) → o.ahead ≡ []
+nothing_after k bytes is_so written o =
+    let s = o.stands in
+    let one : tokens s.tree ≡ k ∷ [] = one_cutting (tokens s.tree) (k ∷ []) bytes s.writes.written written in
+    empty o.ahead (omega (
+      arith,
+      ap length o.follows,
+      ap length o.met,
+      length-append (path_of o.walk (s.before ++ k ∷ [])) o.ahead,
+      length-append (path_of o.walk s.before) (k ∷ []),
+      path_short o.walk (tokens s.tree),
+      ap length one,
+    ))
+  where
+    empty : (path : List Token) → length path ≤ 0 → path ≡ []
+    empty [] low = refl
+    empty (x ∷ path) low = absurd (omega arith)
+
+of_no_use : IsUnused (record { taken = []; left = codes "%i" }) Increment
+of_no_use = (
+  refl,
+  (λ o. let P : List Token → Type 0 = λ x. NamesFirstTwo x in
+      names_nothing (subst P (nothing_after Increment (codes "%i") _ (codes "%i", [], inr (codes "i", refl, refl), refl, refl) o) o.so)),
+)
+
+never_read : IsDead (record { taken = []; left = codes "%Pa" }) (Store 97)
+never_read = (
+  97,
+  refl,
+  omega arith,
+  (λ o. let P : List Token → Type 0 = λ x. Contains x (Load 97) in
+      nothing_in (Load 97) (subst P (nothing_after (Store 97) (codes "%Pa") _ (codes "%Pa", [], inr (codes "Pa", (inr (omega arith, omega arith), refl), refl), refl, refl) o) o.so)),
+)

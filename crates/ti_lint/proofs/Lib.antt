@@ -14,6 +14,7 @@ pub mod OutlookLemmas
 pub mod PassLemmas
 pub mod PassStepLemmas
 pub mod ReachedLemmas
+pub mod RepeatedLemmas
 pub mod StoredLemmas
 pub mod UnusedLemmas
 pub mod VariablesLemmas

@@ -1,3 +1,4 @@
+pub mod Repeated
 pub mod Variables
 pub mod Classes
 pub mod Pairs

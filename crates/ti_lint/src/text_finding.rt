@@ -24,6 +24,8 @@ pub enum TextFinding {
     HalfPaired,
     /// A text that a key sends is the first part of another one: [`crate::first_parts`].
     KeyPrefix,
+    /// An extended name stands more than once: [`crate::repeated`].
+    RepeatedName,
 }
 
 impl TextFinding {
@@ -41,6 +43,7 @@ impl TextFinding {
             TextFinding::MarkInKey => "padding-in-key",
             TextFinding::HalfPaired => "acsc-odd",
             TextFinding::KeyPrefix => "key-prefix",
+            TextFinding::RepeatedName => "name-repeated",
         }
     }
 }

@@ -5,7 +5,8 @@ use ti_cap::{Capability, Token};
 use ti_fixtures::capabilities::CUP;
 use ti_lint::{
     Class, TextFinding, Variables, class_of, find_double_percent, find_false_mark, find_mark,
-    first_parts, is_half_paired, is_meant_to_expand, stored_by, undoing_pairs, unused_parameters,
+    first_parts, is_half_paired, is_meant_to_expand, repeated, stored_by, undoing_pairs,
+    unused_parameters,
 };
 use ti_words::{Kind, NameTable};
 
@@ -125,11 +126,21 @@ fn first_parts_are_found(rt: HostRuntime) -> Result<(), Fail> {
     let keys: [&[u8]; 6] = [b"\x1b[B", b"\x1b[", b"\x1bO", b"\x1b[A", b"\x1b[B", b"\x1b"];
     let parts = first_parts(rt.alloc(), &keys)?;
     assert_that!(rt; parts.len() == 2);
-    assert_that!(rt; parts.iter().any(|part| *part == b"\x1b["));
-    assert_that!(rt; parts.iter().any(|part| *part == b"\x1b"));
+    assert_that!(rt; parts.iter().any(|part| *part == b"\x1b[".as_slice()));
+    assert_that!(rt; parts.iter().any(|part| *part == b"\x1b".as_slice()));
     let alike: [&[u8]; 2] = [b"\x1b[B", b"\x1b[B"];
     assert_that!(rt; first_parts(rt.alloc(), &alike)?.is_empty());
     assert_that!(rt; first_parts(rt.alloc(), &[])?.is_empty());
+    Ok(())
+}
+
+#[test]
+fn repeated_texts_are_found(rt: HostRuntime) -> Result<(), Fail> {
+    let names: [&[u8]; 5] = [b"AX", b"XT", b"AX", b"RGB", b"AX"];
+    let again = repeated(rt.alloc(), &names)?;
+    assert_that!(rt; again.len() == 2);
+    assert_that!(rt; again.iter().all(|name| *name == b"AX".as_slice()));
+    assert_that!(rt; repeated(rt.alloc(), &names[1..4])?.is_empty());
     Ok(())
 }
 
@@ -144,5 +155,6 @@ fn each_finding_of_a_text_has_a_word(rt: HostRuntime) -> Result<(), Fail> {
     assert_that!(rt; TextFinding::MarkInKey.word() == "padding-in-key");
     assert_that!(rt; TextFinding::HalfPaired.word() == "acsc-odd");
     assert_that!(rt; TextFinding::KeyPrefix.word() == "key-prefix");
+    assert_that!(rt; TextFinding::RepeatedName.word() == "name-repeated");
     Ok(())
 }
