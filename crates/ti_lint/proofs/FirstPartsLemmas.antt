@@ -1,5 +1,5 @@
 -- Of sorted texts, one that is the first part of any other is the first part of the next.
-use Rattle.std.proofs.Common.{◌≡◌, ◌≢◌, ℕ, ◌+◌, ◌<◌, ◌⊎◌, inl, inr, ◌↔◌, List, [], ◌∷◌, ◌++◌, length, take, drop, map, refl, sym, ◌∙◌, ap, subst, arith, Bool, true, false, nat_eq, nat_lt, cond, Contains, Bor, Ordering, Less, Equal, Greater, nat_cmp, length-append, take-append-drop}
+use Rattle.std.proofs.Common.{◌≡◌, ◌≢◌, ℕ, ◌+◌, ◌<◌, ◌⊎◌, inl, inr, ◌↔◌, List, [], ◌∷◌, ◌++◌, length, take, drop, map, refl, sym, ◌∙◌, ap, subst, arith, Bool, true, false, nat_eq, cond, Contains, Bor, Ordering, Less, Equal, Greater, nat_cmp, length-append, take-append-drop}
 use Rattle.std.proofs.lemmas.List.{append-nil, append_assoc, map-append, take_at}
 use Rattle.std.proofs.lemmas.List.Kept.{Any-dedup, Contains-from_dedup}
 use Rattle.std.proofs.lemmas.List.Sorted.{Contains-permutation, IsPermutation-sym}
@@ -8,7 +8,7 @@ use Rattle.std.specs.List.Sorted.{IsStrictlySortedBy, IsPermutation}
 use Rattle.std.specs.Ordering.{ordering_then, ordering_reverse}
 use Rattle.std.specs.Cmp.Lexicographic.{slice_cmp, nat_list_cmp_total, pointwise, same_text, bytes_decides, on_texts_equal}
 use Rattle.ti_lint.specs.FirstParts.{IsFirstPart, IsFirstAmong}
-use Rattle.ti_lint.proofs.FactsLemmas.{nothing_in, contains-cons, contains-snoc}
+use Rattle.ti_lint.proofs.FactsLemmas.{contains-cons, contains-snoc}
 
 abbrev pub Text : Type 0
 Text = List ℕ

@@ -1,4 +1,4 @@
-use Rattle.std.proofs.Common.{◌≡◌, List, [], ◌∷◌, ◌++◌, true, false, nat_eq, sym, ◌∙◌, ap, subst, arith}
+use Rattle.std.proofs.Common.{◌≡◌, List, true, false, nat_eq, sym, ◌∙◌, ap, subst, arith}
 use Rattle.std.specs.List.{starts_with}
 use Rattle.ti_lint.proofs.FirstPartsLemmas.{Text, nows, Walks, walks_start, walks_next, walks_end, split_nows, are_sorted}
 use Rattle.ti_lint.proofs.prefixes.first_parts_of.Goals as goal

@@ -1,4 +1,4 @@
-use Rattle.std.proofs.Common.{◌≡◌, ◌+◌, List, [], ◌∷◌, ◌++◌, take, get_or, Bool, true, false, not, refl, sym, ◌∙◌, ap, subst, take_all, Bor}
+use Rattle.std.proofs.Common.{◌≡◌, ◌+◌, List, [], take, get_or, Bool, true, false, not, refl, sym, ◌∙◌, ap, subst, take_all, Bor}
 use Rattle.ti_lint.proofs.FirstPartsLemmas.{Text, nows, split_nows}
 use Rattle.ti_lint.proofs.RepeatedLemmas.{Seen, seen_with}
 use Rattle.ti_lint.proofs.repeats.repeated.Goals as goal
