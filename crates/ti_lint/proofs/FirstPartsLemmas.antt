@@ -1,5 +1,5 @@
 -- Of sorted texts, one that is the first part of any other is the first part of the next.
-use Rattle.std.proofs.Common.{◌≡◌, ◌≢◌, ℕ, ◌+◌, ◌<◌, ◌⊎◌, inl, inr, ◌↔◌, List, [], ◌∷◌, ◌++◌, length, take, drop, map, refl, sym, ◌∙◌, ap, subst, arith, Bool, true, false, nat_eq, cond, Contains, Bor, Ordering, Less, Equal, Greater, nat_cmp, length-append, take-append-drop}
+use Rattle.std.proofs.Common.{◌≡◌, ◌≢◌, ℕ, ◌<◌, ◌⊎◌, inl, inr, ◌↔◌, List, [], ◌∷◌, ◌++◌, length, take, drop, map, refl, sym, ◌∙◌, ap, subst, arith, Bool, true, false, nat_eq, cond, Contains, Bor, Ordering, Less, Equal, Greater, nat_cmp, length-append, take-append-drop}
 use Rattle.std.proofs.lemmas.List.{append-nil, append_assoc, map-append, take_at}
 use Rattle.std.proofs.lemmas.List.Kept.{Any-dedup, Contains-from_dedup}
 use Rattle.std.proofs.lemmas.List.Sorted.{Contains-permutation, IsPermutation-sym}
