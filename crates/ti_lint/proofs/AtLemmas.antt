@@ -21,7 +21,7 @@ use Rattle.ti_lint.proofs.ReachedLemmas.{path_low}
 use Rattle.ti_lint.proofs.PassLemmas.{Knows, knows_start}
 use Rattle.ti_lint.proofs.PassStepLemmas.{HasRoom, knows_step}
 
-lettered_of : (k : Token) (s : List ℕ) → Spells k s → IsLettered k
+pub lettered_of : (k : Token) (s : List ℕ) → Spells k s → IsLettered k
 lettered_of (Store v) s (inl (b, is, other, e)) = absurd (cc (is))
 lettered_of (Store v) s (inr (escape, (inl a, is), e)) = (omega (arith, a.0), omega (arith, a.1))
 lettered_of (Store v) s (inr (escape, (inr a, is), e)) = (omega (arith, a.0), omega (arith, a.1))

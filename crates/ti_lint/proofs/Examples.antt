@@ -1,13 +1,21 @@
 -- Worked examples of the findings, by hand.
-use Rattle.std.proofs.Common.{◌≡◌, ℕ, [], ◌∷◌, refl, subst, inl, inr, true, arith, Contains}
-use Rattle.std.specs.Prelude.{codes}
-use Rattle.ti_cap.specs.declared.language.Token.TheVariants.{Param, Load, Increment, Compute, CondOpen, CondThen, CondClose}
+use Rattle.std.proofs.Common.{◌≡◌, ℕ, zero, suc, ◌≤◌, List, [], ◌∷◌, ◌++◌, length, length-append, refl, ap, subst, inl, inr, true, false, arith, Contains}
+use Rattle.std.specs.Prelude.{codes, None}
+use Rattle.ti_cap.specs.declared.language.Token.{Token}
+use Rattle.ti_cap.specs.declared.language.Token.TheVariants.{Param, Load, Store, Increment, Compute, Print, CondOpen, CondThen, CondClose}
 use Rattle.ti_cap.specs.declared.language.Op.TheVariants.{Add}
-use Rattle.ti_cap.specs.Tree.{Sequence, Empty, Simple, Conditional, Lone}
+use Rattle.ti_cap.specs.declared.language.Conversion.TheVariants.{Signed}
+use Rattle.ti_cap.specs.declared.language.Format.{Format}
+use Rattle.ti_cap.specs.Capability.{Spot}
+use Rattle.ti_cap.specs.Tree.{Sequence, Empty, Simple, Conditional, Lone, tokens}
 use Rattle.ti_cap.specs.Path.{Walk, IsWalk, path_of}
+use Rattle.ti_cap.specs.Spelling.{Written}
+use Rattle.ti_cap.proofs.WrittenLemmas.{one_cutting}
 use Rattle.ti_lint.specs.declared.expected.Expected.{Expected}
 use Rattle.ti_lint.specs.Variables.{HasVariable}
-use Rattle.ti_lint.specs.Findings.{Underflows, IsOutOfRange, IsRepeated, IsStoredElsewhere, IsUnset}
+use Rattle.ti_lint.specs.OnSomePath.{Stands, OnSomePath}
+use Rattle.ti_lint.specs.Findings.{Underflows, IsOutOfRange, IsRepeated, IsStoredElsewhere, IsUnset, Keeps, LeavesValue, NamesFirstTwo, IsUnused, IsLate, IsDead}
+use Rattle.ti_lint.proofs.FactsLemmas.{nothing_in, names_nothing}
 
 abbrev two : Expected
 two = record { parameters = 2; stored = record { mask = 8 } }
@@ -15,16 +23,20 @@ two = record { parameters = 2; stored = record { mask = 8 } }
 -- `%+` alone pops two values, of which there are none
 sum : Underflows (record { taken = []; left = codes "%+" }) (Compute Add)
 sum = record {
-  tree = Simple (Compute Add) Empty;
-  writes = record { formed = (tt, tt); written = (codes "%+", [], inr (codes "+", refl, refl), refl, refl) };
-  before = [];
-  after = [];
-  spans = refl;
-  written = refl;
+  stands = record {
+    tree = Simple (Compute Add) Empty;
+    writes = record { formed = (tt, tt); written = (codes "%+", [], inr (codes "+", refl, refl), refl, refl) };
+    before = [];
+    after = [];
+    spans = refl;
+    written = refl;
+  };
   walk = true ∷ [];
   walked = ([], refl, refl);
   met = refl;
-  before_it = omega arith;
+  ahead = [];
+  follows = refl;
+  so = omega arith;
 }
 
 -- of `%i%i` the second one is repeated
@@ -32,19 +44,23 @@ twice : IsRepeated (record { taken = codes "%i"; left = codes "%i" }) Increment
 twice = (
   refl,
   record {
-    tree = Simple Increment (Simple Increment Empty);
-    writes = record {
-      formed = (tt, (tt, tt));
-      written = (codes "%i", codes "%i", inr (codes "i", refl, refl), (codes "%i", [], inr (codes "i", refl, refl), refl, refl), refl);
+    stands = record {
+      tree = Simple Increment (Simple Increment Empty);
+      writes = record {
+        formed = (tt, (tt, tt));
+        written = (codes "%i", codes "%i", inr (codes "i", refl, refl), (codes "%i", [], inr (codes "i", refl, refl), refl, refl), refl);
+      };
+      before = Increment ∷ [];
+      after = [];
+      spans = refl;
+      written = (codes "%i", [], inr (codes "i", refl, refl), refl, refl);
     };
-    before = Increment ∷ [];
-    after = [];
-    spans = refl;
-    written = (codes "%i", [], inr (codes "i", refl, refl), refl, refl);
     walk = true ∷ true ∷ [];
     walked = (true ∷ [], ([], refl, refl), refl);
     met = refl;
-    before_it = (0, omega arith, refl);
+    ahead = [];
+    follows = refl;
+    so = (0, omega arith, refl);
   },
 )
 
@@ -84,15 +100,143 @@ dynamic = (
   refl,
   (λ elsewhere. omega (arith, elsewhere.0)),
   record {
-    tree = Simple (Load 97) Empty;
-    writes = record { formed = (tt, tt); written = (codes "%ga", [], inr (codes "ga", (inr (omega arith, omega arith), refl), refl), refl, refl) };
-    before = [];
-    after = [];
-    spans = refl;
-    written = refl;
+    stands = alone;
     walk = true ∷ [];
     walked = ([], refl, refl);
     met = refl;
-    before_it = λ c. omega (arith, c.1);
+    ahead = [];
+    follows = refl;
+    so = λ c. omega (arith, c.1);
   },
+)
+  where
+    alone : Stands (codes "%ga") [] (Load 97)
+    alone = record {
+      tree = Simple (Load 97) Empty;
+      writes = record { formed = (tt, tt); written = (codes "%ga", [], inr (codes "ga", (inr (omega arith, omega arith), refl), refl), refl, refl) };
+      before = [];
+      after = [];
+      spans = refl;
+      written = refl;
+    }
+
+-- ---- what comes after
+
+abbrev decimal : Format
+decimal = record { conversion = Signed; left = false; plus = false; space = false; alternate = false; zero = false; width = 0; precision = None }
+
+-- of `%p1%p2%d` the print pops the second value and leaves the first
+first_left : Keeps 1 (Param 2 ∷ Print decimal ∷ [])
+first_left = (omega arith, (omega arith, tt))
+
+second_popped : ¬ Keeps 1 (Print decimal ∷ [])
+second_popped k = omega (arith, k.0)
+
+-- a sum pops the value below the top as well
+sum_pops_both : ¬ Keeps 1 (Param 2 ∷ Compute Add ∷ [])
+sum_pops_both k = omega (arith, k.1.0)
+
+left : LeavesValue (record { taken = []; left = codes "%p1" }) (Param 1)
+left = (
+  omega arith,
+  record {
+    stands = record {
+      tree = Simple (Param 1) Empty;
+      writes = record { formed = (tt, tt); written = (codes "%p1", [], inr (codes "p1", (omega arith, omega arith, refl), refl), refl, refl) };
+      before = [];
+      after = [];
+      spans = refl;
+      written = refl;
+    };
+    walk = true ∷ [];
+    walked = ([], refl, refl);
+    met = refl;
+    ahead = [];
+    follows = refl;
+    so = tt;
+  },
+)
+
+-- %p1%i%p2: the row is counted from 0, and the column from 1
+late : IsLate (record { taken = codes "%p1"; left = codes "%i%p2" }) Increment
+late = (
+  refl,
+  record {
+    stands = record {
+      tree = Simple (Param 1) (Simple Increment (Simple (Param 2) Empty));
+      writes = record {
+        formed = (tt, (tt, (tt, tt)));
+        written = (
+          codes "%p1",
+          codes "%i%p2",
+          inr (codes "p1", (omega arith, omega arith, refl), refl),
+          (codes "%i", codes "%p2", inr (codes "i", refl, refl), (codes "%p2", [], inr (codes "p2", (omega arith, omega arith, refl), refl), refl, refl), refl),
+          refl,
+        );
+      };
+      before = Param 1 ∷ [];
+      after = Param 2 ∷ [];
+      spans = refl;
+      written = (codes "%p1", [], inr (codes "p1", (omega arith, omega arith, refl), refl), refl, refl);
+    };
+    walk = true ∷ true ∷ true ∷ [];
+    walked = (true ∷ true ∷ [], (true ∷ [], ([], refl, refl), refl), refl);
+    met = refl;
+    ahead = Param 2 ∷ [];
+    follows = refl;
+    so = (inl (0, omega arith, refl), inr (0, omega arith, refl));
+  },
+)
+
+-- the third parameter is none of the two
+third_other : ¬ NamesFirstTwo (Param 3 ∷ [])
+third_other (inl (zero, low, e)) = absurd (cc)
+third_other (inl (suc i, low, e)) = absurd (omega arith)
+third_other (inr (zero, low, e)) = absurd (cc)
+third_other (inr (suc i, low, e)) = absurd (omega arith)
+
+-- a variable from A to Z is kept at the end
+kept_store : (spot : Spot) → ¬ IsDead spot (Store 65)
+kept_store spot (which, e, small, n) = let same : 65 ≡ which = cc in omega arith
+
+-- ---- on no path: a token that stands alone has nothing after it
+
+path_short : (w : Walk) (ks : List Token) → length (path_of w ks) ≤ length ks
+path_short [] ks = omega arith
+path_short (m ∷ w) [] = omega arith
+path_short (true ∷ w) (k ∷ ks) = omega (arith, path_short w ks)
+path_short (false ∷ w) (k ∷ ks) = omega (arith, path_short w ks)
+
+nothing_after : (k : Token) (bytes : List ℕ) (is_so : List Token → List Token → Type 0) → Written (k ∷ []) bytes → (o : OnSomePath bytes [] k is_so) → o.ahead ≡ []
+nothing_after k bytes is_so written o =
+    let s = o.stands in
+    let one : tokens s.tree ≡ k ∷ [] = one_cutting (tokens s.tree) (k ∷ []) bytes s.writes.written written in
+    empty o.ahead (omega (
+      arith,
+      ap length o.follows,
+      ap length o.met,
+      length-append (path_of o.walk (s.before ++ k ∷ [])) o.ahead,
+      length-append (path_of o.walk s.before) (k ∷ []),
+      path_short o.walk (tokens s.tree),
+      ap length one,
+    ))
+  where
+    empty : (path : List Token) → length path ≤ 0 → path ≡ []
+    empty [] low = refl
+    empty (x ∷ path) low = absurd (omega arith)
+
+of_no_use : IsUnused (record { taken = []; left = codes "%i" }) Increment
+of_no_use = (
+  refl,
+  (λ o. let P : List Token → Type 0 = λ x. NamesFirstTwo x in
+      names_nothing (subst P (nothing_after Increment (codes "%i") _ (codes "%i", [], inr (codes "i", refl, refl), refl, refl) o) o.so)),
+)
+
+never_read : IsDead (record { taken = []; left = codes "%Pa" }) (Store 97)
+never_read = (
+  97,
+  refl,
+  omega arith,
+  (λ o. let P : List Token → Type 0 = λ x. Contains x (Load 97) in
+      nothing_in (Load 97) (subst P (nothing_after (Store 97) (codes "%Pa") _ (codes "%Pa", [], inr (codes "Pa", (inr (omega arith, omega arith), refl), refl), refl, refl) o) o.so)),
 )

@@ -1,10 +1,10 @@
 -- What a pass tells of a token is what holds of it on some path.
-use Rattle.std.proofs.Common.{◌≡◌, ◌≢◌, ℕ, zero, suc, ◌-◌, ◌<◌, ◌≤◌, ◌⊎◌, inl, inr, ◌↔◌, List, ◌∷◌, refl, sym, ◌∙◌, ap, subst, arith, Bool, true, false, not, ◌||◌, ◌&&◌, nat_eq, nat_le, nat_lt, IsTrue, Contains}
+use Rattle.std.proofs.Common.{◌≡◌, ◌≢◌, ℕ, zero, suc, ◌-◌, ◌<◌, ◌≤◌, ◌⊎◌, inl, inr, ◌↔◌, List, refl, sym, ◌∙◌, ap, subst, arith, Bool, true, false, not, ◌||◌, ◌&&◌, nat_eq, nat_le, nat_lt, IsTrue, Contains}
 use Rattle.std.specs.Prelude.{Some}
 use Rattle.std.specs.Int.{bit_at}
 use Rattle.std.proofs.lemmas.Nat.Bits.{bit_at-lt, bit_at-zero, same_from_bits}
 use Rattle.ti_cap.specs.declared.language.Token.{Token}
-use Rattle.ti_cap.specs.declared.language.Token.TheVariants.{Param, Load, Store, Increment, CondElse, CondClose}
+use Rattle.ti_cap.specs.declared.language.Token.TheVariants.{Param, Load, Store, Increment}
 use Rattle.ti_cap.specs.declared.parameter_set.ParameterSet.{ParameterSet}
 use Rattle.ti_cap.specs.Height.{pops, end_height}
 use Rattle.ti_cap.specs.Sources.{Has as HasParameter, IsNamed}
@@ -14,22 +14,19 @@ use Rattle.ti_lint.specs.declared.pass.Pass.{Pass}
 use Rattle.ti_lint.specs.declared.expected.Expected.{Expected}
 use Rattle.ti_lint.specs.declared.finding.Finding.{Finding}
 use Rattle.ti_lint.specs.declared.finding.Finding.TheVariants.{StackUnderflow, TermcapParameter, ParameterRange, RepeatedIncrement, UnsetVariable}
-use Rattle.ti_lint.specs.OnSomePath.{OnSomePath}
-use Rattle.ti_lint.specs.Findings.{Underflows, NamesNone, IsOutOfRange, IsRepeated, IsStoredElsewhere, IsUnset, IsFound}
-use Rattle.ti_lint.specs.inner.Facts.{has_bit, is_any_below, lacks, place_of, IsLettered, found_if, is_kept, is_unset, underflow, judgement}
+use Rattle.ti_lint.specs.Findings.{IsMetAfter, Underflows, NamesNone, IsOutOfRange, IsRepeated, IsStoredElsewhere, IsUnset, IsFoundBefore}
+use Rattle.ti_lint.specs.inner.Facts.{has_bit, is_any_below, lacks, place_of, found_if, is_kept, is_unset, underflow, judgement}
 use Rattle.ti_lint.proofs.HeightsLemmas.{HasHeight}
 use Rattle.ti_lint.proofs.FactsLemmas.{HeightIs, Incremented, Unset}
-use Rattle.ti_lint.proofs.HoldsLemmas.{Path}
 use Rattle.ti_lint.proofs.PassLemmas.{chain}
-use Rattle.ti_lint.proofs.AtLemmas.{Stands}
-use Rattle.ti_lint.proofs.OnSomePathLemmas.{Comes, comes_of, on_some_path}
+use Rattle.ti_lint.proofs.OnSomePathLemmas.{Before, IsPart, Comes, some_before}
 
 -- ---- tests
 
-bit_is : (mask place : ℕ) → (has_bit mask place ≡ true) ↔ (bit_at mask place ≡ 1)
+pub bit_is : (mask place : ℕ) → (has_bit mask place ≡ true) ↔ (bit_at mask place ≡ 1)
 bit_is mask place = ((λ e. grind arith), (λ e. ap (λ x. nat_eq x 1) e))
 
-bit_is_not : (mask place : ℕ) → (has_bit mask place ≡ false) ↔ (bit_at mask place ≡ 0)
+pub bit_is_not : (mask place : ℕ) → (has_bit mask place ≡ false) ↔ (bit_at mask place ≡ 0)
 bit_is_not mask place = (there (bit_at mask place) (bit_at-lt mask place), (λ e. ap (λ x. nat_eq x 1) e))
   where
     there : (x : ℕ) → x < 2 → nat_eq x 1 ≡ false → x ≡ 0
@@ -45,23 +42,23 @@ either_is false b = ((λ e. inr e), other)
     other (inl e) = absurd (cc)
     other (inr e) = e
 
-both_are : (a b : Bool) → (a && b ≡ true) ↔ ((a ≡ true) × (b ≡ true))
+pub both_are : (a b : Bool) → (a && b ≡ true) ↔ ((a ≡ true) × (b ≡ true))
 both_are true b = ((λ e. (refl, e)), (λ p. p.1))
 both_are false b = ((λ e. absurd (cc)), (λ p. p.0))
 
-not_is : (a : Bool) → (not a ≡ true) ↔ (a ≡ false)
+pub not_is : (a : Bool) → (not a ≡ true) ↔ (a ≡ false)
 not_is true = ((λ e. absurd (cc)), (λ e. absurd (cc)))
 not_is false = ((λ e. refl), (λ e. refl))
 
 -- a fact that a test decides, turned round
-not_by : {A : Type 0} (b : Bool) → (b ≡ true) ↔ A → (b ≡ false) ↔ (¬ A)
+pub not_by : {A : Type 0} (b : Bool) → (b ≡ true) ↔ A → (b ≡ false) ↔ (¬ A)
 not_by {A = A} true p = ((λ e. absurd (cc)), (λ n. absurd (n (p.0 refl))))
 not_by {A = A} false p = ((λ e a. absurd (differ (p.1 a))), (λ n. refl))
   where
     differ : false ≡ true → ⊥
     differ e = absurd (cc)
 
-found_is : (b : Bool) (f g : Finding) → (found_if b f ≡ Some g) ↔ ((b ≡ true) × (f ≡ g))
+pub found_is : (b : Bool) (f g : Finding) → (found_if b f ≡ Some g) ↔ ((b ≡ true) × (f ≡ g))
 found_is true f g = ((λ e. (refl, cc)), (λ p. ap (λ x. Some x) p.1))
 found_is false f g = ((λ e. absurd (cc)), (λ p. absurd (cc (p.0))))
 
@@ -90,20 +87,8 @@ any_below (suc n) set = along n set (any_below n set)
 
 -- ---- findings, by the paths that come to the place
 
--- a pass between two tokens, before this one
-pub record Before (spot : Spot) (k : Token) (p : Pass) : Type 0 where
-  pub stands : Stands spot p
-  pub rest : List Token
-  pub is : stands.after ≡ k ∷ rest
-  pub lettered : IsLettered k
-
-some_path : (spot : Spot) (k : Token) (p : Pass) (is_so : Path → Type 0) (b : Before spot k p) → k ≢ CondElse → k ≢ CondClose
-    → Comes b.stands.before is_so ↔ OnSomePath (whole spot) spot.taken k is_so
-some_path spot k p is_so b no_else no_close =
-    (on_some_path spot p k is_so b.stands b.rest b.is, comes_of spot p k is_so b.stands no_else no_close)
-
 none_popped : (spot : Spot) (k : Token) → pops k ≡ 0 → ¬ Underflows spot k
-none_popped spot k e o = omega (arith, o.before_it, e)
+none_popped spot k e o = omega (arith, o.so, e)
 
 lacks_is : (spot : Spot) (k : Token) (p : Pass) → Before spot k p → (lacks k p.here.heights ≡ true) ↔ Underflows spot k
 lacks_is spot k p b = elim (near (pops k)) [ inl e ↦ never e | inr some ↦ sometimes some ]
@@ -118,13 +103,11 @@ lacks_is spot k p b = elim (near (pops k)) [ inl e ↦ never e | inr some ↦ so
     never e = ((λ a. absurd (none e a)), (λ u. absurd (none_popped spot k e u)))
 
     sometimes : 0 < pops k → (lacks k p.here.heights ≡ true) ↔ Underflows spot k
-    sometimes some = chain (any_below (pops k) p.here.heights) (chain (there, back) (some_path spot k p (λ path. end_height 0 path < pops k) b no_else no_close))
+    sometimes some = chain (any_below (pops k) p.here.heights) (chain (there, back) (some_before spot p k (λ path. end_height 0 path < pops k) b no_part))
       where
-        no_else : k ≢ CondElse
-        no_else e = let f : pops k ≡ 0 = ap pops e in omega arith
-
-        no_close : k ≢ CondClose
-        no_close e = let f : pops k ≡ 0 = ap pops e in omega arith
+        no_part : ¬ IsPart k
+        no_part (inl e) = let f : pops k ≡ 0 = ap pops e in omega arith
+        no_part (inr e) = let f : pops k ≡ 0 = ap pops e in omega arith
 
         there : (h : ℕ) × (h < pops k) × HasHeight p.here.heights h → Comes b.stands.before (λ path. end_height 0 path < pops k)
         there (h, lt, a) =
@@ -135,7 +118,11 @@ lacks_is spot k p b = elim (near (pops k)) [ inl e ↦ never e | inr some ↦ so
         back (path, r, lt) = (end_height 0 path, lt, (b.stands.knows.running (HeightIs (end_height 0 path)) tt).1 (path, r, refl))
 
 repeats_is : (spot : Spot) (p : Pass) → Before spot Increment p → (p.here.incremented ≡ true) ↔ IsRepeated spot Increment
-repeats_is spot p b = chain (b.stands.knows.running Incremented tt) (chain (some_path spot Increment p (λ path. Contains path Increment) b (λ e. absurd (cc)) (λ e. absurd (cc))) ((λ o. (refl, o)), (λ r. r.1)))
+repeats_is spot p b = chain (b.stands.knows.running Incremented tt) (chain (some_before spot p Increment (λ path. Contains path Increment) b no_part) ((λ o. (refl, o)), (λ r. r.1)))
+  where
+    no_part : ¬ IsPart Increment
+    no_part (inl e) = absurd (cc)
+    no_part (inr e) = absurd (cc)
 
 kept_is : (expected : Expected) (which : ℕ) → (65 ≤ which) × (which ≤ 122) → (is_kept expected which ≡ true) ↔ IsStoredElsewhere expected which
 kept_is expected which fit = (there, back)
@@ -156,8 +143,12 @@ unset_is spot expected which p b = (there, back)
     fact : (bit_at p.here.stored.mask (place_of which) ≡ 0) ↔ Comes b.stands.before (λ path. ¬ Contains path (Store which))
     fact = b.stands.knows.running (Unset which) b.lettered
 
-    on : Comes b.stands.before (λ path. ¬ Contains path (Store which)) ↔ OnSomePath (whole spot) spot.taken (Load which) (λ path. ¬ Contains path (Store which))
-    on = some_path spot (Load which) p (λ path. ¬ Contains path (Store which)) b (λ e. absurd (cc)) (λ e. absurd (cc))
+    no_part : ¬ IsPart (Load which)
+    no_part (inl e) = absurd (cc)
+    no_part (inr e) = absurd (cc)
+
+    on : Comes b.stands.before (λ path. ¬ Contains path (Store which)) ↔ IsMetAfter spot (Load which) (λ path. ¬ Contains path (Store which))
+    on = some_before spot p (Load which) (λ path. ¬ Contains path (Store which)) b no_part
 
     kept : (is_kept expected which ≡ false) ↔ (¬ IsStoredElsewhere expected which)
     kept = not_by (is_kept expected which) (kept_is expected which b.lettered)
@@ -180,7 +171,7 @@ unset_is spot expected which p b = (there, back)
     back (other, is, elsewhere, o) =
         let e : other ≡ which = same other is in
         let P : ℕ → Type 0 = λ x. ¬ IsStoredElsewhere expected x in
-        let Q : ℕ → Type 0 = λ x. OnSomePath (whole spot) spot.taken (Load which) (λ path. ¬ Contains path (Store x)) in
+        let Q : ℕ → Type 0 = λ x. IsMetAfter spot (Load which) (λ path. ¬ Contains path (Store x)) in
         parts.1 (
           (not_is (has_bit p.here.stored.mask (place_of which))).1 (stored.1 (fact.1 (on.1 (subst Q e o)))),
           (not_is (is_kept expected which)).1 (kept.1 (subst P e elsewhere)),
@@ -205,7 +196,7 @@ abbrev IsOther : Token → Type 0
 IsOther k = ((which : ℕ) → k ≢ Param which) × (k ≢ Increment) × ((which : ℕ) → k ≢ Load which)
 
 by_pops : (spot : Spot) (expected : Expected) (termcap : Bool) (k : Token) (p : Pass) → Before spot k p → IsOther k → (IsTrue termcap ↔ NamesNone (whole spot)) → (g : Finding)
-    → (found_if (lacks k p.here.heights) (underflow termcap) ≡ Some g) ↔ IsFound (record { spot = spot; expected = expected }) k g
+    → (found_if (lacks k p.here.heights) (underflow termcap) ≡ Some g) ↔ IsFoundBefore (record { spot = spot; expected = expected }) k g
 by_pops spot expected termcap k p b other names g = chain (found_is (lacks k p.here.heights) (underflow termcap) g) (each g)
   where
     l : (lacks k p.here.heights ≡ true) ↔ Underflows spot k
@@ -234,49 +225,53 @@ by_pops spot expected termcap k p b other names g = chain (found_is (lacks k p.h
     n : (termcap ≡ false) ↔ (¬ NamesNone (whole spot))
     n = not_by termcap names
 
-    each : (g : Finding) → ((lacks k p.here.heights ≡ true) × (underflow termcap ≡ g)) ↔ IsFound (record { spot = spot; expected = expected }) k g
+    each : (g : Finding) → ((lacks k p.here.heights ≡ true) × (underflow termcap ≡ g)) ↔ IsFoundBefore (record { spot = spot; expected = expected }) k g
     each StackUnderflow = ((λ a. (l.0 a.0, n.0 ((absent termcap).0 a.1))), (λ a. (l.1 a.0, (absent termcap).1 (n.1 a.1))))
     each TermcapParameter = ((λ a. (l.0 a.0, names.0 ((present termcap).0 a.1))), (λ a. (l.1 a.0, (present termcap).1 (names.1 a.1))))
     each ParameterRange = ((λ a. absurd (not_range termcap a.1)), (λ a. absurd (other.0 a.0 a.1)))
     each RepeatedIncrement = ((λ a. absurd (not_repeated termcap a.1)), (λ a. absurd (other.1 a.0)))
     each UnsetVariable = ((λ a. absurd (not_unset termcap a.1)), (λ a. absurd (other.2 a.0 a.1)))
+    each g = ((λ a. absurd ((elim termcap as (λ t. underflow t ≡ g → ⊥) [ true ↦ (λ e. absurd (cc)) | false ↦ (λ e. absurd (cc)) ]) a.1)), (λ a. absurd a))
 
 -- a token has a finding exactly if it holds
 pub found_exact : (spot : Spot) (expected : Expected) (termcap : Bool) (k : Token) (p : Pass) → Before spot k p → (IsTrue termcap ↔ NamesNone (whole spot)) → (g : Finding)
-    → (judgement expected termcap k p.here ≡ Some g) ↔ IsFound (record { spot = spot; expected = expected }) k g
+    → (judgement expected termcap k p.here ≡ Some g) ↔ IsFoundBefore (record { spot = spot; expected = expected }) k g
 found_exact spot expected termcap (Param which) p b names g = chain (found_is (nat_lt expected.parameters which) ParameterRange g) (each g)
   where
     r : (nat_lt expected.parameters which ≡ true) ↔ IsOutOfRange expected (Param which)
     r = range_is expected which
 
-    each : (g : Finding) → ((nat_lt expected.parameters which ≡ true) × (ParameterRange ≡ g)) ↔ IsFound (record { spot = spot; expected = expected }) (Param which) g
+    each : (g : Finding) → ((nat_lt expected.parameters which ≡ true) × (ParameterRange ≡ g)) ↔ IsFoundBefore (record { spot = spot; expected = expected }) (Param which) g
     each StackUnderflow = ((λ a. absurd (cc (a.1))), (λ a. absurd (none_popped spot (Param which) refl a.0)))
     each TermcapParameter = ((λ a. absurd (cc (a.1))), (λ a. absurd (none_popped spot (Param which) refl a.0)))
     each ParameterRange = ((λ a. r.0 a.0), (λ a. (r.1 a, refl)))
     each RepeatedIncrement = ((λ a. absurd (cc (a.1))), (λ a. absurd (cc (a.0))))
     each UnsetVariable = ((λ a. absurd (cc (a.1))), (λ a. absurd (cc (a.1))))
+    each _ = ((λ a. absurd (cc (a.1))), (λ a. absurd a))
 found_exact spot expected termcap Increment p b names g = chain (found_is p.here.incremented RepeatedIncrement g) (each g)
   where
     r : (p.here.incremented ≡ true) ↔ IsRepeated spot Increment
     r = repeats_is spot p b
 
-    each : (g : Finding) → ((p.here.incremented ≡ true) × (RepeatedIncrement ≡ g)) ↔ IsFound (record { spot = spot; expected = expected }) Increment g
+    each : (g : Finding) → ((p.here.incremented ≡ true) × (RepeatedIncrement ≡ g)) ↔ IsFoundBefore (record { spot = spot; expected = expected }) Increment g
     each StackUnderflow = ((λ a. absurd (cc (a.1))), (λ a. absurd (none_popped spot Increment refl a.0)))
     each TermcapParameter = ((λ a. absurd (cc (a.1))), (λ a. absurd (none_popped spot Increment refl a.0)))
     each ParameterRange = ((λ a. absurd (cc (a.1))), (λ a. absurd (cc (a.1))))
     each RepeatedIncrement = ((λ a. r.0 a.0), (λ a. (r.1 a, refl)))
     each UnsetVariable = ((λ a. absurd (cc (a.1))), (λ a. absurd (cc (a.1))))
+    each _ = ((λ a. absurd (cc (a.1))), (λ a. absurd a))
 found_exact spot expected termcap (Load which) p b names g = chain (found_is (is_unset expected which p.here) UnsetVariable g) (each g)
   where
     r : (is_unset expected which p.here ≡ true) ↔ IsUnset expected spot (Load which)
     r = unset_is spot expected which p b
 
-    each : (g : Finding) → ((is_unset expected which p.here ≡ true) × (UnsetVariable ≡ g)) ↔ IsFound (record { spot = spot; expected = expected }) (Load which) g
+    each : (g : Finding) → ((is_unset expected which p.here ≡ true) × (UnsetVariable ≡ g)) ↔ IsFoundBefore (record { spot = spot; expected = expected }) (Load which) g
     each StackUnderflow = ((λ a. absurd (cc (a.1))), (λ a. absurd (none_popped spot (Load which) refl a.0)))
     each TermcapParameter = ((λ a. absurd (cc (a.1))), (λ a. absurd (none_popped spot (Load which) refl a.0)))
     each ParameterRange = ((λ a. absurd (cc (a.1))), (λ a. absurd (cc (a.1))))
     each RepeatedIncrement = ((λ a. absurd (cc (a.1))), (λ a. absurd (cc (a.0))))
     each UnsetVariable = ((λ a. r.0 a.0), (λ a. (r.1 a, refl)))
+    each _ = ((λ a. absurd (cc (a.1))), (λ a. absurd a))
 found_exact spot expected termcap k p b names g = by_pops spot expected termcap k p b ((λ which e. absurd (cc)), (λ e. absurd (cc)), (λ which e. absurd (cc))) names g
 
 -- ---- whether a capability names a parameter

@@ -7,7 +7,8 @@ use Rattle.ti_cap.proofs.ReachesLemmas.{Moved}
 use Rattle.ti_lint.specs.declared.facts.Facts.{Facts}
 use Rattle.ti_lint.specs.inner.Facts.{no_facts, first_facts, joined, after_token, IsLettered}
 use Rattle.ti_lint.proofs.HeightsLemmas.{HasHeight, IsLow, Comes, has_after}
-use Rattle.ti_lint.proofs.FactsLemmas.{Fact, HeightIs, Incremented, Unset, Says, Has, IsFit, has_nothing, has_joined, has_first, height-snoc, contains-snoc, has_increment, has_store}
+use Rattle.ti_lint.specs.Findings.{NamesFirstTwo}
+use Rattle.ti_lint.proofs.FactsLemmas.{Fact, HeightIs, Incremented, Named, Unset, Says, Has, IsFit, has_nothing, has_joined, has_first, height-snoc, contains-snoc, IsFirstTwo, names_longer, has_first_two, has_increment, has_store}
 
 abbrev pub Path : Type 0
 Path = List Token
@@ -57,6 +58,9 @@ AreLow within = (x : Path) → within x → end_height 0 x < 63
 low_heights : (f : Facts) (within : Path → Type 0) → AreLow within → Holds f within → IsLow f.heights
 low_heights f within low h x a = let t : IsTold within (HeightIs x) = (h (HeightIs x) tt).0 a in omega (arith, low t.0 t.1, t.2)
 
+names-snoc : (path : Path) (k : Token) → NamesFirstTwo (snoc path k) ↔ (NamesFirstTwo path ⊎ IsFirstTwo k)
+names-snoc path k = names_longer k path (snoc path k) (contains-snoc path k)
+
 pub holds_token : (k : Token) (f : Facts) (within : Path → Type 0) (some : Path) → IsLettered k → within some → AreLow within → Holds f within
     → Holds (after_token k f) (Moved snoc within k)
 holds_token k f within some fit is low h = each
@@ -91,6 +95,20 @@ holds_token k f within some fit is low h = each
               | inl c ↦ inl ((h Incremented tt).1 (old, w, c))
               | inr i ↦ inr i
             ])
+    each Named at = (there, back)
+      where
+        there : Has (after_token k f) Named → IsTold (Moved snoc within k) Named
+        there a = elim ((has_first_two k f.named_first_two).0 a) [
+          | inl old ↦ let t : IsTold within Named = (h Named tt).0 old in (snoc t.0 k, (t.0, t.1, refl), (names-snoc t.0 k).1 (inl t.2))
+          | inr e ↦ (snoc some k, (some, is, refl), (names-snoc some k).1 (inr e))
+        ]
+
+        back : IsTold (Moved snoc within k) Named → Has (after_token k f) Named
+        back (new, (old, w, e), s) =
+            (has_first_two k f.named_first_two).1 (elim ((names-snoc old k).0 (subst NamesFirstTwo e s)) [
+              | inl c ↦ inl ((h Named tt).1 (old, w, c))
+              | inr i ↦ inr i
+            ])
     each (Unset which) at = (there, back)
       where
         there : Has (after_token k f) (Unset which) → IsTold (Moved snoc within k) (Unset which)
@@ -111,7 +129,7 @@ holds_token k f within some fit is low h = each
 -- ---- a token that changes no fact
 
 abbrev pub IsStill : Token → Type 0
-IsStill k = ((h : ℕ) → next_height h k ≡ h) × (k ≢ Increment) × ((which : ℕ) → k ≢ Store which)
+IsStill k = ((h : ℕ) → next_height h k ≡ h) × (k ≢ Increment) × ((which : ℕ) → k ≢ Store which) × ¬ IsFirstTwo k
 
 still_says : (k : Token) (fact : Fact) (path : Path) → IsStill k → Says fact path ↔ Says fact (snoc path k)
 still_says k (HeightIs h) path still =
@@ -121,6 +139,10 @@ still_says k Incremented path still = ((λ c. (contains-snoc path k Increment).1
   where
     back : Contains (snoc path k) Increment → Contains path Increment
     back c = elim ((contains-snoc path k Increment).0 c) [ inl old ↦ old | inr e ↦ absurd (still.1 e) ]
+still_says k Named path still = ((λ c. (names-snoc path k).1 (inl c)), back)
+  where
+    back : NamesFirstTwo (snoc path k) → NamesFirstTwo path
+    back c = elim ((names-snoc path k).0 c) [ inl old ↦ old | inr e ↦ absurd (still.3 e) ]
 still_says k (Unset which) path still = (there, (λ n c. n ((contains-snoc path k (Store which)).1 (inl c))))
   where
     there : ¬ Contains path (Store which) → ¬ Contains (snoc path k) (Store which)

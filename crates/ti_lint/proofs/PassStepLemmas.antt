@@ -1,5 +1,5 @@
 -- One token more, for each token of a conditional and for the others.
-use Rattle.std.proofs.Common.{◌≡◌, ◌≢◌, ℕ, zero, suc, ◌+◌, ◌-◌, ◌<◌, ◌≤◌, List, [], ◌∷◌, ◌++◌, length, get_or, set, refl, sym, ◌∙◌, ap, subst, arith}
+use Rattle.std.proofs.Common.{◌≡◌, ◌≢◌, ℕ, inl, inr, zero, suc, ◌+◌, ◌-◌, ◌<◌, ◌≤◌, List, [], ◌∷◌, ◌++◌, length, get_or, set, refl, sym, ◌∙◌, ap, subst, arith}
 use Rattle.std.proofs.lemmas.List.{get_or-set_same, get_or-set_other, length-set}
 use Rattle.ti_base.specs.Limits.{most_open}
 use Rattle.ti_cap.specs.declared.language.Token.{Token}
@@ -15,6 +15,7 @@ use Rattle.ti_lint.specs.declared.pass.Open.{Open}
 use Rattle.ti_lint.specs.declared.pass.Pass.{Pass}
 use Rattle.ti_lint.specs.inner.Facts.{no_facts, joined, after_token}
 use Rattle.ti_lint.specs.inner.Pass.{fresh, innermost, passed}
+use Rattle.ti_lint.proofs.FactsLemmas.{IsFirstTwo}
 use Rattle.ti_lint.proofs.HoldsLemmas.{Path, snoc, Holds, IsStill, holds_same, holds_nothing, holds_joined, holds_token, holds_still}
 use Rattle.ti_lint.proofs.ReachedLemmas.{Paths}
 use Rattle.ti_lint.proofs.PassLemmas.{Knows, Goes, leads_on, runs, after_step, swapped, regrouped, chain}
@@ -49,13 +50,25 @@ holds_along o p within e h = let P : Facts → Type 0 = λ x. Holds x within in 
 
 -- tokens of a conditional that change no fact
 still_open : IsStill CondOpen
-still_open = ((λ h. omega arith), (λ e. absurd (cc)), (λ which e. absurd (cc)))
+still_open = ((λ h. omega arith), (λ e. absurd (cc)), (λ which e. absurd (cc)), not_first)
+  where
+    not_first : IsFirstTwo CondOpen → ⊥
+    not_first (inl e) = absurd (cc)
+    not_first (inr e) = absurd (cc)
 
 still_else : IsStill CondElse
-still_else = ((λ h. omega arith), (λ e. absurd (cc)), (λ which e. absurd (cc)))
+still_else = ((λ h. omega arith), (λ e. absurd (cc)), (λ which e. absurd (cc)), not_first)
+  where
+    not_first : IsFirstTwo CondElse → ⊥
+    not_first (inl e) = absurd (cc)
+    not_first (inr e) = absurd (cc)
 
 still_close : IsStill CondClose
-still_close = ((λ h. omega arith), (λ e. absurd (cc)), (λ which e. absurd (cc)))
+still_close = ((λ h. omega arith), (λ e. absurd (cc)), (λ which e. absurd (cc)), not_first)
+  where
+    not_first : IsFirstTwo CondClose → ⊥
+    not_first (inl e) = absurd (cc)
+    not_first (inr e) = absurd (cc)
 
 open_step : (before : List Token) (parts onto : List Part) (p : Pass) → Goes before CondOpen parts onto p → p.nesting < most_open → Knows (before ++ CondOpen ∷ []) onto (passed p CondOpen)
 open_step before parts onto p w room = record {

@@ -5,10 +5,7 @@ use Rattle.std.proofs.lemmas.Nat.Bits.{bit_at_or, bit_at-lt, bit_at-zero, bit_at
 use Rattle.ti_cap.specs.Spelling.{IsLetter}
 use Rattle.ti_lint.specs.declared.variables.Variables.{Variables}
 use Rattle.ti_lint.specs.Variables.{HasVariable}
-use Rattle.ti_lint.specs.inner.Facts.{place_of, stored_also}
-
-abbrev pub either_set : Variables → Variables → Variables
-either_set a b = record { mask = bit_or a.mask b.mask }
+use Rattle.ti_lint.specs.inner.Facts.{place_of, stored_also, either_set}
 
 pub has_either_set : (a b : Variables) (which : ℕ) → HasVariable (either_set a b) which ↔ (HasVariable a which ⊎ HasVariable b which)
 has_either_set a b which = (apart, together)

@@ -1,9 +1,9 @@
 -- The word for each finding, of a token and of a text.
 use Rattle.std.specs.Prelude.{ℕ, List, codes}
 use Rattle.ti_lint.specs.declared.finding.Finding.{Finding}
-use Rattle.ti_lint.specs.declared.finding.Finding.TheVariants.{StackUnderflow, TermcapParameter, ParameterRange, RepeatedIncrement, UnsetVariable}
+use Rattle.ti_lint.specs.declared.finding.Finding.TheVariants.{StackUnderflow, TermcapParameter, ParameterRange, RepeatedIncrement, UnsetVariable, StackResidue, UnusedIncrement, LateIncrement, DeadStore}
 use Rattle.ti_lint.specs.declared.text_finding.TextFinding.{TextFinding}
-use Rattle.ti_lint.specs.declared.text_finding.TextFinding.TheVariants.{Malformed, UnusedParameter, UninterpretedEscape, UninterpretedPercent, EqualPair}
+use Rattle.ti_lint.specs.declared.text_finding.TextFinding.TheVariants.{Malformed, UnusedParameter, UninterpretedEscape, UninterpretedPercent, EqualPair, FalseMark, MarkInKey, HalfPaired, KeyPrefix, RepeatedName}
 
 abbrev pub finding_word : Finding → List ℕ
 finding_word StackUnderflow = codes "stack-underflow"
@@ -11,6 +11,10 @@ finding_word TermcapParameter = codes "termcap-parameter"
 finding_word ParameterRange = codes "parameter-range"
 finding_word RepeatedIncrement = codes "%i-repeated"
 finding_word UnsetVariable = codes "unset-variable"
+finding_word StackResidue = codes "stack-residue"
+finding_word UnusedIncrement = codes "%i-unused"
+finding_word LateIncrement = codes "%i-late"
+finding_word DeadStore = codes "dead-store"
 
 abbrev pub text_finding_word : TextFinding → List ℕ
 text_finding_word Malformed = codes "malformed"
@@ -18,3 +22,8 @@ text_finding_word UnusedParameter = codes "parameter-unused"
 text_finding_word UninterpretedEscape = codes "uninterpreted-escape"
 text_finding_word UninterpretedPercent = codes "uninterpreted-percent"
 text_finding_word EqualPair = codes "pair-equal"
+text_finding_word FalseMark = codes "padding-malformed"
+text_finding_word MarkInKey = codes "padding-in-key"
+text_finding_word HalfPaired = codes "acsc-odd"
+text_finding_word KeyPrefix = codes "key-prefix"
+text_finding_word RepeatedName = codes "name-repeated"

@@ -1,14 +1,14 @@
--- What may be wrong with a token of a capability, by the paths that come to it.
-use Rattle.std.specs.Prelude.{◌≡◌, ℕ, ◌<◌, ◌≤◌, List, Contains, codes}
+-- What may be wrong with a token of a capability, by the paths that come to it and those that go on from it.
+use Rattle.std.specs.Prelude.{◌≡◌, ℕ, ◌<◌, ◌≤◌, ◌⊎◌, List, [], ◌∷◌, Contains, codes}
 use Rattle.ti_base.specs.Letters.{letter}
 use Rattle.ti_cap.specs.declared.language.Token.{Token}
 use Rattle.ti_cap.specs.declared.language.Token.TheVariants.{Param, Store, Load, Increment}
-use Rattle.ti_cap.specs.Height.{pops, end_height}
-use Rattle.ti_cap.specs.Sources.{IsNamed}
+use Rattle.ti_cap.specs.Height.{pops, pushes, next_height, end_height}
+use Rattle.ti_cap.specs.Sources.{Names, IsNamed}
 use Rattle.ti_cap.specs.Capability.{Spot, whole}
 use Rattle.ti_lint.specs.declared.expected.Expected.{Expected}
 use Rattle.ti_lint.specs.declared.finding.Finding.{Finding}
-use Rattle.ti_lint.specs.declared.finding.Finding.TheVariants.{StackUnderflow, TermcapParameter, ParameterRange, RepeatedIncrement, UnsetVariable}
+use Rattle.ti_lint.specs.declared.finding.Finding.TheVariants.{StackUnderflow, TermcapParameter, ParameterRange, RepeatedIncrement, UnsetVariable, StackResidue, UnusedIncrement, LateIncrement, DeadStore}
 use Rattle.ti_lint.specs.Variables.{HasVariable}
 use Rattle.ti_lint.specs.OnSomePath.{OnSomePath}
 
@@ -17,9 +17,19 @@ pub record Underway : Type 0 where
   pub spot : Spot
   pub expected : Expected
 
+-- on some path that meets the token at the spot, what comes before it is so
+abbrev pub IsMetAfter : Spot → Token → (List Token → Type 0) → Type 0
+IsMetAfter spot token is_so = OnSomePath (whole spot) spot.taken token (λ before after. is_so before)
+
+-- on some path that meets the token at the spot, what comes after it is so
+abbrev pub IsMetBefore : Spot → Token → (List Token → Type 0) → Type 0
+IsMetBefore spot token is_so = OnSomePath (whole spot) spot.taken token (λ before after. is_so after)
+
+-- ---- by what comes before
+
 -- the token pops more values than there are
 abbrev pub Underflows : Spot → Token → Type 0
-Underflows spot token = OnSomePath (whole spot) spot.taken token (λ path. end_height 0 path < pops token)
+Underflows spot token = IsMetAfter spot token (λ before. end_height 0 before < pops token)
 
 -- no path pushes a parameter
 abbrev pub NamesNone : List ℕ → Type 0
@@ -31,7 +41,7 @@ IsOutOfRange expected token = (which : ℕ) × (token ≡ Param which) × (expec
 
 -- another `%i` comes before this one
 abbrev pub IsRepeated : Spot → Token → Type 0
-IsRepeated spot token = (token ≡ Increment) × OnSomePath (whole spot) spot.taken token (λ path. Contains path Increment)
+IsRepeated spot token = (token ≡ Increment) × IsMetAfter spot token (λ before. Contains before Increment)
 
 -- A variable from A to Z keeps its value from one capability to the next. One from a to z does not.
 abbrev pub IsStoredElsewhere : Expected → ℕ → Type 0
@@ -41,12 +51,51 @@ IsStoredElsewhere expected which = (which ≤ letter (codes "Z")) × HasVariable
 abbrev pub IsUnset : Expected → Spot → Token → Type 0
 IsUnset expected spot token =
     (which : ℕ) × (token ≡ Load which) × (¬ IsStoredElsewhere expected which)
-    × OnSomePath (whole spot) spot.taken token (λ path. ¬ Contains path (Store which))
+    × IsMetAfter spot token (λ before. ¬ Contains before (Store which))
 
--- the finding holds of the token that stands next
-abbrev pub IsFound : Underway → Token → Finding → Type 0
-IsFound at token StackUnderflow = Underflows at.spot token × ¬ NamesNone (whole at.spot)
-IsFound at token TermcapParameter = Underflows at.spot token × NamesNone (whole at.spot)
-IsFound at token ParameterRange = IsOutOfRange at.expected token
-IsFound at token RepeatedIncrement = IsRepeated at.spot token
-IsFound at token UnsetVariable = IsUnset at.expected at.spot token
+-- the finding holds of the token that stands next, by what comes before it
+abbrev pub IsFoundBefore : Underway → Token → Finding → Type 0
+IsFoundBefore at token StackUnderflow = Underflows at.spot token × ¬ NamesNone (whole at.spot)
+IsFoundBefore at token TermcapParameter = Underflows at.spot token × NamesNone (whole at.spot)
+IsFoundBefore at token ParameterRange = IsOutOfRange at.expected token
+IsFoundBefore at token RepeatedIncrement = IsRepeated at.spot token
+IsFoundBefore at token UnsetVariable = IsUnset at.expected at.spot token
+IsFoundBefore at token finding = ⊥
+
+-- ---- by what comes after
+
+-- of so many values on the stack, no token pops the lowest
+abbrev pub Keeps : ℕ → List Token → Type 0
+Keeps height [] = Unit {0}
+Keeps height (token ∷ path) = (pops token < height) × Keeps (next_height height token) path
+
+-- the value that the token pushes is never popped
+abbrev pub LeavesValue : Spot → Token → Type 0
+LeavesValue spot token = (0 < pushes token) × IsMetBefore spot token (λ after. Keeps 1 after)
+
+-- `%i` adds 1 to these two
+abbrev pub NamesFirstTwo : List Token → Type 0
+NamesFirstTwo path = Names path 1 ⊎ Names path 2
+
+-- no path has after the `%i` what it adds 1 to
+abbrev pub IsUnused : Spot → Token → Type 0
+IsUnused spot token = (token ≡ Increment) × ¬ IsMetBefore spot token NamesFirstTwo
+
+-- one of the two is pushed before the `%i`, as it is, and one after it, with 1 added
+abbrev pub IsLate : Spot → Token → Type 0
+IsLate spot token =
+    (token ≡ Increment) × OnSomePath (whole spot) spot.taken token (λ before after. NamesFirstTwo before × NamesFirstTwo after)
+
+-- no path pushes the variable after the token has stored into it; one from a to z is gone at the end
+abbrev pub IsDead : Spot → Token → Type 0
+IsDead spot token =
+    (which : ℕ) × (token ≡ Store which) × (letter (codes "a") ≤ which)
+    × ¬ IsMetBefore spot token (λ after. Contains after (Load which))
+
+-- the finding holds of the token that stands next, by what comes after it
+abbrev pub IsFoundAfter : Underway → Token → Finding → Type 0
+IsFoundAfter at token StackResidue = LeavesValue at.spot token
+IsFoundAfter at token UnusedIncrement = IsUnused at.spot token
+IsFoundAfter at token LateIncrement = IsLate at.spot token
+IsFoundAfter at token DeadStore = IsDead at.spot token
+IsFoundAfter at token finding = ⊥

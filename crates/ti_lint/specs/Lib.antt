@@ -1,8 +1,12 @@
+pub mod Repeated
 pub mod Variables
 pub mod Classes
 pub mod Pairs
 pub mod Plain
+pub mod Marks
 pub mod OnSomePath
 pub mod Findings
 pub mod FindingWords
+pub mod FirstParts
+pub mod Found
 pub mod inner

@@ -1,3 +1,5 @@
 -- What private clauses alone cite.
 pub mod Facts
+pub mod Found
+pub mod Outlook
 pub mod Pass

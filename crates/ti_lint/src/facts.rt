@@ -1,7 +1,7 @@
 //! What is true on some path that comes to a place. No fact depends on which way a test went, so what is found is exact.
 
 ghost use Rattle.std.specs.Prelude.{◌≡◌, ◌≤◌};
-ghost use Rattle.ti_lint.specs.inner.Facts.{after_token, joined, IsLettered, judgement, is_unset, found_if, underflow};
+ghost use Rattle.ti_lint.specs.inner.Facts.{after_token, is_first_two, joined, IsLettered, judgement, is_unset, found_if, underflow};
 
 use crate::expected::Expected;
 use crate::finding::Finding;
@@ -16,6 +16,8 @@ pub struct Facts {
     heights: Heights,
     /// Whether some path has met `%i`.
     incremented: bool,
+    /// Whether some path has pushed the first or the second parameter.
+    named_first_two: bool,
     /// The variables into which every path has stored.
     stored: Variables,
 }
@@ -25,6 +27,7 @@ impl Facts {
     pub const NONE: Facts = Facts {
         heights: Heights::NONE,
         incremented: false,
+        named_first_two: false,
         stored: Variables::ALL,
     };
 
@@ -32,6 +35,7 @@ impl Facts {
     pub const START: Facts = Facts {
         heights: Heights::EMPTY_STACK,
         incremented: false,
+        named_first_two: false,
         stored: Variables::NONE,
     };
 
@@ -41,6 +45,7 @@ impl Facts {
     {
         self.heights = self.heights.union(other.heights);
         self.incremented = self.incremented || other.incremented;
+        self.named_first_two = self.named_first_two || other.named_first_two;
         self.stored = self.stored.intersection(other.stored);
     }
 
@@ -50,11 +55,19 @@ impl Facts {
         ensures { self.new ≡ after_token token self.old }
     {
         self.heights = self.heights.after(token);
+        self.named_first_two = self.named_first_two || is_first_two(token);
         match token {
             Token::Increment => self.incremented = true,
             Token::Store(letter) => self.stored = self.stored.with(letter),
             _ => {}
         }
+    }
+
+    /// Whether some path here has pushed the first or the second parameter.
+    pub fn named_first_two(&self) -> bool
+        ensures { result ≡ self.now.named_first_two }
+    {
+        self.named_first_two
     }
 
     /// What is wrong with a token on some path here. `termcap` says that the capability names no parameter.
@@ -83,8 +96,18 @@ impl Facts {
     }
 }
 
+/// Whether a token pushes the first or the second parameter.
+pub fn is_first_two(token: Token) -> bool
+    ensures { result ≡ is_first_two token }
+{
+    match token {
+        Token::Param(which) => which == 1 || which == 2,
+        _ => false,
+    }
+}
+
 /// A finding, if it holds.
-fn found_if(holds: bool, finding: Finding) -> Option<Finding>
+pub fn found_if(holds: bool, finding: Finding) -> Option<Finding>
     ensures { result ≡ found_if holds finding }
 {
     if holds { Some(finding) } else { None }

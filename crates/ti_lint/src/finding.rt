@@ -3,7 +3,7 @@
 ghost use Rattle.std.specs.Prelude.{◌≡◌};
 ghost use Rattle.ti_lint.specs.FindingWords.{finding_word};
 
-/// What is wrong with a token of a capability, on some of the paths that meet it.
+/// What is wrong with a token of a capability, by the paths that meet it.
 #[derive(Clone, Copy, Debug, PartialEq, Eq)]
 pub enum Finding {
     /// It pops more values than there are.
@@ -16,6 +16,14 @@ pub enum Finding {
     RepeatedIncrement,
     /// It pushes a variable into which nothing was stored.
     UnsetVariable,
+    /// It pushes a value that is never popped.
+    StackResidue,
+    /// It is a `%i`, and neither of the first two parameters is pushed after it.
+    UnusedIncrement,
+    /// It is a `%i` between two of the first two parameters, so that only the later one has 1 added.
+    LateIncrement,
+    /// It stores into a variable that is not pushed after it.
+    DeadStore,
 }
 
 impl Finding {
@@ -29,6 +37,10 @@ impl Finding {
             Finding::ParameterRange => "parameter-range",
             Finding::RepeatedIncrement => "%i-repeated",
             Finding::UnsetVariable => "unset-variable",
+            Finding::StackResidue => "stack-residue",
+            Finding::UnusedIncrement => "%i-unused",
+            Finding::LateIncrement => "%i-late",
+            Finding::DeadStore => "dead-store",
         }
     }
 }

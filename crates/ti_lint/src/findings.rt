@@ -1,22 +1,28 @@
 //! The findings of a capability, token by token.
 
-ghost use Rattle.std.specs.Prelude.{◌≡◌, ◌↔◌, [], Some, length, IfSome, IfNone};
+ghost use Rattle.std.specs.Prelude.{◌≡◌, ◌↔◌, [], Some, length, IfSome, IfNone, IfOk};
 ghost use Rattle.ti_cap.specs.Capability.{Takes, IsFirst};
-ghost use Rattle.ti_lint.specs.Findings.{IsFound};
+ghost use Rattle.ti_lint.specs.Findings.{IsFoundBefore, IsFoundAfter};
 
+use crate::backward::outlooks;
 use crate::expected::Expected;
 use crate::finding::Finding;
+use crate::outlook::Outlook;
 use crate::pass::Pass;
+use crate::tokens::tokens_of;
+use std::alloc::{AllocError, Global};
 use std::marker::Model;
 use ti_cap::{Capability, ParameterSet, Tape, Token};
 
-/// A token, and what is wrong with it on some path.
+/// A token, and what is wrong with it.
 #[derive(Clone, Copy, Debug, PartialEq, Eq)]
 pub struct Judged {
     /// The token.
     pub token: Token,
-    /// What is wrong with it. No token has two findings.
-    pub finding: Option<Finding>,
+    /// What is wrong with it by what comes before it. No token has two such findings.
+    pub before: Option<Finding>,
+    /// What is wrong with it by what comes after it. No token has two such findings.
+    pub after: Option<Finding>,
 }
 
 /// The tokens of a capability, each with what is wrong with it. It goes forward only.
@@ -24,6 +30,8 @@ pub struct Judged {
 pub struct Findings<'a> {
     tape: Tape<'a>,
     pass: Pass,
+    /// What comes after each token that is left, that of the first one last.
+    outlooks: Vec<Outlook>,
     expected: Expected,
     termcap: bool,
 }
@@ -33,6 +41,7 @@ impl<'a> Model for Findings<'a> {
     ghost use Rattle.ti_cap.specs.Capability.{whole};
     ghost use Rattle.ti_lint.specs.Findings.{Underway, NamesNone};
     ghost use Rattle.ti_lint.specs.inner.Pass.{IsAt};
+    ghost use Rattle.ti_lint.specs.inner.Outlook.{IsAhead};
 
     ghost Value = { Underway };
 
@@ -41,32 +50,40 @@ impl<'a> Model for Findings<'a> {
       expected = f.expected;
     } };
 
-    ghost invariant = { λ f. IsAt f.tape f.pass × (IsTrue f.termcap ↔ NamesNone (whole f.tape)) };
+    ghost invariant = { λ f. IsAt f.tape f.pass × (IsTrue f.termcap ↔ NamesNone (whole f.tape))
+        × IsAhead f.tape f.outlooks.items };
 }
 
 impl<'a> Findings<'a> {
     ghost use Rattle.ti_lint.specs.declared.finding.Finding.{Finding};
 
-    /// The findings of a capability, before its first token.
+    /// The findings of a capability, before its first token. It takes memory for what comes after each token.
     ///
     /// # Examples
     ///
     /// ```rust
-    /// let mut findings = Findings::new(&Capability::parse(TSL)?, expected);
+    /// let mut findings = Findings::new(rt.alloc(), &Capability::parse(TSL)?, expected)?;
     /// ```
-    pub fn new(capability: &Capability<'a>, expected: Expected) -> Self
-        ensures start { result.spot ≡ record { taken = []; left = capability.now } }
-        ensures expected { result.expected ≡ expected }
+    pub fn new(
+        alloc: Global,
+        capability: &Capability<'a>,
+        expected: Expected,
+    ) -> Result<Self, AllocError>
+        ensures start { IfOk result
+            (λ findings. findings.spot ≡ record { taken = []; left = capability.now }) }
+        ensures expected { IfOk result (λ findings. findings.expected ≡ expected) }
     {
         // A tree writes it, on which what the pass knows rests.
         let _depth = capability.depth();
         let named = capability.parameters().named;
-        Findings {
+        let tokens = tokens_of(alloc, capability)?;
+        Ok(Findings {
             tape: capability.tape(),
             pass: Pass::new(),
+            outlooks: outlooks(alloc, tokens)?,
             expected,
             termcap: named == ParameterSet::NONE,
-        }
+        })
     }
 
     /// Takes the next token, or none at the end.
@@ -80,13 +97,22 @@ impl<'a> Findings<'a> {
         ensures expected { self.new.expected ≡ self.old.expected }
 
         // and a finding is reported exactly if it holds
-        ensures found { IfSome result (λ judged. (finding : Finding)
-            → (judged.finding ≡ Some finding) ↔ IsFound self.old judged.token finding) }
+        ensures before { IfSome result (λ judged. (finding : Finding)
+            → (judged.before ≡ Some finding) ↔ IsFoundBefore self.old judged.token finding) }
+        ensures after { IfSome result (λ judged. (finding : Finding)
+            → (judged.after ≡ Some finding) ↔ IsFoundAfter self.old judged.token finding) }
     {
         let token = self.tape.token()?;
-        let finding = self.pass.here().judge(token, &self.expected, self.termcap);
+        let outlook = self.outlooks.pop()?;
+        let here = self.pass.here();
+        let before = here.judge(token, &self.expected, self.termcap);
+        let after = outlook.judge(token, here);
         self.pass.take(token);
-        Some(Judged { token, finding })
+        Some(Judged {
+            token,
+            before,
+            after,
+        })
     }
 
     /// The bytes of the capability that were taken.

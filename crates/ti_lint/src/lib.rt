@@ -1,33 +1,45 @@
 //! What is wrong with a capability on some of its paths, found exactly over all of them.
 //!
-//! [`Findings`] goes over the tokens of a capability once and reports for each what is wrong with it on some path: a pop of
-//! the empty stack, a parameter that the capability does not have, a second `%i`, a variable that was not set. A finding is
-//! reported exactly if it holds. The cost is constant a token, and no memory is taken.
+//! [`findings_of`] returns the findings of a capability with their places, and [`Findings`] reports them token by token: a pop
+//! of the empty stack, a value that is never popped, a parameter that the capability does not have, a `%i` that is repeated,
+//! late or of no use, a variable that was not set or is not used. A finding is reported exactly if it holds. The cost is
+//! constant a token, in time and in memory.
 #![tactic(auto)]
 
+mod backward;
 mod class;
 mod class_table;
 mod expected;
 mod facts;
 mod finding;
 mod findings;
+mod found;
 mod heights;
 pub mod laws;
+mod marks;
+mod outlook;
 mod pairs;
 mod parameters;
 mod pass;
 mod plain;
+mod prefixes;
+mod repeats;
 mod stored;
 mod text_finding;
+mod tokens;
 mod variables;
 
 pub use class::{Class, class_of};
 pub use expected::Expected;
 pub use finding::Finding;
 pub use findings::{Findings, Judged};
-pub use pairs::undoing_pairs;
+pub use found::{Found, findings_of};
+pub use marks::{find_false_mark, find_mark};
+pub use pairs::{is_half_paired, undoing_pairs};
 pub use parameters::unused_parameters;
 pub use plain::{find_double_percent, is_meant_to_expand};
+pub use prefixes::first_parts;
+pub use repeats::repeated;
 pub use stored::stored_by;
 pub use text_finding::TextFinding;
 pub use variables::Variables;

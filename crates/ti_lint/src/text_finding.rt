@@ -16,6 +16,16 @@ pub enum TextFinding {
     UninterpretedPercent,
     /// Two texts that undo each other, such as `sc` and `rc`, are the same: [`crate::undoing_pairs`] has their indices.
     EqualPair,
+    /// A `$<` in a text that is sent starts no padding mark: [`crate::find_false_mark`].
+    FalseMark,
+    /// A text that a key sends has a padding mark: [`crate::find_mark`].
+    MarkInKey,
+    /// A list of pairs of bytes, as `acsc` is, has an odd number of them: [`crate::is_half_paired`].
+    HalfPaired,
+    /// A text that a key sends is the first part of another one: [`crate::first_parts`].
+    KeyPrefix,
+    /// An extended name stands more than once: [`crate::repeated`].
+    RepeatedName,
 }
 
 impl TextFinding {
@@ -29,6 +39,11 @@ impl TextFinding {
             TextFinding::UninterpretedEscape => "uninterpreted-escape",
             TextFinding::UninterpretedPercent => "uninterpreted-percent",
             TextFinding::EqualPair => "pair-equal",
+            TextFinding::FalseMark => "padding-malformed",
+            TextFinding::MarkInKey => "padding-in-key",
+            TextFinding::HalfPaired => "acsc-odd",
+            TextFinding::KeyPrefix => "key-prefix",
+            TextFinding::RepeatedName => "name-repeated",
         }
     }
 }

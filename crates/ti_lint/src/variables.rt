@@ -2,7 +2,7 @@
 
 ghost use Rattle.std.specs.Prelude.{◌≡◌, ℕ, ◌≤◌, ◌↔◌, ◌⊎◌, IsTrue};
 ghost use Rattle.ti_lint.specs.Variables.{HasVariable};
-ghost use Rattle.ti_lint.specs.inner.Facts.{has_bit, place_of, stored_also, both_sets};
+ghost use Rattle.ti_lint.specs.inner.Facts.{has_bit, place_of, stored_also, either_set, both_sets};
 
 /// A set of variables. Bit N of the mask says whether the letter N places after `A` in ASCII is in it.
 #[derive(Clone, Copy, Debug, PartialEq, Eq)]
@@ -38,6 +38,13 @@ impl Variables {
     pub fn union(self, other: Variables) -> Variables
         ensures exact { (which : ℕ) → HasVariable result which
             ↔ (HasVariable self which ⊎ HasVariable other which) }
+    {
+        self.either(other)
+    }
+
+    /// The same, by its bits.
+    pub(crate) fn either(self, other: Variables) -> Variables
+        ensures { result ≡ either_set self other }
     {
         Variables {
             mask: self.mask | other.mask,

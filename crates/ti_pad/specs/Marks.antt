@@ -47,6 +47,10 @@ pub record StandsAtFront (m : Mark) (bytes : List ℕ) : Type 0 where
   pub rest : List ℕ
   pub bytes_are : bytes ≡ mark_bytes m ++ rest
 
+-- some mark stands there
+abbrev pub StartsWithMark : List ℕ → Type 0
+StartsWithMark bytes = (m : Mark) × StandsAtFront m bytes
+
 -- ---- the mark at the front of the bytes, if there is one
 
 abbrev pub starts_with : List ℕ → List ℕ → Bool

@@ -3,10 +3,10 @@
 //! Each function is one part of the grammar and looks forward only, at each byte once. No byte after the first of a
 //! mark is a `$`, so that asking at each place of a text is linear in the text. No memory is taken.
 
-ghost use Rattle.std.specs.Prelude.{true, ◌≡◌, ◌≤◌, length, option_map, take_while, IfSome};
+ghost use Rattle.std.specs.Prelude.{true, ◌≡◌, ◌≤◌, ◌↔◌, length, option_map, take_while, IfSome, IsTrue};
 ghost use Rattle.std.specs.Char.{is_ascii_digit};
 ghost use Rattle.std.specs.List.{list_all, prefix_len};
-ghost use Rattle.ti_pad.specs.Marks.{bytes_after_front, bytes_after_number, bytes_after_whole, decimals_at, flags_at, mark_after_number as the_mark_after_number, mark_after_whole as the_mark_after_whole, mark_after_front as the_mark_after_front, mark_at, mark_bytes};
+ghost use Rattle.ti_pad.specs.Marks.{bytes_after_front, bytes_after_number, bytes_after_whole, decimals_at, flags_at, mark_after_number as the_mark_after_number, mark_after_whole as the_mark_after_whole, mark_after_front as the_mark_after_front, mark_at, mark_bytes, StartsWithMark};
 ghost use Rattle.ti_pad.specs.inner.Decimals.{AreDecimals, decimals_of};
 ghost use Rattle.ti_pad.specs.inner.Mark.{LeavesAfter, found_mark};
 
@@ -120,4 +120,11 @@ pub fn mark_at_front(bytes: &[u8]) -> Option<Found<'_>>
 {
     let rest = bytes.strip_prefix(b"$<")?;
     mark_after_front(rest)
+}
+
+/// Whether a padding mark stands at the front.
+pub fn starts_with_mark(bytes: &[u8]) -> bool
+    ensures exact { IsTrue result ↔ StartsWithMark bytes.now }
+{
+    mark_at_front(bytes).is_some()
 }

@@ -17,6 +17,7 @@ mod slice;
 mod stretch;
 mod writing;
 
+pub use find_mark::starts_with_mark;
 pub use length::padded_len;
 pub use memory::{PadFault, pad};
 pub use output::write_out;

@@ -1,25 +1,38 @@
 //! What is wrong with tokens of capabilities on some of their paths: rows worked by hand.
 
-use Finding::{ParameterRange, RepeatedIncrement, StackUnderflow, TermcapParameter, UnsetVariable};
+use Finding::{
+    DeadStore, LateIncrement, ParameterRange, RepeatedIncrement, StackResidue, StackUnderflow,
+    TermcapParameter, UnsetVariable, UnusedIncrement,
+};
 use std::test::Fail;
 use ti_cap::Capability;
-use ti_lint::{Expected, Finding, Findings, Variables};
+use ti_lint::{Expected, Finding, Variables, findings_of};
 
 /// A capability, how many parameters it has, the mask of the variables that texts of its entry store, and what is wrong, each
 /// finding with the number of bytes before its token.
 type Row = (&'static [u8], u8, u64, &'static [(usize, Finding)]);
 
-const ROWS: [Row; 26] = [
+const ROWS: [Row; 46] = [
     (b"", 0, 0, &[]),
     (b"\x1b[%i%p1%d;%p2%dH", 2, 0, &[]),
     // Texts of termcap, in the entries ibm8514 and tek4207-s.
-    (b"\x1bj\x1bYI%+ \x1bo", 1, 0, &[(5, TermcapParameter)]),
-    (b"\x1b[;%i%df", 1, 0, &[(5, TermcapParameter)]),
+    (
+        b"\x1bj\x1bYI%+ \x1bo",
+        1,
+        0,
+        &[(5, TermcapParameter), (5, StackResidue)],
+    ),
+    (
+        b"\x1b[;%i%df",
+        1,
+        0,
+        &[(3, UnusedIncrement), (5, TermcapParameter)],
+    ),
     (b"%{1}%+%d", 0, 0, &[(4, TermcapParameter)]),
     (b"%?%t%;", 0, 0, &[(2, TermcapParameter)]),
     // The stack is empty on some path, or on all.
     (b"%p1%d%d", 1, 0, &[(5, StackUnderflow)]),
-    (b"%p1%+", 1, 0, &[(3, StackUnderflow)]),
+    (b"%p1%+", 1, 0, &[(3, StackUnderflow), (3, StackResidue)]),
     (b"%p1%!%d", 1, 0, &[]),
     (b"%?%p1%t%p1%;%d", 1, 0, &[(12, StackUnderflow)]),
     (b"%?%p1%tA%e%d", 1, 0, &[(10, StackUnderflow)]),
@@ -31,11 +44,25 @@ const ROWS: [Row; 26] = [
     (b"%p2%d", 2, 0, &[]),
     // `csr` of vt100-s, and branches.
     (b"\x1b[%i%i%p1%d;%p2%dr", 2, 0, &[(4, RepeatedIncrement)]),
-    (b"%?%p1%t%i%;%i", 1, 0, &[(11, RepeatedIncrement)]),
-    (b"%?%p1%t%i%e%i%;", 1, 0, &[]),
     (
-        b"%i%i%i",
+        b"%?%p1%t%i%;%i%p1%d",
+        1,
         0,
+        &[
+            (7, LateIncrement),
+            (11, RepeatedIncrement),
+            (11, LateIncrement),
+        ],
+    ),
+    (
+        b"%?%p1%t%i%e%i%;",
+        1,
+        0,
+        &[(7, UnusedIncrement), (11, UnusedIncrement)],
+    ),
+    (
+        b"%i%i%i%p2%d",
+        2,
         0,
         &[(2, RepeatedIncrement), (4, RepeatedIncrement)],
     ),
@@ -46,6 +73,39 @@ const ROWS: [Row; 26] = [
     (b"%?%gD%t2;%;%p1%d", 1, 0b1000, &[]),
     (b"%ga%d", 0, u64::MAX, &[(0, UnsetVariable)]),
     (b"%p1%PA%gA%gZ%+%d", 1, 0, &[(9, UnsetVariable)]),
+    // A value is left on some path; the end closes an open conditional.
+    (b"%p1%p2%d", 2, 0, &[(0, StackResidue)]),
+    (b"%p1%l", 1, 0, &[(3, StackResidue)]),
+    (b"%?%p1%t%p2%;", 2, 0, &[(7, StackResidue)]),
+    (b"%p1%?%p2%t%d%e%;", 2, 0, &[(0, StackResidue)]),
+    (b"%p1%?%p2%t%d%e%c%;", 2, 0, &[]),
+    (b"%p1%?%p2%t%d", 2, 0, &[(0, StackResidue)]),
+    (b"%p1%?%p2%t%?%p3%t%d%e%c%;%e%d%;", 3, 0, &[]),
+    (b"%p1%?%p2%t%d%e%?%p3%t%d%;%;", 3, 0, &[(0, StackResidue)]),
+    // The third parameter has no 1 added; the first two have it only after the `%i`, whatever comes before.
+    (b"%i%p3%d", 3, 0, &[(0, UnusedIncrement)]),
+    (b"%p1%d%i%p3%d", 3, 0, &[(5, UnusedIncrement)]),
+    (b"%?%p1%t%i%e%p2%d%;", 2, 0, &[(7, UnusedIncrement)]),
+    (b"%?%p3%t%i%;%p2%d", 3, 0, &[]),
+    (b"%p1%d%i%p2%d", 2, 0, &[(5, LateIncrement)]),
+    (
+        b"%?%p3%t%p1%d%;%i%?%p3%t%p1%d%;",
+        3,
+        0,
+        &[(14, LateIncrement)],
+    ),
+    (b"%p3%d%i%p1%d", 3, 0, &[]),
+    // A variable from A to Z is kept for other texts.
+    (b"%p1%Pa", 1, 0, &[(3, DeadStore)]),
+    (b"%p1%PA", 1, 0, &[]),
+    (b"%p1%Pa%?%p2%t%ga%d%;", 2, 0, &[]),
+    (
+        b"%?%p1%t%p2%Pa%e%ga%d%;",
+        2,
+        0,
+        &[(10, DeadStore), (15, UnsetVariable)],
+    ),
+    (b"%p1%Pz%gz%d%p1%Pz", 1, 0, &[(14, DeadStore)]),
 ];
 
 #[test]
@@ -55,16 +115,12 @@ fn findings_hold_on_some_path(rt: HostRuntime) -> Result<(), Fail> {
             parameters,
             stored: Variables { mask },
         };
-        let mut findings = Findings::new(&Capability::parse(text)?, expected);
+        let list = findings_of(rt.alloc(), &Capability::parse(text)?, expected)?;
         let mut found = Vec::new(rt.alloc());
-        for _ in text {
-            let place = findings.at();
-            if let Some(finding) = findings.token().and_then(|judged| judged.finding) {
-                found.push((place, finding))?;
-            }
+        for one in list.iter() {
+            found.push((one.place, one.finding))?;
         }
         assert_that!(rt; found.as_slice() == wanted);
-        assert_that!(rt; findings.token().is_none());
     }
     Ok(())
 }
@@ -75,6 +131,10 @@ fn each_finding_has_a_word(rt: HostRuntime) -> Result<(), Fail> {
     assert_that!(rt; ParameterRange.word() == "parameter-range");
     assert_that!(rt; RepeatedIncrement.word() == "%i-repeated");
     assert_that!(rt; UnsetVariable.word() == "unset-variable");
+    assert_that!(rt; StackResidue.word() == "stack-residue");
+    assert_that!(rt; UnusedIncrement.word() == "%i-unused");
+    assert_that!(rt; LateIncrement.word() == "%i-late");
+    assert_that!(rt; DeadStore.word() == "dead-store");
     Ok(())
 }
 

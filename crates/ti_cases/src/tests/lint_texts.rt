@@ -4,8 +4,9 @@ use std::test::Fail;
 use ti_cap::{Capability, Token};
 use ti_fixtures::capabilities::CUP;
 use ti_lint::{
-    Class, TextFinding, Variables, class_of, find_double_percent, is_meant_to_expand, stored_by,
-    undoing_pairs, unused_parameters,
+    Class, TextFinding, Variables, class_of, find_double_percent, find_false_mark, find_mark,
+    first_parts, is_half_paired, is_meant_to_expand, repeated, stored_by, undoing_pairs,
+    unused_parameters,
 };
 use ti_words::{Kind, NameTable};
 
@@ -80,6 +81,23 @@ fn two_percent_signs_are_found(rt: HostRuntime) -> Result<(), Fail> {
 }
 
 #[test]
+fn padding_marks_are_found(rt: HostRuntime) -> Result<(), Fail> {
+    // `kdl1` of tvi921 has a mark, as a key must not.
+    assert_that!(rt; find_mark(b"\x1bR$<1*/>", 0) == Some(2));
+    assert_that!(rt; find_mark(b"\x1bR$<1*/>", 3).is_none());
+    assert_that!(rt; find_mark(b"$<5$<5>", 0) == Some(3));
+    assert_that!(rt; find_mark(b"$<>", 0).is_none());
+    assert_that!(rt; find_mark(b"", 1).is_none());
+    // A mark has a digit, at most five before the point, and an end.
+    assert_that!(rt; find_false_mark(b"a$<5>b$<>", 0) == Some(6));
+    assert_that!(rt; find_false_mark(b"$<123456>", 0) == Some(0));
+    assert_that!(rt; find_false_mark(b"$<5$<5>", 0) == Some(0));
+    assert_that!(rt; find_false_mark(b"$<5$<5>", 1).is_none());
+    assert_that!(rt; find_false_mark(b"$$<.5/>", 0).is_none());
+    Ok(())
+}
+
+#[test]
 fn some_tokens_are_meant_to_be_expanded(rt: HostRuntime) -> Result<(), Fail> {
     // `op` of d220 begins with ESC, `[` and `%?%gD%t`.
     assert_that!(rt; is_meant_to_expand(Token::CondOpen));
@@ -96,6 +114,33 @@ fn pairs_undo_each_other(rt: HostRuntime) -> Result<(), Fail> {
         assert_that!(rt; NameTable::All.text_name(pair.1) == Some(names.1));
     }
     assert_that!(rt; undoing_pairs().len() == 6);
+    // `acsc` of vt100 has 25 pairs; here are two.
+    assert_that!(rt; !is_half_paired(b"``aa"));
+    assert_that!(rt; is_half_paired(b"``aaf"));
+    Ok(())
+}
+
+#[test]
+fn first_parts_are_found(rt: HostRuntime) -> Result<(), Fail> {
+    // `kent` of att4418 is the first part of other keys. A text is no part of an equal one.
+    let keys: [&[u8]; 6] = [b"\x1b[B", b"\x1b[", b"\x1bO", b"\x1b[A", b"\x1b[B", b"\x1b"];
+    let parts = first_parts(rt.alloc(), &keys)?;
+    assert_that!(rt; parts.len() == 2);
+    assert_that!(rt; parts.iter().any(|part| *part == b"\x1b[".as_slice()));
+    assert_that!(rt; parts.iter().any(|part| *part == b"\x1b".as_slice()));
+    let alike: [&[u8]; 2] = [b"\x1b[B", b"\x1b[B"];
+    assert_that!(rt; first_parts(rt.alloc(), &alike)?.is_empty());
+    assert_that!(rt; first_parts(rt.alloc(), &[])?.is_empty());
+    Ok(())
+}
+
+#[test]
+fn repeated_texts_are_found(rt: HostRuntime) -> Result<(), Fail> {
+    let names: [&[u8]; 5] = [b"AX", b"XT", b"AX", b"RGB", b"AX"];
+    let again = repeated(rt.alloc(), &names)?;
+    assert_that!(rt; again.len() == 2);
+    assert_that!(rt; again.iter().all(|name| *name == b"AX".as_slice()));
+    assert_that!(rt; repeated(rt.alloc(), &names[1..4])?.is_empty());
     Ok(())
 }
 
@@ -106,5 +151,10 @@ fn each_finding_of_a_text_has_a_word(rt: HostRuntime) -> Result<(), Fail> {
     assert_that!(rt; TextFinding::UninterpretedEscape.word() == "uninterpreted-escape");
     assert_that!(rt; TextFinding::UninterpretedPercent.word() == "uninterpreted-percent");
     assert_that!(rt; TextFinding::EqualPair.word() == "pair-equal");
+    assert_that!(rt; TextFinding::FalseMark.word() == "padding-malformed");
+    assert_that!(rt; TextFinding::MarkInKey.word() == "padding-in-key");
+    assert_that!(rt; TextFinding::HalfPaired.word() == "acsc-odd");
+    assert_that!(rt; TextFinding::KeyPrefix.word() == "key-prefix");
+    assert_that!(rt; TextFinding::RepeatedName.word() == "name-repeated");
     Ok(())
 }

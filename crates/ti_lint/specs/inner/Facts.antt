@@ -52,6 +52,9 @@ place_of which = which - 65
 abbrev pub stored_also : ℕ → Variables → Variables
 stored_also which set = record { mask = bit_or set.mask (2 ^ place_of which) }
 
+abbrev pub either_set : Variables → Variables → Variables
+either_set a b = record { mask = bit_or a.mask b.mask }
+
 abbrev pub both_sets : Variables → Variables → Variables
 both_sets a b = record { mask = bit_and a.mask b.mask }
 
@@ -68,15 +71,16 @@ IsLettered token = Unit {0}
 -- ---- all of them
 
 abbrev pub no_facts : Facts
-no_facts = record { heights = record { mask = 0 }; incremented = false; stored = record { mask = 2 ^ 64 - 1 } }
+no_facts = record { heights = record { mask = 0 }; incremented = false; named_first_two = false; stored = record { mask = 2 ^ 64 - 1 } }
 
 abbrev pub first_facts : Facts
-first_facts = record { heights = record { mask = 1 }; incremented = false; stored = record { mask = 0 } }
+first_facts = record { heights = record { mask = 1 }; incremented = false; named_first_two = false; stored = record { mask = 0 } }
 
 abbrev pub joined : Facts → Facts → Facts
 joined a b = record {
   heights = either_height a.heights b.heights;
   incremented = a.incremented || b.incremented;
+  named_first_two = a.named_first_two || b.named_first_two;
   stored = both_sets a.stored b.stored;
 }
 
@@ -84,10 +88,15 @@ abbrev pub after_increment : Token → Bool → Bool
 after_increment Increment met = true
 after_increment token met = met
 
+abbrev pub is_first_two : Token → Bool
+is_first_two (Param which) = nat_eq which 1 || nat_eq which 2
+is_first_two token = false
+
 abbrev pub after_token : Token → Facts → Facts
 after_token token f = record {
   heights = after_heights token f.heights;
   incremented = after_increment token f.incremented;
+  named_first_two = f.named_first_two || is_first_two token;
   stored = after_stores token f.stored;
 }
 

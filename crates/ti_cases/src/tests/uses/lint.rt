@@ -2,7 +2,7 @@
 
 use std::test::Fail;
 use ti_cap::Capability;
-use ti_lint::{Expected, Finding, Findings, Variables};
+use ti_lint::{Expected, Finding, Findings, Found, Variables, findings_of};
 
 /// `tsl` as the entry of the IBM 8514 has it. Its parameter is a column.
 const TSL: &[u8] = b"\x1bj\x1bYI%+ \x1bo";
@@ -13,18 +13,41 @@ fn a_text_of_termcap(rt: HostRuntime) -> Result<(), Fail> {
         parameters: 1,
         stored: Variables::NONE,
     };
-    let mut findings = Findings::new(&Capability::parse(TSL)?, expected);
+    // The sum pops two values, and nothing pushes any: termcap has `%+ ` for what terminfo writes as `%p1%' '%+%c`. The
+    // value that it pushes is never printed.
+    let wanted = [
+        Found {
+            place: 5,
+            finding: Finding::TermcapParameter,
+        },
+        Found {
+            place: 5,
+            finding: Finding::StackResidue,
+        },
+    ];
+    let found = findings_of(rt.alloc(), &Capability::parse(TSL)?, expected)?;
+    assert!(rt; found.as_slice() == wanted.as_slice());
+    assert!(rt; Finding::TermcapParameter.word() == "termcap-parameter");
+    Ok(())
+}
+
+#[test]
+fn one_token_at_a_time(rt: HostRuntime) -> Result<(), Fail> {
+    let expected = Expected {
+        parameters: 1,
+        stored: Variables::NONE,
+    };
+    let mut findings = Findings::new(rt.alloc(), &Capability::parse(TSL)?, expected)?;
     for place in 0..5 {
         assert!(rt; findings.at() == place);
         assert!(rt;
             findings
                 .token()
-                .is_some_and(|judged| judged.finding.is_none())
+                .is_some_and(|judged| judged.before.is_none())
         );
     }
-    // The sum pops two values, and nothing pushes any: termcap has `%+ ` for what terminfo writes as `%p1%' '%+%c`.
     let sum = findings.token().ok_or("end")?;
-    assert!(rt; sum.finding == Some(Finding::TermcapParameter));
-    assert!(rt; Finding::TermcapParameter.word() == "termcap-parameter");
+    assert!(rt; sum.before == Some(Finding::TermcapParameter));
+    assert!(rt; sum.after == Some(Finding::StackResidue));
     Ok(())
 }

@@ -1,12 +1,21 @@
 -- The pass starts at the first token, and the capability names no parameter exactly if the set of those named is empty.
-use Rattle.std.proofs.Common.{[], ◌↔◌, Bool, IsTrue, nat_eq, sym, subst}
+use Rattle.std.proofs.Common.{[], ◌↔◌, Bool, IsTrue, nat_eq, sym, subst, arith}
 use Rattle.ti_cap.specs.Capability.{Spot, whole}
 use Rattle.ti_lint.specs.declared.pass.Pass.{Pass}
 use Rattle.ti_lint.specs.Findings.{NamesNone}
 use Rattle.ti_lint.specs.inner.Pass.{IsAt}
+use Rattle.ti_lint.specs.inner.Outlook.{IsAhead}
 use Rattle.ti_lint.proofs.AtLemmas.{at_start}
+use Rattle.ti_lint.proofs.AheadLemmas.{lettered_all, written_long}
 use Rattle.ti_lint.proofs.FoundLemmas.{names_none}
 use Rattle.ti_lint.proofs.findings.Findings.new.Goals as goal
+
+pub outlooks-requires-clause-lettered : goal.outlooks-requires-clause-lettered
+outlooks-requires-clause-lettered c = lettered_all c.in_ok-tokens.tokens.items c.args.capability.now c.in_ok-tokens.ensures
+
+pub outlooks-requires-clause-few : goal.outlooks-requires-clause-few
+outlooks-requires-clause-few c =
+    omega (arith, written_long c.in_ok-tokens.tokens.items c.args.capability.now c.in_ok-tokens.ensures, c.depth-depth.ensures.tree.short)
 
 pub invariant_of-result : goal.invariant_of-result
 invariant_of-result c =
@@ -15,6 +24,11 @@ invariant_of-result c =
     let named = c.parameters.result.named in
     let P : Pass → Type 0 = λ x. IsAt start x in
     let Q : Bool → Type 0 = λ x. IsTrue x ↔ NamesNone (whole start) in
-    let R : Spot → Type 0 = λ x. IsAt x c.new.result × (IsTrue c.eq.result ↔ NamesNone (whole x)) in
+    let list = c.in_ok-outlooks.field-0.items in
+    let R : Spot → Type 0 = λ x. IsAt x c.new.result × (IsTrue c.eq.result ↔ NamesNone (whole x)) × IsAhead x list in
     let none : IsTrue (nat_eq named.mask 0) ↔ NamesNone (whole start) = names_none bytes named c.parameters.ensures.named in
-    subst R (sym c.tape.ensures.start) (subst P (sym c.new.ensures) (at_start bytes c.depth-depth.ensures.tree), subst Q (sym c.eq.ensures) none)
+    subst R (sym c.tape.ensures.start) (
+      subst P (sym c.new.ensures) (at_start bytes c.depth-depth.ensures.tree),
+      subst Q (sym c.eq.ensures) none,
+      record { rest = c.in_ok-tokens.tokens.items; left = c.in_ok-tokens.ensures; list_is = c.in_ok-outlooks.ensures },
+    )
