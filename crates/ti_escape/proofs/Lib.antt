@@ -2,6 +2,7 @@ pub mod ReadingLemmas
 pub mod Examples
 pub mod NotationLemmas
 pub mod PutLemmas
+pub mod ColumnLemmas
 pub mod ByteFormsLemmas
 pub mod ReadBackLemmas
 pub mod PrintableLemmas

@@ -1,5 +1,5 @@
 -- How terminfo(5) writes the bytes of a text.
-use Rattle.std.specs.Prelude.{◌+◌, ◌/◌, ◌%◌, ◌&&◌, ◌||◌, ◌==◌, ℕ, Bool, List, [], ◌∷◌, ◌++◌, codes, nat_le, nat_lt, if◌then◌else◌}
+use Rattle.std.specs.Prelude.{◌+◌, ◌/◌, ◌%◌, ◌&&◌, ◌||◌, ◌==◌, ℕ, zero, suc, Bool, List, [], ◌∷◌, ◌++◌, codes, length, take, nat_le, nat_lt, if◌then◌else◌}
 use Rattle.std.specs.Str.{bytes_eq}
 use Rattle.ti_base.specs.Letters.{letter}
 
@@ -67,6 +67,20 @@ first_notation byte rest =
 abbrev pub notation : List ℕ → List ℕ
 notation [] = []
 notation (byte ∷ rest) = first_notation byte rest ++ later_notation byte rest
+
+-- ---- where it stands
+
+-- the notation of the bytes before a place, as they are written in the text
+abbrev pub notation_before : List ℕ → ℕ → List ℕ
+notation_before [] place = []
+notation_before (byte ∷ rest) zero = []
+notation_before (byte ∷ rest) (suc place) =
+    if nat_lt place (length rest) then first_notation byte rest ++ each_notation byte_notation byte (take place rest)
+    else notation (byte ∷ rest)
+
+-- how many characters stand before that of the byte at a place
+abbrev pub column : List ℕ → ℕ → ℕ
+column text place = length (notation_before text place)
 
 -- ---- a name
 

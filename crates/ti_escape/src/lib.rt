@@ -9,6 +9,7 @@
 //! take memory.
 #![tactic(auto)]
 
+mod columns;
 mod form;
 mod formed;
 mod label;
@@ -19,6 +20,7 @@ mod reading;
 mod slice;
 mod stretch;
 
+pub use columns::{column, columns_between};
 pub use form::Form;
 pub use formed::{formed_len, push_formed, push_shown};
 pub use label::push_label;

@@ -139,7 +139,7 @@ fn looks_like_a_word(text: &[u8]) -> bool
 }
 
 /// How the first byte of a text is written.
-fn start_stretch<'a>(text: &[u8], byte: &'a u8) -> Stretch<'a>
+pub fn start_stretch<'a>(text: &[u8], byte: &'a u8) -> Stretch<'a>
     requires { 0 < length text.now × (byte.now ≡ slice_index text.now 0) }
     ensures notation { stretch_notation result ≡ first_notation byte.now (drop 1 text.now) }
     ensures few { length (stretch_notation result) ≤ 4 }
