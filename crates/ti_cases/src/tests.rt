@@ -41,6 +41,7 @@ mod expansion_variables;
 mod extended_parts;
 mod large_entry;
 mod lint_findings;
+mod lint_reports;
 mod lint_texts;
 mod names;
 mod notation;

@@ -10,7 +10,7 @@ ghost use Rattle.ti_lint.specs.inner.Facts.{IsLettered};
 ghost use Rattle.ti_lint.specs.inner.Outlook.{outlooks};
 
 use crate::outlook::Outlook;
-use std::alloc::{AllocError, Global};
+use std::alloc::{AllocError, Allocator};
 use std::marker::Model;
 use ti_cap::Token;
 
@@ -33,14 +33,14 @@ impl Open {
 
 /// What holds where a pass stands.
 #[derive(Drop)]
-pub struct Backward {
+pub struct Backward<A: Allocator> {
     /// What is true on some path from here.
     here: Outlook,
     /// The open conditionals, the innermost last. Those that the end closes may be missing.
-    opens: Vec<Open>,
+    opens: Vec<Open, A>,
 }
 
-impl Model for Backward {
+impl<A: Allocator> Model for Backward<A> {
     ghost use Rattle.std.specs.Prelude.{reverse};
     ghost use Rattle.ti_lint.specs.inner.Outlook.{Ahead};
 
@@ -52,12 +52,12 @@ impl Model for Backward {
     } };
 }
 
-impl Backward {
+impl<A: Allocator> Backward<A> {
     ghost use Rattle.std.specs.Prelude.{◌<◌, ◌^◌, OnOk};
     ghost use Rattle.ti_lint.specs.inner.Outlook.{at_end, ahead_of};
 
     /// The end.
-    pub fn new(alloc: Global) -> Self
+    pub fn new(alloc: A) -> Self
         ensures { result ≡ at_end }
     {
         Backward {
@@ -132,7 +132,10 @@ impl Backward {
 }
 
 /// What is true on some path after each token, that of the first token last.
-pub fn outlooks(alloc: Global, tokens: Vec<Token>) -> Result<Vec<Outlook>, AllocError>
+pub fn outlooks<A: Allocator + Copy>(
+    alloc: A,
+    tokens: Vec<Token, A>,
+) -> Result<Vec<Outlook, A>, AllocError>
     requires lettered { All IsLettered tokens.items }
     requires few { vec_len tokens ≤ most_capability_bytes }
     ensures { IfOk result (λ list. list.items ≡ outlooks tokens.items) }

@@ -10,7 +10,7 @@ use crate::finding::Finding;
 use crate::outlook::Outlook;
 use crate::pass::Pass;
 use crate::tokens::tokens_of;
-use std::alloc::{AllocError, Global};
+use std::alloc::{AllocError, Allocator, Global};
 use std::marker::Model;
 use ti_cap::{Capability, ParameterSet, Tape, Token};
 
@@ -27,16 +27,16 @@ pub struct Judged {
 
 /// The tokens of a capability, each with what is wrong with it. It goes forward only.
 #[derive(Drop)]
-pub struct Findings<'a> {
+pub struct Findings<'a, A: Allocator = Global> {
     tape: Tape<'a>,
     pass: Pass,
     /// What comes after each token that is left, that of the first one last.
-    outlooks: Vec<Outlook>,
+    outlooks: Vec<Outlook, A>,
     expected: Expected,
     termcap: bool,
 }
 
-impl<'a> Model for Findings<'a> {
+impl<'a, A: Allocator> Model for Findings<'a, A> {
     ghost use Rattle.std.specs.Prelude.{◌↔◌, IsTrue};
     ghost use Rattle.ti_cap.specs.Capability.{whole};
     ghost use Rattle.ti_lint.specs.Findings.{Underway, NamesNone};
@@ -54,7 +54,7 @@ impl<'a> Model for Findings<'a> {
         × IsAhead f.tape f.outlooks.items };
 }
 
-impl<'a> Findings<'a> {
+impl<'a, A: Allocator> Findings<'a, A> {
     ghost use Rattle.ti_lint.specs.declared.finding.Finding.{Finding};
 
     /// The findings of a capability, before its first token. It takes memory for what comes after each token.
@@ -65,10 +65,12 @@ impl<'a> Findings<'a> {
     /// let mut findings = Findings::new(rt.alloc(), &Capability::parse(TSL)?, expected)?;
     /// ```
     pub fn new(
-        alloc: Global,
+        alloc: A,
         capability: &Capability<'a>,
         expected: Expected,
     ) -> Result<Self, AllocError>
+    where
+        A: Copy,
         ensures start { IfOk result
             (λ findings. findings.spot ≡ record { taken = []; left = capability.now }) }
         ensures expected { IfOk result (λ findings. findings.expected ≡ expected) }

@@ -8,7 +8,7 @@ ghost use Rattle.ti_lint.specs.inner.Found.{found_at};
 use crate::expected::Expected;
 use crate::finding::Finding;
 use crate::findings::Findings;
-use std::alloc::{AllocError, Global};
+use std::alloc::{AllocError, Allocator};
 use ti_cap::Capability;
 
 /// What is wrong with a capability, and where.
@@ -22,11 +22,11 @@ pub struct Found {
 
 /// All findings of a capability, in order of their places. It goes over the tokens three times, and takes memory for each token
 /// and finding.
-pub fn findings_of(
-    alloc: Global,
+pub fn findings_of<A: Allocator + Copy>(
+    alloc: A,
     capability: &Capability<'_>,
     expected: Expected,
-) -> Result<Vec<Found>, AllocError>
+) -> Result<Vec<Found, A>, AllocError>
     ensures exact { IfOk result (λ list. (one : Found)
         → Contains list.items one ↔ IsFoundAt capability.now expected one) }
     ensures order { IfOk result (λ list. AllPairs Precedes list.items) }
@@ -45,7 +45,11 @@ pub fn findings_of(
 }
 
 /// Adds a finding to a list, if there is one.
-fn note(list: &mut Vec<Found>, place: usize, finding: Option<Finding>) -> Result<(), AllocError>
+fn note<A: Allocator>(
+    list: &mut Vec<Found, A>,
+    place: usize,
+    finding: Option<Finding>,
+) -> Result<(), AllocError>
     ensures { OnOk result (list.new.items ≡ list.old.items ++ found_at place finding) }
 {
     if let Some(finding) = finding {

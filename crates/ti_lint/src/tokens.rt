@@ -3,11 +3,14 @@
 ghost use Rattle.std.specs.Prelude.{IfOk};
 ghost use Rattle.ti_cap.specs.Spelling.{Written};
 
-use std::alloc::{AllocError, Global};
+use std::alloc::{AllocError, Allocator};
 use ti_cap::{Capability, Token};
 
 /// The tokens of a capability, in order.
-pub fn tokens_of(alloc: Global, capability: &Capability<'_>) -> Result<Vec<Token>, AllocError>
+pub fn tokens_of<A: Allocator>(
+    alloc: A,
+    capability: &Capability<'_>,
+) -> Result<Vec<Token, A>, AllocError>
     ensures { IfOk result (λ list. Written list.items capability.now) }
 {
     let mut tape = capability.tape();

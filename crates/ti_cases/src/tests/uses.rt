@@ -9,5 +9,6 @@ mod expand;
 mod layout;
 mod lint;
 mod pad;
+mod report;
 mod trace;
 mod words;

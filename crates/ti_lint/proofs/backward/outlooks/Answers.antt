@@ -4,7 +4,7 @@ use Rattle.ti_lint.proofs.AheadLemmas.{few_needed}
 use Rattle.ti_lint.proofs.backward.outlooks.Goals as goal
 
 pub take-requires-clause-few : goal.take-requires-clause-few
-take-requires-clause-few c =
+take-requires-clause-few g c =
     let i = c.loop-token.invariant in
     let P : Ahead → Type 0 = λ x. x.here.needs < 2 ^ 32 in
     subst P (sym i.2) (few_needed c.args.tokens.items c.loop-token.tokens.items i.0 c.requires.lettered (omega (arith, c.requires.few)) i.1)

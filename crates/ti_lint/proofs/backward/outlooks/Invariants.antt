@@ -5,8 +5,8 @@ use Rattle.ti_lint.specs.inner.Outlook.{ahead_of_all, outlooks}
 use Rattle.ti_lint.proofs.backward.outlooks.Given as goal
 
 abbrev pub invariant-loop-token : goal.invariant-loop-token
-invariant-loop-token l =
+invariant-loop-token g l =
     (rest : List Token) × (l.fn.tokens.items ≡ l.tokens.items ++ rest) × (l.pass ≡ ahead_of_all rest) × (l.list.items ≡ outlooks rest)
 
 abbrev pub decreases-loop-token : goal.decreases-loop-token
-decreases-loop-token l = vec_len l.tokens
+decreases-loop-token g l = vec_len l.tokens

@@ -5,7 +5,7 @@ use Rattle.ti_lint.proofs.FoundAtLemmas.{Lists, IsJudged, lists_start, lists_nex
 use Rattle.ti_lint.proofs.found.findings_of.Goals as goal
 
 pub loop-judged-init : goal.loop-judged-init
-loop-judged-init c =
+loop-judged-init g c =
     let e = c.in_ok-findings.ensures in
     let P : List Found → Type 0 = λ x. Lists c.args.capability.now c.args.expected c.in_ok-findings.findings x in (
       subst P (sym c.new-list.ensures.items) (lists_start c.args.capability.now c.args.expected c.in_ok-findings.findings c.depth-depth.ensures.tree e.start e.expected),
@@ -13,7 +13,7 @@ loop-judged-init c =
     )
 
 pub loop-judged-preserved : goal.loop-judged-preserved
-loop-judged-preserved c =
+loop-judged-preserved g c =
     let l = c.loop-judged in
     let new = c.token.new.self in
     let judged = c.in-Some.judged in
@@ -29,6 +29,6 @@ loop-judged-preserved c =
     )
 
 pub returns-clause-exact : goal.returns-clause-exact
-returns-clause-exact c =
+returns-clause-exact g c =
     let l = c.loop-judged in
     listed c.args.capability.now c.args.expected l.findings l.list.items l.invariant.0 c.in_default.ensures.none.1

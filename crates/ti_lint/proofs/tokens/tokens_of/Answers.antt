@@ -6,7 +6,7 @@ use Rattle.ti_lint.proofs.AtLemmas.{same_whole}
 use Rattle.ti_lint.proofs.tokens.tokens_of.Goals as goal
 
 pub loop-token-preserved : goal.loop-token-preserved
-loop-token-preserved c =
+loop-token-preserved g c =
     let l = c.loop-token in
     let k = c.in-Some.token in
     let takes = c.in-Some.ensures.some in

@@ -11,14 +11,14 @@ use Rattle.ti_lint.proofs.FoundLemmas.{names_none}
 use Rattle.ti_lint.proofs.findings.Findings.new.Goals as goal
 
 pub outlooks-requires-clause-lettered : goal.outlooks-requires-clause-lettered
-outlooks-requires-clause-lettered c = lettered_all c.in_ok-tokens.tokens.items c.args.capability.now c.in_ok-tokens.ensures
+outlooks-requires-clause-lettered g c = lettered_all c.in_ok-tokens.tokens.items c.args.capability.now c.in_ok-tokens.ensures
 
 pub outlooks-requires-clause-few : goal.outlooks-requires-clause-few
-outlooks-requires-clause-few c =
+outlooks-requires-clause-few g c =
     omega (arith, written_long c.in_ok-tokens.tokens.items c.args.capability.now c.in_ok-tokens.ensures, c.depth-depth.ensures.tree.short)
 
 pub invariant_of-result : goal.invariant_of-result
-invariant_of-result c =
+invariant_of-result g c =
     let bytes = c.args.capability.now in
     let start : Spot = record { taken = []; left = bytes } in
     let named = c.parameters.result.named in

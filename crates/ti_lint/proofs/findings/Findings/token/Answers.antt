@@ -13,13 +13,13 @@ use Rattle.ti_lint.proofs.FoundAfterLemmas.{Taken, taken, prospect_exact}
 use Rattle.ti_lint.proofs.findings.Findings.token.Goals as goal
 
 pub invariant_of-self : goal.invariant_of-self
-invariant_of-self c =
+invariant_of-self g c =
     let i = c.self.inside in
     let P : Spot → Type 0 = λ x. IsAt x i.pass × (IsTrue i.termcap ↔ NamesNone (whole x)) × IsAhead x i.outlooks.items in
     subst P (sym c.in_err-token.ensures.none.0) c.self.invariant
 
 pub take-requires-clause-takeable : goal.take-requires-clause-takeable
-take-requires-clause-takeable c =
+take-requires-clause-takeable g c =
     let i = c.self.inside in
     let k = c.in_ok-token.token in
     let o = c.in_ok-outlook.outlook in
@@ -28,7 +28,7 @@ take-requires-clause-takeable c =
     t.takeable
 
 pub take-requires-clause-few : goal.take-requires-clause-few
-take-requires-clause-few c =
+take-requires-clause-few g c =
     let i = c.self.inside in
     let k = c.in_ok-token.token in
     let o = c.in_ok-outlook.outlook in
@@ -37,7 +37,7 @@ take-requires-clause-few c =
     t.few
 
 pub invariant_of-self-2 : goal.invariant_of-self-2
-invariant_of-self-2 c =
+invariant_of-self-2 g c =
     let i = c.self.inside in
     let k = c.in_ok-token.token in
     let o = c.in_ok-outlook.outlook in
@@ -51,7 +51,7 @@ invariant_of-self-2 c =
     )
 
 pub returns-clause-before : goal.returns-clause-before
-returns-clause-before c finding =
+returns-clause-before g c finding =
     let i = c.self.inside in
     let k = c.in_ok-token.token in
     let o = c.in_ok-outlook.outlook in
@@ -64,7 +64,7 @@ returns-clause-before c finding =
     ((λ a. subst P c.self.view_is (exact.0 (sym is ∙ a))), (λ f. is ∙ exact.1 (subst P (sym c.self.view_is) f)))
 
 pub returns-clause-after : goal.returns-clause-after
-returns-clause-after c finding =
+returns-clause-after g c finding =
     let i = c.self.inside in
     let k = c.in_ok-token.token in
     let o = c.in_ok-outlook.outlook in

@@ -1,0 +1,29 @@
+-- Lines that are written one item after another.
+use Rattle.std.proofs.Common.{◌≡◌, ◌∙◌, ◌+◌, ◌<◌, ◌≤◌, ℕ, suc, List, [], ◌∷◌, ◌++◌, length, drop, get_or, refl, sym, ap, subst, append_assoc, add-one, drop-cons}
+use Rattle.std.proofs.lemmas.List.{append-nil, drop_all}
+use Rattle.ti_report.specs.Lines.{AreReports}
+
+-- what was written so far goes on to lines of the whole, whatever is told of the items from an index on
+pub record GoesOn {X : Type 0} (L : ℕ → X → List ℕ → Type 0) (xs : List X) (before : List ℕ) (i : ℕ) (out : List ℕ) : Type 0 where
+  pub goes : (more : List ℕ) → AreReports L i (drop i xs) more → (lines : List ℕ) × AreReports L 0 xs lines × (out ++ more ≡ before ++ lines)
+
+pub goes_first : {X : Type 0} (L : ℕ → X → List ℕ → Type 0) (xs : List X) (out : List ℕ) → GoesOn L xs out 0 out
+goes_first L xs out = record { goes = λ more h. (more, h, refl) }
+
+pub goes_next : {X : Type 0} (L : ℕ → X → List ℕ → Type 0) (xs : List X) (i : ℕ) (d : X) (before out new : List ℕ) → i < length xs
+    → GoesOn L xs before i out → (line : List ℕ) × L i (get_or xs i d) line × (new ≡ out ++ line) → GoesOn L xs before (i + 1) new
+goes_next L xs i d before out new h g (line, is, n) = record {
+  goes = λ more later.
+      let P : ℕ → Type 0 = λ k. AreReports L k (drop k xs) more in
+      let Q : List _ → Type 0 = λ l. AreReports L i l (line ++ more) in
+      let front : AreReports L i (get_or xs i d ∷ drop (suc i) xs) (line ++ more) = (line, more, is, subst P (add-one i) later, refl) in
+      let (lines, are, e) = g.goes (line ++ more) (subst Q (sym (drop-cons xs i d h)) front) in
+      (lines, are, ap (λ l. l ++ more) n ∙ append_assoc out line more ∙ e);
+}
+
+pub goes_end : {X : Type 0} (L : ℕ → X → List ℕ → Type 0) (xs : List X) (i : ℕ) (before out : List ℕ) → length xs ≤ i
+    → GoesOn L xs before i out → (lines : List ℕ) × AreReports L 0 xs lines × (out ≡ before ++ lines)
+goes_end L xs i before out h g =
+    let P : List _ → Type 0 = λ l. AreReports L i l [] in
+    let (lines, are, e) = g.goes [] (subst P (sym (drop_all i xs h)) refl) in
+    (lines, are, sym (append-nil out) ∙ e)

@@ -1,0 +1,8 @@
+-- Lines of one kind, and then of another.
+use Rattle.std.proofs.Common.{◌∙◌, List, ℕ, ◌++◌, ap, append_assoc, refl}
+use Rattle.ti_report.specs.Texts.{InTurn}
+use Rattle.ti_report.specs.inner.Subject.{Adds}
+
+pub in_turn : (Are AreMore : List ℕ → Type 0) (old new last : List ℕ) → Adds Are old new → Adds AreMore new last → Adds (InTurn Are AreMore) old last
+in_turn Are AreMore old new last (one, are, is) (more, are_more, ends) =
+    (one ++ more, (one, more, are, are_more, refl), ends ∙ ap (λ l. l ++ more) is ∙ append_assoc old one more)

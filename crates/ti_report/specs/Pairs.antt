@@ -1,0 +1,27 @@
+-- Two texts of which one should undo the other.
+use Rattle.std.specs.Prelude.{ℕ, List, [], ◌++◌, if◌then◌else◌, get_or, unwrap_or}
+use Rattle.std.specs.Str.{bytes_eq}
+use Rattle.ti_words.specs.declared.Kind.TheVariants as kinds
+use Rattle.ti_words.specs.declared.all_names.NameTable.TheVariants as tables
+use Rattle.ti_words.specs.AllNames.{name_in}
+use Rattle.ti_words.specs.Texts.{TextValue, AbsentText, TextOf}
+use Rattle.ti_words.specs.Value.{EntryValue}
+use Rattle.ti_report.specs.declared.wrong.Wrong.TheVariants as wrongs
+use Rattle.ti_report.specs.Blocks.{head, indented}
+use Rattle.ti_report.specs.Sentences.{sentence}
+
+-- what the standard text at an index is called
+abbrev pub standard_label : ℕ → List ℕ
+standard_label index = unwrap_or (name_in tables.All kinds.Text index) []
+
+-- both texts, if they are the same
+abbrev pub equal_lines : List ℕ → List ℕ → List ℕ → TextValue → TextValue → List ℕ
+equal_lines prefix one other (TextOf text) (TextOf same) =
+    if bytes_eq text same then head prefix one text ++ (head [] other same ++ indented (sentence wrongs.EqualPair)) else []
+equal_lines prefix one other text same = []
+
+-- the texts at two indices of an entry
+abbrev pub pair_lines : List ℕ → EntryValue → ℕ × ℕ → List ℕ
+pair_lines prefix v (one, other) =
+    equal_lines prefix (standard_label one) (standard_label other)
+    (get_or v.standard.texts one AbsentText) (get_or v.standard.texts other AbsentText)

@@ -1,0 +1,69 @@
+-- What is wrong, as a sentence: the word for the finding, and what it means.
+use Rattle.std.specs.Prelude.{ℕ, zero, suc, ◌+◌, ◌-◌, ◌==◌, Bool, List, [], ◌∷◌, ◌++◌, codes, decimal, if◌then◌else◌}
+use Rattle.ti_base.specs.Letters.{letter}
+use Rattle.ti_cap.specs.declared.parameter_set.ParameterSet.{ParameterSet}
+use Rattle.std.specs.Int.{bit_at}
+use Rattle.ti_cap.specs.FaultNames.{cap_fault_word}
+use Rattle.ti_lint.specs.declared.finding.Finding.{Finding}
+use Rattle.ti_lint.specs.declared.finding.Finding.TheVariants.{StackUnderflow, TermcapParameter, ParameterRange, RepeatedIncrement, UnsetVariable, StackResidue, UnusedIncrement, LateIncrement, DeadStore}
+use Rattle.ti_lint.specs.declared.text_finding.TextFinding.TheVariants as texts
+use Rattle.ti_lint.specs.FindingWords.{finding_word, text_finding_word}
+use Rattle.ti_report.specs.declared.wrong.Wrong.{Wrong}
+use Rattle.ti_report.specs.declared.wrong.Wrong.TheVariants.{Malformed, Token, UninterpretedEscape, UninterpretedPercent, FalseMark, MarkInKey, UnusedParameters, HalfPaired, EqualPair}
+
+-- the word for the finding
+abbrev pub word_of : Wrong → List ℕ
+word_of (Malformed fault) = text_finding_word texts.Malformed
+word_of (Token finding parameters) = finding_word finding
+word_of UninterpretedEscape = text_finding_word texts.UninterpretedEscape
+word_of UninterpretedPercent = text_finding_word texts.UninterpretedPercent
+word_of FalseMark = text_finding_word texts.FalseMark
+word_of MarkInKey = text_finding_word texts.MarkInKey
+word_of (UnusedParameters unused) = text_finding_word texts.UnusedParameter
+word_of HalfPaired = text_finding_word texts.HalfPaired
+word_of EqualPair = text_finding_word texts.EqualPair
+
+abbrev pub last_parameter : ℕ → List ℕ
+last_parameter parameters = codes "%p" ++ decimal parameters ++ codes " is the last parameter by terminfo(5)"
+
+-- what is wrong with a token, in a text that has so many parameters
+abbrev pub finding_meaning : Finding → ℕ → List ℕ
+finding_meaning StackUnderflow parameters = codes "on some path it pops more values than there are"
+finding_meaning TermcapParameter parameters = codes "it pops a value, and the text has no %p"
+finding_meaning ParameterRange parameters = last_parameter parameters
+finding_meaning RepeatedIncrement parameters = codes "on some path another %i comes before it"
+finding_meaning UnsetVariable parameters = codes "on some path nothing is stored into it before"
+finding_meaning StackResidue parameters = codes "on some path the value that it pushes is left"
+finding_meaning UnusedIncrement parameters = codes "no %p1 or %p2 comes after it"
+finding_meaning LateIncrement parameters = codes "a %p1 or %p2 comes before it, and one after it"
+finding_meaning DeadStore parameters = codes "nothing pushes the variable after it"
+
+-- bit N - 1 is for parameter N
+abbrev pub is_in : ParameterSet → ℕ → Bool
+is_in set which = bit_at set.mask (which - 1) == 1
+
+abbrev pub parameter_word : ParameterSet → ℕ → List ℕ
+parameter_word set which = if is_in set which then codes " %p" ++ (letter (codes "0") + which) ∷ [] else []
+
+-- so many parameters from one on, those that are in the set
+unfoldable pub parameter_words : ParameterSet → ℕ → ℕ → List ℕ
+parameter_words set zero which = []
+parameter_words set (suc count) which = parameter_word set which ++ parameter_words set count (which + 1)
+
+abbrev pub unused_meaning : ParameterSet → List ℕ
+unused_meaning unused = codes "nothing pushes" ++ parameter_words unused 9 1
+
+-- what is wrong
+abbrev pub meaning_of : Wrong → List ℕ
+meaning_of (Malformed fault) = cap_fault_word fault
+meaning_of (Token finding parameters) = finding_meaning finding parameters
+meaning_of UninterpretedEscape = codes "the text is sent as it stands"
+meaning_of UninterpretedPercent = codes "in a text that is not expanded these are two"
+meaning_of FalseMark = codes "this starts no padding mark"
+meaning_of MarkInKey = codes "what a key sends has no padding"
+meaning_of (UnusedParameters unused) = unused_meaning unused
+meaning_of HalfPaired = codes "the bytes are pairs, and one is left"
+meaning_of EqualPair = codes "one should undo the other"
+
+abbrev pub sentence : Wrong → List ℕ
+sentence wrong = word_of wrong ++ (codes ": " ++ meaning_of wrong)

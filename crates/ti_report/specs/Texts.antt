@@ -1,0 +1,128 @@
+-- What is wrong with a text, by what it is.
+use Rattle.std.specs.Prelude.{◌≡◌, ◌⊎◌, ◌↔◌, ℕ, List, [], ◌∷◌, ◌++◌, ◌≤◌, ◌%◌, ◌==◌, ◌&&◌, ◌||◌, Bool, AllPairs, Contains, codes, if◌then◌else◌, length}
+use Rattle.std.specs.Str.{bytes_eq}
+use Rattle.ti_cap.specs.declared.parameter_set.ParameterSet.{ParameterSet}
+use Rattle.ti_cap.specs.Sources.{Has, IsNamed}
+use Rattle.ti_cap.specs.declared.language.CapRefused.{CapRefused}
+use Rattle.ti_cap.specs.Refusal.{IsFaultless, IsRefusal}
+use Rattle.ti_lint.specs.declared.class.Class.{Class}
+use Rattle.ti_lint.specs.declared.class.Class.TheVariants as classes
+use Rattle.ti_lint.specs.declared.expected.Expected.{Expected}
+use Rattle.ti_lint.specs.declared.finding.Finding.{Finding}
+use Rattle.ti_lint.specs.declared.finding.Finding.TheVariants.{StackUnderflow, TermcapParameter, ParameterRange, RepeatedIncrement, UnsetVariable, StackResidue, UnusedIncrement, LateIncrement, DeadStore}
+use Rattle.ti_lint.specs.declared.variables.Variables.{Variables}
+use Rattle.ti_lint.specs.declared.found.Found.{Found}
+use Rattle.ti_lint.specs.Found.{IsFoundAt, Precedes}
+use Rattle.ti_lint.specs.Plain.{IsMeantToExpand}
+use Rattle.ti_report.specs.declared.wrong.Wrong.{Wrong}
+use Rattle.ti_report.specs.declared.wrong.Wrong.TheVariants as wrongs
+use Rattle.ti_report.specs.Blocks.{head, indented, marked_lines}
+use Rattle.ti_report.specs.Sentences.{sentence}
+use Rattle.ti_report.specs.Lines.{AreReports}
+use Rattle.ti_report.specs.Marks.{AreMarked, ArePlacesFrom, ArePlacesOf, IsSought}
+use Rattle.ti_report.specs.declared.marks.Sought.{Sought}
+use Rattle.ti_report.specs.declared.marks.Sought.TheVariants.{Percents, Mark, FalseMark}
+
+-- lines of one kind, and then of another
+abbrev pub InTurn : (List ℕ → Type 0) → (List ℕ → Type 0) → List ℕ → Type 0
+InTurn Are AreMore lines = (one : List ℕ) × (more : List ℕ) × Are one × AreMore more × (lines ≡ one ++ more)
+
+-- the findings of tokens, in the order in which they are told
+unfoldable pub all_findings : List Finding
+all_findings =
+    StackUnderflow ∷ TermcapParameter ∷ StackResidue ∷ ParameterRange ∷ RepeatedIncrement ∷ UnusedIncrement
+    ∷ LateIncrement ∷ UnsetVariable ∷ DeadStore ∷ []
+
+-- all findings of a capability, in order of their places
+pub record AreFound (text : List ℕ) (expected : Expected) (founds : List Found) : Type 0 where
+  pub exact : (one : Found) → Contains founds one ↔ IsFoundAt text expected one
+  pub order : AllPairs Precedes founds
+
+-- the lines of a finding
+abbrev pub IsFindingReport : List ℕ → List ℕ → List ℕ → ℕ → List Found → ℕ → Finding → List ℕ → Type 0
+IsFindingReport prefix label text parameters founds index finding lines =
+    (places : List ℕ) × ArePlacesOf finding founds places
+    × (lines ≡ marked_lines prefix label text places (wrongs.Token finding parameters))
+
+-- texts that may leave out parameters: attributes that a terminal lacks, the column of a status line, and motions by one place
+abbrev pub may_leave_out : List ℕ → Bool
+may_leave_out name =
+    bytes_eq name (codes "sgr") || bytes_eq name (codes "sgr1") || bytes_eq name (codes "tsl") || bytes_eq name (codes "mhpa")
+    || bytes_eq name (codes "mcub") || bytes_eq name (codes "mcud") || bytes_eq name (codes "mcuf") || bytes_eq name (codes "mcuu")
+
+-- the parameters that the text has and no path pushes
+abbrev pub AreUnused : List ℕ → ℕ → ParameterSet → Type 0
+AreUnused text parameters unused =
+    (which : ℕ) → Has unused which ↔ ((1 ≤ which) × (which ≤ 9) × (which ≤ parameters) × ¬ IsNamed text which)
+
+-- they are told if there are some, if the text may not leave them out, and if it takes none from the empty stack
+abbrev pub unused_lines : List ℕ → List ℕ → List ℕ → ParameterSet → List ℕ → List ℕ
+unused_lines prefix label text unused (place ∷ places) = []
+unused_lines prefix label text unused [] =
+    if unused.mask == 0 || may_leave_out label then []
+    else head prefix label text ++ indented (sentence (wrongs.UnusedParameters unused))
+
+abbrev pub IsUnusedReport : List ℕ → List ℕ → List ℕ → ℕ → List Found → List ℕ → Type 0
+IsUnusedReport prefix label text parameters founds lines =
+    (unused : ParameterSet) × (places : List ℕ) × AreUnused text parameters unused × ArePlacesOf TermcapParameter founds places
+    × (lines ≡ unused_lines prefix label text unused places)
+
+-- the lines of all findings, and then of the parameters that are left out
+abbrev pub IsFindingsReport : List ℕ → List ℕ → List ℕ → Expected → List ℕ → Type 0
+IsFindingsReport prefix label text expected lines =
+    (founds : List Found) × AreFound text expected founds
+    × InTurn (AreReports (IsFindingReport prefix label text expected.parameters founds) 0 all_findings)
+    (IsUnusedReport prefix label text expected.parameters founds) lines
+
+-- a capability: its fault, or else what is wrong with its tokens
+abbrev pub IsCapabilityReport : List ℕ → List ℕ → List ℕ → Expected → List ℕ → Type 0
+IsCapabilityReport prefix label text expected lines =
+    ((refused : CapRefused) × IsRefusal text refused
+    × (lines ≡ marked_lines prefix label text (refused.place ∷ []) (wrongs.Malformed refused.fault)))
+    ⊎ (IsFaultless text × IsFindingsReport prefix label text expected lines)
+
+-- the tokens that are meant to be expanded, if the text is a capability
+abbrev pub AreEscapes : List ℕ → List ℕ → Type 0
+AreEscapes text places =
+    ((refused : CapRefused) × IsRefusal text refused × (places ≡ []))
+    ⊎ (IsFaultless text × AreMarked (λ spot token. IsMeantToExpand token) text places)
+
+-- the lines on the places at which something stands that should not
+abbrev pub IsPlacesReport : Sought → Wrong → List ℕ → List ℕ → List ℕ → List ℕ → Type 0
+IsPlacesReport sought wrong prefix label text lines =
+    (places : List ℕ) × ArePlacesFrom (IsSought text sought) 0 places × (lines ≡ marked_lines prefix label text places wrong)
+
+-- what only an expansion takes away
+abbrev pub IsPercentReport : List ℕ → List ℕ → List ℕ → List ℕ → Type 0
+IsPercentReport = IsPlacesReport Percents wrongs.UninterpretedPercent
+
+abbrev pub IsEscapeReport : List ℕ → List ℕ → List ℕ → List ℕ → Type 0
+IsEscapeReport prefix label text lines =
+    (places : List ℕ) × AreEscapes text places
+    × (lines ≡ marked_lines prefix label text places wrongs.UninterpretedEscape)
+
+-- a text that is sent as it stands
+abbrev pub IsPlainReport : List ℕ → List ℕ → List ℕ → List ℕ → Type 0
+IsPlainReport prefix label text =
+    InTurn (IsEscapeReport prefix label text)
+    (InTurn (IsPercentReport prefix label text) (IsPlacesReport FalseMark wrongs.FalseMark prefix label text))
+
+-- what a key sends
+abbrev pub IsKeyReport : List ℕ → List ℕ → List ℕ → List ℕ → Type 0
+IsKeyReport prefix label text =
+    InTurn (IsPercentReport prefix label text) (IsPlacesReport Mark wrongs.MarkInKey prefix label text)
+
+-- the list of pairs of the alternate character set
+abbrev pub half_paired_lines : List ℕ → List ℕ → List ℕ → List ℕ
+half_paired_lines prefix label text =
+    if bytes_eq label (codes "acsc") && (length text % 2 == 1)
+    then head prefix label text ++ indented (sentence wrongs.HalfPaired) else []
+
+-- a text of a class, in an entry whose texts store into these variables
+abbrev pub IsTextReport : List ℕ → List ℕ → Variables → Class → List ℕ → List ℕ → Type 0
+IsTextReport prefix label stored (classes.Parameterized parameters) text lines =
+    IsCapabilityReport prefix label text (record { parameters = parameters; stored = stored }) lines
+IsTextReport prefix label stored classes.Plain text lines = IsPlainReport prefix label text lines
+IsTextReport prefix label stored classes.Key text lines = IsKeyReport prefix label text lines
+IsTextReport prefix label stored classes.List text lines = lines ≡ half_paired_lines prefix label text
+IsTextReport prefix label stored class text lines = lines ≡ []

@@ -1,0 +1,73 @@
+//! Two texts of which one should undo the other.
+
+ghost use Rattle.std.specs.Prelude.{◌≡◌, ◌++◌, OnOk, unwrap_or, get_or};
+ghost use Rattle.ti_words.specs.Texts.{AbsentText, text_value};
+ghost use Rattle.ti_report.specs.Pairs.{equal_lines, pair_lines, standard_label};
+ghost use Rattle.ti_report.specs.Reports.{ArePairLines};
+ghost use Rattle.ti_report.specs.inner.Subject.{Adds};
+
+use crate::block::{Subject, push_head, push_sentence_line};
+use crate::wrong::Wrong;
+use std::alloc::{AllocError, Allocator};
+use ti_entry::Entry;
+use ti_lint::undoing_pairs;
+use ti_words::{NameTable, Text};
+
+/// What the standard text at an index is called.
+pub fn standard_label(index: usize) -> &'static str
+    ensures { result.now ≡ standard_label index }
+{
+    NameTable::All.text_name(index).unwrap_or("")
+}
+
+/// Writes the lines on two texts, if both are there and are the same.
+fn push_equal<A: Allocator>(
+    out: &mut Vec<u8, A>,
+    prefix: &[u8],
+    labels: (&str, &str),
+    texts: (Text<'_>, Text<'_>),
+) -> Result<(), AllocError>
+    ensures { OnOk result (out.new.items ≡ out.old.items ++ equal_lines prefix.now
+        labels.entry.0.now labels.entry.1.now (text_value texts.entry.0) (text_value texts.entry.1)) }
+{
+    let (Text::Value(one), Text::Value(other)) = texts else {
+        return Ok(());
+    };
+    if one != other {
+        return Ok(());
+    }
+    let label = labels.0.as_bytes();
+    push_head(
+        out,
+        &Subject {
+            prefix,
+            label,
+            text: one,
+        },
+    )?;
+    let label = labels.1.as_bytes();
+    push_head(
+        out,
+        &Subject {
+            prefix: b"",
+            label,
+            text: other,
+        },
+    )?;
+    push_sentence_line(out, Wrong::EqualPair)
+}
+
+/// Writes the lines on each pair of texts of which one should undo the other.
+pub fn push_pairs<A: Allocator>(
+    out: &mut Vec<u8, A>,
+    prefix: &[u8],
+    entry: &Entry<'_>,
+) -> Result<(), AllocError>
+    ensures { OnOk result (Adds (ArePairLines prefix.now entry.now) out.old.items out.new.items) }
+{
+    'pairs: for (one, other) in undoing_pairs() {
+        let labels = (standard_label(*one), standard_label(*other));
+        push_equal(out, prefix, labels, (entry.text(*one), entry.text(*other)))?;
+    }
+    Ok(())
+}

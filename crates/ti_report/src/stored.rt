@@ -1,0 +1,55 @@
+//! The variables into which the texts of an entry store.
+
+ghost use Rattle.std.specs.Prelude.{ℕ, ◌↔◌};
+ghost use Rattle.ti_cap.specs.Refusal.{IsFaultless};
+ghost use Rattle.ti_lint.specs.Variables.{HasVariable, IsStored};
+ghost use Rattle.ti_report.specs.Reports.{AreStored, Stores, StoresAs};
+ghost use Rattle.ti_words.specs.Texts.{text_value};
+
+use ti_cap::Capability;
+use ti_entry::Entry;
+use ti_lint::{Class, Variables, class_of, stored_by};
+use ti_words::Text;
+
+/// The variables into which a text stores, if it is a capability.
+fn stored_in(text: &[u8]) -> Variables
+    ensures { (which : ℕ) → HasVariable result which
+        ↔ (IsFaultless text.now × IsStored text.now which) }
+{
+    match Capability::parse(text) {
+        Ok(capability) => stored_by(&capability),
+        Err(_) => Variables::NONE,
+    }
+}
+
+/// The same of a text of a class: only one with parameters is expanded.
+fn stored_as(text: &[u8], class: Class) -> Variables
+    ensures { (which : ℕ) → HasVariable result which ↔ StoresAs class text.now which }
+{
+    match class {
+        Class::Parameterized(_) => stored_in(text),
+        _ => Variables::NONE,
+    }
+}
+
+/// The same of a text that may not be there, nor be one of terminfo(5).
+fn stored_at(text: Text<'_>, class: Option<Class>) -> Variables
+    ensures { (which : ℕ) → HasVariable result which
+        ↔ Stores (text_value text.entry) class which }
+{
+    match (text, class) {
+        (Text::Value(text), Some(class)) => stored_as(text, class),
+        _ => Variables::NONE,
+    }
+}
+
+/// The variables into which some text of an entry stores.
+pub fn stored_by_texts(entry: &Entry<'_>) -> Variables
+    ensures { AreStored entry.now.standard.texts result }
+{
+    let mut stored = Variables::NONE;
+    'texts: for index in 0..entry.text_count() {
+        stored = stored.union(stored_at(entry.text(index), class_of(index)));
+    }
+    stored
+}
