@@ -2,6 +2,7 @@
 complete -c ti -f
 complete -c ti -n __fish_use_subcommand -a show -d 'List an entry, one line an item'
 complete -c ti -n __fish_use_subcommand -a check -d 'Analyse each text of an entry'
+complete -c ti -n __fish_use_subcommand -a lint -d 'Tell what is wrong with an entry'
 complete -c ti -n __fish_use_subcommand -a get -d 'Write the value of one capability of an entry'
 complete -c ti -n __fish_use_subcommand -a diff -d 'Tell two entries apart'
 complete -c ti -n __fish_use_subcommand -a expand -d 'Expand and pad one text of an entry'
@@ -9,7 +10,7 @@ complete -c ti -n __fish_use_subcommand -a convert -d 'Write an entry in its can
 complete -c ti -n __fish_use_subcommand -a cap -d 'Expand one capability'
 complete -c ti -n __fish_use_subcommand -a trace -d 'Show what each token of one capability does'
 complete -c ti -n __fish_use_subcommand -a help -d 'Print what a command does'
-complete -c ti -n '__fish_seen_subcommand_from help' -a 'show check get diff expand convert cap trace'
+complete -c ti -n '__fish_seen_subcommand_from help' -a 'show check lint get diff expand convert cap trace'
 complete -c ti -n __fish_use_subcommand -l version -d 'Print the version'
 complete -c ti -l help -d 'Print help'
 complete -c ti -n '__fish_seen_subcommand_from cap expand get' -l hex -d 'Write lower-case hex and one newline'
@@ -19,7 +20,7 @@ complete -c ti -n '__fish_seen_subcommand_from expand get' -l rate -x -d 'Bytes 
 complete -c ti -n '__fish_seen_subcommand_from expand get' -l lines -x -d 'Lines that the text affects'
 complete -c ti -n '__fish_seen_subcommand_from expand get' -l xon -d 'The line has flow control'
 complete -c ti -n '__fish_seen_subcommand_from expand get trace' -l entry -r -F -d 'The entry, in place of standard input'
-complete -c ti -n '__fish_seen_subcommand_from show check diff convert' -F
+complete -c ti -n '__fish_seen_subcommand_from show check lint diff convert' -F
 complete -c ti -n '__fish_seen_subcommand_from convert' -l wide -d 'Numbers of 32 bits'
 complete -c ti -n '__fish_seen_subcommand_from convert' -l narrow -d 'Numbers of 16 bits'
 complete -c ti -n '__fish_seen_subcommand_from convert' -l force -d 'Write to a terminal too'

@@ -2,7 +2,7 @@
 use Rattle.std.proofs.Common.{◌≡◌, [], ◌∷◌, true, false, refl}
 use Rattle.std.specs.Prelude.{None, Some, codes}
 use Rattle.clap.proofs.OnLiterals.{clap_on_literals}
-use Rattle.ti_line.specs.CommandLine.{AsksForHelp, Cap, Check, Convert, Diff, Expand, Get, IsRefused, Reads, Show, Trace, files_of}
+use Rattle.ti_line.specs.CommandLine.{AsksForHelp, Cap, Check, Convert, Diff, Expand, Get, IsRefused, Lint, Reads, Show, Trace, files_of}
 
 -- `ti cap n:4 --hex n:9`
 cap_row : Reads (codes "ti" ∷ codes "cap" ∷ codes "n:4" ∷ codes "--hex" ∷ codes "n:9" ∷ []) (Cap true false (codes "n:4" ∷ codes "n:9" ∷ []))
@@ -53,6 +53,11 @@ expand_row = (refl, refl)
 get_row : Reads (codes "ti" ∷ codes "get" ∷ codes "cup" ∷ codes "4" ∷ codes "--" ∷ codes "-9" ∷ []) (Get (codes "cup") false false 0 1 false (codes "4" ∷ codes "-9" ∷ []))
 unfolding clap_on_literals
 get_row = (refl, refl)
+
+-- `ti lint a`
+lint_row : Reads (codes "ti" ∷ codes "lint" ∷ codes "a" ∷ []) Lint
+unfolding clap_on_literals
+lint_row = (refl, refl)
 
 -- `ti diff a b`
 diff_row : Reads (codes "ti" ∷ codes "diff" ∷ codes "a" ∷ codes "b" ∷ []) (Diff (codes "a" ∷ codes "b" ∷ []))

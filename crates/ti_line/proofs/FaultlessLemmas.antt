@@ -232,9 +232,9 @@ each_weaker P Q (x ∷ xs) f h = (f x h.0, each_weaker P Q xs f h.1)
 abbrev HasLine : Option Line → Type 0
 HasLine o = (line : Line) × (o ≡ Some line)
 
-made : (b : Bool) (line : Line) → b ≡ true → HasLine (cond b (Some line) None)
-made true line e = (line, refl)
-made false line e = absurd (true≢false (sym e))
+made : (b : Bool) (asked : Line) → b ≡ true → HasLine (cond b (Some asked) None)
+made true asked e = (asked, refl)
+made false asked e = absurd (true≢false (sym e))
 
 number_low : (id : Text) (default most : ℕ) (rows : List Row) → default ≤ most → Each (Fits id (IsLow default most)) rows → number_in id default rows ≤ most
 number_low id default most rows low all = go (find (λ r. bytes_eq r.id id) rows) (row_found id (IsLow default most) rows all)
@@ -320,7 +320,7 @@ Asks p s = level_fault s [] nothing_held p.1 false [] ≡ [] → HasLine (line_b
 
 all_ask : (p : Text × List Text) → NotHelp p.0 → Each (λ s. answers_to p.0 (label_of s) ≡ true → Asks p s) (built ti_app).subs
 all_ask p past =
-    (λ t e. (_, refl), (λ t e. (_, refl), (λ t e. get_line p.1 e, (λ t e. (_, refl), (λ t e. expand_line p.1 e, (λ t e. (_, refl), (λ t e. (_, refl), (λ t e. (_, refl), (λ t e. absurd (help t), tt)))))))))
+    (λ t e. (_, refl), (λ t e. (_, refl), (λ t e. (_, refl), (λ t e. get_line p.1 e, (λ t e. (_, refl), (λ t e. expand_line p.1 e, (λ t e. (_, refl), (λ t e. (_, refl), (λ t e. (_, refl), (λ t e. absurd (help t), tt))))))))))
   where
     help : (bytes_eq (codes "help") p.0 || false) ≡ true → ⊥
     help t = go (bytes_eq (codes "help") p.0) refl t
@@ -394,10 +394,11 @@ line_within command rows =
     (either (bytes_eq command (codes "trace")) _ _ tt
     (either (bytes_eq command (codes "show")) _ _ tt
     (either (bytes_eq command (codes "check")) _ _ tt
+    (either (bytes_eq command (codes "lint")) _ _ tt
     (either (bytes_eq command (codes "expand")) _ _ (bounded rows (expand_of rows) (λ name rate lines low. low) (first_of (codes "NAME") rows))
     (either (bytes_eq command (codes "convert")) _ _ tt
     (either (bytes_eq command (codes "get")) _ _ (bounded rows (get_of rows) (λ name rate lines low. low) (first_of (codes "NAME") rows))
-    (either (bytes_eq command (codes "diff")) (Some (Diff (words_in (codes "FILE") rows))) None tt tt)))))))
+    (either (bytes_eq command (codes "diff")) (Some (Diff (words_in (codes "FILE") rows))) None tt tt))))))))
 
 pub within_request : (found : Option (Text × List Row)) (line : Line) → line_in found ≡ Some line → IsWithin line
 within_request None line e = absurd (none_some None line refl e)

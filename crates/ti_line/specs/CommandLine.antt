@@ -109,6 +109,10 @@ show_app = with_rules (new_app (codes "show")) (escape_rule ∷ all_names_rule �
 abbrev pub check_app : App
 check_app = with_rules (new_app (codes "check")) (escape_rule ∷ all_names_rule ∷ files_rule ∷ [])
 
+-- `lint [FILE..]`
+abbrev pub lint_app : App
+lint_app = with_rules (new_app (codes "lint")) (files_rule ∷ [])
+
 -- `expand NAME [--hex] [--escape] [--all-names] [--rate N] [--lines N] [--xon] [--entry FILE] [PARAM..]`
 abbrev pub expand_app : App
 expand_app =
@@ -143,7 +147,7 @@ start_app =
 abbrev pub ti_app : App
 ti_app =
     with_commands start_app
-    (show_app ∷ check_app ∷ get_app ∷ diff_app ∷ expand_app ∷ convert_app ∷ cap_app ∷ trace_app ∷ [])
+    (show_app ∷ check_app ∷ lint_app ∷ get_app ∷ diff_app ∷ expand_app ∷ convert_app ∷ cap_app ∷ trace_app ∷ [])
 
 -- ---- the values that `clap` found
 
@@ -192,6 +196,7 @@ pub data Line : Type 0 where
   Trace : (of_name : Option Text) → (escape has_entry : Bool) → (params : List Text) → Line
   Show : (escape all_names : Bool) → Line
   Check : (escape all_names : Bool) → Line
+  Lint : Line
   Expand : (name : Text) → (hex escape all_names : Bool) → (rate lines : ℕ) → (xon : Bool)
       → (params : List Text) → Line
   Convert : (wide narrow force : Bool) → Line
@@ -234,6 +239,8 @@ line_by command rows =
     then Some (Show (flag_in (codes "escape") rows) (flag_in (codes "all-names") rows))
     else (if bytes_eq command (codes "check")
     then Some (Check (flag_in (codes "escape") rows) (flag_in (codes "all-names") rows))
+    else (if bytes_eq command (codes "lint")
+    then Some Lint
     else (if bytes_eq command (codes "expand")
     then option_and_then (expand_by rows) (first_of (codes "NAME") rows)
     else (if bytes_eq command (codes "convert")
@@ -243,7 +250,7 @@ line_by command rows =
     then option_and_then (get_by rows) (first_of (codes "NAME") rows)
     else (if bytes_eq command (codes "diff")
     then Some (Diff (words_in (codes "FILE") rows))
-    else None)))))))
+    else None))))))))
 
 -- what the subcommand that was found asks for
 abbrev pub line_in : Option (Text × List Row) → Option Line

@@ -6,7 +6,7 @@ use Rattle.ti_words.specs.declared.Width.{Width}
 use Rattle.ti_words.specs.declared.Width.TheVariants.{Legacy, Wide}
 use Rattle.ti_expand.specs.declared.values.Value.{Value}
 use Rattle.ti_pad.specs.Setting.{Setting}
-use Rattle.ti_line.specs.CommandLine.{Line, AsksForHelp, Cap, Trace, Show, Check, Expand, Convert, Diff, Get, IsRefused, Reads, files_of}
+use Rattle.ti_line.specs.CommandLine.{Line, AsksForHelp, Cap, Trace, Show, Check, Lint, Expand, Convert, Diff, Get, IsRefused, Reads, files_of}
 use Rattle.ti_line.specs.Options.{form_asked, list_options, names_asked, naming_asked, output_asked}
 use Rattle.ti_line.specs.Params.{AreGiven, AreParams, IsGiven, IsGivenBy, IsParam, IsWordFault}
 use Rattle.ti_line.specs.declared.given.Param.{Param}
@@ -73,6 +73,7 @@ Asks terminal (Show escape all_names) r =
     r.asked ≡ Entry (of_entry.Show (list_options all_names escape terminal))
 Asks terminal (Check escape all_names) r =
     r.asked ≡ Entry (of_entry.Check (naming_asked all_names escape terminal))
+Asks terminal Lint r = r.asked ≡ Entry of_entry.Lint
 Asks terminal (Expand name hex escape all_names rate lines xon words) r =
     (hex && escape ≡ false) × AreParams words r.parameters
     × ((e : code.Expand) × (r.asked ≡ Entry (of_entry.Expand e))
@@ -126,9 +127,9 @@ IsAnswered terminal line (Err why) = HasFault terminal line why
 
 -- and words that are read as it the same way, with the files that they name, or with out of memory
 abbrev pub IsReadAs : Bool → List Text → Line → Result Task NoLine → Type 0
-IsReadAs terminal words line (Ok task) = IsTask terminal words line task
-IsReadAs terminal words line (Err (no_line.Fault why)) = HasFault terminal line why
-IsReadAs terminal words line (Err why) = why ≡ no_line.Memory
+IsReadAs terminal words asked (Ok task) = IsTask terminal words asked task
+IsReadAs terminal words asked (Err (no_line.Fault why)) = HasFault terminal asked why
+IsReadAs terminal words asked (Err why) = why ≡ no_line.Memory
 
 -- why the words give no request; out of memory says nothing of them
 abbrev pub Explains : Bool → List Text → NoLine → Type 0

@@ -2,7 +2,7 @@
 
 ghost use Rattle.std.specs.Prelude.{◌≡◌, [], ◌∷◌, IfOk, false};
 ghost use Rattle.clap.specs.Words.{App, app_of, new_app, rule_of};
-ghost use Rattle.ti_line.specs.CommandLine.{all_names_rule, cap_app, check_app, convert_app, diff_app, entry_rule, escape_rule, expand_app, file_rule, files_rule, flag_rule, get_app, hex_rule, name_rule, number_rule, of_rule, params_rule, show_app, start_app, ti_app, trace_app, with_commands, with_rules};
+ghost use Rattle.ti_line.specs.CommandLine.{all_names_rule, cap_app, check_app, convert_app, diff_app, entry_rule, escape_rule, expand_app, file_rule, files_rule, flag_rule, get_app, hex_rule, lint_app, name_rule, number_rule, of_rule, params_rule, show_app, start_app, ti_app, trace_app, with_commands, with_rules};
 ghost use Rattle.ti_line.specs.inner.Command.{HasNoGlobals};
 
 use clap::{Arg, ArgAction, Command, value_parser};
@@ -222,6 +222,20 @@ fn check<'a>(alloc: Global) -> Result<Command<'a>, AllocError>
     with_two(check, escape(alloc), all_names(alloc))?.arg(files(alloc, FILES))
 }
 
+fn lint<'a>(alloc: Global) -> Result<Command<'a>, AllocError>
+    ensures shape { IfOk result (λ c. app_of c ≡ lint_app) }
+    ensures local { IfOk result HasNoGlobals }
+{
+    let command = new_command(
+        alloc,
+        "lint",
+        "ti lint [FILE]...",
+        "Tell what is wrong with an entry; status 1 if something is",
+        "Example, of all entries in a folder:\n  ti lint /lib/terminfo",
+    );
+    command.arg(files(alloc, FILES))
+}
+
 fn get<'a>(alloc: Global) -> Result<Command<'a>, AllocError>
     ensures shape { IfOk result (λ c. app_of c ≡ get_app) }
     ensures local { IfOk result HasNoGlobals }
@@ -330,7 +344,8 @@ fn trace<'a>(alloc: Global) -> Result<Command<'a>, AllocError>
 /// What help says of the exit status, and an example.
 const STATUSES: &str = "Status:
   0  done
-  1  check found a fault, diff a difference, or a flag is not set
+  1  check found a fault, lint something wrong, diff a
+     difference, or a flag is not set
   2  the words are wrong
   3  the entry is refused
   4  the capability is refused or absent
@@ -369,13 +384,13 @@ fn with_made<'a>(
 /// `ti` with its first four subcommands.
 fn first_commands<'a>(alloc: Global) -> Result<Command<'a>, AllocError>
     ensures shape { IfOk result (λ c. app_of c
-        ≡ with_commands start_app (show_app ∷ check_app ∷ get_app ∷ diff_app ∷ [])) }
+        ≡ with_commands start_app (show_app ∷ check_app ∷ lint_app ∷ get_app ∷ [])) }
     ensures local { IfOk result HasNoGlobals }
 {
     let shown = with_made(start(alloc), show(alloc))?;
     let checked = with_made(shown, check(alloc))?;
-    let got = with_made(checked, get(alloc))?;
-    with_made(got, diff(alloc))
+    let linted = with_made(checked, lint(alloc))?;
+    with_made(linted, get(alloc))
 }
 
 /// `ti` whole.
@@ -383,7 +398,8 @@ pub(crate) fn program<'a>(alloc: Global) -> Result<Command<'a>, AllocError>
     ensures { IfOk result (λ c. app_of c ≡ ti_app) }
 {
     let first = first_commands(alloc)?;
-    let expanded = with_made(first, expand(alloc))?;
+    let compared = with_made(first, diff(alloc))?;
+    let expanded = with_made(compared, expand(alloc))?;
     let converted = with_made(expanded, convert(alloc))?;
     let capped = with_made(converted, cap(alloc))?;
     with_made(capped, trace(alloc))

@@ -296,6 +296,10 @@ pub(crate) fn request_of<'a>(
             parameters: NO_PARAMETERS,
             asked: Asked::Entry(OfEntry::Check(naming_asked(all_names, escape, terminal))),
         }),
+        "lint" => Ok(Request {
+            parameters: NO_PARAMETERS,
+            asked: Asked::Entry(OfEntry::Lint),
+        }),
         "expand" => match text(given, "NAME") {
             Some(name) => expand(given, name),
             None => unreachable!(),

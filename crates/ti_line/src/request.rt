@@ -62,6 +62,8 @@ pub enum OfEntry<'a> {
     Show(ListOptions),
     /// To analyse each of its texts.
     Check(Naming),
+    /// To tell what is wrong with it.
+    Lint,
     /// To expand and pad one of its texts.
     Expand(Expand<'a>),
     /// To write it in its canonical layout, in a width or else in its own.

@@ -42,6 +42,7 @@ mod rows_of_show;
 mod rows_of_trace;
 mod runs_of_diff;
 mod runs_of_files;
+mod runs_of_lint;
 mod show_call;
 mod trace_call;
 mod uses;

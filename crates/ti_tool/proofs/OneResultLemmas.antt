@@ -38,7 +38,7 @@ use Rattle.ti_line.specs.declared.request.OfEntry.TheVariants as of_entry
 use Rattle.ti_tool.specs.declared.fault.ToolFault.{ToolFault}
 use Rattle.ti_tool.specs.declared.fault.ToolFault.TheVariants as fault
 use Rattle.ti_tool.specs.Labels.{label_of, own_label}
-use Rattle.ti_tool.specs.Laws.{CheckHasOneVerdict, HasOneAnswer}
+use Rattle.ti_tool.specs.Laws.{CheckHasOneVerdict, HasOneAnswer, IsSpelledOut}
 use Rattle.ti_line.specs.Options.{output_bytes}
 use Rattle.ti_tool.specs.Results.{IsExpansion, IsUnexpanded, IsCappedAs, IsPadded, IsDue, IsDueFor, IsDueFrom, IsDueOn, IsEncoding, IsJudgement, IsOutputOf, in_width}
 use Rattle.ti_tool.specs.Traces.{IsTraced, IsTracedBy, IsTracedOf, IsTracedValue, no_values}
@@ -312,25 +312,27 @@ one_output : (c : OfCapability) (parameters : List Value) (input : List ℕ) →
 one_output (of_cap.Cap output) parameters input = one_capped parameters output input
 one_output (of_cap.Trace form) parameters input = one_traced parameters form input
 
-one_on : (e : OfEntry) (parameters : List Value) (sound as_sound : Bool) (v : EntryValue) (r s : Result (List ℕ) ToolFault) → IsDueOn e parameters sound v r → IsDueOn e parameters as_sound v s → r ≡ s
-one_on (of_entry.Show options) parameters sound as_sound v r s d h = d ∙ sym h
-one_on (of_entry.Check naming) parameters sound as_sound v r s d h = one_judgement naming v sound as_sound r s d h
-one_on (of_entry.Expand e) parameters sound as_sound v r s d h = one_due_for e.name.names e.name.name.now parameters e.padding e.output v r s d h
-one_on (of_entry.Get g) parameters sound as_sound v r s d h = one_got g sound as_sound v r s d h
-one_on (of_entry.Trace t) parameters sound as_sound v r s d h = one_traced_of t v r s d h
-one_on (of_entry.Convert width) parameters sound as_sound v r s d h = one_encoding (in_width width v) r s d h
+one_on : (e : OfEntry) → IsSpelledOut (Entry e) → (parameters : List Value) (sound as_sound : Bool) (v : EntryValue) (r s : Result (List ℕ) ToolFault) → IsDueOn e parameters sound v r → IsDueOn e parameters as_sound v s → r ≡ s
+one_on (of_entry.Show options) spelled parameters sound as_sound v r s d h = d ∙ sym h
+one_on (of_entry.Check naming) spelled parameters sound as_sound v r s d h = one_judgement naming v sound as_sound r s d h
+one_on of_entry.Lint spelled parameters sound as_sound v r s d h = absurd spelled
+one_on (of_entry.Expand e) spelled parameters sound as_sound v r s d h = one_due_for e.name.names e.name.name.now parameters e.padding e.output v r s d h
+one_on (of_entry.Get g) spelled parameters sound as_sound v r s d h = one_got g sound as_sound v r s d h
+one_on (of_entry.Trace t) spelled parameters sound as_sound v r s d h = one_traced_of t v r s d h
+one_on (of_entry.Convert width) spelled parameters sound as_sound v r s d h = one_encoding (in_width width v) r s d h
 
 pub one_answer : HasOneAnswer
-one_answer (Capability c) parameters input sound as_sound r s d h = one_output c parameters input r s d h
-one_answer (Difference e) parameters input sound as_sound r s d h = elim d [ ]
-one_answer (Entry e) parameters input sound as_sound r s d h =
-    one_from input (IsDueOn e parameters sound) (IsDueOn e parameters as_sound) (one_on e parameters sound as_sound) r s d h
+one_answer (Capability c) parameters input sound as_sound r s spelled d h = one_output c parameters input r s d h
+one_answer (Difference e) parameters input sound as_sound r s spelled d h = elim d [ ]
+one_answer (Entry e) parameters input sound as_sound r s spelled d h =
+    one_from input (IsDueOn e parameters sound) (IsDueOn e parameters as_sound) (one_on e spelled parameters sound as_sound) r s d h
 
 -- ---- the faults of a call itself
 
 on_entry_never : (e : OfEntry) (parameters : List Value) (sound : Bool) (v : EntryValue) → IsNeverOwn (IsDueOn e parameters sound v)
 on_entry_never (of_entry.Show options) parameters sound v = record { no_write = λ gone d. cc; no_memory = λ d. cc }
 on_entry_never (of_entry.Check naming) parameters sound v = record { no_write = λ gone d. d; no_memory = λ d. d }
+on_entry_never of_entry.Lint parameters sound v = record { no_write = λ gone d. d; no_memory = λ d. d }
 on_entry_never (of_entry.Expand e) parameters sound v = record {
   no_write = λ gone (text, called, d). (text_never text parameters e.padding e.output).no_write gone d;
   no_memory = λ (text, called, d). (text_never text parameters e.padding e.output).no_memory d;

@@ -10,8 +10,8 @@ use Rattle.ti_line.specs.declared.request.OfEntry.TheVariants as of_entry
 use Rattle.ti_tool.specs.declared.fault.ToolFault.{ToolFault}
 use Rattle.ti_tool.specs.declared.fault.ToolFault.TheVariants as fault
 use Rattle.ti_tool.specs.FaultLines.{IsAnswerLine, Told, fault_line}
-use Rattle.ti_tool.specs.Files.{IsDueOfFile, file_line}
-use Rattle.ti_tool.specs.Results.{Finds, IsDueFrom, IsDueOn}
+use Rattle.ti_tool.specs.Files.{IsDueOfFile, before_findings, file_line}
+use Rattle.ti_tool.specs.Results.{Finds, IsDueFrom, IsDueIn}
 use Rattle.ti_tool.specs.Statuses.{status_for}
 
 -- what is known of the bytes that a writer holds
@@ -33,7 +33,8 @@ abbrev pub IsFileAnswer : Asked → OfEntry → List Value → Bool → List ℕ
 IsFileAnswer asked e parameters several name contents (Ok sound) out line =
     Finds (Entry e) sound × IsDueOfFile several e parameters name sound contents out × (line ≡ [])
 IsFileAnswer asked e parameters several name contents (Err why) out line =
-    ((why ≡ fault.Memory) ⊎ IsDueFrom (IsDueOn e parameters true) contents (Err why))
+    ((why ≡ fault.Memory)
+    ⊎ IsDueFrom (IsDueIn (before_findings several name) e parameters true) contents (Err why))
     × (out ≡ [])
     × ((told : List ℕ) × IsAnswerLine {V = Bool} asked (Err why) told × (line ≡ file_line name told))
 
@@ -85,10 +86,11 @@ Delivered held0 held1 told0 told1 None out line status =
 
 -- ---- which files
 
--- only `show` and `check` take a folder for the files in it
+-- only `show`, `check` and `lint` take a folder for the files in it
 abbrev pub takes_folders : OfEntry → Bool
 takes_folders (of_entry.Show options) = true
 takes_folders (of_entry.Check naming) = true
+takes_folders of_entry.Lint = true
 takes_folders _ = false
 
 -- the files that a word names: the one of this name, or those of a folder, each of which is one of several

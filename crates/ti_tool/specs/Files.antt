@@ -1,5 +1,5 @@
 -- What is due for a file that was named, from its contents, and the line on its fault.
-use Rattle.std.specs.Prelude.{◌≡◌, ◌==◌, ℕ, Bool, true, false, List, [], ◌∷◌, ◌++◌, Ok, codes}
+use Rattle.std.specs.Prelude.{◌≡◌, ◌==◌, ℕ, Bool, true, false, List, [], ◌∷◌, ◌++◌, Ok, codes, if◌then◌else◌}
 use Rattle.ti_base.specs.Letters.{letter}
 use Rattle.ti_expand.specs.declared.values.Value.{Value}
 use Rattle.ti_escape.specs.Notation.{notation}
@@ -7,7 +7,7 @@ use Rattle.ti_line.specs.declared.options.NameForm.{NameForm}
 use Rattle.ti_line.specs.declared.options.NameForm.TheVariants as name_forms
 use Rattle.ti_line.specs.declared.request.OfEntry.{OfEntry}
 use Rattle.ti_line.specs.declared.request.OfEntry.TheVariants as of_entry
-use Rattle.ti_tool.specs.Results.{IsDueFrom, IsDueOn}
+use Rattle.ti_tool.specs.Results.{IsDueFrom, IsDueIn}
 
 -- the name of a file in a result: as it stands, or in the notation
 abbrev pub shown_file : NameForm → List ℕ → List ℕ
@@ -33,10 +33,15 @@ abbrev pub result_of_file : Bool → OfEntry → List ℕ → List ℕ → List 
 result_of_file true asked name out = one_of_several asked name out
 result_of_file false asked name out = out
 
+-- the name of one of several files stands before the first line of each finding
+abbrev pub before_findings : Bool → List ℕ → List ℕ
+before_findings several name = if several then notation name ++ codes ": " else []
+
 -- what is due for the contents of a file is what is due for an entry of these bytes, with the name
 abbrev pub IsDueOfFile : Bool → OfEntry → List Value → List ℕ → Bool → List ℕ → List ℕ → Type 0
 IsDueOfFile several asked parameters name sound contents out =
-    (plain : List ℕ) × IsDueFrom (IsDueOn asked parameters sound) contents (Ok plain)
+    (plain : List ℕ)
+    × IsDueFrom (IsDueIn (before_findings several name) asked parameters sound) contents (Ok plain)
     × (out ≡ result_of_file several asked name plain)
 
 -- the line on the fault of a file

@@ -7,6 +7,8 @@ use Rattle.ti_draft.specs.Canonical.{canonical}
 use Rattle.ti_expand.specs.declared.values.Value.{Value}
 use Rattle.ti_line.specs.declared.options.Naming.{Naming}
 use Rattle.ti_line.specs.declared.request.Asked.{Asked}
+use Rattle.ti_line.specs.declared.request.Asked.TheVariants.{Entry}
+use Rattle.ti_line.specs.declared.request.OfEntry.TheVariants as of_entry
 use Rattle.ti_tool.specs.declared.fault.ToolFault.{ToolFault}
 use Rattle.ti_tool.specs.Results.{IsAnswer, IsConverted, IsDueFrom, IsJudgement}
 
@@ -17,10 +19,15 @@ WideAndBack = (input wide back : List ℕ) (v : EntryValue) → Spells input v �
     → IsConverted (Some Wide) input (Ok wide) → IsConverted (Some Legacy) wide (Ok back)
     → back ≡ canonical v
 
+-- the definitions say which bytes the result is; that of `lint` says which findings it tells
+abbrev pub IsSpelledOut : Asked → Type 0
+IsSpelledOut (Entry of_entry.Lint) = ⊥
+IsSpelledOut _ = Unit {0}
+
 -- at most one result or fault is due for what is asked, the parameters and the bytes that are read
 abbrev pub HasOneAnswer : Type 0
 HasOneAnswer = (asked : Asked) (parameters : List Value) (input : List ℕ)
-    (sound other_sound : Bool) (one other : Result (List ℕ) ToolFault)
+    (sound other_sound : Bool) (one other : Result (List ℕ) ToolFault) → IsSpelledOut asked
     → IsAnswer asked parameters sound input one → IsAnswer asked parameters other_sound input other
     → one ≡ other
 

@@ -1,5 +1,5 @@
 -- What each call of the program makes of the bytes that it read.
-use Rattle.std.specs.Prelude.{◌≡◌, ◌⊎◌, ℕ, Bool, true, false, List, Result, Ok, Err, Some, None, Option}
+use Rattle.std.specs.Prelude.{◌≡◌, ◌⊎◌, ◌==◌, ℕ, Bool, true, false, List, [], Result, Ok, Err, Some, None, Option, length}
 use Rattle.ti_cap.specs.Refusal.{IsFaultless}
 use Rattle.ti_expand.specs.declared.values.Value.{Value}
 use Rattle.ti_layout.specs.declared.fault.Refused.{Refused}
@@ -18,6 +18,7 @@ use Rattle.ti_line.specs.declared.options.Naming.{Naming}
 use Rattle.ti_line.specs.declared.options.Output.{Output}
 use Rattle.ti_line.specs.Options.{list_options, naming_asked, output_asked, output_bytes}
 pub use Rattle.ti_tool.specs.Expansions.{IsExpansion, IsPadded, IsUnexpanded}
+use Rattle.ti_report.specs.Reports.{IsReport}
 use Rattle.ti_tool.specs.Got.{IsGot}
 pub use Rattle.ti_tool.specs.Traces.{IsTraced, IsTracedOf}
 use Rattle.ti_tool.specs.Verdicts.{AreVerdicts}
@@ -86,6 +87,11 @@ IsJudgement naming sound v (Err e) = ⊥
 abbrev pub IsChecked : Bool → List ℕ → Result (List ℕ) ToolFault → Type 0
 IsChecked sound = IsDueFrom (IsJudgement (naming_asked false false false) sound)
 
+-- the lines of `lint`, with something before the first of each finding; nothing is wrong if there are none
+abbrev pub IsLinted : List ℕ → Bool → EntryValue → Result (List ℕ) ToolFault → Type 0
+IsLinted before sound v (Ok lines) = IsReport before v lines × (sound ≡ (length lines == 0))
+IsLinted before sound v (Err e) = ⊥
+
 -- the canonical bytes of an entry, or why it has none
 abbrev pub IsEncoding : EntryValue → Result (List ℕ) ToolFault → Type 0
 IsEncoding v (Ok out) = (encode_fault v ≡ None) × (out ≡ canonical v)
@@ -108,15 +114,20 @@ abbrev pub IsOutputOf : OfCapability → List Value → List ℕ → Result (Lis
 IsOutputOf (of_cap.Cap output) parameters = IsCappedAs parameters output
 IsOutputOf (of_cap.Trace form) parameters = IsTraced parameters form
 
--- on an entry, whose texts are sound or not, or whose flag is set or not
-abbrev pub IsDueOn : OfEntry → List Value → Bool → EntryValue → Result (List ℕ) ToolFault → Type 0
-IsDueOn (of_entry.Show options) parameters sound = IsListed options
-IsDueOn (of_entry.Check naming) parameters sound = IsJudgement naming sound
-IsDueOn (of_entry.Expand e) parameters sound =
+-- on an entry that is sound or not, or whose flag is set or not, with something before each finding
+abbrev pub IsDueIn : List ℕ → OfEntry → List Value → Bool → EntryValue → Result (List ℕ) ToolFault
+    → Type 0
+IsDueIn before (of_entry.Show options) parameters sound = IsListed options
+IsDueIn before (of_entry.Check naming) parameters sound = IsJudgement naming sound
+IsDueIn before of_entry.Lint parameters sound = IsLinted before sound
+IsDueIn before (of_entry.Expand e) parameters sound =
     IsDueFor e.name.names e.name.name.now parameters e.padding e.output
-IsDueOn (of_entry.Convert width) parameters sound = λ v. IsEncoding (in_width width v)
-IsDueOn (of_entry.Get g) parameters sound = IsGot g sound
-IsDueOn (of_entry.Trace t) parameters sound = IsTracedOf t
+IsDueIn before (of_entry.Convert width) parameters sound = λ v. IsEncoding (in_width width v)
+IsDueIn before (of_entry.Get g) parameters sound = IsGot g sound
+IsDueIn before (of_entry.Trace t) parameters sound = IsTracedOf t
+
+abbrev pub IsDueOn : OfEntry → List Value → Bool → EntryValue → Result (List ℕ) ToolFault → Type 0
+IsDueOn = IsDueIn []
 
 -- on the bytes that were read; two files are compared by a run alone, which reads them
 abbrev pub IsAnswer : Asked → List Value → Bool → List ℕ → Result (List ℕ) ToolFault → Type 0
@@ -124,8 +135,9 @@ IsAnswer (Capability c) parameters sound = IsOutputOf c parameters
 IsAnswer (Entry e) parameters sound = IsDueFrom (IsDueOn e parameters sound)
 IsAnswer (Difference d) parameters sound = λ input answer. ⊥
 
--- only `check` finds that texts are not sound, and only `get` that a flag is not set
+-- only `check` and `lint` find that something is wrong, and only `get` that a flag is not set
 abbrev pub Finds : Asked → Bool → Type 0
 Finds (Entry (of_entry.Check naming)) sound = Unit {0}
+Finds (Entry of_entry.Lint) sound = Unit {0}
 Finds (Entry (of_entry.Get g)) sound = Unit {0}
 Finds _ sound = sound ≡ true

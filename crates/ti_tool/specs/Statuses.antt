@@ -3,7 +3,8 @@ use Rattle.std.specs.Prelude.{ℕ, Bool, true, false, Result, Ok, Err}
 use Rattle.ti_tool.specs.declared.fault.ToolFault.{ToolFault}
 use Rattle.ti_tool.specs.declared.fault.ToolFault.TheVariants as fault
 
--- the status of a call's answer: 1 if `check` found a text with a fault, or `get` a flag that is not set
+-- the status of a call's answer: 1 if `check` found a text with a fault, `lint` something wrong, or `get` a
+-- flag that is not set
 abbrev pub status_for : Result Bool ToolFault → ℕ
 status_for (Ok true) = 0
 status_for (Ok false) = 1

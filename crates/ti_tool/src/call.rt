@@ -56,14 +56,14 @@ fn call_on_entry<A: Allocator + Copy, R: Read, W: Write>(
     let mut kept = EntryReader::new();
     read_from(&mut kept, reader)?;
     let entry = kept.finish()?;
-    let answer = answer_of_entry(alloc, asked, parameters, &entry)?;
+    let answer = answer_of_entry(alloc, asked, parameters, b"", &entry)?;
     write_result(writer, answer.bytes.as_slice())?;
     Ok(answer.sound)
 }
 
 /// Does what is asked: what the reader gives is taken as one capability or as an entry, and what is due for it is
-/// written. Each variable of a capability starts as 0. The result is false if `check` found a text with a fault, or `get` a
-/// flag that is not set.
+/// written. Each variable of a capability starts as 0. The result is false if `check` found a text with a fault, `lint`
+/// something wrong, or `get` a flag that is not set.
 ///
 /// Nothing is written before the whole result is there: after a fault other than `Write` the writer is as it was.
 ///

@@ -2,7 +2,7 @@
 
 ghost use Rattle.std.specs.Prelude.{Ok, IfErr, IfOk, MatchResult, true};
 ghost use Rattle.ti_line.specs.declared.request.Asked.TheVariants as asks;
-ghost use Rattle.ti_tool.specs.Results.{Finds, IsDueOn, IsOutputOf};
+ghost use Rattle.ti_tool.specs.Results.{Finds, IsDueIn, IsOutputOf};
 ghost use Rattle.ti_tool.specs.inner.Dues.{FailsAsDue};
 
 pub mod cap;
@@ -11,6 +11,7 @@ pub mod convert;
 pub mod diff;
 pub mod expand;
 pub mod get;
+pub mod lint;
 pub mod trace;
 
 use crate::command::cap::cap_result;
@@ -18,6 +19,7 @@ use crate::command::check::verdicts_of;
 use crate::command::convert::convert_result;
 use crate::command::expand::expand_result;
 use crate::command::get::get_result;
+use crate::command::lint::findings_of_entry;
 use crate::command::trace::{trace_of_result, trace_result};
 use crate::fault::ToolFault;
 use crate::listing::lines_of;
@@ -26,12 +28,12 @@ use ti_entry::Entry;
 use ti_expand::Value;
 use ti_line::{OfCapability, OfEntry};
 
-/// A result, and whether it is of no fault that `check` found and of no flag that is not set.
+/// A result, and whether it is of nothing that `check` or `lint` found and of no flag that is not set.
 #[derive(Drop)]
 pub struct Answer<A: Allocator> {
     /// The bytes of the result.
     pub bytes: Vec<u8, A>,
-    /// Whether no text has a fault, and a flag is set; true for all requests but those of `check` and `get`.
+    /// Whether nothing is wrong, and a flag is set; true for all requests but those of `check`, `lint` and `get`.
     pub sound: bool,
 }
 
@@ -52,22 +54,24 @@ pub fn answer_of_capability<A: Allocator + Copy>(
     }
 }
 
-/// What is due for an entry.
+/// What is due for an entry. Something stands before the first line of each finding of `lint`.
 pub fn answer_of_entry<A: Allocator + Copy>(
     alloc: A,
     asked: &OfEntry<'_>,
     parameters: &[Value<'_>; 9],
+    before: &[u8],
     entry: &Entry<'_>,
 ) -> Result<Answer<A>, ToolFault>
     ensures finds { IfOk result (λ a. Finds (asks.Entry asked.now) a.sound) }
     ensures due { IfOk result
-        (λ a. IsDueOn asked.now parameters.now a.sound entry.now (Ok a.bytes.items)) }
+        (λ a. IsDueIn before.now asked.now parameters.now a.sound entry.now (Ok a.bytes.items)) }
     ensures fault { IfErr result
-        (FailsAsDue (IsDueOn asked.now parameters.now true entry.now)) }
+        (FailsAsDue (IsDueIn before.now asked.now parameters.now true entry.now)) }
 {
     let bytes = match asked {
         OfEntry::Show(options) => lines_of(alloc, *options, entry)?,
         OfEntry::Check(naming) => return Ok(verdicts_of(alloc, *naming, entry)?),
+        OfEntry::Lint => return Ok(findings_of_entry(alloc, before, entry)?),
         OfEntry::Expand(expand) => expand_result(alloc, entry, expand, parameters)?,
         OfEntry::Convert(width) => convert_result(alloc, entry, *width)?,
         OfEntry::Get(get) => return get_result(alloc, entry, get),

@@ -192,7 +192,10 @@ fn greater(one: u8, other: u8) -> u8
 fn takes_folders(of_entry: &OfEntry<'_>) -> bool
     ensures { result ≡ the_takes_folders of_entry.now }
 {
-    matches!(of_entry, OfEntry::Show(_) | OfEntry::Check(_))
+    matches!(
+        of_entry,
+        OfEntry::Show(_) | OfEntry::Check(_) | OfEntry::Lint
+    )
 }
 
 /// The files that a word names, or what it leads to if the system does not give them.

@@ -3,8 +3,8 @@
 ghost use Rattle.std.specs.Prelude.{◌≡◌, ◌⊎◌, ◌++◌, codes, Err, OnOk, IfErr, IfOk, true};
 ghost use Rattle.ti_line.specs.declared.request.Asked.TheVariants as asks;
 ghost use Rattle.ti_tool.specs.declared.fault.ToolFault.TheVariants as fault;
-ghost use Rattle.ti_tool.specs.Files.{IsDueOfFile, each_line, file_line as the_file_line, one_of_several as the_one_of_several, result_of_file, shown_file};
-ghost use Rattle.ti_tool.specs.Results.{Finds, IsDueFrom, IsDueOn};
+ghost use Rattle.ti_tool.specs.Files.{IsDueOfFile, before_findings as the_before_findings, each_line, file_line as the_file_line, one_of_several as the_one_of_several, result_of_file, shown_file};
+ghost use Rattle.ti_tool.specs.Results.{Finds, IsDueFrom, IsDueIn};
 
 use crate::command::{Answer, answer_of_entry};
 use crate::fault::ToolFault;
@@ -93,6 +93,19 @@ fn by_name<A: Allocator + Copy>(
     Ok(out)
 }
 
+/// What stands before the first line of each finding in a file: its name, if it is one of several.
+fn before_findings<A: Allocator + Copy>(alloc: A, file: Named<'_>) -> Result<Vec<u8, A>, AllocError>
+    ensures { IfOk result (λ v. v.items
+        ≡ the_before_findings file.entry.is_one_of_several file.entry.name.now) }
+{
+    let mut before = Vec::new(alloc);
+    if file.is_one_of_several {
+        push_notation(&mut before, file.name.as_bytes())?;
+        before.extend_from_slice(b": ")?;
+    }
+    Ok(before)
+}
+
 /// The result of one of several files.
 fn one_of_several<A: Allocator + Copy>(
     alloc: A,
@@ -126,10 +139,18 @@ pub fn answer_of_file<A: Allocator + Copy>(
     ensures due { IfOk result (λ a. IsDueOfFile file.entry.is_one_of_several asked.now
         parameters.now file.entry.name.now a.sound contents.now a.bytes.items) }
     ensures fault { IfErr result (λ e. (e ≡ fault.Memory)
-        ⊎ IsDueFrom (IsDueOn asked.now parameters.now true) contents.now (Err e)) }
+        ⊎ IsDueFrom (IsDueIn (the_before_findings file.entry.is_one_of_several file.entry.name.now)
+        asked.now parameters.now true) contents.now (Err e)) }
 {
     let entry = read(contents)?;
-    let Answer { bytes, sound } = answer_of_entry(alloc, asked, parameters, &entry)?;
+    let before = before_findings(alloc, file)?;
+    let Answer { bytes, sound } = answer_of_entry(
+        alloc,
+        asked,
+        parameters,
+        before.as_slice(),
+        &entry,
+    )?;
     if file.is_one_of_several {
         let bytes = one_of_several(alloc, asked, file.name, bytes)?;
         return Ok(Answer { bytes, sound });

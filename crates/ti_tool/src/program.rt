@@ -152,7 +152,7 @@ fn run_no_line<W: Write, E: Write>(why: &NoLine, output: &mut W, errors: &mut E)
 /// | Status | When | Line on `errors` |
 /// |---|---|---|
 /// | 0 | done, or help was requested | none |
-/// | 1 | `check` found a fault, `diff` told something, or the flag that `get` asks for is not set | none |
+/// | 1 | `check` found a fault, `lint` something wrong, `diff` told something, or the flag that `get` asks for is not set | none |
 /// | 2 | the words are no command line or no parameters, or ask for both widths, or for both forms of an output, or for an entry at a terminal, or to compare no file or more than two | what is wrong and the usage; `parameters: more than nine`; `parameter K: bad word`; `convert: both widths`; `--hex and --escape exclude each other`; `trace: --entry without --of`; `convert: not to a terminal without --force`; `diff: one file or two` |
 /// | 3 | the entry is refused, or can't be encoded | `entry: WORD at PLACE`; `entry: WORD` |
 /// | 4 | the capability is refused or absent, a text is too long for it, or its padding too much | `capability: WORD at PLACE`; `capability: absent`; `get: NAME: absent`; `trace: NAME: no such text`; `get: NAME: no such capability`, and the same of `trace`; `capability: TextTooLong K`; `capability: TooMuch N` |

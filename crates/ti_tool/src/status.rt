@@ -5,7 +5,8 @@ ghost use Rattle.ti_tool.specs.Statuses.{status_for};
 
 use crate::fault::ToolFault;
 
-/// The status of a call's answer: 1 if `check` found a text with a fault, or `get` a flag that is not set.
+/// The status of a call's answer: 1 if `check` found a text with a fault, `lint` something wrong, or `get` a
+/// flag that is not set.
 pub fn status(answer: &Result<bool, ToolFault>) -> u8
     ensures { result ≡ status_for answer.now }
 {

@@ -8,12 +8,13 @@ use ti_fixtures::{Sink, Source};
 use ti_line::{Message, NoLine, read_line};
 
 /// Words that ask for help, and what the help has.
-const HELP: [(&[&str], &[&str]); 12] = [
+const HELP: [(&[&str], &[&str]); 13] = [
     (
         &["ti", "--help"],
         &[
             "show",
             "check",
+            "lint",
             "get",
             "diff",
             "expand",
@@ -72,6 +73,10 @@ const HELP: [(&[&str], &[&str]); 12] = [
         ],
     ),
     (&["ti", "check", "--help"], &["status 1", "Example"]),
+    (
+        &["ti", "lint", "--help"],
+        &["Usage: ti lint [FILE]...", "status 1", "Example"],
+    ),
     (
         &["ti", "convert", "--help"],
         &["canonical", "--force", "Example"],

@@ -1,6 +1,14 @@
 //! Runs of `ti diff` over files, worked by hand from what they hold.
 
 use super::runs_of_files::{Row, end_at};
+use linked_list_allocator::LocalHeap;
+use std::alloc::Global;
+use std::process::Abort;
+use std::test::Fail;
+use ti_entry::read;
+use ti_fixtures::Tally;
+use ti_fixtures::entries::{EXTENDED_BY_TIC, WIDE_BY_TIC};
+use ti_tool::difference_of;
 
 const ROWS: [Row; 14] = [
     Row {
@@ -120,4 +128,23 @@ fn a_difference_that_cannot_be_written_is_told(rt: HostRuntime) {
     assert_that!(rt; status == 5);
     assert_that!(rt; output.is_empty());
     assert_that!(rt; errors.as_slice() == b"output: failed\n".as_slice());
+}
+
+/// Whether two entries are told apart with so much memory, all of which is given back.
+fn are_told_apart(rt: &impl Abort, global: Global, memory: usize) -> Result<bool, Fail> {
+    let heap = LocalHeap::new(global, memory)?;
+    let (one, other) = (read(EXTENDED_BY_TIC)?, read(WIDE_BY_TIC)?);
+    let is_told = difference_of(&heap, &one, &other).is_ok();
+    assert_that!(rt; heap.used() == 0);
+    Ok(is_told)
+}
+
+#[test]
+fn each_growth_of_a_difference_is_refused_in_turn(rt: HostRuntime) -> Result<(), Fail> {
+    let mut tally = Tally::NONE;
+    for step in 0..60usize {
+        tally.count(are_told_apart(&rt, rt.alloc(), 64 + 40 * step)?);
+    }
+    assert_that!(rt; tally.is_refused_then_given(2));
+    Ok(())
 }

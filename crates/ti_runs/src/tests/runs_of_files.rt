@@ -15,8 +15,11 @@ const TWICE: &[u8] =
 const ONCE: &[u8] =
     b"\x1a\x01\x02\0\x01\0\x01\0\x02\0\x02\0t\0\x01\0P\0\xff\xff\0\0\x07\0\x01\0\0\0\0\0\x01\0\x02\0\x01\0\0\0A\0";
 
+/// The small entry with two percent signs in `bel`, which nothing expands.
+const PERCENT: &[u8] = b"\x1a\x01\x02\0\x01\0\x01\0\x02\0\x04\0t\0\x01\0P\0\xff\xff\0\0\x07%%\0";
+
 /// The files of a shelf: their names and contents.
-const SHELF: [(&str, &[u8]); 10] = [
+const SHELF: [(&str, &[u8]); 11] = [
     ("small", SMALL),
     ("more\x1b", EXTENDED),
     ("folder/fault", QUESTION),
@@ -27,6 +30,7 @@ const SHELF: [(&str, &[u8]); 10] = [
     ("wide", WIDE_BY_TIC),
     ("twice", TWICE),
     ("once", ONCE),
+    ("percent\x1b", PERCENT),
 ];
 
 /// Files in memory, and a folder with two of them and a name that is not valid UTF-8.
