@@ -1,5 +1,5 @@
 -- Two texts of which one should undo the other.
-use Rattle.std.specs.Prelude.{ℕ, List, [], ◌++◌, if◌then◌else◌, get_or, unwrap_or}
+use Rattle.std.specs.Prelude.{◌==◌, ◌||◌, ℕ, List, [], ◌++◌, if◌then◌else◌, get_or, length, not, unwrap_or}
 use Rattle.std.specs.Str.{bytes_eq}
 use Rattle.ti_words.specs.declared.Kind.TheVariants as kinds
 use Rattle.ti_words.specs.declared.all_names.NameTable.TheVariants as tables
@@ -14,10 +14,11 @@ use Rattle.ti_report.specs.Sentences.{sentence}
 abbrev pub standard_label : ℕ → List ℕ
 standard_label index = unwrap_or (name_in tables.All kinds.Text index) []
 
--- both texts, if they are the same
+-- both texts, if they are the same and send something
 abbrev pub equal_lines : List ℕ → List ℕ → List ℕ → TextValue → TextValue → List ℕ
 equal_lines prefix one other (TextOf text) (TextOf same) =
-    if bytes_eq text same then head prefix one text ++ (head [] other same ++ indented (sentence wrongs.EqualPair)) else []
+    if length text == 0 || not (bytes_eq text same) then []
+    else head prefix one text ++ (head [] other same ++ indented (sentence wrongs.EqualPair))
 equal_lines prefix one other text same = []
 
 -- the texts at two indices of an entry

@@ -20,7 +20,7 @@ pub fn standard_label(index: usize) -> &'static str
     NameTable::All.text_name(index).unwrap_or("")
 }
 
-/// Writes the lines on two texts, if both are there and are the same.
+/// Writes the lines on two texts, if both are there, are the same and send something.
 fn push_equal<A: Allocator>(
     out: &mut Vec<u8, A>,
     prefix: &[u8],
@@ -33,7 +33,7 @@ fn push_equal<A: Allocator>(
     let (Text::Value(one), Text::Value(other)) = texts else {
         return Ok(());
     };
-    if one != other {
+    if one.is_empty() || one != other {
         return Ok(());
     }
     let label = labels.0.as_bytes();
