@@ -12,8 +12,8 @@ TESTS = {
     "fixtures": ["flushed", "sink", "source", "tally", "traces"],
     "cases": [
         "base", "draft_growths", "draft_memory", "entry_messages", "entry_sources", "expansion_memory", "expansion_variables",
-        "lint", "lint_findings", "lint_texts", "notation_memory", "padding_memory", "padding_rows", "padding_writers", "trace",
-        "traces",
+        "lint", "lint_findings", "lint_reports", "lint_texts", "notation_memory", "padding_memory", "padding_rows",
+        "padding_writers", "report", "trace", "traces",
     ],
 }
 # What a test of Rattle has for its handle `rt`, which those of Rust do without. KIT is the crate's own kit.
