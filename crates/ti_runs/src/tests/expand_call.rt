@@ -1,6 +1,5 @@
 //! The call that expands a text of an entry by name: which text, and with which padding.
 
-use super::cap_call::FORMS;
 use super::rows_of_show::UNCOMMON;
 use super::show_call::Written;
 use std::alloc::{Allocator, Global};
@@ -10,10 +9,9 @@ use ti_expand::Value;
 use ti_fixtures::capabilities::nine;
 use ti_fixtures::entries::{EXTENDED, SMALL, TEXT};
 use ti_fixtures::{Sink, Source};
-use ti_line::{Expand, OfEntry, Output, TextName};
+use ti_line::{Request, Task, read_line};
 use ti_pad::Padding;
 use ti_tool::{ToolFault, carry_out, expand_named};
-use ti_words::NameTable;
 
 /// What is requested of an entry: a text by its name, with one parameter and padding.
 #[derive(Drop)]
@@ -197,19 +195,12 @@ fn hex_output_ends_with_a_newline(rt: HostRuntime) -> Result<(), Fail> {
     Ok(())
 }
 
-/// Expands the text with the name `cmdch`, of this table of names.
-fn expanded_as(alloc: Global, names: NameTable, output: Output) -> Result<Written, Fail> {
+/// Expands a text as words request it.
+fn expanded_by(alloc: Global, words: &[&str]) -> Result<Written, Fail> {
+    let Task { request, .. } = read_line(alloc, false, &*words)?;
+    let Request { parameters, asked } = request;
     let mut writer = Sink::new(alloc);
     let mut source = Source::new(UNCOMMON, 3);
-    let asked = ti_line::Asked::Entry(OfEntry::Expand(Expand {
-        name: TextName {
-            name: "cmdch",
-            names,
-        },
-        padding: padding_of(0, 1, false)?,
-        output,
-    }));
-    let parameters = [Value::Num(7); 9];
     let result = carry_out(alloc, &asked, &parameters, &mut source, &mut writer);
     Ok(Written {
         result: result.map(|_sound| ()),
@@ -217,10 +208,23 @@ fn expanded_as(alloc: Global, names: NameTable, output: Output) -> Result<Writte
     })
 }
 
+/// Words that request an uncommon text, and what is written.
+const FORMED: [(&[&str], &[u8]); 3] = [
+    (&["ti", "expand", "-a", "cmdch", "n:7"], b"\x1b7^, "),
+    (
+        &["ti", "expand", "-a", "-x", "cmdch", "n:7"],
+        b"1b375e2c20\n",
+    ),
+    (
+        &["ti", "expand", "-a", "-e", "cmdch", "n:7"],
+        b"\\E7\\^\\,\\s\n",
+    ),
+];
+
 #[test]
 fn expansions_have_the_form_that_is_asked(rt: HostRuntime) -> Result<(), Fail> {
-    for (output, expected) in FORMS {
-        let written = expanded_as(rt.alloc(), NameTable::All, output)?;
+    for (words, expected) in FORMED {
+        let written = expanded_by(rt.alloc(), words)?;
         assert_that!(rt; written.result == Ok(()));
         assert_that!(rt; written.taken.as_slice() == expected);
     }
@@ -229,7 +233,7 @@ fn expansions_have_the_form_that_is_asked(rt: HostRuntime) -> Result<(), Fail> {
 
 #[test]
 fn an_uncommon_name_is_not_among_the_common_ones(rt: HostRuntime) -> Result<(), Fail> {
-    let written = expanded_as(rt.alloc(), NameTable::Common, Output::Raw)?;
+    let written = expanded_by(rt.alloc(), &["ti", "expand", "cmdch", "n:7"])?;
     assert_that!(rt; written.result == Err(ToolFault::NoSuchText));
     assert_that!(rt; written.taken.is_empty());
     Ok(())

@@ -1,42 +1,42 @@
 //! Listings and verdicts with the look that is requested, and of a large entry.
 
 use super::rows_of_show::UNCOMMON;
-use ti_escape::Form;
-use ti_expand::Value;
+use super::show_call::Written;
+use std::alloc::Global;
+use std::test::Fail;
 use ti_fixtures::{Sink, Source, TMUX};
-use ti_line::{Asked, ListOptions, NameForm, Naming, OfEntry};
+use ti_line::{Request, Task, read_line};
 use ti_tool::{carry_out, check, show};
-use ti_words::NameTable;
 
-const ZEROS: [Value<'static>; 9] = [Value::Num(0); 9];
-
-/// The names of all capabilities, and the notation.
-const NAMING: Naming = Naming {
-    table: NameTable::All,
-    form: NameForm::Notation,
-};
-
-#[test]
-fn a_listing_has_the_look_that_is_asked(rt: HostRuntime) {
-    let asked = Asked::Entry(OfEntry::Show(ListOptions {
-        naming: NAMING,
-        form: Form::Notation,
-    }));
-    let mut output = Sink::new(rt.alloc());
+/// Does what words request of an entry.
+fn done(alloc: Global, words: &[&str]) -> Result<Written, Fail> {
+    let Task { request, .. } = read_line(alloc, false, &*words)?;
+    let Request { parameters, asked } = request;
+    let mut output = Sink::new(alloc);
     let mut input = Source::new(UNCOMMON, 7);
-    assert_that!(rt; carry_out(rt.alloc(), &asked, &ZEROS, &mut input, &mut output) == Ok(true));
-    let lines = b"format: legacy\nnames: t\nflag xsb\ntext bel ^G\ntext cmdch \\E%p1%d\\^\\,\\s\n";
-    assert_that!(rt; output.taken.as_slice() == lines.as_slice());
+    let result = carry_out(alloc, &asked, &parameters, &mut input, &mut output);
+    Ok(Written {
+        result: result.map(|_sound| ()),
+        taken: output.taken,
+    })
 }
 
 #[test]
-fn verdicts_have_the_names_that_are_asked(rt: HostRuntime) {
-    let mut output = Sink::new(rt.alloc());
-    let mut input = Source::new(UNCOMMON, 7);
-    let asked = Asked::Entry(OfEntry::Check(NAMING));
-    assert_that!(rt; carry_out(rt.alloc(), &asked, &ZEROS, &mut input, &mut output) == Ok(true));
+fn a_listing_has_the_look_that_is_asked(rt: HostRuntime) -> Result<(), Fail> {
+    let listing = done(rt.alloc(), &["ti", "show", "--escape", "--all-names"])?;
+    assert_that!(rt; listing.result == Ok(()));
+    let lines = b"format: legacy\nnames: t\nflag xsb\ntext bel ^G\ntext cmdch \\E%p1%d\\^\\,\\s\n";
+    assert_that!(rt; listing.taken.as_slice() == lines.as_slice());
+    Ok(())
+}
+
+#[test]
+fn verdicts_have_the_names_that_are_asked(rt: HostRuntime) -> Result<(), Fail> {
+    let verdicts = done(rt.alloc(), &["ti", "check", "--escape", "--all-names"])?;
+    assert_that!(rt; verdicts.result == Ok(()));
     let lines = b"text bel ok depth 0 bound 1\ntext cmdch ok depth 1 bound 15\n";
-    assert_that!(rt; output.taken.as_slice() == lines.as_slice());
+    assert_that!(rt; verdicts.taken.as_slice() == lines.as_slice());
+    Ok(())
 }
 
 /// The listing, whose lines infocmp has in the same order; the flags OTbs and OTpt have no name in the table.
