@@ -69,9 +69,9 @@ fn call_on_entry<A: Allocator + Copy, R: Read, W: Write>(
 ///
 /// # Errors
 ///
-/// In this order: `Read` if reading failed, or two files are to be compared, which this call can't read, `Entry` if the bytes are no entry, `NoSuchName` if
-/// nothing has the name that `get` asks for, `NoSuchText` if the text is not there, `Cap` if it is no capability, `TextTooLong`, `TooMuch` if the padded text has more than 67108864 bytes, `Encode` if a number
-/// is above 32767 and the legacy format is requested, or else if the canonical bytes would be more than 32768, which shared
+/// In this order: `Read` if reading failed, or if two files are to be compared, which this call can't read, `Entry` if the
+/// bytes are no entry, `NoSuchName` if nothing has the name that `get` asks for, `NoSuchText` if the text is not there, `Cap` if
+/// it is no capability, `TextTooLong`, `TooMuch` if the padded text has more than 67108864 bytes, `Encode` if a number is above 32767 and the legacy format is requested, or else if the canonical bytes would be more than 32768, which shared
 /// texts or wider numbers can lead to, `Write`; `Memory` if a growth is refused.
 pub fn carry_out<A: Allocator + Copy, R: Read, W: Write>(
     alloc: A,

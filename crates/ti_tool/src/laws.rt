@@ -9,7 +9,8 @@ pub fn wide_and_back()
     ensures { WideAndBack }
 {}
 
-/// For a request and the bytes that are read at most one result, or fault, is due.
+/// For a request but that of `lint`, and the bytes that are read, at most one result, or fault, is due. What is due for `lint`
+/// is said by which findings its lines tell, and that these are one is not shown.
 pub fn results_are_one()
     ensures one { HasOneAnswer }
     ensures verdict { CheckHasOneVerdict }
