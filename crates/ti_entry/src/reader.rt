@@ -153,6 +153,13 @@ impl EntryReader {
         self.kept.len()
     }
 
+    /// The bytes that are kept.
+    pub fn bytes(&self) -> &[u8]
+        ensures { result.now ≡ self.now.kept }
+    {
+        self.kept.as_slice()
+    }
+
     /// The entry that the kept bytes spell. It makes no check and changes nothing, and more pieces may follow.
     ///
     /// # Errors
