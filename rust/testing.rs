@@ -1,7 +1,7 @@
 //! What the tests of the sources take from Rattle, for those of them that rust/check runs.
 
 use super::{AllocError, Allocator, Global, Vec};
-use crate::made::escape::ReadingFault;
+use crate::made::escape::{NotationRefused, ReadingFault};
 use crate::made::expand::{BytesFault, ExpandFault};
 use core::error::Error;
 use core::fmt;
@@ -80,6 +80,14 @@ impl fmt::Display for BytesFault {
 impl Error for BytesFault {}
 
 // The crate reads no notation yet.
+impl fmt::Display for NotationRefused {
+    fn fmt(&self, f: &mut fmt::Formatter<'_>) -> fmt::Result {
+        write!(f, "{self:?}")
+    }
+}
+
+impl Error for NotationRefused {}
+
 impl fmt::Display for ReadingFault {
     fn fmt(&self, f: &mut fmt::Formatter<'_>) -> fmt::Result {
         write!(f, "{self:?}")

@@ -1,5 +1,6 @@
 pub mod Notation
 pub mod Reading
+pub mod FaultNames
 pub mod Forms
 pub mod Laws
 pub mod inner

@@ -5,13 +5,14 @@
 //! `\` and three octal digits. So each character of a notation can be printed, none is lost at an end, and two texts never
 //! look the same. [`push_label`] writes a name with `\s` for each space, so that a line with it splits at its spaces.
 //! [`push_formed`] and [`push_shown`] write a text in this notation or in hex, as a [`Form`] says. [`push_reading`] reads a
-//! notation as its text. The time is linear in the bytes that are read and written. Only the calls that append to a vector
-//! take memory.
+//! notation as its text, and [`read_in_place`] puts the text in the notation's place. The time is linear in the bytes that
+//! are read and written. Only the calls that append to a vector take memory.
 #![tactic(auto)]
 
 mod columns;
 mod form;
 mod formed;
+mod in_place;
 mod label;
 pub mod laws;
 mod length;
@@ -23,6 +24,7 @@ mod stretch;
 pub use columns::{column, columns_between};
 pub use form::Form;
 pub use formed::{formed_len, push_formed, push_shown};
+pub use in_place::read_in_place;
 pub use label::push_label;
 pub use length::notation_len;
 pub use memory::push_notation;

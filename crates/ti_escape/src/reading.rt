@@ -1,10 +1,13 @@
 //! A text from its notation, as terminfo(5) has it and `tic` reads it.
 
 ghost use Rattle.std.specs.Prelude.{◌≡◌, ◌≢◌, ◌≤◌, ◌+◌, ◌<◌, ◌++◌, ℕ, List, Ok, Err, length, take, vec_len, vec_capacity, OnOk, OnErr, IfOk, IfErr, IfSome};
+ghost use Rattle.ti_escape.specs.FaultNames.{notation_fault_word};
 ghost use Rattle.ti_escape.specs.declared.reading.ReadingFault.TheVariants as fault;
 ghost use Rattle.ti_escape.specs.Reading.{IsReadingFault, after_backslash as the_after_backslash, after_caret as the_after_caret, first_octal_digit, letter_meaning as the_letter_meaning, meant_at, octal_digits, octal_meant, reading};
 
 use std::alloc::{AllocError, Allocator};
+use std::fmt;
+use thiserror::Error;
 
 /// Why characters are no notation.
 #[derive(Clone, Copy, Debug, PartialEq, Eq)]
@@ -15,9 +18,35 @@ pub enum NotationFault {
     BadControl,
 }
 
+impl NotationFault {
+    /// The fault's name, as the error prints it.
+    pub fn word(self) -> &'static str
+        ensures name { result.now ≡ notation_fault_word self }
+    {
+        match self {
+            NotationFault::CutShort => "CutShort",
+            NotationFault::BadControl => "BadControl",
+        }
+    }
+}
+
+impl fmt::Display for NotationFault {
+    ghost use Rattle.std.specs.Prelude.{Some};
+
+    ghost output = { λ fault. Some (notation_fault_word fault) };
+
+    fn fmt<W: fmt::Write>(&self, f: &mut fmt::Formatter<W>) -> fmt::Result {
+        f.write_str(self.word())
+    }
+}
+
+impl std::error::Error for NotationFault {}
+
 /// Why and where characters are no notation.
-#[derive(Clone, Copy, Debug, PartialEq, Eq)]
+#[derive(Clone, Copy, Debug, PartialEq, Eq, Error)]
+#[error("{fault} at {place}")]
 pub struct NotationRefused {
+    /// What is wrong.
     pub fault: NotationFault,
     /// The place of the `\` or the `^`.
     pub place: usize,
@@ -43,11 +72,11 @@ impl From<AllocError> for ReadingFault {
 /// What the first characters mean.
 #[derive(Clone, Copy)]
 pub struct Meant {
-    byte: u8,
+    pub(crate) byte: u8,
     /// How many characters follow the first of them.
-    more: usize,
+    pub(crate) more: usize,
     /// Whether it is a `%`, as it is or after a `\`.
-    percent: bool,
+    pub(crate) percent: bool,
 }
 
 /// The value of an octal digit, if one is at the front.
@@ -135,7 +164,7 @@ fn after_caret(rest: &[u8]) -> Result<Meant, NotationFault>
 
 /// What the first character means with those after it. A `^` right after a `%` is the character itself, since `%^` is an
 /// operator.
-fn meaning(after_percent: bool, text: &[u8]) -> Result<Meant, NotationFault>
+pub(crate) fn meaning(after_percent: bool, text: &[u8]) -> Result<Meant, NotationFault>
     ensures meant { result ≡ meant_at after_percent text.now }
     ensures within { IfOk result (λ m. m.more < length text.now) }
 {
