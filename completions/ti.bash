@@ -61,12 +61,13 @@ _ti() {
     esac
     case $(_ti_command) in
         '') words='show check lint get diff expand convert cap trace help --help --version' ;;
-        cap) words='--hex --escape --help' ;;
-        trace) words='--of --escape --entry --help' ;;
+        cap) words='--source --hex --escape --help' ;;
+        trace) words='--source --of --escape --entry --help' ;;
         show) words='--escape --all-names --help' ;;
         check) words='--escape --all-names --help' ;;
         expand) words="--hex --escape --all-names --rate --lines --xon --entry --help $_ti_texts" ;;
-        lint | diff) words='--help' ;;
+        lint) words='--all --help' ;;
+        diff) words='--help' ;;
         convert) words='--wide --narrow --force --help' ;;
         get) words="--hex --escape --rate --lines --xon --entry --help $_ti_names" ;;
         help) words='show check lint get diff expand convert cap trace' ;;

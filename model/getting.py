@@ -41,7 +41,7 @@ def item_of(entry, name, tables, command):
         for its_name, value in own[kind]:
             if its_name == name.encode():
                 return kind, value
-    near = nearest(name, tables)
+    near = ", ".join(shown_name(other) for other in nearest(name, names_of(own, tables)))
     raise Failed(f"{command}: {shown_name(name)}: no such capability" + (f"; nearest: {near}" if near else ""))
 
 
@@ -65,13 +65,24 @@ def distance(word, name):
     return table[len(word), len(name)]
 
 
-def nearest(word, tables):
-    """The first of the names to which fewest edits lead, if there is at most one for each three bytes of the word."""
-    names = [name for table in tables for kind in KINDS for name in table[kind].values()]
+def names_of(own, tables):
+    """All names, each once: those of the tables, then the entry's own that are UTF-8."""
+    standard = [name for table in tables for kind in KINDS for name in table[kind].values()]
+    return list(dict.fromkeys(standard + [text for kind in KINDS for name, _ in own[kind] for text in texts_in(name)]))
+
+
+def texts_in(name):
+    try:
+        return [name.decode()]
+    except UnicodeDecodeError:
+        return []
+
+
+def nearest(word, names):
+    """The three names to which fewest edits lead, the first of those alike, if there is at most one edit for each three bytes."""
     most = len(word.encode()) // 3
-    near = [name for name in names if abs(len(name) - len(word)) <= most]
-    found = min(near, key=lambda name: distance(word, name), default=None)
-    return found if found and distance(word, found) <= most else None
+    near = [(distance(word, name), name) for name in names if abs(len(name) - len(word)) <= most]
+    return [name for edits, name in sorted(near, key=lambda found: found[0]) if edits <= most][:3]
 
 
 # ---- parameters

@@ -1,4 +1,4 @@
-"""Adds the tests of the sources, those of ti_cases, to a crate that rust/make made, so that cargo runs them over it. Tests of
+"""Adds the tests of entries and capabilities to a crate that rust/make made, so that cargo runs them over it. Tests of
 what the crate leaves out, and of memory that is refused, are not added."""
 
 import re
@@ -10,10 +10,10 @@ HERE = Path(__file__).resolve().parent
 # The crates of tests, each with the files that are not added.
 TESTS = {
     "fixtures": ["flushed", "sink", "source", "tally", "traces"],
+    "entry_cases": ["base", "draft_growths", "draft_memory", "entry_messages", "entry_objects", "entry_sources", "json"],
     "cases": [
-        "base", "draft_growths", "draft_memory", "entry_messages", "entry_sources", "expansion_memory", "expansion_variables",
-        "lint", "lint_findings", "lint_reports", "lint_texts", "notation_memory", "padding_memory", "padding_rows",
-        "padding_writers", "report", "trace", "traces",
+        "expansion_memory", "expansion_variables", "notation_memory", "padding_memory", "padding_rows", "padding_writers",
+        "trace", "traces",
     ],
 }
 # What a test of Rattle has for its handle `rt`, which those of Rust do without. KIT is the crate's own kit.

@@ -1,4 +1,4 @@
-//! Tests that cross the crates: worked rows, byte vectors, and readers, writers and memory that fail.
+//! Tests of capabilities: worked rows, and readers, writers and memory that fail.
 #![tactic(auto)]
 
 #[cfg(test)]

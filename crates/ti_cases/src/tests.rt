@@ -1,4 +1,4 @@
-//! Worked rows from terminfo's manual pages and hand-made ones, in tables.
+//! Worked rows of capabilities, by hand and from terminfo's manual pages, in tables.
 
 use std::process::Abort;
 
@@ -17,18 +17,6 @@ macro_rules! assert_that {
 mod capability_faults;
 mod capability_parameters;
 mod capability_sizes;
-mod changed_bytes;
-mod cut_entries;
-mod deciding_bytes;
-mod draft_growths;
-mod draft_memory;
-mod drafts_written;
-mod entries_read;
-mod entries_reopened;
-mod entry_messages;
-mod entry_refusals;
-mod entry_sources;
-mod entry_views;
 mod expanded;
 mod expansion_bytes;
 mod expansion_faults;
@@ -38,12 +26,6 @@ mod expansion_rows;
 mod expansion_runs;
 mod expansion_steps;
 mod expansion_variables;
-mod extended_parts;
-mod large_entry;
-mod lint_findings;
-mod lint_reports;
-mod lint_texts;
-mod names;
 mod notation;
 mod notation_memory;
 mod notation_read;
@@ -52,5 +34,3 @@ mod padding_rows;
 mod padding_writers;
 mod traces;
 mod uses;
-mod ways_to_read;
-mod wide_entries;

@@ -5,19 +5,29 @@ use Rattle.clap.proofs.OnLiterals.{clap_on_literals}
 use Rattle.ti_line.specs.CommandLine.{AsksForHelp, Cap, Check, Convert, Diff, Expand, Get, IsRefused, Lint, Reads, Show, Trace, files_of}
 
 -- `ti cap n:4 --hex n:9`
-cap_row : Reads (codes "ti" ∷ codes "cap" ∷ codes "n:4" ∷ codes "--hex" ∷ codes "n:9" ∷ []) (Cap true false (codes "n:4" ∷ codes "n:9" ∷ []))
+cap_row : Reads (codes "ti" ∷ codes "cap" ∷ codes "n:4" ∷ codes "--hex" ∷ codes "n:9" ∷ []) (Cap false true false (codes "n:4" ∷ codes "n:9" ∷ []))
 unfolding clap_on_literals
 cap_row = (refl, refl)
 
+-- `ti cap n:7 --source`
+source_row : Reads (codes "ti" ∷ codes "cap" ∷ codes "n:7" ∷ codes "--source" ∷ []) (Cap true false false (codes "n:7" ∷ []))
+unfolding clap_on_literals
+source_row = (refl, refl)
+
 -- `ti trace n:7 --escape`
-trace_row : Reads (codes "ti" ∷ codes "trace" ∷ codes "n:7" ∷ codes "--escape" ∷ []) (Trace None true false (codes "n:7" ∷ []))
+trace_row : Reads (codes "ti" ∷ codes "trace" ∷ codes "n:7" ∷ codes "--escape" ∷ []) (Trace false None true false (codes "n:7" ∷ []))
 unfolding clap_on_literals
 trace_row = (refl, refl)
 
 -- `ti trace --of cup 7 --entry a`
-trace_of_row : Reads (codes "ti" ∷ codes "trace" ∷ codes "--of" ∷ codes "cup" ∷ codes "7" ∷ codes "--entry" ∷ codes "a" ∷ []) (Trace (Some (codes "cup")) false true (codes "7" ∷ []))
+trace_of_row : Reads (codes "ti" ∷ codes "trace" ∷ codes "--of" ∷ codes "cup" ∷ codes "7" ∷ codes "--entry" ∷ codes "a" ∷ []) (Trace false (Some (codes "cup")) false true (codes "7" ∷ []))
 unfolding clap_on_literals
 trace_of_row = (refl, refl)
+
+-- `ti trace --source --of cup`
+both_inputs_row : Reads (codes "ti" ∷ codes "trace" ∷ codes "--source" ∷ codes "--of" ∷ codes "cup" ∷ []) (Trace true (Some (codes "cup")) false false [])
+unfolding clap_on_literals
+both_inputs_row = (refl, refl)
 
 -- `ti show`
 show_row : Reads (codes "ti" ∷ codes "show" ∷ []) (Show false false)
@@ -55,7 +65,7 @@ unfolding clap_on_literals
 get_row = (refl, refl)
 
 -- `ti lint a`
-lint_row : Reads (codes "ti" ∷ codes "lint" ∷ codes "a" ∷ []) Lint
+lint_row : Reads (codes "ti" ∷ codes "lint" ∷ codes "a" ∷ []) (Lint false)
 unfolding clap_on_literals
 lint_row = (refl, refl)
 

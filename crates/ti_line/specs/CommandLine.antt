@@ -27,6 +27,10 @@ flag_rule name = record (new_rule name) { long = Some name; action = Some SetTru
 abbrev pub short_rule : Text → Text → Rule
 short_rule name short = record (flag_rule name) { short = Some (letter short) }
 
+-- `--source`
+abbrev pub source_rule : Rule
+source_rule = flag_rule (codes "source")
+
 -- `-x` or `--hex`, `-e` or `--escape`, `-a` or `--all-names`
 abbrev pub hex_rule : Rule
 hex_rule = short_rule (codes "hex") (codes "x")
@@ -92,14 +96,16 @@ with_rules = fold with_rule
 abbrev pub with_commands : App → List App → App
 with_commands = fold (λ a sub. with_subcommand a sub.top)
 
--- `cap [--hex] [--escape] [PARAM..]`
+-- `cap [--source] [--hex] [--escape] [PARAM..]`
 abbrev pub cap_app : App
-cap_app = with_rules (new_app (codes "cap")) (hex_rule ∷ escape_rule ∷ params_rule ∷ [])
+cap_app =
+    with_rules (new_app (codes "cap")) (source_rule ∷ hex_rule ∷ escape_rule ∷ params_rule ∷ [])
 
--- `trace [--of NAME] [--escape] [--entry FILE] [PARAM..]`
+-- `trace [--source] [--of NAME] [--escape] [--entry FILE] [PARAM..]`
 abbrev pub trace_app : App
 trace_app =
-    with_rules (new_app (codes "trace")) (of_rule ∷ escape_rule ∷ entry_rule ∷ params_rule ∷ [])
+    with_rules (new_app (codes "trace"))
+    (source_rule ∷ of_rule ∷ escape_rule ∷ entry_rule ∷ params_rule ∷ [])
 
 -- `show [--escape] [--all-names] [FILE..]`
 abbrev pub show_app : App
@@ -109,9 +115,9 @@ show_app = with_rules (new_app (codes "show")) (escape_rule ∷ all_names_rule �
 abbrev pub check_app : App
 check_app = with_rules (new_app (codes "check")) (escape_rule ∷ all_names_rule ∷ files_rule ∷ [])
 
--- `lint [FILE..]`
+-- `lint [--all] [FILE..]`
 abbrev pub lint_app : App
-lint_app = with_rules (new_app (codes "lint")) (files_rule ∷ [])
+lint_app = with_rules (new_app (codes "lint")) (flag_rule (codes "all") ∷ files_rule ∷ [])
 
 -- `expand NAME [--hex] [--escape] [--all-names] [--rate N] [--lines N] [--xon] [--entry FILE] [PARAM..]`
 abbrev pub expand_app : App
@@ -192,11 +198,12 @@ named_files names = if is_input names then [] else names
 
 -- what a line asks for, of which parameters are the words as they were given
 pub data Line : Type 0 where
-  Cap : (hex escape : Bool) → (params : List Text) → Line
-  Trace : (of_name : Option Text) → (escape has_entry : Bool) → (params : List Text) → Line
+  Cap : (source hex escape : Bool) → (params : List Text) → Line
+  Trace : (source : Bool) → (of_name : Option Text) → (escape has_entry : Bool) → (params : List Text)
+      → Line
   Show : (escape all_names : Bool) → Line
   Check : (escape all_names : Bool) → Line
-  Lint : Line
+  Lint : (all : Bool) → Line
   Expand : (name : Text) → (hex escape all_names : Bool) → (rate lines : ℕ) → (xon : Bool)
       → (params : List Text) → Line
   Convert : (wide narrow force : Bool) → Line
@@ -231,16 +238,17 @@ get_by rows name = ranged rows (get_of rows name)
 abbrev pub line_by : Text → List Row → Option Line
 line_by command rows =
     if bytes_eq command (codes "cap")
-    then Some (Cap (flag_in (codes "hex") rows) (flag_in (codes "escape") rows) (params_in rows))
+    then Some (Cap (flag_in (codes "source") rows) (flag_in (codes "hex") rows)
+    (flag_in (codes "escape") rows) (params_in rows))
     else (if bytes_eq command (codes "trace")
-    then Some (Trace (first_of (codes "NAME") rows) (flag_in (codes "escape") rows)
-    (is_given_in (codes "FILE") rows) (params_in rows))
+    then Some (Trace (flag_in (codes "source") rows) (first_of (codes "NAME") rows)
+    (flag_in (codes "escape") rows) (is_given_in (codes "FILE") rows) (params_in rows))
     else (if bytes_eq command (codes "show")
     then Some (Show (flag_in (codes "escape") rows) (flag_in (codes "all-names") rows))
     else (if bytes_eq command (codes "check")
     then Some (Check (flag_in (codes "escape") rows) (flag_in (codes "all-names") rows))
     else (if bytes_eq command (codes "lint")
-    then Some Lint
+    then Some (Lint (flag_in (codes "all") rows))
     else (if bytes_eq command (codes "expand")
     then option_and_then (expand_by rows) (first_of (codes "NAME") rows)
     else (if bytes_eq command (codes "convert")

@@ -5,17 +5,27 @@ use Rattle.ti_words.specs.declared.all_names.NameTable.TheVariants as tables
 use Rattle.ti_escape.specs.declared.form.Form.{Form}
 use Rattle.ti_escape.specs.declared.form.Form.TheVariants as forms
 use Rattle.ti_escape.specs.Forms.{formed}
+use Rattle.ti_lint.specs.declared.scope.Scope.{Scope}
+use Rattle.ti_lint.specs.declared.scope.Scope.TheVariants as scopes
 use Rattle.ti_line.specs.declared.options.ListOptions.{ListOptions}
 use Rattle.ti_line.specs.declared.options.NameForm.{NameForm}
 use Rattle.ti_line.specs.declared.options.NameForm.TheVariants as name_forms
 use Rattle.ti_line.specs.declared.options.Naming.{Naming}
 use Rattle.ti_line.specs.declared.options.Output.{Output}
 use Rattle.ti_line.specs.declared.options.Output.TheVariants as outputs
+use Rattle.ti_line.specs.declared.request.Asked.{Asked}
+use Rattle.ti_line.specs.declared.request.Asked.TheVariants as asks
+use Rattle.ti_line.specs.declared.request.OfCapability.{OfCapability}
 
 -- an output: its bytes as they stand, or in a form with a newline
 abbrev pub output_bytes : Output → List ℕ → List ℕ
 output_bytes outputs.Raw bytes = bytes
 output_bytes (outputs.Line form) bytes = formed form bytes ++ codes "\n"
+
+-- what `--source` asks for: that the input is read as the notation of a capability
+abbrev pub input_asked : Bool → OfCapability → Asked
+input_asked true asked = asks.Source asked
+input_asked false asked = asks.Capability asked
 
 -- what `--hex` and `--escape` ask for of an output
 abbrev pub output_asked : Bool → Bool → Output
@@ -27,6 +37,11 @@ output_asked false false = outputs.Raw
 abbrev pub form_asked : Bool → Form
 form_asked true = forms.Notation
 form_asked false = forms.Hex
+
+-- what `--all` asks for
+abbrev pub scope_asked : Bool → Scope
+scope_asked true = scopes.All
+scope_asked false = scopes.Mistakes
 
 -- what `--all-names` asks for
 abbrev pub names_asked : Bool → NameTable

@@ -7,11 +7,11 @@ use Rattle.ti_words.specs.declared.Width.TheVariants.{Legacy, Wide}
 use Rattle.ti_expand.specs.declared.values.Value.{Value}
 use Rattle.ti_pad.specs.Setting.{Setting}
 use Rattle.ti_line.specs.CommandLine.{Line, AsksForHelp, Cap, Trace, Show, Check, Lint, Expand, Convert, Diff, Get, IsRefused, Reads, files_of}
-use Rattle.ti_line.specs.Options.{form_asked, list_options, names_asked, naming_asked, output_asked}
+use Rattle.ti_line.specs.Options.{form_asked, input_asked, list_options, names_asked, naming_asked, output_asked, scope_asked}
 use Rattle.ti_line.specs.Params.{AreGiven, AreParams, IsGiven, IsGivenBy, IsParam, IsWordFault}
 use Rattle.ti_line.specs.declared.given.Param.{Param}
 use Rattle.ti_line.specs.declared.params.WordFault.{WordFault}
-use Rattle.ti_line.specs.declared.request.Asked.TheVariants.{Capability, Entry}
+use Rattle.ti_line.specs.declared.request.Asked.TheVariants.{Entry}
 use Rattle.ti_line.specs.declared.request.Asked.TheVariants as asks
 use Rattle.ti_line.specs.declared.request.Difference as code_of_diff
 use Rattle.ti_line.specs.declared.request.Expand as code
@@ -57,23 +57,24 @@ abbrev pub GiveNone : List Text → WordFault → Type 0
 GiveNone words why = IsWordFault IsGiven words why × ((params : List Param) → ¬ AreGiven words params)
 
 -- what a line asks for, by whether results go to a terminal; of two flags that exclude each other at
--- most one is given, an entry to trace in only with a name, the words of the parameters stand for them,
--- and an entry goes to a terminal only by force
+-- most one is given, a notation to trace only without a name, an entry to trace in only with one, the
+-- words of the parameters stand for them, and an entry goes to a terminal only by force
 abbrev pub Asks : Bool → Line → Request → Type 0
-Asks terminal (Cap hex escape words) r =
+Asks terminal (Cap source hex escape words) r =
     (hex && escape ≡ false) × AreParams words r.parameters
-    × (r.asked ≡ Capability (of_cap.Cap (output_asked hex escape)))
-Asks terminal (Trace None escape has_entry words) r =
+    × (r.asked ≡ input_asked source (of_cap.Cap (output_asked hex escape)))
+Asks terminal (Trace source None escape has_entry words) r =
     (has_entry ≡ false) × AreParams words r.parameters
-    × (r.asked ≡ Capability (of_cap.Trace (form_asked escape)))
-Asks terminal (Trace (Some name) escape has_entry words) r =
-    (t : code_of_trace.TraceOf) × (r.asked ≡ Entry (of_entry.Trace t)) × (t.name.now ≡ name)
-    × IsGivenBy words t.given × (t.form ≡ form_asked escape)
+    × (r.asked ≡ input_asked source (of_cap.Trace (form_asked escape)))
+Asks terminal (Trace source (Some name) escape has_entry words) r =
+    (source ≡ false)
+    × ((t : code_of_trace.TraceOf) × (r.asked ≡ Entry (of_entry.Trace t)) × (t.name.now ≡ name)
+    × IsGivenBy words t.given × (t.form ≡ form_asked escape))
 Asks terminal (Show escape all_names) r =
     r.asked ≡ Entry (of_entry.Show (list_options all_names escape terminal))
 Asks terminal (Check escape all_names) r =
     r.asked ≡ Entry (of_entry.Check (naming_asked all_names escape terminal))
-Asks terminal Lint r = r.asked ≡ Entry of_entry.Lint
+Asks terminal (Lint all) r = r.asked ≡ Entry (of_entry.Lint (scope_asked all))
 Asks terminal (Expand name hex escape all_names rate lines xon words) r =
     (hex && escape ≡ false) × AreParams words r.parameters
     × ((e : code.Expand) × (r.asked ≡ Entry (of_entry.Expand e))
@@ -96,17 +97,19 @@ abbrev pub IsTask : Bool → List Text → Line → Task → Type 0
 IsTask terminal words line task =
     Asks terminal line task.request × (texts_of task.files.items ≡ files_of words)
 
--- why that can't be done: both of two such flags are given, or an entry and no name of a capability in
--- it, or else the words stand for no parameters, or an entry would go to a terminal, or the files to
+-- why that can't be done: both of two such flags are given, or a notation is to be read and a name is
+-- given, or an entry and no name of a capability in it, or else the words stand for no parameters, or an entry would go to a terminal, or the files to
 -- compare are not one or two
 abbrev pub HasFault : Bool → Line → LineFault → Type 0
-HasFault terminal (Cap hex escape words) fault.BothForms = hex && escape ≡ true
-HasFault terminal (Cap hex escape words) (fault.Words why) =
+HasFault terminal (Cap source hex escape words) fault.BothForms = hex && escape ≡ true
+HasFault terminal (Cap source hex escape words) (fault.Words why) =
     (hex && escape ≡ false) × StandForNone words why
-HasFault terminal (Trace None escape has_entry words) fault.EntryWithoutName = has_entry ≡ true
-HasFault terminal (Trace None escape has_entry words) (fault.Words why) =
+HasFault terminal (Trace source None escape has_entry words) fault.EntryWithoutName = has_entry ≡ true
+HasFault terminal (Trace source None escape has_entry words) (fault.Words why) =
     (has_entry ≡ false) × StandForNone words why
-HasFault terminal (Trace (Some name) escape has_entry words) (fault.Words why) = GiveNone words why
+HasFault terminal (Trace source (Some name) escape has_entry words) fault.BothInputs = source ≡ true
+HasFault terminal (Trace source (Some name) escape has_entry words) (fault.Words why) =
+    (source ≡ false) × GiveNone words why
 HasFault terminal (Expand name hex escape all_names rate lines xon words) fault.BothForms =
     hex && escape ≡ true
 HasFault terminal (Expand name hex escape all_names rate lines xon words) (fault.Words why) =

@@ -2,11 +2,24 @@
 
 ghost use Rattle.std.specs.Prelude.{◌≡◌};
 ghost use Rattle.ti_line.specs.Requests.{width_asked as the_width_asked};
-ghost use Rattle.ti_line.specs.Options.{form_asked as the_form_asked, list_options as the_list_options, names_asked as the_names_asked, naming_asked as the_naming_asked, output_asked as the_output_asked};
+ghost use Rattle.ti_line.specs.Options.{form_asked as the_form_asked, input_asked as the_input_asked, list_options as the_list_options, names_asked as the_names_asked, naming_asked as the_naming_asked, output_asked as the_output_asked, scope_asked as the_scope_asked};
 
 use crate::options::{ListOptions, NameForm, Naming, Output};
+use crate::request::{Asked, OfCapability};
 use ti_escape::Form;
+use ti_lint::Scope;
 use ti_words::{NameTable, Width};
+
+/// What is asked of an input by `--source`, which says that it is the notation of a capability.
+pub fn input_asked<'a>(source: bool, asked: OfCapability) -> Asked<'a>
+    ensures { result ≡ the_input_asked source asked }
+{
+    if source {
+        Asked::Source(asked)
+    } else {
+        Asked::Capability(asked)
+    }
+}
 
 /// What `--hex` and `--escape` ask for of an output, of which at most one is given.
 pub fn output_asked(hex: bool, escape: bool) -> Output
@@ -28,6 +41,13 @@ pub fn names_asked(all_names: bool) -> NameTable
     } else {
         NameTable::Common
     }
+}
+
+/// What `--all` requests of `lint`.
+pub fn scope_asked(all: bool) -> Scope
+    ensures { result ≡ the_scope_asked all }
+{
+    if all { Scope::All } else { Scope::Mistakes }
 }
 
 /// What `--escape` requests of the texts of a listing, or of a trace.

@@ -2,7 +2,7 @@
 
 ghost use Rattle.std.specs.Prelude.{◌≡◌, [], ◌∷◌, IfOk, false};
 ghost use Rattle.clap.specs.Words.{App, app_of, new_app, rule_of};
-ghost use Rattle.ti_line.specs.CommandLine.{all_names_rule, cap_app, check_app, convert_app, diff_app, entry_rule, escape_rule, expand_app, file_rule, files_rule, flag_rule, get_app, hex_rule, lint_app, name_rule, number_rule, of_rule, params_rule, show_app, start_app, ti_app, trace_app, with_commands, with_rules};
+ghost use Rattle.ti_line.specs.CommandLine.{all_names_rule, cap_app, check_app, convert_app, diff_app, entry_rule, escape_rule, expand_app, file_rule, files_rule, flag_rule, get_app, hex_rule, lint_app, name_rule, number_rule, of_rule, params_rule, show_app, source_rule, start_app, ti_app, trace_app, with_commands, with_rules};
 ghost use Rattle.ti_line.specs.inner.Command.{HasNoGlobals};
 
 use clap::{Arg, ArgAction, Command, value_parser};
@@ -18,6 +18,14 @@ fn flag<'a>(alloc: Global, name: &'a str, help: &'a str) -> Arg<'a>
         .long(name)
         .action(ArgAction::SetTrue)
         .help(help)
+}
+
+/// `--source`.
+fn source<'a>(alloc: Global) -> Arg<'a>
+    ensures rule { rule_of result ≡ source_rule }
+    ensures local { result.global ≡ false }
+{
+    flag(alloc, "source", SOURCE)
 }
 
 /// `-x` or `--hex`.
@@ -138,6 +146,9 @@ such as cup, or the name of an extended text";
 const ANY_NAME: &str = "The capability: a name, such as cup, cursor_address or
 an extended one, or flag#N, number#N or text#N";
 
+const SOURCE: &str = "Read the capability in the notation of terminfo(5), such
+as \\E[%p1%dG; a newline at its end is no part of it";
+
 const HEX: &str = "Write the output as lower-case hex and one newline";
 
 const ESCAPE: &str = "Write names, texts and outputs in the notation of
@@ -145,6 +156,9 @@ terminfo(5), such as \\E[H";
 
 const ALL_NAMES: &str = "Use the names of all 497 capabilities, in place of
 the 114 common ones";
+
+const ALL: &str = "Tell also what many entries have on purpose, such as
+two keys that send the same";
 
 const RATE: &str = "Bytes per second of the line, 0 to 1000000; default 0,
 at which padding takes no byte";
@@ -229,11 +243,13 @@ fn lint<'a>(alloc: Global) -> Result<Command<'a>, AllocError>
     let command = new_command(
         alloc,
         "lint",
-        "ti lint [FILE]...",
+        "ti lint [OPTIONS] [FILE]...",
         "Tell what is wrong with an entry; status 1 if something is",
         "Example, of all entries in a folder:\n  ti lint /lib/terminfo",
     );
-    command.arg(files(alloc, FILES))
+    command
+        .arg(flag(alloc, "all", ALL))?
+        .arg(files(alloc, FILES))
 }
 
 fn get<'a>(alloc: Global) -> Result<Command<'a>, AllocError>
@@ -321,9 +337,10 @@ fn cap<'a>(alloc: Global) -> Result<Command<'a>, AllocError>
         "cap",
         "ti cap [OPTIONS] [PARAM]... < CAPABILITY",
         "Expand one capability; padding marks stay as they are",
-        "Example, which writes ESC [ 7 G:\n  printf '\\033[%%p1%%dG' | ti cap n:7",
+        "Example, which writes ESC [ 7 G:\n  printf '\\033[%%p1%%dG' | ti cap n:7\n\nThe same, as a manual shows it:\n  echo '\\E[%p1%dG' | ti cap --source n:7",
     );
-    with_two(command, hex(alloc), escape(alloc))?.arg(params(alloc, PARAMS))
+    let command = with_two(command, source(alloc), hex(alloc))?;
+    with_two(command, escape(alloc), params(alloc, PARAMS))
 }
 
 fn trace<'a>(alloc: Global) -> Result<Command<'a>, AllocError>
@@ -335,10 +352,11 @@ fn trace<'a>(alloc: Global) -> Result<Command<'a>, AllocError>
         "trace",
         "ti trace [OPTIONS] [PARAM]... < CAPABILITY\n       ti trace --of <NAME> [OPTIONS] [PARAM]... < ENTRY",
         "Show what each token of one capability does",
-        "Example, which shows the stack and the output after each token:\n  printf '\\033[%%p1%%dG' | ti trace --escape n:7\n\nOf an entry:\n  ti trace --escape --of cup 4 9 < /lib/terminfo/x/xterm",
+        "Example, which shows the stack and the output after each token:\n  echo '\\E[%p1%dG' | ti trace --source --escape n:7\n\nOf an entry:\n  ti trace --escape --of cup 4 9 < /lib/terminfo/x/xterm",
     );
-    let command = with_two(command, of(alloc), escape(alloc))?;
-    with_two(command, entry(alloc), params(alloc, TRACE_PARAMS))
+    let command = with_two(command, source(alloc), of(alloc))?;
+    let command = with_two(command, escape(alloc), entry(alloc))?;
+    command.arg(params(alloc, TRACE_PARAMS))
 }
 
 /// What help says of the exit status, and an example.

@@ -12,7 +12,8 @@ ghost use Rattle.ti_line.specs.declared.request.Asked.TheVariants.{Entry};
 ghost use Rattle.ti_line.specs.inner.Matches.{given_rows};
 
 use crate::asked::{
-    form_asked, list_options, names_asked, naming_asked, output_asked, width_asked,
+    form_asked, input_asked, list_options, names_asked, naming_asked, output_asked, scope_asked,
+    width_asked,
 };
 use crate::given::{Given, read_given};
 use crate::no_line::LineFault;
@@ -112,12 +113,13 @@ fn output(given: &ArgMatches<'_>) -> Result<Output, LineFault>
 fn cap<'a>(given: &ArgMatches<'a>) -> Result<Request<'a>, LineFault>
     ensures { (terminal : Bool) → let rows = given_rows given.now in
         IsAnswered terminal
-        (Cap (flag_in (codes "hex") rows) (flag_in (codes "escape") rows) (params_in rows)) result }
+        (Cap (flag_in (codes "source") rows) (flag_in (codes "hex") rows)
+        (flag_in (codes "escape") rows) (params_in rows)) result }
 {
     let output = output(given)?;
     Ok(Request {
         parameters: parameters(given)?,
-        asked: Asked::Capability(OfCapability::Cap(output)),
+        asked: input_asked(flag(given, "source"), OfCapability::Cap(output)),
     })
 }
 
@@ -128,12 +130,16 @@ fn form(given: &ArgMatches<'_>) -> Form
     form_asked(flag(given, "escape"))
 }
 
-/// What `trace` requests of the capability with a name.
+/// What `trace` requests of the capability with a name, in place of which no notation is to be read.
 fn trace_of<'a>(given: &ArgMatches<'a>, name: &'a str) -> Result<Request<'a>, LineFault>
     ensures { (terminal has_entry : Bool) → let rows = given_rows given.now in
         IsAnswered terminal
-        (Trace (Some name.entry.now) (flag_in (codes "escape") rows) has_entry (params_in rows)) result }
+        (Trace (flag_in (codes "source") rows) (Some name.entry.now) (flag_in (codes "escape") rows)
+        has_entry (params_in rows)) result }
 {
+    if flag(given, "source") {
+        return Err(LineFault::BothInputs);
+    }
     Ok(Request {
         parameters: NO_PARAMETERS,
         asked: Asked::Entry(OfEntry::Trace(TraceOf {
@@ -148,15 +154,15 @@ fn trace_of<'a>(given: &ArgMatches<'a>, name: &'a str) -> Result<Request<'a>, Li
 fn trace_input<'a>(given: &ArgMatches<'a>) -> Result<Request<'a>, LineFault>
     ensures { (terminal : Bool) → let rows = given_rows given.now in
         IsAnswered terminal
-        (Trace None (flag_in (codes "escape") rows) (is_given_in (codes "FILE") rows) (params_in rows))
-        result }
+        (Trace (flag_in (codes "source") rows) None (flag_in (codes "escape") rows)
+        (is_given_in (codes "FILE") rows) (params_in rows)) result }
 {
     if text(given, "FILE").is_some() {
         return Err(LineFault::EntryWithoutName);
     }
     Ok(Request {
         parameters: parameters(given)?,
-        asked: Asked::Capability(OfCapability::Trace(form(given))),
+        asked: input_asked(flag(given, "source"), OfCapability::Trace(form(given))),
     })
 }
 
@@ -164,8 +170,8 @@ fn trace_input<'a>(given: &ArgMatches<'a>) -> Result<Request<'a>, LineFault>
 fn trace<'a>(given: &ArgMatches<'a>) -> Result<Request<'a>, LineFault>
     ensures { (terminal : Bool) → let rows = given_rows given.now in
         IsAnswered terminal
-        (Trace (first_of (codes "NAME") rows) (flag_in (codes "escape") rows)
-        (is_given_in (codes "FILE") rows) (params_in rows)) result }
+        (Trace (flag_in (codes "source") rows) (first_of (codes "NAME") rows)
+        (flag_in (codes "escape") rows) (is_given_in (codes "FILE") rows) (params_in rows)) result }
 {
     match text(given, "NAME") {
         Some(name) => trace_of(given, name),
@@ -298,7 +304,7 @@ pub(crate) fn request_of<'a>(
         }),
         "lint" => Ok(Request {
             parameters: NO_PARAMETERS,
-            asked: Asked::Entry(OfEntry::Lint),
+            asked: Asked::Entry(OfEntry::Lint(scope_asked(flag(given, "all")))),
         }),
         "expand" => match text(given, "NAME") {
             Some(name) => expand(given, name),

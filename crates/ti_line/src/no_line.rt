@@ -13,6 +13,9 @@ pub enum LineFault {
     /// An output is to be written in both forms, by `--hex` and `--escape`.
     #[error("BothForms")]
     BothForms,
+    /// `trace` is to read a capability and to take one of an entry, by `--source` and `--of`.
+    #[error("BothInputs")]
+    BothInputs,
     /// `trace` is given an entry, and no name of a capability in it.
     #[error("EntryWithoutName")]
     EntryWithoutName,

@@ -4,6 +4,7 @@ use crate::given::Given;
 use crate::options::{ListOptions, Naming, Output};
 use ti_escape::Form;
 use ti_expand::Value;
+use ti_lint::Scope;
 use ti_pad::Padding;
 use ti_words::{NameTable, Width};
 
@@ -31,6 +32,8 @@ pub struct Task<'a> {
 pub enum Asked<'a> {
     /// Something of an input as one capability.
     Capability(OfCapability),
+    /// Something of an input as the notation of one capability.
+    Source(OfCapability),
     /// Something of an input as an entry.
     Entry(OfEntry<'a>),
     /// What two entries do not have alike.
@@ -63,7 +66,7 @@ pub enum OfEntry<'a> {
     /// To analyse each of its texts.
     Check(Naming),
     /// To tell what is wrong with it.
-    Lint,
+    Lint(Scope),
     /// To expand and pad one of its texts.
     Expand(Expand<'a>),
     /// To write it in its canonical layout, in a width or else in its own.

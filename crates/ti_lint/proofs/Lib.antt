@@ -2,7 +2,6 @@ pub mod AheadLemmas
 pub mod AtLemmas
 pub mod Examples
 pub mod FactsLemmas
-pub mod FirstPartsLemmas
 pub mod FoundAfterLemmas
 pub mod FoundAtLemmas
 pub mod FoundLemmas
@@ -14,7 +13,6 @@ pub mod OutlookLemmas
 pub mod PassLemmas
 pub mod PassStepLemmas
 pub mod ReachedLemmas
-pub mod RepeatedLemmas
 pub mod StoredLemmas
 pub mod UnusedLemmas
 pub mod VariablesLemmas

@@ -3,7 +3,7 @@ use Rattle.std.specs.Prelude.{ℕ, List, codes}
 use Rattle.ti_lint.specs.declared.finding.Finding.{Finding}
 use Rattle.ti_lint.specs.declared.finding.Finding.TheVariants.{StackUnderflow, TermcapParameter, ParameterRange, RepeatedIncrement, UnsetVariable, StackResidue, UnusedIncrement, LateIncrement, DeadStore}
 use Rattle.ti_lint.specs.declared.text_finding.TextFinding.{TextFinding}
-use Rattle.ti_lint.specs.declared.text_finding.TextFinding.TheVariants.{Malformed, UnusedParameter, UninterpretedEscape, UninterpretedPercent, EqualPair, FalseMark, MarkInKey, HalfPaired, KeyPrefix, RepeatedName}
+use Rattle.ti_lint.specs.declared.text_finding.TextFinding.TheVariants.{Malformed, UnusedParameter, UninterpretedEscape, UninterpretedPercent, EqualPair, FalseMark, MarkInKey, HalfPaired, KeyPrefix, AlikeKeys, RepeatedName, Colors, Layout, Base}
 
 abbrev pub finding_word : Finding → List ℕ
 finding_word StackUnderflow = codes "stack-underflow"
@@ -26,4 +26,8 @@ text_finding_word FalseMark = codes "padding-malformed"
 text_finding_word MarkInKey = codes "padding-in-key"
 text_finding_word HalfPaired = codes "acsc-odd"
 text_finding_word KeyPrefix = codes "key-prefix"
+text_finding_word AlikeKeys = codes "keys-alike"
 text_finding_word RepeatedName = codes "name-repeated"
+text_finding_word Colors = codes "colors-pair"
+text_finding_word Layout = codes "layout"
+text_finding_word Base = codes "base"

@@ -1,4 +1,4 @@
-pub mod Repeated
+pub mod OwnClasses
 pub mod Variables
 pub mod Classes
 pub mod Pairs
@@ -7,6 +7,5 @@ pub mod Marks
 pub mod OnSomePath
 pub mod Findings
 pub mod FindingWords
-pub mod FirstParts
 pub mod Found
 pub mod inner

@@ -1,5 +1,6 @@
 -- What private clauses alone cite.
 pub mod Facts
+pub mod Rows
 pub mod Found
 pub mod Outlook
 pub mod Pass

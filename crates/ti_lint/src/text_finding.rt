@@ -1,9 +1,9 @@
-//! The findings of whole texts, each with its word.
+//! The findings of whole texts and of entries, each with its word.
 
 ghost use Rattle.std.specs.Prelude.{◌≡◌};
 ghost use Rattle.ti_lint.specs.FindingWords.{text_finding_word};
 
-/// What is wrong with a text, whatever its paths.
+/// What is wrong with a text, whatever its paths, or with an entry.
 #[derive(Clone, Copy, Debug, PartialEq, Eq)]
 pub enum TextFinding {
     /// A text with parameters is no capability: [`ti_cap::Capability::parse`] refuses it.
@@ -22,10 +22,18 @@ pub enum TextFinding {
     MarkInKey,
     /// A list of pairs of bytes, as `acsc` is, has an odd number of them: [`crate::is_half_paired`].
     HalfPaired,
-    /// A text that a key sends is the first part of another one: [`crate::first_parts`].
+    /// A text that a key sends is the first part of another one.
     KeyPrefix,
-    /// An extended name stands more than once: [`crate::repeated`].
+    /// Two keys send the same.
+    AlikeKeys,
+    /// A name of an entry's own stands more than once, or is one of terminfo(5).
     RepeatedName,
+    /// An entry has colors, and not what they need.
+    Colors,
+    /// The bytes of an entry are not those that are written of it.
+    Layout,
+    /// Readers of an entry differ in where its own names start.
+    Base,
 }
 
 impl TextFinding {
@@ -43,7 +51,11 @@ impl TextFinding {
             TextFinding::MarkInKey => "padding-in-key",
             TextFinding::HalfPaired => "acsc-odd",
             TextFinding::KeyPrefix => "key-prefix",
+            TextFinding::AlikeKeys => "keys-alike",
             TextFinding::RepeatedName => "name-repeated",
+            TextFinding::Colors => "colors-pair",
+            TextFinding::Layout => "layout",
+            TextFinding::Base => "base",
         }
     }
 }

@@ -6,3 +6,8 @@ pub mod StoredLemmas
 pub mod ParametersLemmas
 pub mod TurnsLemmas
 pub mod PlacesOfLemmas
+pub mod RepeatedLemmas
+pub mod KeysLemmas
+pub mod LayoutLemmas
+pub mod BaseLemmas
+pub mod NeighboursLemmas

@@ -4,14 +4,14 @@ use Rattle.std.proofs.lemmas.List.{append-nil, drop_all}
 use Rattle.ti_report.specs.Lines.{AreReports}
 
 -- what was written so far goes on to lines of the whole, whatever is told of the items from an index on
-pub record GoesOn {X : Type 0} (L : ℕ → X → List ℕ → Type 0) (xs : List X) (before : List ℕ) (i : ℕ) (out : List ℕ) : Type 0 where
-  pub goes : (more : List ℕ) → AreReports L i (drop i xs) more → (lines : List ℕ) × AreReports L 0 xs lines × (out ++ more ≡ before ++ lines)
+pub record GoesOn {X Y : Type 0} (L : ℕ → X → List Y → Type 0) (xs : List X) (before : List Y) (i : ℕ) (out : List Y) : Type 0 where
+  pub goes : (more : List Y) → AreReports L i (drop i xs) more → (lines : List Y) × AreReports L 0 xs lines × (out ++ more ≡ before ++ lines)
 
-pub goes_first : {X : Type 0} (L : ℕ → X → List ℕ → Type 0) (xs : List X) (out : List ℕ) → GoesOn L xs out 0 out
+pub goes_first : {X Y : Type 0} (L : ℕ → X → List Y → Type 0) (xs : List X) (out : List Y) → GoesOn L xs out 0 out
 goes_first L xs out = record { goes = λ more h. (more, h, refl) }
 
-pub goes_next : {X : Type 0} (L : ℕ → X → List ℕ → Type 0) (xs : List X) (i : ℕ) (d : X) (before out new : List ℕ) → i < length xs
-    → GoesOn L xs before i out → (line : List ℕ) × L i (get_or xs i d) line × (new ≡ out ++ line) → GoesOn L xs before (i + 1) new
+pub goes_next : {X Y : Type 0} (L : ℕ → X → List Y → Type 0) (xs : List X) (i : ℕ) (d : X) (before out new : List Y) → i < length xs
+    → GoesOn L xs before i out → (line : List Y) × L i (get_or xs i d) line × (new ≡ out ++ line) → GoesOn L xs before (i + 1) new
 goes_next L xs i d before out new h g (line, is, n) = record {
   goes = λ more later.
       let P : ℕ → Type 0 = λ k. AreReports L k (drop k xs) more in
@@ -21,8 +21,8 @@ goes_next L xs i d before out new h g (line, is, n) = record {
       (lines, are, ap (λ l. l ++ more) n ∙ append_assoc out line more ∙ e);
 }
 
-pub goes_end : {X : Type 0} (L : ℕ → X → List ℕ → Type 0) (xs : List X) (i : ℕ) (before out : List ℕ) → length xs ≤ i
-    → GoesOn L xs before i out → (lines : List ℕ) × AreReports L 0 xs lines × (out ≡ before ++ lines)
+pub goes_end : {X Y : Type 0} (L : ℕ → X → List Y → Type 0) (xs : List X) (i : ℕ) (before out : List Y) → length xs ≤ i
+    → GoesOn L xs before i out → (lines : List Y) × AreReports L 0 xs lines × (out ≡ before ++ lines)
 goes_end L xs i before out h g =
     let P : List _ → Type 0 = λ l. AreReports L i l [] in
     let (lines, are, e) = g.goes [] (subst P (sym (drop_all i xs h)) refl) in

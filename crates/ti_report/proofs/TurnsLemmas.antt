@@ -1,7 +1,6 @@
 -- Lines of one kind, and then of another.
 use Rattle.std.proofs.Common.{◌∙◌, List, ℕ, ◌++◌, ap, append_assoc, refl}
-use Rattle.ti_report.specs.Texts.{InTurn}
-use Rattle.ti_report.specs.inner.Subject.{Adds}
+use Rattle.ti_report.specs.Lines.{Adds, InTurn}
 
 pub in_turn : (Are AreMore : List ℕ → Type 0) (old new last : List ℕ) → Adds Are old new → Adds AreMore new last → Adds (InTurn Are AreMore) old last
 in_turn Are AreMore old new last (one, are, is) (more, are_more, ends) =

@@ -27,3 +27,7 @@ abbrev pub marked_lines : List ℕ → List ℕ → List ℕ → List ℕ → Wr
 marked_lines prefix label text [] wrong = []
 marked_lines prefix label text (place ∷ places) wrong =
     head prefix label text ++ (indented (carets 0 text (place ∷ places)) ++ indented (sentence wrong))
+
+-- lines on something that is no text, such as a name or the whole entry
+abbrev pub titled : List ℕ → List ℕ → Wrong → List ℕ
+titled prefix title wrong = prefix ++ (title ++ (codes "\n" ++ indented (sentence wrong)))

@@ -4,5 +4,9 @@ pub mod Marks
 pub mod Lines
 pub mod Texts
 pub mod Pairs
+pub mod Keys
+pub mod Names
 pub mod Reports
+pub mod Bases
+pub mod Whole
 pub mod inner

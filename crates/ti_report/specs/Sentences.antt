@@ -9,7 +9,7 @@ use Rattle.ti_lint.specs.declared.finding.Finding.TheVariants.{StackUnderflow, T
 use Rattle.ti_lint.specs.declared.text_finding.TextFinding.TheVariants as texts
 use Rattle.ti_lint.specs.FindingWords.{finding_word, text_finding_word}
 use Rattle.ti_report.specs.declared.wrong.Wrong.{Wrong}
-use Rattle.ti_report.specs.declared.wrong.Wrong.TheVariants.{Malformed, Token, UninterpretedEscape, UninterpretedPercent, FalseMark, MarkInKey, UnusedParameters, HalfPaired, EqualPair}
+use Rattle.ti_report.specs.declared.wrong.Wrong.TheVariants.{Malformed, Token, UninterpretedEscape, UninterpretedPercent, FalseMark, MarkInKey, UnusedParameters, HalfPaired, EqualPair, KeyPrefix, AlikeKeys, RepeatedName, StandardName, ColorsStay, NoColors, ColorsAreFixed, Layout, Base}
 
 -- the word for the finding
 abbrev pub word_of : Wrong → List ℕ
@@ -22,6 +22,15 @@ word_of MarkInKey = text_finding_word texts.MarkInKey
 word_of (UnusedParameters unused) = text_finding_word texts.UnusedParameter
 word_of HalfPaired = text_finding_word texts.HalfPaired
 word_of EqualPair = text_finding_word texts.EqualPair
+word_of KeyPrefix = text_finding_word texts.KeyPrefix
+word_of AlikeKeys = text_finding_word texts.AlikeKeys
+word_of RepeatedName = text_finding_word texts.RepeatedName
+word_of StandardName = text_finding_word texts.RepeatedName
+word_of ColorsStay = text_finding_word texts.Colors
+word_of NoColors = text_finding_word texts.Colors
+word_of ColorsAreFixed = text_finding_word texts.Colors
+word_of Layout = text_finding_word texts.Layout
+word_of Base = text_finding_word texts.Base
 
 abbrev pub last_parameter : ℕ → List ℕ
 last_parameter parameters = codes "%p" ++ decimal parameters ++ codes " is the last parameter by terminfo(5)"
@@ -64,6 +73,15 @@ meaning_of MarkInKey = codes "what a key sends has no padding"
 meaning_of (UnusedParameters unused) = unused_meaning unused
 meaning_of HalfPaired = codes "the bytes are pairs, and one is left"
 meaning_of EqualPair = codes "one should undo the other"
+meaning_of KeyPrefix = codes "one is the first part of the other"
+meaning_of AlikeKeys = codes "two keys send the same"
+meaning_of RepeatedName = codes "the entry has the name twice"
+meaning_of StandardName = codes "the name is one of terminfo(5)"
+meaning_of ColorsStay = codes "there are colors, and neither op nor oc"
+meaning_of NoColors = codes "there are colors, and none of setaf, setf and scp"
+meaning_of ColorsAreFixed = codes "there is ccc, and neither initc nor initp"
+meaning_of Layout = codes "the bytes are not those that tic writes"
+meaning_of Base = codes "readers differ in where the entry's own names start"
 
 abbrev pub sentence : Wrong → List ℕ
 sentence wrong = word_of wrong ++ (codes ": " ++ meaning_of wrong)

@@ -1,5 +1,5 @@
 -- What is wrong with a text, by what it is.
-use Rattle.std.specs.Prelude.{◌≡◌, ◌⊎◌, ◌↔◌, ℕ, List, [], ◌∷◌, ◌++◌, ◌≤◌, ◌%◌, ◌==◌, ◌&&◌, ◌||◌, Bool, AllPairs, Contains, codes, if◌then◌else◌, length}
+use Rattle.std.specs.Prelude.{◌≡◌, ◌⊎◌, ◌↔◌, ℕ, List, [], ◌∷◌, ◌++◌, ◌≤◌, ◌%◌, ◌==◌, ◌&&◌, ◌||◌, Bool, false, AllPairs, Contains, codes, if◌then◌else◌, length}
 use Rattle.std.specs.Str.{bytes_eq}
 use Rattle.ti_cap.specs.declared.parameter_set.ParameterSet.{ParameterSet}
 use Rattle.ti_cap.specs.Sources.{Has, IsNamed}
@@ -14,18 +14,16 @@ use Rattle.ti_lint.specs.declared.variables.Variables.{Variables}
 use Rattle.ti_lint.specs.declared.found.Found.{Found}
 use Rattle.ti_lint.specs.Found.{IsFoundAt, Precedes}
 use Rattle.ti_lint.specs.Plain.{IsMeantToExpand}
+use Rattle.ti_lint.specs.declared.scope.Scope.{Scope}
+use Rattle.ti_lint.specs.declared.scope.Scope.TheVariants as scopes
 use Rattle.ti_report.specs.declared.wrong.Wrong.{Wrong}
 use Rattle.ti_report.specs.declared.wrong.Wrong.TheVariants as wrongs
 use Rattle.ti_report.specs.Blocks.{head, indented, marked_lines}
 use Rattle.ti_report.specs.Sentences.{sentence}
-use Rattle.ti_report.specs.Lines.{AreReports}
+use Rattle.ti_report.specs.Lines.{AreReports, InTurn}
 use Rattle.ti_report.specs.Marks.{AreMarked, ArePlacesFrom, ArePlacesOf, IsSought}
 use Rattle.ti_report.specs.declared.marks.Sought.{Sought}
 use Rattle.ti_report.specs.declared.marks.Sought.TheVariants.{Percents, Mark, FalseMark}
-
--- lines of one kind, and then of another
-abbrev pub InTurn : (List ℕ → Type 0) → (List ℕ → Type 0) → List ℕ → Type 0
-InTurn Are AreMore lines = (one : List ℕ) × (more : List ℕ) × Are one × AreMore more × (lines ≡ one ++ more)
 
 -- the findings of tokens, in the order in which they are told
 unfoldable pub all_findings : List Finding
@@ -44,11 +42,17 @@ IsFindingReport prefix label text parameters founds index finding lines =
     (places : List ℕ) × ArePlacesOf finding founds places
     × (lines ≡ marked_lines prefix label text places (wrongs.Token finding parameters))
 
--- texts that may leave out parameters: attributes that a terminal lacks, the column of a status line, and motions by one place
-abbrev pub may_leave_out : List ℕ → Bool
-may_leave_out name =
-    bytes_eq name (codes "sgr") || bytes_eq name (codes "sgr1") || bytes_eq name (codes "tsl") || bytes_eq name (codes "mhpa")
-    || bytes_eq name (codes "mcub") || bytes_eq name (codes "mcud") || bytes_eq name (codes "mcuf") || bytes_eq name (codes "mcuu")
+-- texts that may leave out parameters: attributes that a terminal lacks, and motions by one place; and the column of a status
+-- line, but not if all is told
+abbrev pub is_column : Scope → List ℕ → Bool
+is_column scopes.Mistakes name = bytes_eq name (codes "tsl")
+is_column scopes.All name = false
+
+abbrev pub may_leave_out : Scope → List ℕ → Bool
+may_leave_out scope name =
+    is_column scope name
+    || bytes_eq name (codes "sgr") || bytes_eq name (codes "sgr1") || bytes_eq name (codes "mhpa") || bytes_eq name (codes "mcub")
+    || bytes_eq name (codes "mcud") || bytes_eq name (codes "mcuf") || bytes_eq name (codes "mcuu")
 
 -- the parameters that the text has and no path pushes
 abbrev pub AreUnused : List ℕ → ℕ → ParameterSet → Type 0
@@ -56,30 +60,30 @@ AreUnused text parameters unused =
     (which : ℕ) → Has unused which ↔ ((1 ≤ which) × (which ≤ 9) × (which ≤ parameters) × ¬ IsNamed text which)
 
 -- they are told if there are some, if the text may not leave them out, and if it takes none from the empty stack
-abbrev pub unused_lines : List ℕ → List ℕ → List ℕ → ParameterSet → List ℕ → List ℕ
-unused_lines prefix label text unused (place ∷ places) = []
-unused_lines prefix label text unused [] =
-    if unused.mask == 0 || may_leave_out label then []
+abbrev pub unused_lines : Scope → List ℕ → List ℕ → List ℕ → ParameterSet → List ℕ → List ℕ
+unused_lines scope prefix label text unused (place ∷ places) = []
+unused_lines scope prefix label text unused [] =
+    if unused.mask == 0 || may_leave_out scope label then []
     else head prefix label text ++ indented (sentence (wrongs.UnusedParameters unused))
 
-abbrev pub IsUnusedReport : List ℕ → List ℕ → List ℕ → ℕ → List Found → List ℕ → Type 0
-IsUnusedReport prefix label text parameters founds lines =
+abbrev pub IsUnusedReport : Scope → List ℕ → List ℕ → List ℕ → ℕ → List Found → List ℕ → Type 0
+IsUnusedReport scope prefix label text parameters founds lines =
     (unused : ParameterSet) × (places : List ℕ) × AreUnused text parameters unused × ArePlacesOf TermcapParameter founds places
-    × (lines ≡ unused_lines prefix label text unused places)
+    × (lines ≡ unused_lines scope prefix label text unused places)
 
 -- the lines of all findings, and then of the parameters that are left out
-abbrev pub IsFindingsReport : List ℕ → List ℕ → List ℕ → Expected → List ℕ → Type 0
-IsFindingsReport prefix label text expected lines =
+abbrev pub IsFindingsReport : Scope → List ℕ → List ℕ → List ℕ → Expected → List ℕ → Type 0
+IsFindingsReport scope prefix label text expected lines =
     (founds : List Found) × AreFound text expected founds
     × InTurn (AreReports (IsFindingReport prefix label text expected.parameters founds) 0 all_findings)
-    (IsUnusedReport prefix label text expected.parameters founds) lines
+    (IsUnusedReport scope prefix label text expected.parameters founds) lines
 
 -- a capability: its fault, or else what is wrong with its tokens
-abbrev pub IsCapabilityReport : List ℕ → List ℕ → List ℕ → Expected → List ℕ → Type 0
-IsCapabilityReport prefix label text expected lines =
+abbrev pub IsCapabilityReport : Scope → List ℕ → List ℕ → List ℕ → Expected → List ℕ → Type 0
+IsCapabilityReport scope prefix label text expected lines =
     ((refused : CapRefused) × IsRefusal text refused
     × (lines ≡ marked_lines prefix label text (refused.place ∷ []) (wrongs.Malformed refused.fault)))
-    ⊎ (IsFaultless text × IsFindingsReport prefix label text expected lines)
+    ⊎ (IsFaultless text × IsFindingsReport scope prefix label text expected lines)
 
 -- the tokens that are meant to be expanded, if the text is a capability
 abbrev pub AreEscapes : List ℕ → List ℕ → Type 0
@@ -119,10 +123,10 @@ half_paired_lines prefix label text =
     then head prefix label text ++ indented (sentence wrongs.HalfPaired) else []
 
 -- a text of a class, in an entry whose texts store into these variables
-abbrev pub IsTextReport : List ℕ → List ℕ → Variables → Class → List ℕ → List ℕ → Type 0
-IsTextReport prefix label stored (classes.Parameterized parameters) text lines =
-    IsCapabilityReport prefix label text (record { parameters = parameters; stored = stored }) lines
-IsTextReport prefix label stored classes.Plain text lines = IsPlainReport prefix label text lines
-IsTextReport prefix label stored classes.Key text lines = IsKeyReport prefix label text lines
-IsTextReport prefix label stored classes.List text lines = lines ≡ half_paired_lines prefix label text
-IsTextReport prefix label stored class text lines = lines ≡ []
+abbrev pub IsTextReport : Scope → List ℕ → List ℕ → Variables → Class → List ℕ → List ℕ → Type 0
+IsTextReport scope prefix label stored (classes.Parameterized parameters) text lines =
+    IsCapabilityReport scope prefix label text (record { parameters = parameters; stored = stored }) lines
+IsTextReport scope prefix label stored classes.Plain text lines = IsPlainReport prefix label text lines
+IsTextReport scope prefix label stored classes.Key text lines = IsKeyReport prefix label text lines
+IsTextReport scope prefix label stored classes.List text lines = lines ≡ half_paired_lines prefix label text
+IsTextReport scope prefix label stored class text lines = lines ≡ []

@@ -1,2 +1,4 @@
 -- What private clauses alone cite.
 pub mod Subject
+pub mod Lent
+pub mod Neighbours

@@ -1,14 +1,14 @@
 //! The lines of one finding.
 
 ghost use Rattle.std.specs.Prelude.{◌≡◌, ◌++◌, ◌*◌, ◌≤◌, replicate, OnOk};
-ghost use Rattle.ti_escape.specs.Notation.{column as the_column};
-ghost use Rattle.ti_report.specs.Blocks.{carets, indented};
+ghost use Rattle.ti_escape.specs.Notation.{column as the_column, label_notation};
+ghost use Rattle.ti_report.specs.Blocks.{carets, head, indented, titled};
 ghost use Rattle.ti_report.specs.Sentences.{sentence};
 ghost use Rattle.ti_report.specs.inner.Subject.{head_of, marked_of};
 
 use crate::wrong::{Wrong, push_sentence};
 use std::alloc::{AllocError, Allocator};
-use ti_escape::{Form, column, columns_between, push_shown};
+use ti_escape::{Form, column, columns_between, push_label, push_shown};
 
 /// What a finding is about.
 #[derive(Clone, Copy)]
@@ -32,6 +32,39 @@ pub fn push_head<A: Allocator>(
     out.extend_from_slice(b"\n  ")?;
     push_shown(out, Form::Notation, subject.text)?;
     out.extend_from_slice(b"\n")
+}
+
+/// Writes a name and a text, each in the notation.
+pub fn push_named_head<A: Allocator>(
+    out: &mut Vec<u8, A>,
+    prefix: &[u8],
+    name: &[u8],
+    text: &[u8],
+) -> Result<(), AllocError>
+    ensures { OnOk result
+        (out.new.items ≡ out.old.items ++ head prefix.now (label_notation name.now) text.now) }
+{
+    out.extend_from_slice(prefix)?;
+    push_label(out, name)?;
+    out.extend_from_slice(b"\n  ")?;
+    push_shown(out, Form::Notation, text)?;
+    out.extend_from_slice(b"\n")
+}
+
+/// Writes a name in the notation, and what is wrong.
+pub fn push_titled<A: Allocator>(
+    out: &mut Vec<u8, A>,
+    prefix: &[u8],
+    name: &[u8],
+    wrong: Wrong,
+) -> Result<(), AllocError>
+    ensures { OnOk result
+        (out.new.items ≡ out.old.items ++ titled prefix.now (label_notation name.now) wrong) }
+{
+    out.extend_from_slice(prefix)?;
+    push_label(out, name)?;
+    out.extend_from_slice(b"\n")?;
+    push_sentence_line(out, wrong)
 }
 
 /// Writes a sentence in a line of its own.

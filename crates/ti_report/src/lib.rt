@@ -5,13 +5,20 @@
 //! no line. The time is linear in the bytes of the texts; memory is taken for the lines, and for the places in one text.
 #![tactic(auto)]
 
+mod base;
 mod block;
+mod colors;
+mod keys;
+mod layout;
 mod marks;
+mod names;
 mod pairs;
 mod report;
 mod stored;
 mod texts;
+mod whole;
 mod wrong;
 
 pub use report::push_report;
+pub use ti_lint::Scope;
 pub use wrong::Wrong;

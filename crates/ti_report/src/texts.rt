@@ -1,9 +1,8 @@
 //! What is wrong with a text, by what it is.
 
 ghost use Rattle.std.specs.Prelude.{◌≡◌, ◌++◌, OnOk};
-ghost use Rattle.ti_report.specs.Lines.{AreReports};
-ghost use Rattle.ti_report.specs.Texts.{AreUnused, IsCapabilityReport, IsEscapeReport, IsFindingReport, IsFindingsReport, IsKeyReport, IsPercentReport, IsPlacesReport, IsPlainReport, IsTextReport, IsUnusedReport, all_findings, half_paired_lines, may_leave_out, unused_lines};
-ghost use Rattle.ti_report.specs.inner.Subject.{Adds};
+ghost use Rattle.ti_report.specs.Lines.{Adds, AreReports};
+ghost use Rattle.ti_report.specs.Texts.{AreUnused, IsCapabilityReport, IsEscapeReport, IsFindingReport, IsFindingsReport, IsKeyReport, IsPercentReport, IsPlacesReport, IsPlainReport, IsTextReport, IsUnusedReport, all_findings, half_paired_lines, is_column, may_leave_out, unused_lines};
 
 use crate::block::{Subject, push_head, push_marked, push_sentence_line};
 use crate::marks::{Sought, escapes_of, places_at, places_of};
@@ -11,7 +10,8 @@ use crate::wrong::Wrong;
 use std::alloc::{AllocError, Allocator};
 use ti_cap::{Capability, ParameterSet};
 use ti_lint::{
-    Class, Expected, Finding, Found, Variables, findings_of, is_half_paired, unused_parameters,
+    Class, Expected, Finding, Found, Scope, Variables, findings_of, is_half_paired,
+    unused_parameters,
 };
 
 /// The findings of tokens, in the order in which they are told.
@@ -55,14 +55,23 @@ fn push_founds<A: Allocator + Copy>(
     Ok(())
 }
 
-/// Whether a text may leave out parameters, by its name: attributes that a terminal lacks, the column of a status line, and
-/// motions by one place.
-fn may_leave_out(name: &[u8]) -> bool
-    ensures { result ≡ may_leave_out name.now }
+/// Whether what a text may leave out is the column of a status line.
+fn is_column(scope: Scope, name: &[u8]) -> bool
+    ensures { result ≡ is_column scope name.now }
 {
-    name == b"sgr".as_slice()
+    match scope {
+        Scope::Mistakes => name == b"tsl".as_slice(),
+        Scope::All => false,
+    }
+}
+
+/// Whether a text may leave out parameters, by its name: attributes that a terminal lacks, and motions by one place.
+fn may_leave_out(scope: Scope, name: &[u8]) -> bool
+    ensures { result ≡ may_leave_out scope name.now }
+{
+    is_column(scope, name)
+        || name == b"sgr".as_slice()
         || name == b"sgr1".as_slice()
-        || name == b"tsl".as_slice()
         || name == b"mhpa".as_slice()
         || name == b"mcub".as_slice()
         || name == b"mcud".as_slice()
@@ -73,14 +82,15 @@ fn may_leave_out(name: &[u8]) -> bool
 /// Writes the lines on parameters that are left out, but not if values were taken from the empty stack in their place.
 fn push_left_out<A: Allocator>(
     out: &mut Vec<u8, A>,
+    scope: Scope,
     subject: &Subject<'_>,
     unused: ParameterSet,
     from_empty: &[usize],
 ) -> Result<(), AllocError>
-    ensures { OnOk result (out.new.items ≡ out.old.items ++ unused_lines subject.now.prefix.now
+    ensures { OnOk result (out.new.items ≡ out.old.items ++ unused_lines scope subject.now.prefix.now
         subject.now.label.now subject.now.text.now unused from_empty.now) }
 {
-    if !from_empty.is_empty() || unused.mask == 0 || may_leave_out(subject.label) {
+    if !from_empty.is_empty() || unused.mask == 0 || may_leave_out(scope, subject.label) {
         return Ok(());
     }
     push_head(out, subject)?;
@@ -91,17 +101,18 @@ fn push_left_out<A: Allocator>(
 fn push_unused<A: Allocator + Copy>(
     alloc: A,
     out: &mut Vec<u8, A>,
+    scope: Scope,
     subject: &Subject<'_>,
     unused: ParameterSet,
     parameters: u8,
     founds: &[Found],
 ) -> Result<(), AllocError>
     requires { AreUnused subject.now.text.now parameters unused }
-    ensures { OnOk result (Adds (IsUnusedReport subject.now.prefix.now subject.now.label.now
+    ensures { OnOk result (Adds (IsUnusedReport scope subject.now.prefix.now subject.now.label.now
         subject.now.text.now parameters founds.now) out.old.items out.new.items) }
 {
     let from_empty = places_of(alloc, founds, Finding::TermcapParameter)?;
-    push_left_out(out, subject, unused, from_empty.as_slice())?;
+    push_left_out(out, scope, subject, unused, from_empty.as_slice())?;
     Ok(())
 }
 
@@ -109,19 +120,28 @@ fn push_unused<A: Allocator + Copy>(
 fn push_findings<A: Allocator + Copy>(
     alloc: A,
     out: &mut Vec<u8, A>,
+    scope: Scope,
     subject: &Subject<'_>,
     capability: &Capability<'_>,
     expected: Expected,
 ) -> Result<(), AllocError>
     requires { capability.now ≡ subject.now.text.now }
-    ensures { OnOk result (Adds (IsFindingsReport subject.now.prefix.now
+    ensures { OnOk result (Adds (IsFindingsReport scope subject.now.prefix.now
         subject.now.label.now subject.now.text.now expected) out.old.items out.new.items) }
 {
     let founds = findings_of(alloc, capability, expected)?;
     let parameters = expected.parameters;
     let unused = unused_parameters(capability, parameters);
     push_founds(alloc, out, subject, founds.as_slice(), parameters)?;
-    push_unused(alloc, out, subject, unused, parameters, founds.as_slice())?;
+    push_unused(
+        alloc,
+        out,
+        scope,
+        subject,
+        unused,
+        parameters,
+        founds.as_slice(),
+    )?;
     Ok(())
 }
 
@@ -129,14 +149,15 @@ fn push_findings<A: Allocator + Copy>(
 fn push_capability<A: Allocator + Copy>(
     alloc: A,
     out: &mut Vec<u8, A>,
+    scope: Scope,
     subject: &Subject<'_>,
     expected: Expected,
 ) -> Result<(), AllocError>
-    ensures { OnOk result (Adds (IsCapabilityReport subject.now.prefix.now
+    ensures { OnOk result (Adds (IsCapabilityReport scope subject.now.prefix.now
         subject.now.label.now subject.now.text.now expected) out.old.items out.new.items) }
 {
     match Capability::parse(subject.text) {
-        Ok(capability) => push_findings(alloc, out, subject, &capability, expected),
+        Ok(capability) => push_findings(alloc, out, scope, subject, &capability, expected),
         Err(refused) => {
             push_marked(
                 out,
@@ -205,7 +226,7 @@ fn push_plain<A: Allocator + Copy>(
 }
 
 /// Writes the lines on what a key sends.
-pub fn push_key<A: Allocator + Copy>(
+fn push_key<A: Allocator + Copy>(
     alloc: A,
     out: &mut Vec<u8, A>,
     subject: &Subject<'_>,
@@ -237,18 +258,19 @@ fn push_half_paired<A: Allocator>(
 pub fn push_text<A: Allocator + Copy>(
     alloc: A,
     out: &mut Vec<u8, A>,
+    scope: Scope,
     subject: &Subject<'_>,
     stored: Variables,
     class: Class,
 ) -> Result<(), AllocError>
-    ensures { OnOk result (Adds (IsTextReport subject.now.prefix.now
+    ensures { OnOk result (Adds (IsTextReport scope subject.now.prefix.now
         subject.now.label.now stored class subject.now.text.now)
         out.old.items out.new.items) }
 {
     match class {
         Class::Parameterized(parameters) => {
             let expected = Expected { parameters, stored };
-            push_capability(alloc, out, subject, expected)
+            push_capability(alloc, out, scope, subject, expected)
         }
         Class::Plain => push_plain(alloc, out, subject),
         Class::Key => push_key(alloc, out, subject),

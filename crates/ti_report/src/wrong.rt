@@ -29,6 +29,24 @@ pub enum Wrong {
     HalfPaired,
     /// One text should undo what the other does, and they are the same.
     EqualPair,
+    /// A key sends the first part of what another one sends.
+    KeyPrefix,
+    /// Two keys send the same.
+    AlikeKeys,
+    /// A capability with a name of the entry's own is not the first with this name.
+    RepeatedName,
+    /// A name of the entry's own is one of terminfo(5).
+    StandardName,
+    /// There are colors, and nothing that resets them.
+    ColorsStay,
+    /// There are colors, and nothing that selects one.
+    NoColors,
+    /// Colors can be changed, and nothing changes one.
+    ColorsAreFixed,
+    /// The bytes are not those that are written of the entry.
+    Layout,
+    /// Readers differ in where the entry's own names start.
+    Base,
 }
 
 impl Wrong {
@@ -46,6 +64,14 @@ impl Wrong {
             Wrong::UnusedParameters(_) => TextFinding::UnusedParameter.word(),
             Wrong::HalfPaired => TextFinding::HalfPaired.word(),
             Wrong::EqualPair => TextFinding::EqualPair.word(),
+            Wrong::KeyPrefix => TextFinding::KeyPrefix.word(),
+            Wrong::AlikeKeys => TextFinding::AlikeKeys.word(),
+            Wrong::RepeatedName | Wrong::StandardName => TextFinding::RepeatedName.word(),
+            Wrong::ColorsStay | Wrong::NoColors | Wrong::ColorsAreFixed => {
+                TextFinding::Colors.word()
+            }
+            Wrong::Layout => TextFinding::Layout.word(),
+            Wrong::Base => TextFinding::Base.word(),
         }
     }
 }
@@ -141,6 +167,21 @@ fn push_meaning<A: Allocator>(out: &mut Vec<u8, A>, wrong: Wrong) -> Result<(), 
         Wrong::UnusedParameters(unused) => push_unused(out, unused),
         Wrong::HalfPaired => out.extend_from_slice(b"the bytes are pairs, and one is left"),
         Wrong::EqualPair => out.extend_from_slice(b"one should undo the other"),
+        Wrong::KeyPrefix => out.extend_from_slice(b"one is the first part of the other"),
+        Wrong::AlikeKeys => out.extend_from_slice(b"two keys send the same"),
+        Wrong::RepeatedName => out.extend_from_slice(b"the entry has the name twice"),
+        Wrong::StandardName => out.extend_from_slice(b"the name is one of terminfo(5)"),
+        Wrong::ColorsStay => out.extend_from_slice(b"there are colors, and neither op nor oc"),
+        Wrong::NoColors => {
+            out.extend_from_slice(b"there are colors, and none of setaf, setf and scp")
+        }
+        Wrong::ColorsAreFixed => {
+            out.extend_from_slice(b"there is ccc, and neither initc nor initp")
+        }
+        Wrong::Layout => out.extend_from_slice(b"the bytes are not those that tic writes"),
+        Wrong::Base => {
+            out.extend_from_slice(b"readers differ in where the entry's own names start")
+        }
     }
 }
 

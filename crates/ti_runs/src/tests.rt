@@ -43,6 +43,7 @@ mod rows_of_trace;
 mod runs_of_diff;
 mod runs_of_files;
 mod runs_of_lint;
+mod runs_of_source;
 mod show_call;
 mod trace_call;
 mod uses;

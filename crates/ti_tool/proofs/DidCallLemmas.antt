@@ -1,5 +1,5 @@
 -- What a call has done, from what it read and what it wrote.
-use Rattle.std.proofs.Common.{◌≡◌, ℕ, ◌⊎◌, inl, inr, List, Ok, Err, Some, None, subst, sym, ap, ◌∙◌}
+use Rattle.std.proofs.Common.{◌≡◌, ℕ, Bool, ◌⊎◌, inl, inr, List, [], Ok, Err, Some, None, refl, subst, sym, ap, ◌∙◌}
 use Rattle.std.specs.Prelude.{Option, Result, IfErr}
 use Rattle.std.specs.Io.KnownBytes.{Consumes, IsAtEnd}
 use Rattle.std.proofs.KnownBytes.{Keeps-refl}
@@ -12,12 +12,18 @@ use Rattle.ti_entry.specs.declared.source.ReadStop.{ReadStop}
 use Rattle.ti_entry.specs.declared.source.ReadStop.TheVariants as stop
 use Rattle.ti_entry.proofs.FeedLemmas.{failure_refuses}
 use Rattle.ti_entry.proofs.FeedsFromLemmas.{FeedsFrom-whole}
+use Rattle.ti_expand.specs.declared.values.Value.{Value}
+use Rattle.ti_line.specs.declared.request.Asked.{Asked}
+use Rattle.ti_line.specs.declared.request.Asked.TheVariants.{Entry}
+use Rattle.ti_tool.specs.Results.{IsAnswer, IsDueOf}
+use Rattle.ti_line.specs.declared.request.OfEntry.{OfEntry}
+use Rattle.ti_tool.specs.inner.Kept.{IsKept}
 use Rattle.ti_tool.specs.inner.ReadsInto.{ReadsInto}
-use Rattle.ti_tool.specs.Calls.{Wrote, HasReadEnough, DidCall, HasFailed, IsFailedWrite, stop_fault}
+use Rattle.ti_tool.specs.Calls.{Wrote, HasReadEnough, DidCall, DidCheck, HasFailed, IsEnough, IsFailedWrite, stop_fault}
 use Rattle.ti_tool.specs.inner.Dues.{FailsAsDue}
 use Rattle.ti_tool.proofs.IsDueLemmas.{IsNeverOwn}
 
-failed : (due : Result (List ℕ) ToolFault → Type 0) (held : Option (List ℕ)) (e : ToolFault) → IsNeverOwn due → FailsAsDue due e → Wrote due held held (Err e)
+pub failed : (due : Result (List ℕ) ToolFault → Type 0) (held : Option (List ℕ)) (e : ToolFault) → IsNeverOwn due → FailsAsDue due e → Wrote due held held (Err e)
 failed due held fault.Read never h = Keeps-refl held
 failed due held fault.Memory never (inl (e, needs)) = (needs, Keeps-refl held)
 failed due held fault.Memory never (inr d) = absurd (never.no_memory d)
@@ -25,13 +31,13 @@ failed due held (fault.Write gone) never (inr d) = absurd (never.no_write gone d
 failed due held other never (inl (e, needs)) = absurd (cc)
 failed due held other never (inr d) = (d, Keeps-refl held)
 
-ended : (enough : Type 0) (left : Option (List ℕ)) (answer : Result (Unit {0}) ToolFault) → enough ⊎ IsAtEnd left → HasReadEnough enough left answer
+pub ended : (enough : Type 0) (left : Option (List ℕ)) (answer : Result (Unit {0}) ToolFault) → enough ⊎ IsAtEnd left → HasReadEnough enough left answer
 ended enough left (Ok u) h = h
 ended enough left (Err fault.Read) h = tt
 ended enough left (Err other) h = h
 
 -- a call that found a fault before it wrote
-pub did_fail : (due : List ℕ → Result (List ℕ) ToolFault → Type 0) (enough : List ℕ → Type 0) (left0 left1 held : Option (List ℕ)) (input : List ℕ) (e : ToolFault)
+abbrev pub did_fail : (due : List ℕ → Result (List ℕ) ToolFault → Type 0) (enough : List ℕ → Type 0) (left0 left1 held : Option (List ℕ)) (input : List ℕ) (e : ToolFault)
     → Consumes left0 left1 input → enough input ⊎ IsAtEnd left1 → IsNeverOwn (due input) → FailsAsDue (due input) e
     → DidCall due enough left0 left1 held held (Err e)
 did_fail due enough left0 left1 held input e read at never h =
@@ -71,6 +77,20 @@ did_stop due left0 left1 held old new (stop.Refused refused) first (bytes, took,
     let failed = stopped_on bytes old new refused first fed some in
     record { input = bytes; read = took; ended = inl (refused, failed); wrote = (h bytes refused (failure_refuses bytes refused failed), Keeps-refl held) }
 
+-- what is kept is what was read, unless reading stopped
+pub kept_stop : (e : OfEntry) (kept input : List ℕ) (why : ReadStop) → IsKept (Entry e) kept input (Err (stop_fault why))
+kept_stop e kept input stop.Io = tt
+kept_stop e kept input (stop.Refused refused) = tt
+
+pub kept_same : (e : OfEntry) (kept : List ℕ) (answer : Result Bool ToolFault) → IsKept (Entry e) kept kept answer
+kept_same e kept (Err fault.NoSuchName) = refl
+kept_same e kept (Ok v) = tt
+kept_same e kept (Err other) = tt
+
+pub kept_written : (e : OfEntry) (kept input : List ℕ) (why : ToolFault) → IsFailedWrite why → IsKept (Entry e) kept input (Err why)
+kept_written e kept input (fault.Write gone) failed = tt
+kept_written e kept input other failed = absurd failed
+
 -- all that there was to read is kept, and nothing is refused so far
 pub record KeepsAll (before after : Option (List ℕ)) (reading : Reading) : Type 0 where
   pub read : Consumes before after reading.kept
@@ -83,3 +103,11 @@ pub keeps_all : (before after : Option (List ℕ)) (old new : Reading) → old �
 keeps_all before after old new first fed end none =
     let Fed : Reading → Type 0 = λ r. FeedsFrom before after r new in
     record { read = FeedsFrom-whole before after new (subst Fed first fed) none; end = end; unrefused = none }
+
+-- a call on an entry is one of the request that is of it
+pub entry_did : (asked : Asked) (e : OfEntry) (parameters : List Value) (left0 left1 held0 held1 : Option (List ℕ)) (kept : List ℕ) (answer : Result Bool ToolFault) → asked ≡ Entry e
+    → ((did : DidCheck (λ sound. IsDueOf [] e parameters sound) HasFailed left0 left1 held0 held1 answer) × IsKept (Entry e) kept did.2.input answer)
+    → (did : DidCheck (IsAnswer asked parameters) (IsEnough asked) left0 left1 held0 held1 answer) × IsKept asked kept did.2.input answer
+entry_did asked e parameters left0 left1 held0 held1 kept answer is did =
+    let Did : Asked → Type 0 = λ a. (did : DidCheck (IsAnswer a parameters) (IsEnough a) left0 left1 held0 held1 answer) × IsKept a kept did.2.input answer in
+    subst Did (sym is) did

@@ -28,10 +28,10 @@ answer_writes (Err other) V status e (inl failed) = absurd failed
 
 module _ (V : Type 0) (left0 left1 held0 held1 told0 told1 : Stream) (status : ℕ) (asked : Asked) (parameters : List Value) where
   pub never_refused : RanRequest asked parameters V left0 left1 held0 held1 told0 told1 status → status ≡ 2 → ⊥
-  never_refused (answer, finds, did, quiet, ends) two = not_two answer (sym ends.0 ∙ two)
+  never_refused (answer, did, finds, quiet, ends) two = not_two answer (sym ends.0 ∙ two)
 
   pub request_writes : RanRequest asked parameters V left0 left1 held0 held1 told0 told1 status → MayHaveWritten status ⊎ V
-  request_writes (answer, finds, did, quiet, ends) = answer_writes answer V status ends.0 quiet
+  request_writes (answer, did, finds, quiet, ends) = answer_writes answer V status ends.0 quiet
 
 pub words_write : (why : NoLine) (V : Type 0) (held0 held1 told0 told1 : Stream) (status : ℕ) → EndsWords why V held0 held1 told0 told1 status → MayHaveWritten status ⊎ V
 words_write (no_line.Help message) V held0 held1 told0 told1 status (inl done) = inl (inl done.0)

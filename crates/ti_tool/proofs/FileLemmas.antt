@@ -8,17 +8,18 @@ use Rattle.ti_tool.specs.declared.fault.ToolFault.TheVariants as fault
 use Rattle.ti_expand.specs.declared.values.Value.{Value}
 use Rattle.ti_line.specs.declared.request.OfEntry.{OfEntry}
 use Rattle.ti_tool.specs.Files.{IsDueOfFile, before_findings, result_of_file}
+use Rattle.ti_lint.specs.declared.scope.Scope.{Scope}
 use Rattle.ti_report.specs.Reports.{IsReport}
-use Rattle.ti_report.specs.inner.Subject.{Adds}
+use Rattle.ti_report.specs.Lines.{Adds}
 use Rattle.ti_tool.specs.Results.{IsDueIn, IsLinted}
 use Rattle.ti_tool.specs.Statuses.{status_for}
 
 -- what is due for an entry, with the name of the file, is due for the bytes that spell it
 pub due_of_file : (several : Bool) (asked : OfEntry) (parameters : List Value) (name : List ℕ) (sound : Bool) (contents : List ℕ) (v : EntryValue) (before plain out : List ℕ) → before ≡ before_findings several name
-    → Spells contents v → IsDueIn before asked parameters sound v (Ok plain) → out ≡ result_of_file several asked name plain
+    → Spells contents v → IsDueIn before asked parameters sound contents v (Ok plain) → out ≡ result_of_file several asked name plain
     → IsDueOfFile several asked parameters name sound contents out
 due_of_file several asked parameters name sound contents v before plain out named spells due is =
-    (plain, inr (v, spells, subst (λ (b : List ℕ). IsDueIn b asked parameters sound v (Ok plain)) named due), is)
+    (plain, inr (v, spells, subst (λ (b : List ℕ). IsDueIn b asked parameters sound contents v (Ok plain)) named due), is)
 
 -- a fault ends with a status above that of refused words
 pub fault_is_high : (e : ToolFault) → 2 < status_for (Err e)
@@ -26,9 +27,9 @@ fault_is_high (fault.Entry refused) = omega arith
 fault_is_high other = omega arith
 
 -- lines that were written to none are those of the findings
-pub linted : (before : List ℕ) (v : EntryValue) (start lines : List ℕ) (sound : Bool) → start ≡ []
-    → Adds (IsReport before v) start lines → sound ≡ (length lines == 0) → IsLinted before sound v (Ok lines)
-linted before v start lines sound empty adds none = go (subst (λ (s : List ℕ). Adds (IsReport before v) s lines) empty adds)
+pub linted : (scope : Scope) (before input : List ℕ) (v : EntryValue) (start lines : List ℕ) (sound : Bool) → start ≡ []
+    → Adds (IsReport scope before input v) start lines → sound ≡ (length lines == 0) → IsLinted scope before sound input v (Ok lines)
+linted scope before input v start lines sound empty adds none = go (subst (λ (s : List ℕ). Adds (IsReport scope before input v) s lines) empty adds)
   where
-    go : Adds (IsReport before v) [] lines → IsLinted before sound v (Ok lines)
-    go (all, is, joined) = (subst (IsReport before v) (sym joined) is, none)
+    go : Adds (IsReport scope before input v) [] lines → IsLinted scope before sound input v (Ok lines)
+    go (all, is, joined) = (subst (IsReport scope before input v) (sym joined) is, none)

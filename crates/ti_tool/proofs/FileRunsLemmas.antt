@@ -16,9 +16,9 @@ use Rattle.ti_line.specs.declared.request.Asked.TheVariants.{Entry}
 use Rattle.ti_line.specs.declared.request.OfEntry.{OfEntry}
 use Rattle.ti_tool.specs.declared.fault.ToolFault.TheVariants as fault
 use Rattle.ti_tool.specs.declared.fault.ToolFault.{ToolFault}
-use Rattle.ti_tool.specs.FaultLines.{IsTold, Told, asked_line, fault_line}
+use Rattle.ti_tool.specs.FaultLines.{AreTold, Told, asked_line, fault_line}
 use Rattle.ti_tool.specs.Files.{before_findings, file_line}
-use Rattle.ti_tool.specs.Results.{IsDueFrom, IsDueIn}
+use Rattle.ti_tool.specs.Results.{IsDueOf}
 use Rattle.ti_tool.specs.Runs.{RanTask}
 use Rattle.ti_tool.specs.Statuses.{status_for}
 use Rattle.ti_tool.specs.FileRuns.{AllTold, AreAllNamed, AreNamed, Contents, Delivered, DidFiles, DoneFile, Held, IsDone, IsOutcome, IsOutcomeOfContents, IsUnread, NoMemory, Unread, RanFiles, StoppedAt, Supply, greatest_status, takes_folders}
@@ -64,8 +64,8 @@ all_names f xs i is = ap (map f) (take_all i xs (omega arith))
 -- ---- a file
 
 -- a fault of a file is what its contents lead to
-pub fault_led : {O F : Type 0} (bytes line : O → List ℕ) (status : O → ℕ) (asked : Asked) (e : OfEntry) (parameters : List Value) (several : Bool) (name contents said : List ℕ) (why : ToolFault) (near : Option (List ℕ)) (code : ℕ) (r : Result O F)
-    → (why ≡ fault.Memory) ⊎ IsDueFrom (IsDueIn (before_findings several name) e parameters true) contents (Err why) → IsTold asked why near → said ≡ asked_line asked near why → code ≡ status_for (Err why)
+pub fault_led : {O F : Type 0} (bytes line : O → List ℕ) (status : O → ℕ) (asked : Asked) (e : OfEntry) (parameters : List Value) (several : Bool) (name contents said : List ℕ) (why : ToolFault) (near : List (List ℕ)) (code : ℕ) (r : Result O F)
+    → (why ≡ fault.Memory) ⊎ IsDueOf (before_findings several name) e parameters true contents (Err why) → AreTold asked contents why near → said ≡ asked_line asked near why → code ≡ status_for (Err why)
     → IfOk r (λ o. (bytes o ≡ []) × (line o ≡ file_line name said) × (status o ≡ code))
     → IfOk r (λ o. IsOutcomeOfContents asked e parameters several name contents (bytes o) (line o) (status o))
 fault_led bytes line status asked e parameters several name contents said why near code (Ok o) due told is coded (b, l, s) =

@@ -1,6 +1,8 @@
 -- What is never due: that a write failed, and that memory was refused.
-use Rattle.std.proofs.Common.{ℕ, Bool, inl, inr, List, Err}
-use Rattle.std.specs.Prelude.{Option, Some, None, Result}
+use Rattle.std.proofs.Common.{ℕ, Bool, true, false, cond, inl, inr, length, List, Ok, Err}
+use Rattle.std.specs.Prelude.{Option, Some, None, Result, nat_lt}
+use Rattle.ti_escape.specs.Reading.{reading}
+use Rattle.ti_escape.specs.declared.reading.NotationRefused.{NotationRefused}
 use Rattle.ti_words.specs.Texts.{TextValue, AbsentText, CancelledText, TextOf}
 use Rattle.ti_expand.specs.declared.values.Value.{Value}
 use Rattle.ti_pad.specs.Setting.{Setting}
@@ -17,6 +19,7 @@ use Rattle.ti_tool.specs.Got.{IsDueBy, IsTextResult, IsValueResult}
 use Rattle.ti_tool.specs.Traces.{IsTraced, IsTracedBy, IsTracedValue}
 use Rattle.ti_tool.specs.Items.{FlagItem, ItemValue, NumberItem, TextItem}
 use Rattle.ti_tool.specs.Results.{IsDue, IsOutputOf}
+use Rattle.ti_tool.specs.Sources.{IsDueForSource, IsDueForText, most_notation_chars, notation_in, text_read, too_long}
 
 -- the faults of a call itself are not due
 pub record IsNeverOwn (due : Result (List ℕ) ToolFault → Type 0) : Type 0 where
@@ -32,6 +35,17 @@ text_never (TextOf text) parameters setting output = record { no_write = λ gone
 pub output_never : (c : OfCapability) (parameters : List Value) (input : List ℕ) → IsNeverOwn (IsOutputOf c parameters input)
 output_never (of_cap.Cap output) parameters input = record { no_write = λ gone d. d; no_memory = λ d. d }
 output_never (of_cap.Trace form) parameters input = record { no_write = λ gone d. d; no_memory = λ d. d }
+
+-- of a text that is read, or of the fault of its notation
+text_or_fault_never : (due : List ℕ → Result (List ℕ) ToolFault → Type 0) → ((text : List ℕ) → IsNeverOwn (due text)) → (long : Bool) (read : Result (List ℕ) NotationRefused)
+    → IsNeverOwn (IsDueForText due (cond long (Err (fault.Cap too_long)) (text_read read)))
+text_or_fault_never due never true read = record { no_write = λ gone d. cc; no_memory = λ d. cc }
+text_or_fault_never due never false (Ok text) = never text
+text_or_fault_never due never false (Err refused) = record { no_write = λ gone d. cc; no_memory = λ d. cc }
+
+pub source_never : (c : OfCapability) (parameters : List Value) (input : List ℕ) → IsNeverOwn (IsDueForSource (IsOutputOf c parameters) input)
+source_never c parameters input =
+    text_or_fault_never (IsOutputOf c parameters) (output_never c parameters) (nat_lt most_notation_chars (length (notation_in input))) (reading (notation_in input))
 
 -- of a text with parameters that words gave
 by_never : (text : List ℕ) (given : Given) (due : List Value → Result (List ℕ) ToolFault → Type 0) → ((parameters : List Value) → IsNeverOwn (due parameters)) → IsNeverOwn (IsDueBy text given due)

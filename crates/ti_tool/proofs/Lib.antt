@@ -1,5 +1,9 @@
 pub mod IsDueLemmas
+pub mod SourcesLemmas
 pub mod DidCallLemmas
+pub mod EditsLemmas
+pub mod NearLemmas
+pub mod NearPartLemmas
 pub mod ToldLemmas
 pub mod IsExpansionLemmas
 pub mod IsCalledLemmas

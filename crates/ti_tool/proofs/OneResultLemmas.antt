@@ -30,7 +30,7 @@ use Rattle.ti_entry.proofs.SpellsAtMostOneLemmas.{at_most_one}
 use Rattle.ti_words.specs.declared.all_names.NameTable.{NameTable}
 use Rattle.ti_line.specs.declared.options.Naming.{Naming}
 use Rattle.ti_line.specs.declared.options.Output.{Output}
-use Rattle.ti_line.specs.declared.request.Asked.TheVariants.{Capability, Difference, Entry}
+use Rattle.ti_line.specs.declared.request.Asked.TheVariants.{Capability, Difference, Entry, Source}
 use Rattle.ti_line.specs.declared.request.OfCapability.{OfCapability}
 use Rattle.ti_line.specs.declared.request.OfCapability.TheVariants as of_cap
 use Rattle.ti_line.specs.declared.request.OfEntry.{OfEntry}
@@ -40,7 +40,8 @@ use Rattle.ti_tool.specs.declared.fault.ToolFault.TheVariants as fault
 use Rattle.ti_tool.specs.Labels.{label_of, own_label}
 use Rattle.ti_tool.specs.Laws.{CheckHasOneVerdict, HasOneAnswer, IsSpelledOut}
 use Rattle.ti_line.specs.Options.{output_bytes}
-use Rattle.ti_tool.specs.Results.{IsExpansion, IsUnexpanded, IsCappedAs, IsPadded, IsDue, IsDueFor, IsDueFrom, IsDueOn, IsEncoding, IsJudgement, IsOutputOf, in_width}
+use Rattle.ti_tool.specs.Results.{IsExpansion, IsUnexpanded, IsCappedAs, IsPadded, IsDue, IsDueFor, IsDueFrom, IsDueIn, IsDueOf, IsEncoding, IsJudgement, IsOutputOf, in_width}
+use Rattle.ti_tool.specs.Sources.{IsDueForText, notation_in, text_of}
 use Rattle.ti_tool.specs.Traces.{IsTraced, IsTracedBy, IsTracedOf, IsTracedValue, no_values}
 use Rattle.ti_tool.specs.Verdicts.{IsVerdict, IsLine, IsStandardLine, IsExtendedLine, AreLines, AreVerdicts, sound_verdict, fault_verdict}
 use Rattle.ti_line.specs.declared.given.Given.{Given}
@@ -312,49 +313,54 @@ one_output : (c : OfCapability) (parameters : List Value) (input : List ℕ) →
 one_output (of_cap.Cap output) parameters input = one_capped parameters output input
 one_output (of_cap.Trace form) parameters input = one_traced parameters form input
 
-one_on : (e : OfEntry) → IsSpelledOut (Entry e) → (parameters : List Value) (sound as_sound : Bool) (v : EntryValue) (r s : Result (List ℕ) ToolFault) → IsDueOn e parameters sound v r → IsDueOn e parameters as_sound v s → r ≡ s
-one_on (of_entry.Show options) spelled parameters sound as_sound v r s d h = d ∙ sym h
-one_on (of_entry.Check naming) spelled parameters sound as_sound v r s d h = one_judgement naming v sound as_sound r s d h
-one_on of_entry.Lint spelled parameters sound as_sound v r s d h = absurd spelled
-one_on (of_entry.Expand e) spelled parameters sound as_sound v r s d h = one_due_for e.name.names e.name.name.now parameters e.padding e.output v r s d h
-one_on (of_entry.Get g) spelled parameters sound as_sound v r s d h = one_got g sound as_sound v r s d h
-one_on (of_entry.Trace t) spelled parameters sound as_sound v r s d h = one_traced_of t v r s d h
-one_on (of_entry.Convert width) spelled parameters sound as_sound v r s d h = one_encoding (in_width width v) r s d h
+one_for_text : (c : OfCapability) (parameters : List Value) (text : Result (List ℕ) ToolFault) → IsOneResult (IsDueForText (IsOutputOf c parameters) text)
+one_for_text c parameters (Ok text) = one_output c parameters text
+one_for_text c parameters (Err e) = λ r s d h. d ∙ sym h
+
+one_on : (e : OfEntry) → IsSpelledOut (Entry e) → (parameters : List Value) (sound as_sound : Bool) (input : List ℕ) (v : EntryValue) (r s : Result (List ℕ) ToolFault) → IsDueIn [] e parameters sound input v r → IsDueIn [] e parameters as_sound input v s → r ≡ s
+one_on (of_entry.Show options) spelled parameters sound as_sound input v r s d h = d ∙ sym h
+one_on (of_entry.Check naming) spelled parameters sound as_sound input v r s d h = one_judgement naming v sound as_sound r s d h
+one_on (of_entry.Lint scope) spelled parameters sound as_sound input v r s d h = absurd spelled
+one_on (of_entry.Expand e) spelled parameters sound as_sound input v r s d h = one_due_for e.name.names e.name.name.now parameters e.padding e.output v r s d h
+one_on (of_entry.Get g) spelled parameters sound as_sound input v r s d h = one_got g sound as_sound v r s d h
+one_on (of_entry.Trace t) spelled parameters sound as_sound input v r s d h = one_traced_of t v r s d h
+one_on (of_entry.Convert width) spelled parameters sound as_sound input v r s d h = one_encoding (in_width width v) r s d h
 
 pub one_answer : HasOneAnswer
 one_answer (Capability c) parameters input sound as_sound r s spelled d h = one_output c parameters input r s d h
+one_answer (Source c) parameters input sound as_sound r s spelled d h = one_for_text c parameters (text_of (notation_in input)) r s d h
 one_answer (Difference e) parameters input sound as_sound r s spelled d h = elim d [ ]
 one_answer (Entry e) parameters input sound as_sound r s spelled d h =
-    one_from input (IsDueOn e parameters sound) (IsDueOn e parameters as_sound) (one_on e spelled parameters sound as_sound) r s d h
+    one_from input (IsDueIn [] e parameters sound input) (IsDueIn [] e parameters as_sound input) (one_on e spelled parameters sound as_sound input) r s d h
 
 -- ---- the faults of a call itself
 
-on_entry_never : (e : OfEntry) (parameters : List Value) (sound : Bool) (v : EntryValue) → IsNeverOwn (IsDueOn e parameters sound v)
-on_entry_never (of_entry.Show options) parameters sound v = record { no_write = λ gone d. cc; no_memory = λ d. cc }
-on_entry_never (of_entry.Check naming) parameters sound v = record { no_write = λ gone d. d; no_memory = λ d. d }
-on_entry_never of_entry.Lint parameters sound v = record { no_write = λ gone d. d; no_memory = λ d. d }
-on_entry_never (of_entry.Expand e) parameters sound v = record {
+on_entry_never : (e : OfEntry) (parameters : List Value) (sound : Bool) (input : List ℕ) (v : EntryValue) → IsNeverOwn (IsDueIn [] e parameters sound input v)
+on_entry_never (of_entry.Show options) parameters sound input v = record { no_write = λ gone d. cc; no_memory = λ d. cc }
+on_entry_never (of_entry.Check naming) parameters sound input v = record { no_write = λ gone d. d; no_memory = λ d. d }
+on_entry_never (of_entry.Lint scope) parameters sound input v = record { no_write = λ gone d. d; no_memory = λ d. d }
+on_entry_never (of_entry.Expand e) parameters sound input v = record {
   no_write = λ gone (text, called, d). (text_never text parameters e.padding e.output).no_write gone d;
   no_memory = λ (text, called, d). (text_never text parameters e.padding e.output).no_memory d;
 }
-on_entry_never (of_entry.Convert width) parameters sound v = record { no_write = λ gone d. d; no_memory = λ d. d }
-on_entry_never (of_entry.Get g) parameters sound v = record {
+on_entry_never (of_entry.Convert width) parameters sound input v = record { no_write = λ gone d. d; no_memory = λ d. d }
+on_entry_never (of_entry.Get g) parameters sound input v = record {
   no_write = λ gone (item, called, d). (value_never item g sound).no_write gone d;
   no_memory = λ (item, called, d). (value_never item g sound).no_memory d;
 }
-on_entry_never (of_entry.Trace t) parameters sound v = record {
+on_entry_never (of_entry.Trace t) parameters sound input v = record {
   no_write = λ gone (item, called, d). (traced_never item t).no_write gone d;
   no_memory = λ (item, called, d). (traced_never item t).no_memory d;
 }
 
 -- of the bytes of an entry
-pub entry_never : (e : OfEntry) (parameters : List Value) (sound : Bool) (input : List ℕ) → IsNeverOwn (IsDueFrom (IsDueOn e parameters sound) input)
+pub entry_never : (e : OfEntry) (parameters : List Value) (sound : Bool) (input : List ℕ) → IsNeverOwn (IsDueOf [] e parameters sound input)
 entry_never e parameters sound input = record { no_write = writes; no_memory = takes }
   where
-    writes : (gone : ℕ) → ¬ IsDueFrom (IsDueOn e parameters sound) input (Err (fault.Write gone))
+    writes : (gone : ℕ) → ¬ IsDueOf [] e parameters sound input (Err (fault.Write gone))
     writes gone (inl (refused, is, same)) = absurd (cc)
-    writes gone (inr (v, spells, d)) = (on_entry_never e parameters sound v).no_write gone d
+    writes gone (inr (v, spells, d)) = (on_entry_never e parameters sound input v).no_write gone d
 
-    takes : ¬ IsDueFrom (IsDueOn e parameters sound) input (Err fault.Memory)
+    takes : ¬ IsDueOf [] e parameters sound input (Err fault.Memory)
     takes (inl (refused, is, same)) = absurd (cc)
-    takes (inr (v, spells, d)) = (on_entry_never e parameters sound v).no_memory d
+    takes (inr (v, spells, d)) = (on_entry_never e parameters sound input v).no_memory d

@@ -4,7 +4,6 @@ use Rattle.std.proofs.lemmas.Bool.{eq-eqb}
 use Rattle.std.specs.Prelude.{Option}
 use Rattle.std.specs.Io.KnownBytes.{Consumes}
 use Rattle.std.proofs.KnownBytes.{Consumes-trans}
-use Rattle.ti_base.specs.Limits.{most_capability_bytes}
 use Rattle.ti_tool.specs.inner.ReadsInto.{ReadsInto}
 
 pub ReadsInto-next : (a b c : Option (List ℕ)) (xs ys zs piece : List ℕ) → ReadsInto a b xs ys → Consumes b c piece → zs ≡ ys ++ piece → ReadsInto a c xs zs
@@ -19,8 +18,8 @@ ReadsInto-empty a b old new x (bytes, took, is) e s =
     subst P (sym (s ∙ is ∙ ap (λ l. l ++ bytes) e)) took
 
 -- the buffer is full, or the source is at its end
-pub at_end : (E : Type 0) (new x : List ℕ) → x ≡ new → (length new ≡ most_capability_bytes + 1) ⊎ E → (length x ≡ most_capability_bytes + 1) ⊎ E
-at_end E new x s h = let P : List ℕ → Type 0 = λ l. (length l ≡ most_capability_bytes + 1) ⊎ E in subst P (sym s) h
+pub at_end : (E : Type 0) (most : ℕ) (new x : List ℕ) → x ≡ new → (length new ≡ most) ⊎ E → (length x ≡ most) ⊎ E
+at_end E most new x s h = let P : List ℕ → Type 0 = λ l. (length l ≡ most) ⊎ E in subst P (sym s) h
 
 -- a full buffer stays full
 pub full_stays : (a b : Option (List ℕ)) (old new : List ℕ) (most : ℕ) → ReadsInto a b old new → length old ≡ most → length new ≤ most → (length new == most) ≡ true

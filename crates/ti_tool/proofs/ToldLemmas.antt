@@ -4,8 +4,13 @@ use Rattle.std.specs.Prelude.{Result, Ok, Err, IfErr, OnOk}
 use Rattle.std.specs.Io.KnownBytes.{Appends}
 use Rattle.std.proofs.KnownBytes.{Appends-nil}
 use Rattle.ti_line.specs.declared.request.Asked.{Asked}
+use Rattle.ti_line.specs.declared.request.Asked.TheVariants.{Entry}
+use Rattle.ti_line.specs.declared.request.OfEntry.TheVariants as of_entry
+use Rattle.ti_tool.specs.declared.fault.ToolFault.TheVariants as fault
+use Rattle.ti_tool.specs.Runs.{Ends}
 use Rattle.ti_tool.specs.declared.fault.ToolFault.{ToolFault}
-use Rattle.ti_tool.specs.FaultLines.{IsAnswerLine, IsTold, Told, asked_line}
+use Rattle.ti_tool.specs.FaultLines.{AreTold, IsAnswerLine, Told, asked_line}
+use Rattle.ti_tool.specs.inner.Kept.{IsKept}
 
 -- a text is told by writing it, whether or not the writer fails
 pub told_by : (text : List ℕ) (a b : Option (List ℕ)) (r : Result (Unit {0}) ℕ) → OnOk r (Appends a b text) → IfErr r (λ gone. gone < length text)
@@ -21,16 +26,33 @@ told_line text line bytes a b r is held whole short part =
     subst IsTold (held ∙ is) (told_by bytes a b r whole short part)
 
 -- an answer without a fault has no line
-pub told_ok : (asked : Asked) (answer : Result Bool ToolFault) (v : Bool) (a b : Option (List ℕ)) → answer ≡ Ok v → b ≡ a → (line : List ℕ) × IsAnswerLine asked answer line × Told line a b
-told_ok asked answer v a b is same =
-    let HasLine : Result Bool ToolFault → Type 0 = λ x. IsAnswerLine asked x [] in
+pub told_ok : (asked : Asked) (input : List ℕ) (answer : Result Bool ToolFault) (v : Bool) (a b : Option (List ℕ)) → answer ≡ Ok v → b ≡ a → (line : List ℕ) × IsAnswerLine asked input answer line × Told line a b
+told_ok asked input answer v a b is same =
+    let HasLine : Result Bool ToolFault → Type 0 = λ x. IsAnswerLine asked input x [] in
     let IsSilent : Option (List ℕ) → Type 0 = λ x. Told [] a x in
     ([], subst HasLine (sym is) refl, subst IsSilent (sym same) (inl (Appends-nil a)))
 
--- the line on a fault, with the name that is told in it
-pub told_fault : (asked : Asked) (answer : Result Bool ToolFault) (e : ToolFault) (near : Option (List ℕ)) (line bytes : List ℕ) (a b : Option (List ℕ)) (r : Result (Unit {0}) ℕ) → answer ≡ Err e → IsTold asked e near
+-- the line on a fault, with the names that are told in it
+pub told_fault : (asked : Asked) (input : List ℕ) (answer : Result Bool ToolFault) (e : ToolFault) (near : List (List ℕ)) (line bytes : List ℕ) (a b : Option (List ℕ)) (r : Result (Unit {0}) ℕ) → answer ≡ Err e → AreTold asked input e near
     → line ≡ asked_line asked near e → bytes ≡ line → OnOk r (Appends a b bytes) → IfErr r (λ gone. gone < length bytes) → IfErr r (λ gone. Appends a b (take gone bytes))
-    → (x : List ℕ) × IsAnswerLine asked answer x × Told x a b
-told_fault asked answer e near line bytes a b r is told line_is held whole short part =
-    let HasLine : Result Bool ToolFault → Type 0 = λ x. IsAnswerLine asked x (asked_line asked near e) in
+    → (x : List ℕ) × IsAnswerLine asked input answer x × Told x a b
+told_fault asked input answer e near line bytes a b r is told line_is held whole short part =
+    let HasLine : Result Bool ToolFault → Type 0 = λ x. IsAnswerLine asked input x (asked_line asked near e) in
     (asked_line asked near e, subst HasLine (sym is) (near, told, refl), told_line (asked_line asked near e) line bytes a b r line_is held whole short part)
+
+-- the names that are told are those of what was read, if that is kept
+pub told_of_kept : (asked : Asked) (kept input : List ℕ) (answer : Result Bool ToolFault) (line : List ℕ) → IsKept asked kept input answer → IsAnswerLine asked kept answer line → IsAnswerLine asked input answer line
+told_of_kept (Entry (of_entry.Get g)) kept input (Err fault.NoSuchName) line same is =
+    let HasLine : List ℕ → Type 0 = λ x. IsAnswerLine {V = Bool} (Entry (of_entry.Get g)) x (Err fault.NoSuchName) line in
+    subst HasLine same is
+told_of_kept (Entry (of_entry.Trace t)) kept input (Err fault.NoSuchName) line same is =
+    let HasLine : List ℕ → Type 0 = λ x. IsAnswerLine {V = Bool} (Entry (of_entry.Trace t)) x (Err fault.NoSuchName) line in
+    subst HasLine same is
+told_of_kept asked kept input (Ok v) line same is = is
+told_of_kept asked kept input (Err e) line same is = is
+
+pub ends_of_kept : (asked : Asked) (bytes kept input : List ℕ) (answer : Result Bool ToolFault) (a b : Option (List ℕ)) (status : ℕ) → bytes ≡ kept → IsKept asked kept input answer → Ends asked bytes answer a b status
+    → Ends asked input answer a b status
+ends_of_kept asked bytes kept input answer a b status held same (code, (line, is, told)) =
+    let HasLine : List ℕ → Type 0 = λ x. IsAnswerLine asked x answer line in
+    (code, (line, told_of_kept asked kept input answer line same (subst HasLine held is), told))

@@ -1,5 +1,5 @@
 -- What the calls of the program do to their reader and writer.
-use Rattle.std.specs.Prelude.{◌≡◌, ◌<◌, ◌⊎◌, ◌+◌, ℕ, Bool, List, IfOk, Option, Some, Result, Ok, Err, length, take}
+use Rattle.std.specs.Prelude.{◌≡◌, ◌<◌, ◌⊎◌, ◌+◌, ◌*◌, ℕ, Bool, List, IfOk, Option, Some, Result, Ok, Err, length, take}
 use Rattle.std.specs.Io.KnownBytes.{Appends, Consumes, IsAtEnd, Keeps}
 use Rattle.ti_base.specs.Limits.{most_capability_bytes}
 use Rattle.ti_layout.specs.declared.fault.Refused.{Refused}
@@ -7,7 +7,7 @@ use Rattle.ti_layout.specs.Refusal.{failure}
 use Rattle.ti_entry.specs.declared.source.ReadStop.{ReadStop}
 use Rattle.ti_entry.specs.declared.source.ReadStop.TheVariants as stop
 use Rattle.ti_line.specs.declared.request.Asked.{Asked}
-use Rattle.ti_line.specs.declared.request.Asked.TheVariants.{Capability, Difference, Entry}
+use Rattle.ti_line.specs.declared.request.Asked.TheVariants.{Capability, Difference, Entry, Source}
 use Rattle.ti_tool.specs.declared.fault.ToolFault.{ToolFault}
 use Rattle.ti_tool.specs.declared.fault.ToolFault.TheVariants as fault
 
@@ -61,6 +61,10 @@ pub record DidCall (due : List ℕ → Result (List ℕ) ToolFault → Type 0) (
 abbrev pub IsFull : List ℕ → Type 0
 IsFull input = length input ≡ most_capability_bytes + 1
 
+-- as many characters as `cap --source` keeps: those of the longest notation, a newline and one more
+abbrev pub IsFullSource : List ℕ → Type 0
+IsFullSource input = length input ≡ 4 * most_capability_bytes + 2
+
 -- a check of an entry has failed on bytes that came, whatever would follow
 abbrev pub HasFailed : List ℕ → Type 0
 HasFailed input = (refused : Refused) × (failure input ≡ Some refused)
@@ -68,6 +72,7 @@ HasFailed input = (refused : Refused) × (failure input ≡ Some refused)
 -- what is enough to read for a request
 abbrev pub IsEnough : Asked → List ℕ → Type 0
 IsEnough (Capability c) = IsFull
+IsEnough (Source c) = IsFullSource
 IsEnough (Entry e) = HasFailed
 IsEnough (Difference d) = λ input. ⊥
 

@@ -1,11 +1,14 @@
 -- The lines that the program writes on faults, and what was written of one.
-use Rattle.std.specs.Prelude.{◌<◌, ◌⊎◌, ℕ, List, [], ◌++◌, Option, Result, Ok, Err, codes, decimal, length, nat_le, take, if◌then◌else◌, ◌≡◌, Some, None, IfSome}
+use Rattle.std.specs.Prelude.{◌<◌, ◌⊎◌, ℕ, List, [], ◌∷◌, ◌++◌, Option, Result, Ok, Err, codes, decimal, length, nat_le, take, if◌then◌else◌, ◌≡◌}
 use Rattle.std.specs.Io.KnownBytes.{Appends}
 use Rattle.ti_layout.specs.Faults.{fault_word}
 use Rattle.ti_draft.specs.Unfit.{encode_fault_word}
+use Rattle.ti_escape.specs.FaultNames.{notation_fault_word}
 use Rattle.ti_escape.specs.Notation.{notation}
 use Rattle.ti_cap.specs.FaultNames.{cap_fault_word}
-use Rattle.ti_tool.specs.Near.{IsNearest}
+use Rattle.ti_words.specs.Spelling.{Spells}
+use Rattle.ti_words.specs.Value.{EntryValue}
+use Rattle.ti_tool.specs.Near.{AreNearest}
 use Rattle.ti_tool.specs.declared.fault.ToolFault.{ToolFault}
 use Rattle.ti_tool.specs.declared.fault.ToolFault.TheVariants as fault
 use Rattle.ti_line.specs.declared.params.WordFault.{WordFault}
@@ -27,6 +30,8 @@ fault_line (fault.Entry refused) =
 fault_line (fault.Encode unfit) = codes "entry: " ++ encode_fault_word unfit ++ codes "\n"
 fault_line (fault.Cap refused) =
     place_line (codes "capability: ") (cap_fault_word refused.fault) refused.place
+fault_line (fault.Source refused) =
+    place_line (codes "source: ") (notation_fault_word refused.fault) refused.place
 fault_line fault.NoSuchText = codes "capability: absent\n"
 fault_line fault.NoSuchName = codes "capability: absent\n"
 fault_line (fault.TextTooLong parameter) =
@@ -44,6 +49,7 @@ words_line (words.BadWord which) = codes "parameter " ++ decimal which ++ codes 
 -- the line on what a command line can't ask for
 abbrev pub line_fault_line : LineFault → List ℕ
 line_fault_line line.BothForms = codes "--hex and --escape exclude each other\n"
+line_fault_line line.BothInputs = codes "--source and --of exclude each other\n"
 line_fault_line line.EntryWithoutName = codes "trace: --entry without --of\n"
 line_fault_line line.BothWidths = codes "convert: both widths\n"
 line_fault_line line.ToTerminal = codes "convert: not to a terminal without --force\n"
@@ -59,14 +65,22 @@ abbrev pub shown_name : List ℕ → List ℕ
 shown_name name =
     if nat_le (length (notation name)) most_shown then notation name else codes ".."
 
--- what comes after it if nothing has the name: the nearest name of terminfo(5), if there is one
-abbrev pub no_name_line : Option (List ℕ) → List ℕ
-no_name_line None = codes ": no such capability\n"
-no_name_line (Some near) = codes ": no such capability; nearest: " ++ shown_name near ++ codes "\n"
+-- names, the first after a mark and each other one after a comma
+abbrev pub names_after : List ℕ → List (List ℕ) → List ℕ
+names_after mark [] = []
+names_after mark (name ∷ names) = mark ++ shown_name name ++ names_after (codes ", ") names
+
+-- the names that are told in place of one that nothing has
+abbrev pub near_part : List (List ℕ) → List ℕ
+near_part = names_after (codes "; nearest: ")
+
+-- what comes after a name that nothing has
+abbrev pub no_name_line : List (List ℕ) → List ℕ
+no_name_line near = codes ": no such capability" ++ near_part near ++ codes "\n"
 
 -- the line on the fault of a call, by what was asked for: `get`, and `trace` of an entry, name the
 -- capability
-abbrev pub asked_line : Asked → Option (List ℕ) → ToolFault → List ℕ
+abbrev pub asked_line : Asked → List (List ℕ) → ToolFault → List ℕ
 asked_line (Entry (of_entry.Get g)) near fault.NoSuchText =
     codes "get: " ++ shown_name g.name.now ++ codes ": absent\n"
 asked_line (Entry (of_entry.Get g)) near fault.NoSuchName =
@@ -77,17 +91,21 @@ asked_line (Entry (of_entry.Trace t)) near fault.NoSuchName =
     codes "trace: " ++ shown_name t.name.now ++ no_name_line near
 asked_line asked near e = fault_line e
 
--- a name that is told is a nearest one; none is told if none is near, or if memory was refused
-abbrev pub IsTold : Asked → ToolFault → Option (List ℕ) → Type 0
-IsTold (Entry (of_entry.Get g)) fault.NoSuchName near = IfSome near (IsNearest g.name.now)
-IsTold (Entry (of_entry.Trace t)) fault.NoSuchName near = IfSome near (IsNearest t.name.now)
-IsTold asked e near = near ≡ None
+-- the nearest names are told of those that there are for the entry that the bytes spell; none if memory was refused
+abbrev pub AreToldFor : List ℕ → List ℕ → List (List ℕ) → Type 0
+AreToldFor input word near = (near ≡ []) ⊎ ((v : EntryValue) × Spells input v × AreNearest v word near)
 
--- the line on an answer, none if it has no fault
-abbrev pub IsAnswerLine : {V : Type 0} → Asked → Result V ToolFault → List ℕ → Type 0
-IsAnswerLine asked (Ok v) line = line ≡ []
-IsAnswerLine asked (Err e) line =
-    (near : Option (List ℕ)) × IsTold asked e near × (line ≡ asked_line asked near e)
+-- the names that are told, if nothing in what was read has the name that was given
+abbrev pub AreTold : Asked → List ℕ → ToolFault → List (List ℕ) → Type 0
+AreTold (Entry (of_entry.Get g)) input fault.NoSuchName near = AreToldFor input g.name.now near
+AreTold (Entry (of_entry.Trace t)) input fault.NoSuchName near = AreToldFor input t.name.now near
+AreTold asked input e near = near ≡ []
+
+-- the line on an answer about what was read, none if it has no fault
+abbrev pub IsAnswerLine : {V : Type 0} → Asked → List ℕ → Result V ToolFault → List ℕ → Type 0
+IsAnswerLine asked input (Ok v) line = line ≡ []
+IsAnswerLine asked input (Err e) line =
+    (near : List (List ℕ)) × AreTold asked input e near × (line ≡ asked_line asked near e)
 
 -- a text was written whole, or its first bytes, if the writer failed after them
 abbrev pub Told : List ℕ → Option (List ℕ) → Option (List ℕ) → Type 0

@@ -11,7 +11,7 @@ use Rattle.ti_tool.specs.declared.fault.ToolFault.{ToolFault}
 use Rattle.ti_tool.specs.declared.fault.ToolFault.TheVariants as fault
 use Rattle.ti_tool.specs.FaultLines.{IsAnswerLine, Told, fault_line}
 use Rattle.ti_tool.specs.Files.{IsDueOfFile, before_findings, file_line}
-use Rattle.ti_tool.specs.Results.{Finds, IsDueFrom, IsDueIn}
+use Rattle.ti_tool.specs.Results.{Finds, IsDueOf}
 use Rattle.ti_tool.specs.Statuses.{status_for}
 
 -- what is known of the bytes that a writer holds
@@ -34,9 +34,9 @@ IsFileAnswer asked e parameters several name contents (Ok sound) out line =
     Finds (Entry e) sound × IsDueOfFile several e parameters name sound contents out × (line ≡ [])
 IsFileAnswer asked e parameters several name contents (Err why) out line =
     ((why ≡ fault.Memory)
-    ⊎ IsDueFrom (IsDueIn (before_findings several name) e parameters true) contents (Err why))
+    ⊎ IsDueOf (before_findings several name) e parameters true contents (Err why))
     × (out ≡ [])
-    × ((told : List ℕ) × IsAnswerLine {V = Bool} asked (Err why) told × (line ≡ file_line name told))
+    × ((told : List ℕ) × IsAnswerLine {V = Bool} asked contents (Err why) told × (line ≡ file_line name told))
 
 abbrev pub IsOutcomeOfContents : Asked → OfEntry → List Value → Bool → List ℕ → List ℕ → List ℕ
     → List ℕ → ℕ → Type 0
@@ -90,7 +90,7 @@ Delivered held0 held1 told0 told1 None out line status =
 abbrev pub takes_folders : OfEntry → Bool
 takes_folders (of_entry.Show options) = true
 takes_folders (of_entry.Check naming) = true
-takes_folders of_entry.Lint = true
+takes_folders (of_entry.Lint scope) = true
 takes_folders _ = false
 
 -- the files that a word names: the one of this name, or those of a folder, each of which is one of several

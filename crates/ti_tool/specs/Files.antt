@@ -7,7 +7,7 @@ use Rattle.ti_line.specs.declared.options.NameForm.{NameForm}
 use Rattle.ti_line.specs.declared.options.NameForm.TheVariants as name_forms
 use Rattle.ti_line.specs.declared.request.OfEntry.{OfEntry}
 use Rattle.ti_line.specs.declared.request.OfEntry.TheVariants as of_entry
-use Rattle.ti_tool.specs.Results.{IsDueFrom, IsDueIn}
+use Rattle.ti_tool.specs.Results.{IsDueOf}
 
 -- the name of a file in a result: as it stands, or in the notation
 abbrev pub shown_file : NameForm → List ℕ → List ℕ
@@ -41,7 +41,7 @@ before_findings several name = if several then notation name ++ codes ": " else 
 abbrev pub IsDueOfFile : Bool → OfEntry → List Value → List ℕ → Bool → List ℕ → List ℕ → Type 0
 IsDueOfFile several asked parameters name sound contents out =
     (plain : List ℕ)
-    × IsDueFrom (IsDueIn (before_findings several name) asked parameters sound) contents (Ok plain)
+    × IsDueOf (before_findings several name) asked parameters sound contents (Ok plain)
     × (out ≡ result_of_file several asked name plain)
 
 -- the line on the fault of a file

@@ -21,7 +21,7 @@ WideAndBack = (input wide back : List ℕ) (v : EntryValue) → Spells input v �
 
 -- the definitions say which bytes the result is; that of `lint` says which findings it tells
 abbrev pub IsSpelledOut : Asked → Type 0
-IsSpelledOut (Entry of_entry.Lint) = ⊥
+IsSpelledOut (Entry (of_entry.Lint scope)) = ⊥
 IsSpelledOut _ = Unit {0}
 
 -- at most one result or fault is due for what is asked, the parameters and the bytes that are read

@@ -7,6 +7,7 @@ pub mod Differences
 pub mod Expansions
 pub mod Got
 pub mod Traces
+pub mod Sources
 pub mod Results
 pub mod Printable
 pub mod Calls

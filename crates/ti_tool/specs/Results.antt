@@ -18,14 +18,16 @@ use Rattle.ti_line.specs.declared.options.Naming.{Naming}
 use Rattle.ti_line.specs.declared.options.Output.{Output}
 use Rattle.ti_line.specs.Options.{list_options, naming_asked, output_asked, output_bytes}
 pub use Rattle.ti_tool.specs.Expansions.{IsExpansion, IsPadded, IsUnexpanded}
+use Rattle.ti_lint.specs.declared.scope.Scope.{Scope}
 use Rattle.ti_report.specs.Reports.{IsReport}
 use Rattle.ti_tool.specs.Got.{IsGot}
 pub use Rattle.ti_tool.specs.Traces.{IsTraced, IsTracedOf}
+use Rattle.ti_tool.specs.Sources.{IsDueForSource}
 use Rattle.ti_tool.specs.Verdicts.{AreVerdicts}
 use Rattle.ti_tool.specs.Listing.{entry_lines}
 use Rattle.ti_tool.specs.Names.{IsCalled}
 use Rattle.ti_line.specs.declared.request.Asked.{Asked}
-use Rattle.ti_line.specs.declared.request.Asked.TheVariants.{Capability, Difference, Entry}
+use Rattle.ti_line.specs.declared.request.Asked.TheVariants.{Capability, Difference, Entry, Source}
 use Rattle.ti_line.specs.declared.request.OfCapability.{OfCapability}
 use Rattle.ti_line.specs.declared.request.OfCapability.TheVariants as of_cap
 use Rattle.ti_line.specs.declared.request.OfEntry.{OfEntry}
@@ -88,9 +90,9 @@ abbrev pub IsChecked : Bool → List ℕ → Result (List ℕ) ToolFault → Typ
 IsChecked sound = IsDueFrom (IsJudgement (naming_asked false false false) sound)
 
 -- the lines of `lint`, with something before the first of each finding; nothing is wrong if there are none
-abbrev pub IsLinted : List ℕ → Bool → EntryValue → Result (List ℕ) ToolFault → Type 0
-IsLinted before sound v (Ok lines) = IsReport before v lines × (sound ≡ (length lines == 0))
-IsLinted before sound v (Err e) = ⊥
+abbrev pub IsLinted : Scope → List ℕ → Bool → List ℕ → EntryValue → Result (List ℕ) ToolFault → Type 0
+IsLinted scope before sound input v (Ok lines) = IsReport scope before input v lines × (sound ≡ (length lines == 0))
+IsLinted scope before sound input v (Err e) = ⊥
 
 -- the canonical bytes of an entry, or why it has none
 abbrev pub IsEncoding : EntryValue → Result (List ℕ) ToolFault → Type 0
@@ -114,30 +116,33 @@ abbrev pub IsOutputOf : OfCapability → List Value → List ℕ → Result (Lis
 IsOutputOf (of_cap.Cap output) parameters = IsCappedAs parameters output
 IsOutputOf (of_cap.Trace form) parameters = IsTraced parameters form
 
--- on an entry that is sound or not, or whose flag is set or not, with something before each finding
-abbrev pub IsDueIn : List ℕ → OfEntry → List Value → Bool → EntryValue → Result (List ℕ) ToolFault
-    → Type 0
-IsDueIn before (of_entry.Show options) parameters sound = IsListed options
-IsDueIn before (of_entry.Check naming) parameters sound = IsJudgement naming sound
-IsDueIn before of_entry.Lint parameters sound = IsLinted before sound
-IsDueIn before (of_entry.Expand e) parameters sound =
+-- on an entry that is sound or not, or whose flag is set or not, which the bytes spell, with something before each finding
+abbrev pub IsDueIn : List ℕ → OfEntry → List Value → Bool → List ℕ → EntryValue
+    → Result (List ℕ) ToolFault → Type 0
+IsDueIn before (of_entry.Show options) parameters sound input = IsListed options
+IsDueIn before (of_entry.Check naming) parameters sound input = IsJudgement naming sound
+IsDueIn before (of_entry.Lint scope) parameters sound input = IsLinted scope before sound input
+IsDueIn before (of_entry.Expand e) parameters sound input =
     IsDueFor e.name.names e.name.name.now parameters e.padding e.output
-IsDueIn before (of_entry.Convert width) parameters sound = λ v. IsEncoding (in_width width v)
-IsDueIn before (of_entry.Get g) parameters sound = IsGot g sound
-IsDueIn before (of_entry.Trace t) parameters sound = IsTracedOf t
+IsDueIn before (of_entry.Convert width) parameters sound input = λ v. IsEncoding (in_width width v)
+IsDueIn before (of_entry.Get g) parameters sound input = IsGot g sound
+IsDueIn before (of_entry.Trace t) parameters sound input = IsTracedOf t
 
-abbrev pub IsDueOn : OfEntry → List Value → Bool → EntryValue → Result (List ℕ) ToolFault → Type 0
-IsDueOn = IsDueIn []
+-- on the bytes of an entry
+abbrev pub IsDueOf : List ℕ → OfEntry → List Value → Bool → List ℕ → Result (List ℕ) ToolFault
+    → Type 0
+IsDueOf before e parameters sound input = IsDueFrom (IsDueIn before e parameters sound input) input
 
 -- on the bytes that were read; two files are compared by a run alone, which reads them
 abbrev pub IsAnswer : Asked → List Value → Bool → List ℕ → Result (List ℕ) ToolFault → Type 0
 IsAnswer (Capability c) parameters sound = IsOutputOf c parameters
-IsAnswer (Entry e) parameters sound = IsDueFrom (IsDueOn e parameters sound)
+IsAnswer (Source c) parameters sound = IsDueForSource (IsOutputOf c parameters)
+IsAnswer (Entry e) parameters sound = IsDueOf [] e parameters sound
 IsAnswer (Difference d) parameters sound = λ input answer. ⊥
 
 -- only `check` and `lint` find that something is wrong, and only `get` that a flag is not set
 abbrev pub Finds : Asked → Bool → Type 0
 Finds (Entry (of_entry.Check naming)) sound = Unit {0}
-Finds (Entry of_entry.Lint) sound = Unit {0}
+Finds (Entry (of_entry.Lint scope)) sound = Unit {0}
 Finds (Entry (of_entry.Get g)) sound = Unit {0}
 Finds _ sound = sound ≡ true

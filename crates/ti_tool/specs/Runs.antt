@@ -8,7 +8,7 @@ use Rattle.ti_line.specs.Requests.{Asks, Explains, HasText, IsReadAs}
 use Rattle.ti_line.specs.declared.no_line.NoLine.{NoLine}
 use Rattle.ti_line.specs.declared.no_line.NoLine.TheVariants as no_line
 use Rattle.ti_line.specs.declared.request.Asked.{Asked}
-use Rattle.ti_line.specs.declared.request.Asked.TheVariants.{Capability, Difference, Entry}
+use Rattle.ti_line.specs.declared.request.Asked.TheVariants.{Capability, Difference, Entry, Source}
 use Rattle.ti_line.specs.declared.request.Request.{Request}
 use Rattle.ti_tool.specs.declared.fault.ToolFault.{ToolFault}
 use Rattle.ti_tool.specs.declared.fault.ToolFault.TheVariants as fault
@@ -38,19 +38,20 @@ MayHaveWritten status = (status ≡ 0) ⊎ ((status ≡ 1) ⊎ (status ≡ 5))
 -- faults holds; `unread` says that the reader is what it was, `unwritten` that the writer of the
 -- results is what it was.
 
--- the status is that of the answer, and its line was written
-abbrev pub Ends : Asked → Result Bool ToolFault → Stream → Stream → ℕ → Type 0
-Ends asked answer told0 told1 status =
+-- the status is that of the answer about what was read, and its line was written
+abbrev pub Ends : Asked → List ℕ → Result Bool ToolFault → Stream → Stream → ℕ → Type 0
+Ends asked input answer told0 told1 status =
     (status ≡ status_for answer)
-    × ((line : List ℕ) × IsAnswerLine asked answer line × Told line told0 told1)
+    × ((line : List ℕ) × IsAnswerLine asked input answer line × Told line told0 told1)
 
 -- a request was carried out; after a fault that is no failed write nothing was written
 abbrev pub RanRequest : Asked → List Value → Type 0 → Stream → Stream → Stream → Stream → Stream
     → Stream → ℕ → Type 0
 RanRequest asked parameters unwritten left0 left1 held0 held1 told0 told1 status =
-    (answer : Result Bool ToolFault) × IfOk answer (Finds asked)
-    × DidCheck (IsAnswer asked parameters) (IsEnough asked) left0 left1 held0 held1 answer
-    × IfErr answer (λ e. IsFailedWrite e ⊎ unwritten) × Ends asked answer told0 told1 status
+    (answer : Result Bool ToolFault)
+    × (did : DidCheck (IsAnswer asked parameters) (IsEnough asked) left0 left1 held0 held1 answer)
+    × IfOk answer (Finds asked) × IfErr answer (λ e. IsFailedWrite e ⊎ unwritten)
+    × Ends asked did.2.input answer told0 told1 status
 
 -- a request was carried out, of an entry for the files that are named, if there are any; or two of them
 -- were compared
@@ -63,6 +64,8 @@ RanTask (file ∷ files) (Entry e) parameters unwritten left0 left1 held0 held1 
     held0 held1 told0 told1 status
 RanTask (file ∷ files) (Capability c) parameters unwritten left0 left1 held0 held1 told0 told1 status =
     RanRequest (Capability c) parameters unwritten left0 left1 held0 held1 told0 told1 status
+RanTask (file ∷ files) (Source c) parameters unwritten left0 left1 held0 held1 told0 told1 status =
+    RanRequest (Source c) parameters unwritten left0 left1 held0 held1 told0 told1 status
 RanTask (file ∷ files) (Difference d) parameters unwritten left0 left1 held0 held1 told0 told1 status =
     RanDifference d held0 held1 told0 told1 status
 

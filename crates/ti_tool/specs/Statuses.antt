@@ -11,6 +11,7 @@ status_for (Ok false) = 1
 status_for (Err (fault.Entry refused)) = 3
 status_for (Err (fault.Encode unfit)) = 3
 status_for (Err (fault.Cap refused)) = 4
+status_for (Err (fault.Source refused)) = 4
 status_for (Err fault.NoSuchText) = 4
 status_for (Err fault.NoSuchName) = 4
 status_for (Err (fault.TextTooLong k)) = 4

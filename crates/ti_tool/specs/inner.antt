@@ -2,6 +2,7 @@
 pub mod Differences
 pub mod Dues
 pub mod Item
+pub mod Kept
 pub mod Label
 pub mod Near
 pub mod ReadsInto

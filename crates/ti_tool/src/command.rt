@@ -3,6 +3,7 @@
 ghost use Rattle.std.specs.Prelude.{Ok, IfErr, IfOk, MatchResult, true};
 ghost use Rattle.ti_line.specs.declared.request.Asked.TheVariants as asks;
 ghost use Rattle.ti_tool.specs.Results.{Finds, IsDueIn, IsOutputOf};
+ghost use Rattle.ti_tool.specs.Sources.{IsDueForSource};
 ghost use Rattle.ti_tool.specs.inner.Dues.{FailsAsDue};
 
 pub mod cap;
@@ -23,6 +24,7 @@ use crate::command::lint::findings_of_entry;
 use crate::command::trace::{trace_of_result, trace_result};
 use crate::fault::ToolFault;
 use crate::listing::lines_of;
+use crate::notation::put_text;
 use std::alloc::Allocator;
 use ti_entry::Entry;
 use ti_expand::Value;
@@ -54,24 +56,42 @@ pub fn answer_of_capability<A: Allocator + Copy>(
     }
 }
 
-/// What is due for an entry. Something stands before the first line of each finding of `lint`.
+/// What is due for the capability whose notation is in an input. Its text is put in the place of the notation.
+pub fn answer_of_source<A: Allocator + Copy>(
+    alloc: A,
+    asked: OfCapability,
+    parameters: &[Value<'_>; 9],
+    input: &mut [u8],
+) -> Result<Vec<u8, A>, ToolFault>
+    ensures { let IsDue = IsDueForSource (IsOutputOf asked parameters.now) input.old in
+        MatchResult result (λ v. IsDue (Ok v.items)) (FailsAsDue IsDue) }
+{
+    let len = put_text(input)?;
+    answer_of_capability(alloc, asked, parameters, &input[..len])
+}
+
+/// What is due for an entry that the bytes spell. Something stands before the first line of each finding of `lint`.
 pub fn answer_of_entry<A: Allocator + Copy>(
     alloc: A,
     asked: &OfEntry<'_>,
     parameters: &[Value<'_>; 9],
     before: &[u8],
+    bytes: &[u8],
     entry: &Entry<'_>,
 ) -> Result<Answer<A>, ToolFault>
     ensures finds { IfOk result (λ a. Finds (asks.Entry asked.now) a.sound) }
     ensures due { IfOk result
-        (λ a. IsDueIn before.now asked.now parameters.now a.sound entry.now (Ok a.bytes.items)) }
+        (λ a. IsDueIn before.now asked.now parameters.now a.sound bytes.now entry.now
+        (Ok a.bytes.items)) }
     ensures fault { IfErr result
-        (FailsAsDue (IsDueIn before.now asked.now parameters.now true entry.now)) }
+        (FailsAsDue (IsDueIn before.now asked.now parameters.now true bytes.now entry.now)) }
 {
     let bytes = match asked {
         OfEntry::Show(options) => lines_of(alloc, *options, entry)?,
         OfEntry::Check(naming) => return Ok(verdicts_of(alloc, *naming, entry)?),
-        OfEntry::Lint => return Ok(findings_of_entry(alloc, before, entry)?),
+        OfEntry::Lint(scope) => {
+            return Ok(findings_of_entry(alloc, *scope, before, bytes, entry)?);
+        }
         OfEntry::Expand(expand) => expand_result(alloc, entry, expand, parameters)?,
         OfEntry::Convert(width) => convert_result(alloc, entry, *width)?,
         OfEntry::Get(get) => return get_result(alloc, entry, get),

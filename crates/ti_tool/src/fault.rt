@@ -9,6 +9,7 @@ use thiserror::Error;
 use ti_base::ReadFailed;
 use ti_cap::CapRefused;
 use ti_entry::{EncodeFault, ReadStop, Refused};
+use ti_escape::NotationRefused;
 
 /// Why a call of the program did not write its result, or not all of it.
 #[derive(Clone, Copy, Debug, PartialEq, Eq, Error)]
@@ -22,6 +23,9 @@ pub enum ToolFault {
     /// The bytes are no capability.
     #[error("Cap {0}")]
     Cap(CapRefused),
+    /// The characters are no notation.
+    #[error("Source {0}")]
+    Source(NotationRefused),
     /// The entry has no such text: it is absent or cancelled.
     #[error("NoSuchText")]
     NoSuchText,
@@ -66,6 +70,14 @@ impl From<CapRefused> for ToolFault {
 
     fn from(refused: CapRefused) -> ToolFault {
         ToolFault::Cap(refused)
+    }
+}
+
+impl From<NotationRefused> for ToolFault {
+    ghost from_gives = { λ refused e. e ≡ fault.Source refused };
+
+    fn from(refused: NotationRefused) -> ToolFault {
+        ToolFault::Source(refused)
     }
 }
 

@@ -2,8 +2,9 @@
 //!
 //! A line is put together before any byte of it is written. No memory is taken.
 
-ghost use Rattle.std.specs.Prelude.{◌≡◌, ◌≤◌, ◌+◌, ◌++◌, codes, decimal, flat_map, length, option_map};
-ghost use Rattle.ti_tool.specs.FaultLines.{asked_line, fault_line, line_fault_line, place_line, words_line, no_name_line, shown_name as the_shown_name};
+ghost use Rattle.std.specs.Prelude.{◌≡◌, ◌≤◌, ◌+◌, ◌++◌, codes, decimal, flat_map, length, map};
+ghost use Rattle.ti_tool.specs.FaultLines.{asked_line, fault_line, line_fault_line, place_line, words_line, near_part, no_name_line, shown_name as the_shown_name};
+ghost use Rattle.ti_tool.specs.Near.{most_told};
 
 use crate::fault::ToolFault;
 use arrayvec::ArrayVec;
@@ -12,7 +13,7 @@ use ti_escape::escape_into;
 use ti_line::{Asked, LineFault, OfEntry, WordFault};
 
 /// The most bytes of a line.
-const MOST_BYTES: usize = 128;
+const MOST_BYTES: usize = 256;
 
 /// The most bytes of the words of a line. Its number, ` at ` and a newline come beside them.
 const MOST_WORD_BYTES: usize = 30;
@@ -22,6 +23,9 @@ const MOST_COMMAND_BYTES: usize = 7;
 
 /// The most characters of a name.
 const MOST_SHOWN: usize = 40;
+
+/// The most bytes of the names that are told, each with what stands before it.
+const MOST_NEAR_BYTES: usize = 153;
 
 /// A line on a fault.
 pub type FaultLine = ArrayVec<u8, MOST_BYTES>;
@@ -78,6 +82,7 @@ pub fn fault_line(fault: &ToolFault) -> FaultLine
         ToolFault::Entry(refused) => place_line(b"entry: ", refused.fault.word(), refused.place),
         ToolFault::Encode(unfit) => name_line(b"entry: ", unfit.word()),
         ToolFault::Cap(refused) => place_line(b"capability: ", refused.fault.word(), refused.place),
+        ToolFault::Source(refused) => place_line(b"source: ", refused.fault.word(), refused.place),
         ToolFault::NoSuchText | ToolFault::NoSuchName => line_of(&[b"capability: absent\n"]),
         ToolFault::TextTooLong(parameter) => {
             let number = u128::from(*parameter);
@@ -103,31 +108,41 @@ fn shown_name(name: &str) -> ArrayVec<u8, MOST_SHOWN>
     shown
 }
 
-/// The line if nothing has the name that a command was given.
-fn no_name_line(command: &[u8], name: &str, near: Option<&str>) -> FaultLine
-    requires { length command.now ≤ MOST_COMMAND_BYTES }
-    ensures { result.items ≡ command.now ++ the_shown_name name.now
-        ++ no_name_line (option_map (λ n. n.now) near.entry) }
+/// The part of a line that tells names, each with what stands before it.
+fn near_part(near: &[&str]) -> ArrayVec<u8, MOST_NEAR_BYTES>
+    requires { length (near_part (map (λ name. name.now) near.now)) ≤ MOST_NEAR_BYTES }
+    ensures { result.items ≡ near_part (map (λ name. name.now) near.now) }
 {
-    let shown = shown_name(name);
-    match near {
-        Some(near) => {
-            let near = shown_name(near);
-            line_of(&[
-                command,
-                shown.as_slice(),
-                b": no such capability; nearest: ",
-                near.as_slice(),
-                b"\n",
-            ])
-        }
-        None => line_of(&[command, shown.as_slice(), b": no such capability\n"]),
+    let mut part = ArrayVec::new();
+    let mut mark = b"; nearest: ".as_slice();
+    for name in near {
+        let _ = part.try_extend_from_slice(mark);
+        let _ = part.try_extend_from_slice(shown_name(name).as_slice());
+        mark = b", ";
     }
+    part
 }
 
-/// The line on the fault of a call that was asked for, with the nearest name if one is told.
-pub fn asked_line(asked: &Asked<'_>, near: Option<&str>, fault: &ToolFault) -> FaultLine
-    ensures { result.items ≡ asked_line asked.now (option_map (λ n. n.now) near.entry) fault.now }
+/// The line if nothing has the name that a command was given.
+fn no_name_line(command: &[u8], name: &str, near: &[&str]) -> FaultLine
+    requires command { length command.now ≤ MOST_COMMAND_BYTES }
+    requires few { length near.now ≤ most_told }
+    ensures { result.items ≡ command.now ++ the_shown_name name.now
+        ++ no_name_line (map (λ n. n.now) near.now) }
+{
+    line_of(&[
+        command,
+        shown_name(name).as_slice(),
+        b": no such capability",
+        near_part(near).as_slice(),
+        b"\n",
+    ])
+}
+
+/// The line on the fault of a call that was asked for, with the names that are told in place of the one that it was given.
+pub fn asked_line(asked: &Asked<'_>, near: &[&str], fault: &ToolFault) -> FaultLine
+    requires { length near.now ≤ most_told }
+    ensures { result.items ≡ asked_line asked.now (map (λ n. n.now) near.now) fault.now }
 {
     match (asked, fault) {
         (Asked::Entry(OfEntry::Get(get)), ToolFault::NoSuchText) => {
@@ -166,6 +181,7 @@ pub fn line_fault_line(fault: LineFault) -> FaultLine
 {
     match fault {
         LineFault::BothForms => line_of(&[b"--hex and --escape exclude each other\n"]),
+        LineFault::BothInputs => line_of(&[b"--source and --of exclude each other\n"]),
         LineFault::EntryWithoutName => line_of(&[b"trace: --entry without --of\n"]),
         LineFault::BothWidths => line_of(&[b"convert: both widths\n"]),
         LineFault::ToTerminal => line_of(&[b"convert: not to a terminal without --force\n"]),

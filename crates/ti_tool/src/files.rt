@@ -16,7 +16,7 @@ ghost use Rattle.ti_tool.specs.inner.Files.{EndsFile, RanFound, RanWord};
 use crate::fault::ToolFault;
 use crate::fault_line::{asked_line, fault_line};
 use crate::named::{Named, answer_of_file, file_line};
-use crate::program::told_name;
+use crate::program::told_names;
 use crate::result::write_result;
 use crate::status::status;
 use crate::store::{Files, Found, Store, one_file, read_contents};
@@ -102,7 +102,8 @@ fn outcome_of<A: Allocator + Copy>(
             status: status(&Ok(answer.sound)),
         }),
         Err(fault) => {
-            let line = asked_line(errand.asked, told_name(alloc, errand.asked, &fault), &fault);
+            let near = told_names(alloc, errand.asked, contents, &fault);
+            let line = asked_line(errand.asked, near.as_slice(), &fault);
             fault_outcome(alloc, file.name, line.as_slice(), status(&Err(fault)))
         }
     }
@@ -194,7 +195,7 @@ fn takes_folders(of_entry: &OfEntry<'_>) -> bool
 {
     matches!(
         of_entry,
-        OfEntry::Show(_) | OfEntry::Check(_) | OfEntry::Lint
+        OfEntry::Show(_) | OfEntry::Check(_) | OfEntry::Lint(_)
     )
 }
 

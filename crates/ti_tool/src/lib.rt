@@ -17,6 +17,7 @@ pub mod laws;
 mod listing;
 mod named;
 mod near;
+mod notation;
 mod program;
 mod result;
 mod source;

@@ -4,7 +4,7 @@ ghost use Rattle.std.specs.Prelude.{◌≡◌, ◌⊎◌, ◌++◌, codes, Err, 
 ghost use Rattle.ti_line.specs.declared.request.Asked.TheVariants as asks;
 ghost use Rattle.ti_tool.specs.declared.fault.ToolFault.TheVariants as fault;
 ghost use Rattle.ti_tool.specs.Files.{IsDueOfFile, before_findings as the_before_findings, each_line, file_line as the_file_line, one_of_several as the_one_of_several, result_of_file, shown_file};
-ghost use Rattle.ti_tool.specs.Results.{Finds, IsDueFrom, IsDueIn};
+ghost use Rattle.ti_tool.specs.Results.{Finds, IsDueOf};
 
 use crate::command::{Answer, answer_of_entry};
 use crate::fault::ToolFault;
@@ -139,8 +139,8 @@ pub fn answer_of_file<A: Allocator + Copy>(
     ensures due { IfOk result (λ a. IsDueOfFile file.entry.is_one_of_several asked.now
         parameters.now file.entry.name.now a.sound contents.now a.bytes.items) }
     ensures fault { IfErr result (λ e. (e ≡ fault.Memory)
-        ⊎ IsDueFrom (IsDueIn (the_before_findings file.entry.is_one_of_several file.entry.name.now)
-        asked.now parameters.now true) contents.now (Err e)) }
+        ⊎ IsDueOf (the_before_findings file.entry.is_one_of_several file.entry.name.now)
+        asked.now parameters.now true contents.now (Err e)) }
 {
     let entry = read(contents)?;
     let before = before_findings(alloc, file)?;
@@ -149,6 +149,7 @@ pub fn answer_of_file<A: Allocator + Copy>(
         asked,
         parameters,
         before.as_slice(),
+        contents,
         &entry,
     )?;
     if file.is_one_of_several {

@@ -1,15 +1,22 @@
-//! The name of terminfo(5) that is nearest to a word that is none, for the line on it.
+//! The names that are nearest to a word that nothing has, for the line on it.
 //!
-//! All short and long names are gone over. Each takes memory for the rows of its distance.
+//! They are found one after another. For each, all short and long names and the entry's own are gone over once. A name that
+//! is much longer or shorter than the word is passed over; each other one takes memory for its distance.
 
-ghost use Rattle.std.specs.Prelude.{◌≡◌, ◌≤◌, ◌<◌, ℕ, List, IfOk, IfSome, IfNone};
+ghost use Rattle.std.specs.Prelude.{◌≡◌, ◌≤◌, ◌<◌, ◌↔◌, ℕ, List, Contains, IfOk, IfSome, IfNone, IsTrue, false, length, map, option_map};
+ghost use Rattle.std.specs.Str.{chars};
+ghost use Rattle.ti_entry.specs.Finding.{names_of};
 ghost use Rattle.ti_words.specs.declared.Kind.{Kind};
-ghost use Rattle.ti_tool.specs.Near.{IsName, IsNearest, edits, most_edits};
-ghost use Rattle.ti_tool.specs.inner.Near.{IsFarther, IsFound, IsShortOrLong};
+ghost use Rattle.ti_words.specs.AllNames.{name_in};
+ghost use Rattle.ti_tool.specs.Near.{AreNearest, IsName, IsNext, IsOwnAt, NoneIsNear, edits, most_edits};
+ghost use Rattle.ti_tool.specs.inner.Near.{IsFarther, IsFartherIn, IsFartherOwn, IsFound, IsShortOrLong, IsSought, told_of};
 
 use crate::label::standard_name;
+use arrayvec::ArrayVec;
 use std::alloc::{AllocError, Allocator};
+use std::str;
 use strsim::osa_distance;
+use ti_entry::{Entry, Extended};
 use ti_words::{Kind, NameTable};
 
 /// How many indices there are of the kind that has most.
@@ -18,27 +25,69 @@ const MOST_NAMES: usize = 414;
 /// There is one edit at most for so many bytes of a word.
 const BYTES_OF_AN_EDIT: usize = 3;
 
+/// The most names that are told.
+pub const MOST_TOLD: usize = 3;
+
+/// The names that are told in place of a word.
+pub type NearNames<'a> = ArrayVec<&'a str, MOST_TOLD>;
+
+/// A word, and the names of an entry that are told in its place so far.
+#[derive(Clone, Copy)]
+pub struct Sought<'w, 'n> {
+    word: &'w str,
+    characters: usize,
+    entry: &'w Entry<'n>,
+    told: &'w [&'n str],
+}
+
 /// The nearest name so far, and its distance; with no name it is one more than the most edits.
 #[derive(Clone, Copy)]
-pub struct Found {
+pub struct Found<'n> {
     edits: usize,
-    name: Option<&'static str>,
+    name: Option<&'n str>,
+}
+
+/// Whether a name is told already.
+fn is_told(told: &[&str], name: &str) -> bool
+    ensures { IsTrue result ↔ Contains (map (λ n. n.now) told.now) name.now }
+{
+    told.iter().any(|other| *other == name)
+}
+
+/// How many characters a text has.
+fn characters_of(text: &str) -> usize
+    ensures { result ≡ length (chars text.now) }
+{
+    text.chars().count()
+}
+
+/// Whether the lengths alone leave a name near.
+fn may_be_near(sought: &Sought<'_, '_>, name: &str) -> bool
+    requires { IsSought sought.now }
+    ensures { result ≡ false → most_edits sought.now.word.now < edits sought.now.word.now name.now }
+{
+    let most = sought.word.len() / BYTES_OF_AN_EDIT;
+    characters_of(name).abs_diff(sought.characters) <= most
 }
 
 /// The nearer of what was found and a name.
-fn nearer<A: Allocator + Copy>(
+fn nearer<'n, A: Allocator + Copy>(
     alloc: A,
-    word: &str,
-    found: Found,
-    name: &'static str,
-) -> Result<Found, AllocError>
-    requires named { IsName name.now }
-    requires found { IsFound word.now found }
-    ensures found { IfOk result (IsFound word.now) }
-    ensures less { IfOk result (λ f. f.edits ≤ found.edits) }
-    ensures least { IfOk result (λ f. f.edits ≤ edits word.now name.now) }
+    sought: &Sought<'_, 'n>,
+    found: Found<'n>,
+    name: &'n str,
+) -> Result<Found<'n>, AllocError>
+    requires sought { IsSought sought.now }
+    requires named { IsName sought.now.entry.now name.now }
+    requires found { IsFound sought.now found }
+    ensures found { IfOk result (IsFound sought.now) }
+    ensures less { IfOk result (λ f. f.edits ≤ found.entry.edits) }
+    ensures least { IfOk result (λ f. IsFarther sought.now f.edits name.now) }
 {
-    let edits = osa_distance(alloc, word, name)?;
+    if is_told(sought.told, name) || !may_be_near(sought, name) {
+        return Ok(found);
+    }
+    let edits = osa_distance(alloc, sought.word, name)?;
     Ok(if edits < found.edits {
         Found {
             edits,
@@ -49,61 +98,161 @@ fn nearer<A: Allocator + Copy>(
     })
 }
 
+/// The name of a standard capability.
+fn standard_text<'n>(table: NameTable, kind: Kind, index: usize) -> Option<&'n str>
+    ensures { option_map (λ name. name.now) result ≡ name_in table kind index }
+{
+    standard_name(table, kind, index)
+}
+
 /// What is found among the names of a kind in a table.
-fn nearest_in<A: Allocator + Copy>(
+fn nearest_in<'n, A: Allocator + Copy>(
     alloc: A,
-    word: &str,
-    found: Found,
+    sought: &Sought<'_, 'n>,
+    found: Found<'n>,
     table: NameTable,
     kind: Kind,
-) -> Result<Found, AllocError>
+) -> Result<Found<'n>, AllocError>
+    requires sought { IsSought sought.now }
     requires table { IsShortOrLong table }
-    requires found { IsFound word.now found }
-    ensures found { IfOk result (IsFound word.now) }
-    ensures less { IfOk result (λ f. f.edits ≤ found.edits) }
-    ensures least { IfOk result (λ f. IsFarther word.now f.edits table kind) }
+    requires found { IsFound sought.now found }
+    ensures found { IfOk result (IsFound sought.now) }
+    ensures less { IfOk result (λ f. f.edits ≤ found.entry.edits) }
+    ensures least { IfOk result (λ f. IsFartherIn sought.now f.edits table kind) }
 {
     let mut best = found;
     for index in 0..MOST_NAMES {
-        if let Some(name) = standard_name(table, kind, index) {
-            best = nearer(alloc, word, best, name)?;
+        if let Some(name) = standard_text(table, kind, index) {
+            best = nearer(alloc, sought, best, name)?;
         }
     }
     Ok(best)
 }
 
 /// What is found among all names of a table.
-fn nearest_of<A: Allocator + Copy>(
+fn nearest_of<'n, A: Allocator + Copy>(
     alloc: A,
-    word: &str,
-    found: Found,
+    sought: &Sought<'_, 'n>,
+    found: Found<'n>,
     table: NameTable,
-) -> Result<Found, AllocError>
+) -> Result<Found<'n>, AllocError>
+    requires sought { IsSought sought.now }
     requires table { IsShortOrLong table }
-    requires found { IsFound word.now found }
-    ensures found { IfOk result (IsFound word.now) }
-    ensures less { IfOk result (λ f. f.edits ≤ found.edits) }
-    ensures least { IfOk result (λ f. (kind : Kind) → IsFarther word.now f.edits table kind) }
+    requires found { IsFound sought.now found }
+    ensures found { IfOk result (IsFound sought.now) }
+    ensures less { IfOk result (λ f. f.edits ≤ found.entry.edits) }
+    ensures least { IfOk result (λ f. (kind : Kind) → IsFartherIn sought.now f.edits table kind) }
 {
-    let flags = nearest_in(alloc, word, found, table, Kind::Flag)?;
-    let numbers = nearest_in(alloc, word, flags, table, Kind::Number)?;
-    nearest_in(alloc, word, numbers, table, Kind::Text)
+    let flags = nearest_in(alloc, sought, found, table, Kind::Flag)?;
+    let numbers = nearest_in(alloc, sought, flags, table, Kind::Number)?;
+    nearest_in(alloc, sought, numbers, table, Kind::Text)
 }
 
-/// The name that is nearest to a word, the first of several, or none if none is near.
-pub fn nearest<A: Allocator + Copy>(
+/// How many capabilities of a kind an entry names itself.
+fn own_count(extended: &Extended<'_>, kind: Kind) -> usize
+    ensures { result ≡ length (names_of extended.now kind) }
+{
+    match kind {
+        Kind::Flag => extended.flag_count(),
+        Kind::Number => extended.number_count(),
+        Kind::Text => extended.text_count(),
+    }
+}
+
+/// One of an entry's own names, if it is UTF-8: a word is, so no other is near to one.
+fn own_text<'n>(extended: &Extended<'n>, kind: Kind, index: usize) -> Option<&'n str>
+    ensures some { IfSome result (λ name. IsOwnAt extended.now kind index name.now) }
+    ensures none { IfNone result ((name : List ℕ) → ¬ IsOwnAt extended.now kind index name) }
+{
+    match extended.name(kind, index) {
+        Some(name) => str::from_utf8(name).ok(),
+        None => None,
+    }
+}
+
+/// What is found among an entry's own names of a kind.
+fn nearest_own_in<'n, A: Allocator + Copy>(
     alloc: A,
-    word: &str,
-) -> Result<Option<&'static str>, AllocError>
-    ensures nearest { IfOk result (λ near. IfSome near (λ name. IsNearest word.now name.now)) }
-    ensures none { IfOk result (λ near. IfNone near
-        ((name : List ℕ) → IsName name → most_edits word.now < edits word.now name)) }
+    sought: &Sought<'_, 'n>,
+    found: Found<'n>,
+    kind: Kind,
+) -> Result<Found<'n>, AllocError>
+    requires sought { IsSought sought.now }
+    requires found { IsFound sought.now found }
+    ensures found { IfOk result (IsFound sought.now) }
+    ensures less { IfOk result (λ f. f.edits ≤ found.entry.edits) }
+    ensures least { IfOk result (λ f. IsFartherOwn sought.now f.edits kind) }
+{
+    let extended = sought.entry.extended();
+    let mut best = found;
+    for index in 0..own_count(&extended, kind) {
+        if let Some(name) = own_text(&extended, kind, index) {
+            best = nearer(alloc, sought, best, name)?;
+        }
+    }
+    Ok(best)
+}
+
+/// What is found among all of an entry's own names.
+fn nearest_own<'n, A: Allocator + Copy>(
+    alloc: A,
+    sought: &Sought<'_, 'n>,
+    found: Found<'n>,
+) -> Result<Found<'n>, AllocError>
+    requires sought { IsSought sought.now }
+    requires found { IsFound sought.now found }
+    ensures found { IfOk result (IsFound sought.now) }
+    ensures less { IfOk result (λ f. f.edits ≤ found.entry.edits) }
+    ensures least { IfOk result (λ f. (kind : Kind) → IsFartherOwn sought.now f.edits kind) }
+{
+    let flags = nearest_own_in(alloc, sought, found, Kind::Flag)?;
+    let numbers = nearest_own_in(alloc, sought, flags, Kind::Number)?;
+    nearest_own_in(alloc, sought, numbers, Kind::Text)
+}
+
+/// The name that is nearest to a word of those that are not told, the first of several, or none if none is near.
+fn next_name<'n, A: Allocator + Copy>(
+    alloc: A,
+    sought: &Sought<'_, 'n>,
+) -> Result<Option<&'n str>, AllocError>
+    requires { IsSought sought.now }
+    ensures next { IfOk result (λ next. IfSome next (λ name.
+        IsNext sought.now.entry.now sought.now.word.now (told_of sought.now) name.now)) }
+    ensures none { IfOk result (λ next. IfNone next
+        (NoneIsNear sought.now.entry.now sought.now.word.now (told_of sought.now))) }
 {
     let none = Found {
-        edits: word.len() / BYTES_OF_AN_EDIT + 1,
+        edits: sought.word.len() / BYTES_OF_AN_EDIT + 1,
         name: None,
     };
-    let short = nearest_of(alloc, word, none, NameTable::All)?;
-    let found = nearest_of(alloc, word, short, NameTable::Long)?;
+    let short = nearest_of(alloc, sought, none, NameTable::All)?;
+    let standard = nearest_of(alloc, sought, short, NameTable::Long)?;
+    let found = nearest_own(alloc, sought, standard)?;
     Ok(found.name)
+}
+
+/// The names that are nearest to a word, the nearest first: at most three of those that are near.
+pub fn nearest_names<'n, A: Allocator + Copy>(
+    alloc: A,
+    word: &str,
+    entry: &Entry<'n>,
+) -> Result<NearNames<'n>, AllocError>
+    ensures { IfOk result (λ told.
+        AreNearest entry.now word.now (map (λ name. name.now) told.items)) }
+{
+    let characters = characters_of(word);
+    let mut told = ArrayVec::new();
+    for _ in 0..MOST_TOLD {
+        let sought = Sought {
+            word,
+            characters,
+            entry,
+            told: told.as_slice(),
+        };
+        match next_name(alloc, &sought)? {
+            Some(name) => told.push(name),
+            None => return Ok(told),
+        }
+    }
+    Ok(told)
 }

@@ -1,58 +1,73 @@
 //! The program over its words, a reader and two writers.
 
-ghost use Rattle.std.specs.Prelude.{◌≡◌, ◌≢◌, ◌≤◌, ◌⊎◌, [], option_map};
+ghost use Rattle.std.specs.Prelude.{◌≡◌, ◌≢◌, ◌≤◌, ◌⊎◌, [], map};
 ghost use Rattle.ti_line.specs.CommandLine.{Line, Reads, files_of};
 ghost use Rattle.ti_line.specs.Requests.{texts_of};
-ghost use Rattle.ti_tool.specs.FaultLines.{IsTold};
+ghost use Rattle.ti_tool.specs.FaultLines.{AreTold, AreToldFor};
 ghost use Rattle.ti_tool.specs.Runs.{DidLine, DidNoLine, Ends, EndsWords, MayHaveWritten, RanRequest, RanTask, no_terminals};
 
-use crate::call::carry_out;
+use crate::call::carry_out_keeping;
 use crate::comparison::run_pair;
 use crate::fault::ToolFault;
 use crate::fault_line::{asked_line, fault_line, line_fault_line};
 use crate::files::{Errand, run_files};
-use crate::near::nearest;
+use crate::near::{NearNames, nearest_names};
 use crate::status::status;
 use crate::store::{NoStore, Store};
 use crate::terminals::Terminals;
+use arrayvec::ArrayVec;
 use std::alloc::{AllocError, Allocator, Global};
 use std::io::{Read, Write};
+use ti_entry::{EntryReader, read};
 use ti_expand::Value;
 use ti_line::{Asked, Get, NoLine, OfEntry, Request, Task, TraceOf, read_line};
 use ti_pad::write_out;
 
-/// The name that is told in a line on a fault: the nearest one, if nothing has the name that was given.
-pub(crate) fn told_name<A: Allocator + Copy>(
+/// The names that are told in place of a word: the nearest ones, also of the entry that was read. None if memory is refused.
+fn names_for<'n, A: Allocator + Copy>(alloc: A, word: &str, input: &'n [u8]) -> NearNames<'n>
+    ensures { AreToldFor input.now word.now (map (λ name. name.now) result.items) }
+{
+    match read(input) {
+        Ok(entry) => match nearest_names(alloc, word, &entry) {
+            Ok(near) => near,
+            Err(AllocError) => ArrayVec::new(),
+        },
+        Err(_) => ArrayVec::new(),
+    }
+}
+
+/// The names that are told in a line on a fault, if nothing in what was read has the name that was given.
+pub(crate) fn told_names<'n, A: Allocator + Copy>(
     alloc: A,
     asked: &Asked<'_>,
+    input: &'n [u8],
     fault: &ToolFault,
-) -> Option<&'static str>
-    ensures { IsTold asked.now fault.now (option_map (λ name. name.now) result) }
+) -> NearNames<'n>
+    ensures { AreTold asked.now input.now fault.now (map (λ name. name.now) result.items) }
 {
     match (asked, fault) {
         (Asked::Entry(OfEntry::Get(Get { name, .. })), ToolFault::NoSuchName)
         | (Asked::Entry(OfEntry::Trace(TraceOf { name, .. })), ToolFault::NoSuchName) => {
-            match nearest(alloc, name) {
-                Ok(near) => near,
-                Err(AllocError) => None,
-            }
+            names_for(alloc, name, input)
         }
-        _ => None,
+        _ => ArrayVec::new(),
     }
 }
 
-/// The status of a call's answer, whose fault is told.
+/// The status of a call's answer about what was read, whose fault is told.
 fn finish<A: Allocator + Copy, E: Write>(
     alloc: A,
     errors: &mut E,
     asked: &Asked<'_>,
+    input: &[u8],
     answer: Result<bool, ToolFault>,
 ) -> u8
-    ensures ends { Ends asked.now answer (E.contents errors.old) (E.contents errors.new) result }
+    ensures ends { Ends asked.now input.now answer (E.contents errors.old) (E.contents errors.new) result }
     ensures silent { result ≤ 1 → errors.new ≡ errors.old }
 {
     if let Err(fault) = &answer {
-        let line = asked_line(asked, told_name(alloc, asked, fault), fault);
+        let near = told_names(alloc, asked, input, fault);
+        let line = asked_line(asked, near.as_slice(), fault);
         let _ = write_out(errors, line.as_slice());
     }
     status(&answer)
@@ -73,8 +88,9 @@ fn run_request<A: Allocator + Copy, R: Read, W: Write, E: Write>(
         (E.contents errors.old) (E.contents errors.new) result }
     ensures silent { result ≤ 1 → errors.new ≡ errors.old }
 {
-    let answer = carry_out(alloc, asked, parameters, input, output);
-    finish(alloc, errors, asked, answer)
+    let mut kept = EntryReader::new();
+    let answer = carry_out_keeping(alloc, asked, parameters, &mut kept, input, output);
+    finish(alloc, errors, asked, kept.bytes(), answer)
 }
 
 /// Does what is requested, of standard input or of files.
@@ -108,7 +124,10 @@ fn run_task<S: Store, A: Allocator + Copy, R: Read, W: Write, E: Write>(
         Asked::Difference(pair) if !files.is_empty() => {
             run_pair(store, alloc, pair, input, output, errors)
         }
-        _ => run_request(alloc, asked, parameters, input, output, errors),
+        Asked::Capability(_) => run_request(alloc, asked, parameters, input, output, errors),
+        Asked::Source(_) => run_request(alloc, asked, parameters, input, output, errors),
+        Asked::Entry(_) => run_request(alloc, asked, parameters, input, output, errors),
+        Asked::Difference(_) => run_request(alloc, asked, parameters, input, output, errors),
     }
 }
 
@@ -153,9 +172,9 @@ fn run_no_line<W: Write, E: Write>(why: &NoLine, output: &mut W, errors: &mut E)
 /// |---|---|---|
 /// | 0 | done, or help was requested | none |
 /// | 1 | `check` found a fault, `lint` something wrong, `diff` told something, or the flag that `get` asks for is not set | none |
-/// | 2 | the words are no command line or no parameters, or ask for both widths, or for both forms of an output, or for an entry at a terminal, or to compare no file or more than two | what is wrong and the usage; `parameters: more than nine`; `parameter K: bad word`; `convert: both widths`; `--hex and --escape exclude each other`; `trace: --entry without --of`; `convert: not to a terminal without --force`; `diff: one file or two` |
+/// | 2 | the words are no command line or no parameters, or ask for both widths, or for both forms of an output, or for an entry at a terminal, or to compare no file or more than two | what is wrong and the usage; `parameters: more than nine`; `parameter K: bad word`; `convert: both widths`; `--hex and --escape exclude each other`; `--source and --of exclude each other`; `trace: --entry without --of`; `convert: not to a terminal without --force`; `diff: one file or two` |
 /// | 3 | the entry is refused, or can't be encoded | `entry: WORD at PLACE`; `entry: WORD` |
-/// | 4 | the capability is refused or absent, a text is too long for it, or its padding too much | `capability: WORD at PLACE`; `capability: absent`; `get: NAME: absent`; `trace: NAME: no such text`; `get: NAME: no such capability`, and the same of `trace`; `capability: TextTooLong K`; `capability: TooMuch N` |
+/// | 4 | the capability or its notation is refused, or it is absent, a text is too long for it, or its padding too much | `capability: WORD at PLACE`; `source: WORD at PLACE`; `capability: absent`; `get: NAME: absent`; `trace: NAME: no such text`; `get: NAME: no such capability`, and the same of `trace`; `capability: TextTooLong K`; `capability: TooMuch N` |
 /// | 5 | reading or writing failed | `input: failed`; `output: failed` |
 /// | 6 | out of memory | `memory` |
 ///

@@ -16,6 +16,7 @@ pub fn status(answer: &Result<bool, ToolFault>) -> u8
         Err(ToolFault::Entry(_) | ToolFault::Encode(_)) => 3,
         Err(
             ToolFault::Cap(_)
+            | ToolFault::Source(_)
             | ToolFault::NoSuchText
             | ToolFault::NoSuchName
             | ToolFault::TextTooLong(_)

@@ -1,7 +1,7 @@
-//! Notations that are read: rows that `tic` reads the same way, and faults.
+//! Notations that are read, as `tic` reads them but for the NUL of `\\400` and the digit 8 after octal ones, and faults.
 
 use std::test::Fail;
-use ti_escape::{NotationFault, NotationRefused, ReadingFault, push_reading};
+use ti_escape::{NotationFault, NotationRefused, ReadingFault, push_reading, read_in_place};
 
 /// A notation, and its text.
 const ROWS: [(&[u8], &[u8]); 14] = [
@@ -30,6 +30,10 @@ fn notations_are_read(rt: HostRuntime) -> Result<(), Fail> {
         let mut made = Vec::from_slice(rt.alloc(), b"= ")?;
         push_reading(&mut made, notation)?;
         assert_that!(rt; made.as_slice().strip_prefix(b"= ") == Some(text));
+
+        let mut room = Vec::from_slice(rt.alloc(), notation)?;
+        let len = read_in_place(room.as_mut_slice())?;
+        assert_that!(rt; room.as_slice().get(..len) == Some(text));
     }
     Ok(())
 }
@@ -51,6 +55,9 @@ fn characters_that_are_no_notation_are_refused(rt: HostRuntime) -> Result<(), Fa
         let refused = ReadingFault::Refused(NotationRefused { fault, place });
         assert_that!(rt; push_reading(&mut made, notation) == Err(refused));
         assert_that!(rt; made.as_slice() == b"= ".as_slice());
+
+        let mut room = Vec::from_slice(rt.alloc(), notation)?;
+        assert_that!(rt; read_in_place(room.as_mut_slice()) == Err(NotationRefused { fault, place }));
     }
     Ok(())
 }

@@ -5,7 +5,7 @@ use ti_fixtures::entries::{QUESTION, SMALL, TEXT};
 use ti_fixtures::{Sink, Source};
 
 /// Words, what is read, the status, and the line on the fault.
-const LINES: [(&[&str], &[u8], u8, &[u8]); 15] = [
+const LINES: [(&[&str], &[u8], u8, &[u8]); 17] = [
     (&["ti", "cap", "n:+1"], b"%d", 2, b"parameter 1: bad word\n"),
     (
         &[
@@ -32,6 +32,18 @@ const LINES: [(&[&str], &[u8], u8, &[u8]); 15] = [
         SMALL,
         2,
         b"--hex and --escape exclude each other\n",
+    ),
+    (
+        &["ti", "trace", "--source", "--of", "cup"],
+        SMALL,
+        2,
+        b"--source and --of exclude each other\n",
+    ),
+    (
+        &["ti", "cap", "--source"],
+        b"%d\\E^",
+        4,
+        b"source: CutShort at 4\n",
     ),
     (
         &["ti", "trace", "--entry", "x"],

@@ -40,6 +40,7 @@ const HELP: [(&[&str], &[&str]); 13] = [
     (
         &["ti", "cap", "--help"],
         &[
+            "--source",
             "--hex",
             "--escape",
             "[PARAM]...",
@@ -51,6 +52,7 @@ const HELP: [(&[&str], &[&str]); 13] = [
     (
         &["ti", "trace", "--help"],
         &[
+            "--source",
             "--of <NAME>",
             "--entry <FILE>",
             "--escape",
@@ -75,7 +77,7 @@ const HELP: [(&[&str], &[&str]); 13] = [
     (&["ti", "check", "--help"], &["status 1", "Example"]),
     (
         &["ti", "lint", "--help"],
-        &["Usage: ti lint [FILE]...", "status 1", "Example"],
+        &["Usage: ti lint [OPTIONS] [FILE]...", "--all", "Example"],
     ),
     (
         &["ti", "convert", "--help"],

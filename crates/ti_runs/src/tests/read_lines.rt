@@ -4,7 +4,7 @@ use std::test::Fail;
 use ti_line::{LineFault, NoLine, Request, Task, read_line};
 
 /// Words, what they ask for, and the first two parameters.
-const READ: [(&[&str], &str, &str); 30] = [
+const READ: [(&[&str], &str, &str); 32] = [
     (
         &["ti", "cap", "n:7"],
         "Capability(Cap(Raw))",
@@ -30,6 +30,16 @@ const READ: [(&[&str], &str, &str); 30] = [
         &["ti", "cap", "--", "s:--hex", "n:-5"],
         "Capability(Cap(Raw))",
         "[Text([45, 45, 104, 101, 120]), Num(-5)]",
+    ),
+    (
+        &["ti", "cap", "n:7", "--source"],
+        "Source(Cap(Raw))",
+        "[Num(7), Num(0)]",
+    ),
+    (
+        &["ti", "trace", "--source", "-e"],
+        "Source(Trace(Notation))",
+        "[Num(0), Num(0)]",
     ),
     (
         &["ti", "trace", "n:7"],

@@ -5,7 +5,7 @@ use linked_list_allocator::LocalHeap;
 use std::alloc::Global;
 use std::process::Abort;
 use std::test::Fail;
-use ti_fixtures::entries::{EXTENDED, TEXT};
+use ti_fixtures::entries::{EXTENDED, EXTENDED_BY_TIC, TEXT};
 use ti_fixtures::{Sink, Source, Tally};
 
 /// Runs the program with so much memory for all but `clap`, all of which is given back.
@@ -53,6 +53,15 @@ fn an_expansion_without_memory_says_so(rt: HostRuntime) -> Result<(), Fail> {
         "s:0123456789012345678901234567890123456789012345678901234567890123456789",
     ];
     assert_no_memory(&rt, &end_with(&rt, rt.alloc(), &words, TEXT, 0)?);
+    Ok(())
+}
+
+#[test]
+fn a_missing_name_without_memory_is_told_alone(rt: HostRuntime) -> Result<(), Fail> {
+    let words = ["ti", "get", "Smulxx"];
+    let end = end_with(&rt, rt.alloc(), &words, EXTENDED_BY_TIC, 0)?;
+    assert_that!(rt; end.status == 4);
+    assert_that!(rt; end.errors.as_slice() == b"get: Smulxx: no such capability\n".as_slice());
     Ok(())
 }
 

@@ -2,10 +2,14 @@
 
 use super::ending::{Row, assert_rows};
 use super::rows_of_show::UNCOMMON;
-use ti_fixtures::entries::{EXTENDED, QUESTION, SMALL, TEXT, WIDE_EXTENDED};
+use ti_fixtures::entries::{EXTENDED, EXTENDED_BY_TIC, QUESTION, SMALL, TEXT, WIDE_EXTENDED};
+
+/// The extended entry with an own flag whose name is no UTF-8.
+const UNREADABLE_NAME: &[u8] =
+    b"\x1a\x01\x02\0\x01\0\x01\0\x02\0\x02\0t\0\x01\0P\0\xff\xff\0\0\x07\0\x01\0\0\0\x01\0\x03\0\x0b\0\x01\0\0\0\0\0\x03\0\x1b[3J\0A\xff\0E3\0";
 
 /// Runs by the names of capabilities of each kind.
-const NAMED: [Row; 28] = [
+const NAMED: [Row; 34] = [
     Row {
         words: &["ti", "get", "bw"],
         input: SMALL,
@@ -148,7 +152,7 @@ const NAMED: [Row; 28] = [
         output: b"",
         errors: b"get: nosuch: no such capability\n",
     },
-    // the nearest of all names, if one is near
+    // the nearest of all names, if any is near
     Row {
         words: &["ti", "get", "cuf11"],
         input: SMALL,
@@ -168,7 +172,52 @@ const NAMED: [Row; 28] = [
         input: SMALL,
         status: 4,
         output: b"",
-        errors: b"get: cursor_addre: no such capability; nearest: cursor_address\n",
+        errors: b"get: cursor_addre: no such capability; nearest: cursor_address, cursor_down, cursor_home\n",
+    },
+    // one edit leads to each of these and to cpi, which comes after them
+    Row {
+        words: &["ti", "get", "cpu"],
+        input: SMALL,
+        status: 4,
+        output: b"",
+        errors: b"get: cpu: no such capability; nearest: cps, cup, cuu\n",
+    },
+    // to the long name bell as well, which comes after the short ones
+    Row {
+        words: &["ti", "get", "bel1"],
+        input: SMALL,
+        status: 4,
+        output: b"",
+        errors: b"get: bel1: no such capability; nearest: bel, el1, bell\n",
+    },
+    // the entry's own names are among them, after those of terminfo(5)
+    Row {
+        words: &["ti", "get", "Smulxx"],
+        input: EXTENDED_BY_TIC,
+        status: 4,
+        output: b"",
+        errors: b"get: Smulxx: no such capability; nearest: Smulx\n",
+    },
+    Row {
+        words: &["ti", "get", "smulx"],
+        input: EXTENDED_BY_TIC,
+        status: 4,
+        output: b"",
+        errors: b"get: smulx: no such capability; nearest: smul, Smulx\n",
+    },
+    Row {
+        words: &["ti", "get", "E33"],
+        input: EXTENDED,
+        status: 4,
+        output: b"",
+        errors: b"get: E33: no such capability; nearest: E3\n",
+    },
+    Row {
+        words: &["ti", "get", "AXX"],
+        input: UNREADABLE_NAME,
+        status: 4,
+        output: b"",
+        errors: b"get: AXX: no such capability\n",
     },
     // a label has the kind in front
     Row {

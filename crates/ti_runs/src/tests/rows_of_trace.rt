@@ -1,7 +1,7 @@
 //! Runs of `ti trace`.
 
 use super::ending::{Row, assert_rows};
-use ti_fixtures::entries::{QUESTION, SMALL};
+use ti_fixtures::entries::{EXTENDED_BY_TIC, QUESTION, SMALL};
 use ti_fixtures::traces::{
     CHOICE, CHOICE_OF_3, CHOICE_OF_3_ESCAPED, COLUMN_OF_7, CUT_TEXT, MARKS, NESTED, NESTED_OF_0,
     NOTHING, VARIABLES, VARIABLES_OF_4,
@@ -114,7 +114,7 @@ fn runs_of_trace_end_as_they_should(rt: HostRuntime) {
 }
 
 /// Runs of the command for a capability of an entry.
-const OF_AN_ENTRY: [Row; 10] = [
+const OF_AN_ENTRY: [Row; 11] = [
     Row {
         words: &["ti", "trace", "--of", "cbt", "7"],
         input: COLUMN_ENTRY,
@@ -164,6 +164,13 @@ const OF_AN_ENTRY: [Row; 10] = [
         status: 4,
         output: b"",
         errors: b"trace: cursor_adress: no such capability; nearest: cursor_address\n",
+    },
+    Row {
+        words: &["ti", "trace", "--of", "Smulxx"],
+        input: EXTENDED_BY_TIC,
+        status: 4,
+        output: b"",
+        errors: b"trace: Smulxx: no such capability; nearest: Smulx\n",
     },
     Row {
         words: &["ti", "trace", "--of", "bel"],

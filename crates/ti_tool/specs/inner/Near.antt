@@ -1,32 +1,55 @@
--- The nearest name so far.
-use Rattle.std.specs.Prelude.{◌≡◌, ◌+◌, ◌<◌, ◌≤◌, ℕ, List, IfSome, Option, Some, None}
+-- The nearest name so far, of those that are not told yet.
+use Rattle.std.specs.Prelude.{◌≡◌, ◌+◌, ◌<◌, ◌≤◌, ℕ, List, Contains, Option, Some, None, length, map}
 use Rattle.std.specs.Borrow.{Bor}
+use Rattle.std.specs.Str.{chars}
+use Rattle.ti_entry.specs.Finding.{names_of}
 use Rattle.ti_words.specs.declared.Kind.{Kind}
 use Rattle.ti_words.specs.declared.all_names.NameTable.{NameTable}
 use Rattle.ti_words.specs.declared.all_names.NameTable.TheVariants as tables
 use Rattle.ti_words.specs.AllNames.{name_in}
-use Rattle.ti_tool.specs.Near.{IsName, edits, most_edits, most_names}
+use Rattle.ti_tool.specs.Near.{IsName, IsOwnAt, edits, most_edits, most_names}
 use Rattle.ti_tool.specs.declared.near.Found.{Found}
+use Rattle.ti_tool.specs.declared.near.Sought.{Sought}
 
 abbrev pub IsShortOrLong : NameTable → Type 0
 IsShortOrLong tables.Common = ⊥
 IsShortOrLong tables.All = Unit {0}
 IsShortOrLong tables.Long = Unit {0}
 
+-- its characters are counted
+abbrev pub IsSought : Sought → Type 0
+IsSought s = s.characters ≡ length (chars s.word.now)
+
+abbrev pub told_of : Sought → List (List ℕ)
+told_of s = map (λ name. name.now) s.told.now
+
 -- a name with its distance, or one more than the most edits with no name
-abbrev pub IsFoundName : List ℕ → ℕ → Option (Bor (List ℕ)) → Type 0
-IsFoundName word least None = least ≡ most_edits word + 1
-IsFoundName word least (Some name) =
-    IsName name.now × (least ≡ edits word name.now) × (least ≤ most_edits word)
+abbrev pub IsFoundName : Sought → ℕ → Option (Bor (List ℕ)) → Type 0
+IsFoundName s least None = least ≡ most_edits s.word.now + 1
+IsFoundName s least (Some name) =
+    IsName s.entry.now name.now × (¬ Contains (told_of s) name.now)
+    × (least ≡ edits s.word.now name.now) × (least ≤ most_edits s.word.now)
 
-abbrev pub IsFound : List ℕ → Found → Type 0
-IsFound word found = IsFoundName word found.edits found.name
+abbrev pub IsFound : Sought → Found → Type 0
+IsFound s found = IsFoundName s found.edits found.name
 
--- no name of a kind in a table at an index below an end is nearer than so many edits
-abbrev pub IsFartherBelow : List ℕ → ℕ → NameTable → Kind → ℕ → Type 0
-IsFartherBelow word least table kind end =
-    (index : ℕ) → index < end → IfSome (name_in table kind index) (λ name. least ≤ edits word name)
+-- a name that is not told is no nearer than so many edits
+abbrev pub IsFarther : Sought → ℕ → List ℕ → Type 0
+IsFarther s least name = ¬ Contains (told_of s) name → least ≤ edits s.word.now name
+
+-- nor is any name of a kind in a table at an index below an end
+abbrev pub IsFartherBelow : Sought → ℕ → NameTable → Kind → ℕ → Type 0
+IsFartherBelow s least table kind end =
+    (index : ℕ) (name : List ℕ) → index < end → name_in table kind index ≡ Some name → IsFarther s least name
 
 -- nor at any index
-abbrev pub IsFarther : List ℕ → ℕ → NameTable → Kind → Type 0
-IsFarther word least table kind = IsFartherBelow word least table kind most_names
+abbrev pub IsFartherIn : Sought → ℕ → NameTable → Kind → Type 0
+IsFartherIn s least table kind = IsFartherBelow s least table kind most_names
+
+-- nor any of the entry's own names of a kind
+abbrev pub IsFartherOwnBelow : Sought → ℕ → Kind → ℕ → Type 0
+IsFartherOwnBelow s least kind end =
+    (index : ℕ) (name : List ℕ) → index < end → IsOwnAt s.entry.now.extended kind index name → IsFarther s least name
+
+abbrev pub IsFartherOwn : Sought → ℕ → Kind → Type 0
+IsFartherOwn s least kind = IsFartherOwnBelow s least kind (length (names_of s.entry.now.extended kind))

@@ -6,18 +6,21 @@ ghost use Rattle.ti_tool.specs.Results.{IsLinted};
 use crate::command::Answer;
 use std::alloc::{AllocError, Allocator};
 use ti_entry::Entry;
-use ti_report::push_report;
+use ti_report::{Scope, push_report};
 
-/// The lines on an entry, with something before the first of each finding.
+/// The lines on an entry that the bytes spell, with something before the first of each finding.
 pub fn findings_of_entry<A: Allocator + Copy>(
     alloc: A,
+    scope: Scope,
     before: &[u8],
+    input: &[u8],
     entry: &Entry<'_>,
 ) -> Result<Answer<A>, AllocError>
-    ensures { IfOk result (λ a. IsLinted before.now a.sound entry.now (Ok a.bytes.items)) }
+    ensures { IfOk result (λ a.
+        IsLinted scope before.now a.sound input.now entry.now (Ok a.bytes.items)) }
 {
     let mut bytes = Vec::new(alloc);
-    push_report(alloc, &mut bytes, before, entry)?;
+    push_report(alloc, &mut bytes, scope, before, input, entry)?;
     let sound = bytes.is_empty();
     Ok(Answer { bytes, sound })
 }

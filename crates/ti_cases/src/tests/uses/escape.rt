@@ -1,7 +1,7 @@
 //! A text as terminfo(5) writes it, and read back.
 
 use std::test::Fail;
-use ti_escape::{column, push_notation, push_reading};
+use ti_escape::{column, push_notation, push_reading, read_in_place};
 
 #[test]
 fn a_text_is_shown_and_read(rt: HostRuntime) -> Result<(), Fail> {
@@ -13,5 +13,9 @@ fn a_text_is_shown_and_read(rt: HostRuntime) -> Result<(), Fail> {
     let mut text = Vec::new(rt.alloc());
     push_reading(&mut text, shown.as_slice())?;
     assert!(rt; text.as_slice() == b"\x1b[%p1%dG\r\n".as_slice());
+
+    let mut room = [b'\\', b'E', b'[', b'H'];
+    let len = read_in_place(&mut room)?;
+    assert!(rt; &room[..len] == b"\x1b[H".as_slice());
     Ok(())
 }

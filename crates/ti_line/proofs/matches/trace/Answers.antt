@@ -8,11 +8,11 @@ use Rattle.ti_line.proofs.matches.trace.Goals as goal
 pub returns-in-Some : goal.returns-in-Some
 returns-in-Some c = λ terminal.
     let rows = given_rows c.args.given.now in
-    let Answers : Option (List ℕ) → Type 0 = λ name. IsAnswered terminal (Trace name (flag_in (codes "escape") rows) (is_given_in (codes "FILE") rows) (params_in rows)) c.trace_of.result in
+    let Answers : Option (List ℕ) → Type 0 = λ name. IsAnswered terminal (Trace (flag_in (codes "source") rows) name (flag_in (codes "escape") rows) (is_given_in (codes "FILE") rows) (params_in rows)) c.trace_of.result in
     subst Answers c.in-Some.ensures (c.trace_of.ensures terminal (is_given_in (codes "FILE") rows))
 
 pub returns-in-None : goal.returns-in-None
 returns-in-None c = λ terminal.
     let rows = given_rows c.args.given.now in
-    let Answers : Option (List ℕ) → Type 0 = λ name. IsAnswered terminal (Trace name (flag_in (codes "escape") rows) (is_given_in (codes "FILE") rows) (params_in rows)) c.trace_input.result in
+    let Answers : Option (List ℕ) → Type 0 = λ name. IsAnswered terminal (Trace (flag_in (codes "source") rows) name (flag_in (codes "escape") rows) (is_given_in (codes "FILE") rows) (params_in rows)) c.trace_input.result in
     subst Answers c.in-None.ensures (c.trace_input.ensures terminal)

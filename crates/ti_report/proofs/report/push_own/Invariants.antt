@@ -4,4 +4,4 @@ use Rattle.ti_report.proofs.ReportsLemmas.{GoesOn}
 use Rattle.ti_report.proofs.report.push_own.Given as goal
 
 abbrev pub invariant-texts : goal.invariant-texts
-invariant-texts g l = GoesOn (IsNamedReport l.prefix) l.extended.texts l.initial.out.items l.index l.out.items
+invariant-texts g l = GoesOn (IsNamedReport l.fn.scope l.prefix l.fn.stored) l.extended.texts l.initial.out.items l.index l.out.items

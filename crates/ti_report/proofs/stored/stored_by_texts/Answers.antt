@@ -1,19 +1,15 @@
-use Rattle.std.proofs.Common.{◌↔◌, ℕ, arith, get_or, subst}
-use Rattle.std.specs.Prelude.{Option}
-use Rattle.ti_words.specs.Texts.{AbsentText, TextValue}
-use Rattle.ti_lint.specs.declared.class.Class.{Class}
+use Rattle.std.proofs.Common.{◌↔◌, [], ℕ, get_or, inl, inr, subst}
+use Rattle.ti_words.specs.Texts.{AbsentText}
+use Rattle.ti_words.specs.Value.{NamedPart}
 use Rattle.ti_lint.specs.Variables.{HasVariable}
-use Rattle.ti_report.specs.Reports.{Stores}
-use Rattle.ti_report.proofs.StoredLemmas.{stored_all, stored_more}
+use Rattle.ti_report.specs.Reports.{StoresNamed}
 use Rattle.ti_report.proofs.stored.stored_by_texts.Goals as goal
 
-pub texts-preserved : goal.texts-preserved
-texts-preserved c =
-    let texts = c.args.entry.now.standard.texts in
-    let i = c.texts.index in
-    let P : TextValue → Type 0 = λ t. (which : ℕ) → HasVariable c.stored_at.result which ↔ Stores t c.class_of.result which in
-    let Q : Option Class → Type 0 = λ k. (which : ℕ) → HasVariable c.stored_at.result which ↔ Stores (get_or texts i AbsentText) k which in
-    stored_more texts i c.texts.stored c.stored_at.result c.union-stored.result c.texts.invariant (subst Q c.class_of.ensures.value (subst P c.text.ensures c.stored_at.ensures)) c.union-stored.ensures.exact
-
 pub returns : goal.returns
-returns c = stored_all c.args.entry.now.standard.texts c.texts.index c.texts.stored (omega (arith, c.texts-test.false, c.text_count-index-end.ensures)) c.texts.invariant
+returns c =
+    let P : NamedPart → Type 0 = λ p. (which : ℕ) → HasVariable c.stored_by_own.result which ↔ ((index : ℕ) × StoresNamed (get_or p.texts index ([], AbsentText)) which) in
+    let own = subst P c.extended.ensures c.stored_by_own.ensures in
+    λ which. (
+      λ h. elim ((c.union.ensures.exact which).0 h) [ inl a ↦ inl ((c.stored_by_standard.ensures which).0 a) | inr a ↦ inr ((own which).0 a) ],
+      λ h. elim h [ inl a ↦ (c.union.ensures.exact which).1 (inl ((c.stored_by_standard.ensures which).1 a)) | inr a ↦ (c.union.ensures.exact which).1 (inr ((own which).1 a)) ],
+    )

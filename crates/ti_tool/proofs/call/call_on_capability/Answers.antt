@@ -17,13 +17,13 @@ returns-in_err-result-clause-did g c =
     rw (p.1, p.2)
     (did_fail (IsOutputOf c.args.asked c.args.parameters.now) IsFull _ _ _ c.as_slice.result.now c.in_err-result.field-0.0
     (ReadsInto-empty _ _ _ _ c.as_slice.result.now c.read_up_to.ensures.taken c.new-input.ensures c.as_slice.ensures.value)
-    (at_end _ c.read_up_to.new.bytes.items c.as_slice.result.now c.as_slice.ensures.value c.in_ok-read_up_to.ensures.end)
+    (at_end _ _ c.read_up_to.new.bytes.items c.as_slice.result.now c.as_slice.ensures.value c.in_ok-read_up_to.ensures.end)
     (output_never c.args.asked c.args.parameters.now _) c.in_err-result.ensures)
 
 pub returns-clause-did : goal.returns-clause-did
 returns-clause-did g c =
     did_write (IsOutputOf c.args.asked c.args.parameters.now) IsFull _ _ _ _ c.as_slice.result.now c.in_ok-result.result.items c.as_slice-2.result.now c.write_result.result
     (ReadsInto-empty _ _ _ _ c.as_slice.result.now c.read_up_to.ensures.taken c.new-input.ensures c.as_slice.ensures.value)
-    (at_end _ c.read_up_to.new.bytes.items c.as_slice.result.now c.as_slice.ensures.value c.in_ok-read_up_to.ensures.end)
+    (at_end _ _ c.read_up_to.new.bytes.items c.as_slice.result.now c.as_slice.ensures.value c.in_ok-read_up_to.ensures.end)
     c.in_ok-result.ensures
     c.as_slice-2.ensures.value c.write_result.ensures.written c.write_result.ensures.fails

@@ -5,7 +5,7 @@ use Rattle.ti_tool.proofs.near.nearest_in.Given as goal
 -- the nearest of the names so far
 abbrev pub invariant-loop-index : goal.invariant-loop-index
 invariant-loop-index g l = record {
-  found : IsFound l.word l.best;
+  found : IsFound l.sought l.best;
   less : l.best.edits ≤ l.fn.found.edits;
-  farther : IsFartherBelow l.word l.best.edits l.table l.kind l.index;
+  farther : IsFartherBelow l.sought l.best.edits l.table l.kind l.index;
 }

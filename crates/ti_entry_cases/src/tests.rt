@@ -1,0 +1,35 @@
+//! Entries by hand, as `tic` writes them, and changed, in tables.
+
+use std::process::Abort;
+
+/// Ends the test unless the condition holds. One call for each condition keeps the proofs of the tests short.
+pub fn claim(rt: &impl Abort, holds: bool, condition: &str) {
+    assert!(rt; holds, "it does not hold that {condition}");
+}
+
+/// Claims a condition, which the message names.
+macro_rules! assert_that {
+    ($rt:expr; $condition:expr) => {
+        crate::tests::claim(&$rt, $condition, stringify!($condition))
+    };
+}
+
+mod changed_bytes;
+mod cut_entries;
+mod deciding_bytes;
+mod draft_growths;
+mod draft_memory;
+mod drafts_written;
+mod entries_read;
+mod entries_reopened;
+mod entry_messages;
+mod entry_objects;
+mod entry_refusals;
+mod entry_sources;
+mod entry_views;
+mod extended_parts;
+mod large_entry;
+mod names;
+mod uses;
+mod ways_to_read;
+mod wide_entries;

@@ -1,0 +1,3 @@
+pub mod AsciiLemmas
+pub mod ObjectsLemmas
+pub mod FloatLemmas

@@ -1,0 +1,10 @@
+-- What is there goes on to all objects.
+use Rattle.std.proofs.Common.{◌≡◌, ◌++◌, drop, map}
+use Rattle.serde_json.specs.View.{view}
+use Rattle.ti_json.specs.Objects.{objects_from, standard_text}
+use Rattle.ti_json.proofs.entry.push_texts.Given as goal
+
+abbrev pub invariant-texts : goal.invariant-texts
+invariant-texts l =
+    map view l.out.items ++ objects_from standard_text l.index (drop l.index l.entry.standard.texts)
+    ≡ map view l.initial.out.items ++ objects_from standard_text 0 l.entry.standard.texts

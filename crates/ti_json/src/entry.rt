@@ -1,0 +1,166 @@
+//! The objects on an entry.
+
+ghost use Rattle.std.specs.Prelude.{◌≡◌, ◌++◌, [], get_or, IfOk, OnOk, map};
+ghost use Rattle.serde_json.specs.View.{view};
+ghost use Rattle.ti_entry.specs.Finding.{names_of};
+ghost use Rattle.ti_json.specs.Objects.{entry_text, format_name as the_format_name, objects_from, own_flag, own_number, own_objects, own_text, standard_flag, standard_number, standard_objects, standard_text, whole_objects};
+
+use crate::object::{Subject, push_flag, push_number, push_text};
+use crate::string::text_string;
+use serde_json::{Value, json};
+use std::alloc::{AllocError, Global};
+use ti_entry::{Entry, Extended};
+use ti_words::{Kind, Width};
+
+/// Adds the objects on the flags of terminfo(5).
+fn push_flags(alloc: Global, out: &mut Vec<Value>, entry: &Entry<'_>) -> Result<(), AllocError>
+    ensures { OnOk result (map view out.new.items
+        ≡ map view out.old.items ++ objects_from standard_flag 0 entry.now.standard.flags) }
+{
+    'flags: for index in 0..entry.flag_count() {
+        let subject = Subject::Standard(Kind::Flag, index);
+        push_flag(alloc, out, subject, entry.flag(index))?;
+    }
+    Ok(())
+}
+
+/// Adds the objects on the numbers of terminfo(5).
+fn push_numbers(alloc: Global, out: &mut Vec<Value>, entry: &Entry<'_>) -> Result<(), AllocError>
+    ensures { OnOk result (map view out.new.items
+        ≡ map view out.old.items ++ objects_from standard_number 0 entry.now.standard.numbers) }
+{
+    'numbers: for index in 0..entry.number_count() {
+        let subject = Subject::Standard(Kind::Number, index);
+        push_number(alloc, out, subject, entry.number(index))?;
+    }
+    Ok(())
+}
+
+/// Adds the objects on the texts of terminfo(5).
+fn push_texts(alloc: Global, out: &mut Vec<Value>, entry: &Entry<'_>) -> Result<(), AllocError>
+    ensures { OnOk result (map view out.new.items
+        ≡ map view out.old.items ++ objects_from standard_text 0 entry.now.standard.texts) }
+{
+    'texts: for index in 0..entry.text_count() {
+        let subject = Subject::Standard(Kind::Text, index);
+        push_text(alloc, out, subject, entry.text(index))?;
+    }
+    Ok(())
+}
+
+/// The name of one of the entry's own capabilities.
+fn own_name<'a>(extended: &Extended<'a>, kind: Kind, index: usize) -> &'a [u8]
+    ensures { result.now ≡ get_or (names_of extended.now kind) index [] }
+{
+    match extended.name(kind, index) {
+        Some(name) => name,
+        None => &[],
+    }
+}
+
+/// Adds the objects on the entry's own flags.
+fn push_own_flags(
+    alloc: Global,
+    out: &mut Vec<Value>,
+    extended: &Extended<'_>,
+) -> Result<(), AllocError>
+    ensures { OnOk result (map view out.new.items
+        ≡ map view out.old.items ++ objects_from own_flag 0 extended.now.flags) }
+{
+    'flags: for index in 0..extended.flag_count() {
+        let subject = Subject::Own(Kind::Flag, own_name(extended, Kind::Flag, index));
+        push_flag(alloc, out, subject, extended.flag(index))?;
+    }
+    Ok(())
+}
+
+/// Adds the objects on the entry's own numbers.
+fn push_own_numbers(
+    alloc: Global,
+    out: &mut Vec<Value>,
+    extended: &Extended<'_>,
+) -> Result<(), AllocError>
+    ensures { OnOk result (map view out.new.items
+        ≡ map view out.old.items ++ objects_from own_number 0 extended.now.numbers) }
+{
+    'numbers: for index in 0..extended.number_count() {
+        let subject = Subject::Own(Kind::Number, own_name(extended, Kind::Number, index));
+        push_number(alloc, out, subject, extended.number(index))?;
+    }
+    Ok(())
+}
+
+/// Adds the objects on the entry's own texts.
+fn push_own_texts(
+    alloc: Global,
+    out: &mut Vec<Value>,
+    extended: &Extended<'_>,
+) -> Result<(), AllocError>
+    ensures { OnOk result (map view out.new.items
+        ≡ map view out.old.items ++ objects_from own_text 0 extended.now.texts) }
+{
+    'texts: for index in 0..extended.text_count() {
+        let subject = Subject::Own(Kind::Text, own_name(extended, Kind::Text, index));
+        push_text(alloc, out, subject, extended.text(index))?;
+    }
+    Ok(())
+}
+
+/// The name of a format.
+fn format_name(width: Width) -> &'static str
+    ensures { result.now ≡ the_format_name width }
+{
+    match width {
+        Width::Legacy => "legacy",
+        Width::Wide => "wide",
+    }
+}
+
+/// Adds the objects on the whole entry.
+fn push_whole(alloc: Global, out: &mut Vec<Value>, entry: &Entry<'_>) -> Result<(), AllocError>
+    ensures { OnOk result (map view out.new.items ≡ map view out.old.items ++ whole_objects entry.now) }
+{
+    out.push(json!(in alloc; {"kind": "format", "value": format_name(entry.width())})?)?;
+    let names = text_string(alloc, entry.names())?;
+    out.push(json!(in alloc; {"kind": "names", "value": names})?)?;
+    Ok(())
+}
+
+/// Adds the objects on the capabilities of terminfo(5).
+fn push_standard(alloc: Global, out: &mut Vec<Value>, entry: &Entry<'_>) -> Result<(), AllocError>
+    ensures { OnOk result (map view out.new.items ≡ map view out.old.items ++ standard_objects entry.now.standard) }
+{
+    push_flags(alloc, out, entry)?;
+    push_numbers(alloc, out, entry)?;
+    push_texts(alloc, out, entry)
+}
+
+/// Adds the objects on the entry's own capabilities.
+fn push_own(alloc: Global, out: &mut Vec<Value>, extended: &Extended<'_>) -> Result<(), AllocError>
+    ensures { OnOk result (map view out.new.items ≡ map view out.old.items ++ own_objects extended.now) }
+{
+    push_own_flags(alloc, out, extended)?;
+    push_own_numbers(alloc, out, extended)?;
+    push_own_texts(alloc, out, extended)
+}
+
+/// An entry as JSON: an array of objects, without a space between tokens.
+///
+/// The first has the kind `format`, and the value `legacy` or `wide`; the second the kind `names`. Each of the others is a
+/// capability that is there or cancelled, with `kind` (`flag`, `number` or `text`), `name`, `own` (`true`) if the name is the
+/// entry's own, and `value`; or in place of a value `state`, which is `cancelled`, or `missing` for a flag of an odd byte. A name
+/// may stand twice.
+///
+/// # Errors
+///
+/// Memory was refused.
+pub fn entry_json(alloc: Global, entry: &Entry<'_>) -> Result<Vec<u8>, AllocError>
+    ensures text { IfOk result (λ bytes. bytes.items ≡ entry_text entry.now) }
+{
+    let mut objects = Vec::new(alloc);
+    push_whole(alloc, &mut objects, entry)?;
+    push_standard(alloc, &mut objects, entry)?;
+    push_own(alloc, &mut objects, &entry.extended())?;
+    let array = Value::Array(objects);
+    array.to_vec(alloc)
+}

@@ -1,0 +1,11 @@
+//! Compiled terminfo entries as JSON (RFC 8259).
+//!
+//! [`entry_json`] is an array of objects, one for each line of a listing, in the order of the lines. Names and texts are strings
+//! in the notation of terminfo(5), so they are ASCII whatever bytes an entry has.
+#![tactic(auto)]
+
+mod entry;
+mod object;
+mod string;
+
+pub use entry::entry_json;

@@ -1,0 +1,70 @@
+//! Texts and names as strings.
+
+ghost use Rattle.std.specs.List.{list_all};
+ghost use Rattle.std.specs.Prelude.{◌≡◌, true, IfOk, option_map, string_bytes};
+ghost use Rattle.ti_escape.specs.Laws.{is_printable};
+ghost use Rattle.ti_escape.specs.Notation.{label_notation, notation};
+ghost use Rattle.ti_json.specs.Objects.{standard_label as the_standard_label};
+ghost use Rattle.ti_words.specs.AllNames.{name_in};
+ghost use Rattle.ti_words.specs.declared.all_names.NameTable.{NameTable};
+
+use itoa::Buffer;
+use std::alloc::{AllocError, Global};
+use ti_escape::{push_label, push_notation};
+use ti_words::{Kind, NameTable};
+
+/// The string of printable bytes.
+fn printable(bytes: Vec<u8>) -> String
+    requires { list_all is_printable bytes.items ≡ true }
+    ensures { string_bytes result ≡ bytes.items }
+{
+    match String::from_utf8(bytes) {
+        Ok(string) => string,
+        Err(_) => unreachable!(),
+    }
+}
+
+/// A text in the notation of terminfo(5).
+pub fn text_string(alloc: Global, text: &[u8]) -> Result<String, AllocError>
+    ensures { IfOk result (λ string. string_bytes string ≡ notation text.now) }
+{
+    let mut bytes = Vec::new(alloc);
+    push_notation(&mut bytes, text)?;
+    Ok(printable(bytes))
+}
+
+/// A name of the entry's own, in the notation and without a space.
+pub fn label_string(alloc: Global, name: &[u8]) -> Result<String, AllocError>
+    ensures { IfOk result (λ string. string_bytes string ≡ label_notation name.now) }
+{
+    let mut bytes = Vec::new(alloc);
+    push_label(&mut bytes, name)?;
+    Ok(printable(bytes))
+}
+
+/// The name of a standard capability.
+fn standard_name(kind: Kind, index: usize) -> Option<&'static str>
+    ensures { option_map (λ name. name.now) result ≡ name_in NameTable.All kind index }
+{
+    let table = NameTable::All;
+    match kind {
+        Kind::Flag => table.flag_name(index),
+        Kind::Number => table.number_name(index),
+        Kind::Text => table.text_name(index),
+    }
+}
+
+/// What a standard capability is called: its name, or `#` and its index if it has none.
+pub fn standard_label(alloc: Global, kind: Kind, index: usize) -> Result<String, AllocError>
+    ensures { IfOk result (λ string. string_bytes string ≡ the_standard_label kind index) }
+{
+    match standard_name(kind, index) {
+        Some(name) => String::from_str(alloc, name),
+        None => {
+            let mut digits = Buffer::new();
+            let mut label = String::from_str(alloc, "#")?;
+            label.push_str(digits.format(index))?;
+            Ok(label)
+        }
+    }
+}

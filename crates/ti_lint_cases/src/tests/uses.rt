@@ -1,0 +1,4 @@
+//! What a caller writes: for each library crate a first program, which its README shows.
+
+mod lint;
+mod report;

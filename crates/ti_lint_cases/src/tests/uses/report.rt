@@ -1,0 +1,27 @@
+//! What is wrong with an entry that was taken over from termcap.
+
+use std::test::Fail;
+use ti_entry::read;
+use ti_report::{Scope, push_report};
+
+/// An entry called `t` with `cup` as termcap writes `cm`.
+const FILE: &[u8] = b"\x1a\x01\x02\0\0\0\0\0\x0b\0\x09\0t\0\
+    \xff\xff\xff\xff\xff\xff\xff\xff\xff\xff\xff\xff\xff\xff\xff\xff\xff\xff\xff\xff\0\0\x1b=%+ %+ \0";
+
+#[test]
+fn an_entry_of_termcap(rt: HostRuntime) -> Result<(), Fail> {
+    let entry = read(FILE)?;
+    let mut lines = Vec::new(rt.alloc());
+    push_report(rt.alloc(), &mut lines, Scope::Mistakes, b"", FILE, &entry)?;
+    let wanted = br"cup
+  \E=%+ %+\s
+     ^  ^
+  termcap-parameter: it pops a value, and the text has no %p
+cup
+  \E=%+ %+\s
+        ^
+  stack-residue: on some path the value that it pushes is left
+";
+    assert!(rt; lines.as_slice() == wanted.as_slice());
+    Ok(())
+}

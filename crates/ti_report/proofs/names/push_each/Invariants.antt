@@ -1,0 +1,13 @@
+-- Those that were seen are the names so far, and what is written goes on to the lines on all.
+use Rattle.std.proofs.Common.{take}
+use Rattle.ti_report.specs.Names.{IsNameReport}
+use Rattle.ti_report.specs.inner.Lent.{texts_lent}
+use Rattle.ti_report.proofs.ReportsLemmas.{GoesOn}
+use Rattle.ti_report.proofs.RepeatedLemmas.{AreSeen}
+use Rattle.ti_report.proofs.names.push_each.Given as goal
+
+abbrev pub invariant-names : goal.invariant-names
+invariant-names g l = record {
+  seen : AreSeen (take l.name-index (texts_lent l.names)) l.seen.keys;
+  goes : GoesOn (IsNameReport l.prefix (texts_lent l.names)) (texts_lent l.names) l.initial.out.items l.name-index l.out.items;
+}

@@ -1,0 +1,97 @@
+-- Keys of which one sends the first part of what another one sends.
+use Rattle.std.specs.Prelude.{◌≡◌, ◌&&◌, ℕ, Bool, true, false, Option, Some, None, List, [], ◌∷◌, ◌++◌, find, if◌then◌else◌, length, nat_eq, nat_lt}
+use Rattle.std.specs.Str.{bytes_eq}
+use Rattle.std.specs.Cmp.Lexicographic.{slice_cmp}
+use Rattle.std.specs.List.{starts_with}
+use Rattle.std.specs.List.Sorted.{IsPermutation, IsSorted}
+use Rattle.std.specs.Ordering.{nat_cmp, ordering_then}
+use Rattle.std.specs.declared.cmp.Ordering.{Ordering}
+use Rattle.ti_escape.specs.Notation.{label_notation}
+use Rattle.ti_words.specs.Texts.{TextValue, AbsentText, CancelledText, TextOf}
+use Rattle.ti_words.specs.Value.{EntryValue}
+use Rattle.ti_lint.specs.declared.class.Class.{Class}
+use Rattle.ti_lint.specs.declared.class.Class.TheVariants as classes
+use Rattle.ti_lint.specs.Classes.{class_at}
+use Rattle.ti_lint.specs.OwnClasses.{own_class}
+use Rattle.ti_lint.specs.declared.scope.Scope.{Scope}
+use Rattle.ti_lint.specs.declared.scope.Scope.TheVariants as scopes
+use Rattle.ti_report.specs.declared.wrong.Wrong.{Wrong}
+use Rattle.ti_report.specs.declared.wrong.Wrong.TheVariants as wrongs
+use Rattle.ti_report.specs.Blocks.{head, indented}
+use Rattle.ti_report.specs.Lines.{AreReports}
+use Rattle.ti_report.specs.Pairs.{standard_label}
+use Rattle.ti_report.specs.Sentences.{sentence}
+
+-- what a key sends, and its name
+abbrev pub Key : Type 0
+Key = List ℕ × List ℕ
+
+abbrev pub is_of_key : Option Class → Bool
+is_of_key (Some classes.Key) = true
+is_of_key class = false
+
+-- a text that is there, if it is of a key
+abbrev pub keys_if : Option Class → List ℕ → TextValue → List Key
+keys_if class name AbsentText = []
+keys_if class name CancelledText = []
+keys_if class name (TextOf text) = if is_of_key class then (text, name) ∷ [] else []
+
+-- the keys of terminfo(5), and those with names of the entry's own
+abbrev pub IsStandardKey : ℕ → TextValue → List Key → Type 0
+IsStandardKey index text keys = keys ≡ keys_if (class_at index) (standard_label index) text
+
+abbrev pub IsOwnKey : ℕ → List ℕ × TextValue → List Key → Type 0
+IsOwnKey index (name, text) keys = keys ≡ keys_if (own_class name) name text
+
+abbrev pub AreKeys : EntryValue → List Key → Type 0
+AreKeys v keys =
+    (one : List Key) × (more : List Key) × AreReports IsStandardKey 0 v.standard.texts one
+    × AreReports IsOwnKey 0 v.extended.texts more × (keys ≡ one ++ more)
+
+-- the order of the bytes that they send, and then of their names
+abbrev pub key_cmp : Key → Key → Ordering
+key_cmp (text, name) (other, its) = ordering_then (slice_cmp nat_cmp text other) (slice_cmp nat_cmp name its)
+
+-- the one is the first part of the other, and shorter
+abbrev pub is_first_part : List ℕ → List ℕ → Bool
+is_first_part text other = nat_lt (length text) (length other) && starts_with nat_eq other text
+
+abbrev pub two_lines : List ℕ → Key → Key → Wrong → List ℕ
+two_lines prefix (text, name) (other, its) wrong =
+    head prefix (label_notation name) text ++ (head [] (label_notation its) other ++ indented (sentence wrong))
+
+-- of some keys, the first that sends a text, and the first that sends more and starts with it
+abbrev pub alike_key : List ℕ → List Key → Option Key
+alike_key text keys = find (λ other. bytes_eq text other.0) keys
+
+abbrev pub longer_key : List ℕ → List Key → Option Key
+longer_key text keys = find (λ other. is_first_part text other.0) keys
+
+-- keys that send the same are told only if all is
+abbrev pub alike_lines : Scope → List ℕ → Key → Key → List ℕ
+alike_lines scopes.Mistakes prefix one other = []
+alike_lines scopes.All prefix one other = two_lines prefix one other wrongs.AlikeKeys
+
+abbrev pub longer_lines : List ℕ → Key → Option Key → List ℕ
+longer_lines prefix one None = []
+longer_lines prefix one (Some other) = two_lines prefix one other wrongs.KeyPrefix
+
+-- a key beside the next one that sends the same, or else beside the first of all keys that sends more
+abbrev pub lines_on_key : Scope → List ℕ → List Key → Key → Option Key → List ℕ
+lines_on_key scope prefix all one (Some other) = alike_lines scope prefix one other
+lines_on_key scope prefix all one None = longer_lines prefix one (longer_key one.0 all)
+
+-- the lines on some of all keys
+abbrev pub lines_on_keys : Scope → List ℕ → List Key → List Key → List ℕ
+lines_on_keys scope prefix all [] = []
+lines_on_keys scope prefix all (one ∷ rest) =
+    lines_on_key scope prefix all one (alike_key one.0 rest) ++ lines_on_keys scope prefix all rest
+
+-- The keys in order. What one sends is told, once, exactly if it is the first part of what another one sends.
+pub record AreKeyLines (scope : Scope) (prefix : List ℕ) (v : EntryValue) (lines : List ℕ) : Type 0 where
+  pub keys : List Key
+  pub are_keys : AreKeys v keys
+  pub row : List Key
+  pub same : IsPermutation keys row
+  pub ascends : IsSorted key_cmp row
+  pub lines_are : lines ≡ lines_on_keys scope prefix row row

@@ -1,0 +1,116 @@
+//! The names of an entry's own: each should stand once, and be none of terminfo(5).
+
+ghost use Rattle.std.specs.Prelude.{◌≡◌, ◌++◌, [], IfOk, OnOk, get_or, length};
+ghost use Rattle.ti_entry.specs.Finding.{names_of as the_names_of};
+ghost use Rattle.ti_report.specs.Lines.{Adds, AreReports};
+ghost use Rattle.ti_report.specs.Names.{AreNameLines, IsNameReport, standard_name_lines};
+ghost use Rattle.ti_report.specs.inner.Lent.{texts_lent};
+ghost use Rattle.ti_words.specs.Spelling.{part_names};
+
+use crate::block::push_titled;
+use crate::wrong::Wrong;
+use std::alloc::{AllocError, Allocator};
+use std::collections::BTreeSet;
+use ti_entry::Extended;
+use ti_words::{Kind, NameTable};
+
+/// The name of the entry's own that a capability of a kind has at an index.
+pub fn name_of<'a>(extended: &Extended<'a>, kind: Kind, index: usize) -> &'a [u8]
+    ensures { result.now ≡ get_or (the_names_of extended.now kind) index [] }
+{
+    match extended.name(kind, index) {
+        Some(name) => name,
+        None => &[],
+    }
+}
+
+/// How many capabilities of a kind have names of the entry's own.
+fn count_of(extended: &Extended<'_>, kind: Kind) -> usize
+    ensures { result ≡ length (the_names_of extended.now kind) }
+{
+    match kind {
+        Kind::Flag => extended.flag_count(),
+        Kind::Number => extended.number_count(),
+        Kind::Text => extended.text_count(),
+    }
+}
+
+/// Adds the names of a kind.
+fn add_names<'a, A: Allocator>(
+    names: &mut Vec<&'a [u8], A>,
+    extended: &Extended<'a>,
+    kind: Kind,
+) -> Result<(), AllocError>
+    ensures { OnOk result (texts_lent names.new.items
+        ≡ texts_lent names.old.items ++ the_names_of extended.now kind) }
+{
+    'names: for index in 0..count_of(extended, kind) {
+        names.push(name_of(extended, kind, index))?;
+    }
+    Ok(())
+}
+
+/// The names of flags, then of numbers, then of texts.
+fn names_of<'a, A: Allocator>(
+    alloc: A,
+    extended: &Extended<'a>,
+) -> Result<Vec<&'a [u8], A>, AllocError>
+    ensures { IfOk result (λ names. texts_lent names.items ≡ part_names extended.now) }
+{
+    let mut names = Vec::new(alloc);
+    add_names(&mut names, extended, Kind::Flag)?;
+    add_names(&mut names, extended, Kind::Number)?;
+    add_names(&mut names, extended, Kind::Text)?;
+    Ok(names)
+}
+
+/// Writes the lines on a name that stands the first time.
+fn push_new<A: Allocator>(
+    out: &mut Vec<u8, A>,
+    prefix: &[u8],
+    name: &[u8],
+) -> Result<(), AllocError>
+    ensures { OnOk result
+        (out.new.items ≡ out.old.items ++ standard_name_lines prefix.now name.now) }
+{
+    if NameTable::All.find_bytes(name).is_some() {
+        return push_titled(out, prefix, name, Wrong::StandardName);
+    }
+    Ok(())
+}
+
+/// Writes the lines on names.
+fn push_each<A: Allocator + Copy>(
+    alloc: A,
+    out: &mut Vec<u8, A>,
+    prefix: &[u8],
+    names: &[&[u8]],
+) -> Result<(), AllocError>
+    ensures { OnOk result (Adds (AreReports (IsNameReport prefix.now (texts_lent names.now)) 0
+        (texts_lent names.now)) out.old.items out.new.items) }
+{
+    let mut seen = BTreeSet::new(alloc);
+    'names: for name in names {
+        if seen.insert(*name)? {
+            push_new(out, prefix, name)?;
+        } else {
+            push_titled(out, prefix, name, Wrong::RepeatedName)?;
+        }
+    }
+    Ok(())
+}
+
+/// Writes the lines on the names of an entry's own.
+pub fn push_names<A: Allocator + Copy>(
+    alloc: A,
+    out: &mut Vec<u8, A>,
+    prefix: &[u8],
+    extended: &Extended<'_>,
+) -> Result<(), AllocError>
+    ensures { OnOk result (Adds (AreNameLines prefix.now extended.now)
+        out.old.items out.new.items) }
+{
+    let names = names_of(alloc, extended)?;
+    push_each(alloc, out, prefix, names.as_slice())?;
+    Ok(())
+}

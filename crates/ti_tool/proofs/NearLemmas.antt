@@ -1,0 +1,141 @@
+-- The nearest of the names that are not told yet.
+use Rattle.std.proofs.Common.{◌≡◌, ◌≤◌, ◌<◌, ◌+◌, ◌∙◌, ℕ, List, [], ◌∷◌, ◌++◌, ◌≢◌, ◌↔◌, Bool, true, false, IsTrue, MatchBool, inl, inr, length, map, take, get_or, ap, arith, below_more, length-append, refl, subst, sym}
+use Rattle.std.specs.Borrow.{Bor}
+use Rattle.std.specs.Prelude.{Contains, Option, Some, None, IfSome, IfNone, Result, Ok, Err, IfOk}
+use Rattle.std.specs.List.{AllWithin, HoldsAt}
+use Rattle.std.proofs.lemmas.List.{get_or-map, get_or_append_left, length-map, map-append, take-append-le}
+use Rattle.std.proofs.Math.Seq.{get_or-append_seam, take-append_seam}
+use Rattle.std.proofs.lemmas.Bool.{false≢true}
+use Rattle.std.proofs.lemmas.Option.{slice_get_within}
+use Rattle.ti_words.specs.declared.Kind.{Kind}
+use Rattle.ti_words.specs.declared.Kind.TheVariants as kinds
+use Rattle.ti_words.specs.declared.all_names.NameTable.{NameTable}
+use Rattle.ti_words.specs.declared.all_names.NameTable.TheVariants.{All, Long}
+use Rattle.ti_words.specs.Value.{EntryValue, NamedPart}
+use Rattle.ti_tool.specs.Near.{AreNearest, IsName, IsNext, IsOwnAt, NoneIsNear, most_told}
+use Rattle.ti_tool.specs.inner.Near.{IsFarther, IsFartherIn, IsFartherOwn, IsFartherOwnBelow, IsFound, IsFoundName, told_of}
+use Rattle.ti_tool.specs.declared.near.Found.{Found}
+use Rattle.ti_tool.specs.declared.near.Sought.{Sought}
+
+-- ---- the names that are told
+
+-- a name is found by comparing it with each
+pub told_from_cases : (r : Bool) (told : List (Bor (List ℕ))) (name : List ℕ) → MatchBool r ((k : ℕ) × (k < length told) × HoldsAt (λ other. other.now ≡ name) told k) (AllWithin (λ other. other.now ≢ name) told 0 (length told))
+    → IsTrue r ↔ Contains (map (λ n. n.now) told) name
+told_from_cases true [] name (k, within, held) = absurd (omega (arith, within))
+told_from_cases true (x ∷ xs) name (k, within, held) =
+    (λ _. (k, omega (arith, within, length-map (x ∷ xs) (λ n. n.now)), get_or-map (λ n. n.now) (x ∷ xs) k x name within ∙ held x), λ _. refl)
+told_from_cases false [] name none = (λ t. absurd (false≢true t), λ w. absurd (omega (arith, w.1)))
+told_from_cases false (x ∷ xs) name none = (
+  λ t. absurd (false≢true t),
+  λ w. let within : w.0 < length (x ∷ xs) = omega (arith, w.1, length-map (x ∷ xs) (λ n. n.now)) in
+      absurd (none w.0 x (omega arith) within (sym (get_or-map (λ n. n.now) (x ∷ xs) w.0 x name within) ∙ w.2)),
+)
+
+-- ---- the next name
+
+-- no name that is not told is nearer, if none of terminfo(5)'s is and none of the entry's own
+farther : (s : Sought) (least : ℕ) → ((kind : Kind) → IsFartherIn s least All kind) → ((kind : Kind) → IsFartherIn s least Long kind) → ((kind : Kind) → IsFartherOwn s least kind)
+    → (other : List ℕ) → IsName s.entry.now other → IsFarther s least other
+farther s least short long own other (kind, index, inl (within, inl is)) = short kind index other within is
+farther s least short long own other (kind, index, inl (within, inr is)) = long kind index other within is
+farther s least short long own other (kind, index, inr (is, text)) = own kind index other (slice_get_within _ index other is) (is, text)
+
+some_same : (a b : List ℕ) → Some a ≡ Some b → a ≡ b
+some_same a b is = cc
+
+of_kinds : (P : Kind → Type 0) → P kinds.Flag → P kinds.Number → P kinds.Text → (kind : Kind) → P kind
+of_kinds P flag number text kinds.Flag = flag
+of_kinds P flag number text kinds.Number = number
+of_kinds P flag number text kinds.Text = text
+
+farther_in : (s : Sought) (less more : ℕ) (table : NameTable) (kind : Kind) → less ≤ more → IsFartherIn s more table kind → IsFartherIn s less table kind
+farther_in s less more table kind below far index name within is new = omega (arith, below, far index name within is new)
+
+-- what is found among the names of each kind, one kind after the other
+pub farther_of : {E : Type 0} (s : Sought) (table : NameTable) (flags numbers : Found) (r : Result Found E) → IsFartherIn s flags.edits table kinds.Flag → numbers.edits ≤ flags.edits → IsFartherIn s numbers.edits table kinds.Number
+    → IfOk r (λ f. f.edits ≤ numbers.edits) → IfOk r (λ f. IsFartherIn s f.edits table kinds.Text) → IfOk r (λ f. (kind : Kind) → IsFartherIn s f.edits table kind)
+farther_of s table flags numbers (Ok f) of_flags less of_numbers least of_texts =
+    of_kinds (λ kind. IsFartherIn s f.edits table kind) (farther_in s f.edits flags.edits table kinds.Flag (omega (arith, less, least)) of_flags) (farther_in s f.edits numbers.edits table kinds.Number least of_numbers) of_texts
+farther_of s table flags numbers (Err e) of_flags less of_numbers least of_texts = tt
+
+own_more : (s : Sought) (best new : ℕ) (kind : Kind) (i : ℕ) → new ≤ best → IsFartherOwnBelow s best kind i → ((name : List ℕ) → IsOwnAt s.entry.now.extended kind i name → IsFarther s new name)
+    → IsFartherOwnBelow s new kind (i + 1)
+own_more s best new kind i less below at index name within own =
+    below_more (λ k. (other : List ℕ) → IsOwnAt s.entry.now.extended kind k other → IsFarther s new other) i (λ k h other is untold. omega (arith, less, below k other h is untold)) at index within name own
+
+own_same : (part : NamedPart) (kind : Kind) (i : ℕ) (name other : List ℕ) → IsOwnAt part kind i name → IsOwnAt part kind i other → name ≡ other
+own_same part kind i name other (is, text) (also, other_text) = some_same name other (sym is ∙ also)
+
+-- one more of an entry's own names is no nearer
+pub own_next : (s : Sought) (part : NamedPart) (best new : ℕ) (kind : Kind) (i : ℕ) (name : List ℕ) → part ≡ s.entry.now.extended → IsOwnAt part kind i name → new ≤ best → IsFarther s new name
+    → IsFartherOwnBelow s best kind i → IsFartherOwnBelow s new kind (i + 1)
+own_next s part best new kind i name same own less far below =
+    let IsOwn : NamedPart → Type 0 = λ x. IsOwnAt x kind i name in
+    own_more s best new kind i less below (λ other is. subst (IsFarther s new) (own_same s.entry.now.extended kind i name other (subst IsOwn same own) is) far)
+
+-- nor is one that there is not
+pub own_none : (s : Sought) (part : NamedPart) (best : ℕ) (kind : Kind) (i : ℕ) → part ≡ s.entry.now.extended → ((name : List ℕ) → ¬ IsOwnAt part kind i name)
+    → IsFartherOwnBelow s best kind i → IsFartherOwnBelow s best kind (i + 1)
+own_none s part best kind i same none below =
+    own_more s best best kind i (omega arith) below (λ other is. let IsOwn : NamedPart → Type 0 = λ x. IsOwnAt x kind i other in absurd (none other (subst IsOwn (sym same) is)))
+
+-- what is found among all names is told next
+next_of : (s : Sought) (least : ℕ) (found : Option (Bor (List ℕ))) → IsFoundName s least found
+    → ((other : List ℕ) → IsName s.entry.now other → IsFarther s least other)
+    → IfSome found (λ name. IsNext s.entry.now s.word.now (told_of s) name.now) × IfNone found (NoneIsNear s.entry.now s.word.now (told_of s))
+next_of s least (Some name) found all = (
+  record {
+    named = found.0;
+    new = found.1;
+    near = omega (arith, found.2, found.3);
+    least = λ other named new. omega (arith, found.2, all other named new);
+  },
+  tt,
+)
+next_of s least None found all = (tt, λ other named new. omega (arith, found, all other named new))
+
+pub found_next : (s : Sought) (short standard f : Found) → IsFound s f → standard.edits ≤ short.edits → f.edits ≤ standard.edits
+    → ((kind : Kind) → IsFartherIn s short.edits All kind) → ((kind : Kind) → IsFartherIn s standard.edits Long kind) → ((kind : Kind) → IsFartherOwn s f.edits kind)
+    → IfSome f.name (λ name. IsNext s.entry.now s.word.now (told_of s) name.now) × IfNone f.name (NoneIsNear s.entry.now s.word.now (told_of s))
+found_next s short standard f found below least of_short of_long own =
+    next_of s f.edits f.name found (farther s f.edits (λ kind. farther_in s f.edits short.edits All kind (omega (arith, below, least)) (of_short kind)) (λ kind. farther_in s f.edits standard.edits Long kind least (of_long kind)) own)
+
+-- each name that is told is the next one after those before it
+abbrev pub EachIsNext : EntryValue → List ℕ → List (List ℕ) → Type 0
+EachIsNext v word told = (index : ℕ) → index < length told → IsNext v word (take index told) (get_or told index [])
+
+next_as : (v : EntryValue) (word : List ℕ) (told others : List (List ℕ)) (name other : List ℕ) → others ≡ told → other ≡ name → IsNext v word told name → IsNext v word others other
+next_as v word told others name other same is next =
+    let P : List (List ℕ) → Type 0 = λ x. IsNext v word x other in
+    let Q : List ℕ → Type 0 = λ x. IsNext v word told x in
+    subst P (sym same) (subst Q (sym is) next)
+
+-- and so is one more
+pub next_more : (v : EntryValue) (word : List ℕ) (told : List (List ℕ)) (name : List ℕ) → EachIsNext v word told → IsNext v word told name → EachIsNext v word (told ++ name ∷ [])
+next_more v word told name each next =
+    let IsNextAt : ℕ → Type 0 = λ index. IsNext v word (take index (told ++ name ∷ [])) (get_or (told ++ name ∷ []) index []) in
+    let all = below_more IsNextAt (length told)
+    (λ index within. next_as v word _ _ _ _ (take-append-le index told (name ∷ []) (omega (arith, within))) (get_or_append_left told (name ∷ []) [] index within) (each index within))
+    (next_as v word _ _ _ _ (take-append_seam told (name ∷ [])) (get_or-append_seam told name [] []) next) in
+    λ index within. all index (omega (arith, within, length-append told (name ∷ [])))
+
+abbrev names_in : List (Bor (List ℕ)) → List (List ℕ)
+names_in told = map (λ n. n.now) told
+
+-- the next name is told
+pub next_told : (v : EntryValue) (word : List ℕ) (told items more : List (Bor (List ℕ))) (found : Option (Bor (List ℕ))) (name : Bor (List ℕ)) → found ≡ Some name
+    → IfSome found (λ n. IsNext v word (names_in told) n.now) → told ≡ items → more ≡ items ++ name ∷ [] → EachIsNext v word (names_in items) → EachIsNext v word (names_in more)
+next_told v word told items more found name is next same pushed each =
+    let IsNextOf : Option (Bor (List ℕ)) → Type 0 = λ x. IfSome x (λ n. IsNext v word (names_in told) n.now) in
+    let IsNextAfter : List (Bor (List ℕ)) → Type 0 = λ x. IsNext v word (names_in x) name.now in
+    let AreEach : List (List ℕ) → Type 0 = λ x. EachIsNext v word x in
+    subst AreEach (sym (ap names_in pushed ∙ map-append (λ n. n.now) items (name ∷ []))) (next_more v word (names_in items) name.now each (subst IsNextAfter same (subst IsNextOf is next)))
+
+-- all that are near are told
+pub nearest_done : (v : EntryValue) (word : List ℕ) (told items : List (Bor (List ℕ))) (found : Option (Bor (List ℕ))) → found ≡ None → IfNone found (NoneIsNear v word (names_in told))
+    → told ≡ items → length items ≤ most_told → EachIsNext v word (names_in items) → AreNearest v word (names_in items)
+nearest_done v word told items found is none same few each =
+    let IsNoneOf : Option (Bor (List ℕ)) → Type 0 = λ x. IfNone x (NoneIsNear v word (names_in told)) in
+    let IsNoneAfter : List (Bor (List ℕ)) → Type 0 = λ x. NoneIsNear v word (names_in x) in
+    record { each = each; few = omega (arith, few, length-map items (λ n. n.now)); all = inr (subst IsNoneAfter same (subst IsNoneOf is none)) }
