@@ -27,6 +27,7 @@ PACKAGES: dict[str, tuple[str, ...]] = {
     "cargo-web": ("cargo", "rustc"),
     "librust-term-dev": (),
     "man-db": ("man",),
+    "jq": ("jq",),
     "bash-completion": (),
     "zsh": ("zsh",),
     "fish": ("fish",),

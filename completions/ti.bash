@@ -63,11 +63,11 @@ _ti() {
         '') words='show check lint get diff expand convert cap trace help --help --version' ;;
         cap) words='--source --hex --escape --help' ;;
         trace) words='--source --of --escape --entry --help' ;;
-        show) words='--escape --all-names --help' ;;
-        check) words='--escape --all-names --help' ;;
+        show) words='--escape --all-names --json --help' ;;
+        check) words='--escape --all-names --json --help' ;;
         expand) words="--hex --escape --all-names --rate --lines --xon --entry --help $_ti_texts" ;;
         lint) words='--all --help' ;;
-        diff) words='--help' ;;
+        diff) words='--expand --help' ;;
         convert) words='--wide --narrow --force --help' ;;
         get) words="--hex --escape --rate --lines --xon --entry --help $_ti_names" ;;
         help) words='show check lint get diff expand convert cap trace' ;;

@@ -15,8 +15,6 @@ from said import Said
 OUT = HERE / "out"
 STARTED = time.monotonic()
 REFUSED, ACCEPTED, BAD = "refused", "accepted", "bad"
-# The jobs of one check. Crates are tried side by side; the last one should not be left with a single processor.
-JOBS = 2
 
 
 def tell(text):
@@ -53,11 +51,12 @@ def end(*_):
 class Trial:
     """The trial of a crate's edits.
 
-    Each check takes what is up to date from a folder of edits/out, and keeps there what it proves.
+    Each check takes what is up to date from a folder of edits/out, and keeps there what it proves. It has as many jobs as it
+    is given; a second one takes a tenth more processor time.
     """
 
-    def __init__(self, crate, edits, kit):
-        self.crate, self.edits, self.kit, self.folder = crate, edits, kit, OUT / crate
+    def __init__(self, crate, edits, kit, jobs):
+        self.crate, self.edits, self.kit, self.jobs, self.folder = crate, edits, kit, jobs, OUT / crate
         self.checks, self.results = 0, []
 
     def run(self):
@@ -136,7 +135,7 @@ class Trial:
                 if (folder_of(self.crate) / part).is_dir():
                     shutil.copytree(folder_of(self.crate) / part, Path(copy) / part)
             write(Path(copy))
-            words = [self.kit / "bin/rattle", "check", *words_for(self.crate, self.kit, JOBS)]
+            words = [self.kit / "bin/rattle", "check", *words_for(self.crate, self.kit, self.jobs)]
             words += ["--incremental", self.folder / "kept"]
             for function in functions:
                 words += ["--only", function]

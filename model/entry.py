@@ -1,8 +1,10 @@
-"""Compiled entries of term(5): reading with the first check that fails, the canonical bytes, and the listing of `show`.
+"""Compiled entries of term(5): reading with the first check that fails, the canonical bytes, and the listing of `show`, also
+as JSON.
 
 Written from the manual pages, the list of checks and the choices of docs/DECISIONS.md, to be compared with the proved
 program.
 """
+import json
 import struct
 from dataclasses import dataclass, field
 
@@ -290,6 +292,38 @@ def listing(entry, names, escape):
     return b"".join(lines)
 
 
+def flag_part(flag):
+    """What the object of a flag has beside its name, or nothing if it has none; of a number and of a text likewise."""
+    return {"no": None, "yes": {"value": True}}.get(flag, {"state": flag})
+
+
+def number_part(number):
+    return {-1: None, -2: {"state": CANCELLED}}.get(number, {"value": number})
+
+
+def text_part(text):
+    return {ABSENT: None, CANCELLED: {"state": CANCELLED}}.get(text) if isinstance(text, str) else {"value": notation(text).decode()}
+
+
+def objects(entry, names):
+    """The objects of `show --json`, with labels by these names."""
+    made = [{"kind": "format", "value": "wide" if entry.wide else "legacy"}]
+    made.append({"kind": "names", "value": notation(entry.names).decode()})
+    parts = {"flag": flag_part, "number": number_part, "text": text_part}
+    for kind, values in (("flag", entry.flags), ("number", entry.numbers), ("text", entry.texts)):
+        found = [(label(names[kind], index), parts[kind](value)) for index, value in enumerate(values)]
+        made += [{"kind": kind, "name": name.decode(), **part} for name, part in found if part]
+    for kind, pairs in (("flag", entry.extended_flags), ("number", entry.extended_numbers), ("text", entry.extended_texts)):
+        found = [(own_label(name, True), parts[kind](value)) for name, value in pairs]
+        made += [{"kind": kind, "name": name.decode(), "own": True, **part} for name, part in found if part]
+    return made
+
+
+def document(value):
+    """A line of JSON, with the members of each object in the order of their names."""
+    return json.dumps(value, separators=(",", ":"), sort_keys=True).encode() + b"\n"
+
+
 def items(entry, names):
     """The lines of `show --escape` with labels by these names, kind by kind, each by what an item is found by: the index of a
     standard capability, the name of an extended one, of which the first counts."""
@@ -306,13 +340,27 @@ def items(entry, names):
     return found
 
 
-def differences(one, other, names):
-    """What `diff` writes, with labels by these names."""
+def texts_by_item(entry):
+    """The texts by the keys of `items`."""
+    own = {}
+    for name, text in entry.extended_texts:
+        own.setdefault(name, text)
+    return {"text": dict(enumerate(entry.texts)), "text+": own}
+
+
+def differences(one, other, names, meaning=None):
+    """What `diff` writes, with labels by these names. Texts with one meaning are passed over."""
     lines, first, second = [], items(one, names), items(other, names)
+    texts, of_other = texts_by_item(one), texts_by_item(other)
+
+    def are_spelled_alike(kind, key):
+        pair = [side.get(kind, {}).get(key) for side in (texts, of_other)]
+        return meaning is not None and all(isinstance(text, bytes) for text in pair) and meaning(pair[0]) == meaning(pair[1])
+
     for kind in first:
         keys = list(first[kind]) + [key for key in second[kind] if key not in first[kind]]
         for key in keys if kind.endswith("+") else sorted(keys):
             sides = [(sign, side[kind].get(key, b"")) for sign, side in ((b"- ", first), (b"+ ", second))]
-            if sides[0][1] != sides[1][1]:
+            if sides[0][1] != sides[1][1] and not are_spelled_alike(kind, key):
                 lines += [sign + line for sign, line in sides if line]
     return b"".join(lines)

@@ -1,3 +1,4 @@
 pub mod AsciiLemmas
 pub mod ObjectsLemmas
-pub mod FloatLemmas
+pub mod TextLemmas
+pub mod PlainLemmas

@@ -3,7 +3,8 @@ use Rattle.std.proofs.Common.{◌≡◌, ℕ, ◌+◌, ◌<◌, ◌≤◌, List,
 use Rattle.std.proofs.lemmas.List.{append-nil, drop_all, get_or-map}
 use Rattle.serde_json.specs.Data.{Data}
 use Rattle.ti_words.specs.Spelling.{name_in, mark_in}
-use Rattle.ti_json.specs.Objects.{objects_from}
+use Rattle.ti_words.specs.Value.{EntryValue, NamedPart}
+use Rattle.ti_json.specs.Objects.{entry_objects, objects_from, own_objects, standard_objects, whole_objects}
 
 -- what is there and what is still to come make the whole, one item further
 pub objects_next : {X : Type 0} (objects : ℕ → X → List Data) (xs : List X) (i : ℕ) (d : X) (out new whole : List Data) → i < length xs
@@ -26,3 +27,10 @@ own_next objects xs i m x name out new whole h s t e is =
     let a : name ≡ p.0 = s ∙ get_or-map name_in xs i ([], m) [] h in
     let b : x ≡ p.1 = t ∙ get_or-map mark_in xs i ([], m) m h in
     objects_next (λ k q. objects q.0 q.1) xs i ([], m) out new whole h e (is ∙ ap (λ z. out ++ objects z x) a ∙ ap (λ z. out ++ objects p.0 z) b)
+
+-- those on the whole entry, on the standard part and on the extended one are all
+pub all_objects : (v : EntryValue) (p : NamedPart) (none first second third : List Data) → none ≡ [] → first ≡ none ++ whole_objects v → second ≡ first ++ standard_objects v.standard
+    → p ≡ v.extended → third ≡ second ++ own_objects p → third ≡ entry_objects v
+all_objects v p none first second third n f s e t =
+    t ∙ ap (λ ds. ds ++ own_objects p) s ∙ append_assoc first (standard_objects v.standard) (own_objects p) ∙ ap (λ ds. ds ++ (standard_objects v.standard ++ own_objects p)) f
+    ∙ ap (λ ds. ds ++ whole_objects v ++ (standard_objects v.standard ++ own_objects p)) n ∙ ap (λ q. whole_objects v ++ (standard_objects v.standard ++ own_objects q)) e

@@ -1,6 +1,6 @@
 -- The JSON of an entry: an object for each line of its listing, in the order of the lines.
-use Rattle.std.specs.Prelude.{ℕ, suc, Bool, true, false, List, [], ◌∷◌, ◌++◌, codes, decimal, unwrap_or}
-use Rattle.serde_json.specs.Data.{Data, boolean, number, string, array, object, Members, no_members, member}
+use Rattle.std.specs.Prelude.{ℕ, suc, true, List, [], ◌∷◌, ◌++◌, codes, decimal, unwrap_or}
+use Rattle.serde_json.specs.Data.{Data, unsigned, boolean, number, string, array, object, Members, no_members, member}
 use Rattle.serde_json.specs.Find.{of_integer}
 use Rattle.serde_json.specs.View.{items_of}
 use Rattle.serde_json.specs.Written.{compact_text}
@@ -41,13 +41,16 @@ abbrev pub standard_label : Kind → ℕ → List ℕ
 standard_label kind index = unwrap_or (name_in tables.All kind index) (codes "#" ++ decimal index)
 
 -- a kind, a name, that the name is the entry's own if it is, and the last member
+abbrev pub described_by : Subject → Members → Members
+described_by (StandardSubject kind index) last =
+    member (codes "kind") (string (kind_word kind))
+    (member (codes "name") (string (standard_label kind index)) last)
+described_by (OwnSubject kind name) last =
+    member (codes "kind") (string (kind_word kind))
+    (member (codes "name") (string (label_notation name)) (member (codes "own") (boolean true) last))
+
 abbrev pub described : Subject → Members → Data
-described (StandardSubject kind index) last =
-    object (member (codes "kind") (string (kind_word kind))
-    (member (codes "name") (string (standard_label kind index)) last))
-described (OwnSubject kind name) last =
-    object (member (codes "kind") (string (kind_word kind))
-    (member (codes "name") (string (label_notation name)) (member (codes "own") (boolean true) last)))
+described subject last = object (described_by subject last)
 
 -- what is not there has no object
 abbrev pub flag_objects : Subject → Flag → List Data
@@ -65,6 +68,17 @@ abbrev pub text_objects : Subject → TextValue → List Data
 text_objects subject AbsentText = []
 text_objects subject CancelledText = described subject (state_member (codes "cancelled")) ∷ []
 text_objects subject (TextOf bytes) = described subject (value_member (string (notation bytes))) ∷ []
+
+-- a text that was analysed has a depth and a bound, or a fault and its place
+abbrev pub sound_object : Subject → ℕ → ℕ → Data
+sound_object subject depth bound =
+    object (member (codes "bound") (number (unsigned bound))
+    (member (codes "depth") (number (unsigned depth)) (described_by subject no_members)))
+
+abbrev pub fault_object : Subject → List ℕ → ℕ → Data
+fault_object subject word place =
+    object (member (codes "fault") (string word)
+    (described_by subject (member (codes "place") (number (unsigned place)) no_members)))
 
 -- ---- an entry
 
@@ -113,5 +127,13 @@ whole_objects v = whole (codes "format") (format_name v.width) ∷ whole (codes 
 abbrev pub entry_objects : EntryValue → List Data
 entry_objects v = whole_objects v ++ (standard_objects v.standard ++ own_objects v.extended)
 
+abbrev pub array_text : List Data → List ℕ
+array_text objects = compact_text (array (items_of objects))
+
 abbrev pub entry_text : EntryValue → List ℕ
-entry_text v = compact_text (array (items_of (entry_objects v)))
+entry_text v = array_text (entry_objects v)
+
+-- ---- a text
+
+abbrev pub text_json : List ℕ → List ℕ
+text_json text = compact_text (string (notation text))

@@ -1,9 +1,12 @@
 //! The objects on an entry.
 
-ghost use Rattle.std.specs.Prelude.{◌≡◌, ◌++◌, [], get_or, IfOk, OnOk, map};
-ghost use Rattle.serde_json.specs.View.{view};
+ghost use Rattle.std.specs.List.{list_all};
+ghost use Rattle.std.specs.Prelude.{◌≡◌, ◌++◌, [], false, get_or, true, IfOk, OnOk, map};
+ghost use Rattle.serde_json.specs.View.{items_of, view};
+ghost use Rattle.serde_json.specs.Written.{items_have_float};
 ghost use Rattle.ti_entry.specs.Finding.{names_of};
-ghost use Rattle.ti_json.specs.Objects.{entry_text, format_name as the_format_name, objects_from, own_flag, own_number, own_objects, own_text, standard_flag, standard_number, standard_objects, standard_text, whole_objects};
+ghost use Rattle.ti_escape.specs.Laws.{is_printable};
+ghost use Rattle.ti_json.specs.Objects.{array_text, entry_text, format_name as the_format_name, objects_from, own_flag, own_number, own_objects, own_text, standard_flag, standard_number, standard_objects, standard_text, whole_objects};
 
 use crate::object::{Subject, push_flag, push_number, push_text};
 use crate::string::text_string;
@@ -144,23 +147,35 @@ fn push_own(alloc: Global, out: &mut Vec<Value>, extended: &Extended<'_>) -> Res
     push_own_texts(alloc, out, extended)
 }
 
+/// Objects without a float as an array of JSON, without a space between tokens.
+///
+/// # Errors
+///
+/// Memory was refused.
+pub fn array_json(alloc: Global, objects: Vec<Value>) -> Result<Vec<u8>, AllocError>
+    requires { items_have_float (items_of (map view objects.items)) ≡ false }
+    ensures { IfOk result (λ bytes. bytes.items ≡ array_text (map view objects.items)) }
+{
+    Value::Array(objects).to_vec(alloc)
+}
+
 /// An entry as JSON: an array of objects, without a space between tokens.
 ///
 /// The first has the kind `format`, and the value `legacy` or `wide`; the second the kind `names`. Each of the others is a
 /// capability that is there or cancelled, with `kind` (`flag`, `number` or `text`), `name`, `own` (`true`) if the name is the
-/// entry's own, and `value`; or in place of a value `state`, which is `cancelled`, or `missing` for a flag of an odd byte. A name
-/// may stand twice.
+/// entry's own, and `value`; or in place of a value `state`, which is `cancelled`, or `missing` for a flag that the entry marks
+/// so, by the byte 255. Each byte of the document is a character from the space to `~`. A name may stand twice.
 ///
 /// # Errors
 ///
 /// Memory was refused.
 pub fn entry_json(alloc: Global, entry: &Entry<'_>) -> Result<Vec<u8>, AllocError>
     ensures text { IfOk result (λ bytes. bytes.items ≡ entry_text entry.now) }
+    ensures printable { IfOk result (λ bytes. list_all is_printable bytes.items ≡ true) }
 {
     let mut objects = Vec::new(alloc);
     push_whole(alloc, &mut objects, entry)?;
     push_standard(alloc, &mut objects, entry)?;
     push_own(alloc, &mut objects, &entry.extended())?;
-    let array = Value::Array(objects);
-    array.to_vec(alloc)
+    array_json(alloc, objects)
 }

@@ -7,5 +7,9 @@
 mod entry;
 mod object;
 mod string;
+mod verdict;
 
-pub use entry::entry_json;
+pub use entry::{array_json, entry_json};
+pub use object::Subject;
+pub use string::text_json;
+pub use verdict::{push_fault, push_sound};

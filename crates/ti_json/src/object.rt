@@ -19,7 +19,7 @@ pub enum Subject<'a> {
 }
 
 /// The word for a kind.
-fn kind_word(kind: Kind) -> &'static str
+pub fn kind_word(kind: Kind) -> &'static str
     ensures { result.now ≡ the_kind_word kind }
 {
     match kind {

@@ -4,11 +4,12 @@ ghost use Rattle.std.specs.List.{list_all};
 ghost use Rattle.std.specs.Prelude.{◌≡◌, true, IfOk, option_map, string_bytes};
 ghost use Rattle.ti_escape.specs.Laws.{is_printable};
 ghost use Rattle.ti_escape.specs.Notation.{label_notation, notation};
-ghost use Rattle.ti_json.specs.Objects.{standard_label as the_standard_label};
+ghost use Rattle.ti_json.specs.Objects.{standard_label as the_standard_label, text_json as the_text_json};
 ghost use Rattle.ti_words.specs.AllNames.{name_in};
 ghost use Rattle.ti_words.specs.declared.all_names.NameTable.{NameTable};
 
 use itoa::Buffer;
+use serde_json::Value;
 use std::alloc::{AllocError, Global};
 use ti_escape::{push_label, push_notation};
 use ti_words::{Kind, NameTable};
@@ -67,4 +68,15 @@ pub fn standard_label(alloc: Global, kind: Kind, index: usize) -> Result<String,
             Ok(label)
         }
     }
+}
+
+/// A text in the notation of terminfo(5) as JSON: a string in quotes.
+///
+/// # Errors
+///
+/// Memory was refused.
+pub fn text_json(alloc: Global, text: &[u8]) -> Result<Vec<u8>, AllocError>
+    ensures { IfOk result (λ bytes. bytes.items ≡ the_text_json text.now) }
+{
+    Value::String(text_string(alloc, text)?).to_vec(alloc)
 }

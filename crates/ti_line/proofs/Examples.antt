@@ -30,17 +30,22 @@ unfolding clap_on_literals
 both_inputs_row = (refl, refl)
 
 -- `ti show`
-show_row : Reads (codes "ti" ∷ codes "show" ∷ []) (Show false false)
+show_row : Reads (codes "ti" ∷ codes "show" ∷ []) (Show false false false)
 unfolding clap_on_literals
 show_row = (refl, refl)
 
 -- `ti show --escape`
-escape_row : Reads (codes "ti" ∷ codes "show" ∷ codes "--escape" ∷ []) (Show true false)
+escape_row : Reads (codes "ti" ∷ codes "show" ∷ codes "--escape" ∷ []) (Show false true false)
 unfolding clap_on_literals
 escape_row = (refl, refl)
 
+-- `ti show --json`
+json_row : Reads (codes "ti" ∷ codes "show" ∷ codes "--json" ∷ []) (Show true false false)
+unfolding clap_on_literals
+json_row = (refl, refl)
+
 -- `ti check --all-names`
-names_row : Reads (codes "ti" ∷ codes "check" ∷ codes "--all-names" ∷ []) (Check false true)
+names_row : Reads (codes "ti" ∷ codes "check" ∷ codes "--all-names" ∷ []) (Check false false true)
 unfolding clap_on_literals
 names_row = (refl, refl)
 
@@ -70,7 +75,7 @@ unfolding clap_on_literals
 lint_row = (refl, refl)
 
 -- `ti diff a b`
-diff_row : Reads (codes "ti" ∷ codes "diff" ∷ codes "a" ∷ codes "b" ∷ []) (Diff (codes "a" ∷ codes "b" ∷ []))
+diff_row : Reads (codes "ti" ∷ codes "diff" ∷ codes "a" ∷ codes "b" ∷ []) (Diff false (codes "a" ∷ codes "b" ∷ []))
 unfolding clap_on_literals
 diff_row = (refl, refl)
 

@@ -24,7 +24,7 @@ use Rattle.clap.specs.declared.builder.value_parser.ValueParser.{ValueParser}
 use Rattle.clap.specs.declared.builder.value_parser.ValueParser.TheVariants as vp
 use Rattle.clap.specs.declared.error.kind.ErrorKind.TheVariants as kind
 use Rattle.ti_base.specs.Limits.{greatest_rate, most_lines}
-use Rattle.ti_line.specs.CommandLine.{Diff, Line, expand_app, expand_by, expand_of, faults, get_app, get_by, get_of, lines_rule, name_rule, number_rule, rate_rule, number_in, number_or, ranged, Reads, line_by, line_in, ti_app, words_in}
+use Rattle.ti_line.specs.CommandLine.{Diff, Line, expand_app, expand_by, expand_of, faults, flag_in, get_app, get_by, get_of, lines_rule, name_rule, number_rule, rate_rule, number_in, number_or, ranged, Reads, line_by, line_in, ti_app, words_in}
 use Rattle.ti_line.specs.Laws.{IsWithin}
 use Rattle.ti_line.proofs.LawsLemmas.{none_some, some_is}
 use Rattle.ti_line.proofs.RowsLemmas.{Each, FirstIs, Fits, Gives, is_count, neither, row_found, rows_fit}
@@ -398,7 +398,7 @@ line_within command rows =
     (either (bytes_eq command (codes "expand")) _ _ (bounded rows (expand_of rows) (λ name rate lines low. low) (first_of (codes "NAME") rows))
     (either (bytes_eq command (codes "convert")) _ _ tt
     (either (bytes_eq command (codes "get")) _ _ (bounded rows (get_of rows) (λ name rate lines low. low) (first_of (codes "NAME") rows))
-    (either (bytes_eq command (codes "diff")) (Some (Diff (words_in (codes "FILE") rows))) None tt tt))))))))
+    (either (bytes_eq command (codes "diff")) (Some (Diff (flag_in (codes "expand") rows) (words_in (codes "FILE") rows))) None tt tt))))))))
 
 pub within_request : (found : Option (Text × List Row)) (line : Line) → line_in found ≡ Some line → IsWithin line
 within_request None line e = absurd (none_some None line refl e)

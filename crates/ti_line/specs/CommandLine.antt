@@ -41,6 +41,10 @@ escape_rule = short_rule (codes "escape") (codes "e")
 abbrev pub all_names_rule : Rule
 all_names_rule = short_rule (codes "all-names") (codes "a")
 
+-- `--json`
+abbrev pub json_rule : Rule
+json_rule = flag_rule (codes "json")
+
 -- an option with a number
 abbrev pub number_rule : Text → ℕ → Rule
 number_rule name most =
@@ -107,13 +111,15 @@ trace_app =
     with_rules (new_app (codes "trace"))
     (source_rule ∷ of_rule ∷ escape_rule ∷ entry_rule ∷ params_rule ∷ [])
 
--- `show [--escape] [--all-names] [FILE..]`
+-- `show [--escape] [--all-names] [--json] [FILE..]`
 abbrev pub show_app : App
-show_app = with_rules (new_app (codes "show")) (escape_rule ∷ all_names_rule ∷ files_rule ∷ [])
+show_app =
+    with_rules (new_app (codes "show")) (escape_rule ∷ all_names_rule ∷ json_rule ∷ files_rule ∷ [])
 
--- `check [--escape] [--all-names] [FILE..]`
+-- `check [--escape] [--all-names] [--json] [FILE..]`
 abbrev pub check_app : App
-check_app = with_rules (new_app (codes "check")) (escape_rule ∷ all_names_rule ∷ files_rule ∷ [])
+check_app =
+    with_rules (new_app (codes "check")) (escape_rule ∷ all_names_rule ∷ json_rule ∷ files_rule ∷ [])
 
 -- `lint [--all] [FILE..]`
 abbrev pub lint_app : App
@@ -140,9 +146,9 @@ get_app =
     (name_rule ∷ hex_rule ∷ escape_rule ∷ rate_rule ∷ lines_rule ∷ flag_rule (codes "xon")
     ∷ entry_rule ∷ params_rule ∷ [])
 
--- `diff [FILE..]`: the other entry, or the first and the other
+-- `diff [--expand] [FILE..]`: the other entry, or the first and the other
 abbrev pub diff_app : App
-diff_app = with_rules (new_app (codes "diff")) (files_rule ∷ [])
+diff_app = with_rules (new_app (codes "diff")) (flag_rule (codes "expand") ∷ files_rule ∷ [])
 
 -- `ti` with a version, which wants a subcommand
 abbrev pub start_app : App
@@ -201,13 +207,13 @@ pub data Line : Type 0 where
   Cap : (source hex escape : Bool) → (params : List Text) → Line
   Trace : (source : Bool) → (of_name : Option Text) → (escape has_entry : Bool) → (params : List Text)
       → Line
-  Show : (escape all_names : Bool) → Line
-  Check : (escape all_names : Bool) → Line
+  Show : (json escape all_names : Bool) → Line
+  Check : (json escape all_names : Bool) → Line
   Lint : (all : Bool) → Line
   Expand : (name : Text) → (hex escape all_names : Bool) → (rate lines : ℕ) → (xon : Bool)
       → (params : List Text) → Line
   Convert : (wide narrow force : Bool) → Line
-  Diff : (files : List Text) → Line
+  Diff : (expand : Bool) → (files : List Text) → Line
   Get : (name : Text) → (hex escape : Bool) → (rate lines : ℕ) → (xon : Bool)
       → (params : List Text) → Line
 
@@ -244,9 +250,11 @@ line_by command rows =
     then Some (Trace (flag_in (codes "source") rows) (first_of (codes "NAME") rows)
     (flag_in (codes "escape") rows) (is_given_in (codes "FILE") rows) (params_in rows))
     else (if bytes_eq command (codes "show")
-    then Some (Show (flag_in (codes "escape") rows) (flag_in (codes "all-names") rows))
+    then Some (Show (flag_in (codes "json") rows) (flag_in (codes "escape") rows)
+    (flag_in (codes "all-names") rows))
     else (if bytes_eq command (codes "check")
-    then Some (Check (flag_in (codes "escape") rows) (flag_in (codes "all-names") rows))
+    then Some (Check (flag_in (codes "json") rows) (flag_in (codes "escape") rows)
+    (flag_in (codes "all-names") rows))
     else (if bytes_eq command (codes "lint")
     then Some (Lint (flag_in (codes "all") rows))
     else (if bytes_eq command (codes "expand")
@@ -257,7 +265,7 @@ line_by command rows =
     else (if bytes_eq command (codes "get")
     then option_and_then (get_by rows) (first_of (codes "NAME") rows)
     else (if bytes_eq command (codes "diff")
-    then Some (Diff (words_in (codes "FILE") rows))
+    then Some (Diff (flag_in (codes "expand") rows) (words_in (codes "FILE") rows))
     else None))))))))
 
 -- what the subcommand that was found asks for

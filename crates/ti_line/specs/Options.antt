@@ -7,6 +7,9 @@ use Rattle.ti_escape.specs.declared.form.Form.TheVariants as forms
 use Rattle.ti_escape.specs.Forms.{formed}
 use Rattle.ti_lint.specs.declared.scope.Scope.{Scope}
 use Rattle.ti_lint.specs.declared.scope.Scope.TheVariants as scopes
+use Rattle.ti_line.specs.declared.options.Document.TheVariants as documents
+use Rattle.ti_line.specs.declared.options.Likeness.{Likeness}
+use Rattle.ti_line.specs.declared.options.Likeness.TheVariants as likenesses
 use Rattle.ti_line.specs.declared.options.ListOptions.{ListOptions}
 use Rattle.ti_line.specs.declared.options.NameForm.{NameForm}
 use Rattle.ti_line.specs.declared.options.NameForm.TheVariants as name_forms
@@ -16,6 +19,8 @@ use Rattle.ti_line.specs.declared.options.Output.TheVariants as outputs
 use Rattle.ti_line.specs.declared.request.Asked.{Asked}
 use Rattle.ti_line.specs.declared.request.Asked.TheVariants as asks
 use Rattle.ti_line.specs.declared.request.OfCapability.{OfCapability}
+use Rattle.ti_line.specs.declared.request.OfEntry.{OfEntry}
+use Rattle.ti_line.specs.declared.request.OfEntry.TheVariants as of_entry
 
 -- an output: its bytes as they stand, or in a form with a newline
 abbrev pub output_bytes : Output → List ℕ → List ℕ
@@ -43,6 +48,11 @@ abbrev pub scope_asked : Bool → Scope
 scope_asked true = scopes.All
 scope_asked false = scopes.Mistakes
 
+-- what `--expand` asks for
+abbrev pub likeness_asked : Bool → Likeness
+likeness_asked true = likenesses.Tokens
+likeness_asked false = likenesses.Bytes
+
 -- what `--all-names` asks for
 abbrev pub names_asked : Bool → NameTable
 names_asked true = tables.All
@@ -65,3 +75,13 @@ naming_asked all_names escape terminal =
 abbrev pub list_options : Bool → Bool → Bool → ListOptions
 list_options all_names escape terminal =
     record { naming = naming_asked all_names escape terminal; form = form_asked escape }
+
+-- what `show` asks for by the same, and by `--json`
+abbrev pub show_asked : Bool → Bool → Bool → Bool → OfEntry
+show_asked true all_names escape terminal = of_entry.Json documents.Listing
+show_asked false all_names escape terminal = of_entry.Show (list_options all_names escape terminal)
+
+-- what `check` asks for by the same
+abbrev pub check_asked : Bool → Bool → Bool → Bool → OfEntry
+check_asked true all_names escape terminal = of_entry.Json documents.Verdicts
+check_asked false all_names escape terminal = of_entry.Check (naming_asked all_names escape terminal)

@@ -1,5 +1,5 @@
 -- What a line asks for, or why that can't be done, and what an answer tells of the words.
-use Rattle.std.specs.Prelude.{◌≡◌, ◌<◌, ◌&&◌, ℕ, Bool, true, false, not, List, Option, Some, None, Result, Ok, Err, length, map, [], ◌∷◌, codes}
+use Rattle.std.specs.Prelude.{◌≡◌, ◌<◌, ◌&&◌, ◌||◌, ℕ, Bool, true, false, not, List, Option, Some, None, Result, Ok, Err, length, map, [], ◌∷◌, codes}
 use Rattle.std.specs.Borrow.{Bor}
 use Rattle.clap.specs.Words.{Text}
 use Rattle.ti_words.specs.declared.Width.{Width}
@@ -7,7 +7,7 @@ use Rattle.ti_words.specs.declared.Width.TheVariants.{Legacy, Wide}
 use Rattle.ti_expand.specs.declared.values.Value.{Value}
 use Rattle.ti_pad.specs.Setting.{Setting}
 use Rattle.ti_line.specs.CommandLine.{Line, AsksForHelp, Cap, Trace, Show, Check, Lint, Expand, Convert, Diff, Get, IsRefused, Reads, files_of}
-use Rattle.ti_line.specs.Options.{form_asked, input_asked, list_options, names_asked, naming_asked, output_asked, scope_asked}
+use Rattle.ti_line.specs.Options.{check_asked, form_asked, input_asked, likeness_asked, names_asked, output_asked, scope_asked, show_asked}
 use Rattle.ti_line.specs.Params.{AreGiven, AreParams, IsGiven, IsGivenBy, IsParam, IsWordFault}
 use Rattle.ti_line.specs.declared.given.Param.{Param}
 use Rattle.ti_line.specs.declared.params.WordFault.{WordFault}
@@ -70,10 +70,12 @@ Asks terminal (Trace source (Some name) escape has_entry words) r =
     (source ≡ false)
     × ((t : code_of_trace.TraceOf) × (r.asked ≡ Entry (of_entry.Trace t)) × (t.name.now ≡ name)
     × IsGivenBy words t.given × (t.form ≡ form_asked escape))
-Asks terminal (Show escape all_names) r =
-    r.asked ≡ Entry (of_entry.Show (list_options all_names escape terminal))
-Asks terminal (Check escape all_names) r =
-    r.asked ≡ Entry (of_entry.Check (naming_asked all_names escape terminal))
+Asks terminal (Show json escape all_names) r =
+    (json && (escape || all_names) ≡ false)
+    × (r.asked ≡ Entry (show_asked json all_names escape terminal))
+Asks terminal (Check json escape all_names) r =
+    (json && (escape || all_names) ≡ false)
+    × (r.asked ≡ Entry (check_asked json all_names escape terminal))
 Asks terminal (Lint all) r = r.asked ≡ Entry (of_entry.Lint (scope_asked all))
 Asks terminal (Expand name hex escape all_names rate lines xon words) r =
     (hex && escape ≡ false) × AreParams words r.parameters
@@ -88,9 +90,9 @@ Asks terminal (Get name hex escape rate lines xon words) r =
     × ((g : code_of_get.Get) × (r.asked ≡ Entry (of_entry.Get g)) × (g.name.now ≡ name)
     × IsGivenBy words g.given × (g.padding ≡ setting_of rate lines xon)
     × (g.output ≡ output_asked hex escape))
-Asks terminal (Diff files) r =
+Asks terminal (Diff expand files) r =
     (d : code_of_diff.Difference) × (r.asked ≡ asks.Difference d)
-    × (compared files ≡ Some (d.file.now, d.other.now))
+    × (compared files ≡ Some (d.file.now, d.other.now)) × (d.likeness ≡ likeness_asked expand)
 
 -- a task is what a line asks for, of the files that the words name
 abbrev pub IsTask : Bool → List Text → Line → Task → Type 0
@@ -110,6 +112,10 @@ HasFault terminal (Trace source None escape has_entry words) (fault.Words why) =
 HasFault terminal (Trace source (Some name) escape has_entry words) fault.BothInputs = source ≡ true
 HasFault terminal (Trace source (Some name) escape has_entry words) (fault.Words why) =
     (source ≡ false) × GiveNone words why
+HasFault terminal (Show json escape all_names) fault.JsonForm =
+    json && (escape || all_names) ≡ true
+HasFault terminal (Check json escape all_names) fault.JsonForm =
+    json && (escape || all_names) ≡ true
 HasFault terminal (Expand name hex escape all_names rate lines xon words) fault.BothForms =
     hex && escape ≡ true
 HasFault terminal (Expand name hex escape all_names rate lines xon words) (fault.Words why) =
@@ -120,7 +126,7 @@ HasFault terminal (Convert wide narrow force) fault.ToTerminal =
 HasFault terminal (Get name hex escape rate lines xon words) fault.BothForms = hex && escape ≡ true
 HasFault terminal (Get name hex escape rate lines xon words) (fault.Words why) =
     (hex && escape ≡ false) × GiveNone words why
-HasFault terminal (Diff files) fault.FileCount = compared files ≡ None
+HasFault terminal (Diff expand files) fault.FileCount = compared files ≡ None
 HasFault _ _ _ = ⊥
 
 -- a line is answered with what it asks for, or with its fault

@@ -2,10 +2,10 @@
 
 ghost use Rattle.std.specs.Prelude.{◌≡◌};
 ghost use Rattle.ti_line.specs.Requests.{width_asked as the_width_asked};
-ghost use Rattle.ti_line.specs.Options.{form_asked as the_form_asked, input_asked as the_input_asked, list_options as the_list_options, names_asked as the_names_asked, naming_asked as the_naming_asked, output_asked as the_output_asked, scope_asked as the_scope_asked};
+ghost use Rattle.ti_line.specs.Options.{check_asked as the_check_asked, form_asked as the_form_asked, input_asked as the_input_asked, likeness_asked as the_likeness_asked, list_options as the_list_options, names_asked as the_names_asked, naming_asked as the_naming_asked, output_asked as the_output_asked, scope_asked as the_scope_asked, show_asked as the_show_asked};
 
-use crate::options::{ListOptions, NameForm, Naming, Output};
-use crate::request::{Asked, OfCapability};
+use crate::options::{Document, Likeness, ListOptions, NameForm, Naming, Output};
+use crate::request::{Asked, OfCapability, OfEntry};
 use ti_escape::Form;
 use ti_lint::Scope;
 use ti_words::{NameTable, Width};
@@ -50,6 +50,17 @@ pub fn scope_asked(all: bool) -> Scope
     if all { Scope::All } else { Scope::Mistakes }
 }
 
+/// What `--expand` requests of `diff`.
+pub fn likeness_asked(expand: bool) -> Likeness
+    ensures { result ≡ the_likeness_asked expand }
+{
+    if expand {
+        Likeness::Tokens
+    } else {
+        Likeness::Bytes
+    }
+}
+
 /// What `--escape` requests of the texts of a listing, or of a trace.
 pub fn form_asked(escape: bool) -> Form
     ensures { result ≡ the_form_asked escape }
@@ -78,6 +89,28 @@ pub fn list_options(all_names: bool, escape: bool, terminal: bool) -> ListOption
     ListOptions {
         naming: naming_asked(all_names, escape, terminal),
         form: form_asked(escape),
+    }
+}
+
+/// What `show` requests of an entry, which `--json` makes a document.
+pub fn show_asked<'a>(json: bool, all_names: bool, escape: bool, terminal: bool) -> OfEntry<'a>
+    ensures { result ≡ the_show_asked json all_names escape terminal }
+{
+    if json {
+        OfEntry::Json(Document::Listing)
+    } else {
+        OfEntry::Show(list_options(all_names, escape, terminal))
+    }
+}
+
+/// What `check` requests of an entry, which `--json` makes a document.
+pub fn check_asked<'a>(json: bool, all_names: bool, escape: bool, terminal: bool) -> OfEntry<'a>
+    ensures { result ≡ the_check_asked json all_names escape terminal }
+{
+    if json {
+        OfEntry::Json(Document::Verdicts)
+    } else {
+        OfEntry::Check(naming_asked(all_names, escape, terminal))
     }
 }
 

@@ -2,7 +2,7 @@
 
 ghost use Rattle.std.specs.Prelude.{◌≡◌, [], ◌∷◌, IfOk, false};
 ghost use Rattle.clap.specs.Words.{App, app_of, new_app, rule_of};
-ghost use Rattle.ti_line.specs.CommandLine.{all_names_rule, cap_app, check_app, convert_app, diff_app, entry_rule, escape_rule, expand_app, file_rule, files_rule, flag_rule, get_app, hex_rule, lint_app, name_rule, number_rule, of_rule, params_rule, show_app, source_rule, start_app, ti_app, trace_app, with_commands, with_rules};
+ghost use Rattle.ti_line.specs.CommandLine.{all_names_rule, cap_app, check_app, convert_app, diff_app, entry_rule, escape_rule, expand_app, file_rule, files_rule, flag_rule, get_app, hex_rule, json_rule, lint_app, name_rule, number_rule, of_rule, params_rule, show_app, source_rule, start_app, ti_app, trace_app, with_commands, with_rules};
 ghost use Rattle.ti_line.specs.inner.Command.{HasNoGlobals};
 
 use clap::{Arg, ArgAction, Command, value_parser};
@@ -42,6 +42,14 @@ fn escape<'a>(alloc: Global) -> Arg<'a>
     ensures local { result.global ≡ false }
 {
     flag(alloc, "escape", ESCAPE).short('e')
+}
+
+/// `--json`.
+fn json<'a>(alloc: Global) -> Arg<'a>
+    ensures rule { rule_of result ≡ json_rule }
+    ensures local { result.global ≡ false }
+{
+    flag(alloc, "json", JSON)
 }
 
 /// `-a` or `--all-names`.
@@ -154,11 +162,17 @@ const HEX: &str = "Write the output as lower-case hex and one newline";
 const ESCAPE: &str = "Write names, texts and outputs in the notation of
 terminfo(5), such as \\E[H";
 
+const JSON: &str = "Write JSON, with the names of all 497 capabilities, and
+texts in the notation of terminfo(5)";
+
 const ALL_NAMES: &str = "Use the names of all 497 capabilities, in place of
 the 114 common ones";
 
 const ALL: &str = "Tell also what many entries have on purpose, such as
 two keys that send the same";
+
+const EXPAND: &str = "Pass over texts that differ in spelling alone, such
+as %{10} and %'\n', which expand to the same";
 
 const RATE: &str = "Bytes per second of the line, 0 to 1000000; default 0,
 at which padding takes no byte";
@@ -219,7 +233,8 @@ fn show<'a>(alloc: Global) -> Result<Command<'a>, AllocError>
         "List an entry, one line an item",
         "Example:\n  ti show /lib/terminfo/x/xterm\n\nFor an entry that a stranger wrote:\n  ti show --escape < entry",
     );
-    with_two(command, escape(alloc), all_names(alloc))?.arg(files(alloc, FILES))
+    let command = with_two(command, escape(alloc), all_names(alloc))?;
+    with_two(command, json(alloc), files(alloc, FILES))
 }
 
 fn check<'a>(alloc: Global) -> Result<Command<'a>, AllocError>
@@ -233,7 +248,8 @@ fn check<'a>(alloc: Global) -> Result<Command<'a>, AllocError>
         "Analyse each text of an entry; status 1 if one has a fault",
         "Example, of all entries in a folder:\n  ti check /lib/terminfo\n\nFor an entry that a stranger wrote:\n  ti check --escape < entry",
     );
-    with_two(check, escape(alloc), all_names(alloc))?.arg(files(alloc, FILES))
+    let check = with_two(check, escape(alloc), all_names(alloc))?;
+    with_two(check, json(alloc), files(alloc, FILES))
 }
 
 fn lint<'a>(alloc: Global) -> Result<Command<'a>, AllocError>
@@ -301,11 +317,13 @@ fn diff<'a>(alloc: Global) -> Result<Command<'a>, AllocError>
     let command = new_command(
         alloc,
         "diff",
-        "ti diff [FILE] <OTHER>",
+        "ti diff [OPTIONS] [FILE] <OTHER>",
         "Tell two entries apart, one line an item; status 1 if they differ",
         "Example, - for what only the first has, + for the other:\n  ti diff /lib/terminfo/x/xterm /lib/terminfo/x/xterm-color",
     );
-    command.arg(files(alloc, PAIR))
+    command
+        .arg(flag(alloc, "expand", EXPAND))?
+        .arg(files(alloc, PAIR))
 }
 
 fn convert<'a>(alloc: Global) -> Result<Command<'a>, AllocError>

@@ -22,7 +22,7 @@ pub use asked::{list_options, naming_asked, output_asked};
 pub use given::{Given, Param, read_given};
 pub use message::Message;
 pub use no_line::{LineFault, NoLine};
-pub use options::{ListOptions, NameForm, Naming, Output};
+pub use options::{Document, Likeness, ListOptions, NameForm, Naming, Output};
 pub use params::{WordFault, read_params};
 pub use read::read_line;
 pub use request::{

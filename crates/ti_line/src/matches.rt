@@ -1,9 +1,9 @@
 //! The values that `clap` found of a subcommand, as a request.
 
-ghost use Rattle.std.specs.Prelude.{◌≡◌, ◌≤◌, ◌&&◌, true, false, Bool, IfOk, IfSome, IsSome, MatchResult, codes, option_map};
+ghost use Rattle.std.specs.Prelude.{◌≡◌, ◌≤◌, ◌&&◌, ◌||◌, true, false, Bool, IfOk, IfSome, IsSome, MatchResult, codes, option_map};
 ghost use Rattle.ti_base.specs.Limits.{greatest_rate, most_lines};
 ghost use Rattle.clap.specs.Words.{first_of};
-ghost use Rattle.ti_line.specs.CommandLine.{Cap, Convert, Diff, Trace, expand_by, flag_in, get_by, is_given_in, is_input as the_is_input, line_by, named_files, number_in, params_in, words_in};
+ghost use Rattle.ti_line.specs.CommandLine.{Cap, Check, Convert, Diff, Show, Trace, expand_by, flag_in, get_by, is_given_in, is_input as the_is_input, line_by, named_files, number_in, params_in, words_in};
 ghost use Rattle.ti_line.specs.Params.{AreParams, IsGivenBy};
 ghost use Rattle.ti_line.specs.Requests.{GiveNone, IsAnswered, StandForNone, compared, setting_of, texts_of};
 ghost use Rattle.ti_line.specs.Options.{form_asked as the_form_asked, output_asked as the_output_asked};
@@ -12,12 +12,12 @@ ghost use Rattle.ti_line.specs.declared.request.Asked.TheVariants.{Entry};
 ghost use Rattle.ti_line.specs.inner.Matches.{given_rows};
 
 use crate::asked::{
-    form_asked, input_asked, list_options, names_asked, naming_asked, output_asked, scope_asked,
-    width_asked,
+    check_asked, form_asked, input_asked, likeness_asked, names_asked, output_asked, scope_asked,
+    show_asked, width_asked,
 };
 use crate::given::{Given, read_given};
 use crate::no_line::LineFault;
-use crate::options::Output;
+use crate::options::{Likeness, Output};
 use crate::params::{WordFault, read_params};
 use crate::request::{
     Asked, Difference, Expand, Get, OfCapability, OfEntry, Request, TextName, TraceOf,
@@ -179,6 +179,50 @@ fn trace<'a>(given: &ArgMatches<'a>) -> Result<Request<'a>, LineFault>
     }
 }
 
+/// Whether `--json` is given, which excludes the options that choose names and forms.
+fn json(given: &ArgMatches<'_>) -> Result<bool, LineFault>
+    ensures { let json = flag_in (codes "json") (given_rows given.now) in
+        let escape = flag_in (codes "escape") (given_rows given.now) in
+        let all_names = flag_in (codes "all-names") (given_rows given.now) in
+        MatchResult result
+        (λ given. (json && (escape || all_names) ≡ false) × (given ≡ json))
+        (λ why. (json && (escape || all_names) ≡ true) × (why ≡ fault.JsonForm)) }
+{
+    let json = flag(given, "json");
+    if json && (flag(given, "escape") || flag(given, "all-names")) {
+        return Err(LineFault::JsonForm);
+    }
+    Ok(json)
+}
+
+/// What `show` requests.
+fn show<'a>(terminal: bool, given: &ArgMatches<'a>) -> Result<Request<'a>, LineFault>
+    ensures { let rows = given_rows given.now in
+        IsAnswered terminal (Show (flag_in (codes "json") rows) (flag_in (codes "escape") rows)
+        (flag_in (codes "all-names") rows)) result }
+{
+    let json = json(given)?;
+    let (escape, all_names) = (flag(given, "escape"), flag(given, "all-names"));
+    Ok(Request {
+        parameters: NO_PARAMETERS,
+        asked: Asked::Entry(show_asked(json, all_names, escape, terminal)),
+    })
+}
+
+/// What `check` requests.
+fn check<'a>(terminal: bool, given: &ArgMatches<'a>) -> Result<Request<'a>, LineFault>
+    ensures { let rows = given_rows given.now in
+        IsAnswered terminal (Check (flag_in (codes "json") rows) (flag_in (codes "escape") rows)
+        (flag_in (codes "all-names") rows)) result }
+{
+    let json = json(given)?;
+    let (escape, all_names) = (flag(given, "escape"), flag(given, "all-names"));
+    Ok(Request {
+        parameters: NO_PARAMETERS,
+        asked: Asked::Entry(check_asked(json, all_names, escape, terminal)),
+    })
+}
+
 /// The padding of `expand` or `get`, whose numbers are within their ranges.
 fn padding(given: &ArgMatches<'_>) -> Padding
     requires within { (number_in (codes "rate") 0 (given_rows given.now) ≤ greatest_rate)
@@ -232,17 +276,21 @@ fn convert<'a>(terminal: bool, given: &ArgMatches<'a>) -> Result<Request<'a>, Li
 }
 
 /// The files that words name to be compared.
-fn pair<'a>(words: &[&'a str]) -> Option<Difference<'a>>
-    ensures { option_map (λ d. (d.file.now, d.other.now)) result ≡ compared (texts_of words.now) }
+fn pair<'a>(likeness: Likeness, words: &[&'a str]) -> Option<Difference<'a>>
+    ensures files { option_map (λ d. (d.file.now, d.other.now)) result
+        ≡ compared (texts_of words.now) }
+    ensures likeness { IfSome result (λ d. d.likeness ≡ likeness) }
 {
     match words {
         [other] => Some(Difference {
             file: "-",
             other: *other,
+            likeness,
         }),
         [file, other] => Some(Difference {
             file: *file,
             other: *other,
+            likeness,
         }),
         _ => None,
     }
@@ -251,9 +299,11 @@ fn pair<'a>(words: &[&'a str]) -> Option<Difference<'a>>
 /// What `diff` requests.
 fn diff<'a>(given: &ArgMatches<'a>) -> Result<Request<'a>, LineFault>
     ensures { (terminal : Bool) → IsAnswered terminal
-        (Diff (words_in (codes "FILE") (given_rows given.now))) result }
+        (Diff (flag_in (codes "expand") (given_rows given.now))
+        (words_in (codes "FILE") (given_rows given.now))) result }
 {
-    match pair(given.get_strs("FILE").unwrap_or(&[])) {
+    let likeness = likeness_asked(flag(given, "expand"));
+    match pair(likeness, given.get_strs("FILE").unwrap_or(&[])) {
         Some(pair) => Ok(Request {
             parameters: NO_PARAMETERS,
             asked: Asked::Difference(pair),
@@ -290,18 +340,11 @@ pub(crate) fn request_of<'a>(
     ensures { IfSome (line_by command.now (given_rows given.now))
         (λ line. IsAnswered terminal line result) }
 {
-    let (escape, all_names) = (flag(given, "escape"), flag(given, "all-names"));
     match command {
         "cap" => cap(given),
         "trace" => trace(given),
-        "show" => Ok(Request {
-            parameters: NO_PARAMETERS,
-            asked: Asked::Entry(OfEntry::Show(list_options(all_names, escape, terminal))),
-        }),
-        "check" => Ok(Request {
-            parameters: NO_PARAMETERS,
-            asked: Asked::Entry(OfEntry::Check(naming_asked(all_names, escape, terminal))),
-        }),
+        "show" => show(terminal, given),
+        "check" => check(terminal, given),
         "lint" => Ok(Request {
             parameters: NO_PARAMETERS,
             asked: Asked::Entry(OfEntry::Lint(scope_asked(flag(given, "all")))),

@@ -13,6 +13,9 @@ pub enum LineFault {
     /// An output is to be written in both forms, by `--hex` and `--escape`.
     #[error("BothForms")]
     BothForms,
+    /// A listing is to be JSON, and to have names or texts in a form, by `--json` and `--escape` or `--all-names`.
+    #[error("JsonForm")]
+    JsonForm,
     /// `trace` is to read a capability and to take one of an entry, by `--source` and `--of`.
     #[error("BothInputs")]
     BothInputs,

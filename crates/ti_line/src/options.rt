@@ -30,6 +30,24 @@ pub struct ListOptions {
     pub form: Form,
 }
 
+/// When two texts are alike.
+#[derive(Clone, Copy, Debug, PartialEq, Eq)]
+pub enum Likeness {
+    /// If they have the same bytes.
+    Bytes,
+    /// Also if both are capabilities with the same tokens, such as `%{10}` and `%'\n'`, which expand to the same.
+    Tokens,
+}
+
+/// What a document of JSON says of an entry.
+#[derive(Clone, Copy, Debug, PartialEq, Eq)]
+pub enum Document {
+    /// What the entry has, as a listing says it.
+    Listing,
+    /// The verdict on each of its texts, as `check` gives it.
+    Verdicts,
+}
+
 /// How the output of a capability is written.
 #[derive(Clone, Copy, Debug, PartialEq, Eq)]
 pub enum Output {

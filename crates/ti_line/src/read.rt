@@ -74,7 +74,7 @@ fn no_line<'a>(alloc: Global, words: &'a [&'a str], error: &Error) -> NoLine
 /// # Errors
 ///
 /// [`NoLine::Help`] if help or the version is requested, [`NoLine::Refused`] if the words are no command line,
-/// [`NoLine::Fault`] if the line requests both forms or both widths, or a trace of a notation and of a name, or of an entry
+/// [`NoLine::Fault`] if the line requests both forms or both widths, or JSON in a form, or a trace of a notation and of a name, or of an entry
 /// and no name, its parameters are none, or an entry would go to a terminal, and [`NoLine::Memory`] if a growth was refused. A message shows no byte of a word but printable ASCII characters: the others are in the notation
 /// of terminfo(5).
 ///

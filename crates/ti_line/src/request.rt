@@ -1,7 +1,7 @@
 //! What a command line requests, all of it valid.
 
 use crate::given::Given;
-use crate::options::{ListOptions, Naming, Output};
+use crate::options::{Document, Likeness, ListOptions, Naming, Output};
 use ti_escape::Form;
 use ti_expand::Value;
 use ti_lint::Scope;
@@ -40,13 +40,15 @@ pub enum Asked<'a> {
     Difference(Difference<'a>),
 }
 
-/// The two files that are compared. `-` is standard input.
+/// The two files that are compared, and how. `-` is standard input.
 #[derive(Clone, Copy, Debug, PartialEq, Eq)]
 pub struct Difference<'a> {
     /// The file of the first entry.
     pub file: &'a str,
     /// The file of the other.
     pub other: &'a str,
+    /// When their texts are alike.
+    pub likeness: Likeness,
 }
 
 /// What is requested of a capability.
@@ -63,6 +65,8 @@ pub enum OfCapability {
 pub enum OfEntry<'a> {
     /// To list it.
     Show(ListOptions),
+    /// To say of it in JSON what a document says.
+    Json(Document),
     /// To analyse each of its texts.
     Check(Naming),
     /// To tell what is wrong with it.

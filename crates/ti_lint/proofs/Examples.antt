@@ -1,24 +1,25 @@
 -- Worked examples of the findings, by hand.
 use Rattle.std.proofs.Common.{◌≡◌, ℕ, zero, suc, ◌≤◌, List, [], ◌∷◌, ◌++◌, length, length-append, refl, ap, subst, inl, inr, true, false, arith, Contains}
-use Rattle.std.specs.Prelude.{codes, None}
+use Rattle.std.specs.Prelude.{codes, None, pos}
 use Rattle.ti_cap.specs.declared.language.Token.{Token}
-use Rattle.ti_cap.specs.declared.language.Token.TheVariants.{Param, Load, Store, Increment, Compute, Print, CondOpen, CondThen, CondClose}
+use Rattle.ti_cap.specs.declared.language.Token.TheVariants.{Byte, Param, Constant, Load, Store, Increment, Compute, Print, CondOpen, CondThen, CondElse, CondClose}
 use Rattle.ti_cap.specs.declared.language.Op.TheVariants.{Add}
 use Rattle.ti_cap.specs.declared.language.Conversion.TheVariants.{Signed}
 use Rattle.ti_cap.specs.declared.language.Format.{Format}
 use Rattle.ti_cap.specs.Capability.{Spot}
-use Rattle.ti_cap.specs.Tree.{Sequence, Empty, Simple, Conditional, Lone, tokens}
+use Rattle.ti_cap.specs.Tree.{Sequence, Empty, Simple, Conditional, Lone, Else, tokens}
 use Rattle.ti_cap.specs.Path.{Walk, IsWalk, path_of}
 use Rattle.ti_cap.specs.Spelling.{Written}
 use Rattle.ti_cap.proofs.WrittenLemmas.{one_cutting}
 use Rattle.ti_lint.specs.declared.expected.Expected.{Expected}
 use Rattle.ti_lint.specs.Variables.{HasVariable}
 use Rattle.ti_lint.specs.OnSomePath.{Stands, OnSomePath}
-use Rattle.ti_lint.specs.Findings.{Underflows, IsOutOfRange, IsRepeated, IsStoredElsewhere, IsUnset, Keeps, LeavesValue, NamesFirstTwo, IsUnused, IsLate, IsDead}
+use Rattle.ti_lint.specs.Conditionals.{IsConstantTest, IsRepeatedTest, HasNoEffect, closes_just}
+use Rattle.ti_lint.specs.Findings.{Underflows, IsOutOfRange, IsRepeated, IsStoredElsewhere, IsUnset, HasKindAt, Keeps, LeavesValue, NamesFirstTwo, IsUnused, IsLate, IsDead}
 use Rattle.ti_lint.proofs.FactsLemmas.{nothing_in, names_nothing}
 
 abbrev two : Expected
-two = record { parameters = 2; stored = record { mask = 8 } }
+two = record { parameters = 2; texts = record { first = false; second = true; third = false }; stored = record { mask = 8 } }
 
 -- `%+` alone pops two values, of which there are none
 sum : Underflows (record { taken = []; left = codes "%+" }) (Compute Add)
@@ -240,3 +241,50 @@ never_read = (
   (λ o. let P : List Token → Type 0 = λ x. Contains x (Load 97) in
       nothing_in (Load 97) (subst P (nothing_after (Store 97) (codes "%Pa") _ (codes "%Pa", [], inr (codes "Pa", (inr (omega arith, omega arith), refl), refl), refl, refl) o) o.so)),
 )
+
+-- after `%p1%p2` a text is on top, and a number below it
+text_on_top : HasKindAt two.texts true 0 (Param 1 ∷ Param 2 ∷ [])
+text_on_top = (omega arith, refl)
+
+number_below : HasKindAt two.texts false 1 (Param 1 ∷ Param 2 ∷ [])
+number_below = (omega arith, refl)
+
+-- the sum of both is a number
+sum_is_number : HasKindAt two.texts false 0 (Param 1 ∷ Param 2 ∷ Compute Add ∷ [])
+sum_is_number = (omega arith, refl)
+
+-- the test of `%?%{1}%t` is a constant
+constant : IsConstantTest (CondOpen ∷ Constant (pos 1) ∷ [])
+constant = record { head = []; first = CondOpen; test = Constant (pos 1) ∷ []; spare = 0; spans = refl; starts = refl; constant = refl; leaves = refl }
+
+-- in `%?%p1%tA%e%p1%t` the second arm has the test of the first
+again : IsRepeatedTest (CondOpen ∷ Param 1 ∷ CondThen ∷ Byte 65 ∷ []) (Param 1 ∷ CondThen ∷ [])
+again = record {
+  test = Param 1 ∷ [];
+  rest = [];
+  spare = 0;
+  next = refl;
+  leaves = refl;
+  earlier = record {
+    earlier = CondOpen ∷ Param 1 ∷ [];
+    between = Byte 65 ∷ [];
+    ends = record { head = []; first = CondOpen; spans = refl; starts = refl };
+    spans = refl;
+    same = refl;
+  };
+}
+
+-- after `%;` and another `%?` it is no arm of the same conditional
+closed_before : closes_just 0 (Byte 65 ∷ CondClose ∷ CondOpen ∷ Param 2 ∷ CondThen ∷ []) ≡ false
+closed_before = refl
+
+-- `%?%p1%t%e%;` changes nothing
+idle : HasNoEffect (Param 1 ∷ CondThen ∷ CondElse ∷ CondClose ∷ [])
+idle = record {
+  arms = Else (Simple (Param 1) Empty) Empty Empty;
+  closed = true;
+  rest = [];
+  idle = (refl, refl, refl);
+  spans = refl;
+  ends = λ e. absurd (cc);
+}

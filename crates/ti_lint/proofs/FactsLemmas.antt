@@ -6,11 +6,14 @@ use Rattle.std.proofs.lemmas.List.Elements.{Contains-append_left, Contains-appen
 use Rattle.ti_cap.specs.declared.language.Token.{Token}
 use Rattle.ti_cap.specs.declared.language.Token.TheVariants.{Param, Store, Increment}
 use Rattle.ti_cap.specs.Height.{next_height, end_height}
+use Rattle.ti_cap.specs.Sources.{sources}
+use Rattle.ti_lint.specs.declared.values.Source.{Source}
 use Rattle.ti_lint.specs.declared.variables.Variables.{Variables}
 use Rattle.ti_lint.specs.declared.facts.Facts.{Facts}
 use Rattle.ti_lint.specs.Findings.{NamesFirstTwo}
 use Rattle.ti_lint.specs.inner.Facts.{no_facts, first_facts, joined, after_increment, is_first_two, after_stores, place_of, stored_also, IsLettered}
 use Rattle.ti_lint.proofs.HeightsLemmas.{HasHeight, has_either}
+use Rattle.ti_lint.proofs.ValuesLemmas.{HasValue, IsAtPlace, none_is, has_either_value}
 
 -- a fact of a path
 pub data Fact : Type 0 where
@@ -22,18 +25,22 @@ pub data Fact : Type 0 where
   Named : Fact
   -- nothing was stored into the variable
   Unset : ℕ → Fact
+  -- it leaves a value from the source at the place, counted from the top
+  ValueIs : ℕ → Source → Fact
 
 abbrev pub Says : Fact → List Token → Type 0
 Says (HeightIs h) path = end_height 0 path ≡ h
 Says Incremented path = Contains path Increment
 Says Named path = NamesFirstTwo path
 Says (Unset which) path = ¬ Contains path (Store which)
+Says (ValueIs place one) path = IsAtPlace (sources path) place one
 
 abbrev pub Has : Facts → Fact → Type 0
 Has f (HeightIs h) = HasHeight f.heights h
 Has f Incremented = f.incremented ≡ true
 Has f Named = f.named_first_two ≡ true
 Has f (Unset which) = bit_at f.stored.mask (place_of which) ≡ 0
+Has f (ValueIs place one) = HasValue f.values one place
 
 -- a variable has a place in the set
 abbrev pub IsFit : Fact → Type 0
@@ -45,6 +52,7 @@ has_nothing (HeightIs h) fit a = omega (arith, a, bit_at-zero h)
 has_nothing Incremented fit a = absurd (cc)
 has_nothing Named fit a = absurd (cc)
 has_nothing (Unset which) fit a = omega (arith, a, bit_at_ones 64 (which - 65) (omega arith))
+has_nothing (ValueIs place one) fit a = omega (arith, sym (ap (λ x. bit_at x place) (none_is one)) ∙ a, bit_at-zero place)
 
 pub either_true : (a b : Bool) → (a || b ≡ true) ↔ ((a ≡ true) ⊎ (b ≡ true))
 either_true true b = ((λ e. inl refl), (λ e. refl))
@@ -68,6 +76,7 @@ pub has_joined : (a b : Facts) (fact : Fact) → Has (joined a b) fact ↔ (Has 
 has_joined a b (HeightIs h) = has_either a.heights b.heights h
 has_joined a b Incremented = either_true a.incremented b.incremented
 has_joined a b Named = either_true a.named_first_two b.named_first_two
+has_joined a b (ValueIs place one) = has_either_value a.values b.values one place
 has_joined a b (Unset which) =
     let e : bit_at (bit_and a.stored.mask b.stored.mask) (place_of which) ≡ min (bit_at a.stored.mask (place_of which)) (bit_at b.stored.mask (place_of which)) =
     bit_at_and a.stored.mask b.stored.mask (place_of which) in
@@ -94,6 +103,10 @@ has_first (HeightIs h) = ((λ a. sym (only_zero h a)), (λ e. let P : ℕ → Ty
 has_first Incremented = ((λ a. absurd (cc (a))), (λ c. absurd (nothing_in Increment c)))
 has_first Named = ((λ a. absurd (cc (a))), (λ c. absurd (names_nothing c)))
 has_first (Unset which) = ((λ a. nothing_in (Store which)), (λ n. bit_at-zero (place_of which)))
+has_first (ValueIs place one) = (
+  (λ a. absurd (omega (arith, sym (ap (λ x. bit_at x place) (none_is one)) ∙ a, bit_at-zero place))),
+  (λ s. absurd (omega (arith, s.0))),
+)
 
 -- ---- one token more
 

@@ -11,10 +11,10 @@ use Rattle.ti_cap.specs.Capability.{Spot, IsWellFormed, Takes, IsFirst, whole}
 use Rattle.ti_cap.proofs.WrittenLemmas.{Same, one_form, one_cutting, spelled_long, written-append, written_one}
 use Rattle.ti_lint.specs.declared.expected.Expected.{Expected}
 use Rattle.ti_lint.specs.declared.finding.Finding.{Finding}
-use Rattle.ti_lint.specs.declared.finding.Finding.TheVariants.{StackUnderflow, TermcapParameter, ParameterRange, RepeatedIncrement, UnsetVariable}
+use Rattle.ti_lint.specs.declared.finding.Finding.TheVariants.{StackUnderflow, TermcapParameter, ParameterRange, RepeatedIncrement, UnsetVariable, OperandType, NoEffect, ConstantCondition, RepeatedCondition}
 use Rattle.ti_lint.specs.declared.found.Found.{Found}
 use Rattle.ti_lint.specs.OnSomePath.{Stands}
-use Rattle.ti_lint.specs.Findings.{Underway, IsFoundBefore, IsFoundAfter}
+use Rattle.ti_lint.specs.Findings.{Underway, IsFoundBefore, IsFoundAfter, IsFoundWithin}
 use Rattle.ti_lint.specs.Found.{IsFoundAt, Precedes}
 use Rattle.ti_lint.specs.inner.Found.{found_at}
 use Rattle.ti_lint.proofs.AtLemmas.{same_whole}
@@ -125,19 +125,42 @@ never_both at k TermcapParameter b a = a
 never_both at k ParameterRange b a = a
 never_both at k RepeatedIncrement b a = a
 never_both at k UnsetVariable b a = a
+never_both at k OperandType b a = a
 never_both at k _ b a = b
 
+-- nor by the conditional that the token is a part of
+never_before : (at : Underway) (k : Token) (g : Finding) → IsFoundBefore at k g → IsFoundWithin at k g → ⊥
+never_before at k StackUnderflow b w = w.found
+never_before at k TermcapParameter b w = w.found
+never_before at k ParameterRange b w = w.found
+never_before at k RepeatedIncrement b w = w.found
+never_before at k UnsetVariable b w = w.found
+never_before at k OperandType b w = w.found
+never_before at k _ b w = b
+
+never_after : (at : Underway) (k : Token) (g : Finding) → IsFoundAfter at k g → IsFoundWithin at k g → ⊥
+never_after at k NoEffect a w = a
+never_after at k ConstantCondition a w = a
+never_after at k RepeatedCondition a w = a
+never_after at k _ a w = w.found
+
 -- what a token was judged by
-pub record IsJudged (at new : Underway) (k : Token) (before after : Option Finding) : Type 0 where
+pub record IsJudged (at new : Underway) (k : Token) (before after within : Option Finding) : Type 0 where
   pub takes : Takes k at.spot new.spot
   pub first : IsFirst k at.spot new.spot
   pub same : new.expected ≡ at.expected
   pub by_before : (g : Finding) → (before ≡ Some g) ↔ IsFoundBefore at k g
   pub by_after : (g : Finding) → (after ≡ Some g) ↔ IsFoundAfter at k g
+  pub by_within : (g : Finding) → (within ≡ Some g) ↔ IsFoundWithin at k g
 
-pub lists_next : (bytes : List ℕ) (expected : Expected) (at new : Underway) (k : Token) (before after : Option Finding) (list : List Found) → Lists bytes expected at list
-    → IsJudged at new k before after → Lists bytes expected new ((list ++ found_at (length at.spot.taken) before) ++ found_at (length at.spot.taken) after)
-lists_next bytes expected at new k before after list l j = record {
+-- a token has the finding
+abbrev pub IsFoundOf : Underway → Token → Finding → Type 0
+IsFoundOf at k g = IsFoundBefore at k g ⊎ IsFoundAfter at k g ⊎ IsFoundWithin at k g
+
+pub lists_next : (bytes : List ℕ) (expected : Expected) (at new : Underway) (k : Token) (before after within : Option Finding) (list : List Found) → Lists bytes expected at list
+    → IsJudged at new k before after within
+    → Lists bytes expected new (((list ++ found_at (length at.spot.taken) before) ++ found_at (length at.spot.taken) after) ++ found_at (length at.spot.taken) within)
+lists_next bytes expected at new k before after within list l j = record {
   formed = l.formed;
   all = sym (same_whole at.spot new.spot k j.takes) ∙ l.all;
   judged_by = j.same ∙ l.judged_by;
@@ -147,14 +170,22 @@ lists_next bytes expected at new k before after list l j = record {
       subst P (sym j.takes.3) (written-append l.before (k ∷ []) at.spot.taken j.takes.0 l.taken (written_one k j.takes.0 j.takes.1));
   left = n.2;
   exact = λ one. (there one, back one);
-  low = noted_all (λ one. one.place < length new.spot.taken) _ place after
-      (noted_all (λ one. one.place < length new.spot.taken) list place before (All-weaker (λ one. one.place < place) (λ one. one.place < length new.spot.taken) (λ one low. omega (arith, longer)) list l.low) (λ g e. longer)) (λ g e. longer);
-  order = noted_order _ place after (noted_order list place before l.order (λ g e. earlier g))
-      (λ g e. noted_all (λ one. Precedes one (record { place = place; finding = g })) list place before (earlier g) (λ h f. (omega arith, differs g h f e)));
+  low = all_noted (λ one. one.place < length new.spot.taken) (All-weaker (λ one. one.place < place) (λ one. one.place < length new.spot.taken) (λ one low. omega (arith, longer)) list l.low)
+      (λ g. longer) (λ g. longer) (λ g. longer);
+  order = noted_order _ place within
+      (noted_order _ place after (noted_order list place before l.order (λ g e. earlier g))
+      (λ g e. noted_all (λ one. Precedes one (record { place = place; finding = g })) list place before (earlier g) (λ h f. (omega arith, differs h g (λ same. by_both h g f e same)))))
+      (λ g e. noted_all (λ one. Precedes one (record { place = place; finding = g })) _ place after
+      (noted_all (λ one. Precedes one (record { place = place; finding = g })) list place before (earlier g) (λ h f. (omega arith, differs h g (λ same. by_first h g f e same))))
+      (λ h f. (omega arith, differs h g (λ same. by_last h g f e same))));
 }
   where
     place : ℕ
     place = length at.spot.taken
+
+    all_noted : (P : Found → Type 0) → All P list → ((g : Finding) → P (record { place = place; finding = g })) → ((g : Finding) → P (record { place = place; finding = g }))
+        → ((g : Finding) → P (record { place = place; finding = g })) → All P (((list ++ found_at place before) ++ found_at place after) ++ found_at place within)
+    all_noted P all one two three = noted_all P _ place within (noted_all P _ place after (noted_all P list place before all (λ g e. one g)) (λ g e. two g)) (λ g e. three g)
 
     n : (rest : List Token) × (l.after ≡ k ∷ rest) × Written rest new.spot.left
     n = j.first l.after l.left
@@ -165,11 +196,17 @@ lists_next bytes expected at new k before after list l j = record {
     earlier : (g : Finding) → All (λ one. Precedes one (record { place = place; finding = g })) list
     earlier g = All-weaker (λ one. one.place < place) (λ one. Precedes one (record { place = place; finding = g })) (λ one low. (omega arith, (λ e. let same : one.place ≡ place = ap (λ x. x.place) e in omega arith))) list l.low
 
-    differs : (g h : Finding) → before ≡ Some h → after ≡ Some g → ◌≢◌ {A = Found} (record { place = place; finding = h }) (record { place = place; finding = g })
-    differs g h f e same =
-        let is : h ≡ g = ap (λ x. x.finding) same in
-        let P : Finding → Type 0 = λ x. IsFoundBefore at k x in
-        never_both at k g (subst P is ((j.by_before h).0 f)) ((j.by_after g).0 e)
+    differs : (h g : Finding) → (h ≡ g → ⊥) → ◌≢◌ {A = Found} (record { place = place; finding = h }) (record { place = place; finding = g })
+    differs h g other same = other (ap (λ x. x.finding) same)
+
+    by_both : (h g : Finding) → before ≡ Some h → after ≡ Some g → h ≡ g → ⊥
+    by_both h g f e is = let P : Finding → Type 0 = λ x. IsFoundBefore at k x in never_both at k g (subst P is ((j.by_before h).0 f)) ((j.by_after g).0 e)
+
+    by_first : (h g : Finding) → before ≡ Some h → within ≡ Some g → h ≡ g → ⊥
+    by_first h g f e is = let P : Finding → Type 0 = λ x. IsFoundBefore at k x in never_before at k g (subst P is ((j.by_before h).0 f)) ((j.by_within g).0 e)
+
+    by_last : (h g : Finding) → after ≡ Some h → within ≡ Some g → h ≡ g → ⊥
+    by_last h g f e is = let P : Finding → Type 0 = λ x. IsFoundAfter at k x in never_after at k g (subst P is ((j.by_after h).0 f)) ((j.by_within g).0 e)
 
     stands : Stands bytes at.spot.taken k
     stands = record {
@@ -196,7 +233,7 @@ lists_next bytes expected at new k before after list l j = record {
     Holds : Found → Type 0
     Holds one = (f : IsFoundAt bytes expected one) × (length f.stands.before < length (l.before ++ k ∷ []))
 
-    found : (one : Found) → one.place ≡ place → IsFoundBefore at k one.finding ⊎ IsFoundAfter at k one.finding → Holds one
+    found : (one : Found) → one.place ≡ place → IsFoundOf at k one.finding → Holds one
     found one is either = (
       record {
         spot = at.spot;
@@ -204,17 +241,20 @@ lists_next bytes expected at new k before after list l j = record {
         all = l.all;
         place = sym is;
         stands = stands;
-        holds = let P : Underway → Type 0 = λ x. IsFoundBefore x k one.finding ⊎ IsFoundAfter x k one.finding in subst P here_is either;
+        holds = let P : Underway → Type 0 = λ x. IsFoundOf x k one.finding in subst P here_is either;
       },
       omega (arith, counts),
     )
 
-    there : (one : Found) → Contains ((list ++ found_at place before) ++ found_at place after) one → Holds one
-    there one c = elim ((in_noted (list ++ found_at place before) place after one).0 c) [
-      | inr p ↦ found one p.0 (inr ((j.by_after one.finding).0 p.1))
-      | inl d ↦ elim ((in_noted list place before one).0 d) [
-        | inr p ↦ found one p.0 (inl ((j.by_before one.finding).0 p.1))
-        | inl old ↦ let p = (l.exact one).0 old in (p.0, omega (arith, p.1, counts))
+    there : (one : Found) → Contains (((list ++ found_at place before) ++ found_at place after) ++ found_at place within) one → Holds one
+    there one c = elim ((in_noted ((list ++ found_at place before) ++ found_at place after) place within one).0 c) [
+      | inr p ↦ found one p.0 (inr (inr ((j.by_within one.finding).0 p.1)))
+      | inl b ↦ elim ((in_noted (list ++ found_at place before) place after one).0 b) [
+        | inr p ↦ found one p.0 (inr (inl ((j.by_after one.finding).0 p.1)))
+        | inl d ↦ elim ((in_noted list place before one).0 d) [
+          | inr p ↦ found one p.0 (inl ((j.by_before one.finding).0 p.1))
+          | inl old ↦ let p = (l.exact one).0 old in (p.0, omega (arith, p.1, counts))
+        ]
       ]
     ]
 
@@ -223,26 +263,35 @@ lists_next bytes expected at new k before after list l j = record {
 
     -- it is found of this token
     this : (one : Found) (f : IsFoundAt bytes expected one) → length f.stands.before ≡ length l.before
-        → (one.place ≡ place) × ((before ≡ Some one.finding) ⊎ (after ≡ Some one.finding))
+        → (one.place ≡ place) × ((before ≡ Some one.finding) ⊎ (after ≡ Some one.finding) ⊎ (within ≡ Some one.finding))
     this one f e =
         let same : One at.spot f.spot k f.token = one_place bytes at.spot f.spot k f.token l.all f.all stands f.stands e in
-        let P : Spot → Type 0 = λ x. IsFoundBefore (record { spot = x; expected = expected }) f.token one.finding ⊎ IsFoundAfter (record { spot = x; expected = expected }) f.token one.finding in
-        let Q : Token → Type 0 = λ x. IsFoundBefore here x one.finding ⊎ IsFoundAfter here x one.finding in
-        let R : Underway → Type 0 = λ x. IsFoundBefore x k one.finding ⊎ IsFoundAfter x k one.finding in
+        let P : Spot → Type 0 = λ x. IsFoundOf (record { spot = x; expected = expected }) f.token one.finding in
+        let Q : Token → Type 0 = λ x. IsFoundOf here x one.finding in
+        let R : Underway → Type 0 = λ x. IsFoundOf x k one.finding in
         (sym f.place ∙ ap (λ x. length x.taken) same.spot_is, told (subst R (sym here_is) (subst Q same.token_is (subst P same.spot_is f.holds))))
       where
-        told : IsFoundBefore at k one.finding ⊎ IsFoundAfter at k one.finding → (before ≡ Some one.finding) ⊎ (after ≡ Some one.finding)
+        told : IsFoundOf at k one.finding → (before ≡ Some one.finding) ⊎ (after ≡ Some one.finding) ⊎ (within ≡ Some one.finding)
         told (inl h) = inl ((j.by_before one.finding).1 h)
-        told (inr h) = inr ((j.by_after one.finding).1 h)
+        told (inr (inl h)) = inr (inl ((j.by_after one.finding).1 h))
+        told (inr (inr h)) = inr (inr ((j.by_within one.finding).1 h))
 
-    back : (one : Found) → Holds one → Contains ((list ++ found_at place before) ++ found_at place after) one
-    back one (f, less) = (in_noted (list ++ found_at place before) place after one).1 (elim (near (length f.stands.before) (length l.before) (omega (arith, counts))) [
-      | inl old ↦ inl ((in_noted list place before one).1 (inl ((l.exact one).1 (f, old))))
+    -- what is in the list before the last addition
+    kept : (one : Found) → Contains ((list ++ found_at place before) ++ found_at place after) one → Contains (((list ++ found_at place before) ++ found_at place after) ++ found_at place within) one
+    kept one c = (in_noted ((list ++ found_at place before) ++ found_at place after) place within one).1 (inl c)
+
+    first : (one : Found) → Contains (list ++ found_at place before) one → Contains (((list ++ found_at place before) ++ found_at place after) ++ found_at place within) one
+    first one c = kept one ((in_noted (list ++ found_at place before) place after one).1 (inl c))
+
+    back : (one : Found) → Holds one → Contains (((list ++ found_at place before) ++ found_at place after) ++ found_at place within) one
+    back one (f, less) = elim (near (length f.stands.before) (length l.before) (omega (arith, counts))) [
+      | inl old ↦ first one ((in_noted list place before one).1 (inl ((l.exact one).1 (f, old))))
       | inr e ↦ let t = this one f e in elim t.1 [
-        | inl b ↦ inl ((in_noted list place before one).1 (inr (t.0, b)))
-        | inr a ↦ inr (t.0, a)
+        | inl b ↦ first one ((in_noted list place before one).1 (inr (t.0, b)))
+        | inr (inl a) ↦ kept one ((in_noted (list ++ found_at place before) place after one).1 (inr (t.0, a)))
+        | inr (inr w) ↦ (in_noted ((list ++ found_at place before) ++ found_at place after) place within one).1 (inr (t.0, w))
       ]
-    ])
+    ]
 
 -- at the end
 pub listed : (bytes : List ℕ) (expected : Expected) (at : Underway) (list : List Found) → Lists bytes expected at list → at.spot.left ≡ []

@@ -1,23 +1,30 @@
 -- What a pass tells of a token is what holds of it on some path.
 use Rattle.std.proofs.Common.{◌≡◌, ◌≢◌, ℕ, zero, suc, ◌-◌, ◌<◌, ◌≤◌, ◌⊎◌, inl, inr, ◌↔◌, List, refl, sym, ◌∙◌, ap, subst, arith, Bool, true, false, not, ◌||◌, ◌&&◌, nat_eq, nat_le, nat_lt, IsTrue, Contains}
-use Rattle.std.specs.Prelude.{Some}
+use Rattle.std.specs.Prelude.{Option, Some, None}
+use Rattle.std.proofs.Common.{get_or, length, if◌then◌else◌}
 use Rattle.std.specs.Int.{bit_at}
 use Rattle.std.proofs.lemmas.Nat.Bits.{bit_at-lt, bit_at-zero, same_from_bits}
 use Rattle.ti_cap.specs.declared.language.Token.{Token}
 use Rattle.ti_cap.specs.declared.language.Token.TheVariants.{Param, Load, Store, Increment}
 use Rattle.ti_cap.specs.declared.parameter_set.ParameterSet.{ParameterSet}
 use Rattle.ti_cap.specs.Height.{pops, end_height}
-use Rattle.ti_cap.specs.Sources.{Has as HasParameter, IsNamed}
+use Rattle.ti_cap.specs.Sources.{Has as HasParameter, IsNamed, sources, takes_text}
 use Rattle.ti_cap.specs.Capability.{Spot, whole}
 use Rattle.ti_lint.specs.declared.heights.Heights.{Heights}
 use Rattle.ti_lint.specs.declared.pass.Pass.{Pass}
 use Rattle.ti_lint.specs.declared.expected.Expected.{Expected}
+use Rattle.ti_lint.specs.declared.expected.TextParameters.{TextParameters}
+use Rattle.ti_lint.specs.declared.values.Source.{Source}
+use Rattle.ti_lint.specs.declared.values.Source.TheVariants.{First, Second, Third, Other}
+use Rattle.ti_lint.specs.declared.values.Values.{Values}
+use Rattle.ti_lint.specs.inner.Values.{source_of}
 use Rattle.ti_lint.specs.declared.finding.Finding.{Finding}
-use Rattle.ti_lint.specs.declared.finding.Finding.TheVariants.{StackUnderflow, TermcapParameter, ParameterRange, RepeatedIncrement, UnsetVariable}
-use Rattle.ti_lint.specs.Findings.{IsMetAfter, Underflows, NamesNone, IsOutOfRange, IsRepeated, IsStoredElsewhere, IsUnset, IsFoundBefore}
-use Rattle.ti_lint.specs.inner.Facts.{has_bit, is_any_below, lacks, place_of, found_if, is_kept, is_unset, underflow, judgement}
+use Rattle.ti_lint.specs.declared.finding.Finding.TheVariants.{StackUnderflow, TermcapParameter, ParameterRange, RepeatedIncrement, UnsetVariable, OperandType}
+use Rattle.ti_lint.specs.Findings.{IsMetAfter, Underflows, NamesNone, IsOutOfRange, IsRepeated, IsStoredElsewhere, IsUnset, is_text_value, HasKindAt, TakesOtherKind, IsFoundBefore}
+use Rattle.ti_lint.specs.inner.Facts.{has_bit, is_any_below, lacks, place_of, found_if, is_kept, is_unset, underflow, agrees, has_kind, is_other_below, of_pops, judgement}
 use Rattle.ti_lint.proofs.HeightsLemmas.{HasHeight}
-use Rattle.ti_lint.proofs.FactsLemmas.{HeightIs, Incremented, Unset}
+use Rattle.ti_lint.proofs.FactsLemmas.{HeightIs, Incremented, Unset, ValueIs}
+use Rattle.ti_lint.proofs.ValuesLemmas.{HasValue}
 use Rattle.ti_lint.proofs.PassLemmas.{chain}
 use Rattle.ti_lint.proofs.OnSomePathLemmas.{Before, IsPart, Comes, some_before}
 
@@ -189,6 +196,130 @@ range_is expected which = (there, back)
     back : IsOutOfRange expected (Param which) → nat_lt expected.parameters which ≡ true
     back (other, is, lt) = let e : which ≡ other = same other is in grind arith
 
+-- ---- the kinds of values
+
+kind_of : TextParameters → Source → Bool
+kind_of texts First = texts.first
+kind_of texts Second = texts.second
+kind_of texts Third = texts.third
+kind_of texts Other = false
+
+text_is : (texts : TextParameters) (o : Option ℕ) → is_text_value texts o ≡ kind_of texts (source_of o)
+unfolding kind_of
+text_is texts None = refl
+text_is texts (Some which) = by (nat_eq which 1) (nat_eq which 2) (nat_eq which 3)
+  where
+    by : (a b c : Bool)
+        → (if a then texts.first else (if b then texts.second else (if c then texts.third else false)))
+        ≡ kind_of texts (if a then First else (if b then Second else (if c then Third else Other)))
+    by true b c = refl
+    by false true c = refl
+    by false false true = refl
+    by false false false = refl
+
+agrees_is : (wanted is_text : Bool) → (agrees wanted is_text ≡ true) ↔ (is_text ≡ wanted)
+agrees_is true true = ((λ e. refl), (λ e. refl))
+agrees_is true false = ((λ e. e), (λ e. e))
+agrees_is false true = ((λ e. absurd (cc)), (λ e. absurd (cc)))
+agrees_is false false = ((λ e. refl), (λ e. refl))
+
+-- one of four tests
+kind_there : (texts : TextParameters) (wanted : Bool) (v : Values) (place : ℕ) → has_kind texts wanted v place ≡ true → (one : Source) × (kind_of texts one ≡ wanted) × HasValue v one place
+unfolding kind_of
+kind_there texts wanted v place e = elim ((either_is _ _).0 e) [
+  | inl f ↦ elim ((either_is _ _).0 f) [
+    | inl g ↦ let t = (both_are (agrees wanted texts.first) (has_bit v.first place)).0 g in (First, (agrees_is wanted texts.first).0 t.0, (bit_is v.first place).0 t.1)
+    | inr g ↦ let t = (both_are (agrees wanted texts.second) (has_bit v.second place)).0 g in (Second, (agrees_is wanted texts.second).0 t.0, (bit_is v.second place).0 t.1)
+  ]
+  | inr f ↦ elim ((either_is _ _).0 f) [
+    | inl g ↦ let t = (both_are (agrees wanted texts.third) (has_bit v.third place)).0 g in (Third, (agrees_is wanted texts.third).0 t.0, (bit_is v.third place).0 t.1)
+    | inr g ↦ let t = (both_are (not wanted) (has_bit v.other place)).0 g in (Other, sym ((not_is wanted).0 t.0), (bit_is v.other place).0 t.1)
+  ]
+]
+
+kind_back : (texts : TextParameters) (wanted : Bool) (v : Values) (place : ℕ) (one : Source) → kind_of texts one ≡ wanted → HasValue v one place → has_kind texts wanted v place ≡ true
+unfolding kind_of
+kind_back texts wanted v place First k h =
+    (either_is _ _).1 (inl ((either_is _ _).1 (inl ((both_are (agrees wanted texts.first) (has_bit v.first place)).1 ((agrees_is wanted texts.first).1 k, (bit_is v.first place).1 h)))))
+kind_back texts wanted v place Second k h =
+    (either_is _ _).1 (inl ((either_is _ _).1 (inr ((both_are (agrees wanted texts.second) (has_bit v.second place)).1 ((agrees_is wanted texts.second).1 k, (bit_is v.second place).1 h)))))
+kind_back texts wanted v place Third k h =
+    (either_is _ _).1 (inr ((either_is _ _).1 (inl ((both_are (agrees wanted texts.third) (has_bit v.third place)).1 ((agrees_is wanted texts.third).1 k, (bit_is v.third place).1 h)))))
+kind_back texts wanted v place Other k h =
+    (either_is _ _).1 (inr ((either_is _ _).1 (inr ((both_are (not wanted) (has_bit v.other place)).1 ((not_is wanted).1 (sym k), (bit_is v.other place).1 h)))))
+
+-- some path has a value of the kind there
+kind_met : (spot : Spot) (k : Token) (p : Pass) → Before spot k p → ¬ IsPart k → (texts : TextParameters) (wanted : Bool) (place : ℕ)
+    → (has_kind texts wanted p.here.values place ≡ true) ↔ IsMetAfter spot k (HasKindAt texts wanted place)
+kind_met spot k p b no_part texts wanted place = chain (there, back) (some_before spot p k (HasKindAt texts wanted place) b no_part)
+  where
+    there : has_kind texts wanted p.here.values place ≡ true → Comes b.stands.before (HasKindAt texts wanted place)
+    there e =
+        let o = kind_there texts wanted p.here.values place e in
+        let t = (b.stands.knows.running (ValueIs place o.0) tt).0 o.2 in
+        (t.0, t.1, (t.2.0, text_is texts (get_or (sources t.0) place None) ∙ ap (λ x. kind_of texts x) t.2.1 ∙ o.1))
+
+    back : Comes b.stands.before (HasKindAt texts wanted place) → has_kind texts wanted p.here.values place ≡ true
+    back (path, r, (less, is)) =
+        let o : Option ℕ = get_or (sources path) place None in
+        kind_back texts wanted p.here.values place (source_of o) (sym (text_is texts o) ∙ is) ((b.stands.knows.running (ValueIs place (source_of o)) tt).1 (path, r, (less, refl)))
+
+other_below : (texts : TextParameters) (wanted : Bool) (v : Values) (Met : ℕ → Type 0) → ((place : ℕ) → (has_kind texts wanted v place ≡ true) ↔ Met place) → (n : ℕ)
+    → (is_other_below n texts wanted v ≡ true) ↔ ((place : ℕ) × (place < n) × ¬ Met place)
+other_below texts wanted v Met each zero = ((λ e. absurd (cc)), (λ t. absurd (omega (arith, t.1))))
+other_below texts wanted v Met each (suc n) = along (other_below texts wanted v Met each n)
+  where
+    near : (i m : ℕ) → i < suc m → (i < m) ⊎ (i ≡ m)
+    near i m less = grind arith
+
+    along : (is_other_below n texts wanted v ≡ true) ↔ ((place : ℕ) × (place < n) × ¬ Met place)
+        → (is_other_below n texts wanted v || not (has_kind texts wanted v n) ≡ true) ↔ ((place : ℕ) × (place < suc n) × ¬ Met place)
+    along old = (there, back)
+      where
+        there : is_other_below n texts wanted v || not (has_kind texts wanted v n) ≡ true → (place : ℕ) × (place < suc n) × ¬ Met place
+        there e = elim ((either_is (is_other_below n texts wanted v) (not (has_kind texts wanted v n))).0 e) [
+          | inl a ↦ let t : (place : ℕ) × (place < n) × ¬ Met place = old.0 a in (t.0, omega (arith, t.1), t.2)
+          | inr a ↦ (n, omega arith, (not_by (has_kind texts wanted v n) (each n)).0 ((not_is (has_kind texts wanted v n)).0 a))
+        ]
+
+        back : (place : ℕ) × (place < suc n) × ¬ Met place → is_other_below n texts wanted v || not (has_kind texts wanted v n) ≡ true
+        back (place, less, none) = (either_is (is_other_below n texts wanted v) (not (has_kind texts wanted v n))).1 (elim (near place n less) [
+          | inl low ↦ inl (old.1 (place, low, none))
+          | inr e ↦ let P : ℕ → Type 0 = λ x. ¬ Met x in inr ((not_is (has_kind texts wanted v n)).1 ((not_by (has_kind texts wanted v n) (each n)).1 (subst P e none)))
+        ])
+
+other_is : (spot : Spot) (expected : Expected) (k : Token) (p : Pass) → Before spot k p → (is_other_below (pops k) expected.texts (takes_text k) p.here.values ≡ true) ↔ TakesOtherKind expected spot k
+other_is spot expected k p b = elim (near (pops k)) [ inl e ↦ never e | inr some ↦ sometimes some ]
+  where
+    near : (n : ℕ) → (n ≡ 0) ⊎ (0 < n)
+    near n = grind arith
+
+    none : pops k ≡ 0 → is_other_below (pops k) expected.texts (takes_text k) p.here.values ≡ true → ⊥
+    none e a = let f : is_other_below 0 expected.texts (takes_text k) p.here.values ≡ true = ap (λ n. is_other_below n expected.texts (takes_text k) p.here.values) (sym e) ∙ a in absurd (cc)
+
+    never : pops k ≡ 0 → (is_other_below (pops k) expected.texts (takes_text k) p.here.values ≡ true) ↔ TakesOtherKind expected spot k
+    never e = ((λ a. absurd (none e a)), (λ t. absurd (omega (arith, t.1, e))))
+
+    sometimes : 0 < pops k → (is_other_below (pops k) expected.texts (takes_text k) p.here.values ≡ true) ↔ TakesOtherKind expected spot k
+    sometimes some = other_below expected.texts (takes_text k) p.here.values (λ place. IsMetAfter spot k (HasKindAt expected.texts (takes_text k) place))
+        (kind_met spot k p b no_part expected.texts (takes_text k)) (pops k)
+      where
+        no_part : ¬ IsPart k
+        no_part (inl e) = let f : pops k ≡ 0 = ap pops e in omega arith
+        no_part (inr e) = let f : pops k ≡ 0 = ap pops e in omega arith
+
+of_pops_is : (l m : Bool) (u g : Finding) → (of_pops l u m ≡ Some g) ↔ (((l ≡ true) × (u ≡ g)) ⊎ ((l ≡ false) × (m ≡ true) × (OperandType ≡ g)))
+of_pops_is true m u g = ((λ e. inl (refl, cc)), back)
+  where
+    back : ((true ≡ true) × (u ≡ g)) ⊎ ((true ≡ false) × (m ≡ true) × (OperandType ≡ g)) → Some u ≡ Some g
+    back (inl a) = ap (λ x. Some x) a.1
+    back (inr a) = absurd (cc (a.0))
+of_pops_is false m u g = ((λ e. let t = (found_is m OperandType g).0 e in inr (refl, t.0, t.1)), back)
+  where
+    back : ((false ≡ true) × (u ≡ g)) ⊎ ((false ≡ false) × (m ≡ true) × (OperandType ≡ g)) → found_if m OperandType ≡ Some g
+    back (inl a) = absurd (cc (a.0))
+    back (inr a) = (found_is m OperandType g).1 (a.1, a.2)
+
 -- ---- what is reported
 
 -- the token is none for which there is a finding of its own
@@ -196,8 +327,8 @@ abbrev IsOther : Token → Type 0
 IsOther k = ((which : ℕ) → k ≢ Param which) × (k ≢ Increment) × ((which : ℕ) → k ≢ Load which)
 
 by_pops : (spot : Spot) (expected : Expected) (termcap : Bool) (k : Token) (p : Pass) → Before spot k p → IsOther k → (IsTrue termcap ↔ NamesNone (whole spot)) → (g : Finding)
-    → (found_if (lacks k p.here.heights) (underflow termcap) ≡ Some g) ↔ IsFoundBefore (record { spot = spot; expected = expected }) k g
-by_pops spot expected termcap k p b other names g = chain (found_is (lacks k p.here.heights) (underflow termcap) g) (each g)
+    → (of_pops (lacks k p.here.heights) (underflow termcap) (is_other_below (pops k) expected.texts (takes_text k) p.here.values) ≡ Some g) ↔ IsFoundBefore (record { spot = spot; expected = expected }) k g
+by_pops spot expected termcap k p b other names g = chain (of_pops_is (lacks k p.here.heights) (is_other_below (pops k) expected.texts (takes_text k) p.here.values) (underflow termcap) g) (every g)
   where
     l : (lacks k p.here.heights ≡ true) ↔ Underflows spot k
     l = lacks_is spot k p b
@@ -225,13 +356,39 @@ by_pops spot expected termcap k p b other names g = chain (found_is (lacks k p.h
     n : (termcap ≡ false) ↔ (¬ NamesNone (whole spot))
     n = not_by termcap names
 
-    each : (g : Finding) → ((lacks k p.here.heights ≡ true) × (underflow termcap ≡ g)) ↔ IsFoundBefore (record { spot = spot; expected = expected }) k g
-    each StackUnderflow = ((λ a. (l.0 a.0, n.0 ((absent termcap).0 a.1))), (λ a. (l.1 a.0, (absent termcap).1 (n.1 a.1))))
-    each TermcapParameter = ((λ a. (l.0 a.0, names.0 ((present termcap).0 a.1))), (λ a. (l.1 a.0, (present termcap).1 (names.1 a.1))))
-    each ParameterRange = ((λ a. absurd (not_range termcap a.1)), (λ a. absurd (other.0 a.0 a.1)))
-    each RepeatedIncrement = ((λ a. absurd (not_repeated termcap a.1)), (λ a. absurd (other.1 a.0)))
-    each UnsetVariable = ((λ a. absurd (not_unset termcap a.1)), (λ a. absurd (other.2 a.0 a.1)))
-    each g = ((λ a. absurd ((elim termcap as (λ t. underflow t ≡ g → ⊥) [ true ↦ (λ e. absurd (cc)) | false ↦ (λ e. absurd (cc)) ]) a.1)), (λ a. absurd a))
+    each : (g : Finding) → g ≢ OperandType → ((lacks k p.here.heights ≡ true) × (underflow termcap ≡ g)) ↔ IsFoundBefore (record { spot = spot; expected = expected }) k g
+    each StackUnderflow unlike = ((λ a. (l.0 a.0, n.0 ((absent termcap).0 a.1))), (λ a. (l.1 a.0, (absent termcap).1 (n.1 a.1))))
+    each TermcapParameter unlike = ((λ a. (l.0 a.0, names.0 ((present termcap).0 a.1))), (λ a. (l.1 a.0, (present termcap).1 (names.1 a.1))))
+    each ParameterRange unlike = ((λ a. absurd (not_range termcap a.1)), (λ a. absurd (other.0 a.0 a.1)))
+    each RepeatedIncrement unlike = ((λ a. absurd (not_repeated termcap a.1)), (λ a. absurd (other.1 a.0)))
+    each UnsetVariable unlike = ((λ a. absurd (not_unset termcap a.1)), (λ a. absurd (other.2 a.0 a.1)))
+    each OperandType unlike = absurd (unlike refl)
+    each g unlike = ((λ a. absurd ((elim termcap as (λ t. underflow t ≡ g → ⊥) [ true ↦ (λ e. absurd (cc)) | false ↦ (λ e. absurd (cc)) ]) a.1)), (λ a. absurd a))
+
+    not_operand : (t : Bool) → underflow t ≢ OperandType
+    not_operand true e = absurd (cc)
+    not_operand false e = absurd (cc)
+
+    m : (is_other_below (pops k) expected.texts (takes_text k) p.here.values ≡ true) ↔ TakesOtherKind expected spot k
+    m = other_is spot expected k p b
+
+    Told : Finding → Type 0
+    Told g = ((lacks k p.here.heights ≡ true) × (underflow termcap ≡ g)) ⊎ ((lacks k p.here.heights ≡ false) × (is_other_below (pops k) expected.texts (takes_text k) p.here.values ≡ true) × (OperandType ≡ g))
+
+    told : (g : Finding) → g ≢ OperandType → Told g ↔ IsFoundBefore (record { spot = spot; expected = expected }) k g
+    told g unlike = (there, (λ f. inl ((each g unlike).1 f)))
+      where
+        there : Told g → IsFoundBefore (record { spot = spot; expected = expected }) k g
+        there (inl a) = (each g unlike).0 a
+        there (inr a) = absurd (unlike (sym a.2))
+
+    every : (g : Finding) → Told g ↔ IsFoundBefore (record { spot = spot; expected = expected }) k g
+    every OperandType = (there, (λ f. inr ((not_by (lacks k p.here.heights) l).1 f.0, m.1 f.1, refl)))
+      where
+        there : Told OperandType → IsFoundBefore (record { spot = spot; expected = expected }) k OperandType
+        there (inl a) = absurd (not_operand termcap a.1)
+        there (inr a) = ((not_by (lacks k p.here.heights) l).0 a.0, m.0 a.1)
+    every g = told g (λ e. absurd (cc))
 
 -- a token has a finding exactly if it holds
 pub found_exact : (spot : Spot) (expected : Expected) (termcap : Bool) (k : Token) (p : Pass) → Before spot k p → (IsTrue termcap ↔ NamesNone (whole spot)) → (g : Finding)
@@ -247,6 +404,7 @@ found_exact spot expected termcap (Param which) p b names g = chain (found_is (n
     each ParameterRange = ((λ a. r.0 a.0), (λ a. (r.1 a, refl)))
     each RepeatedIncrement = ((λ a. absurd (cc (a.1))), (λ a. absurd (cc (a.0))))
     each UnsetVariable = ((λ a. absurd (cc (a.1))), (λ a. absurd (cc (a.1))))
+    each OperandType = ((λ a. absurd (cc (a.1))), (λ a. absurd (omega (arith, a.1.1))))
     each _ = ((λ a. absurd (cc (a.1))), (λ a. absurd a))
 found_exact spot expected termcap Increment p b names g = chain (found_is p.here.incremented RepeatedIncrement g) (each g)
   where
@@ -259,6 +417,7 @@ found_exact spot expected termcap Increment p b names g = chain (found_is p.here
     each ParameterRange = ((λ a. absurd (cc (a.1))), (λ a. absurd (cc (a.1))))
     each RepeatedIncrement = ((λ a. r.0 a.0), (λ a. (r.1 a, refl)))
     each UnsetVariable = ((λ a. absurd (cc (a.1))), (λ a. absurd (cc (a.1))))
+    each OperandType = ((λ a. absurd (cc (a.1))), (λ a. absurd (omega (arith, a.1.1))))
     each _ = ((λ a. absurd (cc (a.1))), (λ a. absurd a))
 found_exact spot expected termcap (Load which) p b names g = chain (found_is (is_unset expected which p.here) UnsetVariable g) (each g)
   where
@@ -271,6 +430,7 @@ found_exact spot expected termcap (Load which) p b names g = chain (found_is (is
     each ParameterRange = ((λ a. absurd (cc (a.1))), (λ a. absurd (cc (a.1))))
     each RepeatedIncrement = ((λ a. absurd (cc (a.1))), (λ a. absurd (cc (a.0))))
     each UnsetVariable = ((λ a. r.0 a.0), (λ a. (r.1 a, refl)))
+    each OperandType = ((λ a. absurd (cc (a.1))), (λ a. absurd (omega (arith, a.1.1))))
     each _ = ((λ a. absurd (cc (a.1))), (λ a. absurd a))
 found_exact spot expected termcap k p b names g = by_pops spot expected termcap k p b ((λ which e. absurd (cc)), (λ e. absurd (cc)), (λ which e. absurd (cc))) names g
 

@@ -138,7 +138,7 @@ has_pushes zero set h few low = ((λ a. (h, a, omega arith)), (λ c. same_height
 has_pushes (suc zero) set h few low = has_raised set h low
 has_pushes (suc (suc n)) set h few low = absurd (omega arith)
 
-pushes_few : (k : Token) → pushes k ≤ 1
+pub pushes_few : (k : Token) → pushes k ≤ 1
 pushes_few (Compute op) = omega arith
 pushes_few _ = omega arith
 

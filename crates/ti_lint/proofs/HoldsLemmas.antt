@@ -2,13 +2,18 @@
 use Rattle.std.proofs.Common.{◌≡◌, ◌≢◌, ℕ, ◌<◌, ◌⊎◌, inl, inr, ◌↔◌, List, [], ◌∷◌, ◌++◌, refl, sym, ◌∙◌, ap, subst, arith, Contains}
 use Rattle.ti_cap.specs.declared.language.Token.{Token}
 use Rattle.ti_cap.specs.declared.language.Token.TheVariants.{Store, Increment}
-use Rattle.ti_cap.specs.Height.{next_height, end_height}
+use Rattle.std.specs.Prelude.{Option}
+use Rattle.std.specs.Int.{bit_at}
+use Rattle.ti_cap.specs.Height.{pops, pushes, next_height, end_height}
+use Rattle.ti_cap.specs.Sources.{source, next_sources, sources}
+use Rattle.ti_lint.specs.inner.Values.{mask_of}
+use Rattle.ti_lint.proofs.ValuesLemmas.{IsAtPlace, IsLowMask, after_is, value_there, value_back, sources-snoc, length-sources}
 use Rattle.ti_cap.proofs.ReachesLemmas.{Moved}
 use Rattle.ti_lint.specs.declared.facts.Facts.{Facts}
 use Rattle.ti_lint.specs.inner.Facts.{no_facts, first_facts, joined, after_token, IsLettered}
-use Rattle.ti_lint.proofs.HeightsLemmas.{HasHeight, IsLow, Comes, has_after}
+use Rattle.ti_lint.proofs.HeightsLemmas.{HasHeight, IsLow, Comes, has_after, pushes_few}
 use Rattle.ti_lint.specs.Findings.{NamesFirstTwo}
-use Rattle.ti_lint.proofs.FactsLemmas.{Fact, HeightIs, Incremented, Named, Unset, Says, Has, IsFit, has_nothing, has_joined, has_first, height-snoc, contains-snoc, IsFirstTwo, names_longer, has_first_two, has_increment, has_store}
+use Rattle.ti_lint.proofs.FactsLemmas.{Fact, HeightIs, Incremented, Named, Unset, ValueIs, Says, Has, IsFit, has_nothing, has_joined, has_first, height-snoc, contains-snoc, IsFirstTwo, names_longer, has_first_two, has_increment, has_store}
 
 abbrev pub Path : Type 0
 Path = List Token
@@ -125,11 +130,36 @@ holds_token k f within some fit is low h = each
               (h (Unset which) at).1 (old, w, (λ c. n ((contains-snoc old k (Store which)).1 (inl c)))),
               (λ i. n ((contains-snoc old k (Store which)).1 (inr i))),
             )
+    each (ValueIs place one) at = (there, back)
+      where
+        mask : ℕ
+        mask = mask_of one f.values
+
+        low_mask : IsLowMask mask
+        low_mask j a =
+            let t : IsTold within (ValueIs j one) = (h (ValueIs j one) tt).0 a in
+            omega (arith, low t.0 t.1, length-sources [] t.0, t.2.0)
+
+        along : (path : Path) → IsAtPlace (next_sources (sources path) k) place one → IsAtPlace (sources (snoc path k)) place one
+        along path a = let P : List (Option ℕ) → Type 0 = λ x. IsAtPlace x place one in subst P (sym (sources-snoc [] path k)) a
+
+        there : Has (after_token k f) (ValueIs place one) → IsTold (Moved snoc within k) (ValueIs place one)
+        there a = elim (value_there (pushes k) (pops k) (source k) mask one place (pushes_few k) low_mask (sym (ap (λ x. bit_at x place) (after_is k f.values one)) ∙ a)) [
+          | inl new ↦ (snoc some k, (some, is, refl), along some (new (sources some)))
+          | inr (j, old, goes) ↦ let t : IsTold within (ValueIs j one) = (h (ValueIs j one) tt).0 old in (snoc t.0 k, (t.0, t.1, refl), along t.0 (goes (sources t.0) t.2))
+        ]
+
+        back : IsTold (Moved snoc within k) (ValueIs place one) → Has (after_token k f) (ValueIs place one)
+        back (new, (old, w, e), s) =
+            let P : Path → Type 0 = λ y. IsAtPlace (sources y) place one in
+            let Q : List (Option ℕ) → Type 0 = λ x. IsAtPlace x place one in
+            ap (λ x. bit_at x place) (after_is k f.values one)
+            ∙ value_back (pushes k) (pops k) (source k) mask one place (sources old) (pushes_few k) low_mask (subst Q (sources-snoc [] old k) (subst P e s)) (λ j a. (h (ValueIs j one) tt).1 (old, w, a))
 
 -- ---- a token that changes no fact
 
 abbrev pub IsStill : Token → Type 0
-IsStill k = ((h : ℕ) → next_height h k ≡ h) × (k ≢ Increment) × ((which : ℕ) → k ≢ Store which) × ¬ IsFirstTwo k
+IsStill k = ((h : ℕ) → next_height h k ≡ h) × (k ≢ Increment) × ((which : ℕ) → k ≢ Store which) × (¬ IsFirstTwo k) × ((stack : List (Option ℕ)) → next_sources stack k ≡ stack)
 
 still_says : (k : Token) (fact : Fact) (path : Path) → IsStill k → Says fact path ↔ Says fact (snoc path k)
 still_says k (HeightIs h) path still =
@@ -147,6 +177,10 @@ still_says k (Unset which) path still = (there, (λ n c. n ((contains-snoc path 
   where
     there : ¬ Contains path (Store which) → ¬ Contains (snoc path k) (Store which)
     there n c = elim ((contains-snoc path k (Store which)).0 c) [ inl old ↦ n old | inr e ↦ still.2 which e ]
+still_says k (ValueIs place one) path still =
+    let e : sources (snoc path k) ≡ sources path = sources-snoc [] path k ∙ still.4 (sources path) in
+    let P : List (Option ℕ) → Type 0 = λ x. IsAtPlace x place one in
+    ((λ a. subst P (sym e) a), (λ a. subst P e a))
 
 pub holds_still : (k : Token) (f : Facts) (within : Path → Type 0) → IsStill k → Holds f within → Holds f (Moved snoc within k)
 holds_still k f within still h fact fit = (there, back)

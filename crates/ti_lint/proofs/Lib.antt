@@ -1,5 +1,6 @@
 pub mod AheadLemmas
 pub mod AtLemmas
+pub mod ConditionalsLemmas
 pub mod Examples
 pub mod FactsLemmas
 pub mod FoundAfterLemmas
@@ -13,6 +14,9 @@ pub mod OutlookLemmas
 pub mod PassLemmas
 pub mod PassStepLemmas
 pub mod ReachedLemmas
+pub mod SameTokenLemmas
 pub mod StoredLemmas
 pub mod UnusedLemmas
+pub mod ValuesLemmas
 pub mod VariablesLemmas
+pub mod WithinLemmas

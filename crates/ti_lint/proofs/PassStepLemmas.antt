@@ -50,21 +50,21 @@ holds_along o p within e h = let P : Facts → Type 0 = λ x. Holds x within in 
 
 -- tokens of a conditional that change no fact
 still_open : IsStill CondOpen
-still_open = ((λ h. omega arith), (λ e. absurd (cc)), (λ which e. absurd (cc)), not_first)
+still_open = ((λ h. omega arith), (λ e. absurd (cc)), (λ which e. absurd (cc)), not_first, (λ stack. refl))
   where
     not_first : IsFirstTwo CondOpen → ⊥
     not_first (inl e) = absurd (cc)
     not_first (inr e) = absurd (cc)
 
 still_else : IsStill CondElse
-still_else = ((λ h. omega arith), (λ e. absurd (cc)), (λ which e. absurd (cc)), not_first)
+still_else = ((λ h. omega arith), (λ e. absurd (cc)), (λ which e. absurd (cc)), not_first, (λ stack. refl))
   where
     not_first : IsFirstTwo CondElse → ⊥
     not_first (inl e) = absurd (cc)
     not_first (inr e) = absurd (cc)
 
 still_close : IsStill CondClose
-still_close = ((λ h. omega arith), (λ e. absurd (cc)), (λ which e. absurd (cc)), not_first)
+still_close = ((λ h. omega arith), (λ e. absurd (cc)), (λ which e. absurd (cc)), not_first, (λ stack. refl))
   where
     not_first : IsFirstTwo CondClose → ⊥
     not_first (inl e) = absurd (cc)

@@ -1,16 +1,20 @@
--- What may be wrong with a token of a capability, by the paths that come to it and those that go on from it.
-use Rattle.std.specs.Prelude.{◌≡◌, ℕ, ◌<◌, ◌≤◌, ◌⊎◌, List, [], ◌∷◌, Contains, codes}
+-- What may be wrong with a token of a capability, by the paths that come to it and those that go on from it, and by the conditional
+-- that it is a part of.
+use Rattle.std.specs.Prelude.{◌≡◌, ℕ, ◌<◌, ◌≤◌, ◌⊎◌, nat_eq, Bool, false, if◌then◌else◌, List, [], ◌∷◌, get_or, length, Option, Some, None, Contains, codes}
 use Rattle.ti_base.specs.Letters.{letter}
 use Rattle.ti_cap.specs.declared.language.Token.{Token}
 use Rattle.ti_cap.specs.declared.language.Token.TheVariants.{Param, Store, Load, Increment}
 use Rattle.ti_cap.specs.Height.{pops, pushes, next_height, end_height}
-use Rattle.ti_cap.specs.Sources.{Names, IsNamed}
+use Rattle.ti_cap.specs.Sources.{Names, IsNamed, sources, takes_text}
+use Rattle.ti_cap.specs.Spelling.{Written}
 use Rattle.ti_cap.specs.Capability.{Spot, whole}
 use Rattle.ti_lint.specs.declared.expected.Expected.{Expected}
+use Rattle.ti_lint.specs.declared.expected.TextParameters.{TextParameters}
 use Rattle.ti_lint.specs.declared.finding.Finding.{Finding}
-use Rattle.ti_lint.specs.declared.finding.Finding.TheVariants.{StackUnderflow, TermcapParameter, ParameterRange, RepeatedIncrement, UnsetVariable, StackResidue, UnusedIncrement, LateIncrement, DeadStore}
+use Rattle.ti_lint.specs.declared.finding.Finding.TheVariants.{StackUnderflow, TermcapParameter, ParameterRange, RepeatedIncrement, UnsetVariable, OperandType, StackResidue, UnusedIncrement, LateIncrement, DeadStore}
 use Rattle.ti_lint.specs.Variables.{HasVariable}
 use Rattle.ti_lint.specs.OnSomePath.{OnSomePath}
+use Rattle.ti_lint.specs.Conditionals.{IsFoundAmong}
 
 -- where the findings of a capability stand, and what they go by
 pub record Underway : Type 0 where
@@ -53,6 +57,21 @@ IsUnset expected spot token =
     (which : ℕ) × (token ≡ Load which) × (¬ IsStoredElsewhere expected which)
     × IsMetAfter spot token (λ before. ¬ Contains before (Store which))
 
+-- whether a value is a text: that of a parameter that is one. All others are numbers
+abbrev pub is_text_value : TextParameters → Option ℕ → Bool
+is_text_value texts None = false
+is_text_value texts (Some which) =
+    if nat_eq which 1 then texts.first else (if nat_eq which 2 then texts.second else (if nat_eq which 3 then texts.third else false))
+
+-- at the place, counted from the top of the stack, is a value of the kind
+abbrev pub HasKindAt : TextParameters → Bool → ℕ → List Token → Type 0
+HasKindAt texts wanted place before = (place < length (sources before)) × (is_text_value texts (get_or (sources before) place None) ≡ wanted)
+
+-- of the values that the token pops, one is on no path of the kind that it takes
+abbrev pub TakesOtherKind : Expected → Spot → Token → Type 0
+TakesOtherKind expected spot token =
+    (place : ℕ) × (place < pops token) × ¬ IsMetAfter spot token (HasKindAt expected.texts (takes_text token) place)
+
 -- the finding holds of the token that stands next, by what comes before it
 abbrev pub IsFoundBefore : Underway → Token → Finding → Type 0
 IsFoundBefore at token StackUnderflow = Underflows at.spot token × ¬ NamesNone (whole at.spot)
@@ -60,6 +79,7 @@ IsFoundBefore at token TermcapParameter = Underflows at.spot token × NamesNone 
 IsFoundBefore at token ParameterRange = IsOutOfRange at.expected token
 IsFoundBefore at token RepeatedIncrement = IsRepeated at.spot token
 IsFoundBefore at token UnsetVariable = IsUnset at.expected at.spot token
+IsFoundBefore at token OperandType = (¬ Underflows at.spot token) × TakesOtherKind at.expected at.spot token
 IsFoundBefore at token finding = ⊥
 
 -- ---- by what comes after
@@ -99,3 +119,13 @@ IsFoundAfter at token UnusedIncrement = IsUnused at.spot token
 IsFoundAfter at token LateIncrement = IsLate at.spot token
 IsFoundAfter at token DeadStore = IsDead at.spot token
 IsFoundAfter at token finding = ⊥
+
+-- ---- by the conditional that it is a part of
+
+-- the finding holds of the token that stands next, by the tokens before it and after it
+pub record IsFoundWithin (at : Underway) (token : Token) (finding : Finding) : Type 0 where
+  pub before : List Token
+  pub after : List Token
+  pub taken : Written before at.spot.taken
+  pub left : Written (token ∷ after) at.spot.left
+  pub found : IsFoundAmong before token after finding

@@ -5,7 +5,7 @@ use Rattle.ti_cap.specs.Capability.{Spot, whole}
 use Rattle.ti_lint.specs.declared.expected.Expected.{Expected}
 use Rattle.ti_lint.specs.declared.found.Found.{Found}
 use Rattle.ti_lint.specs.OnSomePath.{Stands}
-use Rattle.ti_lint.specs.Findings.{IsFoundBefore, IsFoundAfter}
+use Rattle.ti_lint.specs.Findings.{IsFoundBefore, IsFoundAfter, IsFoundWithin}
 
 -- The bytes have a token after so many of them, and the finding holds of that token.
 pub record IsFoundAt (bytes : List ℕ) (expected : Expected) (found : Found) : Type 0 where
@@ -16,6 +16,7 @@ pub record IsFoundAt (bytes : List ℕ) (expected : Expected) (found : Found) : 
   pub stands : Stands bytes spot.taken token
   pub holds : IsFoundBefore (record { spot = spot; expected = expected }) token found.finding
       ⊎ IsFoundAfter (record { spot = spot; expected = expected }) token found.finding
+      ⊎ IsFoundWithin (record { spot = spot; expected = expected }) token found.finding
 
 -- no place comes after a greater one, and nothing is found twice
 abbrev pub Precedes : Found → Found → Type 0

@@ -3,8 +3,10 @@ pub mod Variables
 pub mod Classes
 pub mod Pairs
 pub mod Plain
+pub mod TextParameters
 pub mod Marks
 pub mod OnSomePath
+pub mod Conditionals
 pub mod Findings
 pub mod FindingWords
 pub mod Found

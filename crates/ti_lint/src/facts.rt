@@ -1,11 +1,12 @@
 //! What is true on some path that comes to a place. No fact depends on which way a test went, so what is found is exact.
 
 ghost use Rattle.std.specs.Prelude.{◌≡◌, ◌≤◌};
-ghost use Rattle.ti_lint.specs.inner.Facts.{after_token, is_first_two, joined, IsLettered, judgement, is_unset, found_if, underflow};
+ghost use Rattle.ti_lint.specs.inner.Facts.{after_token, is_first_two, joined, IsLettered, judgement, is_unset, found_if, of_pops, underflow};
 
 use crate::expected::Expected;
 use crate::finding::Finding;
 use crate::heights::Heights;
+use crate::values::Values;
 use crate::variables::Variables;
 use ti_cap::Token;
 
@@ -20,6 +21,8 @@ pub struct Facts {
     named_first_two: bool,
     /// The variables into which every path has stored.
     stored: Variables,
+    /// The values on the stack, each on some path.
+    values: Values,
 }
 
 impl Facts {
@@ -29,6 +32,7 @@ impl Facts {
         incremented: false,
         named_first_two: false,
         stored: Variables::ALL,
+        values: Values::NONE,
     };
 
     /// The start of a capability.
@@ -37,6 +41,7 @@ impl Facts {
         incremented: false,
         named_first_two: false,
         stored: Variables::NONE,
+        values: Values::NONE,
     };
 
     /// Other paths come to the same place.
@@ -47,6 +52,7 @@ impl Facts {
         self.incremented = self.incremented || other.incremented;
         self.named_first_two = self.named_first_two || other.named_first_two;
         self.stored = self.stored.intersection(other.stored);
+        self.values = self.values.union(other.values);
     }
 
     /// All paths here meet a token.
@@ -55,6 +61,7 @@ impl Facts {
         ensures { self.new ≡ after_token token self.old }
     {
         self.heights = self.heights.after(token);
+        self.values = self.values.after(token);
         self.named_first_two = self.named_first_two || is_first_two(token);
         match token {
             Token::Increment => self.incremented = true,
@@ -81,7 +88,11 @@ impl Facts {
             Token::Load(letter) => {
                 found_if(self.is_unset(letter, expected), Finding::UnsetVariable)
             }
-            _ => found_if(self.heights.lacks(token), underflow(termcap)),
+            _ => of_pops(
+                self.heights.lacks(token),
+                underflow(termcap),
+                self.values.is_other_for(token, expected.texts),
+            ),
         }
     }
 
@@ -111,6 +122,17 @@ pub fn found_if(holds: bool, finding: Finding) -> Option<Finding>
     ensures { result ≡ found_if holds finding }
 {
     if holds { Some(finding) } else { None }
+}
+
+/// The finding for a pop: that of the empty stack, if it may be empty, or else that of a value of the other kind.
+fn of_pops(lacks: bool, underflow: Finding, is_other: bool) -> Option<Finding>
+    ensures { result ≡ of_pops lacks underflow is_other }
+{
+    if lacks {
+        Some(underflow)
+    } else {
+        found_if(is_other, Finding::OperandType)
+    }
 }
 
 /// The finding for a pop of the empty stack.

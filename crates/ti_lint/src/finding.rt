@@ -3,7 +3,7 @@
 ghost use Rattle.std.specs.Prelude.{◌≡◌};
 ghost use Rattle.ti_lint.specs.FindingWords.{finding_word};
 
-/// What is wrong with a token of a capability, by the paths that meet it.
+/// What is wrong with a token of a capability, by the paths that meet it or by the conditional that it is a part of.
 #[derive(Clone, Copy, Debug, PartialEq, Eq)]
 pub enum Finding {
     /// It pops more values than there are.
@@ -16,6 +16,8 @@ pub enum Finding {
     RepeatedIncrement,
     /// It pushes a variable into which nothing was stored.
     UnsetVariable,
+    /// It takes a text, and the value on the stack is a number; or it takes a number, and that is a text.
+    OperandType,
     /// It pushes a value that is never popped.
     StackResidue,
     /// It is a `%i`, and neither of the first two parameters is pushed after it.
@@ -24,6 +26,12 @@ pub enum Finding {
     LateIncrement,
     /// It stores into a variable that is not pushed after it.
     DeadStore,
+    /// It opens a conditional that writes, stores and changes nothing, whichever way its tests go.
+    NoEffect,
+    /// It ends a test of constants alone.
+    ConstantCondition,
+    /// It comes before a test that an earlier arm of the conditional has as well.
+    RepeatedCondition,
 }
 
 impl Finding {
@@ -37,10 +45,14 @@ impl Finding {
             Finding::ParameterRange => "parameter-range",
             Finding::RepeatedIncrement => "%i-repeated",
             Finding::UnsetVariable => "unset-variable",
+            Finding::OperandType => "operand-type",
             Finding::StackResidue => "stack-residue",
             Finding::UnusedIncrement => "%i-unused",
             Finding::LateIncrement => "%i-late",
             Finding::DeadStore => "dead-store",
+            Finding::NoEffect => "no-effect",
+            Finding::ConstantCondition => "constant-condition",
+            Finding::RepeatedCondition => "repeated-condition",
         }
     }
 }

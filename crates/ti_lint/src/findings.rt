@@ -2,9 +2,10 @@
 
 ghost use Rattle.std.specs.Prelude.{◌≡◌, ◌↔◌, [], Some, length, IfSome, IfNone, IfOk};
 ghost use Rattle.ti_cap.specs.Capability.{Takes, IsFirst};
-ghost use Rattle.ti_lint.specs.Findings.{IsFoundBefore, IsFoundAfter};
+ghost use Rattle.ti_lint.specs.Findings.{IsFoundBefore, IsFoundAfter, IsFoundWithin};
 
 use crate::backward::outlooks;
+use crate::conditional::judge_conditional;
 use crate::expected::Expected;
 use crate::finding::Finding;
 use crate::outlook::Outlook;
@@ -23,6 +24,8 @@ pub struct Judged {
     pub before: Option<Finding>,
     /// What is wrong with it by what comes after it. No token has two such findings.
     pub after: Option<Finding>,
+    /// What is wrong with it by the conditional that it is a part of. No token has two such findings.
+    pub within: Option<Finding>,
 }
 
 /// The tokens of a capability, each with what is wrong with it. It goes forward only.
@@ -32,6 +35,10 @@ pub struct Findings<'a, A: Allocator = Global> {
     pass: Pass,
     /// What comes after each token that is left, that of the first one last.
     outlooks: Vec<Outlook, A>,
+    /// All tokens.
+    tokens: Vec<Token, A>,
+    /// How many of them were taken.
+    count: usize,
     expected: Expected,
     termcap: bool,
 }
@@ -42,6 +49,7 @@ impl<'a, A: Allocator> Model for Findings<'a, A> {
     ghost use Rattle.ti_lint.specs.Findings.{Underway, NamesNone};
     ghost use Rattle.ti_lint.specs.inner.Pass.{IsAt};
     ghost use Rattle.ti_lint.specs.inner.Outlook.{IsAhead};
+    ghost use Rattle.ti_lint.specs.inner.Conditionals.{HasTokens};
 
     ghost Value = { Underway };
 
@@ -51,13 +59,13 @@ impl<'a, A: Allocator> Model for Findings<'a, A> {
     } };
 
     ghost invariant = { λ f. IsAt f.tape f.pass × (IsTrue f.termcap ↔ NamesNone (whole f.tape))
-        × IsAhead f.tape f.outlooks.items };
+        × IsAhead f.tape f.outlooks.items × HasTokens f.tape f.tokens.items f.count };
 }
 
 impl<'a, A: Allocator> Findings<'a, A> {
     ghost use Rattle.ti_lint.specs.declared.finding.Finding.{Finding};
 
-    /// The findings of a capability, before its first token. It takes memory for what comes after each token.
+    /// The findings of a capability, before its first token. It takes memory for each token, and for what comes after it.
     ///
     /// # Examples
     ///
@@ -82,7 +90,9 @@ impl<'a, A: Allocator> Findings<'a, A> {
         Ok(Findings {
             tape: capability.tape(),
             pass: Pass::new(),
-            outlooks: outlooks(alloc, tokens)?,
+            outlooks: outlooks(alloc, tokens_of(alloc, capability)?)?,
+            tokens,
+            count: 0,
             expected,
             termcap: named == ParameterSet::NONE,
         })
@@ -103,17 +113,22 @@ impl<'a, A: Allocator> Findings<'a, A> {
             → (judged.before ≡ Some finding) ↔ IsFoundBefore self.old judged.token finding) }
         ensures after { IfSome result (λ judged. (finding : Finding)
             → (judged.after ≡ Some finding) ↔ IsFoundAfter self.old judged.token finding) }
+        ensures within { IfSome result (λ judged. (finding : Finding)
+            → (judged.within ≡ Some finding) ↔ IsFoundWithin self.old judged.token finding) }
     {
         let token = self.tape.token()?;
         let outlook = self.outlooks.pop()?;
         let here = self.pass.here();
         let before = here.judge(token, &self.expected, self.termcap);
         let after = outlook.judge(token, here);
+        let within = judge_conditional(&self.tokens, self.count);
         self.pass.take(token);
+        self.count += 1;
         Some(Judged {
             token,
             before,
             after,
+            within,
         })
     }
 

@@ -20,7 +20,7 @@ pub struct Found {
     pub finding: Finding,
 }
 
-/// All findings of a capability, in order of their places. It goes over the tokens three times, and takes memory for each token
+/// All findings of a capability, in order of their places. It goes over the tokens four times, and takes memory for each token
 /// and finding.
 pub fn findings_of<A: Allocator + Copy>(
     alloc: A,
@@ -39,6 +39,7 @@ pub fn findings_of<A: Allocator + Copy>(
     while let Some(judged) = findings.token() {
         note(&mut list, place, judged.before)?;
         note(&mut list, place, judged.after)?;
+        note(&mut list, place, judged.within)?;
         place = findings.at();
     }
     Ok(list)

@@ -2,19 +2,22 @@
 //!
 //! [`findings_of`] returns the findings of a capability with their places, and [`Findings`] reports them token by token: a pop
 //! of the empty stack, a value that is never popped, a parameter that the capability does not have, a `%i` that is repeated,
-//! late or of no use, a variable that was not set or is not used. A finding is reported exactly if it holds. The cost is
-//! constant a token, in time and in memory.
+//! late or of no use, a variable that was not set or is not used; and a conditional that changes nothing, or whose test is made
+//! of constants or is that of an earlier arm. A finding is reported exactly if it holds. The cost is constant a token, in time
+//! and in memory, but that the test of an arm is compared with those of all arms before it.
 #![tactic(auto)]
 
 mod backward;
 mod class;
 mod class_table;
+mod conditional;
 mod expected;
 mod facts;
 mod finding;
 mod findings;
 mod found;
 mod heights;
+mod kinds;
 pub mod laws;
 mod marks;
 mod outlook;
@@ -27,13 +30,15 @@ mod scope;
 mod stored;
 mod text_finding;
 mod tokens;
+mod values;
 mod variables;
 
 pub use class::{Class, class_of};
-pub use expected::Expected;
+pub use expected::{Expected, TextParameters};
 pub use finding::Finding;
 pub use findings::{Findings, Judged};
 pub use found::{Found, findings_of};
+pub use kinds::text_parameters;
 pub use marks::{find_false_mark, find_mark};
 pub use own_class::own_class_of;
 pub use pairs::{is_half_paired, toggling_pairs, undoing_pairs};

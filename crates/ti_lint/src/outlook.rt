@@ -82,7 +82,7 @@ fn of_increment(before: bool, after: bool) -> Option<Finding>
 }
 
 /// How many values a token takes off the stack.
-fn pops(token: Token) -> usize
+pub fn pops(token: Token) -> usize
     ensures { result ≡ pops token }
 {
     match token {
@@ -98,7 +98,7 @@ fn pops(token: Token) -> usize
 }
 
 /// How many values it puts there.
-fn pushes(token: Token) -> usize
+pub fn pushes(token: Token) -> usize
     ensures { result ≡ pushes token }
 {
     match token {

@@ -17,5 +17,6 @@ macro_rules! assert_that {
 mod lint_findings;
 mod lint_reports;
 mod lint_texts;
+mod lint_values;
 mod lint_whole;
 mod uses;

@@ -11,3 +11,4 @@ pub mod KeysLemmas
 pub mod LayoutLemmas
 pub mod BaseLemmas
 pub mod NeighboursLemmas
+pub mod ToldLemmas

@@ -9,4 +9,6 @@ pub mod Names
 pub mod Reports
 pub mod Bases
 pub mod Whole
+pub mod Values
+pub mod Sequences
 pub mod inner

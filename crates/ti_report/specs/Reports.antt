@@ -18,7 +18,9 @@ use Rattle.ti_report.specs.Keys.{AreKeyLines}
 use Rattle.ti_report.specs.Lines.{AreReports, InTurn}
 use Rattle.ti_report.specs.Names.{AreNameLines}
 use Rattle.ti_report.specs.Pairs.{pair_lines, standard_label}
+use Rattle.ti_report.specs.Sequences.{AreSequenceLines}
 use Rattle.ti_report.specs.Texts.{IsTextReport}
+use Rattle.ti_report.specs.Values.{AreValueLines}
 use Rattle.ti_report.specs.Whole.{whole_lines}
 
 -- a text of a class; there is nothing to say of one of which nothing is known
@@ -86,13 +88,15 @@ abbrev pub ArePairLines : Scope → List ℕ → EntryValue → List ℕ → Typ
 ArePairLines scopes.Mistakes = ArePairLinesOf all_pairs
 ArePairLines scopes.All = λ prefix v. InTurn (ArePairLinesOf all_pairs prefix v) (ArePairLinesOf all_toggles prefix v)
 
--- the texts of terminfo(5), those with names of the entry's own, pairs of texts, keys, names, and the whole entry that the
--- bytes spell
+-- the texts of terminfo(5), those with names of the entry's own, texts by their values and by their control sequences, pairs of
+-- texts, keys, names, and the whole entry that the bytes spell
 abbrev pub IsReport : Scope → List ℕ → List ℕ → EntryValue → List ℕ → Type 0
 IsReport scope prefix bytes v lines =
     (stored : Variables) × AreStored v stored
     × InTurn (AreReports (IsReportAt scope prefix stored) 0 v.standard.texts)
     (InTurn (AreReports (IsNamedReport scope prefix stored) 0 v.extended.texts)
+    (InTurn (AreValueLines scope prefix v)
+    (InTurn (AreSequenceLines prefix v)
     (InTurn (ArePairLines scope prefix v)
     (InTurn (AreKeyLines scope prefix v)
-    (InTurn (AreNameLines prefix v.extended) (λ whole. whole ≡ whole_lines prefix bytes v))))) lines
+    (InTurn (AreNameLines prefix v.extended) (λ whole. whole ≡ whole_lines prefix bytes v))))))) lines

@@ -5,7 +5,7 @@ use Rattle.ti_cap.specs.declared.parameter_set.ParameterSet.{ParameterSet}
 use Rattle.std.specs.Int.{bit_at}
 use Rattle.ti_cap.specs.FaultNames.{cap_fault_word}
 use Rattle.ti_lint.specs.declared.finding.Finding.{Finding}
-use Rattle.ti_lint.specs.declared.finding.Finding.TheVariants.{StackUnderflow, TermcapParameter, ParameterRange, RepeatedIncrement, UnsetVariable, StackResidue, UnusedIncrement, LateIncrement, DeadStore}
+use Rattle.ti_lint.specs.declared.finding.Finding.TheVariants.{StackUnderflow, TermcapParameter, ParameterRange, RepeatedIncrement, UnsetVariable, StackResidue, UnusedIncrement, LateIncrement, DeadStore, OperandType, NoEffect, ConstantCondition, RepeatedCondition}
 use Rattle.ti_lint.specs.declared.text_finding.TextFinding.TheVariants as texts
 use Rattle.ti_lint.specs.FindingWords.{finding_word, text_finding_word}
 use Rattle.ti_report.specs.declared.wrong.Wrong.{Wrong}
@@ -46,6 +46,10 @@ finding_meaning StackResidue parameters = codes "on some path the value that it 
 finding_meaning UnusedIncrement parameters = codes "no %p1 or %p2 comes after it"
 finding_meaning LateIncrement parameters = codes "a %p1 or %p2 comes before it, and one after it"
 finding_meaning DeadStore parameters = codes "nothing pushes the variable after it"
+finding_meaning OperandType parameters = codes "it takes a number as a text, or a text as a number"
+finding_meaning NoEffect parameters = codes "its bodies are empty, and its tests only compute"
+finding_meaning ConstantCondition parameters = codes "its test has constants alone, and always goes the same way"
+finding_meaning RepeatedCondition parameters = codes "an earlier arm has the test after it"
 
 -- bit N - 1 is for parameter N
 abbrev pub is_in : ParameterSet → ℕ → Bool

@@ -9,11 +9,12 @@ use Rattle.ti_lint.specs.declared.class.Class.{Class}
 use Rattle.ti_lint.specs.declared.class.Class.TheVariants as classes
 use Rattle.ti_lint.specs.declared.expected.Expected.{Expected}
 use Rattle.ti_lint.specs.declared.finding.Finding.{Finding}
-use Rattle.ti_lint.specs.declared.finding.Finding.TheVariants.{StackUnderflow, TermcapParameter, ParameterRange, RepeatedIncrement, UnsetVariable, StackResidue, UnusedIncrement, LateIncrement, DeadStore}
+use Rattle.ti_lint.specs.declared.finding.Finding.TheVariants.{StackUnderflow, TermcapParameter, ParameterRange, RepeatedIncrement, UnsetVariable, StackResidue, UnusedIncrement, LateIncrement, DeadStore, OperandType, NoEffect, ConstantCondition, RepeatedCondition}
 use Rattle.ti_lint.specs.declared.variables.Variables.{Variables}
 use Rattle.ti_lint.specs.declared.found.Found.{Found}
 use Rattle.ti_lint.specs.Found.{IsFoundAt, Precedes}
 use Rattle.ti_lint.specs.Plain.{IsMeantToExpand}
+use Rattle.ti_lint.specs.TextParameters.{text_parameters}
 use Rattle.ti_lint.specs.declared.scope.Scope.{Scope}
 use Rattle.ti_lint.specs.declared.scope.Scope.TheVariants as scopes
 use Rattle.ti_report.specs.declared.wrong.Wrong.{Wrong}
@@ -29,7 +30,7 @@ use Rattle.ti_report.specs.declared.marks.Sought.TheVariants.{Percents, Mark, Fa
 unfoldable pub all_findings : List Finding
 all_findings =
     StackUnderflow ∷ TermcapParameter ∷ StackResidue ∷ ParameterRange ∷ RepeatedIncrement ∷ UnusedIncrement
-    ∷ LateIncrement ∷ UnsetVariable ∷ DeadStore ∷ []
+    ∷ LateIncrement ∷ UnsetVariable ∷ DeadStore ∷ OperandType ∷ NoEffect ∷ ConstantCondition ∷ RepeatedCondition ∷ []
 
 -- all findings of a capability, in order of their places
 pub record AreFound (text : List ℕ) (expected : Expected) (founds : List Found) : Type 0 where
@@ -125,7 +126,7 @@ half_paired_lines prefix label text =
 -- a text of a class, in an entry whose texts store into these variables
 abbrev pub IsTextReport : Scope → List ℕ → List ℕ → Variables → Class → List ℕ → List ℕ → Type 0
 IsTextReport scope prefix label stored (classes.Parameterized parameters) text lines =
-    IsCapabilityReport scope prefix label text (record { parameters = parameters; stored = stored }) lines
+    IsCapabilityReport scope prefix label text (record { parameters = parameters; texts = text_parameters label; stored = stored }) lines
 IsTextReport scope prefix label stored classes.Plain text lines = IsPlainReport prefix label text lines
 IsTextReport scope prefix label stored classes.Key text lines = IsKeyReport prefix label text lines
 IsTextReport scope prefix label stored classes.List text lines = lines ≡ half_paired_lines prefix label text

@@ -43,7 +43,7 @@ fn has_at(entry: &Entry<'_>, kind: Kind, index: usize) -> bool
 
 /// The same of the capability of terminfo(5) with a name.
 #[tactic(auto, unfolding(crate::specs::Whole::has))]
-fn has(entry: &Entry<'_>, name: &str) -> bool
+pub(crate) fn has(entry: &Entry<'_>, name: &str) -> bool
     ensures { result ≡ has entry.now name.now }
 {
     match NameTable::All.find(name) {

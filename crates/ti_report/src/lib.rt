@@ -14,8 +14,10 @@ mod marks;
 mod names;
 mod pairs;
 mod report;
+mod sequences;
 mod stored;
 mod texts;
+mod values;
 mod whole;
 mod wrong;
 

@@ -11,11 +11,11 @@ use std::alloc::{AllocError, Allocator};
 use ti_cap::{Capability, ParameterSet};
 use ti_lint::{
     Class, Expected, Finding, Found, Scope, Variables, findings_of, is_half_paired,
-    unused_parameters,
+    text_parameters, unused_parameters,
 };
 
 /// The findings of tokens, in the order in which they are told.
-static ALL_FINDINGS: [Finding; 9] = [
+static ALL_FINDINGS: [Finding; 13] = [
     Finding::StackUnderflow,
     Finding::TermcapParameter,
     Finding::StackResidue,
@@ -25,6 +25,10 @@ static ALL_FINDINGS: [Finding; 9] = [
     Finding::LateIncrement,
     Finding::UnsetVariable,
     Finding::DeadStore,
+    Finding::OperandType,
+    Finding::NoEffect,
+    Finding::ConstantCondition,
+    Finding::RepeatedCondition,
 ];
 
 /// The findings, as a slice.
@@ -269,7 +273,11 @@ pub fn push_text<A: Allocator + Copy>(
 {
     match class {
         Class::Parameterized(parameters) => {
-            let expected = Expected { parameters, stored };
+            let expected = Expected {
+                parameters,
+                texts: text_parameters(subject.label),
+                stored,
+            };
             push_capability(alloc, out, scope, subject, expected)
         }
         Class::Plain => push_plain(alloc, out, subject),

@@ -117,6 +117,18 @@ fn push_finding_meaning<A: Allocator>(
             out.extend_from_slice(b"a %p1 or %p2 comes before it, and one after it")
         }
         Finding::DeadStore => out.extend_from_slice(b"nothing pushes the variable after it"),
+        Finding::OperandType => {
+            out.extend_from_slice(b"it takes a number as a text, or a text as a number")
+        }
+        Finding::NoEffect => {
+            out.extend_from_slice(b"its bodies are empty, and its tests only compute")
+        }
+        Finding::ConstantCondition => {
+            out.extend_from_slice(b"its test has constants alone, and always goes the same way")
+        }
+        Finding::RepeatedCondition => {
+            out.extend_from_slice(b"an earlier arm has the test after it")
+        }
     }
 }
 
@@ -130,7 +142,10 @@ fn is_in(set: ParameterSet, which: u8) -> bool
 }
 
 /// Writes the parameters of a set.
-fn push_parameters<A: Allocator>(out: &mut Vec<u8, A>, set: ParameterSet) -> Result<(), AllocError>
+pub fn push_parameters<A: Allocator>(
+    out: &mut Vec<u8, A>,
+    set: ParameterSet,
+) -> Result<(), AllocError>
     ensures { OnOk result (out.new.items ≡ out.old.items ++ parameter_words set 9 1) }
 {
     'parameters: for which in 1..10 {

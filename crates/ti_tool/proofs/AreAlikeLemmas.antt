@@ -19,8 +19,9 @@ use Rattle.ti_entry.specs.declared.finding.Position.TheVariants.{Standard, Exten
 use Rattle.ti_words.specs.declared.all_names.NameTable.TheVariants as tables
 use Rattle.ti_escape.specs.declared.form.Form.TheVariants as forms
 use Rattle.ti_escape.specs.Notation.{label_notation}
+use Rattle.ti_line.specs.declared.options.Likeness.{Likeness}
 use Rattle.ti_tool.specs.Labels.{label_of}
-use Rattle.ti_tool.specs.Differences.{AreAlike, AreBelow, AreDifferences, AreOfKinds, AreOwnChanges, AreStandardChanges, IsChange, IsFirst, IsOwn, IsOwnChange, IsOwnNew, IsStandardChange, TellsApart, format_line, item_line, kind_end, name_at, names_line, none_of, own_found, standard_count, value_line}
+use Rattle.ti_tool.specs.Differences.{AreAlike, AreBelow, AreDifferences, AreOfKinds, AreSame, AreSameItems, AreOwnChanges, AreStandardChanges, IsChange, IsFirst, IsOwn, IsOwnChange, IsOwnNew, IsStandardChange, TellsApart, format_line, item_line, kind_end, name_at, names_line, none_of, own_found, standard_count, value_line}
 use Rattle.ti_tool.specs.Items.{ItemValue, FlagItem, NumberItem, TextItem, item_at, kind_word}
 use Rattle.ti_tool.specs.Listing.{flag_line, number_line, text_line}
 use Rattle.ti_tool.proofs.IsCalledLemmas.{one_first}
@@ -36,9 +37,9 @@ append_empty out xs ys is e f = is ∙ ap (λ l. l ++ ys) e ∙ f
 
 -- ---- two entries that say the same
 
-change_empty : {V : Type 0} (line : List ℕ → V → List ℕ) (one other : V) (out : List ℕ) → IsChange line one other out → one ≡ other → out ≡ []
-change_empty line one other out (inl (same, none)) e = none
-change_empty line one other out (inr (apart, is)) e = absurd (apart e)
+change_empty : {V : Type 0} (Same : V → V → Type 0) (line : List ℕ → V → List ℕ) (one other : V) (out : List ℕ) → IsChange Same line one other out → Same one other → out ≡ []
+change_empty Same line one other out (inl (same, none)) e = none
+change_empty Same line one other out (inr (apart, is)) e = absurd (apart e)
 
 below_empty : (P : ℕ → List ℕ → Type 0) (end : ℕ) (out : List ℕ) → ((i : ℕ) (line : List ℕ) → P i line → line ≡ []) → AreBelow P end out → out ≡ []
 below_empty P zero out h are = are
@@ -54,38 +55,45 @@ none_line kinds.Flag word label = refl
 none_line kinds.Number word label = refl
 none_line kinds.Text word label = refl
 
-module _ (v w : EntryValue) (alike : AreAlike v w) where
-  own_empty : (kind : Kind) (out : List ℕ) → AreOwnChanges kind v w out → out ≡ []
+-- what is not there is like nothing else
+none_apart : (by : Likeness) (kind : Kind) (item : ItemValue) → AreSameItems by (none_of kind) item → none_of kind ≡ item
+none_apart by kind item (inl same) = same
+none_apart by kinds.Flag item (inr (tokens, spelled)) = absurd spelled
+none_apart by kinds.Number item (inr (tokens, spelled)) = absurd spelled
+none_apart by kinds.Text item (inr (tokens, spelled)) = absurd spelled
+
+module _ (by : Likeness) (v w : EntryValue) (alike : AreAlike by v w) where
+  own_empty : (kind : Kind) (out : List ℕ) → AreOwnChanges by kind v w out → out ≡ []
   own_empty kind out (compared, more, a, b, is) =
-      append_empty out compared more is (below_empty (IsOwnChange kind v w) (length (names_of v.extended kind)) compared first a)
+      append_empty out compared more is (below_empty (IsOwnChange by kind v w) (length (names_of v.extended kind)) compared first a)
       (below_empty (IsOwnNew kind v w) (length (names_of w.extended kind)) more second b)
     where
       item : ℕ → List ℕ → ItemValue → List ℕ
       item i = value_line true kind (label_notation (name_at kind v i))
 
-      first : (i : ℕ) (line : List ℕ) → IsOwnChange kind v w i line → line ≡ []
+      first : (i : ℕ) (line : List ℕ) → IsOwnChange by kind v w i line → line ≡ []
       first i line (inl (is_first, (other, own, change))) =
-          change_empty (item i) (item_at v (Extended kind i)) other line change (alike.own kind (name_at kind v i) (item_at v (Extended kind i)) other (Some i, is_first, refl) own)
+          change_empty (AreSameItems by) (item i) (item_at v (Extended kind i)) other line change (alike.own kind (name_at kind v i) (item_at v (Extended kind i)) other (Some i, is_first, refl) own)
       first i line (inr (not_first, none)) = none
 
       second : (i : ℕ) (line : List ℕ) → IsOwnNew kind v w i line → line ≡ []
       second i line (inl ((is_first, lacks), is)) =
-          let same = alike.own kind (name_at kind w i) (none_of kind) (item_at w (Extended kind i)) (None, lacks, refl) (Some i, is_first, refl) in
+          let same = none_apart by kind (item_at w (Extended kind i)) (alike.own kind (name_at kind w i) (none_of kind) (item_at w (Extended kind i)) (None, lacks, refl) (Some i, is_first, refl)) in
           is ∙ ap (value_line true kind (label_notation (name_at kind w i)) (codes "+ ")) (sym same) ∙ none_line kind (codes "+ " ++ kind_word kind ++ kind_end true) (label_notation (name_at kind w i))
       second i line (inr (old, none)) = none
 
-  standard_empty : (kind : Kind) (out : List ℕ) → AreStandardChanges kind v w out → out ≡ []
+  standard_empty : (kind : Kind) (out : List ℕ) → AreStandardChanges by kind v w out → out ≡ []
   standard_empty kind out are =
-      below_empty (IsStandardChange kind v w) (max (standard_count kind v) (standard_count kind w)) out
-      (λ i line change. change_empty (value_line false kind (label_of tables.All kind i)) (item_at v (Standard kind i)) (item_at w (Standard kind i)) line change (alike.standard kind i)) are
+      below_empty (IsStandardChange by kind v w) (max (standard_count kind v) (standard_count kind w)) out
+      (λ i line change. change_empty (AreSameItems by) (value_line false kind (label_of tables.All kind i)) (item_at v (Standard kind i)) (item_at w (Standard kind i)) line change (alike.standard kind i)) are
 
-  alike_tells : (out : List ℕ) → AreDifferences v w out → out ≡ []
+  alike_tells : (out : List ℕ) → AreDifferences by v w out → out ≡ []
   alike_tells out d =
       append_empty out (d.format ++ d.names ++ d.standard) d.own d.joined
       (append_empty (d.format ++ d.names ++ d.standard) (d.format ++ d.names) d.standard refl
-      (append_empty (d.format ++ d.names) d.format d.names refl (change_empty format_line v.width w.width d.format d.in_format alike.format) (change_empty names_line v.names w.names d.names d.in_names alike.names))
-      (kinds_empty (λ kind. AreStandardChanges kind v w) d.standard standard_empty d.in_standard))
-      (kinds_empty (λ kind. AreOwnChanges kind v w) d.own own_empty d.in_own)
+      (append_empty (d.format ++ d.names) d.format d.names refl (change_empty AreSame format_line v.width w.width d.format d.in_format alike.format) (change_empty AreSame names_line v.names w.names d.names d.in_names alike.names))
+      (kinds_empty (λ kind. AreStandardChanges by kind v w) d.standard standard_empty d.in_standard))
+      (kinds_empty (λ kind. AreOwnChanges by kind v w) d.own own_empty d.in_own)
 
 -- ---- two entries of which nothing is told
 
@@ -123,9 +131,9 @@ past_standard kinds.Flag v i h = ap FlagItem (get_or_past v.standard.flags i fla
 past_standard kinds.Number v i h = ap NumberItem (get_or_past v.standard.numbers i numbers.Absent h)
 past_standard kinds.Text v i h = ap TextItem (get_or_past v.standard.texts i AbsentText h)
 
-change_same : {V : Type 0} (line : List ℕ → V → List ℕ) (one other : V) → IsChange line one other [] → (line (codes "- ") one ≡ [] → line (codes "+ ") other ≡ [] → one ≡ other) → one ≡ other
-change_same line one other (inl (same, none)) h = same
-change_same line one other (inr (apart, is)) h = let parts = both_empty (line (codes "- ") one) (line (codes "+ ") other) (sym is) in h parts.0 parts.1
+change_same : {V : Type 0} (Same : V → V → Type 0) (line : List ℕ → V → List ℕ) (one other : V) → IsChange Same line one other [] → (line (codes "- ") one ≡ [] → line (codes "+ ") other ≡ [] → Same one other) → Same one other
+change_same Same line one other (inl (same, none)) h = same
+change_same Same line one other (inr (apart, is)) h = let parts = both_empty (line (codes "- ") one) (line (codes "+ ") other) (sym is) in h parts.0 parts.1
 
 -- each of the lines is empty
 below_each : (P : ℕ → List ℕ → Type 0) (end : ℕ) (out : List ℕ) → AreBelow P end out → out ≡ [] → (i : ℕ) → i < end → P i []
@@ -158,15 +166,15 @@ max_left m n i h = omega (arith, ints, clamps)
 max_right : (m n i : ℕ) → max m n ≤ i → n ≤ i
 max_right m n i h = omega (arith, ints, clamps)
 
-module _ (v w : EntryValue) where
-  same_standard : (kind : Kind) (i : ℕ) → AreStandardChanges kind v w [] → item_at v (Standard kind i) ≡ item_at w (Standard kind i)
+module _ (by : Likeness) (v w : EntryValue) where
+  same_standard : (kind : Kind) (i : ℕ) → AreStandardChanges by kind v w [] → AreSameItems by (item_at v (Standard kind i)) (item_at w (Standard kind i))
   same_standard kind i are =
       let label = label_of tables.All kind i in
       let most : ℕ = max (standard_count kind v) (standard_count kind w) in
       elim (cases_lt i most) [
-        | inl h ↦ change_same (value_line false kind label) (item_at v (Standard kind i)) (item_at w (Standard kind i)) (below_each (IsStandardChange kind v w) most [] are refl i h)
-            (λ minus plus. empty_standard kind v i 45 (32 ∷ kind_word kind ++ kind_end false) label minus ∙ sym (empty_standard kind w i 43 (32 ∷ kind_word kind ++ kind_end false) label plus))
-        | inr h ↦ past_standard kind v i (max_left (standard_count kind v) (standard_count kind w) i h) ∙ sym (past_standard kind w i (max_right (standard_count kind v) (standard_count kind w) i h))
+        | inl h ↦ change_same (AreSameItems by) (value_line false kind label) (item_at v (Standard kind i)) (item_at w (Standard kind i)) (below_each (IsStandardChange by kind v w) most [] are refl i h)
+            (λ minus plus. inl (empty_standard kind v i 45 (32 ∷ kind_word kind ++ kind_end false) label minus ∙ sym (empty_standard kind w i 43 (32 ∷ kind_word kind ++ kind_end false) label plus)))
+        | inr h ↦ inl (past_standard kind v i (max_left (standard_count kind v) (standard_count kind w) i h) ∙ sym (past_standard kind w i (max_right (standard_count kind v) (standard_count kind w) i h)))
       ]
 
   -- the first of a name is the first of the name at its index
@@ -182,20 +190,22 @@ module _ (v w : EntryValue) where
       let Least : List ℕ → Type 0 = λ n. IsLeastIndex (names_of x.extended kind) n found in
       is ∙ ap (own_found kind x) (one_first (names_of x.extended kind) other found again (subst Least same least) also) ∙ sym is_too
 
-  same_own : (kind : Kind) → AreOwnChanges kind v w [] → (name : List ℕ) (one other : ItemValue) → IsOwn kind v name one → IsOwn kind w name other → one ≡ other
+  same_own : (kind : Kind) → AreOwnChanges by kind v w [] → (name : List ℕ) (one other : ItemValue) → IsOwn kind v name one → IsOwn kind w name other → AreSameItems by one other
   same_own kind (compared, more, a, b, joined) name one other = go
     where
       parts : (compared ≡ []) × (more ≡ [])
       parts = both_empty compared more (sym joined)
 
-      beside : (i : ℕ) → IsOwnChange kind v w i [] → IsFirst kind v i → name_at kind v i ≡ name → IsOwn kind w name other → item_at v (Extended kind i) ≡ other
+      beside : (i : ℕ) → IsOwnChange by kind v w i [] → IsFirst kind v i → name_at kind v i ≡ name → IsOwn kind w name other → AreSameItems by (item_at v (Extended kind i)) other
       beside i (inr (not_first, none)) first called own = absurd (not_first first)
       beside i (inl (is_first, (value, (found, least, is), change))) first called own =
           let same : value ≡ other = one_own kind w (name_at kind v i) name value other called (found, least, is) own in
           let label = label_notation (name_at kind v i) in
-          change_same (value_line true kind label) (item_at v (Extended kind i)) value change
-          (λ minus plus. empty_own kind v (Some i) 45 (32 ∷ kind_word kind ++ kind_end true) label minus
-          ∙ sym (is ∙ empty_own kind w found 43 (32 ∷ kind_word kind ++ kind_end true) label (ap (value_line true kind label (codes "+ ")) (sym is) ∙ plus))) ∙ same
+          let Same : ItemValue → Type 0 = λ x. AreSameItems by (item_at v (Extended kind i)) x in
+          subst Same same
+          (change_same (AreSameItems by) (value_line true kind label) (item_at v (Extended kind i)) value change
+          (λ minus plus. inl (empty_own kind v (Some i) 45 (32 ∷ kind_word kind ++ kind_end true) label minus
+          ∙ sym (is ∙ empty_own kind w found 43 (32 ∷ kind_word kind ++ kind_end true) label (ap (value_line true kind label (codes "+ ")) (sym is) ∙ plus)))))
 
       new : (i : ℕ) → IsOwnNew kind v w i [] → IsFirst kind w i → name_at kind w i ≡ name → IsLeastIndex (names_of v.extended kind) name None → none_of kind ≡ item_at w (Extended kind i)
       new i (inl (is_new, is)) first called lacks = sym (empty_own kind w (Some i) 43 (32 ∷ kind_word kind ++ kind_end true) (label_notation (name_at kind w i)) (sym is))
@@ -203,27 +213,28 @@ module _ (v w : EntryValue) where
           let Least : List ℕ → Type 0 = λ n. IsLeastIndex (names_of v.extended kind) n None in
           absurd (old (first, subst Least (sym called) lacks))
 
-      go : IsOwn kind v name one → IsOwn kind w name other → one ≡ other
+      go : IsOwn kind v name one → IsOwn kind w name other → AreSameItems by one other
       go (Some i, least, is) own =
           let at = first_at kind v name i least in
           let within = slice_get_within (names_of v.extended kind) i name least.0 in
-          is ∙ beside i (below_each (IsOwnChange kind v w) (length (names_of v.extended kind)) compared a parts.0 i within) at.1 at.0 own
-      go (None, lacks, is) (None, lacks_too, is_too) = is ∙ sym is_too
+          let Same : ItemValue → Type 0 = λ x. AreSameItems by x other in
+          subst Same (sym is) (beside i (below_each (IsOwnChange by kind v w) (length (names_of v.extended kind)) compared a parts.0 i within) at.1 at.0 own)
+      go (None, lacks, is) (None, lacks_too, is_too) = inl (is ∙ sym is_too)
       go (None, lacks, is) (Some i, least, is_too) =
           let at = first_at kind w name i least in
           let within = slice_get_within (names_of w.extended kind) i name least.0 in
-          is ∙ new i (below_each (IsOwnNew kind v w) (length (names_of w.extended kind)) more b parts.1 i within) at.1 at.0 lacks ∙ sym is_too
+          inl (is ∙ new i (below_each (IsOwnNew kind v w) (length (names_of w.extended kind)) more b parts.1 i within) at.1 at.0 lacks ∙ sym is_too)
 
-  silent_alike : (out : List ℕ) → AreDifferences v w out → out ≡ [] → AreAlike v w
+  silent_alike : (out : List ℕ) → AreDifferences by v w out → out ≡ [] → AreAlike by v w
   silent_alike out d none =
       let last = both_empty (d.format ++ d.names ++ d.standard) d.own (sym d.joined ∙ none) in
       let front = both_empty (d.format ++ d.names) d.standard last.0 in
       let head = both_empty d.format d.names front.0 in record {
-        format = change_same format_line v.width w.width (subst (IsChange format_line v.width w.width) head.0 d.in_format) (λ minus plus. absurd (cc (minus)));
-        names = change_same names_line v.names w.names (subst (IsChange names_line v.names w.names) head.1 d.in_names) (λ minus plus. absurd (cc (minus)));
-        standard = λ kind index. same_standard kind index (kinds_each (λ k. AreStandardChanges k v w) d.standard d.in_standard front.1 kind);
-        own = λ kind. same_own kind (kinds_each (λ k. AreOwnChanges k v w) d.own d.in_own last.1 kind);
+        format = change_same AreSame format_line v.width w.width (subst (IsChange AreSame format_line v.width w.width) head.0 d.in_format) (λ minus plus. absurd (cc (minus)));
+        names = change_same AreSame names_line v.names w.names (subst (IsChange AreSame names_line v.names w.names) head.1 d.in_names) (λ minus plus. absurd (cc (minus)));
+        standard = λ kind index. same_standard kind index (kinds_each (λ k. AreStandardChanges by k v w) d.standard d.in_standard front.1 kind);
+        own = λ kind. same_own kind (kinds_each (λ k. AreOwnChanges by k v w) d.own d.in_own last.1 kind);
       }
 
-pub tells_apart : (v w : EntryValue) (out : List ℕ) → AreDifferences v w out → TellsApart v w out
-tells_apart v w out d = (λ alike. alike_tells v w alike out d, silent_alike v w out d)
+pub tells_apart : (by : Likeness) (v w : EntryValue) (out : List ℕ) → AreDifferences by v w out → TellsApart by v w out
+tells_apart by v w out d = (λ alike. alike_tells by v w alike out d, silent_alike by v w out d)

@@ -4,6 +4,7 @@ use Rattle.std.proofs.lemmas.Bool.{eqb-true}
 use Rattle.std.specs.Prelude.{Option, Result, Ok, Err, IfOk, MatchResult, unwrap_or}
 use Rattle.ti_words.specs.Spelling.{Spells}
 use Rattle.ti_words.specs.Value.{EntryValue}
+use Rattle.ti_line.specs.declared.options.Likeness.{Likeness}
 use Rattle.ti_line.specs.declared.request.Difference.{Difference}
 use Rattle.ti_tool.specs.declared.fault.ToolFault.TheVariants as fault
 use Rattle.ti_tool.specs.FaultLines.{fault_line}
@@ -19,27 +20,27 @@ pub high_status : (out : List ℕ) (len : ℕ) → length out ≡ len → (len =
 high_status [] len is some = absurd (true≢false (ap (λ n. n == 0) is ∙ some))
 high_status (b ∷ bs) len is some = refl
 
-module _ (F : Type 0) (O : Type 0) (bytes line : O → List ℕ) (status : O → ℕ) (file other : List ℕ) where
+module _ (F : Type 0) (O : Type 0) (bytes line : O → List ℕ) (status : O → ℕ) (by : Likeness) (file other : List ℕ) where
   -- the other file is no entry
   pub other_refused : (r : Result O F) (contents of_other : List ℕ) (v : EntryValue) → Spells contents v → IfOk r (λ o. IsRefusedFile other of_other (bytes o) (line o) (status o))
-      → IfOk r (λ o. IsCompared file other contents of_other (bytes o) (line o) (status o))
+      → IfOk r (λ o. IsCompared by file other contents of_other (bytes o) (line o) (status o))
   other_refused (Ok o) contents of_other v spells refused = inr (inr ((v, spells), refused))
   other_refused (Err e) contents of_other v spells refused = tt
 
   -- the other file is not read
   pub other_unread : (r : Result O F) (contents : List ℕ) → IfOk r (λ o. IsUnread other (bytes o) (line o) (status o))
-      → IfOk r (λ o. (one : Supply) × (two : Supply) × IsComparison file other one two (bytes o) (line o) (status o))
+      → IfOk r (λ o. (one : Supply) × (two : Supply) × IsComparison by file other one two (bytes o) (line o) (status o))
   other_unread (Ok o) contents unread = (Contents contents, Unread, unread)
   other_unread (Err e) contents unread = tt
 
-  pub both_read : (r : Result O F) (contents of_other : List ℕ) → IfOk r (λ o. IsCompared file other contents of_other (bytes o) (line o) (status o))
-      → IfOk r (λ o. (one : Supply) × (two : Supply) × IsComparison file other one two (bytes o) (line o) (status o))
+  pub both_read : (r : Result O F) (contents of_other : List ℕ) → IfOk r (λ o. IsCompared by file other contents of_other (bytes o) (line o) (status o))
+      → IfOk r (λ o. (one : Supply) × (two : Supply) × IsComparison by file other one two (bytes o) (line o) (status o))
   both_read (Ok o) contents of_other compared = (Contents contents, Contents of_other, compared)
   both_read (Err e) contents of_other compared = tt
 
 -- what they led to is written
 pub ran_difference : {F O : Type 0} (bytes line : O → List ℕ) (code : O → ℕ) (d : Difference) (held0 held1 told0 told1 : Held) (outcome : Result O F) (answer : Option ℕ) (status : ℕ)
-    → IfOk outcome (λ o. (one : Supply) × (two : Supply) × IsComparison d.file.now d.other.now one two (bytes o) (line o) (code o))
+    → IfOk outcome (λ o. (one : Supply) × (two : Supply) × IsComparison d.likeness d.file.now d.other.now one two (bytes o) (line o) (code o))
     → MatchResult outcome (λ o. Delivered held0 held1 told0 told1 answer (bytes o) (line o) (code o)) (λ _. Delivered held0 held1 told0 told1 answer [] (fault_line fault.Memory) 6)
     → status ≡ unwrap_or answer 5 → RanDifference d held0 held1 told0 told1 status
 ran_difference bytes line code d held0 held1 told0 told1 (Ok o) answer status (one, two, led) delivered is = (one, two, bytes o, line o, code o, answer, led, delivered, is)

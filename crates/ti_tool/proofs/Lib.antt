@@ -13,7 +13,7 @@ pub mod LinesFromLemmas
 pub mod IsExtendedLineLemmas
 pub mod DidLineLemmas
 pub mod ReadsIntoLemmas
-pub mod AreLinesLemmas
+pub mod AreToldLemmas
 pub mod WideAndBackLemmas
 pub mod OneResultLemmas
 pub mod PrintableLemmas
@@ -24,3 +24,5 @@ pub mod FileRunsLemmas
 pub mod DifferencesLemmas
 pub mod AreAlikeLemmas
 pub mod ComparisonLemmas
+pub mod TokensLemmas
+pub mod SameTokenLemmas

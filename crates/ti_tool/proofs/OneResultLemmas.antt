@@ -40,10 +40,15 @@ use Rattle.ti_tool.specs.declared.fault.ToolFault.TheVariants as fault
 use Rattle.ti_tool.specs.Labels.{label_of, own_label}
 use Rattle.ti_tool.specs.Laws.{CheckHasOneVerdict, HasOneAnswer, IsSpelledOut}
 use Rattle.ti_line.specs.Options.{output_bytes}
+use Rattle.ti_line.specs.declared.options.Document.{Document}
+use Rattle.ti_line.specs.declared.options.Document.TheVariants as documents
+use Rattle.ti_tool.specs.Documents.{IsDocument}
 use Rattle.ti_tool.specs.Results.{IsExpansion, IsUnexpanded, IsCappedAs, IsPadded, IsDue, IsDueFor, IsDueFrom, IsDueIn, IsDueOf, IsEncoding, IsJudgement, IsOutputOf, in_width}
 use Rattle.ti_tool.specs.Sources.{IsDueForText, notation_in, text_of}
 use Rattle.ti_tool.specs.Traces.{IsTraced, IsTracedBy, IsTracedOf, IsTracedValue, no_values}
-use Rattle.ti_tool.specs.Verdicts.{IsVerdict, IsLine, IsStandardLine, IsExtendedLine, AreLines, AreVerdicts, sound_verdict, fault_verdict}
+use Rattle.serde_json.specs.Data.{Data}
+use Rattle.ti_json.specs.Objects.{StandardSubject, OwnSubject, array_text}
+use Rattle.ti_tool.specs.Verdicts.{AreAllTold, AreTold, AreVerdictObjects, AreVerdicts, IsExtendedLine, IsOwnObject, IsStandardLine, IsStandardObject, IsTold, Telling, in_line, in_object}
 use Rattle.ti_line.specs.declared.given.Given.{Given}
 use Rattle.ti_line.specs.declared.request.Get.{Get}
 use Rattle.ti_line.specs.declared.request.TraceOf.{TraceOf}
@@ -206,40 +211,48 @@ one_depth text a b (s, p, d) (t, q, e) = greatest_once s height a b d (subst (λ
 one_bound : (text : List ℕ) (a b : ℕ) → HasBound text 0 a → HasBound text 0 b → a ≡ b
 one_bound text a b (s, p, d) (t, q, e) = greatest_once s (λ path. size path 0) a b d (subst (λ (x : Sequence). IsGreatest x (λ path. size path 0) b) (tree_once t s text q p) e)
 
-one_verdict : (text verdict other : List ℕ) (sound as_sound : Bool) → IsVerdict text verdict sound → IsVerdict text other as_sound → (verdict ≡ other) × (sound ≡ as_sound)
-one_verdict text verdict other sound as_sound (inl (s, (depth, bound, passes, deep, big, is))) (inl (t, (depths, bounds, again, deeper, bigger, same))) =
-    (is ∙ ap (λ d. sound_verdict d bound) (one_depth text depth depths deep deeper) ∙ ap (sound_verdict depths) (one_bound text bound bounds big bigger) ∙ sym same, s ∙ sym t)
-one_verdict text verdict other sound as_sound (inl (s, (depth, bound, passes, deep, big, is))) (inr (t, (refused, why, same))) = absurd (faultless_passes text refused passes why)
-one_verdict text verdict other sound as_sound (inr (s, (refused, why, is))) (inl (t, (depth, bound, passes, deep, big, same))) = absurd (faultless_passes text refused passes why)
-one_verdict text verdict other sound as_sound (inr (s, (refused, why, is))) (inr (t, (refuses, because, same))) =
-    (is ∙ ap fault_verdict (one_refusal refused refuses text why because) ∙ sym same, s ∙ sym t)
+one_told : {Y : Type 0} (telling : Telling Y) (text : TextValue) (told other : List Y) (sound as_sound : Bool) → IsTold telling text told sound → IsTold telling text other as_sound → (told ≡ other) × (sound ≡ as_sound)
+one_told telling AbsentText told other sound as_sound d h = (d.0 ∙ sym h.0, d.1 ∙ sym h.1)
+one_told telling CancelledText told other sound as_sound d h = (d.0 ∙ sym h.0, d.1 ∙ sym h.1)
+one_told telling (TextOf text) told other sound as_sound (inl (s, (depth, bound, passes, deep, big, is))) (inl (t, (depths, bounds, again, deeper, bigger, same))) =
+    (is ∙ ap (λ d. telling.sound d bound) (one_depth text depth depths deep deeper) ∙ ap (telling.sound depths) (one_bound text bound bounds big bigger) ∙ sym same, s ∙ sym t)
+one_told telling (TextOf text) told other sound as_sound (inl (s, (depth, bound, passes, deep, big, is))) (inr (t, (refused, why, same))) = absurd (faultless_passes text refused passes why)
+one_told telling (TextOf text) told other sound as_sound (inr (s, (refused, why, is))) (inl (t, (depth, bound, passes, deep, big, same))) = absurd (faultless_passes text refused passes why)
+one_told telling (TextOf text) told other sound as_sound (inr (s, (refused, why, is))) (inr (t, (refuses, because, same))) =
+    (is ∙ ap telling.fault (one_refusal refused refuses text why because) ∙ sym same, s ∙ sym t)
 
-one_line : (word label : List ℕ) (text : TextValue) (line other : List ℕ) (sound as_sound : Bool) → IsLine word label text line sound → IsLine word label text other as_sound → (line ≡ other) × (sound ≡ as_sound)
-one_line word label AbsentText line other sound as_sound d h = (d.0 ∙ sym h.0, d.1 ∙ sym h.1)
-one_line word label CancelledText line other sound as_sound d h = (d.0 ∙ sym h.0, d.1 ∙ sym h.1)
-one_line word label (TextOf text) line other sound as_sound (verdict, d, is) (verdicts, h, same) =
-    let one = one_verdict text verdict verdicts sound as_sound d h in (is ∙ ap (λ x. word ++ label ++ x) one.0 ∙ sym same, one.1)
+abbrev pub IsOneTold : {X Y : Type 0} → (ℕ → X → List Y → Bool → Type 0) → Type 0
+IsOneTold {X} {Y} L = (index : ℕ) (x : X) (told other : List Y) (sound as_sound : Bool) → L index x told sound → L index x other as_sound → (told ≡ other) × (sound ≡ as_sound)
 
-abbrev pub IsOneLine : {X : Type 0} → (ℕ → X → List ℕ → Bool → Type 0) → Type 0
-IsOneLine {X} IsLineOf = (index : ℕ) (x : X) (line other : List ℕ) (sound as_sound : Bool) → IsLineOf index x line sound → IsLineOf index x other as_sound → (line ≡ other) × (sound ≡ as_sound)
-
-one_lines : {X : Type 0} (IsLineOf : ℕ → X → List ℕ → Bool → Type 0) → IsOneLine IsLineOf → (index : ℕ) (xs : List X) (lines others : List ℕ) (sound as_sound : Bool)
-    → AreLines IsLineOf index xs lines sound → AreLines IsLineOf index xs others as_sound → (lines ≡ others) × (sound ≡ as_sound)
-one_lines IsLineOf once index [] lines others sound as_sound d h = (d.0 ∙ sym h.0, d.1 ∙ sym h.1)
-one_lines IsLineOf once index (x ∷ xs) lines others sound as_sound (line, more, one, rest, is_line, are_lines, joined, both) (line', more', one', rest', is_line', are_lines', joined', both') =
-    let front = once index x line line' one one' is_line is_line' in
-    let back = one_lines IsLineOf once (suc index) xs more more' rest rest' are_lines are_lines' in (
-      joined ∙ ap (λ l. l ++ more) front.0 ∙ ap (λ l. line' ++ l) back.0 ∙ sym joined',
+all_told : {X Y : Type 0} (L : ℕ → X → List Y → Bool → Type 0) → IsOneTold L → (index : ℕ) (xs : List X) (told others : List Y) (sound as_sound : Bool)
+    → AreTold L index xs told sound → AreTold L index xs others as_sound → (told ≡ others) × (sound ≡ as_sound)
+all_told L once index [] told others sound as_sound d h = (d.0 ∙ sym h.0, d.1 ∙ sym h.1)
+all_told L once index (x ∷ xs) told others sound as_sound (first, more, one, rest, is, are, joined, both) (first', more', one', rest', is', are', joined', both') =
+    let front = once index x first first' one one' is is' in
+    let back = all_told L once (suc index) xs more more' rest rest' are are' in (
+      joined ∙ ap (λ l. l ++ more) front.0 ∙ ap (λ l. first' ++ l) back.0 ∙ sym joined',
       both ∙ ap (λ b. b && rest) front.1 ∙ ap (λ b. one' && b) back.1 ∙ sym both',
     )
 
-one_verdicts : (naming : Naming) (v : EntryValue) (lines others : List ℕ) (sound as_sound : Bool) → AreVerdicts naming v lines sound → AreVerdicts naming v others as_sound → (lines ≡ others) × (sound ≡ as_sound)
-one_verdicts naming v lines others sound as_sound (first, second, one, other, a, b, joined, both) (first', second', one', other', a', b', joined', both') =
-    let front = one_lines (IsStandardLine naming.table) (λ index x line lines s t. one_line (codes "text ") (label_of naming.table kinds.Text index) x line lines s t) 0 v.standard.texts first first' one one' a a' in
-    let back = one_lines (IsExtendedLine naming.form) (λ index x line lines s t. one_line (codes "text+ ") (own_label naming.form x.0) x.1 line lines s t) 0 v.extended.texts second second' other other' b b' in (
+both_told : {Y : Type 0} (S : ℕ → TextValue → List Y → Bool → Type 0) (O : ℕ → List ℕ × TextValue → List Y → Bool → Type 0) → IsOneTold S → IsOneTold O → (v : EntryValue) (told others : List Y) (sound as_sound : Bool)
+    → AreAllTold S O v told sound → AreAllTold S O v others as_sound → (told ≡ others) × (sound ≡ as_sound)
+both_told S O once_s once_o v told others sound as_sound (first, second, one, other, a, b, joined, both) (first', second', one', other', a', b', joined', both') =
+    let front = all_told S once_s 0 v.standard.texts first first' one one' a a' in
+    let back = all_told O once_o 0 v.extended.texts second second' other other' b b' in (
       joined ∙ ap (λ l. l ++ second) front.0 ∙ ap (λ l. first' ++ l) back.0 ∙ sym joined',
       both ∙ ap (λ b. b && other) front.1 ∙ ap (λ b. one' && b) back.1 ∙ sym both',
     )
+
+one_verdicts : (naming : Naming) (v : EntryValue) (lines others : List ℕ) (sound as_sound : Bool) → AreVerdicts naming v lines sound → AreVerdicts naming v others as_sound → (lines ≡ others) × (sound ≡ as_sound)
+one_verdicts naming v lines others sound as_sound d h =
+    both_told (IsStandardLine naming.table) (IsExtendedLine naming.form)
+    (λ index x line lines s t. one_told (in_line (codes "text ") (label_of naming.table kinds.Text index)) x line lines s t)
+    (λ index x line lines s t. one_told (in_line (codes "text+ ") (own_label naming.form x.0)) x.1 line lines s t) v lines others sound as_sound d h
+
+one_objects : (v : EntryValue) (objects others : List Data) (sound as_sound : Bool) → AreVerdictObjects v objects sound → AreVerdictObjects v others as_sound → (objects ≡ others) × (sound ≡ as_sound)
+one_objects v objects others sound as_sound d h =
+    both_told IsStandardObject IsOwnObject (λ index x told others s t. one_told (in_object (StandardSubject kinds.Text index)) x told others s t)
+    (λ index x told others s t. one_told (in_object (OwnSubject kinds.Text x.0)) x.1 told others s t) v objects others sound as_sound d h
 
 one_judgement : (naming : Naming) (v : EntryValue) (sound as_sound : Bool) (r s : Result (List ℕ) ToolFault) → IsJudgement naming sound v r → IsJudgement naming as_sound v s → r ≡ s
 one_judgement naming v sound as_sound (Ok a) (Ok b) d h = ap Ok (one_verdicts naming v a b sound as_sound d h).0
@@ -307,6 +320,19 @@ one_traced_of : (t : TraceOf) (v : EntryValue) → IsOneResult (IsTracedOf t v)
 one_traced_of t v r s (item, called, d) (other, again, h) =
     one_traced_value item t r s d (subst (λ i. IsTracedValue i t s) (one_item v t.name.now other item again called) h)
 
+-- ---- documents
+
+one_document : (document : Document) (sound as_sound : Bool) (v : EntryValue) (r s : Result (List ℕ) ToolFault) → IsDocument document sound v r → IsDocument document as_sound v s → r ≡ s
+one_document documents.Listing sound as_sound v r s d h = d ∙ sym h
+one_document documents.Verdicts sound as_sound v (Ok a) (Ok b) (text, (objects, are, is), e) (other, (others, are_too, same), f) =
+    ap Ok (e ∙ ap (λ x. x ++ codes "\n") (is ∙ ap array_text (one_objects v objects others sound as_sound are are_too).0 ∙ sym same) ∙ sym f)
+one_document documents.Verdicts sound as_sound v (Ok a) (Err e) d h = absurd h
+one_document documents.Verdicts sound as_sound v (Err e) s d h = absurd d
+
+document_never : (document : Document) (sound : Bool) (v : EntryValue) → IsNeverOwn (IsDocument document sound v)
+document_never documents.Listing sound v = record { no_write = λ gone d. cc; no_memory = λ d. cc }
+document_never documents.Verdicts sound v = record { no_write = λ gone d. d; no_memory = λ d. d }
+
 -- ---- requests
 
 one_output : (c : OfCapability) (parameters : List Value) (input : List ℕ) → IsOneResult (IsOutputOf c parameters input)
@@ -319,6 +345,7 @@ one_for_text c parameters (Err e) = λ r s d h. d ∙ sym h
 
 one_on : (e : OfEntry) → IsSpelledOut (Entry e) → (parameters : List Value) (sound as_sound : Bool) (input : List ℕ) (v : EntryValue) (r s : Result (List ℕ) ToolFault) → IsDueIn [] e parameters sound input v r → IsDueIn [] e parameters as_sound input v s → r ≡ s
 one_on (of_entry.Show options) spelled parameters sound as_sound input v r s d h = d ∙ sym h
+one_on (of_entry.Json document) spelled parameters sound as_sound input v r s d h = one_document document sound as_sound v r s d h
 one_on (of_entry.Check naming) spelled parameters sound as_sound input v r s d h = one_judgement naming v sound as_sound r s d h
 one_on (of_entry.Lint scope) spelled parameters sound as_sound input v r s d h = absurd spelled
 one_on (of_entry.Expand e) spelled parameters sound as_sound input v r s d h = one_due_for e.name.names e.name.name.now parameters e.padding e.output v r s d h
@@ -337,6 +364,7 @@ one_answer (Entry e) parameters input sound as_sound r s spelled d h =
 
 on_entry_never : (e : OfEntry) (parameters : List Value) (sound : Bool) (input : List ℕ) (v : EntryValue) → IsNeverOwn (IsDueIn [] e parameters sound input v)
 on_entry_never (of_entry.Show options) parameters sound input v = record { no_write = λ gone d. cc; no_memory = λ d. cc }
+on_entry_never (of_entry.Json document) parameters sound input v = document_never document sound v
 on_entry_never (of_entry.Check naming) parameters sound input v = record { no_write = λ gone d. d; no_memory = λ d. d }
 on_entry_never (of_entry.Lint scope) parameters sound input v = record { no_write = λ gone d. d; no_memory = λ d. d }
 on_entry_never (of_entry.Expand e) parameters sound input v = record {

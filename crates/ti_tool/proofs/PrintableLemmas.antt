@@ -1,27 +1,19 @@
 -- Results under `--escape` are printable lines, as many as are due.
-use Rattle.std.proofs.Common.{◌≡◌, ◌∙◌, ◌+◌, ◌/◌, ◌%◌, ◌<◌, ℕ, zero, suc, Bool, true, false, List, [], ◌∷◌, ◌++◌, Some, cond, inl, inr, refl, sym, ap, subst, arith, append_assoc}
-use Rattle.std.specs.Prelude.{Option, None, Ok, ◌⊎◌, ℤ, pos, negsuc, codes, decimal, nat_eq, unwrap_or}
+use Rattle.std.proofs.Common.{◌≡◌, ◌∙◌, ◌+◌, ℕ, suc, Bool, true, List, [], ◌∷◌, ◌++◌, Some, inl, inr, refl, sym, ap, subst, arith, append_assoc}
+use Rattle.std.specs.Prelude.{◌-◌, Option, None, Ok, length, take, ◌⊎◌, codes, decimal}
 use Rattle.std.specs.List.{flat_map, list_all}
-use Rattle.std.specs.Map.{lookup}
-use Rattle.std.specs.Fmt.{digit_glyph, digits, digits_onto, signed_decimal}
-use Rattle.std.proofs.lemmas.Bool.{and_from, and_parts}
-use Rattle.std.proofs.lemmas.Bool.Decides.{nat_tests}
+use Rattle.std.specs.Fmt.{signed_decimal}
+use Rattle.std.proofs.lemmas.Bool.{and_from}
 use Rattle.std.proofs.lemmas.Grind.{flat_map-append}
 use Rattle.std.proofs.lemmas.List.{append-nil, length-append}
 use Rattle.std.proofs.lemmas.List.Folds.{list_all-append}
 use Rattle.ti_words.specs.declared.Flag.{Flag}
 use Rattle.ti_words.specs.declared.Flag.TheVariants as flags
-use Rattle.ti_words.specs.declared.Kind.{Kind}
 use Rattle.ti_words.specs.declared.Kind.TheVariants as kinds
 use Rattle.ti_words.specs.declared.Number.{Number}
 use Rattle.ti_words.specs.declared.Number.TheVariants as numbers
 use Rattle.ti_words.specs.declared.Width.{Width}
 use Rattle.ti_words.specs.declared.Width.TheVariants.{Legacy, Wide}
-use Rattle.ti_words.specs.declared.all_names.NameTable.{NameTable}
-use Rattle.ti_words.specs.declared.all_names.NameTable.TheVariants as tables
-use Rattle.ti_words.specs.AllNames.{rows_in}
-use Rattle.ti_words.specs.LongNames.{long_flags, long_numbers, long_texts}
-use Rattle.ti_words.specs.NameLists.{Row, all_flags, all_numbers, all_texts, common_flags, common_numbers, common_texts}
 use Rattle.ti_words.specs.Spelling.{mark_in}
 use Rattle.ti_words.specs.Texts.{TextValue, AbsentText, CancelledText, TextOf}
 use Rattle.ti_words.specs.Value.{EntryValue}
@@ -46,16 +38,20 @@ use Rattle.ti_tool.specs.Got.{IsTextResult, IsValueResult, number_or_none, numbe
 use Rattle.ti_tool.specs.Items.{ItemValue, FlagItem, NumberItem, TextItem}
 use Rattle.ti_tool.specs.Labels.{label_of, own_label, own_names}
 use Rattle.ti_tool.specs.Listing.{entry_lines, flag_line, number_line, text_line, lines_from, standard_flag, standard_number, standard_text, extended_flag, extended_number, extended_text, standard_lines, extended_lines, format_name}
-use Rattle.ti_tool.specs.Verdicts.{IsLine, IsStandardLine, IsExtendedLine, AreLines, IsVerdict}
-use Rattle.ti_tool.specs.Printable.{ArePrintableLines, flag_lines, number_lines, text_lines, verdict_lines, lines_due, listed_lines, checked_lines, ShowIsPrintable, CheckIsPrintable, CapIsPrintable, ExpandIsPrintable, GetIsPrintable}
-
-abbrev IsText : List ℕ → Type 0
-IsText text = list_all is_printable text ≡ true
+use Rattle.serde_json.specs.Data.{Data}
+use Rattle.ti_tool.specs.Verdicts.{AreTold, AreVerdictObjects, IsExtendedLine, IsOwnObject, IsStandardLine, IsStandardObject, IsTold, fault_verdict, in_line, in_object, sound_verdict}
+use Rattle.ti_json.proofs.TextLemmas.{IsText, both, decimal_text, label_text, signed_text}
+use Rattle.ti_json.proofs.PlainLemmas.{HavePlain, array_is_text, entry_is_text, fault_is_plain, joined as plain_joined, json_is_text, sound_is_plain}
+use Rattle.std.proofs.Math.Seq.{take-append_seam}
+use Rattle.ti_words.specs.AllNames.{front}
+use Rattle.ti_json.specs.Objects.{Subject, StandardSubject, OwnSubject, entry_text, text_json}
+use Rattle.ti_line.specs.declared.options.Document.{Document}
+use Rattle.ti_line.specs.declared.options.Document.TheVariants as documents
+use Rattle.ti_tool.specs.Documents.{IsDocument, key_of}
+use Rattle.ti_tool.specs.Results.{IsDueFrom}
+use Rattle.ti_tool.specs.Printable.{JsonIsPrintable, ObjectIsPrintable, ArePrintableLines, flag_lines, number_lines, text_lines, verdict_lines, lines_due, listed_lines, checked_lines, ShowIsPrintable, CheckIsPrintable, CapIsPrintable, ExpandIsPrintable, GetIsPrintable}
 
 -- ---- joining
-
-both : (a b : List ℕ) → IsText a → IsText b → IsText (a ++ b)
-both a b of_a of_b = list_all-append is_printable a b ∙ and_from (list_all is_printable a) (list_all is_printable b) of_a of_b
 
 abbrev with_newline : List ℕ → List ℕ
 with_newline line = line ++ codes "\n"
@@ -80,58 +76,7 @@ joined_lines m n a b of_a of_b = record {
   joined = ap (λ x. x ++ b) of_a.joined ∙ ap (λ x. flat_map with_newline of_a.lines ++ x) of_b.joined ∙ sym (flat_map-append with_newline of_a.lines of_b.lines);
 }
 
--- ---- numbers
-
-glyph : (n : ℕ) → is_printable (digit_glyph false (n % 10)) ≡ true
-glyph n = let small : n % 10 < 10 = omega arith in small_glyph (n % 10) small
-  where
-    small_glyph : (d : ℕ) → d < 10 → is_printable (digit_glyph false d) ≡ true
-    small_glyph d small = grind (arith, nat_tests)
-
-onto : (k n : ℕ) (acc : List ℕ) → IsText acc → IsText (digits_onto k 10 false n acc)
-onto zero n acc is = is
-onto (suc k) n acc is =
-    let more : IsText (digit_glyph false (n % 10) ∷ acc) = and_from (is_printable (digit_glyph false (n % 10))) (list_all is_printable acc) (glyph n) is in
-    either (digit_glyph false (n % 10) ∷ acc) _ (nat_eq (n / 10) 0) more (onto k (n / 10) (digit_glyph false (n % 10) ∷ acc) more)
-  where
-    either : (x y : List ℕ) (b : Bool) → IsText x → IsText y → IsText (cond b x y)
-    either x y true of_x of_y = of_x
-    either x y false of_x of_y = of_y
-
-decimal_text : (n : ℕ) → IsText (decimal n)
-unfolding digits
-decimal_text n = onto 64 n [] refl
-
-signed_text : (z : ℤ) → IsText (signed_decimal z)
-signed_text (pos n) = decimal_text n
-signed_text (negsuc n) = decimal_text (suc n)
-
 -- ---- labels
-
-found_text : (index : ℕ) (rows : List Row) → list_all (λ row. list_all is_printable row.1) rows ≡ true → (other : List ℕ) → IsText other → IsText (unwrap_or (lookup (nat_eq index) rows) other)
-found_text index [] all other is = is
-found_text index (row ∷ rows) all other is =
-    let (first, more) = and_parts (list_all is_printable row.1) (list_all (λ row. list_all is_printable row.1) rows) all in
-    either row.1 (lookup (nat_eq index) rows) (nat_eq index row.0) first (found_text index rows more other is)
-  where
-    either : (name : List ℕ) (rest : Option (List ℕ)) (b : Bool) → IsText name → IsText (unwrap_or rest other) → IsText (unwrap_or (cond b (Some name) rest) other)
-    either name rest true of_name of_rest = of_name
-    either name rest false of_name of_rest = of_rest
-
-names_text : (table : NameTable) (kind : Kind) → list_all (λ row. list_all is_printable row.1) (rows_in table kind) ≡ true
-unfolding all_flags all_numbers all_texts common_flags common_numbers common_texts long_flags long_numbers long_texts
-names_text tables.Common kinds.Flag = refl
-names_text tables.Common kinds.Number = refl
-names_text tables.Common kinds.Text = refl
-names_text tables.All kinds.Flag = refl
-names_text tables.All kinds.Number = refl
-names_text tables.All kinds.Text = refl
-names_text tables.Long kinds.Flag = refl
-names_text tables.Long kinds.Number = refl
-names_text tables.Long kinds.Text = refl
-
-label_text : (table : NameTable) (kind : Kind) (index : ℕ) → IsText (label_of table kind index)
-label_text table kind index = found_text index (rows_in table kind) (names_text table kind) (codes "#" ++ decimal index) (both (codes "#") (decimal index) refl (decimal_text index))
 
 own_text : (form : NameForm) (name : List ℕ) → form ≡ name_forms.Notation → IsText (own_label form name)
 own_text name_forms.Raw name e = absurd cc
@@ -225,7 +170,7 @@ shown_lines options input out e n (inr (v, spells, listed)) =
           (extended_text_lines options v e n)),
     )
 
--- ---- verdicts
+-- ---- faults
 
 fault_text : (fault : CapFault) → IsText (cap_fault_word fault)
 fault_text cap_faults.TooLong = refl
@@ -242,25 +187,74 @@ fault_text cap_faults.NoThen = refl
 fault_text cap_faults.NestTooDeep = refl
 fault_text cap_faults.StackTooDeep = refl
 
-verdict_text : (word label text verdict : List ℕ) (sound : Bool) → IsText word → IsText label → IsVerdict text verdict sound → ArePrintableLines 1 (word ++ label ++ verdict)
-verdict_text word label text verdict sound of_word of_label (inl (passes, (depth, bound, faultless, d, b, is))) =
-    ended word label (codes " ok depth " ++ decimal depth ++ codes " bound " ++ decimal bound) verdict _ of_word of_label
-    (both (codes " ok depth " ++ decimal depth ++ codes " bound ") (decimal bound) (both (codes " ok depth " ++ decimal depth) (codes " bound ") (both (codes " ok depth ") (decimal depth) refl (decimal_text depth)) refl) (decimal_text bound))
-    is refl
-verdict_text word label text verdict sound of_word of_label (inr (fails, (refused, h, is))) =
-    ended word label (codes " fault " ++ cap_fault_word refused.fault ++ codes " at " ++ decimal refused.place) verdict _ of_word of_label
-    (both (codes " fault " ++ cap_fault_word refused.fault ++ codes " at ") (decimal refused.place) (both (codes " fault " ++ cap_fault_word refused.fault) (codes " at ") (both (codes " fault ") (cap_fault_word refused.fault) refl (fault_text refused.fault)) refl) (decimal_text refused.place))
-    is refl
+-- ---- documents
 
-line_text : (word label : List ℕ) (text : TextValue) (line : List ℕ) (sound : Bool) → IsText word → IsText label → IsLine word label text line sound → ArePrintableLines (verdict_lines text) line
+plain_told : (subject : Subject) (text : TextValue) (told : List Data) (sound : Bool) → IsTold (in_object subject) text told sound → HavePlain told
+plain_told subject AbsentText told sound is = subst HavePlain (sym is.0) tt
+plain_told subject CancelledText told sound is = subst HavePlain (sym is.0) tt
+plain_told subject (TextOf text) told sound (inl (passes, (depth, bound, faultless, d, b, is))) = subst HavePlain (sym is) (sound_is_plain subject depth bound, tt)
+plain_told subject (TextOf text) told sound (inr (fails, (refused, h, is))) = subst HavePlain (sym is) (fault_is_plain subject (cap_fault_word refused.fault) refused.place (fault_text refused.fault), tt)
+
+all_plain : {X : Type 0} (L : ℕ → X → List Data → Bool → Type 0) → ((i : ℕ) (x : X) (told : List Data) (sound : Bool) → L i x told sound → HavePlain told)
+    → (i : ℕ) (xs : List X) (told : List Data) (sound : Bool) → AreTold L i xs told sound → HavePlain told
+all_plain L each i [] told sound are = subst HavePlain (sym are.0) tt
+all_plain L each i (x ∷ xs) told sound (first, more, one, rest, is, are, e, s) =
+    subst HavePlain (sym e) (plain_joined first more (each i x first one is) (all_plain L each (suc i) xs more rest are))
+
+pub plain_verdicts : (v : EntryValue) (objects : List Data) (sound : Bool) → AreVerdictObjects v objects sound → HavePlain objects
+plain_verdicts v objects sound (first, second, one, other, are, are_too, e, s) =
+    subst HavePlain (sym e) (plain_joined first second
+    (all_plain IsStandardObject (λ i text told b is. plain_told (StandardSubject kinds.Text i) text told b is) 0 v.standard.texts first one are)
+    (all_plain IsOwnObject (λ i item told b is. plain_told (OwnSubject kinds.Text item.0) item.1 told b is) 0 v.extended.texts second other are_too))
+
+document_line : (document : Document) (sound : Bool) (v : EntryValue) (out : List ℕ) → IsDocument document sound v (Ok out) → (text : List ℕ) × IsText text × (out ≡ text ++ codes "\n")
+document_line documents.Listing sound v out is = (entry_text v, entry_is_text v, cc)
+document_line documents.Verdicts sound v out (text, (objects, are, is), e) = (text, subst IsText (sym is) (array_is_text objects (plain_verdicts v objects sound are)), e)
+
+document_of : (document : Document) (sound : Bool) (input out : List ℕ) → IsDueFrom (IsDocument document sound) input (Ok out) → (text : List ℕ) × IsText text × (out ≡ text ++ codes "\n")
+document_of document sound input out (inl (refused, is, same)) = absurd cc
+document_of document sound input out (inr (v, spells, is)) = document_line document sound v out is
+
+pub json_line : JsonIsPrintable
+json_line document sound input out due = let (text, is, e) = document_of document sound input out due in one text out is e
+
+-- a line without its newline is its text
+without_newline : (text : List ℕ) → front (text ++ codes "\n") ≡ text
+without_newline text =
+    let len : length (text ++ codes "\n") - 1 ≡ length text = omega (arith, length-append text (codes "\n")) in
+    ap (λ n. take n (text ++ codes "\n")) len ∙ take-append_seam text (codes "\n")
+
+key_text : (document : Document) → IsText (key_of document)
+key_text documents.Listing = refl
+key_text documents.Verdicts = refl
+
+pub object_line : ObjectIsPrintable
+object_line document sound name input out due =
+    let (text, is, e) = document_of document sound input out due in
+    let head = codes "{\"file\":" ++ text_json name ++ codes ",\"" ++ key_of document ++ codes "\":" in
+    let of_head : IsText head =
+    both (codes "{\"file\":" ++ text_json name ++ codes ",\"" ++ key_of document) (codes "\":")
+    (both (codes "{\"file\":" ++ text_json name ++ codes ",\"") (key_of document)
+    (both (codes "{\"file\":" ++ text_json name) (codes ",\"") (both (codes "{\"file\":") (text_json name) refl (json_is_text name)) refl) (key_text document)) refl in
+    one (head ++ text ++ codes "}") _ (both (head ++ text) (codes "}") (both head text of_head is) refl)
+    (ap (λ x. head ++ front x ++ codes "}\n") e ∙ ap (λ x. head ++ x ++ codes "}\n") (without_newline text) ∙ sym (append_assoc (head ++ text) (codes "}") (codes "\n")))
+
+-- ---- verdicts
+
+line_text : (word label : List ℕ) (text : TextValue) (line : List ℕ) (sound : Bool) → IsText word → IsText label → IsTold (in_line word label) text line sound → ArePrintableLines (verdict_lines text) line
 line_text word label AbsentText line sound of_word of_label h = let P : List ℕ → Type 0 = λ x. ArePrintableLines 0 x in subst P (sym h.0) none
 line_text word label CancelledText line sound of_word of_label h = let P : List ℕ → Type 0 = λ x. ArePrintableLines 0 x in subst P (sym h.0) none
-line_text word label (TextOf text) line sound of_word of_label (verdict, is, e) =
-    let P : List ℕ → Type 0 = λ x. ArePrintableLines 1 x in
-    subst P (sym e) (verdict_text word label text verdict sound of_word of_label is)
+line_text word label (TextOf text) line sound of_word of_label (inl (passes, (depth, bound, faultless, d, b, is))) =
+    ended word label (codes " ok depth " ++ decimal depth ++ codes " bound " ++ decimal bound) (sound_verdict depth bound) line of_word of_label
+    (both (codes " ok depth " ++ decimal depth ++ codes " bound ") (decimal bound) (both (codes " ok depth " ++ decimal depth) (codes " bound ") (both (codes " ok depth ") (decimal depth) refl (decimal_text depth)) refl) (decimal_text bound))
+    refl is
+line_text word label (TextOf text) line sound of_word of_label (inr (fails, (refused, h, is))) =
+    ended word label (codes " fault " ++ cap_fault_word refused.fault ++ codes " at " ++ decimal refused.place) (fault_verdict refused) line of_word of_label
+    (both (codes " fault " ++ cap_fault_word refused.fault ++ codes " at ") (decimal refused.place) (both (codes " fault " ++ cap_fault_word refused.fault) (codes " at ") (both (codes " fault ") (cap_fault_word refused.fault) refl (fault_text refused.fault)) refl) (decimal_text refused.place))
+    refl is
 
 each_line : {X : Type 0} (IsLineOf : ℕ → X → List ℕ → Bool → Type 0) (count : X → ℕ) → ((index : ℕ) (x : X) (line : List ℕ) (sound : Bool) → IsLineOf index x line sound → ArePrintableLines (count x) line)
-    → (index : ℕ) (xs : List X) (lines : List ℕ) (sound : Bool) → AreLines IsLineOf index xs lines sound → ArePrintableLines (lines_due count xs) lines
+    → (index : ℕ) (xs : List X) (lines : List ℕ) (sound : Bool) → AreTold IsLineOf index xs lines sound → ArePrintableLines (lines_due count xs) lines
 each_line IsLineOf count each index [] lines sound h = let P : List ℕ → Type 0 = λ x. ArePrintableLines 0 x in subst P (sym h.0) none
 each_line IsLineOf count each index (x ∷ xs) lines sound (line, more, this, rest, is, are, e, s) =
     let P : List ℕ → Type 0 = λ z. ArePrintableLines (count x + lines_due count xs) z in

@@ -86,9 +86,10 @@ Delivered held0 held1 told0 told1 None out line status =
 
 -- ---- which files
 
--- only `show`, `check` and `lint` take a folder for the files in it
+-- only `show`, `check` and `lint` take a folder for the files in it, as JSON too
 abbrev pub takes_folders : OfEntry → Bool
 takes_folders (of_entry.Show options) = true
+takes_folders (of_entry.Json document) = true
 takes_folders (of_entry.Check naming) = true
 takes_folders (of_entry.Lint scope) = true
 takes_folders _ = false

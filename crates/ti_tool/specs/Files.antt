@@ -7,6 +7,7 @@ use Rattle.ti_line.specs.declared.options.NameForm.{NameForm}
 use Rattle.ti_line.specs.declared.options.NameForm.TheVariants as name_forms
 use Rattle.ti_line.specs.declared.request.OfEntry.{OfEntry}
 use Rattle.ti_line.specs.declared.request.OfEntry.TheVariants as of_entry
+use Rattle.ti_tool.specs.Documents.{in_object}
 use Rattle.ti_tool.specs.Results.{IsDueOf}
 
 -- the name of a file in a result: as it stands, or in the notation
@@ -20,12 +21,14 @@ each_line before at_start [] = []
 each_line before true (b ∷ bs) = before ++ b ∷ each_line before (b == letter (codes "\n")) bs
 each_line before false (b ∷ bs) = b ∷ each_line before (b == letter (codes "\n")) bs
 
--- the result of one of several files: a listing after a line with the name, each verdict after the name
+-- the result of one of several files: a listing after a line with the name, each verdict after the name, a
+-- document in an object with the name
 abbrev pub one_of_several : OfEntry → List ℕ → List ℕ → List ℕ
 one_of_several (of_entry.Show options) name out =
     codes "file: " ++ shown_file options.naming.form name ++ codes "\n" ++ out
 one_of_several (of_entry.Check naming) name out =
     each_line (shown_file naming.form name ++ codes ": ") true out
+one_of_several (of_entry.Json document) name out = in_object document name out
 one_of_several _ name out = out
 
 -- the result of a file; of one alone it is as of an entry on standard input

@@ -1,5 +1,6 @@
 pub mod Labels
 pub mod Listing
+pub mod Documents
 pub mod Names
 pub mod Verdicts
 pub mod Items

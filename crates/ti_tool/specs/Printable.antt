@@ -19,6 +19,8 @@ use Rattle.ti_line.specs.declared.options.NameForm.TheVariants as name_forms
 use Rattle.ti_line.specs.declared.options.Naming.{Naming}
 use Rattle.ti_line.specs.declared.options.Output.TheVariants as outputs
 use Rattle.ti_line.specs.declared.request.Get.{Get}
+use Rattle.ti_line.specs.declared.options.Document.{Document}
+use Rattle.ti_tool.specs.Documents.{IsDocument, in_object}
 use Rattle.ti_tool.specs.Got.{IsGot}
 use Rattle.ti_tool.specs.Results.{IsCappedAs, IsDueFor, IsDueFrom, IsJudgement, IsListed}
 
@@ -79,6 +81,17 @@ abbrev pub ShowIsPrintable : Type 0
 ShowIsPrintable = (options : ListOptions) (input out : List ℕ) → options.form ≡ forms.Notation
     → options.naming.form ≡ name_forms.Notation → IsDueFrom (IsListed options) input (Ok out)
     → (v : EntryValue) × Spells input v × ArePrintableLines (listed_lines v) out
+
+-- a document of JSON is one line, with no option
+abbrev pub JsonIsPrintable : Type 0
+JsonIsPrintable = (document : Document) (sound : Bool) (input out : List ℕ)
+    → IsDueFrom (IsDocument document sound) input (Ok out) → ArePrintableLines 1 out
+
+-- of one of several files too
+abbrev pub ObjectIsPrintable : Type 0
+ObjectIsPrintable = (document : Document) (sound : Bool) (name input out : List ℕ)
+    → IsDueFrom (IsDocument document sound) input (Ok out)
+    → ArePrintableLines 1 (in_object document name out)
 
 abbrev pub CheckIsPrintable : Type 0
 CheckIsPrintable = (naming : Naming) (input out : List ℕ) (sound : Bool)

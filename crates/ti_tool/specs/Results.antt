@@ -24,6 +24,7 @@ use Rattle.ti_tool.specs.Got.{IsGot}
 pub use Rattle.ti_tool.specs.Traces.{IsTraced, IsTracedOf}
 use Rattle.ti_tool.specs.Sources.{IsDueForSource}
 use Rattle.ti_tool.specs.Verdicts.{AreVerdicts}
+use Rattle.ti_tool.specs.Documents.{FindsIn, IsDocument}
 use Rattle.ti_tool.specs.Listing.{entry_lines}
 use Rattle.ti_tool.specs.Names.{IsCalled}
 use Rattle.ti_line.specs.declared.request.Asked.{Asked}
@@ -120,6 +121,7 @@ IsOutputOf (of_cap.Trace form) parameters = IsTraced parameters form
 abbrev pub IsDueIn : List ℕ → OfEntry → List Value → Bool → List ℕ → EntryValue
     → Result (List ℕ) ToolFault → Type 0
 IsDueIn before (of_entry.Show options) parameters sound input = IsListed options
+IsDueIn before (of_entry.Json document) parameters sound input = IsDocument document sound
 IsDueIn before (of_entry.Check naming) parameters sound input = IsJudgement naming sound
 IsDueIn before (of_entry.Lint scope) parameters sound input = IsLinted scope before sound input
 IsDueIn before (of_entry.Expand e) parameters sound input =
@@ -140,8 +142,9 @@ IsAnswer (Source c) parameters sound = IsDueForSource (IsOutputOf c parameters)
 IsAnswer (Entry e) parameters sound = IsDueOf [] e parameters sound
 IsAnswer (Difference d) parameters sound = λ input answer. ⊥
 
--- only `check` and `lint` find that something is wrong, and only `get` that a flag is not set
+-- only `check`, also as JSON, and `lint` find that something is wrong, and only `get` that a flag is not set
 abbrev pub Finds : Asked → Bool → Type 0
+Finds (Entry (of_entry.Json document)) sound = FindsIn document sound
 Finds (Entry (of_entry.Check naming)) sound = Unit {0}
 Finds (Entry (of_entry.Lint scope)) sound = Unit {0}
 Finds (Entry (of_entry.Get g)) sound = Unit {0}

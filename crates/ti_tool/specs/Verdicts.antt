@@ -1,5 +1,6 @@
--- The lines that `check` writes of the texts of an entry, and whether all of them are capabilities.
+-- What `check` tells of the texts of an entry, in lines or in objects of JSON, and whether all of them are capabilities.
 use Rattle.std.specs.Prelude.{◌≡◌, ◌⊎◌, ℕ, suc, Bool, true, false, ◌&&◌, List, [], ◌∷◌, ◌++◌, codes, decimal}
+use Rattle.serde_json.specs.Data.{Data}
 use Rattle.ti_words.specs.declared.Kind.TheVariants as kinds
 use Rattle.ti_words.specs.declared.all_names.NameTable.{NameTable}
 use Rattle.ti_words.specs.Texts.{TextValue, AbsentText, CancelledText, TextOf}
@@ -8,11 +9,40 @@ use Rattle.ti_cap.specs.declared.language.CapRefused.{CapRefused}
 use Rattle.ti_cap.specs.Capability.{HasDepth, HasBound}
 use Rattle.ti_cap.specs.Refusal.{IsFaultless, IsRefusal}
 use Rattle.ti_cap.specs.FaultNames.{cap_fault_word}
+use Rattle.ti_json.specs.Objects.{Subject, StandardSubject, OwnSubject, fault_object, sound_object}
 use Rattle.ti_line.specs.declared.options.NameForm.{NameForm}
 use Rattle.ti_line.specs.declared.options.Naming.{Naming}
 use Rattle.ti_tool.specs.Labels.{label_of, own_label}
 
--- what the line of a text says of it: its depth and bound, or its fault and the place
+-- ---- one text
+
+-- how a verdict is told, in bytes or in objects: by a depth and a bound, or by a fault
+pub record Telling (Y : Type 0) : Type 0 where
+  pub sound : ℕ → ℕ → List Y
+  pub fault : CapRefused → List Y
+
+-- what is told of a text without a fault: its depth, and its bound if texts among the parameters have no bytes
+abbrev pub IsSoundText : {Y : Type 0} → Telling Y → List ℕ → List Y → Type 0
+IsSoundText telling text told =
+    (depth : ℕ) × (bound : ℕ) × IsFaultless text × HasDepth text depth × HasBound text 0 bound
+    × (told ≡ telling.sound depth bound)
+
+-- and of a text with a fault: its name and its place
+abbrev pub IsFaultyText : {Y : Type 0} → Telling Y → List ℕ → List Y → Type 0
+IsFaultyText telling text told =
+    (refused : CapRefused) × IsRefusal text refused × (told ≡ telling.fault refused)
+
+-- of a text that is present, and whether it has no fault
+abbrev pub IsTold : {Y : Type 0} → Telling Y → TextValue → List Y → Bool → Type 0
+IsTold telling AbsentText told sound = (told ≡ []) × (sound ≡ true)
+IsTold telling CancelledText told sound = (told ≡ []) × (sound ≡ true)
+IsTold telling (TextOf text) told sound =
+    ((sound ≡ true) × IsSoundText telling text told)
+    ⊎ ((sound ≡ false) × IsFaultyText telling text told)
+
+-- ---- the line on a text, and its object
+
+-- what the line says: a depth and a bound, or a fault and the place
 abbrev pub sound_verdict : ℕ → ℕ → List ℕ
 sound_verdict depth bound =
     codes " ok depth " ++ decimal depth ++ codes " bound " ++ decimal bound ++ codes "\n"
@@ -21,51 +51,52 @@ abbrev pub fault_verdict : CapRefused → List ℕ
 fault_verdict refused =
     codes " fault " ++ cap_fault_word refused.fault ++ codes " at " ++ decimal refused.place ++ codes "\n"
 
--- a text without a fault: its depth, and its bound if texts among the parameters have no bytes
-abbrev pub IsSoundText : List ℕ → List ℕ → Type 0
-IsSoundText text verdict =
-    (depth : ℕ) × (bound : ℕ) × IsFaultless text × HasDepth text depth × HasBound text 0 bound
-    × (verdict ≡ sound_verdict depth bound)
-
--- a text with a fault: its name and its place
-abbrev pub IsFaultyText : List ℕ → List ℕ → Type 0
-IsFaultyText text verdict =
-    (refused : CapRefused) × IsRefusal text refused
-    × (verdict ≡ fault_verdict refused)
-
--- the verdict on a text, and whether it has no fault
-abbrev pub IsVerdict : List ℕ → List ℕ → Bool → Type 0
-IsVerdict text verdict sound =
-    ((sound ≡ true) × IsSoundText text verdict) ⊎ ((sound ≡ false) × IsFaultyText text verdict)
-
--- the line of a text that is present, and whether it has no fault
-abbrev pub IsLine : List ℕ → List ℕ → TextValue → List ℕ → Bool → Type 0
-IsLine word label AbsentText line sound = (line ≡ []) × (sound ≡ true)
-IsLine word label CancelledText line sound = (line ≡ []) × (sound ≡ true)
-IsLine word label (TextOf text) line sound =
-    (verdict : List ℕ) × IsVerdict text verdict sound × (line ≡ word ++ label ++ verdict)
+abbrev pub in_line : List ℕ → List ℕ → Telling ℕ
+in_line word label = record {
+  sound = λ depth bound. word ++ label ++ sound_verdict depth bound;
+  fault = λ refused. word ++ label ++ fault_verdict refused;
+}
 
 abbrev pub IsStandardLine : NameTable → ℕ → TextValue → List ℕ → Bool → Type 0
-IsStandardLine table index text line sound =
-    IsLine (codes "text ") (label_of table kinds.Text index) text line sound
+IsStandardLine table index = IsTold (in_line (codes "text ") (label_of table kinds.Text index))
 
 abbrev pub IsExtendedLine : NameForm → ℕ → List ℕ × TextValue → List ℕ → Bool → Type 0
-IsExtendedLine form index (name, text) line sound =
-    IsLine (codes "text+ ") (own_label form name) text line sound
+IsExtendedLine form index (name, text) = IsTold (in_line (codes "text+ ") (own_label form name)) text
 
--- a line for each item from an index on, and whether none has a fault
-abbrev pub AreLines : {X : Type 0} → (ℕ → X → List ℕ → Bool → Type 0) → ℕ → List X → List ℕ
+abbrev pub in_object : Subject → Telling Data
+in_object subject = record {
+  sound = λ depth bound. sound_object subject depth bound ∷ [];
+  fault = λ refused. fault_object subject (cap_fault_word refused.fault) refused.place ∷ [];
+}
+
+abbrev pub IsStandardObject : ℕ → TextValue → List Data → Bool → Type 0
+IsStandardObject index = IsTold (in_object (StandardSubject kinds.Text index))
+
+abbrev pub IsOwnObject : ℕ → List ℕ × TextValue → List Data → Bool → Type 0
+IsOwnObject index (name, text) = IsTold (in_object (OwnSubject kinds.Text name)) text
+
+-- ---- all texts
+
+-- what is told of each item from an index on, and whether none has a fault
+abbrev pub AreTold : {X Y : Type 0} → (ℕ → X → List Y → Bool → Type 0) → ℕ → List X → List Y
     → Bool → Type 0
-AreLines IsLineOf index [] lines sound = (lines ≡ []) × (sound ≡ true)
-AreLines IsLineOf index (x ∷ xs) lines sound =
-    (line : List ℕ) × (more : List ℕ) × (one : Bool) × (rest : Bool) × IsLineOf index x line one
-    × AreLines IsLineOf (suc index) xs more rest
-    × (lines ≡ line ++ more) × (sound ≡ (one && rest))
+AreTold IsToldOf index [] told sound = (told ≡ []) × (sound ≡ true)
+AreTold {X} {Y} IsToldOf index (x ∷ xs) told sound =
+    (first : List Y) × (more : List Y) × (one : Bool) × (rest : Bool) × IsToldOf index x first one
+    × AreTold IsToldOf (suc index) xs more rest
+    × (told ≡ first ++ more) × (sound ≡ (one && rest))
 
--- the texts in the order of their indices, then those of the extended part
+-- of the texts in the order of their indices, then of those of the extended part
+abbrev pub AreAllTold : {Y : Type 0} → (ℕ → TextValue → List Y → Bool → Type 0)
+    → (ℕ → List ℕ × TextValue → List Y → Bool → Type 0) → EntryValue → List Y → Bool → Type 0
+AreAllTold {Y} IsStandard IsOwn v told sound =
+    (first : List Y) × (second : List Y) × (one : Bool) × (other : Bool)
+    × AreTold IsStandard 0 v.standard.texts first one
+    × AreTold IsOwn 0 v.extended.texts second other
+    × (told ≡ first ++ second) × (sound ≡ (one && other))
+
 abbrev pub AreVerdicts : Naming → EntryValue → List ℕ → Bool → Type 0
-AreVerdicts naming v lines sound =
-    (first : List ℕ) × (second : List ℕ) × (one : Bool) × (other : Bool)
-    × AreLines (IsStandardLine naming.table) 0 v.standard.texts first one
-    × AreLines (IsExtendedLine naming.form) 0 v.extended.texts second other
-    × (lines ≡ first ++ second) × (sound ≡ (one && other))
+AreVerdicts naming = AreAllTold (IsStandardLine naming.table) (IsExtendedLine naming.form)
+
+abbrev pub AreVerdictObjects : EntryValue → List Data → Bool → Type 0
+AreVerdictObjects = AreAllTold IsStandardObject IsOwnObject

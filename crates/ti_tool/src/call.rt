@@ -15,7 +15,7 @@ use crate::fault::ToolFault;
 use crate::result::write_result;
 use crate::source::{MOST_BYTES, MOST_CHARACTERS, read_up_to};
 use arrayvec::ArrayVec;
-use std::alloc::Allocator;
+use std::alloc::{Allocator, Global};
 use std::io::{Read, Write};
 use ti_entry::{EntryReader, read_from};
 use ti_expand::Value;
@@ -64,6 +64,7 @@ fn call_on_source<A: Allocator + Copy, R: Read, W: Write>(
 /// Takes what the reader gives as an entry, which is kept. The result is whether no text that was analysed has a fault, and
 /// no flag that was asked for is not set.
 fn call_on_entry<A: Allocator + Copy, R: Read, W: Write>(
+    global: Global,
     alloc: A,
     asked: &OfEntry<'_>,
     parameters: &[Value<'_>; 9],
@@ -81,14 +82,15 @@ fn call_on_entry<A: Allocator + Copy, R: Read, W: Write>(
 {
     read_from(kept, reader)?;
     let entry = kept.finish()?;
-    let answer = answer_of_entry(alloc, asked, parameters, b"", kept.bytes(), &entry)?;
+    let bytes = kept.bytes();
+    let answer = answer_of_entry(global, alloc, asked, parameters, b"", bytes, &entry)?;
     write_result(writer, answer.bytes.as_slice())?;
     Ok(answer.sound)
 }
 
 /// Does what is asked: what the reader gives is taken as one capability, as the notation of one or as an entry, and what is
 /// due for it is written. Each variable of a capability starts as 0. The result is false if `check` found a text with a fault,
-/// `lint` something wrong, or `get` a flag that is not set.
+/// `lint` something wrong, or `get` a flag that is not set. JSON is made in the memory of `global`.
 ///
 /// Nothing is written before the whole result is there: after a fault other than `Write` the writer is as it was.
 ///
@@ -100,6 +102,7 @@ fn call_on_entry<A: Allocator + Copy, R: Read, W: Write>(
 /// 67108864 bytes, `Encode` if a number is above 32767 and the legacy format is requested, or else if the canonical bytes would
 /// be more than 32768, which shared texts or wider numbers can lead to, `Write`; `Memory` if a growth is refused.
 pub fn carry_out<A: Allocator + Copy, R: Read, W: Write>(
+    global: Global,
     alloc: A,
     asked: &Asked<'_>,
     parameters: &[Value<'_>; 9],
@@ -114,11 +117,12 @@ pub fn carry_out<A: Allocator + Copy, R: Read, W: Write>(
     ensures unwritten { IfErr result (λ e. IsFailedWrite e ⊎ (writer.new ≡ writer.old)) }
 {
     let mut kept = EntryReader::new();
-    carry_out_keeping(alloc, asked, parameters, &mut kept, reader, writer)
+    carry_out_keeping(global, alloc, asked, parameters, &mut kept, reader, writer)
 }
 
 /// [`carry_out`] with a new reader of entries, which keeps the bytes of an entry: a line on a fault may tell its names.
 pub(crate) fn carry_out_keeping<A: Allocator + Copy, R: Read, W: Write>(
+    global: Global,
     alloc: A,
     asked: &Asked<'_>,
     parameters: &[Value<'_>; 9],
@@ -143,7 +147,9 @@ pub(crate) fn carry_out_keeping<A: Allocator + Copy, R: Read, W: Write>(
             call_on_source(alloc, *asked, parameters, reader, writer)?;
             Ok(true)
         }
-        Asked::Entry(asked) => call_on_entry(alloc, asked, parameters, kept, reader, writer),
+        Asked::Entry(asked) => {
+            call_on_entry(global, alloc, asked, parameters, kept, reader, writer)
+        }
         Asked::Difference(_) => Err(ToolFault::Read),
     }
 }

@@ -2,7 +2,7 @@
 
 ghost use Rattle.std.specs.Prelude.{◌≡◌, ◌++◌, ◌↔◌, codes, IsTrue, OnOk};
 ghost use Rattle.ti_words.specs.Texts.{text_value};
-ghost use Rattle.ti_tool.specs.Differences.{IsChange, item_line, kind_end, value_line};
+ghost use Rattle.ti_tool.specs.Differences.{AreSameItems, AreSpelledAlike, IsChange, item_line, kind_end, value_line};
 ghost use Rattle.ti_tool.specs.Items.{kind_word};
 ghost use Rattle.ti_tool.specs.inner.Differences.{Adds};
 ghost use Rattle.ti_tool.specs.inner.Item.{item_value};
@@ -11,8 +11,10 @@ ghost use Rattle.ti_tool.specs.inner.Label.{label_bytes};
 use crate::item::Item;
 use crate::item_line::{push_flag, push_number, push_text};
 use crate::label::Label;
+use crate::tokens::have_same_tokens;
 use std::alloc::{AllocError, Allocator};
 use ti_escape::Form;
+use ti_line::Likeness;
 use ti_words::{Kind, Text};
 
 /// The start of a line on what the first entry has.
@@ -66,6 +68,31 @@ fn are_same_texts(one: Text<'_>, other: Text<'_>) -> bool
     }
 }
 
+/// Whether two values are texts with the same tokens.
+fn are_spelled_alike(one: Item<'_>, other: Item<'_>) -> bool
+    ensures { IsTrue result ↔ AreSpelledAlike (item_value one.entry) (item_value other.entry) }
+{
+    match one {
+        Item::Flag(_) | Item::Number(_) => false,
+        Item::Text(Text::Absent) | Item::Text(Text::Cancelled) => false,
+        Item::Text(Text::Value(text)) => match other {
+            Item::Flag(_) | Item::Number(_) => false,
+            Item::Text(Text::Absent) | Item::Text(Text::Cancelled) => false,
+            Item::Text(Text::Value(of_other)) => have_same_tokens(text, of_other),
+        },
+    }
+}
+
+/// Whether two values are alike.
+fn are_alike(likeness: Likeness, one: Item<'_>, other: Item<'_>) -> bool
+    ensures { IsTrue result ↔ AreSameItems likeness (item_value one.entry) (item_value other.entry) }
+{
+    match likeness {
+        Likeness::Bytes => are_same(one, other),
+        Likeness::Tokens => are_same(one, other) || are_spelled_alike(one, other),
+    }
+}
+
 /// Whether two values are the same.
 fn are_same(one: Item<'_>, other: Item<'_>) -> bool
     ensures { IsTrue result ↔ (item_value one.entry ≡ item_value other.entry) }
@@ -109,6 +136,7 @@ pub fn push_item<A: Allocator>(
 /// Writes what each entry has of a capability, if they do not have it alike.
 pub fn push_change<A: Allocator>(
     out: &mut Vec<u8, A>,
+    likeness: Likeness,
     is_own: bool,
     kind: Kind,
     label: Label<'_>,
@@ -116,10 +144,10 @@ pub fn push_change<A: Allocator>(
     other: Item<'_>,
 ) -> Result<(), AllocError>
     ensures { OnOk result (Adds
-        (IsChange (value_line is_own kind (label_bytes label.entry))
+        (IsChange (AreSameItems likeness) (value_line is_own kind (label_bytes label.entry))
         (item_value one.entry) (item_value other.entry)) out.old.items out.new.items) }
 {
-    if are_same(one, other) {
+    if are_alike(likeness, one, other) {
         return Ok(());
     }
     push_item(out, minus_word(kind, is_own), label, one)?;

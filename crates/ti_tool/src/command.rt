@@ -12,20 +12,23 @@ pub mod convert;
 pub mod diff;
 pub mod expand;
 pub mod get;
+pub mod json;
 pub mod lint;
 pub mod trace;
+pub mod verdicts;
 
 use crate::command::cap::cap_result;
 use crate::command::check::verdicts_of;
 use crate::command::convert::convert_result;
 use crate::command::expand::expand_result;
 use crate::command::get::get_result;
+use crate::command::json::document_of;
 use crate::command::lint::findings_of_entry;
 use crate::command::trace::{trace_of_result, trace_result};
 use crate::fault::ToolFault;
 use crate::listing::lines_of;
 use crate::notation::put_text;
-use std::alloc::Allocator;
+use std::alloc::{Allocator, Global};
 use ti_entry::Entry;
 use ti_expand::Value;
 use ti_line::{OfCapability, OfEntry};
@@ -35,7 +38,7 @@ use ti_line::{OfCapability, OfEntry};
 pub struct Answer<A: Allocator> {
     /// The bytes of the result.
     pub bytes: Vec<u8, A>,
-    /// Whether nothing is wrong, and a flag is set; true for all requests but those of `check`, `lint` and `get`.
+    /// Whether nothing is wrong, and a flag is set; true for all requests but those of `check`, also as JSON, `lint` and `get`.
     pub sound: bool,
 }
 
@@ -72,6 +75,7 @@ pub fn answer_of_source<A: Allocator + Copy>(
 
 /// What is due for an entry that the bytes spell. Something stands before the first line of each finding of `lint`.
 pub fn answer_of_entry<A: Allocator + Copy>(
+    global: Global,
     alloc: A,
     asked: &OfEntry<'_>,
     parameters: &[Value<'_>; 9],
@@ -88,6 +92,7 @@ pub fn answer_of_entry<A: Allocator + Copy>(
 {
     let bytes = match asked {
         OfEntry::Show(options) => lines_of(alloc, *options, entry)?,
+        OfEntry::Json(document) => return Ok(document_of(global, alloc, *document, entry)?),
         OfEntry::Check(naming) => return Ok(verdicts_of(alloc, *naming, entry)?),
         OfEntry::Lint(scope) => {
             return Ok(findings_of_entry(alloc, *scope, before, bytes, entry)?);

@@ -43,7 +43,7 @@ fn outcome_of_both<A: Allocator + Copy>(
     of_other: &[u8],
 ) -> Result<Outcome<A>, AllocError>
     ensures ends { IfOk result (λ o. EndsFile o.status o.line.items) }
-    ensures led { IfOk result (λ o. IsCompared pair.now.file.now pair.now.other.now
+    ensures led { IfOk result (λ o. IsCompared pair.now.likeness pair.now.file.now pair.now.other.now
         contents.now of_other.now o.bytes.items o.line.items o.status) }
 {
     let one = match read(contents) {
@@ -54,7 +54,7 @@ fn outcome_of_both<A: Allocator + Copy>(
         Ok(entry) => entry,
         Err(refused) => return refusal_outcome(alloc, pair.other, of_other, refused),
     };
-    let bytes = difference_of(alloc, &one, &other)?;
+    let bytes = difference_of(alloc, pair.likeness, &one, &other)?;
     let status = if bytes.is_empty() { 0 } else { 1 };
     Ok(Outcome {
         bytes,
@@ -72,7 +72,7 @@ fn outcome_of_pair<S: Store, A: Allocator + Copy, R: Read>(
 ) -> Result<Outcome<A>, AllocError>
     ensures ends { IfOk result (λ o. EndsFile o.status o.line.items) }
     ensures led { IfOk result (λ o. (one : Supply) × (two : Supply)
-        × IsComparison pair.now.file.now pair.now.other.now one two
+        × IsComparison pair.now.likeness pair.now.file.now pair.now.other.now one two
         o.bytes.items o.line.items o.status) }
 {
     let contents = match contents_of(store, alloc, pair.file, input) {

@@ -20,7 +20,7 @@ use crate::program::told_names;
 use crate::result::write_result;
 use crate::status::status;
 use crate::store::{Files, Found, Store, one_file, read_contents};
-use std::alloc::{AllocError, Allocator};
+use std::alloc::{AllocError, Allocator, Global};
 use std::io;
 use std::io::{ErrorKind, Read, Write};
 use ti_expand::Value;
@@ -38,6 +38,8 @@ pub struct Errand<'a> {
     pub parameters: &'a [Value<'a>; 9],
     /// Whether there are several files.
     pub has_several: bool,
+    /// Where JSON is made.
+    pub global: Global,
 }
 
 /// What a file leads to: a result or a line on its fault, and the status.
@@ -95,7 +97,13 @@ fn outcome_of<A: Allocator + Copy>(
         errand.now.parameters.now file.entry.is_one_of_several file.entry.name.now contents.now
         o.bytes.items o.line.items o.status) }
 {
-    match answer_of_file(alloc, errand.of_entry, errand.parameters, file, contents) {
+    let Errand {
+        of_entry,
+        parameters,
+        global,
+        ..
+    } = *errand;
+    match answer_of_file(global, alloc, of_entry, parameters, file, contents) {
         Ok(answer) => Ok(Outcome {
             bytes: answer.bytes,
             line: Vec::new(alloc),
@@ -195,7 +203,7 @@ fn takes_folders(of_entry: &OfEntry<'_>) -> bool
 {
     matches!(
         of_entry,
-        OfEntry::Show(_) | OfEntry::Check(_) | OfEntry::Lint(_)
+        OfEntry::Show(_) | OfEntry::Json(_) | OfEntry::Check(_) | OfEntry::Lint(_)
     )
 }
 

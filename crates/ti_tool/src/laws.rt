@@ -1,6 +1,6 @@
 //! Laws of the program's results, each stated as the contract of an empty function.
 
-ghost use Rattle.ti_tool.specs.Printable.{CapIsPrintable, CheckIsPrintable, ExpandIsPrintable, GetIsPrintable, ShowIsPrintable};
+ghost use Rattle.ti_tool.specs.Printable.{CapIsPrintable, CheckIsPrintable, ExpandIsPrintable, GetIsPrintable, JsonIsPrintable, ObjectIsPrintable, ShowIsPrintable};
 ghost use Rattle.ti_tool.specs.Laws.{CheckHasOneVerdict, HasOneAnswer, WideAndBack};
 
 /// Where an entry of the legacy format is converted to the one with numbers of 32 bits and back, its canonical bytes
@@ -16,11 +16,13 @@ pub fn results_are_one()
     ensures verdict { CheckHasOneVerdict }
 {}
 
-/// Under `--escape` a result is as many lines as are due, each of printable ASCII characters and one newline, whatever
-/// the entry holds.
+/// Under `--escape` a result is as many lines as are due, and under `--json` it is one line, each of printable ASCII characters
+/// and one newline, whatever the entry holds.
 pub fn escaped_results_are_printable()
     ensures show { ShowIsPrintable }
     ensures check { CheckIsPrintable }
+    ensures json { JsonIsPrintable }
+    ensures object { ObjectIsPrintable }
     ensures cap { CapIsPrintable }
     ensures expand { ExpandIsPrintable }
     ensures get { GetIsPrintable }

@@ -26,6 +26,7 @@ mod store;
 mod taken;
 mod terminals;
 mod text_name;
+mod tokens;
 mod verdict;
 
 pub use call::carry_out;

@@ -3,16 +3,19 @@
 ghost use Rattle.std.specs.Prelude.{◌≡◌, ◌⊎◌, ◌++◌, codes, Err, OnOk, IfErr, IfOk, true};
 ghost use Rattle.ti_line.specs.declared.request.Asked.TheVariants as asks;
 ghost use Rattle.ti_tool.specs.declared.fault.ToolFault.TheVariants as fault;
+ghost use Rattle.ti_words.specs.AllNames.{front};
+ghost use Rattle.ti_tool.specs.Documents.{in_object as the_object, key_of as the_key};
 ghost use Rattle.ti_tool.specs.Files.{IsDueOfFile, before_findings as the_before_findings, each_line, file_line as the_file_line, one_of_several as the_one_of_several, result_of_file, shown_file};
 ghost use Rattle.ti_tool.specs.Results.{Finds, IsDueOf};
 
 use crate::command::{Answer, answer_of_entry};
 use crate::fault::ToolFault;
-use std::alloc::{AllocError, Allocator};
+use std::alloc::{AllocError, Allocator, Global};
 use ti_entry::read;
 use ti_escape::push_notation;
 use ti_expand::Value;
-use ti_line::{NameForm, OfEntry};
+use ti_json::text_json;
+use ti_line::{Document, NameForm, OfEntry};
 
 /// A file that was named.
 #[derive(Clone, Copy, Debug)]
@@ -93,6 +96,46 @@ fn by_name<A: Allocator + Copy>(
     Ok(out)
 }
 
+/// A line without its newline.
+fn without_newline(line: &[u8]) -> &[u8]
+    ensures { result.now ≡ front line.now }
+{
+    match line {
+        [text @ .., _] => text,
+        [] => line,
+    }
+}
+
+/// What a document is called in the object of its file.
+fn key_of(document: Document) -> &'static str
+    ensures { result.now ≡ the_key document }
+{
+    match document {
+        Document::Listing => "items",
+        Document::Verdicts => "verdicts",
+    }
+}
+
+/// A document in an object with the name of its file.
+fn in_object<A: Allocator + Copy>(
+    global: Global,
+    alloc: A,
+    document: Document,
+    name: &str,
+    line: &[u8],
+) -> Result<Vec<u8, A>, AllocError>
+    ensures { IfOk result (λ v. v.items ≡ the_object document name.now line.now) }
+{
+    let mut out = Vec::from_slice(alloc, b"{\"file\":")?;
+    out.extend_from_slice(text_json(global, name.as_bytes())?.as_slice())?;
+    out.extend_from_slice(b",\"")?;
+    out.extend_from_slice(key_of(document).as_bytes())?;
+    out.extend_from_slice(b"\":")?;
+    out.extend_from_slice(without_newline(line))?;
+    out.extend_from_slice(b"}\n")?;
+    Ok(out)
+}
+
 /// What stands before the first line of each finding in a file: its name, if it is one of several.
 fn before_findings<A: Allocator + Copy>(alloc: A, file: Named<'_>) -> Result<Vec<u8, A>, AllocError>
     ensures { IfOk result (λ v. v.items
@@ -108,6 +151,7 @@ fn before_findings<A: Allocator + Copy>(alloc: A, file: Named<'_>) -> Result<Vec
 
 /// The result of one of several files.
 fn one_of_several<A: Allocator + Copy>(
+    global: Global,
     alloc: A,
     asked: &OfEntry<'_>,
     name: &str,
@@ -118,17 +162,19 @@ fn one_of_several<A: Allocator + Copy>(
     match asked {
         OfEntry::Show(options) => after_name(alloc, options.naming.form, name, plain.as_slice()),
         OfEntry::Check(naming) => by_name(alloc, naming.form, name, plain.as_slice()),
+        OfEntry::Json(document) => in_object(global, alloc, *document, name, plain.as_slice()),
         _ => Ok(plain),
     }
 }
 
 /// What is due for the contents of a file: what is due for an entry of these bytes, with the name of the file if it is one
-/// of several.
+/// of several. A document of JSON is made in the memory of `global`, and its bytes are then `alloc`'s.
 ///
 /// # Errors
 ///
 /// Those of the entry; [`ToolFault::Memory`] if a growth is refused.
 pub fn answer_of_file<A: Allocator + Copy>(
+    global: Global,
     alloc: A,
     asked: &OfEntry<'_>,
     parameters: &[Value<'_>; 9],
@@ -145,6 +191,7 @@ pub fn answer_of_file<A: Allocator + Copy>(
     let entry = read(contents)?;
     let before = before_findings(alloc, file)?;
     let Answer { bytes, sound } = answer_of_entry(
+        global,
         alloc,
         asked,
         parameters,
@@ -153,7 +200,7 @@ pub fn answer_of_file<A: Allocator + Copy>(
         &entry,
     )?;
     if file.is_one_of_several {
-        let bytes = one_of_several(alloc, asked, file.name, bytes)?;
+        let bytes = one_of_several(global, alloc, asked, file.name, bytes)?;
         return Ok(Answer { bytes, sound });
     }
     Ok(Answer { bytes, sound })

@@ -4,12 +4,16 @@ use Rattle.std.specs.Int.{bit_at}
 use Rattle.ti_cap.specs.declared.language.Token.{Token}
 use Rattle.ti_cap.specs.declared.language.Token.TheVariants.{Param, Store, Load, Increment}
 use Rattle.ti_cap.specs.Height.{pops, pushes}
+use Rattle.ti_cap.specs.Sources.{takes_text}
 use Rattle.ti_lint.specs.declared.variables.Variables.{Variables}
 use Rattle.ti_lint.specs.declared.heights.Heights.{Heights}
 use Rattle.ti_lint.specs.declared.facts.Facts.{Facts}
 use Rattle.ti_lint.specs.declared.expected.Expected.{Expected}
+use Rattle.ti_lint.specs.declared.expected.TextParameters.{TextParameters}
+use Rattle.ti_lint.specs.declared.values.Values.{Values}
 use Rattle.ti_lint.specs.declared.finding.Finding.{Finding}
-use Rattle.ti_lint.specs.declared.finding.Finding.TheVariants.{StackUnderflow, TermcapParameter, ParameterRange, RepeatedIncrement, UnsetVariable}
+use Rattle.ti_lint.specs.declared.finding.Finding.TheVariants.{StackUnderflow, TermcapParameter, ParameterRange, RepeatedIncrement, UnsetVariable, OperandType}
+use Rattle.ti_lint.specs.inner.Values.{no_values, either_values, after_values}
 
 abbrev pub has_bit : ℕ → ℕ → Bool
 has_bit mask place = nat_eq (bit_at mask place) 1
@@ -71,10 +75,10 @@ IsLettered token = Unit {0}
 -- ---- all of them
 
 abbrev pub no_facts : Facts
-no_facts = record { heights = record { mask = 0 }; incremented = false; named_first_two = false; stored = record { mask = 2 ^ 64 - 1 } }
+no_facts = record { heights = record { mask = 0 }; incremented = false; named_first_two = false; stored = record { mask = 2 ^ 64 - 1 }; values = no_values }
 
 abbrev pub first_facts : Facts
-first_facts = record { heights = record { mask = 1 }; incremented = false; named_first_two = false; stored = record { mask = 0 } }
+first_facts = record { heights = record { mask = 1 }; incremented = false; named_first_two = false; stored = record { mask = 0 }; values = no_values }
 
 abbrev pub joined : Facts → Facts → Facts
 joined a b = record {
@@ -82,6 +86,7 @@ joined a b = record {
   incremented = a.incremented || b.incremented;
   named_first_two = a.named_first_two || b.named_first_two;
   stored = both_sets a.stored b.stored;
+  values = either_values a.values b.values;
 }
 
 abbrev pub after_increment : Token → Bool → Bool
@@ -98,6 +103,7 @@ after_token token f = record {
   incremented = after_increment token f.incremented;
   named_first_two = f.named_first_two || is_first_two token;
   stored = after_stores token f.stored;
+  values = after_values token f.values;
 }
 
 -- ---- what is found
@@ -116,9 +122,31 @@ abbrev pub underflow : Bool → Finding
 underflow true = TermcapParameter
 underflow false = StackUnderflow
 
+-- a text is wanted, or a number
+abbrev pub agrees : Bool → Bool → Bool
+agrees true is_text = is_text
+agrees false is_text = not is_text
+
+-- some path has a value of the kind at the place
+abbrev pub has_kind : TextParameters → Bool → Values → ℕ → Bool
+has_kind texts wanted v place =
+    ((agrees wanted texts.first && has_bit v.first place) || (agrees wanted texts.second && has_bit v.second place))
+    || ((agrees wanted texts.third && has_bit v.third place) || (not wanted && has_bit v.other place))
+
+-- one of so many values on top is of the kind on no path
+abbrev pub is_other_below : ℕ → TextParameters → Bool → Values → Bool
+is_other_below zero texts wanted v = false
+is_other_below (suc n) texts wanted v = is_other_below n texts wanted v || not (has_kind texts wanted v n)
+
+-- what is told of a token that pops
+abbrev pub of_pops : Bool → Finding → Bool → Option Finding
+of_pops true below other = Some below
+of_pops false below other = found_if other OperandType
+
 -- `termcap` says that no parameter is named
 abbrev pub judgement : Expected → Bool → Token → Facts → Option Finding
 judgement expected termcap (Param which) f = found_if (nat_lt expected.parameters which) ParameterRange
 judgement expected termcap Increment f = found_if f.incremented RepeatedIncrement
 judgement expected termcap (Load which) f = found_if (is_unset expected which f) UnsetVariable
-judgement expected termcap token f = found_if (lacks token f.heights) (underflow termcap)
+judgement expected termcap token f =
+    of_pops (lacks token f.heights) (underflow termcap) (is_other_below (pops token) expected.texts (takes_text token) f.values)

@@ -1,18 +1,19 @@
-//! What is wrong with tokens of capabilities on some of their paths: rows worked by hand.
+//! What is wrong with tokens of capabilities on some of their paths, or by their conditionals: rows worked by hand.
 
 use Finding::{
-    DeadStore, LateIncrement, ParameterRange, RepeatedIncrement, StackResidue, StackUnderflow,
-    TermcapParameter, UnsetVariable, UnusedIncrement,
+    ConstantCondition, DeadStore, LateIncrement, NoEffect, OperandType, ParameterRange,
+    RepeatedCondition, RepeatedIncrement, StackResidue, StackUnderflow, TermcapParameter,
+    UnsetVariable, UnusedIncrement,
 };
 use std::test::Fail;
 use ti_cap::Capability;
-use ti_lint::{Expected, Finding, Variables, findings_of};
+use ti_lint::{Expected, Finding, TextParameters, Variables, findings_of, text_parameters};
 
 /// A capability, how many parameters it has, the mask of the variables that texts of its entry store, and what is wrong, each
 /// finding with the number of bytes before its token.
 type Row = (&'static [u8], u8, u64, &'static [(usize, Finding)]);
 
-const ROWS: [Row; 46] = [
+const ROWS: [Row; 69] = [
     (b"", 0, 0, &[]),
     (b"\x1b[%i%p1%d;%p2%dH", 2, 0, &[]),
     // Texts of termcap, in the entries ibm8514 and tek4207-s.
@@ -75,7 +76,7 @@ const ROWS: [Row; 46] = [
     (b"%p1%PA%gA%gZ%+%d", 1, 0, &[(9, UnsetVariable)]),
     // A value is left on some path; the end closes an open conditional.
     (b"%p1%p2%d", 2, 0, &[(0, StackResidue)]),
-    (b"%p1%l", 1, 0, &[(3, StackResidue)]),
+    (b"%p1%l", 1, 0, &[(3, OperandType), (3, StackResidue)]),
     (b"%?%p1%t%p2%;", 2, 0, &[(7, StackResidue)]),
     (b"%p1%?%p2%t%d%e%;", 2, 0, &[(0, StackResidue)]),
     (b"%p1%?%p2%t%d%e%c%;", 2, 0, &[]),
@@ -106,6 +107,47 @@ const ROWS: [Row; 46] = [
         &[(10, DeadStore), (15, UnsetVariable)],
     ),
     (b"%p1%Pz%gz%d%p1%Pz", 1, 0, &[(14, DeadStore)]),
+    // A conditional without bodies; a test that writes, stores or leaves a value has an effect.
+    (b"%?%p1%t%;", 1, 0, &[(0, NoEffect)]),
+    (b"%?%p1%t%e%p2%t%e%;", 2, 0, &[(0, NoEffect)]),
+    (b"%?%p1%t", 1, 0, &[(0, NoEffect)]),
+    (b"%?%p1%t%e%p2%tA%;", 2, 0, &[]),
+    (b"%?%p1%t%eA%;", 1, 0, &[]),
+    (b"%?A%p1%t%;", 1, 0, &[]),
+    (b"%?%p1%PA%gA%t%;", 1, 0, &[]),
+    (b"%?%p1%p2%t%;%d", 2, 0, &[]),
+    (b"%p1%?%t%;", 1, 0, &[]),
+    (b"%?%p1%t%?%p2%t%;%;", 2, 0, &[(7, NoEffect)]),
+    // A test of constants; one that a test takes from before it decides too, but is none.
+    (b"%?%{1}%tA%;", 0, 0, &[(6, ConstantCondition)]),
+    (
+        b"%?%{1}%{2}%=%!%tA%e%{0}%tB%;",
+        0,
+        0,
+        &[(14, ConstantCondition), (23, ConstantCondition)],
+    ),
+    (
+        b"%?%{1}%t%;",
+        0,
+        0,
+        &[(0, NoEffect), (6, ConstantCondition)],
+    ),
+    (b"%?%p1%{1}%-%tA%;", 1, 0, &[]),
+    (b"%{1}%?%tA%;", 0, 0, &[]),
+    (b"%{1}%?%{1}%=%tA%;", 0, 0, &[]),
+    // The test of an earlier arm, and not that of a conditional in it or around it.
+    (b"%?%p1%tA%e%p1%tB%;", 1, 0, &[(8, RepeatedCondition)]),
+    (
+        b"%?%p1%tA%e%p2%t%?%p1%tB%;%e%p1%tC%;",
+        2,
+        0,
+        &[(25, RepeatedCondition)],
+    ),
+    (b"%?%p1%t%?%p1%tA%;%;", 1, 0, &[]),
+    (b"%?%p1%t%?%p2%tA%e%p1%tB%;%;", 2, 0, &[]),
+    (b"%?%p1%tA%e%p1%!%tB%;", 1, 0, &[]),
+    (b"%?%p1%tA%;%?%p2%tB%e%p1%tC%;", 2, 0, &[]),
+    (b"%?%p1%tA%e%p1%;%d", 1, 0, &[(15, StackUnderflow)]),
 ];
 
 #[test]
@@ -113,6 +155,7 @@ fn findings_hold_on_some_path(rt: HostRuntime) -> Result<(), Fail> {
     for (text, parameters, mask, wanted) in ROWS {
         let expected = Expected {
             parameters,
+            texts: TextParameters::NONE,
             stored: Variables { mask },
         };
         let list = findings_of(rt.alloc(), &Capability::parse(text)?, expected)?;
@@ -122,6 +165,57 @@ fn findings_hold_on_some_path(rt: HostRuntime) -> Result<(), Fail> {
         }
         assert_that!(rt; found.as_slice() == wanted);
     }
+    Ok(())
+}
+
+/// The name of a capability with two parameters, the capability, and where it takes a value of the other kind.
+const KINDS: [(&str, &[u8], &[usize]); 14] = [
+    // The second parameter of `pfkey` is a text, and the first one a number.
+    ("pfkey", b"%p1%d%p2%s", &[]),
+    ("pfkey", b"%p1%s%p2%d", &[3, 8]),
+    ("pfkey", b"%p1%d%p2%l%d", &[]),
+    ("pfkey", b"%p2%l%s", &[5]),
+    ("cup", b"%p1%s", &[3]),
+    ("cup", b"%{1}%l%d", &[4]),
+    ("cup", b"%p1%PA%gA%s", &[9]),
+    // Either operand, a test, and a store.
+    ("pfkey", b"%p1%p2%+%d", &[6]),
+    ("pfkey", b"%p2%p1%+%d", &[6]),
+    ("pfkey", b"%?%p2%t%;", &[5]),
+    ("pfkey", b"%p2%PA%p1%d", &[3]),
+    // On some path the kind is right; what the empty stack lacks is told instead.
+    ("pfkey", b"%?%p1%t%p1%e%p2%;%d", &[]),
+    ("pfkey", b"%?%p1%t%p2%e%p2%;%d", &[17]),
+    ("pfkey", b"%?%p1%t%p2%;%d", &[]),
+];
+
+#[test]
+fn values_are_of_the_kind_that_is_taken(rt: HostRuntime) -> Result<(), Fail> {
+    for (name, text, wanted) in KINDS {
+        let expected = Expected {
+            parameters: 2,
+            texts: text_parameters(name.as_bytes()),
+            stored: Variables::NONE,
+        };
+        let list = findings_of(rt.alloc(), &Capability::parse(text)?, expected)?;
+        let mut found = Vec::new(rt.alloc());
+        for one in list.iter() {
+            if one.finding == OperandType {
+                found.push(one.place)?;
+            }
+        }
+        assert_that!(rt; found.as_slice() == wanted);
+    }
+    Ok(())
+}
+
+#[test]
+fn some_parameters_are_texts(rt: HostRuntime) -> Result<(), Fail> {
+    let third = text_parameters(b"pfxl");
+    assert_that!(rt; !third.first && third.second && third.third);
+    let first = text_parameters(b"Ms");
+    assert_that!(rt; first.first && first.second && !first.third);
+    assert_that!(rt; text_parameters(b"cup") == TextParameters::NONE);
     Ok(())
 }
 
@@ -135,6 +229,10 @@ fn each_finding_has_a_word(rt: HostRuntime) -> Result<(), Fail> {
     assert_that!(rt; UnusedIncrement.word() == "%i-unused");
     assert_that!(rt; LateIncrement.word() == "%i-late");
     assert_that!(rt; DeadStore.word() == "dead-store");
+    assert_that!(rt; OperandType.word() == "operand-type");
+    assert_that!(rt; NoEffect.word() == "no-effect");
+    assert_that!(rt; ConstantCondition.word() == "constant-condition");
+    assert_that!(rt; RepeatedCondition.word() == "repeated-condition");
     Ok(())
 }
 

@@ -2,3 +2,4 @@
 
 mod lint;
 mod report;
+mod values;

@@ -28,7 +28,8 @@ fn capped<A: Allocator + Copy>(
 ) -> Written {
     let mut source = source;
     let mut writer = writer;
-    let result = cap_run(alloc, &mut source, parameters, hex, &mut writer);
+    let global = *writer.taken.allocator();
+    let result = cap_run(global, alloc, &mut source, parameters, hex, &mut writer);
     Written {
         result,
         taken: writer.taken,
@@ -142,7 +143,8 @@ const TOO_LONG: CapRefused = CapRefused {
 fn a_source_without_end_is_too_long(rt: HostRuntime) {
     let mut source = Endless { reads: 0 };
     let mut writer = Sink::new(rt.alloc());
-    let result = cap_run(rt.alloc(), &mut source, &NUMBERS, false, &mut writer);
+    let global = rt.alloc();
+    let result = cap_run(global, global, &mut source, &NUMBERS, false, &mut writer);
     assert_that!(rt; result == Err(ToolFault::Cap(TOO_LONG)));
     assert_that!(rt; source.reads <= 32768);
     assert_that!(rt; writer.taken.is_empty());
@@ -186,7 +188,8 @@ fn formed<A: Allocator + Copy>(alloc: A, output: Output, writer: Sink) -> Writte
     let mut writer = writer;
     let mut source = Source::new(b"\x1b%p1%d^, ", 3);
     let asked = Asked::Capability(OfCapability::Cap(output));
-    let result = carry_out(alloc, &asked, &NUMBERS, &mut source, &mut writer);
+    let global = *writer.taken.allocator();
+    let result = carry_out(global, alloc, &asked, &NUMBERS, &mut source, &mut writer);
     Written {
         result: result.map(|_sound| ()),
         taken: writer.taken,

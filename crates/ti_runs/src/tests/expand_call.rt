@@ -37,7 +37,9 @@ pub fn expanded<A: Allocator + Copy>(
     let mut source = source;
     let mut writer = writer;
     let parameters = nine(&[Value::Text(asked.text)]);
+    let global = *writer.taken.allocator();
     let result = expand_named(
+        global,
         alloc,
         &mut source,
         asked.name,
@@ -201,7 +203,7 @@ fn expanded_by(alloc: Global, words: &[&str]) -> Result<Written, Fail> {
     let Request { parameters, asked } = request;
     let mut writer = Sink::new(alloc);
     let mut source = Source::new(UNCOMMON, 3);
-    let result = carry_out(alloc, &asked, &parameters, &mut source, &mut writer);
+    let result = carry_out(alloc, alloc, &asked, &parameters, &mut source, &mut writer);
     Ok(Written {
         result: result.map(|_sound| ()),
         taken: writer.taken,

@@ -100,6 +100,7 @@ fn a_text_of_a_large_entry_is_expanded(rt: HostRuntime) -> Result<(), Fail> {
     let mut source = Source::new(TMUX, 512);
     let result = expand_named(
         rt.alloc(),
+        rt.alloc(),
         &mut source,
         "cup",
         &parameters,
@@ -118,7 +119,8 @@ fn a_text_of_a_large_entry_is_expanded_by_itself(rt: HostRuntime) {
     let parameters = nine(&[Value::Num(23), Value::Num(79)]);
     let mut writer = Sink::new(rt.alloc());
     let mut source = Source::new(CUP, 512);
-    let result = cap_run(rt.alloc(), &mut source, &parameters, true, &mut writer);
+    let global = rt.alloc();
+    let result = cap_run(global, global, &mut source, &parameters, true, &mut writer);
     assert_that!(rt; result.is_ok());
     assert_that!(rt; writer.taken.as_slice() == b"1b5b32343b383048\n".as_slice());
 }

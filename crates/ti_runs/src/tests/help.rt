@@ -86,7 +86,8 @@ const HELP: [(&[&str], &[&str]); 13] = [
     (
         &["ti", "diff", "--help"],
         &[
-            "Usage: ti diff [FILE] <OTHER>",
+            "Usage: ti diff [OPTIONS] [FILE] <OTHER>",
+            "--expand",
             "standard input",
             "status 1",
             "Example",

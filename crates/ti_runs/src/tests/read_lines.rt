@@ -4,13 +4,23 @@ use std::test::Fail;
 use ti_line::{LineFault, NoLine, Request, Task, read_line};
 
 /// Words, what they ask for, and the first two parameters.
-const READ: [(&[&str], &str, &str); 32] = [
+const READ: [(&[&str], &str, &str); 34] = [
     (
         &["ti", "cap", "n:7"],
         "Capability(Cap(Raw))",
         "[Num(7), Num(0)]",
     ),
     (&["ti", "cap"], "Capability(Cap(Raw))", "[Num(0), Num(0)]"),
+    (
+        &["ti", "show", "--json"],
+        "Entry(Json(Listing))",
+        "[Num(0), Num(0)]",
+    ),
+    (
+        &["ti", "check", "--json"],
+        "Entry(Json(Verdicts))",
+        "[Num(0), Num(0)]",
+    ),
     (
         &["ti", "cap", "n:4", "--hex", "n:9"],
         "Capability(Cap(Line(Hex)))",
@@ -175,7 +185,7 @@ const READ: [(&[&str], &str, &str); 32] = [
 ];
 
 /// Words of which the line has a fault, and the fault.
-const FAULTY: [(&[&str], &str); 15] = [
+const FAULTY: [(&[&str], &str); 18] = [
     (&["ti", "diff"], "FileCount"),
     (&["ti", "cap", "help"], "BadWord 1"),
     (&["ti", "cap", "n:1", "", "s:"], "BadWord 2"),
@@ -183,6 +193,9 @@ const FAULTY: [(&[&str], &str); 15] = [
     (&["ti", "trace", "--", "--escape"], "BadWord 1"),
     (&["ti", "trace", "--of", "cup", "4", "n:x"], "BadWord 2"),
     (&["ti", "trace", "--entry", "-", "x"], "EntryWithoutName"),
+    (&["ti", "show", "--json", "--escape"], "JsonForm"),
+    (&["ti", "check", "--json", "-e"], "JsonForm"),
+    (&["ti", "show", "--all-names", "--json", "x"], "JsonForm"),
     (&["ti", "cap", "--escape", "--hex", "x"], "BothForms"),
     (
         &["ti", "expand", "--escape", "--hex", "bel", "x"],

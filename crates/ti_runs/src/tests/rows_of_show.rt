@@ -85,3 +85,46 @@ const FORMED: [Row; 6] = [
 fn runs_of_show_in_other_forms_end_as_they_should(rt: HostRuntime) {
     assert_rows(&rt, &FORMED);
 }
+
+/// Two texts of characters that JSON or the notation escapes, and a flag and an extended flag that the entry cancels.
+const ESCAPED: &[u8] =
+    b"\x1a\x01\x06\0\x01\0\0\0\x02\0\x08\0t|\"\x1b\xff\0\xfe\0\0\0\x04\0\"\\\n\0\x80\" \0\x01\0\0\0\0\0\x01\0\x05\0\xfe\0\0\0a \"\n\0";
+
+/// Runs with `--json`.
+const DOCUMENTS: [Row; 4] = [
+    Row {
+        words: &["ti", "show", "--json"],
+        input: UNCOMMON,
+        status: 0,
+        output: br#"[{"kind":"format","value":"legacy"},{"kind":"names","value":"t"},{"kind":"flag","name":"xsb","value":true},{"kind":"text","name":"bel","value":"^G"},{"kind":"text","name":"cmdch","value":"\\E%p1%d\\^\\,\\s"}]
+"#,
+        errors: b"",
+    },
+    Row {
+        words: &["ti", "show", "--json"],
+        input: ESCAPED,
+        status: 0,
+        output: br#"[{"kind":"format","value":"legacy"},{"kind":"names","value":"t|\"\\E\\377"},{"kind":"flag","name":"bw","state":"cancelled"},{"kind":"text","name":"cbt","value":"\"\\\\^J"},{"kind":"text","name":"bel","value":"\\200\"\\s"},{"kind":"flag","name":"a\\s\"^J","own":true,"state":"cancelled"}]
+"#,
+        errors: b"",
+    },
+    Row {
+        words: &["ti", "show", "--json", "--escape"],
+        input: SMALL,
+        status: 2,
+        output: b"",
+        errors: b"--json excludes --escape and --all-names\n",
+    },
+    Row {
+        words: &["ti", "show", "-a", "--json"],
+        input: SMALL,
+        status: 2,
+        output: b"",
+        errors: b"--json excludes --escape and --all-names\n",
+    },
+];
+
+#[test]
+fn runs_of_show_end_as_they_should_with_json(rt: HostRuntime) {
+    assert_rows(&rt, &DOCUMENTS);
+}

@@ -8,9 +8,10 @@ use std::test::Fail;
 use ti_entry::read;
 use ti_fixtures::Tally;
 use ti_fixtures::entries::{EXTENDED_BY_TIC, WIDE_BY_TIC};
+use ti_line::Likeness;
 use ti_tool::difference_of;
 
-const ROWS: [Row; 14] = [
+const ROWS: [Row; 17] = [
     Row {
         words: &["ti", "diff", "tic", "tic"],
         at_terminal: false,
@@ -66,6 +67,28 @@ const ROWS: [Row; 14] = [
         at_terminal: false,
         status: 1,
         output: b"- text bel ^G\n+ text bel \\E[?%[;0123456789]c\n",
+        errors: b"",
+    },
+    // a newline is the character 10
+    Row {
+        words: &["ti", "diff", "digits", "quoted"],
+        at_terminal: false,
+        status: 1,
+        output: b"- text bel %{10}%c\n+ text bel %'^J'%c\n",
+        errors: b"",
+    },
+    Row {
+        words: &["ti", "diff", "--expand", "digits", "quoted"],
+        at_terminal: false,
+        status: 0,
+        output: b"",
+        errors: b"",
+    },
+    Row {
+        words: &["ti", "diff", "--expand", "small", "digits"],
+        at_terminal: false,
+        status: 1,
+        output: b"- text bel ^G\n+ text bel %{10}%c\n",
         errors: b"",
     },
     Row {
@@ -134,7 +157,7 @@ fn a_difference_that_cannot_be_written_is_told(rt: HostRuntime) {
 fn are_told_apart(rt: &impl Abort, global: Global, memory: usize) -> Result<bool, Fail> {
     let heap = LocalHeap::new(global, memory)?;
     let (one, other) = (read(EXTENDED_BY_TIC)?, read(WIDE_BY_TIC)?);
-    let is_told = difference_of(&heap, &one, &other).is_ok();
+    let is_told = difference_of(&heap, Likeness::Bytes, &one, &other).is_ok();
     assert_that!(rt; heap.used() == 0);
     Ok(is_told)
 }

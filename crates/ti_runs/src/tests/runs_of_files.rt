@@ -18,8 +18,14 @@ const ONCE: &[u8] =
 /// The small entry with two percent signs in `bel`, which nothing expands.
 const PERCENT: &[u8] = b"\x1a\x01\x02\0\x01\0\x01\0\x02\0\x04\0t\0\x01\0P\0\xff\xff\0\0\x07%%\0";
 
+/// The small entry with a newline in `bel` by a constant of digits.
+const DIGITS: &[u8] = b"\x1a\x01\x02\0\x01\0\x01\0\x02\0\x08\0t\0\x01\0P\0\xff\xff\0\0%{10}%c\0";
+
+/// The same by a constant between apostrophes.
+const QUOTED: &[u8] = b"\x1a\x01\x02\0\x01\0\x01\0\x02\0\x07\0t\0\x01\0P\0\xff\xff\0\0%'\n'%c\0";
+
 /// The files of a shelf: their names and contents.
-const SHELF: [(&str, &[u8]); 11] = [
+const SHELF: [(&str, &[u8]); 13] = [
     ("small", SMALL),
     ("more\x1b", EXTENDED),
     ("folder/fault", QUESTION),
@@ -31,6 +37,8 @@ const SHELF: [(&str, &[u8]); 11] = [
     ("twice", TWICE),
     ("once", ONCE),
     ("percent\x1b", PERCENT),
+    ("digits", DIGITS),
+    ("quoted", QUOTED),
 ];
 
 /// Files in memory, and a folder with two of them and a name that is not valid UTF-8.
@@ -80,7 +88,7 @@ pub struct Row {
     pub errors: &'static [u8],
 }
 
-const ROWS: [Row; 13] = [
+const ROWS: [Row; 16] = [
     Row {
         words: &["ti", "show", "small"],
         at_terminal: false,
@@ -95,6 +103,24 @@ const ROWS: [Row; 13] = [
         status: 0,
         output: b"file: small\nformat: legacy\nnames: t\nflag bw\nnumber cols 80\ntext bel 07\nfile: -\nformat: legacy\nnames: t\nflag bw\nnumber cols 80\ntext bel 1b5b3f255b3b303132333435363738395d63\n",
         errors: b"",
+    },
+    Row {
+        words: &["ti", "show", "--json", "small"],
+        at_terminal: true,
+        status: 0,
+        output: br#"[{"kind":"format","value":"legacy"},{"kind":"names","value":"t"},{"kind":"flag","name":"bw","value":true},{"kind":"number","name":"cols","value":80},{"kind":"text","name":"bel","value":"^G"}]
+"#,
+        errors: b"",
+    },
+    // a file that is no entry has no document
+    Row {
+        words: &["ti", "show", "--json", "more\x1b", "cut", "small"],
+        at_terminal: false,
+        status: 3,
+        output: br#"{"file":"more\\E","items":[{"kind":"format","value":"legacy"},{"kind":"names","value":"t"},{"kind":"flag","name":"bw","value":true},{"kind":"number","name":"cols","value":80},{"kind":"text","name":"bel","value":"^G"},{"kind":"flag","name":"AX","own":true,"value":true},{"kind":"text","name":"E3","own":true,"value":"\\E[3J"}]}
+{"file":"small","items":[{"kind":"format","value":"legacy"},{"kind":"names","value":"t"},{"kind":"flag","name":"bw","value":true},{"kind":"number","name":"cols","value":80},{"kind":"text","name":"bel","value":"^G"}]}
+"#,
+        errors: b"cut: entry: Truncated at 5\n",
     },
     Row {
         words: &["ti", "check", "more\x1b", "small"],
@@ -122,6 +148,15 @@ const ROWS: [Row; 13] = [
         at_terminal: false,
         status: 5,
         output: b"folder/fault: text bel fault UnknownEscape at 3\nfolder/whole: text bel ok depth 0 bound 1\nfolder/whole: text+ E3 ok depth 0 bound 4\n",
+        errors: b"folder: invalid filename\n",
+    },
+    Row {
+        words: &["ti", "check", "--json", "folder"],
+        at_terminal: false,
+        status: 5,
+        output: br#"{"file":"folder/fault","verdicts":[{"fault":"UnknownEscape","kind":"text","name":"bel","place":3}]}
+{"file":"folder/whole","verdicts":[{"bound":1,"depth":0,"kind":"text","name":"bel"},{"bound":4,"depth":0,"kind":"text","name":"E3","own":true}]}
+"#,
         errors: b"folder: invalid filename\n",
     },
     Row {
@@ -210,7 +245,7 @@ fn files_are_done_one_after_another(rt: HostRuntime) {
 
 #[test]
 fn files_stop_where_results_cannot_be_written(rt: HostRuntime) {
-    let row = &ROWS[2];
+    let row = &ROWS[4];
     let (status, output, errors) = end_at(rt.alloc(), row, 2);
     assert_that!(rt; status == 5);
     let first = b"more\x1b: text bel ok depth 0 bound 1\nmore\x1b: text+ E3 ok depth 0 bound 4\n";

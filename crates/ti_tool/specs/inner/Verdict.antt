@@ -2,7 +2,7 @@
 use Rattle.std.specs.Prelude.{◌≡◌, ℕ, Bool, true, false, List, ◌++◌}
 use Rattle.ti_cap.specs.Capability.{HasDepth, HasBound}
 use Rattle.ti_cap.specs.Refusal.{IsFaultless, IsRefusal}
-use Rattle.ti_tool.specs.Verdicts.{AreLines, fault_verdict, sound_verdict}
+use Rattle.ti_tool.specs.Verdicts.{AreTold, Telling, fault_verdict, sound_verdict}
 use Rattle.ti_tool.specs.declared.verdict.Verdict.{Verdict}
 use Rattle.ti_tool.specs.declared.verdict.Verdict.TheVariants.{Sound, Faulty}
 
@@ -20,8 +20,13 @@ abbrev pub verdict_line : Verdict → List ℕ
 verdict_line (Sound depth bound) = sound_verdict depth bound
 verdict_line (Faulty refused) = fault_verdict refused
 
--- lines of all the items come after what was there
-abbrev pub AddsLines : {X : Type 0} → (ℕ → X → List ℕ → Bool → Type 0) → List X
-    → List ℕ → List ℕ → Bool → Type 0
-AddsLines IsLineOf items old new sound =
-    (lines : List ℕ) × AreLines IsLineOf 0 items lines sound × (new ≡ old ++ lines)
+-- how a verdict is told
+abbrev pub told_by : {Y : Type 0} → Telling Y → Verdict → List Y
+told_by telling (Sound depth bound) = telling.sound depth bound
+told_by telling (Faulty refused) = telling.fault refused
+
+-- what is told of all the items comes after what was there
+abbrev pub AddsTold : {X Y : Type 0} → (ℕ → X → List Y → Bool → Type 0) → List X
+    → List Y → List Y → Bool → Type 0
+AddsTold {X} {Y} IsToldOf items old new sound =
+    (told : List Y) × AreTold IsToldOf 0 items told sound × (new ≡ old ++ told)

@@ -5,7 +5,7 @@
 
 ghost use Rattle.std.specs.Prelude.{IfOk};
 ghost use Rattle.ti_tool.specs.Verdicts.{AreVerdicts, IsExtendedLine, IsStandardLine};
-ghost use Rattle.ti_tool.specs.inner.Verdict.{AddsLines};
+ghost use Rattle.ti_tool.specs.inner.Verdict.{AddsTold};
 
 use crate::command::Answer;
 use crate::label::Label;
@@ -22,7 +22,7 @@ fn push_standard<A: Allocator>(
     entry: &Entry<'_>,
 ) -> Result<bool, AllocError>
     ensures { IfOk result
-        (AddsLines (IsStandardLine table) entry.now.standard.texts out.old.items out.new.items) }
+        (AddsTold (IsStandardLine table) entry.now.standard.texts out.old.items out.new.items) }
 {
     let mut sound = true;
     let mut last = judge(b"");
@@ -45,7 +45,7 @@ fn push_extended<A: Allocator>(
     extended: &Extended<'_>,
 ) -> Result<bool, AllocError>
     ensures { IfOk result
-        (AddsLines (IsExtendedLine form) extended.now.texts out.old.items out.new.items) }
+        (AddsTold (IsExtendedLine form) extended.now.texts out.old.items out.new.items) }
 {
     let mut sound = true;
     let mut last = judge(b"");

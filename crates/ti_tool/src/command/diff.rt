@@ -4,7 +4,7 @@
 
 ghost use Rattle.std.specs.Prelude.{◌≡◌, ◌++◌, ◌↔◌, length, IfOk, IsTrue, OnOk};
 ghost use Rattle.ti_entry.specs.Finding.{Lacks, names_of};
-ghost use Rattle.ti_tool.specs.Differences.{AreBelow, AreDifferences, AreOfKinds, AreOwnChanges, AreStandardChanges, IsChange, IsFirst, IsOwn, IsOwnChange, IsOwnNew, TellsApart, format_line, names_line, standard_count as the_standard_count};
+ghost use Rattle.ti_tool.specs.Differences.{AreBelow, AreDifferences, AreSame, AreOfKinds, AreOwnChanges, AreStandardChanges, IsChange, IsFirst, IsOwn, IsOwnChange, IsOwnNew, TellsApart, format_line, names_line, standard_count as the_standard_count};
 ghost use Rattle.ti_tool.specs.inner.Differences.{Adds};
 ghost use Rattle.ti_tool.specs.inner.Item.{item_value};
 
@@ -15,7 +15,7 @@ use crate::listing::format_name;
 use std::alloc::{AllocError, Allocator};
 use ti_entry::{Entry, Extended, Position};
 use ti_escape::push_notation;
-use ti_line::NameForm;
+use ti_line::{Likeness, NameForm};
 use ti_words::{Flag, Kind, NameTable, Number, Text, Width};
 
 /// How many standard capabilities of a kind an entry has.
@@ -43,11 +43,12 @@ fn own_count(extended: &Extended<'_>, kind: Kind) -> usize
 /// Writes the lines on the standard capabilities of a kind.
 fn push_standard<A: Allocator>(
     out: &mut Vec<u8, A>,
+    likeness: Likeness,
     kind: Kind,
     one: &Entry<'_>,
     other: &Entry<'_>,
 ) -> Result<(), AllocError>
-    ensures { OnOk result (Adds (AreStandardChanges kind one.now other.now) out.old.items out.new.items) }
+    ensures { OnOk result (Adds (AreStandardChanges likeness kind one.now other.now) out.old.items out.new.items) }
 {
     let table = NameTable::All;
     let end = standard_count(one, kind).max(standard_count(other, kind));
@@ -55,7 +56,7 @@ fn push_standard<A: Allocator>(
         let label = Label::Standard { table, kind, index };
         let place = Position::Standard(kind, index);
         let (value, of_other) = (item_at(one, place), item_at(other, place));
-        push_change(out, false, kind, label, value, of_other)?;
+        push_change(out, likeness, false, kind, label, value, of_other)?;
     }
     Ok(())
 }
@@ -93,13 +94,14 @@ fn lacks(entry: &Entry<'_>, kind: Kind, name: &[u8]) -> bool
 /// Writes the lines on an extended capability of the first entry.
 fn push_own_at<A: Allocator>(
     out: &mut Vec<u8, A>,
+    likeness: Likeness,
     kind: Kind,
     one: &Entry<'_>,
     other: &Entry<'_>,
     index: usize,
 ) -> Result<(), AllocError>
     ensures { OnOk result
-        (Adds (IsOwnChange kind one.now other.now index) out.old.items out.new.items) }
+        (Adds (IsOwnChange likeness kind one.now other.now index) out.old.items out.new.items) }
 {
     if !is_first(one, kind, index) {
         return Ok(());
@@ -114,7 +116,7 @@ fn push_own_at<A: Allocator>(
     };
     let value = item_at(one, Position::Extended(kind, index));
     let of_other = own_item(other, kind, own_name(&own, kind, index));
-    push_change(out, true, kind, label, value, of_other)
+    push_change(out, likeness, true, kind, label, value, of_other)
 }
 
 /// Writes the line on an extended capability of the other entry, if the first lacks it.
@@ -149,15 +151,16 @@ fn push_new_at<A: Allocator>(
 /// Writes the lines on the extended capabilities of a kind that the first entry has.
 fn push_compared<A: Allocator>(
     out: &mut Vec<u8, A>,
+    likeness: Likeness,
     kind: Kind,
     one: &Entry<'_>,
     other: &Entry<'_>,
 ) -> Result<(), AllocError>
-    ensures { OnOk result (Adds (AreBelow (IsOwnChange kind one.now other.now)
+    ensures { OnOk result (Adds (AreBelow (IsOwnChange likeness kind one.now other.now)
         (length (names_of one.now.extended kind))) out.old.items out.new.items) }
 {
     for index in 0..own_count(&one.extended(), kind) {
-        push_own_at(out, kind, one, other, index)?;
+        push_own_at(out, likeness, kind, one, other, index)?;
     }
     Ok(())
 }
@@ -181,13 +184,14 @@ fn push_new<A: Allocator>(
 /// Writes the lines on all extended capabilities of a kind.
 fn push_own<A: Allocator>(
     out: &mut Vec<u8, A>,
+    likeness: Likeness,
     kind: Kind,
     one: &Entry<'_>,
     other: &Entry<'_>,
 ) -> Result<(), AllocError>
-    ensures { OnOk result (Adds (AreOwnChanges kind one.now other.now) out.old.items out.new.items) }
+    ensures { OnOk result (Adds (AreOwnChanges likeness kind one.now other.now) out.old.items out.new.items) }
 {
-    push_compared(out, kind, one, other)?;
+    push_compared(out, likeness, kind, one, other)?;
     push_new(out, kind, one, other)
 }
 
@@ -211,7 +215,7 @@ fn push_format<A: Allocator>(
     one: Width,
     other: Width,
 ) -> Result<(), AllocError>
-    ensures { OnOk result (Adds (IsChange format_line one other) out.old.items out.new.items) }
+    ensures { OnOk result (Adds (IsChange AreSame format_line one other) out.old.items out.new.items) }
 {
     if one == other {
         return Ok(());
@@ -240,7 +244,7 @@ fn push_names<A: Allocator>(
     one: &[u8],
     other: &[u8],
 ) -> Result<(), AllocError>
-    ensures { OnOk result (Adds (IsChange names_line one.now other.now) out.old.items out.new.items) }
+    ensures { OnOk result (Adds (IsChange AreSame names_line one.now other.now) out.old.items out.new.items) }
 {
     if one == other {
         return Ok(());
@@ -252,45 +256,48 @@ fn push_names<A: Allocator>(
 /// Writes the lines on all standard capabilities.
 fn push_all_standard<A: Allocator>(
     out: &mut Vec<u8, A>,
+    likeness: Likeness,
     one: &Entry<'_>,
     other: &Entry<'_>,
 ) -> Result<(), AllocError>
-    ensures { OnOk result (Adds (AreOfKinds (λ kind. AreStandardChanges kind one.now other.now))
+    ensures { OnOk result (Adds (AreOfKinds (λ kind. AreStandardChanges likeness kind one.now other.now))
         out.old.items out.new.items) }
 {
-    push_standard(out, Kind::Flag, one, other)?;
-    push_standard(out, Kind::Number, one, other)?;
-    push_standard(out, Kind::Text, one, other)
+    push_standard(out, likeness, Kind::Flag, one, other)?;
+    push_standard(out, likeness, Kind::Number, one, other)?;
+    push_standard(out, likeness, Kind::Text, one, other)
 }
 
 /// Writes the lines on all extended capabilities.
 fn push_all_own<A: Allocator>(
     out: &mut Vec<u8, A>,
+    likeness: Likeness,
     one: &Entry<'_>,
     other: &Entry<'_>,
 ) -> Result<(), AllocError>
-    ensures { OnOk result (Adds (AreOfKinds (λ kind. AreOwnChanges kind one.now other.now))
+    ensures { OnOk result (Adds (AreOfKinds (λ kind. AreOwnChanges likeness kind one.now other.now))
         out.old.items out.new.items) }
 {
-    push_own(out, Kind::Flag, one, other)?;
-    push_own(out, Kind::Number, one, other)?;
-    push_own(out, Kind::Text, one, other)
+    push_own(out, likeness, Kind::Flag, one, other)?;
+    push_own(out, likeness, Kind::Number, one, other)?;
+    push_own(out, likeness, Kind::Text, one, other)
 }
 
 /// What two entries do not have alike, one line an item: what the first has after `- `, and what the other has after `+ `.
-/// Nothing is told exactly if both say the same.
+/// Nothing is told exactly if both say the same, with texts that are alike counted as the same.
 pub fn difference_of<A: Allocator + Copy>(
     alloc: A,
+    likeness: Likeness,
     one: &Entry<'_>,
     other: &Entry<'_>,
 ) -> Result<Vec<u8, A>, AllocError>
-    ensures lines { IfOk result (λ v. AreDifferences one.now other.now v.items) }
-    ensures apart { IfOk result (λ v. TellsApart one.now other.now v.items) }
+    ensures lines { IfOk result (λ v. AreDifferences likeness one.now other.now v.items) }
+    ensures apart { IfOk result (λ v. TellsApart likeness one.now other.now v.items) }
 {
     let mut out = Vec::new(alloc);
     push_format(&mut out, one.width(), other.width())?;
     push_names(&mut out, one.names(), other.names())?;
-    push_all_standard(&mut out, one, other)?;
-    push_all_own(&mut out, one, other)?;
+    push_all_standard(&mut out, likeness, one, other)?;
+    push_all_own(&mut out, likeness, one, other)?;
     Ok(out)
 }

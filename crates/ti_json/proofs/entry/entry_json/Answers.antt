@@ -1,25 +1,25 @@
-use Rattle.std.proofs.Common.{◌≡◌, ◌++◌, ◌∙◌, List, ap, append_assoc, map, sym}
+use Rattle.std.proofs.Common.{◌∙◌, ap, map, subst, sym}
 use Rattle.std.proofs.lemmas.Result.{IfOk-weaker}
-use Rattle.serde_json.specs.Data.{Data, array}
+use Rattle.serde_json.specs.Data.{array}
 use Rattle.serde_json.specs.View.{items_of, view}
-use Rattle.serde_json.specs.Written.{compact_text, has_float}
-use Rattle.serde_json.specs.declared.value.Value.{Array}
-use Rattle.serde_json.proofs.Views.{view-Array}
-use Rattle.ti_json.specs.Objects.{entry_objects, own_objects, standard_objects, whole_objects}
-use Rattle.ti_json.proofs.FloatLemmas.{no_float}
+use Rattle.serde_json.specs.Written.{items_have_float}
+use Rattle.ti_json.specs.Objects.{array_text, entry_objects}
+use Rattle.ti_json.proofs.TextLemmas.{IsText}
+use Rattle.ti_json.proofs.PlainLemmas.{entry_is_plain, entry_is_text, no_float}
+use Rattle.ti_json.proofs.ObjectsLemmas.{all_objects}
 use Rattle.ti_json.proofs.entry.entry_json.Goals as goal
+
+pub array_json-requires : goal.array_json-requires
+array_json-requires c =
+    let v = c.args.entry.now in
+    let objects = all_objects v c.extended.result (map view c.new-objects.result.items) _ _ (map view c.push_own.new.out.items) (ap (map view) c.new-objects.ensures.items) c.in_ok-push_whole.ensures c.in_ok-push_standard.ensures c.extended.ensures c.in_ok-push_own.ensures in
+    ap (λ ds. items_have_float (items_of ds)) objects ∙ no_float (array (items_of (entry_objects v))) (entry_is_plain v)
 
 pub returns : goal.returns
 returns c =
     let v = c.args.entry.now in
-    let first = map view c.push_whole.new.out.items in
-    let objects : map view c.push_own.new.out.items ≡ entry_objects v =
-    c.in_ok-push_own.ensures
-    ∙ ap (λ ds. ds ++ own_objects c.extended.result) c.in_ok-push_standard.ensures
-    ∙ append_assoc first (standard_objects v.standard) (own_objects c.extended.result)
-    ∙ ap (λ ds. ds ++ (standard_objects v.standard ++ own_objects c.extended.result)) c.in_ok-push_whole.ensures
-    ∙ ap (λ vs. map view vs ++ whole_objects v ++ (standard_objects v.standard ++ own_objects c.extended.result)) c.new-objects.ensures.items
-    ∙ ap (λ e. whole_objects v ++ (standard_objects v.standard ++ own_objects e)) c.extended.ensures in
-    let is : view (Array c.push_own.new.out) ≡ array (items_of (entry_objects v)) =
-    view-Array c.push_own.new.out ∙ ap (λ ds. array (items_of ds)) objects in
-    record { text = IfOk-weaker c.to_vec.result _ _ (λ bytes h. h (ap has_float is ∙ no_float v) ∙ ap compact_text is) c.to_vec.ensures.text }
+    let objects = all_objects v c.extended.result (map view c.new-objects.result.items) _ _ (map view c.push_own.new.out.items) (ap (map view) c.new-objects.ensures.items) c.in_ok-push_whole.ensures c.in_ok-push_standard.ensures c.extended.ensures c.in_ok-push_own.ensures in
+    record {
+      text = IfOk-weaker c.array_json.result _ _ (λ bytes e. e ∙ ap array_text objects) c.array_json.ensures;
+      printable = IfOk-weaker c.array_json.result _ _ (λ bytes e. subst IsText (sym (e ∙ ap array_text objects)) (entry_is_text v)) c.array_json.ensures;
+    }

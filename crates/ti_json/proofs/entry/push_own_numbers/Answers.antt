@@ -1,8 +1,7 @@
-use Rattle.std.proofs.Common.{◌≡◌, ◌++◌, arith, map}
+use Rattle.std.proofs.Common.{arith, map}
 use Rattle.serde_json.specs.View.{view}
 use Rattle.ti_words.specs.declared.Kind.TheVariants as kinds
 use Rattle.ti_words.specs.declared.Number.TheVariants as numbers
-use Rattle.ti_words.specs.declared.Number.{Number}
 use Rattle.ti_json.specs.Objects.{OwnSubject, number_objects, own_number}
 use Rattle.ti_json.proofs.ObjectsLemmas.{objects_end, own_next}
 use Rattle.ti_json.proofs.entry.push_own_numbers.Goals as goal

@@ -1,7 +1,7 @@
-use Rattle.std.proofs.Common.{◌≡◌, ◌++◌, arith, map}
+use Rattle.std.proofs.Common.{arith, map}
 use Rattle.serde_json.specs.View.{view}
 use Rattle.ti_words.specs.declared.Kind.TheVariants as kinds
-use Rattle.ti_words.specs.Texts.{AbsentText, TextValue}
+use Rattle.ti_words.specs.Texts.{AbsentText}
 use Rattle.ti_json.specs.Objects.{OwnSubject, text_objects, own_text}
 use Rattle.ti_json.proofs.ObjectsLemmas.{objects_end, own_next}
 use Rattle.ti_json.proofs.entry.push_own_texts.Goals as goal

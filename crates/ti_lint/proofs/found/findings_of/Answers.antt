@@ -18,13 +18,13 @@ loop-judged-preserved g c =
     let new = c.token.new.self in
     let judged = c.in-Some.judged in
     let e = c.in-Some.ensures in
-    let judged_by : IsJudged l.findings new judged.token judged.before judged.after =
-    record { takes = e.takes; first = e.order; same = e.expected; by_before = e.before; by_after = e.after } in
-    let items : c.note-in-Some.new.list.items ≡ (l.list.items ++ found_at l.place judged.before) ++ found_at l.place judged.after =
-    c.in_ok-note-2.ensures ∙ ap (λ x. x ++ found_at l.place judged.after) c.in_ok-note.ensures in
+    let judged_by : IsJudged l.findings new judged.token judged.before judged.after judged.within =
+    record { takes = e.takes; first = e.order; same = e.expected; by_before = e.before; by_after = e.after; by_within = e.within } in
+    let items : c.note-in-Some-2.new.list.items ≡ ((l.list.items ++ found_at l.place judged.before) ++ found_at l.place judged.after) ++ found_at l.place judged.within =
+    c.in_ok-note-3.ensures ∙ ap (λ x. x ++ found_at l.place judged.within) (c.in_ok-note-2.ensures ∙ ap (λ x. x ++ found_at l.place judged.after) c.in_ok-note.ensures) in
     let P : List Found → Type 0 = λ x. Lists c.args.capability.now c.args.expected new x in
-    let Q : ℕ → Type 0 = λ x. P ((l.list.items ++ found_at x judged.before) ++ found_at x judged.after) in (
-      subst P (sym items) (subst Q (sym l.invariant.1) (lists_next c.args.capability.now c.args.expected l.findings new judged.token judged.before judged.after l.list.items l.invariant.0 judged_by)),
+    let Q : ℕ → Type 0 = λ x. P (((l.list.items ++ found_at x judged.before) ++ found_at x judged.after) ++ found_at x judged.within) in (
+      subst P (sym items) (subst Q (sym l.invariant.1) (lists_next c.args.capability.now c.args.expected l.findings new judged.token judged.before judged.after judged.within l.list.items l.invariant.0 judged_by)),
       c.at-place.ensures.exact,
     )
 

@@ -2,7 +2,7 @@
 
 use std::test::Fail;
 use ti_cap::Capability;
-use ti_lint::{Expected, Finding, Findings, Found, Variables, findings_of};
+use ti_lint::{Expected, Finding, Findings, Found, TextParameters, Variables, findings_of};
 
 /// `tsl` as the entry of the IBM 8514 has it. Its parameter is a column.
 const TSL: &[u8] = b"\x1bj\x1bYI%+ \x1bo";
@@ -11,6 +11,7 @@ const TSL: &[u8] = b"\x1bj\x1bYI%+ \x1bo";
 fn a_text_of_termcap(rt: HostRuntime) -> Result<(), Fail> {
     let expected = Expected {
         parameters: 1,
+        texts: TextParameters::NONE,
         stored: Variables::NONE,
     };
     // The sum pops two values, and nothing pushes any: termcap has `%+ ` for what terminfo writes as `%p1%' '%+%c`. The
@@ -35,6 +36,7 @@ fn a_text_of_termcap(rt: HostRuntime) -> Result<(), Fail> {
 fn one_token_at_a_time(rt: HostRuntime) -> Result<(), Fail> {
     let expected = Expected {
         parameters: 1,
+        texts: TextParameters::NONE,
         stored: Variables::NONE,
     };
     let mut findings = Findings::new(rt.alloc(), &Capability::parse(TSL)?, expected)?;

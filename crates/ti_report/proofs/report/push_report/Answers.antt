@@ -18,6 +18,6 @@ returns g c =
     let whole : Adds Are c.push_names.new.out.items c.push_whole.new.out.items = (whole_lines prefix c.args.bytes.now c.args.entry.now, refl, c.in_ok-push_whole.ensures) in
     let names = in_turn _ Are _ _ _ (subst Q c.extended-2.ensures c.in_ok-push_names.ensures) whole in
     let keys = in_turn _ _ _ _ _ c.in_ok-push_keys.ensures names in
-    let own = in_turn _ _ _ _ _ (subst P c.extended.ensures c.in_ok-push_own.ensures) (in_turn _ _ _ _ _ c.in_ok-push_pairs.ensures keys) in
+    let own = in_turn _ _ _ _ _ (subst P c.extended.ensures c.in_ok-push_own.ensures) (in_turn _ _ _ _ _ c.in_ok-push_values.ensures (in_turn _ _ _ _ _ c.in_ok-push_sequences.ensures (in_turn _ _ _ _ _ c.in_ok-push_pairs.ensures keys))) in
     let (lines, are, so) = in_turn _ _ _ _ _ c.in_ok-push_standard.ensures own in
     record { lines = (lines, (stored, c.stored_by_texts-stored.ensures, are), so) }

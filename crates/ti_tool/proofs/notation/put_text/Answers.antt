@@ -1,5 +1,4 @@
-use Rattle.std.proofs.Common.{◌≡◌, ◌∙◌, ◌≤◌, Ok, Err, ap, arith, length, sym, take}
-use Rattle.std.proofs.lemmas.List.{take-append-le}
+use Rattle.std.proofs.Common.{◌∙◌, ◌≤◌, Err, ap, arith, length}
 use Rattle.std.proofs.lemmas.Result.{err_from_is_err_and}
 use Rattle.ti_escape.specs.Reading.{reading}
 use Rattle.ti_tool.specs.Sources.{most_notation_chars, notation_in}

@@ -1,6 +1,6 @@
 use Rattle.std.proofs.Common.{subst, sym}
 use Rattle.ti_tool.specs.inner.Verdict.{IsJudged}
-use Rattle.ti_tool.proofs.AreLinesLemmas.{sound_judged}
+use Rattle.ti_tool.proofs.AreToldLemmas.{sound_judged}
 use Rattle.ti_tool.proofs.verdict.judge.Goals.{in-Ok, in-Err}
 use Rattle.ti_tool.proofs.verdict.judge.Goals as goal
 

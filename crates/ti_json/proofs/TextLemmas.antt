@@ -1,0 +1,113 @@
+-- Texts of which each character can be printed.
+use Rattle.std.proofs.Common.{◌≡◌, ◌++◌, ◌∙◌, ◌/◌, ◌%◌, ◌<◌, ℕ, zero, suc, ℤ, pos, negsuc, Bool, true, false, List, [], ◌∷◌, Some, cond, refl, arith}
+use Rattle.std.specs.Prelude.{◌==◌, ◌||◌, Option, codes, decimal, nat_eq, nat_lt, unwrap_or}
+use Rattle.std.specs.Char.{digit_char}
+use Rattle.std.specs.List.{list_all}
+use Rattle.std.specs.Map.{lookup}
+use Rattle.std.specs.Fmt.{digit_glyph, digits, digits_onto, signed_decimal}
+use Rattle.std.proofs.lemmas.Bool.{and_from, and_parts}
+use Rattle.std.proofs.lemmas.Bool.Decides.{nat_tests}
+use Rattle.std.proofs.lemmas.List.Folds.{list_all-append}
+use Rattle.json.specs.Print.{escape, escape_byte, quoted}
+use Rattle.ti_words.specs.declared.Kind.{Kind}
+use Rattle.ti_words.specs.declared.Kind.TheVariants as kinds
+use Rattle.ti_words.specs.declared.all_names.NameTable.{NameTable}
+use Rattle.ti_words.specs.declared.all_names.NameTable.TheVariants as tables
+use Rattle.ti_words.specs.AllNames.{rows_in}
+use Rattle.ti_words.specs.LongNames.{long_flags, long_numbers, long_texts}
+use Rattle.ti_words.specs.NameLists.{Row, all_flags, all_numbers, all_texts, common_flags, common_numbers, common_texts}
+use Rattle.ti_escape.specs.Laws.{is_printable}
+
+abbrev pub IsText : List ℕ → Type 0
+IsText text = list_all is_printable text ≡ true
+
+pub both : (a b : List ℕ) → IsText a → IsText b → IsText (a ++ b)
+both a b of_a of_b = list_all-append is_printable a b ∙ and_from (list_all is_printable a) (list_all is_printable b) of_a of_b
+
+either : (x y : List ℕ) (b : Bool) → IsText x → IsText y → IsText (cond b x y)
+either x y true of_x of_y = of_x
+either x y false of_x of_y = of_y
+
+-- ---- numbers
+
+glyph : (n : ℕ) → is_printable (digit_glyph false (n % 10)) ≡ true
+glyph n = let small : n % 10 < 10 = omega arith in small_glyph (n % 10) small
+  where
+    small_glyph : (d : ℕ) → d < 10 → is_printable (digit_glyph false d) ≡ true
+    small_glyph d small = grind (arith, nat_tests)
+
+onto : (k n : ℕ) (acc : List ℕ) → IsText acc → IsText (digits_onto k 10 false n acc)
+onto zero n acc is = is
+onto (suc k) n acc is =
+    let more : IsText (digit_glyph false (n % 10) ∷ acc) = and_from (is_printable (digit_glyph false (n % 10))) (list_all is_printable acc) (glyph n) is in
+    either (digit_glyph false (n % 10) ∷ acc) _ (nat_eq (n / 10) 0) more (onto k (n / 10) (digit_glyph false (n % 10) ∷ acc) more)
+
+pub decimal_text : (n : ℕ) → IsText (decimal n)
+unfolding digits
+decimal_text n = onto 64 n [] refl
+
+pub signed_text : (z : ℤ) → IsText (signed_decimal z)
+signed_text (pos n) = decimal_text n
+signed_text (negsuc n) = decimal_text (suc n)
+
+-- ---- names
+
+pub found_text : (index : ℕ) (rows : List Row) → list_all (λ row. list_all is_printable row.1) rows ≡ true → (other : List ℕ) → IsText other → IsText (unwrap_or (lookup (nat_eq index) rows) other)
+found_text index [] all other is = is
+found_text index (row ∷ rows) all other is =
+    let (first, more) = and_parts (list_all is_printable row.1) (list_all (λ row. list_all is_printable row.1) rows) all in
+    of_name row.1 (lookup (nat_eq index) rows) (nat_eq index row.0) first (found_text index rows more other is)
+  where
+    of_name : (name : List ℕ) (rest : Option (List ℕ)) (b : Bool) → IsText name → IsText (unwrap_or rest other) → IsText (unwrap_or (cond b (Some name) rest) other)
+    of_name name rest true is_name of_rest = is_name
+    of_name name rest false is_name of_rest = of_rest
+
+pub names_text : (table : NameTable) (kind : Kind) → list_all (λ row. list_all is_printable row.1) (rows_in table kind) ≡ true
+unfolding all_flags all_numbers all_texts common_flags common_numbers common_texts long_flags long_numbers long_texts
+names_text tables.Common kinds.Flag = refl
+names_text tables.Common kinds.Number = refl
+names_text tables.Common kinds.Text = refl
+names_text tables.All kinds.Flag = refl
+names_text tables.All kinds.Number = refl
+names_text tables.All kinds.Text = refl
+names_text tables.Long kinds.Flag = refl
+names_text tables.Long kinds.Number = refl
+names_text tables.Long kinds.Text = refl
+
+pub label_text : (table : NameTable) (kind : Kind) (index : ℕ) → IsText (unwrap_or (lookup (nat_eq index) (rows_in table kind)) (codes "#" ++ decimal index))
+label_text table kind index = found_text index (rows_in table kind) (names_text table kind) (codes "#" ++ decimal index) (both (codes "#") (decimal index) refl (decimal_text index))
+
+-- ---- strings
+
+-- what stands for a byte, by what the byte is
+abbrev escaped_by : (byte : ℕ) → (is_quote is_backslash backspace feed newline return tab control : Bool) → List ℕ
+escaped_by byte is_quote is_backslash backspace feed newline return tab control =
+    let letter = cond (is_quote || is_backslash) byte (cond backspace 98 (cond feed 102 (cond newline 110 (cond return 114 (cond tab 116 0))))) in
+    cond (nat_lt 0 letter) (92 ∷ letter ∷ []) (cond control (92 ∷ 117 ∷ 48 ∷ 48 ∷ digit_char (byte / 16) ∷ digit_char (byte % 16) ∷ []) (byte ∷ []))
+
+-- a short escape is a letter, and what has none is no control character
+byte_by : (byte : ℕ) (q s b f n r t c : Bool) → IsText (byte ∷ []) → c ≡ false → IsText (escaped_by byte q s b f n r t c)
+byte_by byte q s b f n r t true is e = absurd cc
+byte_by byte true s b f n r t false is e = either (92 ∷ byte ∷ []) (byte ∷ []) (nat_lt 0 byte) is is
+byte_by byte false true b f n r t false is e = either (92 ∷ byte ∷ []) (byte ∷ []) (nat_lt 0 byte) is is
+byte_by byte false false true f n r t false is e = refl
+byte_by byte false false false true n r t false is e = refl
+byte_by byte false false false false true r t false is e = refl
+byte_by byte false false false false false true t false is e = refl
+byte_by byte false false false false false false true false is e = refl
+byte_by byte false false false false false false false false is e = is
+
+byte_text : (byte : ℕ) → is_printable byte ≡ true → IsText (escape_byte byte)
+unfolding escape_byte
+byte_text byte is =
+    let low : nat_lt byte 32 ≡ false = grind (arith, nat_tests) in
+    byte_by byte (byte == 34) (byte == 92) (byte == 8) (byte == 12) (byte == 10) (byte == 13) (byte == 9) (nat_lt byte 32) (and_from (is_printable byte) true is refl) low
+
+pub quoted_text : (text : List ℕ) → IsText text → IsText (quoted text)
+quoted_text text is = both (escape text) (34 ∷ []) (escaped text is) refl
+  where
+    escaped : (bytes : List ℕ) → IsText bytes → IsText (escape bytes)
+    escaped [] all = refl
+    escaped (byte ∷ rest) all =
+        let (first, more) = and_parts (is_printable byte) (list_all is_printable rest) all in
+        both (escape_byte byte) (escape rest) (byte_text byte first) (escaped rest more)

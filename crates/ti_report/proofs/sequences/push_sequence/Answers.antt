@@ -1,0 +1,12 @@
+use Rattle.std.proofs.Common.{[], inl, inr, refl, sym}
+use Rattle.std.proofs.lemmas.List.{append-nil}
+use Rattle.ti_report.specs.inner.Subject.{unended_of}
+use Rattle.ti_report.proofs.sequences.push_sequence.Goals as goal
+
+pub returns-then-has_unended : goal.returns-then-has_unended
+returns-then-has_unended g c =
+    (unended_of c.args.subject.now, inl (c.has_unended.ensures.exact.0 c.if-has_unended.true, refl), c.in_ok-push_unended.ensures)
+
+pub returns : goal.returns
+returns g c =
+    ([], inr (λ has. cc (c.has_unended.ensures.exact.1 has, c.if-has_unended.false), refl), sym (append-nil c.args.out.now.items))

@@ -1,0 +1,40 @@
+use Rattle.std.proofs.Common.{◌∙◌, ◌++◌, ◌+◌, ◌<◌, Bool, true, [], ap, arith, get_or, length, map, subst, sym}
+use Rattle.serde_json.specs.View.{view}
+use Rattle.ti_words.specs.Texts.{text_value}
+use Rattle.ti_words.specs.Spelling.{name_in}
+use Rattle.ti_words.specs.declared.Kind.TheVariants as kinds
+use Rattle.ti_json.specs.Objects.{OwnSubject}
+use Rattle.ti_tool.specs.declared.verdict.JudgedText.{JudgedText}
+use Rattle.ti_tool.specs.inner.Verdict.{IsJudged, told_by}
+use Rattle.ti_tool.specs.Verdicts.{IsOwnObject, IsTold, in_object}
+use Rattle.ti_tool.proofs.AreToldLemmas.{GoesOn, and_true, goes_end, own_next, told_of_none, told_of_text}
+use Rattle.ti_tool.proofs.command.verdicts.push_own.Goals.{in-Value+in_ok-push_verdict, in_default}
+use Rattle.ti_tool.proofs.command.verdicts.push_own.Goals as goal
+
+pub loop-index-preserved : goal.loop-index-preserved
+loop-index-preserved c =
+    let i = c.loop-index.invariant in
+    let h : c.loop-index.index < length c.args.extended.now.texts = omega (arith, c.loop-index-test.true, c.text_count-index-end.ensures) in
+    let GoesOnWith : Bool → Type 0 = λ sound. GoesOn IsOwnObject c.args.extended.now.texts (map view c.args.out.now.items) (c.loop-index.index + 1) (map view c.match-text.out.items) sound in
+    let IsJudgedText : JudgedText → Type 0 = λ last. IsJudged last.text.now last.verdict in
+    elim c.match-text.branch [
+      | in-Value+in_ok-push_verdict w ↦ record {
+        told = subst GoesOnWith (sym w.sound-is) (
+            own_next (λ name. IsTold (in_object (OwnSubject kinds.Text name))) c.args.extended.now.texts c.loop-index.index (text_value c.text.result) (map view c.args.out.now.items) (map view c.loop-index.out.items) (map view c.match-text.out.items) c.loop-index.sound w.is_sound-sound.result h c.text.ensures i.told
+            (told_of_text (in_object (OwnSubject kinds.Text (get_or (map name_in c.args.extended.now.texts) c.loop-index.index []))) (map view c.loop-index.out.items) (map view c.match-text.out.items) c.text.result w.in-Value.text.now w.next-last.result.verdict w.is_sound-sound.result (ap text_value w.in-Value.is) w.next-last.ensures.verdict w.is_sound-sound.ensures (ap (λ v. map view v.items) w.out-is ∙ w.in_ok-push_verdict.ensures ∙ ap (λ n. map view c.loop-index.out.items ++ told_by (in_object (OwnSubject kinds.Text n)) w.next-last.result.verdict) w.own_name.ensures))
+            );
+        judged = subst IsJudgedText (sym w.last-is) (subst (λ text. IsJudged text w.next-last.result.verdict) (sym w.next-last.ensures.text) w.next-last.ensures.verdict);
+      }
+      | in_default w ↦ record {
+        told = subst GoesOnWith (and_true c.loop-index.sound ∙ sym w.sound-is) (
+            own_next (λ name. IsTold (in_object (OwnSubject kinds.Text name))) c.args.extended.now.texts c.loop-index.index (text_value c.text.result) (map view c.args.out.now.items) (map view c.loop-index.out.items) (map view c.match-text.out.items) c.loop-index.sound true h c.text.ensures i.told
+            (told_of_none (in_object (OwnSubject kinds.Text (get_or (map name_in c.args.extended.now.texts) c.loop-index.index []))) (map view c.loop-index.out.items) (map view c.match-text.out.items) c.text.result w.in_default.not-Value (ap (λ v. map view v.items) w.out-is))
+            );
+        judged = subst IsJudgedText (sym w.last-is) i.judged;
+      }
+    ]
+
+pub returns : goal.returns
+returns c =
+    goes_end IsOwnObject c.args.extended.now.texts c.loop-index.index (map view c.args.out.now.items) (map view c.loop-index.out.items) c.loop-index.sound (omega (arith, c.loop-index-test.false, c.text_count-index-end.ensures))
+    c.loop-index.invariant.told

@@ -1,0 +1,4 @@
+pub mod NumbersLemmas
+pub mod SameLemmas
+pub mod SentLemmas
+pub mod ShownLemmas

@@ -1,0 +1,9 @@
+pub mod Attributes
+pub mod Findings
+pub mod FindingWords
+pub mod Limits
+pub mod Ranges
+pub mod Screens
+pub mod Sent
+pub mod Sequences
+pub mod inner

@@ -1,0 +1,33 @@
+//! What texts with parameters send for the values that they are given, and what is wrong with that.
+//!
+//! A [`Range`] is what a text such as `cup` is tried over, by the size of the screen. [`values_of`] lists it, and [`sent_for`]
+//! returns what the text sends for each of its values: its output without padding marks. On that list [`first_empty`] finds a
+//! value for which nothing is sent, and [`first_same`] two for which the same is sent. The cost is that of an expansion for each
+//! value, and of a search among as many texts.
+#![tactic(auto)]
+
+mod attribute;
+mod empty;
+mod limits;
+mod list;
+mod range;
+mod same;
+mod screen;
+mod sent;
+mod sequence;
+mod tried;
+mod value_finding;
+
+pub use attribute::{attributes, is_ignored};
+pub use empty::first_empty;
+pub use limits::{
+    MOST_BYTES, MOST_COLORS, MOST_COLUMNS, MOST_LINES, MOST_WRITTEN_BYTES, is_short, limits_agree,
+};
+pub use list::sent_at;
+pub use range::{Range, values_of};
+pub use same::{Same, first_same};
+pub use screen::tried_texts;
+pub use sent::sent_for;
+pub use sequence::{find_unended, first_shown, first_unended, has_unended, is_ansi};
+pub use tried::Tried;
+pub use value_finding::ValueFinding;

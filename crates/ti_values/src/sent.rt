@@ -1,0 +1,63 @@
+//! What a text sends for each of some values.
+
+ghost use Rattle.std.specs.Prelude.{IfOk, IfSome};
+ghost use Rattle.ti_values.specs.Ranges.{parameters_of};
+ghost use Rattle.ti_values.specs.Sent.{AreSent, Sends, texts_of};
+ghost use Rattle.ti_values.specs.inner.Rate.{IsWithoutRate};
+
+use crate::tried::Tried;
+use std::alloc::{AllocError, Allocator};
+use ti_cap::Capability;
+use ti_expand::{Vars, expand};
+use ti_pad::{Padding, pad};
+
+/// A line on which padding takes no byte: without a rate no time passes on it.
+fn no_padding() -> Option<Padding>
+    ensures { IfSome result IsWithoutRate }
+{
+    Padding::new(0, 0, false, 0)
+}
+
+/// What a capability sends for some parameters.
+fn sent_by<A: Allocator + Copy>(
+    alloc: A,
+    capability: &Capability<'_>,
+    value: Tried,
+) -> Result<Vec<u8, A>, AllocError>
+    ensures { IfOk result
+        (λ sent. Sends capability.now (parameters_of value) sent.items) }
+{
+    let parameters = value.parameters();
+    let mut vars = Vars::new();
+    let Ok(output) = expand(alloc, capability, &parameters, &mut vars) else {
+        return Err(AllocError);
+    };
+    let Some(padding) = no_padding() else {
+        return Err(AllocError);
+    };
+    match pad(alloc, output.as_slice(), &padding) {
+        Ok(sent) => Ok(sent),
+        Err(_) => Err(AllocError),
+    }
+}
+
+/// What a capability sends for each of some values, in their order: its output without padding marks. The variables are fresh
+/// for each.
+///
+/// # Errors
+///
+/// Memory was refused.
+pub fn sent_for<A: Allocator + Copy>(
+    alloc: A,
+    capability: &Capability<'_>,
+    values: &[Tried],
+) -> Result<Vec<Vec<u8, A>, A>, AllocError>
+    ensures all { IfOk result
+        (λ list. AreSent capability.now values.now (texts_of list.items)) }
+{
+    let mut list = Vec::new(alloc);
+    'values: for value in values {
+        list.push(sent_by(alloc, capability, *value)?)?;
+    }
+    Ok(list)
+}

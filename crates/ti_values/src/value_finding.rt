@@ -1,0 +1,37 @@
+//! The findings over values, each with its word.
+
+ghost use Rattle.std.specs.Prelude.{◌≡◌};
+ghost use Rattle.ti_values.specs.FindingWords.{value_finding_word};
+
+/// What is wrong with a text for some of the values that it may be given.
+#[derive(Clone, Copy, Debug, PartialEq, Eq)]
+pub enum ValueFinding {
+    /// For a value nothing is sent: [`crate::first_empty`].
+    EmptyOutput,
+    /// For two values the same is sent: [`crate::first_same`].
+    SameOutput,
+    /// With an attribute `sgr` sends the same as without, and the text is there that starts it: [`crate::is_ignored`].
+    IgnoredAttribute,
+    /// For a set of attributes `sgr` sends what shows on the screen: [`crate::first_shown`].
+    ShownText,
+    /// For a value a control sequence is sent that is not ended: [`crate::first_unended`].
+    UnendedSequence,
+    /// The text is too long, or may send too much, to be tried: [`crate::is_short`].
+    NotTried,
+}
+
+impl ValueFinding {
+    /// The word for the finding.
+    pub fn word(self) -> &'static str
+        ensures name { result.now ≡ value_finding_word self }
+    {
+        match self {
+            ValueFinding::EmptyOutput => "empty-output",
+            ValueFinding::SameOutput => "same-output",
+            ValueFinding::IgnoredAttribute => "sgr-attribute-ignored",
+            ValueFinding::ShownText => "sgr-text",
+            ValueFinding::UnendedSequence => "control-sequence",
+            ValueFinding::NotTried => "not-tried",
+        }
+    }
+}

@@ -1,0 +1,113 @@
+"""What `lint` says of texts for the values that they may be given, and of control sequences.
+
+Written from the manual pages, ECMA-48 and the choices of docs/DECISIONS.md, to be compared with the proved program.
+"""
+import re
+
+import capability
+from capability import MARK
+from notation import notation
+
+MOST_BYTES, MOST_WRITTEN = 1024, 256
+MOST_LINES, MOST_COLUMNS, MOST_COLORS = 200, 264, 256
+ATTRIBUTES = ["smso", "smul", "rev", "blink", "dim", "bold", "invis", "prot", "smacs"]
+ANSI = re.compile(rb"\x1b\[(?:%i)?(?:%p1%d;%p2%d|%p2%d;%p1%d)[Hf]")
+UNENDED = re.compile(rb"\x1b\[(?![0-?]*[ -/]*[@-~])")
+RENDITION = re.compile(rb"\x1b\[[0-?]*m")
+SEQUENCE = re.compile(rb"\x1b(?:\[[0-?]*[ -/]*.?|[ -/]*.?)", re.DOTALL)
+
+
+def ranges(numbers):
+    """The values of each text that is tried, for the numbers of an entry by their names."""
+    lines, columns, colors = (
+        min(max(numbers.get(name, 0), 0), most)
+        for name, most in [("lines", MOST_LINES), ("cols", MOST_COLUMNS), ("colors", MOST_COLORS)]
+    )
+    yield from ((name, [(color,) for color in range(colors)]) for name in ["setaf", "setab", "setf", "setb"])
+    yield "cup", [(line, column) for line in range(lines) for column in range(columns)]
+    yield "csr", [(top, bottom) for top in range(lines) for bottom in range(top + 1, lines)]
+    yield "hpa", [(column,) for column in range(columns)]
+    yield "vpa", [(line,) for line in range(lines)]
+    yield from ((name, [(count + 1,) for count in range(columns)]) for name in ["cub", "cuf", "dch", "ech", "ich"])
+    yield from ((name, [(count + 1,) for count in range(lines)]) for name in ["cud", "cuu", "dl", "il", "indn", "rin"])
+    yield "sgr", [tuple(number >> bit & 1 for bit in range(9)) for number in range(512)]
+
+
+def sent(text, value):
+    """What a text sends for a value: what it writes, without padding marks."""
+    output = capability.expanded(text, [*value, *(0 for _ in range(9 - len(value)))])
+    return MARK.sub(b"", output)
+
+
+def words(name, value):
+    """The words for a value."""
+    if name == "sgr":
+        on = [f" %p{at + 1}" for at, flag in enumerate(value) if flag]
+        return " for" + "".join(on) if on else " for no attribute"
+    return " for " + " ".join(map(str, value))
+
+
+def same(outputs):
+    """The first value for which the same is sent as for an earlier one, and that one."""
+    earlier = {}
+    for at, output in enumerate(outputs):
+        if output in earlier:
+            return earlier[output], at
+        earlier[output] = at
+    return None
+
+
+def of_numbers(name, values, outputs):
+    if b"" in outputs:
+        yield "empty-output", words(name, values[outputs.index(b"")]) + " it sends nothing"
+    if pair := same(outputs):
+        one, other = (words(name, values[at]) for at in pair)
+        yield "same-output", f"{one} and{other} it sends {shown(outputs[pair[1]])}"
+
+
+def of_attributes(texts, outputs):
+    for bit, name in enumerate(ATTRIBUTES):
+        if name in texts and outputs[1 << bit] == outputs[0]:
+            yield "sgr-attribute-ignored", f" for %p{bit + 1} it sends the same as for no attribute, and there is {name}"
+
+
+def shown(output):
+    return (notation(output) or b"-").decode("latin-1")
+
+
+def first(name, values, outputs, holds, meaning):
+    """What is told of the first value of which it holds."""
+    for value, output in zip(values, outputs):
+        if holds(output):
+            yield f"{words(name, value)} it sends {shown(output)}{meaning}"
+            return
+
+
+def shows(output):
+    return any(0x20 <= byte <= 0x7e for byte in SEQUENCE.sub(b"", output))
+
+
+def is_short(text):
+    return len(text) <= MOST_BYTES and capability.bound(capability.tree_of(text), 0) <= MOST_WRITTEN
+
+
+def findings(texts, numbers, all_told):
+    """The name and the text, the word and the meaning of each finding, by the texts and numbers of terminfo(5) that are there."""
+    ansi = ANSI.match(texts.get("cup", b""))
+    for name, values in ranges(numbers):
+        text = texts.get(name)
+        try:
+            if text is None or not is_short(text):
+                if text is not None and all_told:
+                    yield name, text, "not-tried", " it is too long, or may send too much"
+                continue
+        except capability.Refused:
+            continue
+        outputs = [sent(text, value) for value in values]
+        found = list(of_attributes(texts, outputs) if name == "sgr" else of_numbers(name, values, outputs))
+        if name == "sgr" and RENDITION.search(outputs[0]):
+            found += [("sgr-text", meaning) for meaning in first(name, values, outputs, shows, ", of which some is shown")]
+        if ansi:
+            found += [("control-sequence", meaning)
+                      for meaning in first(name, values, outputs, UNENDED.search, ", where a \\E[ is not ended")]
+        yield from ((name, text, word, meaning) for word, meaning in found)
