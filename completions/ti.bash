@@ -52,6 +52,10 @@ _ti() {
             compopt +o default +o bashdefault
             return
             ;;
+        --color)
+            mapfile -t COMPREPLY < <(compgen -W "auto always never" -- "$word")
+            return
+            ;;
         # Without words of its own, bash completes a file.
         --entry | [\<\>]*) return ;;
         --of)
@@ -62,12 +66,12 @@ _ti() {
     case $(_ti_command) in
         '') words='show check lint get diff expand convert cap trace help --help --version' ;;
         cap) words='--source --hex --escape --help' ;;
-        trace) words='--source --of --escape --entry --help' ;;
+        trace) words='--source --of --escape --json --color --entry --help' ;;
         show) words='--escape --all-names --json --help' ;;
         check) words='--escape --all-names --json --help' ;;
         expand) words="--hex --escape --all-names --rate --lines --xon --entry --help $_ti_texts" ;;
-        lint) words='--all --help' ;;
-        diff) words='--expand --help' ;;
+        lint) words='--all --json --color --help' ;;
+        diff) words='--expand --json --color --help' ;;
         convert) words='--wide --narrow --force --help' ;;
         get) words="--hex --escape --rate --lines --xon --entry --help $_ti_names" ;;
         help) words='show check lint get diff expand convert cap trace' ;;

@@ -348,9 +348,34 @@ def texts_by_item(entry):
     return {"text": dict(enumerate(entry.texts)), "text+": own}
 
 
-def differences(one, other, names, meaning=None):
-    """What `diff` writes, with labels by these names. Texts with one meaning are passed over."""
-    lines, first, second = [], items(one, names), items(other, names)
+def values_by_item(entry):
+    """What the object of `diff --json` says of each item, by the keys of `items`."""
+    def part(of_kind, value):
+        return of_kind(value) or {"state": "absent"}
+
+    of_kinds = {"flag": flag_part, "number": number_part, "text": text_part}
+    found = {"head": {0: {"value": "wide" if entry.wide else "legacy"}, 1: {"value": notation(entry.names).decode()}}}
+    for kind, values in (("flag", entry.flags), ("number", entry.numbers), ("text", entry.texts)):
+        found[kind] = {i: part(of_kinds[kind], value) for i, value in enumerate(values)}
+    for kind, pairs in (("flag", entry.extended_flags), ("number", entry.extended_numbers), ("text", entry.extended_texts)):
+        own = found[kind + "+"] = {}
+        for name, value in pairs:
+            own.setdefault(name, part(of_kinds[kind], value))
+    return found
+
+
+def subject(kind, key, names):
+    """What the objects of `diff --json` call an item."""
+    if kind == "head":
+        return {"kind": ("format", "names")[key]}
+    if kind.endswith("+"):
+        return {"kind": kind[:-1], "name": own_label(key, True).decode(), "own": True}
+    return {"kind": kind, "name": label(names[kind], key).decode()}
+
+
+def changes(one, other, names, meaning=None):
+    """The kinds and keys of what two entries do not have alike, in order. Texts with one meaning are passed over."""
+    first, second = items(one, names), items(other, names)
     texts, of_other = texts_by_item(one), texts_by_item(other)
 
     def are_spelled_alike(kind, key):
@@ -360,7 +385,26 @@ def differences(one, other, names, meaning=None):
     for kind in first:
         keys = list(first[kind]) + [key for key in second[kind] if key not in first[kind]]
         for key in keys if kind.endswith("+") else sorted(keys):
-            sides = [(sign, side[kind].get(key, b"")) for sign, side in ((b"- ", first), (b"+ ", second))]
-            if sides[0][1] != sides[1][1] and not are_spelled_alike(kind, key):
-                lines += [sign + line for sign, line in sides if line]
+            if first[kind].get(key, b"") != second[kind].get(key, b"") and not are_spelled_alike(kind, key):
+                yield kind, key
+
+
+RED, GREEN, FAINT, PLAIN = b"\x1b[31m", b"\x1b[32m", b"\x1b[2m", b"\x1b[m"
+
+
+def differences(one, other, names, meaning=None, color=False):
+    """The lines of `diff`, with labels by these names."""
+    sides, lines = ((b"- ", items(one, names), RED), (b"+ ", items(other, names), GREEN)), []
+    for kind, key in changes(one, other, names, meaning):
+        for sign, side, style in sides:
+            if line := side[kind].get(key):
+                lines.append(style + sign + line[:-1] + PLAIN + b"\n" if color else sign + line)
     return b"".join(lines)
+
+
+def difference_objects(one, other, names, meaning=None):
+    """The objects of `diff --json`."""
+    first, second = values_by_item(one), values_by_item(other)
+    absent = {"state": "absent"}
+    return [{**subject(kind, key, names), "first": first[kind].get(key, absent), "other": second[kind].get(key, absent)}
+            for kind, key in changes(one, other, names, meaning)]

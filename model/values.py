@@ -11,9 +11,12 @@ from notation import notation
 MOST_BYTES, MOST_WRITTEN = 1024, 256
 MOST_LINES, MOST_COLUMNS, MOST_COLORS = 200, 264, 256
 ATTRIBUTES = ["smso", "smul", "rev", "blink", "dim", "bold", "invis", "prot", "smacs"]
-ANSI = re.compile(rb"\x1b\[(?:%i)?(?:%p1%d;%p2%d|%p2%d;%p1%d)[Hf]")
+ANSI = re.compile(rb"\x1b\[(?:%i)?(?:%p1%[0-9]*d;%p2%[0-9]*d|%p2%[0-9]*d;%p1%[0-9]*d)[Hf]")
 UNENDED = re.compile(rb"\x1b\[(?![0-?]*[ -/]*[@-~])")
 RENDITION = re.compile(rb"\x1b\[[0-?]*m")
+PARAMETERS = re.compile(rb"(?:\x1b\[|\x9b)([0-?]*)m")
+SHIFT = re.compile(rb"[\x0e\x0f]|\x1b[(-/][0-~]")
+PARTS = re.compile(rb"(?:(?:\x1b\[|\x9b)[0-?]*m|[\x0e\x0f]|\x1b[(-/][0-~])*")
 SEQUENCE = re.compile(rb"\x1b(?:\[[0-?]*[ -/]*.?|[ -/]*.?)", re.DOTALL)
 
 
@@ -39,6 +42,34 @@ def sent(text, value):
     return MARK.sub(b"", output)
 
 
+def prints_negative(text, value):
+    """Whether a text prints a number below 0 in decimal for a value."""
+    machine = capability.machine_after(text, [*value, *(0 for _ in range(9 - len(value)))])
+    return any(number < 0 for number in machine.decimals)
+
+
+def parameters(output):
+    """The numbers of the renditions in an output."""
+    return [number.lstrip(b"0") for found in PARAMETERS.findall(output) for number in re.split(rb"[^0-9]", found)]
+
+
+def lacks(mine, theirs):
+    return any(part not in mine for part in theirs)
+
+
+def differs(output, text):
+    """Whether an output lacks a part of a text, if both are renditions and shifts alone."""
+    if not (PARTS.fullmatch(output) and PARTS.fullmatch(text)):
+        return False
+    return lacks(parameters(output), parameters(text)) or lacks(SHIFT.findall(output), SHIFT.findall(text))
+
+
+def is_combination(outputs, number):
+    """Whether what is sent for a set lacks a parameter that one of its attributes alone adds to those for none."""
+    none, mine = parameters(outputs[0]), parameters(outputs[number])
+    return any(number >> bit & 1 and lacks(none + mine, parameters(outputs[1 << bit])) for bit in range(9))
+
+
 def words(name, value):
     """The words for a value."""
     if name == "sgr":
@@ -57,18 +88,30 @@ def same(outputs):
     return None
 
 
-def of_numbers(name, values, outputs):
+def of_numbers(name, text, values, outputs):
     if b"" in outputs:
         yield "empty-output", words(name, values[outputs.index(b"")]) + " it sends nothing"
     if pair := same(outputs):
         one, other = (words(name, values[at]) for at in pair)
         yield "same-output", f"{one} and{other} it sends {shown(outputs[pair[1]])}"
+    for value, output in zip(values, outputs):
+        if prints_negative(text, value):
+            yield "negative-number", f"{words(name, value)} it sends {shown(output)}, with a number below 0"
+            break
 
 
-def of_attributes(texts, outputs):
+def of_attributes(texts, values, outputs):
     for bit, name in enumerate(ATTRIBUTES):
         if name in texts and outputs[1 << bit] == outputs[0]:
             yield "sgr-attribute-ignored", f" for %p{bit + 1} it sends the same as for no attribute, and there is {name}"
+    for bit, name in enumerate(ATTRIBUTES):
+        output = outputs[1 << bit]
+        if name in texts and output != outputs[0] and differs(output, MARK.sub(b"", texts[name])):
+            yield "sgr-attribute-differs", f" for %p{bit + 1} it sends {shown(output)}, and {name} is {shown(texts[name])}"
+    for number, value in enumerate(values):
+        if is_combination(outputs, number):
+            yield "sgr-combination", f"{words('sgr', value)} it sends {shown(outputs[number])}, without what one of them sends alone"
+            break
 
 
 def shown(output):
@@ -104,7 +147,7 @@ def findings(texts, numbers, all_told):
         except capability.Refused:
             continue
         outputs = [sent(text, value) for value in values]
-        found = list(of_attributes(texts, outputs) if name == "sgr" else of_numbers(name, values, outputs))
+        found = list(of_attributes(texts, values, outputs) if name == "sgr" else of_numbers(name, text, values, outputs))
         if name == "sgr" and RENDITION.search(outputs[0]):
             found += [("sgr-text", meaning) for meaning in first(name, values, outputs, shows, ", of which some is shown")]
         if ansi:

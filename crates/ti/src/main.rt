@@ -10,10 +10,11 @@ use crate::disk::Disk;
 use crate::streams::{Errors, Input, Output};
 use std::alloc::AllocError;
 use std::cell::Cell;
+use std::env::VarError;
 use std::io;
 use std::io::{ErrorKind, IsTerminal};
 use std::process::ExitCode;
-use ti_tool::{Terminals, run_at};
+use ti_tool::{Color, Destination, Terminals, run_at};
 
 /// The words of the command line, the program's own name first.
 fn words(rt: &HostRuntime) -> io::Result<Vec<String>> {
@@ -22,6 +23,18 @@ fn words(rt: &HostRuntime) -> io::Result<Vec<String>> {
         words.push(word).map_err(AllocError::from)?;
     }
     Ok(words)
+}
+
+/// Where results go. At a terminal parts of lines stand out, unless `NO_COLOR` is set to a word.
+fn destination(rt: &HostRuntime, is_terminal: bool) -> Destination {
+    if !is_terminal {
+        return Destination::File;
+    }
+    match std::env::var(rt, "NO_COLOR") {
+        Ok(word) if word.is_empty() => Destination::Terminal(Color::Always),
+        Err(VarError::NotPresent) => Destination::Terminal(Color::Always),
+        Ok(_) | Err(_) => Destination::Terminal(Color::Never),
+    }
 }
 
 /// The status of the run.
@@ -34,7 +47,7 @@ fn status(rt: &HostRuntime) -> io::Result<u8> {
     let (stdin, stdout, stderr) = (rt.stdin(), rt.stdout(), rt.stderr());
     let at = Terminals {
         input: stdin.is_terminal(),
-        output: stdout.is_terminal(),
+        output: destination(rt, stdout.is_terminal()),
         errors: stderr.is_terminal(),
     };
     let is_closed = Cell::new(false);

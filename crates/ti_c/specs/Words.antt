@@ -4,8 +4,11 @@ use Rattle.ti_cap.specs.FaultNames.{cap_fault_word}
 use Rattle.ti_cap.specs.declared.language.CapFault.{CapFault}
 use Rattle.ti_layout.specs.Faults.{fault_word}
 use Rattle.ti_layout.specs.declared.fault.Fault.{Fault}
-use Rattle.ti_words.specs.Names.{Row}
 use Rattle.ti_c.specs.Numbers.{bad_padding, capability_number, entry_number, not_named, out_too_small, room_too_small, text_too_long, too_many_parameters, too_much}
+
+-- the number of a fault and its word
+abbrev pub Row : Type 0
+Row = ℕ × List ℕ
 
 -- the faults of an expansion, of padding, of a search and of arrays, by their numbers
 abbrev pub other_rows : List Row

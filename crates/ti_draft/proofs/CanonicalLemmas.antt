@@ -1,28 +1,19 @@
--- What is appended piece by piece.
-use Rattle.std.proofs.Common.{◌≡◌, ℕ, ◌+◌, List, [], ◌∷◌, ◌++◌, length, sym, ap, ◌∙◌, pos, arith, append_assoc}
-use Rattle.std.proofs.lemmas.List.{append-nil, length-append}
+-- Where texts are put after others.
+use Rattle.std.proofs.Common.{◌≡◌, ℕ, ◌+◌, List, [], ◌∷◌, ◌++◌, length, ap, ◌∙◌, arith, append_assoc}
+use Rattle.std.proofs.lemmas.Grind.{common_steps}
 use Rattle.std.proofs.lemmas.List.Concat.{flat_map-append}
+use Rattle.ti_words.specs.Texts.{TextValue}
 use Rattle.ti_words.specs.Word.{word}
 use Rattle.ti_words.specs.Spelling.{words_of}
-use Rattle.ti_draft.specs.Canonical.{names_table, name_words}
+use Rattle.ti_draft.specs.Canonical.{texts_table, text_words}
 
--- one piece, and then others
-pub after : (o a b : List ℕ) {p q : List ℕ} → p ≡ o ++ a → q ≡ p ++ b → q ≡ o ++ (a ++ b)
-after o a b e f = f ∙ ap (λ l. l ++ b) e ∙ append_assoc o a b
+text_words_append : (from : ℕ) (xs ys : List TextValue) → text_words from (xs ++ ys) ≡ text_words from xs ++ text_words (from + length (texts_table xs)) ys
+text_words_append from [] ys = ap (λ k. text_words k ys) (omega arith)
+text_words_append from (t ∷ xs) ys = let rest : (n : ℕ) → text_words n (xs ++ ys) ≡ text_words n xs ++ text_words (n + length (texts_table xs)) ys = λ n. text_words_append n xs ys in grind (arith, common_steps)
 
-pub last : (o a : List ℕ) {p : List ℕ} → p ≡ o ++ a → p ≡ o ++ (a ++ [])
-last o a e = e ∙ ap (λ l. o ++ l) (sym (append-nil a))
+pub words_append : (from : ℕ) (xs ys : List TextValue) → words_of (text_words from (xs ++ ys)) ≡ words_of (text_words from xs) ++ words_of (text_words (from + length (texts_table xs)) ys)
+words_append from xs ys = ap words_of (text_words_append from xs ys) ∙ flat_map-append (word 2) (text_words from xs) (text_words (from + length (texts_table xs)) ys)
 
-pub name_words_append : (from : ℕ) (xs ys : List (List ℕ)) → name_words from (xs ++ ys) ≡ name_words from xs ++ name_words (from + length (names_table xs)) ys
-name_words_append from [] ys = ap (λ k. name_words k ys) (omega arith)
-name_words_append from (x ∷ xs) ys =
-    let one = length-append (x ++ 0 ∷ []) (names_table xs) in
-    let two = length-append x (0 ∷ []) in
-    let k : from + length x + 1 + length (names_table xs) ≡ from + length (names_table (x ∷ xs)) = omega (arith, one, two) in
-    ap (λ l. pos from ∷ l) (name_words_append (from + length x + 1) xs ys ∙ ap (λ n. name_words (from + length x + 1) xs ++ name_words n ys) k)
-
--- the words of names after others
-pub words_after : (xs ys : List (List ℕ)) → words_of (name_words 0 xs) ++ words_of (name_words (length (names_table xs)) ys) ≡ words_of (name_words 0 (xs ++ ys))
-words_after xs ys =
-    sym (ap words_of (name_words_append 0 xs ys ∙ ap (λ n. name_words 0 xs ++ name_words n ys) (omega arith))
-    ∙ flat_map-append (word 2) (name_words 0 xs) (name_words (length (names_table xs)) ys))
+-- the sections of a part after what is there, with three lists of names
+pub one_by_one : (out a b c d e f g h i j k : List ℕ) → out ++ a ++ b ++ c ++ d ++ e ++ f ++ g ++ h ++ i ++ j ++ k ≡ out ++ (a ++ (b ++ (c ++ (d ++ ((e ++ f ++ g) ++ (h ++ (i ++ j ++ k)))))))
+one_by_one out a b c d e f g h i j k = simp append_assoc

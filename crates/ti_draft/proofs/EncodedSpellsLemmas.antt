@@ -1,37 +1,32 @@
 -- Canonical bytes of an entry without a fault spell it.
-use Rattle.std.proofs.Common.{◌≡◌, ◌≢◌, ℕ, ◌+◌, ◌==◌, pos, negsuc, Bool, true, false, ◌||◌, List, [], ◌∷◌, ◌++◌, length, take, None, inl, inr, refl, sym, ap, subst, ◌∙◌, arith, append_assoc}
-use Rattle.std.proofs.lemmas.Bool.{ltb-false, eqb-false, eqb-true}
-use Rattle.std.proofs.lemmas.List.{length-append, take_at, drop_at}
+use Rattle.std.proofs.Common.{◌≡◌, ◌≢◌, ℕ, ◌+◌, ◌==◌, pos, Bool, true, false, List, [], ◌∷◌, ◌++◌, length, map, take, None, ◌⊎◌, inl, inr, if◌then◌else◌, refl, sym, ap, subst, ◌∙◌, arith, append_assoc}
+use Rattle.std.proofs.lemmas.Grind.{common_steps}
+use Rattle.std.proofs.lemmas.Bool.Decides.{nat_tests}
+use Rattle.std.proofs.lemmas.Bool.{eqb-false, eqb-true, or_parts}
+use Rattle.std.proofs.lemmas.List.{length-append, take_at, drop_at, nil_from_length}
 use Rattle.std.specs.List.{AllByRecursion, list_any}
-use Rattle.ti_base.specs.Limits.{greatest_word, greatest_wide_word}
 use Rattle.ti_words.specs.declared.Number.{Number}
-use Rattle.ti_words.specs.declared.Number.TheVariants as numbers
 use Rattle.ti_words.specs.declared.Width.{Width}
-use Rattle.ti_words.specs.declared.Width.TheVariants.{Legacy, Wide}
 use Rattle.ti_words.specs.Texts.{TextValue, AbsentText, CancelledText, TextOf, is_nul}
 use Rattle.ti_words.specs.Value.{PartValue, NamedPart, EntryValue, no_named}
-use Rattle.ti_words.specs.Spelling.{Spells, SpellsPart, HasStandardPart, HasExtendedPart, HasNoNul, FitsWidth, Has, IsText, IsName, Each, count_word, join, standard_spelling, text_size, texts_size, unnamed, part_names}
-use Rattle.ti_draft.specs.Canonical.{canonical, text_bytes, texts_table, text_words, names_table, name_words, strings_of, standard_strings, extended_strings, items_of, extended_bytes}
+use Rattle.ti_words.specs.Spelling.{Spells, SpellsPart, HasNoExtendedPart, HasExtendedPart, HasNoNul, FitsWidth, Has, IsText, IsName, Each, count_word, texts_size, unnamed, part_names}
+use Rattle.ti_draft.specs.Canonical.{canonical, texts_table, text_words, strings_of, standard_strings, extended_strings, items_of, extended_bytes}
 use Rattle.ti_draft.specs.Lengths.{AreFew}
 use Rattle.ti_draft.specs.Unfit.{encode_fault, has_nul, text_has_nul, is_out_of_range}
-use Rattle.ti_draft.proofs.LengthLemmas.{is_standard, is_both, length_part_names, table_is}
+use Rattle.ti_draft.proofs.LengthLemmas.{texts_table_append}
 use Rattle.ti_draft.proofs.EncodeFaultLemmas.{fit, few_standard, few_extended}
 
 -- ---- what has no fault
 
-pub neither : (a b : Bool) → (a || b) ≡ false → (a ≡ false) × (b ≡ false)
-neither true b h = absurd cc
-neither false b h = (refl, h)
-
-pub none_of : {X : Type 0} (p : X → Bool) (P : X → Type 0) → ((x : X) → p x ≡ false → P x) → (xs : List X) → list_any p xs ≡ false → AllByRecursion P xs
+none_of : {X : Type 0} (p : X → Bool) (P : X → Type 0) → ((x : X) → p x ≡ false → P x) → (xs : List X) → list_any p xs ≡ false → AllByRecursion P xs
 none_of p P f [] h = tt
-none_of p P f (x ∷ xs) h = let s = neither (p x) (list_any p xs) h in (f x s.0, none_of p P f xs s.1)
+none_of p P f (x ∷ xs) h = let s = or_parts (p x) (list_any p xs) h in (f x s.0, none_of p P f xs s.1)
 
-pub clean : (bytes : List ℕ) → has_nul bytes ≡ false → HasNoNul bytes
+clean : (bytes : List ℕ) → has_nul bytes ≡ false → HasNoNul bytes
 clean bytes h = none_of is_nul (λ b. b ≢ 0) (λ b e. eqb-false b 0 e) bytes h
 
 -- a text without a NUL
-abbrev pub IsClean : TextValue → Type 0
+abbrev IsClean : TextValue → Type 0
 IsClean AbsentText = Unit {0}
 IsClean CancelledText = Unit {0}
 IsClean (TextOf text) = HasNoNul text
@@ -42,148 +37,87 @@ clean_text CancelledText h = tt
 clean_text (TextOf text) h = clean text h
 
 fits_width : (w : Width) (n : Number) → is_out_of_range w n ≡ false → FitsWidth w n
-fits_width w numbers.Absent h = tt
-fits_width w numbers.Cancelled h = tt
-fits_width Legacy (numbers.Value (pos n)) h = let le = ltb-false greatest_word n h in omega arith
-fits_width Wide (numbers.Value (pos n)) h = let le = ltb-false greatest_wide_word n h in omega arith
-fits_width w (numbers.Value (negsuc n)) h = absurd cc
+fits_width w n h = grind (arith, nat_tests)
 
 -- ---- tables
 
-has_at : (pre ys post : List ℕ) → Has (pre ++ (ys ++ post)) (length pre) ys
-has_at pre ys post = record { found = ap (take (length ys)) (drop_at pre (ys ++ post) (length pre) refl) ∙ take_at ys post (length ys) refl }
+has_at : (pre ys post : List ℕ) (place : ℕ) → length pre ≡ place → Has (pre ++ (ys ++ post)) place ys
+has_at pre ys post place at = record { found = ap (take (length ys)) (drop_at pre (ys ++ post) place at) ∙ take_at ys post (length ys) refl }
 
-pub texts_put : (pre : List ℕ) (ts : List TextValue) (post : List ℕ) → AllByRecursion IsClean ts
-    → Each (IsText (pre ++ (texts_table ts ++ post))) (text_words (length pre) ts) ts
-texts_put pre [] post h = tt
-texts_put pre (AbsentText ∷ ts) post h = (refl, texts_put pre ts post h.1)
-texts_put pre (CancelledText ∷ ts) post h = (refl, texts_put pre ts post h.1)
-texts_put pre (TextOf text ∷ ts) post h =
+texts_put : (pre : List ℕ) (from : ℕ) (ts : List TextValue) (post : List ℕ) → length pre ≡ from → AllByRecursion IsClean ts
+    → Each (IsText (pre ++ (texts_table ts ++ post))) (text_words from ts) ts
+texts_put pre from [] post at h = tt
+texts_put pre from (AbsentText ∷ ts) post at h = (refl, texts_put pre from ts post at h.1)
+texts_put pre from (CancelledText ∷ ts) post at h = (refl, texts_put pre from ts post at h.1)
+texts_put pre from (TextOf text ∷ ts) post at h =
     let one = text ++ 0 ∷ [] in
-    let n : length (pre ++ one) ≡ length pre + length text + 1 = length-append pre one ∙ ap (λ k. length pre + k) (length-append text (0 ∷ [])) ∙ omega arith in
-    let whole : pre ++ (one ++ (texts_table ts ++ post)) ≡ pre ++ ((one ++ texts_table ts) ++ post) = ap (λ l. pre ++ l) (sym (append_assoc one (texts_table ts) post)) in
-    let split : (pre ++ one) ++ (texts_table ts ++ post) ≡ pre ++ ((one ++ texts_table ts) ++ post) = append_assoc pre one (texts_table ts ++ post) ∙ whole in
-    let rest = texts_put (pre ++ one) ts post h.1 in
-    let P : List ℕ → Type 0 = λ table. Each (IsText table) (text_words (length (pre ++ one)) ts) ts in
-    let Q : ℕ → Type 0 = λ k. Each (IsText (pre ++ ((one ++ texts_table ts) ++ post))) (text_words k ts) ts in
-    let R : List ℕ → Type 0 = λ table. Has table (length pre) one in
-    ((length pre, refl, h.0, subst R whole (has_at pre one (texts_table ts ++ post))), subst Q n (subst P split rest))
+    let rest = texts_put (pre ++ one) (from + length text + 1) ts post (simp length-append (omega arith)) h.1 in
+    let P : List ℕ → Type 0 = λ table. Each (IsText (pre ++ table)) (pos from ∷ text_words (from + length text + 1) ts) (TextOf text ∷ ts) in
+    let Q : List ℕ → Type 0 = λ table. Each (IsText table) (text_words (from + length text + 1) ts) ts in
+    subst P (sym (append_assoc one (texts_table ts) post)) ((from, refl, h.0, has_at pre one (texts_table ts ++ post) from at), subst Q (append_assoc pre one (texts_table ts ++ post)) rest)
 
-pub names_put : (pre : List ℕ) (base from : ℕ) (names : List (List ℕ)) → length pre ≡ base + from → AllByRecursion HasNoNul names
-    → Each (IsName (pre ++ names_table names) base) (name_words from names) names
-names_put pre base from [] k h = tt
-names_put pre base from (name ∷ names) k h =
+names_put : (pre : List ℕ) (base from : ℕ) (names : List (List ℕ)) → length pre ≡ base + from → AllByRecursion IsClean (map TextOf names)
+    → Each (IsName (pre ++ texts_table (map TextOf names)) base) (text_words from (map TextOf names)) names
+names_put pre base from [] at h = tt
+names_put pre base from (name ∷ names) at h =
     let one = name ++ 0 ∷ [] in
-    let n : length (pre ++ one) ≡ base + (from + length name + 1) = length-append pre one ∙ ap (λ j. length pre + j) (length-append name (0 ∷ [])) ∙ omega arith in
-    let split : (pre ++ one) ++ names_table names ≡ pre ++ (one ++ names_table names) = append_assoc pre one (names_table names) in
-    let rest = names_put (pre ++ one) base (from + length name + 1) names n h.1 in
-    let P : List ℕ → Type 0 = λ table. Each (IsName table base) (name_words (from + length name + 1) names) names in
-    let R : ℕ → Type 0 = λ j. Has (pre ++ (one ++ names_table names)) j one in
-    ((from, refl, h.0, subst R k (has_at pre one (names_table names))), subst P split rest)
+    let rest = names_put (pre ++ one) base (from + length name + 1) names (simp length-append (omega arith)) h.1 in
+    let P : List ℕ → Type 0 = λ table. Each (IsName table base) (text_words (from + length name + 1) (map TextOf names)) names in
+    ((from, refl, h.0, has_at pre one (texts_table (map TextOf names)) (base + from) at), subst P (append_assoc pre one (texts_table (map TextOf names))) rest)
 
-size_of : (t : TextValue) → text_size t ≡ length (text_bytes t)
-size_of AbsentText = refl
-size_of CancelledText = refl
-size_of (TextOf text) = sym (length-append text (0 ∷ []))
-
-pub base_is : (ts : List TextValue) → texts_size ts ≡ length (texts_table ts)
+base_is : (ts : List TextValue) → texts_size ts ≡ length (texts_table ts)
 base_is [] = refl
-base_is (t ∷ ts) = omega (arith, size_of t, base_is ts, length-append (text_bytes t) (texts_table ts))
+base_is (t ∷ ts) = grind (arith, common_steps, base_is ts)
 
 -- ---- both parts
 
-part_put : (w : Width) (p : PartValue) (names : List (List ℕ)) → AreFew p names
-    → list_any text_has_nul p.texts ≡ false → list_any (is_out_of_range w) p.numbers ≡ false → list_any has_nul names ≡ false
-    → SpellsPart w (strings_of p names) p names
+part_put : (w : Width) (p : PartValue) (names : List (List ℕ)) → AreFew p (map TextOf names)
+    → list_any text_has_nul p.texts ≡ false → list_any (is_out_of_range w) p.numbers ≡ false → list_any text_has_nul (map TextOf names) ≡ false
+    → SpellsPart w (strings_of p (map TextOf names)) p names
 part_put w p names few text number named =
     let values = texts_table p.texts in
-    let P : ℕ → Type 0 = λ base. Each (IsName (values ++ names_table names) base) (name_words 0 names) names in
+    let own = texts_table (map TextOf names) in
+    let table = texts_table_append p.texts (map TextOf names) in
     record {
       few_flags = few.flags;
       few_numbers = few.numbers;
       few_texts = few.texts;
-      small_table = omega (arith, table_is p names, few.table);
+      small_table = few.table;
       numbers_fit = none_of (is_out_of_range w) (FitsWidth w) (fits_width w) p.numbers number;
-      texts_there = texts_put [] p.texts (names_table names) (none_of text_has_nul IsClean clean_text p.texts text);
-      names_there = subst P (sym (base_is p.texts)) (names_put values (length values) 0 names (omega arith) (none_of has_nul HasNoNul clean names named));
+      texts_there = rw table (texts_put [] 0 p.texts own refl (none_of text_has_nul IsClean clean_text p.texts text));
+      names_there = rw table (names_put values (texts_size p.texts) 0 names (omega (arith, base_is p.texts)) (none_of text_has_nul IsClean clean_text (map TextOf names) named));
     }
-
--- what has no fault, part by part
-record IsGood (v : EntryValue) : Type 0 where
-  named : (length v.names == 0) ≡ false
-  names : has_nul v.names ≡ false
-  own_names : list_any has_nul (part_names v.extended) ≡ false
-  texts : list_any text_has_nul v.standard.texts ≡ false
-  own_texts : list_any text_has_nul (unnamed v.extended).texts ≡ false
-  numbers : list_any (is_out_of_range v.width) v.standard.numbers ≡ false
-  own_numbers : list_any (is_out_of_range v.width) (unnamed v.extended).numbers ≡ false
-
-good : (v : EntryValue) → encode_fault v ≡ None → IsGood v
-good v h =
-    let f = fit v h in
-    let front = neither ((length v.names == 0) || has_nul v.names) (list_any has_nul (part_names v.extended)) f.good_names in
-    let name = neither (length v.names == 0) (has_nul v.names) front.0 in
-    let text = neither (list_any text_has_nul v.standard.texts) (list_any text_has_nul (unnamed v.extended).texts) f.good_texts in
-    let number = neither (list_any (is_out_of_range v.width) v.standard.numbers) (list_any (is_out_of_range v.width) (unnamed v.extended).numbers) f.good_numbers in
-    record { named = name.0; names = name.1; own_names = front.1; texts = text.0; own_texts = text.1; numbers = number.0; own_numbers = number.1 }
-
-standard_of : (v : EntryValue) (rest : List ℕ) → encode_fault v ≡ None → HasStandardPart v (standard_strings v) rest (join (standard_spelling v (standard_strings v)) rest)
-standard_of v rest h =
-    let g = good v h in
-    let few = few_standard v h in
-    let some = eqb-false (length v.names) 0 g.named in
-    record {
-      joined = refl;
-      named = omega (arith, some);
-      few_names = omega arith;
-      names_fit = clean v.names g.names;
-      part = part_put v.width v.standard [] few.part g.texts g.numbers refl;
-    }
-
-extended_of : (v : EntryValue) → encode_fault v ≡ None → (length (part_names v.extended) == 0) ≡ false → HasExtendedPart v (length (standard_strings v).table) (extended_bytes v)
-extended_of v h e =
-    let g = good v h in
-    record {
-      items = count_word (items_of v.extended);
-      strings = extended_strings v;
-      joined = refl;
-      items_size = refl;
-      part = part_put v.width (unnamed v.extended) (part_names v.extended) (few_extended v h e) g.own_texts g.own_numbers g.own_names;
-    }
-
-nothing : {X : Type 0} → (xs : List X) → length xs ≡ 0 → xs ≡ []
-nothing [] h = refl
-nothing (x ∷ xs) h = absurd (omega arith)
 
 none_named : (p : NamedPart) → length (part_names p) ≡ 0 → p ≡ no_named
-none_named p h =
-    let each = length_part_names p in
-    let flags = nothing p.flags (omega (arith, h, each)) in
-    let numbers = nothing p.numbers (omega (arith, h, each)) in
-    let texts = nothing p.texts (omega (arith, h, each)) in
-    let fields : ◌≡◌ {A = NamedPart} (record { flags = p.flags; numbers = p.numbers; texts = p.texts }) no_named = rw (flags, numbers, texts) refl in fields
-
-spells_under : (v : EntryValue) (b : Bool) → (length (part_names v.extended) == 0) ≡ b → encode_fault v ≡ None → Spells (canonical v) v
-spells_under v true e h =
-    let P : List ℕ → Type 0 = λ bytes. Spells bytes v in
-    let is = is_standard v e in
-    subst P (sym is) record {
-      fits = omega (arith, (fit v h).short, ap length is);
-      strings = standard_strings v;
-      rest = [];
-      standard = standard_of v [] h;
-      extended = inl record { ends = refl; none = none_named v.extended (eqb-true (length (part_names v.extended)) 0 e) };
-    }
-spells_under v false e h =
-    let P : List ℕ → Type 0 = λ bytes. Spells bytes v in
-    let is = is_both v e in
-    subst P (sym is) record {
-      fits = omega (arith, (fit v h).short, ap length is);
-      strings = standard_strings v;
-      rest = extended_bytes v;
-      standard = standard_of v (extended_bytes v) h;
-      extended = inr (extended_of v h e);
-    }
+none_named p h = grind (arith, common_steps, nil_from_length)
 
 pub canonical_spells : (v : EntryValue) → encode_fault v ≡ None → Spells (canonical v) v
-canonical_spells v h = spells_under v (length (part_names v.extended) == 0) refl h
+canonical_spells v h =
+    let good = fit v h in
+    let few = few_standard v h in
+    let some = eqb-false (length v.names) 0 good.named in
+    record {
+      fits = good.short;
+      strings = standard_strings v;
+      rest = if length (part_names v.extended) == 0 then [] else extended_bytes v;
+      standard = record {
+        joined = refl;
+        named = omega (arith, some);
+        few_names = omega arith;
+        names_fit = clean v.names good.names;
+        part = part_put v.width v.standard [] few.part good.texts good.numbers refl;
+      };
+      extended = by_names (length (part_names v.extended) == 0) refl;
+    }
+  where
+    by_names : (b : Bool) → (length (part_names v.extended) == 0) ≡ b → HasNoExtendedPart v (if b then [] else extended_bytes v) ⊎ HasExtendedPart v (length (standard_strings v).table) (if b then [] else extended_bytes v)
+    by_names true e = inl record { ends = refl; none = none_named v.extended (eqb-true (length (part_names v.extended)) 0 e) }
+    by_names false e =
+        let good = fit v h in
+        inr record {
+          items = count_word (items_of v.extended);
+          strings = extended_strings v;
+          joined = refl;
+          items_size = refl;
+          part = part_put v.width (unnamed v.extended) (part_names v.extended) (few_extended v h e) good.own_texts good.own_numbers good.own_names;
+        }

@@ -21,14 +21,6 @@ text_words from (TextOf text ∷ ts) = pos from ∷ text_words (from + length te
 text_words from (AbsentText ∷ ts) = negsuc 0 ∷ text_words from ts
 text_words from (CancelledText ∷ ts) = negsuc 1 ∷ text_words from ts
 
-abbrev pub names_table : List (List ℕ) → List ℕ
-names_table [] = []
-names_table (name ∷ names) = (name ++ 0 ∷ []) ++ names_table names
-
-abbrev pub name_words : ℕ → List (List ℕ) → List ℤ
-name_words from [] = []
-name_words from (name ∷ names) = pos from ∷ name_words (from + length name + 1) names
-
 -- how many texts are there
 abbrev pub present_count : List TextValue → ℕ
 present_count [] = 0
@@ -36,19 +28,19 @@ present_count (TextOf text ∷ ts) = 1 + present_count ts
 present_count (AbsentText ∷ ts) = present_count ts
 present_count (CancelledText ∷ ts) = present_count ts
 
--- the strings of a part: its texts in their order, and then its names
-abbrev pub strings_of : PartValue → List (List ℕ) → Strings
+-- the strings of a part: its texts in their order, and then its names, which are written as texts
+abbrev pub strings_of : PartValue → List TextValue → Strings
 strings_of p names = record {
   offsets = text_words 0 p.texts;
-  name_offsets = name_words 0 names;
-  table = texts_table p.texts ++ names_table names;
+  name_offsets = text_words 0 names;
+  table = texts_table (p.texts ++ names);
 }
 
 abbrev pub standard_strings : EntryValue → Strings
 standard_strings v = strings_of v.standard []
 
 abbrev pub extended_strings : EntryValue → Strings
-extended_strings v = strings_of (unnamed v.extended) (part_names v.extended)
+extended_strings v = strings_of (unnamed v.extended) (map TextOf (part_names v.extended))
 
 -- the word items counts the texts that are there and the names
 abbrev pub items_of : NamedPart → ℕ

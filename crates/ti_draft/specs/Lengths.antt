@@ -5,28 +5,24 @@ use Rattle.ti_words.specs.declared.Width.{Width}
 use Rattle.ti_words.specs.Texts.{TextValue, AbsentText, CancelledText, TextOf}
 use Rattle.ti_words.specs.Value.{PartValue}
 use Rattle.ti_words.specs.Widths.{number_size}
-use Rattle.ti_draft.specs.Canonical.{texts_table, names_table, present_count}
+use Rattle.ti_draft.specs.Canonical.{present_count, strings_of}
 
 -- the number, or the greatest one of 64 bits
 abbrev pub capped_count : ℕ → ℕ
 capped_count n = min n (2 ^ 64 - 1)
 
--- the table of a part
-abbrev pub table_length : PartValue → List (List ℕ) → ℕ
-table_length p names = length (texts_table p.texts) + length (names_table names)
-
 -- a part after its counts, without the pad
-abbrev pub part_length : Width → PartValue → List (List ℕ) → ℕ
+abbrev pub part_length : Width → PartValue → List TextValue → ℕ
 part_length w p names =
-    length p.flags + length p.numbers * number_size w + length p.texts * 2 + length names * 2 + table_length p names
+    length p.flags + length p.numbers * number_size w + length p.texts * 2 + length names * 2 + length (strings_of p names).table
 
 -- words can hold the counts of a part
-pub record AreFew (p : PartValue) (names : List (List ℕ)) : Type 0 where
+pub record AreFew (p : PartValue) (names : List TextValue) : Type 0 where
   pub flags : length p.flags < 2 ^ 15
   pub numbers : length p.numbers < 2 ^ 15
   pub texts : length p.texts < 2 ^ 15
   pub items : present_count p.texts + length names < 2 ^ 15
-  pub table : table_length p names < 2 ^ 15
+  pub table : length (strings_of p names).table < 2 ^ 15
 
 -- the word of a text that is put at a place, or of its mark
 abbrev pub text_word : ℕ → TextValue → ℤ

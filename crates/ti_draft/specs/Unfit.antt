@@ -16,14 +16,14 @@ use Rattle.ti_draft.specs.Canonical.{canonical}
 abbrev pub has_nul : List ℕ → Bool
 has_nul bytes = list_any is_nul bytes
 
--- the names are empty or hold a NUL, or an extended name holds one
-abbrev pub has_bad_name : EntryValue → Bool
-has_bad_name v = (length v.names == 0) || has_nul v.names || list_any has_nul (part_names v.extended)
-
 abbrev pub text_has_nul : TextValue → Bool
 text_has_nul AbsentText = false
 text_has_nul CancelledText = false
 text_has_nul (TextOf text) = has_nul text
+
+-- the names are empty or hold a NUL, or an extended name holds one
+abbrev pub has_bad_name : EntryValue → Bool
+has_bad_name v = (length v.names == 0) || has_nul v.names || list_any text_has_nul (map TextOf (part_names v.extended))
 
 -- a text holds a NUL
 abbrev pub has_bad_text : EntryValue → Bool

@@ -3,10 +3,10 @@
 //! A draft lends its names and texts and copies none. A push takes memory as a vector does: now and then, and then for
 //! as many again as there are.
 
-ghost use Rattle.std.specs.Prelude.{◌≡◌, ◌==◌, ◌+◌, ◌++◌, ◌∷◌, [], length, IsOk, OnOk, OnErr};
-ghost use Rattle.ti_words.specs.Texts.{text_value};
-ghost use Rattle.ti_words.specs.Spelling.{unnamed, part_names};
-ghost use Rattle.ti_draft.specs.Lists.{values_lent, names_lent};
+ghost use Rattle.std.specs.Prelude.{◌≡◌, ◌==◌, ◌+◌, ◌++◌, ◌∷◌, [], length, map, IsOk, OnOk, OnErr};
+ghost use Rattle.ti_words.specs.Texts.{text_value, TextOf};
+ghost use Rattle.ti_words.specs.Spelling.{mark_in, part_names};
+ghost use Rattle.ti_draft.specs.Lists.{names_lent};
 
 use crate::named::Named;
 use std::alloc::{AllocError, Allocator, Global};
@@ -199,7 +199,9 @@ impl<'a, A: Allocator> Draft<'a, A> {
 
     /// The lists of the standard part.
     pub(crate) fn standard(&self) -> Lists<'_, 'a>
-        ensures values { values_lent result ≡ self.now.standard }
+        ensures flags { result.flags.now ≡ self.now.standard.flags }
+        ensures numbers { result.numbers.now ≡ self.now.standard.numbers }
+        ensures texts { map text_value result.texts.now ≡ self.now.standard.texts }
         ensures names { names_lent result ≡ [] }
     {
         Lists {
@@ -214,8 +216,10 @@ impl<'a, A: Allocator> Draft<'a, A> {
 
     /// The lists of the extended part.
     pub(crate) fn extended(&self) -> Lists<'_, 'a>
-        ensures values { values_lent result ≡ unnamed self.now.extended }
-        ensures names { names_lent result ≡ part_names self.now.extended }
+        ensures flags { result.flags.now ≡ map mark_in self.now.extended.flags }
+        ensures numbers { result.numbers.now ≡ map mark_in self.now.extended.numbers }
+        ensures texts { map text_value result.texts.now ≡ map mark_in self.now.extended.texts }
+        ensures names { names_lent result ≡ map TextOf (part_names self.now.extended) }
     {
         Lists {
             flags: self.extended_flags.marks(),
@@ -226,30 +230,30 @@ impl<'a, A: Allocator> Draft<'a, A> {
             text_names: self.extended_texts.names(),
         }
     }
+
+    /// Whether no capability has a name, so that there is no extended part.
+    pub(crate) fn is_nameless(&self) -> bool
+        ensures { result ≡ (length (part_names self.now.extended) == 0) }
+    {
+        let part = self.extended();
+        part.flag_names.is_empty() && part.number_names.is_empty() && part.text_names.is_empty()
+    }
 }
 
-/// The lists of a part, each lent as a slice. Capabilities of the standard part have no names.
+/// The lists of a part, each lent as a slice. Capabilities of the standard part have no names; others are texts that are
+/// there.
 #[derive(Clone, Copy)]
 pub(crate) struct Lists<'d, 'a> {
     pub(crate) flags: &'d [Flag],
     pub(crate) numbers: &'d [Number],
     pub(crate) texts: &'d [Text<'a>],
-    pub(crate) flag_names: &'d [&'a [u8]],
-    pub(crate) number_names: &'d [&'a [u8]],
-    pub(crate) text_names: &'d [&'a [u8]],
-}
-
-impl<'d, 'a> Lists<'d, 'a> {
-    /// Whether no capability has a name.
-    pub(crate) fn is_nameless(&self) -> bool
-        ensures { result ≡ (length (names_lent self.now) == 0) }
-    {
-        self.flag_names.is_empty() && self.number_names.is_empty() && self.text_names.is_empty()
-    }
+    pub(crate) flag_names: &'d [Text<'a>],
+    pub(crate) number_names: &'d [Text<'a>],
+    pub(crate) text_names: &'d [Text<'a>],
 }
 
 /// No names.
-fn no_names<'d, 'a>() -> &'d [&'a [u8]]
+fn no_names<'d, 'a>() -> &'d [Text<'a>]
     ensures { result.now ≡ [] }
 {
     &[]

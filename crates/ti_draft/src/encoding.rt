@@ -6,8 +6,8 @@
 ghost use Rattle.std.specs.Prelude.{◌≡◌, ◌+◌, ◌++◌, ◌≤◌, ◌⊎◌, ◌==◌, [], false, length, map, Some, None, Err, IfOk, IfErr, OnOk};
 ghost use Rattle.std.specs.List.{list_any};
 ghost use Rattle.ti_words.specs.Texts.{text_value};
-ghost use Rattle.ti_words.specs.Spelling.{Spells, join, counts_spelling, part_spelling, standard_spelling, words_of, part_names};
-ghost use Rattle.ti_draft.specs.Canonical.{canonical, strings_of, standard_strings, extended_bytes, names_table, name_words, present_count as the_present_count};
+ghost use Rattle.ti_words.specs.Spelling.{Spells, join, counts_spelling, part_spelling, standard_spelling, part_names};
+ghost use Rattle.ti_draft.specs.Canonical.{canonical, strings_of, standard_strings, extended_bytes, present_count as the_present_count};
 ghost use Rattle.ti_draft.specs.Unfit.{encode_fault, is_out_of_range};
 ghost use Rattle.ti_draft.specs.Lists.{values_lent, names_lent};
 ghost use Rattle.ti_draft.specs.Lengths.{AreFew};
@@ -15,10 +15,7 @@ ghost use Rattle.ti_draft.specs.Sizes.{AreSizes};
 
 use crate::draft::{Draft, Lists};
 use crate::fault::{EncodeFault, first_fault};
-use crate::put::{
-    put_count, put_flags, put_name_words, put_names, put_numbers, put_pad, put_text_words,
-    put_texts,
-};
+use crate::put::{put_count, put_flags, put_numbers, put_pad, put_text_words, put_texts};
 use crate::size::{Sizes, sizes_of};
 use std::alloc::{AllocError, Allocator};
 use ti_words::{Text, Width, magic_number};
@@ -75,9 +72,10 @@ fn canonical_bytes<A: Allocator + Copy, D: Allocator>(
 {
     let mut out = Vec::with_capacity(alloc, sizes.whole as usize)?;
     put_standard(&mut out, draft, sizes)?;
-    if !draft.extended().is_nameless() {
-        put_extended(&mut out, draft, sizes)?;
+    if draft.is_nameless() {
+        return Ok(out);
     }
+    put_extended(&mut out, draft, sizes)?;
     Ok(out)
 }
 
@@ -156,10 +154,15 @@ fn put_part<A: Allocator>(
     put_flags(out, part.flags)?;
     put_pad(out, count)?;
     put_numbers(out, width, part.numbers)?;
-    put_text_words(out, part.texts)?;
-    put_all_name_words(out, part)?;
+    put_text_words(out, 0, part.texts)?;
+    // The places of the names are counted from the end of the texts.
+    let after_flags = put_text_words(out, 0, part.flag_names)?;
+    let after_numbers = put_text_words(out, after_flags, part.number_names)?;
+    put_text_words(out, after_numbers, part.text_names)?;
     put_texts(out, part.texts)?;
-    put_all_names(out, part)?;
+    put_texts(out, part.flag_names)?;
+    put_texts(out, part.number_names)?;
+    put_texts(out, part.text_names)?;
     Ok(())
 }
 
@@ -185,29 +188,4 @@ fn items_count(part: &Lists<'_, '_>) -> usize
 {
     let names = part.flag_names.len() + part.number_names.len() + part.text_names.len();
     present_count(part.texts) + names
-}
-
-/// Where the names of a part are put, counted from the end of its texts.
-fn put_all_name_words<A: Allocator>(
-    out: &mut Vec<u8, A>,
-    part: &Lists<'_, '_>,
-) -> Result<(), AllocError>
-    requires { AreFew (values_lent part.now) (names_lent part.now) }
-    ensures { OnOk result
-        (out.new.items ≡ out.old.items ++ words_of (name_words 0 (names_lent part.now))) }
-{
-    let after_flags = put_name_words(out, 0, part.flag_names)?;
-    let after_numbers = put_name_words(out, after_flags, part.number_names)?;
-    put_name_words(out, after_numbers, part.text_names)?;
-    Ok(())
-}
-
-/// The names of a part, of flags, then numbers, then texts.
-fn put_all_names<A: Allocator>(out: &mut Vec<u8, A>, part: &Lists<'_, '_>) -> Result<(), AllocError>
-    ensures { OnOk result (out.new.items ≡ out.old.items ++ names_table (names_lent part.now)) }
-{
-    put_names(out, part.flag_names)?;
-    put_names(out, part.number_names)?;
-    put_names(out, part.text_names)?;
-    Ok(())
 }

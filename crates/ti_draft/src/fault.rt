@@ -7,7 +7,6 @@ ghost use Rattle.std.specs.Prelude.{◌≡◌, pos, map, length};
 ghost use Rattle.std.specs.List.{list_any};
 ghost use Rattle.ti_words.specs.Texts.{text_value};
 ghost use Rattle.ti_draft.specs.Canonical.{canonical};
-ghost use Rattle.ti_draft.specs.Lists.{lent};
 ghost use Rattle.ti_draft.specs.Lengths.{capped_count};
 ghost use Rattle.ti_draft.specs.Unfit.{has_nul as the_has_nul, text_has_nul as the_text_has_nul, greatest_number as the_greatest_number, is_out_of_range as the_is_out_of_range, has_bad_name as the_has_bad_name, has_bad_text as the_has_bad_text, has_bad_number as the_has_bad_number, encode_fault};
 
@@ -80,34 +79,12 @@ fn has_nul(bytes: &[u8]) -> bool
     bytes.contains(&0)
 }
 
-/// Whether a name holds a NUL.
-fn any_has_nul(names: &[&[u8]]) -> bool
-    ensures { result ≡ list_any the_has_nul (lent names.now) }
-{
-    for name in names {
-        if has_nul(name) {
-            return true;
-        }
-    }
-    false
-}
-
-/// Whether a text is there and holds a NUL.
-fn text_has_nul(text: Text<'_>) -> bool
-    ensures { result ≡ the_text_has_nul (text_value text.entry) }
-{
-    match text {
-        Text::Absent | Text::Cancelled => false,
-        Text::Value(bytes) => has_nul(bytes),
-    }
-}
-
 /// Whether a text among these holds a NUL.
 fn any_text_has_nul(texts: &[Text<'_>]) -> bool
     ensures { result ≡ list_any the_text_has_nul (map text_value texts.now) }
 {
     for text in texts {
-        if text_has_nul(*text) {
+        if matches!(text, Text::Value(bytes) if has_nul(bytes)) {
             return true;
         }
     }
@@ -153,9 +130,9 @@ fn has_bad_name<A: Allocator>(draft: &Draft<'_, A>) -> bool
     let part = draft.extended();
     draft.names().is_empty()
         || has_nul(draft.names())
-        || any_has_nul(part.flag_names)
-        || any_has_nul(part.number_names)
-        || any_has_nul(part.text_names)
+        || any_text_has_nul(part.flag_names)
+        || any_text_has_nul(part.number_names)
+        || any_text_has_nul(part.text_names)
 }
 
 /// A text holds a NUL.

@@ -1,31 +1,35 @@
 //! Capabilities of an extended part, each with its name, in the order in which they were added.
 //!
 //! Contracts see one list of names with what they name. The names and the rest lie in two vectors, so that each is lent
-//! as a slice of its own.
+//! as a slice of its own. A name is kept as a text that is there, since it is written as one.
 
 ghost use Rattle.std.specs.Prelude.{◌≡◌, ◌++◌, ◌∷◌, [], map, IsOk, OnOk, OnErr};
+ghost use Rattle.ti_words.specs.Texts.{text_value, TextOf};
 ghost use Rattle.ti_words.specs.Spelling.{name_in, mark_in};
-ghost use Rattle.ti_draft.specs.Lists.{lent};
 
 use std::alloc::{AllocError, Allocator};
 use std::marker::Model;
+use ti_words::Text;
 
 /// Names with what they name.
 #[derive(Drop)]
 pub(crate) struct Named<'a, T, A: Allocator> {
-    names: Vec<&'a [u8], A>,
+    names: Vec<Text<'a>, A>,
     marks: Vec<T, A>,
 }
 
 impl<'a, T, A: Allocator> Model for Named<'a, T, A> {
     ghost use Rattle.std.specs.Prelude.{◌≡◌, ℕ, List, length, map};
     ghost use Rattle.std.specs.List.{zip};
+    ghost use Rattle.ti_words.specs.Texts.{text_value, TextOf};
+    ghost use Rattle.ti_draft.specs.Lists.{name_of};
 
     ghost Value = { List (List ℕ × T) };
 
-    ghost view = { λ n. zip (map (λ name. name.now) n.names.items) n.marks.items };
+    ghost view = { λ n. zip (map name_of n.names.items) n.marks.items };
 
-    ghost invariant = { λ n. length n.names.items ≡ length n.marks.items };
+    ghost invariant = { λ n. (length n.names.items ≡ length n.marks.items)
+        × (map text_value n.names.items ≡ map TextOf (map name_of n.names.items)) };
 }
 
 impl<'a, T, A: Allocator> Named<'a, T, A> {
@@ -49,7 +53,7 @@ impl<'a, T, A: Allocator> Named<'a, T, A> {
         ensures unchanged { OnErr result (self.new ≡ self.old) }
     {
         let count = self.names.len();
-        self.names.push(name)?;
+        self.names.push(Text::Value(name))?;
         match self.marks.push(mark) {
             Ok(()) => Ok(()),
             Err(refused) => {
@@ -69,8 +73,8 @@ impl<'a, T, A: Allocator> Named<'a, T, A> {
     }
 
     /// The names.
-    pub(crate) fn names(&self) -> &[&'a [u8]]
-        ensures { lent result.now ≡ map name_in self.now }
+    pub(crate) fn names(&self) -> &[Text<'a>]
+        ensures { map text_value result.now ≡ map TextOf (map name_in self.now) }
     {
         self.names.as_slice()
     }

@@ -1,7 +1,7 @@
 //! Appending the sections of an entry, each in one pass.
 //!
-//! Where there was memory, the clauses say exactly what was appended. Words are written by `byteorder`, texts and names
-//! as whole slices.
+//! Where there was memory, the clauses say exactly what was appended. Words are written by `byteorder`, texts as whole
+//! slices. Names are texts as well.
 
 ghost use Rattle.std.specs.Prelude.{◌≡◌, ◌++◌, ◌+◌, ◌<◌, ◌≤◌, ◌^◌, false, length, map, OnOk, IfOk};
 ghost use Rattle.std.specs.List.{list_any};
@@ -10,9 +10,8 @@ ghost use Rattle.ti_words.specs.Marks.{word_of_number};
 ghost use Rattle.ti_words.specs.Word.{word};
 ghost use Rattle.ti_words.specs.Widths.{number_size};
 ghost use Rattle.ti_words.specs.Spelling.{count_word, words_of, numbers_of, flags_of, pad};
-ghost use Rattle.ti_draft.specs.Canonical.{text_bytes, texts_table, text_words, names_table, name_words};
+ghost use Rattle.ti_draft.specs.Canonical.{text_bytes, texts_table, text_words};
 ghost use Rattle.ti_draft.specs.Unfit.{is_out_of_range};
-ghost use Rattle.ti_draft.specs.Lists.{lent};
 ghost use Rattle.ti_draft.specs.Lengths.{text_word};
 
 use byteorder::{ByteOrder, LittleEndian};
@@ -126,20 +125,23 @@ fn put_text_word<A: Allocator>(
     }
 }
 
-/// Where texts are put, from the front of their table, or their marks.
+/// Where texts are put, from a place on, or their marks; returns the place after them.
 pub(crate) fn put_text_words<A: Allocator>(
     out: &mut Vec<u8, A>,
+    from: usize,
     texts: &[Text<'_>],
-) -> Result<(), AllocError>
-    requires { length (texts_table (map text_value texts.now)) ≤ 2 ^ 15 }
-    ensures { OnOk result
-        (out.new.items ≡ out.old.items ++ words_of (text_words 0 (map text_value texts.now))) }
+) -> Result<usize, AllocError>
+    requires { from + length (texts_table (map text_value texts.now)) ≤ 2 ^ 15 }
+    ensures words { OnOk result (out.new.items
+        ≡ out.old.items ++ words_of (text_words from (map text_value texts.now))) }
+    ensures end { IfOk result
+        (λ end. end ≡ from + length (texts_table (map text_value texts.now))) }
 {
-    let mut place = 0;
+    let mut place = from;
     for text in texts {
         place = put_text_word(out, place, *text)?;
     }
-    Ok(())
+    Ok(place)
 }
 
 /// A text and its NUL, if it is there.
@@ -163,41 +165,6 @@ pub(crate) fn put_texts<A: Allocator>(
 {
     for text in texts {
         put_text(out, *text)?;
-    }
-    Ok(())
-}
-
-/// Where names are put, from a place on; returns the place after them.
-pub(crate) fn put_name_words<A: Allocator>(
-    out: &mut Vec<u8, A>,
-    from: usize,
-    names: &[&[u8]],
-) -> Result<usize, AllocError>
-    requires { from + length (names_table (lent names.now)) ≤ 2 ^ 15 }
-    ensures words { OnOk result (out.new.items
-        ≡ out.old.items ++ words_of (name_words from (lent names.now))) }
-    ensures end { IfOk result
-        (λ end. end ≡ from + length (names_table (lent names.now))) }
-{
-    let mut place = from;
-    for name in names {
-        put_count(out, place)?;
-        place += name.len() + 1;
-    }
-    Ok(place)
-}
-
-/// Names, each with its NUL.
-pub(crate) fn put_names<A: Allocator>(
-    out: &mut Vec<u8, A>,
-    names: &[&[u8]],
-) -> Result<(), AllocError>
-    ensures { OnOk result
-        (out.new.items ≡ out.old.items ++ names_table (lent names.now)) }
-{
-    for name in names {
-        out.extend_from_slice(name)?;
-        out.push(0)?;
     }
     Ok(())
 }

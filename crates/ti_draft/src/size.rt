@@ -3,24 +3,17 @@
 //! Each list is gone over once, and no memory is taken. Sums that 64 bits cannot hold stay at the greatest
 //! number.
 
-ghost use Rattle.std.specs.Prelude.{◌≡◌, ◌+◌, ◌*◌, ◌%◌, ◌≤◌, [], length, map, min};
+ghost use Rattle.std.specs.Prelude.{◌≡◌, ◌+◌, ◌*◌, ◌≤◌, [], length, map, min};
 ghost use Rattle.ti_words.specs.Texts.{text_value};
-ghost use Rattle.ti_words.specs.Spelling.{pad_len as the_pad_len, join, standard_spelling};
-ghost use Rattle.ti_draft.specs.Canonical.{canonical, text_bytes, texts_table, names_table, standard_strings, extended_strings};
-ghost use Rattle.ti_draft.specs.Lists.{lent, values_lent, names_lent};
-ghost use Rattle.ti_draft.specs.Lengths.{capped_count, table_length, part_length};
+ghost use Rattle.ti_words.specs.Spelling.{join, standard_spelling};
+ghost use Rattle.ti_draft.specs.Canonical.{canonical, text_bytes, texts_table, strings_of, standard_strings, extended_strings};
+ghost use Rattle.ti_draft.specs.Lists.{values_lent, names_lent};
+ghost use Rattle.ti_draft.specs.Lengths.{capped_count, part_length};
 ghost use Rattle.ti_draft.specs.Sizes.{AreSizes};
 
 use crate::draft::{Draft, Lists};
 use std::alloc::Allocator;
 use ti_words::{Text, Width, number_size};
-
-/// The bytes after this count.
-fn pad_len(count: usize) -> u64
-    ensures { result ≡ the_pad_len count }
-{
-    count as u64 % 2
-}
 
 /// The bytes of a text with its NUL, if it is there.
 fn text_len(text: Text<'_>) -> u64
@@ -43,17 +36,6 @@ pub(crate) fn texts_len(texts: &[Text<'_>]) -> u64
     total
 }
 
-/// The bytes of names, each with its NUL.
-fn names_len(names: &[&[u8]]) -> u64
-    ensures { result ≡ capped_count (length (names_table (lent names.now))) }
-{
-    let mut total = 0u64;
-    for name in names {
-        total = total.saturating_add(name.len() as u64 + 1);
-    }
-    total
-}
-
 /// The bytes of this many items of a size.
 fn items_len(count: usize, size: usize) -> u64
     ensures { result ≡ capped_count (count * size) }
@@ -63,29 +45,27 @@ fn items_len(count: usize, size: usize) -> u64
 
 /// The bytes of the table of a part.
 fn table_len(part: &Lists<'_, '_>) -> u64
-    ensures { result
-        ≡ capped_count (table_length (values_lent part.now) (names_lent part.now)) }
+    ensures { result ≡ capped_count
+        (length (strings_of (values_lent part.now) (names_lent part.now)).table) }
 {
     texts_len(part.texts)
-        .saturating_add(names_len(part.flag_names))
-        .saturating_add(names_len(part.number_names))
-        .saturating_add(names_len(part.text_names))
+        .saturating_add(texts_len(part.flag_names))
+        .saturating_add(texts_len(part.number_names))
+        .saturating_add(texts_len(part.text_names))
 }
 
 /// The bytes of a part after its counts, with a pad of this length and a table of this size.
 fn part_len(width: Width, pad: u64, part: &Lists<'_, '_>, table: u64) -> u64
     requires pad { pad ≤ 1 }
-    requires table { table
-        ≡ capped_count (table_length (values_lent part.now) (names_lent part.now)) }
+    requires table { table ≡ capped_count
+        (length (strings_of (values_lent part.now) (names_lent part.now)).table) }
     ensures { result
         ≡ capped_count (pad + part_length width (values_lent part.now) (names_lent part.now)) }
 {
+    let names = part.flag_names.len() + part.number_names.len() + part.text_names.len();
     pad.saturating_add(part.flags.len() as u64)
         .saturating_add(items_len(part.numbers.len(), number_size(width)))
-        .saturating_add(items_len(part.texts.len(), 2))
-        .saturating_add(items_len(part.flag_names.len(), 2))
-        .saturating_add(items_len(part.number_names.len(), 2))
-        .saturating_add(items_len(part.text_names.len(), 2))
+        .saturating_add(items_len(part.texts.len() + names, 2))
         .saturating_add(table)
 }
 
@@ -135,11 +115,11 @@ fn whole_len<A: Allocator>(draft: &Draft<'_, A>, table: u64, extended_table: u64
     ensures { result ≡ capped_count (length (canonical draft.now)) }
 {
     let standard = standard_len(draft, table);
-    let part = draft.extended();
-    if part.is_nameless() {
+    if draft.is_nameless() {
         return standard;
     }
-    let pad = pad_len(part.flags.len());
+    let part = draft.extended();
+    let pad = part.flags.len() as u64 % 2;
     standard
         .saturating_add(table % 2)
         .saturating_add(10)

@@ -94,25 +94,11 @@ reading_of-refused bytes r e = rw e refl
 pub reading_of-passed : (bytes : List ℕ) → failure bytes ≡ None → reading_of bytes ≡ record { kept = bytes; refusal = None }
 reading_of-passed bytes e = rw e refl
 
-pub reading_of-none : (bytes : List ℕ) → (reading_of bytes).refusal ≡ None → reading_of bytes ≡ record { kept = bytes; refusal = None }
-reading_of-none bytes e = reading_of-passed bytes e
-
 pub reading_after-none : (r : Reading) (piece : List ℕ) → r.refusal ≡ None → reading_after r piece ≡ reading_of (r.kept ++ piece)
 reading_after-none r piece e = rw e refl
 
 pub reading_after-refused : (r : Reading) (piece : List ℕ) (refused : Refused) → r.refusal ≡ Some refused → reading_after r piece ≡ r
 reading_after-refused r piece refused e = rw e refl
-
--- a piece with which no check fails
-pub reading_after-passes : (kept piece : List ℕ) → failure (kept ++ piece) ≡ None
-    → ◌≡◌ {A = Reading} (record { kept = kept ++ piece; refusal = None }) (reading_after (record { kept = kept; refusal = None }) piece)
-reading_after-passes kept piece none = sym (reading_of-passed (kept ++ piece) none)
-
--- a byte with which one fails
-pub reading_after-fails : (kept : List ℕ) (b : ℕ) (r : Refused) → failure kept ≡ None → failure (kept ++ b ∷ []) ≡ Some r
-    → ◌≡◌ {A = Reading} (record { kept = kept; refusal = Some r }) (reading_after (record { kept = kept; refusal = None }) (b ∷ []))
-reading_after-fails kept b r none some =
-    ap (λ (k : List ℕ). let s : Reading = record { kept = k; refusal = Some r } in s) (sym (front_before_failure-last kept b r none some)) ∙ sym (reading_of-refused (kept ++ b ∷ []) r some)
 
 -- a reader by its parts
 abbrev pub reading_with : List ℕ → Option Refused → Reading
@@ -122,10 +108,6 @@ reading_with kept refusal = record { kept = kept; refusal = refusal }
 pub reading_after-nothing : (r : Reading) → r.refusal ≡ None → failure r.kept ≡ None → r ≡ reading_after r []
 reading_after-nothing r first none =
     sym (reading_after-none r [] first ∙ ap reading_of (append-nil r.kept) ∙ reading_of-passed r.kept none ∙ ap (reading_with r.kept) (sym first))
-
-pub same_reading : (kept : List ℕ) (old new : Reading) (piece : List ℕ) (refusal : Option Refused) → reading_with kept refusal ≡ old → refusal ≡ None → new ≡ reading_after (reading_with kept None) piece → new ≡ reading_after old piece
-same_reading kept old new piece refusal is none e =
-    let same : reading_with kept None ≡ old = ap (reading_with kept) (sym none) ∙ is in e ∙ ap (λ r. reading_after r piece) same
 
 -- ---- any cutting
 
@@ -172,7 +154,7 @@ pub reading_after-longer : (old new : Reading) (piece : List ℕ) → old.refusa
 reading_after-longer old new piece first e none =
     let m : new ≡ reading_of (old.kept ++ piece) = e ∙ reading_after-none old piece first in
     let passes : failure (old.kept ++ piece) ≡ None = sym (ap (λ r. r.refusal) m) ∙ none in
-    ap (λ r. length r.kept) (m ∙ reading_of-none (old.kept ++ piece) passes) ∙ length-append old.kept piece
+    ap (λ r. length r.kept) (m ∙ reading_of-passed (old.kept ++ piece) passes) ∙ length-append old.kept piece
 
 -- a call that answers `Ok` has left no refusal
 pub answer_under-ok : (o : Option Refused) (r : Result (Unit {0}) Refused) (u : Unit {0}) → r ≡ Ok u → r ≡ answer_under o tt → o ≡ None

@@ -1,38 +1,45 @@
 -- A section of each kind whose checks pass: its bytes are those of what it is read as.
-use Rattle.std.proofs.Common.{◌≡◌, ℕ, ◌+◌, ◌-◌, ◌*◌, ◌%◌, ◌^◌, ◌<◌, ◌≤◌, true, false, List, [], ◌∷◌, map, length, get_or, take, drop, replicate, inl, inr, sym, ap, ◌∙◌, arith}
+use Rattle.std.proofs.Common.{◌≡◌, ℕ, ◌+◌, ◌-◌, ◌*◌, ◌%◌, ◌^◌, ◌<◌, ◌≤◌, pos, true, false, List, [], ◌∷◌, map, length, get_or, take, drop, replicate, inl, inr, sym, ap, ◌∙◌, arith}
 use Rattle.std.proofs.lemmas.Bool.{cases_lt, eqb-true}
 use Rattle.std.specs.List.{AllByRecursion}
 use Rattle.ti_words.specs.declared.Width.{Width}
 use Rattle.ti_words.specs.declared.Width.TheVariants.{Legacy}
 use Rattle.ti_words.specs.Marks.{byte_of_flag, word_of_number}
+use Rattle.ti_layout.specs.declared.fault.Fault.{Fault}
 use Rattle.ti_layout.specs.declared.fault.Fault.TheVariants.{BadPad}
 use Rattle.ti_words.specs.Word.{unsigned_at, word_at, word}
 use Rattle.ti_words.specs.Widths.{number_size}
 use Rattle.ti_layout.specs.Layout.{places}
 use Rattle.ti_words.specs.Spelling.{pad_len, FitsWidth, IsText, Each, count_word, words_of, numbers_of, flags_of, pad}
-use Rattle.ti_layout.specs.Checks.{Passes, verdict, is_not_negative, nul_check, flag_check, flag_checks, pad_checks, number_check, number_checks, offset_check, offset_checks, ending_check, ending_checks, table_check}
+use Rattle.ti_layout.specs.Checks.{Passes, verdict, is_not_negative, sign_check, nul_check, flag_check, flag_checks, pad_checks, number_check, number_checks, offset_check, offset_checks, ending_check, ending_checks, table_check}
 use Rattle.ti_entry.specs.Content.{flag_at, number_at, text_at}
 use Rattle.ti_layout.proofs.PassesLemmas.{first_passes}
 use Rattle.ti_layout.proofs.WordLemmas.{IsBytes, below, above, unsigned_fits, word_is, one_byte, number_again, has_word}
 use Rattle.ti_entry.proofs.TextLemmas.{is_text}
-use Rattle.ti_layout.proofs.SectionReadLemmas.{each_passed, items_are, each_item, all_items, flag_again, one_by_one, nul_byte, zeros}
+use Rattle.ti_layout.proofs.SectionReadLemmas.{Passed, each_passed, items_are, each_item, all_items, flag_again, one_by_one, nul_byte, zeros}
 
--- a word that is not negative is a count
-pub record IsCount (bytes : List ℕ) (p : ℕ) : Type 0 where
-  pub small : unsigned_at 2 bytes p < 2 ^ 15
-  pub bytes_are : take 2 (drop p bytes) ≡ count_word (unsigned_at 2 bytes p)
-
-pub count_is : (bytes : List ℕ) (p : ℕ) → IsBytes bytes → p + 2 ≤ length bytes → is_not_negative (word_at 2 bytes p) ≡ true → IsCount bytes p
-count_is bytes p fits le h =
+-- a word that is not negative is a place
+pub is_place : (bytes : List ℕ) (p : ℕ) → IsBytes bytes → is_not_negative (word_at 2 bytes p) ≡ true → (2 * unsigned_at 2 bytes p < 65536) × (word_at 2 bytes p ≡ pos (unsigned_at 2 bytes p))
+is_place bytes p fits h =
     let u = unsigned_at 2 bytes p in
     elim (cases_lt (2 * u) 65536) [
-      | inl lt ↦ record { small = omega arith; bytes_are = word_is Legacy bytes p fits le ∙ ap (word 2) (below Legacy u lt) }
+      | inl lt ↦ (lt, below Legacy u lt)
       | inr ge ↦
           let b0 : get_or bytes p 0 < 256 = fits p in
           let b1 : get_or bytes (p + 1) 0 < 256 = fits (p + 1) in
           let e : is_not_negative (word_at 2 bytes p) ≡ false = ap is_not_negative (above Legacy u (65535 - u) (omega arith) ge) in
           absurd (let f : true ≡ false = sym h ∙ e in cc)
     ]
+
+-- a word that is a count
+pub record IsCount (bytes : List ℕ) (p : ℕ) : Type 0 where
+  pub small : unsigned_at 2 bytes p < 2 ^ 15
+  pub bytes_are : take 2 (drop p bytes) ≡ count_word (unsigned_at 2 bytes p)
+
+pub count_is : (bytes : List ℕ) (fault : Fault) (p : ℕ) → IsBytes bytes → Passed (length bytes) (sign_check bytes fault p) → IsCount bytes p
+count_is bytes fault p fits h =
+    let k = is_place bytes p fits h.holds in
+    record { small = omega (arith, k.0); bytes_are = word_is Legacy bytes p fits h.long ∙ ap (word 2) k.1 }
 
 pub flags_are : (bytes : List ℕ) (from count : ℕ) → Passes ≡ verdict (length bytes) (flag_checks bytes from count)
     → take count (drop from bytes) ≡ flags_of (map (flag_at bytes) (places from 1 count))

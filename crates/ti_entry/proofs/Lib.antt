@@ -8,11 +8,12 @@ pub mod KindsSpelledLemmas
 pub mod PartLemmas
 pub mod FoundLemmas
 pub mod FoundExtendedLemmas
-pub mod SpellsAtMostOneLemmas
 pub mod SpelledLemmas
 pub mod SpelledExtendedLemmas
+pub mod SpellsAtMostOneLemmas
 pub mod FeedLemmas
 pub mod WholeStageLemmas
+pub mod IsReadingLemmas
 pub mod FeedsFromLemmas
 pub mod EncodedReadsLemmas
 pub mod ReopeningLemmas

@@ -1,10 +1,9 @@
--- Bytes that spell an entry pass the checks, and are read as it.
+-- Bytes that have a section of a spelled entry at a place: its items pass their checks, and are read as what they are.
 use Rattle.std.proofs.Common.{◌≡◌, ℕ, zero, suc, ◌+◌, ◌-◌, ◌*◌, ◌/◌, ◌%◌, ◌^◌, ◌<◌, ◌≤◌, ℤ, pos, negsuc, Bool, true, false, not, ◌||◌, eqb, ltb, List, [], ◌∷◌, ◌++◌, map, length, get_or, drop, Some, refl, sym, ap, subst, ◌∙◌, arith, append_assoc}
 use Rattle.std.proofs.Math.Nat.{pow-suc}
-use Rattle.std.proofs.lemmas.List.{get_or_at, length-append, length-drop, take-append-drop}
+use Rattle.std.proofs.lemmas.List.{drop-drop, drop_at, get_or-drop, length-append, length-drop, take-append-drop}
 use Rattle.std.proofs.lemmas.Bool.{le-ltb, lt-ltb, ne_eqb}
 use Rattle.std.proofs.lemmas.List.Sums.{take_while-cons}
-use Rattle.std.proofs.lemmas.List.Concat.{flat_map-cons}
 use Rattle.std.specs.List.{flat_map, AllByRecursion, list_any}
 use Rattle.std.specs.Prelude.{unwrap_or}
 use Rattle.ti_words.specs.declared.Flag.{Flag}
@@ -17,88 +16,138 @@ use Rattle.ti_words.specs.Marks.{byte_of_flag, word_of_number, flag_of_byte, num
 use Rattle.ti_words.specs.Texts.{TextValue, AbsentText, CancelledText, TextOf, is_nul}
 use Rattle.ti_words.specs.Word.{unsigned_at, word_at, word, signed, low_bytes}
 use Rattle.ti_words.specs.Widths.{number_size}
+use Rattle.ti_layout.specs.declared.fault.Fault.{Fault}
 use Rattle.ti_layout.specs.Layout.{places}
 use Rattle.ti_layout.specs.Table.{text_of_word, until_nul}
-use Rattle.ti_layout.specs.Checks.{Check, Passes, verdict, is_number_word, is_offset_below, is_ended}
-use Rattle.ti_words.specs.Spelling.{HasNoNul, FitsWidth, IsText, Has, Each, numbers_of}
+use Rattle.ti_layout.specs.Checks.{Check, Passes, verdict, is_not_negative, is_number_word, is_offset_below, is_ended, sign_check}
+use Rattle.ti_words.specs.Spelling.{HasNoNul, FitsWidth, IsText, Has, Each, count_word}
 use Rattle.ti_layout.proofs.WordLemmas.{below, above}
 use Rattle.ti_draft.proofs.LengthLemmas.{length_word}
-use Rattle.ti_layout.proofs.SectionReadLemmas.{Passed}
+use Rattle.ti_layout.proofs.SectionReadLemmas.{Passed, one_by_one}
 
--- each item of a list, at the place where it stands
-abbrev pub EachAt : {X : Type 0} → (ℕ → X → Type 0) → ℕ → ℕ → List X → Type 0
-EachAt P from size [] = Unit {0}
-EachAt P from size (x ∷ xs) = P from x × EachAt P (from + size) size xs
+-- ---- the bytes from a place on
 
-pub each_at : {X : Type 0} (g : X → List ℕ) (size : ℕ) (P : List ℕ → ℕ → X → Type 0) (ok : X → Type 0)
-    → ((x : X) → length (g x) ≡ size)
-    → ((pre post : List ℕ) (x : X) → ok x → P (pre ++ (g x ++ post)) (length pre) x)
-    → (pre post : List ℕ) (xs : List X) → AllByRecursion ok xs → EachAt (P (pre ++ (flat_map g xs ++ post))) (length pre) size xs
-each_at g size P ok len at pre post [] h = tt
-each_at g size P ok len at pre post (x ∷ xs) h =
-    let t = flat_map g xs ++ post in
-    let split : flat_map g (x ∷ xs) ++ post ≡ g x ++ t = ap (λ s. s ++ post) (flat_map-cons g x xs) ∙ append_assoc (g x) (flat_map g xs) post in
-    let regroup : pre ++ (g x ++ t) ≡ (pre ++ g x) ++ t = sym (append_assoc pre (g x) t) in
-    let n : length (pre ++ g x) ≡ length pre + size = length-append pre (g x) ∙ ap (λ k. length pre + k) (len x) in
-    let rest = each_at g size P ok len at (pre ++ g x) post xs h.1 in
-    let Q : List ℕ → Type 0 = λ b. P b (length pre) x × EachAt (P b) (length pre + size) size xs in
-    let R : ℕ → Type 0 = λ k. EachAt (P (pre ++ (g x ++ t))) k size xs in
-    let S : List ℕ → Type 0 = λ b. EachAt (P b) (length (pre ++ g x)) size xs in
-    subst Q (ap (λ s. pre ++ s) (sym split)) (at pre t x h.0, subst R n (subst S (sym regroup) rest))
+pub record HasFrom (bytes : List ℕ) (p : ℕ) (s : List ℕ) : Type 0 where
+  pub room : length bytes ≡ p + length s
+  pub is : drop p bytes ≡ s
 
-pub values_at : {X Y : Type 0} (f : ℕ → Y) (val : X → Y) (from size : ℕ) (xs : List X) → EachAt (λ p x. f p ≡ val x) from size xs → map f (places from size (length xs)) ≡ map val xs
-values_at f val from size [] h = refl
-values_at f val from size (x ∷ xs) h = ap (λ y. y ∷ map f (places (from + size) size (length xs))) h.0 ∙ ap (λ (ys : List _). val x ∷ ys) (values_at f val (from + size) size xs h.1)
+-- what follows the first of them
+pub after : (bytes s t : List ℕ) (p n q : ℕ) → length s ≡ n → p + n ≡ q → HasFrom bytes p (s ++ t) → HasFrom bytes q t
+after bytes s t p n q size at h = record {
+  room = omega (arith, length-append s t);
+  is = ap (λ k. drop k bytes) (sym at) ∙ sym (drop-drop n p bytes) ∙ ap (drop n) h.is ∙ drop_at s t n size;
+}
 
-pub passes_one : (len : ℕ) (c : Check) (cs : List Check) → Passed len c → Passes ≡ verdict len cs → Passes ≡ verdict len (c ∷ cs)
-passes_one len c cs p h = h ∙ sym (let e : ltb len c.prefix ≡ false = le-ltb _ _ p.long in let k = p.holds in rw (e, k) refl)
+-- a byte, and room for it
+pub record ByteAt (bytes : List ℕ) (p b : ℕ) : Type 0 where
+  pub room : p + 1 ≤ length bytes
+  pub is : get_or bytes p 0 ≡ b
 
-pub passes_at : {X : Type 0} (f : ℕ → Check) (len from size : ℕ) (xs : List X) → EachAt (λ p x. Passed len (f p)) from size xs → Passes ≡ verdict len (map f (places from size (length xs)))
-passes_at f len from size [] h = refl
-passes_at f len from size (x ∷ xs) h = passes_one len (f from) (map f (places (from + size) size (length xs))) h.0 (passes_at f len (from + size) size xs h.1)
+pub byte_at : (bytes t : List ℕ) (p b : ℕ) → HasFrom bytes p (b ∷ t) → ByteAt bytes p b
+byte_at bytes t p b h =
+    let at : p ≡ p + 0 = omega arith in
+    record { room = omega arith; is = ap (λ k. get_or bytes k 0) at ∙ sym (get_or-drop p bytes 0 0) ∙ ap (λ s. get_or s 0 0) h.is }
 
-pub at_each : {X : Type 0} (P Q : ℕ → X → Type 0) (from size : ℕ) (xs : List X) → ((p : ℕ) (x : X) → P p x → Q p x) → EachAt P from size xs → EachAt Q from size xs
-at_each P Q from size [] f h = tt
-at_each P Q from size (x ∷ xs) f h = (f from x h.0, at_each P Q (from + size) size xs f h.1)
-
--- ---- words
+-- the number that some bytes are without a sign
+unsigned_is : (size n : ℕ) (bytes t : List ℕ) (p : ℕ) → n < 256 ^ size → HasFrom bytes p (low_bytes size n ++ t) → unsigned_at size bytes p ≡ n
+unsigned_is zero n bytes t p lt h = omega arith
+unsigned_is (suc size) n bytes t p lt h =
+    let more = low_bytes size (n / 256) ++ t in
+    let power = pow-suc 256 size in
+    let first = byte_at bytes more p (n % 256) h in
+    let rest : unsigned_at size bytes (p + 1) ≡ n / 256 = unsigned_is size (n / 256) bytes t (p + 1) (omega arith) (after bytes (n % 256 ∷ []) more p 1 (p + 1) refl refl h) in
+    let whole : n % 256 + 256 * (n / 256) ≡ n = omega arith in
+    ap (λ k. k + 256 * unsigned_at size bytes (p + 1)) first.is ∙ ap (λ k. n % 256 + 256 * k) rest ∙ whole
 
 -- what a word may be that stands in an entry
 abbrev pub IsShort : Width → ℤ → Type 0
 IsShort w (pos n) = 2 * n < 256 ^ number_size w
 IsShort w (negsuc n) = n < 2
 
--- an unsigned number after some bytes
-pub unsigned_read : (size n : ℕ) (pre post : List ℕ) → n < 256 ^ size → unsigned_at size (pre ++ (low_bytes size n ++ post)) (length pre) ≡ n
-unsigned_read zero n pre post lt = omega arith
-unsigned_read (suc size) n pre post lt =
-    let b = n % 256 in
-    let more = low_bytes size (n / 256) ++ post in
-    let bytes = pre ++ (b ∷ more) in
-    let power = pow-suc 256 size in
-    let first : get_or bytes (length pre) 0 ≡ b = get_or_at pre b more 0 (length pre) refl in
-    let split : bytes ≡ (pre ++ (b ∷ [])) ++ more = sym (append_assoc pre (b ∷ []) more) in
-    let at : length pre + 1 ≡ length (pre ++ (b ∷ [])) = sym (length-append pre (b ∷ [])) in
-    let rest : unsigned_at size bytes (length pre + 1) ≡ n / 256 =
-    ap (λ l. unsigned_at size l (length pre + 1)) split ∙ ap (unsigned_at size ((pre ++ (b ∷ [])) ++ more)) at
-    ∙ unsigned_read size (n / 256) (pre ++ (b ∷ [])) post (omega arith) in
-    let whole : b + 256 * (n / 256) ≡ n = omega arith in
-    ap (λ k. k + 256 * unsigned_at size bytes (length pre + 1)) first ∙ ap (λ k. b + 256 * k) rest ∙ whole
+-- a word, and room for it
+pub record WordAt (size : ℕ) (bytes : List ℕ) (p : ℕ) (z : ℤ) : Type 0 where
+  pub room : p + size ≤ length bytes
+  pub is : word_at size bytes p ≡ z
 
-pub word_read : (w : Width) (pre post : List ℕ) (z : ℤ) → IsShort w z → word_at (number_size w) (pre ++ (word (number_size w) z ++ post)) (length pre) ≡ z
-word_read w pre post (pos n) lt = ap (signed (number_size w)) (unsigned_read (number_size w) n pre post (omega arith)) ∙ below w n lt
-word_read Legacy pre post (negsuc n) lt =
-    let back : 65536 - 1 - n % 65536 ≡ 65535 - n = omega arith in
-    ap (λ u. word_at 2 (pre ++ (low_bytes 2 u ++ post)) (length pre)) back
-    ∙ ap (signed 2) (unsigned_read 2 (65535 - n) pre post (omega arith)) ∙ above Legacy (65535 - n) n (omega arith) (omega arith)
-word_read Wide pre post (negsuc n) lt =
-    let back : 4294967296 - 1 - n % 4294967296 ≡ 4294967295 - n = omega arith in
-    ap (λ u. word_at 4 (pre ++ (low_bytes 4 u ++ post)) (length pre)) back
-    ∙ ap (signed 4) (unsigned_read 4 (4294967295 - n) pre post (omega arith)) ∙ above Wide (4294967295 - n) n (omega arith) (omega arith)
+pub word_at_is : (w : Width) (bytes t : List ℕ) (p : ℕ) (z : ℤ) → IsShort w z → HasFrom bytes p (word (number_size w) z ++ t) → WordAt (number_size w) bytes p z
+word_at_is w bytes t p z short h = record { room = omega (arith, length-append (word (number_size w) z) t, length_word (number_size w) z); is = read w z short h }
+  where
+    read : (w : Width) (z : ℤ) → IsShort w z → HasFrom bytes p (word (number_size w) z ++ t) → word_at (number_size w) bytes p ≡ z
+    read w (pos n) lt h = ap (signed (number_size w)) (unsigned_is (number_size w) n bytes t p (omega arith) h) ∙ below w n lt
+    read Legacy (negsuc n) lt h =
+        let back : 65536 - 1 - n % 65536 ≡ 65535 - n = omega arith in
+        ap (signed 2) (unsigned_is 2 (65536 - 1 - n % 65536) bytes t p (omega arith) h ∙ back) ∙ above Legacy (65535 - n) n (omega arith) (omega arith)
+    read Wide (negsuc n) lt h =
+        let back : 4294967296 - 1 - n % 4294967296 ≡ 4294967295 - n = omega arith in
+        ap (signed 4) (unsigned_is 4 (4294967296 - 1 - n % 4294967296) bytes t p (omega arith) h ∙ back) ∙ above Wide (4294967295 - n) n (omega arith) (omega arith)
 
--- a place after some bytes
-pub place_read : (pre post : List ℕ) (n : ℕ) → 2 * n < 65536 → unsigned_at 2 (pre ++ (word 2 (pos n) ++ post)) (length pre) ≡ n
-place_read pre post n lt = unsigned_read 2 n pre post (omega arith)
+-- a count, and what follows it
+pub record CountAt (bytes : List ℕ) (p n : ℕ) (t : List ℕ) : Type 0 where
+  pub is : unsigned_at 2 bytes p ≡ n
+  pub passed : (fault : Fault) → Passed (length bytes) (sign_check bytes fault p)
+  pub next : HasFrom bytes (p + 2) t
+
+pub count_at : (bytes t : List ℕ) (p n : ℕ) → n < 2 ^ 15 → HasFrom bytes p (count_word n ++ t) → CountAt bytes p n t
+count_at bytes t p n lt h =
+    let is : unsigned_at 2 bytes p ≡ n = unsigned_is 2 n bytes t p (omega arith) h in
+    let next = after bytes (count_word n) t p 2 (p + 2) refl refl h in
+    record {
+      is = is;
+      passed = λ fault. record { long = omega (arith, next.room); holds = ap is_not_negative (ap (signed 2) is ∙ below Legacy n (omega arith)) };
+      next = next;
+    }
+
+-- ---- checks that pass
+
+pub passes_one : (len : ℕ) (c : Check) (cs : List Check) → Passed len c → Passes ≡ verdict len cs → Passes ≡ verdict len (c ∷ cs)
+passes_one len c cs p h = h ∙ sym (let e : ltb len c.prefix ≡ false = le-ltb _ _ p.long in let k = p.holds in rw (e, k) refl)
+
+pub passes_list : (len : ℕ) (cs : List Check) → AllByRecursion (Passed len) cs → Passes ≡ verdict len cs
+passes_list len [] h = refl
+passes_list len (c ∷ cs) h = passes_one len c cs h.0 (passes_list len cs h.1)
+
+-- ---- items of one size, one after the other
+
+-- each passes its check, and is read as what it is
+pub record SectionRead {Y : Type 0} (bytes : List ℕ) (size : ℕ) (check : ℕ → Check) (item : ℕ → Y) (from : ℕ) (ys : List Y) (t : List ℕ) : Type 0 where
+  pub passes : Passes ≡ verdict (length bytes) (map check (places from size (length ys)))
+  pub same : map item (places from size (length ys)) ≡ ys
+  pub next : HasFrom bytes (from + size * length ys) t
+
+pub items_read : {X Y : Type 0} (bytes : List ℕ) (g : X → List ℕ) (size : ℕ) (R : X → Y → Type 0) (check : ℕ → Check) (item : ℕ → Y)
+    → ((x : X) → length (g x) ≡ size)
+    → ((p : ℕ) (x : X) (y : Y) (t : List ℕ) → R x y → HasFrom bytes p (g x ++ t) → Passed (length bytes) (check p) × (item p ≡ y))
+    → (from : ℕ) (xs : List X) (ys : List Y) (t : List ℕ) → Each R xs ys → HasFrom bytes from (flat_map g xs ++ t) → SectionRead bytes size check item from ys t
+items_read bytes g size R check item len one from [] [] t all h =
+    let at : from ≡ from + size * 0 = omega arith in
+    record { passes = refl; same = refl; next = subst (λ k. HasFrom bytes k t) at h }
+items_read bytes g size R check item len one from [] (y ∷ ys) t all h = absurd all
+items_read bytes g size R check item len one from (x ∷ xs) [] t all h = absurd all
+items_read bytes g size R check item len one from (x ∷ xs) (y ∷ ys) t all h =
+    let more = flat_map g xs ++ t in
+    let here : HasFrom bytes from (g x ++ more) = subst (HasFrom bytes from) (append_assoc (g x) (flat_map g xs) t) h in
+    let first = one from x y more all.0 here in
+    let rest = items_read bytes g size R check item len one (from + size) xs ys t all.1 (after bytes (g x) more from size (from + size) (len x) refl here) in
+    let at : from + size + size * length ys ≡ from + size * suc (length ys) = omega arith in
+    record {
+      passes = passes_one (length bytes) (check from) (map check (places (from + size) size (length ys))) first.0 rest.passes;
+      same = ap (λ v. v ∷ map item (places (from + size) size (length ys))) first.1 ∙ ap (λ (vs : List _). y ∷ vs) rest.same;
+      next = subst (λ k. HasFrom bytes k t) at rest.next;
+    }
+
+-- the same list twice
+pub each_same : {X : Type 0} (ok : X → Type 0) (xs : List X) → AllByRecursion ok xs → Each (λ x y. (x ≡ y) × ok x) xs xs
+each_same ok [] h = tt
+each_same ok (x ∷ xs) h = ((refl, h.0), each_same ok xs h.1)
+
+-- items of one byte
+pub bytes_read : {X : Type 0} (bytes t : List ℕ) (byte : X → ℕ) (ok : X → Type 0) (check : ℕ → Check) (item : ℕ → X)
+    → ((p : ℕ) (x : X) → ok x → ByteAt bytes p (byte x) → Passed (length bytes) (check p) × (item p ≡ x))
+    → (from : ℕ) (xs : List X) (s : List ℕ) → map byte xs ≡ s → AllByRecursion ok xs → HasFrom bytes from (s ++ t) → SectionRead bytes 1 check item from xs t
+bytes_read bytes t byte ok check item one from xs s is all h =
+    items_read bytes (λ x. byte x ∷ []) 1 (λ x y. (x ≡ y) × ok x) check item (λ x. refl)
+    (λ p x y t k h. let r = one p x k.1 (byte_at bytes t p (byte x) h) in (r.0, r.1 ∙ k.0))
+    from xs xs t (each_same ok xs all) (subst (λ l. HasFrom bytes from (l ++ t)) (sym (one_by_one byte xs ∙ is)) h)
 
 -- ---- texts
 
@@ -142,37 +191,7 @@ good table z AbsentText small h = rw h (record { short = omega arith; below_size
 good table z CancelledText small h = rw h (record { short = omega arith; below_size = refl; ended = refl }, refl)
 good table z (TextOf text) small h = let e = h.1 in rw e (placed table h.0 text small h.2 h.3)
 
-pub all_good : (table : List ℕ) (zs : List ℤ) (ts : List TextValue) → length table < 2 ^ 15 → Each (IsText table) zs ts → AllByRecursion (IsGood table) zs × (map (text_of_word table) zs ≡ ts) × (length zs ≡ length ts)
-all_good table [] [] small h = (tt, refl, refl)
-all_good table [] (t ∷ ts) small h = absurd h
-all_good table (z ∷ zs) [] small h = absurd h
-all_good table (z ∷ zs) (t ∷ ts) small h =
-    let one = good table z t small h.0 in
-    let more = all_good table zs ts small h.1 in
-    ((one.0, more.0), ap (λ y. y ∷ map (text_of_word table) zs) one.1 ∙ ap (λ (ys : List TextValue). t ∷ ys) more.1, ap suc more.2)
-
--- ---- items at their places
-
--- a word of some bytes, and room for it
-pub record WordAt (size : ℕ) (bytes : List ℕ) (p : ℕ) (z : ℤ) : Type 0 where
-  pub room : p + size ≤ length bytes
-  pub is : word_at size bytes p ≡ z
-
-pub record ByteAt (bytes : List ℕ) (p : ℕ) (b : ℕ) : Type 0 where
-  pub room : p + 1 ≤ length bytes
-  pub is : get_or bytes p 0 ≡ b
-
-pub word_at_is : (w : Width) (pre post : List ℕ) (z : ℤ) → IsShort w z → WordAt (number_size w) (pre ++ (word (number_size w) z ++ post)) (length pre) z
-word_at_is w pre post z h =
-    let bytes = word (number_size w) z in
-    let n : length (pre ++ (bytes ++ post)) ≡ length pre + (length bytes + length post) = length-append pre (bytes ++ post) ∙ ap (λ k. length pre + k) (length-append bytes post) in
-    let size : length bytes ≡ number_size w = length_word (number_size w) z in
-    record { room = omega arith; is = word_read w pre post z h }
-
-pub byte_at_is : (pre post : List ℕ) (b : ℕ) → ByteAt (pre ++ (b ∷ post)) (length pre) b
-byte_at_is pre post b =
-    let n : length (pre ++ (b ∷ post)) ≡ length pre + suc (length post) = length-append pre (b ∷ post) in
-    record { room = omega arith; is = get_or_at pre b post 0 (length pre) refl }
+-- ---- flags and numbers
 
 pub short_number : (w : Width) (n : Number) → FitsWidth w n → IsShort w (word_of_number n)
 short_number w numbers.Absent h = omega arith
@@ -195,12 +214,3 @@ flag_read flags.No = refl
 flag_read flags.Yes = refl
 flag_read flags.Cancelled = refl
 flag_read flags.Missing = refl
-
-pub numbers_at : (w : Width) (pre post : List ℕ) (ns : List Number) → AllByRecursion (FitsWidth w) ns
-    → EachAt (λ p n. WordAt (number_size w) (pre ++ (numbers_of w ns ++ post)) p (word_of_number n) × FitsWidth w n) (length pre) (number_size w) ns
-numbers_at w pre post ns h =
-    each_at (λ n. word (number_size w) (word_of_number n)) (number_size w) (λ b p n. WordAt (number_size w) b p (word_of_number n) × FitsWidth w n) (FitsWidth w)
-    (λ n. length_word (number_size w) (word_of_number n)) (λ a z n ok. (word_at_is w a z (word_of_number n) (short_number w n ok), ok)) pre post ns h
-
-pub offsets_at : (table pre post : List ℕ) (zs : List ℤ) → AllByRecursion (IsGood table) zs → EachAt (λ p z. WordAt 2 (pre ++ (flat_map (word 2) zs ++ post)) p z × IsGood table z) (length pre) 2 zs
-offsets_at table pre post zs h = each_at (word 2) 2 (λ b p z. WordAt 2 b p z × IsGood table z) (IsGood table) (length_word 2) (λ a y z ok. (word_at_is Legacy a y z ok.short, ok)) pre post zs h

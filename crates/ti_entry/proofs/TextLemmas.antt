@@ -1,5 +1,5 @@
 -- Texts up to their NUL.
-use Rattle.std.proofs.Common.{◌≡◌, ℕ, zero, suc, ◌+◌, ◌-◌, ◌≤◌, ℤ, pos, negsuc, Bool, true, false, not, eqb, ltb, List, [], ◌∷◌, ◌++◌, length, take, drop, refl, sym, ap, ◌∙◌, arith, length-drop}
+use Rattle.std.proofs.Common.{◌≡◌, ℕ, zero, suc, ◌+◌, ◌-◌, ◌≤◌, ℤ, pos, negsuc, Bool, true, false, not, cond, eqb, ltb, List, [], ◌∷◌, ◌++◌, length, take, drop, refl, sym, ap, ◌∙◌, arith, length-drop}
 use Rattle.std.proofs.lemmas.Bool.{le-ltb, eqb-false, eqb-true}
 use Rattle.std.proofs.lemmas.List.Sums.{take_while-cons}
 use Rattle.std.proofs.lemmas.List.{take_all, drop-drop}
@@ -37,16 +37,11 @@ is_text table (negsuc (suc (suc n))) below ended = absurd (let e : ltb (suc (suc
 until_within : (xs : List ℕ) (k : ℕ) → k ≤ length (until_nul xs) → drop k (until_nul xs) ≡ until_nul (drop k xs)
 until_within xs zero le = refl
 until_within [] (suc k) le = absurd (omega arith)
-until_within (x ∷ xs) (suc k) le = by_nul (eqb x 0) refl (until_within xs k)
+until_within (x ∷ xs) (suc k) le = by_test (not (is_nul x)) (until_nul (x ∷ xs)) (take_while-cons (λ b. not (is_nul b)) x xs) le (until_within xs k)
   where
-    by_nul : (b : Bool) → eqb x 0 ≡ b → (k ≤ length (until_nul xs) → drop k (until_nul xs) ≡ until_nul (drop k xs)) → drop (suc k) (until_nul (x ∷ xs)) ≡ until_nul (drop k xs)
-    by_nul true e rest =
-        let stop : until_nul (x ∷ xs) ≡ [] = take_while-cons (λ b. not (is_nul b)) x xs ∙ rw e refl in
-        let n : length (until_nul (x ∷ xs)) ≡ 0 = ap length stop in absurd (omega arith)
-    by_nul false e rest =
-        let goes : until_nul (x ∷ xs) ≡ x ∷ until_nul xs = take_while-cons (λ b. not (is_nul b)) x xs ∙ rw e refl in
-        let n : length (until_nul (x ∷ xs)) ≡ suc (length (until_nul xs)) = ap length goes in
-        ap (drop (suc k)) goes ∙ rest (omega arith)
+    by_test : (b : Bool) (t : List ℕ) → t ≡ cond b (x ∷ until_nul xs) [] → suc k ≤ length t → (k ≤ length (until_nul xs) → drop k (until_nul xs) ≡ until_nul (drop k xs)) → drop (suc k) t ≡ until_nul (drop k xs)
+    by_test true t e le rest = let n : length t ≡ suc (length (until_nul xs)) = ap length e in ap (drop (suc k)) e ∙ rest (omega arith)
+    by_test false t e le rest = let n : length t ≡ 0 = ap length e in absurd (omega arith)
 
 -- it is the rest of the other
 pub tail_is : (table cached : List ℕ) (start place : ℕ) → cached ≡ text_from table start → start ≤ place → place ≤ start + length cached

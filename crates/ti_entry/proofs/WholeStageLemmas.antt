@@ -1,40 +1,33 @@
 -- Where a stage is that of a whole entry, its parts make the view.
-use Rattle.std.proofs.Common.{◌≡◌, ℕ, zero, suc, ◌+◌, ◌<◌, ◌≤◌, Bool, true, false, cond, eqb, List, length, refl, sym, ap, subst, ◌∙◌, arith}
-use Rattle.std.proofs.lemmas.Bool.{le-leb, lt-leb, ne_eqb}
-use Rattle.std.specs.Prelude.{Some, None, Ok, Err}
-use Rattle.ti_layout.specs.declared.fault.Fault.TheVariants.{Truncated}
+use Rattle.std.proofs.Common.{◌≡◌, ℕ, ◌+◌, ◌<◌, Bool, true, cond, List, [], length, refl, sym, ap, subst, ◌∙◌, arith}
+use Rattle.std.proofs.lemmas.Bool.{le-leb, lt-leb}
+use Rattle.std.specs.Prelude.{None, Ok}
 use Rattle.ti_layout.specs.declared.part.Part.{Part}
 use Rattle.ti_layout.specs.declared.section.Items.{Items}
 use Rattle.ti_layout.specs.declared.section.Section.{Section}
 use Rattle.ti_layout.specs.declared.section.Section.TheVariants.{TableEnd, End}
 use Rattle.ti_layout.specs.declared.stage.Stage.{Stage}
-use Rattle.ti_layout.specs.Layout.{standard, places, offsets_from, end_of, extended_from, extended_after, no_capability}
-use Rattle.ti_layout.specs.Checks.{Ends, verdict, refusal_of, failure_of, refusal_at}
-use Rattle.ti_layout.specs.Refusal.{checks, refusal, failure}
-use Rattle.ti_layout.specs.Table.{base_of}
-use Rattle.ti_entry.specs.Content.{content, content_from, content_with, extended}
+use Rattle.ti_layout.specs.Layout.{standard, end_of, extended_from, no_capability}
+use Rattle.ti_layout.specs.Checks.{Ends, verdict, refusal_of, failure_of}
+use Rattle.ti_layout.specs.Refusal.{checks, failure}
+use Rattle.ti_layout.specs.Table.{base_of, names_base}
+use Rattle.ti_entry.specs.Content.{content, content_from, content_with, extended, own_part}
 use Rattle.ti_entry.specs.Views.{IsStandard, IsExtended}
 use Rattle.ti_entry.specs.Reading.{answer_under, answer_for, base_of_names}
-use Rattle.ti_entry.proofs.NamedItemsLemmas.{values_are, sizes_are_base}
-use Rattle.ti_words.specs.Value.{PartValue}
-use Rattle.ti_words.specs.Spelling.{texts_size}
-use Rattle.ti_layout.specs.Stages.{StandsAt, Waits, bytes_awaited, is_whole}
-use Rattle.ti_layout.specs.Table.{table_of, sizes_at, names_base}
-use Rattle.ti_layout.proofs.StageStepLemmas.{closing_next}
+use Rattle.ti_entry.proofs.NamedItemsLemmas.{base_is, base_named}
+use Rattle.ti_layout.specs.Stages.{Stands, StandsAt, Waits, bytes_awaited, is_whole, new_stage}
+use Rattle.ti_layout.proofs.StageStepLemmas.{closing_next, stands_now, stands_first, stands_on}
+
+-- a new stage stands before any bytes
+pub stands_new : (xs : List ℕ) → Stands xs new_stage
+stands_new xs = stands_on [] xs new_stage stands_first
 
 -- no check has failed on what waits for more
 pub waits_none_failed : (xs : List ℕ) (s : Stage) → Waits xs s → failure xs ≡ None
 waits_none_failed xs s w = ap failure_of w.decides
 
-pub ends_as : (xs : List ℕ) (s : Stage) (b : Bool) → Waits xs s → is_whole s.section ≡ b → verdict (length xs) (checks xs) ≡ Ends b
-ends_as xs s b w e = w.decides ∙ ap Ends e
-
--- the answer if bytes are missing
-pub truncated : (xs : List ℕ) → verdict (length xs) (checks xs) ≡ Ends false → refusal xs ≡ Some (refusal_at Truncated (length xs))
-truncated xs e = ap (refusal_of (length xs)) e
-
-pub answer_truncated : (xs : List ℕ) → verdict (length xs) (checks xs) ≡ Ends false → Err (refusal_at Truncated (length xs)) ≡ answer_for xs
-answer_truncated xs e = sym (ap (λ o. answer_under o (content xs)) (truncated xs e))
+pub ends_as : {xs : List ℕ} {s : Stage} {a b : Bool} → Waits xs s → a ≡ is_whole s.section → a ≡ b → verdict (length xs) (checks xs) ≡ Ends b
+ends_as w e f = w.decides ∙ ap Ends (sym e ∙ f)
 
 pub answer_content : (xs : List ℕ) → verdict (length xs) (checks xs) ≡ Ends true → Ok (content xs) ≡ answer_for xs
 answer_content xs e = sym (ap (λ v. answer_under (refusal_of (length xs) v) (content xs)) e)
@@ -49,18 +42,7 @@ pub view_of : (xs : List ℕ) (s x : Part) (base : ℕ) → s ≡ standard xs �
 view_of xs s x base e f g = ap (content_from xs s x) g ∙ ap (content_with xs s) f ∙ ap (λ p. content_with xs p (extended xs)) e
 
 counted_of : (xs : List ℕ) (x : Part) (base : ℕ) → x ≡ extended xs → base ≡ base_of xs x → base ≡ base_of_names (content xs)
-counted_of xs x base f g =
-    let y = extended xs in
-    g ∙ ap (base_of xs) f ∙ sym (ap (λ (p : PartValue). texts_size p.texts) (values_are xs y (base_of xs y)) ∙ sizes_are_base xs y)
-
--- without names there is no text either
-base_is : (xs : List ℕ) (x : Part) → x.texts ≤ x.names → names_base xs x ≡ base_of xs x
-base_is xs x le = by_count x.names refl
-  where
-    by_count : (n : ℕ) → n ≡ x.names → cond (eqb n 0) 0 (base_of xs x) ≡ base_of xs x
-    by_count zero e =
-        let none : x.texts ≡ 0 = omega arith in sym (ap (λ n. sizes_at xs (table_of xs x) (places (offsets_from x) 2 n)) none)
-    by_count (suc n) e = ap (λ b. cond b 0 (base_of xs x)) (ne_eqb (suc n) 0 (λ f. absurd (omega arith)))
+counted_of xs x base f g = g ∙ ap (base_of xs) f ∙ sym (base_named xs (extended xs))
 
 views : (section : Section) (xs : List ℕ) (it : Items) (s x : Part) (base : ℕ) → StandsAt xs (record { section = section; items = it; standard = s; extended = x; base = base })
     → length xs < bytes_awaited (record { section = section; items = it; standard = s; extended = x; base = base }) → is_whole section ≡ true → IsView xs s x base
@@ -68,7 +50,7 @@ views TableEnd xs it s x base k short e =
     let left = k.left in
     let ends = subst (λ n. length xs < n) (closing_next (record { section = TableEnd; items = it; standard = s; extended = x; base = base }) (omega arith)) short in
     let end : end_of (standard xs) ≡ end_of s = ap end_of (sym k.standard) in
-    let none : no_capability ≡ extended xs = sym (ap (λ b. cond b no_capability (extended_after (standard xs) xs)) (le-leb (length xs) (end_of (standard xs)) (omega arith))) in
+    let none : no_capability ≡ extended xs = sym (ap (λ b. cond b no_capability (own_part xs)) (le-leb (length xs) (end_of (standard xs)) (omega arith))) in
     let counts : base ≡ base_of xs x = rw (k.extended, k.base) refl in
     record {
       is_standard = ((k.fits, k.reached.1), k.reached.0, k.standard);
@@ -81,7 +63,7 @@ views End xs it s x base k short e =
     let from : x.flags_from ≡ extended_from (standard xs) + 10 = ap (λ (p : Part). p.flags_from) k.extended in
     let names : x.names ≡ x.flags + x.numbers + x.texts = ap (λ (p : Part). p.names) k.extended ∙ sym (ap (λ (p : Part). p.flags + p.numbers + p.texts) k.extended) in
     let end : end_of (standard xs) ≡ end_of s = ap end_of (sym k.standard) in
-    let some : extended_after (standard xs) xs ≡ extended xs = sym (ap (λ b. cond b no_capability (extended_after (standard xs) xs)) (lt-leb (length xs) (end_of (standard xs)) (omega arith))) in
+    let some : own_part xs ≡ extended xs = sym (ap (λ b. cond b no_capability (own_part xs)) (lt-leb (length xs) (end_of (standard xs)) (omega arith))) in
     let counts : base ≡ base_of xs x = k.base ∙ ap (names_base xs) (sym k.extended) ∙ base_is xs x (omega arith) in
     record {
       is_standard = ((k.fits, omega arith), k.reached.0, k.standard);
@@ -91,5 +73,5 @@ views End xs it s x base k short e =
     }
 views _ xs it s x base k short e = absurd (cc)
 
-pub whole_is_view : (xs : List ℕ) (s : Stage) → StandsAt xs s → Waits xs s → is_whole s.section ≡ true → IsView xs s.standard s.extended s.base
-whole_is_view xs s k w e = views s.section xs s.items s.standard s.extended s.base k w.short e
+pub whole_is_view : {xs : List ℕ} {s : Stage} {a : Bool} → Waits xs s → Stands xs s → a ≡ is_whole s.section → a ≡ true → IsView xs s.standard s.extended s.base
+whole_is_view {xs} {s} w k e f = views s.section xs s.items s.standard s.extended s.base (stands_now xs s k) w.short (sym e ∙ f)

@@ -76,11 +76,13 @@ content_from bytes s x base = record {
 abbrev pub content_with : List ℕ → Part → Part → EntryValue
 content_with bytes s x = content_from bytes s x (base_of bytes x)
 
+-- the part after the standard one, if bytes follow it
+abbrev pub own_part : List ℕ → Part
+own_part bytes = extended_after (standard bytes) bytes
+
 -- an entry that ends with its standard part has no extended capability
 abbrev pub extended : List ℕ → Part
-extended bytes =
-    let s = standard bytes in
-    if nat_le (length bytes) (end_of s) then no_capability else extended_after s bytes
+extended bytes = if nat_le (length bytes) (end_of (standard bytes)) then no_capability else own_part bytes
 
 abbrev pub content : List ℕ → EntryValue
 content bytes = content_with bytes (standard bytes) (extended bytes)

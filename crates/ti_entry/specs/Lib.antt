@@ -3,3 +3,4 @@ pub mod Views
 pub mod Finding
 pub mod Reading
 pub mod Laws
+pub mod Additions

@@ -5,6 +5,7 @@
 
 ghost use Rattle.std.specs.Prelude.{◌≡◌, ◌++◌, length, IsOk, IfOk, OnOk};
 ghost use Rattle.ti_words.specs.Value.{bare, no_values, no_named};
+ghost use Rattle.ti_entry.specs.Additions.{with_flags, with_numbers, with_texts, with_own_flags, with_own_numbers, with_own_texts};
 
 use crate::entry::Entry;
 use crate::extended::Extended;
@@ -14,11 +15,7 @@ use ti_words::Kind;
 
 /// Adds the flags of an entry.
 fn add_flags<A: Allocator>(draft: &mut Draft<'_, A>, entry: &Entry<'_>) -> Result<(), AllocError>
-    ensures added { OnOk result (draft.new ≡ record draft.old {
-      standard = record draft.old.standard {
-        flags = draft.old.standard.flags ++ entry.now.standard.flags;
-      };
-    }) }
+    ensures added { OnOk result (draft.new ≡ with_flags draft.old entry.now.standard.flags) }
     ensures no_memory { length entry.now.standard.flags ≡ 0 → IsOk result }
 {
     for i in 0..entry.flag_count() {
@@ -29,11 +26,7 @@ fn add_flags<A: Allocator>(draft: &mut Draft<'_, A>, entry: &Entry<'_>) -> Resul
 
 /// Adds the numbers of an entry.
 fn add_numbers<A: Allocator>(draft: &mut Draft<'_, A>, entry: &Entry<'_>) -> Result<(), AllocError>
-    ensures added { OnOk result (draft.new ≡ record draft.old {
-      standard = record draft.old.standard {
-        numbers = draft.old.standard.numbers ++ entry.now.standard.numbers;
-      };
-    }) }
+    ensures added { OnOk result (draft.new ≡ with_numbers draft.old entry.now.standard.numbers) }
     ensures no_memory { length entry.now.standard.numbers ≡ 0 → IsOk result }
 {
     for i in 0..entry.number_count() {
@@ -47,11 +40,7 @@ fn add_texts<'a, A: Allocator>(
     draft: &mut Draft<'a, A>,
     entry: &Entry<'a>,
 ) -> Result<(), AllocError>
-    ensures added { OnOk result (draft.new ≡ record draft.old {
-      standard = record draft.old.standard {
-        texts = draft.old.standard.texts ++ entry.now.standard.texts;
-      };
-    }) }
+    ensures added { OnOk result (draft.new ≡ with_texts draft.old entry.now.standard.texts) }
     ensures no_memory { length entry.now.standard.texts ≡ 0 → IsOk result }
 {
     let mut texts = entry.texts();
@@ -66,17 +55,14 @@ fn add_extended_flags<'a, A: Allocator>(
     draft: &mut Draft<'a, A>,
     extended: &Extended<'a>,
 ) -> Result<(), AllocError>
-    ensures added { OnOk result (draft.new ≡ record draft.old {
-      extended = record draft.old.extended {
-        flags = draft.old.extended.flags ++ extended.now.flags;
-      };
-    }) }
+    ensures added { OnOk result (draft.new ≡ with_own_flags draft.old extended.now.flags) }
     ensures no_memory { length extended.now.flags ≡ 0 → IsOk result }
 {
     for i in 0..extended.flag_count() {
-        if let Some(name) = extended.name(Kind::Flag, i) {
-            draft.push_extended_flag(name, extended.flag(i))?;
-        }
+        let Some(name) = extended.name(Kind::Flag, i) else {
+            unreachable!()
+        };
+        draft.push_extended_flag(name, extended.flag(i))?;
     }
     Ok(())
 }
@@ -86,17 +72,14 @@ fn add_extended_numbers<'a, A: Allocator>(
     draft: &mut Draft<'a, A>,
     extended: &Extended<'a>,
 ) -> Result<(), AllocError>
-    ensures added { OnOk result (draft.new ≡ record draft.old {
-      extended = record draft.old.extended {
-        numbers = draft.old.extended.numbers ++ extended.now.numbers;
-      };
-    }) }
+    ensures added { OnOk result (draft.new ≡ with_own_numbers draft.old extended.now.numbers) }
     ensures no_memory { length extended.now.numbers ≡ 0 → IsOk result }
 {
     for i in 0..extended.number_count() {
-        if let Some(name) = extended.name(Kind::Number, i) {
-            draft.push_extended_number(name, extended.number(i))?;
-        }
+        let Some(name) = extended.name(Kind::Number, i) else {
+            unreachable!()
+        };
+        draft.push_extended_number(name, extended.number(i))?;
     }
     Ok(())
 }
@@ -106,17 +89,14 @@ fn add_extended_texts<'a, A: Allocator>(
     draft: &mut Draft<'a, A>,
     extended: &Extended<'a>,
 ) -> Result<(), AllocError>
-    ensures added { OnOk result (draft.new ≡ record draft.old {
-      extended = record draft.old.extended {
-        texts = draft.old.extended.texts ++ extended.now.texts;
-      };
-    }) }
+    ensures added { OnOk result (draft.new ≡ with_own_texts draft.old extended.now.texts) }
     ensures no_memory { length extended.now.texts ≡ 0 → IsOk result }
 {
     for i in 0..extended.text_count() {
-        if let Some(name) = extended.name(Kind::Text, i) {
-            draft.push_extended_text(name, extended.text(i))?;
-        }
+        let Some(name) = extended.name(Kind::Text, i) else {
+            unreachable!()
+        };
+        draft.push_extended_text(name, extended.text(i))?;
     }
     Ok(())
 }
@@ -126,13 +106,8 @@ fn add_standard<'a, A: Allocator>(
     draft: &mut Draft<'a, A>,
     entry: &Entry<'a>,
 ) -> Result<(), AllocError>
-    ensures added { OnOk result (draft.new ≡ record draft.old {
-      standard = record {
-        flags = draft.old.standard.flags ++ entry.now.standard.flags;
-        numbers = draft.old.standard.numbers ++ entry.now.standard.numbers;
-        texts = draft.old.standard.texts ++ entry.now.standard.texts;
-      };
-    }) }
+    ensures added { let v = entry.now.standard in OnOk result
+        (draft.new ≡ with_texts (with_numbers (with_flags draft.old v.flags) v.numbers) v.texts) }
     ensures no_memory { entry.now.standard ≡ no_values → IsOk result }
 {
     draft.reserve(entry.flag_count(), entry.number_count(), entry.text_count())?;
@@ -146,13 +121,8 @@ fn add_extended<'a, A: Allocator>(
     draft: &mut Draft<'a, A>,
     extended: &Extended<'a>,
 ) -> Result<(), AllocError>
-    ensures added { OnOk result (draft.new ≡ record draft.old {
-      extended = record {
-        flags = draft.old.extended.flags ++ extended.now.flags;
-        numbers = draft.old.extended.numbers ++ extended.now.numbers;
-        texts = draft.old.extended.texts ++ extended.now.texts;
-      };
-    }) }
+    ensures added { let v = extended.now in OnOk result (draft.new
+        ≡ with_own_texts (with_own_numbers (with_own_flags draft.old v.flags) v.numbers) v.texts) }
     ensures no_memory { extended.now ≡ no_named → IsOk result }
 {
     draft.reserve_extended(

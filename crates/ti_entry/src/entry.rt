@@ -107,6 +107,7 @@ pub(crate) fn entry_of(bytes: &[u8], standard: Part, extended: Part, base: usize
     }
 }
 
+#[tactic(auto, using(ti_layout::proofs::PlacesLemmas::length_places))]
 impl<'a> Entry<'a> {
     /// How wide its numbers are.
     pub fn width(&self) -> Width

@@ -4,11 +4,9 @@
 //! the names in their order and stops at the first that is equal; a name is compared in place, up to its first difference
 //! or one byte past the length that is requested.
 
-ghost use Rattle.std.specs.Prelude.{◌≡◌, ◌+◌, ◌*◌, ◌<◌, ◌≤◌, ◌↔◌, map, length, get_or, slice_get, IsTrue};
+ghost use Rattle.std.specs.Prelude.{◌≡◌, ◌+◌, ◌≤◌, ◌↔◌, map, length, get_or, slice_get, IsTrue};
 ghost use Rattle.std.specs.Option.{option_map};
-ghost use Rattle.ti_base.specs.Limits.{most_entry_bytes};
 ghost use Rattle.ti_words.specs.Texts.{text_value, AbsentText};
-ghost use Rattle.ti_layout.specs.Layout.{places};
 ghost use Rattle.ti_entry.specs.Content.{named_part_in, name_from};
 ghost use Rattle.ti_entry.specs.Views.{IsExtended};
 ghost use Rattle.ti_words.specs.Spelling.{mark_in};
@@ -50,6 +48,7 @@ pub(crate) fn extended_of<'a>(bytes: &'a [u8], part: Part, base: usize) -> Exten
     Extended { bytes, part, base }
 }
 
+#[tactic(auto, using(crate::proofs::NamedItemsLemmas::pairs))]
 impl<'a> Extended<'a> {
     /// How many flags it has.
     pub fn flag_count(&self) -> usize
@@ -94,6 +93,7 @@ impl<'a> Extended<'a> {
     }
 
     /// The name of the capability of a kind at an index, without its NUL; none at or above the count. It may be empty.
+    #[tactic(auto, using(crate::proofs::IsLeastIndexLemmas::get_named, crate::proofs::IsLeastIndexLemmas::get_none, crate::proofs::NamedItemsLemmas::names_are))]
     pub fn name(&self, kind: Kind, i: usize) -> Option<&'a [u8]>
         ensures { option_map (λ name. name.now) result ≡ slice_get (names_of self.now kind) i }
     {
@@ -132,14 +132,14 @@ impl<'a> Extended<'a> {
     pub fn find_of(&self, kind: Kind, name: &[u8]) -> Option<usize>
         ensures { IsLeastIndex (names_of self.now kind) name.now result }
     {
-        first_named(
-            self.bytes,
-            &self.part,
-            self.base,
-            self.part.names_of(kind),
-            self.part.count(kind),
-            name,
-        )
+        let from = self.part.names_of(kind);
+        let count = self.part.count(kind);
+        for i in 0..count {
+            if is_name_at(self.bytes, &self.part, self.base, from + 2 * i, name) {
+                return Some(i);
+            }
+        }
+        None
     }
 }
 
@@ -159,27 +159,4 @@ fn is_name_at(bytes: &[u8], part: &Part, base: usize, place: usize, name: &[u8])
     ensures { IsTrue result ↔ name_from bytes.now part.now base place ≡ name.now }
 {
     is_text(table(bytes, part), base + count_at(bytes, place), name)
-}
-
-/// The least index at which a name is this one; the names' offsets stand one after the other from a place on.
-fn first_named(
-    bytes: &[u8],
-    part: &Part,
-    base: usize,
-    from: usize,
-    count: usize,
-    name: &[u8],
-) -> Option<usize>
-    requires part { IsExtended bytes.now part.now base }
-    requires within { from + 2 * count ≤ length bytes.now }
-    requires fits { from + 2 * count ≤ most_entry_bytes }
-    ensures { IsLeastIndex
-        (map (name_from bytes.now part.now base) (places from 2 count)) name.now result }
-{
-    for i in 0..count {
-        if is_name_at(bytes, part, base, from + 2 * i, name) {
-            return Some(i);
-        }
-    }
-    None
 }

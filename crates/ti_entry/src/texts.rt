@@ -60,6 +60,7 @@ impl<'a> Texts<'a> {
     ghost use Rattle.ti_words.specs.Texts.{AbsentText, text_value};
 
     /// The text at an index; at or above the count Absent.
+    #[tactic(auto, using(ti_layout::proofs::PlacesLemmas::item_at, ti_layout::proofs::PlacesLemmas::no_item_at, crate::proofs::TextLemmas::tail_is))]
     pub(crate) fn text(&mut self, i: usize) -> Text<'a>
         ensures value { text_value result ≡ get_or self.old i AbsentText }
         ensures same { self.new ≡ self.old }

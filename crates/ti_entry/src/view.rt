@@ -19,6 +19,7 @@ pub(crate) fn table<'a>(bytes: &'a [u8], part: &Part) -> &'a [u8]
 }
 
 /// The flag at an index; at or above the count No.
+#[tactic(auto, using(ti_layout::proofs::PlacesLemmas::item_at, ti_layout::proofs::PlacesLemmas::no_item_at))]
 pub(crate) fn flag(bytes: &[u8], part: &Part, i: usize) -> Flag
     requires { IsWithin bytes.now part.now }
     ensures { result ≡ get_or (flags_in bytes.now part.now) i Flag.No }
@@ -31,6 +32,7 @@ pub(crate) fn flag(bytes: &[u8], part: &Part, i: usize) -> Flag
 }
 
 /// The number at an index; at or above the count Absent.
+#[tactic(auto, using(ti_layout::proofs::PlacesLemmas::item_at, ti_layout::proofs::PlacesLemmas::no_item_at, ti_layout::proofs::PlacesLemmas::within))]
 pub(crate) fn number(bytes: &[u8], part: &Part, i: usize) -> Number
     requires { IsWithin bytes.now part.now }
     ensures { result ≡ get_or (numbers_in bytes.now part.now) i Number.Absent }
@@ -44,6 +46,7 @@ pub(crate) fn number(bytes: &[u8], part: &Part, i: usize) -> Number
 }
 
 /// The text at an index; at or above the count Absent.
+#[tactic(auto, using(ti_layout::proofs::PlacesLemmas::item_at, ti_layout::proofs::PlacesLemmas::no_item_at))]
 pub(crate) fn text<'a>(bytes: &'a [u8], part: &Part, i: usize) -> Text<'a>
     requires { IsWithin bytes.now part.now }
     ensures { text_value result ≡ get_or (texts_in bytes.now part.now) i AbsentText }

@@ -5,10 +5,12 @@
 //! `\` and three octal digits. So each character of a notation can be printed, none is lost at an end, and two texts never
 //! look the same. [`push_label`] writes a name with `\s` for each space, so that a line with it splits at its spaces.
 //! [`push_formed`] and [`push_shown`] write a text in this notation or in hex, as a [`Form`] says. [`push_reading`] reads a
-//! notation as its text, and [`read_in_place`] puts the text in the notation's place. The time is linear in the bytes that
-//! are read and written. Only the calls that append to a vector take memory.
+//! notation as its text, and [`read_in_place`] puts the text in the notation's place. [`push_opening`] and [`push_closing`] write
+//! what comes before and after a part of a line that stands out at a terminal. The time is linear in the bytes that are read and
+//! written. Only the calls that append to a vector take memory.
 #![tactic(auto)]
 
+mod color;
 mod columns;
 mod form;
 mod formed;
@@ -21,6 +23,7 @@ mod reading;
 mod slice;
 mod stretch;
 
+pub use color::{Color, Style, push_closing, push_opening};
 pub use columns::{column, columns_between};
 pub use form::Form;
 pub use formed::{formed_len, push_formed, push_shown};

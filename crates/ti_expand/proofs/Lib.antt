@@ -3,6 +3,7 @@ pub mod AreShortLemmas
 pub mod AtOnceLemmas
 pub mod CanPassLemmas
 pub mod CanRunLemmas
+pub mod ConstantsLemmas
 pub mod DecimalLemmas
 pub mod DigitLoopLemmas
 pub mod Examples

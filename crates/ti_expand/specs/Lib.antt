@@ -1,6 +1,7 @@
 pub mod State
 pub mod Printed
 pub mod Effect
+pub mod Constants
 pub mod Meaning
 pub mod Steps
 pub mod StackHeight

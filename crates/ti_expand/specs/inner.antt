@@ -3,4 +3,5 @@ pub mod Underway
 pub mod Held
 pub mod Decimal
 pub mod Slots
+pub mod Numbers
 pub mod Running

@@ -9,6 +9,7 @@
 
 mod at_once;
 mod bytes;
+mod constant;
 mod counts;
 mod digits;
 mod expansion;
@@ -28,6 +29,7 @@ mod variables;
 mod write;
 
 pub use bytes::expand_bytes;
+pub use constant::constant_value;
 pub use counts::Run;
 pub use expansion::{expand, expand_into};
 pub use fault::{BytesFault, ExpandFault};

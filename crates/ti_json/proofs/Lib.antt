@@ -2,3 +2,4 @@ pub mod AsciiLemmas
 pub mod ObjectsLemmas
 pub mod TextLemmas
 pub mod PlainLemmas
+pub mod SidesLemmas

@@ -104,7 +104,7 @@ pub integer : (z : ℤ) → is_float (of_integer z) ≡ false
 integer (pos n) = refl
 integer (negsuc n) = refl
 
-word : (kind : Kind) → IsText (kind_word kind)
+pub word : (kind : Kind) → IsText (kind_word kind)
 word kinds.Flag = refl
 word kinds.Number = refl
 word kinds.Text = refl
@@ -154,7 +154,7 @@ own p =
     (joined flags numbers (of_all own_flag (λ i x. of_flag (OwnSubject kinds.Flag x.0) x.1) 0 p.flags) (of_all own_number (λ i x. of_number (OwnSubject kinds.Number x.0) x.1) 0 p.numbers))
     (of_all own_text (λ i x. of_text (OwnSubject kinds.Text x.0) x.1) 0 p.texts)
 
-format : (width : Width) → IsText (format_name width)
+pub format : (width : Width) → IsText (format_name width)
 format widths.Legacy = refl
 format widths.Wide = refl
 

@@ -1,9 +1,8 @@
 -- Texts of which each character can be printed.
-use Rattle.std.proofs.Common.{◌≡◌, ◌++◌, ◌∙◌, ◌/◌, ◌%◌, ◌<◌, ℕ, zero, suc, ℤ, pos, negsuc, Bool, true, false, List, [], ◌∷◌, Some, cond, refl, arith}
-use Rattle.std.specs.Prelude.{◌==◌, ◌||◌, Option, codes, decimal, nat_eq, nat_lt, unwrap_or}
+use Rattle.std.proofs.Common.{◌≡◌, ◌++◌, ◌∙◌, ◌/◌, ◌%◌, ◌<◌, ℕ, zero, suc, ℤ, pos, negsuc, Bool, true, false, List, [], ◌∷◌, None, cond, refl, arith}
+use Rattle.std.specs.Prelude.{◌==◌, ◌||◌, codes, decimal, nat_eq, nat_lt, slice_get, unwrap_or}
 use Rattle.std.specs.Char.{digit_char}
 use Rattle.std.specs.List.{list_all}
-use Rattle.std.specs.Map.{lookup}
 use Rattle.std.specs.Fmt.{digit_glyph, digits, digits_onto, signed_decimal}
 use Rattle.std.proofs.lemmas.Bool.{and_from, and_parts}
 use Rattle.std.proofs.lemmas.Bool.Decides.{nat_tests}
@@ -13,9 +12,8 @@ use Rattle.ti_words.specs.declared.Kind.{Kind}
 use Rattle.ti_words.specs.declared.Kind.TheVariants as kinds
 use Rattle.ti_words.specs.declared.all_names.NameTable.{NameTable}
 use Rattle.ti_words.specs.declared.all_names.NameTable.TheVariants as tables
-use Rattle.ti_words.specs.AllNames.{rows_in}
-use Rattle.ti_words.specs.LongNames.{long_flags, long_numbers, long_texts}
-use Rattle.ti_words.specs.NameLists.{Row, all_flags, all_numbers, all_texts, common_flags, common_numbers, common_texts}
+use Rattle.ti_words.specs.AllNames.{has_index, listed, name_in}
+use Rattle.ti_words.specs.NameLists.{all_flags, all_numbers, all_texts}
 use Rattle.ti_escape.specs.Laws.{is_printable}
 
 abbrev pub IsText : List ℕ → Type 0
@@ -52,18 +50,16 @@ signed_text (negsuc n) = decimal_text (suc n)
 
 -- ---- names
 
-pub found_text : (index : ℕ) (rows : List Row) → list_all (λ row. list_all is_printable row.1) rows ≡ true → (other : List ℕ) → IsText other → IsText (unwrap_or (lookup (nat_eq index) rows) other)
-found_text index [] all other is = is
-found_text index (row ∷ rows) all other is =
-    let (first, more) = and_parts (list_all is_printable row.1) (list_all (λ row. list_all is_printable row.1) rows) all in
-    of_name row.1 (lookup (nat_eq index) rows) (nat_eq index row.0) first (found_text index rows more other is)
-  where
-    of_name : (name : List ℕ) (rest : Option (List ℕ)) (b : Bool) → IsText name → IsText (unwrap_or rest other) → IsText (unwrap_or (cond b (Some name) rest) other)
-    of_name name rest true is_name of_rest = is_name
-    of_name name rest false is_name of_rest = of_rest
+name_text : (names : List (List ℕ)) (index : ℕ) (has : Bool) → list_all (list_all is_printable) names ≡ true
+    → (other : List ℕ) → IsText other → IsText (unwrap_or (cond has (slice_get names index) None) other)
+name_text names index false all other is = is
+name_text [] index true all other is = is
+name_text (name ∷ names) zero true all other is = (and_parts (list_all is_printable name) (list_all (list_all is_printable) names) all).0
+name_text (name ∷ names) (suc index) true all other is =
+    name_text names index true (and_parts (list_all is_printable name) (list_all (list_all is_printable) names) all).1 other is
 
-pub names_text : (table : NameTable) (kind : Kind) → list_all (λ row. list_all is_printable row.1) (rows_in table kind) ≡ true
-unfolding all_flags all_numbers all_texts common_flags common_numbers common_texts long_flags long_numbers long_texts
+names_text : (table : NameTable) (kind : Kind) → list_all (list_all is_printable) (listed table kind) ≡ true
+unfolding all_flags all_numbers all_texts
 names_text tables.Common kinds.Flag = refl
 names_text tables.Common kinds.Number = refl
 names_text tables.Common kinds.Text = refl
@@ -74,8 +70,10 @@ names_text tables.Long kinds.Flag = refl
 names_text tables.Long kinds.Number = refl
 names_text tables.Long kinds.Text = refl
 
-pub label_text : (table : NameTable) (kind : Kind) (index : ℕ) → IsText (unwrap_or (lookup (nat_eq index) (rows_in table kind)) (codes "#" ++ decimal index))
-label_text table kind index = found_text index (rows_in table kind) (names_text table kind) (codes "#" ++ decimal index) (both (codes "#") (decimal index) refl (decimal_text index))
+pub label_text : (table : NameTable) (kind : Kind) (index : ℕ) → IsText (unwrap_or (name_in table kind index) (codes "#" ++ decimal index))
+label_text table kind index =
+    name_text (listed table kind) index (has_index table kind index) (names_text table kind) (codes "#" ++ decimal index)
+    (both (codes "#") (decimal index) refl (decimal_text index))
 
 -- ---- strings
 

@@ -110,7 +110,7 @@ fn push_own_texts(
 }
 
 /// The name of a format.
-fn format_name(width: Width) -> &'static str
+pub fn format_name(width: Width) -> &'static str
     ensures { result.now ≡ the_format_name width }
 {
     match width {

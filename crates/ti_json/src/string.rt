@@ -14,8 +14,8 @@ use std::alloc::{AllocError, Global};
 use ti_escape::{push_label, push_notation};
 use ti_words::{Kind, NameTable};
 
-/// The string of printable bytes.
-fn printable(bytes: Vec<u8>) -> String
+/// The string of printable bytes, which takes no memory.
+pub fn printable_string(bytes: Vec<u8>) -> String
     requires { list_all is_printable bytes.items ≡ true }
     ensures { string_bytes result ≡ bytes.items }
 {
@@ -25,22 +25,30 @@ fn printable(bytes: Vec<u8>) -> String
     }
 }
 
-/// A text in the notation of terminfo(5).
+/// A text in the notation of terminfo(5), as a string.
+///
+/// # Errors
+///
+/// Memory was refused.
 pub fn text_string(alloc: Global, text: &[u8]) -> Result<String, AllocError>
     ensures { IfOk result (λ string. string_bytes string ≡ notation text.now) }
 {
     let mut bytes = Vec::new(alloc);
     push_notation(&mut bytes, text)?;
-    Ok(printable(bytes))
+    Ok(printable_string(bytes))
 }
 
 /// A name of the entry's own, in the notation and without a space.
+///
+/// # Errors
+///
+/// Memory was refused.
 pub fn label_string(alloc: Global, name: &[u8]) -> Result<String, AllocError>
     ensures { IfOk result (λ string. string_bytes string ≡ label_notation name.now) }
 {
     let mut bytes = Vec::new(alloc);
     push_label(&mut bytes, name)?;
-    Ok(printable(bytes))
+    Ok(printable_string(bytes))
 }
 
 /// The name of a standard capability.

@@ -1,15 +1,14 @@
 -- The pieces into which the bytes of a section are cut.
 use Rattle.std.proofs.Common.{◌≡◌, ℕ, zero, suc, ◌+◌, ◌*◌, ◌<◌, ◌≤◌, List, [], get_or, take, drop, ap, ◌∙◌, arith}
+use Rattle.std.proofs.lemmas.Grind.{common_steps}
 use Rattle.std.proofs.lemmas.List.{drop-drop, get_or-drop, get_or-take}
 use Rattle.std.specs.Simd.{first_chunks}
 
 -- each piece is as many bytes, from its place on
 pub chunk_at : (n k i : ℕ) (bytes : List ℕ) → i < k → get_or (first_chunks n k bytes) i [] ≡ take n (drop (n * i) bytes)
-chunk_at n zero i bytes lt = absurd (let none : ¬ (i < 0) = omega arith in none lt)
-chunk_at n (suc k) zero bytes lt = ap (λ m. take n (drop m bytes)) (let none : 0 ≡ n * 0 = omega arith in none)
-chunk_at n (suc k) (suc i) bytes lt =
-    let at : n + n * i ≡ n * suc i = omega arith in
-    chunk_at n k i (drop n bytes) (omega arith) ∙ ap (take n) (drop-drop (n * i) n bytes ∙ ap (λ m. drop m bytes) at)
+chunk_at n zero i bytes lt = absurd (omega arith)
+chunk_at n (suc k) zero bytes lt = grind (arith, common_steps)
+chunk_at n (suc k) (suc i) bytes lt = grind (arith, common_steps, drop-drop, chunk_at n k i (drop n bytes))
 
 -- and so its bytes are those of the section
 pub chunk_byte : (n k i j from size place : ℕ) (bytes : List ℕ) → i < k → j < n → n * i + n ≤ size → from + n * i + j ≡ place

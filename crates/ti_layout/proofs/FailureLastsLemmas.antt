@@ -1,32 +1,19 @@
 -- A check that has failed has failed for every continuation of the input.
-use Rattle.std.proofs.Common.{◌≡◌, ℕ, zero, suc, ◌+◌, ◌≤◌, ◌⊎◌, List, [], ◌∷◌, ◌++◌, length, inl, inr, refl, sym, ap, ◌∙◌, arith, append_assoc, append-nil}
-use Rattle.std.proofs.lemmas.Bool.{cases_lt}
+use Rattle.std.proofs.Common.{◌≡◌, ℕ, zero, suc, ◌+◌, ◌<◌, ◌⊎◌, List, [], ◌∷◌, ◌++◌, length, inl, inr, sym, ap, ◌∙◌, arith, append_assoc}
 use Rattle.std.specs.List.{flat_map}
 use Rattle.ti_layout.specs.declared.fault.Refused.{Refused}
-use Rattle.ti_layout.specs.declared.part.Part.{Part}
 use Rattle.ti_layout.specs.declared.section.Section.{Section}
 use Rattle.ti_layout.specs.declared.stage.Stage.{Stage}
-use Rattle.ti_layout.specs.Checks.{Check, Verdict, Passes, Ends, Fails, verdict}
+use Rattle.ti_layout.specs.Checks.{Check, Verdict, Passes, Fails, verdict}
 use Rattle.ti_layout.specs.Refusal.{items_checks, closing_checks, section_checks, checks}
-use Rattle.ti_layout.specs.Stages.{items_after, sections_after, next, StandsAt, Stands, new_stage, stage_after, at_next_section, closing_end, is_whole}
+use Rattle.ti_layout.specs.Stages.{items_after, sections_after, next, StandsAt, Stands, new_stage, stage_after, at_next_section}
 use Rattle.ti_layout.proofs.VerdictLemmas.{then, verdict_append}
 use Rattle.ti_layout.proofs.SectionReadLemmas.{both_pass}
 use Rattle.ti_layout.proofs.AlikeLemmas.{settled, section_stays}
-use Rattle.ti_layout.proofs.StageStepLemmas.{stands_first, stands_on, stands_now, with_items, items_pass, closing_passes, closing_early, opened}
+use Rattle.ti_layout.proofs.StageStepLemmas.{stands_first, stands_on, stands_now, with_items, items_pass, closing_passes, opened}
 
 by_first : (v w : Verdict) (r : Refused) → then v w ≡ Fails r → (v ≡ Fails r) ⊎ (Passes ≡ v)
-by_first Passes w r e = inr refl
-by_first (Ends may_end) w r e = absurd cc
-by_first (Fails q) w r e = inl e
-
-closing_there : (section : Section) (s x : Part) (xs : List ℕ) → Passes ≡ verdict (length xs) (closing_checks section s x xs) → closing_end section s x ≤ length xs
-closing_there section s x xs p =
-    elim (cases_lt (length xs) (closing_end section s x)) [
-      | inl lt ↦
-          let early = closing_early section s x xs [] lt in
-          let never : Passes ≡ Ends (is_whole section) = p ∙ ap (verdict (length xs)) (sym (append-nil (closing_checks section s x xs))) ∙ early in absurd (cc)
-      | inr le ↦ le
-    ]
+by_first v w r e = grind arith
 
 record Onwards (xs : List ℕ) (s : Stage) : Type 0 where
   new : Stage
@@ -40,7 +27,7 @@ onwards xs s h p =
     let one : length (sections_after s.section) ≡ length (next s.section ∷ sections_after (next s.section)) = ap (λ (l : List Section). length l) (opened s.section s.standard s.extended xs both.1) in
     record {
       new = at_next_section (stage_after done xs);
-      stands = closing_passes xs done (items_pass xs s s.items.left h (omega arith) both.0) (omega arith) (closing_there s.section s.standard s.extended xs both.1) both.1;
+      stands = closing_passes xs done (items_pass xs s s.items.left h (omega arith) both.0) (omega arith) both.1;
       fewer = omega arith;
     }
 
@@ -65,12 +52,8 @@ section_lasts xs ys s r h f =
         k.decides ∙ ap (verdict (length bytes)) (sym (append_assoc (items_checks bytes s.items) (closing_checks s.section s.standard s.extended bytes) (rest bytes)))
         ∙ verdict_append (length bytes) (here bytes) (rest bytes)
 
-lasts : (n : ℕ) (xs ys : List ℕ) (s : Stage) (r : Refused) → length (sections_after s.section) ≡ n → Stands xs s → verdict (length xs) (checks xs) ≡ Fails r → verdict (length (xs ++ ys)) (checks (xs ++ ys)) ≡ Fails r
-lasts zero xs ys s r e h f =
-    elim (section_lasts xs ys s r h f) [
-      | inl done ↦ done
-      | inr on ↦ (let fewer = on.fewer in absurd (omega arith))
-    ]
+lasts : (n : ℕ) (xs ys : List ℕ) (s : Stage) (r : Refused) → length (sections_after s.section) < n → Stands xs s → verdict (length xs) (checks xs) ≡ Fails r → verdict (length (xs ++ ys)) (checks (xs ++ ys)) ≡ Fails r
+lasts zero xs ys s r e h f = absurd (omega arith)
 lasts (suc n) xs ys s r e h f =
     elim (section_lasts xs ys s r h f) [
       | inl done ↦ done
@@ -78,4 +61,4 @@ lasts (suc n) xs ys s r e h f =
     ]
 
 pub failure_stays : (xs ys : List ℕ) (r : Refused) → verdict (length xs) (checks xs) ≡ Fails r → verdict (length (xs ++ ys)) (checks (xs ++ ys)) ≡ Fails r
-failure_stays xs ys r f = lasts 13 xs ys new_stage r refl (stands_on [] xs new_stage stands_first) f
+failure_stays xs ys r f = lasts 14 xs ys new_stage r (omega arith) (stands_on [] xs new_stage stands_first) f

@@ -1,7 +1,6 @@
 -- Items that lie one after the other.
 use Rattle.std.proofs.Common.{◌≡◌, ℕ, zero, suc, ◌+◌, ◌*◌, ◌<◌, ◌≤◌, List, ◌∷◌, ◌++◌, map, length, get_or, refl, ap, ◌∙◌, arith}
 use Rattle.ti_words.specs.declared.Width.{Width}
-use Rattle.ti_words.specs.declared.Width.TheVariants.{Legacy, Wide}
 use Rattle.ti_layout.specs.Layout.{places}
 use Rattle.ti_words.specs.Widths.{number_size}
 
@@ -21,8 +20,7 @@ no_item_at f from size (suc count) (suc i) d le = no_item_at f (from + size) siz
 
 -- a number and those before it lie within as many as there are
 pub within : (w : Width) (i count : ℕ) → i < count → number_size w * i + number_size w ≤ number_size w * count
-within Legacy i count lt = omega arith
-within Wide i count lt = omega arith
+within w i count lt = grind arith
 
 pub places_append : (from size a b : ℕ) → places from size (a + b) ≡ places from size a ++ places (from + size * a) size b
 places_append from size zero b =

@@ -1,25 +1,22 @@
 -- One step of a stage.
-use Rattle.std.proofs.Common.{◌≡◌, ℕ, zero, suc, ◌+◌, ◌-◌, ◌*◌, ◌<◌, ◌≤◌, ◌%◌, false, cond, eqb, List, [], ◌∷◌, ◌++◌, map, length, refl, sym, ap, subst, ◌∙◌, arith, append_assoc, append-nil, length-append}
-use Rattle.std.proofs.Math.Nat.{mul-add}
+use Rattle.std.proofs.Common.{◌≡◌, ℕ, zero, suc, ◌+◌, ◌-◌, ◌*◌, ◌<◌, ◌≤◌, false, cond, eqb, List, [], ◌∷◌, ◌++◌, map, length, refl, sym, ap, subst, ◌∙◌, arith, append_assoc, append-nil, length-append}
+use Rattle.std.proofs.lemmas.Bool.Decides.{nat_tests}
 use Rattle.std.proofs.lemmas.List.{map-append}
-use Rattle.std.proofs.lemmas.Bool.{lt-ltb, le-ltb, ne_eqb, leb-true}
+use Rattle.std.proofs.lemmas.Bool.{lt-ltb, le-ltb, leb-true}
 use Rattle.std.specs.List.{flat_map}
 use Rattle.ti_base.specs.Limits.{most_entry_bytes}
-use Rattle.ti_layout.specs.declared.fault.Fault.TheVariants.{BadPad}
 use Rattle.ti_layout.specs.declared.fault.Refused.{Refused}
-use Rattle.ti_words.specs.declared.Width.TheVariants.{Legacy, Wide}
 use Rattle.ti_layout.specs.declared.part.Part.{Part}
 use Rattle.ti_layout.specs.declared.section.Half.TheVariants.{Standard, Extended}
 use Rattle.ti_layout.specs.declared.section.Item.{Item}
-use Rattle.ti_layout.specs.declared.section.Item.TheVariants.{Sign, Name, Flag, Number, Offset}
 use Rattle.ti_layout.specs.declared.section.Items.{Items}
 use Rattle.ti_layout.specs.declared.section.Section.{Section}
-use Rattle.ti_layout.specs.declared.section.Section.TheVariants.{Magic, Header, Names, Flags, Numbers, Offsets, NameOffsets, TableEnd, ExtendedHeader, End}
+use Rattle.ti_layout.specs.declared.section.Section.TheVariants.{Header, Flags, Numbers, Offsets, NameOffsets, TableEnd, ExtendedHeader, End}
 use Rattle.ti_layout.specs.declared.stage.Stage.{Stage}
-use Rattle.ti_layout.specs.Layout.{standard, places, flags_end, end_of, extended_from, extended_after}
+use Rattle.ti_layout.specs.Layout.{standard, places, end_of, extended_after}
 use Rattle.ti_layout.specs.Table.{names_base}
-use Rattle.ti_layout.specs.Checks.{Check, Passes, Ends, Fails, verdict, nul_check, pad_checks, end_check}
-use Rattle.ti_layout.specs.Refusal.{item_check, item_size, items_checks, part_of, items_of, size_check, named_check, room_check, extended_size_check, closing_checks, section_checks, checks}
+use Rattle.ti_layout.specs.Checks.{Check, Passes, Ends, Fails, verdict, pad_checks}
+use Rattle.ti_layout.specs.Refusal.{item_check, item_size, items_checks, items_of, size_check, named_check, room_check, extended_size_check, closing_checks, section_checks, checks}
 use Rattle.ti_layout.specs.Stages.{first_items, items_after, sections_after, next, checks_left, standard_known, extended_known, base_known, Reached, StandsAt, Stands, new_stage, standard_after, extended_known_after, base_after, stage_after, at_next_section, closing_end, bytes_awaited, is_whole, Waits, steps_left}
 use Rattle.ti_layout.proofs.VerdictLemmas.{then, verdict_append}
 use Rattle.ti_layout.proofs.PassesLemmas.{first_passes}
@@ -75,6 +72,9 @@ with_items s it = record { section = s.section; items = it; standard = s.standar
 abbrev pub rest_of_checks : List ℕ → Stage → List Check
 rest_of_checks bytes s = closing_checks s.section s.standard s.extended bytes ++ flat_map (section_checks bytes) (sections_after s.section)
 
+fewer : (at size left n : ℕ) → n ≤ left → at + size * left ≤ most_entry_bytes → (at + size * n) + size * (left - n) ≤ most_entry_bytes
+fewer at size left n le within = grind arith
+
 pub items_pass : (xs : List ℕ) (s : Stage) (n : ℕ) → Stands xs s → n ≤ s.items.left → Passes ≡ verdict (length xs) (items_checks xs (first_items n s.items)) → Stands xs (with_items s (items_after n s.items))
 items_pass xs s n h le p ys =
     let zs = xs ++ ys in
@@ -94,11 +94,6 @@ items_pass xs s n h le p ys =
       base_fits = k.base_fits;
       reached = k.reached;
     }
-  where
-    fewer : (at size left n : ℕ) → n ≤ left → at + size * left ≤ most_entry_bytes → (at + size * n) + size * (left - n) ≤ most_entry_bytes
-    fewer at size left n le within =
-        let m : left ≡ n + (left - n) = omega arith in
-        let e : size * left ≡ size * n + size * (left - n) = ap (λ k. size * k) m ∙ mul-add size n (left - n) in omega arith
 
 pub items_fail : (xs : List ℕ) (s : Stage) (n : ℕ) (r : Refused) → Stands xs s → n ≤ s.items.left → Fails r ≡ verdict (length xs) (items_checks xs (first_items n s.items)) → verdict (length xs) (checks xs) ≡ Fails r
 items_fail xs s n r h le p =
@@ -120,34 +115,16 @@ closing_fails xs s r h none p =
 
 -- the end is never passed
 end_stops : (s x : Part) (xs : List ℕ) → Passes ≡ verdict (length xs) (closing_checks End s x xs) → ⊥
-end_stops s x xs p =
-    let first = first_passes (length xs) (end_check (end_of x)) [] p in
-    let never = first.holds in cc
+end_stops s x xs p = grind (arith, nat_tests)
 
 pub opened : (section : Section) (s x : Part) (xs : List ℕ) → Passes ≡ verdict (length xs) (closing_checks section s x xs) → sections_after section ≡ next section ∷ sections_after (next section)
 opened End s x xs p = absurd (end_stops s x xs p)
-opened (Flags Standard) s x xs p = refl
-opened (Flags Extended) s x xs p = refl
-opened (Numbers Standard) s x xs p = refl
-opened (Numbers Extended) s x xs p = refl
-opened (Offsets Standard) s x xs p = refl
-opened (Offsets Extended) s x xs p = refl
-opened (NameOffsets Standard) s x xs p = refl
-opened (NameOffsets Extended) s x xs p = refl
-opened _ s x xs p = refl
+opened section s x xs p = grind arith
 
 -- a section is checked by the parts that are known in it
 by_known : (section : Section) (zs : List ℕ) → section_checks zs section
     ≡ items_checks zs (items_of section (standard_known section zs) (extended_known section zs)) ++ closing_checks section (standard_known section zs) (extended_known section zs) zs
-by_known (Flags Standard) zs = refl
-by_known (Flags Extended) zs = refl
-by_known (Numbers Standard) zs = refl
-by_known (Numbers Extended) zs = refl
-by_known (Offsets Standard) zs = refl
-by_known (Offsets Extended) zs = refl
-by_known (NameOffsets Standard) zs = refl
-by_known (NameOffsets Extended) zs = refl
-by_known _ zs = refl
+by_known section zs = grind arith
 
 -- what is known once a section is closed
 record Met (xs ys : List ℕ) (section : Section) (s x : Part) (base : ℕ) : Type 0 where
@@ -161,7 +138,6 @@ record Met (xs ys : List ℕ) (section : Section) (s x : Part) (base : ℕ) : Ty
 
 met : (section : Section) (xs ys : List ℕ) (it : Items) (s x : Part) (base : ℕ) → StandsAt (xs ++ ys) (record { section = section; items = it; standard = s; extended = x; base = base })
     → closing_end section s x ≤ length xs → Passes ≡ verdict (length xs) (closing_checks section s x xs) → Met xs ys section s x base
-met Magic xs ys it s x base k there p = record { standard = k.standard; extended = k.extended; base_is = k.base; fits = k.fits; extended_fits = k.extended_fits; base_fits = k.base_fits; reached = omega arith }
 met Header xs ys it s x base k there p =
     let a = first_passes (length xs) (size_check (standard xs)) (named_check (standard xs) ∷ []) p in
     let b = first_passes (length xs) (named_check (standard xs)) [] a.rest in
@@ -198,29 +174,57 @@ met (Numbers Standard) xs ys it s x base k there p = record { standard = k.stand
 met (Numbers Extended) xs ys it s x base k there p = record { standard = k.standard; extended = k.extended; base_is = k.base; fits = k.fits; extended_fits = k.extended_fits; base_fits = k.base_fits; reached = k.reached }
 met (Offsets Standard) xs ys it s x base k there p = record { standard = k.standard; extended = k.extended; base_is = k.base; fits = k.fits; extended_fits = k.extended_fits; base_fits = k.base_fits; reached = k.reached }
 met (Offsets Extended) xs ys it s x base k there p = record { standard = k.standard; extended = k.extended; base_is = k.base; fits = k.fits; extended_fits = k.extended_fits; base_fits = k.base_fits; reached = k.reached }
-met Names xs ys it s x base k there p = record { standard = k.standard; extended = k.extended; base_is = k.base; fits = k.fits; extended_fits = k.extended_fits; base_fits = k.base_fits; reached = k.reached }
+met _ xs ys it s x base k there p = record { standard = k.standard; extended = k.extended; base_is = k.base; fits = k.fits; extended_fits = k.extended_fits; base_fits = k.base_fits; reached = k.reached }
 
 -- the items of a section lie within the limit
 items_fit : (section : Section) (len : ℕ) (s x : Part) → end_of s ≤ most_entry_bytes → end_of x ≤ most_entry_bytes → Reached section len s x
     → (items_of section s x).at + item_size (items_of section s x).item * (items_of section s x).left ≤ most_entry_bytes
-items_fit (Flags Standard) len s x fits extended_fits r = omega arith
-items_fit (Flags Extended) len s x fits extended_fits r = omega arith
-items_fit (Numbers Standard) len s x fits extended_fits r = omega arith
-items_fit (Numbers Extended) len s x fits extended_fits r = omega arith
-items_fit (Offsets Standard) len s x fits extended_fits r = omega arith
-items_fit (Offsets Extended) len s x fits extended_fits r = omega arith
-items_fit (NameOffsets Standard) len s x fits extended_fits r = omega arith
-items_fit (NameOffsets Extended) len s x fits extended_fits r = omega arith
-items_fit ExtendedHeader len s x fits extended_fits r = let room = r.1 in omega arith
-items_fit _ len s x fits extended_fits r = omega arith
+items_fit section len s x fits extended_fits r = grind arith
 
-pub closing_passes : (xs : List ℕ) (s : Stage) → Stands xs s → s.items.left ≡ 0 → closing_end s.section s.standard s.extended ≤ length xs
+-- ---- what has not come
+
+items_early : (bytes : List ℕ) (it : Items) (n : ℕ) (rest : List Check) → it.left ≡ suc n → length bytes < it.at + item_size it.item → verdict (length bytes) (items_checks bytes it ++ rest) ≡ Ends false
+items_early bytes it n rest e lt = rw (e, lt-ltb (length bytes) (it.at + item_size it.item) lt) refl
+
+-- a section with items is not one that may end
+pub part_read : (section : Section) (s x : Part) → 0 < (items_of section s x).left → is_whole section ≡ false
+part_read section s x lt = grind arith
+
+pub closing_early : (section : Section) (s x : Part) (bytes : List ℕ) (rest : List Check) → length bytes < closing_end section s x → verdict (length bytes) (closing_checks section s x bytes ++ rest) ≡ Ends (is_whole section)
+closing_early section s x bytes rest lt = grind (arith, nat_tests)
+
+-- checks that pass have what they read
+pub closing_there : (section : Section) (s x : Part) (xs : List ℕ) → Passes ≡ verdict (length xs) (closing_checks section s x xs) → closing_end section s x ≤ length xs
+closing_there section s x xs p = grind (arith, nat_tests)
+
+-- what is awaited if no item is left, and if one is
+pub closing_next : (s : Stage) → s.items.left ≡ 0 → bytes_awaited s ≡ closing_end s.section s.standard s.extended
+closing_next s none = ap (λ b. cond b (s.items.at + item_size s.items.item) (closing_end s.section s.standard s.extended)) (le-ltb 0 s.items.left (omega arith))
+
+pub item_next : (s : Stage) → 0 < s.items.left → bytes_awaited s ≡ s.items.at + item_size s.items.item
+item_next s some = ap (λ b. cond b (s.items.at + item_size s.items.item) (closing_end s.section s.standard s.extended)) (lt-ltb 0 s.items.left some)
+
+pub waits : (bytes : List ℕ) (s : Stage) → StandsAt bytes s → length bytes < bytes_awaited s → Waits bytes s
+waits bytes s k short = record { decides = k.decides ∙ by_left s.items.left refl; short = short }
+  where
+    by_left : (n : ℕ) → s.items.left ≡ n → verdict (length bytes) (checks_left bytes s) ≡ Ends (is_whole s.section)
+    by_left zero e =
+        let lt = subst (λ n. length bytes < n) (closing_next s e) short in
+        ap (verdict (length bytes)) (none_left bytes s.items (rest_of_checks bytes s) e) ∙ closing_early s.section s.standard s.extended bytes (flat_map (section_checks bytes) (sections_after s.section)) lt
+    by_left (suc n) e =
+        let lt = subst (λ n. length bytes < n) (item_next s (omega arith)) short in
+        let left = k.left in
+        items_early bytes s.items n (rest_of_checks bytes s) e lt ∙ ap Ends (sym (part_read s.section s.standard s.extended (omega arith)))
+
+-- ---- at the next section
+
+pub closing_passes : (xs : List ℕ) (s : Stage) → Stands xs s → s.items.left ≡ 0
     → Passes ≡ verdict (length xs) (closing_checks s.section s.standard s.extended xs) → Stands xs (at_next_section (stage_after s xs))
-closing_passes xs s h none there p ys =
+closing_passes xs s h none p ys =
     let zs = xs ++ ys in
     let len = length zs in
     let k = h ys in
-    let m = met s.section xs ys s.items s.standard s.extended s.base k there p in
+    let m = met s.section xs ys s.items s.standard s.extended s.base k (closing_there s.section s.standard s.extended xs p) p in
     let new = next s.section in
     let S = (stage_after s xs).standard in
     let X = (stage_after s xs).extended in
@@ -245,85 +249,15 @@ closing_passes xs s h none there p ys =
       reached = m.reached;
     }
 
--- ---- what has not come
-
-item_early : (bytes : List ℕ) (item : Item) (p : ℕ) (rest : List Check) → length bytes < p + item_size item → verdict (length bytes) (item_check bytes item p ∷ rest) ≡ Ends false
-item_early bytes (Sign fault) p rest lt = rw (lt-ltb (length bytes) (p + 2) lt) refl
-item_early bytes Name p rest lt = rw (lt-ltb (length bytes) (p + 1) lt) refl
-item_early bytes Flag p rest lt = rw (lt-ltb (length bytes) (p + 1) lt) refl
-item_early bytes (Number width) p rest lt = rw (lt-ltb (length bytes) (p + item_size (Number width)) lt) refl
-item_early bytes (Offset table_size) p rest lt = rw (lt-ltb (length bytes) (p + 2) lt) refl
-
-items_early : (bytes : List ℕ) (it : Items) (n : ℕ) (rest : List Check) → it.left ≡ suc n → length bytes < it.at + item_size it.item → verdict (length bytes) (items_checks bytes it ++ rest) ≡ Ends false
-items_early bytes it n rest e lt =
-    ap (λ k. verdict (length bytes) (map (item_check bytes it.item) (places it.at (item_size it.item) k) ++ rest)) e
-    ∙ item_early bytes it.item it.at (map (item_check bytes it.item) (places (it.at + item_size it.item) (item_size it.item) n) ++ rest) lt
-
--- a section with items is not one that may end
-pub part_read : (section : Section) (s x : Part) → 0 < (items_of section s x).left → is_whole section ≡ false
-part_read TableEnd s x lt = absurd (omega arith)
-part_read End s x lt = absurd (omega arith)
-part_read _ s x lt = refl
-
-pad_early : (bytes : List ℕ) (place n : ℕ) (rest : List Check) → length bytes < cond (eqb n 0) 0 (place + 1) → verdict (length bytes) (map (nul_check bytes BadPad) (places place 1 n) ++ rest) ≡ Ends false
-pad_early bytes place zero rest lt = absurd (omega arith)
-pad_early bytes place (suc n) rest lt =
-    let e : cond (eqb (suc n) 0) 0 (place + 1) ≡ place + 1 = ap (λ b. cond b 0 (place + 1)) (ne_eqb (suc n) 0 (λ e. absurd (omega arith))) in
-    rw (lt-ltb (length bytes) (place + 1) (omega (arith, e, lt))) refl
-
-pub closing_early : (section : Section) (s x : Part) (bytes : List ℕ) (rest : List Check) → length bytes < closing_end section s x → verdict (length bytes) (closing_checks section s x bytes ++ rest) ≡ Ends (is_whole section)
-closing_early Magic s x bytes rest lt = rw (lt-ltb (length bytes) 2 lt) refl
-closing_early Header s x bytes rest lt = rw (lt-ltb (length bytes) 12 lt) refl
-closing_early Names s x bytes rest lt = rw (lt-ltb (length bytes) (s.flags_from - 1 + 1) (omega arith)) refl
-closing_early (Flags half) s x bytes rest lt = pad_early bytes (flags_end (part_of half s x)) (flags_end (part_of half s x) % 2) rest lt
-closing_early (NameOffsets half) s x bytes rest lt = rw (lt-ltb (length bytes) (end_of (part_of half s x)) lt) refl
-closing_early TableEnd s x bytes rest lt = rw (lt-ltb (length bytes) (end_of s + 1) lt) refl
-closing_early ExtendedHeader s x bytes rest lt = rw (lt-ltb (length bytes) (extended_from s + 8 + 2) (omega arith)) refl
-closing_early End s x bytes rest lt = rw (lt-ltb (length bytes) (end_of x + 1) lt) refl
-closing_early _ s x bytes rest lt = absurd (omega arith)
-
--- what is awaited if no item is left, and if one is
-pub closing_next : (s : Stage) → s.items.left ≡ 0 → bytes_awaited s ≡ closing_end s.section s.standard s.extended
-closing_next s none = ap (λ b. cond b (s.items.at + item_size s.items.item) (closing_end s.section s.standard s.extended)) (le-ltb 0 s.items.left (omega arith))
-
-pub item_next : (s : Stage) → 0 < s.items.left → bytes_awaited s ≡ s.items.at + item_size s.items.item
-item_next s some = ap (λ b. cond b (s.items.at + item_size s.items.item) (closing_end s.section s.standard s.extended)) (lt-ltb 0 s.items.left some)
-
-pub waits : (bytes : List ℕ) (s : Stage) → StandsAt bytes s → length bytes < bytes_awaited s → Waits bytes s
-waits bytes s k short = record { decides = k.decides ∙ by_left s.items.left refl; short = short }
-  where
-    by_left : (n : ℕ) → s.items.left ≡ n → verdict (length bytes) (checks_left bytes s) ≡ Ends (is_whole s.section)
-    by_left zero e =
-        let lt = subst (λ n. length bytes < n) (closing_next s e) short in
-        ap (verdict (length bytes)) (none_left bytes s.items (rest_of_checks bytes s) e) ∙ closing_early s.section s.standard s.extended bytes (flat_map (section_checks bytes) (sections_after s.section)) lt
-    by_left (suc n) e =
-        let lt = subst (λ n. length bytes < n) (item_next s (omega arith)) short in
-        let left = k.left in
-        items_early bytes s.items n (rest_of_checks bytes s) e lt ∙ ap Ends (sym (part_read s.section s.standard s.extended (omega arith)))
-
--- ---- the measure
-
 most_left : (item : Item) (at n : ℕ) → at + item_size item * n ≤ most_entry_bytes → n ≤ most_entry_bytes
-most_left (Number Legacy) at n le = omega arith
-most_left (Number Wide) at n le = omega arith
-most_left _ at n le = omega arith
+most_left item at n le = grind arith
 
-pub fewer_sections : (xs : List ℕ) (s new : Stage) → Passes ≡ verdict (length xs) (closing_checks s.section s.standard s.extended xs) → new.section ≡ next s.section → StandsAt xs new → steps_left new < steps_left s
-fewer_sections xs s new p e k =
-    let most = most_left new.items.item new.items.at new.items.left k.within in
+-- the stage there, and that fewer steps are still to come
+pub next_stage : (xs : List ℕ) (s new : Stage) → Stands xs s → s.items.left ≡ 0 → Passes ≡ verdict (length xs) (closing_checks s.section s.standard s.extended xs) → new ≡ stage_after s xs
+    → Stands xs (at_next_section new) × (steps_left (at_next_section new) < steps_left s)
+next_stage xs s new h none p e =
+    let there = at_next_section (stage_after s xs) in
+    let stands = closing_passes xs s h none p in
+    let most = most_left there.items.item there.items.at there.items.left (stands_now xs there stands).within in
     let one : length (sections_after s.section) ≡ length (next s.section ∷ sections_after (next s.section)) = ap (λ (l : List Section). length l) (opened s.section s.standard s.extended xs p) in
-    let same : length (sections_after new.section) ≡ length (sections_after (next s.section)) = ap (λ t. length (sections_after t)) e in
-    omega arith
-
--- ---- how the code comes to the next section
-
-pub stands_at_next : (xs : List ℕ) (s new : Stage) (section : Section) (it : Items) → Stands xs s → s.items.left ≡ 0 → closing_end s.section s.standard s.extended ≤ length xs
-    → Passes ≡ verdict (length xs) (closing_checks s.section s.standard s.extended xs) → new ≡ stage_after s xs → section ≡ next new.section → it ≡ items_of section new.standard new.extended
-    → Stands xs (record { section = section; items = it; standard = new.standard; extended = new.extended; base = new.base })
-stands_at_next xs s new section it h none there p e f g = rw (g, f, e) (closing_passes xs s h none there p)
-
--- the parts that are known there
-pub next_fits : (xs : List ℕ) (s new : Stage) → Stands xs s → s.items.left ≡ 0 → closing_end s.section s.standard s.extended ≤ length xs
-    → Passes ≡ verdict (length xs) (closing_checks s.section s.standard s.extended xs) → new ≡ stage_after s xs → (end_of new.standard ≤ most_entry_bytes) × (end_of new.extended ≤ most_entry_bytes)
-next_fits xs s new h none there p e =
-    let k = stands_now xs (at_next_section (stage_after s xs)) (closing_passes xs s h none there p) in rw e (k.fits, k.extended_fits)
+    rw e (stands, omega arith)

@@ -1,6 +1,7 @@
 -- A word's bytes and its number determine each other.
-use Rattle.std.proofs.Common.{◌≡◌, ℕ, zero, suc, ◌+◌, ◌-◌, ◌*◌, ◌/◌, ◌%◌, ◌^◌, ◌<◌, ◌≤◌, ℤ, pos, negsuc, true, false, ltb, List, [], ◌∷◌, length, get_or, take, drop, inl, inr, refl, sym, ap, ◌∙◌, arith}
-use Rattle.std.proofs.lemmas.Bool.{cases_lt, le-ltb, lt-ltb}
+use Rattle.std.proofs.Common.{◌≡◌, ℕ, zero, suc, ◌+◌, ◌*◌, ◌/◌, ◌%◌, ◌^◌, ◌<◌, ◌≤◌, ℤ, pos, negsuc, true, List, [], ◌∷◌, length, get_or, take, drop, refl, sym, ap, ◌∙◌, arith}
+use Rattle.std.proofs.lemmas.Bool.Decides.{nat_tests}
+use Rattle.std.proofs.lemmas.Bool.{le-ltb, lt-ltb}
 use Rattle.std.proofs.lemmas.Int.{ints}
 use Rattle.std.proofs.lemmas.List.{drop_more}
 use Rattle.ti_words.specs.declared.Number.TheVariants as numbers
@@ -47,23 +48,9 @@ unsigned_fits Wide bytes p fits =
     let b3 = fits (p + 1 + 1 + 1) in omega arith
 
 -- the word of what bytes stand for is the bytes
-pub signed_again : (w : Width) (u : ℕ) → u < 256 ^ number_size w → word (number_size w) (signed (number_size w) u) ≡ low_bytes (number_size w) u
-signed_again Legacy u fits =
-    elim (cases_lt (2 * u) 65536) [
-      | inl lt ↦ ap (word 2) (below Legacy u lt)
-      | inr le ↦
-          let k = 65535 - u in
-          let back : 65536 - 1 - k % 65536 ≡ u = omega arith in
-          ap (word 2) (above Legacy u k (omega arith) le) ∙ ap (low_bytes 2) back
-    ]
-signed_again Wide u fits =
-    elim (cases_lt (2 * u) 4294967296) [
-      | inl lt ↦ ap (word 4) (below Wide u lt)
-      | inr le ↦
-          let k = 4294967295 - u in
-          let back : 4294967296 - 1 - k % 4294967296 ≡ u = omega arith in
-          ap (word 4) (above Wide u k (omega arith) le) ∙ ap (low_bytes 4) back
-    ]
+signed_again : (w : Width) (u : ℕ) → u < 256 ^ number_size w → word (number_size w) (signed (number_size w) u) ≡ low_bytes (number_size w) u
+signed_again Legacy u fits = grind (arith, ints, nat_tests)
+signed_again Wide u fits = grind (arith, ints, nat_tests)
 
 -- what the bytes of a number stand for
 pub reads_count : (n : ℕ) → n < 2 ^ 15 → n % 256 + 256 * (n / 256 % 256 + 256 * 0) ≡ n
@@ -78,20 +65,8 @@ word_is w bytes p fits le = bytes_again (number_size w) bytes p fits le ∙ sym 
 
 -- a word that is a number or a mark is the word of what it is read as
 pub number_again : (z : ℤ) → is_number_word z ≡ true → word_of_number (unwrap_or (number_of_word z) numbers.Absent) ≡ z
-number_again (pos n) h = refl
-number_again (negsuc zero) h = refl
-number_again (negsuc (suc zero)) h = refl
-number_again (negsuc (suc (suc n))) h = absurd (let e : ltb (suc (suc n)) 2 ≡ false = le-ltb _ _ (omega arith) in let f : false ≡ true = sym e ∙ h in cc)
+number_again z h = grind (arith, nat_tests)
 
 pub has_word : (w : Width) (u : ℕ) → u < 256 ^ number_size w → FitsWidth w (unwrap_or (number_of_word (signed (number_size w) u)) numbers.Absent)
-has_word w u fits =
-    let most = 256 ^ number_size w in
-    elim (cases_lt (2 * u) most) [
-      | inl lt ↦ rw (below w u lt) lt
-      | inr le ↦ rw (above w u (most - 1 - u) (omega arith) le) (has_mark (most - 1 - u))
-    ]
-  where
-    has_mark : (k : ℕ) → FitsWidth w (unwrap_or (number_of_word (negsuc k)) numbers.Absent)
-    has_mark zero = tt
-    has_mark (suc zero) = tt
-    has_mark (suc (suc k)) = tt
+has_word Legacy u fits = grind (arith, ints, nat_tests)
+has_word Wide u fits = grind (arith, ints, nat_tests)

@@ -1,7 +1,11 @@
 -- Which bytes are refused, and why: all checks of an entry, section by section in their order.
-use Rattle.std.specs.Prelude.{ℕ, ◌+◌, ◌-◌, List, [], ◌∷◌, ◌++◌, length, map, Option, nat_le, is_some}
+use Rattle.std.specs.Prelude.{ℕ, ◌+◌, ◌-◌, Bool, not, List, [], ◌∷◌, ◌++◌, length, map, slice_index, Option, nat_le, is_some}
 use Rattle.std.specs.List.{flat_map}
-use Rattle.ti_layout.specs.declared.fault.Fault.TheVariants.{BadMagic, BadHeader, HeaderTooBig, BadNames, BadExtendedHeader, ExtendedTooBig, BadExtendedName}
+use Rattle.ti_words.specs.Marks.{flag_of_byte}
+use Rattle.ti_words.specs.Texts.{is_nul}
+use Rattle.ti_words.specs.Word.{word_at}
+use Rattle.ti_layout.specs.declared.fault.Fault.{Fault}
+use Rattle.ti_layout.specs.declared.fault.Fault.TheVariants.{BadMagic, BadHeader, HeaderTooBig, BadNames, BadFlag, BadNumber, BadOffset, BadExtendedHeader, ExtendedTooBig, BadExtendedName}
 use Rattle.ti_layout.specs.declared.fault.Refused.{Refused}
 use Rattle.ti_layout.specs.declared.part.Part.{Part}
 use Rattle.ti_layout.specs.declared.section.Half.{Half}
@@ -15,16 +19,9 @@ use Rattle.ti_base.specs.Limits.{most_entry_bytes}
 use Rattle.ti_layout.specs.Layout.{width_of, places, flags_end, numbers_from, offsets_from, names_from, end_of, standard, extended_from, extended_after}
 use Rattle.ti_words.specs.Widths.{number_size}
 use Rattle.ti_layout.specs.Table.{table_of, base_of}
-use Rattle.ti_layout.specs.Checks.{Check, check, check_after, verdict, refusal_of, failure_of, sign_check, name_check, nul_check, flag_check, pad_checks, number_check, offset_check, ending_checks, all_name_place_checks, end_check}
+use Rattle.ti_layout.specs.Checks.{Check, check, check_after, verdict, refusal_of, failure_of, is_not_negative, is_number_word, is_offset_below, sign_check, nul_check, pad_checks, ending_checks, all_name_place_checks, end_check}
 
 -- ---- items that lie one after the other
-
-abbrev pub item_check : List ℕ → Item → ℕ → Check
-item_check bytes (Sign fault) = sign_check bytes fault
-item_check bytes Name = name_check bytes
-item_check bytes Flag = flag_check bytes
-item_check bytes (Number width) = number_check bytes (number_size width)
-item_check bytes (Offset table_size) = offset_check bytes table_size
 
 abbrev pub item_size : Item → ℕ
 item_size (Sign fault) = 2
@@ -32,6 +29,23 @@ item_size Name = 1
 item_size Flag = 1
 item_size (Number width) = number_size width
 item_size (Offset table_size) = 2
+
+abbrev pub item_holds : List ℕ → Item → ℕ → Bool
+item_holds bytes (Sign fault) p = is_not_negative (word_at 2 bytes p)
+item_holds bytes Name p = not (is_nul (slice_index bytes p))
+item_holds bytes Flag p = is_some (flag_of_byte (slice_index bytes p))
+item_holds bytes (Number width) p = is_number_word (word_at (number_size width) bytes p)
+item_holds bytes (Offset table_size) p = is_offset_below table_size (word_at 2 bytes p)
+
+abbrev pub item_fault : Item → Fault
+item_fault (Sign fault) = fault
+item_fault Name = BadNames
+item_fault Flag = BadFlag
+item_fault (Number width) = BadNumber
+item_fault (Offset table_size) = BadOffset
+
+abbrev pub item_check : List ℕ → Item → ℕ → Check
+item_check bytes item p = check (p + item_size item) (item_holds bytes item p) (item_fault item) p
 
 abbrev pub items : Item → ℕ → ℕ → Items
 items item at left = record { item = item; at = at; left = left }

@@ -1,32 +1,27 @@
-//! The checks of single items, and of the texts and names of a table.
+//! The checks of single bytes, and of the texts and names of a table.
 //!
 //! What each function returns is the verdict of the checks that its clause names, whose prefixes are there. Whether texts
 //! have their NULs is decided for all of them from one look for the last NUL of the table.
 
-ghost use Rattle.std.specs.Prelude.{◌≡◌, ◌+◌, ◌*◌, ◌<◌, ◌≤◌, ◌^◌, ◌∷◌, [], length, map, take, drop};
-ghost use Rattle.ti_words.specs.Widths.{number_size as the_number_size};
+ghost use Rattle.std.specs.Prelude.{◌≡◌, ◌+◌, ◌*◌, ◌<◌, ◌≤◌, ◌^◌, ◌∷◌, [], length, map};
 ghost use Rattle.ti_layout.specs.Layout.{places, pad_end};
-ghost use Rattle.ti_layout.specs.Checks.{verdict, result_verdict, sign_check, name_check, nul_check, flag_check, number_check, offset_check, flag_checks, pad_checks, number_checks, offset_checks, ending_checks, sign_checks, is_offset_below as the_is_offset_below};
-ghost use Rattle.ti_layout.specs.Reach.{IsReach, reach_check, name_reach_checks, all_name_reach_checks, is_before as the_is_before};
+ghost use Rattle.ti_layout.specs.Checks.{verdict, result_verdict, nul_check, pad_checks, ending_check, name_place_checks, all_name_place_checks, is_offset_below as the_is_offset_below};
+ghost use Rattle.ti_layout.specs.Reach.{IsReach, is_before as the_is_before};
 
 use crate::fault::{Fault, Refused};
-use crate::whole::{
-    are_before, are_flags, are_names, are_no_nuls, are_not_negative, are_numbers, are_offsets,
-};
-use crate::word::{count_at, number_word_at, numbers_size, word_at};
-use ti_words::{Width, flag_of, number_size};
+use crate::whole::{are_below, are_names};
+use crate::word::{count_at, word_at};
 
-/// A table of names: where it ends, its size, the place after its last NUL, and what offsets are counted from.
+/// A string table: its bytes, where it ends, and the place after its last NUL.
 #[derive(Clone, Copy)]
-pub(crate) struct NameTable {
+pub(crate) struct Table<'a> {
+    pub(crate) bytes: &'a [u8],
     pub(crate) end: usize,
-    pub(crate) size: usize,
     pub(crate) reach: usize,
-    pub(crate) base: usize,
 }
 
 /// Whether an offset is a mark, or a place below the size of the table.
-fn is_offset_below(size: usize, offset: i16) -> bool
+pub(crate) fn is_offset_below(size: usize, offset: i16) -> bool
     ensures { result ≡ the_is_offset_below size offset }
 {
     if offset < 0 {
@@ -57,32 +52,6 @@ pub(crate) fn reach_of(table: &[u8]) -> usize
     0
 }
 
-/// The word at a place is not negative.
-pub(crate) fn check_sign(bytes: &[u8], fault: Fault, place: usize) -> Result<(), Refused>
-    requires { place + 2 ≤ length bytes.now }
-    ensures { result_verdict result
-        ≡ verdict (length bytes.now) (sign_check bytes.now fault place ∷ []) }
-{
-    if word_at(bytes, place) < 0 {
-        return Err(Refused { fault, place });
-    }
-    Ok(())
-}
-
-/// No NUL stands at a place.
-pub(crate) fn check_name(bytes: &[u8], place: usize) -> Result<(), Refused>
-    requires { place + 1 ≤ length bytes.now }
-    ensures { result_verdict result ≡ verdict (length bytes.now) (name_check bytes.now place ∷ []) }
-{
-    if bytes[place] == 0 {
-        return Err(Refused {
-            fault: Fault::BadNames,
-            place,
-        });
-    }
-    Ok(())
-}
-
 /// A NUL stands at a place.
 pub(crate) fn check_nul(bytes: &[u8], fault: Fault, place: usize) -> Result<(), Refused>
     requires { place + 1 ≤ length bytes.now }
@@ -91,91 +60,6 @@ pub(crate) fn check_nul(bytes: &[u8], fault: Fault, place: usize) -> Result<(), 
 {
     if bytes[place] != 0 {
         return Err(Refused { fault, place });
-    }
-    Ok(())
-}
-
-/// The byte at a place is a flag.
-pub(crate) fn check_flag(bytes: &[u8], place: usize) -> Result<(), Refused>
-    requires { place + 1 ≤ length bytes.now }
-    ensures { result_verdict result ≡ verdict (length bytes.now) (flag_check bytes.now place ∷ []) }
-{
-    if flag_of(bytes[place]).is_none() {
-        return Err(Refused {
-            fault: Fault::BadFlag,
-            place,
-        });
-    }
-    Ok(())
-}
-
-/// The number at a place is at least -2.
-pub(crate) fn check_number(bytes: &[u8], width: Width, place: usize) -> Result<(), Refused>
-    requires { place + the_number_size width ≤ length bytes.now }
-    ensures { result_verdict result
-        ≡ verdict (length bytes.now) (number_check bytes.now (the_number_size width) place ∷ []) }
-{
-    if number_word_at(bytes, width, place) < -2 {
-        return Err(Refused {
-            fault: Fault::BadNumber,
-            place,
-        });
-    }
-    Ok(())
-}
-
-/// The offset at a place is a mark, or a place of the table.
-pub(crate) fn check_offset(bytes: &[u8], table_size: usize, place: usize) -> Result<(), Refused>
-    requires { place + 2 ≤ length bytes.now }
-    ensures { result_verdict result
-        ≡ verdict (length bytes.now) (offset_check bytes.now table_size place ∷ []) }
-{
-    let offset = word_at(bytes, place);
-    if !is_offset_below(table_size, offset) {
-        return Err(Refused {
-            fault: Fault::BadOffset,
-            place,
-        });
-    }
-    Ok(())
-}
-
-/// The text whose offset stands at a place starts before the reach of the table.
-fn check_ending(bytes: &[u8], reach: usize, end: usize, place: usize) -> Result<(), Refused>
-    requires within { place + 2 ≤ end }
-    requires there { end ≤ length bytes.now }
-    ensures { result_verdict result
-        ≡ verdict (length bytes.now) (reach_check bytes.now reach end place ∷ []) }
-{
-    if !is_before(reach, word_at(bytes, place)) {
-        return Err(Refused {
-            fault: Fault::Unterminated,
-            place,
-        });
-    }
-    Ok(())
-}
-
-/// The name whose offset stands at a place starts in the table, and before its reach.
-fn check_name_place(bytes: &[u8], table: &NameTable, place: usize) -> Result<(), Refused>
-    requires within { place + 2 ≤ table.now.end }
-    requires there { table.now.end ≤ length bytes.now }
-    requires small { table.now.base < 2 ^ 32 }
-    ensures { result_verdict result
-        ≡ verdict (length bytes.now) (name_reach_checks bytes.now table.now place) }
-{
-    let start = table.base + count_at(bytes, place);
-    if start >= table.size {
-        return Err(Refused {
-            fault: Fault::BadExtendedName,
-            place,
-        });
-    }
-    if start >= table.reach {
-        return Err(Refused {
-            fault: Fault::Unterminated,
-            place,
-        });
     }
     Ok(())
 }
@@ -191,64 +75,95 @@ pub(crate) fn check_pad(bytes: &[u8], place: usize) -> Result<(), Refused>
     check_nul(bytes, Fault::BadPad, place)
 }
 
-/// The table is there, and each text that is there has a NUL in it.
-pub(crate) fn check_endings(
-    bytes: &[u8],
-    table_from: usize,
-    table_size: usize,
-    from: usize,
-    count: usize,
-) -> Result<(), Refused>
-    requires before { from + 2 * count ≤ table_from }
-    requires there { table_from + table_size ≤ length bytes.now }
-    ensures { result_verdict result ≡ verdict (length bytes.now) (ending_checks bytes.now
-        (take table_size (drop table_from bytes.now)) (table_from + table_size) from count) }
+/// The text whose offset stands at a place has its NUL in the table.
+fn check_ending(bytes: &[u8], table: &Table<'_>, place: usize) -> Result<(), Refused>
+    requires within { place + 2 ≤ table.now.end }
+    requires there { table.now.end ≤ length bytes.now }
+    requires reach { IsReach table.now.bytes.now table.now.reach }
+    ensures { result_verdict result ≡ verdict (length bytes.now)
+        (ending_check bytes.now table.now.bytes.now table.now.end place ∷ []) }
 {
-    let end = table_from + table_size;
-    let reach = reach_of(&bytes[table_from..end]);
-    check_each_ending(bytes, reach, end, from, count)
-}
-
-/// Each text that is there starts before the reach of the table.
-fn check_each_ending(
-    bytes: &[u8],
-    reach: usize,
-    end: usize,
-    from: usize,
-    count: usize,
-) -> Result<(), Refused>
-    requires before { from + 2 * count ≤ end }
-    requires there { end ≤ length bytes.now }
-    ensures { result_verdict result
-        ≡ verdict (length bytes.now) (map (reach_check bytes.now reach end) (places from 2 count)) }
-{
-    if are_before(bytes, reach, end, from, count) {
-        return Ok(());
-    }
-    for i in 0..count {
-        check_ending(bytes, reach, end, from + 2 * i)?;
+    if !is_before(table.reach, word_at(bytes, place)) {
+        return Err(Refused {
+            fault: Fault::Unterminated,
+            place,
+        });
     }
     Ok(())
 }
 
-/// Each name starts in the table, and before its reach.
-pub(crate) fn check_name_places(
+/// The name whose offset stands at a place starts in the table, counted from the base, and has its NUL there.
+fn check_name_place(
     bytes: &[u8],
-    table: &NameTable,
+    table: &Table<'_>,
+    base: usize,
+    place: usize,
+) -> Result<(), Refused>
+    requires within { place + 2 ≤ table.now.end }
+    requires there { table.now.end ≤ length bytes.now }
+    requires reach { IsReach table.now.bytes.now table.now.reach }
+    requires small { base < 2 ^ 32 }
+    ensures { result_verdict result ≡ verdict (length bytes.now)
+        (name_place_checks bytes.now table.now.bytes.now base table.now.end place) }
+{
+    let start = base + count_at(bytes, place);
+    if start >= table.bytes.len() {
+        return Err(Refused {
+            fault: Fault::BadExtendedName,
+            place,
+        });
+    }
+    if start >= table.reach {
+        return Err(Refused {
+            fault: Fault::Unterminated,
+            place,
+        });
+    }
+    Ok(())
+}
+
+/// Each text that is there has its NUL in the table.
+pub(crate) fn check_endings(
+    bytes: &[u8],
+    table: &Table<'_>,
     from: usize,
     count: usize,
 ) -> Result<(), Refused>
     requires before { from + 2 * count ≤ table.now.end }
     requires there { table.now.end ≤ length bytes.now }
-    requires small { table.now.base < 2 ^ 32 }
+    requires reach { IsReach table.now.bytes.now table.now.reach }
     ensures { result_verdict result ≡ verdict (length bytes.now)
-        (all_name_reach_checks bytes.now table.now (places from 2 count)) }
+        (map (ending_check bytes.now table.now.bytes.now table.now.end) (places from 2 count)) }
 {
-    if are_names(bytes, table, from, count) {
+    if are_below(bytes, table.reach, from, count) {
         return Ok(());
     }
     for i in 0..count {
-        check_name_place(bytes, table, from + 2 * i)?;
+        check_ending(bytes, table, from + 2 * i)?;
+    }
+    Ok(())
+}
+
+/// Each name starts in the table, counted from the base, and has its NUL there.
+pub(crate) fn check_name_places(
+    bytes: &[u8],
+    table: &Table<'_>,
+    base: usize,
+    from: usize,
+    count: usize,
+) -> Result<(), Refused>
+    requires before { from + 2 * count ≤ table.now.end }
+    requires there { table.now.end ≤ length bytes.now }
+    requires reach { IsReach table.now.bytes.now table.now.reach }
+    requires small { base < 2 ^ 32 }
+    ensures { result_verdict result ≡ verdict (length bytes.now) (all_name_place_checks bytes.now
+        table.now.bytes.now base table.now.end (places from 2 count)) }
+{
+    if are_names(bytes, table, base, from, count) {
+        return Ok(());
+    }
+    for i in 0..count {
+        check_name_place(bytes, table, base, from + 2 * i)?;
     }
     Ok(())
 }

@@ -1,14 +1,15 @@
 //! The checks of the two headers: what they have to say before their sections are looked at.
 
-ghost use Rattle.std.specs.Prelude.{◌≡◌, ℕ, ◌+◌, ◌<◌, ◌≤◌, ◌^◌, ◌∷◌, [], length, OnOk};
+ghost use Rattle.std.specs.Prelude.{◌≡◌, ◌+◌, ◌<◌, ◌≤◌, ◌∷◌, [], length, IfOk};
 ghost use Rattle.ti_base.specs.Limits.{most_entry_bytes};
-ghost use Rattle.ti_layout.specs.Layout.{end_of};
+ghost use Rattle.ti_layout.specs.Layout.{standard, end_of, extended_from, extended_after};
 ghost use Rattle.ti_layout.specs.Checks.{verdict, result_verdict, pad_checks};
-ghost use Rattle.ti_layout.specs.Refusal.{magic_check, size_checks, room_check, extended_size_check};
+ghost use Rattle.ti_layout.specs.Refusal.{magic_check, size_checks, room_check, extended_header_checks};
 
 use crate::checks::check_pad;
 use crate::fault::{Fault, Refused};
-use crate::part::{Part, width_of};
+use crate::part::{Part, extended_part, standard_part, width_of};
+use crate::section::Item;
 use ti_base::MOST_ENTRY_BYTES;
 
 /// The first two bytes are the magic number of a format.
@@ -25,13 +26,15 @@ pub(crate) fn check_magic(bytes: &[u8]) -> Result<(), Refused>
     Ok(())
 }
 
-/// The whole has at most as many bytes as an entry may have, and the names have one byte beside their NUL.
-pub(crate) fn check_sizes(standard: &Part) -> Result<(), Refused>
-    requires { end_of standard.now < 2 ^ 32 }
-    ensures verdict { (len : ℕ) → 12 ≤ len → result_verdict result ≡ verdict len (size_checks standard.now) }
-    ensures named { OnOk result (14 ≤ standard.now.flags_from) }
-    ensures fits { OnOk result (end_of standard.now ≤ most_entry_bytes) }
+/// The standard part: by its header the whole has at most as many bytes as an entry may have, and the names have one byte
+/// beside their NUL.
+pub(crate) fn sized_standard(bytes: &[u8]) -> Result<Part, Refused>
+    requires { 12 ≤ length bytes.now }
+    ensures verdict { result_verdict result
+        ≡ verdict (length bytes.now) (size_checks (standard bytes.now)) }
+    ensures words { IfOk result (λ s. s ≡ standard bytes.now) }
 {
+    let standard = standard_part(bytes);
     if standard.end() > MOST_ENTRY_BYTES {
         return Err(Refused {
             fault: Fault::HeaderTooBig,
@@ -44,14 +47,15 @@ pub(crate) fn check_sizes(standard: &Part) -> Result<(), Refused>
             place: 12,
         });
     }
-    Ok(())
+    Ok(standard)
 }
 
-/// A byte follows the string table, and the limit leaves room for the extended header.
-fn check_room(standard: &Part) -> Result<(), Refused>
-    requires { end_of standard.now ≤ most_entry_bytes }
-    ensures { (len : ℕ) → end_of standard.now < len
-        → result_verdict result ≡ verdict len (room_check standard.now ∷ []) }
+/// A byte follows the string table: the limit leaves room for the extended header, and the pad is 0.
+pub(crate) fn check_start(bytes: &[u8], standard: &Part) -> Result<(), Refused>
+    requires fits { end_of standard.now ≤ most_entry_bytes }
+    requires there { end_of standard.now < length bytes.now }
+    ensures { result_verdict result ≡ verdict (length bytes.now)
+        (room_check standard.now ∷ pad_checks bytes.now (end_of standard.now)) }
 {
     if standard.extended_from() + 10 > MOST_ENTRY_BYTES {
         return Err(Refused {
@@ -59,33 +63,26 @@ fn check_room(standard: &Part) -> Result<(), Refused>
             place: standard.end(),
         });
     }
-    Ok(())
-}
-
-/// There is room, and the pad is 0.
-pub(crate) fn check_start(bytes: &[u8], standard: &Part) -> Result<(), Refused>
-    requires fits { end_of standard.now ≤ most_entry_bytes }
-    requires there { end_of standard.now < length bytes.now }
-    ensures { result_verdict result ≡ verdict (length bytes.now)
-        (room_check standard.now ∷ pad_checks bytes.now (end_of standard.now)) }
-{
-    check_room(standard)?;
     check_pad(bytes, standard.end())
 }
 
-/// With its extended part the entry has at most as many bytes as an entry may have.
-pub(crate) fn check_extended_size(extended: &Part) -> Result<(), Refused>
-    requires from { 10 ≤ extended.now.flags_from }
-    requires small { end_of extended.now < 2 ^ 32 }
-    ensures verdict { (len : ℕ) → extended.now.flags_from ≤ len
-        → result_verdict result ≡ verdict len (extended_size_check extended.now ∷ []) }
-    ensures fits { OnOk result (end_of extended.now ≤ most_entry_bytes) }
+/// The extended part: the last word of its header is not negative, and with it the entry has at most as many bytes as an
+/// entry may have.
+pub(crate) fn sized_extended(bytes: &[u8], standard: &Part) -> Result<Part, Refused>
+    requires fits { end_of standard.now ≤ most_entry_bytes }
+    requires there { extended_from standard.now + 10 ≤ length bytes.now }
+    ensures verdict { result_verdict result
+        ≡ verdict (length bytes.now) (extended_header_checks bytes.now standard.now) }
+    ensures words { IfOk result (λ x. x ≡ extended_after standard.now bytes.now) }
 {
+    let from = standard.extended_from();
+    Item::Sign(Fault::BadExtendedHeader).check(bytes, from + 8)?;
+    let extended = extended_part(bytes, standard);
     if extended.end() > MOST_ENTRY_BYTES {
         return Err(Refused {
             fault: Fault::ExtendedTooBig,
-            place: extended.flags_from - 10,
+            place: from,
         });
     }
-    Ok(())
+    Ok(extended)
 }

@@ -1,19 +1,22 @@
 //! The sections of an entry in the order of their checks, and the items of each.
 //!
-//! Items are tested at once, and gone over one by one only if that test leaves them open.
+//! Items are tested at once, by the greatest of them, and gone over one by one only if that test leaves them open.
 
 ghost use Rattle.std.specs.Prelude.{◌≡◌, ◌+◌, ◌*◌, ◌<◌, ◌≤◌, ◌^◌, ◌∷◌, [], length, IsTrue};
 ghost use Rattle.ti_base.specs.Limits.{most_entry_bytes};
 ghost use Rattle.ti_layout.specs.Layout.{end_of};
 ghost use Rattle.ti_layout.specs.Checks.{Passes, verdict, result_verdict};
-ghost use Rattle.ti_layout.specs.Refusal.{item_size, item_check, items_checks, items_of, part_of, items};
+ghost use Rattle.ti_layout.specs.Refusal.{item_size, item_holds, item_fault, item_check, items_checks, items_of, part_of, items};
 ghost use Rattle.ti_layout.specs.Stages.{first_items, items_after, next as the_next, closing_end as the_closing_end, fault_when_full as the_fault_when_full};
 
-use crate::checks::{check_flag, check_name, check_number, check_offset, check_sign};
+use crate::checks::is_offset_below;
 use crate::fault::{Fault, Refused};
 use crate::part::{Part, pad_end};
-use crate::whole::{are_flags, are_no_nuls, are_not_negative, are_numbers, are_offsets};
-use ti_words::{Width, number_size};
+use crate::whole::{
+    WIDE_WORDS, WORDS, are_below, greatest_byte, greatest_wide_word, greatest_word,
+};
+use crate::word::{number_word_at, word_at};
+use ti_words::{Width, flag_of, number_size};
 
 /// What the items of a section are.
 #[derive(Clone, Copy)]
@@ -84,19 +87,46 @@ impl Item {
         }
     }
 
+    /// Whether the item at a place is as it has to be.
+    fn holds(self, bytes: &[u8], place: usize) -> bool
+        requires { place + item_size self ≤ length bytes.now }
+        ensures { result ≡ item_holds bytes.now self place }
+    {
+        match self {
+            Item::Sign(_) => word_at(bytes, place) >= 0,
+            Item::Name => bytes[place] != 0,
+            Item::Flag => flag_of(bytes[place]).is_some(),
+            Item::Number(width) => number_word_at(bytes, width, place) >= -2,
+            Item::Offset(table_size) => is_offset_below(table_size, word_at(bytes, place)),
+        }
+    }
+
+    /// The fault of one that is not.
+    fn fault(self) -> Fault
+        ensures { result ≡ item_fault self }
+    {
+        match self {
+            Item::Sign(fault) => fault,
+            Item::Name => Fault::BadNames,
+            Item::Flag => Fault::BadFlag,
+            Item::Number(_) => Fault::BadNumber,
+            Item::Offset(_) => Fault::BadOffset,
+        }
+    }
+
     /// The check of one item at a place.
-    fn check(self, bytes: &[u8], place: usize) -> Result<(), Refused>
+    pub(crate) fn check(self, bytes: &[u8], place: usize) -> Result<(), Refused>
         requires { place + item_size self ≤ length bytes.now }
         ensures { result_verdict result
             ≡ verdict (length bytes.now) (item_check bytes.now self place ∷ []) }
     {
-        match self {
-            Item::Sign(fault) => check_sign(bytes, fault, place),
-            Item::Name => check_name(bytes, place),
-            Item::Flag => check_flag(bytes, place),
-            Item::Number(width) => check_number(bytes, width, place),
-            Item::Offset(table_size) => check_offset(bytes, table_size, place),
+        if !self.holds(bytes, place) {
+            return Err(Refused {
+                fault: self.fault(),
+                place,
+            });
         }
+        Ok(())
     }
 }
 
@@ -131,11 +161,14 @@ impl Items {
             → Passes ≡ verdict (length bytes.now) (items_checks bytes.now (first_items count self)) }
     {
         match self.item {
-            Item::Sign(fault) => are_not_negative(bytes, fault, self.at, count),
-            Item::Name => are_no_nuls(bytes, self.at, count),
-            Item::Flag => are_flags(bytes, self.at, count),
-            Item::Number(width) => are_numbers(bytes, width, self.at, count),
-            Item::Offset(table_size) => are_offsets(bytes, table_size, self.at, count),
+            Item::Sign(_) => greatest_word(bytes, self.at, count, 0) < WORDS,
+            Item::Name => greatest_byte(bytes, self.at, count, u8::MAX) < u8::MAX,
+            Item::Flag => greatest_byte(bytes, self.at, count, 2) < 4,
+            Item::Number(Width::Legacy) => are_below(bytes, usize::from(WORDS), self.at, count),
+            Item::Number(Width::Wide) => {
+                greatest_wide_word(bytes, self.at, count) < WIDE_WORDS + 2
+            }
+            Item::Offset(table_size) => are_below(bytes, table_size, self.at, count),
         }
     }
 

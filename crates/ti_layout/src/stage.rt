@@ -4,18 +4,18 @@
 //! have read. It goes on over all the bytes that have come: a step checks the items of a section that lie within them,
 //! in one loop, or makes the few checks that close it. Bytes that come whole take two steps a section.
 
-ghost use Rattle.std.specs.Prelude.{◌≡◌, ℕ, List, ◌+◌, ◌*◌, ◌<◌, ◌≤◌, ◌^◌, ◌∷◌, ◌++◌, length, IfOk, IfErr, OnOk, Some};
+ghost use Rattle.std.specs.Prelude.{◌≡◌, ℕ, List, ◌+◌, ◌*◌, ◌<◌, ◌≤◌, ◌^◌, ◌∷◌, ◌++◌, length, IfErr, OnOk, Some};
 ghost use Rattle.ti_base.specs.Limits.{most_entry_bytes};
-ghost use Rattle.ti_layout.specs.Layout.{standard, end_of, extended_from, extended_after};
+ghost use Rattle.ti_layout.specs.Layout.{end_of};
 ghost use Rattle.ti_layout.specs.Checks.{verdict, result_verdict, refusal_at};
-ghost use Rattle.ti_layout.specs.Refusal.{item_size, size_checks, extended_header_checks, closing_checks, failure};
+ghost use Rattle.ti_layout.specs.Refusal.{item_size, closing_checks, failure};
 ghost use Rattle.ti_layout.specs.Stages.{StandsAt, Stands, Waits, new_stage, stage_after, steps_left, closing_end, bytes_awaited, is_whole};
 ghost use Rattle.ti_layout.specs.declared.section.Section.TheVariants.{Names};
 
-use crate::checks::{check_nul, check_pad, check_sign};
+use crate::checks::{check_nul, check_pad};
 use crate::fault::{Fault, Refused};
-use crate::header::{check_extended_size, check_magic, check_sizes, check_start};
-use crate::part::{Part, extended_part, no_part, standard_part};
+use crate::header::{check_magic, check_start, sized_extended, sized_standard};
+use crate::part::{Part, no_part};
 use crate::section::{Item, Items, Section};
 use crate::table::check_texts;
 
@@ -28,36 +28,6 @@ pub struct Stage {
     pub(crate) extended: Part,
     /// What the offsets of the extended names are counted from.
     pub(crate) base: usize,
-}
-
-/// The standard part, if the checks of the sizes in its header pass.
-fn sized_standard(bytes: &[u8]) -> Result<Part, Refused>
-    requires { 12 ≤ length bytes.now }
-    ensures verdict { result_verdict result
-        ≡ verdict (length bytes.now) (size_checks (standard bytes.now)) }
-    ensures words { IfOk result (λ s. s ≡ standard bytes.now) }
-{
-    let standard = standard_part(bytes);
-    check_sizes(&standard)?;
-    Ok(standard)
-}
-
-/// The extended part, if the last word of its header and the sizes in it pass.
-fn sized_extended(bytes: &[u8], standard: &Part) -> Result<Part, Refused>
-    requires fits { end_of standard.now ≤ most_entry_bytes }
-    requires there { extended_from standard.now + 10 ≤ length bytes.now }
-    ensures verdict { result_verdict result
-        ≡ verdict (length bytes.now) (extended_header_checks bytes.now standard.now) }
-    ensures words { IfOk result (λ x. x ≡ extended_after standard.now bytes.now) }
-{
-    check_sign(
-        bytes,
-        Fault::BadExtendedHeader,
-        standard.extended_from() + 8,
-    )?;
-    let extended = extended_part(bytes, standard);
-    check_extended_size(&extended)?;
-    Ok(extended)
 }
 
 impl Stage {

@@ -3,14 +3,14 @@
 //! The base of the names is summed in one pass that stops at the size of the table: from there on no name can lie in it.
 //! So it is linear even if texts share their bytes.
 
-ghost use Rattle.std.specs.Prelude.{◌≡◌, ◌+◌, ◌*◌, ◌<◌, ◌≤◌, ◌^◌, length, min, IfOk, OnOk};
+ghost use Rattle.std.specs.Prelude.{◌≡◌, ◌+◌, ◌*◌, ◌<◌, ◌≤◌, ◌^◌, length, min, IfOk};
 ghost use Rattle.ti_base.specs.Limits.{most_entry_bytes};
-ghost use Rattle.ti_layout.specs.Checks.{verdict, result_verdict, all_name_place_checks};
+ghost use Rattle.ti_layout.specs.Checks.{verdict, result_verdict};
 ghost use Rattle.ti_layout.specs.Refusal.{text_checks};
-ghost use Rattle.ti_layout.specs.Layout.{places, names_from as the_names_from, end_of};
-ghost use Rattle.ti_layout.specs.Table.{sizes_at, table_of, names_base, base_of as the_base_of};
+ghost use Rattle.ti_layout.specs.Layout.{places, end_of};
+ghost use Rattle.ti_layout.specs.Table.{sizes_at, names_base};
 
-use crate::checks::{NameTable, check_endings, check_name_places, reach_of};
+use crate::checks::{Table, check_endings, check_name_places, reach_of};
 use crate::fault::Refused;
 use crate::part::Part;
 use crate::string_table::size_at;
@@ -32,29 +32,6 @@ fn base_of(bytes: &[u8], table: &[u8], from: usize, count: usize) -> usize
     base.min(table.len())
 }
 
-/// Each name starts in the table, counted from the base, and has its NUL there.
-fn check_names_from(bytes: &[u8], part: &Part, base: usize) -> Result<(), Refused>
-    requires fits { end_of part.now ≤ most_entry_bytes }
-    requires there { end_of part.now ≤ length bytes.now }
-    requires some { 0 < part.now.names }
-    requires base { base ≡ min (the_base_of bytes.now part.now) part.now.table }
-    ensures verdict { result_verdict result
-        ≡ verdict (length bytes.now) (all_name_place_checks bytes.now (table_of bytes.now part.now)
-        (the_base_of bytes.now part.now) (end_of part.now)
-        (places (the_names_from part.now) 2 part.now.names)) }
-    ensures exact { OnOk result (base ≡ the_base_of bytes.now part.now) }
-{
-    let end = part.end();
-    let table = NameTable {
-        end,
-        size: part.table,
-        reach: reach_of(&bytes[part.table_from()..end]),
-        base,
-    };
-    check_name_places(bytes, &table, part.names_from(), part.names)?;
-    Ok(())
-}
-
 /// The base of the names if there are any, once each text and each name has its NUL in the table.
 #[tactic(auto, using(crate::proofs::VerdictLemmas::verdict_append))]
 pub(crate) fn check_texts(bytes: &[u8], part: &Part) -> Result<usize, Refused>
@@ -64,14 +41,19 @@ pub(crate) fn check_texts(bytes: &[u8], part: &Part) -> Result<usize, Refused>
         ≡ verdict (length bytes.now) (text_checks bytes.now part.now) }
     ensures base { IfOk result (λ base. base ≡ names_base bytes.now part.now) }
 {
-    let table_from = part.table_from();
+    let end = part.end();
     let offsets_from = part.offsets_from();
-    check_endings(bytes, table_from, part.table, offsets_from, part.texts)?;
+    let texts = &bytes[part.table_from()..end];
+    let table = Table {
+        bytes: texts,
+        end,
+        reach: reach_of(texts),
+    };
+    check_endings(bytes, &table, offsets_from, part.texts)?;
     if part.names == 0 {
         return Ok(0);
     }
-    let table = &bytes[table_from..part.end()];
-    let base = base_of(bytes, table, offsets_from, part.texts);
-    check_names_from(bytes, part, base)?;
+    let base = base_of(bytes, texts, offsets_from, part.texts);
+    check_name_places(bytes, &table, base, part.names_from(), part.names)?;
     Ok(base)
 }

@@ -15,17 +15,17 @@ unfolding clap_on_literals
 source_row = (refl, refl)
 
 -- `ti trace n:7 --escape`
-trace_row : Reads (codes "ti" ∷ codes "trace" ∷ codes "n:7" ∷ codes "--escape" ∷ []) (Trace false None true false (codes "n:7" ∷ []))
+trace_row : Reads (codes "ti" ∷ codes "trace" ∷ codes "n:7" ∷ codes "--escape" ∷ []) (Trace false None false true None false (codes "n:7" ∷ []))
 unfolding clap_on_literals
 trace_row = (refl, refl)
 
 -- `ti trace --of cup 7 --entry a`
-trace_of_row : Reads (codes "ti" ∷ codes "trace" ∷ codes "--of" ∷ codes "cup" ∷ codes "7" ∷ codes "--entry" ∷ codes "a" ∷ []) (Trace false (Some (codes "cup")) false true (codes "7" ∷ []))
+trace_of_row : Reads (codes "ti" ∷ codes "trace" ∷ codes "--of" ∷ codes "cup" ∷ codes "7" ∷ codes "--entry" ∷ codes "a" ∷ []) (Trace false (Some (codes "cup")) false false None true (codes "7" ∷ []))
 unfolding clap_on_literals
 trace_of_row = (refl, refl)
 
 -- `ti trace --source --of cup`
-both_inputs_row : Reads (codes "ti" ∷ codes "trace" ∷ codes "--source" ∷ codes "--of" ∷ codes "cup" ∷ []) (Trace true (Some (codes "cup")) false false [])
+both_inputs_row : Reads (codes "ti" ∷ codes "trace" ∷ codes "--source" ∷ codes "--of" ∷ codes "cup" ∷ []) (Trace true (Some (codes "cup")) false false None false [])
 unfolding clap_on_literals
 both_inputs_row = (refl, refl)
 
@@ -70,14 +70,27 @@ unfolding clap_on_literals
 get_row = (refl, refl)
 
 -- `ti lint a`
-lint_row : Reads (codes "ti" ∷ codes "lint" ∷ codes "a" ∷ []) (Lint false)
+lint_row : Reads (codes "ti" ∷ codes "lint" ∷ codes "a" ∷ []) (Lint false false None)
 unfolding clap_on_literals
 lint_row = (refl, refl)
 
 -- `ti diff a b`
-diff_row : Reads (codes "ti" ∷ codes "diff" ∷ codes "a" ∷ codes "b" ∷ []) (Diff false (codes "a" ∷ codes "b" ∷ []))
+diff_row : Reads (codes "ti" ∷ codes "diff" ∷ codes "a" ∷ codes "b" ∷ []) (Diff false false None (codes "a" ∷ codes "b" ∷ []))
 unfolding clap_on_literals
 diff_row = (refl, refl)
+
+-- `ti lint --json --all`, `ti diff --color=never a b` and `ti trace --json --color always`
+lint_json_row : Reads (codes "ti" ∷ codes "lint" ∷ codes "--json" ∷ codes "--all" ∷ []) (Lint true true None)
+unfolding clap_on_literals
+lint_json_row = (refl, refl)
+
+color_row : Reads (codes "ti" ∷ codes "diff" ∷ codes "--color=never" ∷ codes "a" ∷ codes "b" ∷ []) (Diff false false (Some (codes "never")) (codes "a" ∷ codes "b" ∷ []))
+unfolding clap_on_literals
+color_row = (refl, refl)
+
+trace_json_row : Reads (codes "ti" ∷ codes "trace" ∷ codes "--json" ∷ codes "--color" ∷ codes "always" ∷ []) (Trace false None true false (Some (codes "always")) false [])
+unfolding clap_on_literals
+trace_json_row = (refl, refl)
 
 -- `ti check a b` and `ti get cup --entry a` name files, and `ti show -` names none
 several_row : files_of (codes "ti" ∷ codes "check" ∷ codes "a" ∷ codes "b" ∷ []) ≡ codes "a" ∷ codes "b" ∷ []

@@ -7,6 +7,7 @@ use Rattle.clap.specs.declared.error.kind.ErrorKind.TheVariants as kind
 use Rattle.ti_line.specs.CommandLine.{faults, is_help}
 use Rattle.ti_line.specs.Requests.{Explains}
 use Rattle.ti_line.specs.inner.Errors.{TellsOf}
+use Rattle.ti_line.specs.declared.destination.Destination.{Destination}
 use Rattle.ti_line.specs.declared.no_line.NoLine.{NoLine}
 use Rattle.ti_line.specs.declared.no_line.NoLine.TheVariants as no_line
 
@@ -19,11 +20,11 @@ any_of p k (x ∷ ks) (inr h) t = or_true (p x) _ (any_of p k ks h t)
     or_true true b h = refl
     or_true false b h = h
 
-pub explains : (terminal : Bool) (words : List Text) (ks : Kinds) (k : ErrorKind) (why : NoLine) → ks ≡ faults words → (k ≡ kind.OutOfMemory) ⊎ IsAmong k ks → TellsOf k why → Explains terminal words why
-explains terminal words ks k (no_line.Help message) e (inl m) t = absurd (true≢false (sym t ∙ ap is_help m))
-explains terminal words ks k (no_line.Help message) e (inr a) t = subst (λ (l : Kinds). list_any is_help l ≡ true) e (any_of is_help k ks a t)
-explains terminal words ks k (no_line.Refused message) e (inl m) t = absurd (t.1 m)
-explains terminal words ks k (no_line.Refused message) e (inr a) t =
+pub explains : (to : Destination) (words : List Text) (ks : Kinds) (k : ErrorKind) (why : NoLine) → ks ≡ faults words → (k ≡ kind.OutOfMemory) ⊎ IsAmong k ks → TellsOf k why → Explains to words why
+explains to words ks k (no_line.Help message) e (inl m) t = absurd (true≢false (sym t ∙ ap is_help m))
+explains to words ks k (no_line.Help message) e (inr a) t = subst (λ (l : Kinds). list_any is_help l ≡ true) e (any_of is_help k ks a t)
+explains to words ks k (no_line.Refused message) e (inl m) t = absurd (t.1 m)
+explains to words ks k (no_line.Refused message) e (inr a) t =
     subst (λ (l : Kinds). list_any (λ x. not (is_help x)) l ≡ true) e (any_of (λ x. not (is_help x)) k ks a (ap not t.0))
-explains terminal words ks k (no_line.Fault why) e h t = absurd t
-explains terminal words ks k no_line.Memory e h t = tt
+explains to words ks k (no_line.Fault why) e h t = absurd t
+explains to words ks k no_line.Memory e h t = tt

@@ -398,7 +398,7 @@ line_within command rows =
     (either (bytes_eq command (codes "expand")) _ _ (bounded rows (expand_of rows) (λ name rate lines low. low) (first_of (codes "NAME") rows))
     (either (bytes_eq command (codes "convert")) _ _ tt
     (either (bytes_eq command (codes "get")) _ _ (bounded rows (get_of rows) (λ name rate lines low. low) (first_of (codes "NAME") rows))
-    (either (bytes_eq command (codes "diff")) (Some (Diff (flag_in (codes "expand") rows) (words_in (codes "FILE") rows))) None tt tt))))))))
+    (either (bytes_eq command (codes "diff")) (Some (Diff (flag_in (codes "json") rows) (flag_in (codes "expand") rows) (first_of (codes "color") rows) (words_in (codes "FILE") rows))) None tt tt))))))))
 
 pub within_request : (found : Option (Text × List Row)) (line : Line) → line_in found ≡ Some line → IsWithin line
 within_request None line e = absurd (none_some None line refl e)

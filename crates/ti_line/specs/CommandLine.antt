@@ -45,6 +45,10 @@ all_names_rule = short_rule (codes "all-names") (codes "a")
 abbrev pub json_rule : Rule
 json_rule = flag_rule (codes "json")
 
+-- `--color WHEN`
+abbrev pub color_rule : Rule
+color_rule = record (new_rule (codes "color")) { long = Some (codes "color"); value_names = 1 }
+
 -- an option with a number
 abbrev pub number_rule : Text → ℕ → Rule
 number_rule name most =
@@ -105,11 +109,11 @@ abbrev pub cap_app : App
 cap_app =
     with_rules (new_app (codes "cap")) (source_rule ∷ hex_rule ∷ escape_rule ∷ params_rule ∷ [])
 
--- `trace [--source] [--of NAME] [--escape] [--entry FILE] [PARAM..]`
+-- `trace [--source] [--of NAME] [--escape] [--json] [--color WHEN] [--entry FILE] [PARAM..]`
 abbrev pub trace_app : App
 trace_app =
     with_rules (new_app (codes "trace"))
-    (source_rule ∷ of_rule ∷ escape_rule ∷ entry_rule ∷ params_rule ∷ [])
+    (source_rule ∷ of_rule ∷ escape_rule ∷ json_rule ∷ color_rule ∷ entry_rule ∷ params_rule ∷ [])
 
 -- `show [--escape] [--all-names] [--json] [FILE..]`
 abbrev pub show_app : App
@@ -121,9 +125,10 @@ abbrev pub check_app : App
 check_app =
     with_rules (new_app (codes "check")) (escape_rule ∷ all_names_rule ∷ json_rule ∷ files_rule ∷ [])
 
--- `lint [--all] [FILE..]`
+-- `lint [--all] [--json] [--color WHEN] [FILE..]`
 abbrev pub lint_app : App
-lint_app = with_rules (new_app (codes "lint")) (flag_rule (codes "all") ∷ files_rule ∷ [])
+lint_app =
+    with_rules (new_app (codes "lint")) (flag_rule (codes "all") ∷ json_rule ∷ color_rule ∷ files_rule ∷ [])
 
 -- `expand NAME [--hex] [--escape] [--all-names] [--rate N] [--lines N] [--xon] [--entry FILE] [PARAM..]`
 abbrev pub expand_app : App
@@ -146,9 +151,10 @@ get_app =
     (name_rule ∷ hex_rule ∷ escape_rule ∷ rate_rule ∷ lines_rule ∷ flag_rule (codes "xon")
     ∷ entry_rule ∷ params_rule ∷ [])
 
--- `diff [--expand] [FILE..]`: the other entry, or the first and the other
+-- `diff [--expand] [--json] [--color WHEN] [FILE..]`: the other entry, or the first and the other
 abbrev pub diff_app : App
-diff_app = with_rules (new_app (codes "diff")) (flag_rule (codes "expand") ∷ files_rule ∷ [])
+diff_app =
+    with_rules (new_app (codes "diff")) (flag_rule (codes "expand") ∷ json_rule ∷ color_rule ∷ files_rule ∷ [])
 
 -- `ti` with a version, which wants a subcommand
 abbrev pub start_app : App
@@ -205,15 +211,15 @@ named_files names = if is_input names then [] else names
 -- what a line asks for, of which parameters are the words as they were given
 pub data Line : Type 0 where
   Cap : (source hex escape : Bool) → (params : List Text) → Line
-  Trace : (source : Bool) → (of_name : Option Text) → (escape has_entry : Bool) → (params : List Text)
-      → Line
+  Trace : (source : Bool) → (of_name : Option Text) → (json escape : Bool) → (color : Option Text) → (has_entry : Bool)
+      → (params : List Text) → Line
   Show : (json escape all_names : Bool) → Line
   Check : (json escape all_names : Bool) → Line
-  Lint : (all : Bool) → Line
+  Lint : (json all : Bool) → (color : Option Text) → Line
   Expand : (name : Text) → (hex escape all_names : Bool) → (rate lines : ℕ) → (xon : Bool)
       → (params : List Text) → Line
   Convert : (wide narrow force : Bool) → Line
-  Diff : (expand : Bool) → (files : List Text) → Line
+  Diff : (json expand : Bool) → (color : Option Text) → (files : List Text) → Line
   Get : (name : Text) → (hex escape : Bool) → (rate lines : ℕ) → (xon : Bool)
       → (params : List Text) → Line
 
@@ -248,7 +254,8 @@ line_by command rows =
     (flag_in (codes "escape") rows) (params_in rows))
     else (if bytes_eq command (codes "trace")
     then Some (Trace (flag_in (codes "source") rows) (first_of (codes "NAME") rows)
-    (flag_in (codes "escape") rows) (is_given_in (codes "FILE") rows) (params_in rows))
+    (flag_in (codes "json") rows) (flag_in (codes "escape") rows) (first_of (codes "color") rows)
+    (is_given_in (codes "FILE") rows) (params_in rows))
     else (if bytes_eq command (codes "show")
     then Some (Show (flag_in (codes "json") rows) (flag_in (codes "escape") rows)
     (flag_in (codes "all-names") rows))
@@ -256,7 +263,7 @@ line_by command rows =
     then Some (Check (flag_in (codes "json") rows) (flag_in (codes "escape") rows)
     (flag_in (codes "all-names") rows))
     else (if bytes_eq command (codes "lint")
-    then Some (Lint (flag_in (codes "all") rows))
+    then Some (Lint (flag_in (codes "json") rows) (flag_in (codes "all") rows) (first_of (codes "color") rows))
     else (if bytes_eq command (codes "expand")
     then option_and_then (expand_by rows) (first_of (codes "NAME") rows)
     else (if bytes_eq command (codes "convert")
@@ -265,7 +272,8 @@ line_by command rows =
     else (if bytes_eq command (codes "get")
     then option_and_then (get_by rows) (first_of (codes "NAME") rows)
     else (if bytes_eq command (codes "diff")
-    then Some (Diff (flag_in (codes "expand") rows) (words_in (codes "FILE") rows))
+    then Some (Diff (flag_in (codes "json") rows) (flag_in (codes "expand") rows) (first_of (codes "color") rows)
+    (words_in (codes "FILE") rows))
     else None))))))))
 
 -- what the subcommand that was found asks for

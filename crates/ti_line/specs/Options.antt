@@ -1,12 +1,19 @@
 -- How results are written: as the flags of a line request, or plainly.
-use Rattle.std.specs.Prelude.{ℕ, Bool, true, false, List, ◌++◌, codes}
+use Rattle.std.specs.Prelude.{ℕ, Bool, true, false, List, ◌++◌, Option, Some, None, codes, if◌then◌else◌}
+use Rattle.std.specs.Str.{bytes_eq}
 use Rattle.ti_words.specs.declared.all_names.NameTable.{NameTable}
 use Rattle.ti_words.specs.declared.all_names.NameTable.TheVariants as tables
+use Rattle.ti_escape.specs.declared.color.Color.{Color}
+use Rattle.ti_escape.specs.declared.color.Color.TheVariants as colors
 use Rattle.ti_escape.specs.declared.form.Form.{Form}
 use Rattle.ti_escape.specs.declared.form.Form.TheVariants as forms
 use Rattle.ti_escape.specs.Forms.{formed}
 use Rattle.ti_lint.specs.declared.scope.Scope.{Scope}
 use Rattle.ti_lint.specs.declared.scope.Scope.TheVariants as scopes
+use Rattle.ti_line.specs.declared.destination.Destination.{Destination}
+use Rattle.ti_line.specs.declared.destination.Destination.TheVariants as destinations
+use Rattle.ti_line.specs.declared.options.Comparison.{Comparison}
+use Rattle.ti_line.specs.declared.options.Comparison.TheVariants as comparisons
 use Rattle.ti_line.specs.declared.options.Document.TheVariants as documents
 use Rattle.ti_line.specs.declared.options.Likeness.{Likeness}
 use Rattle.ti_line.specs.declared.options.Likeness.TheVariants as likenesses
@@ -16,11 +23,34 @@ use Rattle.ti_line.specs.declared.options.NameForm.TheVariants as name_forms
 use Rattle.ti_line.specs.declared.options.Naming.{Naming}
 use Rattle.ti_line.specs.declared.options.Output.{Output}
 use Rattle.ti_line.specs.declared.options.Output.TheVariants as outputs
+use Rattle.ti_line.specs.declared.options.TraceForm.{TraceForm}
+use Rattle.ti_line.specs.declared.options.TraceForm.TheVariants as trace_forms
 use Rattle.ti_line.specs.declared.request.Asked.{Asked}
 use Rattle.ti_line.specs.declared.request.Asked.TheVariants as asks
 use Rattle.ti_line.specs.declared.request.OfCapability.{OfCapability}
 use Rattle.ti_line.specs.declared.request.OfEntry.{OfEntry}
 use Rattle.ti_line.specs.declared.request.OfEntry.TheVariants as of_entry
+
+-- results go to a terminal
+abbrev pub is_terminal : Destination → Bool
+is_terminal destinations.File = false
+is_terminal (destinations.Terminal color) = true
+
+-- whether parts of lines stand out if nothing else is asked for: only at a terminal
+abbrev pub color_at : Destination → Color
+color_at destinations.File = colors.Never
+color_at (destinations.Terminal color) = color
+
+-- what the word of `--color` asks for; another word than these asks for nothing
+abbrev pub color_by : Destination → List ℕ → Option Color
+color_by to word =
+    if bytes_eq word (codes "auto") then Some (color_at to)
+    else (if bytes_eq word (codes "always") then Some colors.Always
+    else (if bytes_eq word (codes "never") then Some colors.Never else None))
+
+abbrev pub color_asked : Destination → Option (List ℕ) → Option Color
+color_asked to None = Some (color_at to)
+color_asked to (Some word) = color_by to word
 
 -- an output: its bytes as they stand, or in a form with a newline
 abbrev pub output_bytes : Output → List ℕ → List ℕ
@@ -85,3 +115,18 @@ show_asked false all_names escape terminal = of_entry.Show (list_options all_nam
 abbrev pub check_asked : Bool → Bool → Bool → Bool → OfEntry
 check_asked true all_names escape terminal = of_entry.Json documents.Verdicts
 check_asked false all_names escape terminal = of_entry.Check (naming_asked all_names escape terminal)
+
+-- what `lint` asks for by `--json` and `--all`
+abbrev pub lint_asked : Bool → Bool → Color → OfEntry
+lint_asked true all color = of_entry.Json (documents.Findings (scope_asked all))
+lint_asked false all color = of_entry.Lint (scope_asked all) color
+
+-- what `trace` asks for by `--json` and `--escape`
+abbrev pub trace_asked : Bool → Bool → Color → TraceForm
+trace_asked true escape color = trace_forms.Json
+trace_asked false escape color = trace_forms.Lines (form_asked escape) color
+
+-- what `diff` asks for by `--json`
+abbrev pub comparison_asked : Bool → Color → Comparison
+comparison_asked true color = comparisons.Json
+comparison_asked false color = comparisons.Lines color

@@ -2,11 +2,13 @@
 
 ghost use Rattle.std.specs.Prelude.{◌≡◌};
 ghost use Rattle.ti_line.specs.Requests.{width_asked as the_width_asked};
-ghost use Rattle.ti_line.specs.Options.{check_asked as the_check_asked, form_asked as the_form_asked, input_asked as the_input_asked, likeness_asked as the_likeness_asked, list_options as the_list_options, names_asked as the_names_asked, naming_asked as the_naming_asked, output_asked as the_output_asked, scope_asked as the_scope_asked, show_asked as the_show_asked};
+ghost use Rattle.ti_line.specs.Options.{check_asked as the_check_asked, comparison_asked as the_comparison_asked, form_asked as the_form_asked, input_asked as the_input_asked, likeness_asked as the_likeness_asked, lint_asked as the_lint_asked, list_options as the_list_options, names_asked as the_names_asked, naming_asked as the_naming_asked, output_asked as the_output_asked, scope_asked as the_scope_asked, show_asked as the_show_asked, trace_asked as the_trace_asked};
 
-use crate::options::{Document, Likeness, ListOptions, NameForm, Naming, Output};
+use crate::options::{
+    Comparison, Document, Likeness, ListOptions, NameForm, Naming, Output, TraceForm,
+};
 use crate::request::{Asked, OfCapability, OfEntry};
-use ti_escape::Form;
+use ti_escape::{Color, Form};
 use ti_lint::Scope;
 use ti_words::{NameTable, Width};
 
@@ -111,6 +113,39 @@ pub fn check_asked<'a>(json: bool, all_names: bool, escape: bool, terminal: bool
         OfEntry::Json(Document::Verdicts)
     } else {
         OfEntry::Check(naming_asked(all_names, escape, terminal))
+    }
+}
+
+/// What `lint` requests of an entry, which `--json` makes a document.
+pub fn lint_asked<'a>(json: bool, all: bool, color: Color) -> OfEntry<'a>
+    ensures { result ≡ the_lint_asked json all color }
+{
+    if json {
+        OfEntry::Json(Document::Findings(scope_asked(all)))
+    } else {
+        OfEntry::Lint(scope_asked(all), color)
+    }
+}
+
+/// How `trace` writes, by `--json` and `--escape`, which exclude each other.
+pub fn trace_asked(json: bool, escape: bool, color: Color) -> TraceForm
+    ensures { result ≡ the_trace_asked json escape color }
+{
+    if json {
+        TraceForm::Json
+    } else {
+        TraceForm::Lines(form_asked(escape), color)
+    }
+}
+
+/// How `diff` writes.
+pub fn comparison_asked(json: bool, color: Color) -> Comparison
+    ensures { result ≡ the_comparison_asked json color }
+{
+    if json {
+        Comparison::Json
+    } else {
+        Comparison::Lines(color)
     }
 }
 

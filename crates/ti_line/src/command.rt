@@ -2,7 +2,7 @@
 
 ghost use Rattle.std.specs.Prelude.{◌≡◌, [], ◌∷◌, IfOk, false};
 ghost use Rattle.clap.specs.Words.{App, app_of, new_app, rule_of};
-ghost use Rattle.ti_line.specs.CommandLine.{all_names_rule, cap_app, check_app, convert_app, diff_app, entry_rule, escape_rule, expand_app, file_rule, files_rule, flag_rule, get_app, hex_rule, json_rule, lint_app, name_rule, number_rule, of_rule, params_rule, show_app, source_rule, start_app, ti_app, trace_app, with_commands, with_rules};
+ghost use Rattle.ti_line.specs.CommandLine.{all_names_rule, cap_app, check_app, color_rule, convert_app, diff_app, entry_rule, escape_rule, expand_app, file_rule, files_rule, flag_rule, get_app, hex_rule, json_rule, lint_app, name_rule, number_rule, of_rule, params_rule, show_app, source_rule, start_app, ti_app, trace_app, with_commands, with_rules};
 ghost use Rattle.ti_line.specs.inner.Command.{HasNoGlobals};
 
 use clap::{Arg, ArgAction, Command, value_parser};
@@ -50,6 +50,17 @@ fn json<'a>(alloc: Global) -> Arg<'a>
     ensures local { result.global ≡ false }
 {
     flag(alloc, "json", JSON)
+}
+
+/// `--color WHEN`.
+fn color<'a>(alloc: Global) -> Arg<'a>
+    ensures rule { rule_of result ≡ color_rule }
+    ensures local { result.global ≡ false }
+{
+    Arg::new(alloc, "color")
+        .long("color")
+        .value_name("WHEN")
+        .help(COLOR)
 }
 
 /// `-a` or `--all-names`.
@@ -165,6 +176,9 @@ terminfo(5), such as \\E[H";
 const JSON: &str = "Write JSON, with the names of all 497 capabilities, and
 texts in the notation of terminfo(5)";
 
+const COLOR: &str = "Let parts of lines stand out: always, never, or auto, at a
+terminal unless NO_COLOR is set; default auto";
+
 const ALL_NAMES: &str = "Use the names of all 497 capabilities, in place of
 the 114 common ones";
 
@@ -263,9 +277,8 @@ fn lint<'a>(alloc: Global) -> Result<Command<'a>, AllocError>
         "Tell what is wrong with an entry; status 1 if something is",
         "Example, of all entries in a folder:\n  ti lint /lib/terminfo",
     );
-    command
-        .arg(flag(alloc, "all", ALL))?
-        .arg(files(alloc, FILES))
+    let command = with_two(command, flag(alloc, "all", ALL), json(alloc))?;
+    with_two(command, color(alloc), files(alloc, FILES))
 }
 
 fn get<'a>(alloc: Global) -> Result<Command<'a>, AllocError>
@@ -321,9 +334,8 @@ fn diff<'a>(alloc: Global) -> Result<Command<'a>, AllocError>
         "Tell two entries apart, one line an item; status 1 if they differ",
         "Example, - for what only the first has, + for the other:\n  ti diff /lib/terminfo/x/xterm /lib/terminfo/x/xterm-color",
     );
-    command
-        .arg(flag(alloc, "expand", EXPAND))?
-        .arg(files(alloc, PAIR))
+    let command = with_two(command, flag(alloc, "expand", EXPAND), json(alloc))?;
+    with_two(command, color(alloc), files(alloc, PAIR))
 }
 
 fn convert<'a>(alloc: Global) -> Result<Command<'a>, AllocError>
@@ -373,7 +385,8 @@ fn trace<'a>(alloc: Global) -> Result<Command<'a>, AllocError>
         "Example, which shows the stack and the output after each token:\n  echo '\\E[%p1%dG' | ti trace --source --escape n:7\n\nOf an entry:\n  ti trace --escape --of cup 4 9 < /lib/terminfo/x/xterm",
     );
     let command = with_two(command, source(alloc), of(alloc))?;
-    let command = with_two(command, escape(alloc), entry(alloc))?;
+    let command = with_two(command, escape(alloc), json(alloc))?;
+    let command = with_two(command, color(alloc), entry(alloc))?;
     command.arg(params(alloc, TRACE_PARAMS))
 }
 

@@ -7,6 +7,7 @@
 
 mod asked;
 mod command;
+mod destination;
 mod given;
 pub mod laws;
 mod matches;
@@ -19,10 +20,13 @@ mod read;
 mod request;
 
 pub use asked::{list_options, naming_asked, output_asked};
+pub use destination::Destination;
 pub use given::{Given, Param, read_given};
 pub use message::Message;
 pub use no_line::{LineFault, NoLine};
-pub use options::{Document, Likeness, ListOptions, NameForm, Naming, Output};
+pub use options::{
+    Comparison, Document, Likeness, ListOptions, NameForm, Naming, Output, TraceForm,
+};
 pub use params::{WordFault, read_params};
 pub use read::read_line;
 pub use request::{

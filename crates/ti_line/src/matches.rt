@@ -3,28 +3,30 @@
 ghost use Rattle.std.specs.Prelude.{◌≡◌, ◌≤◌, ◌&&◌, ◌||◌, true, false, Bool, IfOk, IfSome, IsSome, MatchResult, codes, option_map};
 ghost use Rattle.ti_base.specs.Limits.{greatest_rate, most_lines};
 ghost use Rattle.clap.specs.Words.{first_of};
-ghost use Rattle.ti_line.specs.CommandLine.{Cap, Check, Convert, Diff, Show, Trace, expand_by, flag_in, get_by, is_given_in, is_input as the_is_input, line_by, named_files, number_in, params_in, words_in};
+ghost use Rattle.ti_line.specs.CommandLine.{Cap, Check, Convert, Diff, Lint, Show, Trace, expand_by, flag_in, get_by, is_given_in, is_input as the_is_input, line_by, named_files, number_in, params_in, words_in};
 ghost use Rattle.ti_line.specs.Params.{AreParams, IsGivenBy};
-ghost use Rattle.ti_line.specs.Requests.{GiveNone, IsAnswered, StandForNone, compared, setting_of, texts_of};
-ghost use Rattle.ti_line.specs.Options.{form_asked as the_form_asked, output_asked as the_output_asked};
+ghost use Rattle.ti_line.specs.Requests.{GiveNone, IsAnswered, IsNoTraceForm, IsTraceForm, StandForNone, compared, setting_of, texts_of};
+ghost use Rattle.ti_line.specs.Options.{color_asked, comparison_asked as the_comparison_asked, output_asked as the_output_asked};
+ghost use Rattle.ti_line.specs.declared.destination.Destination.{Destination};
 ghost use Rattle.ti_line.specs.declared.no_line.LineFault.TheVariants as fault;
 ghost use Rattle.ti_line.specs.declared.request.Asked.TheVariants.{Entry};
 ghost use Rattle.ti_line.specs.inner.Matches.{given_rows};
 
 use crate::asked::{
-    check_asked, form_asked, input_asked, likeness_asked, names_asked, output_asked, scope_asked,
-    show_asked, width_asked,
+    check_asked, comparison_asked, input_asked, likeness_asked, lint_asked, names_asked,
+    output_asked, show_asked, trace_asked, width_asked,
 };
+use crate::destination::Destination;
 use crate::given::{Given, read_given};
 use crate::no_line::LineFault;
-use crate::options::{Likeness, Output};
+use crate::options::{Comparison, Likeness, Output, TraceForm};
 use crate::params::{WordFault, read_params};
 use crate::request::{
     Asked, Difference, Expand, Get, OfCapability, OfEntry, Request, TextName, TraceOf,
 };
 use clap::ArgMatches;
 use std::alloc::{AllocError, Global};
-use ti_escape::Form;
+use ti_escape::Color;
 use ti_expand::Value;
 use ti_pad::Padding;
 
@@ -111,8 +113,8 @@ fn output(given: &ArgMatches<'_>) -> Result<Output, LineFault>
 
 /// What `cap` requests.
 fn cap<'a>(given: &ArgMatches<'a>) -> Result<Request<'a>, LineFault>
-    ensures { (terminal : Bool) → let rows = given_rows given.now in
-        IsAnswered terminal
+    ensures { (to : Destination) → let rows = given_rows given.now in
+        IsAnswered to
         (Cap (flag_in (codes "source") rows) (flag_in (codes "hex") rows)
         (flag_in (codes "escape") rows) (params_in rows)) result }
 {
@@ -123,59 +125,91 @@ fn cap<'a>(given: &ArgMatches<'a>) -> Result<Request<'a>, LineFault>
     })
 }
 
-/// The form of the texts in a trace.
-fn form(given: &ArgMatches<'_>) -> Form
-    ensures { result ≡ the_form_asked (flag_in (codes "escape") (given_rows given.now)) }
+/// Whether parts of lines stand out, by `--color` and by where results go.
+fn color(to: Destination, given: &ArgMatches<'_>) -> Result<Color, LineFault>
+    ensures { let asked = color_asked to (first_of (codes "color") (given_rows given.now)) in
+        MatchResult result
+        (λ color. asked ≡ Some color)
+        (λ why. (asked ≡ None) × (why ≡ fault.ColorWord)) }
 {
-    form_asked(flag(given, "escape"))
+    match text(given, "color") {
+        None => Ok(to.color()),
+        Some("auto") => Ok(to.color()),
+        Some("always") => Ok(Color::Always),
+        Some("never") => Ok(Color::Never),
+        Some(_) => Err(LineFault::ColorWord),
+    }
+}
+
+/// How a trace is written. `--json` excludes `--escape`.
+fn trace_form(to: Destination, given: &ArgMatches<'_>) -> Result<TraceForm, LineFault>
+    ensures { let rows = given_rows given.now in
+        let json = flag_in (codes "json") rows in
+        let escape = flag_in (codes "escape") rows in
+        let color = first_of (codes "color") rows in
+        MatchResult result (IsTraceForm to json escape color) (IsNoTraceForm to json escape color) }
+{
+    let (json, escape) = (flag(given, "json"), flag(given, "escape"));
+    if json && escape {
+        return Err(LineFault::JsonForm);
+    }
+    Ok(trace_asked(json, escape, color(to, given)?))
 }
 
 /// What `trace` requests of the capability with a name, in place of which no notation is to be read.
-fn trace_of<'a>(given: &ArgMatches<'a>, name: &'a str) -> Result<Request<'a>, LineFault>
-    ensures { (terminal has_entry : Bool) → let rows = given_rows given.now in
-        IsAnswered terminal
-        (Trace (flag_in (codes "source") rows) (Some name.entry.now) (flag_in (codes "escape") rows)
-        has_entry (params_in rows)) result }
+fn trace_of<'a>(
+    to: Destination,
+    given: &ArgMatches<'a>,
+    name: &'a str,
+) -> Result<Request<'a>, LineFault>
+    ensures { (has_entry : Bool) → let rows = given_rows given.now in
+        IsAnswered to
+        (Trace (flag_in (codes "source") rows) (Some name.entry.now) (flag_in (codes "json") rows)
+        (flag_in (codes "escape") rows) (first_of (codes "color") rows) has_entry (params_in rows)) result }
 {
     if flag(given, "source") {
         return Err(LineFault::BothInputs);
     }
+    let form = trace_form(to, given)?;
     Ok(Request {
         parameters: NO_PARAMETERS,
         asked: Asked::Entry(OfEntry::Trace(TraceOf {
             name,
             given: given_parameters(given)?,
-            form: form(given),
+            form,
         })),
     })
 }
 
 /// What `trace` requests of the capability that is read.
-fn trace_input<'a>(given: &ArgMatches<'a>) -> Result<Request<'a>, LineFault>
-    ensures { (terminal : Bool) → let rows = given_rows given.now in
-        IsAnswered terminal
-        (Trace (flag_in (codes "source") rows) None (flag_in (codes "escape") rows)
+fn trace_input<'a>(to: Destination, given: &ArgMatches<'a>) -> Result<Request<'a>, LineFault>
+    ensures { let rows = given_rows given.now in
+        IsAnswered to
+        (Trace (flag_in (codes "source") rows) None (flag_in (codes "json") rows)
+        (flag_in (codes "escape") rows) (first_of (codes "color") rows)
         (is_given_in (codes "FILE") rows) (params_in rows)) result }
 {
     if text(given, "FILE").is_some() {
         return Err(LineFault::EntryWithoutName);
     }
+    let form = trace_form(to, given)?;
     Ok(Request {
         parameters: parameters(given)?,
-        asked: input_asked(flag(given, "source"), OfCapability::Trace(form(given))),
+        asked: input_asked(flag(given, "source"), OfCapability::Trace(form)),
     })
 }
 
 /// What `trace` requests.
-fn trace<'a>(given: &ArgMatches<'a>) -> Result<Request<'a>, LineFault>
-    ensures { (terminal : Bool) → let rows = given_rows given.now in
-        IsAnswered terminal
+fn trace<'a>(to: Destination, given: &ArgMatches<'a>) -> Result<Request<'a>, LineFault>
+    ensures { let rows = given_rows given.now in
+        IsAnswered to
         (Trace (flag_in (codes "source") rows) (first_of (codes "NAME") rows)
-        (flag_in (codes "escape") rows) (is_given_in (codes "FILE") rows) (params_in rows)) result }
+        (flag_in (codes "json") rows) (flag_in (codes "escape") rows) (first_of (codes "color") rows)
+        (is_given_in (codes "FILE") rows) (params_in rows)) result }
 {
     match text(given, "NAME") {
-        Some(name) => trace_of(given, name),
-        None => trace_input(given),
+        Some(name) => trace_of(to, given, name),
+        None => trace_input(to, given),
     }
 }
 
@@ -196,30 +230,30 @@ fn json(given: &ArgMatches<'_>) -> Result<bool, LineFault>
 }
 
 /// What `show` requests.
-fn show<'a>(terminal: bool, given: &ArgMatches<'a>) -> Result<Request<'a>, LineFault>
+fn show<'a>(to: Destination, given: &ArgMatches<'a>) -> Result<Request<'a>, LineFault>
     ensures { let rows = given_rows given.now in
-        IsAnswered terminal (Show (flag_in (codes "json") rows) (flag_in (codes "escape") rows)
+        IsAnswered to (Show (flag_in (codes "json") rows) (flag_in (codes "escape") rows)
         (flag_in (codes "all-names") rows)) result }
 {
     let json = json(given)?;
     let (escape, all_names) = (flag(given, "escape"), flag(given, "all-names"));
     Ok(Request {
         parameters: NO_PARAMETERS,
-        asked: Asked::Entry(show_asked(json, all_names, escape, terminal)),
+        asked: Asked::Entry(show_asked(json, all_names, escape, to.is_terminal())),
     })
 }
 
 /// What `check` requests.
-fn check<'a>(terminal: bool, given: &ArgMatches<'a>) -> Result<Request<'a>, LineFault>
+fn check<'a>(to: Destination, given: &ArgMatches<'a>) -> Result<Request<'a>, LineFault>
     ensures { let rows = given_rows given.now in
-        IsAnswered terminal (Check (flag_in (codes "json") rows) (flag_in (codes "escape") rows)
+        IsAnswered to (Check (flag_in (codes "json") rows) (flag_in (codes "escape") rows)
         (flag_in (codes "all-names") rows)) result }
 {
     let json = json(given)?;
     let (escape, all_names) = (flag(given, "escape"), flag(given, "all-names"));
     Ok(Request {
         parameters: NO_PARAMETERS,
-        asked: Asked::Entry(check_asked(json, all_names, escape, terminal)),
+        asked: Asked::Entry(check_asked(json, all_names, escape, to.is_terminal())),
     })
 }
 
@@ -241,8 +275,8 @@ fn padding(given: &ArgMatches<'_>) -> Padding
 /// What `expand` requests of a name.
 fn expand<'a>(given: &ArgMatches<'a>, name: &'a str) -> Result<Request<'a>, LineFault>
     requires within { IsSome (expand_by (given_rows given.now) name.now) }
-    ensures { (terminal : Bool) → IfSome (expand_by (given_rows given.now) name.entry.now)
-        (λ line. IsAnswered terminal line result) }
+    ensures { (to : Destination) → IfSome (expand_by (given_rows given.now) name.entry.now)
+        (λ line. IsAnswered to line result) }
 {
     let output = output(given)?;
     let names = names_asked(flag(given, "all-names"));
@@ -257,16 +291,16 @@ fn expand<'a>(given: &ArgMatches<'a>, name: &'a str) -> Result<Request<'a>, Line
 }
 
 /// What `convert` requests.
-fn convert<'a>(terminal: bool, given: &ArgMatches<'a>) -> Result<Request<'a>, LineFault>
+fn convert<'a>(to: Destination, given: &ArgMatches<'a>) -> Result<Request<'a>, LineFault>
     ensures { let rows = given_rows given.now in
-        IsAnswered terminal (Convert (flag_in (codes "wide") rows) (flag_in (codes "narrow") rows)
+        IsAnswered to (Convert (flag_in (codes "wide") rows) (flag_in (codes "narrow") rows)
         (flag_in (codes "force") rows)) result }
 {
     let (wide, narrow) = (flag(given, "wide"), flag(given, "narrow"));
     if wide && narrow {
         return Err(LineFault::BothWidths);
     }
-    if terminal && !flag(given, "force") {
+    if to.is_terminal() && !flag(given, "force") {
         return Err(LineFault::ToTerminal);
     }
     Ok(Request {
@@ -276,34 +310,38 @@ fn convert<'a>(terminal: bool, given: &ArgMatches<'a>) -> Result<Request<'a>, Li
 }
 
 /// The files that words name to be compared.
-fn pair<'a>(likeness: Likeness, words: &[&'a str]) -> Option<Difference<'a>>
+fn pair<'a>(likeness: Likeness, form: Comparison, words: &[&'a str]) -> Option<Difference<'a>>
     ensures files { option_map (λ d. (d.file.now, d.other.now)) result
         ≡ compared (texts_of words.now) }
     ensures likeness { IfSome result (λ d. d.likeness ≡ likeness) }
+    ensures form { IfSome result (λ d. d.form ≡ form) }
 {
     match words {
         [other] => Some(Difference {
             file: "-",
             other: *other,
             likeness,
+            form,
         }),
         [file, other] => Some(Difference {
             file: *file,
             other: *other,
             likeness,
+            form,
         }),
         _ => None,
     }
 }
 
 /// What `diff` requests.
-fn diff<'a>(given: &ArgMatches<'a>) -> Result<Request<'a>, LineFault>
-    ensures { (terminal : Bool) → IsAnswered terminal
-        (Diff (flag_in (codes "expand") (given_rows given.now))
-        (words_in (codes "FILE") (given_rows given.now))) result }
+fn diff<'a>(to: Destination, given: &ArgMatches<'a>) -> Result<Request<'a>, LineFault>
+    ensures { let rows = given_rows given.now in IsAnswered to
+        (Diff (flag_in (codes "json") rows) (flag_in (codes "expand") rows)
+        (first_of (codes "color") rows) (words_in (codes "FILE") rows)) result }
 {
+    let form = comparison_asked(flag(given, "json"), color(to, given)?);
     let likeness = likeness_asked(flag(given, "expand"));
-    match pair(likeness, given.get_strs("FILE").unwrap_or(&[])) {
+    match pair(likeness, form, given.get_strs("FILE").unwrap_or(&[])) {
         Some(pair) => Ok(Request {
             parameters: NO_PARAMETERS,
             asked: Asked::Difference(pair),
@@ -312,11 +350,24 @@ fn diff<'a>(given: &ArgMatches<'a>) -> Result<Request<'a>, LineFault>
     }
 }
 
+/// What `lint` requests.
+fn lint<'a>(to: Destination, given: &ArgMatches<'a>) -> Result<Request<'a>, LineFault>
+    ensures { let rows = given_rows given.now in IsAnswered to
+        (Lint (flag_in (codes "json") rows) (flag_in (codes "all") rows)
+        (first_of (codes "color") rows)) result }
+{
+    let color = color(to, given)?;
+    Ok(Request {
+        parameters: NO_PARAMETERS,
+        asked: Asked::Entry(lint_asked(flag(given, "json"), flag(given, "all"), color)),
+    })
+}
+
 /// What `get` requests of a name.
 fn get<'a>(given: &ArgMatches<'a>, name: &'a str) -> Result<Request<'a>, LineFault>
     requires within { IsSome (get_by (given_rows given.now) name.now) }
-    ensures { (terminal : Bool) → IfSome (get_by (given_rows given.now) name.entry.now)
-        (λ line. IsAnswered terminal line result) }
+    ensures { (to : Destination) → IfSome (get_by (given_rows given.now) name.entry.now)
+        (λ line. IsAnswered to line result) }
 {
     let output = output(given)?;
     Ok(Request {
@@ -330,31 +381,28 @@ fn get<'a>(given: &ArgMatches<'a>, name: &'a str) -> Result<Request<'a>, LineFau
     })
 }
 
-/// What a subcommand and its values ask for, by whether results go to a terminal.
+/// What a subcommand and its values ask for, by where results go.
 pub(crate) fn request_of<'a>(
-    terminal: bool,
+    to: Destination,
     command: &str,
     given: &ArgMatches<'a>,
 ) -> Result<Request<'a>, LineFault>
     requires { IsSome (line_by command.now (given_rows given.now)) }
     ensures { IfSome (line_by command.now (given_rows given.now))
-        (λ line. IsAnswered terminal line result) }
+        (λ line. IsAnswered to line result) }
 {
     match command {
         "cap" => cap(given),
-        "trace" => trace(given),
-        "show" => show(terminal, given),
-        "check" => check(terminal, given),
-        "lint" => Ok(Request {
-            parameters: NO_PARAMETERS,
-            asked: Asked::Entry(OfEntry::Lint(scope_asked(flag(given, "all")))),
-        }),
+        "trace" => trace(to, given),
+        "show" => show(to, given),
+        "check" => check(to, given),
+        "lint" => lint(to, given),
         "expand" => match text(given, "NAME") {
             Some(name) => expand(given, name),
             None => unreachable!(),
         },
-        "convert" => convert(terminal, given),
-        "diff" => diff(given),
+        "convert" => convert(to, given),
+        "diff" => diff(to, given),
         "get" => match text(given, "NAME") {
             Some(name) => get(given, name),
             None => unreachable!(),

@@ -13,9 +13,12 @@ pub enum LineFault {
     /// An output is to be written in both forms, by `--hex` and `--escape`.
     #[error("BothForms")]
     BothForms,
-    /// A listing is to be JSON, and to have names or texts in a form, by `--json` and `--escape` or `--all-names`.
+    /// A listing or a trace is to be JSON, and to have names or texts in a form, by `--json` and `--escape` or `--all-names`.
     #[error("JsonForm")]
     JsonForm,
+    /// The word of `--color` is none of `auto`, `always` and `never`.
+    #[error("ColorWord")]
+    ColorWord,
     /// `trace` is to read a capability and to take one of an entry, by `--source` and `--of`.
     #[error("BothInputs")]
     BothInputs,

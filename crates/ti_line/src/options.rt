@@ -1,6 +1,7 @@
 //! How results are written.
 
-use ti_escape::Form;
+use ti_escape::{Color, Form};
+use ti_lint::Scope;
 use ti_words::NameTable;
 
 /// How the names that an entry brings with it are written: its own, and those of its extended capabilities.
@@ -46,6 +47,26 @@ pub enum Document {
     Listing,
     /// The verdict on each of its texts, as `check` gives it.
     Verdicts,
+    /// What is wrong with it, as `lint` tells it.
+    Findings(Scope),
+}
+
+/// How a trace is written.
+#[derive(Clone, Copy, Debug, PartialEq, Eq)]
+pub enum TraceForm {
+    /// As lines, with texts in a form; those of tokens that are passed over may stand out.
+    Lines(Form, Color),
+    /// As a document of JSON.
+    Json,
+}
+
+/// How it is written what two entries do not have alike.
+#[derive(Clone, Copy, Debug, PartialEq, Eq)]
+pub enum Comparison {
+    /// As lines, which may stand out.
+    Lines(Color),
+    /// As a document of JSON.
+    Json,
 }
 
 /// How the output of a capability is written.

@@ -9,6 +9,7 @@ ghost use Rattle.ti_line.specs.Message.{message_text};
 ghost use Rattle.ti_line.specs.inner.Errors.{TellsOf};
 
 use crate::command::program;
+use crate::destination::Destination;
 use crate::matches::{files, request_of};
 use crate::message::Message;
 use crate::no_line::{LineFault, NoLine};
@@ -21,10 +22,10 @@ use std::alloc::{AllocError, Global};
 /// Reads the words by `clap`. Words in which it finds no fault make a line, which requests something or has a fault.
 fn read_words<'a>(
     alloc: Global,
-    terminal: bool,
+    to: Destination,
     words: &'a [&'a str],
 ) -> Result<Result<Task<'a>, LineFault>, Error>
-    ensures read { IfOk result (λ answer. IsSaidOf terminal (texts_of words.entry.now)
+    ensures read { IfOk result (λ answer. IsSaidOf to (texts_of words.entry.now)
         (line_in (subcommand_of ti_app (texts_of words.entry.now))) answer) }
     ensures kinds { FailsBy (faults (texts_of words.entry.now)) result }
 {
@@ -32,7 +33,7 @@ fn read_words<'a>(
     match matches.subcommand() {
         Some((command, given)) => {
             let files = files(alloc, given)?;
-            match request_of(terminal, command, given) {
+            match request_of(to, command, given) {
                 Ok(request) => Ok(Ok(Task { request, files })),
                 Err(fault) => Ok(Err(fault)),
             }
@@ -65,8 +66,7 @@ fn no_line<'a>(alloc: Global, words: &'a [&'a str], error: &Error) -> NoLine
     }
 }
 
-/// Reads `words`, of which the first is the program's own name, as a command line. `terminal` says whether results go to
-/// a terminal.
+/// Reads `words`, of which the first is the program's own name, as a command line. `to` says where results go.
 ///
 /// Options may stand before, between and after the parameters. After `--` each word is a parameter, or the name of
 /// `expand`, also one that starts with a hyphen. Words are text, so what is no UTF-8 is the caller's to refuse.
@@ -81,23 +81,23 @@ fn no_line<'a>(alloc: Global, words: &'a [&'a str], error: &Error) -> NoLine
 /// # Examples
 ///
 /// ```rust
-/// let Task { request, .. } = read_line(rt.alloc(), false, &["ti", "cap", "n:7"])?;
+/// let Task { request, .. } = read_line(rt.alloc(), Destination::File, &["ti", "cap", "n:7"])?;
 /// assert!(rt; matches!(request.asked, Asked::Capability(OfCapability::Cap(_))));
 /// ```
 pub fn read_line<'a>(
     alloc: Global,
-    terminal: bool,
+    to: Destination,
     words: &'a [&'a str],
 ) -> Result<Task<'a>, NoLine>
     ensures read { IfOk result (λ task. (line : Line) × Reads (texts_of words.entry.now) line
-        × IsTask terminal (texts_of words.entry.now) line task) }
+        × IsTask to (texts_of words.entry.now) line task) }
     ensures only { (line : Line) → Reads (texts_of words.entry.now) line
-        → IsReadAs terminal (texts_of words.entry.now) line result }
-    ensures none { IfErr result (Explains terminal (texts_of words.entry.now)) }
+        → IsReadAs to (texts_of words.entry.now) line result }
+    ensures none { IfErr result (Explains to (texts_of words.entry.now)) }
     // A message is never empty.
     ensures says { IfErr result HasText }
 {
-    match read_words(alloc, terminal, words) {
+    match read_words(alloc, to, words) {
         Ok(Ok(task)) => Ok(task),
         Ok(Err(fault)) => Err(NoLine::Fault(fault)),
         Err(error) => Err(no_line(alloc, words, &error)),

@@ -1,8 +1,8 @@
 //! What a command line requests, all of it valid.
 
 use crate::given::Given;
-use crate::options::{Document, Likeness, ListOptions, Naming, Output};
-use ti_escape::Form;
+use crate::options::{Comparison, Document, Likeness, ListOptions, Naming, Output, TraceForm};
+use ti_escape::Color;
 use ti_expand::Value;
 use ti_lint::Scope;
 use ti_pad::Padding;
@@ -49,6 +49,8 @@ pub struct Difference<'a> {
     pub other: &'a str,
     /// When their texts are alike.
     pub likeness: Likeness,
+    /// How the result is written.
+    pub form: Comparison,
 }
 
 /// What is requested of a capability.
@@ -56,8 +58,8 @@ pub struct Difference<'a> {
 pub enum OfCapability {
     /// To expand it.
     Cap(Output),
-    /// To show what each of its tokens does, with texts in a form.
-    Trace(Form),
+    /// To show what each of its tokens does.
+    Trace(TraceForm),
 }
 
 /// What is requested of an entry.
@@ -69,8 +71,8 @@ pub enum OfEntry<'a> {
     Json(Document),
     /// To analyse each of its texts.
     Check(Naming),
-    /// To tell what is wrong with it.
-    Lint(Scope),
+    /// To tell what is wrong with it, in lines of which parts may stand out.
+    Lint(Scope, Color),
     /// To expand and pad one of its texts.
     Expand(Expand<'a>),
     /// To write it in its canonical layout, in a width or else in its own.
@@ -112,8 +114,8 @@ pub struct TraceOf<'a> {
     pub name: &'a str,
     /// The parameters; with none all are the number 0.
     pub given: Option<Given<'a>>,
-    /// The form of the texts in the trace.
-    pub form: Form,
+    /// How the trace is written.
+    pub form: TraceForm,
 }
 
 /// The name of a text.

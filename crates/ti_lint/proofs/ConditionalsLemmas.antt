@@ -231,17 +231,21 @@ parted xs n d less = sym (take-append-drop n xs) ∙ ap (λ x. take n xs ++ x) (
 pub rest_of : (xs : List Token) (n : ℕ) → take (length xs - n) (drop n xs) ≡ drop n xs
 rest_of xs n = ap (λ x. take x (drop n xs)) (sym (length-drop n xs)) ∙ take-length (drop n xs)
 
-pub constants_there : (before : List Token) (start : ℕ) (d : Token) → ConstantsFrom before start → 0 < start → starts_test (get_or before (start - 1) d) ≡ true → LeavesValue (drop start before) → IsConstantTest before
-constants_there before start d from some starts (spare, leaves) = record {
-  head = take (start - 1) before;
-  first = get_or before (start - 1) d;
-  test = drop start before;
-  spare = spare;
-  spans = parted before (start - 1) d (omega (arith, from.within)) ∙ ap (λ n. take (start - 1) before ++ get_or before (start - 1) d ∷ drop n before) (omega arith);
-  starts = starts;
-  constant = from.constant;
-  leaves = leaves;
-}
+pub constants_there : (before : List Token) (start : ℕ) (d : Token) → ConstantsFrom before start → 0 < start → starts_test (get_or before (start - 1) d) ≡ true → LeavesValue (drop start before)
+    → (found : IsConstantTest before) × (found.test ≡ drop start before)
+constants_there before start d from some starts (spare, leaves) = (
+  record {
+    head = take (start - 1) before;
+    first = get_or before (start - 1) d;
+    test = drop start before;
+    spare = spare;
+    spans = parted before (start - 1) d (omega (arith, from.within)) ∙ ap (λ n. take (start - 1) before ++ get_or before (start - 1) d ∷ drop n before) (omega arith);
+    starts = starts;
+    constant = from.constant;
+    leaves = leaves;
+  },
+  refl,
+)
 
 pub constants_back : (before : List Token) (start : ℕ) (d : Token) → ConstantsFrom before start → IsConstantTest before → (0 < start) × (starts_test (get_or before (start - 1) d) ≡ true) × LeavesValue (drop start before)
 constants_back before start d from c =

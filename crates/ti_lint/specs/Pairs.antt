@@ -1,13 +1,15 @@
 -- Texts of which one undoes what the other does.
-use Rattle.std.specs.Prelude.{ℕ, List, [], ◌∷◌, Option, Some, codes, slice_get}
-use Rattle.ti_words.specs.NameLists.{all_texts}
+use Rattle.std.specs.Prelude.{ℕ, List, [], ◌∷◌, Option, Some, codes}
+use Rattle.ti_words.specs.declared.Kind.TheVariants as kinds
+use Rattle.ti_words.specs.declared.all_names.NameTable.TheVariants as tables
+use Rattle.ti_words.specs.AllNames.{name_in}
 
 abbrev pub NamedPair : Type 0
 NamedPair = Option (List ℕ) × Option (List ℕ)
 
 -- the names of the texts at two indices
 abbrev pub named_pair : ℕ × ℕ → NamedPair
-named_pair (first, second) = (slice_get all_texts first, slice_get all_texts second)
+named_pair (first, second) = (name_in tables.All kinds.Text first, name_in tables.All kinds.Text second)
 
 -- save and restore the cursor; margins on and off; the other character set in and out; the printer on and off; the keys to
 -- send and back; the cursor very visible and normal

@@ -4,7 +4,7 @@
 //! those of all arms before it. So the cost grows with the arms of a conditional times the tokens of it, which is at most
 //! 33 million short steps in a capability of the greatest length.
 
-ghost use Rattle.std.specs.Prelude.{◌≡◌, ◌↔◌, ◌<◌, ◌≤◌, ◌++◌, ◌∷◌, List, IsTrue, Some, length};
+ghost use Rattle.std.specs.Prelude.{◌≡◌, ◌↔◌, ◌<◌, ◌≤◌, ◌++◌, ◌∷◌, List, IsTrue, Some, length, IfSome, IfNone};
 ghost use Rattle.ti_base.specs.Limits.{most_capability_bytes};
 ghost use Rattle.ti_lint.specs.Conditionals.{EndsWithTest, HasEarlier, HasNoEffect, IsConstantTest, IsFoundAmong, IsRepeatedTest, computed, is_constant, only_computes, starts_test, values_left};
 ghost use Rattle.ti_cap.specs.declared.language.Token.{Token};
@@ -95,13 +95,26 @@ fn constants_start(before: &[Token]) -> usize
     start
 }
 
+/// The test of constants and operations alone that tokens end with, if they end with one.
+pub fn constant_test(before: &[Token]) -> Option<&[Token]>
+    requires few { length before.now ≤ most_capability_bytes }
+    ensures test { IfSome result
+        (λ test. (found : IsConstantTest before.now) × (found.test ≡ test.now)) }
+    ensures none { IfNone result (¬ IsConstantTest before.now) }
+{
+    let start = constants_start(before);
+    if start > 0 && starts_test(before[start - 1]) && leaves_value(&before[start..]) {
+        return Some(&before[start..]);
+    }
+    None
+}
+
 /// Whether tokens end with a test of constants and operations alone.
 fn ends_with_constants(before: &[Token]) -> bool
     requires { length before.now ≤ most_capability_bytes }
     ensures { IsTrue result ↔ IsConstantTest before.now }
 {
-    let start = constants_start(before);
-    start > 0 && starts_test(before[start - 1]) && leaves_value(&before[start..])
+    constant_test(before).is_some()
 }
 
 /// How many tokens a test has that only computes and leaves a value for its `%t`.

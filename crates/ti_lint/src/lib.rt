@@ -34,6 +34,7 @@ mod values;
 mod variables;
 
 pub use class::{Class, class_of};
+pub use conditional::constant_test;
 pub use expected::{Expected, TextParameters};
 pub use finding::Finding;
 pub use findings::{Findings, Judged};

@@ -14,6 +14,7 @@ macro_rules! assert_that {
     };
 }
 
+mod attributes;
 mod lint_findings;
 mod lint_reports;
 mod lint_texts;

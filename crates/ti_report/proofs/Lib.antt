@@ -1,4 +1,5 @@
 pub mod CaretsLemmas
+pub mod ConstantsLemmas
 pub mod MarkedLemmas
 pub mod PlacesLemmas
 pub mod ReportsLemmas
@@ -11,4 +12,5 @@ pub mod KeysLemmas
 pub mod LayoutLemmas
 pub mod BaseLemmas
 pub mod NeighboursLemmas
-pub mod ToldLemmas
+pub mod PlainLemmas
+pub mod TrialsLemmas

@@ -9,8 +9,9 @@ use Rattle.std.specs.Str.{bytes_eq}
 use Rattle.std.specs.Cmp.Lexicographic.{slice_cmp, nat_list_cmp_total, bytes_decides, pointwise}
 use Rattle.ti_lint.specs.declared.scope.Scope.{Scope}
 use Rattle.ti_report.specs.declared.wrong.Wrong.TheVariants as wrongs
-use Rattle.ti_report.specs.Keys.{Key, alike_key, alike_lines, is_first_part, key_cmp, lines_on_key, lines_on_keys, longer_key, longer_lines, two_lines}
-use Rattle.ti_report.specs.inner.Neighbours.{neighbour_lines, row_lines}
+use Rattle.ti_report.specs.Keys.{Key, alike_key, on_alike, is_first_part, key_cmp, on_key, on_keys, longer_key, on_longer, on_two}
+use Rattle.ti_report.specs.Remarks.{Remark}
+use Rattle.ti_report.specs.inner.Neighbours.{on_neighbours, on_row}
 
 abbrev Text : Type 0
 Text = List ℕ
@@ -220,11 +221,11 @@ none_longer one other rest first later not_same no_part =
         ]
         by false e = is_part one.0 k.0 ∙ e
 
--- ---- the lines
+-- ---- the remarks
 
-next_is : (scope : Scope) (prefix : List ℕ) (row before : List Key) (one other : Key) (rest : List Key) → Stands row before one (other ∷ rest)
-    → neighbour_lines scope prefix one other ≡ lines_on_key scope prefix row one (alike_key one.0 (other ∷ rest))
-next_is scope prefix row before one other rest s = by (is_first_part one.0 other.0) refl (bytes_eq one.0 other.0) refl
+next_is : (scope : Scope) (row before : List Key) (one other : Key) (rest : List Key) → Stands row before one (other ∷ rest)
+    → on_neighbours scope one other ≡ on_key scope row one (alike_key one.0 (other ∷ rest))
+next_is scope row before one other rest s = by (is_first_part one.0 other.0) refl (bytes_eq one.0 other.0) refl
   where
     first : AreInOrder one.0 other.0
     first = s.on.0.0
@@ -232,23 +233,23 @@ next_is scope prefix row before one other rest s = by (is_first_part one.0 other
     later : Later other rest
     later = s.on.1.0
 
-    two : List ℕ
-    two = two_lines prefix one other wrongs.KeyPrefix
+    two : List Remark
+    two = on_two one other wrongs.KeyPrefix
 
-    alike : List ℕ
-    alike = alike_lines scope prefix one other
+    alike : List Remark
+    alike = on_alike scope one other
 
-    rest_of : Bool → List ℕ
+    rest_of : Bool → List Remark
     rest_of q = cond q alike []
 
-    to_longer : one.0 ≢ other.0 → lines_on_key scope prefix row one (alike_key one.0 (other ∷ rest)) ≡ lines_on_key scope prefix row one None
-    to_longer not_same = ap (lines_on_key scope prefix row one) (none_alike one other rest first later not_same)
+    to_longer : one.0 ≢ other.0 → on_key scope row one (alike_key one.0 (other ∷ rest)) ≡ on_key scope row one None
+    to_longer not_same = ap (on_key scope row one) (none_alike one other rest first later not_same)
 
     by : (p : Bool) → is_first_part one.0 other.0 ≡ p → (q : Bool) → bytes_eq one.0 other.0 ≡ q
-        → neighbour_lines scope prefix one other ≡ lines_on_key scope prefix row one (alike_key one.0 (other ∷ rest))
+        → on_neighbours scope one other ≡ on_key scope row one (alike_key one.0 (other ∷ rest))
     by true e q f =
         ap (λ t. cond t two (rest_of (bytes_eq one.0 other.0))) e
-        ∙ ap (longer_lines prefix one) (sym (longer_is row before one (other ∷ rest) s ∙ ap (λ t. cond t (Some other) (longer_key one.0 rest)) e))
+        ∙ ap (on_longer one) (sym (longer_is row before one (other ∷ rest) s ∙ ap (λ t. cond t (Some other) (longer_key one.0 rest)) e))
         ∙ sym (to_longer not_same)
       where
         not_same : one.0 ≢ other.0
@@ -258,27 +259,27 @@ next_is scope prefix row before one other rest s = by (is_first_part one.0 other
             absurd cc
     by false e true f =
         ap (λ t. cond t two (rest_of (bytes_eq one.0 other.0))) e ∙ ap rest_of f
-        ∙ sym (ap (λ t. lines_on_key scope prefix row one (cond t (Some other) (alike_key one.0 rest))) f)
+        ∙ sym (ap (λ t. on_key scope row one (cond t (Some other) (alike_key one.0 rest))) f)
     by false e false f =
         ap (λ t. cond t two (rest_of (bytes_eq one.0 other.0))) e ∙ ap rest_of f
-        ∙ ap (longer_lines prefix one) (sym (longer_is row before one (other ∷ rest) s ∙ none_longer one other rest first later not_same e))
+        ∙ ap (on_longer one) (sym (longer_is row before one (other ∷ rest) s ∙ none_longer one other rest first later not_same e))
         ∙ sym (to_longer not_same)
       where
         not_same : one.0 ≢ other.0
         not_same same = let wrong : true ≡ false = sym ((bytes_decides one.0 other.0).1 same) ∙ f in absurd cc
 
-rows_are : (scope : Scope) (prefix : List ℕ) (row before left : List Key) → row ≡ before ++ left → AllByRecursion (λ b. Later b left) before → Ascends left
-    → row_lines scope prefix left ≡ lines_on_keys scope prefix row left
-rows_are scope prefix row before [] all up_to on = refl
-rows_are scope prefix row before (one ∷ []) all up_to on =
-    sym (ap (λ found. longer_lines prefix one found ++ []) (longer_is row before one [] (record { all = all; up_to = up_to; on = on })))
-rows_are scope prefix row before (one ∷ other ∷ rest) all up_to on =
-    ap₂ (λ lines more. lines ++ more) (next_is scope prefix row before one other rest (record { all = all; up_to = up_to; on = on }))
-    (rows_are scope prefix row (before ++ one ∷ []) (other ∷ rest) (all ∙ sym (append_assoc before (one ∷ []) (other ∷ rest))) up_to_next on.1)
+rows_are : (scope : Scope) (row before left : List Key) → row ≡ before ++ left → AllByRecursion (λ b. Later b left) before → Ascends left
+    → on_row scope left ≡ on_keys scope row left
+rows_are scope row before [] all up_to on = refl
+rows_are scope row before (one ∷ []) all up_to on =
+    sym (ap (λ found. on_longer one found ++ []) (longer_is row before one [] (record { all = all; up_to = up_to; on = on })))
+rows_are scope row before (one ∷ other ∷ rest) all up_to on =
+    ap₂ (λ remarks more. remarks ++ more) (next_is scope row before one other rest (record { all = all; up_to = up_to; on = on }))
+    (rows_are scope row (before ++ one ∷ []) (other ∷ rest) (all ∙ sym (append_assoc before (one ∷ []) (other ∷ rest))) up_to_next on.1)
   where
     up_to_next : AllByRecursion (λ b. Later b (other ∷ rest)) (before ++ one ∷ [])
     up_to_next = and_last (λ b. Later b (other ∷ rest)) before one (each (λ b. Later b (one ∷ other ∷ rest)) (λ b. Later b (other ∷ rest)) (λ b l. l.1) before up_to) on.0
 
 -- told by the neighbours of a sorted row is what is told by all its keys
-pub neighbours_are : (scope : Scope) (prefix : List ℕ) (row : List Key) → IsSorted key_cmp row → row_lines scope prefix row ≡ lines_on_keys scope prefix row row
-neighbours_are scope prefix row s = rows_are scope prefix row [] row refl tt (ascends row s)
+pub neighbours_are : (scope : Scope) (row : List Key) → IsSorted key_cmp row → on_row scope row ≡ on_keys scope row row
+neighbours_are scope row s = rows_are scope row [] row refl tt (ascends row s)

@@ -1,11 +1,37 @@
--- The lines of one finding: the name of the text, the text, carets below the places, and the sentence.
+-- The lines of a remark: what it is about, carets below the places, and the sentence.
 use Rattle.std.specs.Prelude.{ℕ, ◌+◌, ◌-◌, List, [], ◌∷◌, ◌++◌, codes, replicate}
+use Rattle.std.specs.List.{flat_map}
 use Rattle.ti_base.specs.Letters.{letter}
+use Rattle.ti_escape.specs.Colors.{closing, opening}
+use Rattle.ti_escape.specs.declared.color.Color.{Color}
+use Rattle.ti_escape.specs.declared.color.Style.{Style}
+use Rattle.ti_escape.specs.declared.color.Style.TheVariants as styles
 use Rattle.ti_escape.specs.Forms.{shown}
 use Rattle.ti_escape.specs.declared.form.Form.TheVariants as forms
-use Rattle.ti_escape.specs.Notation.{column}
-use Rattle.ti_report.specs.declared.wrong.Wrong.{Wrong}
-use Rattle.ti_report.specs.Sentences.{sentence}
+use Rattle.ti_escape.specs.Notation.{column, label_notation}
+use Rattle.ti_values.specs.FindingWords.{value_finding_word}
+use Rattle.ti_report.specs.Remarks.{About, OfEntry, OfName, OfText, OfTwo, Remark, What, IsWrong, IsTold}
+use Rattle.ti_report.specs.Sentences.{meaning_of, word_of}
+use Rattle.ti_report.specs.ValueSentences.{finding_told, meaning_told}
+
+-- ---- the sentence
+
+abbrev pub what_word : What → List ℕ
+what_word (IsWrong wrong) = word_of wrong
+what_word (IsTold told) = value_finding_word (finding_told told)
+
+abbrev pub what_meaning : What → List ℕ
+what_meaning (IsWrong wrong) = meaning_of wrong
+what_meaning (IsTold told) = meaning_told told
+
+-- a part in a style
+abbrev pub painted : Color → Style → List ℕ → List ℕ
+painted color style part = opening color style ++ (part ++ closing color)
+
+abbrev pub sentence : Color → What → List ℕ
+sentence color what = painted color styles.Red (what_word what) ++ (codes ": " ++ what_meaning what)
+
+-- ---- what it is about
 
 -- a line below another
 abbrev pub indented : List ℕ → List ℕ
@@ -13,7 +39,16 @@ indented line = codes "  " ++ (line ++ codes "\n")
 
 -- what a text is called, after what stands before that, and the text in the notation
 abbrev pub head : List ℕ → List ℕ → List ℕ → List ℕ
-head prefix label text = prefix ++ (label ++ (codes "\n" ++ indented (shown forms.Notation text)))
+head prefix name text =
+    prefix ++ (label_notation name ++ (codes "\n" ++ indented (shown forms.Notation text)))
+
+abbrev pub about_lines : List ℕ → About → List ℕ
+about_lines prefix OfEntry = prefix ++ codes "entry\n"
+about_lines prefix (OfName name) = prefix ++ (label_notation name ++ codes "\n")
+about_lines prefix (OfText name text) = head prefix name text
+about_lines prefix (OfTwo name text other its) = head prefix name text ++ head [] other its
+
+-- ---- carets
 
 -- from a column on, a caret below the notation of each byte at one of the places
 abbrev pub carets : ℕ → List ℕ → List ℕ → List ℕ
@@ -22,12 +57,23 @@ carets from text (place ∷ places) =
     replicate (column text place - from) (letter (codes " "))
     ++ letter (codes "^") ∷ carets (column text place + 1) text places
 
--- nothing is written if no place is marked
-abbrev pub marked_lines : List ℕ → List ℕ → List ℕ → List ℕ → Wrong → List ℕ
-marked_lines prefix label text [] wrong = []
-marked_lines prefix label text (place ∷ places) wrong =
-    head prefix label text ++ (indented (carets 0 text (place ∷ places)) ++ indented (sentence wrong))
+-- the text that has the places
+abbrev pub text_of : About → List ℕ
+text_of (OfText name text) = text
+text_of about = []
 
--- lines on something that is no text, such as a name or the whole entry
-abbrev pub titled : List ℕ → List ℕ → Wrong → List ℕ
-titled prefix title wrong = prefix ++ (title ++ (codes "\n" ++ indented (sentence wrong)))
+-- no line without a place
+abbrev pub caret_line : Color → List ℕ → List ℕ → List ℕ
+caret_line color text [] = []
+caret_line color text (place ∷ places) = indented (painted color styles.Green (carets 0 text (place ∷ places)))
+
+-- ---- remarks
+
+abbrev pub remark_lines : Color → List ℕ → Remark → List ℕ
+remark_lines color prefix r =
+    about_lines prefix r.about
+    ++ (caret_line color (text_of r.about) r.places ++ indented (sentence color r.what))
+
+-- something stands before the first line of each
+abbrev pub report_lines : Color → List ℕ → List Remark → List ℕ
+report_lines color prefix remarks = flat_map (remark_lines color prefix) remarks

@@ -6,7 +6,6 @@ use Rattle.std.specs.List.{starts_with}
 use Rattle.std.specs.List.Sorted.{IsPermutation, IsSorted}
 use Rattle.std.specs.Ordering.{nat_cmp, ordering_then}
 use Rattle.std.specs.declared.cmp.Ordering.{Ordering}
-use Rattle.ti_escape.specs.Notation.{label_notation}
 use Rattle.ti_words.specs.Texts.{TextValue, AbsentText, CancelledText, TextOf}
 use Rattle.ti_words.specs.Value.{EntryValue}
 use Rattle.ti_lint.specs.declared.class.Class.{Class}
@@ -17,10 +16,9 @@ use Rattle.ti_lint.specs.declared.scope.Scope.{Scope}
 use Rattle.ti_lint.specs.declared.scope.Scope.TheVariants as scopes
 use Rattle.ti_report.specs.declared.wrong.Wrong.{Wrong}
 use Rattle.ti_report.specs.declared.wrong.Wrong.TheVariants as wrongs
-use Rattle.ti_report.specs.Blocks.{head, indented}
 use Rattle.ti_report.specs.Lines.{AreReports}
 use Rattle.ti_report.specs.Pairs.{standard_label}
-use Rattle.ti_report.specs.Sentences.{sentence}
+use Rattle.ti_report.specs.Remarks.{OfTwo, IsWrong, Remark, unmarked}
 
 -- what a key sends, and its name
 abbrev pub Key : Type 0
@@ -56,9 +54,8 @@ key_cmp (text, name) (other, its) = ordering_then (slice_cmp nat_cmp text other)
 abbrev pub is_first_part : List ℕ → List ℕ → Bool
 is_first_part text other = nat_lt (length text) (length other) && starts_with nat_eq other text
 
-abbrev pub two_lines : List ℕ → Key → Key → Wrong → List ℕ
-two_lines prefix (text, name) (other, its) wrong =
-    head prefix (label_notation name) text ++ (head [] (label_notation its) other ++ indented (sentence wrong))
+abbrev pub on_two : Key → Key → Wrong → List Remark
+on_two (text, name) (other, its) wrong = unmarked (OfTwo name text its other) (IsWrong wrong)
 
 -- of some keys, the first that sends a text, and the first that sends more and starts with it
 abbrev pub alike_key : List ℕ → List Key → Option Key
@@ -68,30 +65,29 @@ abbrev pub longer_key : List ℕ → List Key → Option Key
 longer_key text keys = find (λ other. is_first_part text other.0) keys
 
 -- keys that send the same are told only if all is
-abbrev pub alike_lines : Scope → List ℕ → Key → Key → List ℕ
-alike_lines scopes.Mistakes prefix one other = []
-alike_lines scopes.All prefix one other = two_lines prefix one other wrongs.AlikeKeys
+abbrev pub on_alike : Scope → Key → Key → List Remark
+on_alike scopes.Mistakes one other = []
+on_alike scopes.All one other = on_two one other wrongs.AlikeKeys
 
-abbrev pub longer_lines : List ℕ → Key → Option Key → List ℕ
-longer_lines prefix one None = []
-longer_lines prefix one (Some other) = two_lines prefix one other wrongs.KeyPrefix
+abbrev pub on_longer : Key → Option Key → List Remark
+on_longer one None = []
+on_longer one (Some other) = on_two one other wrongs.KeyPrefix
 
 -- a key beside the next one that sends the same, or else beside the first of all keys that sends more
-abbrev pub lines_on_key : Scope → List ℕ → List Key → Key → Option Key → List ℕ
-lines_on_key scope prefix all one (Some other) = alike_lines scope prefix one other
-lines_on_key scope prefix all one None = longer_lines prefix one (longer_key one.0 all)
+abbrev pub on_key : Scope → List Key → Key → Option Key → List Remark
+on_key scope all one (Some other) = on_alike scope one other
+on_key scope all one None = on_longer one (longer_key one.0 all)
 
--- the lines on some of all keys
-abbrev pub lines_on_keys : Scope → List ℕ → List Key → List Key → List ℕ
-lines_on_keys scope prefix all [] = []
-lines_on_keys scope prefix all (one ∷ rest) =
-    lines_on_key scope prefix all one (alike_key one.0 rest) ++ lines_on_keys scope prefix all rest
+-- the remarks on some of all keys
+abbrev pub on_keys : Scope → List Key → List Key → List Remark
+on_keys scope all [] = []
+on_keys scope all (one ∷ rest) = on_key scope all one (alike_key one.0 rest) ++ on_keys scope all rest
 
 -- The keys in order. What one sends is told, once, exactly if it is the first part of what another one sends.
-pub record AreKeyLines (scope : Scope) (prefix : List ℕ) (v : EntryValue) (lines : List ℕ) : Type 0 where
+pub record AreKeyRemarks (scope : Scope) (v : EntryValue) (remarks : List Remark) : Type 0 where
   pub keys : List Key
   pub are_keys : AreKeys v keys
   pub row : List Key
   pub same : IsPermutation keys row
   pub ascends : IsSorted key_cmp row
-  pub lines_are : lines ≡ lines_on_keys scope prefix row row
+  pub remarks_are : remarks ≡ on_keys scope row row

@@ -1,7 +1,11 @@
+pub mod Remarks
 pub mod Sentences
+pub mod ValueSentences
 pub mod Blocks
+pub mod Objects
 pub mod Marks
 pub mod Lines
+pub mod Constants
 pub mod Texts
 pub mod Pairs
 pub mod Keys
@@ -10,5 +14,6 @@ pub mod Reports
 pub mod Bases
 pub mod Whole
 pub mod Values
+pub mod Trials
 pub mod Sequences
 pub mod inner

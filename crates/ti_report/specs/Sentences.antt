@@ -1,7 +1,8 @@
 -- What is wrong, as a sentence: the word for the finding, and what it means.
-use Rattle.std.specs.Prelude.{ℕ, zero, suc, ◌+◌, ◌-◌, ◌==◌, Bool, List, [], ◌∷◌, ◌++◌, codes, decimal, if◌then◌else◌}
+use Rattle.std.specs.Prelude.{ℕ, ℤ, zero, suc, ◌+◌, ◌-◌, ◌==◌, Bool, List, [], ◌∷◌, ◌++◌, codes, decimal, if◌then◌else◌}
 use Rattle.ti_base.specs.Letters.{letter}
 use Rattle.ti_cap.specs.declared.parameter_set.ParameterSet.{ParameterSet}
+use Rattle.std.specs.Fmt.{signed_decimal}
 use Rattle.std.specs.Int.{bit_at}
 use Rattle.ti_cap.specs.FaultNames.{cap_fault_word}
 use Rattle.ti_lint.specs.declared.finding.Finding.{Finding}
@@ -9,12 +10,13 @@ use Rattle.ti_lint.specs.declared.finding.Finding.TheVariants.{StackUnderflow, T
 use Rattle.ti_lint.specs.declared.text_finding.TextFinding.TheVariants as texts
 use Rattle.ti_lint.specs.FindingWords.{finding_word, text_finding_word}
 use Rattle.ti_report.specs.declared.wrong.Wrong.{Wrong}
-use Rattle.ti_report.specs.declared.wrong.Wrong.TheVariants.{Malformed, Token, UninterpretedEscape, UninterpretedPercent, FalseMark, MarkInKey, UnusedParameters, HalfPaired, EqualPair, KeyPrefix, AlikeKeys, RepeatedName, StandardName, ColorsStay, NoColors, ColorsAreFixed, Layout, Base}
+use Rattle.ti_report.specs.declared.wrong.Wrong.TheVariants.{Malformed, Token, ConstantTest, UninterpretedEscape, UninterpretedPercent, FalseMark, MarkInKey, UnusedParameters, HalfPaired, EqualPair, KeyPrefix, AlikeKeys, RepeatedName, StandardName, ColorsStay, NoColors, ColorsAreFixed, Layout, Base}
 
 -- the word for the finding
 abbrev pub word_of : Wrong → List ℕ
 word_of (Malformed fault) = text_finding_word texts.Malformed
 word_of (Token finding parameters) = finding_word finding
+word_of (ConstantTest value) = finding_word ConstantCondition
 word_of UninterpretedEscape = text_finding_word texts.UninterpretedEscape
 word_of UninterpretedPercent = text_finding_word texts.UninterpretedPercent
 word_of FalseMark = text_finding_word texts.FalseMark
@@ -48,8 +50,12 @@ finding_meaning LateIncrement parameters = codes "a %p1 or %p2 comes before it, 
 finding_meaning DeadStore parameters = codes "nothing pushes the variable after it"
 finding_meaning OperandType parameters = codes "it takes a number as a text, or a text as a number"
 finding_meaning NoEffect parameters = codes "its bodies are empty, and its tests only compute"
-finding_meaning ConstantCondition parameters = codes "its test has constants alone, and always goes the same way"
+finding_meaning ConstantCondition parameters = codes "its test has constants alone"
 finding_meaning RepeatedCondition parameters = codes "an earlier arm has the test after it"
+
+-- what is wrong with a test of constants, which has this value
+abbrev pub test_meaning : ℤ → List ℕ
+test_meaning value = codes "its test has constants alone, and is always " ++ signed_decimal value
 
 -- bit N - 1 is for parameter N
 abbrev pub is_in : ParameterSet → ℕ → Bool
@@ -70,6 +76,7 @@ unused_meaning unused = codes "nothing pushes" ++ parameter_words unused 9 1
 abbrev pub meaning_of : Wrong → List ℕ
 meaning_of (Malformed fault) = cap_fault_word fault
 meaning_of (Token finding parameters) = finding_meaning finding parameters
+meaning_of (ConstantTest value) = test_meaning value
 meaning_of UninterpretedEscape = codes "the text is sent as it stands"
 meaning_of UninterpretedPercent = codes "in a text that is not expanded these are two"
 meaning_of FalseMark = codes "this starts no padding mark"
@@ -86,6 +93,3 @@ meaning_of NoColors = codes "there are colors, and none of setaf, setf and scp"
 meaning_of ColorsAreFixed = codes "there is ccc, and neither initc nor initp"
 meaning_of Layout = codes "the bytes are not those that tic writes"
 meaning_of Base = codes "readers differ in where the entry's own names start"
-
-abbrev pub sentence : Wrong → List ℕ
-sentence wrong = word_of wrong ++ (codes ": " ++ meaning_of wrong)

@@ -1,5 +1,5 @@
 -- What is wrong with a text, by what it is.
-use Rattle.std.specs.Prelude.{◌≡◌, ◌⊎◌, ◌↔◌, ℕ, List, [], ◌∷◌, ◌++◌, ◌≤◌, ◌%◌, ◌==◌, ◌&&◌, ◌||◌, Bool, false, AllPairs, Contains, codes, if◌then◌else◌, length}
+use Rattle.std.specs.Prelude.{◌≡◌, ◌≢◌, ◌⊎◌, ◌↔◌, ℕ, List, [], ◌∷◌, ◌≤◌, ◌%◌, ◌==◌, ◌&&◌, ◌||◌, Bool, false, AllPairs, Contains, codes, if◌then◌else◌, length}
 use Rattle.std.specs.Str.{bytes_eq}
 use Rattle.ti_cap.specs.declared.parameter_set.ParameterSet.{ParameterSet}
 use Rattle.ti_cap.specs.Sources.{Has, IsNamed}
@@ -19,8 +19,8 @@ use Rattle.ti_lint.specs.declared.scope.Scope.{Scope}
 use Rattle.ti_lint.specs.declared.scope.Scope.TheVariants as scopes
 use Rattle.ti_report.specs.declared.wrong.Wrong.{Wrong}
 use Rattle.ti_report.specs.declared.wrong.Wrong.TheVariants as wrongs
-use Rattle.ti_report.specs.Blocks.{head, indented, marked_lines}
-use Rattle.ti_report.specs.Sentences.{sentence}
+use Rattle.ti_report.specs.Remarks.{Remark, marked, on_text}
+use Rattle.ti_report.specs.Constants.{IsTestsReport}
 use Rattle.ti_report.specs.Lines.{AreReports, InTurn}
 use Rattle.ti_report.specs.Marks.{AreMarked, ArePlacesFrom, ArePlacesOf, IsSought}
 use Rattle.ti_report.specs.declared.marks.Sought.{Sought}
@@ -37,11 +37,12 @@ pub record AreFound (text : List ℕ) (expected : Expected) (founds : List Found
   pub exact : (one : Found) → Contains founds one ↔ IsFoundAt text expected one
   pub order : AllPairs Precedes founds
 
--- the lines of a finding
-abbrev pub IsFindingReport : List ℕ → List ℕ → List ℕ → ℕ → List Found → ℕ → Finding → List ℕ → Type 0
-IsFindingReport prefix label text parameters founds index finding lines =
-    (places : List ℕ) × ArePlacesOf finding founds places
-    × (lines ≡ marked_lines prefix label text places (wrongs.Token finding parameters))
+-- a finding, at its places; but a test of constants is told alone, with its value
+abbrev pub IsFindingReport : List ℕ → List ℕ → ℕ → List Found → ℕ → Finding → List Remark → Type 0
+IsFindingReport name text parameters founds index finding remarks =
+    ((finding ≡ ConstantCondition) × IsTestsReport name text remarks)
+    ⊎ ((finding ≢ ConstantCondition) × (places : List ℕ) × ArePlacesOf finding founds places
+    × (remarks ≡ marked name text places (wrongs.Token finding parameters)))
 
 -- texts that may leave out parameters: attributes that a terminal lacks, and motions by one place; and the column of a status
 -- line, but not if all is told
@@ -61,30 +62,30 @@ AreUnused text parameters unused =
     (which : ℕ) → Has unused which ↔ ((1 ≤ which) × (which ≤ 9) × (which ≤ parameters) × ¬ IsNamed text which)
 
 -- they are told if there are some, if the text may not leave them out, and if it takes none from the empty stack
-abbrev pub unused_lines : Scope → List ℕ → List ℕ → List ℕ → ParameterSet → List ℕ → List ℕ
-unused_lines scope prefix label text unused (place ∷ places) = []
-unused_lines scope prefix label text unused [] =
-    if unused.mask == 0 || may_leave_out scope label then []
-    else head prefix label text ++ indented (sentence (wrongs.UnusedParameters unused))
+abbrev pub unused_remarks : Scope → List ℕ → List ℕ → ParameterSet → List ℕ → List Remark
+unused_remarks scope name text unused (place ∷ places) = []
+unused_remarks scope name text unused [] =
+    if unused.mask == 0 || may_leave_out scope name then []
+    else on_text name text (wrongs.UnusedParameters unused)
 
-abbrev pub IsUnusedReport : Scope → List ℕ → List ℕ → List ℕ → ℕ → List Found → List ℕ → Type 0
-IsUnusedReport scope prefix label text parameters founds lines =
+abbrev pub IsUnusedReport : Scope → List ℕ → List ℕ → ℕ → List Found → List Remark → Type 0
+IsUnusedReport scope name text parameters founds remarks =
     (unused : ParameterSet) × (places : List ℕ) × AreUnused text parameters unused × ArePlacesOf TermcapParameter founds places
-    × (lines ≡ unused_lines scope prefix label text unused places)
+    × (remarks ≡ unused_remarks scope name text unused places)
 
--- the lines of all findings, and then of the parameters that are left out
-abbrev pub IsFindingsReport : Scope → List ℕ → List ℕ → List ℕ → Expected → List ℕ → Type 0
-IsFindingsReport scope prefix label text expected lines =
+-- the remarks of all findings, and then of the parameters that are left out
+abbrev pub IsFindingsReport : Scope → List ℕ → List ℕ → Expected → List Remark → Type 0
+IsFindingsReport scope name text expected remarks =
     (founds : List Found) × AreFound text expected founds
-    × InTurn (AreReports (IsFindingReport prefix label text expected.parameters founds) 0 all_findings)
-    (IsUnusedReport scope prefix label text expected.parameters founds) lines
+    × InTurn (AreReports (IsFindingReport name text expected.parameters founds) 0 all_findings)
+    (IsUnusedReport scope name text expected.parameters founds) remarks
 
 -- a capability: its fault, or else what is wrong with its tokens
-abbrev pub IsCapabilityReport : Scope → List ℕ → List ℕ → List ℕ → Expected → List ℕ → Type 0
-IsCapabilityReport scope prefix label text expected lines =
+abbrev pub IsCapabilityReport : Scope → List ℕ → List ℕ → Expected → List Remark → Type 0
+IsCapabilityReport scope name text expected remarks =
     ((refused : CapRefused) × IsRefusal text refused
-    × (lines ≡ marked_lines prefix label text (refused.place ∷ []) (wrongs.Malformed refused.fault)))
-    ⊎ (IsFaultless text × IsFindingsReport scope prefix label text expected lines)
+    × (remarks ≡ marked name text (refused.place ∷ []) (wrongs.Malformed refused.fault)))
+    ⊎ (IsFaultless text × IsFindingsReport scope name text expected remarks)
 
 -- the tokens that are meant to be expanded, if the text is a capability
 abbrev pub AreEscapes : List ℕ → List ℕ → Type 0
@@ -92,42 +93,42 @@ AreEscapes text places =
     ((refused : CapRefused) × IsRefusal text refused × (places ≡ []))
     ⊎ (IsFaultless text × AreMarked (λ spot token. IsMeantToExpand token) text places)
 
--- the lines on the places at which something stands that should not
-abbrev pub IsPlacesReport : Sought → Wrong → List ℕ → List ℕ → List ℕ → List ℕ → Type 0
-IsPlacesReport sought wrong prefix label text lines =
-    (places : List ℕ) × ArePlacesFrom (IsSought text sought) 0 places × (lines ≡ marked_lines prefix label text places wrong)
+-- the remarks on the places at which something stands that should not
+abbrev pub IsPlacesReport : Sought → Wrong → List ℕ → List ℕ → List Remark → Type 0
+IsPlacesReport sought wrong name text remarks =
+    (places : List ℕ) × ArePlacesFrom (IsSought text sought) 0 places × (remarks ≡ marked name text places wrong)
 
 -- what only an expansion takes away
-abbrev pub IsPercentReport : List ℕ → List ℕ → List ℕ → List ℕ → Type 0
+abbrev pub IsPercentReport : List ℕ → List ℕ → List Remark → Type 0
 IsPercentReport = IsPlacesReport Percents wrongs.UninterpretedPercent
 
-abbrev pub IsEscapeReport : List ℕ → List ℕ → List ℕ → List ℕ → Type 0
-IsEscapeReport prefix label text lines =
+abbrev pub IsEscapeReport : List ℕ → List ℕ → List Remark → Type 0
+IsEscapeReport name text remarks =
     (places : List ℕ) × AreEscapes text places
-    × (lines ≡ marked_lines prefix label text places wrongs.UninterpretedEscape)
+    × (remarks ≡ marked name text places wrongs.UninterpretedEscape)
 
 -- a text that is sent as it stands
-abbrev pub IsPlainReport : List ℕ → List ℕ → List ℕ → List ℕ → Type 0
-IsPlainReport prefix label text =
-    InTurn (IsEscapeReport prefix label text)
-    (InTurn (IsPercentReport prefix label text) (IsPlacesReport FalseMark wrongs.FalseMark prefix label text))
+abbrev pub IsPlainReport : List ℕ → List ℕ → List Remark → Type 0
+IsPlainReport name text =
+    InTurn (IsEscapeReport name text)
+    (InTurn (IsPercentReport name text) (IsPlacesReport FalseMark wrongs.FalseMark name text))
 
 -- what a key sends
-abbrev pub IsKeyReport : List ℕ → List ℕ → List ℕ → List ℕ → Type 0
-IsKeyReport prefix label text =
-    InTurn (IsPercentReport prefix label text) (IsPlacesReport Mark wrongs.MarkInKey prefix label text)
+abbrev pub IsKeyReport : List ℕ → List ℕ → List Remark → Type 0
+IsKeyReport name text =
+    InTurn (IsPercentReport name text) (IsPlacesReport Mark wrongs.MarkInKey name text)
 
 -- the list of pairs of the alternate character set
-abbrev pub half_paired_lines : List ℕ → List ℕ → List ℕ → List ℕ
-half_paired_lines prefix label text =
-    if bytes_eq label (codes "acsc") && (length text % 2 == 1)
-    then head prefix label text ++ indented (sentence wrongs.HalfPaired) else []
+abbrev pub half_paired : List ℕ → List ℕ → List Remark
+half_paired name text =
+    if bytes_eq name (codes "acsc") && (length text % 2 == 1)
+    then on_text name text wrongs.HalfPaired else []
 
 -- a text of a class, in an entry whose texts store into these variables
-abbrev pub IsTextReport : Scope → List ℕ → List ℕ → Variables → Class → List ℕ → List ℕ → Type 0
-IsTextReport scope prefix label stored (classes.Parameterized parameters) text lines =
-    IsCapabilityReport scope prefix label text (record { parameters = parameters; texts = text_parameters label; stored = stored }) lines
-IsTextReport scope prefix label stored classes.Plain text lines = IsPlainReport prefix label text lines
-IsTextReport scope prefix label stored classes.Key text lines = IsKeyReport prefix label text lines
-IsTextReport scope prefix label stored classes.List text lines = lines ≡ half_paired_lines prefix label text
-IsTextReport scope prefix label stored class text lines = lines ≡ []
+abbrev pub IsTextReport : Scope → List ℕ → Variables → Class → List ℕ → List Remark → Type 0
+IsTextReport scope name stored (classes.Parameterized parameters) text remarks =
+    IsCapabilityReport scope name text (record { parameters = parameters; texts = text_parameters name; stored = stored }) remarks
+IsTextReport scope name stored classes.Plain text remarks = IsPlainReport name text remarks
+IsTextReport scope name stored classes.Key text remarks = IsKeyReport name text remarks
+IsTextReport scope name stored classes.List text remarks = remarks ≡ half_paired name text
+IsTextReport scope name stored class text remarks = remarks ≡ []

@@ -16,8 +16,7 @@ use Rattle.ti_draft.specs.Unfit.{encode_fault}
 use Rattle.ti_report.specs.declared.wrong.Wrong.{Wrong}
 use Rattle.ti_report.specs.declared.wrong.Wrong.TheVariants as wrongs
 use Rattle.ti_report.specs.Bases.{bases_differ}
-use Rattle.ti_report.specs.Blocks.{indented}
-use Rattle.ti_report.specs.Sentences.{sentence}
+use Rattle.ti_report.specs.Remarks.{OfEntry, IsWrong, Remark, unmarked}
 
 -- ---- what an entry has
 
@@ -68,19 +67,19 @@ colors_are_fixed v = has v (codes "ccc") && not (has v (codes "initc") || has v 
 abbrev pub is_canonical : List ℕ → EntryValue → Bool
 is_canonical bytes v = is_none (encode_fault v) && bytes_eq bytes (canonical v)
 
--- ---- the lines
+-- ---- the remarks
 
 -- what is wrong with the entry, if it is
-abbrev pub lines_if : Bool → List ℕ → Wrong → List ℕ
-lines_if told prefix wrong = if told then prefix ++ (codes "entry\n" ++ indented (sentence wrong)) else []
+abbrev pub told_if : Bool → Wrong → List Remark
+told_if told wrong = if told then unmarked OfEntry (IsWrong wrong) else []
 
-abbrev pub color_lines : List ℕ → EntryValue → List ℕ
-color_lines prefix v =
-    lines_if (colors_stay v) prefix wrongs.ColorsStay
-    ++ (lines_if (has_no_colors v) prefix wrongs.NoColors ++ lines_if (colors_are_fixed v) prefix wrongs.ColorsAreFixed)
+abbrev pub color_remarks : EntryValue → List Remark
+color_remarks v =
+    told_if (colors_stay v) wrongs.ColorsStay
+    ++ (told_if (has_no_colors v) wrongs.NoColors ++ told_if (colors_are_fixed v) wrongs.ColorsAreFixed)
 
--- the lines on an entry that the bytes spell
-abbrev pub whole_lines : List ℕ → List ℕ → EntryValue → List ℕ
-whole_lines prefix bytes v =
-    color_lines prefix v
-    ++ (lines_if (not (is_canonical bytes v)) prefix wrongs.Layout ++ lines_if (bases_differ bytes) prefix wrongs.Base)
+-- the remarks on an entry that the bytes spell
+abbrev pub whole_remarks : List ℕ → EntryValue → List Remark
+whole_remarks bytes v =
+    color_remarks v
+    ++ (told_if (not (is_canonical bytes v)) wrongs.Layout ++ told_if (bases_differ bytes) wrongs.Base)

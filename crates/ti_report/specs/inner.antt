@@ -1,4 +1,4 @@
 -- What private clauses alone cite.
-pub mod Subject
+pub mod Held
 pub mod Lent
 pub mod Neighbours

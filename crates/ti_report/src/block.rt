@@ -1,82 +1,60 @@
-//! The lines of one finding.
+//! The lines of remarks.
 
-ghost use Rattle.std.specs.Prelude.{◌≡◌, ◌++◌, ◌*◌, ◌≤◌, replicate, OnOk};
-ghost use Rattle.ti_escape.specs.Notation.{column as the_column, label_notation};
-ghost use Rattle.ti_report.specs.Blocks.{carets, head, indented, titled};
-ghost use Rattle.ti_report.specs.Sentences.{sentence};
-ghost use Rattle.ti_report.specs.inner.Subject.{head_of, marked_of};
+ghost use Rattle.std.specs.List.{flat_map};
+ghost use Rattle.std.specs.Prelude.{◌≡◌, ◌++◌, ◌*◌, ◌≤◌, [], replicate, OnOk};
+ghost use Rattle.ti_escape.specs.Notation.{column as the_column};
+ghost use Rattle.ti_report.specs.Blocks.{about_lines, caret_line, carets, head, painted, remark_lines, report_lines, sentence, text_of, what_meaning, what_word};
+ghost use Rattle.ti_report.specs.inner.Held.{about_held, what_held};
 
-use crate::wrong::{Wrong, push_sentence};
+use crate::remark::{About, Remark, Subject, What};
+use crate::told::push_meaning_told;
+use crate::wrong::push_meaning;
 use std::alloc::{AllocError, Allocator};
-use ti_escape::{Form, column, columns_between, push_label, push_shown};
+use ti_escape::{
+    Color, Form, Style, column, columns_between, push_closing, push_label, push_opening, push_shown,
+};
 
-/// What a finding is about.
-#[derive(Clone, Copy)]
-pub struct Subject<'a> {
-    /// What stands before the name in the first line.
-    pub prefix: &'a [u8],
-    /// What the text is called.
-    pub label: &'a [u8],
-    pub text: &'a [u8],
-}
-
-/// Writes what the lines are about: the name, and the text in the notation.
-pub fn push_head<A: Allocator>(
+/// Writes the name of a text, after what stands before that, and the text in the notation.
+fn push_head<A: Allocator>(
     out: &mut Vec<u8, A>,
-    subject: &Subject<'_>,
+    prefix: &[u8],
+    subject: Subject<'_>,
 ) -> Result<(), AllocError>
-    ensures { OnOk result (out.new.items ≡ out.old.items ++ head_of subject.now) }
+    ensures { OnOk result (out.new.items
+        ≡ out.old.items ++ head prefix.now subject.entry.name.now subject.entry.text.now) }
 {
-    out.extend_from_slice(subject.prefix)?;
-    out.extend_from_slice(subject.label)?;
+    out.extend_from_slice(prefix)?;
+    push_label(out, subject.name)?;
     out.extend_from_slice(b"\n  ")?;
     push_shown(out, Form::Notation, subject.text)?;
     out.extend_from_slice(b"\n")
 }
 
-/// Writes a name and a text, each in the notation.
-pub fn push_named_head<A: Allocator>(
+/// Writes what a remark is about.
+fn push_about<A: Allocator>(
     out: &mut Vec<u8, A>,
     prefix: &[u8],
-    name: &[u8],
-    text: &[u8],
+    about: About<'_>,
 ) -> Result<(), AllocError>
     ensures { OnOk result
-        (out.new.items ≡ out.old.items ++ head prefix.now (label_notation name.now) text.now) }
+        (out.new.items ≡ out.old.items ++ about_lines prefix.now (about_held about.entry)) }
 {
-    out.extend_from_slice(prefix)?;
-    push_label(out, name)?;
-    out.extend_from_slice(b"\n  ")?;
-    push_shown(out, Form::Notation, text)?;
-    out.extend_from_slice(b"\n")
-}
-
-/// Writes a name in the notation, and what is wrong.
-pub fn push_titled<A: Allocator>(
-    out: &mut Vec<u8, A>,
-    prefix: &[u8],
-    name: &[u8],
-    wrong: Wrong,
-) -> Result<(), AllocError>
-    ensures { OnOk result
-        (out.new.items ≡ out.old.items ++ titled prefix.now (label_notation name.now) wrong) }
-{
-    out.extend_from_slice(prefix)?;
-    push_label(out, name)?;
-    out.extend_from_slice(b"\n")?;
-    push_sentence_line(out, wrong)
-}
-
-/// Writes a sentence in a line of its own.
-pub fn push_sentence_line<A: Allocator>(
-    out: &mut Vec<u8, A>,
-    wrong: Wrong,
-) -> Result<(), AllocError>
-    ensures { OnOk result (out.new.items ≡ out.old.items ++ indented (sentence wrong)) }
-{
-    out.extend_from_slice(b"  ")?;
-    push_sentence(out, wrong)?;
-    out.extend_from_slice(b"\n")
+    match about {
+        About::Entry => {
+            out.extend_from_slice(prefix)?;
+            out.extend_from_slice(b"entry\n")
+        }
+        About::Name(name) => {
+            out.extend_from_slice(prefix)?;
+            push_label(out, name)?;
+            out.extend_from_slice(b"\n")
+        }
+        About::Text(subject) => push_head(out, prefix, subject),
+        About::Two(one, other) => {
+            push_head(out, prefix, one)?;
+            push_head(out, b"", other)
+        }
+    }
 }
 
 /// The column of a place, by that of an earlier one if it is.
@@ -125,22 +103,107 @@ fn push_carets<A: Allocator>(
     Ok(())
 }
 
-/// Writes the lines of a finding at some places. Without a place there are none.
-pub fn push_marked<A: Allocator>(
+/// The text that has the places.
+fn text_of<'a>(about: About<'a>) -> &'a [u8]
+    ensures { result.now ≡ text_of (about_held about.entry) }
+{
+    match about {
+        About::Text(subject) => subject.text,
+        _ => &[],
+    }
+}
+
+/// Writes the line of carets, if there is a place.
+fn push_caret_line<A: Allocator>(
     out: &mut Vec<u8, A>,
-    subject: &Subject<'_>,
+    color: Color,
+    text: &[u8],
     places: &[usize],
-    wrong: Wrong,
 ) -> Result<(), AllocError>
     ensures { OnOk result
-        (out.new.items ≡ out.old.items ++ marked_of subject.now places.now wrong) }
+        (out.new.items ≡ out.old.items ++ caret_line color text.now places.now) }
 {
     if places.is_empty() {
         return Ok(());
     }
-    push_head(out, subject)?;
     out.extend_from_slice(b"  ")?;
-    push_carets(out, subject.text, places)?;
+    push_opening(out, color, Style::Green)?;
+    push_carets(out, text, places)?;
+    push_closing(out, color)?;
+    out.extend_from_slice(b"\n")
+}
+
+/// The word for a finding.
+pub fn word_of_what<A: Allocator>(what: &What<A>) -> &'static str
+    ensures { result.now ≡ what_word (what_held what.now) }
+{
+    match what {
+        What::Wrong(wrong) => wrong.word(),
+        What::Told(told) => told.finding().word(),
+    }
+}
+
+/// Writes what it means.
+pub fn push_meaning_of<A: Allocator, B: Allocator>(
+    out: &mut Vec<u8, A>,
+    what: &What<B>,
+) -> Result<(), AllocError>
+    ensures { OnOk result
+        (out.new.items ≡ out.old.items ++ what_meaning (what_held what.now)) }
+{
+    match what {
+        What::Wrong(wrong) => push_meaning(out, *wrong),
+        What::Told(told) => push_meaning_told(out, told),
+    }
+}
+
+/// Writes the sentence: the word for the finding, and what it means.
+fn push_sentence<A: Allocator>(
+    out: &mut Vec<u8, A>,
+    color: Color,
+    what: &What<A>,
+) -> Result<(), AllocError>
+    ensures { OnOk result
+        (out.new.items ≡ out.old.items ++ sentence color (what_held what.now)) }
+{
+    push_opening(out, color, Style::Red)?;
+    out.extend_from_slice(word_of_what(what).as_bytes())?;
+    push_closing(out, color)?;
+    out.extend_from_slice(b": ")?;
+    push_meaning_of(out, what)
+}
+
+/// Writes the lines of a remark.
+fn push_remark<A: Allocator>(
+    out: &mut Vec<u8, A>,
+    color: Color,
+    prefix: &[u8],
+    remark: &Remark<'_, A>,
+) -> Result<(), AllocError>
+    ensures { OnOk result
+        (out.new.items ≡ out.old.items ++ remark_lines color prefix.now remark.now) }
+{
+    let about = remark.about();
+    push_about(out, prefix, about)?;
+    push_caret_line(out, color, text_of(about), remark.places())?;
+    out.extend_from_slice(b"  ")?;
+    push_sentence(out, color, remark.what())?;
     out.extend_from_slice(b"\n")?;
-    push_sentence_line(out, wrong)
+    Ok(())
+}
+
+/// Writes the lines of remarks.
+pub fn push_lines<A: Allocator>(
+    out: &mut Vec<u8, A>,
+    color: Color,
+    prefix: &[u8],
+    remarks: &[Remark<'_, A>],
+) -> Result<(), AllocError>
+    ensures { OnOk result
+        (out.new.items ≡ out.old.items ++ report_lines color prefix.now remarks.now) }
+{
+    'remarks: for remark in remarks {
+        push_remark(out, color, prefix, remark)?;
+    }
+    Ok(())
 }

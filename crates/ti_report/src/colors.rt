@@ -2,9 +2,9 @@
 
 ghost use Rattle.std.specs.Prelude.{◌≡◌, ◌++◌, OnOk};
 ghost use Rattle.ti_words.specs.Texts.{text_value};
-ghost use Rattle.ti_report.specs.Whole.{color_lines, colors_are_fixed, colors_stay, has, has_at, has_no_colors, is_above_0, is_there};
+ghost use Rattle.ti_report.specs.Whole.{color_remarks, colors_are_fixed, colors_stay, has, has_at, has_no_colors, is_above_0, is_there};
 
-use crate::whole::push_if;
+use crate::remark::{Remark, push_if};
 use crate::wrong::Wrong;
 use std::alloc::{AllocError, Allocator};
 use ti_entry::Entry;
@@ -73,16 +73,16 @@ fn colors_are_fixed(entry: &Entry<'_>) -> bool
     has(entry, "ccc") && !(has(entry, "initc") || has(entry, "initp"))
 }
 
-/// Writes the lines on the colors.
-pub(crate) fn push_colors<A: Allocator>(
-    out: &mut Vec<u8, A>,
-    prefix: &[u8],
-    entry: &Entry<'_>,
+/// Adds the remarks on the colors.
+pub(crate) fn push_colors<'a, A: Allocator + Copy>(
+    alloc: A,
+    out: &mut Vec<Remark<'a, A>, A>,
+    entry: &Entry<'a>,
 ) -> Result<(), AllocError>
-    ensures { OnOk result (out.new.items ≡ out.old.items ++ color_lines prefix.now entry.now) }
+    ensures { OnOk result (out.new.items ≡ out.old.items ++ color_remarks entry.now) }
 {
-    push_if(out, colors_stay(entry), prefix, Wrong::ColorsStay)?;
-    push_if(out, has_no_colors(entry), prefix, Wrong::NoColors)?;
-    push_if(out, colors_are_fixed(entry), prefix, Wrong::ColorsAreFixed)?;
+    push_if(alloc, out, colors_stay(entry), Wrong::ColorsStay)?;
+    push_if(alloc, out, has_no_colors(entry), Wrong::NoColors)?;
+    push_if(alloc, out, colors_are_fixed(entry), Wrong::ColorsAreFixed)?;
     Ok(())
 }

@@ -2,15 +2,15 @@
 
 ghost use Rattle.std.specs.Prelude.{◌≡◌, ◌++◌, OnOk, IfOk};
 ghost use Rattle.ti_lint.specs.Classes.{class_at};
-ghost use Rattle.ti_report.specs.Keys.{AreKeyLines, AreKeys, IsOwnKey, IsStandardKey, alike_lines, is_first_part, is_of_key, keys_if, two_lines};
+ghost use Rattle.ti_report.specs.Keys.{AreKeyRemarks, AreKeys, IsOwnKey, IsStandardKey, on_alike, is_first_part, is_of_key, keys_if, on_two};
 ghost use Rattle.ti_report.specs.Lines.{Adds, AreReports};
 ghost use Rattle.ti_report.specs.inner.Lent.{key_lent, keys_lent};
-ghost use Rattle.ti_report.specs.inner.Neighbours.{neighbour_lines, row_lines};
+ghost use Rattle.ti_report.specs.inner.Neighbours.{on_neighbours, on_row};
 ghost use Rattle.ti_words.specs.Texts.{text_value};
 
-use crate::block::{push_named_head, push_sentence_line};
 use crate::names::name_of;
 use crate::pairs::standard_label;
+use crate::remark::{Remark, Subject, push_on_two};
 use crate::wrong::Wrong;
 use std::alloc::{AllocError, Allocator};
 use ti_entry::{Entry, Extended};
@@ -95,88 +95,93 @@ fn is_first_part(text: &[u8], other: &[u8]) -> bool
     text.len() < other.len() && other.starts_with(text)
 }
 
-/// Writes what two keys send, and what is wrong with that.
-fn push_two<A: Allocator>(
-    out: &mut Vec<u8, A>,
-    prefix: &[u8],
-    one: (&[u8], &[u8]),
-    other: (&[u8], &[u8]),
+/// Adds a remark on two keys.
+fn push_two<'a, A: Allocator + Copy>(
+    alloc: A,
+    out: &mut Vec<Remark<'a, A>, A>,
+    one: (&'a [u8], &'a [u8]),
+    other: (&'a [u8], &'a [u8]),
     wrong: Wrong,
 ) -> Result<(), AllocError>
     ensures { OnOk result (out.new.items
-        ≡ out.old.items ++ two_lines prefix.now (key_lent one.entry) (key_lent other.entry) wrong) }
+        ≡ out.old.items ++ on_two (key_lent one.entry) (key_lent other.entry) wrong) }
 {
-    push_named_head(out, prefix, one.1, one.0)?;
-    push_named_head(out, b"", other.1, other.0)?;
-    push_sentence_line(out, wrong)
+    let one = Subject {
+        name: one.1,
+        text: one.0,
+    };
+    let other = Subject {
+        name: other.1,
+        text: other.0,
+    };
+    push_on_two(alloc, out, one, other, wrong)
 }
 
-/// Writes the lines on two keys that send the same, if all is told.
-fn push_alike<A: Allocator>(
-    out: &mut Vec<u8, A>,
+/// Adds the remark on two keys that send the same, if all is told.
+fn push_alike<'a, A: Allocator + Copy>(
+    alloc: A,
+    out: &mut Vec<Remark<'a, A>, A>,
     scope: Scope,
-    prefix: &[u8],
-    one: (&[u8], &[u8]),
-    other: (&[u8], &[u8]),
+    one: (&'a [u8], &'a [u8]),
+    other: (&'a [u8], &'a [u8]),
 ) -> Result<(), AllocError>
     ensures { OnOk result (out.new.items
-        ≡ out.old.items ++ alike_lines scope prefix.now (key_lent one.entry) (key_lent other.entry)) }
+        ≡ out.old.items ++ on_alike scope (key_lent one.entry) (key_lent other.entry)) }
 {
     match scope {
         Scope::Mistakes => Ok(()),
-        Scope::All => push_two(out, prefix, one, other, Wrong::AlikeKeys),
+        Scope::All => push_two(alloc, out, one, other, Wrong::AlikeKeys),
     }
 }
 
-/// Writes the lines on a key and the next one.
-fn push_neighbours<A: Allocator>(
-    out: &mut Vec<u8, A>,
+/// Adds the remark on a key and the next one.
+fn push_neighbours<'a, A: Allocator + Copy>(
+    alloc: A,
+    out: &mut Vec<Remark<'a, A>, A>,
     scope: Scope,
-    prefix: &[u8],
-    one: (&[u8], &[u8]),
-    other: (&[u8], &[u8]),
+    one: (&'a [u8], &'a [u8]),
+    other: (&'a [u8], &'a [u8]),
 ) -> Result<(), AllocError>
     ensures { OnOk result (out.new.items ≡ out.old.items
-        ++ neighbour_lines scope prefix.now (key_lent one.entry) (key_lent other.entry)) }
+        ++ on_neighbours scope (key_lent one.entry) (key_lent other.entry)) }
 {
     if is_first_part(one.0, other.0) {
-        return push_two(out, prefix, one, other, Wrong::KeyPrefix);
+        return push_two(alloc, out, one, other, Wrong::KeyPrefix);
     }
     if one.0 == other.0 {
-        return push_alike(out, scope, prefix, one, other);
+        return push_alike(alloc, out, scope, one, other);
     }
     Ok(())
 }
 
-/// Writes the lines on each key and the next one.
-fn push_row<A: Allocator>(
-    out: &mut Vec<u8, A>,
+/// Adds the remarks on each key and the next one.
+fn push_row<'a, A: Allocator + Copy>(
+    alloc: A,
+    out: &mut Vec<Remark<'a, A>, A>,
     scope: Scope,
-    prefix: &[u8],
-    row: &[(&[u8], &[u8])],
+    row: &[(&'a [u8], &'a [u8])],
 ) -> Result<(), AllocError>
     ensures { OnOk result (out.new.items
-        ≡ out.old.items ++ row_lines scope prefix.now (keys_lent row.now)) }
+        ≡ out.old.items ++ on_row scope (keys_lent row.now)) }
 {
     'keys: for next in 1..row.len() {
-        push_neighbours(out, scope, prefix, row[next - 1], row[next])?;
+        push_neighbours(alloc, out, scope, row[next - 1], row[next])?;
     }
     Ok(())
 }
 
-/// Writes the lines on keys of which one sends the first part of what another one sends, and on those that send the same.
-pub fn push_keys<A: Allocator + Copy>(
+/// Adds the remarks on keys of which one sends the first part of what another one sends, and on those that send the same.
+pub fn push_keys<'a, A: Allocator + Copy>(
     alloc: A,
-    out: &mut Vec<u8, A>,
+    out: &mut Vec<Remark<'a, A>, A>,
     scope: Scope,
-    prefix: &[u8],
-    entry: &Entry<'_>,
+    entry: &Entry<'a>,
 ) -> Result<(), AllocError>
-    ensures { OnOk result (Adds (AreKeyLines scope prefix.now entry.now)
+    ensures { OnOk result (Adds (AreKeyRemarks scope entry.now)
         out.old.items out.new.items) }
 {
     let mut keys = keys_of(alloc, entry)?;
     keys.sort_unstable();
-    push_row(out, scope, prefix, keys.as_slice())?;
+    push_row(alloc, out, scope, keys.as_slice())?;
     Ok(())
 }

@@ -1,26 +1,36 @@
-//! What is wrong with a compiled terminfo entry, as lines for a person.
+//! What is wrong with a compiled terminfo entry: remarks, as lines for a person or as JSON.
 //!
-//! [`push_report`] goes over the texts of an entry, each by what it is: a text with parameters is analysed over all its paths,
-//! and one that is sent as it stands, or that a key sends, may not have what only an expansion takes away. A sound entry gives
-//! no line. The time is linear in the bytes of the texts; memory is taken for the lines, and for the places in one text.
+//! [`push_report`] and [`report_json`] go over the texts of an entry, each by what it is: a text with parameters is analysed over
+//! all its paths, and one that is sent as it stands, or that a key sends, may not have what only an expansion takes away. A sound
+//! entry gives no line. The time is linear in the bytes of the texts; memory is taken for the remarks and their places, and for
+//! the lines or the document.
 #![tactic(auto)]
 
+mod attributes;
 mod base;
 mod block;
 mod colors;
+mod constants;
+mod document;
 mod keys;
 mod layout;
 mod marks;
 mod names;
 mod pairs;
+mod remark;
 mod report;
 mod sequences;
 mod stored;
 mod texts;
+mod told;
+mod trials;
 mod values;
 mod whole;
 mod wrong;
 
+pub use document::{ReportJson, report_json};
 pub use report::push_report;
+pub use ti_escape::Color;
 pub use ti_lint::Scope;
+pub use trials::Trials;
 pub use wrong::Wrong;

@@ -3,11 +3,11 @@
 ghost use Rattle.std.specs.Prelude.{◌≡◌, ◌++◌, [], IfOk, OnOk, get_or, length};
 ghost use Rattle.ti_entry.specs.Finding.{names_of as the_names_of};
 ghost use Rattle.ti_report.specs.Lines.{Adds, AreReports};
-ghost use Rattle.ti_report.specs.Names.{AreNameLines, IsNameReport, standard_name_lines};
+ghost use Rattle.ti_report.specs.Names.{AreNameRemarks, IsNameReport, on_standard_name};
 ghost use Rattle.ti_report.specs.inner.Lent.{texts_lent};
 ghost use Rattle.ti_words.specs.Spelling.{part_names};
 
-use crate::block::push_titled;
+use crate::remark::{Remark, push_on_name};
 use crate::wrong::Wrong;
 use std::alloc::{AllocError, Allocator};
 use std::collections::BTreeSet;
@@ -64,53 +64,51 @@ fn names_of<'a, A: Allocator>(
     Ok(names)
 }
 
-/// Writes the lines on a name that stands the first time.
-fn push_new<A: Allocator>(
-    out: &mut Vec<u8, A>,
-    prefix: &[u8],
-    name: &[u8],
+/// Adds the remark on a name that stands the first time.
+fn push_new<'a, A: Allocator + Copy>(
+    alloc: A,
+    out: &mut Vec<Remark<'a, A>, A>,
+    name: &'a [u8],
 ) -> Result<(), AllocError>
     ensures { OnOk result
-        (out.new.items ≡ out.old.items ++ standard_name_lines prefix.now name.now) }
+        (out.new.items ≡ out.old.items ++ on_standard_name name.now) }
 {
     if NameTable::All.find_bytes(name).is_some() {
-        return push_titled(out, prefix, name, Wrong::StandardName);
+        return push_on_name(alloc, out, name, Wrong::StandardName);
     }
     Ok(())
 }
 
-/// Writes the lines on names.
-fn push_each<A: Allocator + Copy>(
+/// Adds the remarks on names.
+fn push_each<'a, A: Allocator + Copy>(
     alloc: A,
-    out: &mut Vec<u8, A>,
-    prefix: &[u8],
-    names: &[&[u8]],
+    out: &mut Vec<Remark<'a, A>, A>,
+    names: &[&'a [u8]],
 ) -> Result<(), AllocError>
-    ensures { OnOk result (Adds (AreReports (IsNameReport prefix.now (texts_lent names.now)) 0
+    ensures { OnOk result (Adds (AreReports (IsNameReport (texts_lent names.now)) 0
         (texts_lent names.now)) out.old.items out.new.items) }
 {
     let mut seen = BTreeSet::new(alloc);
     'names: for name in names {
         if seen.insert(*name)? {
-            push_new(out, prefix, name)?;
+            push_new(alloc, out, name)?;
         } else {
-            push_titled(out, prefix, name, Wrong::RepeatedName)?;
+            push_on_name(alloc, out, name, Wrong::RepeatedName)?;
         }
     }
     Ok(())
 }
 
-/// Writes the lines on the names of an entry's own.
-pub fn push_names<A: Allocator + Copy>(
+/// Adds the remarks on the names of an entry's own.
+pub fn push_names<'a, A: Allocator + Copy>(
     alloc: A,
-    out: &mut Vec<u8, A>,
-    prefix: &[u8],
-    extended: &Extended<'_>,
+    out: &mut Vec<Remark<'a, A>, A>,
+    extended: &Extended<'a>,
 ) -> Result<(), AllocError>
-    ensures { OnOk result (Adds (AreNameLines prefix.now extended.now)
+    ensures { OnOk result (Adds (AreNameRemarks extended.now)
         out.old.items out.new.items) }
 {
     let names = names_of(alloc, extended)?;
-    push_each(alloc, out, prefix, names.as_slice())?;
+    push_each(alloc, out, names.as_slice())?;
     Ok(())
 }

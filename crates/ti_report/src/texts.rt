@@ -1,14 +1,16 @@
 //! What is wrong with a text, by what it is.
 
-ghost use Rattle.std.specs.Prelude.{◌≡◌, ◌++◌, OnOk};
+ghost use Rattle.std.specs.Prelude.{◌≡◌, ◌++◌, ◌∷◌, [], OnOk};
 ghost use Rattle.ti_report.specs.Lines.{Adds, AreReports};
-ghost use Rattle.ti_report.specs.Texts.{AreUnused, IsCapabilityReport, IsEscapeReport, IsFindingReport, IsFindingsReport, IsKeyReport, IsPercentReport, IsPlacesReport, IsPlainReport, IsTextReport, IsUnusedReport, all_findings, half_paired_lines, is_column, may_leave_out, unused_lines};
+ghost use Rattle.ti_report.specs.Remarks.{marked};
+ghost use Rattle.ti_report.specs.Texts.{AreUnused, IsCapabilityReport, IsEscapeReport, IsFindingReport, IsFindingsReport, IsKeyReport, IsPercentReport, IsPlacesReport, IsPlainReport, IsTextReport, IsUnusedReport, all_findings, half_paired, is_column, may_leave_out, unused_remarks};
 
-use crate::block::{Subject, push_head, push_marked, push_sentence_line};
+use crate::constants::push_tests;
 use crate::marks::{Sought, escapes_of, places_at, places_of};
+use crate::remark::{Remark, Subject, push_marked, push_on_text};
 use crate::wrong::Wrong;
 use std::alloc::{AllocError, Allocator};
-use ti_cap::{Capability, ParameterSet};
+use ti_cap::{CapRefused, Capability, ParameterSet};
 use ti_lint::{
     Class, Expected, Finding, Found, Scope, Variables, findings_of, is_half_paired,
     text_parameters, unused_parameters,
@@ -39,22 +41,48 @@ fn all_findings() -> &'static [Finding]
     &ALL_FINDINGS
 }
 
-/// Writes the lines of each finding that was found.
-fn push_founds<A: Allocator + Copy>(
+/// Adds the remarks on a finding.
+fn push_found<'a, A: Allocator + Copy>(
     alloc: A,
-    out: &mut Vec<u8, A>,
-    subject: &Subject<'_>,
+    out: &mut Vec<Remark<'a, A>, A>,
+    subject: &Subject<'a>,
+    capability: &Capability<'_>,
+    founds: &[Found],
+    finding: Finding,
+    parameters: u8,
+) -> Result<(), AllocError>
+    requires { capability.now ≡ subject.now.text.now }
+    ensures { OnOk result (Adds (IsFindingReport subject.now.name.now
+        subject.now.text.now parameters founds.now 0 finding) out.old.items out.new.items) }
+{
+    match finding {
+        Finding::ConstantCondition => push_tests(alloc, out, subject, capability)?,
+        _ => {
+            let places = places_of(alloc, founds, finding)?;
+            push_marked(out, subject, places, Wrong::Token(finding, parameters))?;
+        }
+    }
+    Ok(())
+}
+
+/// Adds the remarks on each finding that was found.
+fn push_founds<'a, A: Allocator + Copy>(
+    alloc: A,
+    out: &mut Vec<Remark<'a, A>, A>,
+    subject: &Subject<'a>,
+    capability: &Capability<'_>,
     founds: &[Found],
     parameters: u8,
 ) -> Result<(), AllocError>
-    ensures { OnOk result (Adds (AreReports (IsFindingReport subject.now.prefix.now
-        subject.now.label.now subject.now.text.now parameters founds.now) 0 all_findings)
+    requires { capability.now ≡ subject.now.text.now }
+    ensures { OnOk result (Adds (AreReports (IsFindingReport
+        subject.now.name.now subject.now.text.now parameters founds.now) 0 all_findings)
         out.old.items out.new.items) }
 {
     'findings: for finding in all_findings() {
-        let places = places_of(alloc, founds, *finding)?;
-        let wrong = Wrong::Token(*finding, parameters);
-        push_marked(out, subject, places.as_slice(), wrong)?;
+        push_found(
+            alloc, out, subject, capability, founds, *finding, parameters,
+        )?;
     }
     Ok(())
 }
@@ -83,60 +111,68 @@ fn may_leave_out(scope: Scope, name: &[u8]) -> bool
         || name == b"mcuu".as_slice()
 }
 
-/// Writes the lines on parameters that are left out, but not if values were taken from the empty stack in their place.
-fn push_left_out<A: Allocator>(
-    out: &mut Vec<u8, A>,
+/// Adds the remarks on parameters that are left out, but not if values were taken from the empty stack in their place.
+fn push_left_out<'a, A: Allocator + Copy>(
+    alloc: A,
+    out: &mut Vec<Remark<'a, A>, A>,
     scope: Scope,
-    subject: &Subject<'_>,
+    subject: &Subject<'a>,
     unused: ParameterSet,
     from_empty: &[usize],
 ) -> Result<(), AllocError>
-    ensures { OnOk result (out.new.items ≡ out.old.items ++ unused_lines scope subject.now.prefix.now
-        subject.now.label.now subject.now.text.now unused from_empty.now) }
+    ensures { OnOk result (out.new.items ≡ out.old.items
+        ++ unused_remarks scope subject.now.name.now subject.now.text.now unused from_empty.now) }
 {
-    if !from_empty.is_empty() || unused.mask == 0 || may_leave_out(scope, subject.label) {
+    if !from_empty.is_empty() || unused.mask == 0 || may_leave_out(scope, subject.name) {
         return Ok(());
     }
-    push_head(out, subject)?;
-    push_sentence_line(out, Wrong::UnusedParameters(unused))
+    push_on_text(alloc, out, subject, Wrong::UnusedParameters(unused))
 }
 
-/// Writes the lines on the parameters that a capability leaves out.
-fn push_unused<A: Allocator + Copy>(
+/// Adds the remarks on the parameters that a capability leaves out.
+fn push_unused<'a, A: Allocator + Copy>(
     alloc: A,
-    out: &mut Vec<u8, A>,
+    out: &mut Vec<Remark<'a, A>, A>,
     scope: Scope,
-    subject: &Subject<'_>,
+    subject: &Subject<'a>,
     unused: ParameterSet,
     parameters: u8,
     founds: &[Found],
 ) -> Result<(), AllocError>
     requires { AreUnused subject.now.text.now parameters unused }
-    ensures { OnOk result (Adds (IsUnusedReport scope subject.now.prefix.now subject.now.label.now
+    ensures { OnOk result (Adds (IsUnusedReport scope subject.now.name.now
         subject.now.text.now parameters founds.now) out.old.items out.new.items) }
 {
     let from_empty = places_of(alloc, founds, Finding::TermcapParameter)?;
-    push_left_out(out, scope, subject, unused, from_empty.as_slice())?;
+    push_left_out(alloc, out, scope, subject, unused, from_empty.as_slice())?;
     Ok(())
 }
 
-/// Writes the lines of the findings of a capability.
-fn push_findings<A: Allocator + Copy>(
+/// Adds the remarks on the findings of a capability.
+fn push_findings<'a, A: Allocator + Copy>(
     alloc: A,
-    out: &mut Vec<u8, A>,
+    out: &mut Vec<Remark<'a, A>, A>,
     scope: Scope,
-    subject: &Subject<'_>,
+    subject: &Subject<'a>,
     capability: &Capability<'_>,
     expected: Expected,
 ) -> Result<(), AllocError>
     requires { capability.now ≡ subject.now.text.now }
-    ensures { OnOk result (Adds (IsFindingsReport scope subject.now.prefix.now
-        subject.now.label.now subject.now.text.now expected) out.old.items out.new.items) }
+    ensures { OnOk result (Adds (IsFindingsReport scope
+        subject.now.name.now subject.now.text.now expected)
+        out.old.items out.new.items) }
 {
     let founds = findings_of(alloc, capability, expected)?;
     let parameters = expected.parameters;
     let unused = unused_parameters(capability, parameters);
-    push_founds(alloc, out, subject, founds.as_slice(), parameters)?;
+    push_founds(
+        alloc,
+        out,
+        subject,
+        capability,
+        founds.as_slice(),
+        parameters,
+    )?;
     push_unused(
         alloc,
         out,
@@ -149,79 +185,89 @@ fn push_findings<A: Allocator + Copy>(
     Ok(())
 }
 
-/// Writes the lines on a text with parameters.
-fn push_capability<A: Allocator + Copy>(
+/// Adds the remark on a text that is no capability.
+fn push_malformed<'a, A: Allocator + Copy>(
     alloc: A,
-    out: &mut Vec<u8, A>,
+    out: &mut Vec<Remark<'a, A>, A>,
+    subject: &Subject<'a>,
+    refused: CapRefused,
+) -> Result<(), AllocError>
+    ensures { OnOk result (out.new.items ≡ out.old.items ++ marked subject.now.name.now
+        subject.now.text.now (refused.place ∷ []) (Wrong.Malformed refused.fault)) }
+{
+    let mut places = Vec::new(alloc);
+    places.push(refused.place)?;
+    push_marked(out, subject, places, Wrong::Malformed(refused.fault))
+}
+
+/// Adds the remarks on a text with parameters.
+fn push_capability<'a, A: Allocator + Copy>(
+    alloc: A,
+    out: &mut Vec<Remark<'a, A>, A>,
     scope: Scope,
-    subject: &Subject<'_>,
+    subject: &Subject<'a>,
     expected: Expected,
 ) -> Result<(), AllocError>
-    ensures { OnOk result (Adds (IsCapabilityReport scope subject.now.prefix.now
-        subject.now.label.now subject.now.text.now expected) out.old.items out.new.items) }
+    ensures { OnOk result (Adds (IsCapabilityReport scope
+        subject.now.name.now subject.now.text.now expected)
+        out.old.items out.new.items) }
 {
     match Capability::parse(subject.text) {
         Ok(capability) => push_findings(alloc, out, scope, subject, &capability, expected),
-        Err(refused) => {
-            push_marked(
-                out,
-                subject,
-                &[refused.place],
-                Wrong::Malformed(refused.fault),
-            )
-        }
+        Err(refused) => push_malformed(alloc, out, subject, refused),
     }
 }
 
-/// Writes the lines on the places at which something stands that should not.
-fn push_places<A: Allocator + Copy>(
+/// Adds the remarks on the places at which something stands that should not.
+fn push_places<'a, A: Allocator + Copy>(
     alloc: A,
-    out: &mut Vec<u8, A>,
-    subject: &Subject<'_>,
+    out: &mut Vec<Remark<'a, A>, A>,
+    subject: &Subject<'a>,
     sought: Sought,
     wrong: Wrong,
 ) -> Result<(), AllocError>
-    ensures { OnOk result (Adds (IsPlacesReport sought wrong subject.now.prefix.now
-        subject.now.label.now subject.now.text.now) out.old.items out.new.items) }
+    ensures { OnOk result (Adds (IsPlacesReport sought wrong
+        subject.now.name.now subject.now.text.now)
+        out.old.items out.new.items) }
 {
     let places = places_at(alloc, subject.text, sought)?;
-    push_marked(out, subject, places.as_slice(), wrong)
+    push_marked(out, subject, places, wrong)
 }
 
-/// Writes the lines on what only an expansion takes away.
-fn push_percents<A: Allocator + Copy>(
+/// Adds the remarks on what only an expansion takes away.
+fn push_percents<'a, A: Allocator + Copy>(
     alloc: A,
-    out: &mut Vec<u8, A>,
-    subject: &Subject<'_>,
+    out: &mut Vec<Remark<'a, A>, A>,
+    subject: &Subject<'a>,
 ) -> Result<(), AllocError>
-    ensures { OnOk result (Adds (IsPercentReport subject.now.prefix.now
-        subject.now.label.now subject.now.text.now) out.old.items out.new.items) }
+    ensures { OnOk result (Adds (IsPercentReport subject.now.name.now subject.now.text.now)
+        out.old.items out.new.items) }
 {
     let wrong = Wrong::UninterpretedPercent;
     push_places(alloc, out, subject, Sought::Percents, wrong)
 }
 
-/// Writes the lines on tokens that are meant to be expanded.
-fn push_escapes<A: Allocator + Copy>(
+/// Adds the remarks on tokens that are meant to be expanded.
+fn push_escapes<'a, A: Allocator + Copy>(
     alloc: A,
-    out: &mut Vec<u8, A>,
-    subject: &Subject<'_>,
+    out: &mut Vec<Remark<'a, A>, A>,
+    subject: &Subject<'a>,
 ) -> Result<(), AllocError>
-    ensures { OnOk result (Adds (IsEscapeReport subject.now.prefix.now
-        subject.now.label.now subject.now.text.now) out.old.items out.new.items) }
+    ensures { OnOk result (Adds (IsEscapeReport subject.now.name.now subject.now.text.now)
+        out.old.items out.new.items) }
 {
     let places = escapes_of(alloc, subject.text)?;
-    push_marked(out, subject, places.as_slice(), Wrong::UninterpretedEscape)
+    push_marked(out, subject, places, Wrong::UninterpretedEscape)
 }
 
-/// Writes the lines on a text that is sent as it stands.
-fn push_plain<A: Allocator + Copy>(
+/// Adds the remarks on a text that is sent as it stands.
+fn push_plain<'a, A: Allocator + Copy>(
     alloc: A,
-    out: &mut Vec<u8, A>,
-    subject: &Subject<'_>,
+    out: &mut Vec<Remark<'a, A>, A>,
+    subject: &Subject<'a>,
 ) -> Result<(), AllocError>
-    ensures { OnOk result (Adds (IsPlainReport subject.now.prefix.now
-        subject.now.label.now subject.now.text.now) out.old.items out.new.items) }
+    ensures { OnOk result (Adds (IsPlainReport subject.now.name.now subject.now.text.now)
+        out.old.items out.new.items) }
 {
     push_escapes(alloc, out, subject)?;
     push_percents(alloc, out, subject)?;
@@ -229,60 +275,60 @@ fn push_plain<A: Allocator + Copy>(
     Ok(())
 }
 
-/// Writes the lines on what a key sends.
-fn push_key<A: Allocator + Copy>(
+/// Adds the remarks on what a key sends.
+fn push_key<'a, A: Allocator + Copy>(
     alloc: A,
-    out: &mut Vec<u8, A>,
-    subject: &Subject<'_>,
+    out: &mut Vec<Remark<'a, A>, A>,
+    subject: &Subject<'a>,
 ) -> Result<(), AllocError>
-    ensures { OnOk result (Adds (IsKeyReport subject.now.prefix.now
-        subject.now.label.now subject.now.text.now) out.old.items out.new.items) }
+    ensures { OnOk result (Adds (IsKeyReport subject.now.name.now subject.now.text.now)
+        out.old.items out.new.items) }
 {
     push_percents(alloc, out, subject)?;
     push_places(alloc, out, subject, Sought::Mark, Wrong::MarkInKey)?;
     Ok(())
 }
 
-/// Writes the lines on a list of pairs that is cut: `acsc` alone is one.
-fn push_half_paired<A: Allocator>(
-    out: &mut Vec<u8, A>,
-    subject: &Subject<'_>,
+/// Adds the remarks on a list of pairs that is cut: `acsc` alone is one.
+fn push_half_paired<'a, A: Allocator + Copy>(
+    alloc: A,
+    out: &mut Vec<Remark<'a, A>, A>,
+    subject: &Subject<'a>,
 ) -> Result<(), AllocError>
-    ensures { OnOk result (out.new.items ≡ out.old.items ++ half_paired_lines
-        subject.now.prefix.now subject.now.label.now subject.now.text.now) }
+    ensures { OnOk result (out.new.items ≡ out.old.items ++ half_paired
+        subject.now.name.now subject.now.text.now) }
 {
-    if subject.label == b"acsc".as_slice() && is_half_paired(subject.text) {
-        push_head(out, subject)?;
-        return push_sentence_line(out, Wrong::HalfPaired);
+    if subject.name == b"acsc".as_slice() && is_half_paired(subject.text) {
+        return push_on_text(alloc, out, subject, Wrong::HalfPaired);
     }
     Ok(())
 }
 
-/// Writes the lines on a text of a class.
-pub fn push_text<A: Allocator + Copy>(
+/// Adds the remarks on a text of a class.
+pub fn push_text<'a, A: Allocator + Copy>(
     alloc: A,
-    out: &mut Vec<u8, A>,
+    out: &mut Vec<Remark<'a, A>, A>,
     scope: Scope,
-    subject: &Subject<'_>,
+    subject: &Subject<'a>,
     stored: Variables,
     class: Class,
 ) -> Result<(), AllocError>
-    ensures { OnOk result (Adds (IsTextReport scope subject.now.prefix.now
-        subject.now.label.now stored class subject.now.text.now)
+    ensures { OnOk result (Adds (IsTextReport scope
+        subject.now.name.now stored class subject.now.text.now)
         out.old.items out.new.items) }
 {
     match class {
         Class::Parameterized(parameters) => {
             let expected = Expected {
                 parameters,
-                texts: text_parameters(subject.label),
+                texts: text_parameters(subject.name),
                 stored,
             };
             push_capability(alloc, out, scope, subject, expected)
         }
         Class::Plain => push_plain(alloc, out, subject),
         Class::Key => push_key(alloc, out, subject),
-        Class::List => push_half_paired(out, subject),
+        Class::List => push_half_paired(alloc, out, subject),
         Class::Label | Class::File | Class::Character | Class::Input => Ok(()),
     }
 }

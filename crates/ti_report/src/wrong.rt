@@ -1,7 +1,7 @@
 //! What is wrong, as a sentence.
 
 ghost use Rattle.std.specs.Prelude.{◌≡◌, ◌++◌, ◌≤◌, OnOk};
-ghost use Rattle.ti_report.specs.Sentences.{finding_meaning, is_in, last_parameter, meaning_of, parameter_words, sentence, unused_meaning, word_of};
+ghost use Rattle.ti_report.specs.Sentences.{finding_meaning, is_in, last_parameter, meaning_of, parameter_words, test_meaning, unused_meaning, word_of};
 
 use itoa::Buffer;
 use std::alloc::{AllocError, Allocator};
@@ -15,6 +15,8 @@ pub enum Wrong {
     Malformed(CapFault),
     /// A finding of a token, in a text that has so many parameters by terminfo(5).
     Token(Finding, u8),
+    /// A test in it has constants alone, and leaves this value for its `%t`.
+    ConstantTest(i32),
     /// It is sent as it stands, and has a token that is meant to be expanded.
     UninterpretedEscape,
     /// It is not expanded, and has two percent signs.
@@ -51,12 +53,13 @@ pub enum Wrong {
 
 impl Wrong {
     /// The word for the finding.
-    fn word(self) -> &'static str
+    pub(crate) fn word(self) -> &'static str
         ensures { result.now ≡ word_of self }
     {
         match self {
             Wrong::Malformed(_) => TextFinding::Malformed.word(),
             Wrong::Token(finding, _) => finding.word(),
+            Wrong::ConstantTest(_) => Finding::ConstantCondition.word(),
             Wrong::UninterpretedEscape => TextFinding::UninterpretedEscape.word(),
             Wrong::UninterpretedPercent => TextFinding::UninterpretedPercent.word(),
             Wrong::FalseMark => TextFinding::FalseMark.word(),
@@ -123,13 +126,21 @@ fn push_finding_meaning<A: Allocator>(
         Finding::NoEffect => {
             out.extend_from_slice(b"its bodies are empty, and its tests only compute")
         }
-        Finding::ConstantCondition => {
-            out.extend_from_slice(b"its test has constants alone, and always goes the same way")
-        }
+        Finding::ConstantCondition => { out.extend_from_slice(b"its test has constants alone") }
         Finding::RepeatedCondition => {
             out.extend_from_slice(b"an earlier arm has the test after it")
         }
     }
+}
+
+/// Writes that a test has one value.
+fn push_test_value<A: Allocator>(out: &mut Vec<u8, A>, value: i32) -> Result<(), AllocError>
+    ensures { OnOk result (out.new.items ≡ out.old.items ++ test_meaning value) }
+{
+    let mut digits = Buffer::new();
+    out.extend_from_slice(b"its test has constants alone, and is always ")?;
+    out.extend_from_slice(digits.format(value).as_bytes())?;
+    Ok(())
 }
 
 /// Whether a parameter is in a set.
@@ -167,12 +178,13 @@ fn push_unused<A: Allocator>(out: &mut Vec<u8, A>, unused: ParameterSet) -> Resu
 }
 
 /// Writes what is wrong.
-fn push_meaning<A: Allocator>(out: &mut Vec<u8, A>, wrong: Wrong) -> Result<(), AllocError>
+pub fn push_meaning<A: Allocator>(out: &mut Vec<u8, A>, wrong: Wrong) -> Result<(), AllocError>
     ensures { OnOk result (out.new.items ≡ out.old.items ++ meaning_of wrong) }
 {
     match wrong {
         Wrong::Malformed(fault) => out.extend_from_slice(fault.word().as_bytes()),
         Wrong::Token(finding, parameters) => push_finding_meaning(out, finding, parameters),
+        Wrong::ConstantTest(value) => push_test_value(out, value),
         Wrong::UninterpretedEscape => out.extend_from_slice(b"the text is sent as it stands"),
         Wrong::UninterpretedPercent => {
             out.extend_from_slice(b"in a text that is not expanded these are two")
@@ -198,13 +210,4 @@ fn push_meaning<A: Allocator>(out: &mut Vec<u8, A>, wrong: Wrong) -> Result<(), 
             out.extend_from_slice(b"readers differ in where the entry's own names start")
         }
     }
-}
-
-/// Writes the sentence: the word, and what is wrong.
-pub fn push_sentence<A: Allocator>(out: &mut Vec<u8, A>, wrong: Wrong) -> Result<(), AllocError>
-    ensures { OnOk result (out.new.items ≡ out.old.items ++ sentence wrong) }
-{
-    out.extend_from_slice(wrong.word().as_bytes())?;
-    out.extend_from_slice(b": ")?;
-    push_meaning(out, wrong)
 }

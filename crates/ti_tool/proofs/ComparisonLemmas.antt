@@ -1,46 +1,54 @@
 -- What two files lead to.
-use Rattle.std.proofs.Common.{◌≡◌, ◌∙◌, ◌==◌, ℕ, true, false, true≢false, List, [], ◌∷◌, length, inr, refl, ap, arith}
+use Rattle.std.proofs.Common.{◌≡◌, ◌∙◌, ◌==◌, ℕ, true, false, true≢false, List, [], ◌∷◌, length, map, inl, inr, refl, ap, arith}
 use Rattle.std.proofs.lemmas.Bool.{eqb-true}
 use Rattle.std.specs.Prelude.{Option, Result, Ok, Err, IfOk, MatchResult, unwrap_or}
 use Rattle.ti_words.specs.Spelling.{Spells}
 use Rattle.ti_words.specs.Value.{EntryValue}
+use Rattle.ti_line.specs.declared.options.Comparison.{Comparison}
 use Rattle.ti_line.specs.declared.options.Likeness.{Likeness}
 use Rattle.ti_line.specs.declared.request.Difference.{Difference}
 use Rattle.ti_tool.specs.declared.fault.ToolFault.TheVariants as fault
 use Rattle.ti_tool.specs.FaultLines.{fault_line}
 use Rattle.ti_tool.specs.FileRuns.{Contents, Delivered, Held, IsUnread, NoMemory, Supply, Unread}
-use Rattle.ti_tool.specs.Comparisons.{IsCompared, IsComparison, IsRefusedFile, RanDifference, status_of}
+use Rattle.ti_listing.specs.Differences.{DifferenceValue}
+use Rattle.ti_tool.specs.Comparisons.{AreCompared, IsCompared, IsComparison, IsRefusedFile, RanDifference, status_of}
 
 -- the status of what is told
-pub low_status : (out : List ℕ) (len : ℕ) → length out ≡ len → (len == 0) ≡ true → 0 ≡ status_of out
-low_status [] len is none = refl
-low_status (b ∷ bs) len is none = let empty = eqb-true len 0 none in absurd (omega (arith, empty, is))
+pub low_status : {X : Type 0} (value : X → DifferenceValue) (told : List X) (len : ℕ) → length told ≡ len → (len == 0) ≡ true → 0 ≡ status_of (map value told)
+low_status value [] len is none = refl
+low_status value (d ∷ ds) len is none = let empty = eqb-true len 0 none in absurd (omega (arith, empty, is))
 
-pub high_status : (out : List ℕ) (len : ℕ) → length out ≡ len → (len == 0) ≡ false → 1 ≡ status_of out
-high_status [] len is some = absurd (true≢false (ap (λ n. n == 0) is ∙ some))
-high_status (b ∷ bs) len is some = refl
+pub high_status : {X : Type 0} (value : X → DifferenceValue) (told : List X) (len : ℕ) → length told ≡ len → (len == 0) ≡ false → 1 ≡ status_of (map value told)
+high_status value [] len is some = absurd (true≢false (ap (λ n. n == 0) is ∙ some))
+high_status value (d ∷ ds) len is some = refl
 
-module _ (F : Type 0) (O : Type 0) (bytes line : O → List ℕ) (status : O → ℕ) (by : Likeness) (file other : List ℕ) where
+module _ (F : Type 0) (O : Type 0) (bytes line : O → List ℕ) (status : O → ℕ) (by : Likeness) (form : Comparison) (file other : List ℕ) where
+  -- both are entries
+  pub both_entries : (r : Result O F) (contents of_other : List ℕ) (v w : EntryValue) → Spells contents v → Spells of_other w → IfOk r (λ o. AreCompared by form v w (bytes o) (line o) (status o))
+      → IfOk r (λ o. IsCompared by form file other contents of_other (bytes o) (line o) (status o))
+  both_entries (Ok o) contents of_other v w spells spells_too led = inl (v, w, spells, spells_too, led)
+  both_entries (Err e) contents of_other v w spells spells_too led = tt
+
   -- the other file is no entry
   pub other_refused : (r : Result O F) (contents of_other : List ℕ) (v : EntryValue) → Spells contents v → IfOk r (λ o. IsRefusedFile other of_other (bytes o) (line o) (status o))
-      → IfOk r (λ o. IsCompared by file other contents of_other (bytes o) (line o) (status o))
+      → IfOk r (λ o. IsCompared by form file other contents of_other (bytes o) (line o) (status o))
   other_refused (Ok o) contents of_other v spells refused = inr (inr ((v, spells), refused))
   other_refused (Err e) contents of_other v spells refused = tt
 
   -- the other file is not read
   pub other_unread : (r : Result O F) (contents : List ℕ) → IfOk r (λ o. IsUnread other (bytes o) (line o) (status o))
-      → IfOk r (λ o. (one : Supply) × (two : Supply) × IsComparison by file other one two (bytes o) (line o) (status o))
+      → IfOk r (λ o. (one : Supply) × (two : Supply) × IsComparison by form file other one two (bytes o) (line o) (status o))
   other_unread (Ok o) contents unread = (Contents contents, Unread, unread)
   other_unread (Err e) contents unread = tt
 
-  pub both_read : (r : Result O F) (contents of_other : List ℕ) → IfOk r (λ o. IsCompared by file other contents of_other (bytes o) (line o) (status o))
-      → IfOk r (λ o. (one : Supply) × (two : Supply) × IsComparison by file other one two (bytes o) (line o) (status o))
+  pub both_read : (r : Result O F) (contents of_other : List ℕ) → IfOk r (λ o. IsCompared by form file other contents of_other (bytes o) (line o) (status o))
+      → IfOk r (λ o. (one : Supply) × (two : Supply) × IsComparison by form file other one two (bytes o) (line o) (status o))
   both_read (Ok o) contents of_other compared = (Contents contents, Contents of_other, compared)
   both_read (Err e) contents of_other compared = tt
 
 -- what they led to is written
 pub ran_difference : {F O : Type 0} (bytes line : O → List ℕ) (code : O → ℕ) (d : Difference) (held0 held1 told0 told1 : Held) (outcome : Result O F) (answer : Option ℕ) (status : ℕ)
-    → IfOk outcome (λ o. (one : Supply) × (two : Supply) × IsComparison d.likeness d.file.now d.other.now one two (bytes o) (line o) (code o))
+    → IfOk outcome (λ o. (one : Supply) × (two : Supply) × IsComparison d.likeness d.form d.file.now d.other.now one two (bytes o) (line o) (code o))
     → MatchResult outcome (λ o. Delivered held0 held1 told0 told1 answer (bytes o) (line o) (code o)) (λ _. Delivered held0 held1 told0 told1 answer [] (fault_line fault.Memory) 6)
     → status ≡ unwrap_or answer 5 → RanDifference d held0 held1 told0 told1 status
 ran_difference bytes line code d held0 held1 told0 told1 (Ok o) answer status (one, two, led) delivered is = (one, two, bytes o, line o, code o, answer, led, delivered, is)

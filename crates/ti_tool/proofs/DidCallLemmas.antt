@@ -1,6 +1,6 @@
 -- What a call has done, from what it read and what it wrote.
 use Rattle.std.proofs.Common.{◌≡◌, ℕ, Bool, ◌⊎◌, inl, inr, List, [], Ok, Err, Some, None, refl, subst, sym, ap, ◌∙◌}
-use Rattle.std.specs.Prelude.{Option, Result, IfErr}
+use Rattle.std.specs.Prelude.{Option, Result, IfErr, IsErrAnd, true}
 use Rattle.std.specs.Io.KnownBytes.{Consumes, IsAtEnd}
 use Rattle.std.proofs.KnownBytes.{Keeps-refl}
 use Rattle.ti_tool.specs.declared.fault.ToolFault.{ToolFault}
@@ -14,12 +14,14 @@ use Rattle.ti_entry.proofs.FeedLemmas.{failure_refuses}
 use Rattle.ti_entry.proofs.FeedsFromLemmas.{FeedsFrom-whole}
 use Rattle.ti_expand.specs.declared.values.Value.{Value}
 use Rattle.ti_line.specs.declared.request.Asked.{Asked}
-use Rattle.ti_line.specs.declared.request.Asked.TheVariants.{Entry}
-use Rattle.ti_tool.specs.Results.{IsAnswer, IsDueOf}
+use Rattle.ti_line.specs.declared.request.Asked.TheVariants.{Entry, Source}
+use Rattle.ti_line.specs.declared.request.OfCapability.{OfCapability}
+use Rattle.ti_tool.specs.Results.{IsAnswer, IsDueOf, IsOutputOf}
+use Rattle.ti_tool.specs.Sources.{IsDueForSource}
 use Rattle.ti_line.specs.declared.request.OfEntry.{OfEntry}
 use Rattle.ti_tool.specs.inner.Kept.{IsKept}
 use Rattle.ti_tool.specs.inner.ReadsInto.{ReadsInto}
-use Rattle.ti_tool.specs.Calls.{Wrote, HasReadEnough, DidCall, DidCheck, HasFailed, IsEnough, IsFailedWrite, stop_fault}
+use Rattle.ti_tool.specs.Calls.{Wrote, HasReadEnough, DidCall, DidCheck, HasFailed, IsEnough, IsFailedWrite, IsFullSource, stop_fault}
 use Rattle.ti_tool.specs.inner.Dues.{FailsAsDue}
 use Rattle.ti_tool.proofs.IsDueLemmas.{IsNeverOwn}
 
@@ -111,3 +113,13 @@ pub entry_did : (asked : Asked) (e : OfEntry) (parameters : List Value) (left0 l
 entry_did asked e parameters left0 left1 held0 held1 kept answer is did =
     let Did : Asked → Type 0 = λ a. (did : DidCheck (IsAnswer a parameters) (IsEnough a) left0 left1 held0 held1 answer) × IsKept a kept did.2.input answer in
     subst Did (sym is) did
+
+-- a call on a notation that failed is one of the request that is of it
+pub source_failed : (asked : Asked) (c : OfCapability) (parameters : List Value) (left0 left1 held0 held1 : Option (List ℕ)) (kept : List ℕ) (result : Result (Unit {0}) ToolFault) (answer : Result Bool ToolFault) (e : ToolFault)
+    → asked ≡ Source c → result ≡ Err e → IsErrAnd answer (λ x. x ≡ e) → DidCall (IsDueForSource (IsOutputOf c parameters)) IsFullSource left0 left1 held0 held1 result
+    → (did : DidCheck (IsAnswer asked parameters) (IsEnough asked) left0 left1 held0 held1 answer) × IsKept asked kept did.2.input answer
+source_failed asked c parameters left0 left1 held0 held1 kept result (Ok sound) e is failed same did = absurd same
+source_failed asked c parameters left0 left1 held0 held1 kept result (Err x) e is failed same did =
+    let Did : Asked → Type 0 = λ a. (did : DidCheck (IsAnswer a parameters) (IsEnough a) left0 left1 held0 held1 (Err x)) × IsKept a kept did.2.input (Err x) in
+    let P : Result (Unit {0}) ToolFault → Type 0 = λ r. DidCall (IsDueForSource (IsOutputOf c parameters)) IsFullSource left0 left1 held0 held1 r in
+    subst Did (sym is) ((true, tt, subst P (failed ∙ ap (λ f. Err f) (sym same)) did), tt)

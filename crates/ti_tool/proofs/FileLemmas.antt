@@ -8,8 +8,9 @@ use Rattle.ti_tool.specs.declared.fault.ToolFault.TheVariants as fault
 use Rattle.ti_expand.specs.declared.values.Value.{Value}
 use Rattle.ti_line.specs.declared.request.OfEntry.{OfEntry}
 use Rattle.ti_tool.specs.Files.{IsDueOfFile, before_findings, result_of_file}
+use Rattle.ti_escape.specs.declared.color.Color.{Color}
 use Rattle.ti_lint.specs.declared.scope.Scope.{Scope}
-use Rattle.ti_report.specs.Reports.{IsReport}
+use Rattle.ti_report.specs.Reports.{AreLines}
 use Rattle.ti_report.specs.Lines.{Adds}
 use Rattle.ti_tool.specs.Results.{IsDueIn, IsLinted}
 use Rattle.ti_tool.specs.Statuses.{status_for}
@@ -27,9 +28,9 @@ fault_is_high (fault.Entry refused) = omega arith
 fault_is_high other = omega arith
 
 -- lines that were written to none are those of the findings
-pub linted : (scope : Scope) (before input : List ℕ) (v : EntryValue) (start lines : List ℕ) (sound : Bool) → start ≡ []
-    → Adds (IsReport scope before input v) start lines → sound ≡ (length lines == 0) → IsLinted scope before sound input v (Ok lines)
-linted scope before input v start lines sound empty adds none = go (subst (λ (s : List ℕ). Adds (IsReport scope before input v) s lines) empty adds)
+pub linted : (scope : Scope) (color : Color) (before input : List ℕ) (v : EntryValue) (start lines : List ℕ) (sound : Bool) → start ≡ []
+    → Adds (AreLines scope color before input v) start lines → sound ≡ (length lines == 0) → IsLinted scope color before sound input v (Ok lines)
+linted scope color before input v start lines sound empty adds none = go (subst (λ (s : List ℕ). Adds (AreLines scope color before input v) s lines) empty adds)
   where
-    go : Adds (IsReport scope before input v) [] lines → IsLinted scope before sound input v (Ok lines)
-    go (all, is, joined) = (subst (IsReport scope before input v) (sym joined) is, none)
+    go : Adds (AreLines scope color before input v) [] lines → IsLinted scope color before sound input v (Ok lines)
+    go (all, is, joined) = (subst (AreLines scope color before input v) (sym joined) is, none)

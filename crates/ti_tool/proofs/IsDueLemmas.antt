@@ -17,7 +17,7 @@ use Rattle.ti_line.specs.declared.request.TraceOf.{TraceOf}
 use Rattle.ti_tool.specs.Expansions.{IsPadded}
 use Rattle.ti_tool.specs.Got.{IsDueBy, IsTextResult, IsValueResult}
 use Rattle.ti_tool.specs.Traces.{IsTraced, IsTracedBy, IsTracedValue}
-use Rattle.ti_tool.specs.Items.{FlagItem, ItemValue, NumberItem, TextItem}
+use Rattle.ti_listing.specs.Items.{FlagItem, ItemValue, NumberItem, TextItem}
 use Rattle.ti_tool.specs.Results.{IsDue, IsOutputOf}
 use Rattle.ti_tool.specs.Sources.{IsDueForSource, IsDueForText, most_notation_chars, notation_in, text_read, too_long}
 

@@ -22,7 +22,8 @@ use Rattle.ti_tool.specs.declared.fault.ToolFault.TheVariants as fault
 use Rattle.ti_tool.specs.Calls.{NeedsMemory}
 use Rattle.ti_tool.specs.Expansions.{IsExpansion, IsPadded}
 use Rattle.ti_tool.specs.Got.{AreTaken, AreTakenFrom, IsDueBy, IsGot, IsPaddedAlone, IsTaken, IsTextResult, IsValueResult}
-use Rattle.ti_tool.specs.Items.{IsItemCalled, ItemValue, TextItem}
+use Rattle.ti_listing.specs.Items.{ItemValue, TextItem}
+use Rattle.ti_tool.specs.ItemNames.{IsItemCalled}
 use Rattle.ti_tool.specs.Traces.{IsTracedOf, IsTracedValue}
 use Rattle.ti_tool.specs.inner.Dues.{FailsAsDue}
 use Rattle.ti_tool.proofs.IsItemCalledLemmas.{one_item}

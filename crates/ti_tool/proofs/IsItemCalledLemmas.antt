@@ -9,9 +9,11 @@ use Rattle.ti_words.specs.Value.{EntryValue}
 use Rattle.ti_entry.specs.Finding.{IsPosition, Lacks, names_before, names_of}
 use Rattle.ti_entry.specs.declared.finding.Position.{Position}
 use Rattle.ti_entry.specs.declared.finding.Position.TheVariants.{Standard, Extended}
-use Rattle.ti_tool.specs.Items.{IsItemCalled, IsKindLabel, IsPlaceCalled, ItemValue, item_at, kind_word}
+use Rattle.ti_listing.specs.Items.{ItemValue, item_at, kind_word}
+use Rattle.ti_tool.specs.ItemNames.{IsItemCalled, IsKindLabel, IsPlaceCalled}
 use Rattle.ti_tool.specs.Names.{IsLabel}
-use Rattle.ti_tool.proofs.IsCalledLemmas.{not_there, one_index, one_label}
+use Rattle.ti_listing.proofs.IsLeastIndexLemmas.{not_there, one_index}
+use Rattle.ti_tool.proofs.IsCalledLemmas.{one_label}
 
 -- ---- a label with a kind
 

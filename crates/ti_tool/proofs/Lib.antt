@@ -9,8 +9,6 @@ pub mod IsExpansionLemmas
 pub mod IsCalledLemmas
 pub mod NeedsMemoryLemmas
 pub mod IsLabelLemmas
-pub mod LinesFromLemmas
-pub mod IsExtendedLineLemmas
 pub mod DidLineLemmas
 pub mod ReadsIntoLemmas
 pub mod AreToldLemmas
@@ -21,8 +19,4 @@ pub mod IsItemCalledLemmas
 pub mod IsGotLemmas
 pub mod FileLemmas
 pub mod FileRunsLemmas
-pub mod DifferencesLemmas
-pub mod AreAlikeLemmas
 pub mod ComparisonLemmas
-pub mod TokensLemmas
-pub mod SameTokenLemmas

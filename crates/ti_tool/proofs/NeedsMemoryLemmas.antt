@@ -1,6 +1,6 @@
 -- Where no fault is due but one that comes after memory was taken.
 use Rattle.std.proofs.Common.{◌≡◌, ◌⊎◌, ℕ, ◌<◌, ◌≤◌, List, length, Ok, Err, Some, None, inl, inr, sym, ap, subst, ◌∙◌, arith}
-use Rattle.std.specs.Prelude.{Result, IfOk, IfErr, MatchResult, ◌↔◌}
+use Rattle.std.specs.Prelude.{Result, IfOk, IfErr, IsErrAnd, MatchResult, ◌↔◌}
 use Rattle.ti_base.specs.Limits.{most_padded_bytes}
 use Rattle.ti_words.specs.Texts.{TextValue, TextOf}
 use Rattle.ti_words.specs.Value.{EntryValue}
@@ -12,7 +12,7 @@ use Rattle.ti_cap.specs.declared.language.CapRefused.{CapRefused}
 use Rattle.ti_cap.specs.Refusal.{IsFaultless, IsRefusal}
 use Rattle.ti_expand.specs.declared.values.Value.{Value}
 use Rattle.ti_expand.specs.Expands.{IsFirstTooLong}
-use Rattle.ti_escape.specs.declared.form.Form.{Form}
+use Rattle.ti_line.specs.declared.options.TraceForm.{TraceForm}
 use Rattle.ti_trace.specs.declared.fault.TraceFault.{TraceFault}
 use Rattle.ti_trace.specs.declared.fault.TraceFault.TheVariants as trace_fault
 use Rattle.ti_pad.specs.Setting.{Setting}
@@ -51,7 +51,7 @@ padded_needs text parameters setting output can (fault.TextTooLong k) d = absurd
 padded_needs text parameters setting output can (fault.Encode unfit) d = tt
 padded_needs text parameters setting output can other d = d
 
-pub traced_needs : (parameters : List Value) (form : Form) (input : List ℕ) → IsExpandable input parameters → NeedsMemory (IsTraced parameters form input)
+pub traced_needs : (parameters : List Value) (form : TraceForm) (input : List ℕ) → IsExpandable input parameters → NeedsMemory (IsTraced parameters form input)
 traced_needs parameters form input can e d = absurd (can e d)
 
 -- ---- what the parts of a call answer
@@ -61,6 +61,18 @@ pub none_too_long_traced : {V : Type 0} (r : Result V TraceFault) (input : List 
     → ((k : ℕ) → (r ≡ Err (trace_fault.TextTooLong k)) ↔ (IsFaultless input × IsFirstTooLong parameters k)) → r ≡ Err trace_fault.Memory
     → (k : ℕ) → ¬ IsFirstTooLong parameters k
 none_too_long_traced r input parameters sound h e k first = absurd (cc (e, (h k).1 (sound, first)))
+
+-- nor if it is there
+pub none_too_long_shown : {V : Type 0} (r : Result V TraceFault) (v : V) (input : List ℕ) (parameters : List Value) → IsFaultless input
+    → ((k : ℕ) → (r ≡ Err (trace_fault.TextTooLong k)) ↔ (IsFaultless input × IsFirstTooLong parameters k)) → r ≡ Ok v
+    → (k : ℕ) → ¬ IsFirstTooLong parameters k
+none_too_long_shown r v input parameters sound h is k first = absurd (cc (is, (h k).1 (sound, first)))
+
+-- out of memory is the one fault
+pub out_of_memory : {V : Type 0} (r : Result V ToolFault) (bytes_of : V → List ℕ) (due : Result (List ℕ) ToolFault → Type 0) → IsErrAnd r (λ e. e ≡ fault.Memory) → NeedsMemory due
+    → MatchResult r (λ v. due (Ok (bytes_of v))) (FailsAsDue due)
+out_of_memory (Ok v) bytes_of due fails needs = absurd fails
+out_of_memory (Err e) bytes_of due fails needs = inl (fails, needs)
 
 -- the output of a capability in the form that is asked for, or out of memory
 pub capped_of : {V : Type 0} (r : Result V ToolFault) (bytes_of : V → List ℕ) (parameters : List Value) (output : Output) (input plain : List ℕ) → IsFaultless input → IsExpansion input parameters plain

@@ -21,8 +21,7 @@ use Rattle.ti_expand.specs.declared.values.Value.{Value}
 use Rattle.ti_expand.specs.State.{start}
 use Rattle.ti_expand.specs.Meaning.{meaning}
 use Rattle.ti_expand.specs.Expands.{IsFirstTooLong}
-use Rattle.ti_escape.specs.declared.form.Form.{Form}
-use Rattle.ti_trace.proofs.OneTraceLemmas.{is_one_trace}
+use Rattle.ti_trace.proofs.OneTraceLemmas.{is_one_trace, is_one_trace_json}
 use Rattle.ti_pad.specs.Setting.{Setting}
 use Rattle.ti_pad.specs.Padded.{padded_text}
 use Rattle.ti_base.specs.Limits.{most_padded_bytes}
@@ -37,7 +36,7 @@ use Rattle.ti_line.specs.declared.request.OfEntry.{OfEntry}
 use Rattle.ti_line.specs.declared.request.OfEntry.TheVariants as of_entry
 use Rattle.ti_tool.specs.declared.fault.ToolFault.{ToolFault}
 use Rattle.ti_tool.specs.declared.fault.ToolFault.TheVariants as fault
-use Rattle.ti_tool.specs.Labels.{label_of, own_label}
+use Rattle.ti_listing.specs.Labels.{label_of, own_label}
 use Rattle.ti_tool.specs.Laws.{CheckHasOneVerdict, HasOneAnswer, IsSpelledOut}
 use Rattle.ti_line.specs.Options.{output_bytes}
 use Rattle.ti_line.specs.declared.options.Document.{Document}
@@ -45,7 +44,9 @@ use Rattle.ti_line.specs.declared.options.Document.TheVariants as documents
 use Rattle.ti_tool.specs.Documents.{IsDocument}
 use Rattle.ti_tool.specs.Results.{IsExpansion, IsUnexpanded, IsCappedAs, IsPadded, IsDue, IsDueFor, IsDueFrom, IsDueIn, IsDueOf, IsEncoding, IsJudgement, IsOutputOf, in_width}
 use Rattle.ti_tool.specs.Sources.{IsDueForText, notation_in, text_of}
-use Rattle.ti_tool.specs.Traces.{IsTraced, IsTracedBy, IsTracedOf, IsTracedValue, no_values}
+use Rattle.ti_line.specs.declared.options.TraceForm.{TraceForm}
+use Rattle.ti_line.specs.declared.options.TraceForm.TheVariants as trace_forms
+use Rattle.ti_tool.specs.Traces.{IsTraceAs, IsTraced, IsTracedBy, IsTracedOf, IsTracedValue, no_values}
 use Rattle.serde_json.specs.Data.{Data}
 use Rattle.ti_json.specs.Objects.{StandardSubject, OwnSubject, array_text}
 use Rattle.ti_tool.specs.Verdicts.{AreAllTold, AreTold, AreVerdictObjects, AreVerdicts, IsExtendedLine, IsOwnObject, IsStandardLine, IsStandardObject, IsTold, Telling, in_line, in_object}
@@ -53,7 +54,7 @@ use Rattle.ti_line.specs.declared.given.Given.{Given}
 use Rattle.ti_line.specs.declared.request.Get.{Get}
 use Rattle.ti_line.specs.declared.request.TraceOf.{TraceOf}
 use Rattle.ti_tool.specs.Got.{IsDueBy, IsGot, IsPaddedAlone, IsTextResult, IsValueResult}
-use Rattle.ti_tool.specs.Items.{FlagItem, ItemValue, NumberItem, TextItem}
+use Rattle.ti_listing.specs.Items.{FlagItem, ItemValue, NumberItem, TextItem}
 use Rattle.ti_tool.proofs.IsCalledLemmas.{one_called}
 use Rattle.ti_tool.proofs.IsDueLemmas.{IsNeverOwn, text_never, traced_never, value_never}
 use Rattle.ti_tool.proofs.IsGotLemmas.{one_taken}
@@ -118,8 +119,12 @@ one_capped parameters output input (Ok a) (Err e) (plain, sound, p, is) d = absu
 one_capped parameters output input (Err e) (Ok b) d (plain, sound, p, is) = absurd (expandable input parameters sound p.short e d)
 one_capped parameters output input (Err e) (Err f) d h = ap Err (one_unexpanded input parameters e f d h)
 
-one_traced : (parameters : List Value) (form : Form) (input : List ℕ) → IsOneResult (IsTraced parameters form input)
-one_traced parameters form input (Ok a) (Ok b) (sound, short, is) (again, low, same) = ap Ok (is_one_trace input parameters form a b is same)
+one_trace : (form : TraceForm) (input : List ℕ) (parameters : List Value) (a b : List ℕ) → IsTraceAs form input parameters a → IsTraceAs form input parameters b → a ≡ b
+one_trace (trace_forms.Lines form color) input parameters a b is same = is_one_trace input parameters form color a b is same
+one_trace trace_forms.Json input parameters a b (text, is, e) (other, same, f) = e ∙ ap (λ t. t ++ codes "\n") (is_one_trace_json input parameters text other is same) ∙ sym f
+
+one_traced : (parameters : List Value) (form : TraceForm) (input : List ℕ) → IsOneResult (IsTraced parameters form input)
+one_traced parameters form input (Ok a) (Ok b) (sound, short, is) (again, low, same) = ap Ok (one_trace form input parameters a b is same)
 one_traced parameters form input (Ok a) (Err e) (sound, short, is) d = absurd (expandable input parameters sound short e d)
 one_traced parameters form input (Err e) (Ok b) d (sound, short, is) = absurd (expandable input parameters sound short e d)
 one_traced parameters form input (Err e) (Err f) d h = ap Err (one_unexpanded input parameters e f d h)
@@ -303,7 +308,7 @@ one_got g set as_set v r s (item, called, d) (other, again, h) =
 
 -- ---- traces of capabilities
 
-one_traced_by : (text : List ℕ) (given : Option Given) (form : Form) → IsOneResult (IsTracedBy text given form)
+one_traced_by : (text : List ℕ) (given : Option Given) (form : TraceForm) → IsOneResult (IsTracedBy text given form)
 one_traced_by text None form r s d h = one_traced no_values form text r s d h
 one_traced_by text (Some given) form r s d h =
     one_by text given (λ parameters. IsTraced parameters form text) (λ parameters. one_traced parameters form text) r s d h
@@ -322,16 +327,19 @@ one_traced_of t v r s (item, called, d) (other, again, h) =
 
 -- ---- documents
 
-one_document : (document : Document) (sound as_sound : Bool) (v : EntryValue) (r s : Result (List ℕ) ToolFault) → IsDocument document sound v r → IsDocument document as_sound v s → r ≡ s
-one_document documents.Listing sound as_sound v r s d h = d ∙ sym h
-one_document documents.Verdicts sound as_sound v (Ok a) (Ok b) (text, (objects, are, is), e) (other, (others, are_too, same), f) =
+one_document : (document : Document) (sound as_sound : Bool) (input : List ℕ) (v : EntryValue) (r s : Result (List ℕ) ToolFault) → IsSpelledOut (Entry (of_entry.Json document)) → IsDocument document sound input v r
+    → IsDocument document as_sound input v s → r ≡ s
+one_document documents.Listing sound as_sound input v r s spelled d h = d ∙ sym h
+one_document (documents.Findings scope) sound as_sound input v r s spelled d h = absurd spelled
+one_document documents.Verdicts sound as_sound input v (Ok a) (Ok b) spelled (text, (objects, are, is), e) (other, (others, are_too, same), f) =
     ap Ok (e ∙ ap (λ x. x ++ codes "\n") (is ∙ ap array_text (one_objects v objects others sound as_sound are are_too).0 ∙ sym same) ∙ sym f)
-one_document documents.Verdicts sound as_sound v (Ok a) (Err e) d h = absurd h
-one_document documents.Verdicts sound as_sound v (Err e) s d h = absurd d
+one_document documents.Verdicts sound as_sound input v (Ok a) (Err e) spelled d h = absurd h
+one_document documents.Verdicts sound as_sound input v (Err e) s spelled d h = absurd d
 
-document_never : (document : Document) (sound : Bool) (v : EntryValue) → IsNeverOwn (IsDocument document sound v)
-document_never documents.Listing sound v = record { no_write = λ gone d. cc; no_memory = λ d. cc }
-document_never documents.Verdicts sound v = record { no_write = λ gone d. d; no_memory = λ d. d }
+document_never : (document : Document) (sound : Bool) (input : List ℕ) (v : EntryValue) → IsNeverOwn (IsDocument document sound input v)
+document_never documents.Listing sound input v = record { no_write = λ gone d. cc; no_memory = λ d. cc }
+document_never documents.Verdicts sound input v = record { no_write = λ gone d. d; no_memory = λ d. d }
+document_never (documents.Findings scope) sound input v = record { no_write = λ gone d. d; no_memory = λ d. d }
 
 -- ---- requests
 
@@ -345,9 +353,9 @@ one_for_text c parameters (Err e) = λ r s d h. d ∙ sym h
 
 one_on : (e : OfEntry) → IsSpelledOut (Entry e) → (parameters : List Value) (sound as_sound : Bool) (input : List ℕ) (v : EntryValue) (r s : Result (List ℕ) ToolFault) → IsDueIn [] e parameters sound input v r → IsDueIn [] e parameters as_sound input v s → r ≡ s
 one_on (of_entry.Show options) spelled parameters sound as_sound input v r s d h = d ∙ sym h
-one_on (of_entry.Json document) spelled parameters sound as_sound input v r s d h = one_document document sound as_sound v r s d h
+one_on (of_entry.Json document) spelled parameters sound as_sound input v r s d h = one_document document sound as_sound input v r s spelled d h
 one_on (of_entry.Check naming) spelled parameters sound as_sound input v r s d h = one_judgement naming v sound as_sound r s d h
-one_on (of_entry.Lint scope) spelled parameters sound as_sound input v r s d h = absurd spelled
+one_on (of_entry.Lint scope color) spelled parameters sound as_sound input v r s d h = absurd spelled
 one_on (of_entry.Expand e) spelled parameters sound as_sound input v r s d h = one_due_for e.name.names e.name.name.now parameters e.padding e.output v r s d h
 one_on (of_entry.Get g) spelled parameters sound as_sound input v r s d h = one_got g sound as_sound v r s d h
 one_on (of_entry.Trace t) spelled parameters sound as_sound input v r s d h = one_traced_of t v r s d h
@@ -364,9 +372,9 @@ one_answer (Entry e) parameters input sound as_sound r s spelled d h =
 
 on_entry_never : (e : OfEntry) (parameters : List Value) (sound : Bool) (input : List ℕ) (v : EntryValue) → IsNeverOwn (IsDueIn [] e parameters sound input v)
 on_entry_never (of_entry.Show options) parameters sound input v = record { no_write = λ gone d. cc; no_memory = λ d. cc }
-on_entry_never (of_entry.Json document) parameters sound input v = document_never document sound v
+on_entry_never (of_entry.Json document) parameters sound input v = document_never document sound input v
 on_entry_never (of_entry.Check naming) parameters sound input v = record { no_write = λ gone d. d; no_memory = λ d. d }
-on_entry_never (of_entry.Lint scope) parameters sound input v = record { no_write = λ gone d. d; no_memory = λ d. d }
+on_entry_never (of_entry.Lint scope color) parameters sound input v = record { no_write = λ gone d. d; no_memory = λ d. d }
 on_entry_never (of_entry.Expand e) parameters sound input v = record {
   no_write = λ gone (text, called, d). (text_never text parameters e.padding e.output).no_write gone d;
   no_memory = λ (text, called, d). (text_never text parameters e.padding e.output).no_memory d;

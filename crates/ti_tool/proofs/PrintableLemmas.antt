@@ -1,5 +1,5 @@
 -- Results under `--escape` are printable lines, as many as are due.
-use Rattle.std.proofs.Common.{◌≡◌, ◌∙◌, ◌+◌, ℕ, suc, Bool, true, List, [], ◌∷◌, ◌++◌, Some, inl, inr, refl, sym, ap, subst, arith, append_assoc}
+use Rattle.std.proofs.Common.{◌≡◌, ◌∙◌, ◌+◌, ℕ, suc, Bool, true, List, [], ◌∷◌, ◌++◌, Some, inl, inr, refl, sym, ap, subst, arith, append_assoc, map}
 use Rattle.std.specs.Prelude.{◌-◌, Option, None, Ok, length, take, ◌⊎◌, codes, decimal}
 use Rattle.std.specs.List.{flat_map, list_all}
 use Rattle.std.specs.Fmt.{signed_decimal}
@@ -35,9 +35,9 @@ use Rattle.ti_line.specs.declared.options.Output.{Output}
 use Rattle.ti_line.specs.declared.options.Output.TheVariants as outputs
 use Rattle.ti_pad.specs.Setting.{Setting}
 use Rattle.ti_tool.specs.Got.{IsTextResult, IsValueResult, number_or_none, number_result}
-use Rattle.ti_tool.specs.Items.{ItemValue, FlagItem, NumberItem, TextItem}
-use Rattle.ti_tool.specs.Labels.{label_of, own_label, own_names}
-use Rattle.ti_tool.specs.Listing.{entry_lines, flag_line, number_line, text_line, lines_from, standard_flag, standard_number, standard_text, extended_flag, extended_number, extended_text, standard_lines, extended_lines, format_name}
+use Rattle.ti_listing.specs.Items.{ItemValue, FlagItem, NumberItem, TextItem}
+use Rattle.ti_listing.specs.Labels.{label_of, own_label, own_names}
+use Rattle.ti_listing.specs.Listing.{entry_lines, flag_line, number_line, text_line, lines_from, standard_flag, standard_number, standard_text, extended_flag, extended_number, extended_text, standard_lines, extended_lines, format_name}
 use Rattle.serde_json.specs.Data.{Data}
 use Rattle.ti_tool.specs.Verdicts.{AreTold, AreVerdictObjects, IsExtendedLine, IsOwnObject, IsStandardLine, IsStandardObject, IsTold, fault_verdict, in_line, in_object, sound_verdict}
 use Rattle.ti_json.proofs.TextLemmas.{IsText, both, decimal_text, label_text, signed_text}
@@ -47,6 +47,8 @@ use Rattle.ti_words.specs.AllNames.{front}
 use Rattle.ti_json.specs.Objects.{Subject, StandardSubject, OwnSubject, entry_text, text_json}
 use Rattle.ti_line.specs.declared.options.Document.{Document}
 use Rattle.ti_line.specs.declared.options.Document.TheVariants as documents
+use Rattle.ti_report.specs.Objects.{remark_object}
+use Rattle.ti_report.proofs.PlainLemmas.{remarks_are_plain}
 use Rattle.ti_tool.specs.Documents.{IsDocument, key_of}
 use Rattle.ti_tool.specs.Results.{IsDueFrom}
 use Rattle.ti_tool.specs.Printable.{JsonIsPrintable, ObjectIsPrintable, ArePrintableLines, flag_lines, number_lines, text_lines, verdict_lines, lines_due, listed_lines, checked_lines, ShowIsPrintable, CheckIsPrintable, CapIsPrintable, ExpandIsPrintable, GetIsPrintable}
@@ -207,13 +209,15 @@ plain_verdicts v objects sound (first, second, one, other, are, are_too, e, s) =
     (all_plain IsStandardObject (λ i text told b is. plain_told (StandardSubject kinds.Text i) text told b is) 0 v.standard.texts first one are)
     (all_plain IsOwnObject (λ i item told b is. plain_told (OwnSubject kinds.Text item.0) item.1 told b is) 0 v.extended.texts second other are_too))
 
-document_line : (document : Document) (sound : Bool) (v : EntryValue) (out : List ℕ) → IsDocument document sound v (Ok out) → (text : List ℕ) × IsText text × (out ≡ text ++ codes "\n")
-document_line documents.Listing sound v out is = (entry_text v, entry_is_text v, cc)
-document_line documents.Verdicts sound v out (text, (objects, are, is), e) = (text, subst IsText (sym is) (array_is_text objects (plain_verdicts v objects sound are)), e)
+document_line : (document : Document) (sound : Bool) (input : List ℕ) (v : EntryValue) (out : List ℕ) → IsDocument document sound input v (Ok out) → (text : List ℕ) × IsText text × (out ≡ text ++ codes "\n")
+document_line documents.Listing sound input v out is = (entry_text v, entry_is_text v, cc)
+document_line documents.Verdicts sound input v out (text, (objects, are, is), e) = (text, subst IsText (sym is) (array_is_text objects (plain_verdicts v objects sound are)), e)
+document_line (documents.Findings scope) sound input v out (text, is, e) =
+    (text, subst IsText (sym is.text_is) (array_is_text (map remark_object is.remarks) (remarks_are_plain is.remarks)), e)
 
-document_of : (document : Document) (sound : Bool) (input out : List ℕ) → IsDueFrom (IsDocument document sound) input (Ok out) → (text : List ℕ) × IsText text × (out ≡ text ++ codes "\n")
+document_of : (document : Document) (sound : Bool) (input out : List ℕ) → IsDueFrom (IsDocument document sound input) input (Ok out) → (text : List ℕ) × IsText text × (out ≡ text ++ codes "\n")
 document_of document sound input out (inl (refused, is, same)) = absurd cc
-document_of document sound input out (inr (v, spells, is)) = document_line document sound v out is
+document_of document sound input out (inr (v, spells, is)) = document_line document sound input v out is
 
 pub json_line : JsonIsPrintable
 json_line document sound input out due = let (text, is, e) = document_of document sound input out due in one text out is e
@@ -227,6 +231,7 @@ without_newline text =
 key_text : (document : Document) → IsText (key_of document)
 key_text documents.Listing = refl
 key_text documents.Verdicts = refl
+key_text (documents.Findings scope) = refl
 
 pub object_line : ObjectIsPrintable
 object_line document sound name input out due =

@@ -1,13 +1,17 @@
 -- What a run of `diff` does with the two files that it compares.
-use Rattle.std.specs.Prelude.{◌≡◌, ◌⊎◌, ℕ, List, [], ◌∷◌, Option, Some, unwrap_or}
+use Rattle.std.specs.Prelude.{◌≡◌, ◌⊎◌, ℕ, List, [], ◌∷◌, ◌++◌, codes, Option, Some, unwrap_or}
 use Rattle.ti_layout.specs.declared.fault.Refused.{Refused}
 use Rattle.ti_layout.specs.Refusal.{refusal}
 use Rattle.ti_words.specs.Spelling.{Spells}
 use Rattle.ti_words.specs.Value.{EntryValue}
+use Rattle.ti_line.specs.declared.options.Comparison.{Comparison}
+use Rattle.ti_line.specs.declared.options.Comparison.TheVariants as forms
 use Rattle.ti_line.specs.declared.options.Likeness.{Likeness}
 use Rattle.ti_line.specs.declared.request.Difference.{Difference}
 use Rattle.ti_tool.specs.declared.fault.ToolFault.TheVariants as fault
-use Rattle.ti_tool.specs.Differences.{AreDifferences}
+use Rattle.ti_listing.specs.Differences.{AreDifferences, DifferenceValue}
+use Rattle.ti_listing.specs.DifferingLines.{differing_lines}
+use Rattle.ti_listing.specs.DifferingObjects.{differing_text}
 use Rattle.ti_tool.specs.FaultLines.{fault_line}
 use Rattle.ti_tool.specs.FileRuns.{Contents, Delivered, Held, IsRefusedMemory, IsUnread, Supply, Unread}
 use Rattle.ti_tool.specs.Files.{file_line}
@@ -19,29 +23,40 @@ IsRefusedFile name contents out line status =
     × (line ≡ file_line name (fault_line (fault.Entry refused))) × (status ≡ 3)
 
 -- 1 if something is told
-abbrev pub status_of : List ℕ → ℕ
+abbrev pub status_of : List DifferenceValue → ℕ
 status_of [] = 0
-status_of (b ∷ bs) = 1
+status_of (d ∷ ds) = 1
 
--- two entries lead to what they do not have alike; else the first file that is none leads to its fault
-abbrev pub IsCompared : Likeness → List ℕ → List ℕ → List ℕ → List ℕ → List ℕ → List ℕ → ℕ → Type 0
-IsCompared by file other contents of_other out line status =
+-- what two entries do not have alike, as lines or as a document of JSON in a line
+abbrev pub comparison_text : Comparison → List DifferenceValue → List ℕ
+comparison_text (forms.Lines color) told = differing_lines color told
+comparison_text forms.Json told = differing_text told ++ codes "\n"
+
+-- two entries lead to that
+abbrev pub AreCompared : Likeness → Comparison → EntryValue → EntryValue → List ℕ → List ℕ → ℕ → Type 0
+AreCompared by form v w out line status =
+    (told : List DifferenceValue) × AreDifferences by v w told
+    × (out ≡ comparison_text form told) × (line ≡ []) × (status ≡ status_of told)
+
+-- contents that are two entries lead to that; else the first file that is none leads to its fault
+abbrev pub IsCompared : Likeness → Comparison → List ℕ → List ℕ → List ℕ → List ℕ → List ℕ → List ℕ → ℕ → Type 0
+IsCompared by form file other contents of_other out line status =
     ((v : EntryValue) × (w : EntryValue) × Spells contents v × Spells of_other w
-    × AreDifferences by v w out × (line ≡ []) × (status ≡ status_of out))
+    × AreCompared by form v w out line status)
     ⊎ (IsRefusedFile file contents out line status
     ⊎ (((v : EntryValue) × Spells contents v) × IsRefusedFile other of_other out line status))
 
 -- the files are read in their order; the first that can't be read leads to the line on that
-abbrev pub IsComparison : Likeness → List ℕ → List ℕ → Supply → Supply → List ℕ → List ℕ → ℕ → Type 0
-IsComparison by file other (Contents one) (Contents two) out line status =
-    IsCompared by file other one two out line status
-IsComparison by file other (Contents one) Unread out line status = IsUnread other out line status
-IsComparison by file other Unread two out line status = IsUnread file out line status
-IsComparison by file other _ _ out line status = IsRefusedMemory out line status
+abbrev pub IsComparison : Likeness → Comparison → List ℕ → List ℕ → Supply → Supply → List ℕ → List ℕ → ℕ → Type 0
+IsComparison by form file other (Contents one) (Contents two) out line status =
+    IsCompared by form file other one two out line status
+IsComparison by form file other (Contents one) Unread out line status = IsUnread other out line status
+IsComparison by form file other Unread two out line status = IsUnread file out line status
+IsComparison by form file other _ _ out line status = IsRefusedMemory out line status
 
 -- what that led to is written, or a first part of it
 abbrev pub RanDifference : Difference → Held → Held → Held → Held → ℕ → Type 0
 RanDifference d held0 held1 told0 told1 status =
     (one : Supply) × (two : Supply) × (out : List ℕ) × (line : List ℕ) × (code : ℕ)
-    × (answer : Option ℕ) × IsComparison d.likeness d.file.now d.other.now one two out line code
+    × (answer : Option ℕ) × IsComparison d.likeness d.form d.file.now d.other.now one two out line code
     × Delivered held0 held1 told0 told1 answer out line code × (status ≡ unwrap_or answer 5)

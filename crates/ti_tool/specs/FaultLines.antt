@@ -50,6 +50,7 @@ words_line (words.BadWord which) = codes "parameter " ++ decimal which ++ codes 
 abbrev pub line_fault_line : LineFault → List ℕ
 line_fault_line line.BothForms = codes "--hex and --escape exclude each other\n"
 line_fault_line line.JsonForm = codes "--json excludes --escape and --all-names\n"
+line_fault_line line.ColorWord = codes "--color: auto, always or never\n"
 line_fault_line line.BothInputs = codes "--source and --of exclude each other\n"
 line_fault_line line.EntryWithoutName = codes "trace: --entry without --of\n"
 line_fault_line line.BothWidths = codes "convert: both widths\n"

@@ -22,7 +22,8 @@ use Rattle.ti_line.specs.declared.options.Output.{Output}
 use Rattle.ti_line.specs.declared.request.Get.{Get}
 use Rattle.ti_line.specs.Options.{output_bytes}
 use Rattle.ti_tool.specs.Expansions.{IsPadded}
-use Rattle.ti_tool.specs.Items.{IsItemCalled, ItemValue, FlagItem, NumberItem, TextItem}
+use Rattle.ti_listing.specs.Items.{ItemValue, FlagItem, NumberItem, TextItem}
+use Rattle.ti_tool.specs.ItemNames.{IsItemCalled}
 use Rattle.ti_tool.specs.declared.fault.ToolFault.{ToolFault}
 use Rattle.ti_tool.specs.declared.fault.ToolFault.TheVariants as fault
 

@@ -5,6 +5,7 @@ use Rattle.ti_words.specs.Value.{EntryValue}
 use Rattle.ti_words.specs.Spelling.{Spells}
 use Rattle.ti_draft.specs.Canonical.{canonical}
 use Rattle.ti_expand.specs.declared.values.Value.{Value}
+use Rattle.ti_line.specs.declared.options.Document.TheVariants as documents
 use Rattle.ti_line.specs.declared.options.Naming.{Naming}
 use Rattle.ti_line.specs.declared.request.Asked.{Asked}
 use Rattle.ti_line.specs.declared.request.Asked.TheVariants.{Entry}
@@ -19,9 +20,10 @@ WideAndBack = (input wide back : List ℕ) (v : EntryValue) → Spells input v �
     → IsConverted (Some Wide) input (Ok wide) → IsConverted (Some Legacy) wide (Ok back)
     → back ≡ canonical v
 
--- the definitions say which bytes the result is; that of `lint` says which findings it tells
+-- the definitions say which bytes the result is; that of `lint`, also as JSON, says which findings it tells
 abbrev pub IsSpelledOut : Asked → Type 0
-IsSpelledOut (Entry (of_entry.Lint scope)) = ⊥
+IsSpelledOut (Entry (of_entry.Lint scope color)) = ⊥
+IsSpelledOut (Entry (of_entry.Json (documents.Findings scope))) = ⊥
 IsSpelledOut _ = Unit {0}
 
 -- at most one result or fault is due for what is asked, the parameters and the bytes that are read

@@ -1,10 +1,7 @@
-pub mod Labels
-pub mod Listing
 pub mod Documents
 pub mod Names
 pub mod Verdicts
-pub mod Items
-pub mod Differences
+pub mod ItemNames
 pub mod Expansions
 pub mod Got
 pub mod Traces

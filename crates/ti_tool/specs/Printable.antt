@@ -85,12 +85,12 @@ ShowIsPrintable = (options : ListOptions) (input out : List ℕ) → options.for
 -- a document of JSON is one line, with no option
 abbrev pub JsonIsPrintable : Type 0
 JsonIsPrintable = (document : Document) (sound : Bool) (input out : List ℕ)
-    → IsDueFrom (IsDocument document sound) input (Ok out) → ArePrintableLines 1 out
+    → IsDueFrom (IsDocument document sound input) input (Ok out) → ArePrintableLines 1 out
 
 -- of one of several files too
 abbrev pub ObjectIsPrintable : Type 0
 ObjectIsPrintable = (document : Document) (sound : Bool) (name input out : List ℕ)
-    → IsDueFrom (IsDocument document sound) input (Ok out)
+    → IsDueFrom (IsDocument document sound input) input (Ok out)
     → ArePrintableLines 1 (in_object document name out)
 
 abbrev pub CheckIsPrintable : Type 0

@@ -18,14 +18,15 @@ use Rattle.ti_line.specs.declared.options.Naming.{Naming}
 use Rattle.ti_line.specs.declared.options.Output.{Output}
 use Rattle.ti_line.specs.Options.{list_options, naming_asked, output_asked, output_bytes}
 pub use Rattle.ti_tool.specs.Expansions.{IsExpansion, IsPadded, IsUnexpanded}
+use Rattle.ti_escape.specs.declared.color.Color.{Color}
 use Rattle.ti_lint.specs.declared.scope.Scope.{Scope}
-use Rattle.ti_report.specs.Reports.{IsReport}
+use Rattle.ti_report.specs.Reports.{AreLines}
 use Rattle.ti_tool.specs.Got.{IsGot}
 pub use Rattle.ti_tool.specs.Traces.{IsTraced, IsTracedOf}
 use Rattle.ti_tool.specs.Sources.{IsDueForSource}
 use Rattle.ti_tool.specs.Verdicts.{AreVerdicts}
 use Rattle.ti_tool.specs.Documents.{FindsIn, IsDocument}
-use Rattle.ti_tool.specs.Listing.{entry_lines}
+use Rattle.ti_listing.specs.Listing.{entry_lines}
 use Rattle.ti_tool.specs.Names.{IsCalled}
 use Rattle.ti_line.specs.declared.request.Asked.{Asked}
 use Rattle.ti_line.specs.declared.request.Asked.TheVariants.{Capability, Difference, Entry, Source}
@@ -90,10 +91,11 @@ IsJudgement naming sound v (Err e) = ⊥
 abbrev pub IsChecked : Bool → List ℕ → Result (List ℕ) ToolFault → Type 0
 IsChecked sound = IsDueFrom (IsJudgement (naming_asked false false false) sound)
 
--- the lines of `lint`, with something before the first of each finding; nothing is wrong if there are none
-abbrev pub IsLinted : Scope → List ℕ → Bool → List ℕ → EntryValue → Result (List ℕ) ToolFault → Type 0
-IsLinted scope before sound input v (Ok lines) = IsReport scope before input v lines × (sound ≡ (length lines == 0))
-IsLinted scope before sound input v (Err e) = ⊥
+-- the lines of `lint` on what is wrong with an entry, with something before the first of each; nothing is wrong if there are none
+abbrev pub IsLinted : Scope → Color → List ℕ → Bool → List ℕ → EntryValue → Result (List ℕ) ToolFault → Type 0
+IsLinted scope color before sound input v (Ok lines) =
+    AreLines scope color before input v lines × (sound ≡ (length lines == 0))
+IsLinted scope color before sound input v (Err e) = ⊥
 
 -- the canonical bytes of an entry, or why it has none
 abbrev pub IsEncoding : EntryValue → Result (List ℕ) ToolFault → Type 0
@@ -121,9 +123,9 @@ IsOutputOf (of_cap.Trace form) parameters = IsTraced parameters form
 abbrev pub IsDueIn : List ℕ → OfEntry → List Value → Bool → List ℕ → EntryValue
     → Result (List ℕ) ToolFault → Type 0
 IsDueIn before (of_entry.Show options) parameters sound input = IsListed options
-IsDueIn before (of_entry.Json document) parameters sound input = IsDocument document sound
+IsDueIn before (of_entry.Json document) parameters sound input = IsDocument document sound input
 IsDueIn before (of_entry.Check naming) parameters sound input = IsJudgement naming sound
-IsDueIn before (of_entry.Lint scope) parameters sound input = IsLinted scope before sound input
+IsDueIn before (of_entry.Lint scope color) parameters sound input = IsLinted scope color before sound input
 IsDueIn before (of_entry.Expand e) parameters sound input =
     IsDueFor e.name.names e.name.name.now parameters e.padding e.output
 IsDueIn before (of_entry.Convert width) parameters sound input = λ v. IsEncoding (in_width width v)
@@ -146,6 +148,6 @@ IsAnswer (Difference d) parameters sound = λ input answer. ⊥
 abbrev pub Finds : Asked → Bool → Type 0
 Finds (Entry (of_entry.Json document)) sound = FindsIn document sound
 Finds (Entry (of_entry.Check naming)) sound = Unit {0}
-Finds (Entry (of_entry.Lint scope)) sound = Unit {0}
+Finds (Entry (of_entry.Lint scope color)) sound = Unit {0}
 Finds (Entry (of_entry.Get g)) sound = Unit {0}
 Finds _ sound = sound ≡ true

@@ -5,6 +5,7 @@ use Rattle.ti_expand.specs.declared.values.Value.{Value}
 use Rattle.ti_line.specs.CommandLine.{Line, files_of}
 use Rattle.ti_line.specs.Message.{message_text}
 use Rattle.ti_line.specs.Requests.{Asks, Explains, HasText, IsReadAs}
+use Rattle.ti_line.specs.declared.destination.Destination.TheVariants as destinations
 use Rattle.ti_line.specs.declared.no_line.NoLine.{NoLine}
 use Rattle.ti_line.specs.declared.no_line.NoLine.TheVariants as no_line
 use Rattle.ti_line.specs.declared.request.Asked.{Asked}
@@ -26,7 +27,7 @@ Stream = Option (List ℕ)
 
 -- no stream is a terminal
 abbrev pub no_terminals : Terminals
-no_terminals = record { input = false; output = false; errors = false }
+no_terminals = record { input = false; output = destinations.File; errors = false }
 
 -- the statuses after which something may have been written as a result: done, a fault that `check`
 -- found or a flag that is not set, a failed read or write

@@ -12,7 +12,7 @@ use Rattle.ti_cap.specs.FaultNames.{cap_fault_word}
 use Rattle.ti_json.specs.Objects.{Subject, StandardSubject, OwnSubject, fault_object, sound_object}
 use Rattle.ti_line.specs.declared.options.NameForm.{NameForm}
 use Rattle.ti_line.specs.declared.options.Naming.{Naming}
-use Rattle.ti_tool.specs.Labels.{label_of, own_label}
+use Rattle.ti_listing.specs.Labels.{label_of, own_label}
 
 -- ---- one text
 

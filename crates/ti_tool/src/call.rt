@@ -20,10 +20,12 @@ use std::io::{Read, Write};
 use ti_entry::{EntryReader, read_from};
 use ti_expand::Value;
 use ti_line::{Asked, OfCapability, OfEntry};
+use ti_report::Trials;
 
 /// Takes what the reader gives as one capability, each byte of it as it stands. At most 32768 bytes of the input are kept,
 /// which is one more than a capability may have.
 fn call_on_capability<A: Allocator + Copy, R: Read, W: Write>(
+    global: Global,
     alloc: A,
     asked: OfCapability,
     parameters: &[Value<'_>; 9],
@@ -37,13 +39,14 @@ fn call_on_capability<A: Allocator + Copy, R: Read, W: Write>(
 {
     let mut input: ArrayVec<u8, MOST_BYTES> = ArrayVec::new();
     read_up_to(&mut input, reader)?;
-    let result = answer_of_capability(alloc, asked, parameters, input.as_slice())?;
+    let result = answer_of_capability(global, alloc, asked, parameters, input.as_slice())?;
     write_result(writer, result.as_slice())
 }
 
 /// Takes what the reader gives as the notation of one capability. At most 131070 characters of the input are kept: those of
 /// the longest notation, a newline and one more.
 fn call_on_source<A: Allocator + Copy, R: Read, W: Write>(
+    global: Global,
     alloc: A,
     asked: OfCapability,
     parameters: &[Value<'_>; 9],
@@ -57,7 +60,7 @@ fn call_on_source<A: Allocator + Copy, R: Read, W: Write>(
 {
     let mut input: ArrayVec<u8, MOST_CHARACTERS> = ArrayVec::new();
     read_up_to(&mut input, reader)?;
-    let result = answer_of_source(alloc, asked, parameters, input.as_mut_slice())?;
+    let result = answer_of_source(global, alloc, asked, parameters, input.as_mut_slice())?;
     write_result(writer, result.as_slice())
 }
 
@@ -83,7 +86,17 @@ fn call_on_entry<A: Allocator + Copy, R: Read, W: Write>(
     read_from(kept, reader)?;
     let entry = kept.finish()?;
     let bytes = kept.bytes();
-    let answer = answer_of_entry(global, alloc, asked, parameters, b"", bytes, &entry)?;
+    let mut trials = Trials::new(alloc);
+    let answer = answer_of_entry(
+        global,
+        alloc,
+        &mut trials,
+        asked,
+        parameters,
+        b"",
+        bytes,
+        &entry,
+    )?;
     write_result(writer, answer.bytes.as_slice())?;
     Ok(answer.sound)
 }
@@ -140,11 +153,11 @@ pub(crate) fn carry_out_keeping<A: Allocator + Copy, R: Read, W: Write>(
 {
     match asked {
         Asked::Capability(asked) => {
-            call_on_capability(alloc, *asked, parameters, reader, writer)?;
+            call_on_capability(global, alloc, *asked, parameters, reader, writer)?;
             Ok(true)
         }
         Asked::Source(asked) => {
-            call_on_source(alloc, *asked, parameters, reader, writer)?;
+            call_on_source(global, alloc, *asked, parameters, reader, writer)?;
             Ok(true)
         }
         Asked::Entry(asked) => {

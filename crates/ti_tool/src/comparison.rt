@@ -3,21 +3,23 @@
 //! As for other files, what is said here is of the contents that the system gives. The first file that can't be read, or
 //! is no entry, ends the run with the line on that.
 
-ghost use Rattle.std.specs.Prelude.{◌≡◌, ◌≢◌, ◌≤◌, IfOk};
-ghost use Rattle.ti_tool.specs.Comparisons.{IsCompared, IsComparison, IsRefusedFile, RanDifference};
+ghost use Rattle.std.specs.Prelude.{◌≡◌, ◌≢◌, ◌≤◌, IfOk, map};
+ghost use Rattle.ti_listing.specs.Values.{difference_value};
+ghost use Rattle.ti_tool.specs.Comparisons.{AreCompared, IsCompared, IsComparison, IsRefusedFile, RanDifference, comparison_text as the_comparison_text};
 ghost use Rattle.ti_layout.specs.Refusal.{refusal};
 ghost use Rattle.ti_tool.specs.FileRuns.{Supply};
 ghost use Rattle.ti_tool.specs.inner.Files.{EndsFile};
 
-use crate::command::diff::difference_of;
+use crate::command::json::as_line;
 use crate::fault::ToolFault;
 use crate::fault_line::fault_line;
 use crate::files::{Outcome, contents_of, deliver, fault_outcome, refused_outcome};
 use crate::store::Store;
-use std::alloc::{AllocError, Allocator};
+use std::alloc::{AllocError, Allocator, Global};
 use std::io::{Read, Write};
-use ti_entry::{Refused, read};
-use ti_line::Difference;
+use ti_entry::{Entry, Refused, read};
+use ti_line::{Comparison, Difference, Likeness};
+use ti_listing::{difference_of, differing_json, differing_lines};
 
 /// What contents lead to that are no entry.
 fn refusal_outcome<A: Allocator + Copy>(
@@ -35,15 +37,55 @@ fn refusal_outcome<A: Allocator + Copy>(
     fault_outcome(alloc, name, line.as_slice(), 3)
 }
 
+/// What two entries do not have alike, as it is asked for.
+fn comparison_text<A: Allocator + Copy>(
+    global: Global,
+    alloc: A,
+    form: Comparison,
+    differences: &[ti_listing::Difference<'_>],
+) -> Result<Vec<u8, A>, AllocError>
+    ensures { IfOk result (λ v. v.items
+        ≡ the_comparison_text form (map difference_value differences.now)) }
+{
+    match form {
+        Comparison::Lines(color) => differing_lines(alloc, color, differences),
+        Comparison::Json => as_line(alloc, differing_json(global, differences)?.as_slice()),
+    }
+}
+
+/// What two entries lead to: what they do not have alike.
+fn difference_outcome<'a, A: Allocator + Copy>(
+    global: Global,
+    alloc: A,
+    likeness: Likeness,
+    form: Comparison,
+    one: &Entry<'a>,
+    other: &Entry<'a>,
+) -> Result<Outcome<A>, AllocError>
+    ensures ends { IfOk result (λ o. EndsFile o.status o.line.items) }
+    ensures led { IfOk result (λ o. AreCompared likeness form one.now other.now
+        o.bytes.items o.line.items o.status) }
+{
+    let differences = difference_of(alloc, likeness, one, other)?;
+    let status = if differences.is_empty() { 0 } else { 1 };
+    let bytes = comparison_text(global, alloc, form, differences.as_slice())?;
+    Ok(Outcome {
+        bytes,
+        line: Vec::new(alloc),
+        status,
+    })
+}
+
 /// What the contents of two files lead to.
 fn outcome_of_both<A: Allocator + Copy>(
+    global: Global,
     alloc: A,
     pair: &Difference<'_>,
     contents: &[u8],
     of_other: &[u8],
 ) -> Result<Outcome<A>, AllocError>
     ensures ends { IfOk result (λ o. EndsFile o.status o.line.items) }
-    ensures led { IfOk result (λ o. IsCompared pair.now.likeness pair.now.file.now pair.now.other.now
+    ensures led { IfOk result (λ o. IsCompared pair.now.likeness pair.now.form pair.now.file.now pair.now.other.now
         contents.now of_other.now o.bytes.items o.line.items o.status) }
 {
     let one = match read(contents) {
@@ -54,25 +96,20 @@ fn outcome_of_both<A: Allocator + Copy>(
         Ok(entry) => entry,
         Err(refused) => return refusal_outcome(alloc, pair.other, of_other, refused),
     };
-    let bytes = difference_of(alloc, pair.likeness, &one, &other)?;
-    let status = if bytes.is_empty() { 0 } else { 1 };
-    Ok(Outcome {
-        bytes,
-        line: Vec::new(alloc),
-        status,
-    })
+    difference_outcome(global, alloc, pair.likeness, pair.form, &one, &other)
 }
 
 /// What two files lead to.
 fn outcome_of_pair<S: Store, A: Allocator + Copy, R: Read>(
     store: &S,
+    global: Global,
     alloc: A,
     pair: &Difference<'_>,
     input: &mut R,
 ) -> Result<Outcome<A>, AllocError>
     ensures ends { IfOk result (λ o. EndsFile o.status o.line.items) }
     ensures led { IfOk result (λ o. (one : Supply) × (two : Supply)
-        × IsComparison pair.now.likeness pair.now.file.now pair.now.other.now one two
+        × IsComparison pair.now.likeness pair.now.form pair.now.file.now pair.now.other.now one two
         o.bytes.items o.line.items o.status) }
 {
     let contents = match contents_of(store, alloc, pair.file, input) {
@@ -83,12 +120,19 @@ fn outcome_of_pair<S: Store, A: Allocator + Copy, R: Read>(
         Ok(contents) => contents,
         Err(error) => return refused_outcome(alloc, pair.other, &error),
     };
-    outcome_of_both(alloc, pair, contents.as_slice(), of_other.as_slice())
+    outcome_of_both(
+        global,
+        alloc,
+        pair,
+        contents.as_slice(),
+        of_other.as_slice(),
+    )
 }
 
 /// Compares two files, and writes what they do not have alike.
 pub fn run_pair<S: Store, A: Allocator + Copy, R: Read, W: Write, E: Write>(
     store: &S,
+    global: Global,
     alloc: A,
     pair: &Difference<'_>,
     input: &mut R,
@@ -100,6 +144,6 @@ pub fn run_pair<S: Store, A: Allocator + Copy, R: Read, W: Write, E: Write>(
     ensures ran { RanDifference pair.now (W.contents output.old) (W.contents output.new)
         (E.contents errors.old) (E.contents errors.new) result }
 {
-    let outcome = outcome_of_pair(store, alloc, pair, input);
+    let outcome = outcome_of_pair(store, global, alloc, pair, input);
     deliver(outcome, output, errors).unwrap_or(5)
 }

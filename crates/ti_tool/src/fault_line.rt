@@ -182,6 +182,7 @@ pub fn line_fault_line(fault: LineFault) -> FaultLine
     match fault {
         LineFault::BothForms => line_of(&[b"--hex and --escape exclude each other\n"]),
         LineFault::JsonForm => line_of(&[b"--json excludes --escape and --all-names\n"]),
+        LineFault::ColorWord => line_of(&[b"--color: auto, always or never\n"]),
         LineFault::BothInputs => line_of(&[b"--source and --of exclude each other\n"]),
         LineFault::EntryWithoutName => line_of(&[b"trace: --entry without --of\n"]),
         LineFault::BothWidths => line_of(&[b"convert: both widths\n"]),

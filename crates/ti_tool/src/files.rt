@@ -26,6 +26,7 @@ use std::io::{ErrorKind, Read, Write};
 use ti_expand::Value;
 use ti_line::{Asked, OfEntry};
 use ti_pad::write_out;
+use ti_report::Trials;
 
 /// What is requested of each file.
 #[derive(Clone, Copy)]
@@ -88,6 +89,7 @@ pub fn refused_outcome<A: Allocator + Copy>(
 /// What the contents of a file lead to.
 fn outcome_of<A: Allocator + Copy>(
     alloc: A,
+    trials: &mut Trials<A>,
     errand: &Errand<'_>,
     file: Named<'_>,
     contents: &[u8],
@@ -103,7 +105,7 @@ fn outcome_of<A: Allocator + Copy>(
         global,
         ..
     } = *errand;
-    match answer_of_file(global, alloc, of_entry, parameters, file, contents) {
+    match answer_of_file(global, alloc, trials, of_entry, parameters, file, contents) {
         Ok(answer) => Ok(Outcome {
             bytes: answer.bytes,
             line: Vec::new(alloc),
@@ -137,6 +139,7 @@ pub fn contents_of<S: Store, A: Allocator + Copy, R: Read>(
 fn outcome_of_found<S: Store, A: Allocator + Copy, R: Read>(
     store: &S,
     alloc: A,
+    trials: &mut Trials<A>,
     errand: &Errand<'_>,
     found: &Found<A>,
     is_one_of_several: bool,
@@ -159,7 +162,7 @@ fn outcome_of_found<S: Store, A: Allocator + Copy, R: Read>(
         name,
         is_one_of_several,
     };
-    outcome_of(alloc, errand, file, contents.as_slice())
+    outcome_of(alloc, trials, errand, file, contents.as_slice())
 }
 
 /// Writes what a file led to. The result is the status, or none if the results can't be written.
@@ -203,7 +206,7 @@ fn takes_folders(of_entry: &OfEntry<'_>) -> bool
 {
     matches!(
         of_entry,
-        OfEntry::Show(_) | OfEntry::Json(_) | OfEntry::Check(_) | OfEntry::Lint(_)
+        OfEntry::Show(_) | OfEntry::Json(_) | OfEntry::Check(_) | OfEntry::Lint(_, _)
     )
 }
 
@@ -230,6 +233,7 @@ fn files_named<S: Store, A: Allocator + Copy>(
 fn run_found<S: Store, A: Allocator + Copy, R: Read, W: Write, E: Write>(
     store: &S,
     alloc: A,
+    trials: &mut Trials<A>,
     errand: &Errand<'_>,
     files: &[Found<A>],
     is_one_of_several: bool,
@@ -247,7 +251,15 @@ fn run_found<S: Store, A: Allocator + Copy, R: Read, W: Write, E: Write>(
 {
     let mut greatest = 0;
     for found in files {
-        let outcome = outcome_of_found(store, alloc, errand, found, is_one_of_several, input);
+        let outcome = outcome_of_found(
+            store,
+            alloc,
+            trials,
+            errand,
+            found,
+            is_one_of_several,
+            input,
+        );
         match deliver(outcome, output, errors) {
             Some(status) => greatest = greater(greatest, status),
             None => return Err(greater(greatest, 5)),
@@ -260,6 +272,7 @@ fn run_found<S: Store, A: Allocator + Copy, R: Read, W: Write, E: Write>(
 fn run_word<S: Store, A: Allocator + Copy, R: Read, W: Write, E: Write>(
     store: &S,
     alloc: A,
+    trials: &mut Trials<A>,
     errand: &Errand<'_>,
     word: &str,
     input: &mut R,
@@ -281,6 +294,7 @@ fn run_word<S: Store, A: Allocator + Copy, R: Read, W: Write, E: Write>(
             run_found(
                 store,
                 alloc,
+                trials,
                 errand,
                 found,
                 is_one_of_several,
@@ -314,8 +328,18 @@ pub fn run_files<S: Store, A: Allocator + Copy, R: Read, W: Write, E: Write>(
         (E.contents errors.old) (E.contents errors.new) result }
 {
     let mut greatest = 0;
+    let mut trials = Trials::new(alloc);
     for word in words {
-        match run_word(store, alloc, errand, word, input, output, errors) {
+        match run_word(
+            store,
+            alloc,
+            &mut trials,
+            errand,
+            word,
+            input,
+            output,
+            errors,
+        ) {
             Ok(status) => greatest = greater(greatest, status),
             Err(status) => return greater(greatest, status),
         }

@@ -16,6 +16,7 @@ use ti_escape::push_notation;
 use ti_expand::Value;
 use ti_json::text_json;
 use ti_line::{Document, NameForm, OfEntry};
+use ti_report::Trials;
 
 /// A file that was named.
 #[derive(Clone, Copy, Debug)]
@@ -113,6 +114,7 @@ fn key_of(document: Document) -> &'static str
     match document {
         Document::Listing => "items",
         Document::Verdicts => "verdicts",
+        Document::Findings(_) => "findings",
     }
 }
 
@@ -168,7 +170,8 @@ fn one_of_several<A: Allocator + Copy>(
 }
 
 /// What is due for the contents of a file: what is due for an entry of these bytes, with the name of the file if it is one
-/// of several. A document of JSON is made in the memory of `global`, and its bytes are then `alloc`'s.
+/// of several. A document of JSON is made in the memory of `global`, and its bytes are then `alloc`'s. `lint` does not try again
+/// the texts that were tried for earlier files with the same trials.
 ///
 /// # Errors
 ///
@@ -176,6 +179,7 @@ fn one_of_several<A: Allocator + Copy>(
 pub fn answer_of_file<A: Allocator + Copy>(
     global: Global,
     alloc: A,
+    trials: &mut Trials<A>,
     asked: &OfEntry<'_>,
     parameters: &[Value<'_>; 9],
     file: Named<'_>,
@@ -193,6 +197,7 @@ pub fn answer_of_file<A: Allocator + Copy>(
     let Answer { bytes, sound } = answer_of_entry(
         global,
         alloc,
+        trials,
         asked,
         parameters,
         before.as_slice(),

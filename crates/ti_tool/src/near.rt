@@ -11,12 +11,12 @@ ghost use Rattle.ti_words.specs.AllNames.{name_in};
 ghost use Rattle.ti_tool.specs.Near.{AreNearest, IsName, IsNext, IsOwnAt, NoneIsNear, edits, most_edits};
 ghost use Rattle.ti_tool.specs.inner.Near.{IsFarther, IsFartherIn, IsFartherOwn, IsFound, IsShortOrLong, IsSought, told_of};
 
-use crate::label::standard_name;
 use arrayvec::ArrayVec;
 use std::alloc::{AllocError, Allocator};
 use std::str;
 use strsim::osa_distance;
 use ti_entry::{Entry, Extended};
+use ti_listing::standard_name;
 use ti_words::{Kind, NameTable};
 
 /// How many indices there are of the kind that has most.

@@ -125,7 +125,7 @@ fn run_task<S: Store, A: Allocator + Copy, R: Read, W: Write, E: Write>(
             run_files(store, alloc, &errand, files, input, output, errors)
         }
         Asked::Difference(pair) if !files.is_empty() => {
-            run_pair(store, alloc, pair, input, output, errors)
+            run_pair(store, global, alloc, pair, input, output, errors)
         }
         Asked::Capability(_) => {
             run_request(global, alloc, asked, parameters, input, output, errors)

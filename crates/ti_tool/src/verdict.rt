@@ -4,13 +4,13 @@
 
 ghost use Rattle.std.specs.Prelude.{◌≡◌, ◌++◌, OnOk};
 ghost use Rattle.ti_tool.specs.Verdicts.{fault_verdict, sound_verdict};
-ghost use Rattle.ti_tool.specs.inner.Label.{label_bytes};
+ghost use Rattle.ti_listing.specs.Values.{label_bytes};
 ghost use Rattle.ti_tool.specs.inner.Verdict.{IsJudged, is_sound, verdict_line};
 
-use crate::label::{Label, push_label};
 use itoa::Buffer;
 use std::alloc::{AllocError, Allocator};
 use ti_cap::{CapRefused, Capability};
+use ti_listing::{Label, push_label};
 
 /// What a text is as a capability.
 #[derive(Clone, Copy)]

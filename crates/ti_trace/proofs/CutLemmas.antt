@@ -3,7 +3,7 @@ use Rattle.std.proofs.Common.{◌≡◌, ◌∙◌, ℕ, List, [], ◌∷◌, �
 use Rattle.ti_cap.specs.declared.language.Token.{Token}
 use Rattle.ti_cap.specs.Spelling.{Spells, Written}
 use Rattle.ti_cap.proofs.WrittenLemmas.{Same, one_form, spelled_long}
-use Rattle.ti_trace.specs.Trace.{IsCut, Spelled, tokens_of}
+use Rattle.ti_trace.specs.Told.{IsCut, Spelled, tokens_of}
 
 -- tokens that write bytes, with their spellings
 pub record Cutting (ks : List Token) (bytes : List ℕ) : Type 0 where

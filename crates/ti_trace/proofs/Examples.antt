@@ -1,23 +1,28 @@
 -- Worked rows of a trace, computed.
-use Rattle.std.proofs.Common.{◌≡◌, ℕ, List, [], ◌∷◌, ◌++◌, refl, replicate, false, None}
+use Rattle.std.proofs.Common.{◌≡◌, ℕ, List, [], ◌∷◌, ◌++◌, flat_map, refl, replicate, false, None}
 use Rattle.std.specs.Prelude.{codes, pos, negsuc}
 use Rattle.std.specs.Int.{int_wrap}
 use Rattle.std.specs.Fmt.{digits}
 use Rattle.hex.specs.Hex.{encode_with}
+use Rattle.json.specs.Print.{escape_byte}
+use Rattle.serde_json.specs.Written.{compact_text}
 use Rattle.ti_cap.specs.declared.language.Conversion.TheVariants.{Signed}
 use Rattle.ti_cap.specs.declared.language.Op.TheVariants.{Less}
 use Rattle.ti_cap.specs.declared.language.Token.{Token}
 use Rattle.ti_cap.specs.declared.language.Token.TheVariants.{Byte, Param, Constant, Compute, Print, CondOpen, CondThen, CondElse, CondClose}
 use Rattle.ti_cap.specs.declared.mode.Mode.TheVariants.{Run}
+use Rattle.ti_escape.specs.declared.color.Color.TheVariants.{Always, Never}
 use Rattle.ti_escape.specs.declared.form.Form.TheVariants.{Hex, Notation}
 use Rattle.ti_expand.specs.declared.values.Value.{Value}
 use Rattle.ti_expand.specs.declared.values.Value.TheVariants.{Num, Text}
+use Rattle.ti_expand.specs.declared.step.Outcome.{Outcome}
 use Rattle.ti_expand.specs.declared.step.Outcome.TheVariants.{Ran, PassedOver}
 use Rattle.ti_trace.specs.Columns.{at_left, at_right, header}
 use Rattle.ti_trace.specs.Footer.{footer}
 use Rattle.ti_trace.specs.Items.{item, items}
 use Rattle.ti_trace.specs.Lines.{token_line}
-use Rattle.ti_trace.specs.Trace.{Spelled, first_state, pass_lines}
+use Rattle.ti_trace.specs.Objects.{token_object, totals_object}
+use Rattle.ti_trace.specs.Told.{Spelled, TracedToken, first_state, traced_pass}
 
 -- ---- columns
 
@@ -58,15 +63,36 @@ stack_rows = (refl, refl)
 
 -- ---- lines
 
-line_rows : (token_line Hex 12 (codes "%p1") Ran (Num (pos 3) ∷ []) [] ≡ codes "   12\t%p1            \tran    \t3                      \t-\n")
-    × (token_line Notation 0 (27 ∷ []) PassedOver [] (27 ∷ []) ≡ codes "    0\t\\E             \tpassed \t-                      \t\\E\n")
-unfolding digits encode_with
+told_of : ℕ → List ℕ → Outcome → List Value → List ℕ → TracedToken
+told_of place spelling outcome stack wrote = record { place = place; spelling = spelling; outcome = outcome; stack = stack; wrote = wrote }
+
+line_rows : (token_line Hex Never (told_of 12 (codes "%p1") Ran (Num (pos 3) ∷ []) []) ≡ codes "   12\t%p1            \tran    \t3                      \t-\n")
+    × (token_line Notation Never (told_of 0 (27 ∷ []) PassedOver [] (27 ∷ [])) ≡ codes "    0\t\\E             \tpassed \t-                      \t\\E\n")
+unfolding digits encode_with told_of
 line_rows = (refl, refl)
+
+-- with color a token that was passed over is faint
+color_rows : (token_line Hex Always (told_of 12 (codes "%p1") Ran [] []) ≡ codes "   12\t%p1            \tran    \t-                      \t-\n")
+    × (token_line Hex Always (told_of 12 (codes "9") PassedOver [] []) ≡ 27 ∷ codes "[2m   12\t9              \tpassed \t-                      \t-" ++ 27 ∷ codes "[m\n")
+unfolding digits encode_with told_of
+color_rows = (refl, refl)
 
 footer_row : footer Hex (record { output = codes "9m"; ran = 13; passed = 1; height = 2; depth = 2; bound = 15 })
     ≡ codes "output: 396d\nwritten: 2\nran: 13\npassed: 1\nheight: 2\ndepth: 2\nbound: 15\n"
 unfolding digits encode_with
 footer_row = refl
+
+-- ---- objects
+
+token_row : compact_text (token_object (told_of 3 (codes "%s") Ran (Num (negsuc 0) ∷ text (codes "0123456789abcdef,") ∷ []) (27 ∷ [])))
+    ≡ codes "{\"place\":3,\"run\":\"ran\",\"stack\":[-1,{\"length\":17,\"text\":\"0123456789abcdef\"}],\"token\":\"%s\",\"wrote\":\"\\\\E\"}"
+unfolding digits escape_byte text told_of
+token_row = refl
+
+totals_row : compact_text (totals_object (record { output = codes "9m"; ran = 13; passed = 1; height = 2; depth = 3; bound = 15 }))
+    ≡ codes "{\"bound\":15,\"depth\":3,\"height\":2,\"output\":\"9m\",\"passed\":1,\"ran\":13,\"written\":2}"
+unfolding digits escape_byte
+totals_row = refl
 
 -- ---- `%?%p1%{8}%<%t3%p1%d%e9%;` of 3 and of 9
 
@@ -80,7 +106,7 @@ choice =
     ∷ spelled (Print (record { conversion = Signed; left = false; plus = false; space = false; alternate = false; zero = false; width = 0; precision = None })) (codes "%d")
     ∷ spelled CondElse (codes "%e") ∷ spelled (Byte 57) (codes "9") ∷ spelled CondClose (codes "%;") ∷ []
 
-first_body : pass_lines Hex 0 Run (first_state (Num (pos 3) ∷ replicate 8 (Num (pos 0)))) choice
+first_body : flat_map (token_line Hex Never) (traced_pass 0 Run (first_state (Num (pos 3) ∷ replicate 8 (Num (pos 0)))) choice)
     ≡ codes "    0\t%?             \tran    \t-                      \t-\n"
     ++ codes "    2\t%p1            \tran    \t3                      \t-\n"
     ++ codes "    5\t%{8}           \tran    \t3,8                    \t-\n"
@@ -95,7 +121,7 @@ first_body : pass_lines Hex 0 Run (first_state (Num (pos 3) ∷ replicate 8 (Num
 unfolding int_wrap digits encode_with spelled choice
 first_body = refl
 
-other_body : pass_lines Notation 0 Run (first_state (Num (pos 9) ∷ replicate 8 (Num (pos 0)))) choice
+other_body : flat_map (token_line Notation Never) (traced_pass 0 Run (first_state (Num (pos 9) ∷ replicate 8 (Num (pos 0)))) choice)
     ≡ codes "    0\t%?             \tran    \t-                      \t-\n"
     ++ codes "    2\t%p1            \tran    \t9                      \t-\n"
     ++ codes "    5\t%{8}           \tran    \t9,8                    \t-\n"

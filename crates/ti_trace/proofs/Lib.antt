@@ -1,6 +1,9 @@
 pub mod CutLemmas
 pub mod Examples
 pub mod FaultLemmas
+pub mod ObjectLemmas
 pub mod OneTraceLemmas
+pub mod PlainLemmas
 pub mod RowLemmas
+pub mod TraceLemmas
 pub mod TracedLemmas

@@ -26,13 +26,13 @@ run_width = 7
 abbrev pub stack_width : ℕ
 stack_width = 23
 
--- a line of five fields
-abbrev pub line : (place token run stack wrote : List ℕ) → List ℕ
-line place token run stack wrote =
+-- five fields, with a tab between two
+abbrev pub columns : (place token run stack wrote : List ℕ) → List ℕ
+columns place token run stack wrote =
     at_right place_width place ++ codes "\t" ++ at_left token_width token ++ codes "\t"
     ++ at_left run_width run ++ codes "\t" ++ at_left stack_width stack ++ codes "\t"
-    ++ wrote ++ codes "\n"
+    ++ wrote
 
 -- the first line names the columns
 abbrev pub header : List ℕ
-header = line (codes "place") (codes "token") (codes "run") (codes "stack") (codes "wrote")
+header = columns (codes "place") (codes "token") (codes "run") (codes "stack") (codes "wrote") ++ codes "\n"

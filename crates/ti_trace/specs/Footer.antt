@@ -1,17 +1,8 @@
--- The lines after those of the tokens.
+-- The lines after those of the tokens: the whole output and its length, and the other totals.
 use Rattle.std.specs.Prelude.{ℕ, List, ◌++◌, codes, decimal, length}
 use Rattle.ti_escape.specs.declared.form.Form.{Form}
 use Rattle.ti_escape.specs.Forms.{shown}
-
--- the whole output and its length, how many tokens ran and how many were passed over, the most values that the stack
--- had, and the depth and the bound of the capability
-pub record Totals : Type 0 where
-  pub output : List ℕ
-  pub ran : ℕ
-  pub passed : ℕ
-  pub height : ℕ
-  pub depth : ℕ
-  pub bound : ℕ
+use Rattle.ti_trace.specs.Told.{Totals}
 
 abbrev pub number_line : List ℕ → ℕ → List ℕ
 number_line label number = label ++ codes ": " ++ decimal number ++ codes "\n"

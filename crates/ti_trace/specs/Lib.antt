@@ -1,7 +1,9 @@
+pub mod Told
 pub mod Columns
 pub mod Items
 pub mod Lines
 pub mod Footer
 pub mod Trace
+pub mod Objects
 pub mod Laws
 pub mod inner

@@ -2,13 +2,15 @@
 
 ghost use Rattle.std.specs.Prelude.{◌≡◌, ◌++◌, OnOk};
 ghost use Rattle.ti_trace.specs.Footer.{footer, number_line};
-ghost use Rattle.ti_trace.specs.inner.Rows.{totals_of};
+ghost use Rattle.ti_trace.specs.inner.Rows.{facts_totals};
+ghost use Rattle.ti_trace.specs.inner.Traced.{totals_so_far};
 
 use itoa::Buffer;
 use std::alloc::{AllocError, Allocator};
 use ti_escape::{Form, push_shown};
+use ti_expand::Steps;
 
-/// What the summary lines report.
+/// The totals.
 #[derive(Clone, Copy)]
 pub struct Facts<'r> {
     pub output: &'r [u8],
@@ -17,6 +19,21 @@ pub struct Facts<'r> {
     pub height: usize,
     pub depth: usize,
     pub bound: u64,
+}
+
+/// The totals of a pass so far.
+pub fn facts_of<'r>(steps: &'r Steps<'_, '_, '_>, depth: usize, bound: u64) -> Facts<'r>
+    ensures { facts_totals result ≡ totals_so_far steps.now depth bound }
+{
+    let run = steps.run();
+    Facts {
+        output: steps.output(),
+        ran: run.ran,
+        passed: run.passed,
+        height: run.peak,
+        depth,
+        bound,
+    }
 }
 
 /// Appends the summary line of a number.
@@ -36,7 +53,7 @@ pub fn push_footer<A: Allocator>(
     form: Form,
     facts: &Facts<'_>,
 ) -> Result<(), AllocError>
-    ensures { OnOk result (out.new.items ≡ out.old.items ++ footer form (totals_of facts.now)) }
+    ensures { OnOk result (out.new.items ≡ out.old.items ++ footer form (facts_totals facts.now)) }
 {
     out.extend_from_slice(b"output: ")?;
     push_shown(out, form, facts.output)?;

@@ -9,7 +9,7 @@ use ti_escape::{Form, push_formed};
 use ti_expand::Value;
 
 /// How many bytes of a text are shown, so that a trace stays short if a long text lies on the stack for many tokens.
-const MOST_SHOWN: usize = 16;
+pub const MOST_SHOWN: usize = 16;
 
 /// Appends the front of a longer text, and its length.
 fn push_cut<A: Allocator>(out: &mut Vec<u8, A>, form: Form, text: &[u8]) -> Result<(), AllocError>

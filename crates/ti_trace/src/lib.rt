@@ -2,16 +2,20 @@
 //! stack after it, and what it wrote; then the output and the counts.
 //!
 //! [`trace`] makes the whole text in memory, in time linear in the capability and in the text. Of a text on the stack at
-//! most 16 bytes are shown, so that no capability makes the lines long but by what it writes.
+//! most 16 bytes are shown, so that no capability makes the lines long but by what it writes. [`trace_json`] makes a document
+//! of JSON (RFC 8259) that tells the same.
 #![tactic(auto)]
 
 mod columns;
+mod document;
 mod fault;
 mod footer;
 mod items;
 pub mod laws;
+mod object;
 mod row;
 mod tracing;
 
+pub use document::trace_json;
 pub use fault::TraceFault;
 pub use tracing::trace;

@@ -1,17 +1,17 @@
-//! The line of one token.
+//! The row of one token, and its line.
 
-ghost use Rattle.std.specs.Prelude.{◌≡◌, ◌++◌, codes, OnOk};
+ghost use Rattle.std.specs.Prelude.{◌≡◌, ◌≤◌, ◌++◌, codes, length, OnOk};
 ghost use Rattle.ti_escape.specs.Notation.{notation};
 ghost use Rattle.ti_trace.specs.Columns.{at_left, token_width, run_width, stack_width};
 ghost use Rattle.ti_trace.specs.Items.{items};
-ghost use Rattle.ti_trace.specs.Lines.{outcome_word};
-ghost use Rattle.ti_trace.specs.inner.Rows.{row_line};
+ghost use Rattle.ti_trace.specs.Lines.{dimmed, outcome_word, token_columns, token_line};
+ghost use Rattle.ti_trace.specs.inner.Rows.{row_token, token_taken};
 
 use crate::columns::{end_column, push_number};
 use crate::items::push_items;
 use std::alloc::{AllocError, Allocator};
-use ti_escape::{Form, push_notation, push_shown};
-use ti_expand::{Outcome, Value};
+use ti_escape::{Color, Form, Style, push_closing, push_notation, push_opening, push_shown};
+use ti_expand::{Outcome, Steps, Value};
 
 const PLACE_WIDTH: usize = 5;
 
@@ -19,7 +19,7 @@ const TOKEN_WIDTH: usize = 15;
 
 const STACK_WIDTH: usize = 23;
 
-/// What a line says of a token.
+/// What is said of a token.
 #[derive(Clone, Copy)]
 pub struct Row<'r, 'a> {
     /// Where it starts.
@@ -29,6 +29,28 @@ pub struct Row<'r, 'a> {
     /// The values after it, the bottom first.
     pub stack: &'r [Value<'a>],
     pub wrote: &'r [u8],
+}
+
+/// The row of the token that was just taken. It starts at the place, and so many bytes were written before it.
+pub fn row_taken<'r, 'a>(
+    bytes: &'r [u8],
+    steps: &'r Steps<'_, '_, 'a>,
+    outcome: Outcome,
+    place: usize,
+    written: usize,
+) -> Row<'r, 'a>
+    requires start { place ≤ length steps.now.spot.taken }
+    requires end { length steps.now.spot.taken ≤ length bytes.now }
+    requires written { written ≤ length steps.now.state.output }
+    ensures { row_token result ≡ token_taken bytes.now steps.now outcome place written }
+{
+    Row {
+        place,
+        spelling: &bytes[place..steps.at()],
+        outcome,
+        stack: steps.stack(),
+        wrote: &steps.output()[written..],
+    }
 }
 
 /// Appends the spelling of a token as a column.
@@ -66,18 +88,52 @@ fn push_stack<A: Allocator>(
     end_column(out, start, STACK_WIDTH)
 }
 
-/// Appends the line of a token.
-pub fn push_row<A: Allocator>(
+/// Appends the columns of a token.
+fn push_columns<A: Allocator>(
     out: &mut Vec<u8, A>,
     form: Form,
     row: &Row<'_, '_>,
 ) -> Result<(), AllocError>
-    ensures { OnOk result (out.new.items ≡ out.old.items ++ row_line form row.now) }
+    ensures { OnOk result (out.new.items
+        ≡ out.old.items ++ token_columns form (row_token row.now)) }
 {
     push_number(out, PLACE_WIDTH, row.place)?;
     push_token(out, row.spelling)?;
     push_outcome(out, row.outcome)?;
     push_stack(out, form, row.stack)?;
-    push_shown(out, form, row.wrote)?;
+    push_shown(out, form, row.wrote)
+}
+
+/// The same, faint if the token was passed over.
+fn push_dimmed<A: Allocator>(
+    out: &mut Vec<u8, A>,
+    form: Form,
+    color: Color,
+    row: &Row<'_, '_>,
+) -> Result<(), AllocError>
+    ensures { OnOk result (out.new.items
+        ≡ out.old.items ++ dimmed color row.now.outcome (token_columns form (row_token row.now))) }
+{
+    match row.outcome {
+        Outcome::Ran => push_columns(out, form, row),
+        Outcome::PassedOver => {
+            push_opening(out, color, Style::Faint)?;
+            push_columns(out, form, row)?;
+            push_closing(out, color)
+        }
+    }
+}
+
+/// Appends the line of a token.
+pub fn push_row<A: Allocator>(
+    out: &mut Vec<u8, A>,
+    form: Form,
+    color: Color,
+    row: &Row<'_, '_>,
+) -> Result<(), AllocError>
+    ensures { OnOk result (out.new.items
+        ≡ out.old.items ++ token_line form color (row_token row.now)) }
+{
+    push_dimmed(out, form, color, row)?;
     out.extend_from_slice(b"\n")
 }

@@ -8,16 +8,17 @@ ghost use Rattle.ti_cap.specs.Capability.{IsWellFormed, whole};
 ghost use Rattle.ti_cap.specs.Refusal.{IsFaultless, IsRefusal};
 ghost use Rattle.ti_expand.specs.Expands.{AreShort, IsFirstTooLong, longest_text as the_longest_text};
 ghost use Rattle.ti_trace.specs.declared.fault.TraceFault.TheVariants as fault;
+ghost use Rattle.ti_trace.specs.Lines.{token_line};
 ghost use Rattle.ti_trace.specs.Trace.{IsTrace};
 ghost use Rattle.ti_trace.specs.inner.Traced.{GoesOn, IsFresh, IsTooLong, IsTraced};
 
 use crate::fault::TraceFault;
-use crate::footer::{Facts, push_footer};
-use crate::row::{Row, push_row};
+use crate::footer::{facts_of, push_footer};
+use crate::row::{push_row, row_taken};
 use std::alloc::{AllocError, Allocator};
 use ti_base::MOST_VALUES;
 use ti_cap::{CapRefused, Capability};
-use ti_escape::Form;
+use ti_escape::{Color, Form};
 use ti_expand::{ExpandFault, Steps, Value, Vars, longest_text};
 
 /// The names of the columns.
@@ -27,13 +28,14 @@ const HEADER: &[u8] = b"place\ttoken          \trun    \tstack                  
 fn push_next<A: Allocator>(
     out: &mut Vec<u8, A>,
     form: Form,
+    color: Color,
     bytes: &[u8],
     steps: &mut Steps<'_, '_, '_>,
 ) -> Result<bool, AllocError>
     requires { whole steps.old.spot ≡ bytes.now }
     ensures whole { OnOk result (whole steps.new.spot ≡ bytes.now) }
-    ensures lines { OnOk result
-        (GoesOn form bytes.now steps.old steps.new out.old.items out.new.items) }
+    ensures lines { OnOk result (GoesOn (token_line form color) bytes.now steps.old steps.new
+        out.old.items out.new.items) }
     ensures end { (result ≡ Ok false) → steps.new.spot.left ≡ [] }
     ensures forward { (result ≡ Ok true)
         → length steps.new.spot.left < length steps.old.spot.left }
@@ -43,14 +45,8 @@ fn push_next<A: Allocator>(
     let Some(step) = steps.step() else {
         return Ok(false);
     };
-    let row = Row {
-        place,
-        spelling: &bytes[place..steps.at()],
-        outcome: step.outcome,
-        stack: steps.stack(),
-        wrote: &steps.output()[written..],
-    };
-    push_row(out, form, &row)?;
+    let row = row_taken(bytes, steps, step.outcome, place, written);
+    push_row(out, form, color, &row)?;
     Ok(true)
 }
 
@@ -58,21 +54,22 @@ fn push_next<A: Allocator>(
 fn push_lines<A: Allocator>(
     out: &mut Vec<u8, A>,
     form: Form,
+    color: Color,
     bytes: &[u8],
     steps: &mut Steps<'_, '_, '_>,
 ) -> Result<(), AllocError>
     requires fresh { IsFresh bytes.now steps.old }
     requires tree { IsWellFormed bytes.now }
-    ensures lines { OnOk result (IsTraced form bytes.now steps.old.state steps.new
-        out.old.items out.new.items) }
+    ensures lines { OnOk result (IsTraced (token_line form color) bytes.now steps.old.state
+        steps.new out.old.items out.new.items) }
     ensures end { OnOk result (steps.new.spot.left ≡ []) }
 {
-    'tokens: while push_next(out, form, bytes, steps)? {}
+    'tokens: while push_next(out, form, color, bytes, steps)? {}
     Ok(())
 }
 
 /// The length of the longest text among the parameters.
-fn longest_of(parameters: &[Value<'_>; 9]) -> Result<u16, TraceFault>
+pub fn longest_of(parameters: &[Value<'_>; 9]) -> Result<u16, TraceFault>
     ensures short { IfOk result (AreShort parameters.now) }
     ensures too_long { IfErr result (IsTooLong parameters.now) }
 {
@@ -93,10 +90,11 @@ fn text_of<A: Allocator + Copy>(
     parameters: &[Value<'_>; 9],
     longest: u16,
     form: Form,
+    color: Color,
 ) -> Result<Vec<u8, A>, AllocError>
     requires bytes { capability.now ≡ bytes.now }
     requires short { AreShort parameters.now longest }
-    ensures { IfOk result (λ out. IsTrace bytes.now parameters.now form out.items) }
+    ensures { IfOk result (λ out. IsTrace bytes.now parameters.now form color out.items) }
 {
     let bound = capability.bound(longest);
     let depth = capability.depth();
@@ -114,23 +112,15 @@ fn text_of<A: Allocator + Copy>(
         Err(_fault) => unreachable!(),
     };
     let mut out = Vec::from_slice(alloc, HEADER)?;
-    push_lines(&mut out, form, bytes, &mut steps)?;
-    let run = steps.run();
-    let facts = Facts {
-        output: steps.output(),
-        ran: run.ran,
-        passed: run.passed,
-        height: run.peak,
-        depth,
-        bound,
-    };
+    push_lines(&mut out, form, color, bytes, &mut steps)?;
+    let facts = facts_of(&steps, depth, bound);
     push_footer(&mut out, form, &facts)?;
     Ok(out)
 }
 
 /// What a capability does, token by token, as lines of text: a header, a line for each token, and the output with the
 /// counts. Each variable starts as 0. A spelling is in the notation of terminfo(5); texts on the stack and the output are in
-/// the form.
+/// the form. With color the line of a token that was passed over is faint.
 ///
 /// # Errors
 /// In this order: `Cap` if the bytes are no capability, `TextTooLong` with the lowest parameter whose text has more bytes
@@ -139,7 +129,8 @@ fn text_of<A: Allocator + Copy>(
 /// # Examples
 ///
 /// ```rust
-/// let made = trace(rt.alloc(), b"%p1%d", &[Value::Num(7); 9], Form::Notation)?;
+/// let sevens = [Value::Num(7); 9];
+/// let made = trace(rt.alloc(), b"%p1%d", &sevens, Form::Notation, Color::Never)?;
 /// assert!(rt; made.as_slice().ends_with(b"depth: 1\nbound: 11\n"));
 /// ```
 pub fn trace<A: Allocator + Copy>(
@@ -147,8 +138,10 @@ pub fn trace<A: Allocator + Copy>(
     capability: &[u8],
     parameters: &[Value<'_>; 9],
     form: Form,
+    color: Color,
 ) -> Result<Vec<u8, A>, TraceFault>
-    ensures is { IfOk result (λ out. IsTrace capability.now parameters.now form out.items) }
+    ensures is { IfOk result
+        (λ out. IsTrace capability.now parameters.now form color out.items) }
     ensures accepted { OnOk result (IsFaultless capability.now) }
 
     // each fault of the arguments comes exactly if it holds
@@ -161,5 +154,5 @@ pub fn trace<A: Allocator + Copy>(
 {
     let parsed = Capability::parse(capability)?;
     let longest = longest_of(parameters)?;
-    Ok(text_of(alloc, capability, &parsed, parameters, longest, form)?)
+    Ok(text_of(alloc, capability, &parsed, parameters, longest, form, color)?)
 }

@@ -1,4 +1,7 @@
+pub mod Examples
+pub mod NegativeLemmas
 pub mod NumbersLemmas
+pub mod RenditionLemmas
 pub mod SameLemmas
 pub mod SentLemmas
 pub mod ShownLemmas

@@ -2,7 +2,9 @@ pub mod Attributes
 pub mod Findings
 pub mod FindingWords
 pub mod Limits
+pub mod Negative
 pub mod Ranges
+pub mod Renditions
 pub mod Screens
 pub mod Sent
 pub mod Sequences

@@ -1,6 +1,6 @@
 -- Control sequences (ECMA-48, 5.4): `\E[`, parameter bytes, intermediate bytes, and a final byte.
-use Rattle.std.specs.Prelude.{◌≡◌, ◌==◌, ℕ, zero, suc, ◌+◌, Bool, if◌then◌else◌, false, ◌&&◌, ◌||◌, List, [], ◌∷◌, ◌++◌, codes, drop, nat_eq, nat_le, IsTrue}
-use Rattle.std.specs.List.{list_any, prefix_len, starts_with}
+use Rattle.std.specs.Prelude.{◌≡◌, ◌==◌, ℕ, zero, suc, ◌+◌, Bool, if◌then◌else◌, false, ◌&&◌, ◌||◌, List, [], ◌∷◌, codes, drop, length, nat_eq, nat_le, IsTrue, Option, Some, None, option_and_then, option_map, unwrap_or}
+use Rattle.std.specs.List.{prefix_len, starts_with}
 use Rattle.ti_base.specs.Letters.{letter}
 
 abbrev pub is_between : ℕ → ℕ → ℕ → Bool
@@ -80,12 +80,33 @@ HasShown bytes = IsTrue (shows_after 0 bytes)
 
 -- ---- the form of a terminal of ECMA-48
 
--- a cursor motion starts with one of these
-abbrev pub ansi_forms : List (List ℕ)
-ansi_forms =
-    (introducer ++ codes "%i%p1%d;%p2%dH") ∷ (introducer ++ codes "%i%p1%d;%p2%df") ∷ (introducer ++ codes "%i%p2%d;%p1%dH")
-    ∷ (introducer ++ codes "%i%p2%d;%p1%df") ∷ (introducer ++ codes "%p1%d;%p2%dH") ∷ (introducer ++ codes "%p1%d;%p2%df")
-    ∷ (introducer ++ codes "%p2%d;%p1%dH") ∷ (introducer ++ codes "%p2%d;%p1%df") ∷ []
+-- a digit
+abbrev pub is_digit : ℕ → Bool
+is_digit = is_between 0x30 0x39
 
+-- what stands after a text, if the bytes start with it
+abbrev pub after_text : List ℕ → List ℕ → Option (List ℕ)
+after_text text bytes = if starts_with nat_eq bytes text then Some (drop (length text) bytes) else None
+
+-- what stands after a parameter that is printed in decimal, of any width, such as %p1%d and %p1%2d
+abbrev pub after_decimal : List ℕ → List ℕ → Option (List ℕ)
+after_decimal parameter bytes =
+    option_and_then (λ rest. after_text (codes "d") (after is_digit rest))
+    (option_and_then (after_text (codes "%")) (after_text parameter bytes))
+
+abbrev pub is_motion_end : Option (List ℕ) → Bool
+is_motion_end None = false
+is_motion_end (Some rest) = starts_with nat_eq rest (codes "H") || starts_with nat_eq rest (codes "f")
+
+-- the bytes start with two parameters in decimal, with a semicolon between them, and with H or f after them
+abbrev pub starts_motion : List ℕ → List ℕ → List ℕ → Bool
+starts_motion one other bytes =
+    is_motion_end (option_and_then (after_decimal other) (option_and_then (after_text (codes ";")) (after_decimal one bytes)))
+
+abbrev pub is_motion : Option (List ℕ) → Bool
+is_motion None = false
+is_motion (Some rest) = starts_motion (codes "%p1") (codes "%p2") rest || starts_motion (codes "%p2") (codes "%p1") rest
+
+-- a cursor motion starts with the introducer, `%i` or not, and both parameters
 abbrev pub is_ansi : List ℕ → Bool
-is_ansi cup = list_any (λ form. starts_with nat_eq cup form) ansi_forms
+is_ansi cup = is_motion (option_map (λ rest. unwrap_or (after_text (codes "%i") rest) rest) (after_text introducer cup))

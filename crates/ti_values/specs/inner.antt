@@ -1,3 +1,4 @@
 -- What private clauses alone cite.
 pub mod Rate
 pub mod Rows
+pub mod Underway

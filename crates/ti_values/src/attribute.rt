@@ -1,12 +1,17 @@
 //! The attributes of `sgr`.
 
-ghost use Rattle.std.specs.Prelude.{◌≡◌, map};
-ghost use Rattle.ti_values.specs.Attributes.{attributes, is_ignored};
-ghost use Rattle.ti_values.specs.Sent.{texts_of};
+ghost use Rattle.std.specs.Prelude.{◌≡◌, ◌<◌, ◌^◌, ◌↔◌, ℕ, map, IfOk, IsTrue};
+ghost use Rattle.std.specs.Int.{bit_at};
+ghost use Rattle.ti_values.specs.Attributes.{IsCombinationAt, LacksAttribute, attributes, is_different as the_is_different, is_ignored, lacks_part as the_lacks_part};
+ghost use Rattle.ti_values.specs.Findings.{IsFirstOf};
+ghost use Rattle.ti_values.specs.Sent.{texts_of, without_marks as text_without_marks};
 ghost use Rattle.ti_values.specs.inner.Rows.{row_of};
 
+use crate::lacking::{lacks, lacks_new};
 use crate::list::sent_at;
-use std::alloc::Allocator;
+use crate::rendition::{are_parts, parameters_of, shifts_of};
+use crate::sent::without_marks;
+use std::alloc::{AllocError, Allocator};
 
 /// The texts and the sets.
 static ATTRIBUTES: [(&str, u16); 9] = [
@@ -34,4 +39,117 @@ pub fn is_ignored<A: Allocator>(sent: &[Vec<u8, A>], set: u16) -> bool
     ensures exact { result ≡ is_ignored (texts_of sent.now) set }
 {
     sent_at(sent, usize::from(set)) == sent_at(sent, 0)
+}
+
+/// Whether what is sent lacks a part of a text, if both are renditions and shifts alone.
+fn lacks_part<A: Allocator + Copy>(alloc: A, sent: &[u8], text: &[u8]) -> Result<bool, AllocError>
+    ensures { IfOk result (λ lacking. lacking ≡ the_lacks_part sent.now text.now) }
+{
+    if !are_parts(sent) || !are_parts(text) {
+        return Ok(false);
+    }
+    let mine = parameters_of(alloc, sent)?;
+    let theirs = parameters_of(alloc, text)?;
+    let my_shifts = shifts_of(alloc, sent)?;
+    let their_shifts = shifts_of(alloc, text)?;
+    Ok(
+        lacks(mine.as_slice(), theirs.as_slice())
+            || lacks(my_shifts.as_slice(), their_shifts.as_slice()),
+    )
+}
+
+/// Whether for the set of one attribute something else is sent than the text that starts it: of what is sent for all sets, that for
+/// this one is not ignored, and lacks a parameter of a rendition or a shift that the text has. Nothing is said of a terminal whose
+/// attributes are anything but renditions and shifts.
+///
+/// # Errors
+///
+/// Memory was refused.
+pub fn is_different<A: Allocator + Copy>(
+    alloc: A,
+    sent: &[Vec<u8, A>],
+    set: u16,
+    text: &[u8],
+) -> Result<bool, AllocError>
+    ensures exact { IfOk result (λ different. different
+        ≡ the_is_different (texts_of sent.now) set (text_without_marks text.now)) }
+{
+    if is_ignored(sent, set) {
+        return Ok(false);
+    }
+    let text = without_marks(alloc, text)?;
+    lacks_part(alloc, sent_at(sent, usize::from(set)), text.as_slice())
+}
+
+/// Whether a set has an attribute.
+fn has_attribute(set: usize, attribute: usize) -> bool
+    requires { attribute < 9 }
+    ensures { IsTrue result ↔ (bit_at set attribute ≡ 1) }
+{
+    set >> attribute & 1 == 1
+}
+
+/// The set of one attribute.
+fn alone(attribute: usize) -> usize
+    requires { attribute < 9 }
+    ensures { result ≡ 2 ^ attribute }
+{
+    1 << attribute
+}
+
+/// Whether what is sent for a set with an attribute lacks a parameter that the attribute alone adds.
+fn lacks_attribute<A: Allocator + Copy>(
+    alloc: A,
+    sent: &[Vec<u8, A>],
+    set: usize,
+    attribute: usize,
+) -> Result<bool, AllocError>
+    requires { attribute < 9 }
+    ensures { IfOk result (λ lacking.
+        IsTrue lacking ↔ LacksAttribute (texts_of sent.now) set attribute) }
+{
+    if !has_attribute(set, attribute) {
+        return Ok(false);
+    }
+    let old = parameters_of(alloc, sent_at(sent, 0))?;
+    let mine = parameters_of(alloc, sent_at(sent, set))?;
+    let theirs = parameters_of(alloc, sent_at(sent, alone(attribute)))?;
+    Ok(lacks_new(old.as_slice(), mine.as_slice(), theirs.as_slice()))
+}
+
+/// Whether it does so for some attribute.
+fn lacks_some<A: Allocator + Copy>(
+    alloc: A,
+    sent: &[Vec<u8, A>],
+    set: usize,
+) -> Result<bool, AllocError>
+    ensures { IfOk result (λ lacking. IsTrue lacking
+        ↔ ((attribute : ℕ) × (attribute < 9) × LacksAttribute (texts_of sent.now) set attribute)) }
+{
+    'attributes: for attribute in 0..9 {
+        if lacks_attribute(alloc, sent, set, attribute)? {
+            return Ok(true);
+        }
+    }
+    Ok(false)
+}
+
+/// The first set for which what is sent lacks a parameter of a rendition that one of its attributes alone adds to what is sent for
+/// none, of what is sent for all sets.
+///
+/// # Errors
+///
+/// Memory was refused.
+pub fn first_combination<A: Allocator + Copy>(
+    alloc: A,
+    sent: &[Vec<u8, A>],
+) -> Result<Option<usize>, AllocError>
+    ensures exact { IfOk result (IsFirstOf (IsCombinationAt (texts_of sent.now))) }
+{
+    'sets: for set in 0..sent.len() {
+        if lacks_some(alloc, sent, set)? {
+            return Ok(Some(set));
+        }
+    }
+    Ok(None)
 }

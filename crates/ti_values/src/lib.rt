@@ -8,9 +8,12 @@
 
 mod attribute;
 mod empty;
+mod lacking;
 mod limits;
 mod list;
+mod negative;
 mod range;
+mod rendition;
 mod same;
 mod screen;
 mod sent;
@@ -18,12 +21,13 @@ mod sequence;
 mod tried;
 mod value_finding;
 
-pub use attribute::{attributes, is_ignored};
+pub use attribute::{attributes, first_combination, is_different, is_ignored};
 pub use empty::first_empty;
 pub use limits::{
     MOST_BYTES, MOST_COLORS, MOST_COLUMNS, MOST_LINES, MOST_WRITTEN_BYTES, is_short, limits_agree,
 };
 pub use list::sent_at;
+pub use negative::first_negative;
 pub use range::{Range, values_of};
 pub use same::{Same, first_same};
 pub use screen::tried_texts;

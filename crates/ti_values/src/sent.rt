@@ -1,8 +1,8 @@
 //! What a text sends for each of some values.
 
-ghost use Rattle.std.specs.Prelude.{IfOk, IfSome};
+ghost use Rattle.std.specs.Prelude.{◌≡◌, IfOk, IfSome};
 ghost use Rattle.ti_values.specs.Ranges.{parameters_of};
-ghost use Rattle.ti_values.specs.Sent.{AreSent, Sends, texts_of};
+ghost use Rattle.ti_values.specs.Sent.{AreSent, Sends, texts_of, without_marks};
 ghost use Rattle.ti_values.specs.inner.Rate.{IsWithoutRate};
 
 use crate::tried::Tried;
@@ -16,6 +16,19 @@ fn no_padding() -> Option<Padding>
     ensures { IfSome result IsWithoutRate }
 {
     Padding::new(0, 0, false, 0)
+}
+
+/// Bytes without padding marks.
+pub fn without_marks<A: Allocator + Copy>(alloc: A, bytes: &[u8]) -> Result<Vec<u8, A>, AllocError>
+    ensures { IfOk result (λ rest. rest.items ≡ without_marks bytes.now) }
+{
+    let Some(padding) = no_padding() else {
+        return Err(AllocError);
+    };
+    match pad(alloc, bytes, &padding) {
+        Ok(rest) => Ok(rest),
+        Err(_) => Err(AllocError),
+    }
 }
 
 /// What a capability sends for some parameters.
@@ -32,13 +45,7 @@ fn sent_by<A: Allocator + Copy>(
     let Ok(output) = expand(alloc, capability, &parameters, &mut vars) else {
         return Err(AllocError);
     };
-    let Some(padding) = no_padding() else {
-        return Err(AllocError);
-    };
-    match pad(alloc, output.as_slice(), &padding) {
-        Ok(sent) => Ok(sent),
-        Err(_) => Err(AllocError),
-    }
+    without_marks(alloc, output.as_slice())
 }
 
 /// What a capability sends for each of some values, in their order: its output without padding marks. The variables are fresh

@@ -1,10 +1,10 @@
 //! Control sequences that are not ended, and what a terminal shows.
 
-ghost use Rattle.std.specs.Prelude.{◌≡◌, ◌≢◌, ◌≤◌, ◌<◌, ◌↔◌, ℕ, IsTrue, IfSome, IfNone, length, drop};
+ghost use Rattle.std.specs.Prelude.{◌≡◌, ◌≢◌, ◌≤◌, ◌<◌, ◌↔◌, ℕ, IsTrue, IfSome, IfNone, length, drop, option_map};
 ghost use Rattle.std.specs.List.{prefix_len};
 ghost use Rattle.ti_values.specs.Findings.{IsFirstOf, IsShownAt, IsUnendedAt, sent_at};
 ghost use Rattle.ti_values.specs.Sent.{texts_of};
-ghost use Rattle.ti_values.specs.Sequences.{HasRendition, HasShown, HasUnended, IsRendition, IsUnended, after, escape_len, is_ansi, is_ended, is_final, is_intermediate, is_parameter, is_printable, shows_after, starts_final, starts_rendition};
+ghost use Rattle.ti_values.specs.Sequences.{HasRendition, HasShown, HasUnended, IsRendition, IsUnended, after, after_decimal, after_text, escape_len, is_ansi, is_digit, is_ended, is_final, is_intermediate, is_parameter, is_printable, shows_after, starts_final, starts_motion, starts_rendition};
 
 use crate::list::sent_at;
 use std::alloc::Allocator;
@@ -41,7 +41,7 @@ fn is_printable(byte: u8) -> bool
 }
 
 /// How many bytes of parameters stand at the front.
-fn parameter_len(bytes: &[u8]) -> usize
+pub fn parameter_len(bytes: &[u8]) -> usize
     ensures count { result ≡ prefix_len is_parameter bytes.now }
     ensures within { result ≤ length bytes.now }
 {
@@ -120,18 +120,59 @@ pub fn first_unended<A: Allocator>(sent: &[Vec<u8, A>]) -> Option<usize>
     None
 }
 
+/// How many digits stand at the front.
+fn width_len(bytes: &[u8]) -> usize
+    ensures { result ≡ prefix_len is_digit bytes.now }
+{
+    bytes
+        .iter()
+        .take_while(|byte| byte.is_ascii_digit())
+        .count()
+}
+
+/// What stands after a text, if the bytes start with it.
+fn after_text<'a>(text: &[u8], bytes: &'a [u8]) -> Option<&'a [u8]>
+    ensures { option_map (λ rest. rest.now) result ≡ after_text text.now bytes.now }
+{
+    if !bytes.starts_with(text) {
+        return None;
+    }
+    Some(past(bytes, text.len()))
+}
+
+/// What stands after a parameter that is printed in decimal, in any width.
+fn after_decimal<'a>(parameter: &[u8], bytes: &'a [u8]) -> Option<&'a [u8]>
+    ensures { option_map (λ rest. rest.now) result ≡ after_decimal parameter.now bytes.now }
+{
+    let rest = after_text(b"%", after_text(parameter, bytes)?)?;
+    after_text(b"d", past(rest, width_len(rest)))
+}
+
+/// Whether bytes start with two parameters in decimal, a semicolon between them, and `H` or `f` after them.
+fn starts_motion(one: &[u8], other: &[u8], bytes: &[u8]) -> bool
+    ensures { result ≡ starts_motion one.now other.now bytes.now }
+{
+    let Some(rest) = after_decimal(one, bytes) else {
+        return false;
+    };
+    let Some(rest) = after_text(b";", rest) else {
+        return false;
+    };
+    let Some(rest) = after_decimal(other, rest) else {
+        return false;
+    };
+    rest.starts_with(b"H") || rest.starts_with(b"f")
+}
+
 /// Whether a `cup` has the form of a terminal whose control sequences are those of ECMA-48.
 pub fn is_ansi(cup: &[u8]) -> bool
     ensures exact { result ≡ is_ansi cup.now }
 {
-    cup.starts_with(b"\x1b[%i%p1%d;%p2%dH")
-        || cup.starts_with(b"\x1b[%i%p1%d;%p2%df")
-        || cup.starts_with(b"\x1b[%i%p2%d;%p1%dH")
-        || cup.starts_with(b"\x1b[%i%p2%d;%p1%df")
-        || cup.starts_with(b"\x1b[%p1%d;%p2%dH")
-        || cup.starts_with(b"\x1b[%p1%d;%p2%df")
-        || cup.starts_with(b"\x1b[%p2%d;%p1%dH")
-        || cup.starts_with(b"\x1b[%p2%d;%p1%df")
+    let Some(rest) = after_text(b"\x1b[", cup) else {
+        return false;
+    };
+    let motion = after_text(b"%i", rest).unwrap_or(rest);
+    starts_motion(b"%p1", b"%p2", motion) || starts_motion(b"%p2", b"%p1", motion)
 }
 
 /// How many bytes go on after an escape to the end of its sequence, or more if it is not ended.
@@ -149,7 +190,7 @@ fn escape_len(bytes: &[u8]) -> usize
 }
 
 /// What stands after so many bytes.
-fn past(bytes: &[u8], count: usize) -> &[u8]
+pub fn past(bytes: &[u8], count: usize) -> &[u8]
     ensures { result.now ≡ drop count bytes.now }
 {
     if count < bytes.len() {
@@ -176,7 +217,7 @@ fn has_shown(bytes: &[u8]) -> bool
 }
 
 /// Whether bytes start with the end of a sequence that selects a rendition.
-fn starts_rendition(bytes: &[u8]) -> bool
+pub fn starts_rendition(bytes: &[u8]) -> bool
     ensures { result ≡ starts_rendition bytes.now }
 {
     match bytes {

@@ -10,8 +10,14 @@ pub enum ValueFinding {
     EmptyOutput,
     /// For two values the same is sent: [`crate::first_same`].
     SameOutput,
+    /// For a value a number below 0 is printed: [`crate::first_negative`].
+    NegativeNumber,
     /// With an attribute `sgr` sends the same as without, and the text is there that starts it: [`crate::is_ignored`].
     IgnoredAttribute,
+    /// For an attribute alone `sgr` lacks a part of the text that starts it: [`crate::is_different`].
+    DifferingAttribute,
+    /// For a set of attributes `sgr` lacks a part that one of them alone adds: [`crate::first_combination`].
+    Combination,
     /// For a set of attributes `sgr` sends what shows on the screen: [`crate::first_shown`].
     ShownText,
     /// For a value a control sequence is sent that is not ended: [`crate::first_unended`].
@@ -28,7 +34,10 @@ impl ValueFinding {
         match self {
             ValueFinding::EmptyOutput => "empty-output",
             ValueFinding::SameOutput => "same-output",
+            ValueFinding::NegativeNumber => "negative-number",
             ValueFinding::IgnoredAttribute => "sgr-attribute-ignored",
+            ValueFinding::DifferingAttribute => "sgr-attribute-differs",
+            ValueFinding::Combination => "sgr-combination",
             ValueFinding::ShownText => "sgr-text",
             ValueFinding::UnendedSequence => "control-sequence",
             ValueFinding::NotTried => "not-tried",

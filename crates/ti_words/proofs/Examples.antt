@@ -4,8 +4,7 @@ use Rattle.std.specs.Prelude.{codes}
 use Rattle.ti_words.specs.declared.Kind.TheVariants as kinds
 use Rattle.ti_words.specs.declared.all_names.NameTable.TheVariants as tables
 use Rattle.ti_words.specs.AllNames.{name_in, place_in}
-use Rattle.ti_words.specs.LongNames.{long_flags, long_numbers, long_texts}
-use Rattle.ti_words.specs.NameLists.{all_flags, all_numbers, all_texts, common_flags, common_numbers, common_texts}
+use Rattle.ti_words.specs.NameLists.{all_flags, all_numbers, all_texts}
 
 -- the flag `xsb` has a name in the whole table alone
 rare_flag : name_in tables.All kinds.Flag 2 ≡ Some (codes "xsb")
@@ -13,7 +12,7 @@ unfolding all_flags
 rare_flag = refl
 
 no_common_flag : name_in tables.Common kinds.Flag 2 ≡ None
-unfolding all_flags common_flags
+unfolding all_flags
 no_common_flag = refl
 
 -- the last of each kind, and one more
@@ -39,7 +38,7 @@ unfolding all_flags all_numbers all_texts
 alternate_characters = refl
 
 not_common : place_in tables.Common (codes "acsc") ≡ None
-unfolding all_flags all_numbers all_texts common_flags common_numbers common_texts
+unfolding all_flags all_numbers all_texts
 not_common = refl
 
 -- a name in other letters is another name
@@ -49,21 +48,21 @@ other_letters = refl
 
 -- the long name of `cup`, the last of each kind, and one more
 cursor_address : place_in tables.Long (codes "cursor_address") ≡ Some (kinds.Text, 10)
-unfolding long_flags long_numbers long_texts
+unfolding all_flags all_numbers all_texts
 cursor_address = refl
 
 last_long_flag : name_in tables.Long kinds.Flag 43 ≡ Some (codes "return_does_clr_eol")
-unfolding long_flags
+unfolding all_flags
 last_long_flag = refl
 
 last_long_number : name_in tables.Long kinds.Number 38 ≡ Some (codes "number_of_function_keys")
-unfolding long_numbers
+unfolding all_numbers
 last_long_number = refl
 
 last_long_text : name_in tables.Long kinds.Text 413 ≡ Some (codes "box_chars_1")
-unfolding long_texts
+unfolding all_texts
 last_long_text = refl
 
 past_long_texts : name_in tables.Long kinds.Text 414 ≡ None
-unfolding long_texts
+unfolding all_texts
 past_long_texts = refl

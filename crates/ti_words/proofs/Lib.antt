@@ -1,6 +1,3 @@
-pub mod RowsLemmas
-pub mod TableLemmas
-pub mod EnumeratedLemmas
+pub mod HeldNamesLemmas
 pub mod NamesLemmas
-pub mod AllNamesLemmas
 pub mod Examples

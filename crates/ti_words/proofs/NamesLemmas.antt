@@ -1,29 +1,138 @@
--- The table of common names: no index of a kind and no name stands twice, so both determine each other.
-use Rattle.std.proofs.Common.{refl}
-use Rattle.std.specs.Map.{keys_of}
-use Rattle.std.proofs.lemmas.Cmp.{nat_eq_equiv, nat_list_eq_equiv}
+-- In each table no name stands twice: a name and its kind and index determine each other.
+use Rattle.std.proofs.Common.{◌≡◌, ◌∙◌, ℕ, ◌+◌, ◌<◌, Bool, true, false, cond, inl, inr, List, [], ◌∷◌, ◌++◌, length, get_or, Option, Some, None, refl, sym, ap, subst, arith}
+use Rattle.std.specs.Prelude.{Contains, IfSome, slice_get}
+use Rattle.std.specs.List.{IsDistinct, enumerate_from}
+use Rattle.std.specs.Map.{lookup, keys_of}
+use Rattle.std.specs.Option.{option_or}
+use Rattle.std.specs.Str.{bytes_eq}
+use Rattle.std.proofs.lemmas.Cmp.{nat_list_eq_equiv}
+use Rattle.std.proofs.lemmas.List.{get_or-map, length-map}
+use Rattle.std.proofs.lemmas.List.Elements.{Contains-append_cases, Contains-append_left, Contains-append_right, filter-append}
+use Rattle.std.proofs.lemmas.List.FromFn.{get_or-enumerate_from, length-enumerate_from}
+use Rattle.std.proofs.lemmas.Map.Entries.{lookup-filter-values, option_filter}
 use Rattle.std.proofs.lemmas.Map.Made.{IsDistinct-from_count}
+use Rattle.std.proofs.lemmas.Map.Views.{Contains-from_lookup, lookup-from_Contains}
+use Rattle.std.proofs.lemmas.Option.{get_or_from_slice_get, none-some, cond_some, some_pair_parts, slice_get-get_or, slice_get_within}
+use Rattle.std.proofs.lemmas.Slice.Eq.{bytes_eq-Decides}
+use Rattle.ti_words.specs.declared.Kind.{Kind}
 use Rattle.ti_words.specs.declared.Kind.TheVariants as kinds
-use Rattle.ti_words.specs.NameLists.{all_flags, all_numbers, all_texts, common_flags, common_numbers, common_texts, rows}
-use Rattle.ti_words.specs.Names.{HasOneName, HasOnePlace, NameAndPlaceAgree, name_places}
-use Rattle.ti_words.proofs.TableLemmas.{IndicesDiffer, NamesDiffer}
-use Rattle.ti_words.proofs.TableLemmas as table
+use Rattle.ti_words.specs.declared.all_names.NameTable.{NameTable}
+use Rattle.ti_words.specs.declared.all_names.NameTable.TheVariants as tables
+use Rattle.ti_words.specs.AllNames.{HasOnePlaceIn, IsNamedIn, NameAndPlaceAgreeIn, Place, all_placed, has_index, kept, listed, place_in, placed, placed_from}
+use Rattle.ti_words.specs.NameLists.{all_flags, all_numbers, all_texts}
 
-pub indices_differ : IndicesDiffer rows
-unfolding all_flags all_numbers all_texts common_flags common_numbers common_texts
-indices_differ kinds.Flag = IsDistinct-from_count nat_eq_equiv (keys_of (rows kinds.Flag)) refl
-indices_differ kinds.Number = IsDistinct-from_count nat_eq_equiv (keys_of (rows kinds.Number)) refl
-indices_differ kinds.Text = IsDistinct-from_count nat_eq_equiv (keys_of (rows kinds.Text)) refl
+names_differ : (table : NameTable) → IsDistinct bytes_eq (keys_of (all_placed table))
+unfolding all_flags all_numbers all_texts
+names_differ tables.Common = IsDistinct-from_count nat_list_eq_equiv (keys_of (all_placed tables.Common)) refl
+names_differ tables.All = IsDistinct-from_count nat_list_eq_equiv (keys_of (all_placed tables.All)) refl
+names_differ tables.Long = IsDistinct-from_count nat_list_eq_equiv (keys_of (all_placed tables.Long)) refl
 
-pub names_differ : NamesDiffer rows
-unfolding all_flags all_numbers all_texts common_flags common_numbers common_texts
-names_differ = IsDistinct-from_count nat_list_eq_equiv (keys_of name_places) refl
+-- ---- a name in its list, and its place
 
-pub one_name : HasOneName
-one_name = table.one_name rows indices_differ
+count : (kind : Kind) (names : List (List ℕ)) → length (placed_from kind 0 names) ≡ length names
+count kind names = length-map (enumerate_from 0 names) _ ∙ length-enumerate_from 0 names
 
-pub one_place : HasOnePlace
-one_place = table.one_place rows names_differ
+at : (kind : Kind) (names : List (List ℕ)) (index : ℕ) (other : List ℕ × Place) → index < length names
+    → get_or (placed_from kind 0 names) index other ≡ (get_or names index other.0, (kind, index))
+at kind names index other within =
+    let start : 0 + index ≡ index = omega arith in
+    get_or-map (λ named. (named.1, (kind, named.0))) (enumerate_from 0 names) index (0, other.0) other (omega (arith, within, length-enumerate_from 0 names))
+    ∙ ap (λ named. (named.1, (kind, named.0))) (get_or-enumerate_from 0 names index (0, other.0) within)
+    ∙ ap (λ i. (get_or names index other.0, (kind, i))) start
 
-pub inverse : NameAndPlaceAgree
-inverse = table.inverse rows indices_differ names_differ
+to_kind : (table : NameTable) (kind : Kind) (index : ℕ) (name : List ℕ) → slice_get (listed table kind) index ≡ Some name
+    → Contains (placed table kind) (name, (kind, index))
+to_kind table kind index name is =
+    let within = slice_get_within (listed table kind) index name is in (
+      index,
+      omega (arith, within, count kind (listed table kind)),
+      at kind (listed table kind) index (name, (kind, index)) within
+          ∙ ap (λ n. (n, (kind, index))) (get_or_from_slice_get (listed table kind) index name name is),
+    )
+
+to_table : (table : NameTable) (kind : Kind) (index : ℕ) (name : List ℕ) → slice_get (listed table kind) index ≡ Some name
+    → Contains (all_placed table) (name, (kind, index))
+to_table table kinds.Flag index name is = Contains-append_left (placed table kinds.Flag) _ _ (to_kind table kinds.Flag index name is)
+to_table table kinds.Number index name is =
+    Contains-append_right (placed table kinds.Flag) _ _
+    (Contains-append_left (placed table kinds.Number) (placed table kinds.Text) _ (to_kind table kinds.Number index name is))
+to_table table kinds.Text index name is =
+    Contains-append_right (placed table kinds.Flag) _ _
+    (Contains-append_right (placed table kinds.Number) (placed table kinds.Text) _ (to_kind table kinds.Text index name is))
+
+from_kind : (table : NameTable) (kind : Kind) (name : List ℕ) (place : Place) → Contains (placed table kind) (name, place)
+    → slice_get (listed table place.0) place.1 ≡ Some name
+from_kind table kind name place (index, within, e) =
+    let inside : index < length (listed table kind) = omega (arith, within, count kind (listed table kind)) in
+    subst (λ (p : List ℕ × Place). slice_get (listed table p.1.0) p.1.1 ≡ Some p.0)
+    (sym (at kind (listed table kind) index (name, place) inside) ∙ e)
+    (slice_get-get_or (listed table kind) index name inside)
+
+from_table : (table : NameTable) (name : List ℕ) (place : Place) → Contains (all_placed table) (name, place)
+    → slice_get (listed table place.0) place.1 ≡ Some name
+from_table table name place c = elim (Contains-append_cases _ _ _ c) [
+  | inl flag ↦ from_kind table kinds.Flag name place flag
+  | inr rest ↦ elim (Contains-append_cases _ _ _ rest) [
+    | inl number ↦ from_kind table kinds.Number name place number
+    | inr text ↦ from_kind table kinds.Text name place text
+  ]
+]
+
+either : {X : Type 0} (b : Bool) (x : X) (o p q : Option X) → q ≡ option_or o p → cond b (Some x) q ≡ option_or (cond b (Some x) o) p
+either true x o p q e = refl
+either false x o p q e = e
+
+lookup_append : {K X : Type 0} (test : K → Bool) (xs ys : List (K × X)) → lookup test (xs ++ ys) ≡ option_or (lookup test xs) (lookup test ys)
+lookup_append test [] ys = refl
+lookup_append test (x ∷ xs) ys = either (test x.0) x.1 (lookup test xs) (lookup test ys) (lookup test (xs ++ ys)) (lookup_append test xs ys)
+
+pub kept_append : (table : NameTable) (name : List ℕ) (xs ys : List (List ℕ × Place))
+    → lookup (bytes_eq name) (kept table (xs ++ ys)) ≡ option_or (lookup (bytes_eq name) (kept table xs)) (lookup (bytes_eq name) (kept table ys))
+kept_append table name xs ys =
+    ap (lookup (bytes_eq name)) (filter-append (λ named. has_index table named.1.0 named.1.1) xs ys)
+    ∙ lookup_append (bytes_eq name) (kept table xs) (kept table ys)
+
+-- ---- the laws
+
+abbrev has_place : NameTable → Place → Bool
+has_place table place = has_index table place.0 place.1
+
+place_is : (table : NameTable) (name : List ℕ) → place_in table name ≡ option_filter (has_place table) (lookup (bytes_eq name) (all_placed table))
+place_is table name = lookup-filter-values nat_list_eq_equiv (has_place table) name (all_placed table) (names_differ table)
+
+passed : {X : Type 0} (p : X → Bool) (o : Option X) (y : X) → option_filter p o ≡ Some y → (p y ≡ true) × (o ≡ Some y)
+passed p None y e = absurd (none-some y e)
+passed {X = X} p (Some x) y e = let (is, same) = cond_some (p x) x y e in subst (λ (z : X). (p z ≡ true) × (Some x ≡ Some z)) same (is, refl)
+
+place_found : (table : NameTable) (name : List ℕ) (place : Place) → place_in table name ≡ Some place
+    → IsNamedIn table place.0 place.1 name
+place_found table name place e =
+    let (has, is) = passed (has_place table) (lookup (bytes_eq name) (all_placed table)) place (sym (place_is table name) ∙ e) in
+    (has, from_table table name place (Contains-from_lookup (λ x y e. (bytes_eq-Decides x y).0 e) name place (all_placed table) is))
+
+pub found_by : (table : NameTable) (name : List ℕ) (r : Option Place) → r ≡ place_in table name
+    → IfSome r (λ place. IsNamedIn table place.0 place.1 name)
+found_by table name None e = tt
+found_by table name (Some place) e = place_found table name place (sym e)
+
+pub place_only : (table : NameTable) (place : Place) (name : List ℕ) → IsNamedIn table place.0 place.1 name
+    → place_in table name ≡ Some place
+place_only table place name (has, is) =
+    place_is table name
+    ∙ ap (option_filter (has_place table))
+    (lookup-from_Contains nat_list_eq_equiv name place (all_placed table) (names_differ table) (to_table table place.0 place.1 name is))
+    ∙ ap (λ b. cond b (Some place) None) has
+
+pub one_place : (table : NameTable) → HasOnePlaceIn table
+one_place table kind kind' index index' name here there =
+    some_pair_parts kind kind' index index' (sym (place_only table (kind, index) name here) ∙ place_only table (kind', index') name there)
+
+named : (b : Bool) (o : Option (List ℕ)) (name : List ℕ) → cond b o None ≡ Some name → (b ≡ true) × (o ≡ Some name)
+named true o name e = (refl, e)
+named false o name e = absurd (none-some name e)
+
+pub inverse : (table : NameTable) → NameAndPlaceAgreeIn table
+inverse table kind index name = (
+  λ e. place_only table (kind, index) name (named (has_index table kind index) _ name e),
+  λ e. let (has, is) = place_found table name (kind, index) e in ap (λ b. cond b (slice_get (listed table kind) index) None) has ∙ is,
+)

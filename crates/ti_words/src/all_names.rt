@@ -1,21 +1,19 @@
 //! The names of capabilities in three tables: the common ones, all of `term.h`, and all long ones.
 //!
-//! There is one list of names, the indices of the common ones, and one list of long names. A name is looked for in its list,
-//! and an index among those of the common ones. In the lists a NUL stands after each name. No call takes memory.
+//! Each table takes its names from the same rows. A name is looked for among those of the rows, and an index is that of a row.
+//! After each name of a row stands a NUL. No call takes memory.
 
 ghost use Rattle.std.specs.Prelude.{◌≡◌, ℕ, List, Some, IfSome, map, option_map};
 ghost use Rattle.std.specs.Map.{lookup};
 ghost use Rattle.std.specs.Str.{bytes_eq};
 ghost use Rattle.ti_words.specs.declared.Kind.TheVariants as kinds;
-ghost use Rattle.ti_words.specs.AllNames.{IsNamedIn, IsOnlyNameIn, front, has_index, listed, name_in, place_in, rows_in, with_nul};
-ghost use Rattle.ti_words.specs.LongNames.{long_names};
-ghost use Rattle.ti_words.specs.NameLists.{all_names, common};
-ghost use Rattle.ti_words.specs.Names.{Place, named_place};
+ghost use Rattle.ti_words.specs.AllNames.{IsNamedIn, IsOnlyNameIn, Place, front, has_index, kept, listed, name_in, place_in, placed, with_nul};
+ghost use Rattle.ti_words.specs.NameLists.{rows};
 
 use crate::Kind;
-use crate::long_table::{LONG_FLAG_NAMES, LONG_NUMBER_NAMES, LONG_TEXT_NAMES};
 use crate::table::{
-    ALL_FLAG_NAMES, ALL_NUMBER_NAMES, ALL_TEXT_NAMES, COMMON_FLAGS, COMMON_NUMBERS, COMMON_TEXTS,
+    COMMON_FLAGS, COMMON_NUMBERS, COMMON_TEXTS, FLAGS, LONG_FLAGS, LONG_NUMBERS, LONG_TEXTS,
+    NUMBERS, TEXTS,
 };
 
 /// A table of names of capabilities.
@@ -79,32 +77,35 @@ impl NameTable {
         ensures found { IfSome result (λ place. IsNamedIn self place.0 place.1 name.now) }
         ensures only { (place : Place) → IsNamedIn self place.0 place.1 name.now → result ≡ Some place }
     {
-        if let Some(place) = self.place_of(Kind::Flag, name) {
-            return Some(place);
-        }
-        if let Some(place) = self.place_of(Kind::Number, name) {
-            return Some(place);
-        }
-        self.place_of(Kind::Text, name)
+        self.seek(name)
     }
 
-    /// Whether the table has the capability of a kind at an index, if there is one.
+    /// Whether the table has the name at an index of a kind, if there is one.
     fn has(self, kind: Kind, index: usize) -> bool
         ensures { result ≡ has_index self kind index }
     {
         match self {
-            NameTable::Common => common_of(kind).contains(&index),
+            NameTable::Common => common_of(kind).get(index).copied().unwrap_or(false),
             NameTable::All | NameTable::Long => true,
         }
     }
 
-    /// The list that holds the names of a kind in the table.
+    /// The list that has the names of a kind in the table.
+    #[tactic(auto, unfolding(crate::specs::NameLists::all_flags, crate::specs::NameLists::all_numbers, crate::specs::NameLists::all_texts))]
     fn list_of(self, kind: Kind) -> &'static [&'static str]
         ensures { map (λ name. name.now) result.now ≡ map with_nul (listed self kind) }
     {
         match self {
-            NameTable::Common | NameTable::All => names_of(kind),
-            NameTable::Long => long_names_of(kind),
+            NameTable::Common | NameTable::All => match kind {
+                Kind::Flag => &FLAGS,
+                Kind::Number => &NUMBERS,
+                Kind::Text => &TEXTS,
+            },
+            NameTable::Long => match kind {
+                Kind::Flag => &LONG_FLAGS,
+                Kind::Number => &LONG_NUMBERS,
+                Kind::Text => &LONG_TEXTS,
+            },
         }
     }
 
@@ -119,9 +120,23 @@ impl NameTable {
         without_nul(listed)
     }
 
+    /// The place of a name.
+    #[tactic(auto, using(crate::proofs::NamesLemmas::kept_append))]
+    fn seek(self, name: &[u8]) -> Option<(Kind, usize)>
+        ensures { result ≡ place_in self name.now }
+    {
+        if let Some(place) = self.place_of(Kind::Flag, name) {
+            return Some(place);
+        }
+        if let Some(place) = self.place_of(Kind::Number, name) {
+            return Some(place);
+        }
+        self.place_of(Kind::Text, name)
+    }
+
     /// The place of the capability of a kind that has a name.
     fn place_of(self, kind: Kind, name: &[u8]) -> Option<(Kind, usize)>
-        ensures { result ≡ lookup (bytes_eq name.now) (map (named_place kind) (rows_in self kind)) }
+        ensures { result ≡ lookup (bytes_eq name.now) (kept self (placed self kind)) }
     {
         for (index, known) in self.list_of(kind).iter().enumerate() {
             if name == front_of(known) && self.has(kind, index) {
@@ -148,31 +163,10 @@ fn front_of(text: &str) -> &[u8]
     &bytes[..bytes.len().saturating_sub(1)]
 }
 
-/// All names of a kind.
-fn names_of(kind: Kind) -> &'static [&'static str]
-    ensures { map (λ name. name.now) result.now ≡ map with_nul (all_names kind) }
-{
-    match kind {
-        Kind::Flag => &ALL_FLAG_NAMES,
-        Kind::Number => &ALL_NUMBER_NAMES,
-        Kind::Text => &ALL_TEXT_NAMES,
-    }
-}
-
-/// The long names of a kind.
-fn long_names_of(kind: Kind) -> &'static [&'static str]
-    ensures { map (λ name. name.now) result.now ≡ map with_nul (long_names kind) }
-{
-    match kind {
-        Kind::Flag => &LONG_FLAG_NAMES,
-        Kind::Number => &LONG_NUMBER_NAMES,
-        Kind::Text => &LONG_TEXT_NAMES,
-    }
-}
-
-/// The indices of a kind whose names are common.
-fn common_of(kind: Kind) -> &'static [usize]
-    ensures { result.now ≡ common kind }
+/// Which names of a kind are common.
+#[tactic(auto, unfolding(crate::specs::NameLists::all_flags, crate::specs::NameLists::all_numbers, crate::specs::NameLists::all_texts))]
+fn common_of(kind: Kind) -> &'static [bool]
+    ensures { result.now ≡ map (λ row. row.2) (rows kind) }
 {
     match kind {
         Kind::Flag => &COMMON_FLAGS,

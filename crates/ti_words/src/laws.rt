@@ -1,15 +1,15 @@
 //! Laws of the tables of names, each proved and with nothing to run.
 
-ghost use Rattle.ti_words.specs.AllNames.{CommonCallsAgree, EachHasALongName, HasOneNameIn, HasOnePlaceIn, NameAndPlaceAgreeIn, TablesAgree};
-ghost use Rattle.ti_words.specs.Names.{HasOneName, HasOnePlace, NameAndPlaceAgree};
+ghost use Rattle.ti_words.specs.AllNames.{EachHasALongName, HasOneNameIn, HasOnePlaceIn, NameAndPlaceAgreeIn};
+ghost use Rattle.ti_words.specs.Names.{CommonCallsAgree, TablesAgree};
 ghost use Rattle.ti_words.specs.declared.all_names.NameTable.TheVariants as tables;
 
 /// A kind and index have at most one name, and a name stands once in the whole table, under one kind; so the calls on
 /// names are inverse to each other.
 pub fn names_stand_once()
-    ensures one_name { HasOneName }
-    ensures one_place { HasOnePlace }
-    ensures inverse { NameAndPlaceAgree }
+    ensures one_name { HasOneNameIn tables.Common }
+    ensures one_place { HasOnePlaceIn tables.Common }
+    ensures inverse { NameAndPlaceAgreeIn tables.Common }
 {}
 
 /// The same of the table of all names: a kind and index have at most one name there, a name stands once, and the calls on

@@ -12,7 +12,6 @@ ghost use Rattle.ti_words.specs.Widths.{number_size as the_number_size, magic_nu
 
 mod all_names;
 pub mod laws;
-mod long_table;
 mod names;
 mod table;
 

@@ -8,9 +8,8 @@ use Rattle.ti_layout.specs.Faults.{fault_word}
 use Rattle.ti_layout.specs.declared.fault.Fault.{Fault}
 use Rattle.ti_layout.specs.declared.fault.Fault.TheVariants as entry
 use Rattle.ti_words.specs.AllNames.{front}
-use Rattle.ti_words.specs.Names.{Row}
 use Rattle.ti_c.specs.Numbers.{capability_number, entry_number}
-use Rattle.ti_c.specs.Words.{other_rows}
+use Rattle.ti_c.specs.Words.{Row, other_rows}
 
 -- a row of the table in the code, without the NUL after the word
 abbrev pub row_of : ℕ × Bor (List ℕ) → Row

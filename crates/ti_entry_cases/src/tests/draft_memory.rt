@@ -50,7 +50,7 @@ const ALIKE: [Alike; 6] = [
             (b"\0\0", 33),
             (b"a\0", 1),
         ],
-        sizes: &[size_of::<&'static [u8]>(), size_of::<Flag>()],
+        sizes: &[size_of::<Text<'static>>(), size_of::<Flag>()],
     },
     Alike {
         runs: &[
@@ -60,7 +60,7 @@ const ALIKE: [Alike; 6] = [
             (b"\0\0", 33),
             (b"a\0", 1),
         ],
-        sizes: &[size_of::<&'static [u8]>(), size_of::<Number>()],
+        sizes: &[size_of::<Text<'static>>(), size_of::<Number>()],
     },
     Alike {
         runs: &[
@@ -70,7 +70,7 @@ const ALIKE: [Alike; 6] = [
             (b"\0\0", 33),
             (b"a\0", 1),
         ],
-        sizes: &[size_of::<&'static [u8]>(), size_of::<Text<'static>>()],
+        sizes: &[size_of::<Text<'static>>(), size_of::<Text<'static>>()],
     },
 ];
 

@@ -4,11 +4,17 @@ use std::alloc::Global;
 use std::test::Fail;
 use ti_draft::{Draft, encode};
 use ti_entry::read;
-use ti_report::{Scope, push_report};
+use ti_report::{Color, Scope, Trials, push_report};
 use ti_words::{NameTable, Number, Text, Width};
 
 /// The lines on an entry of five columns, four lines and eight colors with one text.
-fn lines_on(alloc: Global, scope: Scope, name: &str, text: &[u8]) -> Result<Vec<u8>, Fail> {
+fn lines_on(
+    alloc: Global,
+    trials: &mut Trials,
+    scope: Scope,
+    name: &str,
+    text: &[u8],
+) -> Result<Vec<u8>, Fail> {
     let (_, index) = NameTable::All.find(name).ok_or("name")?;
     let mut draft = Draft::new(alloc, b"t", Width::Legacy);
     draft.push_number(Number::Value(5))?;
@@ -27,7 +33,9 @@ fn lines_on(alloc: Global, scope: Scope, name: &str, text: &[u8]) -> Result<Vec<
     push_report(
         alloc,
         &mut lines,
+        trials,
         scope,
+        Color::Never,
         b"",
         file.as_slice(),
         &read(file.as_slice())?,
@@ -63,8 +71,9 @@ const MISTAKEN: [(&str, &[u8], &[u8]); 4] = [
 
 #[test]
 fn values_are_told(rt: HostRuntime) -> Result<(), Fail> {
+    let mut trials = Trials::new(rt.alloc());
     for (name, text, wanted) in MISTAKEN {
-        let lines = lines_on(rt.alloc(), Scope::Mistakes, name, text)?;
+        let lines = lines_on(rt.alloc(), &mut trials, Scope::Mistakes, name, text)?;
         assert_that!(rt; lines.as_slice().starts_with(wanted));
     }
     Ok(())
@@ -74,9 +83,26 @@ fn values_are_told(rt: HostRuntime) -> Result<(), Fail> {
 fn what_is_not_tried_is_told_if_all_is(rt: HostRuntime) -> Result<(), Fail> {
     let text = b"%p1%200d%p1%200d";
     let wanted = b"cub\n  %p1%200d%p1%200d\n  not-tried: it is too long, or may send too much\n";
-    let lines = lines_on(rt.alloc(), Scope::All, "cub", text)?;
+    let mut trials = Trials::new(rt.alloc());
+    let lines = lines_on(rt.alloc(), &mut trials, Scope::All, "cub", text)?;
     assert_that!(rt; lines.as_slice().starts_with(wanted));
-    let lines = lines_on(rt.alloc(), Scope::Mistakes, "cub", text)?;
+    let lines = lines_on(rt.alloc(), &mut trials, Scope::Mistakes, "cub", text)?;
     assert_that!(rt; lines.as_slice().starts_with(b"entry\n"));
+    Ok(())
+}
+
+#[test]
+fn the_same_is_told_of_a_text_that_was_tried(rt: HostRuntime) -> Result<(), Fail> {
+    let mut trials = Trials::new(rt.alloc());
+    for (name, text, _) in MISTAKEN {
+        let lines = lines_on(rt.alloc(), &mut trials, Scope::Mistakes, name, text)?;
+        let again = lines_on(rt.alloc(), &mut trials, Scope::Mistakes, name, text)?;
+        assert_that!(rt; again.as_slice() == lines.as_slice());
+    }
+    // Nothing is told of what this text sends.
+    let text = b"\x1b[%p1%dD";
+    let lines = lines_on(rt.alloc(), &mut trials, Scope::Mistakes, "cub", text)?;
+    let again = lines_on(rt.alloc(), &mut trials, Scope::Mistakes, "cub", text)?;
+    assert_that!(rt; again.as_slice() == lines.as_slice());
     Ok(())
 }

@@ -5,7 +5,7 @@ use std::test::Fail;
 use ti_draft::{Draft, encode};
 use ti_entry::read;
 use ti_fixtures::entries::{EXTENDED, EXTENDED_BY_TIC, SHARED, WIDE_BY_TIC, WIDENED, changed};
-use ti_report::{Scope, push_report};
+use ti_report::{Color, Scope, Trials, push_report};
 use ti_words::{Flag, NameTable, Number, Text, Width};
 
 const COLORS_STAY: &[u8] = b"  colors-pair: there are colors, and neither op nor oc\n";
@@ -24,7 +24,9 @@ fn lines_on(alloc: Global, file: &[u8]) -> Result<Vec<u8>, Fail> {
     push_report(
         alloc,
         &mut lines,
+        &mut Trials::new(alloc),
         Scope::Mistakes,
+        Color::Never,
         b"file: ",
         file,
         &read(file)?,

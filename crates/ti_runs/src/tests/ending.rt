@@ -3,7 +3,7 @@
 use std::alloc::{Allocator, Global};
 use std::process::Abort;
 use ti_fixtures::{Sink, Source};
-use ti_tool::run;
+use ti_tool::{Color, Destination, run};
 
 /// How a run ends: with its status, what its two writers took, and how often it read.
 #[derive(Drop)]
@@ -12,6 +12,15 @@ pub struct End {
     pub output: Vec<u8>,
     pub errors: Vec<u8>,
     pub reads: usize,
+}
+
+/// Where results go: to a terminal without color, or elsewhere.
+pub fn destination(at_terminal: bool) -> Destination {
+    if at_terminal {
+        Destination::Terminal(Color::Never)
+    } else {
+        Destination::File
+    }
 }
 
 /// Runs the program over a source and two writers, with an allocator for all but `clap`.

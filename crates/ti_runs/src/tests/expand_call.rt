@@ -9,7 +9,7 @@ use ti_expand::Value;
 use ti_fixtures::capabilities::nine;
 use ti_fixtures::entries::{EXTENDED, SMALL, TEXT};
 use ti_fixtures::{Sink, Source};
-use ti_line::{Request, Task, read_line};
+use ti_line::{Destination, Request, Task, read_line};
 use ti_pad::Padding;
 use ti_tool::{ToolFault, carry_out, expand_named};
 
@@ -199,7 +199,7 @@ fn hex_output_ends_with_a_newline(rt: HostRuntime) -> Result<(), Fail> {
 
 /// Expands a text as words request it.
 fn expanded_by(alloc: Global, words: &[&str]) -> Result<Written, Fail> {
-    let Task { request, .. } = read_line(alloc, false, &*words)?;
+    let Task { request, .. } = read_line(alloc, Destination::File, &*words)?;
     let Request { parameters, asked } = request;
     let mut writer = Sink::new(alloc);
     let mut source = Source::new(UNCOMMON, 3);

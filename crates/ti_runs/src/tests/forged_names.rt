@@ -1,5 +1,6 @@
 //! Names that forge a line, or that a terminal would obey.
 
+use super::ending::destination;
 use std::alloc::Global;
 use ti_fixtures::{Sink, Source};
 use ti_tool::{NoStore, Terminals, run_at};
@@ -129,7 +130,7 @@ fn end_at(alloc: Global, row: &Row) -> (u8, Vec<u8>, Vec<u8>) {
     let mut errors = Sink::new(alloc);
     let mut input = Source::new(row.input, 100);
     let at = Terminals {
-        output: row.at_terminal,
+        output: destination(row.at_terminal),
         ..Terminals::NONE
     };
     let status = run_at(

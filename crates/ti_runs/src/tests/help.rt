@@ -5,7 +5,7 @@ use std::alloc::Global;
 use std::test::Fail;
 use ti_fixtures::entries::SMALL;
 use ti_fixtures::{Sink, Source};
-use ti_line::{Message, NoLine, read_line};
+use ti_line::{Destination, Message, NoLine, read_line};
 
 /// Words that ask for help, and what the help has.
 const HELP: [(&[&str], &[&str]); 13] = [
@@ -110,7 +110,7 @@ const HELP: [(&[&str], &[&str]); 13] = [
 
 /// What is shown of the help that words ask for.
 fn help_of(alloc: Global, words: &[&str]) -> Result<String, Fail> {
-    match read_line(alloc, false, words) {
+    match read_line(alloc, Destination::File, words) {
         Err(NoLine::Help(message)) => Ok(format!(in alloc; "{}", NoLine::Help(message))?),
         _ => Err(Fail::from("no help")),
     }
@@ -186,7 +186,7 @@ fn help_is_the_text_of_the_command(rt: HostRuntime) -> Result<(), Fail> {
 
 /// The text of the help for `show`.
 fn help_of_show(alloc: Global) -> Result<Message, Fail> {
-    match read_line(alloc, false, &["ti", "show", "--help"]) {
+    match read_line(alloc, Destination::File, &["ti", "show", "--help"]) {
         Err(NoLine::Help(message)) => Ok(message),
         _ => Err(Fail::from("no help")),
     }

@@ -5,12 +5,12 @@ use super::show_call::Written;
 use std::alloc::Global;
 use std::test::Fail;
 use ti_fixtures::{Sink, Source, TMUX};
-use ti_line::{Request, Task, read_line};
+use ti_line::{Destination, Request, Task, read_line};
 use ti_tool::{carry_out, check, show};
 
 /// Does what words request of an entry.
 fn done(alloc: Global, words: &[&str]) -> Result<Written, Fail> {
-    let Task { request, .. } = read_line(alloc, false, &*words)?;
+    let Task { request, .. } = read_line(alloc, Destination::File, &*words)?;
     let Request { parameters, asked } = request;
     let mut output = Sink::new(alloc);
     let mut input = Source::new(UNCOMMON, 7);

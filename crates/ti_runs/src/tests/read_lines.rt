@@ -1,10 +1,14 @@
 //! Words that are read as a command line, and what it requests.
 
 use std::test::Fail;
-use ti_line::{LineFault, NoLine, Request, Task, read_line};
+use ti_escape::Color;
+use ti_line::{Asked, Destination, LineFault, NoLine, Request, Task, read_line};
+
+/// A terminal on which parts of lines stand out.
+const TERMINAL: Destination = Destination::Terminal(Color::Always);
 
 /// Words, what they ask for, and the first two parameters.
-const READ: [(&[&str], &str, &str); 34] = [
+const READ: [(&[&str], &str, &str); 39] = [
     (
         &["ti", "cap", "n:7"],
         "Capability(Cap(Raw))",
@@ -48,27 +52,52 @@ const READ: [(&[&str], &str, &str); 34] = [
     ),
     (
         &["ti", "trace", "--source", "-e"],
-        "Source(Trace(Notation))",
+        "Source(Trace(Lines(Notation, Never)))",
         "[Num(0), Num(0)]",
     ),
     (
         &["ti", "trace", "n:7"],
-        "Capability(Trace(Hex))",
+        "Capability(Trace(Lines(Hex, Never)))",
         "[Num(7), Num(0)]",
     ),
     (
         &["ti", "trace", "n:4", "--escape", "s:-x"],
-        "Capability(Trace(Notation))",
+        "Capability(Trace(Lines(Notation, Never)))",
         "[Num(4), Text([45, 120])]",
     ),
     (
         &["ti", "trace", "--of", "cup", "-e"],
-        "Entry(Trace(TraceOf { name: \"cup\", given: None, form: Notation }))",
+        "Entry(Trace(TraceOf { name: \"cup\", given: None, form: Lines(Notation, Never) }))",
         "[Num(0), Num(0)]",
     ),
     (
         &["ti", "trace", "4", "--of=cursor_address", "--entry", "-"],
-        "Entry(Trace(TraceOf { name: \"cursor_address\", given: Some(Given { params: [Either { number: 4, text: [52] }, Number(0), Number(0), Number(0), Number(0), Number(0), Number(0), Number(0), Number(0)] }), form: Hex }))",
+        "Entry(Trace(TraceOf { name: \"cursor_address\", given: Some(Given { params: [Either { number: 4, text: [52] }, Number(0), Number(0), Number(0), Number(0), Number(0), Number(0), Number(0), Number(0)] }), form: Lines(Hex, Never) }))",
+        "[Num(0), Num(0)]",
+    ),
+    (
+        &["ti", "trace", "--json", "--of=cup", "--color", "always"],
+        "Entry(Trace(TraceOf { name: \"cup\", given: None, form: Json }))",
+        "[Num(0), Num(0)]",
+    ),
+    (
+        &["ti", "trace", "--color=always"],
+        "Capability(Trace(Lines(Hex, Always)))",
+        "[Num(0), Num(0)]",
+    ),
+    (
+        &["ti", "lint", "--all"],
+        "Entry(Lint(All, Never))",
+        "[Num(0), Num(0)]",
+    ),
+    (
+        &["ti", "lint", "--json"],
+        "Entry(Json(Findings(Mistakes)))",
+        "[Num(0), Num(0)]",
+    ),
+    (
+        &["ti", "diff", "a", "b", "--json", "--expand"],
+        "Difference(Difference { file: \"a\", other: \"b\", likeness: Tokens, form: Json })",
         "[Num(0), Num(0)]",
     ),
     (
@@ -185,7 +214,7 @@ const READ: [(&[&str], &str, &str); 34] = [
 ];
 
 /// Words of which the line has a fault, and the fault.
-const FAULTY: [(&[&str], &str); 18] = [
+const FAULTY: [(&[&str], &str); 22] = [
     (&["ti", "diff"], "FileCount"),
     (&["ti", "cap", "help"], "BadWord 1"),
     (&["ti", "cap", "n:1", "", "s:"], "BadWord 2"),
@@ -196,6 +225,10 @@ const FAULTY: [(&[&str], &str); 18] = [
     (&["ti", "show", "--json", "--escape"], "JsonForm"),
     (&["ti", "check", "--json", "-e"], "JsonForm"),
     (&["ti", "show", "--all-names", "--json", "x"], "JsonForm"),
+    (&["ti", "trace", "--json", "--escape", "x"], "JsonForm"),
+    (&["ti", "trace", "--color=red", "x"], "ColorWord"),
+    (&["ti", "lint", "--color", "Always"], "ColorWord"),
+    (&["ti", "diff", "--color="], "ColorWord"),
     (&["ti", "cap", "--escape", "--hex", "x"], "BothForms"),
     (
         &["ti", "expand", "--escape", "--hex", "bel", "x"],
@@ -228,12 +261,12 @@ const FAULTY: [(&[&str], &str); 18] = [
 #[test]
 fn words_are_read_as_requests(rt: HostRuntime) -> Result<(), Fail> {
     for (words, asked_text, parameters_text) in READ.iter() {
-        let Ok(task) = read_line(rt.alloc(), false, words) else {
+        let Ok(task) = read_line(rt.alloc(), Destination::File, words) else {
             return Err(Fail::from("no line"));
         };
         let Task { request, files } = task;
         let Request { parameters, asked } = request;
-        assert_that!(rt; files.is_empty());
+        assert_that!(rt; files.is_empty() || matches!(asked, Asked::Difference(_)));
         let text = format!(in rt.alloc(); "{asked:?}")?;
         assert_that!(rt; text.as_str() == *asked_text);
         let parameters = parameters.as_slice();
@@ -249,7 +282,7 @@ fn words_are_read_as_requests(rt: HostRuntime) -> Result<(), Fail> {
 #[test]
 fn lines_have_faults(rt: HostRuntime) -> Result<(), Fail> {
     for (words, expected) in FAULTY.iter() {
-        let Err(NoLine::Fault(fault)) = read_line(rt.alloc(), false, words) else {
+        let Err(NoLine::Fault(fault)) = read_line(rt.alloc(), Destination::File, words) else {
             return Err(Fail::from("no fault"));
         };
         let text = format!(in rt.alloc(); "{fault}")?;
@@ -261,7 +294,7 @@ fn lines_have_faults(rt: HostRuntime) -> Result<(), Fail> {
 /// Names go to a terminal in the notation alone.
 #[test]
 fn a_terminal_asks_for_the_notation_of_names(rt: HostRuntime) -> Result<(), Fail> {
-    let Ok(task) = read_line(rt.alloc(), true, &["ti", "check"]) else {
+    let Ok(task) = read_line(rt.alloc(), TERMINAL, &["ti", "check"]) else {
         return Err(Fail::from("no line"));
     };
     let Task { request, .. } = task;
@@ -273,7 +306,8 @@ fn a_terminal_asks_for_the_notation_of_names(rt: HostRuntime) -> Result<(), Fail
 
 #[test]
 fn an_entry_goes_to_a_terminal_by_force_alone(rt: HostRuntime) -> Result<(), Fail> {
-    let Err(NoLine::Fault(fault)) = read_line(rt.alloc(), true, &["ti", "convert", "--wide"]) else {
+    let Err(NoLine::Fault(fault)) = read_line(rt.alloc(), TERMINAL, &["ti", "convert", "--wide"])
+    else {
         return Err(Fail::from("no fault"));
     };
     assert_that!(rt; fault == LineFault::ToTerminal);
@@ -281,13 +315,39 @@ fn an_entry_goes_to_a_terminal_by_force_alone(rt: HostRuntime) -> Result<(), Fai
         &["ti", "convert", "--force", "--wide"],
         &["ti", "convert", "--wide", "--force"],
     ] {
-        let Ok(task) = read_line(rt.alloc(), true, words) else {
+        let Ok(task) = read_line(rt.alloc(), TERMINAL, words) else {
             return Err(Fail::from("no line"));
         };
         let Task { request, .. } = task;
         let Request { asked, .. } = request;
         let text = format!(in rt.alloc(); "{asked:?}")?;
         assert_that!(rt; text.as_str() == "Entry(Convert(Some(Wide)))");
+    }
+    Ok(())
+}
+
+/// Parts of lines stand out at a terminal that has color, unless a word says it.
+#[test]
+fn a_terminal_has_color_unless_a_word_says_it(rt: HostRuntime) -> Result<(), Fail> {
+    const SAID: [(&[&str], &str); 3] = [
+        (&["ti", "lint"], "Entry(Lint(Mistakes, Always))"),
+        (
+            &["ti", "lint", "--color", "auto"],
+            "Entry(Lint(Mistakes, Always))",
+        ),
+        (
+            &["ti", "lint", "--color=never"],
+            "Entry(Lint(Mistakes, Never))",
+        ),
+    ];
+    for (words, expected) in SAID.iter() {
+        let Ok(task) = read_line(rt.alloc(), TERMINAL, words) else {
+            return Err(Fail::from("no line"));
+        };
+        let Task { request, .. } = task;
+        let Request { asked, .. } = request;
+        let text = format!(in rt.alloc(); "{asked:?}")?;
+        assert_that!(rt; text.as_str() == *expected);
     }
     Ok(())
 }
@@ -311,7 +371,7 @@ const FILES: [(&[&str], &str); 9] = [
 #[test]
 fn words_name_files(rt: HostRuntime) -> Result<(), Fail> {
     for (words, expected) in FILES.iter() {
-        let Ok(task) = read_line(rt.alloc(), false, words) else {
+        let Ok(task) = read_line(rt.alloc(), Destination::File, words) else {
             return Err(Fail::from("no line"));
         };
         let Task { files, .. } = task;

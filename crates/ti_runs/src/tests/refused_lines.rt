@@ -4,7 +4,7 @@ use super::ending::end_of;
 use std::alloc::Global;
 use std::test::Fail;
 use ti_fixtures::entries::SMALL;
-use ti_line::{NoLine, read_line};
+use ti_line::{Destination, NoLine, read_line};
 
 /// Words that are refused, and what the text on them has.
 const REFUSED: [(&[&str], &str); 24] = [
@@ -52,7 +52,7 @@ const REFUSED: [(&[&str], &str); 24] = [
 
 /// What is shown of the refusal of words.
 fn refusal_of(alloc: Global, words: &[&str]) -> Result<String, Fail> {
-    match read_line(alloc, false, words) {
+    match read_line(alloc, Destination::File, words) {
         Err(NoLine::Refused(message)) => { Ok(format!(in alloc; "{}", NoLine::Refused(message))?) }
         _ => Err(Fail::from("no refusal")),
     }
@@ -110,7 +110,7 @@ fn words_that_are_no_line_end_with_status_two(rt: HostRuntime) {
 #[test]
 fn a_refusal_is_written_in_full(rt: HostRuntime) -> Result<(), Fail> {
     let words = ["ti", "show", "--hex"];
-    let Err(NoLine::Refused(message)) = read_line(rt.alloc(), false, &words) else {
+    let Err(NoLine::Refused(message)) = read_line(rt.alloc(), Destination::File, &words) else {
         return Err(Fail::from("no refusal"));
     };
     let end = end_of(rt.alloc(), &words, SMALL);

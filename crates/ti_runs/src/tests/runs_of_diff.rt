@@ -2,14 +2,15 @@
 
 use super::runs_of_files::{Row, end_at};
 use linked_list_allocator::LocalHeap;
-use std::alloc::Global;
+use std::alloc::{AllocError, Allocator, Global};
 use std::process::Abort;
 use std::test::Fail;
-use ti_entry::read;
+use ti_entry::{Entry, read};
+use ti_escape::Color;
 use ti_fixtures::Tally;
 use ti_fixtures::entries::{EXTENDED_BY_TIC, WIDE_BY_TIC};
 use ti_line::Likeness;
-use ti_tool::difference_of;
+use ti_listing::{difference_of, differing_lines};
 
 const ROWS: [Row; 17] = [
     Row {
@@ -153,11 +154,21 @@ fn a_difference_that_cannot_be_written_is_told(rt: HostRuntime) {
     assert_that!(rt; errors.as_slice() == b"output: failed\n".as_slice());
 }
 
+/// The lines on what two entries do not have alike.
+fn lines_on<'a, A: Allocator + Copy>(
+    alloc: A,
+    one: &Entry<'a>,
+    other: &Entry<'a>,
+) -> Result<Vec<u8, A>, AllocError> {
+    let differences = difference_of(alloc, Likeness::Bytes, one, other)?;
+    differing_lines(alloc, Color::Never, differences.as_slice())
+}
+
 /// Whether two entries are told apart with so much memory, all of which is given back.
 fn are_told_apart(rt: &impl Abort, global: Global, memory: usize) -> Result<bool, Fail> {
     let heap = LocalHeap::new(global, memory)?;
     let (one, other) = (read(EXTENDED_BY_TIC)?, read(WIDE_BY_TIC)?);
-    let is_told = difference_of(&heap, Likeness::Bytes, &one, &other).is_ok();
+    let is_told = lines_on(&heap, &one, &other).is_ok();
     assert_that!(rt; heap.used() == 0);
     Ok(is_told)
 }
@@ -166,7 +177,7 @@ fn are_told_apart(rt: &impl Abort, global: Global, memory: usize) -> Result<bool
 fn each_growth_of_a_difference_is_refused_in_turn(rt: HostRuntime) -> Result<(), Fail> {
     let mut tally = Tally::NONE;
     for step in 0..60usize {
-        tally.count(are_told_apart(&rt, rt.alloc(), 64 + 40 * step)?);
+        tally.count(are_told_apart(&rt, rt.alloc(), 64 + 400 * step)?);
     }
     assert_that!(rt; tally.is_refused_then_given(2));
     Ok(())

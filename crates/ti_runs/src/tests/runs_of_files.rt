@@ -1,5 +1,6 @@
 //! Runs over files that are named, and over a folder.
 
+use super::ending::destination;
 use std::alloc::{Allocator, Global};
 use std::io;
 use std::io::ErrorKind;
@@ -216,7 +217,7 @@ pub fn end_at(alloc: Global, row: &Row, fails_at: usize) -> (u8, Vec<u8>, Vec<u8
     let mut errors = Sink::new(alloc);
     let mut input = Source::new(QUESTION, 100);
     let at = Terminals {
-        output: row.at_terminal,
+        output: destination(row.at_terminal),
         ..Terminals::NONE
     };
     let words = row.words;

@@ -6,11 +6,11 @@ use std::alloc::{Allocator, Global};
 use std::process::Abort;
 use std::test::Fail;
 use ti_cap::{CapFault, CapRefused};
-use ti_escape::Form;
+use ti_escape::{Color, Form};
 use ti_expand::Value;
 use ti_fixtures::traces::{COLUMN, COLUMN_OF_7};
 use ti_fixtures::{Sink, Source, Tally};
-use ti_line::{Asked, OfCapability};
+use ti_line::{Asked, OfCapability, TraceForm};
 use ti_tool::{ToolFault, carry_out};
 use ti_trace::trace;
 
@@ -25,7 +25,7 @@ fn traced<A: Allocator + Copy>(
 ) -> Written {
     let mut source = source;
     let mut writer = writer;
-    let asked = Asked::Capability(OfCapability::Trace(Form::Hex));
+    let asked = Asked::Capability(OfCapability::Trace(TraceForm::Lines(Form::Hex, Color::Never)));
     let global = *writer.taken.allocator();
     let result = carry_out(global, alloc, &asked, parameters, &mut source, &mut writer);
     Written {
@@ -46,7 +46,7 @@ fn is_traced(rt: &impl Abort, global: Global, memory: usize) -> Result<bool, Fai
         }
     }
     assert_that!(rt; heap.used() == 0);
-    let text = trace(&heap, COLUMN, &NUMBERS, Form::Hex);
+    let text = trace(&heap, COLUMN, &NUMBERS, Form::Hex, Color::Never);
     assert_that!(rt; text.is_ok() == written.result.is_ok());
     Ok(written.result.is_ok())
 }

@@ -8,11 +8,11 @@ ghost use Rattle.ti_tool.specs.Verdicts.{AreVerdicts, IsExtendedLine, IsStandard
 ghost use Rattle.ti_tool.specs.inner.Verdict.{AddsTold};
 
 use crate::command::Answer;
-use crate::label::Label;
 use crate::verdict::{judge, push_line};
 use std::alloc::{AllocError, Allocator};
 use ti_entry::{Entry, Extended};
 use ti_line::{NameForm, Naming};
+use ti_listing::{Label, own_name};
 use ti_words::{Kind, NameTable, Text};
 
 /// Writes the lines of the standard texts, and returns whether none has a fault.
@@ -52,13 +52,8 @@ fn push_extended<A: Allocator>(
     for index in 0..extended.text_count() {
         if let Text::Value(text) = extended.text(index) {
             last = last.next(text);
-            let kind = Kind::Text;
-            let label = Label::Own {
-                extended: &*extended,
-                form,
-                kind,
-                index,
-            };
+            let name = own_name(extended, Kind::Text, index);
+            let label = Label::Own { form, name };
             push_line(out, b"text+ ", label, last.verdict)?;
             sound &= last.verdict.is_sound();
         }

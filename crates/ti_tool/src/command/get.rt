@@ -5,18 +5,19 @@
 ghost use Rattle.std.specs.Prelude.{◌≡◌, Ok, IfOk, MatchResult, option_map, true};
 ghost use Rattle.ti_tool.specs.Got.{IsExpandedBy, IsGot, IsTextResult, IsValueResult, number_or_none as the_number_or_none, number_result as the_number_result};
 ghost use Rattle.ti_tool.specs.inner.Dues.{FailsAsDue};
-ghost use Rattle.ti_tool.specs.inner.Item.{item_value};
+ghost use Rattle.ti_listing.specs.Values.{item_value};
 
 use crate::command::Answer;
 use crate::command::expand::{expand_and_pad, padded_output};
 use crate::fault::ToolFault;
-use crate::item::{Item, item_called};
+use crate::item_name::item_called;
 use crate::taken::values_for;
 use itoa::Buffer;
 use std::alloc::{AllocError, Allocator};
 use ti_cap::Capability;
 use ti_entry::Entry;
 use ti_line::{Get, Given, Output};
+use ti_listing::Item;
 use ti_pad::Padding;
 use ti_words::{Flag, Number, Text};
 

@@ -1,38 +1,41 @@
 //! `trace`: what one capability does, token by token, also one of an entry.
 
 ghost use Rattle.std.specs.Prelude.{Ok, MatchResult, option_map};
+ghost use Rattle.ti_line.specs.declared.options.TraceForm.TheVariants as trace_forms;
 ghost use Rattle.ti_tool.specs.Got.{IsDueBy};
 ghost use Rattle.ti_tool.specs.Traces.{IsTraced, IsTracedBy, IsTracedOf, IsTracedValue};
-ghost use Rattle.ti_tool.specs.inner.Item.{item_value};
+ghost use Rattle.ti_listing.specs.Values.{item_value};
 ghost use Rattle.ti_tool.specs.inner.Dues.{FailsAsDue};
 
+use crate::command::json::as_line;
 use crate::fault::ToolFault;
-use crate::item::{Item, item_called};
+use crate::item_name::item_called;
 use crate::taken::values_for;
-use std::alloc::Allocator;
+use std::alloc::{Allocator, Global};
 use ti_cap::Capability;
 use ti_entry::Entry;
-use ti_escape::Form;
+use ti_escape::{Color, Form};
 use ti_expand::Value;
-use ti_line::{Given, TraceOf};
-use ti_trace::{TraceFault, trace};
+use ti_line::{Given, TraceForm, TraceOf};
+use ti_listing::Item;
+use ti_trace::{TraceFault, trace, trace_json};
 use ti_words::Text;
 
 /// The parameters if no word gives one.
 const NO_VALUES: [Value<'static>; 9] = [Value::Num(0); 9];
 
-/// The result of `trace` for an input.
-pub fn trace_result<A: Allocator + Copy>(
+/// The lines of a trace.
+fn trace_lines<A: Allocator + Copy>(
     alloc: A,
     input: &[u8],
     parameters: &[Value<'_>; 9],
     form: Form,
+    color: Color,
 ) -> Result<Vec<u8, A>, ToolFault>
-    ensures { MatchResult result
-        (λ v. IsTraced parameters.now form input.now (Ok v.items))
-        (FailsAsDue (IsTraced parameters.now form input.now)) }
+    ensures { let IsDue = IsTraced parameters.now (trace_forms.Lines form color) input.now in
+        MatchResult result (λ v. IsDue (Ok v.items)) (FailsAsDue IsDue) }
 {
-    match trace(alloc, input, parameters, form) {
+    match trace(alloc, input, parameters, form, color) {
         Ok(text) => Ok(text),
         Err(TraceFault::Cap(refused)) => Err(ToolFault::Cap(refused)),
         Err(TraceFault::TextTooLong(parameter)) => Err(ToolFault::TextTooLong(parameter)),
@@ -40,23 +43,61 @@ pub fn trace_result<A: Allocator + Copy>(
     }
 }
 
+/// A trace as JSON, in a line.
+fn trace_document<A: Allocator + Copy>(
+    global: Global,
+    alloc: A,
+    input: &[u8],
+    parameters: &[Value<'_>; 9],
+) -> Result<Vec<u8, A>, ToolFault>
+    ensures { let IsDue = IsTraced parameters.now trace_forms.Json input.now in
+        MatchResult result (λ v. IsDue (Ok v.items)) (FailsAsDue IsDue) }
+{
+    match trace_json(global, input, parameters) {
+        Ok(text) => Ok(as_line(alloc, text.as_slice())?),
+        Err(TraceFault::Cap(refused)) => Err(ToolFault::Cap(refused)),
+        Err(TraceFault::TextTooLong(which)) => Err(ToolFault::TextTooLong(which)),
+        Err(TraceFault::Memory) => Err(ToolFault::Memory),
+    }
+}
+
+/// The result of `trace` for an input.
+pub fn trace_result<A: Allocator + Copy>(
+    global: Global,
+    alloc: A,
+    input: &[u8],
+    parameters: &[Value<'_>; 9],
+    form: TraceForm,
+) -> Result<Vec<u8, A>, ToolFault>
+    ensures { MatchResult result
+        (λ v. IsTraced parameters.now form input.now (Ok v.items))
+        (FailsAsDue (IsTraced parameters.now form input.now)) }
+{
+    match form {
+        TraceForm::Lines(form, color) => trace_lines(alloc, input, parameters, form, color),
+        TraceForm::Json => trace_document(global, alloc, input, parameters),
+    }
+}
+
 /// The trace of a text with the parameters that words gave.
 fn trace_given<A: Allocator + Copy>(
+    global: Global,
     alloc: A,
     text: &[u8],
     given: &Given<'_>,
-    form: Form,
+    form: TraceForm,
 ) -> Result<Vec<u8, A>, ToolFault>
     ensures { let IsDue = IsDueBy text.now given.now (λ parameters. IsTraced parameters form text.now) in
         MatchResult result (λ v. IsDue (Ok v.items)) (FailsAsDue IsDue) }
 {
     let capability = Capability::parse(text)?;
     let parameters = values_for(&capability, given.params);
-    trace_result(alloc, text, &parameters, form)
+    trace_result(global, alloc, text, &parameters, form)
 }
 
 /// The trace of a text. With no parameter all are the number 0.
 fn trace_text<A: Allocator + Copy>(
+    global: Global,
     alloc: A,
     text: &[u8],
     asked: &TraceOf<'_>,
@@ -65,13 +106,14 @@ fn trace_text<A: Allocator + Copy>(
         MatchResult result (λ v. IsDue (Ok v.items)) (FailsAsDue IsDue) }
 {
     match &asked.given {
-        Some(given) => trace_given(alloc, text, given, asked.form),
-        None => trace_result(alloc, text, &NO_VALUES, asked.form),
+        Some(given) => trace_given(global, alloc, text, given, asked.form),
+        None => trace_result(global, alloc, text, &NO_VALUES, asked.form),
     }
 }
 
 /// The trace of a value, if it is a text that is there.
 fn trace_value<A: Allocator + Copy>(
+    global: Global,
     alloc: A,
     item: Option<Item<'_>>,
     asked: &TraceOf<'_>,
@@ -80,7 +122,7 @@ fn trace_value<A: Allocator + Copy>(
         MatchResult result (λ v. IsDue (Ok v.items)) (FailsAsDue IsDue) }
 {
     match item {
-        Some(Item::Text(Text::Value(text))) => trace_text(alloc, text, asked),
+        Some(Item::Text(Text::Value(text))) => trace_text(global, alloc, text, asked),
         Some(Item::Text(Text::Absent | Text::Cancelled)) => Err(ToolFault::NoSuchText),
         Some(Item::Flag(_)) | Some(Item::Number(_)) => Err(ToolFault::NoSuchText),
         None => Err(ToolFault::NoSuchName),
@@ -89,6 +131,7 @@ fn trace_value<A: Allocator + Copy>(
 
 /// The result of `trace` for a capability of an entry.
 pub fn trace_of_result<A: Allocator + Copy>(
+    global: Global,
     alloc: A,
     entry: &Entry<'_>,
     asked: &TraceOf<'_>,
@@ -97,5 +140,5 @@ pub fn trace_of_result<A: Allocator + Copy>(
         (λ v. IsTracedOf asked.now entry.now (Ok v.items))
         (FailsAsDue (IsTracedOf asked.now entry.now)) }
 {
-    trace_value(alloc, item_called(entry, asked.name), asked)
+    trace_value(global, alloc, item_called(entry, asked.name), asked)
 }

@@ -8,12 +8,12 @@ ghost use Rattle.ti_tool.specs.Verdicts.{IsOwnObject, IsStandardObject, in_objec
 ghost use Rattle.ti_tool.specs.inner.Verdict.{AddsTold, told_by};
 
 use crate::command::Answer;
-use crate::label::own_name;
 use crate::verdict::{Verdict, judge};
 use serde_json::Value;
 use std::alloc::{AllocError, Global};
 use ti_entry::{Entry, Extended};
 use ti_json::{Subject, array_json, push_fault, push_sound};
+use ti_listing::own_name;
 use ti_words::{Kind, Text};
 
 /// Adds the object of a text.

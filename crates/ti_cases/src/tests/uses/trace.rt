@@ -1,13 +1,14 @@
 //! What each token of a capability does.
 
 use std::test::Fail;
-use ti_escape::Form;
+use ti_escape::{Color, Form};
 use ti_expand::Value;
 use ti_trace::trace;
 
 #[test]
 fn a_column_is_traced(rt: HostRuntime) -> Result<(), Fail> {
-    let made = trace(rt.alloc(), b"%p1%d", &[Value::Num(7); 9], Form::Notation)?;
+    let sevens = [Value::Num(7); 9];
+    let made = trace(rt.alloc(), b"%p1%d", &sevens, Form::Notation, Color::Never)?;
     assert!(rt; made.as_slice().ends_with(b"depth: 1\nbound: 11\n"));
     Ok(())
 }

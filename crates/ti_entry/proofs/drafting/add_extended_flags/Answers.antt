@@ -1,25 +1,11 @@
-use Rattle.std.proofs.Common.{◌≡◌, ◌+◌, ◌++◌, Some, None, drop, map, slice_get, sym, ap, ◌∙◌, arith}
+use Rattle.std.proofs.Common.{sym, ap, ◌∙◌, arith}
+use Rattle.std.proofs.lemmas.Grind.{common_steps}
 use Rattle.std.specs.Option.{option_map}
 use Rattle.ti_words.specs.declared.Flag.TheVariants.{No}
-use Rattle.ti_words.specs.Value.{EntryValue}
-use Rattle.ti_words.specs.Spelling.{name_in}
-use Rattle.ti_entry.proofs.DraftOfEntryLemmas.{taken, missing, one_flag}
+use Rattle.ti_entry.proofs.DraftOfEntryLemmas.{next_item}
 use Rattle.ti_entry.proofs.drafting.add_extended_flags.Goals as goal
-use Rattle.ti_entry.proofs.drafting.add_extended_flags.Goals.{in-Some+in_ok-push_extended_flag, in_default}
 
 pub loop-i-preserved : goal.loop-i-preserved
 loop-i-preserved g c =
-    let xs = c.args.extended.now.flags in
-    let i = c.loop-i.i in
-    let rest = drop (i + 1) xs in
-    elim c.match-name.branch [
-      | in-Some+in_ok-push_extended_flag w ↦
-          (let name : slice_get (map name_in xs) i ≡ Some w.in-Some.name.now = sym c.name.ensures ∙ ap (option_map (λ n. n.now)) w.in-Some.is in
-          ap (λ (d : EntryValue). record d { extended = record d.extended { flags = d.extended.flags ++ rest } }) w.draft-is
-          ∙ one_flag c.loop-i.draft w.push_extended_flag.new.self (w.in-Some.name.now, w.flag.result) rest (drop i xs)
-          w.in_ok-push_extended_flag.ensures.added (taken xs i No w.in-Some.name.now w.flag.result name w.flag.ensures)
-          ∙ c.loop-i.invariant)
-      | in_default w ↦
-          (let none : slice_get (map name_in xs) i ≡ None = sym c.name.ensures ∙ ap (option_map (λ n. n.now)) w.in_default.is in
-          absurd (omega (arith, missing xs i none, c.flag_count-i-end.ensures, c.loop-i-test.true)))
-    ]
+    let next = next_item c.args.extended.now.flags c.loop-i.i No c.in-Some.name.now c.flag.result (sym c.name.ensures ∙ ap (option_map (λ n. n.now)) c.in-Some.is) c.flag.ensures in
+    grind (arith, common_steps)

@@ -1,9 +1,6 @@
-use Rattle.std.proofs.Common.{◌≡◌, ◌++◌, drop}
+use Rattle.std.proofs.Common.{◌≡◌, drop}
+use Rattle.ti_entry.specs.Additions.{with_own_flags}
 use Rattle.ti_entry.proofs.drafting.add_extended_flags.Given as goal
 
 abbrev pub invariant-loop-i : goal.invariant-loop-i
-invariant-loop-i g l =
-    let now = l.draft.extended in
-    let start = l.initial.draft.extended in
-    record l.draft { extended = record now { flags = now.flags ++ drop l.i l.extended.flags } }
-    ≡ record l.initial.draft { extended = record start { flags = start.flags ++ l.extended.flags } }
+invariant-loop-i g l = with_own_flags l.draft (drop l.i l.extended.flags) ≡ with_own_flags l.initial.draft l.extended.flags

@@ -1,9 +1,6 @@
-use Rattle.std.proofs.Common.{◌≡◌, ◌++◌, drop}
+use Rattle.std.proofs.Common.{◌≡◌, drop}
+use Rattle.ti_entry.specs.Additions.{with_own_numbers}
 use Rattle.ti_entry.proofs.drafting.add_extended_numbers.Given as goal
 
 abbrev pub invariant-loop-i : goal.invariant-loop-i
-invariant-loop-i g l =
-    let now = l.draft.extended in
-    let start = l.initial.draft.extended in
-    record l.draft { extended = record now { numbers = now.numbers ++ drop l.i l.extended.numbers } }
-    ≡ record l.initial.draft { extended = record start { numbers = start.numbers ++ l.extended.numbers } }
+invariant-loop-i g l = with_own_numbers l.draft (drop l.i l.extended.numbers) ≡ with_own_numbers l.initial.draft l.extended.numbers

@@ -1,24 +1,17 @@
 use Rattle.std.proofs.Common.{◌≡◌, ◌∙◌, ap, sym}
-use Rattle.std.specs.Prelude.{None}
 use Rattle.std.proofs.lemmas.Result.{err_from_is_err_and}
-use Rattle.ti_layout.specs.Checks.{failure_of}
-use Rattle.ti_layout.specs.Refusal.{failure}
 use Rattle.ti_entry.specs.Reading.{base_of_names}
-use Rattle.std.proofs.Common.{[]}
-use Rattle.ti_layout.specs.Stages.{new_stage}
-use Rattle.ti_layout.proofs.StageStepLemmas.{stands_first, stands_on}
 use Rattle.ti_entry.proofs.FeedLemmas.{failure_refuses}
-use Rattle.ti_entry.proofs.SpelledExtendedLemmas.{only}
+use Rattle.ti_entry.proofs.SpelledExtendedLemmas.{only, spelled_passes}
+use Rattle.ti_entry.proofs.WholeStageLemmas.{stands_new}
 use Rattle.ti_entry.proofs.reopening.read_with_base.Goals as goal
 
 pub advance-requires : goal.advance-requires
-advance-requires c = rw c.new-stage.ensures (stands_on [] c.args.bytes.now new_stage stands_first)
+advance-requires c = rw c.new-stage.ensures (stands_new c.args.bytes.now)
 
 pub returns-in_err-advance-clause-only : goal.returns-in_err-advance-clause-only
 returns-in_err-advance-clause-only c = λ v s.
-    let bytes = c.args.bytes.now in
-    let none : failure bytes ≡ None = ap failure_of (only bytes v s).passes in
-    let never = sym none ∙ c.in_err-advance.ensures.failed in absurd (cc)
+    let never = sym (spelled_passes c.args.bytes.now v s) ∙ c.in_err-advance.ensures.failed in absurd (cc)
 
 pub returns-in_err-advance-clause-refused : goal.returns-in_err-advance-clause-refused
 returns-in_err-advance-clause-refused c =

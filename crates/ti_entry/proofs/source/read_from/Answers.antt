@@ -22,7 +22,7 @@ returns-then-count-eq0-clause-fed g c = FeedsFrom-end _ _ _ c.args.reader.now c.
 pub returns-in_err-feed-clause-fed : goal.returns-in_err-feed-clause-fed
 returns-in_err-feed-clause-fed g c =
     let i = c.source.invariant in
-    FeedsFrom-next _ _ _ _ _ _ _ i.first i.no_refusal i.fed c.in_ok-count.ensures.bytes.0 c.in_err-feed.ensures.fed
+    FeedsFrom-next _ _ _ _ _ _ _ i.first i.fed c.in_ok-count.ensures.bytes.0 c.in_err-feed.ensures.fed
 
 pub source-smaller : goal.source-smaller
 source-smaller g c =
@@ -40,5 +40,5 @@ source-preserved g c =
       first = i.first;
       no_refusal = answer_under-ok _ _ _ c.in_ok-feed.was c.feed.ensures.answer;
       within = c.feed.ensures.most;
-      fed = FeedsFrom-next _ _ _ _ _ _ _ i.first i.no_refusal i.fed c.in_ok-count.ensures.bytes.0 c.feed.ensures.fed;
+      fed = FeedsFrom-next _ _ _ _ _ _ _ i.first i.fed c.in_ok-count.ensures.bytes.0 c.feed.ensures.fed;
     }

@@ -1,9 +1,19 @@
-use Rattle.std.proofs.Common.{◌+◌, ◌<◌, arith}
-use Rattle.std.proofs.lemmas.Bool.{ltb-true}
-use Rattle.ti_layout.proofs.WholeSectionLemmas.{name_places_pass}
+use Rattle.std.proofs.Common.{◌+◌, ◌*◌, ◌<◌, length, refl, arith}
+use Rattle.std.proofs.lemmas.Bool.{ltb-true, le-ltb, lt-ltb}
+use Rattle.ti_words.specs.Word.{unsigned_at}
+use Rattle.ti_words.specs.declared.Width.TheVariants.{Legacy}
+use Rattle.ti_layout.specs.Checks.{name_place_checks}
+use Rattle.ti_layout.proofs.WordLemmas.{unsigned_fits}
+use Rattle.ti_layout.proofs.WholeSectionLemmas.{all_pass_each}
 use Rattle.ti_layout.proofs.whole.are_names.Goals as goal
 
 pub returns : goal.returns
 returns c = λ t.
-    let lt : c.args.table.now.base + c.from.result < c.min.result = ltb-true _ _ t in
-    name_places_pass c.args.bytes.now c.args.table.now c.args.from c.args.count c.greatest_word-greatest.result (λ i. omega (arith, c.type_inv.bytes i)) c.requires.there c.greatest_word-greatest.ensures (omega arith) (omega arith)
+    let bytes = c.args.bytes.now in
+    let table = c.args.table.now in
+    let low : c.args.base + c.from.result < c.min.result = ltb-true _ _ t in
+    all_pass_each (name_place_checks bytes table.bytes.now c.args.base table.end) (length bytes) c.args.from 2 c.args.count (λ i lt.
+    let u = unsigned_at 2 bytes (c.args.from + 2 * i) in
+    let small : u < 65536 = unsigned_fits Legacy bytes (c.args.from + 2 * i) (λ i. omega (arith, c.type_inv.bytes i)) in
+    let at = c.greatest_word-greatest.ensures i lt in
+    rw (c.requires.reach (c.args.base + u), le-ltb (length bytes) table.end c.requires.there, lt-ltb (c.args.base + u) (length table.bytes.now) (omega arith), lt-ltb (c.args.base + u) table.reach (omega arith)) refl)

@@ -1,13 +1,16 @@
 use Rattle.ti_line.proofs.matches.request_of.Goals as goal
 
 pub returns-in-cap : goal.returns-in-cap
-returns-in-cap c = rw c.in-cap.is (c.cap.ensures c.args.terminal)
+returns-in-cap c = rw c.in-cap.is (c.cap.ensures c.args.to)
 
 pub returns-in-trace : goal.returns-in-trace
-returns-in-trace c = rw c.in-trace.is (c.trace.ensures c.args.terminal)
+returns-in-trace c = rw c.in-trace.is c.trace.ensures
 
 pub returns-in-diff : goal.returns-in-diff
-returns-in-diff c = rw c.in-diff.is (c.diff.ensures c.args.terminal)
+returns-in-diff c = rw c.in-diff.is c.diff.ensures
+
+pub returns-in-lint : goal.returns-in-lint
+returns-in-lint c = rw c.in-lint.is c.lint.ensures
 
 pub returns-in-convert : goal.returns-in-convert
 returns-in-convert c = rw c.in-convert.is c.convert.ensures

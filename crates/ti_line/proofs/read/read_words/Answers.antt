@@ -31,13 +31,13 @@ returns-in-Ok-clause-read c =
     let found = ti_finds _ _ c.in_ok-matches.matches c.in-Some.command.now (rows_of (found_of c.in-Some.given.now)) c.in_ok-program.ensures c.in_ok-matches.ensures.matches
     (sym c.in-Some.ensures.name) (sym c.in-Some.ensures.rows) in
     let line = has_line (texts_of c.args.words.now) (ti_fails _ _ (Ok c.in_ok-matches.matches) c.in_ok-program.ensures c.in_ok-matches.ensures.kinds) in
-    let answered = some_is _ (λ l. IsAnswered c.args.terminal l c.request_of.result) line.0 c.request_of.ensures (ap line_in found ∙ line.1) in
-    (line.0, line.1, (is_request c.args.terminal line.0 c.request_of.result answered c.in-Ok.request c.in-Ok.is, c.in_ok-files-in-Some.ensures ∙ ap files_found found))
+    let answered = some_is _ (λ l. IsAnswered c.args.to l c.request_of.result) line.0 c.request_of.ensures (ap line_in found ∙ line.1) in
+    (line.0, line.1, (is_request c.args.to line.0 c.request_of.result answered c.in-Ok.request c.in-Ok.is, c.in_ok-files-in-Some.ensures ∙ ap files_found found))
 
 pub returns-in-Some-clause-read : goal.returns-in-Some-clause-read
 returns-in-Some-clause-read c =
     let found = ti_finds _ _ c.in_ok-matches.matches c.in-Some.command.now (rows_of (found_of c.in-Some.given.now)) c.in_ok-program.ensures c.in_ok-matches.ensures.matches
     (sym c.in-Some.ensures.name) (sym c.in-Some.ensures.rows) in
     let line = has_line (texts_of c.args.words.now) (ti_fails _ _ (Ok c.in_ok-matches.matches) c.in_ok-program.ensures c.in_ok-matches.ensures.kinds) in
-    let answered = some_is _ (λ l. IsAnswered c.args.terminal l c.request_of.result) line.0 c.request_of.ensures (ap line_in found ∙ line.1) in
-    (line.0, line.1, is_fault c.args.terminal line.0 c.request_of.result answered _ c.in-Err.is)
+    let answered = some_is _ (λ l. IsAnswered c.args.to l c.request_of.result) line.0 c.request_of.ensures (ap line_in found ∙ line.1) in
+    (line.0, line.1, is_fault c.args.to line.0 c.request_of.result answered _ c.in-Err.is)

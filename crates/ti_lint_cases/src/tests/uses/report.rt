@@ -2,7 +2,7 @@
 
 use std::test::Fail;
 use ti_entry::read;
-use ti_report::{Scope, push_report};
+use ti_report::{Color, Scope, Trials, push_report, report_json};
 
 /// An entry called `t` with `cup` as termcap writes `cm`.
 const FILE: &[u8] = b"\x1a\x01\x02\0\0\0\0\0\x0b\0\x09\0t\0\
@@ -12,7 +12,10 @@ const FILE: &[u8] = b"\x1a\x01\x02\0\0\0\0\0\x0b\0\x09\0t\0\
 fn an_entry_of_termcap(rt: HostRuntime) -> Result<(), Fail> {
     let entry = read(FILE)?;
     let mut lines = Vec::new(rt.alloc());
-    push_report(rt.alloc(), &mut lines, Scope::Mistakes, b"", FILE, &entry)?;
+    let alloc = rt.alloc();
+    let trials = &mut Trials::new(alloc);
+    let (scope, color) = (Scope::Mistakes, Color::Never);
+    push_report(alloc, &mut lines, trials, scope, color, b"", FILE, &entry)?;
     let wanted = br"cup
   \E=%+ %+\s
      ^  ^
@@ -23,5 +26,10 @@ cup
   stack-residue: on some path the value that it pushes is left
 ";
     assert!(rt; lines.as_slice() == wanted.as_slice());
+    let json = report_json(alloc, alloc, trials, scope, FILE, &entry)?;
+    let wanted =
+        br#"[{"finding":"termcap-parameter","meaning":"it pops a value, and the text has no %p","places":[2,5],"subjects":[{"name":"cup","text":"\\E=%+ %+\\s"}]},{"finding":"stack-residue","meaning":"on some path the value that it pushes is left","places":[5],"subjects":[{"name":"cup","text":"\\E=%+ %+\\s"}]}]"#;
+    assert!(rt; json.text.as_slice() == wanted.as_slice());
+    assert!(rt; !json.sound);
     Ok(())
 }

@@ -1,8 +1,8 @@
 use Rattle.std.proofs.Common.{◌≡◌, ◌∙◌, ◌++◌, ap}
 use Rattle.std.proofs.lemmas.List.Sorted.{IsPermutation-map}
-use Rattle.ti_report.specs.Keys.{lines_on_keys}
+use Rattle.ti_report.specs.Keys.{on_keys}
 use Rattle.ti_report.specs.inner.Lent.{key_lent, keys_lent}
-use Rattle.ti_report.specs.inner.Neighbours.{row_lines}
+use Rattle.ti_report.specs.inner.Neighbours.{on_row}
 use Rattle.ti_report.proofs.KeysLemmas.{ascends_lent}
 use Rattle.ti_report.proofs.NeighboursLemmas.{neighbours_are}
 use Rattle.ti_report.proofs.keys.push_keys.Goals as goal
@@ -12,15 +12,15 @@ returns g c =
     let keys = c.in_ok-keys.keys.items in
     let row = c.sort_unstable.new.self.items in
     let ascends = ascends_lent row c.sort_unstable.ensures.sorted in
-    let lines : row_lines c.args.scope c.args.prefix.now (keys_lent row) ≡ lines_on_keys c.args.scope c.args.prefix.now (keys_lent row) (keys_lent row) = neighbours_are c.args.scope c.args.prefix.now (keys_lent row) ascends in (
-      row_lines c.args.scope c.args.prefix.now (keys_lent row),
+    let remarks : on_row c.args.scope (keys_lent row) ≡ on_keys c.args.scope (keys_lent row) (keys_lent row) = neighbours_are c.args.scope (keys_lent row) ascends in (
+      on_row c.args.scope (keys_lent row),
       record {
         keys = keys_lent keys;
         are_keys = c.in_ok-keys.ensures;
         row = keys_lent row;
         same = IsPermutation-map key_lent keys row c.sort_unstable.ensures.permutation;
         ascends = ascends;
-        lines_are = lines;
+        remarks_are = remarks;
       },
-      c.in_ok-push_row.ensures ∙ ap (λ items. c.args.out.now.items ++ row_lines c.args.scope c.args.prefix.now (keys_lent items)) c.as_slice.ensures.value,
+      c.in_ok-push_row.ensures ∙ ap (λ items. c.args.out.now.items ++ on_row c.args.scope (keys_lent items)) c.as_slice.ensures.value,
     )

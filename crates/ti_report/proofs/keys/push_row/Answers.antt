@@ -1,7 +1,7 @@
 use Rattle.std.proofs.Common.{◌≡◌, ◌∙◌, ◌-◌, ◌++◌, [], Bor, List, ℕ, ap₂, arith, get_or, sym}
 use Rattle.std.proofs.lemmas.List.{get_or-map, length-map}
 use Rattle.ti_report.specs.inner.Lent.{key_lent, keys_lent}
-use Rattle.ti_report.specs.inner.Neighbours.{neighbour_lines}
+use Rattle.ti_report.specs.inner.Neighbours.{on_neighbours}
 use Rattle.ti_report.proofs.KeysLemmas.{row_end, row_next}
 use Rattle.ti_report.proofs.keys.push_row.Goals as goal
 
@@ -17,10 +17,10 @@ keys-preserved g c =
     let here : get_or (keys_lent row) i ([], []) ≡ key_lent (get_or row i (no_text, no_text)) = get_or-map key_lent row i (no_text, no_text) ([], []) (omega (arith, c.keys-test.true)) in
     record {
       low = omega (arith, l.invariant.low);
-      written =
-          row_next c.args.scope c.args.prefix.now (keys_lent row) i ([], []) l.out.items c.push_neighbours.new.out.items _ l.invariant.low (omega (arith, c.keys-test.true, length-map row key_lent))
-          (c.in_ok-push_neighbours.ensures ∙ ap₂ (λ one other. l.out.items ++ neighbour_lines c.args.scope c.args.prefix.now one other) (sym before) (sym here)) l.invariant.written;
+      so_far =
+          row_next c.args.scope (keys_lent row) i ([], []) l.out.items c.push_neighbours.new.out.items _ l.invariant.low (omega (arith, c.keys-test.true, length-map row key_lent))
+          (c.in_ok-push_neighbours.ensures ∙ ap₂ (λ one other. l.out.items ++ on_neighbours c.args.scope one other) (sym before) (sym here)) l.invariant.so_far;
     }
 
 pub returns : goal.returns
-returns g c = row_end c.args.scope c.args.prefix.now (keys_lent c.args.row.now) c.keys.next c.keys.out.items _ (omega (arith, c.keys-test.false, length-map c.args.row.now key_lent)) c.keys.invariant.written
+returns g c = row_end c.args.scope (keys_lent c.args.row.now) c.keys.next c.keys.out.items _ (omega (arith, c.keys-test.false, length-map c.args.row.now key_lent)) c.keys.invariant.so_far

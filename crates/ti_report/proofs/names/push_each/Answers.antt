@@ -1,14 +1,12 @@
 use Rattle.std.proofs.Common.{◌≡◌, ◌∙◌, ◌<◌, ◌++◌, ◌∷◌, ℕ, List, [], Bool, true, false, Bor, Contains, ap, arith, get_or, inl, inr, length, not, refl, subst, sym, take}
 use Rattle.std.proofs.lemmas.List.{get_or-map, length-map, take_more}
-use Rattle.ti_escape.specs.Notation.{label_notation}
 use Rattle.ti_report.specs.declared.wrong.Wrong.TheVariants as wrongs
-use Rattle.ti_report.specs.Blocks.{titled}
-use Rattle.ti_report.specs.Names.{IsNameReport, standard_name_lines}
+use Rattle.ti_report.specs.Names.{IsNameReport, on_name, on_standard_name}
 use Rattle.ti_report.specs.inner.Lent.{texts_lent}
 use Rattle.ti_report.proofs.ReportsLemmas.{goes_end, goes_next}
 use Rattle.ti_report.proofs.RepeatedLemmas.{AreSeen, not_seen_before, seen_before, seen_next}
 use Rattle.ti_report.proofs.names.push_each.Goals as goal
-use Rattle.ti_report.proofs.names.push_each.Goals.{then-branch+in_ok-push_new, else-branch+in_ok-push_titled}
+use Rattle.ti_report.proofs.names.push_each.Goals.{then-branch+in_ok-push_new, else-branch+in_ok-push_on_name}
 
 turned : (a b : Bool) → not a ≡ b → a ≡ not b
 turned true true e = absurd (cc)
@@ -26,29 +24,28 @@ names-preserved g c =
     let all = texts_lent names in
     let i = l.name-index in
     let one = get_or names i none in
-    let prefix = c.args.prefix.now in
     let old = l.out.items in
     let within : i < length all = omega (arith, c.names-test.true, length-map names (λ text. text.now)) in
     let text : get_or all i [] ≡ one.now = get_or-map (λ text. text.now) names i none [] c.names-test.true in
     let P : List (List ℕ) → Type 0 = λ texts. AreSeen texts c.insert.new.self.keys in
     let more = seen_next (take i all) l.seen.keys c.insert.new.self.keys one l.invariant.seen c.in_ok-insert.ensures.keys in
-    let next = goes_next (IsNameReport prefix all) all i [] c.args.out.now.items old c.if-branch.out.items within l.invariant.goes in
+    let next = goes_next (IsNameReport all) all i [] c.args.out.now.items old c.if-branch.out.items within l.invariant.goes in
     record {
       seen = subst P (ap (λ t. take i all ++ t ∷ []) (sym text) ∙ sym (take_more all i [] within)) more;
       goes = elim c.if-branch.branch [
         | then-branch+in_ok-push_new w ↦
             let Q : List ℕ → Type 0 = λ t. ¬ Contains (take i all) t in
             next (
-              standard_name_lines prefix (get_or all i []),
+              on_standard_name (get_or all i []),
               inr (subst Q (sym text) (not_seen_before (take i all) l.seen.keys one l.invariant.seen (turned _ true (sym c.in_ok-insert.ensures.added ∙ w.if-branch.true))), refl),
-              ap (λ v. v.items) w.out-is ∙ w.in_ok-push_new.ensures ∙ ap (λ t. old ++ standard_name_lines prefix t) (sym text),
+              ap (λ v. v.items) w.out-is ∙ w.in_ok-push_new.ensures ∙ ap (λ t. old ++ on_standard_name t) (sym text),
             )
-        | else-branch+in_ok-push_titled w ↦
+        | else-branch+in_ok-push_on_name w ↦
             let Q : List ℕ → Type 0 = λ t. Contains (take i all) t in
             next (
-              titled prefix (label_notation (get_or all i [])) wrongs.RepeatedName,
+              on_name (get_or all i []) wrongs.RepeatedName,
               inl (subst Q (sym text) (seen_before (take i all) l.seen.keys one l.invariant.seen (turned _ false (sym c.in_ok-insert.ensures.added ∙ w.if-branch.false))), refl),
-              ap (λ v. v.items) w.out-is ∙ w.in_ok-push_titled.ensures ∙ ap (λ t. old ++ titled prefix (label_notation t) wrongs.RepeatedName) (sym text),
+              ap (λ v. v.items) w.out-is ∙ w.in_ok-push_on_name.ensures ∙ ap (λ t. old ++ on_name t wrongs.RepeatedName) (sym text),
             )
       ];
     }
@@ -56,5 +53,5 @@ names-preserved g c =
 pub returns : goal.returns
 returns g c =
     let names = texts_lent c.args.names.now in
-    goes_end (IsNameReport c.args.prefix.now names) names c.names.name-index c.args.out.now.items c.names.out.items (omega (arith, c.names-test.false, length-map c.args.names.now (λ text. text.now)))
+    goes_end (IsNameReport names) names c.names.name-index c.args.out.now.items c.names.out.items (omega (arith, c.names-test.false, length-map c.args.names.now (λ text. text.now)))
     c.names.invariant.goes

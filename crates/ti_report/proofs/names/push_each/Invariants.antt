@@ -1,4 +1,4 @@
--- Those that were seen are the names so far, and what is written goes on to the lines on all.
+-- Those that were seen are the names so far, and the remarks so far go on to those on all.
 use Rattle.std.proofs.Common.{take}
 use Rattle.ti_report.specs.Names.{IsNameReport}
 use Rattle.ti_report.specs.inner.Lent.{texts_lent}
@@ -9,5 +9,5 @@ use Rattle.ti_report.proofs.names.push_each.Given as goal
 abbrev pub invariant-names : goal.invariant-names
 invariant-names g l = record {
   seen : AreSeen (take l.name-index (texts_lent l.names)) l.seen.keys;
-  goes : GoesOn (IsNameReport l.prefix (texts_lent l.names)) (texts_lent l.names) l.initial.out.items l.name-index l.out.items;
+  goes : GoesOn (IsNameReport (texts_lent l.names)) (texts_lent l.names) l.initial.out.items l.name-index l.out.items;
 }

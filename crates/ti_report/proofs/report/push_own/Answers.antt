@@ -16,11 +16,11 @@ texts-preserved g c =
     let within : i < length texts = omega (arith, c.texts-test.true, c.text_count-index-end.ensures) in
     let name = c.name_of-name.ensures ∙ get_or-map name_in texts i ([], AbsentText) [] within in
     let text = c.text.ensures ∙ get_or-map mark_in texts i ([], AbsentText) AbsentText within in
-    let P : List ℕ → Type 0 = λ n. Adds (IsReportOfText (IsOwnReport c.args.scope c.args.prefix.now c.args.stored n) (get_or texts i ([], AbsentText)).1) old new in
-    let Q : TextValue → Type 0 = λ t. Adds (IsReportOfText (IsOwnReport c.args.scope c.args.prefix.now c.args.stored c.name_of-name.result.now) t) old new in
-    goes_next (IsNamedReport c.args.scope c.args.prefix.now c.args.stored) texts i ([], AbsentText) c.args.out.now.items old new within c.texts.invariant (subst P name (subst Q text c.in_ok-push_named.ensures))
+    let P : List ℕ → Type 0 = λ n. Adds (IsReportOfText (IsOwnReport c.args.scope c.args.stored n) (get_or texts i ([], AbsentText)).1) old new in
+    let Q : TextValue → Type 0 = λ t. Adds (IsReportOfText (IsOwnReport c.args.scope c.args.stored c.name_of-name.result.now) t) old new in
+    goes_next (IsNamedReport c.args.scope c.args.stored) texts i ([], AbsentText) c.args.out.now.items old new within c.texts.invariant (subst P name (subst Q text c.in_ok-push_named.ensures))
 
 pub returns : goal.returns
 returns g c =
-    goes_end (IsNamedReport c.args.scope c.args.prefix.now c.args.stored) c.args.extended.now.texts c.texts.index c.args.out.now.items c.texts.out.items
+    goes_end (IsNamedReport c.args.scope c.args.stored) c.args.extended.now.texts c.texts.index c.args.out.now.items c.texts.out.items
     (omega (arith, c.texts-test.false, c.text_count-index-end.ensures)) c.texts.invariant

@@ -1,19 +1,21 @@
-use Rattle.std.proofs.Common.{◌≡◌, Bool, List, ℕ, refl, subst}
-use Rattle.std.specs.List.{flat_map}
-use Rattle.ti_values.specs.Attributes.{attributes}
-use Rattle.ti_values.specs.Sent.{texts_of}
+use Rattle.std.proofs.Common.{◌≡◌, ◌∙◌, ℕ, List, ap, subst, sym}
+use Rattle.ti_values.specs.declared.range.Range.TheVariants.{Attributes}
+use Rattle.ti_values.specs.declared.tried.Tried.{Tried}
+use Rattle.ti_values.specs.Ranges.{values}
+use Rattle.ti_values.specs.Sent.{AreSent, texts_of}
 use Rattle.ti_report.specs.Lines.{Adds}
-use Rattle.ti_report.specs.Values.{IsUnendedReport, ignored_lines}
-use Rattle.ti_report.proofs.TurnsLemmas.{in_turn}
+use Rattle.ti_report.specs.Values.{AreAttributesRemarks}
 use Rattle.ti_report.proofs.values.push_of_attributes.Goals as goal
 
 pub returns : goal.returns
 returns g c =
     let s = c.args.subject.now in
-    let sent = texts_of c.args.sent.now in
-    let P : Bool → Type 0 = λ ansi. Adds (IsUnendedReport ansi s.prefix.now s.label.now s.text.now c.args.tried.now sent) c.push_shown_text.new.out.items c.push_unended.new.out.items in
-    let all = flat_map (ignored_lines c.args.entry.now s.prefix.now s.label.now s.text.now sent) attributes in
-    let Are : List ℕ → Type 0 = λ lines. lines ≡ all in
-    let ignored : Adds Are c.args.out.now.items c.push_all_ignored.new.out.items = (all, refl, c.in_ok-push_all_ignored.ensures) in
-    in_turn Are _ _ _ _ ignored
-    (in_turn _ _ _ _ _ c.in_ok-push_shown_text.ensures (subst P c.is_ansi_entry-ansi.ensures c.in_ok-push_unended.ensures))
+    let sent = texts_of c.as_slice.result.now in
+    let tried : c.as_slice-tried.result.now ≡ values Attributes = c.as_slice-tried.ensures.value ∙ c.in_ok-all.ensures.all in
+    let P : List Tried → Type 0 = λ t. Adds (AreAttributesRemarks c.args.entry.now s.name.now s.text.now t sent) c.args.out.now.items c.push_attributes_remarks-2.new.out.items in
+    let Q : List Tried → Type 0 = λ t. AreSent s.text.now t sent in
+    let R : List ℕ → Type 0 = λ text. AreSent text c.as_slice-tried.result.now sent in
+    let T : List (List ℕ) → Type 0 = λ all. AreSent c.args.capability.now c.as_slice-tried.result.now all in
+    let are = subst Q tried (subst R c.requires (subst T (sym (ap texts_of c.as_slice.ensures.value)) c.in_ok-list.ensures.all)) in
+    let (remarks, report, so) = subst P tried c.in_ok-push_attributes_remarks.ensures in
+    (remarks, (sent, are, report), so)

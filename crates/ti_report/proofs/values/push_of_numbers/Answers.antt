@@ -1,12 +1,13 @@
-use Rattle.std.proofs.Common.{Bool, subst}
-use Rattle.ti_values.specs.Sent.{texts_of}
-use Rattle.ti_report.specs.Lines.{Adds}
-use Rattle.ti_report.specs.Values.{IsUnendedReport}
-use Rattle.ti_report.proofs.TurnsLemmas.{in_turn}
+use Rattle.std.proofs.Common.{◌≡◌, Bool, arith, length, subst, sym}
+use Rattle.ti_report.specs.Trials.{IsQuiet}
+use Rattle.ti_report.proofs.TrialsLemmas.{unchanged}
 use Rattle.ti_report.proofs.values.push_of_numbers.Goals as goal
 
-pub returns : goal.returns
-returns g c =
+pub keep_quiet-requires : goal.keep_quiet-requires
+keep_quiet-requires g c =
     let s = c.args.subject.now in
-    let P : Bool → Type 0 = λ ansi. Adds (IsUnendedReport ansi s.prefix.now s.label.now s.text.now c.args.tried.now (texts_of c.args.sent.now)) c.push_same.new.out.items c.push_unended.new.out.items in
-    in_turn _ _ _ _ _ c.in_ok-push_empty.ensures (in_turn _ _ _ _ _ c.in_ok-push_same.ensures (subst P c.is_ansi_entry.ensures c.in_ok-push_unended.ensures))
+    let old = c.args.out.now.items in
+    let new = c.push_tried_numbers.new.out.items in
+    let P : Bool → Type 0 = λ ansi. IsQuiet ansi s.text.now c.args.range in
+    let same : length new ≡ length old = omega (arith, c.len.ensures, c.len-count.ensures, c.if-len-count.true) in
+    subst P (sym c.is_ansi_entry-ansi.ensures) (unchanged c.args.entry.now s.name.now s.text.now c.args.range old new c.in_ok-push_tried_numbers.ensures same)

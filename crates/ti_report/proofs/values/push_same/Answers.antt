@@ -1,12 +1,19 @@
-use Rattle.std.proofs.Common.{Option, Some, refl, subst}
-use Rattle.ti_values.specs.Findings.{IsFirstSame}
-use Rattle.ti_values.specs.declared.same.Same.{Same}
+use Rattle.std.proofs.Common.{◌∙◌, ◌++◌, Option, Some, ap, ap₂, refl, subst}
+use Rattle.ti_values.specs.Findings.{IsFirstSame, sent_at}
+use Rattle.ti_values.specs.declared.same.Same.{Same as SameAt}
 use Rattle.ti_values.specs.Sent.{texts_of}
-use Rattle.ti_report.specs.declared.values.Told.TheVariants.{Same as IsSame}
-use Rattle.ti_report.specs.inner.Subject.{told_of}
+use Rattle.ti_report.specs.Remarks.{Same, on_values}
+use Rattle.ti_report.specs.Values.{same_told}
 use Rattle.ti_report.proofs.values.push_same.Goals as goal
 
 pub returns-in_ok-push_told-in-Some : goal.returns-in_ok-push_told-in-Some
 returns-in_ok-push_told-in-Some g c =
-    let P : Option Same → Type 0 = λ found. IsFirstSame (texts_of c.args.sent.now) found in
-    (told_of c.args.subject.now c.args.tried.now (texts_of c.args.sent.now) (IsSame c.in-Some.found), (Some c.in-Some.found, subst P c.in-Some.is c.in_ok-first_same.ensures.exact, refl), c.in_ok-push_told-in-Some.ensures)
+    let s = c.args.subject.now in
+    let found = c.in-Some.found in
+    let P : Option SameAt → Type 0 = λ some. IsFirstSame (texts_of c.args.sent.now) some in (
+      on_values s.name.now s.text.now (same_told c.args.tried.now (texts_of c.args.sent.now) found),
+      (Some found, subst P c.in-Some.is c.in_ok-first_same.ensures.exact, refl),
+      c.in_ok-push_told-in-Some.ensures
+          ∙ ap (λ text. c.args.out.now.items ++ on_values s.name.now s.text.now (Same c.tried_at.result c.tried_at-in-Some.result text)) c.in_ok-text-in-Some.ensures
+          ∙ ap₂ (λ one other. c.args.out.now.items ++ on_values s.name.now s.text.now (Same one other (sent_at (texts_of c.args.sent.now) found.other))) c.tried_at.ensures c.tried_at-in-Some.ensures,
+    )

@@ -1,20 +1,19 @@
-use Rattle.std.proofs.Common.{◌≡◌, ◌∙◌, ℕ, List, ap, subst, sym}
-use Rattle.ti_values.specs.declared.tried.Tried.{Tried}
-use Rattle.ti_values.specs.Ranges.{values}
-use Rattle.ti_values.specs.Sent.{AreSent, texts_of}
+use Rattle.std.proofs.Common.{inl, inr, subst, sym}
+use Rattle.std.specs.Prelude.{OnOk}
+use Rattle.ti_values.specs.declared.range.Range.{Range}
 use Rattle.ti_report.specs.Lines.{Adds}
-use Rattle.ti_report.specs.Values.{IsSentReport}
+use Rattle.ti_report.specs.Values.{IsNumbersReport, IsRangeReport}
 use Rattle.ti_report.proofs.values.push_values_of.Goals as goal
 
-pub returns : goal.returns
-returns g c =
+pub returns-in-Numbers : goal.returns-in-Numbers
+returns-in-Numbers g c =
     let s = c.args.subject.now in
-    let sent = texts_of c.as_slice-sent.result.now in
-    let tried : c.as_slice-tried.result.now ≡ values c.args.range = c.as_slice-tried.ensures.value ∙ c.in_ok-all.ensures.all in
-    let P : List Tried → Type 0 = λ t. Adds (IsSentReport c.args.entry.now s.prefix.now s.label.now s.text.now c.args.range t sent) c.args.out.now.items c.push_of_range.new.out.items in
-    let Q : List Tried → Type 0 = λ t. AreSent s.text.now t sent in
-    let R : List ℕ → Type 0 = λ text. AreSent text c.as_slice-tried.result.now sent in
-    let T : List (List ℕ) → Type 0 = λ all. AreSent c.args.capability.now c.as_slice-tried.result.now all in
-    let are = subst Q tried (subst R c.requires (subst T (sym (ap texts_of c.as_slice-sent.ensures.value)) c.in_ok-list.ensures.all)) in
-    let (lines, report, so) = subst P tried c.in_ok-push_of_range.ensures in
-    (lines, (sent, are, report), so)
+    let P : Range → Type 0 = λ range. OnOk c.push_of_numbers.result (Adds (IsRangeReport c.args.entry.now s.name.now s.text.now range) c.args.out.now.items c.push_of_numbers.new.out.items) in
+    let Q : Range → Type 0 = λ range. OnOk c.push_of_numbers.result (Adds (IsNumbersReport c.args.entry.now s.name.now s.text.now range) c.args.out.now.items c.push_of_numbers.new.out.items) in
+    elim c.in-Numbers.is [
+      | inl (from, end, is) ↦ subst P (sym is) (subst Q is c.push_of_numbers.ensures)
+      | inr more ↦ elim more [
+        | inl (lines, columns, is) ↦ subst P (sym is) (subst Q is c.push_of_numbers.ensures)
+        | inr (lines, is) ↦ subst P (sym is) (subst Q is c.push_of_numbers.ensures)
+      ]
+    ]

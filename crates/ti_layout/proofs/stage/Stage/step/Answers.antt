@@ -1,9 +1,8 @@
-use Rattle.std.proofs.Common.{◌≤◌, ◌∙◌, ap, subst, length, arith}
+use Rattle.std.proofs.Common.{ap, subst, length, arith}
 use Rattle.std.proofs.lemmas.Result.{err_from_is_err_and}
-use Rattle.ti_layout.specs.declared.stage.Stage.{Stage}
 use Rattle.ti_layout.specs.Checks.{failure_of}
-use Rattle.ti_layout.specs.Stages.{next, Reached}
-use Rattle.ti_layout.proofs.StageStepLemmas.{stands_now, items_pass, items_fail, closing_fails, closing_next, stands_at_next, next_fits, fewer_sections}
+use Rattle.ti_layout.specs.Stages.{Reached, at_next_section}
+use Rattle.ti_layout.proofs.StageStepLemmas.{stands_now, items_pass, items_fail, closing_fails, next_stage}
 use Rattle.ti_layout.proofs.stage.Stage.step.Goals as goal
 
 -- ---- items
@@ -42,23 +41,18 @@ returns-in_err-close-clause-failed c =
 
 pub items-self-requires-clause-fits : goal.items-self-requires-clause-fits
 items-self-requires-clause-fits c =
-    let there = subst (λ n. n ≤ length c.args.bytes.now) (closing_next c.args.self.now (omega arith)) c.requires.there in
-    (next_fits c.args.bytes.now c.args.self.now c.close.new.self c.requires.stands (omega arith) there c.in_ok-close.ensures.verdict c.in_ok-close.ensures.kept).0
+    let next = next_stage c.args.bytes.now c.args.self.now c.close.new.self c.requires.stands (omega arith) c.in_ok-close.ensures.verdict c.in_ok-close.ensures.kept in
+    (stands_now c.args.bytes.now (at_next_section c.close.new.self) next.0).fits
 
 pub items-self-requires-clause-extended_fits : goal.items-self-requires-clause-extended_fits
 items-self-requires-clause-extended_fits c =
-    let there = subst (λ n. n ≤ length c.args.bytes.now) (closing_next c.args.self.now (omega arith)) c.requires.there in
-    (next_fits c.args.bytes.now c.args.self.now c.close.new.self c.requires.stands (omega arith) there c.in_ok-close.ensures.verdict c.in_ok-close.ensures.kept).1
+    let next = next_stage c.args.bytes.now c.args.self.now c.close.new.self c.requires.stands (omega arith) c.in_ok-close.ensures.verdict c.in_ok-close.ensures.kept in
+    (stands_now c.args.bytes.now (at_next_section c.close.new.self) next.0).extended_fits
 
 pub returns-clause-stands : goal.returns-clause-stands
 returns-clause-stands c =
-    let there = subst (λ n. n ≤ length c.args.bytes.now) (closing_next c.args.self.now (omega arith)) c.requires.there in
-    stands_at_next c.args.bytes.now c.args.self.now c.close.new.self c.next-self.result c.items-self.result c.requires.stands (omega arith) there c.in_ok-close.ensures.verdict c.in_ok-close.ensures.kept c.next-self.ensures c.items-self.ensures
+    rw (c.items-self.ensures, c.next-self.ensures) (next_stage c.args.bytes.now c.args.self.now c.close.new.self c.requires.stands (omega arith) c.in_ok-close.ensures.verdict c.in_ok-close.ensures.kept).0
 
 pub returns-clause-less : goal.returns-clause-less
 returns-clause-less c =
-    let there = subst (λ n. n ≤ length c.args.bytes.now) (closing_next c.args.self.now (omega arith)) c.requires.there in
-    let new = c.close.new.self in
-    let stands = stands_at_next c.args.bytes.now c.args.self.now new c.next-self.result c.items-self.result c.requires.stands (omega arith) there c.in_ok-close.ensures.verdict c.in_ok-close.ensures.kept c.next-self.ensures c.items-self.ensures in
-    let at : Stage = record { section = c.next-self.result; items = c.items-self.result; standard = new.standard; extended = new.extended; base = new.base } in
-    fewer_sections c.args.bytes.now c.args.self.now at c.in_ok-close.ensures.verdict (c.next-self.ensures ∙ ap (λ (t : Stage). next t.section) c.in_ok-close.ensures.kept) (stands_now c.args.bytes.now at stands)
+    rw (c.items-self.ensures, c.next-self.ensures) (next_stage c.args.bytes.now c.args.self.now c.close.new.self c.requires.stands (omega arith) c.in_ok-close.ensures.verdict c.in_ok-close.ensures.kept).1

@@ -2,9 +2,9 @@ use Rattle.std.proofs.Common.{◌∙◌, ◌++◌, ◌+◌, ◌<◌, Bool, true,
 use Rattle.std.specs.Prelude.{codes}
 use Rattle.ti_words.specs.Texts.{text_value}
 use Rattle.ti_words.specs.Spelling.{name_in}
-use Rattle.ti_tool.specs.Labels.{own_label}
+use Rattle.ti_listing.specs.Labels.{own_label}
 use Rattle.ti_tool.specs.declared.verdict.JudgedText.{JudgedText}
-use Rattle.ti_tool.specs.inner.Verdict.{IsJudged}
+use Rattle.ti_tool.specs.inner.Verdict.{IsJudged, verdict_line}
 use Rattle.ti_tool.specs.Verdicts.{IsExtendedLine, IsTold, in_line}
 use Rattle.ti_tool.proofs.AreToldLemmas.{GoesOn, and_true, goes_end, line_told, own_next, told_of_none, told_of_text}
 use Rattle.ti_tool.proofs.command.check.push_extended.Goals.{in-Value+in_ok-push_line, in_default}
@@ -20,7 +20,7 @@ loop-index-preserved g c =
       | in-Value+in_ok-push_line w ↦ record {
         told = subst GoesOnWith (sym w.sound-is) (
             own_next (λ name. IsTold (in_line (codes "text+ ") (own_label c.args.form name))) c.args.extended.now.texts c.loop-index.index (text_value c.text.result) c.args.out.now.items c.loop-index.out.items c.match-text.out.items c.loop-index.sound w.is_sound-sound.result h c.text.ensures i.told
-            (told_of_text (in_line (codes "text+ ") (own_label c.args.form (get_or (map name_in c.args.extended.now.texts) c.loop-index.index []))) c.loop-index.out.items c.match-text.out.items c.text.result w.in-Value.text.now w.next-last.result.verdict w.is_sound-sound.result (ap text_value w.in-Value.is) w.next-last.ensures.verdict w.is_sound-sound.ensures (ap (λ v. v.items) w.out-is ∙ w.in_ok-push_line.ensures ∙ ap (λ x. c.loop-index.out.items ++ x) (line_told (codes "text+ ") (own_label c.args.form (get_or (map name_in c.args.extended.now.texts) c.loop-index.index [])) w.next-last.result.verdict)))
+            (told_of_text (in_line (codes "text+ ") (own_label c.args.form (get_or (map name_in c.args.extended.now.texts) c.loop-index.index []))) c.loop-index.out.items c.match-text.out.items c.text.result w.in-Value.text.now w.next-last.result.verdict w.is_sound-sound.result (ap text_value w.in-Value.is) w.next-last.ensures.verdict w.is_sound-sound.ensures (ap (λ v. v.items) w.out-is ∙ w.in_ok-push_line.ensures ∙ ap (λ n. c.loop-index.out.items ++ (codes "text+ " ++ own_label c.args.form n ++ verdict_line w.next-last.result.verdict)) w.own_name-name.ensures ∙ ap (λ x. c.loop-index.out.items ++ x) (line_told (codes "text+ ") (own_label c.args.form (get_or (map name_in c.args.extended.now.texts) c.loop-index.index [])) w.next-last.result.verdict)))
             );
         judged = subst IsJudgedText (sym w.last-is) (subst (λ text. IsJudged text w.next-last.result.verdict) (sym w.next-last.ensures.text) w.next-last.ensures.verdict);
       }

@@ -1,8 +1,8 @@
-use Rattle.std.proofs.Common.{◌∙◌, ◌++◌, ◌+◌, ◌<◌, Bool, true, [], ap, arith, get_or, length, map, subst, sym}
+use Rattle.std.proofs.Common.{◌∙◌, ◌++◌, ◌+◌, ◌<◌, Bool, true, ap, arith, length, subst, sym}
 use Rattle.std.specs.Prelude.{codes}
 use Rattle.ti_words.specs.Texts.{text_value}
 use Rattle.ti_words.specs.declared.Kind.TheVariants as kinds
-use Rattle.ti_tool.specs.Labels.{label_of}
+use Rattle.ti_listing.specs.Labels.{label_of}
 use Rattle.ti_tool.specs.declared.verdict.JudgedText.{JudgedText}
 use Rattle.ti_tool.specs.inner.Verdict.{IsJudged}
 use Rattle.ti_tool.specs.Verdicts.{IsStandardLine, in_line}

@@ -1,4 +1,4 @@
-use Rattle.std.proofs.Common.{◌∙◌, ◌++◌, ◌+◌, ◌<◌, Bool, true, [], ap, arith, get_or, length, map, subst, sym}
+use Rattle.std.proofs.Common.{◌∙◌, ◌+◌, ◌<◌, Bool, true, ap, arith, length, map, subst, sym}
 use Rattle.serde_json.specs.View.{view}
 use Rattle.ti_words.specs.Texts.{text_value}
 use Rattle.ti_words.specs.declared.Kind.TheVariants as kinds

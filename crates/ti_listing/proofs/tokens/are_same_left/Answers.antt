@@ -1,0 +1,14 @@
+use Rattle.std.proofs.Common.{◌≡◌, subst, sym}
+use Rattle.ti_cap.specs.declared.language.Token.{Token}
+use Rattle.ti_cap.specs.Capability.{IsFirst, Takes}
+use Rattle.ti_listing.proofs.TokensLemmas.{same_taken}
+use Rattle.ti_listing.proofs.tokens.are_same_left.Goals as goal
+
+pub tokens-preserved : goal.tokens-preserved
+tokens-preserved c =
+    let same : c.in-Some-token.of_other ≡ c.in-Some.token = sym (c.is_same.ensures.0 c.if-not-is_same.false) in
+    let P : Token → Type 0 = λ k. Takes k c.tokens.other c.token-in-Some.new.self in
+    let Q : Token → Type 0 = λ k. IsFirst k c.tokens.other c.token-in-Some.new.self in
+    let taken = same_taken c.tokens.one c.token.new.self c.tokens.other c.token-in-Some.new.self c.in-Some.token c.in-Some.ensures.some c.in-Some.ensures.order
+    (subst P same c.in-Some-token.ensures.some) (subst Q same c.in-Some-token.ensures.order) in
+    (λ x. taken.0 (c.tokens.invariant.0 x), λ y. c.tokens.invariant.1 (taken.1 y))

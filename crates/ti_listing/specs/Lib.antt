@@ -1,0 +1,8 @@
+pub mod Labels
+pub mod Listing
+pub mod Items
+pub mod Differences
+pub mod Values
+pub mod DifferingLines
+pub mod DifferingObjects
+pub mod inner

@@ -1,0 +1,111 @@
+//! Whether two entries have a capability alike.
+
+ghost use Rattle.std.specs.Prelude.{◌≡◌, ◌↔◌, IsTrue, OnOk, map};
+ghost use Rattle.ti_words.specs.Texts.{text_value};
+ghost use Rattle.ti_json.specs.inner.Subject.{subject_of};
+ghost use Rattle.ti_listing.specs.Differences.{AreSameItems, AreSpelledAlike, IsChange, ItemDiffers};
+ghost use Rattle.ti_listing.specs.Values.{difference_value, item_value};
+ghost use Rattle.ti_listing.specs.inner.Differences.{Adds};
+
+use crate::difference::Difference;
+use crate::item::Item;
+use crate::tokens::have_same_tokens;
+use std::alloc::{AllocError, Allocator};
+use ti_json::Subject;
+use ti_line::Likeness;
+use ti_words::Text;
+
+/// Whether two texts are the same.
+fn are_same_texts(one: Text<'_>, other: Text<'_>) -> bool
+    ensures { IsTrue result ↔ (text_value one.entry ≡ text_value other.entry) }
+{
+    match one {
+        Text::Absent => match other {
+            Text::Absent => true,
+            Text::Cancelled => false,
+            Text::Value(_) => false,
+        },
+        Text::Cancelled => match other {
+            Text::Absent => false,
+            Text::Cancelled => true,
+            Text::Value(_) => false,
+        },
+        Text::Value(bytes) => match other {
+            Text::Absent => false,
+            Text::Cancelled => false,
+            Text::Value(others) => bytes == others,
+        },
+    }
+}
+
+/// Whether two values are texts with the same tokens.
+fn are_spelled_alike(one: Item<'_>, other: Item<'_>) -> bool
+    ensures { IsTrue result ↔ AreSpelledAlike (item_value one.entry) (item_value other.entry) }
+{
+    match one {
+        Item::Flag(_) | Item::Number(_) => false,
+        Item::Text(Text::Absent) | Item::Text(Text::Cancelled) => false,
+        Item::Text(Text::Value(text)) => match other {
+            Item::Flag(_) | Item::Number(_) => false,
+            Item::Text(Text::Absent) | Item::Text(Text::Cancelled) => false,
+            Item::Text(Text::Value(of_other)) => have_same_tokens(text, of_other),
+        },
+    }
+}
+
+/// Whether two values are alike.
+fn are_alike(likeness: Likeness, one: Item<'_>, other: Item<'_>) -> bool
+    ensures { IsTrue result ↔ AreSameItems likeness (item_value one.entry) (item_value other.entry) }
+{
+    match likeness {
+        Likeness::Bytes => are_same(one, other),
+        Likeness::Tokens => are_same(one, other) || are_spelled_alike(one, other),
+    }
+}
+
+/// Whether two values are the same.
+fn are_same(one: Item<'_>, other: Item<'_>) -> bool
+    ensures { IsTrue result ↔ (item_value one.entry ≡ item_value other.entry) }
+{
+    match one {
+        Item::Flag(flag) => match other {
+            Item::Flag(of_other) => flag == of_other,
+            Item::Number(_) => false,
+            Item::Text(_) => false,
+        },
+        Item::Number(number) => match other {
+            Item::Flag(_) => false,
+            Item::Number(of_other) => number == of_other,
+            Item::Text(_) => false,
+        },
+        Item::Text(text) => match other {
+            Item::Flag(_) => false,
+            Item::Number(_) => false,
+            Item::Text(of_other) => are_same_texts(text, of_other),
+        },
+    }
+}
+
+/// Adds what each entry has of a capability, if they do not have it alike.
+pub fn push_change<'a, A: Allocator>(
+    out: &mut Vec<Difference<'a>, A>,
+    likeness: Likeness,
+    subject: Subject<'a>,
+    first: Item<'a>,
+    other: Item<'a>,
+) -> Result<(), AllocError>
+    ensures { OnOk result (Adds
+        (IsChange (AreSameItems likeness) (ItemDiffers (subject_of subject.entry))
+        (item_value first.entry) (item_value other.entry))
+        (map difference_value out.old.items) (map difference_value out.new.items)) }
+{
+    if are_alike(likeness, first, other) {
+        return Ok(());
+    }
+    out.push(Difference::Capability {
+        subject,
+        first,
+        other,
+    })?;
+    Ok(())
+}

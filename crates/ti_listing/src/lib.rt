@@ -1,0 +1,24 @@
+//! What an entry has, and what two do not have alike, as lines and as JSON.
+//!
+//! [`lines_of`] lists an entry. [`difference_of`] compares two: its list says of each item that they do not have alike what each of
+//! them has, and [`differing_lines`] and [`differing_json`] show it.
+#![tactic(auto)]
+
+mod change;
+mod diff;
+mod difference;
+mod document;
+mod item;
+mod item_line;
+mod label;
+mod lines;
+mod listing;
+mod tokens;
+
+pub use diff::difference_of;
+pub use difference::Difference;
+pub use document::differing_json;
+pub use item::{Item, item_at};
+pub use label::{Label, own_name, push_label, standard_name};
+pub use lines::differing_lines;
+pub use listing::lines_of;

@@ -1,0 +1,29 @@
+-- What is told of tests of constants: each with the value that its `%t` pops.
+use Rattle.std.specs.Prelude.{◌≡◌, ◌⊎◌, ℕ, List, [], ◌∷◌, ◌++◌, length}
+use Rattle.ti_cap.specs.declared.language.Token.{Token}
+use Rattle.ti_cap.specs.declared.language.Token.TheVariants.{CondThen}
+use Rattle.ti_cap.specs.Capability.{Spot, Takes}
+use Rattle.ti_expand.specs.Constants.{value_of}
+use Rattle.ti_lint.specs.Conditionals.{IsConstantTest}
+use Rattle.ti_report.specs.declared.wrong.Wrong.TheVariants.{ConstantTest}
+use Rattle.ti_report.specs.Remarks.{Remark, marked}
+
+-- one remark on a `%t` if the test before it has constants alone, and none on any other token
+abbrev pub IsTestReport : List ℕ → List ℕ → List Token → Token → ℕ → List Remark → Type 0
+IsTestReport name text before token place remarks =
+    ((found : IsConstantTest before) × (token ≡ CondThen)
+    × (remarks ≡ marked name text (place ∷ []) (ConstantTest (value_of found.test))))
+    ⊎ ((¬ ((token ≡ CondThen) × IsConstantTest before)) × (remarks ≡ []))
+
+-- the tokens write the bytes that are left after those before them, and the remarks are on these tokens
+abbrev pub AreTestReports : List ℕ → List ℕ → Spot → List Token → List Token → List Remark → Type 0
+AreTestReports name text spot before [] remarks = (spot.left ≡ []) × (remarks ≡ [])
+AreTestReports name text spot before (token ∷ rest) remarks =
+    (next : Spot) × (one : List Remark) × (more : List Remark) × Takes token spot next
+    × IsTestReport name text before token (length spot.taken) one
+    × AreTestReports name text next (before ++ token ∷ []) rest more × (remarks ≡ one ++ more)
+
+-- the remarks on all tokens of a text
+abbrev pub IsTestsReport : List ℕ → List ℕ → List Remark → Type 0
+IsTestsReport name text remarks =
+    (all : List Token) × AreTestReports name text (record { taken = []; left = text }) [] all remarks

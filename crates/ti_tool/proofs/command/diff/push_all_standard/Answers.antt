@@ -1,7 +1,0 @@
-use Rattle.ti_tool.specs.Differences.{AreStandardChanges}
-use Rattle.ti_tool.proofs.DifferencesLemmas.{of_kinds}
-use Rattle.ti_tool.proofs.command.diff.push_all_standard.Goals as goal
-
-pub returns : goal.returns
-returns g c =
-    of_kinds (λ kind. AreStandardChanges c.args.likeness kind c.args.one.now c.args.other.now) c.push_standard-3.result c.args.out.now.items c.push_standard.new.out.items c.push_standard-2.new.out.items c.push_standard-3.new.out.items c.in_ok-push_standard.ensures c.in_ok-push_standard-2.ensures c.push_standard-3.ensures

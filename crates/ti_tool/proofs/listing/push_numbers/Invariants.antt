@@ -1,6 +1,0 @@
-use Rattle.std.proofs.Common.{◌≡◌, ◌++◌, drop}
-use Rattle.ti_tool.specs.Listing.{lines_from, standard_number}
-use Rattle.ti_tool.proofs.listing.push_numbers.Given as goal
-
-abbrev pub invariant-loop-index : goal.invariant-loop-index
-invariant-loop-index g l = l.out.items ++ lines_from (standard_number l.table) l.index (drop l.index l.entry.standard.numbers) ≡ l.initial.out.items ++ lines_from (standard_number l.table) 0 l.entry.standard.numbers

@@ -1,0 +1,33 @@
+use Rattle.std.proofs.Common.{◌∙◌, ℕ, ℤ, List, ap, arith, length, map, refl, subst}
+use Rattle.serde_json.specs.View.{view}
+use Rattle.ti_base.specs.Limits.{most_values}
+use Rattle.ti_cap.specs.Capability.{HasBound, HasDepth, IsWellFormed}
+use Rattle.ti_expand.specs.Expands.{longest_text}
+use Rattle.ti_expand.specs.State.{start}
+use Rattle.ti_expand.specs.Steps.{Underway}
+use Rattle.ti_expand.specs.inner.Running.{IsReady}
+use Rattle.ti_expand.proofs.IsExpandFaultLemmas.{accepted}
+use Rattle.ti_trace.proofs.TraceLemmas.{alone, objects_are}
+use Rattle.ti_trace.proofs.TracedLemmas.{telling}
+use Rattle.ti_trace.proofs.document.objects_of.Goals as goal
+
+pub unreachable-requires : goal.unreachable-requires
+unreachable-requires c =
+    let bytes : List ℕ = c.args.capability.now in
+    let room = length c.as_mut_slice.result.now in
+    let ready : IsReady bytes c.args.parameters.now most_values room =
+    record { longest = c.args.longest; texts = c.requires.short; well_formed = c.depth-depth.ensures.tree; depth = c.depth-depth.result; deep = c.depth-depth.ensures.exact; high = c.depth-depth.ensures.low; bound = c.bound-bound.result; bounded = c.bound-bound.ensures.exact; long = omega (arith, c.as_mut_slice.ensures.len, c.in_ok-room.ensures.len) } in
+    let none = (accepted bytes c.args.parameters.now most_values room c.in-Err._fault ready c.in-Err._fault).1 ((c.in-Err.ensures.faults c.in-Err._fault).0 refl) in
+    absurd (cc)
+
+pub returns : goal.returns
+returns c =
+    let bytes : List ℕ = c.args.bytes.now in
+    let u : Underway = c.push_objects.new.steps in
+    let deep : HasDepth bytes c.depth-depth.result = subst (λ (x : List ℕ). HasDepth x c.depth-depth.result) c.requires.bytes c.depth-depth.ensures.exact in
+    let tree : IsWellFormed bytes = subst IsWellFormed c.requires.bytes c.depth-depth.ensures.tree in
+    let bounded : HasBound bytes (longest_text c.args.parameters.now) c.bound-bound.result =
+    subst (λ (n : ℕ). HasBound bytes n c.bound-bound.result) c.requires.short.longest_is (subst (λ (x : List ℕ). HasBound x c.args.longest c.bound-bound.result) c.requires.bytes c.bound-bound.ensures.exact) in
+    let t = telling alone bytes c.args.parameters.now tree.tree u c.depth-depth.result c.bound-bound.result c.in-Ok.steps.state _ (map view c.push_objects.new.out.items)
+    tree.writes deep bounded (ap (λ (x : Underway). x.state) c.in-Ok.ensures.start ∙ ap (λ (v : List ℤ). start v c.args.parameters.now) c.new-vars.ensures.zero) c.in_ok-push_objects.ensures.objects c.in_ok-push_objects.ensures.end in
+    objects_are bytes c.args.parameters.now _ _ _ _ _ _ t (ap (map view) c.new-objects.ensures.items) c.facts_of-facts.ensures c.in_ok-push_totals.ensures refl

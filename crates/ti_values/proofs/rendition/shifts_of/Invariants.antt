@@ -1,0 +1,8 @@
+-- What is there and what the rest will add make the whole.
+use Rattle.std.proofs.Common.{◌≡◌, ◌++◌, drop}
+use Rattle.ti_values.specs.Renditions.{shifts}
+use Rattle.ti_values.specs.inner.Rows.{slices_of}
+use Rattle.ti_values.proofs.rendition.shifts_of.Given as goal
+
+abbrev pub invariant-bytes : goal.invariant-bytes
+invariant-bytes g l = slices_of l.list.items ++ shifts (drop l.place l.bytes) ≡ shifts l.bytes

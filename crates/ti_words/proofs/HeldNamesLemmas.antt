@@ -1,0 +1,43 @@
+-- The names of a list as the code holds them, with a NUL after each.
+use Rattle.std.proofs.Common.{◌≡◌, ◌∙◌, ℕ, ◌<◌, ◌≤◌, List, [], ◌∷◌, length, map, Option, Some, None, refl, sym, ap, arith}
+use Rattle.std.specs.Borrow.{Bor}
+use Rattle.std.specs.Prelude.{MatchOption, option_map, slice_get}
+use Rattle.std.specs.List.{HoldsAt}
+use Rattle.std.specs.Option.{option_copied}
+use Rattle.std.proofs.lemmas.List.{length-append, take_at}
+use Rattle.std.proofs.lemmas.Option.{none-some, same_Some, slice_get-map, slice_get_past, slice_get_read}
+use Rattle.std.proofs.lemmas.Simd.{map-map}
+use Rattle.ti_words.specs.AllNames.{front, with_nul}
+
+-- what the call `get` promises is the name at the index
+pub lent_is : (names : List (Bor (List ℕ))) (index : ℕ) (lent : Option (Bor (Bor (List ℕ))))
+    → MatchOption lent (length names ≤ index) (λ x. (index < length names) × HoldsAt (λ y. x.now ≡ y) names index)
+    → option_copied lent ≡ slice_get names index
+lent_is names index None past = sym (slice_get_past names index past)
+lent_is names index (Some x) within = sym (slice_get_read names (length names) index x.now refl within.0 (within.1 x.now))
+
+mapped : {X Y : Type 0} (f : X → Y) (o : Option X) (y : Y) → option_map f o ≡ Some y → (x : X) × (y ≡ f x) × (o ≡ Some x)
+mapped f None y e = absurd (none-some y e)
+mapped f (Some x) y e = (x, sym (same_Some (f x) y e), refl)
+
+-- a name of the list without its NUL
+pub name_held : (held : List (Bor (List ℕ))) (names : List (List ℕ)) (index : ℕ) (one : Bor (List ℕ))
+    → map (λ name. name.now) held ≡ map with_nul names → slice_get held index ≡ Some one
+    → (name : List ℕ) × (one.now ≡ with_nul name) × (slice_get names index ≡ Some name)
+name_held held names index one is at =
+    mapped with_nul (slice_get names index) one.now
+    (sym (slice_get-map with_nul names index)
+    ∙ ap (λ all. slice_get all index) (sym is)
+    ∙ slice_get-map (λ name. name.now) held index
+    ∙ ap (option_map (λ name. name.now)) at)
+
+front_is : (name : List ℕ) → front (with_nul name) ≡ name
+front_is name = take_at name (0 ∷ []) _ (let l = length-append name (0 ∷ []) in omega (arith, l))
+
+fronts : (names : List (List ℕ)) → map front (map with_nul names) ≡ names
+fronts [] = refl
+fronts (name ∷ names) = ap (λ n. n ∷ map front (map with_nul names)) (front_is name) ∙ ap (λ ns. name ∷ ns) (fronts names)
+
+pub fronts_are : (held : List (Bor (List ℕ))) (names : List (List ℕ)) → map (λ name. name.now) held ≡ map with_nul names
+    → map (λ name. front name.now) held ≡ names
+fronts_are held names is = sym (map-map front (λ name. name.now) held) ∙ ap (map front) is ∙ fronts names
