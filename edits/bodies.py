@@ -79,6 +79,20 @@ def function_at(crate, file, number):
 
 
 @lru_cache(None)
+def functions_of(crate):
+    """The functions of a crate that have a body, but for those of traits."""
+    found = set()
+    for path in sorted((folder_of(crate) / "src").rglob("*.rt")):
+        file = str(path.relative_to(folder_of(crate)))
+        lines = lines_of(crate, file)
+        for at, head in enumerate(map(HEADER.match, lines)):
+            end = f"{head[1]}}}" if head else None
+            if end in lines[at:]:
+                found.add(function_at(crate, file, lines.index(end, at)))
+    return [function for function in found - {None} if not function.is_of_trait]
+
+
+@lru_cache(None)
 def home_of(crate, owner):
     """The file that declares a type, if the crate does: a check calls a method by the module of its type."""
     declared = re.compile(rf"^\s*(?:pub(?:\(.*?\))? )?(?:struct|enum) {owner}\b", re.M)
@@ -221,6 +235,7 @@ class Copies:
         for function, own, _ in self.copied:
             if (top / function.proof).is_dir():
                 write_proof(top, function, own)
+        write_holes(top, self.crate, [])
 
 
 def write_proof(top, function, own):
@@ -231,3 +246,16 @@ def write_proof(top, function, own):
     for path in folder.rglob("*.antt"):
         text = path.read_text(encoding="utf-8")
         path.write_text(text.replace(f"{modules}{function.path[-1]}.", f"{modules}{own}."), encoding="utf-8")
+
+
+def write_holes(top, crate, proved):
+    """Has the check take all functions but some by their contracts, as their callers do: a hole stands for each proof."""
+    for function in functions_of(crate):
+        if function.name not in proved:
+            folder, name = top / function.proof, function.path[-1]
+            folder.mkdir(parents=True, exist_ok=True)
+            for written in ["Invariants", "Answers"]:
+                (folder / f"{written}.antt").unlink(missing_ok=True)
+            module = ".".join(["Rattle", crate, *function.proof.parts])
+            text = f"use {module}.Statement.{{statement}}\n\npub {name}_spec : {{M : Type 1}} → statement M\n{name}_spec = ?\n"
+            (folder / "Proof.antt").write_text(text, encoding="utf-8")

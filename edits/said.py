@@ -4,6 +4,10 @@ import re
 from dataclasses import dataclass
 
 
+# What a check that passes over holes says of a function whose own goals are all proved.
+PROVED = re.compile(r"no holes$|depends on a hole in ")
+
+
 @dataclass
 class Said:
     """What a check said."""
@@ -19,10 +23,10 @@ class Said:
     @property
     def is_judged(self):
         """Whether the prover judged the functions. If not, the crate does not compile, or the prover gave up."""
-        return self.is_proved or self.status == 1 and re.search(r"^(logic=not-proved|only=)", self.text, re.M) is not None
+        return self.is_proved or self.status == 1 and re.search(r"^(only|holes)=", self.text, re.M) is not None
 
     def parts(self):
-        """The functions and closures, with what is said of each: 'proved', or why it is not."""
+        """The functions and closures, with what is said of each: 'no holes', 'depends on a hole in ..', or why it is not proved."""
         return re.findall(rf"^fn {self.crate}::(\S+): (.*)$", self.text, re.M)
 
     def parts_of(self, function):
@@ -30,9 +34,9 @@ class Said:
         return [(name, told) for name, told in self.parts() if f"{name}::".replace("fn::", "").startswith(f"{function}::")]
 
     def has_proved(self, function):
-        """Whether a function is proved with its closures."""
+        """Whether a function is proved with its closures, by the contracts of those that a hole stands for."""
         parts = self.parts_of(function)
-        return parts != [] and all(told == "proved" for _, told in parts)
+        return parts != [] and all(PROVED.match(told) for _, told in parts)
 
     def line_against(self, name, told):
         """The line that names a goal that is not proved, or an answer that fails, if there is one.
@@ -54,5 +58,5 @@ class Said:
     def complaint(self):
         """The first line that says what is wrong."""
         lines = self.text.splitlines() or [""]
-        wrong = re.compile(r"\berror\b|fn \S+: (?!proved$)|note: src/")
+        wrong = re.compile(r"\berror\b|fn \S+: (?!no holes$|depends on a hole in )|note: src/")
         return next((line for line in lines if wrong.search(line)), lines[-1])

@@ -8,7 +8,7 @@ import threading
 import time
 from pathlib import Path
 
-from bodies import HERE, Copies, texts_in_place
+from bodies import HERE, Copies, texts_in_place, write_holes
 from checks.crates import folder_of, words_for
 from said import Said
 
@@ -66,9 +66,10 @@ class Trial:
             old.unlink()
         in_place = [edit for edit in self.edits if not edit.has_copies]
         in_place += self.try_copies([edit for edit in self.edits if edit.has_copies])
-        self.prove_as_it_stands(in_place)
-        for edit in in_place:
-            self.try_in_place(edit)
+        if in_place:
+            functions = self.prove_as_it_stands(in_place)
+            for edit in in_place:
+                self.try_in_place(edit, functions)
         return self.results
 
     def try_copies(self, edits):
@@ -102,17 +103,17 @@ class Trial:
             self.settle(edit, BAD, f"the check names no goal: {said.complaint()}")
 
     def prove_as_it_stands(self, edits):
-        """Proves the functions that edits in place are tried by, without an edit."""
+        """Proves the functions that edits in place are tried by, without an edit. Returns their names: none for all of them."""
         whole = any(not edit.tried for edit in edits)
         functions = [] if whole else sorted({name for edit in edits for name in edit.tried})
-        if not edits:
-            return
-        said = self.check(lambda _: None, functions)
+        said = self.check(lambda top: write_in_place(top, self.crate, [], functions), functions)
         if not said.is_judged or any(not said.has_proved(name) for name in functions) or whole and not said.is_proved:
             raise Stopped(f"{self.crate} is not proved as it stands: see {self.log()}")
+        return functions
 
-    def try_in_place(self, edit):
-        said = self.check(lambda top: write_in_place(top, self.crate, edit), edit.tried)
+    def try_in_place(self, edit, functions):
+        """Tries an edit in place, beside functions of which all or these are proved."""
+        said = self.check(lambda top: write_in_place(top, self.crate, [edit], functions), edit.tried)
         if not said.is_judged:
             self.settle(edit, BAD, said.complaint())
         elif edit.tried:
@@ -136,7 +137,7 @@ class Trial:
                     shutil.copytree(folder_of(self.crate) / part, Path(copy) / part)
             write(Path(copy))
             words = [self.kit / "bin/rattle", "check", *words_for(self.crate, self.kit, self.jobs)]
-            words += ["--incremental", self.folder / "kept"]
+            words += ["--incremental", self.folder / "kept", "--allow-holes"]
             for function in functions:
                 words += ["--only", function]
             (self.folder / "kept").mkdir(exist_ok=True)
@@ -150,9 +151,12 @@ class Trial:
         show(edit.label, word, line if word == REFUSED else f"{edit.place}: {line}")
 
 
-def write_in_place(top, crate, edit):
-    for file, text in texts_in_place(crate, [edit]).items():
+def write_in_place(top, crate, edits, functions):
+    """Writes the files that edits change. If functions are named, the others are taken by their contracts."""
+    for file, text in texts_in_place(crate, edits).items():
         (top / file).write_text(text, encoding="utf-8")
+    if functions:
+        write_holes(top, crate, functions)
 
 
 def show(label, word, text):
