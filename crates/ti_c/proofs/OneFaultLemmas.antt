@@ -4,7 +4,7 @@ use Rattle.ti_cap.specs.declared.language.CapRefused.{CapRefused}
 use Rattle.ti_cap.specs.Refusal.{IsFaultless}
 use Rattle.ti_cap.proofs.IsRefusalLemmas.{never_refused}
 use Rattle.ti_cap.proofs.OneRefusalLemmas.{one_refusal}
-use Rattle.ti_entry.specs.Content.{content}
+use Rattle.ti_layout.specs.Content.{content}
 use Rattle.ti_entry.specs.Reading.{answer_for, answer_under}
 use Rattle.ti_expand.specs.declared.fault.BytesFault.{BytesFault}
 use Rattle.ti_expand.specs.declared.fault.BytesFault.TheVariants.{Refused as RefusedBytes, Failed}

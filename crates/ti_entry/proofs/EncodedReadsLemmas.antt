@@ -6,7 +6,7 @@ use Rattle.ti_layout.specs.Checks.{Verdict, refusal_of}
 use Rattle.ti_draft.specs.Canonical.{canonical}
 use Rattle.ti_draft.specs.Unfit.{encode_fault}
 use Rattle.ti_draft.proofs.EncodedSpellsLemmas.{canonical_spells}
-use Rattle.ti_entry.specs.Content.{content}
+use Rattle.ti_layout.specs.Content.{content}
 use Rattle.ti_entry.specs.Reading.{answer_for, answer_under}
 use Rattle.ti_entry.specs.Laws.{EncodedReads}
 use Rattle.ti_entry.proofs.SpelledExtendedLemmas.{only}

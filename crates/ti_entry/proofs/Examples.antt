@@ -10,7 +10,7 @@ use Rattle.ti_words.specs.Value.{EntryValue, no_values, no_named}
 use Rattle.ti_layout.specs.Layout.{places}
 use Rattle.ti_layout.specs.Checks.{refusal_at}
 use Rattle.ti_layout.specs.Refusal.{refusal}
-use Rattle.ti_entry.specs.Content.{content}
+use Rattle.ti_layout.specs.Content.{content}
 use Rattle.ti_words.specs.Spelling.{Spells, Strings, FitsWidth, SpellsPart}
 use Rattle.ti_draft.specs.Canonical.{canonical}
 

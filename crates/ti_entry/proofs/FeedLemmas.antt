@@ -8,7 +8,7 @@ use Rattle.ti_layout.specs.declared.fault.Refused.{Refused}
 use Rattle.ti_layout.specs.Checks.{Verdict, Passes, Ends, Fails, verdict, refusal_of, failure_of}
 use Rattle.ti_layout.specs.Refusal.{checks, failure}
 use Rattle.ti_entry.specs.Reading.{Reading, length_before_failure, front_before_failure, reading_of, reading_after, final_answer, answer_under, answer_for}
-use Rattle.ti_entry.specs.Content.{content}
+use Rattle.ti_layout.specs.Content.{content}
 use Rattle.ti_entry.specs.Laws.{FailureLasts, FailureRefuses, AnyCutting, AnyCuttingReadsAlike}
 use Rattle.ti_layout.proofs.FailureLastsLemmas.{failure_stays}
 

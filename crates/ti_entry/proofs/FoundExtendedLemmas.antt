@@ -18,7 +18,7 @@ use Rattle.ti_layout.specs.declared.section.Half.TheVariants.{Extended}
 use Rattle.ti_layout.specs.declared.section.Section.TheVariants.{TableEnd, End}
 use Rattle.ti_layout.specs.Refusal.{room_check, extended_size_check, extended_header_checks, section_checks, standard_sections, extended_sections, checks}
 use Rattle.ti_layout.proofs.EndsLemmas.{SectionPasses, sections_pass, room_passes}
-use Rattle.ti_entry.specs.Content.{part_in, content_with, content, own_part}
+use Rattle.ti_layout.specs.Content.{part_in, content_with, content, own_part}
 use Rattle.ti_layout.proofs.PassesLemmas.{first_passes}
 use Rattle.ti_layout.proofs.WordLemmas.{IsBytes}
 use Rattle.ti_layout.proofs.SectionReadLemmas.{both_pass, each_passed}

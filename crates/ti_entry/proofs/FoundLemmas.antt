@@ -21,7 +21,7 @@ use Rattle.std.specs.List.{AllByRecursion}
 use Rattle.ti_layout.specs.declared.section.Half.TheVariants.{Standard}
 use Rattle.ti_layout.specs.Refusal.{magic_check, size_check, named_check, size_checks, standard_sections}
 use Rattle.ti_layout.proofs.EndsLemmas.{SectionPasses}
-use Rattle.ti_entry.specs.Content.{content_with}
+use Rattle.ti_layout.specs.Content.{content_with}
 use Rattle.ti_layout.proofs.PassesLemmas.{first_passes}
 use Rattle.ti_layout.proofs.WordLemmas.{IsBytes, bytes_again, one_byte}
 use Rattle.ti_layout.proofs.NamePlaceChecksLemmas.{table_length}

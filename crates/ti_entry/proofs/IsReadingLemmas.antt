@@ -7,8 +7,7 @@ use Rattle.ti_layout.specs.declared.stage.Stage.{Stage}
 use Rattle.ti_layout.specs.Refusal.{failure}
 use Rattle.ti_layout.specs.Stages.{Stands, StandsAt, Waits}
 use Rattle.ti_layout.proofs.StageStepLemmas.{stands_on, stands_now}
-use Rattle.ti_entry.specs.Reading.{Reading, reading_of, reading_after}
-use Rattle.ti_entry.specs.Views.{IsReading}
+use Rattle.ti_entry.specs.Reading.{Reading, reading_of, reading_after, IsReading}
 use Rattle.ti_entry.proofs.FeedLemmas.{reading_with, reading_of-passed, reading_of-refused, reading_after-none, front_before_failure-last}
 use Rattle.ti_entry.proofs.WholeStageLemmas.{waits_none_failed}
 

@@ -12,10 +12,10 @@ use Rattle.ti_words.specs.Widths.{number_size}
 use Rattle.ti_layout.specs.Layout.{places}
 use Rattle.ti_words.specs.Spelling.{pad_len, FitsWidth, IsText, Each, count_word, words_of, numbers_of, flags_of, pad}
 use Rattle.ti_layout.specs.Checks.{Passes, verdict, is_not_negative, sign_check, nul_check, flag_check, flag_checks, pad_checks, number_check, number_checks, offset_check, offset_checks, ending_check, ending_checks, table_check}
-use Rattle.ti_entry.specs.Content.{flag_at, number_at, text_at}
+use Rattle.ti_layout.specs.Content.{flag_at, number_at, text_at}
 use Rattle.ti_layout.proofs.PassesLemmas.{first_passes}
 use Rattle.ti_layout.proofs.WordLemmas.{IsBytes, below, above, unsigned_fits, word_is, one_byte, number_again, has_word}
-use Rattle.ti_entry.proofs.TextLemmas.{is_text}
+use Rattle.ti_layout.proofs.TextLemmas.{is_text}
 use Rattle.ti_layout.proofs.SectionReadLemmas.{Passed, each_passed, items_are, each_item, all_items, flag_again, one_by_one, nul_byte, zeros}
 
 -- a word that is not negative is a place

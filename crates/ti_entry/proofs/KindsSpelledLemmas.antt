@@ -19,7 +19,7 @@ use Rattle.ti_layout.specs.Layout.{places}
 use Rattle.ti_words.specs.Spelling.{pad_len, FitsWidth, IsText, IsName, Each, words_of, numbers_of, flags_of, pad}
 use Rattle.ti_layout.specs.Table.{text_from, text_of_word}
 use Rattle.ti_layout.specs.Checks.{Check, Passes, verdict, is_number_word, nul_check, flag_check, pad_checks, number_check}
-use Rattle.ti_entry.specs.Content.{flag_at, number_at, text_at}
+use Rattle.ti_layout.specs.Content.{flag_at, number_at, text_at}
 use Rattle.ti_layout.proofs.PassesLemmas.{first_passes}
 use Rattle.ti_layout.proofs.SectionReadLemmas.{Passed}
 use Rattle.ti_layout.proofs.VerdictLemmas.{then, verdict_append}

@@ -1,5 +1,4 @@
 mod Examples
-pub mod TextLemmas
 pub mod NamedItemsLemmas
 pub mod IsLeastIndexLemmas
 pub mod KindsFoundLemmas

@@ -12,7 +12,7 @@ use Rattle.ti_words.specs.Widths.{number_size}
 use Rattle.ti_layout.specs.declared.part.Part.{Part}
 use Rattle.ti_layout.specs.Layout.{places, numbers_from, offsets_from, names_from}
 use Rattle.ti_layout.specs.Table.{text_of_word, size_at, sizes_at, table_of, base_of, names_base}
-use Rattle.ti_entry.specs.Content.{flag_at, number_at, text_at, name_from, texts_in, names_in, part_in, named_part_in}
+use Rattle.ti_layout.specs.Content.{flag_at, number_at, text_at, name_from, texts_in, names_in, part_in, named_part_in}
 use Rattle.ti_entry.specs.Finding.{names_of}
 use Rattle.ti_layout.proofs.PlacesLemmas.{length_places, places_append}
 use Rattle.ti_words.specs.Spelling.{text_size, texts_size, name_in, mark_in, unnamed, part_names}

@@ -17,14 +17,14 @@ use Rattle.ti_layout.specs.declared.section.Half.{Half}
 use Rattle.ti_layout.specs.declared.section.Section.{Section}
 use Rattle.ti_layout.specs.declared.section.Section.TheVariants.{TableEnd, End}
 use Rattle.ti_layout.specs.Refusal.{part_of, text_checks, part_sections, extended_sections}
-use Rattle.ti_entry.specs.Content.{text_at, name_at, flags_in, numbers_in, texts_in, part_in, own_part}
+use Rattle.ti_layout.specs.Content.{text_at, name_from, flags_in, numbers_in, texts_in, part_in, own_part}
 use Rattle.ti_layout.proofs.EndsLemmas.{SectionPasses}
 use Rattle.ti_layout.proofs.NamePlaceChecksLemmas.{table_length}
 use Rattle.ti_layout.proofs.PassesLemmas.{first_passes}
 use Rattle.ti_layout.proofs.WordLemmas.{IsBytes}
 use Rattle.ti_layout.proofs.SectionReadLemmas.{Passed, both_pass, each_passed, each_item}
 use Rattle.ti_entry.proofs.NamedItemsLemmas.{part_counts, sizes_are_base}
-use Rattle.ti_entry.proofs.TextLemmas.{ends}
+use Rattle.ti_layout.proofs.TextLemmas.{ends}
 use Rattle.ti_entry.proofs.KindsFoundLemmas.{flags_are, pad_is, numbers_are, words_are, numbers_fit, texts_are, is_place}
 use Rattle.ti_entry.proofs.SpelledItemsLemmas.{HasFrom, after, WordAt, CountAt, passes_one, IsGood}
 use Rattle.ti_entry.proofs.KindsSpelledLemmas.{append_pass, passes_both, flags_read, pad_read, numbers_read, texts_read, names_read}
@@ -126,7 +126,7 @@ pub record HasFew (p : Part) : Type 0 where
   pub table : p.table < 2 ^ 15
 
 pub part_found : (bytes : List ℕ) (p : Part) → IsBytes bytes → PartPasses bytes p → end_of p ≤ length bytes → HasFew p
-    → SpellsPart p.width (strings_in bytes p) (part_in bytes p) (map (name_at bytes p) (places (names_from p) 2 p.names))
+    → SpellsPart p.width (strings_in bytes p) (part_in bytes p) (map (name_from bytes p (base_of bytes p)) (places (names_from p) 2 p.names))
 part_found bytes p fits h there few =
     let len = length bytes in
     let s = strings_in bytes p in
@@ -137,8 +137,8 @@ part_found bytes p fits h there few =
     let first = λ (q : ℕ). check (end_of p) (ltb (base + unsigned_at 2 bytes q) (length s.table)) BadExtendedName q in
     let second = λ (q : ℕ). check (end_of p) (ends_in s.table (base + unsigned_at 2 bytes q)) Unterminated q in
     let ended = each_passed second len (names_from p) 2 p.names (second_passes first second len (places (names_from p) 2 p.names) h.name_places) in
-    let named : Each (IsName s.table base) s.name_offsets (map (name_at bytes p) (places (names_from p) 2 p.names)) =
-    each_item (IsName s.table base) (word_at 2 bytes) (name_at bytes p) (names_from p) 2 p.names (λ i lt.
+    let named : Each (IsName s.table base) s.name_offsets (map (name_from bytes p (base_of bytes p)) (places (names_from p) 2 p.names)) =
+    each_item (IsName s.table base) (word_at 2 bytes) (name_from bytes p (base_of bytes p)) (names_from p) 2 p.names (λ i lt.
     let q = names_from p + 2 * i in
     let text = ends (drop (base + unsigned_at 2 bytes q) s.table) (ended i lt).holds in
     (unsigned_at 2 bytes q, (is_place bytes q fits (signed i lt).holds).1, text.clean, record { found = text.found })) in
@@ -149,7 +149,7 @@ part_found bytes p fits h there few =
       small_table = rw size few.table;
       numbers_fit = numbers_fit p.width bytes (numbers_from p) p.numbers fits;
       texts_there = texts_are bytes s.table (end_of p) (offsets_from p) p.texts (h.offsets ∙ ap (λ n. verdict len (offset_checks bytes n (offsets_from p) p.texts)) (sym size)) h.endings;
-      names_there = subst (λ b. Each (IsName s.table b) s.name_offsets (map (name_at bytes p) (places (names_from p) 2 p.names))) (sym (sizes_are_base bytes p)) named;
+      names_there = subst (λ b. Each (IsName s.table b) s.name_offsets (map (name_from bytes p (base_of bytes p)) (places (names_from p) 2 p.names))) (sym (sizes_are_base bytes p)) named;
     }
 
 -- ---- a part that is spelled
@@ -170,7 +170,7 @@ part_with w from v names s = record {
 pub record PartRead (bytes : List ℕ) (p : Part) (v : PartValue) (own_names : List (List ℕ)) (rest : List ℕ) : Type 0 where
   pub passes : PartPasses bytes p
   pub said : part_in bytes p ≡ v
-  pub names : map (name_at bytes p) (places (names_from p) 2 p.names) ≡ own_names
+  pub names : map (name_from bytes p (base_of bytes p)) (places (names_from p) 2 p.names) ≡ own_names
   pub next : HasFrom bytes (end_of p) rest
 
 pub part_read : (bytes rest : List ℕ) (w : Width) (from m : ℕ) (v : PartValue) (own_names : List (List ℕ)) (s : Strings)

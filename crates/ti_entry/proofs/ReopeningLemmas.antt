@@ -4,7 +4,7 @@ use Rattle.ti_layout.specs.Table.{base_of}
 use Rattle.ti_layout.proofs.WordLemmas.{IsBytes}
 use Rattle.ti_words.specs.Spelling.{Spells}
 use Rattle.ti_words.specs.Value.{EntryValue}
-use Rattle.ti_entry.specs.Content.{content, extended}
+use Rattle.ti_layout.specs.Content.{content, extended}
 use Rattle.ti_entry.specs.Reading.{base_of_names}
 use Rattle.ti_entry.proofs.NamedItemsLemmas.{base_named}
 use Rattle.ti_entry.proofs.SpelledExtendedLemmas.{PartsFit, only}

@@ -7,7 +7,7 @@ use Rattle.ti_layout.specs.declared.fault.Fault.TheVariants.{BadExtendedHeader}
 use Rattle.ti_layout.specs.declared.part.Part.{Part}
 use Rattle.ti_words.specs.Value.{EntryValue}
 use Rattle.ti_words.specs.Word.{unsigned_at}
-use Rattle.ti_layout.specs.Layout.{standard, extended_after, no_capability, flags_end, end_of, extended_from}
+use Rattle.ti_layout.specs.Layout.{standard, extended_after, no_capability, flags_end, end_of, extended_from, IsWithin}
 use Rattle.ti_words.specs.Spelling.{pad_len, Spells, HasExtendedPart, HasNoExtendedPart, count_word, join, part_spelling, part_names, unnamed}
 use Rattle.ti_layout.specs.Table.{base_of}
 use Rattle.ti_layout.specs.Checks.{Passes, Ends, verdict, sign_checks, pad_checks, end_check, failure_of}
@@ -18,8 +18,7 @@ use Rattle.ti_layout.specs.Refusal.{room_check, extended_size_check, extended_he
 use Rattle.ti_layout.proofs.EndsLemmas.{SectionPasses, passed_sections}
 use Rattle.ti_layout.proofs.NamePlaceChecksLemmas.{base_most}
 use Rattle.ti_layout.proofs.SectionReadLemmas.{Passed}
-use Rattle.ti_entry.specs.Content.{content_with, content, extended, own_part}
-use Rattle.ti_entry.specs.Views.{IsWithin}
+use Rattle.ti_layout.specs.Content.{content_with, content, extended, own_part}
 use Rattle.ti_entry.proofs.SpelledItemsLemmas.{HasFrom, after, count_at, passes_one, passes_list}
 use Rattle.ti_entry.proofs.KindsSpelledLemmas.{pad_read}
 use Rattle.ti_entry.proofs.NamedItemsLemmas.{values_are, all_names_in, base_is, same_named}

@@ -18,7 +18,7 @@ use Rattle.ti_layout.specs.declared.section.Half.TheVariants.{Standard}
 use Rattle.ti_layout.specs.Refusal.{magic_check, named_check, size_check, size_checks, standard_sections}
 use Rattle.ti_layout.proofs.EndsLemmas.{SectionPasses}
 use Rattle.ti_layout.proofs.SectionReadLemmas.{Passed}
-use Rattle.ti_entry.specs.Content.{part_in}
+use Rattle.ti_layout.specs.Content.{part_in}
 use Rattle.ti_entry.proofs.KindsSpelledLemmas.{append_pass}
 use Rattle.ti_entry.proofs.SpelledItemsLemmas.{HasFrom, after, byte_at, count_at, passes_list, bytes_read}
 use Rattle.ti_entry.proofs.PartLemmas.{PartPasses, part_with, passes_part, part_read}

@@ -7,12 +7,11 @@ use Rattle.ti_layout.specs.declared.section.Items.{Items}
 use Rattle.ti_layout.specs.declared.section.Section.{Section}
 use Rattle.ti_layout.specs.declared.section.Section.TheVariants.{TableEnd, End}
 use Rattle.ti_layout.specs.declared.stage.Stage.{Stage}
-use Rattle.ti_layout.specs.Layout.{standard, end_of, extended_from, no_capability}
+use Rattle.ti_layout.specs.Layout.{standard, end_of, extended_from, no_capability, IsStandard, IsExtended}
 use Rattle.ti_layout.specs.Checks.{Ends, verdict, refusal_of, failure_of}
 use Rattle.ti_layout.specs.Refusal.{checks, failure}
 use Rattle.ti_layout.specs.Table.{base_of, names_base}
-use Rattle.ti_entry.specs.Content.{content, content_from, content_with, extended, own_part}
-use Rattle.ti_entry.specs.Views.{IsStandard, IsExtended}
+use Rattle.ti_layout.specs.Content.{content, content_from, content_with, extended, own_part}
 use Rattle.ti_entry.specs.Reading.{answer_under, answer_for, base_of_names}
 use Rattle.ti_entry.proofs.NamedItemsLemmas.{base_is, base_named}
 use Rattle.ti_layout.specs.Stages.{Stands, StandsAt, Waits, bytes_awaited, is_whole, new_stage}

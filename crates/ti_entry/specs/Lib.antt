@@ -1,5 +1,3 @@
-pub mod Content
-pub mod Views
 pub mod Finding
 pub mod Reading
 pub mod Laws

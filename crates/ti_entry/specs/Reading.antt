@@ -1,13 +1,16 @@
 -- What a read of bytes returns, what a reader of entries holds, and what a piece makes of it.
-use Rattle.std.specs.Prelude.{◌≡◌, ℕ, zero, suc, List, [], ◌++◌, Option, Some, None, Result, Ok, Err, length, take, is_some, if◌then◌else◌}
+use Rattle.std.specs.Prelude.{◌≡◌, ℕ, zero, suc, ◌≤◌, List, [], ◌++◌, Option, Some, None, Result, Ok, Err, length, take, is_some, if◌then◌else◌}
 use Rattle.std.specs.Io.KnownBytes.{Consumes}
+use Rattle.ti_base.specs.Limits.{most_entry_bytes}
 use Rattle.ti_layout.specs.declared.fault.Refused.{Refused}
+use Rattle.ti_layout.specs.declared.stage.Stage.{Stage}
 use Rattle.ti_entry.specs.declared.source.ReadStop.{ReadStop}
 use Rattle.ti_entry.specs.declared.source.ReadStop.TheVariants as stop
 use Rattle.ti_words.specs.Value.{EntryValue}
 use Rattle.ti_words.specs.Spelling.{texts_size, unnamed}
 use Rattle.ti_layout.specs.Refusal.{refusal, failure}
-use Rattle.ti_entry.specs.Content.{content}
+use Rattle.ti_layout.specs.Stages.{Stands, Waits}
+use Rattle.ti_layout.specs.Content.{content}
 
 -- the refusal if there is one, else a value
 abbrev pub answer_under : {A : Type 0} → Option Refused → A → Result A Refused
@@ -31,6 +34,13 @@ pub record Reading : Type 0 where
 
 abbrev pub new_reading : Reading
 new_reading = record { kept = []; refusal = None }
+
+-- what a reader holds beside its bytes: no check has failed on them, and without a refusal the next one waits for more
+pub record IsReading (kept : List ℕ) (stage : Stage) (refusal : Option Refused) : Type 0 where
+  pub most : length kept ≤ most_entry_bytes
+  pub none_failed : failure kept ≡ None
+  pub stands : refusal ≡ None → Stands kept stage
+  pub waits : refusal ≡ None → Waits kept stage
 
 -- the greatest length, up to a given one, of a front of the bytes on which no check has failed
 abbrev pub length_before_failure : List ℕ → ℕ → ℕ

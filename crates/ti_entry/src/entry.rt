@@ -8,16 +8,14 @@ ghost use Rattle.ti_words.specs.Texts.{text_value, AbsentText};
 ghost use Rattle.ti_layout.specs.Refusal.{refusal};
 ghost use Rattle.ti_words.specs.Value.{EntryValue};
 ghost use Rattle.ti_words.specs.Spelling.{Spells};
-ghost use Rattle.ti_entry.specs.Content.{content, content_from};
+ghost use Rattle.ti_layout.specs.Content.{content, content_from};
 ghost use Rattle.ti_entry.specs.Reading.{answer_for, base_of_names};
-ghost use Rattle.ti_entry.specs.Views.{IsExtended, IsStandard};
+ghost use Rattle.ti_layout.specs.Layout.{IsExtended, IsStandard};
 ghost use Rattle.ti_layout.specs.Stages.{Stands, Waits};
 
 use crate::extended::{Extended, extended_of};
-use crate::texts::{Texts, texts_of};
-use crate::view::{flag, number, table, text};
 use std::marker::Model;
-use ti_layout::{Fault, Part, Refused, Stage};
+use ti_layout::{Fault, Part, Refused, Stage, Texts};
 use ti_words::{Flag, Kind, Number, Text, Width};
 
 /// A compiled entry (term(5)). What it gives is lent from the bytes that it was read from.
@@ -31,8 +29,8 @@ pub struct Entry<'a> {
 
 impl<'a> Model for Entry<'a> {
     ghost use Rattle.ti_words.specs.Value.{EntryValue};
-    ghost use Rattle.ti_entry.specs.Content.{content_from};
-    ghost use Rattle.ti_entry.specs.Views.{IsStandard, IsExtended};
+    ghost use Rattle.ti_layout.specs.Content.{content_from};
+    ghost use Rattle.ti_layout.specs.Layout.{IsStandard, IsExtended};
 
     ghost Value = { EntryValue };
 
@@ -120,7 +118,7 @@ impl<'a> Entry<'a> {
     pub fn names(&self) -> &'a [u8]
         ensures { result.now ≡ self.now.names }
     {
-        &self.bytes[12..self.standard.flags_from() - 1]
+        self.standard.entry_names(self.bytes)
     }
 
     /// How many flags it has.
@@ -148,34 +146,28 @@ impl<'a> Entry<'a> {
     pub fn flag(&self, i: usize) -> Flag
         ensures { result ≡ get_or self.now.standard.flags i Flag.No }
     {
-        flag(self.bytes, &self.standard, i)
+        self.standard.flag(self.bytes, i)
     }
 
     /// The number at an index; at or above the count Absent.
     pub fn number(&self, i: usize) -> Number
         ensures { result ≡ get_or self.now.standard.numbers i Number.Absent }
     {
-        number(self.bytes, &self.standard, i)
+        self.standard.number(self.bytes, i)
     }
 
     /// The text at an index; at or above the count Absent.
     pub fn text(&self, i: usize) -> Text<'a>
         ensures { text_value result ≡ get_or self.now.standard.texts i AbsentText }
     {
-        text(self.bytes, &self.standard, i)
+        self.standard.text(self.bytes, i)
     }
 
     /// Its texts, to be read one after another.
     pub(crate) fn texts(&self) -> Texts<'a>
         ensures { result ≡ self.now.standard.texts }
     {
-        let standard = &self.standard;
-        texts_of(
-            table(self.bytes, standard),
-            self.bytes,
-            standard.offsets_from(),
-            standard.count(Kind::Text),
-        )
+        self.standard.texts(self.bytes)
     }
 
     /// Its extended part, with no capability if it has none.

@@ -4,18 +4,16 @@
 //! the names in their order and stops at the first that is equal; a name is compared in place, up to its first difference
 //! or one byte past the length that is requested.
 
-ghost use Rattle.std.specs.Prelude.{◌≡◌, ◌+◌, ◌≤◌, ◌↔◌, map, length, get_or, slice_get, IsTrue};
+ghost use Rattle.std.specs.Prelude.{◌≡◌, map, length, get_or, slice_get};
 ghost use Rattle.std.specs.Option.{option_map};
 ghost use Rattle.ti_words.specs.Texts.{text_value, AbsentText};
-ghost use Rattle.ti_entry.specs.Content.{named_part_in, name_from};
-ghost use Rattle.ti_entry.specs.Views.{IsExtended};
+ghost use Rattle.ti_layout.specs.Content.{named_part_in};
+ghost use Rattle.ti_layout.specs.Layout.{IsExtended};
 ghost use Rattle.ti_words.specs.Spelling.{mark_in};
 ghost use Rattle.ti_entry.specs.Finding.{IsLeastIndex, IsFirstNamed, names_of};
 
-use crate::item::is_text;
-use crate::view::{flag, number, table, text};
 use std::marker::Model;
-use ti_layout::{Part, count_at, text_from};
+use ti_layout::Part;
 use ti_words::{Flag, Kind, Number, Text};
 
 /// The extended part of an entry, with no capability if the entry has none. What it gives is lent from the bytes that
@@ -30,8 +28,8 @@ pub struct Extended<'a> {
 
 impl<'a> Model for Extended<'a> {
     ghost use Rattle.ti_words.specs.Value.{NamedPart};
-    ghost use Rattle.ti_entry.specs.Content.{named_part_in};
-    ghost use Rattle.ti_entry.specs.Views.{IsExtended};
+    ghost use Rattle.ti_layout.specs.Content.{named_part_in};
+    ghost use Rattle.ti_layout.specs.Layout.{IsExtended};
 
     ghost Value = { NamedPart };
 
@@ -75,34 +73,29 @@ impl<'a> Extended<'a> {
     pub fn flag(&self, i: usize) -> Flag
         ensures { result ≡ get_or (map mark_in self.now.flags) i Flag.No }
     {
-        flag(self.bytes, &self.part, i)
+        self.part.flag(self.bytes, i)
     }
 
     /// The number at an index; at or above the count Absent.
     pub fn number(&self, i: usize) -> Number
         ensures { result ≡ get_or (map mark_in self.now.numbers) i Number.Absent }
     {
-        number(self.bytes, &self.part, i)
+        self.part.number(self.bytes, i)
     }
 
     /// The text at an index; at or above the count Absent.
     pub fn text(&self, i: usize) -> Text<'a>
         ensures { text_value result ≡ get_or (map mark_in self.now.texts) i AbsentText }
     {
-        text(self.bytes, &self.part, i)
+        self.part.text(self.bytes, i)
     }
 
     /// The name of the capability of a kind at an index, without its NUL; none at or above the count. It may be empty.
-    #[tactic(auto, using(crate::proofs::IsLeastIndexLemmas::get_named, crate::proofs::IsLeastIndexLemmas::get_none, crate::proofs::NamedItemsLemmas::names_are))]
+    #[tactic(auto, using(crate::proofs::NamedItemsLemmas::names_are))]
     pub fn name(&self, kind: Kind, i: usize) -> Option<&'a [u8]>
         ensures { option_map (λ name. name.now) result ≡ slice_get (names_of self.now kind) i }
     {
-        if i < self.part.count(kind) {
-            let place = self.part.names_of(kind) + 2 * i;
-            Some(name_at(self.bytes, &self.part, self.base, place))
-        } else {
-            None
-        }
+        self.part.name(self.bytes, self.base, kind, i)
     }
 
     /// The first capability with a name, in the order flags, numbers, texts, the lowest index first.
@@ -132,31 +125,12 @@ impl<'a> Extended<'a> {
     pub fn find_of(&self, kind: Kind, name: &[u8]) -> Option<usize>
         ensures { IsLeastIndex (names_of self.now kind) name.now result }
     {
-        let from = self.part.names_of(kind);
         let count = self.part.count(kind);
         for i in 0..count {
-            if is_name_at(self.bytes, &self.part, self.base, from + 2 * i, name) {
+            if self.part.is_name(self.bytes, self.base, kind, i, name) {
                 return Some(i);
             }
         }
         None
     }
-}
-
-/// The name whose offset stands at a place.
-fn name_at<'a>(bytes: &'a [u8], part: &Part, base: usize, place: usize) -> &'a [u8]
-    requires part { IsExtended bytes.now part.now base }
-    requires within { place + 2 ≤ length bytes.now }
-    ensures { result.now ≡ name_from bytes.now part.now base place }
-{
-    text_from(table(bytes, part), base + count_at(bytes, place))
-}
-
-/// Whether the name whose offset stands at a place is this one.
-fn is_name_at(bytes: &[u8], part: &Part, base: usize, place: usize, name: &[u8]) -> bool
-    requires part { IsExtended bytes.now part.now base }
-    requires within { place + 2 ≤ length bytes.now }
-    ensures { IsTrue result ↔ name_from bytes.now part.now base place ≡ name.now }
-{
-    is_text(table(bytes, part), base + count_at(bytes, place), name)
 }

@@ -13,13 +13,10 @@ mod encoding;
 mod entry;
 mod extended;
 mod finding;
-mod item;
 pub mod laws;
 mod reader;
 mod reopening;
 mod source;
-mod texts;
-mod view;
 
 pub use encoding::encode;
 pub use entry::{Entry, read};

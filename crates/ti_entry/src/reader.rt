@@ -30,7 +30,7 @@ pub struct EntryReader {
 
 impl Model for EntryReader {
     ghost use Rattle.ti_entry.specs.Reading.{Reading};
-    ghost use Rattle.ti_entry.specs.Views.{IsReading};
+    ghost use Rattle.ti_entry.specs.Reading.{IsReading};
 
     ghost Value = { Reading };
 

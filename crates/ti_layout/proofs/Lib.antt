@@ -6,6 +6,8 @@ pub mod IsReachLemmas
 pub mod SectionReadLemmas
 pub mod WholeSectionLemmas
 pub mod UntilNulLemmas
+pub mod LastEndLemmas
+pub mod TextLemmas
 pub mod NamePlaceChecksLemmas
 pub mod ChunksLemmas
 pub mod EndsLemmas

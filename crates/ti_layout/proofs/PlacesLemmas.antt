@@ -1,5 +1,7 @@
 -- Items that lie one after the other.
-use Rattle.std.proofs.Common.{◌≡◌, ℕ, zero, suc, ◌+◌, ◌*◌, ◌<◌, ◌≤◌, List, ◌∷◌, ◌++◌, map, length, get_or, refl, ap, ◌∙◌, arith}
+use Rattle.std.proofs.Common.{◌≡◌, ℕ, zero, suc, ◌+◌, ◌*◌, ◌<◌, ◌≤◌, List, [], ◌∷◌, ◌++◌, map, length, get_or, refl, ap, ◌∙◌, arith}
+use Rattle.std.proofs.lemmas.Option.{slice_get-get_or, slice_get_past}
+use Rattle.std.specs.Prelude.{slice_get, Some, None}
 use Rattle.ti_words.specs.declared.Width.{Width}
 use Rattle.ti_layout.specs.Layout.{places}
 use Rattle.ti_words.specs.Widths.{number_size}
@@ -17,6 +19,12 @@ pub no_item_at : {A : Type 0} (f : ℕ → A) (from size count i : ℕ) (d : A) 
 no_item_at f from size zero i d le = refl
 no_item_at f from size (suc count) zero d le = absurd (omega arith)
 no_item_at f from size (suc count) (suc i) d le = no_item_at f (from + size) size count i d (omega arith)
+
+pub get_named : (f : ℕ → List ℕ) (from count i : ℕ) → i < count → slice_get (map f (places from 2 count)) i ≡ Some (f (from + 2 * i))
+get_named f from count i lt = slice_get-get_or (map f (places from 2 count)) i [] (omega (arith, length_places f from 2 count)) ∙ ap Some (item_at f from 2 count i [] lt)
+
+pub get_none : (f : ℕ → List ℕ) (from count i : ℕ) → count ≤ i → slice_get (map f (places from 2 count)) i ≡ None
+get_none f from count i le = slice_get_past (map f (places from 2 count)) i (omega (arith, length_places f from 2 count))
 
 -- a number and those before it lie within as many as there are
 pub within : (w : Width) (i count : ℕ) → i < count → number_size w * i + number_size w ≤ number_size w * count

@@ -2,7 +2,9 @@
 use Rattle.std.proofs.Common.{◌≡◌, ℕ, zero, suc, ◌+◌, ◌*◌, ◌<◌, ◌≤◌, Bool, true, false, not, cond, eqb, map, List, [], ◌∷◌, length, take, refl, sym, ap, ◌∙◌, arith, w64}
 use Rattle.std.proofs.lemmas.Bool.{false_from_ne_true}
 use Rattle.std.proofs.lemmas.Bool.Decides.{nat_tests}
-use Rattle.std.specs.List.{position_or_len}
+use Rattle.std.proofs.lemmas.List.{length-take, take_all}
+use Rattle.std.specs.List.{position_or_len, prefix_len}
+use Rattle.std.specs.Prelude.{min}
 use Rattle.std.specs.Int.{trailing_zeros}
 use Rattle.std.specs.Simd.Lanes.{mask_l}
 use Rattle.std.proofs.lemmas.Simd.{trailing_mask_l}
@@ -58,3 +60,26 @@ pub first_marked : (n : ℕ) (v : List ℕ) (marks : ℕ) → length v ≡ n →
 first_marked n v marks long most is some =
     let marked : 0 < mask_l (map is_nul v) = omega arith in
     let place = ap (trailing_zeros w64) is ∙ trailing_mask_l is_nul 64 v (omega arith) marked in (place, omega (arith, place, below_marked v marked))
+
+-- ---- one text
+
+until_front : (k : ℕ) (xs : List ℕ) → until_nul (take k xs) ≡ take k (until_nul xs)
+until_front zero xs = refl
+until_front (suc k) [] = refl
+until_front (suc k) (x ∷ xs) =
+    take_while-cons (λ b. not (is_nul b)) x (take k xs) ∙ by_test (not (is_nul x)) (until_front k xs) ∙ sym (ap (take (suc k)) (take_while-cons (λ b. not (is_nul b)) x xs))
+  where
+    by_test : (b : Bool) → until_nul (take k xs) ≡ take k (until_nul xs) → cond b (x ∷ until_nul (take k xs)) [] ≡ take (suc k) (cond b (x ∷ until_nul xs) [])
+    by_test true rest = ap (λ (t : List ℕ). x ∷ t) rest
+    by_test false rest = refl
+
+-- as many bytes as the other text has, and one more, tell whether the text before the NUL is that text
+pub told_by_front : (xs text : List ℕ) (k : ℕ) → k ≡ min (length xs) (length text + 1) → (until_nul (take k xs) ≡ text → until_nul xs ≡ text) × (until_nul xs ≡ text → until_nul (take k xs) ≡ text)
+told_by_front xs text k e =
+    let u = until_nul xs in
+    let front : until_nul (take k xs) ≡ take k u = until_front k xs in
+    let most : length u ≤ length xs = omega (arith, length-take (prefix_len (λ b. not (is_nul b)) xs) xs) in
+    let size = length-take k u in (
+      λ h. (let n : length (take k u) ≡ length text = ap length (sym front ∙ h) in sym (take_all k u (omega arith)) ∙ sym front ∙ h),
+      λ h. (let n : length u ≡ length text = ap length h in front ∙ take_all k u (omega arith) ∙ h),
+    )

@@ -1,5 +1,6 @@
 -- Where the sections of an entry lie (term(5)).
-use Rattle.std.specs.Prelude.{ℕ, zero, suc, ◌+◌, ◌*◌, ◌%◌, List, [], ◌∷◌, ◌==◌, Option, Some, None, unwrap_or, if◌then◌else◌}
+use Rattle.std.specs.Prelude.{◌≡◌, ℕ, zero, suc, ◌+◌, ◌*◌, ◌%◌, ◌≤◌, List, [], ◌∷◌, ◌==◌, length, Option, Some, None, unwrap_or, if◌then◌else◌}
+use Rattle.ti_base.specs.Limits.{most_entry_bytes}
 use Rattle.ti_words.specs.declared.Kind.{Kind}
 use Rattle.ti_words.specs.declared.Kind.TheVariants as kinds
 use Rattle.ti_words.specs.declared.Width.{Width}
@@ -81,7 +82,7 @@ abbrev pub extended_from : Part → ℕ
 extended_from s = even (end_of s)
 
 -- The extended part follows its header of 10 bytes (term(5), extended storage format). Each capability has a name.
--- The word items of the header says nothing more: nothing reads it.
+-- The word items of the header says nothing more, and no reader of an entry needs it.
 abbrev pub extended_after : Part → List ℕ → Part
 extended_after s bytes =
     let from = extended_from s in
@@ -101,3 +102,18 @@ extended_after s bytes =
 -- no extended part, held as one with no capability
 abbrev pub no_capability : Part
 no_capability = record { width = Legacy; flags_from = 0; flags = 0; numbers = 0; texts = 0; names = 0; table = 0 }
+
+-- ---- parts from which items are read
+
+-- a part lies within the bytes
+abbrev pub IsWithin : List ℕ → Part → Type 0
+IsWithin bytes p = (end_of p ≤ most_entry_bytes) × (end_of p ≤ length bytes)
+
+-- an extended part: each capability has a name, and what their offsets are counted from lies within the greatest entry
+abbrev pub IsExtended : List ℕ → Part → ℕ → Type 0
+IsExtended bytes x base =
+    IsWithin bytes x × (x.flags + x.numbers + x.texts ≡ x.names) × (base ≤ most_entry_bytes)
+
+-- the standard part of the bytes: there is a name
+abbrev pub IsStandard : List ℕ → Part → Type 0
+IsStandard bytes s = IsWithin bytes s × (14 ≤ s.flags_from) × (s ≡ standard bytes)

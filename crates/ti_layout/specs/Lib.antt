@@ -1,5 +1,6 @@
 pub mod Layout
 pub mod Table
+pub mod Content
 pub mod Checks
 pub mod Reach
 pub mod Refusal

@@ -1,5 +1,5 @@
 -- String tables: texts that end with a NUL, told by words.
-use Rattle.std.specs.Prelude.{ℕ, zero, suc, ◌+◌, ℤ, pos, negsuc, Bool, not, List, [], ◌∷◌, length, take, drop, ◌==◌, if◌then◌else◌}
+use Rattle.std.specs.Prelude.{ℕ, zero, suc, ◌+◌, ℤ, pos, negsuc, Bool, not, List, [], ◌∷◌, length, max, take, drop, ◌==◌, if◌then◌else◌}
 use Rattle.std.specs.List.{list_any, take_while}
 use Rattle.ti_words.specs.Texts.{TextValue, AbsentText, CancelledText, TextOf, is_nul}
 use Rattle.ti_layout.specs.declared.part.Part.{Part}
@@ -36,6 +36,16 @@ size_at table (negsuc n) = 0
 abbrev pub sizes_at : List ℕ → List ℕ → List ℕ → ℕ
 sizes_at bytes table [] = 0
 sizes_at bytes table (p ∷ ps) = size_at table (word_at 2 bytes p) + sizes_at bytes table ps
+
+-- where the text at an offset ends with its NUL, if it is there
+abbrev pub end_at : List ℕ → ℤ → ℕ
+end_at table (pos place) = place + size_at table (pos place)
+end_at table (negsuc n) = 0
+
+-- the last of these ends
+abbrev pub last_end : List ℕ → List ℕ → List ℕ → ℕ
+last_end bytes table [] = 0
+last_end bytes table (p ∷ ps) = max (end_at table (word_at 2 bytes p)) (last_end bytes table ps)
 
 -- what the places of names are counted from
 abbrev pub base_of : List ℕ → Part → ℕ

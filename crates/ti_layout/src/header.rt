@@ -8,7 +8,7 @@ ghost use Rattle.ti_layout.specs.Refusal.{magic_check, size_checks, room_check, 
 
 use crate::checks::check_pad;
 use crate::fault::{Fault, Refused};
-use crate::part::{Part, extended_part, standard_part, width_of};
+use crate::part::{Part, width_of};
 use crate::section::Item;
 use ti_base::MOST_ENTRY_BYTES;
 
@@ -34,7 +34,7 @@ pub(crate) fn sized_standard(bytes: &[u8]) -> Result<Part, Refused>
         ≡ verdict (length bytes.now) (size_checks (standard bytes.now)) }
     ensures words { IfOk result (λ s. s ≡ standard bytes.now) }
 {
-    let standard = standard_part(bytes);
+    let standard = Part::standard(bytes);
     if standard.end() > MOST_ENTRY_BYTES {
         return Err(Refused {
             fault: Fault::HeaderTooBig,
@@ -77,7 +77,7 @@ pub(crate) fn sized_extended(bytes: &[u8], standard: &Part) -> Result<Part, Refu
 {
     let from = standard.extended_from();
     Item::Sign(Fault::BadExtendedHeader).check(bytes, from + 8)?;
-    let extended = extended_part(bytes, standard);
+    let extended = standard.extended(bytes);
     if extended.end() > MOST_ENTRY_BYTES {
         return Err(Refused {
             fault: Fault::ExtendedTooBig,

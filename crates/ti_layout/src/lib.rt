@@ -1,11 +1,12 @@
 //! Where the sections of a compiled terminfo entry lie (term(5)), and the one checker of them.
 //!
 //! [`Stage`] makes the checks of an entry in their order, over as many bytes as have come, and returns the first that does
-//! not hold. Its two parts say where the sections lie, and [`text_from`] lends a text of a table. It is linear in the bytes
-//! and takes no memory.
+//! not hold. Its two parts say where the sections lie, and lend what is there: each [`Part`] has its items at their indices.
+//! Checking is linear in the bytes and takes no memory.
 #![tactic(auto)]
 
 mod checks;
+mod content;
 mod fault;
 mod header;
 mod part;
@@ -13,11 +14,11 @@ mod section;
 mod stage;
 mod string_table;
 mod table;
+mod texts;
 mod whole;
 mod word;
 
 pub use fault::{Fault, Refused};
-pub use part::{Part, extended_part, no_part, standard_part};
+pub use part::Part;
 pub use stage::Stage;
-pub use string_table::{text_from, until_nul};
-pub use word::{count_at, number_word_at, numbers_size, word_at};
+pub use texts::Texts;

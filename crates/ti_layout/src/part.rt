@@ -2,11 +2,14 @@
 //!
 //! A place is a sum of what the header says, so it takes a few additions.
 
-ghost use Rattle.std.specs.Prelude.{◌≡◌, ◌+◌, ◌*◌, ◌<◌, ◌≤◌, ◌^◌, length};
+ghost use Rattle.std.specs.Prelude.{◌≡◌, ◌+◌, ◌*◌, ◌<◌, ◌≤◌, ◌^◌, ◌↔◌, IfSome, IsTrue, Some, length};
 ghost use Rattle.ti_base.specs.Limits.{most_entry_bytes};
-ghost use Rattle.ti_layout.specs.Layout.{standard, extended_after, no_capability, count_of_kind, kind_names_from, end_of, pad_end as the_pad_end, width_of as the_width_of, flags_end as the_flags_end, numbers_from as the_numbers_from, offsets_from as the_offsets_from, names_from as the_names_from, table_from as the_table_from, extended_from as the_extended_from};
+ghost use Rattle.ti_words.specs.Word.{unsigned_at};
+ghost use Rattle.ti_layout.specs.Content.{extended as the_extended};
+ghost use Rattle.ti_layout.specs.Layout.{IsStandard, IsWithin, standard as the_standard, extended_after, no_capability, count_of_kind, kind_names_from, end_of, pad_end as the_pad_end, width_of as the_width_of, flags_end as the_flags_end, numbers_from as the_numbers_from, offsets_from as the_offsets_from, names_from as the_names_from, table_from as the_table_from, extended_from as the_extended_from};
 
 use crate::word::{count_at, numbers_size};
+use ti_base::MOST_ENTRY_BYTES;
 use ti_words::{Kind, Width};
 
 /// What a header says of its part. The flags come first, from `flags_from` on, and then the numbers, the offsets of the
@@ -44,15 +47,8 @@ impl Part {
         }
     }
 
-    /// Where the flags start.
-    pub fn flags_from(&self) -> usize
-        ensures { result ≡ self.now.flags_from }
-    {
-        self.flags_from
-    }
-
     /// Where the flags end, and a pad stands if the place is odd.
-    pub fn flags_end(&self) -> usize
+    pub(crate) fn flags_end(&self) -> usize
         requires { end_of self.now < 2 ^ 32 }
         ensures { result ≡ the_flags_end self.now }
     {
@@ -60,7 +56,7 @@ impl Part {
     }
 
     /// Where the numbers start.
-    pub fn numbers_from(&self) -> usize
+    pub(crate) fn numbers_from(&self) -> usize
         requires { end_of self.now < 2 ^ 32 }
         ensures { result ≡ the_numbers_from self.now }
     {
@@ -69,7 +65,7 @@ impl Part {
     }
 
     /// Where the offsets of the texts start.
-    pub fn offsets_from(&self) -> usize
+    pub(crate) fn offsets_from(&self) -> usize
         requires { end_of self.now < 2 ^ 32 }
         ensures { result ≡ the_offsets_from self.now }
     {
@@ -77,7 +73,7 @@ impl Part {
     }
 
     /// Where the offsets of the names start.
-    pub fn names_from(&self) -> usize
+    pub(crate) fn names_from(&self) -> usize
         requires { end_of self.now < 2 ^ 32 }
         ensures { result ≡ the_names_from self.now }
     {
@@ -85,7 +81,7 @@ impl Part {
     }
 
     /// Where the offsets of the names of a kind start.
-    pub fn names_of(&self, kind: Kind) -> usize
+    pub(crate) fn names_of(&self, kind: Kind) -> usize
         requires named { self.now.flags + self.now.numbers + self.now.texts ≤ self.now.names }
         requires fits { end_of self.now < 2 ^ 32 }
         ensures place { result ≡ kind_names_from self.now kind }
@@ -100,7 +96,7 @@ impl Part {
     }
 
     /// Where the string table starts.
-    pub fn table_from(&self) -> usize
+    pub(crate) fn table_from(&self) -> usize
         requires { end_of self.now < 2 ^ 32 }
         ensures { result ≡ the_table_from self.now }
     {
@@ -116,12 +112,116 @@ impl Part {
     }
 
     /// Where the header of an extended part starts after this one, if there is one.
-    pub fn extended_from(&self) -> usize
+    pub(crate) fn extended_from(&self) -> usize
         requires { end_of self.now < 2 ^ 32 }
         ensures { result ≡ the_extended_from self.now }
     {
         let end = self.end();
         end + end % 2
+    }
+
+    /// The standard part of bytes that have its header.
+    pub fn standard(bytes: &[u8]) -> Part
+        requires { 12 ≤ length bytes.now }
+        ensures words { result ≡ the_standard bytes.now }
+        ensures fits { end_of result < 2 ^ 32 }
+    {
+        Part {
+            width: width_of(bytes).unwrap_or(Width::Legacy),
+            flags_from: 12 + count_at(bytes, 2),
+            flags: count_at(bytes, 4),
+            numbers: count_at(bytes, 6),
+            texts: count_at(bytes, 8),
+            names: 0,
+            table: count_at(bytes, 10),
+        }
+    }
+
+    /// The extended part after this one, of bytes that have its header.
+    pub fn extended(&self, bytes: &[u8]) -> Part
+        requires fits { end_of self.now ≤ most_entry_bytes }
+        requires there { the_extended_from self.now + 10 ≤ length bytes.now }
+        ensures words { result ≡ extended_after self.now bytes.now }
+        ensures fits { end_of result < 2 ^ 32 }
+    {
+        let from = self.extended_from();
+        let flags = count_at(bytes, from);
+        let numbers = count_at(bytes, from + 2);
+        let texts = count_at(bytes, from + 4);
+        Part {
+            width: self.width,
+            flags_from: from + 10,
+            flags,
+            numbers,
+            texts,
+            names: flags + numbers + texts,
+            table: count_at(bytes, from + 8),
+        }
+    }
+
+    /// The word items of the extended header after this part. No section depends on it.
+    pub fn items_after(&self, bytes: &[u8]) -> usize
+        requires fits { end_of self.now ≤ most_entry_bytes }
+        requires there { the_extended_from self.now + 10 ≤ length bytes.now }
+        ensures { result ≡ unsigned_at 2 bytes.now (the_extended_from self.now + 6) }
+    {
+        count_at(bytes, self.extended_from() + 6)
+    }
+
+    /// No extended part, held as one with no capability.
+    pub(crate) fn none() -> Part
+        ensures { result ≡ no_capability }
+    {
+        Part {
+            width: Width::Legacy,
+            flags_from: 0,
+            flags: 0,
+            numbers: 0,
+            texts: 0,
+            names: 0,
+            table: 0,
+        }
+    }
+
+    /// Whether the part lies within the bytes.
+    fn is_within(&self, bytes: &[u8]) -> bool
+        requires { end_of self.now < 2 ^ 32 }
+        ensures { IsTrue result ↔ IsWithin bytes.now self.now }
+    {
+        self.end() <= bytes.len().min(MOST_ENTRY_BYTES)
+    }
+
+    /// The standard part that the header says, if there is a name and the part lies within the bytes.
+    pub fn standard_within(bytes: &[u8]) -> Option<Part>
+        ensures within { IfSome result (λ s. IsStandard bytes.now s) }
+        ensures exact { 14 ≤ (the_standard bytes.now).flags_from
+            → IsWithin bytes.now (the_standard bytes.now) → result ≡ Some (the_standard bytes.now) }
+    {
+        if bytes.len() < 12 {
+            return None;
+        }
+        let standard = Part::standard(bytes);
+        (standard.flags_from >= 14 && standard.is_within(bytes)).then_some(standard)
+    }
+
+    /// The extended part after this one, with no capability if no byte follows; none if it does not lie within the bytes.
+    pub fn extended_within(&self, bytes: &[u8]) -> Option<Part>
+        requires within { IsWithin bytes.now self.now }
+        requires standard { self.now ≡ the_standard bytes.now }
+        ensures within { IfSome result (λ x. IsWithin bytes.now x) }
+        ensures named { IfSome result (λ x. x.flags + x.numbers + x.texts ≡ x.names) }
+        ensures exact { IsWithin bytes.now (the_extended bytes.now)
+            → (end_of self.now < length bytes.now → the_extended_from self.now + 10 ≤ length bytes.now)
+            → result ≡ Some (the_extended bytes.now) }
+    {
+        if bytes.len() <= self.end() {
+            return Some(Part::none());
+        }
+        if bytes.len() < self.extended_from() + 10 {
+            return None;
+        }
+        let extended = self.extended(bytes);
+        extended.is_within(bytes).then_some(extended)
     }
 }
 
@@ -145,59 +245,5 @@ pub(crate) fn width_of(bytes: &[u8]) -> Option<Width>
         0o432 => Some(Width::Legacy),
         0o1036 => Some(Width::Wide),
         _ => None,
-    }
-}
-
-/// The standard part of bytes that have its header.
-pub fn standard_part(bytes: &[u8]) -> Part
-    requires { 12 ≤ length bytes.now }
-    ensures words { result ≡ standard bytes.now }
-    ensures fits { end_of result < 2 ^ 32 }
-{
-    Part {
-        width: width_of(bytes).unwrap_or(Width::Legacy),
-        flags_from: 12 + count_at(bytes, 2),
-        flags: count_at(bytes, 4),
-        numbers: count_at(bytes, 6),
-        texts: count_at(bytes, 8),
-        names: 0,
-        table: count_at(bytes, 10),
-    }
-}
-
-/// The extended part of bytes that have its header.
-pub fn extended_part(bytes: &[u8], standard: &Part) -> Part
-    requires fits { end_of standard.now ≤ most_entry_bytes }
-    requires there { the_extended_from standard.now + 10 ≤ length bytes.now }
-    ensures words { result ≡ extended_after standard.now bytes.now }
-    ensures fits { end_of result < 2 ^ 32 }
-{
-    let from = standard.extended_from();
-    let flags = count_at(bytes, from);
-    let numbers = count_at(bytes, from + 2);
-    let texts = count_at(bytes, from + 4);
-    Part {
-        width: standard.width,
-        flags_from: from + 10,
-        flags,
-        numbers,
-        texts,
-        names: flags + numbers + texts,
-        table: count_at(bytes, from + 8),
-    }
-}
-
-/// No extended part, held as one with no capability.
-pub fn no_part() -> Part
-    ensures { result ≡ no_capability }
-{
-    Part {
-        width: Width::Legacy,
-        flags_from: 0,
-        flags: 0,
-        numbers: 0,
-        texts: 0,
-        names: 0,
-        table: 0,
     }
 }

@@ -15,7 +15,7 @@ ghost use Rattle.ti_layout.specs.declared.section.Section.TheVariants.{Names};
 use crate::checks::{check_nul, check_pad};
 use crate::fault::{Fault, Refused};
 use crate::header::{check_magic, check_start, sized_extended, sized_standard};
-use crate::part::{Part, no_part};
+use crate::part::Part;
 use crate::section::{Item, Items, Section};
 use crate::table::check_texts;
 
@@ -38,8 +38,8 @@ impl Stage {
         Stage {
             section: Section::Magic,
             items: Items::new(Item::Flag, 0, 0),
-            standard: no_part(),
-            extended: no_part(),
+            standard: Part::none(),
+            extended: Part::none(),
             base: 0,
         }
     }
@@ -163,7 +163,7 @@ impl Stage {
         self.base
     }
 
-    /// Whether the bytes that came are a whole entry.
+    /// Whether the bytes that came are a whole entry, if `advance` has refused none of them.
     pub fn is_whole(&self) -> bool
         ensures { result ≡ is_whole self.now.section }
     {

@@ -1,19 +1,20 @@
 //! The texts of a string table, each up to its NUL.
 
-ghost use Rattle.std.specs.Prelude.{◌≡◌, ◌+◌, ◌<◌, ◌≤◌, length, take, IfSome};
+ghost use Rattle.std.specs.Prelude.{◌≡◌, ◌+◌, ◌<◌, ◌≤◌, ◌↔◌, length, take, IfSome, IsTrue};
 ghost use Rattle.std.specs.List.{position_or_len};
 ghost use Rattle.ti_base.specs.Limits.{most_entry_bytes};
-ghost use Rattle.ti_words.specs.Texts.{is_nul};
+ghost use Rattle.ti_words.specs.Texts.{is_nul, text_value};
 ghost use Rattle.ti_words.specs.Word.{word_at as the_word_at};
-ghost use Rattle.ti_layout.specs.Table.{text_from as the_text_from, until_nul as the_until_nul, size_at as the_size_at};
+ghost use Rattle.ti_layout.specs.Table.{text_from as the_text_from, until_nul as the_until_nul, size_at as the_size_at, text_of_word};
 
 use crate::word::word_at;
 use memchr::memchr;
 use std::simd::prelude::*;
+use ti_words::Text;
 
 /// The bytes from a place up to the next NUL. Most texts have less than 16, and start as far before the end of their table.
 #[inline(always)]
-pub fn text_from(table: &[u8], place: usize) -> &[u8]
+pub(crate) fn text_from(table: &[u8], place: usize) -> &[u8]
     ensures { result.now ≡ the_text_from table.now place }
 {
     if place < (table.len() + 1).saturating_sub(16) {
@@ -38,7 +39,7 @@ fn longer_text_from(table: &[u8], place: usize) -> &[u8]
 
 /// The bytes before the first NUL. Most texts have less than 32, which one look at a vector finds.
 #[inline(always)]
-pub fn until_nul(bytes: &[u8]) -> &[u8]
+pub(crate) fn until_nul(bytes: &[u8]) -> &[u8]
     ensures { result.now ≡ the_until_nul bytes.now }
 {
     if bytes.len() >= 32 {
@@ -90,6 +91,35 @@ fn until_far_nul(bytes: &[u8]) -> &[u8]
         Some(end) => &bytes[..end],
         None => bytes,
     }
+}
+
+/// What an offset says of a table.
+pub(crate) fn text_of<'a>(table: &'a [u8], offset: i16) -> Text<'a>
+    ensures { text_value result ≡ text_of_word table.now offset }
+{
+    match offset {
+        -1 => Text::Absent,
+        offset if offset < 0 => Text::Cancelled,
+        offset => Text::Value(text_from(table, offset as usize)),
+    }
+}
+
+/// Whether the bytes from a place up to the next NUL are this text.
+pub(crate) fn is_text(table: &[u8], place: usize, text: &[u8]) -> bool
+    ensures { IsTrue result ↔ the_text_from table.now place ≡ text.now }
+{
+    match table.get(place..) {
+        Some(rest) => is_until_nul(rest, text),
+        None => is_until_nul(&[], text),
+    }
+}
+
+/// Whether the bytes before the first NUL are this text. One byte past its length decides it.
+fn is_until_nul(bytes: &[u8], text: &[u8]) -> bool
+    ensures { IsTrue result ↔ the_until_nul bytes.now ≡ text.now }
+{
+    let front = &bytes[..bytes.len().min(text.len() + 1)];
+    until_nul(front) == text
 }
 
 /// The size of the text at an offset and its NUL, if it is there.

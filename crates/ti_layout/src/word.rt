@@ -8,7 +8,7 @@ use byteorder::{ByteOrder, LittleEndian};
 use ti_words::{Width, number_size};
 
 /// The word at a place.
-pub fn word_at(bytes: &[u8], at: usize) -> i16
+pub(crate) fn word_at(bytes: &[u8], at: usize) -> i16
     requires { at + 2 ≤ length bytes.now }
     ensures { result ≡ the_word_at 2 bytes.now at }
 {
@@ -24,7 +24,7 @@ pub(crate) fn unsigned_at(bytes: &[u8], at: usize) -> u16
 }
 
 /// The count or size at a place, read without a sign.
-pub fn count_at(bytes: &[u8], at: usize) -> usize
+pub(crate) fn count_at(bytes: &[u8], at: usize) -> usize
     requires { at + 2 ≤ length bytes.now }
     ensures value { result ≡ the_unsigned_at 2 bytes.now at }
     ensures fits { result < 2 ^ 16 }
@@ -33,7 +33,7 @@ pub fn count_at(bytes: &[u8], at: usize) -> usize
 }
 
 /// The bytes of this many numbers.
-pub fn numbers_size(width: Width, count: usize) -> usize
+pub(crate) fn numbers_size(width: Width, count: usize) -> usize
     requires { the_number_size width * count < 2 ^ 32 }
     ensures { result ≡ the_number_size width * count }
 {
@@ -41,7 +41,7 @@ pub fn numbers_size(width: Width, count: usize) -> usize
 }
 
 /// The word of the number at a place.
-pub fn number_word_at(bytes: &[u8], width: Width, at: usize) -> i32
+pub(crate) fn number_word_at(bytes: &[u8], width: Width, at: usize) -> i32
     requires { at + the_number_size width ≤ length bytes.now }
     ensures { result ≡ the_word_at (the_number_size width) bytes.now at }
 {

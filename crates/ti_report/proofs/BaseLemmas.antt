@@ -1,34 +1,19 @@
--- Offsets that are gone over one after another, and the parts of bytes that are an entry.
-use Rattle.std.proofs.Common.{◌≡◌, ◌∙◌, ◌+◌, ◌-◌, ◌*◌, ◌<◌, ◌≤◌, ◌==◌, ◌&&◌, ℕ, zero, suc, Bool, false, not, List, ◌∷◌, Fits, None, Option, ap, arith, cond, get_or, is_none, length, max, nat_cmp, nat_eq, refl, subst, sym, w8}
-use Rattle.std.specs.Ordering.{ord_max}
+-- The parts of bytes that are an entry.
+use Rattle.std.proofs.Common.{◌≡◌, ◌∙◌, ◌+◌, ◌<◌, ◌≤◌, ◌==◌, ◌&&◌, ℕ, zero, suc, Bool, false, not, List, Fits, None, Option, ap, arith, cond, get_or, is_none, length, nat_eq, refl, subst, sym, w8}
 use Rattle.std.specs.Prelude.{nat_le}
 use Rattle.ti_words.specs.Spelling.{Spells}
 use Rattle.ti_words.specs.Value.{EntryValue}
 use Rattle.ti_layout.specs.declared.fault.Refused.{Refused}
 use Rattle.ti_layout.specs.declared.part.Part.{Part}
 use Rattle.ti_layout.specs.Checks.{refusal_of}
-use Rattle.ti_layout.specs.Layout.{end_of, extended_after, extended_from, no_capability, places, standard}
+use Rattle.ti_layout.specs.Layout.{end_of, extended_after, extended_from, no_capability, standard, IsWithin}
 use Rattle.ti_layout.specs.Refusal.{refusal}
 use Rattle.ti_layout.specs.Table.{base_of}
-use Rattle.ti_entry.specs.Content.{extended}
+use Rattle.ti_layout.specs.Content.{extended}
 use Rattle.ti_entry.specs.Reading.{base_of_names}
-use Rattle.ti_entry.specs.Views.{IsWithin}
 use Rattle.ti_entry.proofs.ReopeningLemmas.{spelled_by}
 use Rattle.ti_entry.proofs.SpelledExtendedLemmas.{only}
 use Rattle.ti_report.specs.Bases.{bases_agree, bases_differ, items_after}
-
--- the places of the offsets that are left are the next one and those after it
-pub places_next : (from count i : ℕ) → i < count → places (from + 2 * i) 2 (count - i) ≡ (from + 2 * i) ∷ places (from + 2 * (i + 1)) 2 (count - (i + 1))
-places_next from count i lt =
-    let k : count - i ≡ suc (count - (i + 1)) = omega arith in
-    let next : from + 2 * i + 2 ≡ from + 2 * (i + 1) = omega arith in
-    ap (places (from + 2 * i) 2) k ∙ ap (λ p. (from + 2 * i) ∷ places p 2 (count - (i + 1))) next
-
-pub max_assoc : (a b c : ℕ) → max (max a b) c ≡ max a (max b c)
-max_assoc a b c = omega arith
-
-pub max_is : (a b : ℕ) → ord_max nat_cmp a b ≡ max a b
-max_is a b = grind arith
 
 -- what is known of an entry that goes on after its standard part
 pub record GoesOn (bytes : List ℕ) (v : EntryValue) (s : Part) : Type 0 where

@@ -1,22 +1,12 @@
 -- Where the names of an entry's own start, by three rules (term(5), extended storage format).
-use Rattle.std.specs.Prelude.{ℕ, ◌+◌, ◌==◌, ◌&&◌, ℤ, pos, negsuc, Bool, not, List, [], ◌∷◌, count_by, is_none, max, take}
+use Rattle.std.specs.Prelude.{ℕ, ◌+◌, ◌==◌, ◌&&◌, Bool, not, List, count_by, is_none, take}
 use Rattle.ti_words.specs.Texts.{is_nul}
-use Rattle.ti_words.specs.Word.{unsigned_at, word_at}
+use Rattle.ti_words.specs.Word.{unsigned_at}
 use Rattle.ti_layout.specs.declared.part.Part.{Part}
 use Rattle.ti_layout.specs.Layout.{extended_from, offsets_from, places, standard}
 use Rattle.ti_layout.specs.Refusal.{refusal}
-use Rattle.ti_layout.specs.Table.{base_of, size_at, table_of}
-use Rattle.ti_entry.specs.Content.{extended}
-
--- where the text at an offset ends with its NUL, if it is there
-abbrev pub end_at : List ℕ → ℤ → ℕ
-end_at table (pos place) = place + size_at table (pos place)
-end_at table (negsuc n) = 0
-
--- the last of these ends
-abbrev pub last_end : List ℕ → List ℕ → List ℕ → ℕ
-last_end bytes table [] = 0
-last_end bytes table (p ∷ ps) = max (end_at table (word_at 2 bytes p)) (last_end bytes table ps)
+use Rattle.ti_layout.specs.Table.{base_of, last_end, table_of}
+use Rattle.ti_layout.specs.Content.{extended}
 
 -- the word items of the extended header after a standard part: how many texts and names the table has
 abbrev pub items_after : Part → List ℕ → ℕ

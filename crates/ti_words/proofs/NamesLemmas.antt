@@ -18,7 +18,7 @@ use Rattle.ti_words.specs.declared.Kind.{Kind}
 use Rattle.ti_words.specs.declared.Kind.TheVariants as kinds
 use Rattle.ti_words.specs.declared.all_names.NameTable.{NameTable}
 use Rattle.ti_words.specs.declared.all_names.NameTable.TheVariants as tables
-use Rattle.ti_words.specs.AllNames.{HasOnePlaceIn, IsNamedIn, NameAndPlaceAgreeIn, Place, all_placed, has_index, kept, listed, place_in, placed, placed_from}
+use Rattle.ti_words.specs.AllNames.{HasNoEmptyNameIn, HasOnePlaceIn, IsNamedIn, NameAndPlaceAgreeIn, Place, all_placed, has_index, kept, listed, place_in, placed, placed_from}
 use Rattle.ti_words.specs.NameLists.{all_flags, all_numbers, all_texts}
 
 names_differ : (table : NameTable) → IsDistinct bytes_eq (keys_of (all_placed table))
@@ -136,3 +136,12 @@ inverse table kind index name = (
   λ e. place_only table (kind, index) name (named (has_index table kind index) _ name e),
   λ e. let (has, is) = place_found table name (kind, index) e in ap (λ b. cond b (slice_get (listed table kind) index) None) has ∙ is,
 )
+
+none_is_empty : (table : NameTable) → place_in table [] ≡ None
+unfolding all_flags all_numbers all_texts
+none_is_empty tables.Common = refl
+none_is_empty tables.All = refl
+none_is_empty tables.Long = refl
+
+pub not_empty : (table : NameTable) → HasNoEmptyNameIn table
+not_empty table kind index is = none-some (kind, index) (sym (none_is_empty table) ∙ place_only table (kind, index) [] is)

@@ -88,6 +88,10 @@ NameAndPlaceAgreeIn table =
     (kind : Kind) (index : ℕ) (name : List ℕ)
     → (name_in table kind index ≡ Some name) ↔ (place_in table name ≡ Some (kind, index))
 
+-- each name has a byte
+abbrev pub HasNoEmptyNameIn : NameTable → Type 0
+HasNoEmptyNameIn table = (kind : Kind) (index : ℕ) → ¬ IsNamedIn table kind index []
+
 -- the long names of a kind are as many as the short ones, so a capability has both or none
 abbrev pub EachHasALongName : Type 0
 EachHasALongName = (kind : Kind) → length (listed tables.Long kind) ≡ length (listed tables.All kind)

@@ -1,7 +1,7 @@
 use Rattle.std.proofs.Common.{◌≡◌, ◌∙◌, arith, sym}
 use Rattle.std.specs.Prelude.{Some}
 use Rattle.ti_layout.specs.Layout.{standard}
-use Rattle.ti_entry.specs.Content.{extended}
+use Rattle.ti_layout.specs.Content.{extended}
 use Rattle.ti_entry.proofs.ReopeningLemmas.{spelled_by}
 use Rattle.ti_entry.proofs.WholeStageLemmas.{view_of}
 use Rattle.ti_entry.proofs.reopening.reopen.Goals as goal

@@ -1,26 +1,23 @@
-use Rattle.std.proofs.Common.{◌+◌, ◌≤◌, ◌*◌, ◌∙◌, Some, length, refl, slice_get, sym, ap, subst, arith}
+use Rattle.std.proofs.Common.{◌≤◌, ◌∙◌, Some, length, refl, slice_get, sym, ap, subst, arith}
 use Rattle.std.proofs.lemmas.List.{take_all}
 use Rattle.ti_words.specs.Value.{NamedPart}
-use Rattle.ti_entry.specs.Content.{name_from}
 use Rattle.ti_entry.specs.Finding.{Lacks, names_of}
 use Rattle.ti_entry.proofs.IsLeastIndexLemmas.{lacks_more, named_at, named_count}
 use Rattle.ti_entry.proofs.extended.Extended.find_of.Goals as goal
 
-pub returns-then-is_name_at : goal.returns-then-is_name_at
-returns-then-is_name_at c =
+pub returns-then-is_name : goal.returns-then-is_name
+returns-then-is_name c =
     let e = c.self.inside in
     let at = named_at e.bytes.now e.part e.base c.args.kind c.loop-i.i (omega (arith, c.loop-i-test.true, c.count-count.ensures)) in
-    let place = ap (λ n. name_from e.bytes.now e.part e.base (n + 2 * c.loop-i.i)) c.names_of-from.ensures.place in
-    let found = ap (λ (v : NamedPart). slice_get (names_of v c.args.kind) c.loop-i.i) (sym c.self.view_is) ∙ at ∙ ap Some (sym place ∙ c.if-is_name_at.ensures.0 refl) in
+    let found = ap (λ (v : NamedPart). slice_get (names_of v c.args.kind) c.loop-i.i) (sym c.self.view_is) ∙ at ∙ ap Some (c.if-is_name.ensures.0 refl) in
     (found, c.loop-i.invariant)
 
 pub loop-i-preserved : goal.loop-i-preserved
 loop-i-preserved c =
     let e = c.self.inside in
     let at = named_at e.bytes.now e.part e.base c.args.kind c.loop-i.i (omega (arith, c.loop-i-test.true, c.count-count.ensures)) in
-    let place = ap (λ n. name_from e.bytes.now e.part e.base (n + 2 * c.loop-i.i)) c.names_of-from.ensures.place in
     lacks_more (names_of c.args.self.now c.args.kind) c.args.name.now _ c.loop-i.i c.loop-i.invariant
-    (ap (λ (v : NamedPart). slice_get (names_of v c.args.kind) c.loop-i.i) (sym c.self.view_is) ∙ at ∙ ap Some (sym place)) (λ f. let t = c.if-is_name_at.ensures.1 f in cc)
+    (ap (λ (v : NamedPart). slice_get (names_of v c.args.kind) c.loop-i.i) (sym c.self.view_is) ∙ at) (λ f. let t = c.if-is_name.ensures.1 f in cc)
 
 pub returns : goal.returns
 returns c =

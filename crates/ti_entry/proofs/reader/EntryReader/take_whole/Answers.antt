@@ -3,8 +3,7 @@ use Rattle.std.specs.Prelude.{ℕ}
 use Rattle.std.proofs.lemmas.List.{take_at}
 use Rattle.ti_layout.specs.Stages.{Stands}
 use Rattle.ti_layout.proofs.StageStepLemmas.{stands_on}
-use Rattle.ti_entry.specs.Reading.{Reading}
-use Rattle.ti_entry.specs.Views.{IsReading}
+use Rattle.ti_entry.specs.Reading.{Reading, IsReading}
 use Rattle.ti_entry.proofs.FeedLemmas.{reading_with}
 use Rattle.ti_entry.proofs.IsReadingLemmas.{none_held, takes, takes_short}
 use Rattle.ti_entry.proofs.reader.EntryReader.take_whole.Goals as goal

@@ -1,8 +1,8 @@
 -- The last end so far and those that are left have the last end of all.
 use Rattle.std.proofs.Common.{◌≡◌, ◌+◌, ◌*◌, ◌-◌, max}
 use Rattle.ti_layout.specs.Layout.{places}
-use Rattle.ti_report.specs.Bases.{last_end}
-use Rattle.ti_report.proofs.base.last_end.Given as goal
+use Rattle.ti_layout.specs.Table.{last_end}
+use Rattle.ti_layout.proofs.table.last_end.Given as goal
 
 abbrev pub invariant-texts : goal.invariant-texts
 invariant-texts l =

@@ -30,10 +30,6 @@ text_at table bytes p = text_of_word table (word_at 2 bytes p)
 abbrev pub name_from : List ℕ → Part → ℕ → ℕ → List ℕ
 name_from bytes p base place = text_from (table_of bytes p) (base + unsigned_at 2 bytes place)
 
--- the same, counted from the end of the texts
-abbrev pub name_at : List ℕ → Part → ℕ → List ℕ
-name_at bytes p = name_from bytes p (base_of bytes p)
-
 -- ---- what a part says
 
 abbrev pub flags_in : List ℕ → Part → List Flag

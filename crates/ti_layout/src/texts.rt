@@ -3,19 +3,20 @@
 //! The last text whose end was looked for is cached: a text that starts within it ends where it does. So texts that share
 //! one long slice are read in time linear in their count.
 
-ghost use Rattle.std.specs.Prelude.{◌≡◌, ◌+◌, ◌*◌, ◌≤◌, length, map};
-ghost use Rattle.ti_layout.specs.Layout.{places};
+ghost use Rattle.std.specs.Prelude.{◌≡◌, ◌+◌, ◌≤◌, length};
+ghost use Rattle.ti_layout.specs.Layout.{IsWithin};
 ghost use Rattle.ti_layout.specs.Table.{text_from as the_text_from};
-ghost use Rattle.ti_entry.specs.Content.{text_at as the_text_at};
+ghost use Rattle.ti_layout.specs.Content.{texts_in};
 
-use crate::item::{place_at, text_at};
+use crate::part::Part;
+use crate::string_table::{text_from, text_of};
+use crate::word::word_at;
 use std::marker::Model;
-use ti_layout::text_from;
 use ti_words::Text;
 
 /// The texts whose offsets stand one after the other from a place on. Contracts see the list of them.
 #[derive(Drop)]
-pub(crate) struct Texts<'a> {
+pub struct Texts<'a> {
     table: &'a [u8],
     bytes: &'a [u8],
     from: usize,
@@ -30,7 +31,7 @@ impl<'a> Model for Texts<'a> {
     ghost use Rattle.ti_words.specs.Texts.{TextValue};
     ghost use Rattle.ti_layout.specs.Layout.{places};
     ghost use Rattle.ti_layout.specs.Table.{text_from};
-    ghost use Rattle.ti_entry.specs.Content.{text_at};
+    ghost use Rattle.ti_layout.specs.Content.{text_at};
 
     ghost Value = { List TextValue };
 
@@ -40,18 +41,21 @@ impl<'a> Model for Texts<'a> {
         × (t.cached.now ≡ text_from t.table.now t.start) };
 }
 
-/// The texts of a table, whose offsets stand one after the other from a place on.
-pub(crate) fn texts_of<'a>(table: &'a [u8], bytes: &'a [u8], from: usize, count: usize) -> Texts<'a>
-    requires { from + 2 * count ≤ length bytes.now }
-    ensures { result ≡ map (the_text_at table.now bytes.now) (places from 2 count) }
-{
-    Texts {
-        table,
-        bytes,
-        from,
-        count,
-        start: 0,
-        cached: text_from(table, 0),
+impl Part {
+    /// Its texts, to be read one after another.
+    pub fn texts<'a>(&self, bytes: &'a [u8]) -> Texts<'a>
+        requires { IsWithin bytes.now self.now }
+        ensures { result ≡ texts_in bytes.now self.now }
+    {
+        let table = self.table(bytes);
+        Texts {
+            table,
+            bytes,
+            from: self.offsets_from(),
+            count: self.texts,
+            start: 0,
+            cached: text_from(table, 0),
+        }
     }
 }
 
@@ -60,18 +64,19 @@ impl<'a> Texts<'a> {
     ghost use Rattle.ti_words.specs.Texts.{AbsentText, text_value};
 
     /// The text at an index; at or above the count Absent.
-    #[tactic(auto, using(ti_layout::proofs::PlacesLemmas::item_at, ti_layout::proofs::PlacesLemmas::no_item_at, crate::proofs::TextLemmas::tail_is))]
-    pub(crate) fn text(&mut self, i: usize) -> Text<'a>
+    #[tactic(auto, using(crate::proofs::PlacesLemmas::item_at, crate::proofs::PlacesLemmas::no_item_at, crate::proofs::TextLemmas::tail_is))]
+    pub fn text(&mut self, i: usize) -> Text<'a>
         ensures value { text_value result ≡ get_or self.old i AbsentText }
         ensures same { self.new ≡ self.old }
     {
         if i >= self.count {
             return Text::Absent;
         }
-        let at = self.from + 2 * i;
-        let Some(place) = place_at(self.bytes, at) else {
-            return text_at(self.table, self.bytes, at);
-        };
+        let offset = word_at(self.bytes, self.from + 2 * i);
+        if offset < 0 {
+            return text_of(self.table, offset);
+        }
+        let place = offset as usize;
         let (start, cached) = cached_text(self.table, self.start, self.cached, place);
         self.start = start;
         self.cached = cached;

@@ -1,7 +1,7 @@
 use Rattle.std.proofs.Common.{sym, ◌∙◌}
 use lib.Pointwise.{bytes_decides}
-use Rattle.ti_entry.proofs.IsLeastIndexLemmas.{told_by_front}
-use Rattle.ti_entry.proofs.item.is_until_nul.Goals as goal
+use Rattle.ti_layout.proofs.UntilNulLemmas.{told_by_front}
+use Rattle.ti_layout.proofs.string_table.is_until_nul.Goals as goal
 
 pub returns : goal.returns
 returns c =

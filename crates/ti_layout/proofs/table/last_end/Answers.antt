@@ -1,9 +1,9 @@
 use Rattle.std.proofs.Common.{◌∙◌, ◌+◌, ◌*◌, ◌-◌, ap, max, sym}
 use Rattle.ti_words.specs.Word.{word_at}
 use Rattle.ti_layout.specs.Layout.{places}
-use Rattle.ti_report.specs.Bases.{end_at, last_end}
-use Rattle.ti_report.proofs.BaseLemmas.{max_assoc, max_is, places_next}
-use Rattle.ti_report.proofs.base.last_end.Goals as goal
+use Rattle.ti_layout.specs.Table.{end_at, last_end}
+use Rattle.ti_layout.proofs.LastEndLemmas.{max_assoc, max_is, places_next}
+use Rattle.ti_layout.proofs.table.last_end.Goals as goal
 
 pub texts-preserved : goal.texts-preserved
 texts-preserved c =
