@@ -35,6 +35,27 @@ TEXT_NAMES = {
 COMMON_NAMES = {"flag": FLAG_NAMES, "number": NUMBER_NAMES, "text": TEXT_NAMES}
 
 
+@dataclass(frozen=True)
+class Format:
+    """What a format of entries is: its name, the number that an entry starts with, and a number of it for `struct`."""
+
+    name: str
+    magic: int
+    number: str
+
+    @property
+    def size(self):
+        return struct.calcsize(self.number)
+
+    @property
+    def greatest(self):
+        return 2**(8 * self.size - 1) - 1
+
+
+FORMATS = LEGACY, WIDE = Format("legacy", 0o432, "<h"), Format("wide", 0o1036, "<i")
+FORMAT_OF = {made.magic: made for made in FORMATS}
+
+
 class Refused(Exception):
     """The first check that fails, and its place."""
 
@@ -50,7 +71,7 @@ class Unfit(Exception):
 class Entry:
     """Numbers are -1 where absent and -2 where cancelled; extended items are pairs of a name and a mark."""
 
-    wide: bool
+    format: Format
     names: bytes
     flags: list = field(default_factory=list)
     numbers: list = field(default_factory=list)
@@ -104,11 +125,11 @@ class Input:
             flags.append(FLAGS[data[0]])
         return flags
 
-    def numbers(self, count, wide):
+    def numbers(self, count, form):
         numbers = []
         for _ in range(count):
-            place, data = self.take(4 if wide else 2)
-            number = struct.unpack("<i" if wide else "<h", data)[0]
+            place, data = self.take(form.size)
+            number = struct.unpack(form.number, data)[0]
             if number < -2:
                 raise Refused("BadNumber", place)
             numbers.append(number)
@@ -141,13 +162,12 @@ def read(data):
     source = Input(data)
     source.need(2)
     magic = data[0] + 256 * data[1]
-    if magic not in (0o432, 0o1036):
+    if magic not in FORMAT_OF:
         raise Refused("BadMagic", 0)
-    wide = magic == 0o1036
-    size = 4 if wide else 2
+    form = FORMAT_OF[magic]
     source.at = 2
     names, flags, numbers, texts, table = [source.count("BadHeader") for _ in range(5)]
-    end = 12 + names + flags + (names + flags) % 2 + size * numbers + 2 * texts + table
+    end = 12 + names + flags + (names + flags) % 2 + form.size * numbers + 2 * texts + table
     if end > LIMIT:
         raise Refused("HeaderTooBig", 0)
     if names < 2:
@@ -157,11 +177,11 @@ def read(data):
         if byte == b"\0":
             raise Refused("BadNames", place)
     source.nul("BadNames")
-    entry = Entry(wide, data[12:11 + names])
+    entry = Entry(form, data[12:11 + names])
     entry.flags = source.flags(flags)
     if (names + flags) % 2:
         source.nul("BadPad")
-    entry.numbers = source.numbers(numbers, wide)
+    entry.numbers = source.numbers(numbers, form)
     offsets = source.offsets(texts, table)
     entry.texts = texts_at(source.take(table)[1], offsets)
     if len(data) > end:
@@ -170,7 +190,6 @@ def read(data):
 
 
 def read_extended(source, entry, end, table):
-    size = 4 if entry.wide else 2
     start = end + table % 2
     if start + 10 > LIMIT:
         raise Refused("ExtendedTooBig", end)
@@ -180,13 +199,13 @@ def read_extended(source, entry, end, table):
     source.at += 2
     extended_table = source.count("BadExtendedHeader")
     count = flags + numbers + texts
-    end = start + 10 + flags + flags % 2 + size * numbers + 2 * texts + 2 * count + extended_table
+    end = start + 10 + flags + flags % 2 + entry.format.size * numbers + 2 * texts + 2 * count + extended_table
     if end > LIMIT:
         raise Refused("ExtendedTooBig", start)
     found_flags = source.flags(flags)
     if flags % 2:
         source.nul("BadPad")
-    found_numbers = source.numbers(numbers, entry.wide)
+    found_numbers = source.numbers(numbers, entry.format)
     offsets = source.offsets(texts, extended_table)
     name_offsets = [(source.at, source.count("BadExtendedName")) for _ in range(count)]
     table = source.take(extended_table)[1]
@@ -220,7 +239,7 @@ def table_of(texts):
     return offsets, table
 
 
-def encode(entry, wide):
+def encode(entry, form):
     """The canonical bytes in a format, or Unfit."""
     names = entry.extended_names()
     extended_texts = [text for _, text in entry.extended_texts]
@@ -229,15 +248,15 @@ def encode(entry, wide):
         raise Unfit("BadName")
     if any(isinstance(text, bytes) and 0 in text for text in entry.texts + extended_texts):
         raise Unfit("NulInText")
-    if any(number > (2**31 - 1 if wide else 2**15 - 1) for number in entry.numbers + extended_numbers):
+    if any(number > form.greatest for number in entry.numbers + extended_numbers):
         raise Unfit("NumberOutOfRange")
 
     def numbers_of(numbers):
-        return b"".join(struct.pack("<i" if wide else "<h", number) for number in numbers)
+        return b"".join(struct.pack(form.number, number) for number in numbers)
 
     offsets, table = table_of(entry.texts)
     counts = [len(entry.names) + 1, len(entry.flags), len(entry.numbers), len(entry.texts), len(table)]
-    out = word(0o1036 if wide else 0o432) + b"".join(map(word, counts))
+    out = word(form.magic) + b"".join(map(word, counts))
     out += entry.names + b"\0" + bytes(FLAG_BYTES[flag] for flag in entry.flags)
     out += b"\0" * (len(out) % 2) + numbers_of(entry.numbers) + offsets + table
     if names:
@@ -282,7 +301,7 @@ def text_line(kind, name, text, escape):
 def listing(entry, names, escape):
     """What `show` writes, with labels by these names; under `escape` all that comes from the entry is in the notation."""
     own_names = notation(entry.names) if escape else entry.names
-    lines = [b"format: " + (b"wide" if entry.wide else b"legacy") + b"\nnames: " + own_names + b"\n"]
+    lines = [b"format: " + entry.format.name.encode() + b"\nnames: " + own_names + b"\n"]
     lines += [flag_line(b"flag ", label(names["flag"], i), flag) for i, flag in enumerate(entry.flags)]
     lines += [number_line(b"number ", label(names["number"], i), number) for i, number in enumerate(entry.numbers)]
     lines += [text_line(b"text ", label(names["text"], i), text, escape) for i, text in enumerate(entry.texts)]
@@ -307,7 +326,7 @@ def text_part(text):
 
 def objects(entry, names):
     """The objects of `show --json`, with labels by these names."""
-    made = [{"kind": "format", "value": "wide" if entry.wide else "legacy"}]
+    made = [{"kind": "format", "value": entry.format.name}]
     made.append({"kind": "names", "value": notation(entry.names).decode()})
     parts = {"flag": flag_part, "number": number_part, "text": text_part}
     for kind, values in (("flag", entry.flags), ("number", entry.numbers), ("text", entry.texts)):
@@ -329,7 +348,7 @@ def items(entry, names):
     standard capability, the name of an extended one, of which the first counts."""
     makers = {"flag": flag_line, "number": number_line, "text": lambda *words: text_line(*words, True)}
     own_names = notation(entry.names)
-    found = {"head": {0: b"format: " + (b"wide" if entry.wide else b"legacy") + b"\n", 1: b"names: " + own_names + b"\n"}}
+    found = {"head": {0: b"format: " + entry.format.name.encode() + b"\n", 1: b"names: " + own_names + b"\n"}}
     for kind, values in (("flag", entry.flags), ("number", entry.numbers), ("text", entry.texts)):
         word = kind.encode() + b" "
         found[kind] = {i: makers[kind](word, label(names[kind], i), value) for i, value in enumerate(values)}
@@ -354,7 +373,7 @@ def values_by_item(entry):
         return of_kind(value) or {"state": "absent"}
 
     of_kinds = {"flag": flag_part, "number": number_part, "text": text_part}
-    found = {"head": {0: {"value": "wide" if entry.wide else "legacy"}, 1: {"value": notation(entry.names).decode()}}}
+    found = {"head": {0: {"value": entry.format.name}, 1: {"value": notation(entry.names).decode()}}}
     for kind, values in (("flag", entry.flags), ("number", entry.numbers), ("text", entry.texts)):
         found[kind] = {i: part(of_kinds[kind], value) for i, value in enumerate(values)}
     for kind, pairs in (("flag", entry.extended_flags), ("number", entry.extended_numbers), ("text", entry.extended_texts)):

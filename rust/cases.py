@@ -102,7 +102,7 @@ def expanding(made: ModuleType, entry: bytes) -> Iterator[Case]:
     text = a_capability(made).replace(b"\0", b"")
     for name, data in [
         (random.choice([*NAMES, f"#{random.randrange(420)}"]), entry),
-        ("Ss", made.entries.encode(made.Entry(False, b"t", extended_texts=[(b"Ss", text)]), False)),
+        ("Ss", made.entries.encode(made.Entry(made.entries.LEGACY, b"t", extended_texts=[(b"Ss", text)]), made.entries.LEGACY)),
     ]:
         rate, lines = random.choice([0, 1, 333, 9600, 1_000_000]), random.choice([0, 1, 2, 24, 65_535])
         options = [form(), "--all-names", f"--rate={rate}", f"--lines={lines}", *random.choice([[], ["--xon"]])]

@@ -44,7 +44,7 @@ fn push_line(out: &mut Vec<u8>, word: &str, name: Name<'_>, rest: &str) {
 
 fn show(data: &[u8]) -> Outcome {
     let entry = entry_of(data)?;
-    let width = if entry.width() == Width::Wide { "wide" } else { "legacy" };
+    let width = format!("{:?}", entry.width()).to_lowercase();
     let mut out = [format!("format: {width}\nnames: ").as_bytes(), entry.names(), b"\n"].concat();
     // The listing has all standard capabilities before the extended ones.
     for wants_own in [false, true] {

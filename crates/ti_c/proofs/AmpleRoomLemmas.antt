@@ -3,7 +3,6 @@ use Rattle.std.proofs.Common.{◌≡◌, ℕ, suc, ◌+◌, ◌*◌, ◌≤◌, 
 use Rattle.std.proofs.lemmas.List.{length-append, length-map}
 use Rattle.ti_words.specs.declared.Number.{Number}
 use Rattle.ti_words.specs.declared.Width.{Width}
-use Rattle.ti_words.specs.declared.Width.TheVariants.{Legacy, Wide}
 use Rattle.ti_words.specs.Marks.{byte_of_flag}
 use Rattle.ti_words.specs.Value.{PartValue, NamedPart, EntryValue}
 use Rattle.ti_words.specs.Spelling.{Spells, SpellsPart, Strings, HasStandardPart, HasExtendedPart, HasNoExtendedPart, Each, mark_in, unnamed, part_names, count_word, pad, numbers_of, join, counts_spelling, part_spelling}
@@ -19,8 +18,7 @@ each_length R (x ∷ xs) (y ∷ ys) e = ap suc (each_length R xs ys e.1)
 
 -- a number takes two bytes or more
 numbers_size : (w : Width) (ns : List Number) → 2 * length ns ≤ length (numbers_of w ns)
-numbers_size Legacy ns = let e = length_numbers Legacy ns in omega arith
-numbers_size Wide ns = let e = length_numbers Wide ns in omega arith
+numbers_size w ns = let e = length_numbers w ns in grind arith
 
 part_size : (w : Width) (n : ℕ) (p : PartValue) (names : List (List ℕ)) (s : Strings) (rest : List ℕ) → SpellsPart w s p names
     → length p.flags + 2 * length p.numbers + 2 * length p.texts + 2 * length names + length rest ≤ length (join (part_spelling w n p s) rest)

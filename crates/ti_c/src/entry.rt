@@ -5,18 +5,18 @@
 
 ghost use Rattle.std.specs.Prelude.{◌≡◌, ◌≢◌, ℕ, ◌+◌, ◌*◌, ◌≤◌, ◌⊎◌, ◌++◌, ◌↔◌, IsTrue, length, map, take};
 ghost use Rattle.ti_words.specs.Marks.{word_of_number as the_word_of_number};
-ghost use Rattle.ti_words.specs.Spelling.{mark_in, part_names};
+ghost use Rattle.ti_words.specs.Spelling.{part_names};
 ghost use Rattle.ti_words.specs.Texts.{text_value};
 ghost use Rattle.ti_words.specs.Value.{EntryValue};
-ghost use Rattle.ti_words.specs.Widths.{number_size};
+ghost use Rattle.ti_words.specs.Widths.{number_size as the_number_size};
 ghost use Rattle.ti_entry.specs.Finding.{names_of};
 ghost use Rattle.ti_c.specs.Numbers.{done, room_too_small};
 ghost use Rattle.ti_c.specs.Entries.{flag_mark as the_flag_mark, text_shown, text_held, bytes_held, itself, flag_marks, number_words, texts_shown, StartsWith, HasRoom, HasRoomIn, AreAmple, AreKept, StayInPlace, AreCountsOf, IsRead, SpellsSome, ForEntry, IsEntryRefusedAs};
 
 use crate::faults::{DONE, ROOM_TOO_SMALL, entry_number};
 use crate::names::Bytes;
-use ti_entry::{Entry, Extended, read};
-use ti_words::{Flag, Kind, Number, Text, Width};
+use ti_entry::{Entry, Extended, PartView, read};
+use ti_words::{Flag, Kind, Number, Text, number_size};
 
 /// A text of an entry: its bytes if the mark is 0; -1 is absent and -2 cancelled, with no bytes.
 #[repr(C)]
@@ -99,70 +99,36 @@ fn put_text<'a>(item: &mut TextItem<'a>, text: Text<'a>)
     }
 }
 
-/// Puts the flags of an entry at the front of an array.
-fn put_flags(entry: &Entry<'_>, flags: &mut [i8])
-    requires { length entry.now.standard.flags ≤ length flags.old }
-    ensures { StartsWith itself flags.old flags.new (map the_flag_mark entry.now.standard.flags) }
-{
-    for i in 0..entry.flag_count() {
-        flags[i] = flag_mark(entry.flag(i));
-    }
-}
-
-/// Puts the extended flags into an array, from a place on.
-fn put_extended_flags(extended: &Extended<'_>, flags: &mut [i8], from: usize)
-    requires { from + length extended.now.flags ≤ length flags.old }
+/// Puts the flags of a part into an array, from a place on.
+fn put_flags(part: &PartView<'_>, flags: &mut [i8], from: usize)
+    requires { from + length part.now.flags ≤ length flags.old }
     ensures { StartsWith itself flags.old flags.new
-        (map itself (take from flags.old)
-        ++ map the_flag_mark (map mark_in extended.now.flags)) }
+        (map itself (take from flags.old) ++ map the_flag_mark part.now.flags) }
 {
-    for i in 0..extended.flag_count() {
-        flags[from + i] = flag_mark(extended.flag(i));
+    for i in 0..part.flag_count() {
+        flags[from + i] = flag_mark(part.flag(i));
     }
 }
 
-/// Puts the numbers of an entry at the front of an array.
-fn put_numbers(entry: &Entry<'_>, numbers: &mut [i32])
-    requires { length entry.now.standard.numbers ≤ length numbers.old }
+/// Puts the numbers of a part into an array, from a place on.
+fn put_numbers(part: &PartView<'_>, numbers: &mut [i32], from: usize)
+    requires { from + length part.now.numbers ≤ length numbers.old }
     ensures { StartsWith itself numbers.old numbers.new
-        (map the_word_of_number entry.now.standard.numbers) }
+        (map itself (take from numbers.old) ++ map the_word_of_number part.now.numbers) }
 {
-    for i in 0..entry.number_count() {
-        numbers[i] = number_word(entry.number(i));
+    for i in 0..part.number_count() {
+        numbers[from + i] = number_word(part.number(i));
     }
 }
 
-/// Puts the extended numbers into an array, from a place on.
-fn put_extended_numbers(extended: &Extended<'_>, numbers: &mut [i32], from: usize)
-    requires { from + length extended.now.numbers ≤ length numbers.old }
-    ensures { StartsWith itself numbers.old numbers.new
-        (map itself (take from numbers.old)
-        ++ map the_word_of_number (map mark_in extended.now.numbers)) }
-{
-    for i in 0..extended.number_count() {
-        numbers[from + i] = number_word(extended.number(i));
-    }
-}
-
-/// Puts the texts of an entry at the front of an array.
-fn put_texts<'a>(entry: &Entry<'a>, texts: &mut [TextItem<'a>])
-    requires { length entry.now.standard.texts ≤ length texts.old }
-    ensures { StartsWith text_held texts.old texts.new (map text_shown entry.now.standard.texts) }
-{
-    for i in 0..entry.text_count() {
-        put_text(&mut texts[i], entry.text(i));
-    }
-}
-
-/// Puts the extended texts into an array, from a place on.
-fn put_extended_texts<'a>(extended: &Extended<'a>, texts: &mut [TextItem<'a>], from: usize)
-    requires { from + length extended.now.texts ≤ length texts.old }
+/// Puts the texts of a part into an array, from a place on.
+fn put_texts<'a>(part: &PartView<'a>, texts: &mut [TextItem<'a>], from: usize)
+    requires { from + length part.now.texts ≤ length texts.old }
     ensures { StartsWith text_held texts.old texts.new
-        (map text_held (take from texts.old)
-        ++ map text_shown (map mark_in extended.now.texts)) }
+        (map text_held (take from texts.old) ++ map text_shown part.now.texts) }
 {
-    for i in 0..extended.text_count() {
-        put_text(&mut texts[from + i], extended.text(i));
+    for i in 0..part.text_count() {
+        put_text(&mut texts[from + i], part.text(i));
     }
 }
 
@@ -223,12 +189,9 @@ fn has_room(
 
 /// How many bits the numbers of an entry have.
 fn number_bits(entry: &Entry<'_>) -> u32
-    ensures { result ≡ 8 * number_size entry.now.width }
+    ensures { result ≡ 8 * the_number_size entry.now.width }
 {
-    match entry.width() {
-        Width::Legacy => 16,
-        Width::Wide => 32,
-    }
+    8 * number_size(entry.width()) as u32
 }
 
 /// Puts the names of an entry, and how many capabilities it has, into the counts. Their place is no part of it.
@@ -277,12 +240,13 @@ fn fill<'a>(entry: &Entry<'a>, extended: &Extended<'a>, arrays: &mut Arrays<'a, 
         (part_names entry.now.extended) }
     ensures stay { StayInPlace arrays.old arrays.new }
 {
-    put_flags(entry, arrays.flags);
-    put_extended_flags(extended, arrays.flags, entry.flag_count());
-    put_numbers(entry, arrays.numbers);
-    put_extended_numbers(extended, arrays.numbers, entry.number_count());
-    put_texts(entry, arrays.texts);
-    put_extended_texts(extended, arrays.texts, entry.text_count());
+    let (standard, own) = (entry.standard(), extended.unnamed());
+    put_flags(&standard, arrays.flags, 0);
+    put_flags(&own, arrays.flags, standard.flag_count());
+    put_numbers(&standard, arrays.numbers, 0);
+    put_numbers(&own, arrays.numbers, standard.number_count());
+    put_texts(&standard, arrays.texts, 0);
+    put_texts(&own, arrays.texts, standard.text_count());
     put_all_names(extended, arrays.names);
 }
 

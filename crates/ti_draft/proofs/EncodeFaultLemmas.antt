@@ -11,7 +11,7 @@ use Rattle.ti_words.specs.Widths.{number_size}
 use Rattle.ti_words.specs.Spelling.{unnamed, part_names}
 use Rattle.ti_draft.specs.Canonical.{canonical, texts_table, present_count}
 use Rattle.ti_draft.specs.Lengths.{AreFew, part_length}
-use Rattle.ti_draft.specs.Unfit.{encode_fault, has_nul, text_has_nul, is_out_of_range}
+use Rattle.ti_draft.specs.EncodeFaults.{encode_fault, has_nul, text_has_nul, is_out_of_range}
 use Rattle.ti_draft.proofs.LengthLemmas.{length_standard, length_extended, length_parts, texts_table_append}
 
 -- what has no fault, part by part

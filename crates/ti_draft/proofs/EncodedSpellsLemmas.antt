@@ -12,7 +12,7 @@ use Rattle.ti_words.specs.Value.{PartValue, NamedPart, EntryValue, no_named}
 use Rattle.ti_words.specs.Spelling.{Spells, SpellsPart, HasNoExtendedPart, HasExtendedPart, HasNoNul, FitsWidth, Has, IsText, IsName, Each, count_word, texts_size, unnamed, part_names}
 use Rattle.ti_draft.specs.Canonical.{canonical, texts_table, text_words, strings_of, standard_strings, extended_strings, items_of, extended_bytes}
 use Rattle.ti_draft.specs.Lengths.{AreFew}
-use Rattle.ti_draft.specs.Unfit.{encode_fault, has_nul, text_has_nul, is_out_of_range}
+use Rattle.ti_draft.specs.EncodeFaults.{encode_fault, has_nul, text_has_nul, is_out_of_range}
 use Rattle.ti_draft.proofs.LengthLemmas.{texts_table_append}
 use Rattle.ti_draft.proofs.EncodeFaultLemmas.{fit, few_standard, few_extended}
 
@@ -47,13 +47,13 @@ has_at pre ys post place at = record { found = ap (take (length ys)) (drop_at pr
 texts_put : (pre : List ℕ) (from : ℕ) (ts : List TextValue) (post : List ℕ) → length pre ≡ from → AllByRecursion IsClean ts
     → Each (IsText (pre ++ (texts_table ts ++ post))) (text_words from ts) ts
 texts_put pre from [] post at h = tt
-texts_put pre from (AbsentText ∷ ts) post at h = (refl, texts_put pre from ts post at h.1)
-texts_put pre from (CancelledText ∷ ts) post at h = (refl, texts_put pre from ts post at h.1)
+texts_put pre from (AbsentText ∷ ts) post at h = (refl, texts_put pre (from + 0) ts post (omega arith) h.1)
+texts_put pre from (CancelledText ∷ ts) post at h = (refl, texts_put pre (from + 0) ts post (omega arith) h.1)
 texts_put pre from (TextOf text ∷ ts) post at h =
     let one = text ++ 0 ∷ [] in
-    let rest = texts_put (pre ++ one) (from + length text + 1) ts post (simp length-append (omega arith)) h.1 in
-    let P : List ℕ → Type 0 = λ table. Each (IsText (pre ++ table)) (pos from ∷ text_words (from + length text + 1) ts) (TextOf text ∷ ts) in
-    let Q : List ℕ → Type 0 = λ table. Each (IsText table) (text_words (from + length text + 1) ts) ts in
+    let rest = texts_put (pre ++ one) (from + (length text + 1)) ts post (simp length-append (omega arith)) h.1 in
+    let P : List ℕ → Type 0 = λ table. Each (IsText (pre ++ table)) (pos from ∷ text_words (from + (length text + 1)) ts) (TextOf text ∷ ts) in
+    let Q : List ℕ → Type 0 = λ table. Each (IsText table) (text_words (from + (length text + 1)) ts) ts in
     subst P (sym (append_assoc one (texts_table ts) post)) ((from, refl, h.0, has_at pre one (texts_table ts ++ post) from at), subst Q (append_assoc pre one (texts_table ts ++ post)) rest)
 
 names_put : (pre : List ℕ) (base from : ℕ) (names : List (List ℕ)) → length pre ≡ base + from → AllByRecursion IsClean (map TextOf names)
@@ -61,8 +61,8 @@ names_put : (pre : List ℕ) (base from : ℕ) (names : List (List ℕ)) → len
 names_put pre base from [] at h = tt
 names_put pre base from (name ∷ names) at h =
     let one = name ++ 0 ∷ [] in
-    let rest = names_put (pre ++ one) base (from + length name + 1) names (simp length-append (omega arith)) h.1 in
-    let P : List ℕ → Type 0 = λ table. Each (IsName table base) (text_words (from + length name + 1) (map TextOf names)) names in
+    let rest = names_put (pre ++ one) base (from + (length name + 1)) names (simp length-append (omega arith)) h.1 in
+    let P : List ℕ → Type 0 = λ table. Each (IsName table base) (text_words (from + (length name + 1)) (map TextOf names)) names in
     ((from, refl, h.0, has_at pre one (texts_table (map TextOf names)) (base + from) at), subst P (append_assoc pre one (texts_table (map TextOf names))) rest)
 
 base_is : (ts : List TextValue) → texts_size ts ≡ length (texts_table ts)

@@ -2,7 +2,7 @@
 use Rattle.std.specs.Prelude.{ℕ, ◌+◌, ℤ, pos, negsuc, List, [], ◌∷◌, ◌++◌, length, map, if◌then◌else◌, ◌==◌}
 use Rattle.ti_words.specs.Texts.{TextValue, AbsentText, CancelledText, TextOf}
 use Rattle.ti_words.specs.Value.{PartValue, NamedPart, EntryValue}
-use Rattle.ti_words.specs.Spelling.{Strings, join, count_word, mark_in, unnamed, part_names, standard_spelling, extended_spelling}
+use Rattle.ti_words.specs.Spelling.{Strings, join, count_word, mark_in, text_size, unnamed, part_names, standard_spelling, extended_spelling}
 
 -- the texts that are there, in their order, each with its NUL
 abbrev pub text_bytes : TextValue → List ℕ
@@ -14,12 +14,16 @@ abbrev pub texts_table : List TextValue → List ℕ
 texts_table [] = []
 texts_table (t ∷ ts) = text_bytes t ++ texts_table ts
 
--- where each of them was put, from a place on, or its mark
+-- where a text is put, or its mark
+abbrev pub text_word : ℕ → TextValue → ℤ
+text_word place (TextOf text) = pos place
+text_word place AbsentText = negsuc 0
+text_word place CancelledText = negsuc 1
+
+-- the same of each, from a place on
 abbrev pub text_words : ℕ → List TextValue → List ℤ
 text_words from [] = []
-text_words from (TextOf text ∷ ts) = pos from ∷ text_words (from + length text + 1) ts
-text_words from (AbsentText ∷ ts) = negsuc 0 ∷ text_words from ts
-text_words from (CancelledText ∷ ts) = negsuc 1 ∷ text_words from ts
+text_words from (t ∷ ts) = text_word from t ∷ text_words (from + text_size t) ts
 
 -- how many texts are there
 abbrev pub present_count : List TextValue → ℕ

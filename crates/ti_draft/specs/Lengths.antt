@@ -1,8 +1,8 @@
--- Canonical bytes piece by piece: how long they are, in numbers that 64 bits hold, and single words.
+-- Canonical bytes piece by piece: how long they are, in numbers that 64 bits hold.
 -- Only private functions of the crate cite this.
-use Rattle.std.specs.Prelude.{ℕ, ◌+◌, ◌-◌, ◌*◌, ◌^◌, ◌<◌, ℤ, pos, negsuc, List, length, min}
+use Rattle.std.specs.Prelude.{ℕ, ◌+◌, ◌-◌, ◌*◌, ◌^◌, ◌<◌, List, length, min}
 use Rattle.ti_words.specs.declared.Width.{Width}
-use Rattle.ti_words.specs.Texts.{TextValue, AbsentText, CancelledText, TextOf}
+use Rattle.ti_words.specs.Texts.{TextValue}
 use Rattle.ti_words.specs.Value.{PartValue}
 use Rattle.ti_words.specs.Widths.{number_size}
 use Rattle.ti_draft.specs.Canonical.{present_count, strings_of}
@@ -23,9 +23,3 @@ pub record AreFew (p : PartValue) (names : List TextValue) : Type 0 where
   pub texts : length p.texts < 2 ^ 15
   pub items : present_count p.texts + length names < 2 ^ 15
   pub table : length (strings_of p names).table < 2 ^ 15
-
--- the word of a text that is put at a place, or of its mark
-abbrev pub text_word : ℕ → TextValue → ℤ
-text_word place AbsentText = negsuc 0
-text_word place CancelledText = negsuc 1
-text_word place (TextOf text) = pos place

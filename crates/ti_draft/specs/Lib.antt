@@ -1,5 +1,6 @@
 pub mod Canonical
 pub mod Lists
 pub mod Lengths
-pub mod Unfit
+pub mod EncodeFaults
 pub mod Sizes
+pub mod Additions

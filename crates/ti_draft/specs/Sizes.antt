@@ -10,4 +10,4 @@ use Rattle.ti_draft.specs.Lengths.{capped_count}
 pub record AreSizes (sizes : Sizes) (v : EntryValue) : Type 0 where
   pub table : sizes.table ≡ capped_count (length (standard_strings v).table)
   pub extended_table : sizes.extended_table ≡ capped_count (length (extended_strings v).table)
-  pub whole : sizes.whole ≡ capped_count (length (canonical v))
+  pub entry : sizes.entry ≡ capped_count (length (canonical v))

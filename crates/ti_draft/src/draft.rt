@@ -3,9 +3,10 @@
 //! A draft lends its names and texts and copies none. A push takes memory as a vector does: now and then, and then for
 //! as many again as there are.
 
-ghost use Rattle.std.specs.Prelude.{◌≡◌, ◌==◌, ◌+◌, ◌++◌, ◌∷◌, [], length, map, IsOk, OnOk, OnErr};
+ghost use Rattle.std.specs.Prelude.{◌≡◌, ◌==◌, ◌+◌, ◌∷◌, [], length, map, IsOk, OnOk, OnErr};
 ghost use Rattle.ti_words.specs.Texts.{text_value, TextOf};
 ghost use Rattle.ti_words.specs.Spelling.{mark_in, part_names};
+ghost use Rattle.ti_draft.specs.Additions.{with_flags, with_numbers, with_texts, with_own_flags, with_own_numbers, with_own_texts};
 ghost use Rattle.ti_draft.specs.Lists.{names_lent};
 
 use crate::named::Named;
@@ -91,9 +92,7 @@ impl<'a, A: Allocator> Draft<'a, A> {
     ///
     /// Memory was refused, and the draft is as before. The same holds for each push.
     pub fn push_flag(&mut self, flag: Flag) -> Result<(), AllocError>
-        ensures added { OnOk result (self.new ≡ record self.old {
-          standard = record self.old.standard { flags = self.old.standard.flags ++ flag ∷ [] };
-        }) }
+        ensures added { OnOk result (self.new ≡ with_flags self.old (flag ∷ [])) }
         ensures unchanged { OnErr result (self.new ≡ self.old) }
     {
         self.flags.push(flag)?;
@@ -102,9 +101,7 @@ impl<'a, A: Allocator> Draft<'a, A> {
 
     /// Adds a number after the others.
     pub fn push_number(&mut self, number: Number) -> Result<(), AllocError>
-        ensures added { OnOk result (self.new ≡ record self.old {
-          standard = record self.old.standard { numbers = self.old.standard.numbers ++ number ∷ [] };
-        }) }
+        ensures added { OnOk result (self.new ≡ with_numbers self.old (number ∷ [])) }
         ensures unchanged { OnErr result (self.new ≡ self.old) }
     {
         self.numbers.push(number)?;
@@ -113,9 +110,7 @@ impl<'a, A: Allocator> Draft<'a, A> {
 
     /// Adds a text after the others.
     pub fn push_text(&mut self, text: Text<'a>) -> Result<(), AllocError>
-        ensures added { OnOk result (self.new ≡ record self.old {
-          standard = record self.old.standard { texts = self.old.standard.texts ++ text_value text.entry ∷ [] };
-        }) }
+        ensures added { OnOk result (self.new ≡ with_texts self.old (text_value text.entry ∷ [])) }
         ensures unchanged { OnErr result (self.new ≡ self.old) }
     {
         self.texts.push(text)?;
@@ -124,11 +119,7 @@ impl<'a, A: Allocator> Draft<'a, A> {
 
     /// Adds a flag with its name after the other extended flags.
     pub fn push_extended_flag(&mut self, name: &'a [u8], flag: Flag) -> Result<(), AllocError>
-        ensures added { OnOk result (self.new ≡ record self.old {
-          extended = record self.old.extended {
-            flags = self.old.extended.flags ++ (name.now, flag) ∷ [];
-          };
-        }) }
+        ensures added { OnOk result (self.new ≡ with_own_flags self.old ((name.now, flag) ∷ [])) }
         ensures unchanged { OnErr result (self.new ≡ self.old) }
     {
         self.extended_flags.push(name, flag)
@@ -136,11 +127,8 @@ impl<'a, A: Allocator> Draft<'a, A> {
 
     /// Adds a number with its name after the other extended numbers.
     pub fn push_extended_number(&mut self, name: &'a [u8], number: Number) -> Result<(), AllocError>
-        ensures added { OnOk result (self.new ≡ record self.old {
-          extended = record self.old.extended {
-            numbers = self.old.extended.numbers ++ (name.now, number) ∷ [];
-          };
-        }) }
+        ensures added { OnOk result
+            (self.new ≡ with_own_numbers self.old ((name.now, number) ∷ [])) }
         ensures unchanged { OnErr result (self.new ≡ self.old) }
     {
         self.extended_numbers.push(name, number)
@@ -148,11 +136,8 @@ impl<'a, A: Allocator> Draft<'a, A> {
 
     /// Adds a text with its name after the other extended texts.
     pub fn push_extended_text(&mut self, name: &'a [u8], text: Text<'a>) -> Result<(), AllocError>
-        ensures added { OnOk result (self.new ≡ record self.old {
-          extended = record self.old.extended {
-            texts = self.old.extended.texts ++ (name.now, text_value text.entry) ∷ [];
-          };
-        }) }
+        ensures added { OnOk result
+            (self.new ≡ with_own_texts self.old ((name.now, text_value text.entry) ∷ [])) }
         ensures unchanged { OnErr result (self.new ≡ self.old) }
     {
         self.extended_texts.push(name, text)

@@ -3,12 +3,12 @@
 //! There is one layout in which an entry is written, so that two drafts of equal entries give equal bytes. The faults
 //! are looked for first; then memory is taken once, for exactly the bytes, and each section is written in one pass.
 
-ghost use Rattle.std.specs.Prelude.{◌≡◌, ◌+◌, ◌++◌, ◌≤◌, ◌⊎◌, ◌==◌, [], false, length, map, Some, None, Err, IfOk, IfErr, OnOk};
+ghost use Rattle.std.specs.Prelude.{◌≡◌, ◌+◌, ◌++◌, ◌≤◌, ◌==◌, [], false, length, map, None, IfOk, IfErr, OnOk};
 ghost use Rattle.std.specs.List.{list_any};
 ghost use Rattle.ti_words.specs.Texts.{text_value};
-ghost use Rattle.ti_words.specs.Spelling.{Spells, join, counts_spelling, part_spelling, standard_spelling, part_names};
+ghost use Rattle.ti_words.specs.Spelling.{join, counts_spelling, part_spelling, standard_spelling, part_names};
 ghost use Rattle.ti_draft.specs.Canonical.{canonical, strings_of, standard_strings, extended_bytes, present_count as the_present_count};
-ghost use Rattle.ti_draft.specs.Unfit.{encode_fault, is_out_of_range};
+ghost use Rattle.ti_draft.specs.EncodeFaults.{IsEncodeFault, IsEncodingOf, encode_fault, is_out_of_range};
 ghost use Rattle.ti_draft.specs.Lists.{values_lent, names_lent};
 ghost use Rattle.ti_draft.specs.Lengths.{AreFew};
 ghost use Rattle.ti_draft.specs.Sizes.{AreSizes};
@@ -42,19 +42,11 @@ pub fn encode<A: Allocator + Copy, D: Allocator>(
     alloc: A,
     draft: &Draft<'_, D>,
 ) -> Result<Vec<u8, A>, EncodeFault>
-    // What is returned is the canonical bytes, and they spell the draft's entry.
-    ensures bytes { IfOk result (λ bytes. bytes.items ≡ canonical draft.now) }
-    ensures spells { IfOk result (λ bytes. Spells bytes.items draft.now) }
-    // It is returned only if there is no fault.
-    ensures fit { OnOk result (encode_fault draft.now ≡ None) }
-    // A fault is the first that there is, or out of memory if there is none.
-    ensures refused { IfErr result (λ fault. (encode_fault draft.now ≡ Some fault)
-        ⊎ ((encode_fault draft.now ≡ None) × (fault ≡ EncodeFault.Memory))) }
-    // Out of memory is returned only if no other fault holds.
-    ensures memory { result ≡ Err EncodeFault.Memory → encode_fault draft.now ≡ None }
+    ensures encoded { IfOk result (λ bytes. IsEncodingOf draft.now bytes.items) }
+    ensures refused { IfErr result (λ fault. IsEncodeFault draft.now fault) }
 {
     let sizes = sizes_of(draft);
-    if let Some(fault) = first_fault(draft, sizes.whole) {
+    if let Some(fault) = first_fault(draft, sizes.entry) {
         return Err(fault);
     }
     Ok(canonical_bytes(alloc, draft, &sizes)?)
@@ -70,7 +62,7 @@ fn canonical_bytes<A: Allocator + Copy, D: Allocator>(
     requires sizes { AreSizes sizes.now draft.now }
     ensures { IfOk result (λ bytes. bytes.items ≡ canonical draft.now) }
 {
-    let mut out = Vec::with_capacity(alloc, sizes.whole as usize)?;
+    let mut out = Vec::with_capacity(alloc, sizes.entry as usize)?;
     put_standard(&mut out, draft, sizes)?;
     if draft.is_nameless() {
         return Ok(out);

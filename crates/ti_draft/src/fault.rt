@@ -3,18 +3,18 @@
 //! Four faults are looked for in a fixed order, each by one look at what it speaks of. The words of the faults are their
 //! names.
 
-ghost use Rattle.std.specs.Prelude.{◌≡◌, pos, map, length};
+ghost use Rattle.std.specs.Prelude.{◌≡◌, map, length};
 ghost use Rattle.std.specs.List.{list_any};
 ghost use Rattle.ti_words.specs.Texts.{text_value};
 ghost use Rattle.ti_draft.specs.Canonical.{canonical};
 ghost use Rattle.ti_draft.specs.Lengths.{capped_count};
-ghost use Rattle.ti_draft.specs.Unfit.{has_nul as the_has_nul, text_has_nul as the_text_has_nul, greatest_number as the_greatest_number, is_out_of_range as the_is_out_of_range, has_bad_name as the_has_bad_name, has_bad_text as the_has_bad_text, has_bad_number as the_has_bad_number, encode_fault};
+ghost use Rattle.ti_draft.specs.EncodeFaults.{has_nul as the_has_nul, text_has_nul as the_text_has_nul, is_out_of_range as the_is_out_of_range, has_bad_name as the_has_bad_name, has_bad_text as the_has_bad_text, has_bad_number as the_has_bad_number, encode_fault};
 
 use crate::draft::Draft;
 use std::alloc::{AllocError, Allocator};
 use std::fmt;
-use ti_base::{GREATEST_WIDE_WORD, GREATEST_WORD, MOST_ENTRY_BYTES};
-use ti_words::{Number, Text, Width};
+use ti_base::MOST_ENTRY_BYTES;
+use ti_words::{Number, Text, Width, greatest_number};
 
 /// Why a draft has no bytes. As an error it prints its name.
 #[derive(Clone, Copy, Debug, PartialEq, Eq)]
@@ -43,7 +43,7 @@ impl From<AllocError> for EncodeFault {
 }
 
 impl EncodeFault {
-    ghost use Rattle.ti_draft.specs.Unfit.{encode_fault_word};
+    ghost use Rattle.ti_draft.specs.EncodeFaults.{encode_fault_word};
 
     /// The fault's name.
     pub fn word(self) -> &'static str
@@ -61,7 +61,7 @@ impl EncodeFault {
 
 impl fmt::Display for EncodeFault {
     ghost use Rattle.std.specs.Prelude.{Some};
-    ghost use Rattle.ti_draft.specs.Unfit.{encode_fault_word};
+    ghost use Rattle.ti_draft.specs.EncodeFaults.{encode_fault_word};
 
     ghost output = { λ fault. Some (encode_fault_word fault) };
 
@@ -89,16 +89,6 @@ fn any_text_has_nul(texts: &[Text<'_>]) -> bool
         }
     }
     false
-}
-
-/// The greatest number of a format.
-fn greatest_number(width: Width) -> i32
-    ensures { result ≡ pos (the_greatest_number width) }
-{
-    match width {
-        Width::Legacy => GREATEST_WORD,
-        Width::Wide => GREATEST_WIDE_WORD,
-    }
 }
 
 /// Whether a number is negative, or too great for the format.

@@ -8,15 +8,14 @@ ghost use Rattle.std.specs.List.{list_any};
 ghost use Rattle.ti_words.specs.Texts.{text_value};
 ghost use Rattle.ti_words.specs.Marks.{word_of_number};
 ghost use Rattle.ti_words.specs.Word.{word};
-ghost use Rattle.ti_words.specs.Widths.{number_size};
+ghost use Rattle.ti_words.specs.Widths.{number_size as the_number_size};
 ghost use Rattle.ti_words.specs.Spelling.{count_word, words_of, numbers_of, flags_of, pad};
-ghost use Rattle.ti_draft.specs.Canonical.{text_bytes, texts_table, text_words};
-ghost use Rattle.ti_draft.specs.Unfit.{is_out_of_range};
-ghost use Rattle.ti_draft.specs.Lengths.{text_word};
+ghost use Rattle.ti_draft.specs.Canonical.{text_bytes, text_word, text_words, texts_table};
+ghost use Rattle.ti_draft.specs.EncodeFaults.{is_out_of_range};
 
 use byteorder::{ByteOrder, LittleEndian};
 use std::alloc::{AllocError, Allocator};
-use ti_words::{Flag, Number, Text, Width, flag_byte, number_word};
+use ti_words::{Flag, Number, Text, Width, flag_byte, number_size, number_word};
 
 /// A word.
 fn put_word<A: Allocator>(out: &mut Vec<u8, A>, number: i16) -> Result<(), AllocError>
@@ -75,11 +74,11 @@ fn put_number<A: Allocator>(
 ) -> Result<(), AllocError>
     requires { is_out_of_range width number ≡ false }
     ensures { OnOk result
-        (out.new.items ≡ out.old.items ++ word (number_size width) (word_of_number number)) }
+        (out.new.items ≡ out.old.items ++ word (the_number_size width) (word_of_number number)) }
 {
-    match width {
-        Width::Legacy => put_word(out, number_word(number) as i16),
-        Width::Wide => put_wide_word(out, number_word(number)),
+    match number_size(width) {
+        2 => put_word(out, number_word(number) as i16),
+        _ => put_wide_word(out, number_word(number)),
     }
 }
 

@@ -77,7 +77,7 @@ pub(crate) struct Sizes {
     /// The table of the extended part.
     pub(crate) extended_table: u64,
     /// All bytes.
-    pub(crate) whole: u64,
+    pub(crate) entry: u64,
 }
 
 /// The sizes of a draft, for which each of its lists is gone over once.
@@ -89,7 +89,7 @@ pub(crate) fn sizes_of<A: Allocator>(draft: &Draft<'_, A>) -> Sizes
     Sizes {
         table,
         extended_table,
-        whole: whole_len(draft, table, extended_table),
+        entry: entry_len(draft, table, extended_table),
     }
 }
 
@@ -108,7 +108,7 @@ fn standard_len<A: Allocator>(draft: &Draft<'_, A>, table: u64) -> u64
 }
 
 /// All bytes, if the tables have these sizes.
-fn whole_len<A: Allocator>(draft: &Draft<'_, A>, table: u64, extended_table: u64) -> u64
+fn entry_len<A: Allocator>(draft: &Draft<'_, A>, table: u64, extended_table: u64) -> u64
     requires table { table ≡ capped_count (length (standard_strings draft.now).table) }
     requires extended_table { extended_table
         ≡ capped_count (length (extended_strings draft.now).table) }
@@ -130,5 +130,5 @@ fn whole_len<A: Allocator>(draft: &Draft<'_, A>, table: u64, extended_table: u64
 pub fn encoded_len<A: Allocator>(draft: &Draft<'_, A>) -> u64
     ensures { result ≡ min (length (canonical draft.now)) u64.MAX }
 {
-    sizes_of(draft).whole
+    sizes_of(draft).entry
 }

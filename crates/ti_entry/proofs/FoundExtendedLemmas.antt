@@ -13,10 +13,11 @@ use Rattle.ti_words.specs.Word.{unsigned_at}
 use Rattle.ti_layout.specs.Layout.{standard, extended_after, no_capability, places, flags_end, offsets_from, end_of, extended_from}
 use Rattle.ti_words.specs.Spelling.{pad_len, Spells, SpellsPart, HasExtendedPart, count_word, pad, join, part_spelling, extended_spelling, part_names, unnamed}
 use Rattle.ti_layout.specs.Table.{table_of, base_of}
-use Rattle.ti_layout.specs.Checks.{Passes, Ends, verdict, sign_check, sign_checks, pad_checks, ending_check, table_check, end_check}
+use Rattle.ti_layout.specs.Checks.{Passes, Ends, verdict, pad_checks, ending_check, table_check, end_check}
 use Rattle.ti_layout.specs.declared.section.Half.TheVariants.{Extended}
 use Rattle.ti_layout.specs.declared.section.Section.TheVariants.{TableEnd, End}
-use Rattle.ti_layout.specs.Refusal.{room_check, extended_size_check, extended_header_checks, section_checks, standard_sections, extended_sections, checks}
+use Rattle.ti_layout.specs.declared.section.Item.TheVariants as item
+use Rattle.ti_layout.specs.Refusal.{checks, extended_header_checks, extended_sections, extended_size_check, item_check, items, items_checks, room_check, section_checks, standard_sections}
 use Rattle.ti_layout.proofs.EndsLemmas.{SectionPasses, sections_pass, room_passes}
 use Rattle.ti_layout.specs.Content.{part_in, content_with, content, own_part}
 use Rattle.ti_layout.proofs.PassesLemmas.{first_passes}
@@ -50,10 +51,10 @@ extended_passes bytes fits room k e =
     let s = standard bytes in
     let x = own_part bytes in
     let from = extended_from s in
-    let header = both_pass len (sign_checks bytes BadExtendedHeader from 3) (extended_header_checks bytes s) k.0 in
-    let signs = each_passed (sign_check bytes BadExtendedHeader) len from 2 3 header.0 in
+    let header = both_pass len (items_checks bytes (items (item.Sign BadExtendedHeader) from 3)) (extended_header_checks bytes s) k.0 in
+    let signs = each_passed (item_check bytes (item.Sign BadExtendedHeader)) len from 2 3 header.0 in
     let zero : from + 2 * 0 ≡ from = omega arith in
-    let sign = first_passes len (sign_check bytes BadExtendedHeader (from + 8)) (extended_size_check x ∷ []) header.1 in
+    let sign = first_passes len (item_check bytes (item.Sign BadExtendedHeader) (from + 8)) (extended_size_check x ∷ []) header.1 in
     let size = first_passes len (extended_size_check x) [] sign.rest in
     let part = part_passes bytes Extended k.1 in
     let table = first_passes len (table_check (end_of x)) (map (ending_check bytes (table_of bytes x) (end_of x)) (places (offsets_from x) 2 x.texts)) part.endings in

@@ -1,25 +1,25 @@
 -- Bytes that pass the checks up to the end of the string table have the sections that they are read as.
-use Rattle.std.proofs.Common.{◌≡◌, ℕ, ◌+◌, ◌-◌, ◌%◌, ◌≤◌, true, cond, eqb, List, [], ◌∷◌, ◌++◌, map, length, get_or, take, drop, refl, sym, ap, ◌∙◌, arith}
+use Rattle.std.proofs.Common.{◌≡◌, ℕ, ◌+◌, ◌-◌, ◌%◌, ◌≤◌, true, List, [], ◌∷◌, ◌++◌, map, length, get_or, take, drop, refl, sym, ap, ◌∙◌, arith}
 use Rattle.std.proofs.Math.Seq.{take-add}
 use Rattle.std.proofs.lemmas.List.{drop-drop, length-take-le, length-drop}
 use Rattle.std.proofs.lemmas.Bool.{eqb-true, leb-true}
 use Rattle.std.proofs.lemmas.Bool.Decides.{nat_tests}
-use Rattle.std.specs.Prelude.{Option, Some, None, slice_range, is_some, unwrap_or}
+use Rattle.std.specs.Prelude.{slice_range, is_some, unwrap_or}
 use Rattle.ti_base.specs.Limits.{most_entry_bytes}
-use Rattle.ti_words.specs.declared.Width.{Width}
-use Rattle.ti_words.specs.declared.Width.TheVariants.{Legacy, Wide}
+use Rattle.ti_words.specs.declared.Width.TheVariants.{Legacy}
 use Rattle.ti_layout.specs.declared.fault.Fault.TheVariants.{BadHeader, BadNames}
 use Rattle.ti_layout.specs.declared.part.Part.{Part}
 use Rattle.ti_words.specs.Word.{unsigned_at}
 use Rattle.ti_layout.specs.Layout.{standard, places, flags_end, offsets_from, end_of}
-use Rattle.ti_words.specs.Widths.{magic_number}
+use Rattle.ti_words.specs.Widths.{magic_number, width_of_magic}
 use Rattle.ti_words.specs.Spelling.{pad_len, HasStandardPart, magic, count_word}
 use Rattle.ti_words.specs.Texts.{is_nul}
 use Rattle.ti_layout.specs.Table.{table_of}
-use Rattle.ti_layout.specs.Checks.{sign_check, sign_checks, name_check, nul_check, ending_check, table_check}
+use Rattle.ti_layout.specs.Checks.{nul_check, ending_check, table_check}
 use Rattle.std.specs.List.{AllByRecursion}
 use Rattle.ti_layout.specs.declared.section.Half.TheVariants.{Standard}
-use Rattle.ti_layout.specs.Refusal.{magic_check, size_check, named_check, size_checks, standard_sections}
+use Rattle.ti_layout.specs.declared.section.Item.TheVariants as item
+use Rattle.ti_layout.specs.Refusal.{item_check, items, items_checks, magic_check, named_check, size_check, size_checks, standard_sections}
 use Rattle.ti_layout.proofs.EndsLemmas.{SectionPasses}
 use Rattle.ti_layout.specs.Content.{content_with}
 use Rattle.ti_layout.proofs.PassesLemmas.{first_passes}
@@ -30,12 +30,8 @@ use Rattle.ti_entry.proofs.NamedItemsLemmas.{part_counts}
 use Rattle.ti_entry.proofs.PartLemmas.{part_passes, joins, strings_in, part_joined, part_found}
 use Rattle.ti_layout.proofs.SectionReadLemmas.{both_pass, each_passed, no_nuls}
 
--- the width of a magic number
-abbrev width_under : ℕ → Option Width
-width_under u = cond (eqb u 282) (Some Legacy) (cond (eqb u 542) (Some Wide) None)
-
 -- an input that starts with some magic number starts with that of its width
-starts : (u : ℕ) → is_some (width_under u) ≡ true → u ≡ magic_number (unwrap_or (width_under u) Legacy)
+starts : (u : ℕ) → is_some (width_of_magic u) ≡ true → u ≡ magic_number (unwrap_or (width_of_magic u) Legacy)
 starts u h = grind (arith, nat_tests)
 
 -- the names and their NUL
@@ -66,8 +62,8 @@ sections_found bytes fits h =
     let size = unsigned_at 2 bytes 2 in
     -- what the checks say
     let started = first_passes len (magic_check bytes) [] h.0 in
-    let header = both_pass len (sign_checks bytes BadHeader 2 5) (size_checks s) h.1.0 in
-    let signs = each_passed (sign_check bytes BadHeader) len 2 2 5 header.0 in
+    let header = both_pass len (items_checks bytes (items (item.Sign BadHeader) 2 5)) (size_checks s) h.1.0 in
+    let signs = each_passed (item_check bytes (item.Sign BadHeader)) len 2 2 5 header.0 in
     let c1 = count_is bytes BadHeader 2 fits (signs 0 (omega arith)) in
     let c2 = count_is bytes BadHeader 4 fits (signs 1 (omega arith)) in
     let c3 = count_is bytes BadHeader 6 fits (signs 2 (omega arith)) in
@@ -77,8 +73,8 @@ sections_found bytes fits h =
     let small = first_passes len (named_check s) [] big.rest in
     let limit : end_of s ≤ most_entry_bytes = leb-true _ _ big.holds in
     let some : 14 ≤ s.flags_from = leb-true _ _ small.holds in
-    let n = both_pass len (map (name_check bytes) (places 12 1 (s.flags_from - 13))) (nul_check bytes BadNames (s.flags_from - 1) ∷ []) h.1.1.0 in
-    let each_name = each_passed (name_check bytes) len 12 1 (s.flags_from - 13) n.0 in
+    let n = both_pass len (items_checks bytes (items item.Name 12 (s.flags_from - 13))) (nul_check bytes BadNames (s.flags_from - 1) ∷ []) h.1.1.0 in
+    let each_name = each_passed (item_check bytes item.Name) len 12 1 (s.flags_from - 13) n.0 in
     let named = first_passes len (nul_check bytes BadNames (s.flags_from - 1)) [] n.1 in
     let p = part_passes bytes Standard h.1.1.1 in
     let at_end = first_passes len (table_check (end_of s)) (map (ending_check bytes (table_of bytes s) (end_of s)) (places (offsets_from s) 2 s.texts)) p.endings in

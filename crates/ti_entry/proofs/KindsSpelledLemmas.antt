@@ -9,16 +9,17 @@ use Rattle.ti_words.specs.declared.Flag.TheVariants as flags
 use Rattle.ti_words.specs.declared.Number.{Number}
 use Rattle.ti_words.specs.declared.Number.TheVariants as numbers
 use Rattle.ti_words.specs.declared.Width.{Width}
-use Rattle.ti_words.specs.declared.Width.TheVariants.{Legacy}
 use Rattle.ti_words.specs.Marks.{byte_of_flag, word_of_number, flag_of_byte, number_of_word}
 use Rattle.ti_words.specs.Texts.{TextValue, TextOf, is_nul}
+use Rattle.ti_layout.specs.declared.section.Item.TheVariants as item
+use Rattle.ti_layout.specs.Refusal.{item_check}
 use Rattle.ti_layout.specs.declared.fault.Fault.TheVariants.{BadPad}
 use Rattle.ti_words.specs.Word.{unsigned_at, word}
 use Rattle.ti_words.specs.Widths.{number_size}
 use Rattle.ti_layout.specs.Layout.{places}
 use Rattle.ti_words.specs.Spelling.{pad_len, FitsWidth, IsText, IsName, Each, words_of, numbers_of, flags_of, pad}
 use Rattle.ti_layout.specs.Table.{text_from, text_of_word}
-use Rattle.ti_layout.specs.Checks.{Check, Passes, verdict, is_number_word, nul_check, flag_check, pad_checks, number_check}
+use Rattle.ti_layout.specs.Checks.{Check, Passes, verdict, is_number_word, nul_check, pad_checks}
 use Rattle.ti_layout.specs.Content.{flag_at, number_at, text_at}
 use Rattle.ti_layout.proofs.PassesLemmas.{first_passes}
 use Rattle.ti_layout.proofs.SectionReadLemmas.{Passed}
@@ -45,9 +46,9 @@ all_units : (fs : List Flag) → AllByRecursion (λ f. Unit {0}) fs
 all_units [] = tt
 all_units (f ∷ fs) = (tt, all_units fs)
 
-pub flags_read : (bytes t : List ℕ) (from : ℕ) (fs : List Flag) → HasFrom bytes from (flags_of fs ++ t) → SectionRead bytes 1 (flag_check bytes) (flag_at bytes) from fs t
+pub flags_read : (bytes t : List ℕ) (from : ℕ) (fs : List Flag) → HasFrom bytes from (flags_of fs ++ t) → SectionRead bytes 1 (item_check bytes item.Flag) (flag_at bytes) from fs t
 flags_read bytes t from fs h =
-    bytes_read bytes t byte_of_flag (λ f. Unit {0}) (flag_check bytes) (flag_at bytes)
+    bytes_read bytes t byte_of_flag (λ f. Unit {0}) (item_check bytes item.Flag) (flag_at bytes)
     (λ p f ok b. (
       record { long = b.room; holds = ap (λ k. is_some (flag_of_byte k)) b.is ∙ ap is_some (flag_read f) },
       ap (λ k. unwrap_or (flag_of_byte k) flags.No) b.is ∙ ap (λ o. unwrap_or o flags.No) (flag_read f),
@@ -71,12 +72,12 @@ pad_read bytes t from n even h =
 -- ---- numbers, texts and names
 
 pub numbers_read : (w : Width) (bytes t : List ℕ) (from : ℕ) (ns : List Number) → AllByRecursion (FitsWidth w) ns → HasFrom bytes from (numbers_of w ns ++ t)
-    → SectionRead bytes (number_size w) (number_check bytes (number_size w)) (number_at (number_size w) bytes) from ns t
+    → SectionRead bytes (number_size w) (item_check bytes (item.Number w)) (number_at (number_size w) bytes) from ns t
 numbers_read w bytes t from ns fit h =
     let size = number_size w in
-    items_read bytes (λ n. word size (word_of_number n)) size (λ m n. (m ≡ n) × FitsWidth w m) (number_check bytes size) (number_at size bytes) (λ n. length_word size (word_of_number n))
-    (λ p m n t k h. let z = word_at_is w bytes t p (word_of_number m) (short_number w m k.1) h in (
-      record { long = z.room; holds = ap is_number_word z.is ∙ is_number w (word_of_number m) (short_number w m k.1) },
+    items_read bytes (λ n. word size (word_of_number n)) size (λ m n. (m ≡ n) × FitsWidth w m) (item_check bytes (item.Number w)) (number_at size bytes) (λ n. length_word size (word_of_number n))
+    (λ p m n t k h. let z = word_at_is size bytes t p (word_of_number m) (short_number w m k.1) h in (
+      record { long = z.room; holds = ap is_number_word z.is ∙ is_number w m k.1 },
       ap (λ z. unwrap_or (number_of_word z) numbers.Absent) z.is ∙ read_again w m k.1 ∙ k.0,
     ))
     from ns ns t (each_same (FitsWidth w) ns fit) h
@@ -89,7 +90,7 @@ texts_read bytes table t from zs ts check one small texts h =
     items_read bytes (word 2) 2 (IsText table) check (text_at table bytes) (length_word 2)
     (λ p z text t is h.
     let k = good table z text small is in
-    let w = word_at_is Legacy bytes t p z k.0.short h in
+    let w = word_at_is 2 bytes t p z k.0.short h in
     (one p z w k.0, ap (text_of_word table) w.is ∙ k.1))
     from zs ts t texts h
 

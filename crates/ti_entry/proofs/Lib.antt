@@ -17,3 +17,4 @@ pub mod FeedsFromLemmas
 pub mod EncodedReadsLemmas
 pub mod ReopeningLemmas
 pub mod DraftOfEntryLemmas
+pub mod ReadLemmas

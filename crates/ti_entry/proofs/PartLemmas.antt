@@ -4,7 +4,6 @@ use Rattle.std.proofs.lemmas.List.{drop-drop, take-append-drop, take_at}
 use Rattle.std.specs.List.{AllByRecursion, flat_map}
 use Rattle.ti_words.specs.Value.{PartValue}
 use Rattle.ti_words.specs.declared.Width.{Width}
-use Rattle.ti_words.specs.declared.Width.TheVariants.{Legacy, Wide}
 use Rattle.ti_words.specs.Word.{unsigned_at, word_at}
 use Rattle.ti_words.specs.Widths.{number_size}
 use Rattle.ti_words.specs.Spelling.{pad_len, IsName, Each, words_of, numbers_of, flags_of, pad, Strings, SpellsPart, join, part_spelling, texts_size}
@@ -12,11 +11,12 @@ use Rattle.ti_layout.specs.declared.fault.Fault.TheVariants.{BadExtendedName, Un
 use Rattle.ti_layout.specs.declared.part.Part.{Part}
 use Rattle.ti_layout.specs.Layout.{places, flags_end, numbers_from, offsets_from, names_from, table_from, end_of, standard}
 use Rattle.ti_layout.specs.Table.{text_from, table_of, base_of, ends_in}
-use Rattle.ti_layout.specs.Checks.{Check, Passes, verdict, sign_checks, flag_checks, pad_checks, number_checks, offset_check, offset_checks, ending_check, ending_checks, table_check, all_name_place_checks, check, sign_check, is_offset_below, is_ended}
+use Rattle.ti_layout.specs.Checks.{Check, Passes, verdict, pad_checks, ending_check, ending_checks, table_check, all_name_place_checks, check, is_offset_below, is_ended}
 use Rattle.ti_layout.specs.declared.section.Half.{Half}
 use Rattle.ti_layout.specs.declared.section.Section.{Section}
 use Rattle.ti_layout.specs.declared.section.Section.TheVariants.{TableEnd, End}
-use Rattle.ti_layout.specs.Refusal.{part_of, text_checks, part_sections, extended_sections}
+use Rattle.ti_layout.specs.declared.section.Item.TheVariants as item
+use Rattle.ti_layout.specs.Refusal.{extended_sections, item_check, items, items_checks, part_of, part_sections, text_checks}
 use Rattle.ti_layout.specs.Content.{text_at, name_from, flags_in, numbers_in, texts_in, part_in, own_part}
 use Rattle.ti_layout.proofs.EndsLemmas.{SectionPasses}
 use Rattle.ti_layout.proofs.NamePlaceChecksLemmas.{table_length}
@@ -32,8 +32,7 @@ use Rattle.ti_entry.proofs.KindsSpelledLemmas.{append_pass, passes_both, flags_r
 -- ---- evenness
 
 size_even : (w : Width) (n : ℕ) → number_size w * n % 2 ≡ 0
-size_even Legacy n = omega arith
-size_even Wide n = omega arith
+size_even w n = grind arith
 
 -- a string table starts at an even place, so a pad follows one of odd size
 pub end_even : (p : Part) → end_of p % 2 ≡ pad_len p.table
@@ -46,11 +45,11 @@ abbrev pub later_sections : List Section
 later_sections = TableEnd ∷ (extended_sections ++ (End ∷ []))
 
 pub record PartPasses (bytes : List ℕ) (p : Part) : Type 0 where
-  pub flags : Passes ≡ verdict (length bytes) (flag_checks bytes p.flags_from p.flags)
+  pub flags : Passes ≡ verdict (length bytes) (items_checks bytes (items item.Flag p.flags_from p.flags))
   pub zero : Passes ≡ verdict (length bytes) (pad_checks bytes (flags_end p))
-  pub numbers : Passes ≡ verdict (length bytes) (number_checks bytes (number_size p.width) (numbers_from p) p.numbers)
-  pub offsets : Passes ≡ verdict (length bytes) (offset_checks bytes p.table (offsets_from p) p.texts)
-  pub names : Passes ≡ verdict (length bytes) (sign_checks bytes BadExtendedName (names_from p) p.names)
+  pub numbers : Passes ≡ verdict (length bytes) (items_checks bytes (items (item.Number p.width) (numbers_from p) p.numbers))
+  pub offsets : Passes ≡ verdict (length bytes) (items_checks bytes (items (item.Offset p.table) (offsets_from p) p.texts))
+  pub names : Passes ≡ verdict (length bytes) (items_checks bytes (items (item.Sign BadExtendedName) (names_from p) p.names))
   pub endings : Passes ≡ verdict (length bytes) (ending_checks bytes (table_of bytes p) (end_of p) (offsets_from p) p.texts)
   pub name_places : Passes ≡ verdict (length bytes) (all_name_place_checks bytes (table_of bytes p) (base_of bytes p) (end_of p) (places (names_from p) 2 p.names))
 
@@ -59,10 +58,10 @@ pub part_passes : (bytes : List ℕ) (half : Half) → AllByRecursion (SectionPa
 part_passes bytes half h =
     let len = length bytes in
     let p = part_of half (standard bytes) (own_part bytes) in
-    let flags = both_pass len (flag_checks bytes p.flags_from p.flags) (pad_checks bytes (flags_end p)) h.0 in
-    let numbers = both_pass len (number_checks bytes (number_size p.width) (numbers_from p) p.numbers) [] h.1.0 in
-    let offsets = both_pass len (offset_checks bytes p.table (offsets_from p) p.texts) [] h.1.1.0 in
-    let names = both_pass len (sign_checks bytes BadExtendedName (names_from p) p.names) (text_checks bytes p) h.1.1.1.0 in
+    let flags = both_pass len (items_checks bytes (items item.Flag p.flags_from p.flags)) (pad_checks bytes (flags_end p)) h.0 in
+    let numbers = both_pass len (items_checks bytes (items (item.Number p.width) (numbers_from p) p.numbers)) [] h.1.0 in
+    let offsets = both_pass len (items_checks bytes (items (item.Offset p.table) (offsets_from p) p.texts)) [] h.1.1.0 in
+    let names = both_pass len (items_checks bytes (items (item.Sign BadExtendedName) (names_from p) p.names)) (text_checks bytes p) h.1.1.1.0 in
     let t = both_pass len (ending_checks bytes (table_of bytes p) (end_of p) (offsets_from p) p.texts) _ names.1 in
     record { flags = flags.0; zero = flags.1; numbers = numbers.0; offsets = offsets.0; names = names.0; endings = t.0; name_places = t.1 }
 
@@ -73,10 +72,10 @@ pub passes_part : (bytes : List ℕ) (half : Half) → PartPasses bytes (part_of
 passes_part bytes half h =
     let len = length bytes in
     let p = part_of half (standard bytes) (own_part bytes) in
-    let flags = append_pass len (flag_checks bytes p.flags_from p.flags) (pad_checks bytes (flags_end p)) h.flags h.zero in
-    let numbers = append_pass len (number_checks bytes (number_size p.width) (numbers_from p) p.numbers) [] h.numbers refl in
-    let offsets = append_pass len (offset_checks bytes p.table (offsets_from p) p.texts) [] h.offsets refl in
-    let names = append_pass len (sign_checks bytes BadExtendedName (names_from p) p.names) (text_checks bytes p) h.names (text_checks_pass bytes p h) in
+    let flags = append_pass len (items_checks bytes (items item.Flag p.flags_from p.flags)) (pad_checks bytes (flags_end p)) h.flags h.zero in
+    let numbers = append_pass len (items_checks bytes (items (item.Number p.width) (numbers_from p) p.numbers)) [] h.numbers refl in
+    let offsets = append_pass len (items_checks bytes (items (item.Offset p.table) (offsets_from p) p.texts)) [] h.offsets refl in
+    let names = append_pass len (items_checks bytes (items (item.Sign BadExtendedName) (names_from p) p.names)) (text_checks bytes p) h.names (text_checks_pass bytes p h) in
     (flags, (numbers, (offsets, (names, tt))))
 
 -- ---- the bytes of a part whose checks pass
@@ -133,7 +132,7 @@ part_found bytes p fits h there few =
     let base = base_of bytes p in
     let counts = part_counts bytes p in
     let size : length s.table ≡ p.table = table_length bytes p there in
-    let signed = each_passed (sign_check bytes BadExtendedName) len (names_from p) 2 p.names h.names in
+    let signed = each_passed (item_check bytes (item.Sign BadExtendedName)) len (names_from p) 2 p.names h.names in
     let first = λ (q : ℕ). check (end_of p) (ltb (base + unsigned_at 2 bytes q) (length s.table)) BadExtendedName q in
     let second = λ (q : ℕ). check (end_of p) (ends_in s.table (base + unsigned_at 2 bytes q)) Unterminated q in
     let ended = each_passed second len (names_from p) 2 p.names (second_passes first second len (places (names_from p) 2 p.names) h.name_places) in
@@ -148,7 +147,7 @@ part_found bytes p fits h there few =
       few_texts = rw counts.of_texts few.texts;
       small_table = rw size few.table;
       numbers_fit = numbers_fit p.width bytes (numbers_from p) p.numbers fits;
-      texts_there = texts_are bytes s.table (end_of p) (offsets_from p) p.texts (h.offsets ∙ ap (λ n. verdict len (offset_checks bytes n (offsets_from p) p.texts)) (sym size)) h.endings;
+      texts_there = texts_are bytes s.table (end_of p) (offsets_from p) p.texts (h.offsets ∙ ap (λ n. verdict len (items_checks bytes (items (item.Offset n) (offsets_from p) p.texts))) (sym size)) h.endings;
       names_there = subst (λ b. Each (IsName s.table b) s.name_offsets (map (name_from bytes p (base_of bytes p)) (places (names_from p) 2 p.names))) (sym (sizes_are_base bytes p)) named;
     }
 
@@ -192,10 +191,10 @@ part_read bytes rest w from m v own_names s even h there =
     let n = numbers_read w bytes q4 (numbers_from p) v.numbers h.numbers_fit z.1 in
     let texts = λ (c : ℕ → Check) (one : (q : ℕ) (z : ℤ) → WordAt 2 bytes q z → IsGood table z → Passed len (c q)).
     texts_read bytes table q5 (offsets_from p) s.offsets v.texts c one h.small_table h.texts_there n.next in
-    let t = texts (offset_check bytes (length table)) (λ q z k g. record { long = k.room; holds = ap (is_offset_below (length table)) k.is ∙ g.below_size }) in
+    let t = texts (item_check bytes (item.Offset (length table))) (λ q z k g. record { long = k.room; holds = ap (is_offset_below (length table)) k.is ∙ g.below_size }) in
     let names = λ (c : ℕ → Check) (one : (q n : ℕ) (t : List ℕ) → CountAt bytes q n t → IsGood table (pos (base + n)) → Passed len (c q)).
     names_read bytes table q6 base (names_from p) s.name_offsets own_names c one h.small_table h.names_there t.next in
-    let o = names (sign_check bytes BadExtendedName) (λ q n t k g. k.passed BadExtendedName) in
+    let o = names (item_check bytes (item.Sign BadExtendedName)) (λ q n t k g. k.passed BadExtendedName) in
     let end = after bytes table rest (table_from p) (length table) (end_of p) refl refl o.next in
     let long : end_of p ≤ len = omega (arith, end.room) in
     let table_is : table_of bytes p ≡ table = ap (take (length table)) o.next.is ∙ take_at table rest (length table) refl in

@@ -10,11 +10,12 @@ use Rattle.ti_words.specs.Word.{unsigned_at}
 use Rattle.ti_layout.specs.Layout.{standard, extended_after, no_capability, flags_end, end_of, extended_from, IsWithin}
 use Rattle.ti_words.specs.Spelling.{pad_len, Spells, HasExtendedPart, HasNoExtendedPart, count_word, join, part_spelling, part_names, unnamed}
 use Rattle.ti_layout.specs.Table.{base_of}
-use Rattle.ti_layout.specs.Checks.{Passes, Ends, verdict, sign_checks, pad_checks, end_check, failure_of}
+use Rattle.ti_layout.specs.Checks.{Passes, Ends, verdict, pad_checks, end_check, failure_of}
 use Rattle.std.specs.List.{AllByRecursion, flat_map}
 use Rattle.ti_layout.specs.declared.section.Half.TheVariants.{Extended}
 use Rattle.ti_layout.specs.declared.section.Section.TheVariants.{TableEnd, End}
-use Rattle.ti_layout.specs.Refusal.{room_check, extended_size_check, extended_header_checks, section_checks, standard_sections, extended_sections, checks, failure}
+use Rattle.ti_layout.specs.declared.section.Item.TheVariants as item
+use Rattle.ti_layout.specs.Refusal.{checks, extended_header_checks, extended_sections, extended_size_check, failure, items, items_checks, room_check, section_checks, standard_sections}
 use Rattle.ti_layout.proofs.EndsLemmas.{SectionPasses, passed_sections}
 use Rattle.ti_layout.proofs.NamePlaceChecksLemmas.{base_most}
 use Rattle.ti_layout.proofs.SectionReadLemmas.{Passed}
@@ -85,12 +86,12 @@ extended_read bytes rest v h is width short there s =
     -- the checks
     let room = passes_one len (room_check h) (pad_checks bytes (end_of h)) (record { long = omega arith; holds = le-leb _ _ (omega arith) }) z.0 in
     let size : Passed len (extended_size_check (extended_after h bytes)) = subst (λ y. Passed len (extended_size_check y)) (sym header) (record { long = omega arith; holds = le-leb _ _ (omega arith) }) in
-    let header_pass : Passes ≡ verdict len (sign_checks bytes BadExtendedHeader from 3 ++ extended_header_checks bytes h) =
-    passes_list len (sign_checks bytes BadExtendedHeader from 3 ++ extended_header_checks bytes h) (c1.passed BadExtendedHeader, (c2.passed BadExtendedHeader, (c3.passed BadExtendedHeader, (c4.passed BadExtendedHeader, (size, tt))))) in
+    let header_pass : Passes ≡ verdict len (items_checks bytes (items (item.Sign BadExtendedHeader) from 3) ++ extended_header_checks bytes h) =
+    passes_list len (items_checks bytes (items (item.Sign BadExtendedHeader) from 3) ++ extended_header_checks bytes h) (c1.passed BadExtendedHeader, (c2.passed BadExtendedHeader, (c3.passed BadExtendedHeader, (c4.passed BadExtendedHeader, (size, tt))))) in
     let known : own_part bytes ≡ x = ap (λ q. extended_after q bytes) (sym is) ∙ header in
     let last : verdict len (end_check (end_of x) ∷ []) ≡ Ends true = rw (lt-ltb len (end_of x + 1) (omega arith)) refl in
     let room_is = subst (λ q. Passes ≡ verdict len (room_check q ∷ pad_checks bytes (end_of q))) is room in
-    let header_is = subst (λ q. Passes ≡ verdict len (sign_checks bytes BadExtendedHeader (extended_from q) 3 ++ extended_header_checks bytes q)) is header_pass in
+    let header_is = subst (λ q. Passes ≡ verdict len (items_checks bytes (items (item.Sign BadExtendedHeader) (extended_from q) 3) ++ extended_header_checks bytes q)) is header_pass in
     let all : AllByRecursion (SectionPasses bytes) (TableEnd ∷ extended_sections) = (room_is, (header_is, passes_part bytes Extended (subst (PartPasses bytes) (sym known) r.passes))) in
     subst (ExtendedRead bytes v h) (sym header) (record {
       passes = passed_sections bytes (TableEnd ∷ extended_sections) (End ∷ []) all ∙ ap (λ q. verdict len (end_check (end_of q) ∷ [])) known ∙ last;

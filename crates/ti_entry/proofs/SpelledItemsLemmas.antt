@@ -1,6 +1,6 @@
 -- Bytes that have a section of a spelled entry at a place: its items pass their checks, and are read as what they are.
 use Rattle.std.proofs.Common.{◌≡◌, ℕ, zero, suc, ◌+◌, ◌-◌, ◌*◌, ◌/◌, ◌%◌, ◌^◌, ◌<◌, ◌≤◌, ℤ, pos, negsuc, Bool, true, false, not, ◌||◌, eqb, ltb, List, [], ◌∷◌, ◌++◌, map, length, get_or, drop, Some, refl, sym, ap, subst, ◌∙◌, arith, append_assoc}
-use Rattle.std.proofs.Math.Nat.{pow-suc}
+use Rattle.std.proofs.Math.Nat.{mod-eq_of_lt, pow-suc}
 use Rattle.std.proofs.lemmas.List.{drop-drop, drop_at, get_or-drop, length-append, length-drop, take-append-drop}
 use Rattle.std.proofs.lemmas.Bool.{le-ltb, lt-ltb, ne_eqb}
 use Rattle.std.proofs.lemmas.List.Sums.{take_while-cons}
@@ -11,15 +11,16 @@ use Rattle.ti_words.specs.declared.Flag.TheVariants as flags
 use Rattle.ti_words.specs.declared.Number.{Number}
 use Rattle.ti_words.specs.declared.Number.TheVariants as numbers
 use Rattle.ti_words.specs.declared.Width.{Width}
-use Rattle.ti_words.specs.declared.Width.TheVariants.{Legacy, Wide}
 use Rattle.ti_words.specs.Marks.{byte_of_flag, word_of_number, flag_of_byte, number_of_word}
 use Rattle.ti_words.specs.Texts.{TextValue, AbsentText, CancelledText, TextOf, is_nul}
 use Rattle.ti_words.specs.Word.{unsigned_at, word_at, word, signed, low_bytes}
 use Rattle.ti_words.specs.Widths.{number_size}
+use Rattle.ti_layout.specs.declared.section.Item.TheVariants as item
+use Rattle.ti_layout.specs.Refusal.{item_check}
 use Rattle.ti_layout.specs.declared.fault.Fault.{Fault}
 use Rattle.ti_layout.specs.Layout.{places}
 use Rattle.ti_layout.specs.Table.{text_of_word, until_nul}
-use Rattle.ti_layout.specs.Checks.{Check, Passes, verdict, is_not_negative, is_number_word, is_offset_below, is_ended, sign_check}
+use Rattle.ti_layout.specs.Checks.{Check, Passes, verdict, is_not_negative, is_number_word, is_offset_below, is_ended}
 use Rattle.ti_words.specs.Spelling.{HasNoNul, FitsWidth, IsText, Has, Each, count_word}
 use Rattle.ti_layout.proofs.WordLemmas.{below, above}
 use Rattle.ti_draft.proofs.LengthLemmas.{length_word}
@@ -60,31 +61,29 @@ unsigned_is (suc size) n bytes t p lt h =
     ap (λ k. k + 256 * unsigned_at size bytes (p + 1)) first.is ∙ ap (λ k. n % 256 + 256 * k) rest ∙ whole
 
 -- what a word may be that stands in an entry
-abbrev pub IsShort : Width → ℤ → Type 0
-IsShort w (pos n) = 2 * n < 256 ^ number_size w
-IsShort w (negsuc n) = n < 2
+abbrev pub IsShort : ℕ → ℤ → Type 0
+IsShort size (pos n) = 2 * n < 256 ^ size
+IsShort size (negsuc n) = 2 * n + 2 ≤ 256 ^ size
 
 -- a word, and room for it
 pub record WordAt (size : ℕ) (bytes : List ℕ) (p : ℕ) (z : ℤ) : Type 0 where
   pub room : p + size ≤ length bytes
   pub is : word_at size bytes p ≡ z
 
-pub word_at_is : (w : Width) (bytes t : List ℕ) (p : ℕ) (z : ℤ) → IsShort w z → HasFrom bytes p (word (number_size w) z ++ t) → WordAt (number_size w) bytes p z
-word_at_is w bytes t p z short h = record { room = omega (arith, length-append (word (number_size w) z) t, length_word (number_size w) z); is = read w z short h }
+pub word_at_is : (size : ℕ) (bytes t : List ℕ) (p : ℕ) (z : ℤ) → IsShort size z → HasFrom bytes p (word size z ++ t) → WordAt size bytes p z
+word_at_is size bytes t p z short h = record { room = omega (arith, length-append (word size z) t, length_word size z); is = read z short h }
   where
-    read : (w : Width) (z : ℤ) → IsShort w z → HasFrom bytes p (word (number_size w) z ++ t) → word_at (number_size w) bytes p ≡ z
-    read w (pos n) lt h = ap (signed (number_size w)) (unsigned_is (number_size w) n bytes t p (omega arith) h) ∙ below w n lt
-    read Legacy (negsuc n) lt h =
-        let back : 65536 - 1 - n % 65536 ≡ 65535 - n = omega arith in
-        ap (signed 2) (unsigned_is 2 (65536 - 1 - n % 65536) bytes t p (omega arith) h ∙ back) ∙ above Legacy (65535 - n) n (omega arith) (omega arith)
-    read Wide (negsuc n) lt h =
-        let back : 4294967296 - 1 - n % 4294967296 ≡ 4294967295 - n = omega arith in
-        ap (signed 4) (unsigned_is 4 (4294967296 - 1 - n % 4294967296) bytes t p (omega arith) h ∙ back) ∙ above Wide (4294967295 - n) n (omega arith) (omega arith)
+    read : (z : ℤ) → IsShort size z → HasFrom bytes p (word size z ++ t) → word_at size bytes p ≡ z
+    read (pos n) lt h = ap (signed size) (unsigned_is size n bytes t p (omega arith) h) ∙ below size n lt
+    read (negsuc n) lt h =
+        let same : n % 256 ^ size ≡ n = mod-eq_of_lt (omega arith) in
+        let u = 256 ^ size - 1 - n % 256 ^ size in
+        ap (signed size) (unsigned_is size u bytes t p (omega arith) h) ∙ above size u n (omega arith) (omega arith)
 
 -- a count, and what follows it
 pub record CountAt (bytes : List ℕ) (p n : ℕ) (t : List ℕ) : Type 0 where
   pub is : unsigned_at 2 bytes p ≡ n
-  pub passed : (fault : Fault) → Passed (length bytes) (sign_check bytes fault p)
+  pub passed : (fault : Fault) → Passed (length bytes) (item_check bytes (item.Sign fault) p)
   pub next : HasFrom bytes (p + 2) t
 
 pub count_at : (bytes t : List ℕ) (p n : ℕ) → n < 2 ^ 15 → HasFrom bytes p (count_word n ++ t) → CountAt bytes p n t
@@ -93,7 +92,7 @@ count_at bytes t p n lt h =
     let next = after bytes (count_word n) t p 2 (p + 2) refl refl h in
     record {
       is = is;
-      passed = λ fault. record { long = omega (arith, next.room); holds = ap is_not_negative (ap (signed 2) is ∙ below Legacy n (omega arith)) };
+      passed = λ fault. record { long = omega (arith, next.room); holds = ap is_not_negative (ap (signed 2) is ∙ below 2 n (omega arith)) };
       next = next;
     }
 
@@ -167,7 +166,7 @@ any_here (x ∷ xs) rest = ap (λ b. is_nul x || b) (any_here xs rest) ∙ or_tr
 
 -- what an offset of a spelled entry says
 pub record IsGood (table : List ℕ) (z : ℤ) : Type 0 where
-  pub short : IsShort Legacy z
+  pub short : IsShort 2 z
   pub below_size : is_offset_below (length table) z ≡ true
   pub ended : is_ended table z ≡ true
 
@@ -193,9 +192,9 @@ good table z (TextOf text) small h = let e = h.1 in rw e (placed table h.0 text 
 
 -- ---- flags and numbers
 
-pub short_number : (w : Width) (n : Number) → FitsWidth w n → IsShort w (word_of_number n)
-short_number w numbers.Absent h = omega arith
-short_number w numbers.Cancelled h = omega arith
+pub short_number : (w : Width) (n : Number) → FitsWidth w n → IsShort (number_size w) (word_of_number n)
+short_number w numbers.Absent h = grind arith
+short_number w numbers.Cancelled h = grind arith
 short_number w (numbers.Value (pos x)) h = h
 short_number w (numbers.Value (negsuc x)) h = absurd h
 
@@ -205,9 +204,8 @@ read_again w numbers.Cancelled h = refl
 read_again w (numbers.Value (pos x)) h = refl
 read_again w (numbers.Value (negsuc x)) h = absurd h
 
-pub is_number : (w : Width) (z : ℤ) → IsShort w z → is_number_word z ≡ true
-is_number w (pos n) h = refl
-is_number w (negsuc n) h = lt-ltb n 2 h
+pub is_number : (w : Width) (n : Number) → FitsWidth w n → is_number_word (word_of_number n) ≡ true
+is_number w n h = grind arith
 
 pub flag_read : (f : Flag) → flag_of_byte (byte_of_flag f) ≡ Some f
 flag_read flags.No = refl

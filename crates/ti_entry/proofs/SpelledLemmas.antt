@@ -1,21 +1,22 @@
 -- Bytes that have the sections of an entry pass the checks up to the end of the string table, and are read so.
-use Rattle.std.proofs.Common.{◌≡◌, ◌≢◌, ℕ, ◌+◌, ◌-◌, ◌*◌, ◌%◌, ◌≤◌, false, not, eqb, List, [], ◌∷◌, ◌++◌, map, length, get_or, take, drop, Some, refl, sym, ap, subst, ◌∙◌, arith, append_assoc}
+use Rattle.std.proofs.Common.{◌≡◌, ◌≢◌, ℕ, ◌+◌, ◌-◌, ◌*◌, ◌%◌, ◌≤◌, false, not, eqb, List, [], ◌∷◌, ◌++◌, length, get_or, take, drop, Some, refl, sym, ap, subst, ◌∙◌, arith, append_assoc}
 use Rattle.std.proofs.lemmas.List.{map-id, take_at}
 use Rattle.std.proofs.lemmas.Bool.{le-leb, ne_eqb}
+use Rattle.std.proofs.lemmas.Bool.Decides.{nat_tests}
 use Rattle.std.specs.Prelude.{slice_range, is_some}
 use Rattle.ti_base.specs.Limits.{most_entry_bytes}
 use Rattle.ti_words.specs.declared.Width.{Width}
-use Rattle.ti_words.specs.declared.Width.TheVariants.{Legacy, Wide}
 use Rattle.ti_layout.specs.declared.fault.Fault.TheVariants.{BadHeader, BadNames}
 use Rattle.ti_layout.specs.declared.part.Part.{Part}
 use Rattle.ti_words.specs.Value.{EntryValue}
-use Rattle.ti_layout.specs.Layout.{standard, width_of, places, flags_end, end_of}
+use Rattle.ti_layout.specs.Layout.{standard, width_of, flags_end, end_of}
 use Rattle.ti_words.specs.Spelling.{pad_len, Strings, HasStandardPart, magic, count_word, join, part_spelling}
 use Rattle.ti_words.specs.Texts.{is_nul}
-use Rattle.ti_layout.specs.Checks.{Passes, verdict, sign_checks, name_check, nul_check}
+use Rattle.ti_layout.specs.Checks.{Passes, verdict, nul_check}
 use Rattle.std.specs.List.{AllByRecursion}
 use Rattle.ti_layout.specs.declared.section.Half.TheVariants.{Standard}
-use Rattle.ti_layout.specs.Refusal.{magic_check, named_check, size_check, size_checks, standard_sections}
+use Rattle.ti_layout.specs.declared.section.Item.TheVariants as item
+use Rattle.ti_layout.specs.Refusal.{item_check, items, items_checks, magic_check, named_check, size_check, size_checks, standard_sections}
 use Rattle.ti_layout.proofs.EndsLemmas.{SectionPasses}
 use Rattle.ti_layout.proofs.SectionReadLemmas.{Passed}
 use Rattle.ti_layout.specs.Content.{part_in}
@@ -24,8 +25,7 @@ use Rattle.ti_entry.proofs.SpelledItemsLemmas.{HasFrom, after, byte_at, count_at
 use Rattle.ti_entry.proofs.PartLemmas.{PartPasses, part_with, passes_part, part_read}
 
 starts : (w : Width) → width_of (magic w) ≡ Some w
-starts Legacy = refl
-starts Wide = refl
+starts w = grind (arith, nat_tests)
 
 -- what a reading makes of the sections up to the end of the string table, and what follows them
 pub record PlainRead (bytes : List ℕ) (v : EntryValue) (table rest : List ℕ) : Type 0 where
@@ -70,7 +70,7 @@ plain_read bytes v s rest h short =
     let hd : standard bytes ≡ hv = rw (h0, h1, h2, h3, h4, h5) refl in
     -- names
     let front : HasFrom bytes 12 (names ++ (0 ∷ t7)) = subst (HasFrom bytes 12) (append_assoc names (0 ∷ []) t7) c5.next in
-    let n = bytes_read bytes (0 ∷ t7) (λ b. b) (λ b. b ≢ 0) (name_check bytes) (λ q. get_or bytes q 0)
+    let n = bytes_read bytes (0 ∷ t7) (λ b. b) (λ b. b ≢ 0) (item_check bytes item.Name) (λ q. get_or bytes q 0)
     (λ q b some k. let no : eqb b 0 ≡ false = ne_eqb b 0 some in (record { long = k.room; holds = ap (λ c. not (is_nul c)) k.is ∙ ap not no }, k.is))
     12 names names (map-id names) h.names_fit front in
     let nul = byte_at bytes t7 (12 + 1 * length names) 0 n.next in
@@ -85,15 +85,15 @@ plain_read bytes v s rest h short =
     -- the checks
     let size : Passed len (size_check hv) = record { long = omega arith; holds = le-leb _ _ (omega arith) } in
     let name : Passed len (named_check hv) = record { long = omega arith; holds = le-leb _ _ (omega arith) } in
-    let header : Passes ≡ verdict len (sign_checks bytes BadHeader 2 5 ++ size_checks hv) =
-    passes_list len (sign_checks bytes BadHeader 2 5 ++ size_checks hv) (c1.passed BadHeader, (c2.passed BadHeader, (c3.passed BadHeader, (c4.passed BadHeader, (c5.passed BadHeader, (size, (name, tt))))))) in
-    let names_pass : Passes ≡ verdict len (map (name_check bytes) (places 12 1 (from - 13)) ++ nul_check bytes BadNames (from - 1) ∷ []) =
-    append_pass len (map (name_check bytes) (places 12 1 (from - 13))) (nul_check bytes BadNames (from - 1) ∷ []) (rw count n.passes)
+    let header : Passes ≡ verdict len (items_checks bytes (items (item.Sign BadHeader) 2 5) ++ size_checks hv) =
+    passes_list len (items_checks bytes (items (item.Sign BadHeader) 2 5) ++ size_checks hv) (c1.passed BadHeader, (c2.passed BadHeader, (c3.passed BadHeader, (c4.passed BadHeader, (c5.passed BadHeader, (size, (name, tt))))))) in
+    let names_pass : Passes ≡ verdict len (items_checks bytes (items item.Name 12 (from - 13)) ++ nul_check bytes BadNames (from - 1) ∷ []) =
+    append_pass len (items_checks bytes (items item.Name 12 (from - 13))) (nul_check bytes BadNames (from - 1) ∷ []) (rw count n.passes)
     (passes_list len (nul_check bytes BadNames (from - 1) ∷ []) (rw (← last) (record { long = nul.room; holds = ap is_nul nul.is }, tt))) in
     let back = sym hd in
     let started = passes_list len (magic_check bytes ∷ []) (record { long = omega arith; holds = ap is_some h0 }, tt) in
-    let header_back = subst (λ h. Passes ≡ verdict len (sign_checks bytes BadHeader 2 5 ++ size_checks h)) back header in
-    let names_back = subst (λ (h : Part). Passes ≡ verdict len (map (name_check bytes) (places 12 1 (h.flags_from - 13)) ++ nul_check bytes BadNames (h.flags_from - 1) ∷ [])) back names_pass in
+    let header_back = subst (λ h. Passes ≡ verdict len (items_checks bytes (items (item.Sign BadHeader) 2 5) ++ size_checks h)) back header in
+    let names_back = subst (λ (h : Part). Passes ≡ verdict len (items_checks bytes (items item.Name 12 (h.flags_from - 13)) ++ nul_check bytes BadNames (h.flags_from - 1) ∷ [])) back names_pass in
     record {
       passes = (started, (header_back, (names_back, passes_part bytes Standard (subst (PartPasses bytes) back r.passes))));
       named = subst (λ (h : Part). 14 ≤ h.flags_from) back (omega arith);

@@ -1,18 +1,18 @@
 -- Where a stage is that of a whole entry, its parts make the view.
 use Rattle.std.proofs.Common.{◌≡◌, ℕ, ◌+◌, ◌<◌, Bool, true, cond, List, [], length, refl, sym, ap, subst, ◌∙◌, arith}
 use Rattle.std.proofs.lemmas.Bool.{le-leb, lt-leb}
-use Rattle.std.specs.Prelude.{None, Ok}
+use Rattle.std.specs.Prelude.{None}
 use Rattle.ti_layout.specs.declared.part.Part.{Part}
 use Rattle.ti_layout.specs.declared.section.Items.{Items}
 use Rattle.ti_layout.specs.declared.section.Section.{Section}
 use Rattle.ti_layout.specs.declared.section.Section.TheVariants.{TableEnd, End}
 use Rattle.ti_layout.specs.declared.stage.Stage.{Stage}
 use Rattle.ti_layout.specs.Layout.{standard, end_of, extended_from, no_capability, IsStandard, IsExtended}
-use Rattle.ti_layout.specs.Checks.{Ends, verdict, refusal_of, failure_of}
+use Rattle.ti_layout.specs.Checks.{Ends, verdict, failure_of}
 use Rattle.ti_layout.specs.Refusal.{checks, failure}
 use Rattle.ti_layout.specs.Table.{base_of, names_base}
 use Rattle.ti_layout.specs.Content.{content, content_from, content_with, extended, own_part}
-use Rattle.ti_entry.specs.Reading.{answer_under, answer_for, base_of_names}
+use Rattle.ti_entry.specs.Reading.{base_of_names}
 use Rattle.ti_entry.proofs.NamedItemsLemmas.{base_is, base_named}
 use Rattle.ti_layout.specs.Stages.{Stands, StandsAt, Waits, bytes_awaited, is_whole, new_stage}
 use Rattle.ti_layout.proofs.StageStepLemmas.{closing_next, stands_now, stands_first, stands_on}
@@ -27,9 +27,6 @@ waits_none_failed xs s w = ap failure_of w.decides
 
 pub ends_as : {xs : List ℕ} {s : Stage} {a b : Bool} → Waits xs s → a ≡ is_whole s.section → a ≡ b → verdict (length xs) (checks xs) ≡ Ends b
 ends_as w e f = w.decides ∙ ap Ends (sym e ∙ f)
-
-pub answer_content : (xs : List ℕ) → verdict (length xs) (checks xs) ≡ Ends true → Ok (content xs) ≡ answer_for xs
-answer_content xs e = sym (ap (λ v. answer_under (refusal_of (length xs) v) (content xs)) e)
 
 pub record IsView (xs : List ℕ) (s x : Part) (base : ℕ) : Type 0 where
   pub is_standard : IsStandard xs s

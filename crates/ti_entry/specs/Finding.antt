@@ -3,8 +3,7 @@ use Rattle.std.specs.Prelude.{◌≡◌, ◌≢◌, ℕ, List, ◌++◌, map, ta
 use Rattle.std.specs.List.{AllByRecursion}
 use Rattle.ti_words.specs.declared.Kind.{Kind}
 use Rattle.ti_words.specs.declared.Kind.TheVariants as kinds
-use Rattle.ti_words.specs.AllNames.{place_in}
-use Rattle.ti_words.specs.Names.{Place}
+use Rattle.ti_words.specs.AllNames.{Place, place_in}
 use Rattle.ti_words.specs.Value.{NamedPart, EntryValue}
 use Rattle.ti_words.specs.declared.all_names.NameTable.TheVariants.{All, Long}
 use Rattle.ti_entry.specs.declared.finding.Position.{Position}

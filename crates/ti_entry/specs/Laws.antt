@@ -6,7 +6,7 @@ use Rattle.ti_words.specs.Value.{EntryValue}
 use Rattle.ti_words.specs.Spelling.{Spells}
 use Rattle.ti_layout.specs.Refusal.{refusal, failure}
 use Rattle.ti_draft.specs.Canonical.{canonical}
-use Rattle.ti_draft.specs.Unfit.{encode_fault}
+use Rattle.ti_draft.specs.EncodeFaults.{encode_fault}
 use Rattle.ti_entry.specs.Reading.{new_reading, reading_of, reading_after, final_answer, answer_for}
 
 -- bytes spell at most one entry

@@ -1,5 +1,5 @@
 -- What a read of bytes returns, what a reader of entries holds, and what a piece makes of it.
-use Rattle.std.specs.Prelude.{◌≡◌, ℕ, zero, suc, ◌≤◌, List, [], ◌++◌, Option, Some, None, Result, Ok, Err, length, take, is_some, if◌then◌else◌}
+use Rattle.std.specs.Prelude.{◌≡◌, ℕ, zero, suc, ◌≤◌, List, [], ◌++◌, Option, Some, None, Result, Ok, Err, IfOk, IfErr, IsOkAnd, length, take, is_some, if◌then◌else◌}
 use Rattle.std.specs.Io.KnownBytes.{Consumes}
 use Rattle.ti_base.specs.Limits.{most_entry_bytes}
 use Rattle.ti_layout.specs.declared.fault.Refused.{Refused}
@@ -7,7 +7,7 @@ use Rattle.ti_layout.specs.declared.stage.Stage.{Stage}
 use Rattle.ti_entry.specs.declared.source.ReadStop.{ReadStop}
 use Rattle.ti_entry.specs.declared.source.ReadStop.TheVariants as stop
 use Rattle.ti_words.specs.Value.{EntryValue}
-use Rattle.ti_words.specs.Spelling.{texts_size, unnamed}
+use Rattle.ti_words.specs.Spelling.{Spells, texts_size, unnamed}
 use Rattle.ti_layout.specs.Refusal.{refusal, failure}
 use Rattle.ti_layout.specs.Stages.{Stands, Waits}
 use Rattle.ti_layout.specs.Content.{content}
@@ -20,6 +20,13 @@ answer_under (Some refused) v = Err refused
 -- what a read of the bytes returns
 abbrev pub answer_for : List ℕ → Result EntryValue Refused
 answer_for bytes = answer_under (refusal bytes) (content bytes)
+
+-- what is returned is a read of the bytes: an entry that they spell, the only one, or why they are refused
+pub record IsReadOf (bytes : List ℕ) (result : Result EntryValue Refused) : Type 0 where
+  pub found : IfOk result (λ v. Spells bytes v)
+  pub only : (v : EntryValue) → Spells bytes v → IsOkAnd result (λ w. w ≡ v)
+  pub refused : IfErr result (λ r. refusal bytes ≡ Some r)
+  pub answer : result ≡ answer_for bytes
 
 -- what the offsets of an entry's names are counted from: the end of its extended texts
 abbrev pub base_of_names : EntryValue → ℕ

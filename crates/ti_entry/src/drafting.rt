@@ -5,7 +5,7 @@
 
 ghost use Rattle.std.specs.Prelude.{◌≡◌, ◌++◌, length, IsOk, IfOk, OnOk};
 ghost use Rattle.ti_words.specs.Value.{bare, no_values, no_named};
-ghost use Rattle.ti_entry.specs.Additions.{with_flags, with_numbers, with_texts, with_own_flags, with_own_numbers, with_own_texts};
+ghost use Rattle.ti_draft.specs.Additions.{with_flags, with_numbers, with_texts, with_own_flags, with_own_numbers, with_own_texts};
 
 use crate::entry::Entry;
 use crate::extended::Extended;
@@ -43,7 +43,7 @@ fn add_texts<'a, A: Allocator>(
     ensures added { OnOk result (draft.new ≡ with_texts draft.old entry.now.standard.texts) }
     ensures no_memory { length entry.now.standard.texts ≡ 0 → IsOk result }
 {
-    let mut texts = entry.texts();
+    let mut texts = entry.standard().texts();
     for i in 0..entry.text_count() {
         draft.push_text(texts.text(i))?;
     }

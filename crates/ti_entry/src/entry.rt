@@ -3,20 +3,18 @@
 //! The view holds the slice and its two parts, which say where the sections lie. Each accessor takes a few instructions
 //! and no memory; `text` looks once for its NUL. Reading is the checker of `stage` over all the bytes at once.
 
-ghost use Rattle.std.specs.Prelude.{◌≡◌, length, get_or, IfOk, IfErr, IsOkAnd, OnOk, Some};
+ghost use Rattle.std.specs.Prelude.{◌≡◌, length, get_or, OnOk};
 ghost use Rattle.ti_words.specs.Texts.{text_value, AbsentText};
-ghost use Rattle.ti_layout.specs.Refusal.{refusal};
-ghost use Rattle.ti_words.specs.Value.{EntryValue};
-ghost use Rattle.ti_words.specs.Spelling.{Spells};
 ghost use Rattle.ti_layout.specs.Content.{content, content_from};
-ghost use Rattle.ti_entry.specs.Reading.{answer_for, base_of_names};
+ghost use Rattle.ti_entry.specs.Reading.{IsReadOf, base_of_names};
 ghost use Rattle.ti_layout.specs.Layout.{IsExtended, IsStandard};
 ghost use Rattle.ti_layout.specs.Stages.{Stands, Waits};
 
 use crate::extended::{Extended, extended_of};
+use crate::part_view::{PartView, part_view};
 use std::marker::Model;
-use ti_layout::{Fault, Part, Refused, Stage, Texts};
-use ti_words::{Flag, Kind, Number, Text, Width};
+use ti_layout::{Fault, Part, Refused, Stage};
+use ti_words::{Flag, Number, Text, Width};
 
 /// A compiled entry (term(5)). What it gives is lent from the bytes that it was read from.
 #[derive(Debug, Drop)]
@@ -54,14 +52,7 @@ impl<'a> Model for Entry<'a> {
 /// assert!(rt; entry.number(0) == Number::Value(80));
 /// ```
 pub fn read(bytes: &[u8]) -> Result<Entry<'_>, Refused>
-    // What is read is spelled by the bytes.
-    ensures found { IfOk result (λ e. Spells bytes.now e) }
-    // What the bytes spell is read.
-    ensures only { (v : EntryValue) → Spells bytes.now v → IsOkAnd result (λ e. e ≡ v) }
-    // Why bytes are refused.
-    ensures refused { IfErr result (λ r. refusal bytes.now ≡ Some r) }
-    // The result in one equation.
-    ensures answer { result ≡ answer_for bytes.now }
+    ensures { IsReadOf bytes.now result }
 {
     let mut stage = Stage::new();
     stage.advance(bytes)?;
@@ -76,10 +67,7 @@ pub fn read(bytes: &[u8]) -> Result<Entry<'_>, Refused>
 pub(crate) fn entry_at<'a>(bytes: &'a [u8], stage: &Stage) -> Result<Entry<'a>, Refused>
     requires stands { Stands bytes.now stage.now }
     requires waits { Waits bytes.now stage.now }
-    ensures found { IfOk result (λ e. Spells bytes.now e) }
-    ensures only { (v : EntryValue) → Spells bytes.now v → IsOkAnd result (λ e. e ≡ v) }
-    ensures refused { IfErr result (λ r. refusal bytes.now ≡ Some r) }
-    ensures answer { result ≡ answer_for bytes.now }
+    ensures read { IsReadOf bytes.now result }
     ensures base { OnOk result (stage.now.base ≡ base_of_names (content bytes.now)) }
 {
     if !stage.is_whole() {
@@ -105,7 +93,6 @@ pub(crate) fn entry_of(bytes: &[u8], standard: Part, extended: Part, base: usize
     }
 }
 
-#[tactic(auto, using(ti_layout::proofs::PlacesLemmas::length_places))]
 impl<'a> Entry<'a> {
     /// How wide its numbers are.
     pub fn width(&self) -> Width
@@ -125,49 +112,49 @@ impl<'a> Entry<'a> {
     pub fn flag_count(&self) -> usize
         ensures { result ≡ length self.now.standard.flags }
     {
-        self.standard.count(Kind::Flag)
+        self.standard().flag_count()
     }
 
     /// How many numbers it has.
     pub fn number_count(&self) -> usize
         ensures { result ≡ length self.now.standard.numbers }
     {
-        self.standard.count(Kind::Number)
+        self.standard().number_count()
     }
 
     /// How many texts it has.
     pub fn text_count(&self) -> usize
         ensures { result ≡ length self.now.standard.texts }
     {
-        self.standard.count(Kind::Text)
+        self.standard().text_count()
     }
 
     /// The flag at an index; at or above the count No.
     pub fn flag(&self, i: usize) -> Flag
         ensures { result ≡ get_or self.now.standard.flags i Flag.No }
     {
-        self.standard.flag(self.bytes, i)
+        self.standard().flag(i)
     }
 
     /// The number at an index; at or above the count Absent.
     pub fn number(&self, i: usize) -> Number
         ensures { result ≡ get_or self.now.standard.numbers i Number.Absent }
     {
-        self.standard.number(self.bytes, i)
+        self.standard().number(i)
     }
 
     /// The text at an index; at or above the count Absent.
     pub fn text(&self, i: usize) -> Text<'a>
         ensures { text_value result ≡ get_or self.now.standard.texts i AbsentText }
     {
-        self.standard.text(self.bytes, i)
+        self.standard().text(i)
     }
 
-    /// Its texts, to be read one after another.
-    pub(crate) fn texts(&self) -> Texts<'a>
-        ensures { result ≡ self.now.standard.texts }
+    /// Its standard capabilities.
+    pub fn standard(&self) -> PartView<'a>
+        ensures { result ≡ self.now.standard }
     {
-        self.standard.texts(self.bytes)
+        part_view(self.bytes, self.standard)
     }
 
     /// Its extended part, with no capability if it has none.

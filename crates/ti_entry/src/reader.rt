@@ -5,12 +5,10 @@
 //! fails, the piece is taken again byte by byte. A piece that brings too few bytes for the next check is only copied.
 //! Over all pieces the time is linear in their bytes.
 
-ghost use Rattle.std.specs.Prelude.{◌≡◌, ℕ, List, ◌∷◌, ◌≤◌, ◌++◌, [], length, true, false, IfOk, IfErr, IsOkAnd, Some, None, Err};
+ghost use Rattle.std.specs.Prelude.{◌≡◌, ℕ, List, ◌∷◌, ◌≤◌, ◌++◌, [], length, true, false, Some, None, Err};
 ghost use Rattle.ti_base.specs.Limits.{most_entry_bytes};
 ghost use Rattle.ti_layout.specs.declared.fault.Refused.{Refused};
-ghost use Rattle.ti_words.specs.Value.{EntryValue};
-ghost use Rattle.ti_words.specs.Spelling.{Spells};
-ghost use Rattle.ti_layout.specs.Refusal.{refusal, failure};
+ghost use Rattle.ti_layout.specs.Refusal.{failure};
 ghost use Rattle.ti_layout.specs.Stages.{Stands, Waits};
 
 use crate::entry::{Entry, entry_at};
@@ -47,7 +45,7 @@ impl fmt::Debug for EntryReader {
 }
 
 impl EntryReader {
-    ghost use Rattle.ti_entry.specs.Reading.{new_reading, reading_after, final_answer, answer_under};
+    ghost use Rattle.ti_entry.specs.Reading.{IsReadOf, new_reading, reading_after, final_answer, answer_under};
 
     /// A reader that was fed nothing.
     pub fn new() -> Self
@@ -76,14 +74,14 @@ impl EntryReader {
         if let Some(refused) = self.refusal() {
             return Err(refused);
         }
-        if piece.len() > 1 && self.take_whole(piece) {
+        if piece.len() > 1 && self.take_at_once(piece) {
             return Ok(());
         }
         self.take_each(piece)
     }
 
     /// Takes a piece at once, and returns whether it did: if it has no room, or a check fails on it, nothing changes.
-    fn take_whole(&mut self, piece: &[u8]) -> bool
+    fn take_at_once(&mut self, piece: &[u8]) -> bool
         requires { self.old.refusal ≡ None }
         ensures taken { result ≡ true → self.new ≡ reading_after self.old piece.now }
         ensures no_refusal { result ≡ true → self.new.refusal ≡ None }
@@ -168,16 +166,10 @@ impl EntryReader {
     pub fn finish(&self) -> Result<Entry<'_>, Refused>
         // The result in one equation: after a refusal that refusal, else what `read` returns of the kept bytes.
         ensures answer { result ≡ final_answer self.now }
-
         // After a refusal, that refusal.
         ensures lasting { (r : Refused) → self.now.refusal ≡ Some r → result ≡ Err r }
-
         // Else what `read` returns of the kept bytes.
-        ensures found { self.now.refusal ≡ None → IfOk result (λ e. Spells self.now.kept e) }
-        ensures only { self.now.refusal ≡ None → (v : EntryValue) → Spells self.now.kept v
-            → IsOkAnd result (λ e. e ≡ v) }
-        ensures refused { self.now.refusal ≡ None
-            → IfErr result (λ r. refusal self.now.kept ≡ Some r) }
+        ensures read { self.now.refusal ≡ None → IsReadOf self.now.kept result }
     {
         if let Some(refused) = self.refusal {
             return Err(refused);

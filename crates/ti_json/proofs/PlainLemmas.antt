@@ -1,5 +1,5 @@
 -- Each character of an entry's JSON can be printed, and no object has a float.
-use Rattle.std.proofs.Common.{◌≡◌, ◌++◌, ℕ, ℤ, pos, negsuc, suc, Bool, true, false, List, [], ◌∷◌, refl}
+use Rattle.std.proofs.Common.{◌≡◌, ◌++◌, ℕ, ℤ, pos, negsuc, suc, Bool, true, false, List, [], ◌∷◌, refl, arith}
 use Rattle.std.specs.Prelude.{codes}
 use Rattle.std.proofs.lemmas.Bool.{or_from}
 use Rattle.json.specs.Print.{quoted}
@@ -16,11 +16,11 @@ use Rattle.ti_words.specs.declared.Kind.TheVariants as kinds
 use Rattle.ti_words.specs.declared.Number.{Number}
 use Rattle.ti_words.specs.declared.Number.TheVariants as numbers
 use Rattle.ti_words.specs.declared.Width.{Width}
-use Rattle.ti_words.specs.declared.Width.TheVariants as widths
 use Rattle.ti_words.specs.declared.all_names.NameTable.TheVariants as tables
 use Rattle.ti_words.specs.Texts.{TextValue, AbsentText, CancelledText, TextOf}
 use Rattle.ti_words.specs.Value.{EntryValue, NamedPart, PartValue}
-use Rattle.ti_json.specs.Objects.{Subject, StandardSubject, OwnSubject, array_text, described, entry_objects, entry_text, fault_object, flag_objects, format_name, kind_word, number_objects, objects_from, own_flag, own_number, own_objects, own_text, sound_object, standard_flag, standard_number, standard_objects, standard_text, state_member, text_json, text_objects, value_member, whole_objects}
+use Rattle.ti_words.specs.Widths.{format_name}
+use Rattle.ti_json.specs.Objects.{Subject, StandardSubject, OwnSubject, array_text, described, entry_objects, entry_text, fault_object, flag_objects, kind_word, number_objects, objects_from, own_flag, own_number, own_objects, own_text, sound_object, standard_flag, standard_number, standard_objects, standard_text, state_member, text_json, text_objects, value_member, whole_objects}
 use Rattle.ti_json.proofs.TextLemmas.{IsText, both, decimal_text, label_text, quoted_text, signed_text}
 
 -- strings are printable, and numbers are integers
@@ -155,8 +155,7 @@ own p =
     (of_all own_text (λ i x. of_text (OwnSubject kinds.Text x.0) x.1) 0 p.texts)
 
 pub format : (width : Width) → IsText (format_name width)
-format widths.Legacy = refl
-format widths.Wide = refl
+format width = grind arith
 
 pub entry_is_plain : (v : EntryValue) → IsPlain (array (items_of (entry_objects v)))
 entry_is_plain v =

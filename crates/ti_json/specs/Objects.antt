@@ -12,11 +12,10 @@ use Rattle.ti_words.specs.declared.Kind.{Kind}
 use Rattle.ti_words.specs.declared.Kind.TheVariants as kinds
 use Rattle.ti_words.specs.declared.Number.{Number}
 use Rattle.ti_words.specs.declared.Number.TheVariants as numbers
-use Rattle.ti_words.specs.declared.Width.{Width}
-use Rattle.ti_words.specs.declared.Width.TheVariants as widths
 use Rattle.ti_words.specs.declared.all_names.NameTable.TheVariants as tables
 use Rattle.ti_words.specs.Texts.{TextValue, AbsentText, CancelledText, TextOf}
 use Rattle.ti_words.specs.Value.{EntryValue, NamedPart, PartValue}
+use Rattle.ti_words.specs.Widths.{format_name}
 
 -- ---- one object
 
@@ -111,10 +110,6 @@ standard_objects p =
 
 abbrev pub own_objects : NamedPart → List Data
 own_objects p = objects_from own_flag 0 p.flags ++ objects_from own_number 0 p.numbers ++ objects_from own_text 0 p.texts
-
-abbrev pub format_name : Width → List ℕ
-format_name widths.Legacy = codes "legacy"
-format_name widths.Wide = codes "wide"
 
 -- what is said of the whole entry
 abbrev pub whole : List ℕ → List ℕ → Data

@@ -9,7 +9,8 @@ use Rattle.ti_words.specs.declared.Number.{Number}
 use Rattle.ti_words.specs.declared.Number.TheVariants as numbers
 use Rattle.ti_words.specs.declared.Width.{Width}
 use Rattle.ti_words.specs.Texts.{TextValue, AbsentText, CancelledText, TextOf}
-use Rattle.ti_json.specs.Objects.{Subject, StandardSubject, OwnSubject, format_name, kind_word, standard_label, state_member, value_member}
+use Rattle.ti_words.specs.Widths.{format_name}
+use Rattle.ti_json.specs.Objects.{Subject, StandardSubject, OwnSubject, kind_word, standard_label, state_member, value_member}
 
 -- ---- what one entry has of an item
 

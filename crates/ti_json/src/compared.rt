@@ -5,9 +5,9 @@ ghost use Rattle.serde_json.specs.View.{view};
 ghost use Rattle.ti_json.specs.Sides.{compared as the_compared, compared_whole};
 ghost use Rattle.ti_json.specs.inner.Subject.{subject_of};
 
-use crate::object::{Subject, kind_word};
-use crate::string::{label_string, standard_label};
-use serde_json::{Value, json};
+use crate::members::{object_on, with_member, with_string};
+use crate::object::Subject;
+use serde_json::{Map, Value};
 use std::alloc::{AllocError, Global};
 
 /// The object on a capability.
@@ -20,16 +20,9 @@ fn compared(
     ensures { IfOk result (λ made. view made
         ≡ the_compared (subject_of subject.entry) (view first) (view other)) }
 {
-    match subject {
-        Subject::Standard(kind, index) => {
-            let name = standard_label(alloc, kind, index)?;
-            json!(in alloc; {"first": first, "kind": kind_word(kind), "name": name, "other": other})
-        }
-        Subject::Own(kind, name) => {
-            let name = label_string(alloc, name)?;
-            json!(in alloc; {"first": first, "kind": kind_word(kind), "name": name, "other": other, "own": true})
-        }
-    }
+    let members = with_member(alloc, Map::new(alloc), "first", first)?;
+    let members = with_member(alloc, members, "other", other)?;
+    object_on(alloc, members, subject)
 }
 
 /// Adds the object on a capability that two entries do not have alike: what the `first` has, and what the `other` has.
@@ -51,6 +44,16 @@ pub fn push_compared(
     Ok(())
 }
 
+/// The object on the format or the names.
+fn whole(alloc: Global, kind: &str, first: Value, other: Value) -> Result<Value, AllocError>
+    ensures { IfOk result
+        (λ made. view made ≡ compared_whole kind.now (view first) (view other)) }
+{
+    let members = with_member(alloc, Map::new(alloc), "first", first)?;
+    let members = with_member(alloc, members, "other", other)?;
+    Ok(Value::Object(with_string(alloc, members, "kind", kind)?))
+}
+
 /// Adds the object on the format or the names, which have a kind of their own.
 ///
 /// # Errors
@@ -66,6 +69,6 @@ pub fn push_compared_whole(
     ensures { OnOk result (map view out.new.items ≡ map view out.old.items
         ++ compared_whole kind.now (view first) (view other) ∷ []) }
 {
-    out.push(json!(in alloc; {"first": first, "kind": kind, "other": other})?)?;
+    out.push(whole(alloc, kind, first, other)?)?;
     Ok(())
 }

@@ -1,19 +1,21 @@
 //! The objects on an entry.
 
 ghost use Rattle.std.specs.List.{list_all};
-ghost use Rattle.std.specs.Prelude.{◌≡◌, ◌++◌, [], false, get_or, true, IfOk, OnOk, map};
+ghost use Rattle.std.specs.Prelude.{◌≡◌, ◌++◌, ◌∷◌, [], false, get_or, true, IfOk, OnOk, map};
 ghost use Rattle.serde_json.specs.View.{items_of, view};
 ghost use Rattle.serde_json.specs.Written.{items_have_float};
 ghost use Rattle.ti_entry.specs.Finding.{names_of};
 ghost use Rattle.ti_escape.specs.Laws.{is_printable};
-ghost use Rattle.ti_json.specs.Objects.{array_text, entry_text, format_name as the_format_name, objects_from, own_flag, own_number, own_objects, own_text, standard_flag, standard_number, standard_objects, standard_text, whole_objects};
+ghost use Rattle.ti_json.specs.inner.Described.{of_kind};
+ghost use Rattle.ti_json.specs.Objects.{array_text, entry_text, objects_from, own_flag, own_number, own_objects, own_text, standard_flag, standard_number, standard_objects, standard_text, whole_objects};
 
+use crate::members::{with_member, with_string};
 use crate::object::{Subject, push_flag, push_number, push_text};
 use crate::string::text_string;
-use serde_json::{Value, json};
+use serde_json::{Map, Value};
 use std::alloc::{AllocError, Global};
 use ti_entry::{Entry, Extended};
-use ti_words::{Kind, Width};
+use ti_words::{Kind, format_name};
 
 /// Adds the objects on the flags of terminfo(5).
 fn push_flags(alloc: Global, out: &mut Vec<Value>, entry: &Entry<'_>) -> Result<(), AllocError>
@@ -109,24 +111,36 @@ fn push_own_texts(
     Ok(())
 }
 
-/// The name of a format.
-pub fn format_name(width: Width) -> &'static str
-    ensures { result.now ≡ the_format_name width }
+/// An object of a kind and a value.
+fn kind_value(alloc: Global, kind: &str, value: Value) -> Result<Value, AllocError>
+    ensures { IfOk result (λ made. view made ≡ of_kind kind.now (view value)) }
 {
-    match width {
-        Width::Legacy => "legacy",
-        Width::Wide => "wide",
-    }
+    let members = with_string(alloc, Map::new(alloc), "kind", kind)?;
+    Ok(Value::Object(with_member(alloc, members, "value", value)?))
+}
+
+/// Adds an object of a kind and a value.
+fn push_kind(
+    alloc: Global,
+    out: &mut Vec<Value>,
+    kind: &str,
+    value: Value,
+) -> Result<(), AllocError>
+    ensures { OnOk result (map view out.new.items
+        ≡ map view out.old.items ++ of_kind kind.now (view value) ∷ []) }
+{
+    out.push(kind_value(alloc, kind, value)?)?;
+    Ok(())
 }
 
 /// Adds the objects on the whole entry.
 fn push_whole(alloc: Global, out: &mut Vec<Value>, entry: &Entry<'_>) -> Result<(), AllocError>
     ensures { OnOk result (map view out.new.items ≡ map view out.old.items ++ whole_objects entry.now) }
 {
-    out.push(json!(in alloc; {"kind": "format", "value": format_name(entry.width())})?)?;
+    let format = Value::try_from_str(alloc, format_name(entry.width()))?;
+    push_kind(alloc, out, "format", format)?;
     let names = text_string(alloc, entry.names())?;
-    out.push(json!(in alloc; {"kind": "names", "value": names})?)?;
-    Ok(())
+    push_kind(alloc, out, "names", Value::String(names))
 }
 
 /// Adds the objects on the capabilities of terminfo(5).

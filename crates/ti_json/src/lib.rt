@@ -7,6 +7,7 @@
 
 mod compared;
 mod entry;
+mod members;
 mod object;
 mod side;
 mod string;
@@ -14,6 +15,7 @@ mod verdict;
 
 pub use compared::{push_compared, push_compared_whole};
 pub use entry::{array_json, entry_json};
+pub use members::{with_member, with_string, with_text};
 pub use object::Subject;
 pub use side::{flag_side, format_side, names_side, number_side, text_side};
 pub use string::{label_string, printable_string, text_json, text_string};

@@ -1,13 +1,14 @@
 //! The object on one capability.
 
-ghost use Rattle.std.specs.Prelude.{◌≡◌, ◌++◌, IfOk, OnOk, map};
+ghost use Rattle.std.specs.Prelude.{◌≡◌, ◌++◌, ◌∷◌, [], IfOk, OnOk, map};
 ghost use Rattle.serde_json.specs.View.{view};
 ghost use Rattle.ti_words.specs.Texts.{text_value};
 ghost use Rattle.ti_json.specs.Objects.{described, flag_objects, kind_word as the_kind_word, number_objects, state_member, text_objects, value_member};
 ghost use Rattle.ti_json.specs.inner.Subject.{subject_of};
 
-use crate::string::{label_string, standard_label, text_string};
-use serde_json::{Value, json};
+use crate::members::{object_on, with_member, with_string};
+use crate::string::text_string;
+use serde_json::{Map, Value};
 use std::alloc::{AllocError, Global};
 use ti_words::{Flag, Kind, Number, Text};
 
@@ -33,32 +34,44 @@ pub fn kind_word(kind: Kind) -> &'static str
 fn with_value(alloc: Global, subject: Subject<'_>, value: Value) -> Result<Value, AllocError>
     ensures { IfOk result (λ made. view made ≡ described (subject_of subject.entry) (value_member (view value))) }
 {
-    match subject {
-        Subject::Standard(kind, index) => {
-            let name = standard_label(alloc, kind, index)?;
-            json!(in alloc; {"kind": kind_word(kind), "name": name, "value": value})
-        }
-        Subject::Own(kind, name) => {
-            let name = label_string(alloc, name)?;
-            json!(in alloc; {"kind": kind_word(kind), "name": name, "own": true, "value": value})
-        }
-    }
+    let members = with_member(alloc, Map::new(alloc), "value", value)?;
+    object_on(alloc, members, subject)
 }
 
 /// A capability without a value.
 fn with_state(alloc: Global, subject: Subject<'_>, state: &str) -> Result<Value, AllocError>
     ensures { IfOk result (λ made. view made ≡ described (subject_of subject.entry) (state_member state.now)) }
 {
-    match subject {
-        Subject::Standard(kind, index) => {
-            let name = standard_label(alloc, kind, index)?;
-            json!(in alloc; {"kind": kind_word(kind), "name": name, "state": state})
-        }
-        Subject::Own(kind, name) => {
-            let name = label_string(alloc, name)?;
-            json!(in alloc; {"kind": kind_word(kind), "name": name, "own": true, "state": state})
-        }
-    }
+    let members = with_string(alloc, Map::new(alloc), "state", state)?;
+    object_on(alloc, members, subject)
+}
+
+/// Adds the object on a capability with a value.
+fn push_value(
+    alloc: Global,
+    out: &mut Vec<Value>,
+    subject: Subject<'_>,
+    value: Value,
+) -> Result<(), AllocError>
+    ensures { OnOk result (map view out.new.items ≡ map view out.old.items
+        ++ described (subject_of subject.entry) (value_member (view value)) ∷ []) }
+{
+    out.push(with_value(alloc, subject, value)?)?;
+    Ok(())
+}
+
+/// Adds the object on a capability without a value.
+fn push_state(
+    alloc: Global,
+    out: &mut Vec<Value>,
+    subject: Subject<'_>,
+    state: &str,
+) -> Result<(), AllocError>
+    ensures { OnOk result (map view out.new.items ≡ map view out.old.items
+        ++ described (subject_of subject.entry) (state_member state.now) ∷ []) }
+{
+    out.push(with_state(alloc, subject, state)?)?;
+    Ok(())
 }
 
 /// Adds the object on a flag, if it is there.
@@ -72,12 +85,11 @@ pub fn push_flag(
         ≡ map view out.old.items ++ flag_objects (subject_of subject.entry) flag) }
 {
     match flag {
-        Flag::No => {}
-        Flag::Yes => out.push(with_value(alloc, subject, Value::Bool(true))?)?,
-        Flag::Cancelled => out.push(with_state(alloc, subject, "cancelled")?)?,
-        Flag::Missing => out.push(with_state(alloc, subject, "missing")?)?,
+        Flag::No => Ok(()),
+        Flag::Yes => push_value(alloc, out, subject, Value::Bool(true)),
+        Flag::Cancelled => push_state(alloc, out, subject, "cancelled"),
+        Flag::Missing => push_state(alloc, out, subject, "missing"),
     }
-    Ok(())
 }
 
 /// Adds the object on a number, if it is there.
@@ -91,11 +103,10 @@ pub fn push_number(
         ≡ map view out.old.items ++ number_objects (subject_of subject.entry) number) }
 {
     match number {
-        Number::Absent => {}
-        Number::Cancelled => out.push(with_state(alloc, subject, "cancelled")?)?,
-        Number::Value(value) => out.push(with_value(alloc, subject, Value::from(value))?)?,
+        Number::Absent => Ok(()),
+        Number::Cancelled => push_state(alloc, out, subject, "cancelled"),
+        Number::Value(value) => push_value(alloc, out, subject, Value::from(value)),
     }
-    Ok(())
 }
 
 /// Adds the object on a text, if it is there.
@@ -109,12 +120,11 @@ pub fn push_text(
         ≡ map view out.old.items ++ text_objects (subject_of subject.entry) (text_value text.entry)) }
 {
     match text {
-        Text::Absent => {}
-        Text::Cancelled => out.push(with_state(alloc, subject, "cancelled")?)?,
+        Text::Absent => Ok(()),
+        Text::Cancelled => push_state(alloc, out, subject, "cancelled"),
         Text::Value(bytes) => {
             let value = Value::String(text_string(alloc, bytes)?);
-            out.push(with_value(alloc, subject, value)?)?;
+            push_value(alloc, out, subject, value)
         }
     }
-    Ok(())
 }

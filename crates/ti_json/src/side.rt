@@ -5,24 +5,24 @@ ghost use Rattle.serde_json.specs.View.{view};
 ghost use Rattle.ti_words.specs.Texts.{text_value};
 ghost use Rattle.ti_json.specs.Sides.{flag_side as the_flag_side, format_side as the_format_side, names_side as the_names_side, number_side as the_number_side, stated as the_stated, text_side as the_text_side, valued as the_valued};
 
-use crate::entry::format_name;
+use crate::members::{with_member, with_string};
 use crate::string::text_string;
-use serde_json::{Value, json};
+use serde_json::{Map, Value, json};
 use std::alloc::{AllocError, Global};
-use ti_words::{Flag, Number, Text, Width};
+use ti_words::{Flag, Number, Text, Width, format_name};
 
 /// An item with a value.
 fn valued(alloc: Global, value: Value) -> Result<Value, AllocError>
     ensures { IfOk result (λ made. view made ≡ the_valued (view value)) }
 {
-    json!(in alloc; {"value": value})
+    Ok(Value::Object(with_member(alloc, Map::new(alloc), "value", value)?))
 }
 
 /// An item without a value.
 fn stated(alloc: Global, state: &str) -> Result<Value, AllocError>
     ensures { IfOk result (λ made. view made ≡ the_stated state.now) }
 {
-    json!(in alloc; {"state": state})
+    Ok(Value::Object(with_string(alloc, Map::new(alloc), "state", state)?))
 }
 
 /// The format of one entry, as an object with its `value`.
@@ -45,7 +45,7 @@ pub fn names_side(alloc: Global, names: &[u8]) -> Result<Value, AllocError>
     ensures { IfOk result (λ made. view made ≡ the_names_side names.now) }
 {
     let names = text_string(alloc, names)?;
-    json!(in alloc; {"value": names})
+    valued(alloc, Value::String(names))
 }
 
 /// A flag of one entry, as an object with its `value` or `state`.

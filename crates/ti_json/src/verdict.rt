@@ -6,9 +6,9 @@ ghost use Rattle.ti_cap.specs.FaultNames.{cap_fault_word};
 ghost use Rattle.ti_json.specs.Objects.{fault_object, sound_object};
 ghost use Rattle.ti_json.specs.inner.Subject.{subject_of};
 
-use crate::object::{Subject, kind_word};
-use crate::string::{label_string, standard_label};
-use serde_json::{Value, json};
+use crate::members::{object_on, with_member, with_string};
+use crate::object::Subject;
+use serde_json::{Map, Value};
 use std::alloc::{AllocError, Global};
 use ti_cap::CapRefused;
 
@@ -21,16 +21,9 @@ fn sound_value(
 ) -> Result<Value, AllocError>
     ensures { IfOk result (λ made. view made ≡ sound_object (subject_of subject.entry) depth bound) }
 {
-    match subject {
-        Subject::Standard(kind, index) => {
-            let name = standard_label(alloc, kind, index)?;
-            json!(in alloc; {"bound": bound, "depth": depth, "kind": kind_word(kind), "name": name})
-        }
-        Subject::Own(kind, name) => {
-            let name = label_string(alloc, name)?;
-            json!(in alloc; {"bound": bound, "depth": depth, "kind": kind_word(kind), "name": name, "own": true})
-        }
-    }
+    let members = with_member(alloc, Map::new(alloc), "bound", Value::from(bound))?;
+    let members = with_member(alloc, members, "depth", Value::from(depth))?;
+    object_on(alloc, members, subject)
 }
 
 /// The object on a text with a fault.
@@ -42,16 +35,9 @@ fn fault_value(
 ) -> Result<Value, AllocError>
     ensures { IfOk result (λ made. view made ≡ fault_object (subject_of subject.entry) fault.now place) }
 {
-    match subject {
-        Subject::Standard(kind, index) => {
-            let name = standard_label(alloc, kind, index)?;
-            json!(in alloc; {"fault": fault, "kind": kind_word(kind), "name": name, "place": place})
-        }
-        Subject::Own(kind, name) => {
-            let name = label_string(alloc, name)?;
-            json!(in alloc; {"fault": fault, "kind": kind_word(kind), "name": name, "own": true, "place": place})
-        }
-    }
+    let members = with_string(alloc, Map::new(alloc), "fault", fault)?;
+    let members = with_member(alloc, members, "place", Value::from(place))?;
+    object_on(alloc, members, subject)
 }
 
 /// Adds the object on a text without a fault: its `depth` and `bound`.

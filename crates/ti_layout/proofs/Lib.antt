@@ -2,7 +2,7 @@ pub mod VerdictLemmas
 pub mod PlacesLemmas
 pub mod PassesLemmas
 pub mod WordLemmas
-pub mod IsReachLemmas
+pub mod LastNulLemmas
 pub mod SectionReadLemmas
 pub mod WholeSectionLemmas
 pub mod UntilNulLemmas

@@ -14,7 +14,7 @@ use Rattle.ti_words.specs.Word.{signed}
 use Rattle.ti_layout.specs.Layout.{places}
 use Rattle.ti_words.specs.Texts.{is_nul}
 use Rattle.ti_layout.specs.Checks.{Check, Passes, verdict, is_not_negative, is_number_word, is_offset_below}
-use Rattle.ti_layout.specs.Reach.{is_before}
+use Rattle.ti_layout.specs.LastNul.{is_before}
 use Rattle.ti_layout.specs.Refusal.{item_size, item_holds, item_check, items_checks}
 use Rattle.ti_layout.specs.Stages.{first_items}
 use Rattle.ti_layout.proofs.VerdictLemmas.{then, verdict_append}

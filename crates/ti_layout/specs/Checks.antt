@@ -1,9 +1,8 @@
 -- Checks of an input in a fixed order, and the refusal of the first one that is not passed.
-use Rattle.std.specs.Prelude.{ℕ, ◌+◌, ◌%◌, ℤ, pos, negsuc, Bool, true, false, not, List, [], ◌∷◌, length, map, slice_index, Option, Some, None, Result, Ok, Err, nat_lt, if◌then◌else◌, is_some}
+use Rattle.std.specs.Prelude.{ℕ, ◌+◌, ◌%◌, ℤ, pos, negsuc, Bool, true, false, List, [], ◌∷◌, length, map, slice_index, Option, Some, None, Result, Ok, Err, nat_lt, if◌then◌else◌}
 use Rattle.std.specs.List.{flat_map}
-use Rattle.ti_words.specs.Marks.{flag_of_byte}
 use Rattle.ti_layout.specs.declared.fault.Fault.{Fault}
-use Rattle.ti_layout.specs.declared.fault.Fault.TheVariants.{Truncated, BadNames, BadFlag, BadPad, BadNumber, BadOffset, Unterminated, BadExtendedName, Trailing}
+use Rattle.ti_layout.specs.declared.fault.Fault.TheVariants.{Truncated, BadPad, Unterminated, BadExtendedName, Trailing}
 use Rattle.ti_layout.specs.declared.fault.Refused.{Refused}
 use Rattle.ti_words.specs.Word.{unsigned_at, word_at}
 use Rattle.ti_layout.specs.Layout.{places}
@@ -83,40 +82,12 @@ is_ended table (negsuc n) = true
 
 -- ---- checks of whole sections, item by item
 
--- a word of a header, or the offset of a name
-abbrev pub sign_check : List ℕ → Fault → ℕ → Check
-sign_check bytes fault p = check (p + 2) (is_not_negative (word_at 2 bytes p)) fault p
-
-abbrev pub sign_checks : List ℕ → Fault → ℕ → ℕ → List Check
-sign_checks bytes fault from count = map (sign_check bytes fault) (places from 2 count)
-
-abbrev pub name_check : List ℕ → ℕ → Check
-name_check bytes p = check (p + 1) (not (is_nul (slice_index bytes p))) BadNames p
-
 abbrev pub nul_check : List ℕ → Fault → ℕ → Check
 nul_check bytes fault p = check (p + 1) (is_nul (slice_index bytes p)) fault p
-
-abbrev pub flag_check : List ℕ → ℕ → Check
-flag_check bytes p = check (p + 1) (is_some (flag_of_byte (slice_index bytes p))) BadFlag p
-
-abbrev pub flag_checks : List ℕ → ℕ → ℕ → List Check
-flag_checks bytes from count = map (flag_check bytes) (places from 1 count)
 
 -- a byte 0 at an odd place, so that what follows starts at an even one
 abbrev pub pad_checks : List ℕ → ℕ → List Check
 pad_checks bytes p = map (nul_check bytes BadPad) (places p 1 (p % 2))
-
-abbrev pub number_check : List ℕ → ℕ → ℕ → Check
-number_check bytes size p = check (p + size) (is_number_word (word_at size bytes p)) BadNumber p
-
-abbrev pub number_checks : List ℕ → ℕ → ℕ → ℕ → List Check
-number_checks bytes size from count = map (number_check bytes size) (places from size count)
-
-abbrev pub offset_check : List ℕ → ℕ → ℕ → Check
-offset_check bytes table_size p = check (p + 2) (is_offset_below table_size (word_at 2 bytes p)) BadOffset p
-
-abbrev pub offset_checks : List ℕ → ℕ → ℕ → ℕ → List Check
-offset_checks bytes table_size from count = map (offset_check bytes table_size) (places from 2 count)
 
 -- the table, which ends at end, is there: checked also if no offset is a place in it
 abbrev pub table_check : ℕ → Check

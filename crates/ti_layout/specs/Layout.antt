@@ -1,19 +1,17 @@
 -- Where the sections of an entry lie (term(5)).
-use Rattle.std.specs.Prelude.{◌≡◌, ℕ, zero, suc, ◌+◌, ◌*◌, ◌%◌, ◌≤◌, List, [], ◌∷◌, ◌==◌, length, Option, Some, None, unwrap_or, if◌then◌else◌}
+use Rattle.std.specs.Prelude.{◌≡◌, ℕ, zero, suc, ◌+◌, ◌*◌, ◌%◌, ◌≤◌, List, [], ◌∷◌, ◌==◌, length, Option, unwrap_or, if◌then◌else◌}
 use Rattle.ti_base.specs.Limits.{most_entry_bytes}
 use Rattle.ti_words.specs.declared.Kind.{Kind}
 use Rattle.ti_words.specs.declared.Kind.TheVariants as kinds
 use Rattle.ti_words.specs.declared.Width.{Width}
-use Rattle.ti_words.specs.declared.Width.TheVariants.{Legacy, Wide}
+use Rattle.ti_words.specs.declared.Width.TheVariants.{Legacy}
 use Rattle.ti_layout.specs.declared.part.Part.{Part}
 use Rattle.ti_words.specs.Word.{unsigned_at}
-use Rattle.ti_words.specs.Widths.{number_size, magic_number}
+use Rattle.ti_words.specs.Widths.{number_size, width_of_magic}
 
 -- the format whose magic number an input starts with, if it starts with one
 abbrev pub width_of : List ℕ → Option Width
-width_of bytes =
-    if unsigned_at 2 bytes 0 == magic_number Legacy then Some Legacy
-    else (if unsigned_at 2 bytes 0 == magic_number Wide then Some Wide else None)
+width_of bytes = width_of_magic (unsigned_at 2 bytes 0)
 
 -- where count items of a size start that lie one after the other from a place on
 abbrev pub places : ℕ → ℕ → ℕ → List ℕ

@@ -19,7 +19,7 @@ use Rattle.ti_base.specs.Limits.{most_entry_bytes}
 use Rattle.ti_layout.specs.Layout.{width_of, places, flags_end, numbers_from, offsets_from, names_from, end_of, standard, extended_from, extended_after}
 use Rattle.ti_words.specs.Widths.{number_size}
 use Rattle.ti_layout.specs.Table.{table_of, base_of}
-use Rattle.ti_layout.specs.Checks.{Check, check, check_after, verdict, refusal_of, failure_of, is_not_negative, is_number_word, is_offset_below, sign_check, nul_check, pad_checks, ending_checks, all_name_place_checks, end_check}
+use Rattle.ti_layout.specs.Checks.{Check, check, check_after, verdict, refusal_of, failure_of, is_not_negative, is_number_word, is_offset_below, nul_check, pad_checks, ending_checks, all_name_place_checks, end_check}
 
 -- ---- items that lie one after the other
 
@@ -79,7 +79,7 @@ extended_size_check x = check x.flags_from (nat_le (end_of x) most_entry_bytes) 
 -- the last word of the extended header, and the sizes in it
 abbrev pub extended_header_checks : List ℕ → Part → List Check
 extended_header_checks bytes s =
-    sign_check bytes BadExtendedHeader (extended_from s + 8) ∷ extended_size_check (extended_after s bytes) ∷ []
+    item_check bytes (Sign BadExtendedHeader) (extended_from s + 8) ∷ extended_size_check (extended_after s bytes) ∷ []
 
 -- ---- the tables
 

@@ -6,10 +6,10 @@
 ghost use Rattle.std.specs.Prelude.{◌≡◌, ◌+◌, ◌*◌, ◌<◌, ◌≤◌, ◌^◌, ◌∷◌, [], length, map};
 ghost use Rattle.ti_layout.specs.Layout.{places, pad_end};
 ghost use Rattle.ti_layout.specs.Checks.{verdict, result_verdict, nul_check, pad_checks, ending_check, name_place_checks, all_name_place_checks, is_offset_below as the_is_offset_below};
-ghost use Rattle.ti_layout.specs.Reach.{IsReach, is_before as the_is_before};
+ghost use Rattle.ti_layout.specs.LastNul.{IsAfterLastNul, is_before as the_is_before};
 
 use crate::fault::{Fault, Refused};
-use crate::whole::{are_below, are_names};
+use crate::greatest::{are_below, are_names};
 use crate::word::{count_at, word_at};
 
 /// A string table: its bytes, where it ends, and the place after its last NUL.
@@ -17,7 +17,7 @@ use crate::word::{count_at, word_at};
 pub(crate) struct Table<'a> {
     pub(crate) bytes: &'a [u8],
     pub(crate) end: usize,
-    pub(crate) reach: usize,
+    pub(crate) after_last_nul: usize,
 }
 
 /// Whether an offset is a mark, or a place below the size of the table.
@@ -31,23 +31,23 @@ pub(crate) fn is_offset_below(size: usize, offset: i16) -> bool
     }
 }
 
-/// Whether an offset is a mark, or a place before the reach of the table.
-fn is_before(reach: usize, offset: i16) -> bool
-    ensures { result ≡ the_is_before reach offset }
+/// Whether an offset is a mark, or a place before another.
+fn is_before(end: usize, offset: i16) -> bool
+    ensures { result ≡ the_is_before end offset }
 {
-    offset < 0 || (offset as usize) < reach
+    offset < 0 || (offset as usize) < end
 }
 
 /// The place after the last NUL of a table: the texts that start before it end in the table.
-pub(crate) fn reach_of(table: &[u8]) -> usize
-    ensures { IsReach table.now result }
+pub(crate) fn after_last_nul(table: &[u8]) -> usize
+    ensures { IsAfterLastNul table.now result }
 {
-    let mut reach = table.len();
-    'back: while reach > 0 {
-        if table[reach - 1] == 0 {
-            return reach;
+    let mut after = table.len();
+    'back: while after > 0 {
+        if table[after - 1] == 0 {
+            return after;
         }
-        reach -= 1;
+        after -= 1;
     }
     0
 }
@@ -79,11 +79,11 @@ pub(crate) fn check_pad(bytes: &[u8], place: usize) -> Result<(), Refused>
 fn check_ending(bytes: &[u8], table: &Table<'_>, place: usize) -> Result<(), Refused>
     requires within { place + 2 ≤ table.now.end }
     requires there { table.now.end ≤ length bytes.now }
-    requires reach { IsReach table.now.bytes.now table.now.reach }
+    requires last_nul { IsAfterLastNul table.now.bytes.now table.now.after_last_nul }
     ensures { result_verdict result ≡ verdict (length bytes.now)
         (ending_check bytes.now table.now.bytes.now table.now.end place ∷ []) }
 {
-    if !is_before(table.reach, word_at(bytes, place)) {
+    if !is_before(table.after_last_nul, word_at(bytes, place)) {
         return Err(Refused {
             fault: Fault::Unterminated,
             place,
@@ -101,7 +101,7 @@ fn check_name_place(
 ) -> Result<(), Refused>
     requires within { place + 2 ≤ table.now.end }
     requires there { table.now.end ≤ length bytes.now }
-    requires reach { IsReach table.now.bytes.now table.now.reach }
+    requires last_nul { IsAfterLastNul table.now.bytes.now table.now.after_last_nul }
     requires small { base < 2 ^ 32 }
     ensures { result_verdict result ≡ verdict (length bytes.now)
         (name_place_checks bytes.now table.now.bytes.now base table.now.end place) }
@@ -113,7 +113,7 @@ fn check_name_place(
             place,
         });
     }
-    if start >= table.reach {
+    if start >= table.after_last_nul {
         return Err(Refused {
             fault: Fault::Unterminated,
             place,
@@ -131,11 +131,11 @@ pub(crate) fn check_endings(
 ) -> Result<(), Refused>
     requires before { from + 2 * count ≤ table.now.end }
     requires there { table.now.end ≤ length bytes.now }
-    requires reach { IsReach table.now.bytes.now table.now.reach }
+    requires last_nul { IsAfterLastNul table.now.bytes.now table.now.after_last_nul }
     ensures { result_verdict result ≡ verdict (length bytes.now)
         (map (ending_check bytes.now table.now.bytes.now table.now.end) (places from 2 count)) }
 {
-    if are_below(bytes, table.reach, from, count) {
+    if are_below(bytes, table.after_last_nul, from, count) {
         return Ok(());
     }
     for i in 0..count {
@@ -154,7 +154,7 @@ pub(crate) fn check_name_places(
 ) -> Result<(), Refused>
     requires before { from + 2 * count ≤ table.now.end }
     requires there { table.now.end ≤ length bytes.now }
-    requires reach { IsReach table.now.bytes.now table.now.reach }
+    requires last_nul { IsAfterLastNul table.now.bytes.now table.now.after_last_nul }
     requires small { base < 2 ^ 32 }
     ensures { result_verdict result ≡ verdict (length bytes.now) (all_name_place_checks bytes.now
         table.now.bytes.now base table.now.end (places from 2 count)) }

@@ -8,6 +8,7 @@
 mod checks;
 mod content;
 mod fault;
+mod greatest;
 mod header;
 mod part;
 mod section;
@@ -15,7 +16,6 @@ mod stage;
 mod string_table;
 mod table;
 mod texts;
-mod whole;
 mod word;
 
 pub use fault::{Fault, Refused};

@@ -10,7 +10,7 @@ ghost use Rattle.ti_layout.specs.Layout.{IsStandard, IsWithin, standard as the_s
 
 use crate::word::{count_at, numbers_size};
 use ti_base::MOST_ENTRY_BYTES;
-use ti_words::{Kind, Width};
+use ti_words::{Kind, Width, width_of_magic};
 
 /// What a header says of its part. The flags come first, from `flags_from` on, and then the numbers, the offsets of the
 /// texts, those of the names, and the string table.
@@ -210,6 +210,9 @@ impl Part {
         requires standard { self.now ≡ the_standard bytes.now }
         ensures within { IfSome result (λ x. IsWithin bytes.now x) }
         ensures named { IfSome result (λ x. x.flags + x.numbers + x.texts ≡ x.names) }
+        ensures found { IfSome result (λ x. x ≡ the_extended bytes.now) }
+        ensures there { IfSome result (λ x. end_of self.now < length bytes.now
+            → the_extended_from self.now + 10 ≤ length bytes.now) }
         ensures exact { IsWithin bytes.now (the_extended bytes.now)
             → (end_of self.now < length bytes.now → the_extended_from self.now + 10 ≤ length bytes.now)
             → result ≡ Some (the_extended bytes.now) }
@@ -241,9 +244,5 @@ pub(crate) fn width_of(bytes: &[u8]) -> Option<Width>
     requires { 2 ≤ length bytes.now }
     ensures { result ≡ the_width_of bytes.now }
 {
-    match count_at(bytes, 0) {
-        0o432 => Some(Width::Legacy),
-        0o1036 => Some(Width::Wide),
-        _ => None,
-    }
+    width_of_magic(count_at(bytes, 0))
 }

@@ -11,10 +11,10 @@ ghost use Rattle.ti_layout.specs.Stages.{first_items, items_after, next as the_n
 
 use crate::checks::is_offset_below;
 use crate::fault::{Fault, Refused};
-use crate::part::{Part, pad_end};
-use crate::whole::{
+use crate::greatest::{
     WIDE_WORDS, WORDS, are_below, greatest_byte, greatest_wide_word, greatest_word,
 };
+use crate::part::{Part, pad_end};
 use crate::word::{number_word_at, word_at};
 use ti_words::{Width, flag_of, number_size};
 
@@ -164,10 +164,10 @@ impl Items {
             Item::Sign(_) => greatest_word(bytes, self.at, count, 0) < WORDS,
             Item::Name => greatest_byte(bytes, self.at, count, u8::MAX) < u8::MAX,
             Item::Flag => greatest_byte(bytes, self.at, count, 2) < 4,
-            Item::Number(Width::Legacy) => are_below(bytes, usize::from(WORDS), self.at, count),
-            Item::Number(Width::Wide) => {
-                greatest_wide_word(bytes, self.at, count) < WIDE_WORDS + 2
-            }
+            Item::Number(width) => match number_size(width) {
+                2 => are_below(bytes, usize::from(WORDS), self.at, count),
+                _ => greatest_wide_word(bytes, self.at, count) < WIDE_WORDS + 2,
+            },
             Item::Offset(table_size) => are_below(bytes, table_size, self.at, count),
         }
     }

@@ -80,7 +80,7 @@ impl Stage {
     }
 
     /// Checks the items of a section that lie within the bytes, or closes it.
-    fn step(&mut self, bytes: &[u8]) -> Result<(), Refused>
+    fn check_section(&mut self, bytes: &[u8]) -> Result<(), Refused>
         requires stands { Stands bytes.now self.old }
         requires there { bytes_awaited self.old ≤ length bytes.now }
         ensures stands { OnOk result (Stands bytes.now self.new) }
@@ -137,7 +137,7 @@ impl Stage {
         ensures stood { IfErr result (λ refused. Stands bytes.now self.new) }
     {
         'steps: while self.bytes_awaited() <= bytes.len() {
-            self.step(bytes)?;
+            self.check_section(bytes)?;
         }
         Ok(())
     }

@@ -11,7 +11,7 @@ ghost use Rattle.ti_layout.specs.Layout.{IsWithin, places, offsets_from, end_of}
 ghost use Rattle.ti_layout.specs.Table.{sizes_at, names_base, table_of, end_at as the_end_at, last_end as the_last_end};
 ghost use Rattle.ti_words.specs.Word.{word_at as the_word_at};
 
-use crate::checks::{Table, check_endings, check_name_places, reach_of};
+use crate::checks::{Table, after_last_nul, check_endings, check_name_places};
 use crate::fault::Refused;
 use crate::part::Part;
 use crate::string_table::{size_at, text_from};
@@ -88,7 +88,7 @@ pub(crate) fn check_texts(bytes: &[u8], part: &Part) -> Result<usize, Refused>
     let table = Table {
         bytes: texts,
         end,
-        reach: reach_of(texts),
+        after_last_nul: after_last_nul(texts),
     };
     check_endings(bytes, &table, offsets_from, part.texts)?;
     if part.names == 0 {

@@ -45,8 +45,8 @@ pub(crate) fn number_word_at(bytes: &[u8], width: Width, at: usize) -> i32
     requires { at + the_number_size width ≤ length bytes.now }
     ensures { result ≡ the_word_at (the_number_size width) bytes.now at }
 {
-    match width {
-        Width::Legacy => i32::from(word_at(bytes, at)),
-        Width::Wide => LittleEndian::read_i32(&bytes[at..]),
+    match number_size(width) {
+        2 => i32::from(word_at(bytes, at)),
+        _ => LittleEndian::read_i32(&bytes[at..]),
     }
 }

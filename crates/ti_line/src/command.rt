@@ -1,9 +1,9 @@
 //! The command that is handed to `clap`: subcommands of one level, options, positionals, and the texts of help.
 
 ghost use Rattle.std.specs.Prelude.{◌≡◌, [], ◌∷◌, IfOk, false};
-ghost use Rattle.clap.specs.Words.{App, app_of, new_app, rule_of};
+ghost use Rattle.clap.specs.Words.{App, Rule, app_of, new_app, rule_of, with_rule};
 ghost use Rattle.ti_line.specs.CommandLine.{all_names_rule, cap_app, check_app, color_rule, convert_app, diff_app, entry_rule, escape_rule, expand_app, file_rule, files_rule, flag_rule, get_app, hex_rule, json_rule, lint_app, name_rule, number_rule, of_rule, params_rule, show_app, source_rule, start_app, ti_app, trace_app, with_commands, with_rules};
-ghost use Rattle.ti_line.specs.inner.Command.{HasNoGlobals};
+ghost use Rattle.ti_line.specs.inner.Command.{Makes};
 
 use clap::{Arg, ArgAction, Command, value_parser};
 use std::alloc::{AllocError, Global};
@@ -211,34 +211,46 @@ fn new_command<'a>(
     usage: &'a str,
     about: &'a str,
     example: &'a str,
-) -> Command<'a>
-    ensures shape { app_of result ≡ new_app name.entry.now }
-    ensures local { HasNoGlobals result }
+) -> Result<Command<'a>, AllocError>
+    ensures { Makes (new_app name.entry.now) result }
 {
-    Command::new(alloc, name)
-        .override_usage(usage)
-        .about(about)
-        .after_long_help(example)
+    Ok(
+        Command::new(alloc, name)
+            .override_usage(usage)
+            .about(about)
+            .after_long_help(example),
+    )
 }
 
-/// A command with two arguments more, in their order.
+/// A command with one argument more, if it could be made.
+fn with_one<'a>(
+    command: Result<Command<'a>, AllocError>,
+    arg: Arg<'a>,
+) -> Result<Command<'a>, AllocError>
+    requires local { arg.global ≡ false }
+    ensures { (app : App) (rule : Rule) → Makes app command.entry → rule_of arg.entry ≡ rule
+        → Makes (with_rule app rule) result }
+{
+    command?.arg(arg)
+}
+
+/// A command with two arguments more, in their order, if it could be made.
 fn with_two<'a>(
-    command: Command<'a>,
+    command: Result<Command<'a>, AllocError>,
     first: Arg<'a>,
     second: Arg<'a>,
 ) -> Result<Command<'a>, AllocError>
     requires first_local { first.global ≡ false }
     requires second_local { second.global ≡ false }
-    ensures shape { IfOk result (λ c. app_of c
-        ≡ with_rules (app_of command.entry) (rule_of first.entry ∷ rule_of second.entry ∷ [])) }
-    ensures local { HasNoGlobals command.entry → IfOk result HasNoGlobals }
+    ensures { (app : App) (rule other : Rule) → Makes app command.entry
+        → rule_of first.entry ≡ rule → rule_of second.entry ≡ other
+        → Makes (with_rules app (rule ∷ other ∷ [])) result }
 {
-    command.arg(first)?.arg(second)
+    with_one(with_one(command, first), second)
 }
 
 fn show<'a>(alloc: Global) -> Result<Command<'a>, AllocError>
-    ensures shape { IfOk result (λ c. app_of c ≡ show_app) }
-    ensures local { IfOk result HasNoGlobals }
+    ensures { Makes show_app result }
 {
     let command = new_command(
         alloc,
@@ -247,28 +259,26 @@ fn show<'a>(alloc: Global) -> Result<Command<'a>, AllocError>
         "List an entry, one line an item",
         "Example:\n  ti show /lib/terminfo/x/xterm\n\nFor an entry that a stranger wrote:\n  ti show --escape < entry",
     );
-    let command = with_two(command, escape(alloc), all_names(alloc))?;
+    let command = with_two(command, escape(alloc), all_names(alloc));
     with_two(command, json(alloc), files(alloc, FILES))
 }
 
 fn check<'a>(alloc: Global) -> Result<Command<'a>, AllocError>
-    ensures shape { IfOk result (λ c. app_of c ≡ check_app) }
-    ensures local { IfOk result HasNoGlobals }
+    ensures { Makes check_app result }
 {
-    let check = new_command(
+    let command = new_command(
         alloc,
         "check",
         "ti check [OPTIONS] [FILE]...",
         "Analyse each text of an entry; status 1 if one has a fault",
         "Example, of all entries in a folder:\n  ti check /lib/terminfo\n\nFor an entry that a stranger wrote:\n  ti check --escape < entry",
     );
-    let check = with_two(check, escape(alloc), all_names(alloc))?;
-    with_two(check, json(alloc), files(alloc, FILES))
+    let command = with_two(command, escape(alloc), all_names(alloc));
+    with_two(command, json(alloc), files(alloc, FILES))
 }
 
 fn lint<'a>(alloc: Global) -> Result<Command<'a>, AllocError>
-    ensures shape { IfOk result (λ c. app_of c ≡ lint_app) }
-    ensures local { IfOk result HasNoGlobals }
+    ensures { Makes lint_app result }
 {
     let command = new_command(
         alloc,
@@ -277,13 +287,12 @@ fn lint<'a>(alloc: Global) -> Result<Command<'a>, AllocError>
         "Tell what is wrong with an entry; status 1 if something is",
         "Example, of all entries in a folder:\n  ti lint /lib/terminfo",
     );
-    let command = with_two(command, flag(alloc, "all", ALL), json(alloc))?;
+    let command = with_two(command, flag(alloc, "all", ALL), json(alloc));
     with_two(command, color(alloc), files(alloc, FILES))
 }
 
 fn get<'a>(alloc: Global) -> Result<Command<'a>, AllocError>
-    ensures shape { IfOk result (λ c. app_of c ≡ get_app) }
-    ensures local { IfOk result HasNoGlobals }
+    ensures { Makes get_app result }
 {
     let command = new_command(
         alloc,
@@ -292,19 +301,19 @@ fn get<'a>(alloc: Global) -> Result<Command<'a>, AllocError>
         "Write the value of one capability of an entry, as tput does",
         "Example, which moves to line 5, column 10:\n  ti get cup 4 9 < /lib/terminfo/x/xterm\n\nOf a flag the status is the answer:\n  ti get am < /lib/terminfo/x/xterm && echo yes",
     );
-    let command = command.arg(name(alloc, ANY_NAME))?;
-    let command = with_two(command, hex(alloc), escape(alloc))?;
+    let command = with_one(command, name(alloc, ANY_NAME));
+    let command = with_two(command, hex(alloc), escape(alloc));
     let command = with_two(
         command,
         number(alloc, "rate", GREATEST_RATE, RATE),
         number(alloc, "lines", MOST_LINES, LINES),
-    )?;
-    with_two(command, flag(alloc, "xon", XON), entry(alloc))?.arg(params(alloc, ANY_PARAMS))
+    );
+    let command = with_two(command, flag(alloc, "xon", XON), entry(alloc));
+    with_one(command, params(alloc, ANY_PARAMS))
 }
 
 fn expand<'a>(alloc: Global) -> Result<Command<'a>, AllocError>
-    ensures shape { IfOk result (λ c. app_of c ≡ expand_app) }
-    ensures local { IfOk result HasNoGlobals }
+    ensures { Makes expand_app result }
 {
     let command = new_command(
         alloc,
@@ -313,19 +322,19 @@ fn expand<'a>(alloc: Global) -> Result<Command<'a>, AllocError>
         "Expand and pad one text of an entry",
         "Example, which moves to line 5, column 10:\n  ti expand cup n:4 n:9 < /lib/terminfo/x/xterm",
     );
-    let command = with_two(command, name(alloc, TEXT_NAME), hex(alloc))?;
-    let command = with_two(command, escape(alloc), all_names(alloc))?;
+    let command = with_two(command, name(alloc, TEXT_NAME), hex(alloc));
+    let command = with_two(command, escape(alloc), all_names(alloc));
     let command = with_two(
         command,
         number(alloc, "rate", GREATEST_RATE, RATE),
         number(alloc, "lines", MOST_LINES, LINES),
-    )?;
-    with_two(command, flag(alloc, "xon", XON), entry(alloc))?.arg(params(alloc, PARAMS))
+    );
+    let command = with_two(command, flag(alloc, "xon", XON), entry(alloc));
+    with_one(command, params(alloc, PARAMS))
 }
 
 fn diff<'a>(alloc: Global) -> Result<Command<'a>, AllocError>
-    ensures shape { IfOk result (λ c. app_of c ≡ diff_app) }
-    ensures local { IfOk result HasNoGlobals }
+    ensures { Makes diff_app result }
 {
     let command = new_command(
         alloc,
@@ -334,13 +343,12 @@ fn diff<'a>(alloc: Global) -> Result<Command<'a>, AllocError>
         "Tell two entries apart, one line an item; status 1 if they differ",
         "Example, - for what only the first has, + for the other:\n  ti diff /lib/terminfo/x/xterm /lib/terminfo/x/xterm-color",
     );
-    let command = with_two(command, flag(alloc, "expand", EXPAND), json(alloc))?;
+    let command = with_two(command, flag(alloc, "expand", EXPAND), json(alloc));
     with_two(command, color(alloc), files(alloc, PAIR))
 }
 
 fn convert<'a>(alloc: Global) -> Result<Command<'a>, AllocError>
-    ensures shape { IfOk result (λ c. app_of c ≡ convert_app) }
-    ensures local { IfOk result HasNoGlobals }
+    ensures { Makes convert_app result }
 {
     let command = new_command(
         alloc,
@@ -349,18 +357,16 @@ fn convert<'a>(alloc: Global) -> Result<Command<'a>, AllocError>
         "Write an entry in its canonical layout",
         "Example, which writes the entry with numbers of 32 bits:\n  ti convert --wide entry > wide",
     );
-    with_two(
+    let command = with_two(
         command,
         flag(alloc, "wide", WIDE),
         flag(alloc, "narrow", NARROW),
-    )?
-    .arg(flag(alloc, "force", FORCE))?
-    .arg(file(alloc))
+    );
+    with_two(command, flag(alloc, "force", FORCE), file(alloc))
 }
 
 fn cap<'a>(alloc: Global) -> Result<Command<'a>, AllocError>
-    ensures shape { IfOk result (λ c. app_of c ≡ cap_app) }
-    ensures local { IfOk result HasNoGlobals }
+    ensures { Makes cap_app result }
 {
     let command = new_command(
         alloc,
@@ -369,13 +375,12 @@ fn cap<'a>(alloc: Global) -> Result<Command<'a>, AllocError>
         "Expand one capability; padding marks stay as they are",
         "Example, which writes ESC [ 7 G:\n  printf '\\033[%%p1%%dG' | ti cap n:7\n\nThe same, as a manual shows it:\n  echo '\\E[%p1%dG' | ti cap --source n:7",
     );
-    let command = with_two(command, source(alloc), hex(alloc))?;
+    let command = with_two(command, source(alloc), hex(alloc));
     with_two(command, escape(alloc), params(alloc, PARAMS))
 }
 
 fn trace<'a>(alloc: Global) -> Result<Command<'a>, AllocError>
-    ensures shape { IfOk result (λ c. app_of c ≡ trace_app) }
-    ensures local { IfOk result HasNoGlobals }
+    ensures { Makes trace_app result }
 {
     let command = new_command(
         alloc,
@@ -384,10 +389,10 @@ fn trace<'a>(alloc: Global) -> Result<Command<'a>, AllocError>
         "Show what each token of one capability does",
         "Example, which shows the stack and the output after each token:\n  echo '\\E[%p1%dG' | ti trace --source --escape n:7\n\nOf an entry:\n  ti trace --escape --of cup 4 9 < /lib/terminfo/x/xterm",
     );
-    let command = with_two(command, source(alloc), of(alloc))?;
-    let command = with_two(command, escape(alloc), json(alloc))?;
-    let command = with_two(command, color(alloc), entry(alloc))?;
-    command.arg(params(alloc, TRACE_PARAMS))
+    let command = with_two(command, source(alloc), of(alloc));
+    let command = with_two(command, escape(alloc), json(alloc));
+    let command = with_two(command, color(alloc), entry(alloc));
+    with_one(command, params(alloc, TRACE_PARAMS))
 }
 
 /// What help says of the exit status, and an example.
@@ -405,40 +410,38 @@ Example:
   ti show --escape /lib/terminfo/x/xterm";
 
 /// `ti` itself, before its subcommands.
-fn start<'a>(alloc: Global) -> Command<'a>
-    ensures shape { app_of result ≡ start_app }
-    ensures local { HasNoGlobals result }
+fn start<'a>(alloc: Global) -> Result<Command<'a>, AllocError>
+    ensures { Makes start_app result }
 {
-    Command::new(alloc, "ti")
-        .about("Reads, analyses, expands and writes compiled terminfo entries")
-        .version(VERSION)
-        .subcommand_required(true)
-        .after_help(STATUSES)
+    Ok(
+        Command::new(alloc, "ti")
+            .about("Reads, analyses, expands and writes compiled terminfo entries")
+            .version(VERSION)
+            .subcommand_required(true)
+            .after_help(STATUSES),
+    )
 }
 
-/// A program with one subcommand more, if that could be made.
+/// A program with one subcommand more, if both could be made.
 fn with_made<'a>(
-    program: Command<'a>,
+    program: Result<Command<'a>, AllocError>,
     made: Result<Command<'a>, AllocError>,
 ) -> Result<Command<'a>, AllocError>
-    ensures shape { (app : App) → IfOk made.entry HasNoGlobals
-        → IfOk made.entry (λ c. app_of c ≡ app)
-        → IfOk result (λ c. app_of c ≡ with_commands (app_of program.entry) (app ∷ [])) }
-    ensures local { HasNoGlobals program.entry → IfOk made.entry HasNoGlobals
-        → IfOk result HasNoGlobals }
+    ensures { (before app : App) → Makes before program.entry → Makes app made.entry
+        → Makes (with_commands before (app ∷ [])) result }
 {
+    let program = program?;
     program.subcommand(made?)
 }
 
 /// `ti` with its first four subcommands.
 fn first_commands<'a>(alloc: Global) -> Result<Command<'a>, AllocError>
-    ensures shape { IfOk result (λ c. app_of c
-        ≡ with_commands start_app (show_app ∷ check_app ∷ lint_app ∷ get_app ∷ [])) }
-    ensures local { IfOk result HasNoGlobals }
+    ensures { Makes (with_commands start_app (show_app ∷ check_app ∷ lint_app ∷ get_app ∷ []))
+        result }
 {
-    let shown = with_made(start(alloc), show(alloc))?;
-    let checked = with_made(shown, check(alloc))?;
-    let linted = with_made(checked, lint(alloc))?;
+    let shown = with_made(start(alloc), show(alloc));
+    let checked = with_made(shown, check(alloc));
+    let linted = with_made(checked, lint(alloc));
     with_made(linted, get(alloc))
 }
 
@@ -446,10 +449,9 @@ fn first_commands<'a>(alloc: Global) -> Result<Command<'a>, AllocError>
 pub(crate) fn program<'a>(alloc: Global) -> Result<Command<'a>, AllocError>
     ensures { IfOk result (λ c. app_of c ≡ ti_app) }
 {
-    let first = first_commands(alloc)?;
-    let compared = with_made(first, diff(alloc))?;
-    let expanded = with_made(compared, expand(alloc))?;
-    let converted = with_made(expanded, convert(alloc))?;
-    let capped = with_made(converted, cap(alloc))?;
+    let compared = with_made(first_commands(alloc), diff(alloc));
+    let expanded = with_made(compared, expand(alloc));
+    let converted = with_made(expanded, convert(alloc));
+    let capped = with_made(converted, cap(alloc));
     with_made(capped, trace(alloc))
 }

@@ -5,39 +5,50 @@ ghost use Rattle.ti_line.specs.declared.no_line.LineFault.TheVariants as fault;
 
 use crate::message::Message;
 use crate::params::WordFault;
+use std::fmt;
 use thiserror::Error;
 
-/// Why what a line requests can't be done.
-#[derive(Clone, Copy, Debug, PartialEq, Eq, Error)]
+/// Why what a line requests can't be done. As an error it prints its name, or what is wrong with the words of the parameters.
+#[derive(Clone, Copy, Debug, PartialEq, Eq)]
 pub enum LineFault {
     /// An output is to be written in both forms, by `--hex` and `--escape`.
-    #[error("BothForms")]
     BothForms,
     /// A listing or a trace is to be JSON, and to have names or texts in a form, by `--json` and `--escape` or `--all-names`.
-    #[error("JsonForm")]
     JsonForm,
     /// The word of `--color` is none of `auto`, `always` and `never`.
-    #[error("ColorWord")]
     ColorWord,
     /// `trace` is to read a capability and to take one of an entry, by `--source` and `--of`.
-    #[error("BothInputs")]
     BothInputs,
     /// `trace` is given an entry, and no name of a capability in it.
-    #[error("EntryWithoutName")]
     EntryWithoutName,
     /// `convert` is to write both widths.
-    #[error("BothWidths")]
     BothWidths,
     /// `convert` is to write to a terminal, and is not forced.
-    #[error("ToTerminal")]
     ToTerminal,
     /// `diff` is to compare no files, or more than two.
-    #[error("FileCount")]
     FileCount,
     /// The words of the parameters are none.
-    #[error("{0}")]
     Words(WordFault),
 }
+
+impl fmt::Display for LineFault {
+    fn fmt<W: fmt::Write>(&self, f: &mut fmt::Formatter<W>) -> fmt::Result {
+        let word = match self {
+            LineFault::BothForms => "BothForms",
+            LineFault::JsonForm => "JsonForm",
+            LineFault::ColorWord => "ColorWord",
+            LineFault::BothInputs => "BothInputs",
+            LineFault::EntryWithoutName => "EntryWithoutName",
+            LineFault::BothWidths => "BothWidths",
+            LineFault::ToTerminal => "ToTerminal",
+            LineFault::FileCount => "FileCount",
+            LineFault::Words(why) => return write!(f, "{why}"),
+        };
+        f.write_str(word)
+    }
+}
+
+impl std::error::Error for LineFault {}
 
 impl From<WordFault> for LineFault {
     ghost from_gives = { λ why e. e ≡ fault.Words why };

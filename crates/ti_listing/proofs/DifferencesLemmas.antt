@@ -1,5 +1,5 @@
 -- Differences that are added one after another.
-use Rattle.std.proofs.Common.{◌≡◌, ◌∙◌, ℕ, ◌+◌, Bool, List, [], ◌∷◌, ◌++◌, length, map, get_or, inl, inr, refl, sym, ap, subst, append_assoc, add-one}
+use Rattle.std.proofs.Common.{◌≡◌, ◌∙◌, ℕ, ◌+◌, Bool, List, [], ◌∷◌, ◌++◌, length, map, get_or, inl, inr, refl, sym, ap, subst, append_assoc, add-one, arith}
 use Rattle.std.proofs.lemmas.List.{append-nil, map-append}
 use Rattle.std.specs.Prelude.{Option, Some, None, Result, Ok, Err, OnOk, ◌↔◌, IsTrue, true}
 use Rattle.ti_words.specs.declared.Kind.{Kind}
@@ -7,7 +7,6 @@ use Rattle.ti_words.specs.declared.Kind.TheVariants as kinds
 use Rattle.ti_words.specs.Value.{EntryValue, NamedPart}
 use Rattle.ti_words.specs.contracts.WidthPartialEq as width_eq
 use Rattle.ti_words.specs.declared.Width.{Width}
-use Rattle.ti_words.specs.declared.Width.TheVariants.{Legacy, Wide}
 use Rattle.ti_entry.specs.Finding.{IsLeastIndex, Lacks, names_of}
 use Rattle.ti_entry.specs.declared.finding.Position.TheVariants.{Extended}
 use Rattle.ti_json.specs.Objects.{OwnSubject}
@@ -38,8 +37,7 @@ pub same_width : (a b : Width) → a ≡ b → (width_eq.TheImpl.eq-value).it a 
 same_width a b same = subst (λ x. (width_eq.TheImpl.eq-value).it a x ≡ true) same (itself a)
   where
     itself : (a : Width) → (width_eq.TheImpl.eq-value).it a a ≡ true
-    itself Legacy = refl
-    itself Wide = refl
+    itself a = grind arith
 
 -- the values are those of the entries
 pub change_of : {V : Type 0} (Same : V → V → Type 0) (differ : V → V → DifferenceValue) (a b x y : V) (out new : List DifferenceValue) → x ≡ a → y ≡ b → Adds (IsChange Same differ x y) out new → Adds (IsChange Same differ a b) out new

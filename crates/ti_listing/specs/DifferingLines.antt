@@ -5,6 +5,7 @@ use Rattle.std.specs.List.{flat_map}
 use Rattle.ti_words.specs.AllNames.{front}
 use Rattle.ti_words.specs.declared.Width.{Width}
 use Rattle.ti_words.specs.declared.all_names.NameTable.TheVariants as tables
+use Rattle.ti_words.specs.Widths.{format_name}
 use Rattle.ti_escape.specs.Colors.{closing, opening}
 use Rattle.ti_escape.specs.declared.color.Color.{Color}
 use Rattle.ti_escape.specs.declared.color.Style.{Style}
@@ -15,7 +16,7 @@ use Rattle.ti_json.specs.Objects.{Subject, StandardSubject, OwnSubject}
 use Rattle.ti_listing.specs.Differences.{DifferenceValue, FormatDiffers, NamesDiffer, ItemDiffers}
 use Rattle.ti_listing.specs.Items.{ItemValue, FlagItem, NumberItem, TextItem, kind_word}
 use Rattle.ti_listing.specs.Labels.{label_of}
-use Rattle.ti_listing.specs.Listing.{flag_line, format_name, number_line, text_line}
+use Rattle.ti_listing.specs.Listing.{flag_line, number_line, text_line}
 
 -- ---- what one entry has, after a sign
 

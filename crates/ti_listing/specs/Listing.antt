@@ -9,10 +9,9 @@ use Rattle.ti_words.specs.declared.Kind.TheVariants as kinds
 use Rattle.ti_words.specs.declared.all_names.NameTable.{NameTable}
 use Rattle.ti_words.specs.declared.Number.{Number}
 use Rattle.ti_words.specs.declared.Number.TheVariants as numbers
-use Rattle.ti_words.specs.declared.Width.{Width}
-use Rattle.ti_words.specs.declared.Width.TheVariants.{Legacy, Wide}
 use Rattle.ti_words.specs.Texts.{TextValue, AbsentText, CancelledText, TextOf}
 use Rattle.ti_words.specs.Value.{PartValue, NamedPart, EntryValue}
+use Rattle.ti_words.specs.Widths.{format_name}
 use Rattle.ti_line.specs.declared.options.ListOptions.{ListOptions}
 use Rattle.ti_line.specs.declared.options.NameForm.{NameForm}
 use Rattle.ti_listing.specs.Labels.{label_of, own_label, own_names}
@@ -78,11 +77,6 @@ extended_lines options p =
     lines_from (extended_flag options.naming.form) 0 p.flags
     ++ lines_from (extended_number options.naming.form) 0 p.numbers
     ++ lines_from (extended_text options) 0 p.texts
-
--- the name of a format
-abbrev pub format_name : Width → List ℕ
-format_name Legacy = codes "legacy"
-format_name Wide = codes "wide"
 
 -- the format and the names, then the standard capabilities and those of the extended part
 abbrev pub entry_lines : ListOptions → EntryValue → List ℕ

@@ -10,12 +10,11 @@ use crate::difference::Difference;
 use crate::item::Item;
 use crate::item_line::{push_flag, push_number, push_text};
 use crate::label::Label;
-use crate::listing::format_name;
 use std::alloc::{AllocError, Allocator};
 use ti_escape::{Color, Form, Style, push_closing, push_notation, push_opening};
 use ti_json::Subject;
 use ti_line::NameForm;
-use ti_words::{Kind, NameTable, Width};
+use ti_words::{Kind, NameTable, Width, format_name};
 
 /// The start of a line on what the first entry has of a capability.
 fn minus_word(subject: Subject<'_>) -> &'static [u8]

@@ -4,7 +4,7 @@
 
 ghost use Rattle.std.specs.Prelude.{◌≡◌, ◌++◌, OnOk, IfOk};
 ghost use Rattle.ti_listing.specs.Labels.{own_names};
-ghost use Rattle.ti_listing.specs.Listing.{standard_flag, standard_number, standard_text, standard_lines, extended_flag, extended_number, extended_text, extended_lines, lines_from, format_name as the_format_name, entry_lines};
+ghost use Rattle.ti_listing.specs.Listing.{standard_flag, standard_number, standard_text, standard_lines, extended_flag, extended_number, extended_text, extended_lines, lines_from, entry_lines};
 
 use crate::item_line::{push_flag, push_number, push_text};
 use crate::label::{Label, own_name};
@@ -12,7 +12,7 @@ use std::alloc::{AllocError, Allocator};
 use ti_entry::{Entry, Extended};
 use ti_escape::push_notation;
 use ti_line::{ListOptions, NameForm};
-use ti_words::{Kind, NameTable, Width};
+use ti_words::{Kind, NameTable, format_name};
 
 /// Writes the lines of the flags.
 fn push_flags<A: Allocator>(
@@ -142,16 +142,6 @@ fn push_extended<A: Allocator>(
     push_extended_flags(out, options.naming.form, extended)?;
     push_extended_numbers(out, options.naming.form, extended)?;
     push_extended_texts(out, options, extended)
-}
-
-/// The name of a format.
-pub fn format_name(width: Width) -> &'static str
-    ensures { result.now ≡ the_format_name width }
-{
-    match width {
-        Width::Legacy => "legacy",
-        Width::Wide => "wide",
-    }
 }
 
 /// Writes the names of the entry.

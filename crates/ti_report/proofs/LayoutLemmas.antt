@@ -6,7 +6,7 @@ use Rattle.ti_words.specs.Value.{EntryValue}
 use Rattle.ti_draft.specs.declared.fault.EncodeFault.{EncodeFault}
 use Rattle.ti_draft.specs.declared.fault.EncodeFault.TheVariants.{Memory}
 use Rattle.ti_draft.specs.Canonical.{canonical}
-use Rattle.ti_draft.specs.Unfit.{encode_fault}
+use Rattle.ti_draft.specs.EncodeFaults.{encode_fault}
 use Rattle.ti_report.specs.Whole.{is_canonical}
 
 -- what was written of an entry

@@ -7,12 +7,11 @@ use Rattle.ti_words.specs.declared.Kind.TheVariants as kinds
 use Rattle.ti_words.specs.declared.Number.{Number}
 use Rattle.ti_words.specs.declared.Number.TheVariants as numbers
 use Rattle.ti_words.specs.declared.all_names.NameTable.TheVariants as tables
-use Rattle.ti_words.specs.AllNames.{place_in}
-use Rattle.ti_words.specs.Names.{Place}
+use Rattle.ti_words.specs.AllNames.{Place, place_in}
 use Rattle.ti_words.specs.Texts.{TextValue, AbsentText, TextOf}
 use Rattle.ti_words.specs.Value.{EntryValue}
 use Rattle.ti_draft.specs.Canonical.{canonical}
-use Rattle.ti_draft.specs.Unfit.{encode_fault}
+use Rattle.ti_draft.specs.EncodeFaults.{encode_fault}
 use Rattle.ti_report.specs.declared.wrong.Wrong.{Wrong}
 use Rattle.ti_report.specs.declared.wrong.Wrong.TheVariants as wrongs
 use Rattle.ti_report.specs.Bases.{bases_differ}

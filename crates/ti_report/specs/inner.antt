@@ -2,3 +2,4 @@
 pub mod Held
 pub mod Lent
 pub mod Neighbours
+pub mod PlainMeaning

@@ -1,10 +1,11 @@
 //! The JSON of a report.
 
 ghost use Rattle.std.specs.List.{list_all};
-ghost use Rattle.std.specs.Prelude.{◌≡◌, ◌++◌, true, IfOk, OnOk, map, string_bytes};
-ghost use Rattle.serde_json.specs.Data.{no_members};
-ghost use Rattle.serde_json.specs.View.{view};
+ghost use Rattle.std.specs.Prelude.{◌≡◌, ◌++◌, ◌∷◌, [], true, IfOk, OnOk, codes, map, string_bytes};
+ghost use Rattle.serde_json.specs.Data.{no_members, put, string};
+ghost use Rattle.serde_json.specs.View.{members_view, view};
 ghost use Rattle.ti_escape.specs.Laws.{is_printable};
+ghost use Rattle.ti_escape.specs.Notation.{label_notation};
 ghost use Rattle.ti_report.specs.Blocks.{what_meaning};
 ghost use Rattle.ti_report.specs.Objects.{about_objects, list_of, place_number, remark_object, subject_object, text_object};
 ghost use Rattle.ti_report.specs.Reports.{IsReportJson};
@@ -14,10 +15,10 @@ use crate::block::{push_meaning_of, word_of_what};
 use crate::remark::{About, Remark, Subject, What};
 use crate::report::remarks_of;
 use crate::trials::Trials;
-use serde_json::{Value, json};
+use serde_json::{Map, Value};
 use std::alloc::{AllocError, Allocator, Global};
 use ti_entry::Entry;
-use ti_json::{array_json, label_string, printable_string, text_string};
+use ti_json::{array_json, label_string, printable_string, with_member, with_string, with_text};
 use ti_lint::Scope;
 
 /// What it means, as a string.
@@ -41,12 +42,24 @@ fn places_value(alloc: Global, places: &[usize]) -> Result<Value, AllocError>
     Ok(Value::Array(list))
 }
 
+/// Members with a name.
+fn with_name(
+    alloc: Global,
+    members: Map<String, Value>,
+    name: &[u8],
+) -> Result<Map<String, Value>, AllocError>
+    ensures { IfOk result (λ made. members_view made.entries
+        ≡ put (codes "name") (string (label_notation name.now)) (members_view members.entries)) }
+{
+    let label = label_string(alloc, name)?;
+    with_member(alloc, members, "name", Value::String(label))
+}
+
 /// The object on a name.
 fn name_value(alloc: Global, name: &[u8]) -> Result<Value, AllocError>
     ensures { IfOk result (λ made. view made ≡ subject_object name.now no_members) }
 {
-    let name = label_string(alloc, name)?;
-    json!(in alloc; {"name": name})
+    Ok(Value::Object(with_name(alloc, Map::new(alloc), name)?))
 }
 
 /// The object on a text and its name.
@@ -54,9 +67,26 @@ fn text_value(alloc: Global, subject: Subject<'_>) -> Result<Value, AllocError>
     ensures { IfOk result
         (λ made. view made ≡ text_object subject.entry.name.now subject.entry.text.now) }
 {
-    let name = label_string(alloc, subject.name)?;
-    let text = text_string(alloc, subject.text)?;
-    json!(in alloc; {"name": name, "text": text})
+    let members = with_text(alloc, Map::new(alloc), "text", subject.text)?;
+    Ok(Value::Object(with_name(alloc, members, subject.name)?))
+}
+
+/// Adds the object on a name.
+fn push_name(alloc: Global, out: &mut Vec<Value>, name: &[u8]) -> Result<(), AllocError>
+    ensures { OnOk result (map view out.new.items
+        ≡ map view out.old.items ++ subject_object name.now no_members ∷ []) }
+{
+    out.push(name_value(alloc, name)?)?;
+    Ok(())
+}
+
+/// Adds the object on a text and its name.
+fn push_text(alloc: Global, out: &mut Vec<Value>, subject: Subject<'_>) -> Result<(), AllocError>
+    ensures { OnOk result (map view out.new.items ≡ map view out.old.items
+        ++ text_object subject.entry.name.now subject.entry.text.now ∷ []) }
+{
+    out.push(text_value(alloc, subject)?)?;
+    Ok(())
 }
 
 /// Adds the objects on what a remark is about.
@@ -65,15 +95,14 @@ fn push_subjects(alloc: Global, out: &mut Vec<Value>, about: About<'_>) -> Resul
         (map view out.new.items ≡ map view out.old.items ++ about_objects (about_held about.entry)) }
 {
     match about {
-        About::Entry => {}
-        About::Name(name) => out.push(name_value(alloc, name)?)?,
-        About::Text(subject) => out.push(text_value(alloc, subject)?)?,
+        About::Entry => Ok(()),
+        About::Name(name) => push_name(alloc, out, name),
+        About::Text(subject) => push_text(alloc, out, subject),
         About::Two(one, other) => {
-            out.push(text_value(alloc, one)?)?;
-            out.push(text_value(alloc, other)?)?;
+            push_text(alloc, out, one)?;
+            push_text(alloc, out, other)
         }
     }
-    Ok(())
 }
 
 /// What a remark is about, as an array.
@@ -90,11 +119,14 @@ fn subjects_value(alloc: Global, about: About<'_>) -> Result<Value, AllocError>
 fn remark_value<A: Allocator>(alloc: Global, remark: &Remark<'_, A>) -> Result<Value, AllocError>
     ensures { IfOk result (λ made. view made ≡ remark_object remark.now) }
 {
-    let word = word_of_what(remark.what());
-    let meaning = meaning_string(alloc, remark.what())?;
+    let meaning = Value::String(meaning_string(alloc, remark.what())?);
+    let members = with_member(alloc, Map::new(alloc), "meaning", meaning)?;
     let places = places_value(alloc, remark.places())?;
+    let members = with_member(alloc, members, "places", places)?;
     let subjects = subjects_value(alloc, remark.about())?;
-    json!(in alloc; {"finding": word, "meaning": meaning, "places": places, "subjects": subjects})
+    let members = with_member(alloc, members, "subjects", subjects)?;
+    let word = word_of_what(remark.what());
+    Ok(Value::Object(with_string(alloc, members, "finding", word)?))
 }
 
 /// The objects of remarks.

@@ -1,6 +1,6 @@
 //! What is wrong with what is sent for some values, as a sentence.
 
-ghost use Rattle.std.specs.Prelude.{◌≡◌, ◌++◌, OnOk, decimal};
+ghost use Rattle.std.specs.Prelude.{◌≡◌, ◌++◌, OnOk, codes, decimal};
 ghost use Rattle.ti_report.specs.ValueSentences.{differing_meaning, ignored_meaning, meaning_told, sent_words, value_words};
 ghost use Rattle.ti_report.specs.inner.Held.{told_held};
 
@@ -33,6 +33,13 @@ impl<A: Allocator> Told<A> {
             Told::NotTried => ValueFinding::NotTried,
         }
     }
+}
+
+/// Writes some words.
+fn push_words<A: Allocator>(out: &mut Vec<u8, A>, words: &str) -> Result<(), AllocError>
+    ensures { OnOk result (out.new.items ≡ out.old.items ++ words.now) }
+{
+    out.extend_from_slice(words.as_bytes())
 }
 
 /// Writes a number.
@@ -79,6 +86,44 @@ fn push_sent<A: Allocator>(
     push_shown(out, Form::Notation, sent)
 }
 
+/// Writes the values of a try, what is sent for them, and what is wrong with it.
+fn push_sent_and<A: Allocator>(
+    out: &mut Vec<u8, A>,
+    tried: Tried,
+    sent: &[u8],
+    wrong: &str,
+) -> Result<(), AllocError>
+    ensures { OnOk result
+        (out.new.items ≡ out.old.items ++ (sent_words tried sent.now ++ wrong.now)) }
+{
+    push_sent(out, tried, sent)?;
+    push_words(out, wrong)
+}
+
+/// Writes that nothing is sent for the values of a try.
+fn push_empty_meaning<A: Allocator>(out: &mut Vec<u8, A>, tried: Tried) -> Result<(), AllocError>
+    ensures { OnOk result
+        (out.new.items ≡ out.old.items ++ (value_words tried ++ codes " it sends nothing")) }
+{
+    push_value(out, tried)?;
+    out.extend_from_slice(b" it sends nothing")
+}
+
+/// Writes what is sent for the values of two tries.
+fn push_same_meaning<A: Allocator>(
+    out: &mut Vec<u8, A>,
+    one: Tried,
+    other: Tried,
+    sent: &[u8],
+) -> Result<(), AllocError>
+    ensures { OnOk result (out.new.items
+        ≡ out.old.items ++ (value_words one ++ (codes " and " ++ sent_words other sent.now))) }
+{
+    push_value(out, one)?;
+    out.extend_from_slice(b" and ")?;
+    push_sent(out, other, sent)
+}
+
 /// Writes that an attribute is ignored in a set.
 fn push_ignored_meaning<A: Allocator>(
     out: &mut Vec<u8, A>,
@@ -118,36 +163,30 @@ pub fn push_meaning_told<A: Allocator, B: Allocator>(
     ensures { OnOk result (out.new.items ≡ out.old.items ++ meaning_told (told_held told.now)) }
 {
     match told {
-        Told::Empty(value) => {
-            push_value(out, *value)?;
-            out.extend_from_slice(b" it sends nothing")
-        }
-        Told::Same(one, other, sent) => {
-            push_value(out, *one)?;
-            out.extend_from_slice(b" and ")?;
-            push_sent(out, *other, sent.as_slice())
-        }
+        Told::Empty(value) => push_empty_meaning(out, *value),
+        Told::Same(one, other, sent) => push_same_meaning(out, *one, *other, sent.as_slice()),
         Told::Negative(value, sent) => {
-            push_sent(out, *value, sent.as_slice())?;
-            out.extend_from_slice(b", with a number below 0")
+            push_sent_and(out, *value, sent.as_slice(), ", with a number below 0")
         }
         Told::Unended(value, sent) => {
-            push_sent(out, *value, sent.as_slice())?;
-            out.extend_from_slice(b", where a \\E[ is not ended")
+            push_sent_and(out, *value, sent.as_slice(), ", where a \\E[ is not ended")
         }
         Told::Shown(value, sent) => {
-            push_sent(out, *value, sent.as_slice())?;
-            out.extend_from_slice(b", of which some is shown")
+            push_sent_and(out, *value, sent.as_slice(), ", of which some is shown")
         }
         Told::Ignored(name, set) => push_ignored_meaning(out, name, *set),
         Told::Differing(name, set, sent, text) => {
             push_differing_meaning(out, name, *set, sent.as_slice(), text.as_slice())
         }
         Told::Combined(value, sent) => {
-            push_sent(out, *value, sent.as_slice())?;
-            out.extend_from_slice(b", without what one of them sends alone")
+            push_sent_and(
+                out,
+                *value,
+                sent.as_slice(),
+                ", without what one of them sends alone",
+            )
         }
-        Told::UnendedText => out.extend_from_slice(b"it has a \\E[ that is not ended"),
-        Told::NotTried => out.extend_from_slice(b"it is too long, or may send too much"),
+        Told::UnendedText => push_words(out, "it has a \\E[ that is not ended"),
+        Told::NotTried => push_words(out, "it is too long, or may send too much"),
     }
 }

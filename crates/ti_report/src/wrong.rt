@@ -1,6 +1,8 @@
 //! What is wrong, as a sentence.
 
-ghost use Rattle.std.specs.Prelude.{◌≡◌, ◌++◌, ◌≤◌, OnOk};
+ghost use Rattle.std.specs.Prelude.{◌≡◌, ◌++◌, ◌≤◌, ℕ, MatchOption, OnOk};
+ghost use Rattle.ti_lint.specs.declared.finding.Finding.TheVariants.{ParameterRange};
+ghost use Rattle.ti_report.specs.inner.PlainMeaning.{plain_meaning};
 ghost use Rattle.ti_report.specs.Sentences.{finding_meaning, is_in, last_parameter, meaning_of, parameter_words, test_meaning, unused_meaning, word_of};
 
 use itoa::Buffer;
@@ -89,6 +91,29 @@ fn push_last<A: Allocator>(out: &mut Vec<u8, A>, parameters: u8) -> Result<(), A
     out.extend_from_slice(b" is the last parameter by terminfo(5)")
 }
 
+/// What a finding of a token means, if no number stands in it.
+fn finding_words(finding: Finding) -> Option<&'static str>
+    ensures { MatchOption result (finding ≡ ParameterRange)
+        (λ words. (parameters : ℕ) → finding_meaning finding parameters ≡ words.now) }
+{
+    let words = match finding {
+        Finding::StackUnderflow => "on some path it pops more values than there are",
+        Finding::TermcapParameter => "it pops a value, and the text has no %p",
+        Finding::ParameterRange => return None,
+        Finding::RepeatedIncrement => "on some path another %i comes before it",
+        Finding::UnsetVariable => "on some path nothing is stored into it before",
+        Finding::StackResidue => "on some path the value that it pushes is left",
+        Finding::UnusedIncrement => "no %p1 or %p2 comes after it",
+        Finding::LateIncrement => "a %p1 or %p2 comes before it, and one after it",
+        Finding::DeadStore => "nothing pushes the variable after it",
+        Finding::OperandType => "it takes a number as a text, or a text as a number",
+        Finding::NoEffect => "its bodies are empty, and its tests only compute",
+        Finding::ConstantCondition => "its test has constants alone",
+        Finding::RepeatedCondition => "an earlier arm has the test after it",
+    };
+    Some(words)
+}
+
 /// Writes what a finding of a token means.
 fn push_finding_meaning<A: Allocator>(
     out: &mut Vec<u8, A>,
@@ -98,38 +123,9 @@ fn push_finding_meaning<A: Allocator>(
     ensures { OnOk result
         (out.new.items ≡ out.old.items ++ finding_meaning finding parameters) }
 {
-    match finding {
-        Finding::StackUnderflow => {
-            out.extend_from_slice(b"on some path it pops more values than there are")
-        }
-        Finding::TermcapParameter => {
-            out.extend_from_slice(b"it pops a value, and the text has no %p")
-        }
-        Finding::ParameterRange => push_last(out, parameters),
-        Finding::RepeatedIncrement => {
-            out.extend_from_slice(b"on some path another %i comes before it")
-        }
-        Finding::UnsetVariable => {
-            out.extend_from_slice(b"on some path nothing is stored into it before")
-        }
-        Finding::StackResidue => {
-            out.extend_from_slice(b"on some path the value that it pushes is left")
-        }
-        Finding::UnusedIncrement => { out.extend_from_slice(b"no %p1 or %p2 comes after it") }
-        Finding::LateIncrement => {
-            out.extend_from_slice(b"a %p1 or %p2 comes before it, and one after it")
-        }
-        Finding::DeadStore => out.extend_from_slice(b"nothing pushes the variable after it"),
-        Finding::OperandType => {
-            out.extend_from_slice(b"it takes a number as a text, or a text as a number")
-        }
-        Finding::NoEffect => {
-            out.extend_from_slice(b"its bodies are empty, and its tests only compute")
-        }
-        Finding::ConstantCondition => { out.extend_from_slice(b"its test has constants alone") }
-        Finding::RepeatedCondition => {
-            out.extend_from_slice(b"an earlier arm has the test after it")
-        }
+    match finding_words(finding) {
+        Some(words) => out.extend_from_slice(words.as_bytes()),
+        None => push_last(out, parameters),
     }
 }
 
@@ -177,37 +173,39 @@ fn push_unused<A: Allocator>(out: &mut Vec<u8, A>, unused: ParameterSet) -> Resu
     Ok(())
 }
 
+/// What is wrong, if one text says it; nothing if it has a finding, a value or a set.
+fn plain_words(wrong: Wrong) -> &'static str
+    ensures { result.now ≡ plain_meaning wrong }
+{
+    match wrong {
+        Wrong::Malformed(fault) => fault.word(),
+        Wrong::Token(_, _) | Wrong::ConstantTest(_) | Wrong::UnusedParameters(_) => "",
+        Wrong::UninterpretedEscape => "the text is sent as it stands",
+        Wrong::UninterpretedPercent => "in a text that is not expanded these are two",
+        Wrong::FalseMark => "this starts no padding mark",
+        Wrong::MarkInKey => "what a key sends has no padding",
+        Wrong::HalfPaired => "the bytes are pairs, and one is left",
+        Wrong::EqualPair => "one should undo the other",
+        Wrong::KeyPrefix => "one is the first part of the other",
+        Wrong::AlikeKeys => "two keys send the same",
+        Wrong::RepeatedName => "the entry has the name twice",
+        Wrong::StandardName => "the name is one of terminfo(5)",
+        Wrong::ColorsStay => "there are colors, and neither op nor oc",
+        Wrong::NoColors => "there are colors, and none of setaf, setf and scp",
+        Wrong::ColorsAreFixed => "there is ccc, and neither initc nor initp",
+        Wrong::Layout => "the bytes are not those that tic writes",
+        Wrong::Base => "readers differ in where the entry's own names start",
+    }
+}
+
 /// Writes what is wrong.
 pub fn push_meaning<A: Allocator>(out: &mut Vec<u8, A>, wrong: Wrong) -> Result<(), AllocError>
     ensures { OnOk result (out.new.items ≡ out.old.items ++ meaning_of wrong) }
 {
     match wrong {
-        Wrong::Malformed(fault) => out.extend_from_slice(fault.word().as_bytes()),
         Wrong::Token(finding, parameters) => push_finding_meaning(out, finding, parameters),
         Wrong::ConstantTest(value) => push_test_value(out, value),
-        Wrong::UninterpretedEscape => out.extend_from_slice(b"the text is sent as it stands"),
-        Wrong::UninterpretedPercent => {
-            out.extend_from_slice(b"in a text that is not expanded these are two")
-        }
-        Wrong::FalseMark => out.extend_from_slice(b"this starts no padding mark"),
-        Wrong::MarkInKey => out.extend_from_slice(b"what a key sends has no padding"),
         Wrong::UnusedParameters(unused) => push_unused(out, unused),
-        Wrong::HalfPaired => out.extend_from_slice(b"the bytes are pairs, and one is left"),
-        Wrong::EqualPair => out.extend_from_slice(b"one should undo the other"),
-        Wrong::KeyPrefix => out.extend_from_slice(b"one is the first part of the other"),
-        Wrong::AlikeKeys => out.extend_from_slice(b"two keys send the same"),
-        Wrong::RepeatedName => out.extend_from_slice(b"the entry has the name twice"),
-        Wrong::StandardName => out.extend_from_slice(b"the name is one of terminfo(5)"),
-        Wrong::ColorsStay => out.extend_from_slice(b"there are colors, and neither op nor oc"),
-        Wrong::NoColors => {
-            out.extend_from_slice(b"there are colors, and none of setaf, setf and scp")
-        }
-        Wrong::ColorsAreFixed => {
-            out.extend_from_slice(b"there is ccc, and neither initc nor initp")
-        }
-        Wrong::Layout => out.extend_from_slice(b"the bytes are not those that tic writes"),
-        Wrong::Base => {
-            out.extend_from_slice(b"readers differ in where the entry's own names start")
-        }
+        _ => out.extend_from_slice(plain_words(wrong).as_bytes()),
     }
 }

@@ -4,8 +4,7 @@ use Rattle.std.specs.Prelude.{Option, Some, None, codes}
 use Rattle.std.specs.Str.Parse.{digits_value}
 use Rattle.ti_words.specs.declared.Kind.TheVariants as kinds
 use Rattle.ti_words.specs.declared.all_names.NameTable.{NameTable}
-use Rattle.ti_words.specs.Names.{Place}
-use Rattle.ti_words.specs.AllNames.{place_in}
+use Rattle.ti_words.specs.AllNames.{Place, place_in}
 use Rattle.ti_words.specs.Texts.{TextValue, AbsentText}
 use Rattle.ti_words.specs.Value.{NamedPart, EntryValue}
 use Rattle.ti_entry.specs.Finding.{names_of}

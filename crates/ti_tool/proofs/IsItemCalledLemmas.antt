@@ -3,7 +3,7 @@ use Rattle.std.proofs.Common.{◌≡◌, ℕ, List, [], ◌∷◌, ◌++◌, tak
 use Rattle.std.specs.Prelude.{Option, Some, None, slice_get, option_map, unwrap_or}
 use Rattle.ti_words.specs.declared.Kind.{Kind}
 use Rattle.ti_words.specs.declared.Kind.TheVariants as kinds
-use Rattle.ti_words.specs.Names.{Place}
+use Rattle.ti_words.specs.AllNames.{Place}
 use Rattle.ti_words.specs.Spelling.{part_names}
 use Rattle.ti_words.specs.Value.{EntryValue}
 use Rattle.ti_entry.specs.Finding.{IsPosition, Lacks, names_before, names_of}

@@ -6,7 +6,7 @@ use Rattle.ti_words.specs.Texts.{TextValue, AbsentText, CancelledText, TextOf}
 use Rattle.ti_words.specs.Value.{EntryValue}
 use Rattle.ti_layout.specs.declared.fault.Refused.{Refused}
 use Rattle.ti_draft.specs.declared.fault.EncodeFault.{EncodeFault}
-use Rattle.ti_draft.specs.Unfit.{encode_fault}
+use Rattle.ti_draft.specs.EncodeFaults.{encode_fault}
 use Rattle.ti_cap.specs.declared.language.Token.{Token}
 use Rattle.ti_cap.specs.declared.language.CapRefused.{CapRefused}
 use Rattle.ti_cap.specs.Tree.{Sequence, tokens}

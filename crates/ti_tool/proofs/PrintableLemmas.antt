@@ -13,10 +13,10 @@ use Rattle.ti_words.specs.declared.Kind.TheVariants as kinds
 use Rattle.ti_words.specs.declared.Number.{Number}
 use Rattle.ti_words.specs.declared.Number.TheVariants as numbers
 use Rattle.ti_words.specs.declared.Width.{Width}
-use Rattle.ti_words.specs.declared.Width.TheVariants.{Legacy, Wide}
 use Rattle.ti_words.specs.Spelling.{mark_in}
 use Rattle.ti_words.specs.Texts.{TextValue, AbsentText, CancelledText, TextOf}
 use Rattle.ti_words.specs.Value.{EntryValue}
+use Rattle.ti_words.specs.Widths.{format_name}
 use Rattle.ti_cap.specs.declared.language.CapFault.{CapFault}
 use Rattle.ti_cap.specs.declared.language.CapFault.TheVariants as cap_faults
 use Rattle.ti_cap.specs.FaultNames.{cap_fault_word}
@@ -37,11 +37,11 @@ use Rattle.ti_pad.specs.Setting.{Setting}
 use Rattle.ti_tool.specs.Got.{IsTextResult, IsValueResult, number_or_none, number_result}
 use Rattle.ti_listing.specs.Items.{ItemValue, FlagItem, NumberItem, TextItem}
 use Rattle.ti_listing.specs.Labels.{label_of, own_label, own_names}
-use Rattle.ti_listing.specs.Listing.{entry_lines, flag_line, number_line, text_line, lines_from, standard_flag, standard_number, standard_text, extended_flag, extended_number, extended_text, standard_lines, extended_lines, format_name}
+use Rattle.ti_listing.specs.Listing.{entry_lines, flag_line, number_line, text_line, lines_from, standard_flag, standard_number, standard_text, extended_flag, extended_number, extended_text, standard_lines, extended_lines}
 use Rattle.serde_json.specs.Data.{Data}
 use Rattle.ti_tool.specs.Verdicts.{AreTold, AreVerdictObjects, IsExtendedLine, IsOwnObject, IsStandardLine, IsStandardObject, IsTold, fault_verdict, in_line, in_object, sound_verdict}
 use Rattle.ti_json.proofs.TextLemmas.{IsText, both, decimal_text, label_text, signed_text}
-use Rattle.ti_json.proofs.PlainLemmas.{HavePlain, array_is_text, entry_is_text, fault_is_plain, joined as plain_joined, json_is_text, sound_is_plain}
+use Rattle.ti_json.proofs.PlainLemmas.{HavePlain, array_is_text, entry_is_text, fault_is_plain, format, joined as plain_joined, json_is_text, sound_is_plain}
 use Rattle.std.proofs.Math.Seq.{take-append_seam}
 use Rattle.ti_words.specs.AllNames.{front}
 use Rattle.ti_json.specs.Objects.{Subject, StandardSubject, OwnSubject, entry_text, text_json}
@@ -147,8 +147,7 @@ extended_text_lines options v e n =
     (all_lines (extended_text options) (λ item. text_lines (mark_in item)) (λ index item. text_text options.form (codes "text+ ") (own_label options.naming.form item.0) item.1 e refl (own_text options.naming.form item.0 n)) 0 v.extended.texts)
 
 format_text : (width : Width) → IsText (codes "format: " ++ format_name width)
-format_text Legacy = refl
-format_text Wide = refl
+format_text width = both (codes "format: ") (format_name width) refl (format width)
 
 head_lines : (format names : List ℕ) → IsText format → IsText names → ArePrintableLines 2 (format ++ codes "\nnames: " ++ names ++ codes "\n")
 head_lines format names of_format of_names =

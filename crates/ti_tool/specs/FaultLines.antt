@@ -2,7 +2,7 @@
 use Rattle.std.specs.Prelude.{◌<◌, ◌⊎◌, ℕ, List, [], ◌∷◌, ◌++◌, Option, Result, Ok, Err, codes, decimal, length, nat_le, take, if◌then◌else◌, ◌≡◌}
 use Rattle.std.specs.Io.KnownBytes.{Appends}
 use Rattle.ti_layout.specs.Faults.{fault_word}
-use Rattle.ti_draft.specs.Unfit.{encode_fault_word}
+use Rattle.ti_draft.specs.EncodeFaults.{encode_fault_word}
 use Rattle.ti_escape.specs.FaultNames.{notation_fault_word}
 use Rattle.ti_escape.specs.Notation.{notation}
 use Rattle.ti_cap.specs.FaultNames.{cap_fault_word}

@@ -12,7 +12,7 @@ use Rattle.ti_words.specs.declared.Width.{Width}
 use Rattle.ti_words.specs.Texts.{TextValue, AbsentText, CancelledText, TextOf}
 use Rattle.ti_pad.specs.Setting.{Setting}
 use Rattle.ti_draft.specs.Canonical.{canonical}
-use Rattle.ti_draft.specs.Unfit.{encode_fault}
+use Rattle.ti_draft.specs.EncodeFaults.{encode_fault}
 use Rattle.ti_line.specs.declared.options.ListOptions.{ListOptions}
 use Rattle.ti_line.specs.declared.options.Naming.{Naming}
 use Rattle.ti_line.specs.declared.options.Output.{Output}

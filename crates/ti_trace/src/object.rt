@@ -10,10 +10,10 @@ ghost use Rattle.ti_trace.specs.inner.Rows.{facts_totals, row_token};
 use crate::footer::Facts;
 use crate::items::MOST_SHOWN;
 use crate::row::Row;
-use serde_json::{Value as Json, json};
+use serde_json::{Map, Value as Json};
 use std::alloc::{AllocError, Global};
 use ti_expand::{Outcome, Value};
-use ti_json::text_string;
+use ti_json::{with_member, with_string, with_text};
 
 /// The first bytes of a text, as many as are shown.
 fn front_of(text: &[u8]) -> &[u8]
@@ -29,8 +29,9 @@ fn value_json(alloc: Global, value: &Value<'_>) -> Result<Json, AllocError>
     match *value {
         Value::Num(number) => Ok(Json::from(number)),
         Value::Text(text) => {
-            let front = text_string(alloc, front_of(text))?;
-            json!(in alloc; {"length": text.len(), "text": front})
+            let len = Json::from(text.len());
+            let members = with_member(alloc, Map::new(alloc), "length", len)?;
+            Ok(Json::Object(with_text(alloc, members, "text", front_of(text))?))
         }
     }
 }
@@ -61,31 +62,26 @@ fn token_json(alloc: Global, row: &Row<'_, '_>) -> Result<Json, AllocError>
     ensures { IfOk result (λ made. view made ≡ token_object (row_token row.now)) }
 {
     let stack = stack_json(alloc, row.stack)?;
-    let token = text_string(alloc, row.spelling)?;
-    let wrote = text_string(alloc, row.wrote)?;
-    json!(in alloc; {
-        "place": row.place,
-        "run": outcome_word(row.outcome),
-        "stack": stack,
-        "token": token,
-        "wrote": wrote
-    })
+    let members = with_member(alloc, Map::new(alloc), "stack", stack)?;
+    let members = with_member(alloc, members, "place", Json::from(row.place))?;
+    let members = with_string(alloc, members, "run", outcome_word(row.outcome))?;
+    let members = with_text(alloc, members, "token", row.spelling)?;
+    Ok(Json::Object(with_text(alloc, members, "wrote", row.wrote)?))
 }
 
 /// The object with the totals.
 fn totals_json(alloc: Global, facts: &Facts<'_>) -> Result<Json, AllocError>
     ensures { IfOk result (λ made. view made ≡ totals_object (facts_totals facts.now)) }
 {
-    let output = text_string(alloc, facts.output)?;
-    json!(in alloc; {
-        "bound": facts.bound,
-        "depth": facts.depth,
-        "height": facts.height,
-        "output": output,
-        "passed": facts.passed,
-        "ran": facts.ran,
-        "written": facts.output.len()
-    })
+    let members = with_text(alloc, Map::new(alloc), "output", facts.output)?;
+    let written = Json::from(facts.output.len());
+    let members = with_member(alloc, members, "written", written)?;
+    let members = with_member(alloc, members, "bound", Json::from(facts.bound))?;
+    let members = with_member(alloc, members, "depth", Json::from(facts.depth))?;
+    let members = with_member(alloc, members, "height", Json::from(facts.height))?;
+    let members = with_member(alloc, members, "passed", Json::from(facts.passed))?;
+    let members = with_member(alloc, members, "ran", Json::from(facts.ran))?;
+    Ok(Json::Object(members))
 }
 
 /// Adds the object on a token.

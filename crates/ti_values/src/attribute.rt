@@ -5,6 +5,7 @@ ghost use Rattle.std.specs.Int.{bit_at};
 ghost use Rattle.ti_values.specs.Attributes.{IsCombinationAt, LacksAttribute, attributes, is_different as the_is_different, is_ignored, lacks_part as the_lacks_part};
 ghost use Rattle.ti_values.specs.Findings.{IsFirstOf};
 ghost use Rattle.ti_values.specs.Sent.{texts_of, without_marks as text_without_marks};
+ghost use Rattle.ti_values.specs.Renditions.{lacks as the_lacks, parameters, shifts};
 ghost use Rattle.ti_values.specs.inner.Rows.{row_of};
 
 use crate::lacking::{lacks, lacks_new};
@@ -41,6 +42,30 @@ pub fn is_ignored<A: Allocator>(sent: &[Vec<u8, A>], set: u16) -> bool
     sent_at(sent, usize::from(set)) == sent_at(sent, 0)
 }
 
+/// Whether what is sent lacks a parameter of a rendition that a text has.
+fn lacks_parameter<A: Allocator + Copy>(
+    alloc: A,
+    sent: &[u8],
+    text: &[u8],
+) -> Result<bool, AllocError>
+    ensures { IfOk result
+        (λ lacking. lacking ≡ the_lacks (parameters sent.now) (parameters text.now)) }
+{
+    let mine = parameters_of(alloc, sent)?;
+    let theirs = parameters_of(alloc, text)?;
+    Ok(lacks(mine.as_slice(), theirs.as_slice()))
+}
+
+/// Whether what is sent lacks a shift that a text has.
+fn lacks_shift<A: Allocator + Copy>(alloc: A, sent: &[u8], text: &[u8]) -> Result<bool, AllocError>
+    ensures { IfOk result
+        (λ lacking. lacking ≡ the_lacks (shifts sent.now) (shifts text.now)) }
+{
+    let mine = shifts_of(alloc, sent)?;
+    let theirs = shifts_of(alloc, text)?;
+    Ok(lacks(mine.as_slice(), theirs.as_slice()))
+}
+
 /// Whether what is sent lacks a part of a text, if both are renditions and shifts alone.
 fn lacks_part<A: Allocator + Copy>(alloc: A, sent: &[u8], text: &[u8]) -> Result<bool, AllocError>
     ensures { IfOk result (λ lacking. lacking ≡ the_lacks_part sent.now text.now) }
@@ -48,14 +73,7 @@ fn lacks_part<A: Allocator + Copy>(alloc: A, sent: &[u8], text: &[u8]) -> Result
     if !are_parts(sent) || !are_parts(text) {
         return Ok(false);
     }
-    let mine = parameters_of(alloc, sent)?;
-    let theirs = parameters_of(alloc, text)?;
-    let my_shifts = shifts_of(alloc, sent)?;
-    let their_shifts = shifts_of(alloc, text)?;
-    Ok(
-        lacks(mine.as_slice(), theirs.as_slice())
-            || lacks(my_shifts.as_slice(), their_shifts.as_slice()),
-    )
+    Ok(lacks_parameter(alloc, sent, text)? || lacks_shift(alloc, sent, text)?)
 }
 
 /// Whether for the set of one attribute something else is sent than the text that starts it: of what is sent for all sets, that for

@@ -1,5 +1,5 @@
 -- The three tables of names: the common ones, all of the header term.h of ncurses 6.4, and all long ones.
-use Rattle.std.specs.Prelude.{◌≡◌, ◌↔◌, ℕ, ◌-◌, Bool, true, false, List, [], ◌∷◌, ◌++◌, filter, length, map, take, Option, Some, None, slice_get, unwrap_or, if◌then◌else◌}
+use Rattle.std.specs.Prelude.{◌≡◌, ◌↔◌, ℕ, ◌-◌, Bool, true, false, List, [], ◌∷◌, ◌++◌, IfSome, filter, length, map, take, Option, Some, None, slice_get, unwrap_or, if◌then◌else◌}
 use Rattle.std.specs.List.{enumerate_from}
 use Rattle.std.specs.Map.{lookup}
 use Rattle.std.specs.Str.{bytes_eq}
@@ -40,10 +40,6 @@ abbrev pub IsNamedIn : NameTable → Kind → ℕ → List ℕ → Type 0
 IsNamedIn table kind index name =
     (has_index table kind index ≡ true) × (slice_get (listed table kind) index ≡ Some name)
 
--- in the table, the capability has no name but this one, and no name at all if this is None
-abbrev pub IsOnlyNameIn : NameTable → Kind → ℕ → Option (List ℕ) → Type 0
-IsOnlyNameIn table kind index only = (name : List ℕ) → IsNamedIn table kind index name → only ≡ Some name
-
 -- the name that a table has for a kind and an index, if it has one
 abbrev pub name_in : NameTable → Kind → ℕ → Option (List ℕ)
 name_in table kind index = if has_index table kind index then slice_get (listed table kind) index else None
@@ -68,6 +64,18 @@ kept table names = filter (λ named. has_index table named.1.0 named.1.1) names
 abbrev pub place_in : NameTable → List ℕ → Option Place
 place_in table name = lookup (bytes_eq name) (kept table (all_placed table))
 
+-- the name of a capability in a table, if it has one there, and no other
+pub record IsNameAt (table : NameTable) (kind : Kind) (index : ℕ) (name : Option (List ℕ)) : Type 0 where
+  pub value : name ≡ name_in table kind index
+  pub found : IfSome name (IsNamedIn table kind index)
+  pub only : (other : List ℕ) → IsNamedIn table kind index other → name ≡ Some other
+
+-- the place of a name in a table, if the table has the name, and no other
+pub record IsPlaceOf (table : NameTable) (name : List ℕ) (place : Option Place) : Type 0 where
+  pub value : place ≡ place_in table name
+  pub found : IfSome place (λ at. IsNamedIn table at.0 at.1 name)
+  pub only : (at : Place) → IsNamedIn table at.0 at.1 name → place ≡ Some at
+
 -- ---- the laws of each table
 
 -- a capability has one name
@@ -91,6 +99,12 @@ NameAndPlaceAgreeIn table =
 -- each name has a byte
 abbrev pub HasNoEmptyNameIn : NameTable → Type 0
 HasNoEmptyNameIn table = (kind : Kind) (index : ℕ) → ¬ IsNamedIn table kind index []
+
+-- a common name stands among all names at the same place
+abbrev pub CommonNamesAreNames : Type 0
+CommonNamesAreNames =
+    (kind : Kind) (index : ℕ) (name : List ℕ) → IsNamedIn tables.Common kind index name
+    → IsNamedIn tables.All kind index name
 
 -- the long names of a kind are as many as the short ones, so a capability has both or none
 abbrev pub EachHasALongName : Type 0

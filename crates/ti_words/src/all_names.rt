@@ -3,11 +3,11 @@
 //! Each table takes its names from the same rows. A name is looked for among those of the rows, and an index is that of a row.
 //! After each name of a row stands a NUL. No call takes memory.
 
-ghost use Rattle.std.specs.Prelude.{◌≡◌, ℕ, List, Some, IfSome, map, option_map};
+ghost use Rattle.std.specs.Prelude.{◌≡◌, ℕ, List, Some, map, option_map};
 ghost use Rattle.std.specs.Map.{lookup};
 ghost use Rattle.std.specs.Str.{bytes_eq};
 ghost use Rattle.ti_words.specs.declared.Kind.TheVariants as kinds;
-ghost use Rattle.ti_words.specs.AllNames.{IsNamedIn, IsOnlyNameIn, Place, front, has_index, kept, listed, name_in, place_in, placed, with_nul};
+ghost use Rattle.ti_words.specs.AllNames.{IsNameAt, IsPlaceOf, front, has_index, kept, listed, name_in, place_in, placed, with_nul};
 ghost use Rattle.ti_words.specs.NameLists.{rows};
 
 use crate::Kind;
@@ -30,27 +30,21 @@ pub enum NameTable {
 impl NameTable {
     /// The name of the flag at an index of an entry, such as `bw` at 0, if the table has one.
     pub fn flag_name(self, index: usize) -> Option<&'static str>
-        ensures value { option_map (λ name. name.now) result ≡ name_in self kinds.Flag index }
-        ensures found { IfSome result (λ name. IsNamedIn self kinds.Flag index name.now) }
-        ensures only { IsOnlyNameIn self kinds.Flag index (option_map (λ name. name.now) result) }
+        ensures { IsNameAt self kinds.Flag index (option_map (λ name. name.now) result) }
     {
         self.name_at(Kind::Flag, index)
     }
 
     /// The name of the number at an index of an entry, such as `cols` at 0, if the table has one.
     pub fn number_name(self, index: usize) -> Option<&'static str>
-        ensures value { option_map (λ name. name.now) result ≡ name_in self kinds.Number index }
-        ensures found { IfSome result (λ name. IsNamedIn self kinds.Number index name.now) }
-        ensures only { IsOnlyNameIn self kinds.Number index (option_map (λ name. name.now) result) }
+        ensures { IsNameAt self kinds.Number index (option_map (λ name. name.now) result) }
     {
         self.name_at(Kind::Number, index)
     }
 
     /// The name of the text at an index of an entry, such as `cup` at 10, if the table has one.
     pub fn text_name(self, index: usize) -> Option<&'static str>
-        ensures value { option_map (λ name. name.now) result ≡ name_in self kinds.Text index }
-        ensures found { IfSome result (λ name. IsNamedIn self kinds.Text index name.now) }
-        ensures only { IsOnlyNameIn self kinds.Text index (option_map (λ name. name.now) result) }
+        ensures { IsNameAt self kinds.Text index (option_map (λ name. name.now) result) }
     {
         self.name_at(Kind::Text, index)
     }
@@ -64,18 +58,14 @@ impl NameTable {
     /// assert!(rt; NameTable::Long.find("cursor_address") == Some((Kind::Text, 10)));
     /// ```
     pub fn find(self, name: &str) -> Option<(Kind, usize)>
-        ensures value { result ≡ place_in self name.now }
-        ensures found { IfSome result (λ place. IsNamedIn self place.0 place.1 name.now) }
-        ensures only { (place : Place) → IsNamedIn self place.0 place.1 name.now → result ≡ Some place }
+        ensures { IsPlaceOf self name.now result }
     {
         self.find_bytes(name.as_bytes())
     }
 
     /// The same for a name as bytes, which need not be text.
     pub fn find_bytes(self, name: &[u8]) -> Option<(Kind, usize)>
-        ensures value { result ≡ place_in self name.now }
-        ensures found { IfSome result (λ place. IsNamedIn self place.0 place.1 name.now) }
-        ensures only { (place : Place) → IsNamedIn self place.0 place.1 name.now → result ≡ Some place }
+        ensures { IsPlaceOf self name.now result }
     {
         self.seek(name)
     }

@@ -6,9 +6,9 @@
 //! spell an entry: reading and writing stand on it, each in crates of their own.
 #![tactic(auto)]
 
-ghost use Rattle.std.specs.Prelude.{◌≡◌, ◌<◌, ◌^◌, IfSome};
+ghost use Rattle.std.specs.Prelude.{◌≡◌, ◌<◌, ◌^◌, pos, IfSome};
 ghost use Rattle.ti_words.specs.Marks.{byte_of_flag, flag_of_byte, word_of_number, number_of_word, HasWord};
-ghost use Rattle.ti_words.specs.Widths.{number_size as the_number_size, magic_number as the_magic_number};
+ghost use Rattle.ti_words.specs.Widths.{number_size as the_number_size, magic_number as the_magic_number, width_of_magic as the_width_of_magic, greatest_number as the_greatest_number, format_name as the_format_name};
 
 mod all_names;
 pub mod laws;
@@ -17,6 +17,7 @@ mod table;
 
 pub use all_names::NameTable;
 pub use names::{find, flag_name, number_name, text_name};
+use ti_base::{GREATEST_WIDE_WORD, GREATEST_WORD};
 
 /// A flag of an entry (a boolean capability of terminfo(5)).
 #[derive(Clone, Copy, Debug, PartialEq, Eq)]
@@ -124,6 +125,7 @@ pub fn number_word(number: Number) -> i32
 }
 
 /// The bytes of a number.
+#[inline(always)]
 pub fn number_size(width: Width) -> usize
     ensures { result ≡ the_number_size width }
 {
@@ -137,9 +139,42 @@ pub fn number_size(width: Width) -> usize
 pub fn magic_number(width: Width) -> usize
     ensures value { result ≡ the_magic_number width }
     ensures fits { result < 2 ^ 15 }
+    ensures back { the_width_of_magic result ≡ Some width }
 {
     match width {
         Width::Legacy => 0o432,
         Width::Wide => 0o1036,
+    }
+}
+
+/// The format whose entries start with a number, if there is one.
+pub fn width_of_magic(magic: usize) -> Option<Width>
+    ensures value { result ≡ the_width_of_magic magic }
+    ensures back { IfSome result (λ width. the_magic_number width ≡ magic) }
+{
+    match magic {
+        0o432 => Some(Width::Legacy),
+        0o1036 => Some(Width::Wide),
+        _ => None,
+    }
+}
+
+/// The greatest number of a format.
+pub fn greatest_number(width: Width) -> i32
+    ensures { result ≡ pos (the_greatest_number width) }
+{
+    match width {
+        Width::Legacy => GREATEST_WORD,
+        Width::Wide => GREATEST_WIDE_WORD,
+    }
+}
+
+/// The word for a format, as a listing and JSON write it.
+pub fn format_name(width: Width) -> &'static str
+    ensures { result.now ≡ the_format_name width }
+{
+    match width {
+        Width::Legacy => "legacy",
+        Width::Wide => "wide",
     }
 }

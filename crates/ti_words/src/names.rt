@@ -1,44 +1,37 @@
 //! The common names of capabilities by index: a name and its kind and index determine each other. Each call does what the
 //! same call of [`NameTable::Common`] does.
 
-ghost use Rattle.std.specs.Prelude.{◌≡◌, Some, IfSome, option_map};
+ghost use Rattle.std.specs.Prelude.{option_map};
 ghost use Rattle.ti_words.specs.declared.Kind.TheVariants as kinds;
-ghost use Rattle.ti_words.specs.Names.{IsNamed, IsOnlyName, Place, name_of, place_of};
+ghost use Rattle.ti_words.specs.declared.all_names.NameTable.TheVariants as tables;
+ghost use Rattle.ti_words.specs.AllNames.{IsNameAt, IsPlaceOf};
 
 use crate::{Kind, NameTable};
 
 /// The name of the flag at an index of an entry, such as `bw` at 0, if the table has one.
 pub fn flag_name(index: usize) -> Option<&'static str>
-    ensures value { option_map (λ name. name.now) result ≡ name_of kinds.Flag index }
-    ensures found { IfSome result (λ name. IsNamed kinds.Flag index name.now) }
-    ensures only { IsOnlyName kinds.Flag index (option_map (λ name. name.now) result) }
+    ensures { IsNameAt tables.Common kinds.Flag index (option_map (λ name. name.now) result) }
 {
     NameTable::Common.flag_name(index)
 }
 
 /// The name of the number at an index of an entry, such as `cols` at 0, if the table has one.
 pub fn number_name(index: usize) -> Option<&'static str>
-    ensures value { option_map (λ name. name.now) result ≡ name_of kinds.Number index }
-    ensures found { IfSome result (λ name. IsNamed kinds.Number index name.now) }
-    ensures only { IsOnlyName kinds.Number index (option_map (λ name. name.now) result) }
+    ensures { IsNameAt tables.Common kinds.Number index (option_map (λ name. name.now) result) }
 {
     NameTable::Common.number_name(index)
 }
 
 /// The name of the text at an index of an entry, such as `cup` at 10, if the table has one.
 pub fn text_name(index: usize) -> Option<&'static str>
-    ensures value { option_map (λ name. name.now) result ≡ name_of kinds.Text index }
-    ensures found { IfSome result (λ name. IsNamed kinds.Text index name.now) }
-    ensures only { IsOnlyName kinds.Text index (option_map (λ name. name.now) result) }
+    ensures { IsNameAt tables.Common kinds.Text index (option_map (λ name. name.now) result) }
 {
     NameTable::Common.text_name(index)
 }
 
 /// The kind and index of the capability that has a name, if the table has it: `cup` is the text at 10.
 pub fn find(name: &str) -> Option<(Kind, usize)>
-    ensures value { result ≡ place_of name.now }
-    ensures found { IfSome result (λ place. IsNamed place.0 place.1 name.now) }
-    ensures only { (place : Place) → IsNamed place.0 place.1 name.now → result ≡ Some place }
+    ensures { IsPlaceOf tables.Common name.now result }
 {
     NameTable::Common.find(name)
 }

@@ -1,7 +1,7 @@
 use Rattle.std.proofs.Common.{◌≡◌, drop, map}
 use Rattle.std.specs.List.{list_any}
 use Rattle.ti_words.specs.Texts.{text_value}
-use Rattle.ti_draft.specs.Unfit.{text_has_nul}
+use Rattle.ti_draft.specs.EncodeFaults.{text_has_nul}
 use Rattle.ti_draft.proofs.fault.any_text_has_nul.Given as goal
 
 abbrev pub invariant-loop-text : goal.invariant-loop-text

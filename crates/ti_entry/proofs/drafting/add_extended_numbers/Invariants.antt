@@ -1,5 +1,5 @@
 use Rattle.std.proofs.Common.{◌≡◌, drop}
-use Rattle.ti_entry.specs.Additions.{with_own_numbers}
+use Rattle.ti_draft.specs.Additions.{with_own_numbers}
 use Rattle.ti_entry.proofs.drafting.add_extended_numbers.Given as goal
 
 abbrev pub invariant-loop-i : goal.invariant-loop-i

@@ -1,5 +1,6 @@
 use Rattle.std.proofs.Common.{◌≡◌, None, ◌∙◌, sym, take, arith}
-use Rattle.ti_entry.proofs.FeedLemmas.{reading_after-longer, answer_under-ok}
+use Rattle.std.proofs.lemmas.Grind.{common_steps}
+use Rattle.ti_entry.proofs.FeedLemmas.{reading_after-longer, answer_under-err, answer_under-ok}
 use Rattle.ti_entry.proofs.FeedsFromLemmas.{FeedsFrom-nil, FeedsFrom-refused, FeedsFrom-end, FeedsFrom-next}
 use Rattle.ti_entry.proofs.source.read_from.Goals as goal
 
@@ -42,3 +43,8 @@ source-preserved g c =
       within = c.feed.ensures.most;
       fed = FeedsFrom-next _ _ _ _ _ _ _ i.first i.fed c.in_ok-count.ensures.bytes.0 c.feed.ensures.fed;
     }
+
+pub returns-in_err-feed-clause-refused : goal.returns-in_err-feed-clause-refused
+returns-in_err-feed-clause-refused g c =
+    let held = answer_under-err _ _ _ c.in_err-feed.was c.feed.ensures.answer in
+    grind (arith, common_steps, held)

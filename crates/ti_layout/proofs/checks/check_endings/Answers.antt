@@ -1,7 +1,7 @@
 use Rattle.std.proofs.Common.{length, sym, ◌∙◌}
 use Rattle.std.proofs.lemmas.Result.{err_from_is_err_and}
 use Rattle.ti_layout.specs.Checks.{ending_check}
-use Rattle.ti_layout.proofs.IsReachLemmas.{told}
+use Rattle.ti_layout.proofs.LastNulLemmas.{told}
 use Rattle.ti_layout.proofs.VerdictLemmas.{opened}
 use Rattle.ti_layout.proofs.WholeSectionLemmas.{all_pass, before}
 use Rattle.ti_layout.proofs.checks.check_endings.Goals as goal
@@ -11,7 +11,7 @@ returns-then-are_below c =
     let t = c.args.table.now in
     all_pass (ending_check c.args.bytes.now t.bytes.now t.end) (length c.args.bytes.now) c.args.from 2 c.args.count (λ i lt. record {
       long = c.requires.there;
-      holds = told t.bytes.now t.reach c.requires.reach _ ∙ before t.reach _ (c.are_below.ensures c.if-are_below.true i lt);
+      holds = told t.bytes.now t.after_last_nul c.requires.last_nul _ ∙ before t.after_last_nul _ (c.are_below.ensures c.if-are_below.true i lt);
     })
 
 pub loop-i-preserved : goal.loop-i-preserved

@@ -1,19 +1,11 @@
-use Rattle.std.proofs.Common.{◌∙◌, ◌||◌, ap₂}
-use Rattle.std.proofs.lemmas.Result.{IfOk-weaker}
-use Rattle.clap.specs.Words.{with_rule}
+use Rattle.std.specs.Prelude.{codes}
+use Rattle.ti_line.specs.CommandLine.{all_names_rule, entry_rule, escape_rule, flag_rule, hex_rule, lines_rule, name_rule, params_rule, rate_rule}
 use Rattle.ti_line.proofs.command.expand.Goals as goal
 
-pub returns-clause-shape : goal.returns-clause-shape
-returns-clause-shape c =
-    let begun = c.in_ok-command.ensures.shape ∙ ap₂ with_rule (ap₂ with_rule c.new_command-command.ensures.shape c.name.ensures.rule) c.hex.ensures.rule in
-    let called = c.in_ok-command-2.ensures.shape ∙ ap₂ with_rule (ap₂ with_rule begun c.escape.ensures.rule) c.all_names.ensures.rule in
-    let numbered = c.in_ok-command-3.ensures.shape ∙ ap₂ with_rule (ap₂ with_rule called c.number.ensures.rule) c.number-2.ensures.rule in
-    let named = c.in_ok-with_two.ensures.shape ∙ ap₂ with_rule (ap₂ with_rule numbered c.flag.ensures.rule) c.entry.ensures.rule in
-    IfOk-weaker c.arg.result _ _ (λ r h. h.shape c.params.ensures.local ∙ ap₂ with_rule named c.params.ensures.rule) c.arg.ensures
-
--- none of its parts has a global argument
-pub returns-clause-local : goal.returns-clause-local
-returns-clause-local c =
-    let begun = c.in_ok-command.ensures.local c.new_command-command.ensures.local in
-    let ended = c.in_ok-with_two.ensures.local (c.in_ok-command-3.ensures.local (c.in_ok-command-2.ensures.local begun)) in
-    IfOk-weaker c.arg.result _ _ (λ r h. h.globals ∙ ap₂ (λ x y. x || y) ended c.params.ensures.local) c.arg.ensures
+pub returns : goal.returns
+returns c =
+    let first = c.with_two-command.ensures _ name_rule hex_rule c.new_command-command.ensures c.name.ensures.rule c.hex.ensures.rule in
+    let second = c.with_two-command-2.ensures _ escape_rule all_names_rule first c.escape.ensures.rule c.all_names.ensures.rule in
+    let third = c.with_two-command-3.ensures _ rate_rule lines_rule second c.number.ensures.rule c.number-2.ensures.rule in
+    let fourth = c.with_two-command-4.ensures _ (flag_rule (codes "xon")) entry_rule third c.flag.ensures.rule c.entry.ensures.rule in
+    c.with_one.ensures _ params_rule fourth c.params.ensures.rule

@@ -1,12 +1,11 @@
-use Rattle.std.proofs.Common.{◌∙◌, [], ◌∷◌, ap}
-use Rattle.ti_line.specs.CommandLine.{cap_app, convert_app, diff_app, expand_app, trace_app, with_commands}
 use Rattle.std.proofs.lemmas.Result.{IfOk-weaker}
+use Rattle.ti_line.specs.CommandLine.{cap_app, convert_app, diff_app, expand_app, trace_app}
 use Rattle.ti_line.proofs.command.program.Goals as goal
 
 pub returns : goal.returns
 returns c =
-    let compared = c.in_ok-compared.ensures.shape diff_app c.diff.ensures.local c.diff.ensures.shape ∙ ap (λ a. with_commands a (diff_app ∷ [])) c.in_ok-first.ensures.shape in
-    let expanded = c.in_ok-expanded.ensures.shape expand_app c.expand.ensures.local c.expand.ensures.shape ∙ ap (λ a. with_commands a (expand_app ∷ [])) compared in
-    let converted = c.in_ok-converted.ensures.shape convert_app c.convert.ensures.local c.convert.ensures.shape ∙ ap (λ a. with_commands a (convert_app ∷ [])) expanded in
-    let capped = c.in_ok-capped.ensures.shape cap_app c.cap.ensures.local c.cap.ensures.shape ∙ ap (λ a. with_commands a (cap_app ∷ [])) converted in
-    IfOk-weaker c.with_made-5.result _ _ (λ r is. is ∙ ap (λ a. with_commands a (trace_app ∷ [])) capped) (c.with_made-5.ensures.shape trace_app c.trace.ensures.local c.trace.ensures.shape)
+    let compared = c.with_made-compared.ensures _ diff_app c.first_commands.ensures c.diff.ensures in
+    let expanded = c.with_made-expanded.ensures _ expand_app compared c.expand.ensures in
+    let converted = c.with_made-converted.ensures _ convert_app expanded c.convert.ensures in
+    let capped = c.with_made-capped.ensures _ cap_app converted c.cap.ensures in
+    IfOk-weaker c.with_made.result _ _ (λ r is. is.0) (c.with_made.ensures _ trace_app capped c.trace.ensures)

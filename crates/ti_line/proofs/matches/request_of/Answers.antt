@@ -14,3 +14,9 @@ returns-in-lint c = rw c.in-lint.is c.lint.ensures
 
 pub returns-in-convert : goal.returns-in-convert
 returns-in-convert c = rw c.in-convert.is c.convert.ensures
+
+pub returns-in-show : goal.returns-in-show
+returns-in-show c = rw c.in-show.is c.show.ensures
+
+pub returns-in-check : goal.returns-in-check
+returns-in-check c = rw c.in-check.is c.check.ensures

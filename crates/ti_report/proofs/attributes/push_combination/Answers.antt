@@ -1,4 +1,5 @@
-use Rattle.std.proofs.Common.{◌∙◌, ◌++◌, ℕ, Option, Some, ap₂, refl, subst}
+use Rattle.std.proofs.Common.{◌∙◌, ◌++◌, ℕ, Option, Some, ap₂, refl, subst, [], None, sym}
+use Rattle.std.proofs.lemmas.List.{append-nil}
 use Rattle.ti_values.specs.Attributes.{IsCombinationAt}
 use Rattle.ti_values.specs.Findings.{IsFirstOf, sent_at}
 use Rattle.ti_values.specs.Sent.{texts_of}
@@ -15,3 +16,8 @@ returns-in_ok-push_told-in-Some g c =
       (Some k, subst P c.in-Some.is c.in_ok-first_combination.ensures.exact, refl),
       c.in_ok-push_told-in-Some.ensures ∙ ap₂ (λ value text. c.args.out.now.items ++ on_values s.name.now s.text.now (Combined value text)) c.tried_at.ensures c.in_ok-text-in-Some.ensures,
     )
+
+pub returns-in-None : goal.returns-in-None
+returns-in-None g c =
+    let P : Option ℕ → Type 0 = λ found. IsFirstOf (IsCombinationAt (texts_of c.args.sent.now)) found in
+    ([], (None, subst P c.in-None.is c.in_ok-first_combination.ensures.exact, refl), sym (append-nil c.args.out.now.items))

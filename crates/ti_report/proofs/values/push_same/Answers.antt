@@ -1,4 +1,5 @@
-use Rattle.std.proofs.Common.{◌∙◌, ◌++◌, Option, Some, ap, ap₂, refl, subst}
+use Rattle.std.proofs.Common.{◌∙◌, ◌++◌, Option, Some, ap, ap₂, refl, subst, [], None, sym}
+use Rattle.std.proofs.lemmas.List.{append-nil}
 use Rattle.ti_values.specs.Findings.{IsFirstSame, sent_at}
 use Rattle.ti_values.specs.declared.same.Same.{Same as SameAt}
 use Rattle.ti_values.specs.Sent.{texts_of}
@@ -17,3 +18,8 @@ returns-in_ok-push_told-in-Some g c =
           ∙ ap (λ text. c.args.out.now.items ++ on_values s.name.now s.text.now (Same c.tried_at.result c.tried_at-in-Some.result text)) c.in_ok-text-in-Some.ensures
           ∙ ap₂ (λ one other. c.args.out.now.items ++ on_values s.name.now s.text.now (Same one other (sent_at (texts_of c.args.sent.now) found.other))) c.tried_at.ensures c.tried_at-in-Some.ensures,
     )
+
+pub returns-in-None : goal.returns-in-None
+returns-in-None g c =
+    let P : Option SameAt → Type 0 = λ found. IsFirstSame (texts_of c.args.sent.now) found in
+    ([], (None, subst P c.in-None.is c.in_ok-first_same.ensures.exact, refl), sym (append-nil c.args.out.now.items))

@@ -25,7 +25,7 @@ returns-in_err-entry-clause-did g c =
         true,
         tt,
         did_fail (IsDueOf [] c.args.asked.now c.args.parameters.now true) HasFailed _ _ _ c.read_from.new.reader.kept _ whole.read (inr whole.end) (entry_never c.args.asked.now c.args.parameters.now true _)
-            (inr (inl (c.in_err-entry.field-0.0, c.in_err-entry.ensures.refused whole.unrefused, refl))),
+            (inr (inl (c.in_err-entry.field-0.0, (c.in_err-entry.ensures.read whole.unrefused).refused, refl))),
       ),
       tt,
     )
@@ -40,7 +40,7 @@ returns-in_err-answer-clause-did g c =
         true,
         tt,
         did_fail (IsDueOf [] c.args.asked.now c.args.parameters.now true) HasFailed _ _ _ c.read_from.new.reader.kept _ whole.read (inr whole.end) (entry_never c.args.asked.now c.args.parameters.now true _)
-            (due_from (IsDueIn [] c.args.asked.now c.args.parameters.now true c.read_from.new.reader.kept) _ _ _ (c.in_ok-entry.ensures.found whole.unrefused) (subst Fails c.bytes-bytes.ensures c.in_err-answer.ensures.fault)),
+            (due_from (IsDueIn [] c.args.asked.now c.args.parameters.now true c.read_from.new.reader.kept) _ _ _ ((c.in_ok-entry.ensures.read whole.unrefused).found) (subst Fails c.bytes-bytes.ensures c.in_err-answer.ensures.fault)),
       ),
       kept_same c.args.asked.now c.read_from.new.reader.kept (Err c.in_err-answer.field-0.0),
     )
@@ -52,7 +52,7 @@ returns-in_err-write_result-clause-did g c =
     let answer = c.in_ok-answer.answer in
     let Due : List ℕ → Type 0 = λ input. IsDueIn [] c.args.asked.now c.args.parameters.now answer.sound input c.in_ok-entry.entry (Ok answer.bytes.items) in
     let did = did_write (IsDueOf [] c.args.asked.now c.args.parameters.now answer.sound) HasFailed _ _ _ _ c.read_from.new.reader.kept answer.bytes.items c.as_slice.result.now c.write_result.result
-    whole.read (inr whole.end) (inr (_, c.in_ok-entry.ensures.found whole.unrefused, subst Due c.bytes-bytes.ensures c.in_ok-answer.ensures.due)) c.as_slice.ensures.value c.write_result.ensures.written c.write_result.ensures.fails in
+    whole.read (inr whole.end) (inr (_, (c.in_ok-entry.ensures.read whole.unrefused).found, subst Due c.bytes-bytes.ensures c.in_ok-answer.ensures.due)) c.as_slice.ensures.value c.write_result.ensures.written c.write_result.ensures.fails in
     rw (p.1, p.2) ((answer.sound, tt, rw c.in_err-write_result.was at did), kept_written c.args.asked.now _ _ c.in_err-write_result.field-0.0 c.in_err-write_result.ensures.fails)
 
 pub returns-clause-did : goal.returns-clause-did
@@ -61,5 +61,5 @@ returns-clause-did g c =
     let answer = c.in_ok-answer.answer in
     let Due : List ℕ → Type 0 = λ input. IsDueIn [] c.args.asked.now c.args.parameters.now answer.sound input c.in_ok-entry.entry (Ok answer.bytes.items) in
     let did = did_write (IsDueOf [] c.args.asked.now c.args.parameters.now answer.sound) HasFailed _ _ _ _ c.read_from.new.reader.kept answer.bytes.items c.as_slice.result.now c.write_result.result
-    whole.read (inr whole.end) (inr (_, c.in_ok-entry.ensures.found whole.unrefused, subst Due c.bytes-bytes.ensures c.in_ok-answer.ensures.due)) c.as_slice.ensures.value c.write_result.ensures.written c.write_result.ensures.fails in
+    whole.read (inr whole.end) (inr (_, (c.in_ok-entry.ensures.read whole.unrefused).found, subst Due c.bytes-bytes.ensures c.in_ok-answer.ensures.due)) c.as_slice.ensures.value c.write_result.ensures.written c.write_result.ensures.fails in
     ((answer.sound, refl, rw c.in_ok-write_result.was at did), tt)

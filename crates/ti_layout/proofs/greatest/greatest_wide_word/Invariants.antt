@@ -1,0 +1,6 @@
+use Rattle.std.proofs.Common.{ℕ, ◌+◌, ◌*◌, ◌%◌, ◌<◌, ◌≤◌}
+use Rattle.ti_words.specs.Word.{unsigned_at}
+use Rattle.ti_layout.proofs.greatest.greatest_wide_word.Given as goal
+
+abbrev pub invariant-loop-word : goal.invariant-loop-word
+invariant-loop-word l = (k : ℕ) → k < l.word-index → (unsigned_at 4 l.bytes (l.from + 4 * k) + 2) % 4294967296 ≤ l.greatest
