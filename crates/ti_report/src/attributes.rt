@@ -1,17 +1,20 @@
-//! What is wrong with what `sgr` sends for sets of attributes, beside the texts that start them.
+//! What is wrong with what `sgr` sends for sets of attributes, by itself and beside the texts that start them.
 
-ghost use Rattle.std.specs.Prelude.{◌≡◌, ◌++◌, IfOk, OnOk, option_map};
+ghost use Rattle.std.specs.Prelude.{◌≡◌, ◌++◌, ◌&&◌, IfOk, OnOk, option_map};
 ghost use Rattle.std.specs.List.{flat_map};
-ghost use Rattle.ti_values.specs.Attributes.{attributes};
+ghost use Rattle.ti_values.specs.Attributes.{attributes, is_ignored};
 ghost use Rattle.ti_values.specs.Sent.{texts_of};
 ghost use Rattle.ti_report.specs.Lines.{Adds};
-ghost use Rattle.ti_report.specs.Values.{IsCombinationReport, differing_text as the_differing_text, on_differing, text_named};
+ghost use Rattle.ti_report.specs.Values.{AreAttributesRemarks, IsCombinationReport, IsShownReport, differing_text as the_differing_text, ignored_if, on_differing, on_ignored, text_named};
+ghost use Rattle.ti_report.specs.Whole.{has};
 
+use crate::colors::has;
+use crate::lookup::{is_ansi_entry, text_named};
 use crate::remark::{Remark, Subject, Told, push_told};
-use crate::values::{copy_of, text_named, tried_at};
+use crate::sent::{copy_of, push_unended, tried_at};
 use std::alloc::{AllocError, Allocator};
 use ti_entry::Entry;
-use ti_values::{Tried, attributes, first_combination, is_different};
+use ti_values::{Tried, attributes, first_combination, first_shown, is_different, is_ignored};
 use ti_words::Text;
 
 /// The text that starts an attribute, if what is sent for it lacks a part of that.
@@ -60,7 +63,7 @@ fn push_differing<'a, A: Allocator + Copy>(
 }
 
 /// Adds the remarks on all attributes that are not sent as their texts are.
-pub fn push_all_differing<'a, A: Allocator + Copy>(
+fn push_all_differing<'a, A: Allocator + Copy>(
     alloc: A,
     out: &mut Vec<Remark<'a, A>, A>,
     entry: &Entry<'a>,
@@ -77,7 +80,7 @@ pub fn push_all_differing<'a, A: Allocator + Copy>(
 }
 
 /// Adds the remark on a set for which what is sent lacks what an attribute sends alone.
-pub fn push_combination<'a, A: Allocator + Copy>(
+fn push_combination<'a, A: Allocator + Copy>(
     alloc: A,
     out: &mut Vec<Remark<'a, A>, A>,
     subject: &Subject<'a>,
@@ -96,4 +99,103 @@ pub fn push_combination<'a, A: Allocator + Copy>(
             Ok(())
         }
     }
+}
+
+/// Adds the remark on a set of attributes for which something is sent that shows.
+fn push_shown_text<'a, A: Allocator + Copy>(
+    alloc: A,
+    out: &mut Vec<Remark<'a, A>, A>,
+    subject: &Subject<'a>,
+    tried: &[Tried],
+    sent: &[Vec<u8, A>],
+) -> Result<(), AllocError>
+    ensures { OnOk result (Adds (IsShownReport subject.now.name.now
+        subject.now.text.now tried.now (texts_of sent.now)) out.old.items out.new.items) }
+{
+    match first_shown(sent) {
+        None => Ok(()),
+        Some(place) => {
+            let text = copy_of(alloc, sent, place)?;
+            push_told(
+                alloc,
+                out,
+                subject,
+                Told::Shown(tried_at(tried, place), text),
+            )?;
+            Ok(())
+        }
+    }
+}
+
+/// Adds the remark on an attribute, if it is told.
+fn push_ignored<'a, A: Allocator + Copy>(
+    alloc: A,
+    out: &mut Vec<Remark<'a, A>, A>,
+    told: bool,
+    subject: &Subject<'a>,
+    name: &'static str,
+    set: u16,
+) -> Result<(), AllocError>
+    ensures { OnOk result (out.new.items ≡ out.old.items ++ ignored_if told
+        subject.now.name.now subject.now.text.now name.now set) }
+{
+    if !told {
+        return Ok(());
+    }
+    push_told(alloc, out, subject, Told::Ignored(name, set))?;
+    Ok(())
+}
+
+/// Whether an attribute is ignored whose text is there.
+fn is_told<A: Allocator>(entry: &Entry<'_>, sent: &[Vec<u8, A>], name: &str, set: u16) -> bool
+    ensures { result ≡ has entry.now name.now && is_ignored (texts_of sent.now) set }
+{
+    has(entry, name) && is_ignored(sent, set)
+}
+
+/// Adds the remarks on all attributes that are ignored.
+fn push_all_ignored<'a, A: Allocator + Copy>(
+    alloc: A,
+    out: &mut Vec<Remark<'a, A>, A>,
+    entry: &Entry<'a>,
+    subject: &Subject<'a>,
+    sent: &[Vec<u8, A>],
+) -> Result<(), AllocError>
+    ensures { OnOk result (out.new.items ≡ out.old.items ++ flat_map (on_ignored entry.now
+        subject.now.name.now subject.now.text.now
+        (texts_of sent.now)) attributes) }
+{
+    'attributes: for (name, set) in attributes() {
+        push_ignored(
+            alloc,
+            out,
+            is_told(entry, sent, name, *set),
+            subject,
+            name,
+            *set,
+        )?;
+    }
+    Ok(())
+}
+
+/// Adds the remarks on what is sent for sets of attributes.
+pub fn push_attributes_remarks<'a, A: Allocator + Copy>(
+    alloc: A,
+    out: &mut Vec<Remark<'a, A>, A>,
+    entry: &Entry<'a>,
+    subject: &Subject<'a>,
+    tried: &[Tried],
+    sent: &[Vec<u8, A>],
+) -> Result<(), AllocError>
+    ensures { OnOk result (Adds (AreAttributesRemarks entry.now
+        subject.now.name.now subject.now.text.now tried.now
+        (texts_of sent.now)) out.old.items out.new.items) }
+{
+    let ansi = is_ansi_entry(entry);
+    push_all_ignored(alloc, out, entry, subject, sent)?;
+    push_all_differing(alloc, out, entry, subject, sent)?;
+    push_combination(alloc, out, subject, tried, sent)?;
+    push_shown_text(alloc, out, subject, tried, sent)?;
+    push_unended(alloc, out, ansi, subject, tried, sent)?;
+    Ok(())
 }

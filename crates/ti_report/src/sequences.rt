@@ -7,9 +7,9 @@ ghost use Rattle.ti_report.specs.Lines.{Adds, AreReports};
 ghost use Rattle.ti_report.specs.Pairs.{standard_label};
 ghost use Rattle.ti_report.specs.Sequences.{AreSequenceRemarks, AreSequencesIf, IsSequenceAt, IsSequenceOf, IsSequenceReport};
 
+use crate::lookup::is_ansi_entry;
 use crate::pairs::standard_label;
 use crate::remark::{Remark, Subject, Told, push_told};
-use crate::values::is_ansi_entry;
 use std::alloc::{AllocError, Allocator};
 use ti_entry::Entry;
 use ti_lint::{Class, class_of};

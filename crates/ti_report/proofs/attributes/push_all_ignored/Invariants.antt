@@ -4,7 +4,7 @@ use Rattle.std.specs.List.{flat_map}
 use Rattle.ti_values.specs.Sent.{texts_of}
 use Rattle.ti_values.specs.inner.Rows.{row_of}
 use Rattle.ti_report.specs.Values.{on_ignored}
-use Rattle.ti_report.proofs.values.push_all_ignored.Given as goal
+use Rattle.ti_report.proofs.attributes.push_all_ignored.Given as goal
 
 abbrev pub invariant-attributes : goal.invariant-attributes
 invariant-attributes g l =

@@ -5,7 +5,7 @@ use Rattle.ti_values.specs.Negative.{IsNegativeAt}
 use Rattle.ti_values.specs.Sent.{texts_of}
 use Rattle.ti_report.specs.Remarks.{Negative, on_values}
 use Rattle.ti_report.specs.Values.{tried_at}
-use Rattle.ti_report.proofs.values.push_negative.Goals as goal
+use Rattle.ti_report.proofs.sent.push_negative.Goals as goal
 
 pub returns-in_ok-push_told-in-Some : goal.returns-in_ok-push_told-in-Some
 returns-in_ok-push_told-in-Some g c =

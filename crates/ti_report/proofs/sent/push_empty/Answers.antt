@@ -1,7 +1,7 @@
 use Rattle.std.proofs.Common.{◌∙◌, ◌++◌, Some, ap, refl}
 use Rattle.ti_report.specs.Remarks.{Empty, on_values}
 use Rattle.ti_report.specs.Values.{tried_at}
-use Rattle.ti_report.proofs.values.push_empty.Goals as goal
+use Rattle.ti_report.proofs.sent.push_empty.Goals as goal
 
 pub returns-in_ok-push_told-in-Some : goal.returns-in_ok-push_told-in-Some
 returns-in_ok-push_told-in-Some g c =

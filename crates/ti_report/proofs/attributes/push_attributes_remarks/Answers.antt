@@ -6,7 +6,7 @@ use Rattle.ti_report.specs.Lines.{Adds}
 use Rattle.ti_report.specs.Remarks.{Remark}
 use Rattle.ti_report.specs.Values.{IsUnendedReport, on_differing, on_ignored}
 use Rattle.ti_report.proofs.TurnsLemmas.{in_turn}
-use Rattle.ti_report.proofs.values.push_attributes_remarks.Goals as goal
+use Rattle.ti_report.proofs.attributes.push_attributes_remarks.Goals as goal
 
 pub returns : goal.returns
 returns g c =

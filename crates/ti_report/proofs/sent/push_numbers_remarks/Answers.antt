@@ -3,7 +3,7 @@ use Rattle.ti_values.specs.Sent.{texts_of}
 use Rattle.ti_report.specs.Lines.{Adds}
 use Rattle.ti_report.specs.Values.{IsUnendedReport}
 use Rattle.ti_report.proofs.TurnsLemmas.{in_turn}
-use Rattle.ti_report.proofs.values.push_numbers_remarks.Goals as goal
+use Rattle.ti_report.proofs.sent.push_numbers_remarks.Goals as goal
 
 pub returns : goal.returns
 returns g c =

@@ -5,7 +5,7 @@ use Rattle.ti_values.specs.declared.same.Same.{Same as SameAt}
 use Rattle.ti_values.specs.Sent.{texts_of}
 use Rattle.ti_report.specs.Remarks.{Same, on_values}
 use Rattle.ti_report.specs.Values.{same_told}
-use Rattle.ti_report.proofs.values.push_same.Goals as goal
+use Rattle.ti_report.proofs.sent.push_same.Goals as goal
 
 pub returns-in_ok-push_told-in-Some : goal.returns-in_ok-push_told-in-Some
 returns-in_ok-push_told-in-Some g c =

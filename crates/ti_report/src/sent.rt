@@ -1,0 +1,175 @@
+//! What is wrong with what a capability sends for numbers.
+
+ghost use Rattle.std.specs.Prelude.{◌≡◌, IfOk, OnOk};
+ghost use Rattle.ti_values.specs.Findings.{sent_at as the_sent_at};
+ghost use Rattle.ti_values.specs.Sent.{texts_of};
+ghost use Rattle.ti_report.specs.Lines.{Adds};
+ghost use Rattle.ti_report.specs.Values.{AreNumbersRemarks, IsEmptyReport, IsNegativeReport, IsSameReport, IsUnendedFound, IsUnendedReport, tried_at};
+
+use crate::lookup::is_ansi_entry;
+use crate::remark::{Remark, Subject, Told, push_told};
+use std::alloc::{AllocError, Allocator};
+use ti_cap::Capability;
+use ti_entry::Entry;
+use ti_values::{Tried, first_empty, first_negative, first_same, first_unended, sent_at};
+
+/// The value of the try at a place.
+pub fn tried_at(tried: &[Tried], place: usize) -> Tried
+    ensures { result ≡ tried_at tried.now place }
+{
+    if place < tried.len() {
+        return tried[place];
+    }
+    Tried::Number(0)
+}
+
+/// A copy of what is sent for it.
+pub fn copy_of<A: Allocator + Copy>(
+    alloc: A,
+    sent: &[Vec<u8, A>],
+    place: usize,
+) -> Result<Vec<u8, A>, AllocError>
+    ensures { IfOk result (λ text. text.items ≡ the_sent_at (texts_of sent.now) place) }
+{
+    let mut text = Vec::new(alloc);
+    text.extend_from_slice(sent_at(sent, place))?;
+    Ok(text)
+}
+
+/// Adds the remark on a value for which nothing is sent.
+fn push_empty<'a, A: Allocator + Copy>(
+    alloc: A,
+    out: &mut Vec<Remark<'a, A>, A>,
+    subject: &Subject<'a>,
+    tried: &[Tried],
+    sent: &[Vec<u8, A>],
+) -> Result<(), AllocError>
+    ensures { OnOk result (Adds (IsEmptyReport
+        subject.now.name.now subject.now.text.now tried.now (texts_of sent.now))
+        out.old.items out.new.items) }
+{
+    match first_empty(sent) {
+        None => Ok(()),
+        Some(place) => {
+            push_told(alloc, out, subject, Told::Empty(tried_at(tried, place)))?;
+            Ok(())
+        }
+    }
+}
+
+/// Adds the remark on two values for which the same is sent.
+fn push_same<'a, A: Allocator + Copy>(
+    alloc: A,
+    out: &mut Vec<Remark<'a, A>, A>,
+    subject: &Subject<'a>,
+    tried: &[Tried],
+    sent: &[Vec<u8, A>],
+) -> Result<(), AllocError>
+    ensures { OnOk result (Adds (IsSameReport
+        subject.now.name.now subject.now.text.now tried.now (texts_of sent.now))
+        out.old.items out.new.items) }
+{
+    match first_same(alloc, sent)? {
+        None => Ok(()),
+        Some(found) => {
+            let text = copy_of(alloc, sent, found.other)?;
+            let told = Told::Same(
+                tried_at(tried, found.one),
+                tried_at(tried, found.other),
+                text,
+            );
+            push_told(alloc, out, subject, told)?;
+            Ok(())
+        }
+    }
+}
+
+/// Adds the remark on a value for which a number below 0 is sent.
+fn push_negative<'a, A: Allocator + Copy>(
+    alloc: A,
+    out: &mut Vec<Remark<'a, A>, A>,
+    subject: &Subject<'a>,
+    capability: &Capability<'_>,
+    tried: &[Tried],
+    sent: &[Vec<u8, A>],
+) -> Result<(), AllocError>
+    requires { capability.now ≡ subject.now.text.now }
+    ensures { OnOk result (Adds (IsNegativeReport subject.now.name.now
+        subject.now.text.now tried.now (texts_of sent.now)) out.old.items out.new.items) }
+{
+    match first_negative(alloc, capability, tried)? {
+        None => Ok(()),
+        Some(place) => {
+            let text = copy_of(alloc, sent, place)?;
+            let told = Told::Negative(tried_at(tried, place), text);
+            push_told(alloc, out, subject, told)?;
+            Ok(())
+        }
+    }
+}
+
+/// Adds the remark on a value for which a sequence is sent that is not ended.
+fn push_unended_found<'a, A: Allocator + Copy>(
+    alloc: A,
+    out: &mut Vec<Remark<'a, A>, A>,
+    subject: &Subject<'a>,
+    tried: &[Tried],
+    sent: &[Vec<u8, A>],
+) -> Result<(), AllocError>
+    ensures { OnOk result (Adds (IsUnendedFound subject.now.name.now
+        subject.now.text.now tried.now (texts_of sent.now)) out.old.items out.new.items) }
+{
+    match first_unended(sent) {
+        None => Ok(()),
+        Some(place) => {
+            let text = copy_of(alloc, sent, place)?;
+            push_told(
+                alloc,
+                out,
+                subject,
+                Told::Unended(tried_at(tried, place), text),
+            )?;
+            Ok(())
+        }
+    }
+}
+
+/// The same of a terminal of ECMA-48.
+pub fn push_unended<'a, A: Allocator + Copy>(
+    alloc: A,
+    out: &mut Vec<Remark<'a, A>, A>,
+    ansi: bool,
+    subject: &Subject<'a>,
+    tried: &[Tried],
+    sent: &[Vec<u8, A>],
+) -> Result<(), AllocError>
+    ensures { OnOk result (Adds (IsUnendedReport ansi subject.now.name.now
+        subject.now.text.now tried.now (texts_of sent.now)) out.old.items out.new.items) }
+{
+    if ansi {
+        return push_unended_found(alloc, out, subject, tried, sent);
+    }
+    Ok(())
+}
+
+/// Adds the remarks on what is sent for numbers.
+pub fn push_numbers_remarks<'a, A: Allocator + Copy>(
+    alloc: A,
+    out: &mut Vec<Remark<'a, A>, A>,
+    entry: &Entry<'a>,
+    subject: &Subject<'a>,
+    capability: &Capability<'_>,
+    tried: &[Tried],
+    sent: &[Vec<u8, A>],
+) -> Result<(), AllocError>
+    requires { capability.now ≡ subject.now.text.now }
+    ensures { OnOk result (Adds (AreNumbersRemarks entry.now
+        subject.now.name.now subject.now.text.now tried.now
+        (texts_of sent.now)) out.old.items out.new.items) }
+{
+    push_empty(alloc, out, subject, tried, sent)?;
+    push_same(alloc, out, subject, tried, sent)?;
+    push_negative(alloc, out, subject, capability, tried, sent)?;
+    push_unended(alloc, out, is_ansi_entry(entry), subject, tried, sent)?;
+    Ok(())
+}
