@@ -31,6 +31,7 @@ pub mod PlainFormatLemmas
 pub mod ProgressLemmas
 pub mod ReachesLemmas
 pub mod ReaderLemmas
+pub mod SameTokenLemmas
 pub mod ScanLemmas
 pub mod SeenLemmas
 pub mod SizesLemmas

@@ -8,13 +8,13 @@ use Rattle.std.specs.Cmp.Lexicographic.{pointwise}
 use Rattle.ti_cap.specs.contracts.language.TokenPartialEq as token_eq
 use Rattle.ti_cap.specs.declared.language.Token.{Token}
 use Rattle.ti_cap.specs.declared.language.Token.TheVariants.{Param, CondOpen, CondThen, CondElse, CondClose}
+use Rattle.ti_cap.proofs.SameTokenLemmas.{same_token}
 use Rattle.ti_cap.specs.Height.{pops, pushes, next_height}
 use Rattle.ti_cap.specs.Tree.{Sequence, Empty, Simple, Arms, Lone, Else, ElseIf, tokens, arm_tokens, closing}
 use Rattle.ti_lint.specs.declared.conditional.Idle.{Idle}
 use Rattle.ti_lint.specs.declared.conditional.Idle.TheVariants.{Test, Body, Turn}
 use Rattle.ti_lint.specs.Conditionals.{only_computes, computed, values_left, LeavesMore, starts_test, is_constant, are_constant, IsConstantTest, closes_just, EndsWithTest, HasEarlier, IsRepeatedTest, AreIdle, HasNoEffect}
 use Rattle.ti_lint.proofs.FoundLemmas.{both_are}
-use Rattle.ti_lint.proofs.SameTokenLemmas.{same_token}
 use Rattle.ti_lint.specs.inner.Conditionals.{test_length, height_of, in_test, may_end, ends_at, idle_after, stays_idle, LeavesValue, ConstantsFrom}
 
 -- ---- a token more
@@ -263,24 +263,12 @@ no_constants before start d from unlike c = let b = constants_back before start 
 
 -- ---- an earlier arm with the same test
 
-computes_by : (h n : ℕ) (k : Token) (ts : List Token) → values_left (computed h k) ts ≡ Some n → only_computes k ≡ true
-computes_by h n k ts e = by_test (only_computes k) refl
-  where
-    none : None ≡ Some n → ⊥
-    none f = absurd (cc)
-
-    by_test : (b : Bool) → only_computes k ≡ b → only_computes k ≡ true
-    by_test true is = is
-    by_test false is = absurd (none (sym (ap (λ x. values_left (if x && nat_le (pops k) h then Some (next_height h k) else None) ts) is) ∙ e))
-
--- a list is a test exactly if each token is the same
-same_test : (o : Option ℕ) (n : ℕ) (test xs : List Token) → values_left o test ≡ Some n → Decides (pointwise (token_eq.TheImpl.eq-value).it xs test) (xs ≡ test)
-same_test None n test xs e = absurd (cc)
-same_test (Some h) n [] [] e = ((λ f. refl), (λ f. refl))
-same_test (Some h) n [] (x ∷ xs) e = ((λ f. absurd (cc)), (λ f. absurd (cc)))
-same_test (Some h) n (k ∷ ts) [] e = ((λ f. absurd (cc)), (λ f. absurd (cc)))
-same_test (Some h) n (k ∷ ts) (x ∷ xs) e =
-    along ((token_eq.TheImpl.eq-value).it x k) (pointwise (token_eq.TheImpl.eq-value).it xs ts) (same_token k x (computes_by h n k ts e)) (same_test (computed h k) n ts xs e)
+-- a list is the same as another exactly if each token is
+same_tokens : (tokens xs : List Token) → Decides (pointwise (token_eq.TheImpl.eq-value).it xs tokens) (xs ≡ tokens)
+same_tokens [] [] = ((λ f. refl), (λ f. refl))
+same_tokens [] (x ∷ xs) = ((λ f. absurd (cc)), (λ f. absurd (cc)))
+same_tokens (k ∷ ts) [] = ((λ f. absurd (cc)), (λ f. absurd (cc)))
+same_tokens (k ∷ ts) (x ∷ xs) = along ((token_eq.TheImpl.eq-value).it x k) (pointwise (token_eq.TheImpl.eq-value).it xs ts) (same_token k x) (same_tokens ts xs)
   where
     along : (a b : Bool) → Decides a (x ≡ k) → Decides b (xs ≡ ts) → Decides (a && b) (x ∷ xs ≡ k ∷ ts)
     along a b one more = (
@@ -297,7 +285,7 @@ ends_exact before test d r leaves less starts is = (there, back)
 
     decides : Decides r (take (length before - start) (drop start before) ≡ test)
     decides =
-        let p = same_test (Some 0) (suc leaves.0) test (take (length before - start) (drop start before)) leaves.1 in
+        let p = same_tokens test (take (length before - start) (drop start before)) in
         ((λ e. p.0 (sym is ∙ e)), (λ e. is ∙ p.1 e))
 
     there : IsTrue r → EndsWithTest before test

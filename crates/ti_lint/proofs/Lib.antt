@@ -14,7 +14,6 @@ pub mod OutlookLemmas
 pub mod PassLemmas
 pub mod PassStepLemmas
 pub mod ReachedLemmas
-pub mod SameTokenLemmas
 pub mod StoredLemmas
 pub mod UnusedLemmas
 pub mod ValuesLemmas

@@ -1,5 +1,5 @@
 use Rattle.std.proofs.Common.{◌∙◌, sym}
-use Rattle.ti_listing.proofs.SameTokenLemmas.{same_token}
+use Rattle.ti_cap.proofs.SameTokenLemmas.{same_token}
 use Rattle.ti_listing.proofs.tokens.is_same.Goals as goal
 
 pub returns : goal.returns

@@ -1,5 +1,6 @@
-use Rattle.std.proofs.Common.{◌∙◌, ℕ, ◌+◌, List, ◌∷◌, [], ◌++◌, drop, map, subst, sym, take}
+use Rattle.std.proofs.Common.{◌∙◌, ℕ, ◌+◌, List, ◌∷◌, [], ◌++◌, drop, map, subst, sym, take, arith}
 use Rattle.std.specs.Prelude.{Err, None, Ok, Some, string_bytes}
+use Rattle.std.proofs.lemmas.Grind.{common_steps}
 use Rattle.ti_tool.specs.FileRuns.{Delivered}
 use Rattle.ti_tool.specs.inner.Files.{RanFound}
 use Rattle.ti_tool.proofs.FileRunsLemmas.{found_next, found_stops, max_low, names_more, names_split, next_file}
@@ -40,3 +41,9 @@ returns-in-None-clause-ran g c =
     (g.W.Write.contents c.args.output.now) (g.W.Write.contents c.loop-found.output) (g.W.Write.contents c.deliver.new.output)
     (g.E.Write.contents c.args.errors.now) (g.E.Write.contents c.loop-found.errors) (g.E.Write.contents c.deliver.new.errors) c.loop-found.greatest c.loop-found.invariant.ran file
     (names_split (λ f. string_bytes f.name) c.args.files.now c.loop-found.found-index c.found-item.result c.loop-found-test.true c.found-item.is))
+
+pub loop-found-init : goal.loop-found-init
+loop-found-init c = grind (arith, common_steps)
+
+pub returns-clause-ran : goal.returns-clause-ran
+returns-clause-ran c = grind (arith, common_steps)

@@ -1,4 +1,5 @@
 use Rattle.std.proofs.Common.{arith, length-append}
+use Rattle.std.proofs.lemmas.Grind.{common_steps}
 use Rattle.ti_tool.proofs.NearLemmas.{nearest_done, next_told}
 use Rattle.ti_tool.proofs.near.nearest_names.Goals as goal
 
@@ -14,3 +15,6 @@ loop-preserved g c = record {
       c.push.ensures.items c.loop.invariant.each;
   count = grind (arith, c.push.ensures.items, c.loop.invariant.count, length-append);
 }
+
+pub returns : goal.returns
+returns c = grind (arith, common_steps)

@@ -10,3 +10,9 @@ loop-piece-preserved g c =
       read = ReadsInto-next _ _ _ _ _ _ _ c.loop-piece.invariant.read c.in_ok-count.ensures.bytes.0 items;
       none = λ full. absurd (true≢false (sym (full_stays _ _ _ _ _ c.loop-piece.invariant.read full c.is_full.ensures.fits) ∙ sym c.is_full.ensures.value ∙ c.loop-piece-test.true));
     }
+
+pub returns-in_err-count-clause-full : goal.returns-in_err-count-clause-full
+returns-in_err-count-clause-full c = grind (arith, common_steps)
+
+pub returns-then-count-eq0-clause-full : goal.returns-then-count-eq0-clause-full
+returns-then-count-eq0-clause-full c = grind (arith, common_steps)
