@@ -78,7 +78,7 @@ def shares(ready: list[str], free: int) -> dict[str, int]:
 def prove(due: list[str], kit: Path, logs: Path) -> bool:
     """Proves the crates that are due, each of which says what failed in a file of the logs. False if something fails."""
     whole = len(due) > len(below(due[-1]))
-    tell(f"crates to prove: {len(due)}{'; from nothing ti takes six to twenty minutes on four cores' if whole else ''}")
+    tell(f"crates to prove: {len(due)}{'; from nothing ti takes about twenty minutes on four cores' if whole else ''}")
     waiting, under_way, above = [*due], dict[str, Proof](), chains_above(due)
     processors = min(len(os.sched_getaffinity(0)), 4)
     while waiting or under_way:

@@ -1,8 +1,10 @@
 -- What an entry and its capabilities are called in the lines on an entry.
-use Rattle.std.specs.Prelude.{ℕ, List, ◌++◌, codes, decimal, unwrap_or}
+use Rattle.std.specs.Prelude.{ℕ, List, [], ◌++◌, codes, decimal, get_or, unwrap_or}
 use Rattle.ti_words.specs.declared.Kind.{Kind}
 use Rattle.ti_words.specs.declared.all_names.NameTable.{NameTable}
 use Rattle.ti_words.specs.AllNames.{name_in}
+use Rattle.ti_words.specs.Value.{NamedPart}
+use Rattle.ti_entry.specs.Finding.{names_of}
 use Rattle.ti_escape.specs.Notation.{label_notation, notation}
 use Rattle.ti_line.specs.declared.options.NameForm.{NameForm}
 use Rattle.ti_line.specs.declared.options.NameForm.TheVariants as forms
@@ -17,6 +19,9 @@ label_of table kind index = unwrap_or (name_in table kind index) (codes "#" ++ d
 abbrev pub own_label : NameForm → List ℕ → List ℕ
 own_label forms.Raw name = name
 own_label forms.Notation name = label_notation name
+
+abbrev pub own_label_at : NameForm → NamedPart → Kind → ℕ → List ℕ
+own_label_at form p kind index = own_label form (get_or (names_of p kind) index [])
 
 -- the names of the entry: as they stand in it, or in the notation
 abbrev pub own_names : NameForm → List ℕ → List ℕ

@@ -5,16 +5,17 @@ use Rattle.ti_escape.specs.declared.form.Form.{Form}
 use Rattle.ti_escape.specs.Forms.{shown}
 use Rattle.ti_words.specs.declared.Flag.{Flag}
 use Rattle.ti_words.specs.declared.Flag.TheVariants as flags
+use Rattle.ti_words.specs.declared.Kind.{Kind}
 use Rattle.ti_words.specs.declared.Kind.TheVariants as kinds
-use Rattle.ti_words.specs.declared.all_names.NameTable.{NameTable}
 use Rattle.ti_words.specs.declared.Number.{Number}
 use Rattle.ti_words.specs.declared.Number.TheVariants as numbers
 use Rattle.ti_words.specs.Texts.{TextValue, AbsentText, CancelledText, TextOf}
-use Rattle.ti_words.specs.Value.{PartValue, NamedPart, EntryValue}
+use Rattle.ti_words.specs.Spelling.{unnamed}
+use Rattle.ti_words.specs.Value.{PartValue, EntryValue}
 use Rattle.ti_words.specs.Widths.{format_name}
 use Rattle.ti_line.specs.declared.options.ListOptions.{ListOptions}
-use Rattle.ti_line.specs.declared.options.NameForm.{NameForm}
-use Rattle.ti_listing.specs.Labels.{label_of, own_label, own_names}
+use Rattle.ti_listing.specs.Items.{kind_word}
+use Rattle.ti_listing.specs.Labels.{label_of, own_label_at, own_names}
 
 -- a word and a label, and after the label nothing, or a blank and a word; No has no line
 abbrev pub flag_line : List ℕ → List ℕ → Flag → List ℕ
@@ -36,51 +37,32 @@ text_line form word label CancelledText = word ++ label ++ codes " cancelled\n"
 text_line form word label (TextOf bytes) =
     word ++ label ++ codes " " ++ shown form bytes ++ codes "\n"
 
--- the lines of standard capabilities, from their index
-abbrev pub standard_flag : NameTable → ℕ → Flag → List ℕ
-standard_flag table index flag = flag_line (codes "flag ") (label_of table kinds.Flag index) flag
-
-abbrev pub standard_number : NameTable → ℕ → Number → List ℕ
-standard_number table index number =
-    number_line (codes "number ") (label_of table kinds.Number index) number
-
-abbrev pub standard_text : ListOptions → ℕ → TextValue → List ℕ
-standard_text options index text =
-    text_line options.form (codes "text ") (label_of options.naming.table kinds.Text index) text
-
--- those of the extended part have a name of their own, whatever their index
-abbrev pub extended_flag : NameForm → ℕ → List ℕ × Flag → List ℕ
-extended_flag form index (name, flag) = flag_line (codes "flag+ ") (own_label form name) flag
-
-abbrev pub extended_number : NameForm → ℕ → List ℕ × Number → List ℕ
-extended_number form index (name, number) =
-    number_line (codes "number+ ") (own_label form name) number
-
-abbrev pub extended_text : ListOptions → ℕ → List ℕ × TextValue → List ℕ
-extended_text options index (name, text) =
-    text_line options.form (codes "text+ ") (own_label options.naming.form name) text
-
 -- a line for each item from an index on
 abbrev pub lines_from : {X : Type 0} → (ℕ → X → List ℕ) → ℕ → List X → List ℕ
 lines_from line index [] = []
 lines_from line index (x ∷ xs) = line index x ++ lines_from line (suc index) xs
 
+-- the line of a capability of a part: the word for its kind, a mark, and the label of its index
+abbrev pub flag_at : List ℕ → (Kind → ℕ → List ℕ) → ℕ → Flag → List ℕ
+flag_at mark label index flag = flag_line (kind_word kinds.Flag ++ mark) (label kinds.Flag index) flag
+
+abbrev pub number_at : List ℕ → (Kind → ℕ → List ℕ) → ℕ → Number → List ℕ
+number_at mark label index number = number_line (kind_word kinds.Number ++ mark) (label kinds.Number index) number
+
+abbrev pub text_at : Form → List ℕ → (Kind → ℕ → List ℕ) → ℕ → TextValue → List ℕ
+text_at form mark label index text = text_line form (kind_word kinds.Text ++ mark) (label kinds.Text index) text
+
 -- flags, numbers and texts in the order of their indices
-abbrev pub standard_lines : ListOptions → PartValue → List ℕ
-standard_lines options p =
-    lines_from (standard_flag options.naming.table) 0 p.flags
-    ++ lines_from (standard_number options.naming.table) 0 p.numbers
-    ++ lines_from (standard_text options) 0 p.texts
+abbrev pub part_lines : Form → List ℕ → (Kind → ℕ → List ℕ) → PartValue → List ℕ
+part_lines form mark label p =
+    lines_from (flag_at mark label) 0 p.flags
+    ++ lines_from (number_at mark label) 0 p.numbers
+    ++ lines_from (text_at form mark label) 0 p.texts
 
-abbrev pub extended_lines : ListOptions → NamedPart → List ℕ
-extended_lines options p =
-    lines_from (extended_flag options.naming.form) 0 p.flags
-    ++ lines_from (extended_number options.naming.form) 0 p.numbers
-    ++ lines_from (extended_text options) 0 p.texts
-
--- the format and the names, then the standard capabilities and those of the extended part
+-- the format and the names, then the standard capabilities, and with a `+` those of the extended part
 abbrev pub entry_lines : ListOptions → EntryValue → List ℕ
 entry_lines options v =
     codes "format: " ++ format_name v.width
     ++ codes "\nnames: " ++ own_names options.naming.form v.names ++ codes "\n"
-    ++ standard_lines options v.standard ++ extended_lines options v.extended
+    ++ part_lines options.form (codes " ") (label_of options.naming.table) v.standard
+    ++ part_lines options.form (codes "+ ") (own_label_at options.naming.form v.extended) (unnamed v.extended)

@@ -3,8 +3,9 @@
 ghost use Rattle.std.specs.Prelude.{◌≡◌, ◌++◌, [], get_or, option_map, OnOk};
 ghost use Rattle.ti_entry.specs.Finding.{names_of};
 ghost use Rattle.ti_words.specs.AllNames.{name_in};
+ghost use Rattle.ti_listing.specs.Items.{kind_word};
 ghost use Rattle.ti_listing.specs.Labels.{label_of};
-ghost use Rattle.ti_listing.specs.Values.{label_bytes};
+ghost use Rattle.ti_listing.specs.Values.{label_bytes, labels_of, mark_of};
 
 use itoa::Buffer;
 use std::alloc::{AllocError, Allocator};
@@ -27,6 +28,44 @@ pub enum Label<'a> {
         form: NameForm,
         name: &'a [u8],
     },
+}
+
+/// What the capabilities of a part are called.
+#[derive(Clone, Copy)]
+pub enum Labels<'e, 'a> {
+    /// Those of the standard part, by a table of names.
+    Standard(NameTable),
+    /// Those of the extended part, by their own names.
+    Own(NameForm, &'e Extended<'a>),
+}
+
+impl<'a> Labels<'_, 'a> {
+    /// The label of the capability of a kind at an index.
+    pub fn at(self, kind: Kind, index: usize) -> Label<'a>
+        ensures { label_bytes result ≡ labels_of self.entry kind index }
+    {
+        match self {
+            Labels::Standard(table) => Label::Standard { table, kind, index },
+            Labels::Own(form, extended) => Label::Own {
+                form,
+                name: own_name(extended, kind, index),
+            },
+        }
+    }
+
+    /// What stands before the label: the word for the kind, with a `+` if the name is the entry's own.
+    pub fn word(self, kind: Kind) -> &'static [u8]
+        ensures { result.now ≡ kind_word kind ++ mark_of self.entry }
+    {
+        match (self, kind) {
+            (Labels::Standard(_), Kind::Flag) => b"flag ",
+            (Labels::Standard(_), Kind::Number) => b"number ",
+            (Labels::Standard(_), Kind::Text) => b"text ",
+            (Labels::Own(_, _), Kind::Flag) => b"flag+ ",
+            (Labels::Own(_, _), Kind::Number) => b"number+ ",
+            (Labels::Own(_, _), Kind::Text) => b"text+ ",
+        }
+    }
 }
 
 /// The name of a standard capability.

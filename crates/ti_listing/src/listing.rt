@@ -4,144 +4,90 @@
 
 ghost use Rattle.std.specs.Prelude.{◌≡◌, ◌++◌, OnOk, IfOk};
 ghost use Rattle.ti_listing.specs.Labels.{own_names};
-ghost use Rattle.ti_listing.specs.Listing.{standard_flag, standard_number, standard_text, standard_lines, extended_flag, extended_number, extended_text, extended_lines, lines_from, entry_lines};
+ghost use Rattle.ti_listing.specs.Listing.{entry_lines, flag_at, lines_from, number_at, part_lines, text_at};
+ghost use Rattle.ti_listing.specs.Values.{labels_of, mark_of};
 
 use crate::item_line::{push_flag, push_number, push_text};
-use crate::label::{Label, own_name};
+use crate::label::Labels;
 use std::alloc::{AllocError, Allocator};
-use ti_entry::{Entry, Extended};
-use ti_escape::push_notation;
+use ti_entry::{Entry, PartView};
+use ti_escape::{Form, push_notation};
 use ti_line::{ListOptions, NameForm};
-use ti_words::{Kind, NameTable, format_name};
+use ti_words::{Kind, format_name};
 
-/// Writes the lines of the flags.
+/// Writes the lines of the flags of a part.
 fn push_flags<A: Allocator>(
     out: &mut Vec<u8, A>,
-    table: NameTable,
-    entry: &Entry<'_>,
+    labels: Labels<'_, '_>,
+    part: &PartView<'_>,
 ) -> Result<(), AllocError>
-    ensures { OnOk result (out.new.items
-        ≡ out.old.items ++ lines_from (standard_flag table) 0 entry.now.standard.flags) }
+    ensures { OnOk result (out.new.items ≡ out.old.items
+        ++ lines_from (flag_at (mark_of labels.entry) (labels_of labels.entry)) 0 part.now.flags) }
 {
-    for index in 0..entry.flag_count() {
-        let kind = Kind::Flag;
-        let label = Label::Standard { table, kind, index };
-        push_flag(out, b"flag ", label, entry.flag(index))?;
+    let word = labels.word(Kind::Flag);
+    for index in 0..part.flag_count() {
+        push_flag(out, word, labels.at(Kind::Flag, index), part.flag(index))?;
     }
     Ok(())
 }
 
-/// Writes the lines of the numbers.
+/// Writes the lines of the numbers of a part.
 fn push_numbers<A: Allocator>(
     out: &mut Vec<u8, A>,
-    table: NameTable,
-    entry: &Entry<'_>,
+    labels: Labels<'_, '_>,
+    part: &PartView<'_>,
 ) -> Result<(), AllocError>
-    ensures { OnOk result (out.new.items
-        ≡ out.old.items ++ lines_from (standard_number table) 0 entry.now.standard.numbers) }
+    ensures { OnOk result (out.new.items ≡ out.old.items
+        ++ lines_from (number_at (mark_of labels.entry) (labels_of labels.entry)) 0 part.now.numbers) }
 {
-    for index in 0..entry.number_count() {
-        let kind = Kind::Number;
-        let label = Label::Standard { table, kind, index };
-        push_number(out, b"number ", label, entry.number(index))?;
+    let word = labels.word(Kind::Number);
+    for index in 0..part.number_count() {
+        push_number(
+            out,
+            word,
+            labels.at(Kind::Number, index),
+            part.number(index),
+        )?;
     }
     Ok(())
 }
 
-/// Writes the lines of the texts.
+/// Writes the lines of the texts of a part.
 fn push_texts<A: Allocator>(
     out: &mut Vec<u8, A>,
-    options: ListOptions,
-    entry: &Entry<'_>,
+    form: Form,
+    labels: Labels<'_, '_>,
+    part: &PartView<'_>,
 ) -> Result<(), AllocError>
-    ensures { OnOk result (out.new.items
-        ≡ out.old.items ++ lines_from (standard_text options) 0 entry.now.standard.texts) }
+    ensures { OnOk result (out.new.items ≡ out.old.items
+        ++ lines_from (text_at form (mark_of labels.entry) (labels_of labels.entry)) 0 part.now.texts) }
 {
-    let table = options.naming.table;
-    for index in 0..entry.text_count() {
-        let kind = Kind::Text;
-        let label = Label::Standard { table, kind, index };
-        push_text(out, b"text ", label, options.form, entry.text(index))?;
+    let word = labels.word(Kind::Text);
+    for index in 0..part.text_count() {
+        push_text(
+            out,
+            word,
+            labels.at(Kind::Text, index),
+            form,
+            part.text(index),
+        )?;
     }
     Ok(())
 }
 
-/// Writes the lines of the standard capabilities.
-fn push_standard<A: Allocator>(
+/// Writes the lines of the capabilities of a part.
+fn push_part<A: Allocator>(
     out: &mut Vec<u8, A>,
-    options: ListOptions,
-    entry: &Entry<'_>,
+    form: Form,
+    labels: Labels<'_, '_>,
+    part: &PartView<'_>,
 ) -> Result<(), AllocError>
-    ensures { OnOk result (out.new.items ≡ out.old.items ++ standard_lines options entry.now.standard) }
+    ensures { OnOk result (out.new.items ≡ out.old.items
+        ++ part_lines form (mark_of labels.entry) (labels_of labels.entry) part.now) }
 {
-    push_flags(out, options.naming.table, entry)?;
-    push_numbers(out, options.naming.table, entry)?;
-    push_texts(out, options, entry)
-}
-
-/// Writes the lines of the extended flags.
-fn push_extended_flags<A: Allocator>(
-    out: &mut Vec<u8, A>,
-    form: NameForm,
-    extended: &Extended<'_>,
-) -> Result<(), AllocError>
-    ensures { OnOk result (out.new.items
-        ≡ out.old.items ++ lines_from (extended_flag form) 0 extended.now.flags) }
-{
-    for index in 0..extended.flag_count() {
-        let name = own_name(extended, Kind::Flag, index);
-        let label = Label::Own { form, name };
-        push_flag(out, b"flag+ ", label, extended.flag(index))?;
-    }
-    Ok(())
-}
-
-/// Writes the lines of the extended numbers.
-fn push_extended_numbers<A: Allocator>(
-    out: &mut Vec<u8, A>,
-    form: NameForm,
-    extended: &Extended<'_>,
-) -> Result<(), AllocError>
-    ensures { OnOk result (out.new.items
-        ≡ out.old.items ++ lines_from (extended_number form) 0 extended.now.numbers) }
-{
-    for index in 0..extended.number_count() {
-        let name = own_name(extended, Kind::Number, index);
-        let label = Label::Own { form, name };
-        push_number(out, b"number+ ", label, extended.number(index))?;
-    }
-    Ok(())
-}
-
-/// Writes the lines of the extended texts.
-fn push_extended_texts<A: Allocator>(
-    out: &mut Vec<u8, A>,
-    options: ListOptions,
-    extended: &Extended<'_>,
-) -> Result<(), AllocError>
-    ensures { OnOk result (out.new.items
-        ≡ out.old.items ++ lines_from (extended_text options) 0 extended.now.texts) }
-{
-    let form = options.naming.form;
-    for index in 0..extended.text_count() {
-        let name = own_name(extended, Kind::Text, index);
-        let label = Label::Own { form, name };
-        push_text(out, b"text+ ", label, options.form, extended.text(index))?;
-    }
-    Ok(())
-}
-
-/// Writes the lines of the extended capabilities.
-fn push_extended<A: Allocator>(
-    out: &mut Vec<u8, A>,
-    options: ListOptions,
-    extended: &Extended<'_>,
-) -> Result<(), AllocError>
-    ensures { OnOk result (out.new.items ≡ out.old.items ++ extended_lines options extended.now) }
-{
-    push_extended_flags(out, options.naming.form, extended)?;
-    push_extended_numbers(out, options.naming.form, extended)?;
-    push_extended_texts(out, options, extended)
+    push_flags(out, labels, part)?;
+    push_numbers(out, labels, part)?;
+    push_texts(out, form, labels, part)
 }
 
 /// Writes the names of the entry.
@@ -175,7 +121,10 @@ pub fn lines_of<A: Allocator + Copy>(
     out.extend_from_slice(b"\nnames: ")?;
     push_names(&mut out, options.naming.form, entry.names())?;
     out.push(b'\n')?;
-    push_standard(&mut out, options, entry)?;
-    push_extended(&mut out, options, &entry.extended())?;
+    let standard = Labels::Standard(options.naming.table);
+    push_part(&mut out, options.form, standard, &entry.standard())?;
+    let extended = entry.extended();
+    let own = Labels::Own(options.naming.form, &extended);
+    push_part(&mut out, options.form, own, &extended.unnamed())?;
     Ok(out)
 }

@@ -1,6 +1,6 @@
 -- Results under `--escape` are printable lines, as many as are due.
 use Rattle.std.proofs.Common.{◌≡◌, ◌∙◌, ◌+◌, ℕ, suc, Bool, true, List, [], ◌∷◌, ◌++◌, Some, inl, inr, refl, sym, ap, subst, arith, append_assoc, map}
-use Rattle.std.specs.Prelude.{◌-◌, Option, None, Ok, length, take, ◌⊎◌, codes, decimal}
+use Rattle.std.specs.Prelude.{◌-◌, Option, None, Ok, get_or, length, take, ◌⊎◌, codes, decimal}
 use Rattle.std.specs.List.{flat_map, list_all}
 use Rattle.std.specs.Fmt.{signed_decimal}
 use Rattle.std.proofs.lemmas.Bool.{and_from}
@@ -9,14 +9,16 @@ use Rattle.std.proofs.lemmas.List.{append-nil, length-append}
 use Rattle.std.proofs.lemmas.List.Folds.{list_all-append}
 use Rattle.ti_words.specs.declared.Flag.{Flag}
 use Rattle.ti_words.specs.declared.Flag.TheVariants as flags
+use Rattle.ti_words.specs.declared.Kind.{Kind}
 use Rattle.ti_words.specs.declared.Kind.TheVariants as kinds
 use Rattle.ti_words.specs.declared.Number.{Number}
 use Rattle.ti_words.specs.declared.Number.TheVariants as numbers
 use Rattle.ti_words.specs.declared.Width.{Width}
-use Rattle.ti_words.specs.Spelling.{mark_in}
+use Rattle.ti_words.specs.Spelling.{mark_in, unnamed}
 use Rattle.ti_words.specs.Texts.{TextValue, AbsentText, CancelledText, TextOf}
-use Rattle.ti_words.specs.Value.{EntryValue}
+use Rattle.ti_words.specs.Value.{PartValue, EntryValue}
 use Rattle.ti_words.specs.Widths.{format_name}
+use Rattle.ti_entry.specs.Finding.{names_of}
 use Rattle.ti_cap.specs.declared.language.CapFault.{CapFault}
 use Rattle.ti_cap.specs.declared.language.CapFault.TheVariants as cap_faults
 use Rattle.ti_cap.specs.FaultNames.{cap_fault_word}
@@ -36,8 +38,9 @@ use Rattle.ti_line.specs.declared.options.Output.TheVariants as outputs
 use Rattle.ti_pad.specs.Setting.{Setting}
 use Rattle.ti_tool.specs.Got.{IsTextResult, IsValueResult, number_or_none, number_result}
 use Rattle.ti_listing.specs.Items.{ItemValue, FlagItem, NumberItem, TextItem}
-use Rattle.ti_listing.specs.Labels.{label_of, own_label, own_names}
-use Rattle.ti_listing.specs.Listing.{entry_lines, flag_line, number_line, text_line, lines_from, standard_flag, standard_number, standard_text, extended_flag, extended_number, extended_text, standard_lines, extended_lines}
+use Rattle.ti_listing.specs.Labels.{label_of, own_label, own_label_at, own_names}
+use Rattle.ti_listing.specs.Items.{kind_word}
+use Rattle.ti_listing.specs.Listing.{entry_lines, flag_line, number_line, text_line, lines_from, flag_at, number_at, text_at, part_lines}
 use Rattle.serde_json.specs.Data.{Data}
 use Rattle.ti_tool.specs.Verdicts.{AreTold, AreVerdictObjects, IsExtendedLine, IsOwnObject, IsStandardLine, IsStandardObject, IsTold, fault_verdict, in_line, in_object, sound_verdict}
 use Rattle.ti_json.proofs.TextLemmas.{IsText, both, decimal_text, label_text, signed_text}
@@ -51,7 +54,7 @@ use Rattle.ti_report.specs.Objects.{remark_object}
 use Rattle.ti_report.proofs.PlainLemmas.{remarks_are_plain}
 use Rattle.ti_tool.specs.Documents.{IsDocument, key_of}
 use Rattle.ti_tool.specs.Results.{IsDueFrom}
-use Rattle.ti_tool.specs.Printable.{JsonIsPrintable, ObjectIsPrintable, ArePrintableLines, flag_lines, number_lines, text_lines, verdict_lines, lines_due, listed_lines, checked_lines, ShowIsPrintable, CheckIsPrintable, CapIsPrintable, ExpandIsPrintable, GetIsPrintable}
+use Rattle.ti_tool.specs.Printable.{JsonIsPrintable, ObjectIsPrintable, ArePrintableLines, flag_lines, number_lines, text_lines, verdict_lines, lines_due, part_lines_due, listed_lines, checked_lines, ShowIsPrintable, CheckIsPrintable, CapIsPrintable, ExpandIsPrintable, GetIsPrintable}
 
 -- ---- joining
 
@@ -128,23 +131,24 @@ all_lines : {X : Type 0} (line : ℕ → X → List ℕ) (count : X → ℕ) →
 all_lines line count each index [] = none
 all_lines line count each index (x ∷ xs) = joined_lines (count x) (lines_due count xs) (line index x) (lines_from line (suc index) xs) (each index x) (all_lines line count each (suc index) xs)
 
-standard_text_lines : (options : ListOptions) (v : EntryValue) → options.form ≡ forms.Notation
-    → ArePrintableLines (lines_due flag_lines v.standard.flags + lines_due number_lines v.standard.numbers + lines_due text_lines v.standard.texts) (standard_lines options v.standard)
-standard_text_lines options v e =
+part_text_lines : (form : Form) (mark : List ℕ) (label : Kind → ℕ → List ℕ) (p : PartValue) → form ≡ forms.Notation → ((kind : Kind) → IsText (kind_word kind ++ mark)) → ((kind : Kind) (index : ℕ) → IsText (label kind index))
+    → ArePrintableLines (part_lines_due p) (part_lines form mark label p)
+part_text_lines form mark label p e of_word of_label =
     joined_lines _ _ _ _
     (joined_lines _ _ _ _
-    (all_lines (standard_flag options.naming.table) flag_lines (λ index flag. flag_text (codes "flag ") (label_of options.naming.table kinds.Flag index) flag refl (label_text options.naming.table kinds.Flag index)) 0 v.standard.flags)
-    (all_lines (standard_number options.naming.table) number_lines (λ index number. number_text (codes "number ") (label_of options.naming.table kinds.Number index) number refl (label_text options.naming.table kinds.Number index)) 0 v.standard.numbers))
-    (all_lines (standard_text options) text_lines (λ index text. text_text options.form (codes "text ") (label_of options.naming.table kinds.Text index) text e refl (label_text options.naming.table kinds.Text index)) 0 v.standard.texts)
+    (all_lines (flag_at mark label) flag_lines (λ index flag. flag_text (kind_word kinds.Flag ++ mark) (label kinds.Flag index) flag (of_word kinds.Flag) (of_label kinds.Flag index)) 0 p.flags)
+    (all_lines (number_at mark label) number_lines (λ index number. number_text (kind_word kinds.Number ++ mark) (label kinds.Number index) number (of_word kinds.Number) (of_label kinds.Number index)) 0 p.numbers))
+    (all_lines (text_at form mark label) text_lines (λ index text. text_text form (kind_word kinds.Text ++ mark) (label kinds.Text index) text e (of_word kinds.Text) (of_label kinds.Text index)) 0 p.texts)
 
-extended_text_lines : (options : ListOptions) (v : EntryValue) → options.form ≡ forms.Notation → options.naming.form ≡ name_forms.Notation
-    → ArePrintableLines (lines_due (λ item. flag_lines (mark_in item)) v.extended.flags + lines_due (λ item. number_lines (mark_in item)) v.extended.numbers + lines_due (λ item. text_lines (mark_in item)) v.extended.texts) (extended_lines options v.extended)
-extended_text_lines options v e n =
-    joined_lines _ _ _ _
-    (joined_lines _ _ _ _
-    (all_lines (extended_flag options.naming.form) (λ item. flag_lines (mark_in item)) (λ index item. flag_text (codes "flag+ ") (own_label options.naming.form item.0) item.1 refl (own_text options.naming.form item.0 n)) 0 v.extended.flags)
-    (all_lines (extended_number options.naming.form) (λ item. number_lines (mark_in item)) (λ index item. number_text (codes "number+ ") (own_label options.naming.form item.0) item.1 refl (own_text options.naming.form item.0 n)) 0 v.extended.numbers))
-    (all_lines (extended_text options) (λ item. text_lines (mark_in item)) (λ index item. text_text options.form (codes "text+ ") (own_label options.naming.form item.0) item.1 e refl (own_text options.naming.form item.0 n)) 0 v.extended.texts)
+standard_word : (kind : Kind) → IsText (kind_word kind ++ codes " ")
+standard_word kinds.Flag = refl
+standard_word kinds.Number = refl
+standard_word kinds.Text = refl
+
+own_word : (kind : Kind) → IsText (kind_word kind ++ codes "+ ")
+own_word kinds.Flag = refl
+own_word kinds.Number = refl
+own_word kinds.Text = refl
 
 format_text : (width : Width) → IsText (codes "format: " ++ format_name width)
 format_text width = both (codes "format: ") (format_name width) refl (format width)
@@ -167,8 +171,8 @@ shown_lines options input out e n (inr (v, spells, listed)) =
       spells,
       subst P (sym is) (
           joined_lines _ _ _ _
-          (joined_lines _ _ _ _ (head_lines (codes "format: " ++ format_name v.width) (own_names options.naming.form v.names) (format_text v.width) (own_names_text options.naming.form v.names n)) (standard_text_lines options v e))
-          (extended_text_lines options v e n)),
+          (joined_lines _ _ _ _ (head_lines (codes "format: " ++ format_name v.width) (own_names options.naming.form v.names) (format_text v.width) (own_names_text options.naming.form v.names n)) (part_text_lines options.form (codes " ") (label_of options.naming.table) v.standard e standard_word (label_text options.naming.table)))
+          (part_text_lines options.form (codes "+ ") (own_label_at options.naming.form v.extended) (unnamed v.extended) e own_word (λ kind index. own_text options.naming.form (get_or (names_of v.extended kind) index []) n))),
     )
 
 -- ---- faults

@@ -7,9 +7,9 @@ use Rattle.ti_words.specs.declared.Flag.TheVariants as flags
 use Rattle.ti_words.specs.declared.Number.{Number}
 use Rattle.ti_words.specs.declared.Number.TheVariants as numbers
 use Rattle.ti_words.specs.declared.all_names.NameTable.{NameTable}
-use Rattle.ti_words.specs.Spelling.{Spells, mark_in}
+use Rattle.ti_words.specs.Spelling.{Spells, mark_in, unnamed}
 use Rattle.ti_words.specs.Texts.{TextValue, AbsentText, CancelledText, TextOf}
-use Rattle.ti_words.specs.Value.{EntryValue}
+use Rattle.ti_words.specs.Value.{PartValue, EntryValue}
 use Rattle.ti_escape.specs.Laws.{is_printable}
 use Rattle.ti_escape.specs.declared.form.Form.TheVariants as forms
 use Rattle.ti_expand.specs.declared.values.Value.{Value}
@@ -61,14 +61,13 @@ abbrev pub lines_due : {X : Type 0} → (X → ℕ) → List X → ℕ
 lines_due lines_of [] = 0
 lines_due lines_of (x ∷ xs) = lines_of x + lines_due lines_of xs
 
+-- of a part in the lines of `show`
+abbrev pub part_lines_due : PartValue → ℕ
+part_lines_due p = lines_due flag_lines p.flags + lines_due number_lines p.numbers + lines_due text_lines p.texts
+
 -- of a whole entry: in `show` the format and the names come first
 abbrev pub listed_lines : EntryValue → ℕ
-listed_lines v =
-    2 + (lines_due flag_lines v.standard.flags + lines_due number_lines v.standard.numbers
-    + lines_due text_lines v.standard.texts)
-    + (lines_due (λ item. flag_lines (mark_in item)) v.extended.flags
-    + lines_due (λ item. number_lines (mark_in item)) v.extended.numbers
-    + lines_due (λ item. text_lines (mark_in item)) v.extended.texts)
+listed_lines v = 2 + part_lines_due v.standard + part_lines_due (unnamed v.extended)
 
 abbrev pub checked_lines : EntryValue → ℕ
 checked_lines v =
