@@ -18,7 +18,7 @@ use Rattle.ti_words.specs.declared.Kind.{Kind}
 use Rattle.ti_words.specs.declared.Kind.TheVariants as kinds
 use Rattle.ti_words.specs.declared.all_names.NameTable.{NameTable}
 use Rattle.ti_words.specs.declared.all_names.NameTable.TheVariants as tables
-use Rattle.ti_words.specs.AllNames.{HasNoEmptyNameIn, HasOnePlaceIn, IsNamedIn, NameAndPlaceAgreeIn, Place, all_placed, has_index, kept, listed, place_in, placed, placed_from}
+use Rattle.ti_words.specs.AllNames.{HasNoEmptyNameIn, HasOnePlaceIn, IsNamedIn, NameAndPlaceAgreeIn, Place, all_placed, has_index, kept, listed, name_in, place_in, placed, placed_from}
 use Rattle.ti_words.specs.NameLists.{all_flags, all_numbers, all_texts}
 
 names_differ : (table : NameTable) → IsDistinct bytes_eq (keys_of (all_placed table))
@@ -145,3 +145,7 @@ none_is_empty tables.Long = refl
 
 pub not_empty : (table : NameTable) → HasNoEmptyNameIn table
 not_empty table kind index is = none-some (kind, index) (sym (none_is_empty table) ∙ place_only table (kind, index) [] is)
+
+pub hint_is : (table : NameTable) (kind : Kind) (index : ℕ) (name : List ℕ) → name_in table kind index ≡ Some name
+    → Some (kind, index) ≡ place_in table name
+hint_is table kind index name e = sym ((inverse table kind index name).0 e)

@@ -3,7 +3,7 @@
 //! Each table takes its names from the same rows. A name is looked for among those of the rows, and an index is that of a row.
 //! After each name of a row stands a NUL. No call takes memory.
 
-ghost use Rattle.std.specs.Prelude.{◌≡◌, ℕ, List, Some, map, option_map};
+ghost use Rattle.std.specs.Prelude.{◌≡◌, ℕ, List, IfSome, Some, map, option_map};
 ghost use Rattle.std.specs.Map.{lookup};
 ghost use Rattle.std.specs.Str.{bytes_eq};
 ghost use Rattle.ti_words.specs.declared.Kind.TheVariants as kinds;
@@ -11,10 +11,14 @@ ghost use Rattle.ti_words.specs.AllNames.{IsNameAt, IsPlaceOf, front, has_index,
 ghost use Rattle.ti_words.specs.NameLists.{rows};
 
 use crate::Kind;
+use crate::slots::{HIGH, LOW, SHIFTS};
 use crate::table::{
     COMMON_FLAGS, COMMON_NUMBERS, COMMON_TEXTS, FLAGS, LONG_FLAGS, LONG_NUMBERS, LONG_TEXTS,
     NUMBERS, TEXTS,
 };
+
+/// How many rows all kinds have.
+const ROWS: usize = 497;
 
 /// A table of names of capabilities.
 #[derive(Clone, Copy, Debug, PartialEq, Eq)]
@@ -115,6 +119,9 @@ impl NameTable {
     fn seek(self, name: &[u8]) -> Option<(Kind, usize)>
         ensures { result ≡ place_in self name.now }
     {
+        if let Some(place) = self.hinted(name) {
+            return Some(place);
+        }
         if let Some(place) = self.place_of(Kind::Flag, name) {
             return Some(place);
         }
@@ -122,6 +129,20 @@ impl NameTable {
             return Some(place);
         }
         self.place_of(Kind::Text, name)
+    }
+
+    /// The place that the table of hashes says, if the name stands there.
+    #[tactic(auto, using(crate::proofs::NamesLemmas::hint_is))]
+    fn hinted(self, name: &[u8]) -> Option<(Kind, usize)>
+        ensures { IfSome result (λ place. Some place ≡ place_in self name.now) }
+    {
+        let (kind, index) = place_of_row(row_of(name));
+        let known = self.name_at(kind, index)?;
+        if known.as_bytes() == name {
+            Some((kind, index))
+        } else {
+            None
+        }
     }
 
     /// The place of the capability of a kind that has a name.
@@ -135,6 +156,37 @@ impl NameTable {
         }
         None
     }
+}
+
+/// The number of the row that the table of hashes says of a name. It may be any.
+fn row_of(name: &[u8]) -> usize {
+    let mut hash: u32 = 5381;
+    for byte in name {
+        hash = hash.wrapping_mul(33).wrapping_add(u32::from(*byte));
+    }
+    hash = hash.wrapping_mul(1444900599);
+    let shift = SHIFTS.get((hash >> 24) as usize).copied().unwrap_or(0);
+    let place = ((hash >> 8) & 2047) as usize ^ usize::from(shift);
+    let low = LOW.get(place).copied().unwrap_or(0);
+    let high = HIGH.get(place).copied().unwrap_or(0);
+    let number = 256 * usize::from(high) + usize::from(low);
+    if number < ROWS {
+        number
+    } else {
+        number - ROWS
+    }
+}
+
+/// The kind and the index of a row among all: flags, then numbers, then texts.
+fn place_of_row(row: usize) -> (Kind, usize) {
+    if row < FLAGS.len() {
+        return (Kind::Flag, row);
+    }
+    let row = row - FLAGS.len();
+    if row < NUMBERS.len() {
+        return (Kind::Number, row);
+    }
+    (Kind::Text, row - NUMBERS.len())
 }
 
 /// A name as a list holds it, without the NUL after it.

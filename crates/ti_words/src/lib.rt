@@ -13,6 +13,7 @@ ghost use Rattle.ti_words.specs.Widths.{number_size as the_number_size, magic_nu
 mod all_names;
 pub mod laws;
 mod names;
+mod slots;
 mod table;
 
 pub use all_names::NameTable;

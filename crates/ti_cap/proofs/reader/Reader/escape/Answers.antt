@@ -1,7 +1,7 @@
-use Rattle.std.proofs.Common.{◌≡◌, ◌≤◌, ℕ, [], ◌∷◌, length, get_or, ap, subst, sym, rules}
+use Rattle.std.proofs.Common.{◌≡◌, ◌≤◌, ℕ, [], ◌∷◌, length, get_or, ap, refl, subst, sym, rules}
 use Rattle.ti_cap.specs.declared.language.Format.{Format}
-use Rattle.ti_cap.specs.declared.language.Op.TheVariants.{Add, Sub, BitOr, Less}
-use Rattle.ti_cap.specs.declared.language.Token.TheVariants.{Compute, Increment, Char, Print, CondOpen, CondThen, CondElse, CondClose}
+use Rattle.ti_cap.specs.declared.language.Op.TheVariants.{Add, Sub, Mul, Div, Rem, BitAnd, BitOr, BitXor, Equal, Greater, Less, And, Or, Not, BitNot}
+use Rattle.ti_cap.specs.declared.language.Token.TheVariants.{Byte, Length, Compute, Increment, Char, Print, CondOpen, CondThen, CondElse, CondClose}
 use Rattle.ti_cap.specs.Spelling.{SpellsFormat}
 use Rattle.ti_cap.proofs.ReaderLemmas.{lone_read, decimal_spelled}
 use Rattle.ti_cap.proofs.reader.Reader.escape.Goals as goal
@@ -73,3 +73,81 @@ give-requires-in-124-clause-front g c =
     let some : 1 ≤ length c.args.rest.now = search rules in
     let is : get_or c.args.rest.now 0 0 ≡ 124 = search rules in
     lone_read c.args.self.now.left c.args.rest.now (Compute BitOr) c.requires.next some (ap (λ x. x ∷ []) is)
+
+pub give-requires-in-61-clause-front : goal.give-requires-in-61-clause-front
+give-requires-in-61-clause-front g c =
+    let some : 1 ≤ length c.args.rest.now = search rules in
+    let is : get_or c.args.rest.now 0 0 ≡ 61 = search rules in
+    lone_read c.args.self.now.left c.args.rest.now (Compute Equal) c.requires.next some (ap (λ x. x ∷ []) is)
+
+pub give-requires-in-38-clause-front : goal.give-requires-in-38-clause-front
+give-requires-in-38-clause-front g c =
+    let some : 1 ≤ length c.args.rest.now = search rules in
+    let is : get_or c.args.rest.now 0 0 ≡ 38 = search rules in
+    lone_read c.args.self.now.left c.args.rest.now (Compute BitAnd) c.requires.next some (ap (λ x. x ∷ []) is)
+
+pub give-requires-in-47-clause-front : goal.give-requires-in-47-clause-front
+give-requires-in-47-clause-front g c =
+    let some : 1 ≤ length c.args.rest.now = search rules in
+    let is : get_or c.args.rest.now 0 0 ≡ 47 = search rules in
+    lone_read c.args.self.now.left c.args.rest.now (Compute Div) c.requires.next some (ap (λ x. x ∷ []) is)
+
+pub give-requires-in-42-clause-front : goal.give-requires-in-42-clause-front
+give-requires-in-42-clause-front g c =
+    let some : 1 ≤ length c.args.rest.now = search rules in
+    let is : get_or c.args.rest.now 0 0 ≡ 42 = search rules in
+    lone_read c.args.self.now.left c.args.rest.now (Compute Mul) c.requires.next some (ap (λ x. x ∷ []) is)
+
+pub give-requires-in-109-clause-front : goal.give-requires-in-109-clause-front
+give-requires-in-109-clause-front g c =
+    let some : 1 ≤ length c.args.rest.now = search rules in
+    let is : get_or c.args.rest.now 0 0 ≡ 109 = search rules in
+    lone_read c.args.self.now.left c.args.rest.now (Compute Rem) c.requires.next some (ap (λ x. x ∷ []) is)
+
+pub give-requires-in-94-clause-front : goal.give-requires-in-94-clause-front
+give-requires-in-94-clause-front g c =
+    let some : 1 ≤ length c.args.rest.now = search rules in
+    let is : get_or c.args.rest.now 0 0 ≡ 94 = search rules in
+    lone_read c.args.self.now.left c.args.rest.now (Compute BitXor) c.requires.next some (ap (λ x. x ∷ []) is)
+
+pub give-requires-in-62-clause-front : goal.give-requires-in-62-clause-front
+give-requires-in-62-clause-front g c =
+    let some : 1 ≤ length c.args.rest.now = search rules in
+    let is : get_or c.args.rest.now 0 0 ≡ 62 = search rules in
+    lone_read c.args.self.now.left c.args.rest.now (Compute Greater) c.requires.next some (ap (λ x. x ∷ []) is)
+
+pub give-requires-in-65-clause-front : goal.give-requires-in-65-clause-front
+give-requires-in-65-clause-front g c =
+    let some : 1 ≤ length c.args.rest.now = search rules in
+    let is : get_or c.args.rest.now 0 0 ≡ 65 = search rules in
+    lone_read c.args.self.now.left c.args.rest.now (Compute And) c.requires.next some (ap (λ x. x ∷ []) is)
+
+pub give-requires-in-79-clause-front : goal.give-requires-in-79-clause-front
+give-requires-in-79-clause-front g c =
+    let some : 1 ≤ length c.args.rest.now = search rules in
+    let is : get_or c.args.rest.now 0 0 ≡ 79 = search rules in
+    lone_read c.args.self.now.left c.args.rest.now (Compute Or) c.requires.next some (ap (λ x. x ∷ []) is)
+
+pub give-requires-in-33-clause-front : goal.give-requires-in-33-clause-front
+give-requires-in-33-clause-front g c =
+    let some : 1 ≤ length c.args.rest.now = search rules in
+    let is : get_or c.args.rest.now 0 0 ≡ 33 = search rules in
+    lone_read c.args.self.now.left c.args.rest.now (Compute Not) c.requires.next some (ap (λ x. x ∷ []) is)
+
+pub give-requires-in-126-clause-front : goal.give-requires-in-126-clause-front
+give-requires-in-126-clause-front g c =
+    let some : 1 ≤ length c.args.rest.now = search rules in
+    let is : get_or c.args.rest.now 0 0 ≡ 126 = search rules in
+    lone_read c.args.self.now.left c.args.rest.now (Compute BitNot) c.requires.next some (ap (λ x. x ∷ []) is)
+
+pub give-requires-in-108-clause-front : goal.give-requires-in-108-clause-front
+give-requires-in-108-clause-front g c =
+    let some : 1 ≤ length c.args.rest.now = search rules in
+    let is : get_or c.args.rest.now 0 0 ≡ 108 = search rules in
+    lone_read c.args.self.now.left c.args.rest.now Length c.requires.next some (ap (λ x. x ∷ []) is)
+
+pub give-requires-in-37-clause-front : goal.give-requires-in-37-clause-front
+give-requires-in-37-clause-front g c =
+    let some : 1 ≤ length c.args.rest.now = search rules in
+    let is : get_or c.args.rest.now 0 0 ≡ 37 = search rules in
+    lone_read c.args.self.now.left c.args.rest.now (Byte 37) c.requires.next some (refl, ap (λ x. x ∷ []) is)
