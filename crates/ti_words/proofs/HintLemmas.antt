@@ -80,7 +80,8 @@ rows_are tables.Common = refl
 rows_are tables.All = refl
 rows_are tables.Long = refl
 
-row_is : (table : NameTable) (index : ℕ) (name : List ℕ) → index < length (names_of table) → row_for (get_or (names_of table) index name) ≡ index
+row_is : (table : NameTable) (index : ℕ) (name : List ℕ) → index < length (names_of table)
+    → row_for (get_or (names_of table) index name) ≡ index
 row_is table index name within =
     sym (get_or-map row_for (names_of table) index name (row_for name) within)
     ∙ ap (λ rows. get_or rows index (row_for name)) (lead table)
@@ -103,16 +104,20 @@ are_distinct table =
       | inr differs ↦ differs
     ])
 
+abbrev Placed : Type 0
+Placed = List ℕ × Place
+
 -- a name of the table leads to its place
 pub leads_to : (table : NameTable) (name : List ℕ) (place : Place) → Contains (all_placed table) (name, place)
     → place_of_row (row_for name) ≡ place
 leads_to table name place (index, within, at) =
     let count = length (names_of table) in
     let inside : index < count = omega (arith, within, length-keys_of (all_placed table)) in
-    let key = get_or-map (λ (named : List ℕ × Place). named.0) (all_placed table) index (name, place) name within ∙ ap (λ (named : List ℕ × Place). named.0) at in
-    let value = get_or-map (λ (named : List ℕ × Place). named.1) (all_placed table) index (name, place) place within ∙ ap (λ (named : List ℕ × Place). named.1) at in
-    ap (λ n. place_of_row (row_for n)) (sym key)
+    let key = get_or-map (λ (one : Placed). one.0) (all_placed table) index (name, place) name within in
+    let value = get_or-map (λ (one : Placed). one.1) (all_placed table) index (name, place) place within in
+    ap (λ n. place_of_row (row_for n)) (sym (key ∙ ap (λ (one : Placed). one.0) at))
     ∙ ap place_of_row (row_is table index name inside)
     ∙ sym (get_or-map-range_with_len place_of_row 0 count index index place inside (omega arith))
     ∙ ap (λ places. get_or places index place) (rows_are table)
     ∙ value
+    ∙ ap (λ (one : Placed). one.1) at

@@ -1,4 +1,7 @@
-//! The one capability that can have a name, by a hash of the name.
+//! The one capability that can have a name.
+//!
+//! A hash of the name, with a step for each byte, leads through two tables to a row. That each name leads to its own row is
+//! proved, and another name leads to any row: so a name has to be compared with that of its row, and with no other.
 
 ghost use Rattle.std.specs.Prelude.{◌≡◌};
 ghost use Rattle.ti_words.specs.inner.Hints.{IsOnlyPlace, IsRowOf, place_of_row};
