@@ -36,8 +36,8 @@ impl<'a> Entry<'a> {
     }
 }
 
-/// The kind and the index of the capability of terminfo(5) with a name, short or long.
-fn standard_place(name: &[u8]) -> Option<(Kind, usize)>
+/// The kind and the index of the capability of terminfo(5) with a name, short or long, which each entry has there.
+pub fn standard_place(name: &[u8]) -> Option<(Kind, usize)>
     ensures { result ≡ the_standard_place name.now }
 {
     match NameTable::All.find_bytes(name) {

@@ -22,7 +22,7 @@ mod source;
 pub use encoding::encode;
 pub use entry::{Entry, read};
 pub use extended::Extended;
-pub use finding::Position;
+pub use finding::{Position, standard_place};
 pub use part_view::PartView;
 pub use reader::EntryReader;
 pub use reopening::{read_with_base, reopen, reopen_standard};
