@@ -9,7 +9,7 @@ use Rattle.ti_words.specs.declared.Number.TheVariants as numbers
 use Rattle.ti_words.specs.Marks.{word_of_number}
 use Rattle.ti_words.specs.Spelling.{Spells, mark_in}
 use Rattle.ti_words.specs.Texts.{TextValue, AbsentText}
-use Rattle.ti_words.specs.Value.{EntryValue}
+use Rattle.ti_words.specs.Value.{PartValue, EntryValue}
 use Rattle.ti_entry.specs.declared.finding.Position.{Position}
 use Rattle.ti_entry.specs.declared.finding.Position.TheVariants.{Standard, Extended}
 use Rattle.ti_entry.specs.Finding.{IsPosition, names_of}
@@ -39,11 +39,15 @@ number_shown number = (1, word_of_number number, [])
 abbrev pub text_value_shown : TextValue → Shown
 text_value_shown text = (2, (text_shown text).0, (text_shown text).1)
 
--- what an entry says of the capability at a place; at or past the count, as the views of flags, numbers and texts
+-- what a part says of the capability of a kind at an index; at or past the count, as the views of flags, numbers and texts
+abbrev pub shown_at : PartValue → Kind → ℕ → Shown
+shown_at p kinds.Flag i = flag_shown (get_or p.flags i flags.No)
+shown_at p kinds.Number i = number_shown (get_or p.numbers i numbers.Absent)
+shown_at p kinds.Text i = text_value_shown (get_or p.texts i AbsentText)
+
+-- what an entry says of the capability at a place
 abbrev pub value_at : EntryValue → Position → Shown
-value_at v (Standard kinds.Flag i) = flag_shown (get_or v.standard.flags i flags.No)
-value_at v (Standard kinds.Number i) = number_shown (get_or v.standard.numbers i numbers.Absent)
-value_at v (Standard kinds.Text i) = text_value_shown (get_or v.standard.texts i AbsentText)
+value_at v (Standard kind i) = shown_at v.standard kind i
 value_at v (Extended kinds.Flag i) = flag_shown (get_or (map mark_in v.extended.flags) i flags.No)
 value_at v (Extended kinds.Number i) = number_shown (get_or (map mark_in v.extended.numbers) i numbers.Absent)
 value_at v (Extended kinds.Text i) = text_value_shown (get_or (map mark_in v.extended.texts) i AbsentText)

@@ -6,18 +6,19 @@ ghost use Rattle.std.specs.Prelude.{◌≡◌, ◌≢◌, ℕ, ◌⊎◌, get_or
 ghost use Rattle.ti_words.specs.Marks.{word_of_number as the_word_of_number};
 ghost use Rattle.ti_words.specs.Texts.{text_value, AbsentText};
 ghost use Rattle.ti_words.specs.Value.{EntryValue};
-ghost use Rattle.ti_entry.specs.Finding.{IsPosition};
+ghost use Rattle.ti_entry.specs.Finding.{IsFirstNamed, IsPosition};
+ghost use Rattle.ti_entry.specs.declared.finding.Position.TheVariants.{Standard, Extended};
 ghost use Rattle.ti_c.specs.Numbers.{done, not_named};
 ghost use Rattle.ti_c.specs.Names.{kind_at};
 ghost use Rattle.ti_c.specs.Entries.{flag_mark as the_flag_mark, text_shown, AreCountsOf, SpellsSome, ForEntry, IsEntryRefusedAs};
-ghost use Rattle.ti_c.specs.Views.{IsOpen, HasExtended, IsFoundIn, LacksExtended, flag_shown, number_shown, text_value_shown, value_at, value_held};
+ghost use Rattle.ti_c.specs.Views.{IsOpen, HasExtended, IsFoundIn, LacksExtended, flag_shown, number_shown, text_value_shown, shown_at, value_at, value_held};
 
 use crate::entry::{EntryCounts, flag_mark, number_word, put_counts};
 use crate::faults::{DONE, NOT_NAMED, entry_number};
 use crate::finding::kind_number;
 use crate::names::Bytes;
-use ti_entry::{Entry, PartView, Position, read_with_base, reopen, reopen_standard};
-use ti_words::{Flag, Kind, Number, Text};
+use ti_entry::{Entry, PartView, read_with_base, reopen, reopen_standard};
+use ti_words::{Flag, Kind, Number, Text, find_short_or_long};
 
 /// An entry that was opened. All is the caller's to keep and to copy; what it lends lies in the bytes.
 #[repr(C)]
@@ -145,12 +146,42 @@ pub extern "C" fn ti_view_find<'a>(view: &View<'a>, name: &[u8], value: &mut Fou
         → IsPosition v name.now None }
     ensures kept { result ≡ not_named → value.new ≡ value.old }
 {
+    match find_short_or_long(name) {
+        Some((kind, index)) => find_standard(view, kind, index, value),
+        None => find_extended(view, name, value),
+    }
+}
+
+/// Finds what the entry says of the standard capability of a kind at an index.
+fn find_standard<'a>(view: &View<'a>, kind: Kind, index: usize, value: &mut Found<'a>) -> u32
+    ensures answer { (result ≡ done) ⊎ (result ≡ not_named) }
+    ensures found { (v : EntryValue) → IsOpen view.now v
+        → (result ≡ done) × (value_held value.new ≡ value_at v (Standard kind index)) }
+    ensures kept { result ≡ not_named → value.new ≡ value.old }
+{
+    let Some(standard) = standard_of(view) else {
+        return NOT_NAMED;
+    };
+    put_standard(value, &standard, kind, index);
+    DONE
+}
+
+/// Finds what the entry says of the first capability to which it gives a name itself.
+fn find_extended<'a>(view: &View<'a>, name: &[u8], value: &mut Found<'a>) -> u32
+    ensures answer { (result ≡ done) ⊎ (result ≡ not_named) }
+    ensures found { (v : EntryValue) → IsOpen view.now v → result ≡ done
+        → (at : Kind × ℕ) × IsFirstNamed v.extended name.now (Some at)
+        × (value_held value.new ≡ value_at v (Extended at.0 at.1)) }
+    ensures none { (v : EntryValue) → IsOpen view.now v → result ≡ not_named
+        → IsFirstNamed v.extended name.now None }
+    ensures kept { result ≡ not_named → value.new ≡ value.old }
+{
     let Some(entry) = entry_of(view) else {
         return NOT_NAMED;
     };
-    match entry.position(name) {
-        Some(position) => {
-            put_value(value, &entry, position);
+    match entry.extended().find(name) {
+        Some((kind, index)) => {
+            put_extended(value, &entry, kind, index);
             DONE
         }
         None => NOT_NAMED,
@@ -181,7 +212,7 @@ pub extern "C" fn ti_view_extended<'a>(
     match entry.extended().name(kind, index) {
         Some(found) => {
             name.bytes = found;
-            put_value(value, &entry, Position::Extended(kind, index));
+            put_extended(value, &entry, kind, index);
             DONE
         }
         None => NOT_NAMED,
@@ -200,17 +231,25 @@ fn kind_of(number: u32) -> Option<Kind>
     }
 }
 
-/// Puts what an entry says of a capability into a value.
-fn put_value<'a>(value: &mut Found<'a>, entry: &Entry<'a>, position: Position)
-    ensures { value_held value.new ≡ value_at entry.now position }
+/// Puts what the standard part says of a capability into a value.
+fn put_standard<'a>(value: &mut Found<'a>, standard: &PartView<'a>, kind: Kind, index: usize)
+    ensures { value_held value.new ≡ shown_at standard.now kind index }
 {
-    match position {
-        Position::Standard(Kind::Flag, i) => put_flag(value, entry.flag(i)),
-        Position::Standard(Kind::Number, i) => put_number(value, entry.number(i)),
-        Position::Standard(Kind::Text, i) => put_text(value, entry.text(i)),
-        Position::Extended(Kind::Flag, i) => put_flag(value, entry.extended().flag(i)),
-        Position::Extended(Kind::Number, i) => put_number(value, entry.extended().number(i)),
-        Position::Extended(Kind::Text, i) => put_text(value, entry.extended().text(i)),
+    match kind {
+        Kind::Flag => put_flag(value, standard.flag(index)),
+        Kind::Number => put_number(value, standard.number(index)),
+        Kind::Text => put_text(value, standard.text(index)),
+    }
+}
+
+/// Puts what an entry says of an extended capability into a value.
+fn put_extended<'a>(value: &mut Found<'a>, entry: &Entry<'a>, kind: Kind, index: usize)
+    ensures { value_held value.new ≡ value_at entry.now (Extended kind index) }
+{
+    match kind {
+        Kind::Flag => put_flag(value, entry.extended().flag(index)),
+        Kind::Number => put_number(value, entry.extended().number(index)),
+        Kind::Text => put_text(value, entry.extended().text(index)),
     }
 }
 

@@ -13,7 +13,7 @@ returns-in-Some-clause-found c = λ v opened _.
     let kind : kind_at c.args.kind ≡ Some c.in-Some-Some.kind = sym c.kind_of.ensures ∙ c.in-Some-Some.is-1 in
     rw kind (
       sym (c.in-Some.ensures ∙ ap (λ (p : NamedPart). slice_get (names_of p c.in-Some-Some.kind) c.args.index) (c.extended.ensures ∙ ap (λ (x : EntryValue). x.extended) entry)),
-      c.put_value.ensures ∙ ap (λ (x : EntryValue). value_at x (Extended c.in-Some-Some.kind c.args.index)) entry,
+      c.put_extended.ensures ∙ ap (λ (x : EntryValue). value_at x (Extended c.in-Some-Some.kind c.args.index)) entry,
     )
 
 pub returns-in-None-clause-none : goal.returns-in-None-clause-none
