@@ -88,7 +88,7 @@ def __getattr__(name: str) -> Path:
 def tell_taken(path: Path) -> None:
     """Says that a check is one of what lies in dist/."""
     if path.parent == DIST:
-        print(f"{Path(sys.argv[0]).name}: this is of {path.relative_to(ROOT)}, since it was not proved and built here", flush=True)
+        print(f"{'/'.join(Path(sys.argv[0]).parts[-2:])}: this is of {path.relative_to(ROOT)}, since it was not proved and built here", flush=True)
 
 
 def build_program() -> None:

@@ -71,7 +71,7 @@ sum_of() {
 
 # Whether a file is there and newer than the sources of the crates that are looked at.
 is_fresh() {
-    [ -f "$1" ] && [ -z "$(cd "$root" && find crates.txt "${folders[@]}" -type f -newer "$1" -print -quit)" ]
+    [ -f "$1" ] && [ -z "$(cd "$root" && find crates.txt "${folders[@]}" -type f -newer "$1" -print | head -n 1)" ]
 }
 
 # ---- what lies in dist/
@@ -85,18 +85,17 @@ crate_of() {
 fits() {
     local file=$1 seen
     seen=$(times_of "$file")
-    [ -f "$kept/$file.fits" ] && [ "$(<"$kept/$file.fits")" = "$seen" ] && return 0
+    [ -n "$seen" ] && [ -f "$kept/$file.fits" ] && [ "$(<"$kept/$file.fits")" = "$seen" ] && return 0
     has_sums "$file" || return 1
     if [ "$file" = ti ]; then runs_here || return; fi
-    keep "$file.fits" "$seen"
+    [ -z "$seen" ] || keep "$file.fits" "$seen"
 }
 
-# Names, sizes and times of all that the answer depends on, as one sum, and this machine.
+# Names, sizes and times of all that the answer depends on, as one sum, and this machine; nothing if find cannot print them.
 times_of() {
     local times
-    times=$(cd "$root" && find crates.txt "${folders[@]}" dist/common.sh dist/record "dist/$1" -type f -printf '%p %s %T@ %C@\n' 2>/dev/null \
-        | sha256sum)
-    echo "${times%% *} $HOSTNAME"
+    times=$(cd "$root" && find crates.txt "${folders[@]}" dist/common.sh dist/record "dist/$1" -type f -printf '%p %s %T@ %C@\n' 2>/dev/null)
+    [ -z "$times" ] || echo "$(printf '%s' "$times" | sha256sum | cut -d ' ' -f 1) $HOSTNAME"
 }
 
 # Whether a file in dist/ has its sum by the record, and the sources have theirs.
@@ -165,6 +164,7 @@ is_old_glibc() {
 lacking_flags() {
     local has flag lacking=()
     has=" $(grep -m 1 '^flags' "$cpuinfo" 2>/dev/null) "
+    [ -n "${has// /}" ] || return 0
     for flag in cx16 lahf_lm pni popcnt sse4_1 sse4_2 ssse3; do
         [[ $has == *" $flag "* ]] || lacking+=("$flag")
     done
@@ -201,7 +201,7 @@ tell_once() {
     local _ kit
     [ -t 2 ] && [ ! "$kept/told" -nt "$record" ] || return 0
     read -r _ kit <"$record"
-    echo "ti: this is dist/ti, which was proved and built of these sources with $kit; ./ti --prove makes it here" >&2
+    echo "${0##*/}: this is dist/ti, which was proved and built of these sources with $kit; ./ti --prove makes it here" >&2
     keep told "$kit"
 }
 
