@@ -1,4 +1,4 @@
-"""The tables of a page, and whether the clauses that those of the READMEs name are in the code."""
+"""The tables of a page, and whether the clauses that those of PROOFS.md and of the READMEs name are in the code."""
 
 import re
 from collections.abc import Callable, Iterator
@@ -87,14 +87,14 @@ def check_tables(tell: Tell) -> None:
 
 
 def check_headline(text: str, tell: Tell) -> None:
-    """Each clause that the README names is one of the function before it."""
+    """Each clause that the table of facts names is one of the function before it."""
     known: dict[str, set[str]] = {}
     for crate in sorted(ROOT.glob("crates/ti_*")):
         for function, names in clauses(crate.name).items():
             known.setdefault(function, set()).update(names)
-    for cells in list(rows(text, "What is proved"))[1:]:
+    for cells in list(rows(text, "The facts"))[1:]:
         for functions, names in re.findall(r"((?:`[\w:]+`(?:, )?)+) \(([^)]*)\)", cells[1]):
             for function in CODE.findall(functions):
                 for clause in CODE.findall(names):
                     holds = clause in known.get(function.split("::")[-1], ())
-                    tell(holds, f"README.md: no clause {clause} at {function}")
+                    tell(holds, f"PROOFS.md: no clause {clause} at {function}")

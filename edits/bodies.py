@@ -117,16 +117,31 @@ def impl_at(lines, number):
 
 @dataclass(eq=False)
 class Edit:
-    """An edit: its path, the lines that it changes, by file and number, and the functions in whose bodies they lie.
+    """An edit: its crate and name, its text, the lines that it changes, by file and number, and the functions in whose bodies they lie.
 
-    If a line is in no body, `by` may name the function whose proof refuses the edit.
+    If a line is in no body, `by` may name the function whose proof refuses the edit. Some are tried whatever the record says.
     """
 
-    label: str
+    crate: str
+    name: str
+    text: str
     lines: dict
     functions: frozenset
     is_outside: bool
     by: str | None
+
+    @property
+    def label(self):
+        return f"{self.crate}/{self.name}"
+
+    @property
+    def is_always_tried(self):
+        return "tried: always" in self.text.split("\n")
+
+    @property
+    def new(self):
+        """The texts that it writes."""
+        return "\n".join(re.findall(r"^new: (.*)$", self.text, re.M))
 
     @property
     def place(self):
@@ -162,11 +177,9 @@ def texts_after(pairs, crate):
     return texts
 
 
-def read_edit(path, crate):
-    """The edit of a file. An edit changes lines, and their number stays the same, so that several can be made at once."""
-    if path.suffix != ".edit":
-        raise BadEdit("its name does not end in .edit")
-    pairs = re.findall(r"^(file|old|new|by):(?: (.*))?$", path.read_text(encoding="utf-8"), re.M)
+def read_edit(crate, name, text):
+    """The edit with this text. An edit changes lines, and their number stays the same, so that several can be made at once."""
+    pairs = re.findall(r"^(file|old|new|by):(?: (.*))?$", text, re.M)
     by = next((text.strip() for word, text in pairs if word == "by"), None)
     lines, functions = {}, set()
     for file, after in texts_after([pair for pair in pairs if pair[0] != "by"], crate).items():
@@ -177,8 +190,16 @@ def read_edit(path, crate):
                 functions.add(function_at(crate, file, number))
     if not lines:
         raise BadEdit("it changes nothing")
-    label = str(path.relative_to(ROOT))
-    return Edit(label, lines, frozenset(functions - {None}), None in functions, by)
+    return Edit(crate, name, text, lines, frozenset(functions - {None}), None in functions, by)
+
+
+def texts_of_edits(crate, with_must_fail):
+    """The names and texts of the edits of a crate: below the headings of its file in edits/, and those in its must-fail/ if these are wanted."""
+    path = HERE / f"{crate}.edits"
+    parts = re.split(r"^## ", path.read_text(encoding="utf-8"), flags=re.M)[1:] if path.exists() else []
+    found = [(name.strip(), text.strip("\n")) for name, _, text in (part.partition("\n") for part in parts)]
+    files = sorted((folder_of(crate) / "must-fail").glob("*.edit")) if with_must_fail else []
+    return found + [(path.stem, path.read_text(encoding="utf-8").strip("\n")) for path in files]
 
 
 def texts_in_place(crate, edits):
@@ -194,15 +215,16 @@ class Copies:
     """Copies of functions for some edits: for each edit those with its wrong bodies, and for each function one as it stands.
 
     A copy has its function's contract and what is written of its proof, and stands beside it. Nothing calls it, so whether
-    it is proved tells of its body alone. The copy of the body as it stands shows that a copy is proved if its body is right.
+    it is proved depends on its body alone. The copy of the body as it stands shows that a copy is proved if its body is right;
+    the functions `shown` need none, since an earlier try has shown that of them.
     """
 
-    def __init__(self, crate, edits):
+    def __init__(self, crate, edits, shown):
         self.crate, self.of_edits, self.unedited, self.copied = crate, {}, {}, []
         counts = Counter()
         for edit in edits:
             for function in sorted(edit.functions, key=lambda function: function.name):
-                if function not in self.unedited:
+                if function not in self.unedited and function not in shown:
                     self.unedited[function] = self.copy(function, 0, {})
                 counts[function] += 1
                 name = self.copy(function, counts[function], edit.lines)

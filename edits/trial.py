@@ -6,6 +6,7 @@ import sys
 import tempfile
 import threading
 import time
+from dataclasses import dataclass
 from pathlib import Path
 
 from bodies import HERE, Copies, texts_in_place, write_holes
@@ -48,19 +49,27 @@ def end(*_):
     sys.exit("edits: ended by a signal")
 
 
-class Trial:
-    """The trial of a crate's edits.
+@dataclass(frozen=True)
+class Verdict:
+    """What an edit comes to, and whether it was made in place."""
 
-    Each check takes what is up to date from a folder of edits/out, and keeps there what it proves. It has as many jobs as it
-    is given; a second one takes a tenth more processor time.
+    word: str
+    is_in_place: bool
+
+
+class Trial:
+    """The trial of a crate's edits, which notes each verdict by the edit's name.
+
+    Each check takes what is up to date from a folder of edits/out, and keeps there what it proves. It has one job, as a second one takes
+    a tenth more processor time. The functions `shown` are known to be proved in a copy as they stand.
     """
 
-    def __init__(self, crate, edits, kit, jobs):
-        self.crate, self.edits, self.kit, self.jobs, self.folder = crate, edits, kit, jobs, OUT / crate
-        self.checks, self.results = 0, []
+    def __init__(self, crate, edits, kit, shown, verdicts):
+        self.crate, self.edits, self.kit, self.shown, self.verdicts = crate, edits, kit, shown, verdicts
+        self.folder, self.checks = OUT / crate, 0
 
     def run(self):
-        """What each edit comes to."""
+        """Tries each edit."""
         self.folder.mkdir(parents=True, exist_ok=True)
         for old in self.folder.glob("*.said"):
             old.unlink()
@@ -70,13 +79,12 @@ class Trial:
             functions = self.prove_as_it_stands(in_place)
             for edit in in_place:
                 self.try_in_place(edit, functions)
-        return self.results
 
     def try_copies(self, edits):
         """Tries edits in copies. Returns those that have to be tried in place."""
         if not edits:
             return []
-        copies = Copies(self.crate, edits)
+        copies = Copies(self.crate, edits, self.shown)
         names = [name for named in copies.of_edits.values() for name in named]
         said = self.check(copies.write, [*copies.unedited.values(), *names])
         if not said.is_judged and len(edits) > 1:
@@ -84,19 +92,20 @@ class Trial:
             return self.try_copies(edits[: len(edits) // 2]) + self.try_copies(edits[len(edits) // 2 :])
         left = []
         for edit, own in copies.of_edits.items():
+            as_they_stand = [copies.unedited[function] for function in edit.functions if function in copies.unedited]
             if not said.is_judged:
                 self.settle(edit, BAD, said.complaint())
-            elif not all(said.has_proved(copies.unedited[function]) for function in edit.functions):
+            elif not all(map(said.has_proved, as_they_stand)):
                 left.append(edit)
             else:
                 self.judge(edit, said, own)
         tell(f"{self.crate}: {len(edits)} edits are tried in copies")
         return left
 
-    def judge(self, edit, said, functions):
+    def judge(self, edit, said, functions, is_in_place=False):
         """Settles an edit by what a check said of the functions that have its wrong bodies."""
         if lines := said.lines_against(functions):
-            self.settle(edit, REFUSED, lines[0])
+            self.settle(edit, REFUSED, lines[0], is_in_place)
         elif all(said.has_proved(function) for function in functions):
             self.settle(edit, ACCEPTED, "what it changes is proved")
         else:
@@ -117,11 +126,11 @@ class Trial:
         if not said.is_judged:
             self.settle(edit, BAD, said.complaint())
         elif edit.tried:
-            self.judge(edit, said, edit.tried)
+            self.judge(edit, said, edit.tried, is_in_place=True)
         elif said.is_proved:
             self.settle(edit, ACCEPTED, "the crate is proved with it")
         elif lines := said.lines_against():
-            self.settle(edit, REFUSED, lines[0])
+            self.settle(edit, REFUSED, lines[0], is_in_place=True)
         else:
             self.settle(edit, BAD, f"the check names no goal: {said.complaint()}")
 
@@ -136,7 +145,7 @@ class Trial:
                 if (folder_of(self.crate) / part).is_dir():
                     shutil.copytree(folder_of(self.crate) / part, Path(copy) / part)
             write(Path(copy))
-            words = [self.kit / "bin/rattle", "check", *words_for(self.crate, self.kit, self.jobs)]
+            words = [self.kit / "bin/rattle", "check", *words_for(self.crate, self.kit, 1)]
             words += ["--incremental", self.folder / "kept", "--allow-holes"]
             for function in functions:
                 words += ["--only", function]
@@ -146,8 +155,8 @@ class Trial:
             raise Stopped(f"a check of {self.crate} was ended by signal {-status}")
         return Said(self.crate, status, self.log().read_text(encoding="utf-8", errors="replace"))
 
-    def settle(self, edit, word, line):
-        self.results.append(word)
+    def settle(self, edit, word, line, is_in_place=False):
+        self.verdicts[edit.label] = Verdict(word, is_in_place)
         show(edit.label, word, line if word == REFUSED else f"{edit.place}: {line}")
 
 

@@ -8,16 +8,12 @@ use core::fmt;
 
 /// A compiled entry (term(5)). What it gives is lent from the bytes that it was read from.
 ///
-/// A name is a short or a long one of `term.h`, or one that the entry has itself; a standard name comes first. To find it
-/// takes a look through the names, one or two microseconds at most; [`Entry::get`] has an index in place of that.
+/// A name is a short or a long one of `term.h`, or one that the entry has itself; a standard name comes first. A standard
+/// name is found by a hash and a comparison with two names at most, and one of the entry's own is looked for among these;
+/// [`Entry::get`] has an index in place of that.
 #[derive(Clone)]
 pub struct Entry<'a> {
     pub(crate) inner: crate::made::entry::Entry<'a>,
-}
-
-/// The least index of the extended capability of a kind that has a name.
-fn extended_index(extended: &Extended<'_>, kind: Kind, name: &[u8]) -> Option<usize> {
-    (0..).map_while(|index| extended.name(kind, index)).position(|other| other == name)
 }
 
 /// The capabilities of a kind with their names, the standard ones first.
@@ -97,7 +93,7 @@ impl<'a> Entry<'a> {
             Some(index) => self.inner.flag(index),
             None => {
                 let extended = self.inner.extended();
-                extended_index(&extended, Kind::Flag, name.as_bytes()).map_or(Flag::No, |index| extended.flag(index))
+                extended.find_of(Kind::Flag, name.as_bytes()).map_or(Flag::No, |index| extended.flag(index))
             }
         };
         mark.is_set()
@@ -120,7 +116,7 @@ impl<'a> Entry<'a> {
             return self.inner.number(index).value();
         }
         let extended = self.inner.extended();
-        extended.number(extended_index(&extended, Kind::Number, name.as_bytes())?).value()
+        extended.number(extended.find_of(Kind::Number, name.as_bytes())?).value()
     }
 
     /// The text of a name, if the entry gives one. With parameters it is a [`Capability`](crate::Capability).

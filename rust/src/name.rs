@@ -1,7 +1,7 @@
 //! The names of capabilities, and the notation of what they send.
 
 use crate::cap::{FLAGS, NUMBERS, TEXTS};
-use crate::made::words::{Kind, NameTable};
+use crate::made::words::{Kind, NameTable, find_short_or_long};
 use core::fmt;
 
 /// What a capability is called.
@@ -32,7 +32,8 @@ fn names_of(kind: Kind) -> &'static [(&'static str, &'static str)] {
 
 /// The index of the capability of a kind that has a short or a long name.
 pub(crate) fn standard_index(kind: Kind, name: &str) -> Option<usize> {
-    names_of(kind).iter().position(|(long, short)| name == *short || name == *long)
+    let (found, index) = find_short_or_long(name.as_bytes())?;
+    (found == kind).then_some(index)
 }
 
 impl<'a> Name<'a> {
@@ -47,8 +48,8 @@ impl<'a> Name<'a> {
     /// assert_eq!(Name::standard("nosuch"), None);
     /// ```
     pub fn standard(name: &str) -> Option<Name<'static>> {
-        let kinds = [Kind::Flag, Kind::Number, Kind::Text];
-        kinds.into_iter().find_map(|kind| Some(Name::Standard { kind, index: standard_index(kind, name)? }))
+        let (kind, index) = find_short_or_long(name.as_bytes())?;
+        Some(Name::Standard { kind, index })
     }
 
     /// The short name of a standard capability, such as `cup`.

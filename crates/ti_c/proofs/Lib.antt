@@ -6,5 +6,6 @@ pub mod WordsExamples
 pub mod WordsLemmas
 pub mod StartsWithLemmas
 pub mod ValuesLemmas
+pub mod AreShortLemmas
 pub mod AmpleRoomLemmas
 pub mod EntryExamples

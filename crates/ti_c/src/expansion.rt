@@ -1,14 +1,16 @@
 //! Expanding a capability for C.
 
-ghost use Rattle.std.specs.Prelude.{◌≡◌, ◌≤◌, ◌<◌, ◌⊎◌, ℕ, [], length, take, drop};
+ghost use Rattle.std.specs.Prelude.{◌≡◌, ◌≤◌, ◌<◌, ◌⊎◌, ℕ, [], length, take, drop, IfSome, IfNone};
+ghost use Rattle.std.specs.Bool.{OnFalse};
 ghost use Rattle.ti_cap.specs.Refusal.{IsFaultless};
-ghost use Rattle.ti_expand.specs.Expands.{IsExpansion, IsBytesFault, IsRefusalTextOrRoom};
+ghost use Rattle.ti_expand.specs.Sound.{IsSoundValue};
+ghost use Rattle.ti_expand.specs.Expands.{text_len, AreShort, IsExpansion, IsBytesFault, IsRefusalTextOrRoom};
 ghost use Rattle.ti_c.specs.Numbers.{done, too_many_parameters};
 ghost use Rattle.ti_c.specs.Given.{value_given, values_given, IsExpansionFault, IsToldAs};
 
 use crate::faults::{DONE, OUT_TOO_SMALL, TEXT_TOO_LONG, TOO_MANY_PARAMETERS, capability_number};
-use ti_cap::CapRefused;
-use ti_expand::{BytesFault, ExpandFault, Value, Vars, expand_bytes};
+use ti_cap::{CapRefused, Capability};
+use ti_expand::{BytesFault, ExpandFault, Value, Vars, expand_bytes, expand_plain};
 
 /// A parameter: the number if `is_text` is 0, else the text.
 #[repr(C)]
@@ -50,6 +52,56 @@ fn put_values<'a>(values: &mut [Value<'a>; 9], parameters: &[Parameter<'a>])
     for i in 0..parameters.len() {
         put_value(&mut values[i], &parameters[i]);
     }
+}
+
+/// Whether a parameter is a text.
+#[inline(always)]
+fn is_text(parameter: &Parameter<'_>) -> bool
+    ensures len { OnFalse result (text_len (value_given parameter.now) ≡ 0) }
+    ensures sound { OnFalse result (IsSoundValue 0 (value_given parameter.now)) }
+{
+    // A number fits 32 bits.
+    let _number = parameter.number;
+    parameter.is_text != 0
+}
+
+/// Whether one of them is a text. Each is looked at, which takes less than to stop at the first.
+#[inline(always)]
+fn has_text(parameters: &[Parameter<'_>]) -> bool
+    requires few { length parameters.now ≤ 9 }
+    ensures { OnFalse result (AreShort (values_given parameters.now) 0) }
+{
+    let mut found = false;
+    for parameter in parameters {
+        found |= is_text(parameter);
+    }
+    found
+}
+
+/// Expands a capability without escapes, if no parameter is a text and if there is room. Nothing is made of the parameters.
+#[inline(always)]
+fn expand_if_plain(
+    capability: &[u8],
+    parameters: &[Parameter<'_>],
+    variables: &Vars,
+    out: &mut [u8],
+) -> Option<ti_expand::Run>
+    requires few { length parameters.now ≤ 9 }
+    ensures kept { IfNone result (out.new ≡ out.old) }
+    ensures accepted { IfSome result (λ _. IsFaultless capability.now) }
+    ensures faultless { IfSome result (λ _. (fault : BytesFault)
+        → ¬ IsBytesFault capability.now (values_given parameters.now) (length out.old) fault) }
+    ensures expansion { IfSome result (λ counts. IsExpansion capability.now
+        (values_given parameters.now) variables.now variables.now
+        (take counts.written out.new) counts) }
+    ensures rest { IfSome result
+        (λ counts. drop counts.written out.new ≡ drop counts.written out.old) }
+{
+    let plain = Capability::plain(capability)?;
+    if has_text(parameters) {
+        return None;
+    }
+    expand_plain(&plain, variables, out)
 }
 
 /// The number of a fault, with its place.
@@ -104,6 +156,40 @@ pub extern "C" fn ti_expand<'a>(
     if parameters.len() > 9 {
         return TOO_MANY_PARAMETERS;
     }
+    if let Some(copied) = expand_if_plain(capability, parameters, variables, out) {
+        run.counts = copied;
+        return DONE;
+    }
+    expand_values(capability, parameters, variables, out, run)
+}
+
+/// The same for at most nine parameters, over their values. It is a function of its own, so that they are made only if they
+/// are needed.
+#[inline(never)]
+fn expand_values<'a>(
+    capability: &'a [u8],
+    parameters: &[Parameter<'a>],
+    variables: &mut Vars,
+    out: &mut [u8],
+    run: &mut Run,
+) -> u32
+    requires few { length parameters.now ≤ 9 }
+    ensures answer { (result ≡ done) ⊎ IsExpansionFault capability.now (values_given parameters.now)
+        (length parameters.now) (length out.old) result run.new.place }
+    ensures only { (number place : ℕ) → IsExpansionFault capability.now (values_given parameters.now)
+        (length parameters.now) (length out.old) number place
+        → (result ≡ number) × (run.new.place ≡ place) }
+    ensures accepted { result ≡ done → IsFaultless capability.now }
+    ensures faultless { result ≡ done → (fault : BytesFault)
+        → ¬ IsBytesFault capability.now (values_given parameters.now) (length out.old) fault }
+    ensures kept { (result ≡ done) ⊎ ((variables.new ≡ variables.old) × (out.new ≡ out.old)) }
+    ensures place { (result ≡ done) ⊎ (run.new ≡ record run.old { place = run.new.place }) }
+    ensures untold { result ≡ done → run.new.place ≡ run.old.place }
+    ensures expansion { result ≡ done → IsExpansion capability.now (values_given parameters.now)
+        variables.old variables.new (take run.new.counts.written out.new) run.new.counts }
+    ensures rest { result ≡ done
+        → drop run.new.counts.written out.new ≡ drop run.new.counts.written out.old }
+{
     let mut values = [Value::Num(0); 9];
     put_values(&mut values, parameters);
     match expand_bytes(capability, &values, variables, out) {

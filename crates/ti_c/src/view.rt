@@ -16,7 +16,7 @@ use crate::entry::{EntryCounts, flag_mark, number_word, put_counts};
 use crate::faults::{DONE, NOT_NAMED, entry_number};
 use crate::finding::kind_number;
 use crate::names::Bytes;
-use ti_entry::{Entry, Position, read_with_base, reopen};
+use ti_entry::{Entry, PartView, Position, read_with_base, reopen, reopen_standard};
 use ti_words::{Flag, Kind, Number, Text};
 
 /// An entry that was opened. All is the caller's to keep and to copy; what it lends lies in the bytes.
@@ -81,14 +81,22 @@ fn entry_of<'a>(view: &View<'a>) -> Option<Entry<'a>>
     reopen(view.bytes, view.base)
 }
 
+/// The standard capabilities of the entry of a view, if it is one that was opened.
+fn standard_of<'a>(view: &View<'a>) -> Option<PartView<'a>>
+    ensures { (v : EntryValue) → IsOpen view.now v
+        → IsSomeAnd result (λ standard. standard ≡ v.standard) }
+{
+    reopen_standard(view.bytes)
+}
+
 /// The mark of the standard flag at an index: 1 or 0, -1 missing, -2 cancelled.
 #[unsafe(no_mangle)]
 pub extern "C" fn ti_view_flag(view: &View<'_>, index: usize) -> i8
     ensures { (v : EntryValue) → IsOpen view.now v
         → result ≡ the_flag_mark (get_or v.standard.flags index Flag.No) }
 {
-    match entry_of(view) {
-        Some(entry) => flag_mark(entry.flag(index)),
+    match standard_of(view) {
+        Some(standard) => flag_mark(standard.flag(index)),
         None => -1,
     }
 }
@@ -99,8 +107,8 @@ pub extern "C" fn ti_view_number(view: &View<'_>, index: usize) -> i32
     ensures { (v : EntryValue) → IsOpen view.now v
         → result ≡ the_word_of_number (get_or v.standard.numbers index Number.Absent) }
 {
-    match entry_of(view) {
-        Some(entry) => number_word(entry.number(index)),
+    match standard_of(view) {
+        Some(standard) => number_word(standard.number(index)),
         None => -1,
     }
 }
@@ -114,10 +122,10 @@ pub extern "C" fn ti_view_text<'a>(view: &View<'a>, index: usize, text: &mut Byt
         → text.new.bytes.now ≡ (text_shown (get_or v.standard.texts index AbsentText)).1 }
     ensures kept { (result ≡ pos 0) ⊎ (text.new ≡ text.old) }
 {
-    let Some(entry) = entry_of(view) else {
+    let Some(standard) = standard_of(view) else {
         return -1;
     };
-    match entry.text(index) {
+    match standard.text(index) {
         Text::Value(found) => {
             text.bytes = found;
             0

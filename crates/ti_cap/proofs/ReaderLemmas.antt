@@ -131,9 +131,12 @@ takes_whole k old new (s, p, left, taken) =
     ap (λ x. x ++ new.left) taken ∙ append_assoc old.taken s new.left ∙ ap (λ x. old.taken ++ x) (sym left)
 
 -- an escape of one letter is read
-pub lone_read : (left rest : List ℕ) (token : Token) → left ≡ 37 ∷ rest → 1 ≤ length rest → SpellsEscape token (get_or rest 0 0 ∷ []) → token_read left ≡ Ok (token, 2)
-lone_read left [] token is some spelled = absurd (omega arith)
-lone_read left (c ∷ cs) token is some spelled = ap token_read is ∙ token_again token (37 ∷ c ∷ []) cs (inr (c ∷ [], spelled, refl))
+pub letter_read : (left rest : List ℕ) (token : Token) (letter : ℕ) → left ≡ 37 ∷ rest → 1 ≤ length rest → get_or rest 0 0 ≡ letter
+    → SpellsEscape token (letter ∷ []) → token_read left ≡ Ok (token, 2)
+letter_read left [] token letter is some at spelled = absurd (omega arith)
+letter_read left (c ∷ cs) token letter is some at spelled =
+    let P : ℕ → Type 0 = λ x. SpellsEscape token (x ∷ []) in
+    ap token_read is ∙ token_again token (37 ∷ c ∷ []) cs (inr (c ∷ [], subst P (sym at) spelled, refl))
 
 pub decimal_spelled : SpellsFormat (plain_format Signed) (100 ∷ [])
 decimal_spelled = ([], [], [], inl tt, (refl, refl, refl, refl, refl), refl, refl, refl)

@@ -98,7 +98,8 @@ pub fn read_parameter(bytes: &[u8]) -> Result<u8, CapFault>
 }
 
 /// After `%P` or `%g`: the variable's letter.
-fn read_variable(bytes: &[u8]) -> Result<u8, CapFault>
+#[inline(always)]
+pub fn read_variable(bytes: &[u8]) -> Result<u8, CapFault>
     ensures { result ≡ variable_of bytes.now }
 {
     match bytes {
@@ -109,7 +110,8 @@ fn read_variable(bytes: &[u8]) -> Result<u8, CapFault>
 }
 
 /// After `%'`: any byte and an apostrophe.
-fn read_quoted(bytes: &[u8]) -> Result<i32, CapFault>
+#[inline(always)]
+pub fn read_quoted(bytes: &[u8]) -> Result<i32, CapFault>
     ensures { read_as (λ number. (Token.Constant number, 4)) result ≡ quoted_read bytes.now }
 {
     match bytes {

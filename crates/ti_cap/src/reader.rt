@@ -6,7 +6,7 @@
 ghost use Rattle.std.specs.Prelude.{◌≡◌};
 
 use crate::language::{Conversion, Op, Token};
-use crate::lexer::{read_digits, read_parameter, read_token};
+use crate::lexer::{read_digits, read_parameter, read_quoted, read_token, read_variable};
 use crate::limits::Limits;
 use crate::parse::{Capability, FEW_OPEN};
 use crate::read_format::plain;
@@ -124,23 +124,9 @@ impl<'a, 'o> Reader<'a, 'o> {
         }
     }
 
-    /// The same for a token that is still to be found.
+    /// The same for the escape of which these bytes follow the `%`. Each escape has an arm of its own, so that what is done for
+    /// its token is compiled by itself, and no token is told apart twice.
     #[inline(always)]
-    fn find<T: Take>(&mut self, taker: &mut T) -> Option<T::Answer>
-        requires may { T.may_take taker.old }
-        ensures taken { IfSome result (λ answer. (token : Token) × Takes token self.old self.new
-            × IsFirst token self.old self.new × T.gives taker.old token answer taker.new) }
-    {
-        match read_token(self.left) {
-            Err(_) => None,
-            Ok((token, long)) => self.give(taker, token, long),
-        }
-    }
-
-    /// The same for the escape of which these bytes are what follows its `%`. What is done for the tokens that are met most is
-    /// compiled for each by itself.
-    #[inline(always)]
-    #[tactic(auto, using(crate::proofs::ReaderLemmas::lone_read))]
     fn escape<T: Take>(&mut self, taker: &mut T, rest: &[u8]) -> Option<T::Answer>
         requires next { self.old.left ≡ 37 ∷ rest.now }
         requires may { T.may_take taker.old }
@@ -156,6 +142,10 @@ impl<'a, 'o> Reader<'a, 'o> {
                 Err(_) => None,
                 Ok((number, long)) => self.give(taker, Token::Constant(number), long),
             },
+            [b'\'', rest @ ..] => match read_quoted(rest) {
+                Err(_) => None,
+                Ok(number) => self.give(taker, Token::Constant(number), 4),
+            },
             [b'd', ..] => self.give(taker, Token::Print(plain(Conversion::Signed)), 2),
             [b'?', ..] => self.give(taker, Token::CondOpen, 2),
             [b't', ..] => self.give(taker, Token::CondThen, 2),
@@ -163,11 +153,48 @@ impl<'a, 'o> Reader<'a, 'o> {
             [b';', ..] => self.give(taker, Token::CondClose, 2),
             [b'i', ..] => self.give(taker, Token::Increment, 2),
             [b'c', ..] => self.give(taker, Token::Char, 2),
+            [b'l', ..] => self.give(taker, Token::Length, 2),
+            [b'%', ..] => self.give(taker, Token::Byte(b'%'), 2),
+            [b'P', rest @ ..] => match read_variable(rest) {
+                Err(_) => None,
+                Ok(letter) => self.give(taker, Token::Store(letter), 3),
+            },
+            [b'g', rest @ ..] => match read_variable(rest) {
+                Err(_) => None,
+                Ok(letter) => self.give(taker, Token::Load(letter), 3),
+            },
+            _ => self.operation(taker, rest),
+        }
+    }
+
+    /// The same for an operation on values or a print with a format.
+    #[inline(always)]
+    fn operation<T: Take>(&mut self, taker: &mut T, rest: &[u8]) -> Option<T::Answer>
+        requires next { self.old.left ≡ 37 ∷ rest.now }
+        requires may { T.may_take taker.old }
+        ensures taken { IfSome result (λ answer. (token : Token) × Takes token self.old self.new
+            × IsFirst token self.old self.new × T.gives taker.old token answer taker.new) }
+    {
+        match rest {
             [b'+', ..] => self.give(taker, Token::Compute(Op::Add), 2),
             [b'-', ..] => self.give(taker, Token::Compute(Op::Sub), 2),
-            [b'<', ..] => self.give(taker, Token::Compute(Op::Less), 2),
+            [b'*', ..] => self.give(taker, Token::Compute(Op::Mul), 2),
+            [b'/', ..] => self.give(taker, Token::Compute(Op::Div), 2),
+            [b'm', ..] => self.give(taker, Token::Compute(Op::Rem), 2),
+            [b'&', ..] => self.give(taker, Token::Compute(Op::BitAnd), 2),
             [b'|', ..] => self.give(taker, Token::Compute(Op::BitOr), 2),
-            _ => self.find(taker),
+            [b'^', ..] => self.give(taker, Token::Compute(Op::BitXor), 2),
+            [b'~', ..] => self.give(taker, Token::Compute(Op::BitNot), 2),
+            [b'=', ..] => self.give(taker, Token::Compute(Op::Equal), 2),
+            [b'>', ..] => self.give(taker, Token::Compute(Op::Greater), 2),
+            [b'<', ..] => self.give(taker, Token::Compute(Op::Less), 2),
+            [b'A', ..] => self.give(taker, Token::Compute(Op::And), 2),
+            [b'O', ..] => self.give(taker, Token::Compute(Op::Or), 2),
+            [b'!', ..] => self.give(taker, Token::Compute(Op::Not), 2),
+            _ => match read_token(self.left) {
+                Ok((Token::Print(format), long)) => self.give(taker, Token::Print(format), long),
+                _ => None,
+            },
         }
     }
 

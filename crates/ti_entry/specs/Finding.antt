@@ -1,6 +1,7 @@
 -- The names of extended capabilities, and which capability has a name first.
 use Rattle.std.specs.Prelude.{◌≡◌, ◌≢◌, ℕ, List, ◌++◌, map, take, slice_get, Option, Some, None}
 use Rattle.std.specs.List.{AllByRecursion}
+use Rattle.std.specs.Option.{option_or}
 use Rattle.ti_words.specs.declared.Kind.{Kind}
 use Rattle.ti_words.specs.declared.Kind.TheVariants as kinds
 use Rattle.ti_words.specs.AllNames.{Place, place_in}
@@ -38,14 +39,9 @@ IsFirstNamed p name (Some at) = (slice_get (names_of p at.0) at.1 ≡ Some name)
 
 -- ---- by any name
 
--- the first of two places that is there
-abbrev pub or_else : Option Place → Option Place → Option Place
-or_else None other = other
-or_else (Some place) other = Some place
-
 -- the place of the standard capability with a name of terminfo(5), short or long
 abbrev pub standard_place : List ℕ → Option Place
-standard_place name = or_else (place_in All name) (place_in Long name)
+standard_place name = option_or (place_in All name) (place_in Long name)
 
 -- where an entry has the capability with a name: a standard name comes before the entry's own
 abbrev pub IsPosition : EntryValue → List ℕ → Option Position → Type 0

@@ -1,10 +1,9 @@
 //! Capabilities of an entry by any of their names.
 
-ghost use Rattle.std.specs.Prelude.{◌≡◌};
-ghost use Rattle.ti_entry.specs.Finding.{IsPosition, standard_place as the_standard_place};
+ghost use Rattle.ti_entry.specs.Finding.{IsPosition};
 
 use crate::entry::Entry;
-use ti_words::{Kind, NameTable};
+use ti_words::{Kind, find_short_or_long};
 
 /// Where an entry has a capability: the kind and the index among the standard ones, or among those that it names itself.
 #[derive(Clone, Copy, Debug, PartialEq, Eq)]
@@ -28,20 +27,10 @@ impl<'a> Entry<'a> {
     pub fn position(&self, name: &[u8]) -> Option<Position>
         ensures { IsPosition self.now name.now result }
     {
-        if let Some((kind, index)) = standard_place(name) {
+        if let Some((kind, index)) = find_short_or_long(name) {
             return Some(Position::Standard(kind, index));
         }
         let (kind, index) = self.extended().find(name)?;
         Some(Position::Extended(kind, index))
-    }
-}
-
-/// The kind and the index of the capability of terminfo(5) with a name, short or long.
-fn standard_place(name: &[u8]) -> Option<(Kind, usize)>
-    ensures { result ≡ the_standard_place name.now }
-{
-    match NameTable::All.find_bytes(name) {
-        Some(place) => Some(place),
-        None => NameTable::Long.find_bytes(name),
     }
 }

@@ -25,7 +25,7 @@ pub use extended::Extended;
 pub use finding::Position;
 pub use part_view::PartView;
 pub use reader::EntryReader;
-pub use reopening::{read_with_base, reopen};
+pub use reopening::{read_with_base, reopen, reopen_standard};
 pub use source::{ReadStop, read_from};
 pub use ti_draft::{Draft, EncodeFault, encoded_len};
 pub use ti_layout::{Fault, Refused};

@@ -9,6 +9,7 @@ ghost use Rattle.ti_words.specs.Spelling.{Spells};
 ghost use Rattle.ti_entry.specs.Reading.{base_of_names};
 
 use crate::entry::{Entry, entry_at, entry_of};
+use crate::part_view::{PartView, part_view};
 use ti_base::MOST_ENTRY_BYTES;
 use ti_layout::{Part, Refused, Stage};
 
@@ -43,4 +44,16 @@ pub fn reopen(bytes: &[u8], base: usize) -> Option<Entry<'_>>
     let standard = Part::standard_within(bytes)?;
     let extended = standard.extended_within(bytes)?;
     Some(entry_of(bytes, standard, extended, base))
+}
+
+/// The standard capabilities of the entry in bytes that were read before and are unchanged since. Only the standard header
+/// is looked at, so this takes less than [`reopen`].
+///
+/// Other bytes give none, or some that they do not spell; what they lend still lies in them.
+pub fn reopen_standard(bytes: &[u8]) -> Option<PartView<'_>>
+    ensures again { (v : EntryValue) → Spells bytes.now v
+        → IsSomeAnd result (λ standard. standard ≡ v.standard) }
+{
+    let standard = Part::standard_within(bytes)?;
+    Some(part_view(bytes, standard))
 }

@@ -28,7 +28,7 @@ mod values;
 mod variables;
 mod write;
 
-pub use bytes::expand_bytes;
+pub use bytes::{expand_bytes, expand_plain};
 pub use constant::constant_value;
 pub use counts::Run;
 pub use expansion::{expand, expand_into};

@@ -10,6 +10,7 @@ use crate::stack::Stack;
 use ti_cap::Op;
 
 /// What an operation makes of the two numbers that were popped.
+#[inline(always)]
 pub fn apply(op: Op, left: i32, right: i32) -> i32
     ensures { result ≡ combine op left right }
 {

@@ -7,20 +7,24 @@ use Rattle.std.specs.List.{flat_map}
 use Rattle.ti_base.specs.Limits.{most_entry_bytes}
 use Rattle.ti_layout.specs.declared.fault.Refused.{Refused}
 use Rattle.ti_layout.specs.declared.part.Part.{Part}
+use Rattle.ti_layout.specs.declared.section.Half.{Half}
 use Rattle.ti_layout.specs.declared.section.Half.TheVariants.{Standard, Extended}
 use Rattle.ti_layout.specs.declared.section.Item.{Item}
+use Rattle.ti_layout.specs.declared.section.Item.TheVariants.{Flag, Offset}
 use Rattle.ti_layout.specs.declared.section.Items.{Items}
 use Rattle.ti_layout.specs.declared.section.Section.{Section}
-use Rattle.ti_layout.specs.declared.section.Section.TheVariants.{Header, Flags, Numbers, Offsets, NameOffsets, TableEnd, ExtendedHeader, End}
+use Rattle.ti_layout.specs.declared.section.Section.TheVariants.{Magic, Header, Flags, Numbers, Offsets, NameOffsets, TableEnd, ExtendedHeader, End}
 use Rattle.ti_layout.specs.declared.stage.Stage.{Stage}
-use Rattle.ti_layout.specs.Layout.{standard, places, end_of, extended_after}
+use Rattle.ti_layout.specs.Layout.{standard, places, offsets_from, end_of, extended_after}
 use Rattle.ti_layout.specs.Table.{names_base}
 use Rattle.ti_layout.specs.Checks.{Check, Passes, Ends, Fails, verdict, pad_checks}
-use Rattle.ti_layout.specs.Refusal.{item_check, item_size, items_checks, items_of, size_check, named_check, room_check, extended_size_check, closing_checks, section_checks, checks}
-use Rattle.ti_layout.specs.Stages.{first_items, items_after, sections_after, next, checks_left, standard_known, extended_known, base_known, Reached, StandsAt, Stands, new_stage, standard_after, extended_known_after, base_after, stage_after, at_next_section, closing_end, bytes_awaited, is_whole, Waits, steps_left}
+use Rattle.ti_layout.specs.LastNul.{HasOffsetsBelow}
+use Rattle.ti_layout.specs.Refusal.{item_check, item_size, items, items_checks, part_of, items_of, size_check, named_check, room_check, extended_size_check, closing_checks, section_checks, checks}
+use Rattle.ti_layout.specs.Stages.{first_items, items_after, sections_after, next, checks_left, standard_known, extended_known, base_known, Reached, StandsAt, Stands, new_stage, standard_after, extended_known_after, base_after, stage_after, at_front, at_next_section, closing_end, bytes_awaited, is_whole, Waits, steps_left}
 use Rattle.ti_layout.proofs.VerdictLemmas.{then, verdict_append}
 use Rattle.ti_layout.proofs.PassesLemmas.{first_passes}
 use Rattle.ti_layout.proofs.PlacesLemmas.{places_append}
+use Rattle.ti_layout.proofs.SectionReadLemmas.{each_passed}
 use Rattle.ti_layout.proofs.NamePlaceChecksLemmas.{base_most}
 use Rattle.ti_layout.proofs.AlikeLemmas.{standard_same, extended_same, base_same, items_stay, closing_stays}
 
@@ -265,3 +269,44 @@ next_stage xs s new h none p e =
     let most = most_left there.items.item there.items.at there.items.left (stands_now xs there stands).within in
     let one : length (sections_after s.section) ≡ length (next s.section ∷ sections_after (next s.section)) = ap (λ (l : List Section). length l) (opened s.section s.standard s.extended xs p) in
     rw e (stands, omega arith)
+
+-- ---- in a straight line
+
+-- at the first section no item is left
+pub first_front : (xs : List ℕ) (s : Stage) → s.section ≡ Magic → Stands xs s → Stands xs (at_front s)
+first_front xs s e h =
+    let none : items_of s.section s.standard s.extended ≡ items Flag 0 0 = rw e refl in
+    subst (λ (it : Items). Stands xs (with_items s it)) (sym none) (λ ys.
+    let zs = xs ++ ys in
+    let k = h ys in
+    let left = k.left in
+    record {
+      decides = bare zs s k (omega (arith, left, ap (λ (it : Items). it.left) none));
+      standard = k.standard;
+      extended = k.extended;
+      base = k.base;
+      left = omega arith;
+      within = omega arith;
+      fits = k.fits;
+      extended_fits = k.extended_fits;
+      base_fits = k.base_fits;
+      reached = k.reached;
+    })
+
+-- a section of which all passes comes to the front of the next one
+pub section_passes : (xs : List ℕ) (s : Stage) → Stands xs (at_front s) → Passes ≡ verdict (length xs) (items_checks xs (items_of s.section s.standard s.extended))
+    → Passes ≡ verdict (length xs) (closing_checks s.section s.standard s.extended xs) → Stands xs (at_front (record (stage_after s xs) { section = next s.section }))
+section_passes xs s h items close =
+    let front = at_front s in
+    let n = front.items.left in
+    let gone = items_pass xs front n h (omega arith) items in
+    closing_passes xs (with_items front (items_after n front.items)) gone (omega arith) close
+
+-- the section of the offsets has shown of each text that it is not there, or starts in the table
+pub offsets_below : (bytes : List ℕ) (half other : Half) (s x s' x' : Part) → NameOffsets half ≡ NameOffsets other → s' ≡ s → x' ≡ x
+    → Passes ≡ verdict (length bytes) (items_checks bytes (items_of (Offsets half) s x)) → HasOffsetsBelow bytes (part_of other s' x')
+offsets_below bytes half other s x s' x' same s_is x_is passed =
+    let p = part_of half s x in
+    let below : HasOffsetsBelow bytes p = λ i lt. (each_passed (item_check bytes (Offset p.table)) (length bytes) (offsets_from p) 2 p.texts passed i lt).holds in
+    let is : half ≡ other = cc in
+    rw (s_is, x_is) (subst (λ (h : Half). HasOffsetsBelow bytes (part_of h s x)) is below)

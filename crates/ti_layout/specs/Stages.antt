@@ -123,6 +123,10 @@ stage_after s b = record s {
   base = base_after s.section s.standard s.extended s.base b;
 }
 
+-- the stage at the front of its section
+abbrev pub at_front : Stage → Stage
+at_front s = record s { items = items_of s.section s.standard s.extended }
+
 -- the stage at the front of the next section
 abbrev pub at_next_section : Stage → Stage
 at_next_section s = record s { section = next s.section; items = items_of (next s.section) s.standard s.extended }

@@ -3,10 +3,10 @@
 //! What each function returns is the verdict of the checks that its clause names, whose prefixes are there. Whether texts
 //! have their NULs is decided for all of them from one look for the last NUL of the table.
 
-ghost use Rattle.std.specs.Prelude.{◌≡◌, ◌+◌, ◌*◌, ◌<◌, ◌≤◌, ◌^◌, ◌∷◌, [], length, map};
+ghost use Rattle.std.specs.Prelude.{◌≡◌, ◌+◌, ◌*◌, ◌<◌, ◌≤◌, ◌^◌, ◌∷◌, [], length, map, IsTrue};
 ghost use Rattle.ti_layout.specs.Layout.{places, pad_end};
 ghost use Rattle.ti_layout.specs.Checks.{verdict, result_verdict, nul_check, pad_checks, ending_check, name_place_checks, all_name_place_checks, is_offset_below as the_is_offset_below};
-ghost use Rattle.ti_layout.specs.LastNul.{IsAfterLastNul, is_before as the_is_before};
+ghost use Rattle.ti_layout.specs.LastNul.{AreOffsetsBelow, IsAfterLastNul, is_before as the_is_before};
 
 use crate::fault::{Fault, Refused};
 use crate::greatest::{are_below, are_names};
@@ -122,19 +122,25 @@ fn check_name_place(
     Ok(())
 }
 
-/// Each text that is there has its NUL in the table.
+/// Each text that is there has its NUL in the table. If all start in it, as may be known, and it ends with a NUL, they do.
 pub(crate) fn check_endings(
     bytes: &[u8],
     table: &Table<'_>,
     from: usize,
     count: usize,
+    below: bool,
 ) -> Result<(), Refused>
     requires before { from + 2 * count ≤ table.now.end }
     requires there { table.now.end ≤ length bytes.now }
     requires last_nul { IsAfterLastNul table.now.bytes.now table.now.after_last_nul }
+    requires below { IsTrue below
+        → AreOffsetsBelow bytes.now (length table.now.bytes.now) from count }
     ensures { result_verdict result ≡ verdict (length bytes.now)
         (map (ending_check bytes.now table.now.bytes.now table.now.end) (places from 2 count)) }
 {
+    if below && table.after_last_nul == table.bytes.len() {
+        return Ok(());
+    }
     if are_below(bytes, table.after_last_nul, from, count) {
         return Ok(());
     }

@@ -3,6 +3,7 @@
 //! Items are tested at once, by the greatest of them, and gone over one by one only if that test leaves them open.
 
 ghost use Rattle.std.specs.Prelude.{◌≡◌, ◌+◌, ◌*◌, ◌<◌, ◌≤◌, ◌^◌, ◌∷◌, [], length, IsTrue};
+ghost use Rattle.std.specs.Bool.{OnTrue};
 ghost use Rattle.ti_base.specs.Limits.{most_entry_bytes};
 ghost use Rattle.ti_layout.specs.Layout.{end_of};
 ghost use Rattle.ti_layout.specs.Checks.{Passes, verdict, result_verdict};
@@ -64,6 +65,7 @@ pub(crate) enum Section {
 
 impl Half {
     /// Which of the parts it is.
+    #[inline(always)]
     pub(crate) fn of<'a>(self, standard: &'a Part, extended: &'a Part) -> &'a Part
         ensures { result.now ≡ part_of self standard.now extended.now }
     {
@@ -76,6 +78,7 @@ impl Half {
 
 impl Item {
     /// How many bytes one item has.
+    #[inline(always)]
     pub(crate) fn size(self) -> usize
         ensures value { result ≡ item_size self }
         ensures small { result ≤ 4 }
@@ -155,6 +158,7 @@ impl Items {
     }
 
     /// Whether so many of them pass, tested at once. No leaves it open.
+    #[inline(always)]
     fn all_pass(self, bytes: &[u8], count: usize) -> bool
         requires { self.at + item_size self.item * count ≤ length bytes.now }
         ensures { IsTrue result
@@ -170,6 +174,22 @@ impl Items {
             },
             Item::Offset(table_size) => are_below(bytes, table_size, self.at, count),
         }
+    }
+
+    /// Whether all of them lie within the bytes and pass, tested at once. No leaves it open.
+    #[inline(always)]
+    pub(crate) fn pass(self, bytes: &[u8]) -> bool
+        requires { self.at + item_size self.item * self.left ≤ most_entry_bytes }
+        ensures { OnTrue result
+            (Passes ≡ verdict (length bytes.now) (items_checks bytes.now self)) }
+    {
+        if self.left == 0 {
+            return true;
+        }
+        if self.at + self.item.size() * self.left > bytes.len() {
+            return false;
+        }
+        self.all_pass(bytes, self.left)
     }
 
     /// The checks of so many of them.
@@ -203,6 +223,7 @@ impl Items {
 }
 
 impl Section {
+    #[inline(always)]
     pub(crate) fn next(self) -> Section
         ensures { result ≡ the_next self }
     {
@@ -221,6 +242,7 @@ impl Section {
     }
 
     /// Its items. A section without items counts as one with no flag.
+    #[inline(always)]
     pub(crate) fn items(self, standard: &Part, extended: &Part) -> Items
         requires fits { end_of standard.now ≤ most_entry_bytes }
         requires extended_fits { end_of extended.now ≤ most_entry_bytes }
@@ -269,6 +291,7 @@ impl Section {
     }
 
     /// How many bytes the checks after its items read.
+    #[inline(always)]
     pub(crate) fn closing_end(self, standard: &Part, extended: &Part) -> usize
         requires fits { end_of standard.now ≤ most_entry_bytes }
         requires extended_fits { end_of extended.now ≤ most_entry_bytes }

@@ -1,6 +1,6 @@
 //! The texts of a string table, each up to its NUL.
 
-ghost use Rattle.std.specs.Prelude.{◌≡◌, ◌+◌, ◌<◌, ◌≤◌, ◌↔◌, length, take, IfSome, IsTrue};
+ghost use Rattle.std.specs.Prelude.{◌≡◌, ◌≢◌, ◌+◌, ◌<◌, ◌≤◌, ◌↔◌, length, take, IfSome, IsTrue};
 ghost use Rattle.std.specs.List.{position_or_len};
 ghost use Rattle.ti_base.specs.Limits.{most_entry_bytes};
 ghost use Rattle.ti_words.specs.Texts.{is_nul, text_value};
@@ -114,12 +114,25 @@ pub(crate) fn is_text(table: &[u8], place: usize, text: &[u8]) -> bool
     }
 }
 
-/// Whether the bytes before the first NUL are this text. One byte past its length decides it.
+/// Whether the bytes before the first NUL are this text. Mostly the first byte decides it, and else one past its length.
 fn is_until_nul(bytes: &[u8], text: &[u8]) -> bool
     ensures { IsTrue result ↔ the_until_nul bytes.now ≡ text.now }
 {
+    if start_apart(bytes, text) {
+        return false;
+    }
     let front = &bytes[..bytes.len().min(text.len() + 1)];
     until_nul(front) == text
+}
+
+/// Whether both have a first byte, and not the same one.
+fn start_apart(bytes: &[u8], text: &[u8]) -> bool
+    ensures { IsTrue result → the_until_nul bytes.now ≢ text.now }
+{
+    match (bytes, text) {
+        ([first, ..], [wanted, ..]) => first != wanted,
+        _ => false,
+    }
 }
 
 /// The size of the text at an offset and its NUL, if it is there.

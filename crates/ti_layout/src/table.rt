@@ -3,9 +3,10 @@
 //! The base of the names is summed in one pass that stops at the size of the table: from there on no name can lie in it.
 //! So it is linear even if texts share their bytes.
 
-ghost use Rattle.std.specs.Prelude.{◌≡◌, ◌+◌, ◌*◌, ◌<◌, ◌≤◌, ◌^◌, length, min, IfOk};
+ghost use Rattle.std.specs.Prelude.{◌≡◌, ◌+◌, ◌*◌, ◌<◌, ◌≤◌, ◌^◌, length, min, IfOk, IsTrue};
 ghost use Rattle.ti_base.specs.Limits.{most_entry_bytes};
 ghost use Rattle.ti_layout.specs.Checks.{verdict, result_verdict};
+ghost use Rattle.ti_layout.specs.LastNul.{HasOffsetsBelow};
 ghost use Rattle.ti_layout.specs.Refusal.{text_checks};
 ghost use Rattle.ti_layout.specs.Layout.{IsWithin, places, offsets_from, end_of};
 ghost use Rattle.ti_layout.specs.Table.{sizes_at, names_base, table_of, end_at as the_end_at, last_end as the_last_end};
@@ -73,11 +74,13 @@ impl Part {
     }
 }
 
-/// The base of the names if there are any, once each text and each name has its NUL in the table.
+/// The base of the names if there are any, once each text and each name has its NUL in the table. `below` is true only if
+/// each offset of a text is known to be a mark or a place of the table.
 #[tactic(auto, using(crate::proofs::VerdictLemmas::verdict_append))]
-pub(crate) fn check_texts(bytes: &[u8], part: &Part) -> Result<usize, Refused>
+pub(crate) fn check_texts(bytes: &[u8], part: &Part, below: bool) -> Result<usize, Refused>
     requires fits { end_of part.now ≤ most_entry_bytes }
     requires there { end_of part.now ≤ length bytes.now }
+    requires below { IsTrue below → HasOffsetsBelow bytes.now part.now }
     ensures verdict { result_verdict result
         ≡ verdict (length bytes.now) (text_checks bytes.now part.now) }
     ensures base { IfOk result (λ base. base ≡ names_base bytes.now part.now) }
@@ -90,7 +93,7 @@ pub(crate) fn check_texts(bytes: &[u8], part: &Part) -> Result<usize, Refused>
         end,
         after_last_nul: after_last_nul(texts),
     };
-    check_endings(bytes, &table, offsets_from, part.texts)?;
+    check_endings(bytes, &table, offsets_from, part.texts, below)?;
     if part.names == 0 {
         return Ok(0);
     }

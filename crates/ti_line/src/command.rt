@@ -96,14 +96,14 @@ fn params<'a>(alloc: Global, help: &'a str) -> Arg<'a>
 
 // A line of a help text has at most 58 characters, so that help fits into 80 columns.
 
-const PARAMS: &str = "n:NUMBER (-2147483648 to 2147483647) or s:TEXT;
-at most nine, missing ones are the number 0";
+const PARAMS: &str = "Parameters: n:NUMBER (-2147483648 to 2147483647) or
+s:TEXT; at most nine, a missing one is the number 0";
 
-const TRACE_PARAMS: &str = "n:NUMBER or s:TEXT; at most nine, missing ones are the
-number 0; with --of also a number or a text alone";
+const TRACE_PARAMS: &str = "Parameters: n:NUMBER or s:TEXT; at most nine, a missing
+one is the number 0; with --of also 5 or red alone";
 
-const ANY_PARAMS: &str = "A number or a text: n:NUMBER, s:TEXT, or the word alone,
-which is what the text takes; with none it is only padded";
+const ANY_PARAMS: &str = "Parameters: 5 or red, or n:5 or s:red to force the type;
+without any the string is padded, but not expanded";
 
 /// `FILE..`: any number of files, with what help says of them.
 fn files<'a>(alloc: Global, help: &'a str) -> Arg<'a>
@@ -132,13 +132,13 @@ fn entry<'a>(alloc: Global) -> Arg<'a>
     Arg::new(alloc, "FILE").long("entry").help(FILE)
 }
 
-const FILES: &str = "Compiled entries, and folders with such in them;
-none, or -, is standard input";
+const FILES: &str = "Compiled entries, or directories to search; none, or -,
+is standard input";
 
 const FILE: &str = "A compiled entry; none, or -, is standard input";
 
-const PAIR: &str = "The other entry, or an entry and the other; the first is
-standard input if it is -, or not named";
+const PAIR: &str = "The second entry, or both; the first is standard input
+if it is -, or not named";
 
 /// `--of NAME`.
 fn of<'a>(alloc: Global) -> Arg<'a>
@@ -148,8 +148,8 @@ fn of<'a>(alloc: Global) -> Arg<'a>
     Arg::new(alloc, "NAME").long("of").help(OF)
 }
 
-const OF: &str = "Trace this capability of an entry, which is read in
-place of one: a name, as ti get takes it";
+const OF: &str = "Trace this capability of an entry, by a name that ti get
+takes, in place of a string from standard input";
 
 /// The argument of a name, with what help says of it.
 fn name<'a>(alloc: Global, help: &'a str) -> Arg<'a>
@@ -159,50 +159,50 @@ fn name<'a>(alloc: Global, help: &'a str) -> Arg<'a>
     Arg::new(alloc, "NAME").required(true).help(help)
 }
 
-const TEXT_NAME: &str = "The text: # and its index, such as #10, or its name,
-such as cup, or the name of an extended text";
+const TEXT_NAME: &str = "The string: a common name, such as cup, an extended
+name, or # and an index, such as #10";
 
 const ANY_NAME: &str = "The capability: a name, such as cup, cursor_address or
 an extended one, or flag#N, number#N or text#N";
 
-const SOURCE: &str = "Read the capability in the notation of terminfo(5), such
-as \\E[%p1%dG; a newline at its end is no part of it";
+const SOURCE: &str = "Read the string as terminfo(5) writes it, such as
+\\E[%p1%dG; a newline at its end is left out";
 
-const HEX: &str = "Write the output as lower-case hex and one newline";
+const HEX: &str = "Write the output as lower-case hex and a newline";
 
-const ESCAPE: &str = "Write names, texts and outputs in the notation of
+const ESCAPE: &str = "Write names, strings and outputs in the notation of
 terminfo(5), such as \\E[H";
 
 const JSON: &str = "Write JSON, with the names of all 497 capabilities, and
-texts in the notation of terminfo(5)";
+strings in the notation of terminfo(5)";
 
-const COLOR: &str = "Let parts of lines stand out: always, never, or auto, at a
-terminal unless NO_COLOR is set; default auto";
+const COLOR: &str = "Use color: always, never, or auto (the default), which
+is at a terminal unless NO_COLOR is set";
 
 const ALL_NAMES: &str = "Use the names of all 497 capabilities, in place of
 the 114 common ones";
 
-const ALL: &str = "Tell also what many entries have on purpose, such as
-two keys that send the same";
+const ALL: &str = "Report also what is often intended, such as two keys
+that send the same string";
 
-const EXPAND: &str = "Pass over texts that differ in spelling alone, such
-as %{10} and %'\n', which expand to the same";
+const EXPAND: &str = "Ignore differences in spelling, such as %{65} and %'A',
+which expand to the same";
 
-const RATE: &str = "Bytes per second of the line, 0 to 1000000; default 0,
-at which padding takes no byte";
+const RATE: &str = "Speed of the line in bytes per second, 0 to 1000000;
+default 0, at which a delay writes nothing";
 
-const LINES: &str = "Lines that the text affects, 0 to 65535, by which
-padding with * is multiplied; default 1";
+const LINES: &str = "Lines that the string affects, 0 to 65535, by which a
+delay with * is multiplied; default 1";
 
-const XON: &str = "The line has flow control: write only padding that is
-mandatory (marked by /)";
+const XON: &str = "The line has flow control: write mandatory delays alone,
+which are marked by /";
 
 const WIDE: &str = "Write the format with numbers of 32 bits";
 
 const NARROW: &str = "Write the format with numbers of 16 bits, which are
 at most 32767; not with --wide";
 
-const FORCE: &str = "Write the entry to a terminal too";
+const FORCE: &str = "Write the entry even to a terminal";
 
 /// A command with its name, its usage, a line on what it does, and what its long help has at its end.
 fn new_command<'a>(
@@ -256,7 +256,7 @@ fn show<'a>(alloc: Global) -> Result<Command<'a>, AllocError>
         alloc,
         "show",
         "ti show [OPTIONS] [FILE]...",
-        "List an entry, one line an item",
+        "Print an entry, one capability a line",
         "Example:\n  ti show /lib/terminfo/x/xterm\n\nFor an entry that a stranger wrote:\n  ti show --escape < entry",
     );
     let command = with_two(command, escape(alloc), all_names(alloc));
@@ -270,8 +270,8 @@ fn check<'a>(alloc: Global) -> Result<Command<'a>, AllocError>
         alloc,
         "check",
         "ti check [OPTIONS] [FILE]...",
-        "Analyse each text of an entry; status 1 if one has a fault",
-        "Example, of all entries in a folder:\n  ti check /lib/terminfo\n\nFor an entry that a stranger wrote:\n  ti check --escape < entry",
+        "Analyse each string of an entry; status 1 if one has a fault",
+        "Example, all entries of a directory:\n  ti check /lib/terminfo\n\nFor an entry that a stranger wrote:\n  ti check --escape < entry",
     );
     let command = with_two(command, escape(alloc), all_names(alloc));
     with_two(command, json(alloc), files(alloc, FILES))
@@ -284,8 +284,8 @@ fn lint<'a>(alloc: Global) -> Result<Command<'a>, AllocError>
         alloc,
         "lint",
         "ti lint [OPTIONS] [FILE]...",
-        "Tell what is wrong with an entry; status 1 if something is",
-        "Example, of all entries in a folder:\n  ti lint /lib/terminfo",
+        "Report mistakes in entries; status 1 if there are any",
+        "Example, all entries of a directory:\n  ti lint /lib/terminfo",
     );
     let command = with_two(command, flag(alloc, "all", ALL), json(alloc));
     with_two(command, color(alloc), files(alloc, FILES))
@@ -298,8 +298,8 @@ fn get<'a>(alloc: Global) -> Result<Command<'a>, AllocError>
         alloc,
         "get",
         "ti get [OPTIONS] <NAME> [PARAM]... < ENTRY",
-        "Write the value of one capability of an entry, as tput does",
-        "Example, which moves to line 5, column 10:\n  ti get cup 4 9 < /lib/terminfo/x/xterm\n\nOf a flag the status is the answer:\n  ti get am < /lib/terminfo/x/xterm && echo yes",
+        "Print the value of one capability, as tput does",
+        "Example, which moves to line 5, column 10:\n  ti get cup 4 9 < /lib/terminfo/x/xterm\n\nThe value of a boolean is the exit status:\n  ti get am < /lib/terminfo/x/xterm && echo yes",
     );
     let command = with_one(command, name(alloc, ANY_NAME));
     let command = with_two(command, hex(alloc), escape(alloc));
@@ -319,7 +319,7 @@ fn expand<'a>(alloc: Global) -> Result<Command<'a>, AllocError>
         alloc,
         "expand",
         "ti expand [OPTIONS] <NAME> [PARAM]... < ENTRY",
-        "Expand and pad one text of an entry",
+        "Expand and pad one string of an entry",
         "Example, which moves to line 5, column 10:\n  ti expand cup n:4 n:9 < /lib/terminfo/x/xterm",
     );
     let command = with_two(command, name(alloc, TEXT_NAME), hex(alloc));
@@ -340,8 +340,8 @@ fn diff<'a>(alloc: Global) -> Result<Command<'a>, AllocError>
         alloc,
         "diff",
         "ti diff [OPTIONS] [FILE] <OTHER>",
-        "Tell two entries apart, one line an item; status 1 if they differ",
-        "Example, - for what only the first has, + for the other:\n  ti diff /lib/terminfo/x/xterm /lib/terminfo/x/xterm-color",
+        "Show the differences between two entries; status 1 if any",
+        "Example, - for the value in the first, + for that in the second:\n  ti diff /lib/terminfo/x/xterm /lib/terminfo/x/xterm-color",
     );
     let command = with_two(command, flag(alloc, "expand", EXPAND), json(alloc));
     with_two(command, color(alloc), files(alloc, PAIR))
@@ -355,7 +355,7 @@ fn convert<'a>(alloc: Global) -> Result<Command<'a>, AllocError>
         "convert",
         "ti convert [OPTIONS] [FILE]",
         "Write an entry in its canonical layout",
-        "Example, which writes the entry with numbers of 32 bits:\n  ti convert --wide entry > wide",
+        "Example, to the format with numbers of 32 bits:\n  ti convert --wide entry > wide",
     );
     let command = with_two(
         command,
@@ -372,8 +372,8 @@ fn cap<'a>(alloc: Global) -> Result<Command<'a>, AllocError>
         alloc,
         "cap",
         "ti cap [OPTIONS] [PARAM]... < CAPABILITY",
-        "Expand one capability; padding marks stay as they are",
-        "Example, which writes ESC [ 7 G:\n  printf '\\033[%%p1%%dG' | ti cap n:7\n\nThe same, as a manual shows it:\n  echo '\\E[%p1%dG' | ti cap --source n:7",
+        "Expand a string from standard input; delays stay as they are",
+        "Example, which writes ESC [ 7 G:\n  printf '\\033[%%p1%%dG' | ti cap n:7\n\nThe same, as terminfo(5) writes it:\n  echo '\\E[%p1%dG' | ti cap --source n:7",
     );
     let command = with_two(command, source(alloc), hex(alloc));
     with_two(command, escape(alloc), params(alloc, PARAMS))
@@ -386,8 +386,8 @@ fn trace<'a>(alloc: Global) -> Result<Command<'a>, AllocError>
         alloc,
         "trace",
         "ti trace [OPTIONS] [PARAM]... < CAPABILITY\n       ti trace --of <NAME> [OPTIONS] [PARAM]... < ENTRY",
-        "Show what each token of one capability does",
-        "Example, which shows the stack and the output after each token:\n  echo '\\E[%p1%dG' | ti trace --source --escape n:7\n\nOf an entry:\n  ti trace --escape --of cup 4 9 < /lib/terminfo/x/xterm",
+        "Show what each token of a string does",
+        "Example, with the stack and the output after each token:\n  echo '\\E[%p1%dG' | ti trace --source --escape n:7\n\nA string of an entry:\n  ti trace --escape --of cup 4 9 < /lib/terminfo/x/xterm",
     );
     let command = with_two(command, source(alloc), of(alloc));
     let command = with_two(command, escape(alloc), json(alloc));
@@ -395,19 +395,21 @@ fn trace<'a>(alloc: Global) -> Result<Command<'a>, AllocError>
     with_one(command, params(alloc, TRACE_PARAMS))
 }
 
-/// What help says of the exit status, and an example.
+/// The exit statuses in help, and examples.
 const STATUSES: &str = "Status:
   0  done
-  1  check found a fault, lint something wrong, diff a
-     difference, or a flag is not set
-  2  the words are wrong
-  3  the entry is refused
-  4  the capability is refused or absent
+  1  check found a fault, lint a mistake, diff a difference,
+     or get a boolean that is not set
+  2  usage error
+  3  not a valid entry
+  4  invalid or missing capability
   5  reading or writing failed
   6  out of memory
 
-Example:
-  ti show --escape /lib/terminfo/x/xterm";
+Examples:
+  ti show --escape /lib/terminfo/x/xterm
+  ti lint /lib/terminfo/x/xterm
+  ti get cup 4 9 --entry /lib/terminfo/x/xterm";
 
 /// `ti` itself, before its subcommands.
 fn start<'a>(alloc: Global) -> Result<Command<'a>, AllocError>
@@ -415,7 +417,7 @@ fn start<'a>(alloc: Global) -> Result<Command<'a>, AllocError>
 {
     Ok(
         Command::new(alloc, "ti")
-            .about("Reads, analyses, expands and writes compiled terminfo entries")
+            .about("Reads, checks, expands and writes compiled terminfo entries")
             .version(VERSION)
             .subcommand_required(true)
             .after_help(STATUSES),

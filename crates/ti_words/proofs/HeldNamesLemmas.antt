@@ -1,13 +1,11 @@
 -- The names of a list as the code holds them, with a NUL after each.
-use Rattle.std.proofs.Common.{◌≡◌, ◌∙◌, ℕ, ◌<◌, ◌≤◌, List, [], ◌∷◌, length, map, Option, Some, None, refl, sym, ap, arith}
+use Rattle.std.proofs.Common.{◌≡◌, ◌∙◌, ℕ, ◌<◌, ◌≤◌, List, length, map, Option, Some, None, refl, sym, ap}
 use Rattle.std.specs.Borrow.{Bor}
 use Rattle.std.specs.Prelude.{MatchOption, option_map, slice_get}
 use Rattle.std.specs.List.{HoldsAt}
 use Rattle.std.specs.Option.{option_copied}
-use Rattle.std.proofs.lemmas.List.{length-append, take_at}
 use Rattle.std.proofs.lemmas.Option.{none-some, same_Some, slice_get-map, slice_get_past, slice_get_read}
-use Rattle.std.proofs.lemmas.Simd.{map-map}
-use Rattle.ti_words.specs.AllNames.{front, with_nul}
+use Rattle.ti_words.specs.AllNames.{with_nul}
 
 -- what the call `get` promises is the name at the index
 pub lent_is : (names : List (Bor (List ℕ))) (index : ℕ) (lent : Option (Bor (Bor (List ℕ))))
@@ -30,14 +28,3 @@ name_held held names index one is at =
     ∙ ap (λ all. slice_get all index) (sym is)
     ∙ slice_get-map (λ name. name.now) held index
     ∙ ap (option_map (λ name. name.now)) at)
-
-front_is : (name : List ℕ) → front (with_nul name) ≡ name
-front_is name = take_at name (0 ∷ []) _ (let l = length-append name (0 ∷ []) in omega (arith, l))
-
-fronts : (names : List (List ℕ)) → map front (map with_nul names) ≡ names
-fronts [] = refl
-fronts (name ∷ names) = ap (λ n. n ∷ map front (map with_nul names)) (front_is name) ∙ ap (λ ns. name ∷ ns) (fronts names)
-
-pub fronts_are : (held : List (Bor (List ℕ))) (names : List (List ℕ)) → map (λ name. name.now) held ≡ map with_nul names
-    → map (λ name. front name.now) held ≡ names
-fronts_are held names is = sym (map-map front (λ name. name.now) held) ∙ ap (map front) is ∙ fronts names

@@ -1,3 +1,4 @@
 pub mod HeldNamesLemmas
+pub mod HintLemmas
 pub mod NamesLemmas
 pub mod Examples

@@ -1,16 +1,14 @@
 -- In each table no name stands twice: a name and its kind and index determine each other.
-use Rattle.std.proofs.Common.{◌≡◌, ◌∙◌, ℕ, ◌+◌, ◌<◌, Bool, true, false, cond, inl, inr, List, [], ◌∷◌, ◌++◌, length, get_or, Option, Some, None, refl, sym, ap, subst, arith}
+use Rattle.std.proofs.Common.{◌≡◌, ◌∙◌, ℕ, ◌+◌, ◌<◌, Bool, true, false, cond, inl, inr, List, [], length, get_or, Option, Some, None, refl, sym, ap, subst, arith}
 use Rattle.std.specs.Prelude.{Contains, IfSome, slice_get}
-use Rattle.std.specs.List.{IsDistinct, enumerate_from}
-use Rattle.std.specs.Map.{lookup, keys_of}
-use Rattle.std.specs.Option.{option_or}
+use Rattle.std.specs.List.{enumerate_from}
+use Rattle.std.specs.Map.{lookup}
 use Rattle.std.specs.Str.{bytes_eq}
 use Rattle.std.proofs.lemmas.Cmp.{nat_list_eq_equiv}
 use Rattle.std.proofs.lemmas.List.{get_or-map, length-map}
-use Rattle.std.proofs.lemmas.List.Elements.{Contains-append_cases, Contains-append_left, Contains-append_right, filter-append}
+use Rattle.std.proofs.lemmas.List.Elements.{Contains-append_cases, Contains-append_left, Contains-append_right}
 use Rattle.std.proofs.lemmas.List.FromFn.{get_or-enumerate_from, length-enumerate_from}
 use Rattle.std.proofs.lemmas.Map.Entries.{lookup-filter-values, option_filter}
-use Rattle.std.proofs.lemmas.Map.Made.{IsDistinct-from_count}
 use Rattle.std.proofs.lemmas.Map.Views.{Contains-from_lookup, lookup-from_Contains}
 use Rattle.std.proofs.lemmas.Option.{get_or_from_slice_get, none-some, cond_some, some_pair_parts, slice_get-get_or, slice_get_within}
 use Rattle.std.proofs.lemmas.Slice.Eq.{bytes_eq-Decides}
@@ -18,14 +16,10 @@ use Rattle.ti_words.specs.declared.Kind.{Kind}
 use Rattle.ti_words.specs.declared.Kind.TheVariants as kinds
 use Rattle.ti_words.specs.declared.all_names.NameTable.{NameTable}
 use Rattle.ti_words.specs.declared.all_names.NameTable.TheVariants as tables
-use Rattle.ti_words.specs.AllNames.{HasNoEmptyNameIn, HasOnePlaceIn, IsNamedIn, NameAndPlaceAgreeIn, Place, all_placed, has_index, kept, listed, place_in, placed, placed_from}
+use Rattle.ti_words.specs.AllNames.{HasNoEmptyNameIn, HasOnePlaceIn, IsNamedIn, NameAndPlaceAgreeIn, Place, all_placed, has_index, listed, name_in, place_in, placed, placed_from}
+use Rattle.ti_words.specs.inner.Hints.{IsOnlyPlace, IsRowOf}
 use Rattle.ti_words.specs.NameLists.{all_flags, all_numbers, all_texts}
-
-names_differ : (table : NameTable) → IsDistinct bytes_eq (keys_of (all_placed table))
-unfolding all_flags all_numbers all_texts
-names_differ tables.Common = IsDistinct-from_count nat_list_eq_equiv (keys_of (all_placed tables.Common)) refl
-names_differ tables.All = IsDistinct-from_count nat_list_eq_equiv (keys_of (all_placed tables.All)) refl
-names_differ tables.Long = IsDistinct-from_count nat_list_eq_equiv (keys_of (all_placed tables.Long)) refl
+use Rattle.ti_words.proofs.HintLemmas.{are_distinct, leads_to, row_for}
 
 -- ---- a name in its list, and its place
 
@@ -78,27 +72,13 @@ from_table table name place c = elim (Contains-append_cases _ _ _ c) [
   ]
 ]
 
-either : {X : Type 0} (b : Bool) (x : X) (o p q : Option X) → q ≡ option_or o p → cond b (Some x) q ≡ option_or (cond b (Some x) o) p
-either true x o p q e = refl
-either false x o p q e = e
-
-lookup_append : {K X : Type 0} (test : K → Bool) (xs ys : List (K × X)) → lookup test (xs ++ ys) ≡ option_or (lookup test xs) (lookup test ys)
-lookup_append test [] ys = refl
-lookup_append test (x ∷ xs) ys = either (test x.0) x.1 (lookup test xs) (lookup test ys) (lookup test (xs ++ ys)) (lookup_append test xs ys)
-
-pub kept_append : (table : NameTable) (name : List ℕ) (xs ys : List (List ℕ × Place))
-    → lookup (bytes_eq name) (kept table (xs ++ ys)) ≡ option_or (lookup (bytes_eq name) (kept table xs)) (lookup (bytes_eq name) (kept table ys))
-kept_append table name xs ys =
-    ap (lookup (bytes_eq name)) (filter-append (λ named. has_index table named.1.0 named.1.1) xs ys)
-    ∙ lookup_append (bytes_eq name) (kept table xs) (kept table ys)
-
 -- ---- the laws
 
 abbrev has_place : NameTable → Place → Bool
 has_place table place = has_index table place.0 place.1
 
 place_is : (table : NameTable) (name : List ℕ) → place_in table name ≡ option_filter (has_place table) (lookup (bytes_eq name) (all_placed table))
-place_is table name = lookup-filter-values nat_list_eq_equiv (has_place table) name (all_placed table) (names_differ table)
+place_is table name = lookup-filter-values nat_list_eq_equiv (has_place table) name (all_placed table) (are_distinct table)
 
 passed : {X : Type 0} (p : X → Bool) (o : Option X) (y : X) → option_filter p o ≡ Some y → (p y ≡ true) × (o ≡ Some y)
 passed p None y e = absurd (none-some y e)
@@ -120,7 +100,7 @@ pub place_only : (table : NameTable) (place : Place) (name : List ℕ) → IsNam
 place_only table place name (has, is) =
     place_is table name
     ∙ ap (option_filter (has_place table))
-    (lookup-from_Contains nat_list_eq_equiv name place (all_placed table) (names_differ table) (to_table table place.0 place.1 name is))
+    (lookup-from_Contains nat_list_eq_equiv name place (all_placed table) (are_distinct table) (to_table table place.0 place.1 name is))
     ∙ ap (λ b. cond b (Some place) None) has
 
 pub one_place : (table : NameTable) → HasOnePlaceIn table
@@ -145,3 +125,25 @@ none_is_empty tables.Long = refl
 
 pub not_empty : (table : NameTable) → HasNoEmptyNameIn table
 not_empty table kind index is = none-some (kind, index) (sym (none_is_empty table) ∙ place_only table (kind, index) [] is)
+
+-- ---- a name and the only place that can have it
+
+-- no capability but that of the row to which it leads has the name
+pub only_row : (name : List ℕ) → IsRowOf name (row_for name)
+only_row name table at (has, is) = leads_to table name at (to_table table at.0 at.1 name is)
+
+-- a name that stands there has that place
+pub there : (table : NameTable) (name : List ℕ) (place : Place) → name_in table place.0 place.1 ≡ Some name
+    → Some place ≡ place_in table name
+there table name place is = sym ((inverse table place.0 place.1 name).0 is)
+
+none_of : {X : Type 0} (o : Option X) → ((x : X) → o ≡ Some x → ⊥) → None ≡ o
+none_of None other = refl
+none_of (Some x) other = absurd (other x refl)
+
+-- and if another name stands there, it has none
+pub nowhere : (table : NameTable) (name : List ℕ) (place : Place) → IsOnlyPlace name place
+    → ¬ (name_in table place.0 place.1 ≡ Some name) → None ≡ place_in table name
+nowhere table name place only other =
+    none_of (place_in table name) (λ at is.
+    other ((inverse table place.0 place.1 name).1 (is ∙ ap Some (sym (only table at (place_found table name at is))))))

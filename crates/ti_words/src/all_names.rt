@@ -1,16 +1,18 @@
 //! The names of capabilities in three tables: the common ones, all of `term.h`, and all long ones.
 //!
-//! Each table takes its names from the same rows. A name is looked for among those of the rows, and an index is that of a row.
-//! After each name of a row stands a NUL. No call takes memory.
+//! Each table takes its names from the same rows, and an index is that of a row. A name is compared with that of the only
+//! capability that can have it. After each name of a row stands a NUL. No call takes memory.
 
 ghost use Rattle.std.specs.Prelude.{◌≡◌, ℕ, List, Some, map, option_map};
-ghost use Rattle.std.specs.Map.{lookup};
-ghost use Rattle.std.specs.Str.{bytes_eq};
+ghost use Rattle.std.specs.Option.{option_or};
 ghost use Rattle.ti_words.specs.declared.Kind.TheVariants as kinds;
-ghost use Rattle.ti_words.specs.AllNames.{IsNameAt, IsPlaceOf, front, has_index, kept, listed, name_in, place_in, placed, with_nul};
+ghost use Rattle.ti_words.specs.declared.all_names.NameTable.TheVariants as tables;
+ghost use Rattle.ti_words.specs.AllNames.{IsNameAt, IsNamedIn, IsPlaceOf, has_index, listed, name_in, place_in, with_nul};
 ghost use Rattle.ti_words.specs.NameLists.{rows};
+ghost use Rattle.ti_words.specs.inner.Hints.{IsOnlyPlace};
 
 use crate::Kind;
+use crate::hint::only_place;
 use crate::table::{
     COMMON_FLAGS, COMMON_NUMBERS, COMMON_TEXTS, FLAGS, LONG_FLAGS, LONG_NUMBERS, LONG_TEXTS,
     NUMBERS, TEXTS,
@@ -64,10 +66,11 @@ impl NameTable {
     }
 
     /// The same for a name as bytes, which need not be text.
+    #[inline(always)]
     pub fn find_bytes(self, name: &[u8]) -> Option<(Kind, usize)>
         ensures { IsPlaceOf self name.now result }
     {
-        self.seek(name)
+        self.look_at(only_place(name), name)
     }
 
     /// Whether the table has the name at an index of a kind, if there is one.
@@ -100,6 +103,7 @@ impl NameTable {
     }
 
     /// The name of the capability of a kind at an index.
+    #[inline(always)]
     fn name_at(self, kind: Kind, index: usize) -> Option<&'static str>
         ensures { option_map (λ name. name.now) result ≡ name_in self kind index }
     {
@@ -110,30 +114,29 @@ impl NameTable {
         without_nul(listed)
     }
 
-    /// The place of a name.
-    #[tactic(auto, using(crate::proofs::NamesLemmas::kept_append))]
-    fn seek(self, name: &[u8]) -> Option<(Kind, usize)>
+    /// The place of a name: the only one that can have it, if it does.
+    #[inline(always)]
+    fn look_at(self, place: (Kind, usize), name: &[u8]) -> Option<(Kind, usize)>
+        requires { IsOnlyPlace name.now place }
         ensures { result ≡ place_in self name.now }
     {
-        if let Some(place) = self.place_of(Kind::Flag, name) {
-            return Some(place);
+        let (kind, index) = place;
+        match self.name_at(kind, index) {
+            Some(known) if known.as_bytes() == name => Some(place),
+            _ => None,
         }
-        if let Some(place) = self.place_of(Kind::Number, name) {
-            return Some(place);
-        }
-        self.place_of(Kind::Text, name)
     }
+}
 
-    /// The place of the capability of a kind that has a name.
-    fn place_of(self, kind: Kind, name: &[u8]) -> Option<(Kind, usize)>
-        ensures { result ≡ lookup (bytes_eq name.now) (kept self (placed self kind)) }
-    {
-        for (index, known) in self.list_of(kind).iter().enumerate() {
-            if name == front_of(known) && self.has(kind, index) {
-                return Some((kind, index));
-            }
-        }
-        None
+/// The kind and the index of the capability that has a name: a short one, such as `cup`, or a long one, such as
+/// `cursor_address`.
+pub fn find_short_or_long(name: &[u8]) -> Option<(Kind, usize)>
+    ensures { result ≡ option_or (place_in tables.All name.now) (place_in tables.Long name.now) }
+{
+    let place = only_place(name);
+    match NameTable::All.look_at(place, name) {
+        Some(found) => Some(found),
+        None => NameTable::Long.look_at(place, name),
     }
 }
 
@@ -143,14 +146,6 @@ fn without_nul(listed: &'static str) -> Option<&'static str>
         → option_map (λ name. name.now) result ≡ Some name }
 {
     listed.strip_suffix('\0')
-}
-
-/// The bytes of a text but the last one.
-fn front_of(text: &str) -> &[u8]
-    ensures { result.now ≡ front text.now }
-{
-    let bytes = text.as_bytes();
-    &bytes[..bytes.len().saturating_sub(1)]
 }
 
 /// Which names of a kind are common.

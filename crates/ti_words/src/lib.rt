@@ -2,8 +2,8 @@
 //!
 //! A flag is one byte, a number is one word, a text is an offset or a mark. Each function here is exact both ways: a
 //! byte and its flag, a word and its number, a name and its kind and index determine each other. None takes memory; a
-//! byte or word takes a few instructions, a name a look through the list of all 497. `specs/Spelling.antt` says which bytes
-//! spell an entry: reading and writing stand on it, each in crates of their own.
+//! byte or word takes a few instructions, a name a hash of its bytes and a comparison. `specs/Spelling.antt` says which
+//! bytes spell an entry: reading and writing stand on it, each in crates of their own.
 #![tactic(auto)]
 
 ghost use Rattle.std.specs.Prelude.{◌≡◌, ◌<◌, ◌^◌, pos, IfSome};
@@ -11,11 +11,13 @@ ghost use Rattle.ti_words.specs.Marks.{byte_of_flag, flag_of_byte, word_of_numbe
 ghost use Rattle.ti_words.specs.Widths.{number_size as the_number_size, magic_number as the_magic_number, width_of_magic as the_width_of_magic, greatest_number as the_greatest_number, format_name as the_format_name};
 
 mod all_names;
+mod hint;
 pub mod laws;
 mod names;
+mod slots;
 mod table;
 
-pub use all_names::NameTable;
+pub use all_names::{NameTable, find_short_or_long};
 pub use names::{find, flag_name, number_name, text_name};
 use ti_base::{GREATEST_WIDE_WORD, GREATEST_WORD};
 

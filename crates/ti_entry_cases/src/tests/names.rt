@@ -1,6 +1,6 @@
 //! Names of capabilities, which are those of ncurses.
 
-use ti_words::{Kind, NameTable, find, flag_name, number_name, text_name};
+use ti_words::{Kind, NameTable, find, find_short_or_long, flag_name, number_name, text_name};
 
 #[test]
 fn names_are_those_of_ncurses(rt: HostRuntime) {
@@ -31,4 +31,12 @@ fn all_names_are_those_of_ncurses(rt: HostRuntime) {
     assert_that!(rt; NameTable::Common.text_name(146) == None);
     assert_that!(rt; NameTable::Common.find("acsc") == None);
     assert_that!(rt; NameTable::Common.find("cup") == Some((Kind::Text, 10)));
+}
+
+#[test]
+fn names_are_found_short_or_long(rt: HostRuntime) {
+    assert_that!(rt; find_short_or_long(b"setaf") == Some((Kind::Text, 359)));
+    assert_that!(rt; find_short_or_long(b"set_a_foreground") == Some((Kind::Text, 359)));
+    assert_that!(rt; find_short_or_long(b"set_a_foregrounD") == None);
+    assert_that!(rt; find_short_or_long(b"") == None);
 }

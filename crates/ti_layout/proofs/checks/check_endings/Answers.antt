@@ -6,6 +6,15 @@ use Rattle.ti_layout.proofs.VerdictLemmas.{opened}
 use Rattle.ti_layout.proofs.WholeSectionLemmas.{all_pass, before}
 use Rattle.ti_layout.proofs.checks.check_endings.Goals as goal
 
+pub returns-then-table : goal.returns-then-table
+returns-then-table c =
+    let t = c.args.table.now in
+    let low = c.requires.below c.if-below.true in
+    all_pass (ending_check c.args.bytes.now t.bytes.now t.end) (length c.args.bytes.now) c.args.from 2 c.args.count (λ i lt. record {
+      long = c.requires.there;
+      holds = told t.bytes.now t.after_last_nul c.requires.last_nul _ ∙ before t.after_last_nul _ (rw c.if-table.true (low i lt));
+    })
+
 pub returns-then-are_below : goal.returns-then-are_below
 returns-then-are_below c =
     let t = c.args.table.now in

@@ -4,7 +4,7 @@ use Rattle.ti_words.proofs.all_names.NameTable.find_bytes.Goals as goal
 
 pub returns : goal.returns
 returns c = record {
-  value = c.seek.ensures;
-  found = found_by c.args.self c.args.name.now c.seek.result c.seek.ensures;
-  only = λ at named. c.seek.ensures ∙ place_only c.args.self at c.args.name.now named;
+  value = c.look_at.ensures;
+  found = found_by c.args.self c.args.name.now c.look_at.result c.look_at.ensures;
+  only = λ at named. c.look_at.ensures ∙ place_only c.args.self at c.args.name.now named;
 }
