@@ -5,7 +5,7 @@ import shutil
 import subprocess
 from pathlib import Path
 
-from checks.machine import ARCHIVE, INCLUDE, ROOT, entry_file, is_there, prove
+from checks.machine import INCLUDE, PROVED_ARCHIVE, ROOT, entry_file, is_there, prove
 
 PROVED = ROOT / "crates/ti_bench/out/ti_bench"
 ENTRIES = "ansi linux rxvt screen screen-256color tmux tmux-256color vt100 vt220 xterm xterm-256color xterm-color".split()
@@ -23,7 +23,7 @@ def list_of_items() -> str:
 def build_peers(folder: Path) -> tuple[Path, bool]:
     """The program of the libraries for C, and whether unibilium is in it."""
     peers = folder / "peers"
-    command = ["gcc", "-O2", f"-I{INCLUDE}", "-o", peers, ROOT / "bench/peers.c", ARCHIVE, "-ltinfo"]
+    command = ["gcc", "-O2", f"-I{INCLUDE}", "-o", peers, ROOT / "bench/peers.c", PROVED_ARCHIVE, "-ltinfo"]
     has_unibilium = subprocess.run(["pkg-config", "--exists", "unibilium"], check=False).returncode == 0
     if has_unibilium:
         command += ["-DUNIBILIUM", "-lunibilium"]

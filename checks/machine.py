@@ -1,16 +1,22 @@
 """What the scripts share about this repository and this machine: where things are, which tools are there, and how the program
-and the library are built."""
+and the library are built.
+
+PROGRAM and ARCHIVE are the program and the library for C that a script uses: what was proved and built here, or what lies in
+dist/ if that was built of these sources. They are chosen as ./ti and ./install choose, when a script imports them."""
 
 import shutil
 import subprocess
 import sys
 from collections.abc import Iterable
+from functools import cache
 from pathlib import Path
 
 ROOT = Path(__file__).resolve().parent.parent
 LAUNCHER = ROOT / "ti"
-PROGRAM = ROOT / "crates/ti/out/ti"
-ARCHIVE = ROOT / "crates/ti_c/out/libti_c.a"
+DIST = ROOT / "dist"
+# What ./prove makes of the crates in which all others end.
+PROVED_PROGRAM = ROOT / "crates/ti/out/ti"
+PROVED_ARCHIVE = ROOT / "crates/ti_c/out/libti_c.a"
 INCLUDE = ROOT / "include"
 
 # Debian's packages of what the checks run in or compare with, each with its commands. A package is known to be there by the
@@ -62,10 +68,43 @@ def need(script: str, *commands: str) -> None:
             sys.exit(f"{script}: there is no {command} on the path")
 
 
+@cache
+def taken(crate: str, made: Path) -> Path:
+    """What is taken of a crate: what was proved and built here, or what lies in dist/. If neither is there, the first is what is
+    to be made."""
+    done = subprocess.run([DIST / "take", crate], stdout=subprocess.PIPE, text=True, check=False)
+    return Path(done.stdout.strip()) if done.returncode == 0 else made
+
+
+def __getattr__(name: str) -> Path:
+    """PROGRAM and ARCHIVE, which only the scripts that import them look for."""
+    if name == "PROGRAM":
+        return taken("ti", PROVED_PROGRAM)
+    if name == "ARCHIVE":
+        return taken("ti_c", PROVED_ARCHIVE)
+    raise AttributeError(name)
+
+
+def tell_taken(path: Path) -> None:
+    """Says that a check is one of what lies in dist/."""
+    if path.parent == DIST:
+        print(f"{'/'.join(Path(sys.argv[0]).parts[-2:])}: this is of {path.relative_to(ROOT)}, since it was not proved and built here", flush=True)
+
+
 def build_program() -> None:
-    """Builds the program if that is not done yet. The launcher prints what is missing for it, and the script ends then."""
+    """Builds the program if it is neither built nor in dist/. The launcher prints what is missing for it, and the script ends
+    then."""
     if subprocess.run([LAUNCHER, "--help"], stdout=subprocess.DEVNULL, check=False).returncode:
         sys.exit(1)
+    tell_taken(taken("ti", PROVED_PROGRAM))
+
+
+def build_library() -> None:
+    """Builds the library for C if it is neither built nor in dist/."""
+    library = taken("ti_c", PROVED_ARCHIVE)
+    if library == PROVED_ARCHIVE:
+        prove("ti_c")
+    tell_taken(library)
 
 
 def prove(*crates: str) -> None:

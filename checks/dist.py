@@ -1,0 +1,51 @@
+"""What lies in dist/: the files, the record of what they were made of, and the sums to hold them against."""
+
+import subprocess
+from dataclasses import dataclass, field
+from hashlib import sha256
+from pathlib import Path
+
+from checks.machine import DIST
+
+# Each file of dist/ with the crate of which it is made.
+FILES = {"ti": "ti", "libti.a": "ti_c", "libti.so": "ti_c"}
+
+
+@dataclass
+class Record:
+    """The record: the kit's line, what linked the shared object, and for each file its sum and that of its sources."""
+
+    kit: str = ""
+    linkers: str = ""
+    files: dict[str, tuple[str, str]] = field(default_factory=dict)
+
+
+def read_record(folder: Path = DIST) -> Record:
+    """The record of a folder, which is empty if there is none."""
+    record = Record()
+    path = folder / "record"
+    for line in path.read_text().splitlines() if path.exists() else []:
+        word, _, rest = line.partition(" ")
+        if word == "kit":
+            record.kit = rest
+        elif word == "gcc":
+            record.linkers = rest
+        elif word == "file":
+            name, total, _, sources = rest.split(" ")
+            record.files[name] = total, sources
+    return record
+
+
+def sum_of(path: Path) -> str:
+    return sha256(path.read_bytes()).hexdigest() if path.exists() else "none"
+
+
+def call(function: str, *words: str | Path) -> "subprocess.CompletedProcess[str]":
+    """Calls a function of dist/common.sh."""
+    script = 'root=$1; shift; . "$root/dist/common.sh"; "$@"'
+    return subprocess.run(["bash", "-c", script, "bash", DIST.parent, function, *words], stdout=subprocess.PIPE, text=True, check=False)
+
+
+def sum_of_sources(crate: str) -> str:
+    """The sum over the sources of a crate and of all that it stands on."""
+    return subprocess.run([DIST / "sources", crate], stdout=subprocess.PIPE, text=True, check=True).stdout.strip()
