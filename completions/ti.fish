@@ -1,7 +1,7 @@
 # Completes the words of ti in fish.
 complete -c ti -f
 complete -c ti -n __fish_use_subcommand -a show -d 'Print an entry, one capability a line'
-complete -c ti -n __fish_use_subcommand -a check -d 'Analyse each string of an entry'
+complete -c ti -n __fish_use_subcommand -a check -d 'Check each string of an entry'
 complete -c ti -n __fish_use_subcommand -a lint -d 'Report mistakes in entries'
 complete -c ti -n __fish_use_subcommand -a get -d 'Print the value of one capability'
 complete -c ti -n __fish_use_subcommand -a diff -d 'Show the differences between two entries'
@@ -19,7 +19,7 @@ complete -c ti -n '__fish_seen_subcommand_from cap trace show check expand get' 
 complete -c ti -n '__fish_seen_subcommand_from show check expand' -l all-names -d 'Use all names of term.h'
 complete -c ti -n '__fish_seen_subcommand_from show check lint diff trace' -l json -d 'Write JSON'
 complete -c ti -n '__fish_seen_subcommand_from lint diff trace' -l color -x -a 'auto always never' -d 'When to use color'
-complete -c ti -n '__fish_seen_subcommand_from lint' -l all -d 'Report also what is often intended'
+complete -c ti -n '__fish_seen_subcommand_from lint' -l all -d 'Report also findings that may be intended'
 complete -c ti -n '__fish_seen_subcommand_from diff' -l expand -d 'Ignore differences in spelling'
 complete -c ti -n '__fish_seen_subcommand_from expand get' -l rate -x -d 'Speed of the line in bytes per second'
 complete -c ti -n '__fish_seen_subcommand_from expand get' -l lines -x -d 'Lines that the string affects'

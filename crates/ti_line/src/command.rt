@@ -99,11 +99,11 @@ fn params<'a>(alloc: Global, help: &'a str) -> Arg<'a>
 const PARAMS: &str = "Parameters: n:NUMBER (-2147483648 to 2147483647) or
 s:TEXT; at most nine, a missing one is the number 0";
 
-const TRACE_PARAMS: &str = "Parameters: n:NUMBER or s:TEXT; at most nine, a missing
-one is the number 0; with --of also 5 or red alone";
+const TRACE_PARAMS: &str = "Parameters: n:NUMBER or s:TEXT, or with --of 5 or red;
+at most nine, a missing one is the number 0";
 
-const ANY_PARAMS: &str = "Parameters: 5 or red, or n:5 or s:red to force the type;
-without any the string is padded, but not expanded";
+const ANY_PARAMS: &str = "Parameters, such as 5 or red; n:5 and s:5 force the type;
+with none the string is padded, but not expanded";
 
 /// `FILE..`: any number of files, with what help says of them.
 fn files<'a>(alloc: Global, help: &'a str) -> Arg<'a>
@@ -132,13 +132,13 @@ fn entry<'a>(alloc: Global) -> Arg<'a>
     Arg::new(alloc, "FILE").long("entry").help(FILE)
 }
 
-const FILES: &str = "Compiled entries, or directories to search; none, or -,
-is standard input";
+const FILES: &str = "Compiled entries, or directories of them; - or nothing
+means standard input";
 
-const FILE: &str = "A compiled entry; none, or -, is standard input";
+const FILE: &str = "A compiled entry; - or nothing means standard input";
 
-const PAIR: &str = "The second entry, or both; the first is standard input
-if it is -, or not named";
+const PAIR: &str = "One entry, to compare standard input with, or two entries;
+either can be -, which means standard input";
 
 /// `--of NAME`.
 fn of<'a>(alloc: Global) -> Arg<'a>
@@ -148,8 +148,8 @@ fn of<'a>(alloc: Global) -> Arg<'a>
     Arg::new(alloc, "NAME").long("of").help(OF)
 }
 
-const OF: &str = "Trace this capability of an entry, by a name that ti get
-takes, in place of a string from standard input";
+const OF: &str = "Trace this string of an entry, by any name that ti get
+takes; without --of the string is read from standard input";
 
 /// The argument of a name, with what help says of it.
 fn name<'a>(alloc: Global, help: &'a str) -> Arg<'a>
@@ -159,31 +159,32 @@ fn name<'a>(alloc: Global, help: &'a str) -> Arg<'a>
     Arg::new(alloc, "NAME").required(true).help(help)
 }
 
-const TEXT_NAME: &str = "The string: a common name, such as cup, an extended
-name, or # and an index, such as #10";
+const TEXT_NAME: &str = "The name of a string, such as cup, or a user-defined name;
+or #N, the string with index N, such as #10";
 
-const ANY_NAME: &str = "The capability: a name, such as cup, cursor_address or
-an extended one, or flag#N, number#N or text#N";
+const ANY_NAME: &str = "The name: cup, cursor_address or a user-defined name; or
+flag#N, number#N or text#N, the capability with index N";
 
 const SOURCE: &str = "Read the string as terminfo(5) writes it, such as
 \\E[%p1%dG; a newline at its end is left out";
 
-const HEX: &str = "Write the output as lower-case hex and a newline";
+const HEX: &str = "Write the output as lower-case hex and a newline; not with
+--escape";
 
 const ESCAPE: &str = "Write names, strings and outputs in the notation of
 terminfo(5), such as \\E[H";
 
-const JSON: &str = "Write JSON, with the names of all 497 capabilities, and
-strings in the notation of terminfo(5)";
+const JSON: &str = "Write JSON; names are of all 497 capabilities, and strings
+are in the notation of terminfo(5)";
 
-const COLOR: &str = "Use color: always, never, or auto (the default), which
-is at a terminal unless NO_COLOR is set";
+const COLOR: &str = "Use color: always, never or auto; auto, the default, means
+only at a terminal, and only if NO_COLOR is not set";
 
 const ALL_NAMES: &str = "Use the names of all 497 capabilities, in place of
 the 114 common ones";
 
-const ALL: &str = "Report also what is often intended, such as two keys
-that send the same string";
+const ALL: &str = "Report also findings that may be intended, such as two
+keys that send the same string";
 
 const EXPAND: &str = "Ignore differences in spelling, such as %{65} and %'A',
 which expand to the same";
@@ -191,10 +192,10 @@ which expand to the same";
 const RATE: &str = "Speed of the line in bytes per second, 0 to 1000000;
 default 0, at which a delay writes nothing";
 
-const LINES: &str = "Lines that the string affects, 0 to 65535, by which a
-delay with * is multiplied; default 1";
+const LINES: &str = "Lines that the string affects, 0 to 65535 (default 1); a
+delay with * is multiplied by it";
 
-const XON: &str = "The line has flow control: write mandatory delays alone,
+const XON: &str = "Flow control: of the delays write only the mandatory ones,
 which are marked by /";
 
 const WIDE: &str = "Write the format with numbers of 32 bits";
@@ -270,7 +271,7 @@ fn check<'a>(alloc: Global) -> Result<Command<'a>, AllocError>
         alloc,
         "check",
         "ti check [OPTIONS] [FILE]...",
-        "Analyse each string of an entry; status 1 if one has a fault",
+        "Check each string of an entry; status 1 if one has a fault",
         "Example, all entries of a directory:\n  ti check /lib/terminfo\n\nFor an entry that a stranger wrote:\n  ti check --escape < entry",
     );
     let command = with_two(command, escape(alloc), all_names(alloc));
@@ -341,7 +342,7 @@ fn diff<'a>(alloc: Global) -> Result<Command<'a>, AllocError>
         "diff",
         "ti diff [OPTIONS] [FILE] <OTHER>",
         "Show the differences between two entries; status 1 if any",
-        "Example, - for the value in the first, + for that in the second:\n  ti diff /lib/terminfo/x/xterm /lib/terminfo/x/xterm-color",
+        "Example; - marks a value of the first entry, + of the second:\n  ti diff /lib/terminfo/x/xterm /lib/terminfo/x/xterm-color",
     );
     let command = with_two(command, flag(alloc, "expand", EXPAND), json(alloc));
     with_two(command, color(alloc), files(alloc, PAIR))
@@ -406,7 +407,7 @@ const STATUSES: &str = "Status:
   5  reading or writing failed
   6  out of memory
 
-Examples:
+Examples (infocmp | head -n 1 names the file of your terminal):
   ti show --escape /lib/terminfo/x/xterm
   ti lint /lib/terminfo/x/xterm
   ti get cup 4 9 --entry /lib/terminfo/x/xterm";
@@ -417,7 +418,7 @@ fn start<'a>(alloc: Global) -> Result<Command<'a>, AllocError>
 {
     Ok(
         Command::new(alloc, "ti")
-            .about("Reads, checks, expands and writes compiled terminfo entries")
+            .about("Read, check, compare, expand and write compiled terminfo entries")
             .version(VERSION)
             .subcommand_required(true)
             .after_help(STATUSES),

@@ -9,8 +9,8 @@ pub fn wide_and_back()
     ensures { WideAndBack }
 {}
 
-/// For a request but that of `lint`, and the bytes that are read, at most one result, or fault, is due. What is due for `lint`
-/// is said by which findings its lines tell, and that these are one is not shown.
+/// For a request but those of `lint` and `diff`, and the bytes that are read, there is at most one result, or fault. The result of
+/// `lint` is said by its findings, that of `diff` by the differences, and that these are one is not shown.
 pub fn results_are_one()
     ensures one { HasOneAnswer }
     ensures verdict { CheckHasOneVerdict }
