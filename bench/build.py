@@ -9,6 +9,13 @@ from checks.machine import INCLUDE, PROVED_ARCHIVE, ROOT, entry_file, is_there, 
 
 PROVED = ROOT / "crates/ti_bench/out/ti_bench"
 ENTRIES = "ansi linux rxvt screen screen-256color tmux tmux-256color vt100 vt220 xterm xterm-256color xterm-color".split()
+# Names that programs look up: short ones, long ones, such as an entry has of its own, and such as nothing has.
+NAMES = {
+    "short": "cup clear setaf sgr smcup el rmcup cnorm civis kcuu1 kf1 bce colors smso op ri".split(),
+    "long": "cursor_address clear_screen set_a_foreground set_attributes enter_ca_mode clr_eol key_up back_color_erase".split(),
+    "own": "Smulx E3 kDC5 XT Ms Se Ss kUP5".split(),
+    "none": "Nothing cupp setaff zz xyz sgr1000".split(),
+}
 # Where Debian puts the sources of crates.
 REGISTRY = Path("/usr/share/cargo/registry")
 SOURCES = ["--config", 'source.crates-io.replace-with="debian"', "--config", f'source.debian.directory="{REGISTRY}"']
@@ -17,6 +24,7 @@ SOURCES = ["--config", 'source.crates-io.replace-with="debian"', "--config", f's
 def list_of_items() -> str:
     lines = [(ROOT / "bench/capabilities").read_text()]
     lines += [f"entry {name} {path.read_bytes().hex()}\n" for name in ENTRIES if (path := entry_file(name))]
+    lines += [f"{group} {name} {name.encode().hex()}\n" for group, names in NAMES.items() for name in names]
     return "".join(lines)
 
 
@@ -58,7 +66,8 @@ def programs(folder: Path) -> dict[str, Path]:
     prove("ti_bench", "ti_c")
     known = dict.fromkeys(["parse", "expand_into", "parse+expand_into", "expand", "read", "feed512", "feed1"], PROVED)
     peers, has_unibilium = build_peers(folder)
-    known.update(dict.fromkeys(["ti_expand", "ti_open", "ti_open+6_texts", "ti_open+6_names", "ti_read", "tiparm", "tparm"], peers))
+    ours = ["ti_expand", "ti_expand_needed", "call", "ti_open", "ti_open+6_texts", "ti_open+6_names", "ti_read", "ti_find", "ti_view_find"]
+    known.update(dict.fromkeys([*ours, "tiparm", "tiparm_needed", "tparm", "tigetstr"], peers))
     if has_unibilium:
         known.update(dict.fromkeys(["unibi_run", "unibi_from_mem", "unibi+6_texts"], peers))
     rust, has_term = build_rust(folder)

@@ -4,7 +4,9 @@
  *
  * reads the list that crates/ti_bench reads, and prints `GROUP WORK ITEMS NANOSECONDS`, the processor time of all rounds. In
  * each round it does the work on each item of the group so many turns in a row. The work `output` prints what `tiparm` makes
- * of each capability, in hex, a line each. Built with -DUNIBILIUM it knows that library's calls too. */
+ * of each capability, in hex, a line each. Work with `_needed` in its name passes the parameters that a capability names, the
+ * other nine; `call` makes nine and calls nothing. Names are looked up in the entry LOOKED_UP of the list. Built with
+ * -DUNIBILIUM it knows that library's calls too. */
 #include "ti.h"
 
 #include <curses.h>
@@ -19,17 +21,29 @@
 
 enum { MOST_ITEMS = 4096, LONGEST_LINE = 1 << 17, MOST_NUMBERS = 9, ROOM = 4096, MOST_CAPABILITIES = 16384 };
 
+#define LOOKED_UP "xterm-256color"
+
 struct item {
     char *bytes;
     size_t length;
     int numbers[MOST_NUMBERS];
+    int needed;
 };
 
-static struct item items[MOST_ITEMS];
+static struct item items[MOST_ITEMS], looked_up;
 static size_t count;
 
-static void add_item(char *hex) {
-    struct item *item = &items[count++];
+/* The greatest parameter that a capability names. */
+static int needed_by(const struct item *item) {
+    int most = 0;
+    for (size_t i = 0; i + 2 < item->length; i++) {
+        const char *byte = item->bytes + i;
+        if (byte[0] == '%' && byte[1] == 'p' && byte[2] >= '1' && byte[2] <= '9' && byte[2] - '0' > most) most = byte[2] - '0';
+    }
+    return most;
+}
+
+static void read_item(struct item *item, char *hex) {
     item->length = strlen(hex) / 2;
     item->bytes = calloc(item->length + 1, 1);
     for (size_t i = 0; i < item->length; i++) {
@@ -41,16 +55,16 @@ static void add_item(char *hex) {
         char *word = strtok(NULL, " \n");
         item->numbers[i] = word ? atoi(word) : 0;
     }
+    item->needed = needed_by(item);
 }
 
 static void read_items(const char *group) {
     static char line[LONGEST_LINE];
     while (fgets(line, sizeof line, stdin) && count < MOST_ITEMS) {
-        char *word = strtok(line, " \n");
-        if (!word || strcmp(word, group) != 0) continue;
-        strtok(NULL, " \n");
-        word = strtok(NULL, " \n");
-        if (word) add_item(word);
+        char *word = strtok(line, " \n"), *name = strtok(NULL, " \n"), *hex = strtok(NULL, " \n");
+        if (!word || !hex) continue;
+        if (strcmp(word, group) == 0) read_item(&items[count++], hex);
+        else if (strcmp(word, "entry") == 0 && strcmp(name, LOOKED_UP) == 0) read_item(&looked_up, hex);
     }
 }
 
@@ -65,19 +79,62 @@ static char *by_tparm(const struct item *item) {
                  (long)n[7], (long)n[8]);
 }
 
+/* `tiparm` with the parameters that a capability names. */
+static char *by_tiparm_needed(const struct item *item) {
+    const int *n = item->numbers;
+    switch (item->needed) {
+    case 0: return tiparm(item->bytes);
+    case 1: return tiparm(item->bytes, n[0]);
+    case 2: return tiparm(item->bytes, n[0], n[1]);
+    case 3: return tiparm(item->bytes, n[0], n[1], n[2]);
+    case 4: return tiparm(item->bytes, n[0], n[1], n[2], n[3]);
+    default: return by_tiparm(item);
+    }
+}
+
 static size_t run_tiparm(const struct item *item) { return by_tiparm(item) != NULL; }
+
+static size_t run_tiparm_needed(const struct item *item) { return by_tiparm_needed(item) != NULL; }
 
 static size_t run_tparm(const struct item *item) { return by_tparm(item) != NULL; }
 
-static size_t run_ti_expand(const struct item *item) {
+static size_t expand_with(const struct item *item, int passed) {
     static ti_vars vars;
     static unsigned char out[ROOM];
     ti_parameter parameters[MOST_NUMBERS];
     ti_run run;
-    for (int k = 0; k < MOST_NUMBERS; k++) parameters[k] = ti_number(item->numbers[k]);
-    return ti_expand((const unsigned char *)item->bytes, item->length, parameters, MOST_NUMBERS, &vars, out, sizeof out, &run)
+    for (int k = 0; k < passed; k++) parameters[k] = ti_number(item->numbers[k]);
+    return ti_expand((const unsigned char *)item->bytes, item->length, parameters, (size_t)passed, &vars, out, sizeof out, &run)
            == TI_DONE;
 }
+
+static size_t run_ti_expand(const struct item *item) { return expand_with(item, MOST_NUMBERS); }
+
+static size_t run_ti_expand_needed(const struct item *item) { return expand_with(item, item->needed); }
+
+/* What each expansion of nine parameters costs before the call. */
+static size_t run_call(const struct item *item) {
+    ti_parameter parameters[MOST_NUMBERS];
+    for (int k = 0; k < MOST_NUMBERS; k++) parameters[k] = ti_number(item->numbers[k]);
+    __asm__ volatile("" : : "r"(parameters) : "memory");
+    return 1;
+}
+
+static size_t run_ti_find(const struct item *item) {
+    uint32_t kind;
+    size_t index;
+    return 1 + (ti_find((const unsigned char *)item->bytes, item->length, &kind, &index) == TI_DONE);
+}
+
+static size_t run_ti_view_find(const struct item *item) {
+    static ti_view view;
+    static int is_open;
+    ti_value value;
+    if (!is_open) is_open = ti_open((const unsigned char *)looked_up.bytes, looked_up.length, &view) == TI_DONE;
+    return (size_t)is_open + (ti_view_find(&view, (const unsigned char *)item->bytes, item->length, &value) == TI_DONE);
+}
+
+static size_t run_tigetstr(const struct item *item) { return 1 + (tigetstr(item->bytes) != NULL); }
 
 static size_t run_ti_read(const struct item *item) {
     static int8_t flags[MOST_CAPABILITIES];
@@ -145,11 +202,17 @@ static const struct {
     size_t (*run)(const struct item *item);
 } works[] = {
     {"ti_expand", run_ti_expand},
+    {"ti_expand_needed", run_ti_expand_needed},
+    {"call", run_call},
+    {"ti_find", run_ti_find},
+    {"ti_view_find", run_ti_view_find},
     {"ti_read", run_ti_read},
     {"ti_open", run_ti_open},
     {"ti_open+6_texts", run_ti_open_six},
     {"ti_open+6_names", run_ti_open_by_name},
     {"tiparm", run_tiparm},
+    {"tiparm_needed", run_tiparm_needed},
+    {"tigetstr", run_tigetstr},
     {"tparm", run_tparm},
 #ifdef UNIBILIUM
     {"unibi_run", run_unibi_run},
