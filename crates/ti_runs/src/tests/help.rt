@@ -175,7 +175,7 @@ fn help_is_the_text_of_the_command(rt: HostRuntime) -> Result<(), Fail> {
     let text = std::str::from_utf8(end.output.as_slice())
         .ok()
         .ok_or("text")?;
-    let about = "Reads, analyses, expands and writes compiled terminfo entries\n";
+    let about = "Read, check, compare, expand and write compiled terminfo entries\n";
     assert_that!(rt; text.starts_with(about));
     assert_that!(rt; text.ends_with("\n"));
     for command in ["cap", "trace", "show", "check", "expand", "convert", "get"] {
