@@ -21,7 +21,7 @@ IN_PLACE = "in place"
 ONE_OF = 30
 # Those are drawn from so many crates, since a check of a crate costs more than another edit in it.
 DRAWN_CRATES = 2
-JUDGES = ["bodies.py", "rests.py", "said.py", "trial.py"]
+JUDGES = ["bodies.py", "said.py", "trial.py"]
 
 
 @lru_cache(None)

@@ -133,6 +133,8 @@ def items_of_impl(path: Path, lines: list[str]) -> list[Item]:
     trait, _, owner = plain.rpartition(" for ")
     names = WORD.findall(owner)
     outside, functions = without_bodies(lines[at + 1 :], "    ")
+    # The attributes of functions are those that their own check reads.
+    outside = [line for line in outside if line.strip() and not line.startswith("    #[")]
     headers = [line for name in functions for line in functions[name]] if trait else []
     found = [Item(path, names[-1], "\n".join([*lines[: at + 1], *outside, *headers]))] if names else []
     own = [] if trait else functions.items()
@@ -261,19 +263,24 @@ def definition_index(path: Path) -> dict[str, list[Definition]]:
     return found
 
 
+def is_operator_in(name: str, text: str) -> bool:
+    """Whether a text may use an operator, such as ◌≡◌: whether it has a part of it."""
+    return "◌" in name and any(part in text for part in name.split("◌") if part)
+
+
 @lru_cache(None)
 def names_in(definition: Definition) -> tuple[dict[str, Import], list[Definition]]:
-    """What a declaration names: imports, and declarations of its own file. An operator is taken to be named."""
-    words = set(PIECE.findall(definition.text))
-    imports = {name: one for name, one in imports_of(definition.path).items() if name in words or "◌" in name}
-    own = [found for name, several in definition_index(definition.path).items() if name in words or "◌" in name for found in several]
+    """What a declaration names: imports, and declarations of its own file."""
+    words, text = set(PIECE.findall(definition.text)), definition.text
+    imports = {name: one for name, one in imports_of(definition.path).items() if name in words or is_operator_in(name, text)}
+    index = definition_index(definition.path)
+    own = [found for name in index if name in words or is_operator_in(name, text) for found in index[name]]
     return imports, own
 
 
 @dataclass(frozen=True, eq=False)
 class Said:
-    """What a text of a source names: definitions, an operator wherever it is imported; what a `use` brings; its words; and those that may
-    call a function."""
+    """What a text of a source names: definitions; what a `use` brings; its words; and those that may call a function."""
 
     imports: dict[str, Import]
     brought: list[Brought]
@@ -286,10 +293,15 @@ class Said:
         return [sorted(self.imports.items()), sorted(self.brought)]
 
 
+def is_named_otherwise(name: str, text: str) -> bool:
+    """Whether a text names something whose name is no word of a source: an operator, or a name that has other characters."""
+    return not WORD.fullmatch(name) and (is_operator_in(name, text) if "◌" in name else name in text)
+
+
 @lru_cache(None)
 def said_in(path: Path, text: str) -> Said:
     words = frozenset(WORD.findall(text))
-    imports = {name: one for name, one in imported_by(path).items() if name in words or not WORD.fullmatch(name)}
+    imports = {name: one for name, one in imported_by(path).items() if name in words or is_named_otherwise(name, text)}
     brought = [one for one in brought_by(path) if one.name in words or one.name == "*"]
     bound = {name for names in BOUND.findall(text) for name in names}
     return Said(imports, brought, words, frozenset(CALLED.findall(text)) | frozenset(NO_FIELD.findall(text)) - bound)
