@@ -204,20 +204,9 @@ def words_of(one: Import) -> list[str]:
 
 @lru_cache(None)
 def imports_of(path: Path) -> dict[str, Import]:
-    """What a file of definitions or proofs imports, by its own name for it."""
+    """What a source, or a file of definitions or proofs, imports from such files, by its own name for it."""
     found = {}
-    for module, several, alias in USE.findall(text_of(path)):
-        for part in [f" as {alias}"] if alias else several.split(","):
-            there, _, here = part.partition(" as ")
-            found[(here or there).strip()] = Import(module, there.strip())
-    return found
-
-
-@lru_cache(None)
-def imported_by(path: Path) -> dict[str, Import]:
-    """What a source imports from definitions, by its own name for it."""
-    found = {}
-    for module, several, alias in IMPORT.findall(text_of(path)):
+    for module, several, alias in (IMPORT if path.suffix == ".rt" else USE).findall(text_of(path)):
         for part in [f" as {alias}"] if alias else several.split(","):
             there, _, here = part.partition(" as ")
             found[(here or there).strip()] = Import(module, there.strip())
@@ -301,7 +290,7 @@ def is_named_otherwise(name: str, text: str) -> bool:
 @lru_cache(None)
 def said_in(path: Path, text: str) -> Said:
     words = frozenset(WORD.findall(text))
-    imports = {name: one for name, one in imported_by(path).items() if name in words or is_named_otherwise(name, text)}
+    imports = {name: one for name, one in imports_of(path).items() if name in words or is_named_otherwise(name, text)}
     brought = [one for one in brought_by(path) if one.name in words or one.name == "*"]
     bound = {name for names in BOUND.findall(text) for name in names}
     return Said(imports, brought, words, frozenset(CALLED.findall(text)) | frozenset(NO_FIELD.findall(text)) - bound)
