@@ -28,6 +28,8 @@ struct item {
     size_t length;
     int numbers[MOST_NUMBERS];
     int needed;
+    enum { NEW, KEPT, NOT_KEPT } state;
+    ti_kept kept;
 };
 
 static struct item items[MOST_ITEMS], looked_up;
@@ -111,6 +113,27 @@ static size_t expand_with(const struct item *item, int passed) {
 static size_t run_ti_expand(const struct item *item) { return expand_with(item, MOST_NUMBERS); }
 
 static size_t run_ti_expand_needed(const struct item *item) { return expand_with(item, item->needed); }
+
+static size_t run_ti_compile(const struct item *item) {
+    static ti_kept kept;
+    size_t place;
+    return 1 + (ti_compile((const unsigned char *)item->bytes, item->length, &kept, &place) == TI_DONE);
+}
+
+/* A capability that does not fit is expanded from its bytes. */
+static size_t expand_kept_with(struct item *item, int passed) {
+    static ti_vars vars;
+    static unsigned char out[ROOM];
+    size_t place, written;
+    if (item->state == NEW)
+        item->state = ti_compile((const unsigned char *)item->bytes, item->length, &item->kept, &place) == TI_DONE ? KEPT : NOT_KEPT;
+    if (item->state == NOT_KEPT) return expand_with(item, passed);
+    return ti_expand_kept(&item->kept, item->numbers, (size_t)passed, &vars, out, sizeof out, &written) == TI_DONE;
+}
+
+static size_t run_ti_expand_kept(const struct item *item) { return expand_kept_with(&items[item - items], MOST_NUMBERS); }
+
+static size_t run_ti_expand_kept_needed(const struct item *item) { return expand_kept_with(&items[item - items], item->needed); }
 
 /* What each expansion of nine parameters costs before the call. */
 static size_t run_call(const struct item *item) {
@@ -203,6 +226,9 @@ static const struct {
 } works[] = {
     {"ti_expand", run_ti_expand},
     {"ti_expand_needed", run_ti_expand_needed},
+    {"ti_compile", run_ti_compile},
+    {"ti_expand_kept", run_ti_expand_kept},
+    {"ti_expand_kept_needed", run_ti_expand_kept_needed},
     {"call", run_call},
     {"ti_find", run_ti_find},
     {"ti_view_find", run_ti_view_find},

@@ -209,6 +209,192 @@ static void test_expansion_faults(void) {
     free(text);
 }
 
+/* ---- compiled capabilities */
+
+/* So many times a text of two or three bytes. */
+static char *many(const char *text, size_t times) {
+    size_t length = strlen(text);
+    char *all = (char *)malloc(times * length + 2);
+    if (all == NULL) exit(2);
+    for (size_t i = 0; i < times; i++) memcpy(all + i * length, text, length);
+    all[times * length] = 0;
+    return all;
+}
+
+static ti_kept compiled;
+
+static uint32_t compile(const unsigned char *bytes, size_t length, size_t *place) {
+    memset(&compiled, UNWRITTEN, sizeof compiled);
+    return ti_compile(bytes, length, &compiled, place);
+}
+
+/* Numbers that look random, the same in each run. */
+static uint32_t next_random(void) {
+    static uint64_t state = 88172645463325252u;
+    state ^= state << 13;
+    state ^= state >> 7;
+    state ^= state << 17;
+    return (uint32_t)(state >> 32);
+}
+
+static int32_t random_number(void) {
+    uint32_t number = next_random();
+    switch (next_random() % 4) {
+    case 0: return (int32_t)(number % 300);
+    case 1: return -(int32_t)(number % 300);
+    case 2: return (int32_t)(number % 2 ? INT32_MAX : INT32_MIN);
+    default: return (int32_t)(number >> 1) - (int32_t)(number & 1);
+    }
+}
+
+/* Whether a compiled capability does what its bytes do: for random numbers, variables and counts of parameters. */
+static int is_same_expansion(const unsigned char *bytes, size_t length) {
+    int32_t numbers[9];
+    ti_parameter parameters[9];
+    ti_vars compiled_vars;
+    unsigned char compiled_out[ROOM];
+    size_t count = next_random() % 10, written = 987654321;
+    for (size_t i = 0; i < 9; i++) parameters[i] = ti_number(numbers[i] = random_number());
+    for (size_t i = 0; i < 52; i++) vars.values[i] = compiled_vars.values[i] = random_number();
+    uint32_t answer = ti_expand(bytes, length, parameters, count, &vars, out, ROOM, &run);
+    if (answer == TI_OUT_TOO_SMALL) {
+        return ti_expand_kept(&compiled, numbers, count, &compiled_vars, compiled_out, ROOM, &written) == TI_OUT_TOO_SMALL;
+    }
+    return answer == TI_DONE && ti_expand_kept(&compiled, numbers, count, &compiled_vars, compiled_out, ROOM, &written) == TI_DONE
+           && written == run.written && memcmp(out, compiled_out, written) == 0
+           && memcmp(&vars, &compiled_vars, sizeof vars) == 0;
+}
+
+static void compiles(const char *text) {
+    size_t place = 7, length = strlen(text);
+    unsigned char *bytes = copy_of(text, length);
+    expect(compile(bytes, length, &place) == TI_DONE && place == 7, text);
+    for (int i = 0; i < 20; i++) expect(is_same_expansion(bytes, length), text);
+    free(bytes);
+}
+
+/* Capabilities of random tokens: 100000 expansions of those that are compiled, and the faults of the others. */
+static void test_random_capabilities(void) {
+    static const char *const tokens[] = {"a", ";", "[", "%%", "%i", "%p1", "%p2", "%p3", "%p9", "%d", "%d", "%c", "%02x", "%:-5d",
+                                         "%+", "%-", "%*", "%/", "%m", "%&", "%|", "%^", "%=", "%>", "%<", "%A", "%O", "%!", "%~",
+                                         "%{32}", "%'x'", "%Pa", "%ga", "%PZ", "%gZ", "%#o", "%X", "%s", "%p", "%;"};
+    int same = 1, refused = 1, expansions = 0;
+    while (expansions < 100000) {
+        char text[256] = "";
+        size_t place = 7, end = 0, count = next_random() % 40;
+        for (size_t i = 0; i < count; i++) {
+            const char *token = tokens[next_random() % (sizeof tokens / sizeof *tokens - (next_random() % 64 ? 3 : 0))];
+            memcpy(text + end, token, strlen(token));
+            end += strlen(token);
+        }
+        const unsigned char *bytes = (const unsigned char *)text;
+        uint32_t answer = compile(bytes, end, &place);
+        if (answer == TI_DONE) {
+            for (int i = 0; i < 20; i++) same &= is_same_expansion(bytes, end);
+            expansions += 20;
+        } else if (answer != TI_DOES_NOT_FIT) {
+            refused &= ti_expand(bytes, end, NULL, 0, &vars, out, ROOM, &run) == answer && run.place == place;
+        }
+    }
+    expect(same, "random capabilities do what their bytes do");
+    expect(refused, "those that are refused have the fault of an expansion, and its place");
+}
+
+static void not_compiled(const char *text, uint32_t fault, size_t told) {
+    size_t place = 7, length = strlen(text);
+    unsigned char *bytes = copy_of(text, length);
+    expect(compile(bytes, length, &place) == fault && place == told, text);
+    expect(are_unwritten(&compiled, sizeof compiled), "nothing is compiled");
+    free(bytes);
+}
+
+static void test_compiled(void) {
+    compiles("");
+    compiles(CUP);
+    compiles(E "[%i%p1%d;%p2%dr");
+    compiles(E "=%p1%' '%+%c%p2%{32}%+%c");
+    compiles("%%%p1%%%p2%d%%");
+    compiles("%p1%02x%p2%:-6d|%p3%#o%p4%X%p5%.3d%p6%:+d% d");
+    compiles("%p1%Pa%ga%p2%+%PA%gA%d%gz%d");
+    compiles("%p1%p2%-%p3%*%p4%/%p5%m%d%p1%!%p2%~%&%p3%|%p4%^%d");
+    compiles("%p1%p2%=%p3%p4%>%A%p5%p6%<%O%d%c%d");
+    compiles("%p1%p2%p3%p4%p5%p6%p7%p8%+%+%+%+%+%+%+%d");
+    compiles("%i%i%p1%d%p2%d%p3%d");
+}
+
+static void test_not_compiled(void) {
+    not_compiled("%p1%s", TI_DOES_NOT_FIT, 7);
+    not_compiled("%p1%l%d", TI_DOES_NOT_FIT, 7);
+    not_compiled(SETAF, TI_DOES_NOT_FIT, 7);
+    not_compiled("%p1%p2%p3%p4%p5%p6%p7%p8%p9", TI_DOES_NOT_FIT, 7);
+    not_compiled("ab%k", TI_UNKNOWN_ESCAPE, 2);
+    not_compiled("%p1%d%", TI_CUT_SHORT, 5);
+    not_compiled("a%t", TI_STRAY_THEN, 1);
+    char *text = many("%i", 97);
+    not_compiled(text, TI_DOES_NOT_FIT, 7);
+    text[2 * 96] = 0;
+    compiles(text);
+    free(text);
+    text = many("%i", 32768);
+    not_compiled(text, TI_TOO_LONG, 32767);
+    free(text);
+}
+
+static void test_compiled_faults(void) {
+    int32_t numbers[10] = {0, 1, 2, 3, 4, 5, 6, 7, 8, 9};
+    size_t place = 7, written = 5;
+    ti_vars before;
+    expect(compile((const unsigned char *)CUP, strlen(CUP), &place) == TI_DONE && compiled.bound == 26, "the bound of cup");
+    for (int i = 0; i < 52; i++) vars.values[i] = i + 1;
+    before = vars;
+    memset(out, UNWRITTEN, sizeof out);
+    expect(ti_expand_kept(&compiled, numbers, 10, &vars, out, ROOM, &written) == TI_TOO_MANY_PARAMETERS, "ten parameters");
+    expect(ti_expand_kept(&compiled, numbers, 10, &vars, out, 0, &written) == TI_TOO_MANY_PARAMETERS, "ten, and no room");
+    expect(ti_expand_kept(&compiled, numbers, 2, &vars, out, 25, &written) == TI_OUT_TOO_SMALL, "one byte less than the bound");
+    expect(memcmp(&before, &vars, sizeof vars) == 0 && are_unwritten(out, sizeof out) && written == 5, "nothing is written");
+    expect(ti_expand_kept(&compiled, numbers, 2, &vars, out, 26, &written) == TI_DONE && written == 6, "as many as the bound");
+    expect(memcmp(out, E "[1;2H", 6) == 0 && are_unwritten(out + 26, sizeof out - 26), "and no byte more is written");
+    expect(compiled.marked == 0, "cup has no mark of padding");
+    ti_kept copy = compiled;
+    memset(&compiled, UNWRITTEN, sizeof compiled);
+    expect(ti_expand_kept(&copy, NULL, 0, &vars, out, 26, &written) == TI_DONE && written == 6, "a copy is one too");
+    expect(memcmp(out, E "[1;1H", 6) == 0, "missing parameters are 0");
+    expect(compile((const unsigned char *)"%p1%d$<5>", 9, &place) == TI_DONE && compiled.marked == 1, "a mark of padding");
+    expect(compile((const unsigned char *)"$%p1%d<$", 8, &place) == TI_DONE && compiled.marked == 0, "no mark of padding");
+}
+
+/* Steps that nobody compiled write nothing past the room, and no more counts than the room has. The room ends where its memory
+ * does, so that a tool that watches memory sees more. */
+static void test_forged(void) {
+    static const char *const texts[] = {"", CUP, "%p1%02x%p2%d", "0123456789012345678901234567890123456789"};
+    for (int i = 0; i < 20000; i++) {
+        size_t room = next_random() % 40, written = 0, length;
+        int32_t numbers[9];
+        const char *text = texts[next_random() % 4];
+        unsigned char *own = copy_of(out, room), *bytes;
+        length = strlen(text);
+        bytes = copy_of(text, length);
+        compiled.bytes.bytes = bytes;
+        compiled.bytes.length = length;
+        compiled.bound = next_random() % 40;
+        compiled.count = next_random() % 8 ? next_random() % 100 : UINT32_MAX;
+        for (int j = 0; j < 96; j++) {
+            compiled.steps[j].kind = (uint8_t)(next_random() % (i % 2 ? 20 : 256));
+            compiled.steps[j].small = (uint8_t)(next_random() % (i % 3 ? 20 : 256));
+            compiled.steps[j].place = (uint16_t)(next_random() % (i % 5 ? 40 : 65536));
+            compiled.steps[j].number = random_number();
+        }
+        for (int j = 0; j < 9; j++) numbers[j] = random_number();
+        uint32_t answer = ti_expand_kept(&compiled, numbers, 9, &vars, own, room, &written);
+        if (answer != (room < compiled.bound ? TI_OUT_TOO_SMALL : TI_DONE) || written > room) {
+            expect(0, "forged steps keep to the room");
+        }
+        free(own);
+        free(bytes);
+    }
+    expect(1, "forged steps");
+}
+
 /* ---- checks */
 
 static ti_limits limits;
@@ -240,16 +426,6 @@ static void refused(const char *text, uint32_t fault, size_t place) {
     expect(answer == fault && limits.place == place, text);
     expect(are_unwritten(&limits, offsetof(ti_limits, place)), "limits are kept after a refusal");
     expect(are_unwritten(&limits.named, sizeof limits.named + sizeof limits.texts), "and the masks");
-}
-
-/* So many times a text of two or three bytes. */
-static char *many(const char *text, size_t times) {
-    size_t length = strlen(text);
-    char *all = (char *)malloc(times * length + 2);
-    if (all == NULL) exit(2);
-    for (size_t i = 0; i < times; i++) memcpy(all + i * length, text, length);
-    all[times * length] = 0;
-    return all;
 }
 
 static void test_checks(void) {
@@ -621,6 +797,23 @@ static void has_no_extended(uint32_t kind, size_t index) {
     expect(are_unwritten(&name, sizeof name) && are_unwritten(&value, sizeof value), "nothing of it is written");
 }
 
+static void lists(size_t place, const char *wanted, uint32_t in_extended, uint32_t kind, int32_t number, const char *text) {
+    ti_bytes name;
+    uint32_t extended = UNWRITTEN;
+    expect(ti_view_item(&view, place, &name, &extended, &value) == TI_DONE, wanted);
+    expect(is_text(name, wanted) && extended == in_extended, wanted);
+    expect(value.kind == kind && value.number == number && is_text(value.text, text), wanted);
+}
+
+static void lists_no_more(size_t place) {
+    ti_bytes name;
+    uint32_t extended = UNWRITTEN;
+    memset(&name, UNWRITTEN, sizeof name);
+    memset(&value, UNWRITTEN, sizeof value);
+    expect(ti_view_item(&view, place, &name, &extended, &value) == TI_NOT_NAMED, "the end of the list");
+    expect(are_unwritten(&name, sizeof name) && are_unwritten(&value, sizeof value) && extended == UNWRITTEN, "nothing of it is written");
+}
+
 static void test_views(void) {
     expect(open_copy(ENTRY, sizeof ENTRY) == TI_DONE, "an entry is opened");
     expect(is_text(view.counts.names, "t|test") && view.counts.flags == 3 && view.counts.extended_texts == 2, "its counts");
@@ -634,6 +827,25 @@ static void test_views(void) {
     shows(2, TI_CANCELLED, "");
     shows(3, 0, "");
     shows(4, TI_ABSENT, "");
+    close_copy();
+}
+
+static void test_view_items(void) {
+    expect(open_copy(ENTRY, sizeof ENTRY) == TI_DONE, "an entry to list");
+    lists(0, "bw", 0, TI_FLAG, 1, "");
+    lists(1, "am", 0, TI_FLAG, 0, "");
+    lists(2, "xsb", 0, TI_FLAG, TI_CANCELLED, "");
+    lists(3, "cols", 0, TI_NUMBER, 80, "");
+    lists(5, "lines", 0, TI_NUMBER, TI_CANCELLED, "");
+    lists(6, "cbt", 0, TI_TEXT, 0, "abc");
+    lists(7, "bel", 0, TI_TEXT, TI_ABSENT, "");
+    lists(9, "csr", 0, TI_TEXT, 0, "");
+    lists(10, "F", 1, TI_FLAG, TI_ABSENT, "");
+    lists(11, "N", 1, TI_NUMBER, 7, "");
+    lists(12, "S1", 1, TI_TEXT, 0, "xyz");
+    lists(13, "S2", 1, TI_TEXT, TI_CANCELLED, "");
+    lists_no_more(14);
+    lists_no_more(SIZE_MAX);
     close_copy();
 }
 
@@ -694,6 +906,10 @@ static void test_any_view(void) {
             ti_view_text(&view, index, &text);
             int inside = text.length == 0 || (text.bytes >= bytes && text.bytes + text.length <= bytes + length);
             ti_view_extended(&view, (uint32_t)(index % 3), index / 3, &text, &value);
+            ti_bytes name = {bytes, 0};
+            uint32_t extended = 0;
+            ti_view_item(&view, index, &name, &extended, &value);
+            inside = inside && (!extended || name.length == 0 || (name.bytes >= bytes && name.bytes + name.length <= bytes + length));
             inside = inside && (text.length == 0 || (text.bytes >= bytes && text.bytes + text.length <= bytes + length));
             if (!inside) expect(0, "a text or a name outside the bytes");
         }
@@ -832,6 +1048,7 @@ static const struct {
     {TI_TOO_MANY_PARAMETERS, "TooManyParameters"},
     {TI_TEXT_TOO_LONG, "TextTooLong"},
     {TI_OUT_TOO_SMALL, "OutTooSmall"},
+    {TI_DOES_NOT_FIT, "DoesNotFit"},
     {TI_BAD_PADDING, "BadPadding"},
     {TI_TOO_MUCH, "TooMuch"},
     {TI_NOT_NAMED, "NotNamed"},
@@ -856,7 +1073,7 @@ static void test_words(void) {
     expect(known == count, "no other number has a word, and then the word is kept");
     ti_bytes word = {out, 7};
     expect(ti_word(TI_DONE, &word) == TI_NOT_NAMED, "done is no fault");
-    expect(ti_word(204, &word) == TI_NOT_NAMED && ti_word(205, &word) == TI_NOT_NAMED, "no call returns 204 or 205");
+    expect(ti_word(205, &word) == TI_NOT_NAMED, "no call returns 205");
     expect(ti_word(UINT32_MAX, &word) == TI_NOT_NAMED, "the greatest number");
 }
 
@@ -945,6 +1162,11 @@ int main(void) {
     test_variables();
     test_expansion_faults();
     test_order_of_faults();
+    test_compiled();
+    test_random_capabilities();
+    test_not_compiled();
+    test_compiled_faults();
+    test_forged();
     test_checks();
     test_refusals();
     test_limits();
@@ -954,6 +1176,7 @@ int main(void) {
     test_broken_entries();
     test_fresh_memory();
     test_views();
+    test_view_items();
     test_view_names();
     test_view_faults();
     test_any_view();

@@ -76,6 +76,7 @@ enum {
     TI_TOO_MANY_PARAMETERS = 201, /* more than nine; no place is written */
     TI_TEXT_TOO_LONG = 202,       /* a text of more than 32767 bytes; the place is its parameter, counted from 1 */
     TI_OUT_TOO_SMALL = 203,       /* less room than the capability's bound, or than the padded text; that is written */
+    TI_DOES_NOT_FIT = 204,        /* a capability that ti_compile does not take */
     /* Faults of padding. */
     TI_BAD_PADDING = 301,         /* a rate above 1000000, or affected lines above 65535; no length is written */
     TI_TOO_MUCH = 302,            /* the padded text would have more than 67108864 bytes */
@@ -198,6 +199,23 @@ typedef struct {
     size_t place;   /* of a fault */
 } ti_run;
 
+/* A step of a compiled capability. */
+typedef struct {
+    uint8_t kind;
+    uint8_t small;
+    uint16_t place;
+    int32_t number;
+} ti_step;
+
+/* A compiled capability. It may be copied and moved. It is not for files: another version may have other steps. */
+typedef struct {
+    ti_bytes bytes;    /* the capability */
+    uint64_t bound;    /* bytes of output, at most */
+    uint32_t count;    /* steps */
+    uint32_t marked;   /* 1 if $<, with which each mark of padding starts, stands in the bytes, else 0 */
+    ti_step steps[96]; /* the steps, of which the first count */
+} ti_kept;
+
 /* How a text is padded. */
 typedef struct {
     uint32_t rate;           /* of the line, in bytes per second, at most 1000000; with 0 there are no pad bytes */
@@ -238,6 +256,16 @@ uint32_t ti_view_find(const ti_view *view, const unsigned char *name, size_t len
 /* Finds the name and the value of an extended flag, number or text by its index, from 0 to below the count in view->counts:
  * TI_DONE with both, or TI_NOT_NAMED, and both are as they were. */
 uint32_t ti_view_extended(const ti_view *view, uint32_t kind, size_t index, ti_bytes *name, ti_value *value);
+
+/* Finds the capability at a place of the list of all: the standard flags, numbers and texts, and then the extended ones. TI_DONE
+ * with its value, its name, and 1 in extended if the entry names it itself, else 0; or TI_NOT_NAMED at and past the end, and
+ * all three are as they were. A standard capability has its short name, as ti_name finds it, or none. Those that are absent or
+ * cancelled are in the list too, and have a mark; an absent flag is 0.
+ *
+ *     for (size_t place = 0; ti_view_item(&view, place, &name, &extended, &value) == TI_DONE; place++)
+ *         if (value.kind == TI_TEXT && value.number == 0)
+ *             printf("%.*s\n", (int)name.length, (const char *)name.bytes); */
+uint32_t ti_view_item(const ti_view *view, size_t place, ti_bytes *name, uint32_t *extended, ti_value *value);
 
 /* Reads a compiled entry, which has to be all of the bytes, into four arrays: for those who want all capabilities at once.
  *
@@ -282,6 +310,54 @@ uint32_t ti_check(const unsigned char *capability, size_t length, uint16_t longe
 uint32_t ti_expand(const unsigned char *capability, size_t length, const ti_parameter *parameters, size_t count,
                    ti_vars *vars, unsigned char *out, size_t room, ti_run *run);
 
+/* Compiles a capability, so that ti_expand_kept can expand it many times over numbers.
+ *
+ * TI_DONE: the ti_kept is written, and the place is as it was.
+ * 101 to 113: the bytes are no capability; the place says where. The ti_kept is as it was.
+ * TI_DOES_NOT_FIT: nothing is written. The capability has a conditional, takes a text (by %s or %l), needs more than 8 values on
+ * the stack or more than 96 steps, each of which is an escape or a run of up to 255 plain bytes. Expand it with ti_expand.
+ *
+ * The ti_kept holds a pointer to the bytes, which must stay where they are and as they are. A Go program must therefore pin them
+ * or keep them in C memory. */
+uint32_t ti_compile(const unsigned char *capability, size_t length, ti_kept *kept, size_t *place);
+
+/* Expands a compiled capability over numbers, and may write over all of the room. What it writes, and the variables afterwards, are
+ * those of ti_expand for the same numbers. A missing parameter is 0.
+ *
+ * TI_DONE: the room starts with the output, and its length is written. What the rest of the room holds is left open.
+ * TI_TOO_MANY_PARAMETERS: more than nine; nothing is written.
+ * TI_OUT_TOO_SMALL: less room than kept->bound; nothing is written.
+ *
+ * If the ti_kept was changed, or was never compiled, the output may be wrong, but nothing is written past the room.
+ *
+ *     typedef struct {
+ *         ti_kept kept;
+ *         ti_bytes bytes;
+ *         int fits;
+ *     } text;
+ *
+ *     uint32_t compile(text *t) {
+ *         size_t place;
+ *         uint32_t fault = ti_compile(t->bytes.bytes, t->bytes.length, &t->kept, &place);
+ *         t->fits = fault == TI_DONE;
+ *         return fault == TI_DOES_NOT_FIT ? TI_DONE : fault;
+ *     }
+ *
+ *     uint32_t expand(const text *t, const int32_t *numbers, size_t count, ti_vars *vars, unsigned char *out, size_t room,
+ *                     size_t *written) {
+ *         ti_parameter parameters[TI_MOST_PARAMETERS];
+ *         ti_run run;
+ *         uint32_t fault;
+ *         if (t->fits) return ti_expand_kept(&t->kept, numbers, count, vars, out, room, written);
+ *         if (count > TI_MOST_PARAMETERS) return TI_TOO_MANY_PARAMETERS;
+ *         for (size_t i = 0; i < count; i++) parameters[i] = ti_number(numbers[i]);
+ *         fault = ti_expand(t->bytes.bytes, t->bytes.length, parameters, count, vars, out, room, &run);
+ *         if (fault == TI_DONE) *written = run.written;
+ *         return fault;
+ *     } */
+uint32_t ti_expand_kept(const ti_kept *kept, const int32_t *parameters, size_t count, ti_vars *vars, unsigned char *out,
+                        size_t room, size_t *written);
+
 /* Pads a text, such as the output of ti_expand: each mark of padding, such as $<5> (terminfo(5), "Delays and Padding"),
  * becomes the smallest number of pad bytes that takes its time.
  *
@@ -305,7 +381,7 @@ uint32_t ti_name(uint32_t kind, size_t index, ti_bytes *name);
 
 /* Finds the kind and the index of the capability with a name among these: TI_DONE with both, as ti_name takes them, or
  * TI_NOT_NAMED, and both are as they were. For "cup" they are TI_TEXT and TI_CURSOR_ADDRESS. The names of extended
- * capabilities are the entry's own: ti_view_find finds them, and ti_view_extended lists them. */
+ * capabilities are the entry's own: ti_view_find finds them, and ti_view_item lists all of an entry. */
 uint32_t ti_find(const unsigned char *name, size_t length, uint32_t *kind, size_t *index);
 
 /* Finds the word of a fault by its number, to be printed: TI_DONE with the word, which lasts as long as the program, or
@@ -370,6 +446,10 @@ TI_LAYOUT(offsetof(ti_limits, bound) == 16 && offsetof(ti_limits, place) == 24);
 TI_LAYOUT(offsetof(ti_limits, named) == 32 && offsetof(ti_limits, texts) == 34);
 TI_LAYOUT(sizeof(ti_run) == 40 && offsetof(ti_run, written) == 0 && offsetof(ti_run, ran) == 8);
 TI_LAYOUT(offsetof(ti_run, passed) == 16 && offsetof(ti_run, peak) == 24 && offsetof(ti_run, place) == 32);
+TI_LAYOUT(sizeof(ti_step) == 8 && offsetof(ti_step, kind) == 0 && offsetof(ti_step, small) == 1);
+TI_LAYOUT(offsetof(ti_step, place) == 2 && offsetof(ti_step, number) == 4);
+TI_LAYOUT(sizeof(ti_kept) == 800 && offsetof(ti_kept, bytes) == 0 && offsetof(ti_kept, bound) == 16);
+TI_LAYOUT(offsetof(ti_kept, count) == 24 && offsetof(ti_kept, marked) == 28 && offsetof(ti_kept, steps) == 32);
 TI_LAYOUT(sizeof(ti_padding) == 12 && offsetof(ti_padding, rate) == 0 && offsetof(ti_padding, affected_lines) == 4);
 TI_LAYOUT(offsetof(ti_padding, xon) == 8 && offsetof(ti_padding, pad) == 9);
 #undef TI_LAYOUT

@@ -1,12 +1,12 @@
-"""The table by which the code finds a name, crates/ti_words/src/slots.rt, made from the names."""
+"""The table by which the code finds a name, crates/ti_names/src/slots.rt, made from the names."""
 import re
 import textwrap
 from collections import defaultdict
 
 from checks.machine import ROOT
 
-NAMES = ROOT / "crates/ti_words/src/table.rt"
-SLOTS = ROOT / "crates/ti_words/src/slots.rt"
+NAMES = ROOT / "crates/ti_names/src/table.rt"
+SLOTS = ROOT / "crates/ti_names/src/slots.rt"
 KINDS = ["flag", "number", "text"]
 # How many shifts and slots there are, and the first numbers above those of a hash and of a shift.
 SHIFTS, PLACES = 256, 2048
@@ -38,7 +38,7 @@ pub(crate) static SLOTS: [u16; {slot_count}] = [
 def rows_of(kind):
     """The rows of a kind in the table of the code, each a short and a long name."""
     rows = re.search(rf"macro_rules! {kind}s (.*?)^}}", NAMES.read_text(), re.M | re.S)[1]
-    return re.findall(r'\("(\S*)", "(\S*)", (?:true|false)\),?', rows)
+    return re.findall(r'\("(\S*)", "(\S*)", (?:true|false)\b', rows)
 
 
 def hash_of(name, multiplier):

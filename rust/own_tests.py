@@ -1,5 +1,5 @@
 """Adds the tests of entries and capabilities to a crate that rust/make made, so that cargo runs them over it. Tests of
-what the crate leaves out, and of memory that is refused, are not added."""
+what the crate leaves out, and of memory that is refused, are not added. Each row of a table becomes a test of its own."""
 
 import re
 import shutil
@@ -9,7 +9,7 @@ from types import ModuleType
 HERE = Path(__file__).resolve().parent
 # The crates of tests, each with the files that are not added.
 TESTS = {
-    "fixtures": ["flushed", "sink", "source", "tally", "traces"],
+    "fixtures": ["flushed", "sink", "source", "tally"],
     "entry_cases": ["base", "draft_growths", "draft_memory", "entry_messages", "entry_objects", "entry_sources", "json"],
     "cases": [
         "expansion_memory", "expansion_variables", "notation_memory", "padding_memory", "padding_rows", "padding_writers",
@@ -18,6 +18,9 @@ TESTS = {
 }
 # What a test of Rattle has for its handle `rt`, which those of Rust do without. KIT is the crate's own kit.
 RENAMES = [
+    # Any error that prints itself converts, so this one does not.
+    (r"#\[derive\(Drop\)\]\n(?=pub struct Unfound;)", ""),
+    (r"(?<=<E: Debug) \+ Drop(?=>)", ""),
     (r"\bstd::(?:test::Fail|process::Abort);", "KIT::testing::*;"),
     (r"\brt: (?:HostRuntime|&impl Abort|&\(impl Abort \+ AllocGlobal\))(?:,\s*)?", ""),
     (r"\(\$rt:expr; ", "("),
@@ -30,9 +33,25 @@ RENAMES = [
 ]
 
 
+def apart(test: str, tables: dict[str, str]) -> str:
+    """A test of a table as a test of each row; another as it is."""
+    named = [name for name in tables if re.search(rf"\b{name}\b", test)]
+    if len(named) != 1:
+        return test
+    rows = [row for row in tables[named[0]].splitlines() if not row.startswith("# ")]
+    alone = [re.sub(rf"\b{named[0]}\b", lambda _: f'r##"{row}"##', test) for row in rows]
+    return "\n".join(re.sub(r"(?<=\nfn )\w+", rf"\g<0>_{place}", one) for place, one in enumerate(alone))
+
+
+def by_rows(text: str) -> str:
+    """The tests of a file, with each row of a table as a test of its own."""
+    tables = dict(re.findall(r'^const (\w+): &str = r#*"\n(.*?)\n"#*;', text, re.M | re.S))
+    return re.sub(r"^#\[test\]\nfn .*?^\}\n", lambda found: apart(found[0], tables), text, flags=re.M | re.S)
+
+
 def test_of_rust(text: str, make: ModuleType, crate: str, left_out: list[str]) -> str:
     """A file of tests as one of Rust."""
-    text = make.bare(text)
+    text = by_rows(make.bare(text))
     text = re.sub(rf"^(?:pub )?(?:mod|use) (?:{'|'.join(left_out)})\b.*;\n", "", text, flags=re.M)
     for pattern, name in RENAMES:
         text = re.sub(pattern, name, text)

@@ -82,7 +82,7 @@ impl Error for BytesFault {}
 // The crate reads no notation yet.
 impl fmt::Display for NotationRefused {
     fn fmt(&self, f: &mut fmt::Formatter<'_>) -> fmt::Result {
-        write!(f, "{self:?}")
+        write!(f, "{} at {}", self.fault, self.place)
     }
 }
 

@@ -2,6 +2,7 @@
 
 use crate::made::cap::ParseError;
 use crate::made::entry::ReadError;
+use crate::made::kept::CompileError;
 use crate::made::pad::{PadError, PadIntoError};
 use core::error::Error;
 use core::fmt;
@@ -21,6 +22,17 @@ impl fmt::Display for ParseError {
 }
 
 impl Error for ParseError {}
+
+impl fmt::Display for CompileError {
+    fn fmt(&self, f: &mut fmt::Formatter<'_>) -> fmt::Result {
+        match self {
+            CompileError::Refused(refused) => refused.fmt(f),
+            CompileError::DoesNotFit => f.write_str("DoesNotFit"),
+        }
+    }
+}
+
+impl Error for CompileError {}
 
 impl fmt::Display for PadError {
     fn fmt(&self, f: &mut fmt::Formatter<'_>) -> fmt::Result {

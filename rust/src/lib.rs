@@ -14,6 +14,7 @@ mod draft;
 mod entry;
 mod error;
 mod expand;
+mod kept;
 #[allow(missing_docs)]
 mod kit;
 // The sources are written for their proofs too, and parts of them are for other users.
@@ -34,6 +35,7 @@ pub use expand::expand;
 #[cfg(feature = "std")]
 pub use expand::expand_to;
 pub use expand::{ExpandError, expand_into};
+pub use kept::Kept;
 pub use kit::AllocError;
 /// A text of an entry that is parsed, with its exact limits over all parameters.
 ///
@@ -56,6 +58,7 @@ pub use made::cap::{Conversion, Format, Op, ParseError, ParseFault, Tape, Token}
 pub use made::draft::EncodeError;
 pub use made::entry::{ReadError, ReadFault};
 pub use made::expand::{Run, Value, Vars};
+pub use made::kept::CompileError;
 #[cfg(feature = "alloc")]
 pub use made::pad::PadError;
 pub use made::pad::{PadIntoError, Padding, pad_into, padded_len};

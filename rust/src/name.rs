@@ -1,7 +1,8 @@
 //! The names of capabilities, and the notation of what they send.
 
 use crate::cap::{FLAGS, NUMBERS, TEXTS};
-use crate::made::words::{Kind, NameTable, find_short_or_long};
+use crate::made::names::{NameTable, find_short_or_long};
+use crate::made::words::Kind;
 use core::fmt;
 
 /// What a capability is called.
@@ -57,11 +58,7 @@ impl<'a> Name<'a> {
         let Name::Standard { kind, index } = *self else {
             return None;
         };
-        match kind {
-            Kind::Flag => NameTable::All.flag_name(index),
-            Kind::Number => NameTable::All.number_name(index),
-            Kind::Text => NameTable::All.text_name(index),
-        }
+        NameTable::All.name_at(kind, index)
     }
 
     /// The long name of a standard capability, such as `cursor_address`.

@@ -89,6 +89,23 @@ fn variables_last_from_one_expansion_to_the_next() {
 }
 
 #[test]
+fn a_compiled_capability_is_expanded_again_and_again() {
+    let cup = Kept::compile(b"\x1b[%i%p1%d;%p2%dH").unwrap();
+    let (mut vars, mut out) = (Vars::new(), [0; 26]);
+    assert_eq!(cup.bound(), 26);
+    let copy = cup;
+    for (numbers, output) in [(&[4, 9][..], &b"\x1b[5;10H"[..]), (&[], b"\x1b[1;1H"), (&[99], b"\x1b[100;1H")] {
+        let written = copy.expand_into(numbers, &mut vars, &mut out).unwrap();
+        assert_eq!(&out[..written], output);
+    }
+    assert_eq!(cup.expand_into(&[], &mut vars, &mut [0; 25]), Err(ExpandError::OutTooSmall { need: 26 }));
+    assert_eq!(cup.expand_into(&[0; 10], &mut vars, &mut out), Err(ExpandError::TooManyParameters { given: 10 }));
+    assert_eq!(Kept::compile(b"%p1%s").unwrap_err(), CompileError::DoesNotFit);
+    assert_eq!(Kept::compile(b"%?%p1%t1%;").unwrap_err().to_string(), "DoesNotFit");
+    assert_eq!(Kept::compile(b"ab%p0").unwrap_err().to_string(), "BadParameter at 2");
+}
+
+#[test]
 fn errors_print_their_name_and_place() {
     assert_eq!(Capability::parse(b"ab%p0").unwrap_err().to_string(), "BadParameter at 2");
     assert_eq!(Entry::read(b"\x1a\x01").unwrap_err().to_string(), "Truncated at 2");

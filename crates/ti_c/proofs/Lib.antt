@@ -1,3 +1,4 @@
+pub mod ListedLemmas
 pub mod NumbersLemmas
 pub mod OneFaultLemmas
 pub mod PaddingExamples

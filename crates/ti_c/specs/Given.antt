@@ -1,5 +1,5 @@
 -- What C hands to an expansion, and the number and the place that it returns.
-use Rattle.std.specs.Prelude.{◌≡◌, ℕ, ◌<◌, ◌≤◌, ◌⊎◌, if◌then◌else◌, nat_eq, List, [], ◌∷◌, map, get_or, pos}
+use Rattle.std.specs.Prelude.{◌≡◌, ℕ, ◌<◌, ◌≤◌, ◌⊎◌, if◌then◌else◌, nat_eq, List, [], ◌∷◌, map, get_or, pos, ℤ, ◌++◌, ◌-◌, length, replicate}
 use Rattle.ti_cap.specs.declared.language.CapFault.{CapFault}
 use Rattle.ti_cap.specs.Refusal.{IsRefusal}
 use Rattle.ti_c.specs.declared.expansion.Parameter.{Parameter}
@@ -22,6 +22,10 @@ value_at parameters i = get_or (map value_given parameters) i (Num (pos 0))
 -- the values of the nine parameters
 abbrev pub values_given : List Parameter → List Value
 values_given parameters = map (value_at parameters) (0 ∷ 1 ∷ 2 ∷ 3 ∷ 4 ∷ 5 ∷ 6 ∷ 7 ∷ 8 ∷ [])
+
+-- nine numbers, 0 for each that is missing
+abbrev pub numbers_given : List ℤ → List ℤ
+numbers_given numbers = numbers ++ replicate (9 - length numbers) (pos 0)
 
 -- the number is that of the fault of which the bytes are refused, at this place
 abbrev pub IsRefusedAs : List ℕ → ℕ → ℕ → Type 0

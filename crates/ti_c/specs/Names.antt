@@ -2,8 +2,8 @@
 use Rattle.std.specs.Prelude.{ℕ, List, Option, Some, None, nat_eq, if◌then◌else◌}
 use Rattle.ti_words.specs.declared.Kind.{Kind}
 use Rattle.ti_words.specs.declared.Kind.TheVariants.{Flag, Number, Text}
-use Rattle.ti_words.specs.declared.all_names.NameTable.TheVariants.{All}
-use Rattle.ti_words.specs.AllNames.{Place, name_in, place_in}
+use Rattle.ti_names.specs.declared.name_table.NameTable.TheVariants.{All}
+use Rattle.ti_names.specs.AllNames.{Place, name_in, place_in}
 
 -- the kind that a number means
 abbrev pub kind_at : ℕ → Option Kind

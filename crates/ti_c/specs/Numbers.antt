@@ -54,6 +54,10 @@ text_too_long = 202
 abbrev pub out_too_small : ℕ
 out_too_small = 203
 
+-- a capability that is not kept
+abbrev pub does_not_fit : ℕ
+does_not_fit = 204
+
 -- the faults of padding: a rate or a count of lines above its limit, a padded text that is too long
 abbrev pub bad_padding : ℕ
 bad_padding = 301

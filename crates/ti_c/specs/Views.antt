@@ -1,17 +1,18 @@
 -- What C gets of an entry that it has opened.
-use Rattle.std.specs.Prelude.{⊤, ◌≡◌, ℕ, ℤ, List, [], Option, Some, None, get_or, map, slice_get}
+use Rattle.std.specs.Prelude.{⊤, ◌≡◌, ℕ, ℤ, List, [], Option, Some, None, slice_get, unwrap_or}
 use Rattle.ti_words.specs.declared.Flag.{Flag}
-use Rattle.ti_words.specs.declared.Flag.TheVariants as flags
 use Rattle.ti_words.specs.declared.Kind.{Kind}
-use Rattle.ti_words.specs.declared.Kind.TheVariants as kinds
 use Rattle.ti_words.specs.declared.Number.{Number}
-use Rattle.ti_words.specs.declared.Number.TheVariants as numbers
 use Rattle.ti_words.specs.Marks.{word_of_number}
-use Rattle.ti_words.specs.Spelling.{Spells, mark_in}
-use Rattle.ti_words.specs.Texts.{TextValue, AbsentText}
-use Rattle.ti_words.specs.Value.{PartValue, EntryValue}
+use Rattle.ti_words.specs.Spelling.{Spells}
+use Rattle.ti_words.specs.Texts.{TextValue}
+use Rattle.ti_words.specs.Value.{EntryValue}
 use Rattle.ti_entry.specs.declared.finding.Position.{Position}
-use Rattle.ti_entry.specs.declared.finding.Position.TheVariants.{Standard, Extended}
+use Rattle.ti_entry.specs.declared.finding.Position.TheVariants.{Extended}
+use Rattle.ti_words.specs.Items.{ExtendedSubject, FlagItem, ItemValue, Listed, NumberItem, StandardSubject, SubjectValue, TextItem, items}
+use Rattle.ti_names.specs.AllNames.{name_in}
+use Rattle.ti_names.specs.declared.name_table.NameTable.TheVariants as tables
+use Rattle.ti_entry.specs.Items.{item_at}
 use Rattle.ti_entry.specs.Finding.{IsPosition, names_of}
 use Rattle.ti_entry.specs.Reading.{base_of_names}
 use Rattle.ti_c.specs.declared.view.Found.{Found}
@@ -39,18 +40,25 @@ number_shown number = (1, word_of_number number, [])
 abbrev pub text_value_shown : TextValue → Shown
 text_value_shown text = (2, (text_shown text).0, (text_shown text).1)
 
--- what a part says of the capability of a kind at an index; at or past the count, as the views of flags, numbers and texts
-abbrev pub shown_at : PartValue → Kind → ℕ → Shown
-shown_at p kinds.Flag i = flag_shown (get_or p.flags i flags.No)
-shown_at p kinds.Number i = number_shown (get_or p.numbers i numbers.Absent)
-shown_at p kinds.Text i = text_value_shown (get_or p.texts i AbsentText)
+abbrev pub item_shown : ItemValue → Shown
+item_shown (FlagItem flag) = flag_shown flag
+item_shown (NumberItem number) = number_shown number
+item_shown (TextItem text) = text_value_shown text
 
--- what an entry says of the capability at a place
+-- what an entry says of the capability at a position; at or past the count, as the views of flags, numbers and texts
 abbrev pub value_at : EntryValue → Position → Shown
-value_at v (Standard kind i) = shown_at v.standard kind i
-value_at v (Extended kinds.Flag i) = flag_shown (get_or (map mark_in v.extended.flags) i flags.No)
-value_at v (Extended kinds.Number i) = number_shown (get_or (map mark_in v.extended.numbers) i numbers.Absent)
-value_at v (Extended kinds.Text i) = text_value_shown (get_or (map mark_in v.extended.texts) i AbsentText)
+value_at v at = item_shown (item_at v at)
+
+-- what a capability is called, and whether the entry names it itself: a standard one has its short name, or none
+abbrev pub subject_shown : SubjectValue → List ℕ × ℕ
+subject_shown (StandardSubject kind index) = (unwrap_or (name_in tables.All kind index) [], 0)
+subject_shown (ExtendedSubject kind name) = (name, 1)
+
+-- the name and the value are those of the capability at a place of the list of all
+abbrev pub IsListedAt : EntryValue → ℕ → List ℕ × ℕ → Shown → Type 0
+IsListedAt v place subject shown =
+    (listed : Listed) × (slice_get (items v) place ≡ Some listed)
+    × (subject ≡ subject_shown listed.0) × (shown ≡ item_shown listed.1)
 
 -- the value is that of the capability with the name
 abbrev pub IsFoundIn : EntryValue → List ℕ → Shown → Type 0

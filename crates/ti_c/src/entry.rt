@@ -132,17 +132,6 @@ fn put_texts<'a>(part: &PartView<'a>, texts: &mut [TextItem<'a>], from: usize)
     }
 }
 
-/// How many extended capabilities of a kind there are.
-fn count_of(extended: &Extended<'_>, kind: Kind) -> usize
-    ensures { result ≡ length (names_of extended.now kind) }
-{
-    match kind {
-        Kind::Flag => extended.flag_count(),
-        Kind::Number => extended.number_count(),
-        Kind::Text => extended.text_count(),
-    }
-}
-
 /// Puts the names of the extended capabilities of a kind into an array, from a place on. Each call knows its kind, and a
 /// copy of the loop for it takes half the steps.
 #[inline(always)]
@@ -151,7 +140,7 @@ fn put_names<'a>(extended: &Extended<'a>, kind: Kind, names: &mut [Bytes<'a>], f
     ensures { StartsWith bytes_held names.old names.new
         (map bytes_held (take from names.old) ++ names_of extended.now kind) }
 {
-    for i in 0..count_of(extended, kind) {
+    for i in 0..extended.count_of(kind) {
         if let Some(name) = extended.name(kind, i) {
             names[from + i] = Bytes { bytes: name };
         }

@@ -18,6 +18,9 @@ pub(crate) const TEXT_TOO_LONG: u32 = 202;
 /// Less room than the output needs.
 pub(crate) const OUT_TOO_SMALL: u32 = 203;
 
+/// A capability that is not kept.
+pub(crate) const DOES_NOT_FIT: u32 = 204;
+
 /// A rate or a count of lines above its limit.
 pub(crate) const BAD_PADDING: u32 = 301;
 

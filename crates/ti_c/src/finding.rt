@@ -5,7 +5,8 @@ ghost use Rattle.ti_c.specs.Numbers.{done, not_named};
 ghost use Rattle.ti_c.specs.Names.{kind_at, name_under, place_for};
 
 use crate::faults::{DONE, NOT_NAMED};
-use ti_words::{Kind, NameTable};
+use ti_names::NameTable;
+use ti_words::Kind;
 
 /// The number of a kind.
 pub(crate) fn kind_number(kind: Kind) -> u32

@@ -11,6 +11,7 @@ mod entry;
 mod expansion;
 mod faults;
 mod finding;
+mod kept;
 mod names;
 mod padding;
 mod view;

@@ -5,7 +5,7 @@ ghost use Rattle.ti_c.specs.Numbers.{done, not_named};
 ghost use Rattle.ti_c.specs.Names.{kind_at, name_under};
 
 use crate::faults::{DONE, NOT_NAMED};
-use ti_words::NameTable;
+use ti_names::NameTable;
 
 /// Bytes that lie in something of the caller's, or in the library's own tables.
 #[repr(C)]

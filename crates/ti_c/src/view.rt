@@ -2,8 +2,9 @@
 //!
 //! The caller keeps what a view is made of, so each call tests it again: its numbers may be any.
 
-ghost use Rattle.std.specs.Prelude.{◌≡◌, ◌≢◌, ℕ, ◌⊎◌, get_or, IsSomeAnd, Some, None, pos};
+ghost use Rattle.std.specs.Prelude.{◌≡◌, ◌≢◌, ℕ, ◌⊎◌, get_or, slice_get, IsSomeAnd, Some, None, pos};
 ghost use Rattle.ti_words.specs.Marks.{word_of_number as the_word_of_number};
+ghost use Rattle.ti_words.specs.Items.{item_value, items, subject_value};
 ghost use Rattle.ti_words.specs.Texts.{text_value, AbsentText};
 ghost use Rattle.ti_words.specs.Value.{EntryValue};
 ghost use Rattle.ti_entry.specs.Finding.{IsFirstNamed, IsPosition};
@@ -11,14 +12,15 @@ ghost use Rattle.ti_entry.specs.declared.finding.Position.TheVariants.{Standard,
 ghost use Rattle.ti_c.specs.Numbers.{done, not_named};
 ghost use Rattle.ti_c.specs.Names.{kind_at};
 ghost use Rattle.ti_c.specs.Entries.{flag_mark as the_flag_mark, text_shown, AreCountsOf, SpellsSome, ForEntry, IsEntryRefusedAs};
-ghost use Rattle.ti_c.specs.Views.{IsOpen, HasExtended, IsFoundIn, LacksExtended, flag_shown, number_shown, text_value_shown, shown_at, value_at, value_held};
+ghost use Rattle.ti_c.specs.Views.{IsOpen, HasExtended, IsFoundIn, IsListedAt, LacksExtended, flag_shown, item_shown, number_shown, subject_shown, text_value_shown, value_at, value_held};
 
 use crate::entry::{EntryCounts, flag_mark, number_word, put_counts};
 use crate::faults::{DONE, NOT_NAMED, entry_number};
 use crate::finding::kind_number;
 use crate::names::Bytes;
-use ti_entry::{Entry, PartView, read_with_base, reopen, reopen_standard};
-use ti_words::{Flag, Kind, Number, Text, find_short_or_long};
+use ti_entry::{Entry, PartView, Position, read_with_base, reopen, reopen_standard};
+use ti_names::{NameTable, find_short_or_long};
+use ti_words::{Flag, Item, Kind, Number, Subject, Text};
 
 /// An entry that was opened. All is the caller's to keep and to copy; what it lends lies in the bytes.
 #[repr(C)]
@@ -162,7 +164,7 @@ fn find_standard<'a>(view: &View<'a>, kind: Kind, index: usize, value: &mut Foun
     let Some(standard) = standard_of(view) else {
         return NOT_NAMED;
     };
-    put_standard(value, &standard, kind, index);
+    put_item(value, standard.item(kind, index));
     DONE
 }
 
@@ -181,7 +183,7 @@ fn find_extended<'a>(view: &View<'a>, name: &[u8], value: &mut Found<'a>) -> u32
     };
     match entry.extended().find(name) {
         Some((kind, index)) => {
-            put_extended(value, &entry, kind, index);
+            put_item(value, entry.item_at(Position::Extended(kind, index)));
             DONE
         }
         None => NOT_NAMED,
@@ -212,10 +214,63 @@ pub extern "C" fn ti_view_extended<'a>(
     match entry.extended().name(kind, index) {
         Some(found) => {
             name.bytes = found;
-            put_extended(value, &entry, kind, index);
+            let at = Position::Extended(kind, index);
+            put_item(value, entry.item_at(at));
             DONE
         }
         None => NOT_NAMED,
+    }
+}
+
+/// The name and the value of the capability at a place of the list of all, standard ones before extended ones, and whether the
+/// entry names it itself: 0 and these, or 401 at or past the end, and all are as before.
+#[unsafe(no_mangle)]
+pub extern "C" fn ti_view_item<'a>(
+    view: &View<'a>,
+    place: usize,
+    name: &mut Bytes<'a>,
+    extended: &mut u32,
+    value: &mut Found<'a>,
+) -> u32
+    ensures answer { (result ≡ done) ⊎ (result ≡ not_named) }
+    ensures found { (v : EntryValue) → IsOpen view.now v → result ≡ done
+        → IsListedAt v place (name.new.bytes.now, extended.new) (value_held value.new) }
+    ensures none { (v : EntryValue) → IsOpen view.now v → result ≡ not_named
+        → slice_get (items v) place ≡ None }
+    ensures kept_name { result ≡ not_named → name.new ≡ name.old }
+    ensures kept_extended { result ≡ not_named → extended.new ≡ extended.old }
+    ensures kept_value { result ≡ not_named → value.new ≡ value.old }
+{
+    let Some(entry) = entry_of(view) else {
+        return NOT_NAMED;
+    };
+    let mut items = entry.items_from(place);
+    match items.next() {
+        Some((subject, item)) => {
+            put_subject(name, extended, subject);
+            put_item(value, item);
+            DONE
+        }
+        None => NOT_NAMED,
+    }
+}
+
+/// Puts what a capability is called, and whether the entry names it itself.
+fn put_subject<'a>(name: &mut Bytes<'a>, extended: &mut u32, subject: Subject<'a>)
+    ensures { (name.new.bytes.now, extended.new) ≡ subject_shown (subject_value subject.entry) }
+{
+    match subject {
+        Subject::Standard(kind, index) => {
+            name.bytes = match NameTable::All.name_at(kind, index) {
+                Some(short) => short.as_bytes(),
+                None => &[],
+            };
+            *extended = 0;
+        }
+        Subject::Extended(_, own) => {
+            name.bytes = own;
+            *extended = 1;
+        }
     }
 }
 
@@ -231,25 +286,14 @@ fn kind_of(number: u32) -> Option<Kind>
     }
 }
 
-/// Puts what the standard part says of a capability into a value.
-fn put_standard<'a>(value: &mut Found<'a>, standard: &PartView<'a>, kind: Kind, index: usize)
-    ensures { value_held value.new ≡ shown_at standard.now kind index }
+/// Puts what an entry says of a capability into a value.
+fn put_item<'a>(value: &mut Found<'a>, item: Item<'a>)
+    ensures { value_held value.new ≡ item_shown (item_value item.entry) }
 {
-    match kind {
-        Kind::Flag => put_flag(value, standard.flag(index)),
-        Kind::Number => put_number(value, standard.number(index)),
-        Kind::Text => put_text(value, standard.text(index)),
-    }
-}
-
-/// Puts what an entry says of an extended capability into a value.
-fn put_extended<'a>(value: &mut Found<'a>, entry: &Entry<'a>, kind: Kind, index: usize)
-    ensures { value_held value.new ≡ value_at entry.now (Extended kind index) }
-{
-    match kind {
-        Kind::Flag => put_flag(value, entry.extended().flag(index)),
-        Kind::Number => put_number(value, entry.extended().number(index)),
-        Kind::Text => put_text(value, entry.extended().text(index)),
+    match item {
+        Item::Flag(flag) => put_flag(value, flag),
+        Item::Number(number) => put_number(value, number),
+        Item::Text(text) => put_text(value, text),
     }
 }
 

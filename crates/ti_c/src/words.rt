@@ -4,7 +4,7 @@
 
 ghost use Rattle.std.specs.Prelude.{◌≡◌, ◌⊎◌, ℕ, List, map, nat_eq, option_map};
 ghost use Rattle.std.specs.Map.{lookup};
-ghost use Rattle.ti_words.specs.AllNames.{front};
+ghost use Rattle.ti_names.specs.AllNames.{front};
 ghost use Rattle.ti_c.specs.Numbers.{done, not_named};
 ghost use Rattle.ti_c.specs.Words.{IsWord};
 ghost use Rattle.ti_c.specs.inner.WordRows.{row_of, word_rows};

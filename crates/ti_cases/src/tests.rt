@@ -14,6 +14,18 @@ macro_rules! assert_that {
     };
 }
 
+/// Ends the test unless the bytes are the same: one call, where `==` and a claim would be two.
+pub fn claim_same(rt: &impl Abort, one: &[u8], other: &[u8], what: &str) {
+    claim(rt, one == other, what);
+}
+
+/// Claims that bytes are the same.
+macro_rules! assert_same {
+    ($rt:expr; $one:expr, $other:expr) => {
+        crate::tests::claim_same(&$rt, $one, $other, stringify!($one))
+    };
+}
+
 mod capability_faults;
 mod capability_parameters;
 mod capability_sizes;
@@ -32,5 +44,6 @@ mod notation_read;
 mod padding_memory;
 mod padding_rows;
 mod padding_writers;
+mod rows;
 mod traces;
 mod uses;

@@ -1,5 +1,6 @@
 mod Examples
 pub mod NamedItemsLemmas
+pub mod ItemsLemmas
 pub mod IsLeastIndexLemmas
 pub mod KindsFoundLemmas
 pub mod SpelledItemsLemmas

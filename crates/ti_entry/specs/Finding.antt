@@ -4,9 +4,9 @@ use Rattle.std.specs.List.{AllByRecursion}
 use Rattle.std.specs.Option.{option_or}
 use Rattle.ti_words.specs.declared.Kind.{Kind}
 use Rattle.ti_words.specs.declared.Kind.TheVariants as kinds
-use Rattle.ti_words.specs.AllNames.{Place, place_in}
+use Rattle.ti_names.specs.AllNames.{Place, place_in}
 use Rattle.ti_words.specs.Value.{NamedPart, EntryValue}
-use Rattle.ti_words.specs.declared.all_names.NameTable.TheVariants.{All, Long}
+use Rattle.ti_names.specs.declared.name_table.NameTable.TheVariants.{All, Long}
 use Rattle.ti_entry.specs.declared.finding.Position.{Position}
 use Rattle.ti_entry.specs.declared.finding.Position.TheVariants.{Standard, Extended}
 use Rattle.ti_words.specs.Spelling.{name_in, part_names}

@@ -4,7 +4,7 @@
 //! the names in their order and stops at the first that is equal; a name is compared in place, up to its first difference
 //! or one byte past the length that is requested.
 
-ghost use Rattle.std.specs.Prelude.{◌≡◌, map, length, get_or, slice_get};
+ghost use Rattle.std.specs.Prelude.{[], ◌≡◌, map, length, get_or, slice_get};
 ghost use Rattle.std.specs.Option.{option_map};
 ghost use Rattle.ti_words.specs.Texts.{text_value, AbsentText};
 ghost use Rattle.ti_layout.specs.Content.{named_part_in};
@@ -57,6 +57,14 @@ impl<'a> Extended<'a> {
         part_view(self.bytes, self.part)
     }
 
+    /// How many capabilities of a kind it has.
+    #[tactic(auto, using(crate::proofs::NamedItemsLemmas::names_are, ti_layout::proofs::PlacesLemmas::length_places))]
+    pub fn count_of(&self, kind: Kind) -> usize
+        ensures { result ≡ length (names_of self.now kind) }
+    {
+        self.part.count(kind)
+    }
+
     /// How many flags it has.
     pub fn flag_count(&self) -> usize
         ensures { result ≡ length self.now.flags }
@@ -105,6 +113,16 @@ impl<'a> Extended<'a> {
         ensures { option_map (λ name. name.now) result ≡ slice_get (names_of self.now kind) i }
     {
         self.part.name(self.bytes, self.base, kind, i)
+    }
+
+    /// The same, and an empty one at or above the count.
+    pub fn name_or_empty(&self, kind: Kind, i: usize) -> &'a [u8]
+        ensures { result.now ≡ get_or (names_of self.now kind) i [] }
+    {
+        match self.name(kind, i) {
+            Some(name) => name,
+            None => &[],
+        }
     }
 
     /// The first capability with a name, in the order flags, numbers, texts, the lowest index first.

@@ -1,9 +1,13 @@
 //! Capabilities of an entry by any of their names.
 
+ghost use Rattle.std.specs.Prelude.{◌≡◌};
+ghost use Rattle.ti_words.specs.Items.{item_value};
 ghost use Rattle.ti_entry.specs.Finding.{IsPosition};
+ghost use Rattle.ti_entry.specs.Items.{item_at};
 
 use crate::entry::Entry;
-use ti_words::{Kind, find_short_or_long};
+use ti_names::find_short_or_long;
+use ti_words::{Item, Kind};
 
 /// Where an entry has a capability: the kind and the index among the standard ones, or among those that it names itself.
 #[derive(Clone, Copy, Debug, PartialEq, Eq)]
@@ -32,5 +36,14 @@ impl<'a> Entry<'a> {
         }
         let (kind, index) = self.extended().find(name)?;
         Some(Position::Extended(kind, index))
+    }
+    /// The value at a position.
+    pub fn item_at(&self, position: Position) -> Item<'a>
+        ensures { item_value result ≡ item_at self.now position }
+    {
+        match position {
+            Position::Standard(kind, index) => self.standard().item(kind, index),
+            Position::Extended(kind, index) => self.extended().unnamed().item(kind, index),
+        }
     }
 }

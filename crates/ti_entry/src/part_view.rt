@@ -1,13 +1,16 @@
 //! The capabilities of a part by their index, without names: one view for the standard part and for the extended one.
 
-ghost use Rattle.std.specs.Prelude.{◌≡◌, length, get_or};
+ghost use Rattle.std.specs.Prelude.{◌≡◌, ◌≤◌, length, get_or};
+ghost use Rattle.ti_base.specs.Limits.{most_entry_bytes};
+ghost use Rattle.ti_words.specs.Items.{item_value};
 ghost use Rattle.ti_words.specs.Texts.{text_value, AbsentText};
 ghost use Rattle.ti_layout.specs.Content.{part_in};
 ghost use Rattle.ti_layout.specs.Layout.{IsWithin};
+ghost use Rattle.ti_entry.specs.Items.{StandsAt, count_of, count_of_kind, item_in};
 
 use std::marker::Model;
 use ti_layout::{Part, Texts};
-use ti_words::{Flag, Kind, Number, Text};
+use ti_words::{Flag, Item, Kind, Number, Text};
 
 /// The capabilities of a part, lent from the bytes of its entry.
 #[derive(Debug, Drop)]
@@ -78,6 +81,48 @@ impl<'a> PartView<'a> {
         ensures { text_value result ≡ get_or self.now.texts i AbsentText }
     {
         self.part.text(self.bytes, i)
+    }
+
+    /// How many capabilities of a kind there are.
+    pub fn count_of(&self, kind: Kind) -> usize
+        ensures { result ≡ count_of_kind self.now kind }
+    {
+        self.part.count(kind)
+    }
+
+    /// How many capabilities there are.
+    #[tactic(auto, using(crate::proofs::ItemsLemmas::few))]
+    pub fn count(&self) -> usize
+        ensures exact { result ≡ count_of self.now }
+        ensures low { result ≤ most_entry_bytes }
+    {
+        let part = self.part;
+        part.count(Kind::Flag) + part.count(Kind::Number) + part.count(Kind::Text)
+    }
+
+    /// The value of the capability of a kind at an index; at or above the count a flag No, or absent.
+    pub fn item(&self, kind: Kind, i: usize) -> Item<'a>
+        ensures { item_value result ≡ item_in self.now kind i }
+    {
+        match kind {
+            Kind::Flag => Item::Flag(self.flag(i)),
+            Kind::Number => Item::Number(self.number(i)),
+            Kind::Text => Item::Text(self.text(i)),
+        }
+    }
+
+    /// The kind and the index of the capability at a place of all: flags before numbers before texts.
+    pub(crate) fn at(&self, place: usize) -> (Kind, usize)
+        ensures { StandsAt self.now place result.0 result.1 }
+    {
+        let (flags, numbers) = (self.flag_count(), self.number_count());
+        if place < flags {
+            (Kind::Flag, place)
+        } else if place - flags < numbers {
+            (Kind::Number, place - flags)
+        } else {
+            (Kind::Text, place - flags - numbers)
+        }
     }
 
     /// Its texts, to be read one after another.

@@ -33,6 +33,7 @@ pub use constant::constant_value;
 pub use counts::Run;
 pub use expansion::{expand, expand_into};
 pub use fault::{BytesFault, ExpandFault};
+pub use operation::{apply, byte_of, complement, logical_not, next_number};
 pub use print::{format_number, format_text};
 pub use step::{Outcome, Step};
 pub use steps::Steps;

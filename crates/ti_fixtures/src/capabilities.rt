@@ -1,11 +1,9 @@
-//! Capabilities, with what they write for their parameters by terminfo(5).
+//! Capabilities, with what they write for their parameters by terminfo(5): rows of a capability, its first parameters and the
+//! bytes that it writes.
 
 use std::alloc::{AllocError, Global};
 use ti_expand::Value;
 use ti_expand::Value::{Num, Text};
-
-/// A capability, the first of its parameters, and the bytes that it writes.
-pub type Expansion = (&'static [u8], &'static [Value<'static>], &'static [u8]);
 
 /// The nine parameters, of which the first are these and the others the number 0.
 pub fn nine<'a>(first: &[Value<'a>]) -> [Value<'a>; 9] {
@@ -14,6 +12,22 @@ pub fn nine<'a>(first: &[Value<'a>]) -> [Value<'a>; 9] {
         parameters[i] = first[i];
     }
     parameters
+}
+
+/// The nine parameters that words give, numbers or texts, and the number 0 for those that they lack. The word `-` is none.
+pub fn values_of(words: &str) -> [Value<'_>; 9] {
+    let mut values = [Num(0); 9];
+    let mut count = 0;
+    for word in words.split_whitespace() {
+        if count < 9 && word != "-" {
+            values[count] = match word.parse::<i32>() {
+                Ok(number) => Num(number),
+                Err(_) => Text(word.as_bytes()),
+            };
+            count += 1;
+        }
+    }
+    values
 }
 
 /// A capability of depth 32 whose conditionals nest 32 deep: 31 values, each test one more, and then 31 numbers.
@@ -49,123 +63,122 @@ pub const SCREEN_SGR: &[u8] =
 pub const LINUX_SGR: &[u8] =
     b"\x1b[0;10%?%p1%t;7%;%?%p2%t;4%;%?%p3%t;7%;%?%p4%t;5%;%?%p5%t;2%;%?%p6%t;1%;m%?%p9%t\x0e%e\x0f%;";
 
+/// 32 values on the stack.
+pub const PUSHED_32: &[u8] =
+    b"%p1%p1%p1%p1%p1%p1%p1%p1%p1%p1%p1%p1%p1%p1%p1%p1%p1%p1%p1%p1%p1%p1%p1%p1%p1%p1%p1%p1%p1%p1%p1%p1";
+
+/// 32 conditionals that are open at the end.
+pub const OPEN_32: &[u8] =
+    b"%?%p1%t%?%p1%t%?%p1%t%?%p1%t%?%p1%t%?%p1%t%?%p1%t%?%p1%t%?%p1%t%?%p1%t%?%p1%t%?%p1%t%?%p1%t%?%p1%t%?%p1%t%?%p1%t%?%p1%t%?%p1%t%?%p1%t%?%p1%t%?%p1%t%?%p1%t%?%p1%t%?%p1%t%?%p1%t%?%p1%t%?%p1%t%?%p1%t%?%p1%t%?%p1%t%?%p1%t%?%p1%tx";
+
+/// 32 conditionals, each inside the one before.
+pub const CLOSED_32: &[u8] =
+    b"%?%p1%t%?%p1%t%?%p1%t%?%p1%t%?%p1%t%?%p1%t%?%p1%t%?%p1%t%?%p1%t%?%p1%t%?%p1%t%?%p1%t%?%p1%t%?%p1%t%?%p1%t%?%p1%t%?%p1%t%?%p1%t%?%p1%t%?%p1%t%?%p1%t%?%p1%t%?%p1%t%?%p1%t%?%p1%t%?%p1%t%?%p1%t%?%p1%t%?%p1%t%?%p1%t%?%p1%t%?%p1%tx%;%;%;%;%;%;%;%;%;%;%;%;%;%;%;%;%;%;%;%;%;%;%;%;%;%;%;%;%;%;%;%;";
+
 /// Conditionals in both parts of a conditional.
 pub const INNER_PARTS: &[u8] = b"%?%p1%t%?%p2%ta%eb%;c%e%?%p3%td%;e%;f";
 
-/// The nine parameters of `sgr` for bold and underlined.
-const BOLD_AND_UNDERLINED: [Value<'static>; 9] = [
-    Num(0),
-    Num(1),
-    Num(0),
-    Num(0),
-    Num(0),
-    Num(1),
-    Num(0),
-    Num(0),
-    Num(0),
-];
-
 /// Capabilities that push, pop and print, without a conditional.
-pub const STACK: [Expansion; 13] = [
-    (b"\x1b[%p1%dG", &[Num(7)], b"\x1b[7G"),
-    (b"%{65}%d%%", &[], b"65%"),
-    (b"%p1%p2%d%d", &[Num(1), Num(2)], b"21"),
-    (b"%d", &[], b"0"),
-    (b"%p1%d", &[Num(-2147483648)], b"-2147483648"),
-    (CUP, &[Num(4), Num(9)], b"\x1b[5;10H"),
-    (b"", &[], b""),
-    (b"%i%p1%d", &[Num(2147483647)], b"-2147483648"),
-    (b"\x1b[%i%d;%dR", &[], b"\x1b[0;0R"),
-    (b"%p1%PA%gA%gA%*%d", &[Num(12)], b"144"),
-    (b"%gA%d", &[], b"0"),
-    (b"%'''%d", &[], b"39"),
-    (b"%{5}%p1%A%d", &[Text(b"abc")], b"0"),
-];
+pub const STACK: &str = r"
+\E[%p1%dG | 7 => \E[7G
+%{65}%d%% | - => 65%
+%p1%p2%d%d | 1 2 => 21
+%d | - => 0
+%p1%d | -2147483648 => -2147483648
+@CUP | 4 9 => \E[5;10H
+- | - => -
+%i%p1%d | 2147483647 => -2147483648
+\E[%i%d;%dR | - => \E[0;0R
+%p1%PA%gA%gA%*%d | 12 => 144
+%gA%d | - => 0
+%'''%d | - => 39
+%{5}%p1%A%d | abc => 0
+";
 
 /// Operations, and `%c`.
-pub const OPERATIONS: [Expansion; 8] = [
-    (b"%p1%{0}%/%d", &[Num(7)], b"0"),
-    (b"%p1%p2%/%d", &[Num(-2147483648), Num(-1)], b"-2147483648"),
-    (b"%p1%{3}%/%d,%p1%{3}%m%d", &[Num(-7)], b"-2,-1"),
-    (b"%p1%p2%-%d", &[Num(3), Num(5)], b"-2"),
-    (b"%p1%~%d%p1%!%d", &[Num(0)], b"-11"),
-    (b"%p1%c", &[Num(0)], b"\x80"),
-    (b"%p1%c", &[Num(256)], b"\x80"),
-    (b"%p1%c", &[Num(65)], b"A"),
-];
+pub const OPERATIONS: &str = r"
+%p1%{0}%/%d | 7 => 0
+%p1%p2%/%d | -2147483648 -1 => -2147483648
+%p1%{3}%/%d,%p1%{3}%m%d | -7 => -2,-1
+%p1%p2%-%d | 3 5 => -2
+%p1%~%d%p1%!%d | 0 => -11
+%p1%c | 0 => \200
+%p1%c | 256 => \200
+%p1%c | 65 => A
+";
 
 /// Formats of numbers.
-pub const FORMATS: [Expansion; 13] = [
-    (b"%p1%x", &[Num(-1)], b"ffffffff"),
-    (b"%p1%#o", &[Num(8)], b"010"),
-    (b"%p1%.0d", &[Num(0)], b""),
-    (b"%p1%#.0o", &[Num(0)], b"0"),
-    (b"%p1%03d", &[Num(-5)], b"-05"),
-    (b"%p1%2.2X", &[Num(10)], b"0A"),
-    (b"%p1%:+d", &[Num(5)], b"+5"),
-    (b"%p1%#x", &[Num(0)], b"0"),
-    (b"%p1%:-05d|", &[Num(7)], b"7    |"),
-    (b"%p1%05.3d", &[Num(7)], b"  007"),
-    (b"%p1%#06x", &[Num(255)], b"0x00ff"),
-    (b"%p1% d", &[Num(5)], b" 5"),
-    (b"%p1%o", &[Num(-1)], b"37777777777"),
-];
+pub const FORMATS: &str = r"
+%p1%x | -1 => ffffffff
+%p1%#o | 8 => 010
+%p1%.0d | 0 => -
+%p1%#.0o | 0 => 0
+%p1%03d | -5 => -05
+%p1%2.2X | 10 => 0A
+%p1%:+d | 5 => +5
+%p1%#x | 0 => 0
+%p1%:-05d| | 7 => 7    |
+%p1%05.3d | 7 => \s 007
+%p1%#06x | 255 => 0x00ff
+%p1% d | 5 => \s5
+%p1%o | -1 => 37777777777
+";
 
 /// Capabilities with texts among their parameters, or with formats of texts.
-pub const TEXTS: [Expansion; 8] = [
-    (b"%p1%d", &[Text(b"abc")], b"0"),
-    (b"%p1%:-6s|", &[Text(b"abc")], b"abc   |"),
-    (b"%p1%.2s", &[Text(b"abc")], b"ab"),
-    (b"%p1%s", &[Num(5)], b""),
-    (b"%p1%l%d", &[Text(b"abc")], b"3"),
-    (b"%i%p1%s%p2%d", &[Text(b"a"), Num(5)], b"a6"),
-    (b"%p1%.s|", &[Text(b"abc")], b"|"),
-    (b"%p1%s", &[Text(b"$<5>")], b"$<5>"),
-];
+pub const TEXTS: &str = r"
+%p1%d | abc => 0
+%p1%:-6s| | abc => abc   |
+%p1%.2s | abc => ab
+%p1%s | 5 => -
+%p1%l%d | abc => 3
+%i%p1%s%p2%d | a 5 => a6
+%p1%.s| | abc => |
+%p1%s | $<5> => $<5>
+";
 
 /// Capabilities with conditionals.
-pub const CONDITIONAL: [Expansion; 12] = [
-    (SETAF, &[Num(1)], b"\x1b[31m"),
-    (SETAF, &[Num(9)], b"\x1b[91m"),
-    (SETAF, &[Num(200)], b"\x1b[38;5;200m"),
-    (b"%?%p1%t%?%p2%tA%eB%;%eC", &[Num(0), Num(1)], b"C"),
-    (b"%?%p1%t%?%p2%tA%eB%;%eC", &[Num(1), Num(0)], b"B"),
-    (b"%?%p1%t%'%'%c%%e%eX%;", &[Num(0)], b"X"),
-    (b"%?%p1%t%'%'%c%%e%eX%;", &[Num(1)], b"%%e"),
-    (b"%?%p1%tabc%ed%;", &[Num(1)], b"abc"),
-    (b"%?%p1%tabc%ed%;", &[Num(0)], b"d"),
-    (b"%?%p1%tA%e%p2%tB", &[Num(0), Num(0)], b""),
-    (INNER_PARTS, &[Num(0), Num(0), Num(0)], b"ef"),
-    (INNER_PARTS, &[Num(1), Num(0), Num(0)], b"bcf"),
-];
+pub const CONDITIONAL: &str = r"
+@SETAF | 1 => \E[31m
+@SETAF | 9 => \E[91m
+@SETAF | 200 => \E[38;5;200m
+%?%p1%t%?%p2%tA%eB%;%eC | 0 1 => C
+%?%p1%t%?%p2%tA%eB%;%eC | 1 0 => B
+%?%p1%t%'%'%c%%e%eX%; | 0 => X
+%?%p1%t%'%'%c%%e%eX%; | 1 => %%e
+%?%p1%tabc%ed%; | 1 => abc
+%?%p1%tabc%ed%; | 0 => d
+%?%p1%tA%e%p2%tB | 0 0 => -
+@INNER_PARTS | 0 0 0 => ef
+@INNER_PARTS | 1 0 0 => bcf
+";
 
 /// Colours and the cursor of xterm-256color, screen and linux, with what `tput` prints of them.
-pub const COLORS: [Expansion; 14] = [
-    (SETAF, &[Num(1)], b"\x1b[31m"),
-    (SETAF, &[Num(9)], b"\x1b[91m"),
-    (SETAF, &[Num(200)], b"\x1b[38;5;200m"),
-    (SETAB, &[Num(2)], b"\x1b[42m"),
-    (SETAB, &[Num(12)], b"\x1b[104m"),
-    (SETAB, &[Num(100)], b"\x1b[48;5;100m"),
-    (CUP, &[Num(0), Num(0)], b"\x1b[1;1H"),
-    (CUP, &[Num(23), Num(79)], b"\x1b[24;80H"),
-    (b"\x1b[3%p1%dm", &[Num(1)], b"\x1b[31m"),
-    (b"\x1b[3%p1%dm", &[Num(9)], b"\x1b[39m"),
-    (b"\x1b[3%p1%dm", &[Num(200)], b"\x1b[3200m"),
-    (b"\x1b[4%p1%dm", &[Num(2)], b"\x1b[42m"),
-    (b"\x1b[4%p1%dm", &[Num(12)], b"\x1b[412m"),
-    (b"\x1b[4%p1%dm", &[Num(100)], b"\x1b[4100m"),
-];
+pub const COLORS: &str = r"
+@SETAF | 1 => \E[31m
+@SETAF | 9 => \E[91m
+@SETAF | 200 => \E[38;5;200m
+@SETAB | 2 => \E[42m
+@SETAB | 12 => \E[104m
+@SETAB | 100 => \E[48;5;100m
+@CUP | 0 0 => \E[1;1H
+@CUP | 23 79 => \E[24;80H
+\E[3%p1%dm | 1 => \E[31m
+\E[3%p1%dm | 9 => \E[39m
+\E[3%p1%dm | 200 => \E[3200m
+\E[4%p1%dm | 2 => \E[42m
+\E[4%p1%dm | 12 => \E[412m
+\E[4%p1%dm | 100 => \E[4100m
+";
 
 /// `sgr` of xterm-256color, screen and linux, with what `tput` prints of it.
-pub const SGR: [Expansion; 9] = [
-    (XTERM_SGR, &[Num(0); 9], b"\x1b(B\x1b[0m"),
-    (XTERM_SGR, &[Num(1); 9], b"\x1b(0\x1b[0;1;2;4;7;5;8m"),
-    (XTERM_SGR, &BOLD_AND_UNDERLINED, b"\x1b(B\x1b[0;1;4m"),
-    (SCREEN_SGR, &[Num(0); 9], b"\x1b[0m\x0f"),
-    (SCREEN_SGR, &[Num(1); 9], b"\x1b[0;1;3;4;7;5;2m\x0e"),
-    (SCREEN_SGR, &BOLD_AND_UNDERLINED, b"\x1b[0;1;4m\x0f"),
-    (LINUX_SGR, &[Num(0); 9], b"\x1b[0;10m\x0f"),
-    (LINUX_SGR, &[Num(1); 9], b"\x1b[0;10;7;4;7;5;2;1m\x0e"),
-    (LINUX_SGR, &BOLD_AND_UNDERLINED, b"\x1b[0;10;4;1m\x0f"),
-];
+pub const SGR: &str = r"
+@XTERM_SGR | 0 0 0 0 0 0 0 0 0 => \E(B\E[0m
+@XTERM_SGR | 1 1 1 1 1 1 1 1 1 => \E(0\E[0;1;2;4;7;5;8m
+@XTERM_SGR | 0 1 0 0 0 1 0 0 0 => \E(B\E[0;1;4m
+@SCREEN_SGR | 0 0 0 0 0 0 0 0 0 => \E[0m^O
+@SCREEN_SGR | 1 1 1 1 1 1 1 1 1 => \E[0;1;3;4;7;5;2m^N
+@SCREEN_SGR | 0 1 0 0 0 1 0 0 0 => \E[0;1;4m^O
+@LINUX_SGR | 0 0 0 0 0 0 0 0 0 => \E[0;10m^O
+@LINUX_SGR | 1 1 1 1 1 1 1 1 1 => \E[0;10;7;4;7;5;2;1m^N
+@LINUX_SGR | 0 1 0 0 0 1 0 0 0 => \E[0;10;4;1m^O
+";

@@ -42,6 +42,18 @@ pub const SHARED: &[u8] = b"\x1a\x01\x02\0\0\0\0\0\x02\0\x02\0t\0\0\0\0\0\x07\0"
 /// The same two texts with bytes of their own.
 pub const APART: &[u8] = b"\x1a\x01\x02\0\0\0\0\0\x02\0\x04\0t\0\0\0\x02\0\x07\0\x07\0";
 
+/// The small entry with an extended part without a capability: a header of ten bytes 0 says that there are none.
+pub const NO_CAPABILITY: &[u8] =
+    b"\x1a\x01\x02\0\x01\0\x01\0\x02\0\x02\0t\0\x01\0P\0\xff\xff\0\0\x07\0\0\0\0\0\0\0\0\0\0\0";
+
+/// Names `t`, the third flag, which is xsb, bel as one byte 07, and the text at 9, which is cmdch, as ESC %p1%d ^ , and a
+/// space.
+pub const UNCOMMON: &[u8] =
+    b"\x1a\x01\x02\0\x03\0\0\0\x0a\0\x0c\0t\0\0\0\x01\0\xff\xff\0\0\xff\xff\xff\xff\xff\xff\xff\xff\xff\xff\xff\xff\xff\xff\x02\0\x07\0\x1b%p1%d^, \0";
+
+/// An entry of which cbt moves to a column.
+pub const COLUMN: &[u8] = b"\x1a\x01\x02\0\0\0\0\0\x01\0\x09\0t\0\0\0\x1b[%p1%dG\0";
+
 /// The small entry with a text that is no capability.
 pub const QUESTION: &[u8] =
     b"\x1a\x01\x02\0\x01\0\x01\0\x02\0\x13\0t\0\x01\0P\0\xff\xff\0\0\x1b[?%[;0123456789]c\0";

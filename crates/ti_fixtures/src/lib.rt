@@ -1,10 +1,12 @@
-//! What the tests of more than one crate share: entries as bytes, capabilities with what they write, traces as text, and
-//! readers and writers that go in small steps, are interrupted and fail. It has no tests of its own.
+//! What the tests of more than one crate share: rows as lines of a text, entries as bytes, capabilities with what they write,
+//! traces as text, and readers and writers that go in small steps, are interrupted and fail. It has no tests of its own.
 #![tactic(auto)]
 
 pub mod capabilities;
 pub mod entries;
 mod flushed;
+mod named;
+mod rows;
 mod sink;
 mod source;
 mod tally;
@@ -12,6 +14,10 @@ mod tmux;
 pub mod traces;
 
 pub use flushed::Flushed;
+pub use rows::{
+    Unfound, bytes_of, check_rows, fields_of, first_wrong, number_of, place_of, shown,
+    shown_numbers,
+};
 pub use sink::Sink;
 pub use source::{Endless, Source};
 pub use tally::Tally;

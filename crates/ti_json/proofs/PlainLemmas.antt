@@ -1,5 +1,7 @@
 -- Each character of an entry's JSON can be printed, and no object has a float.
-use Rattle.std.proofs.Common.{◌≡◌, ◌++◌, ℕ, ℤ, pos, negsuc, suc, Bool, true, false, List, [], ◌∷◌, refl, arith}
+use Rattle.std.proofs.Common.{◌≡◌, ◌++◌, ℕ, ℤ, pos, negsuc, Bool, true, false, List, [], ◌∷◌, refl, arith}
+use Rattle.ti_words.specs.Items.{ExtendedSubject, FlagItem, Listed, NumberItem, StandardSubject, SubjectValue, TextItem, items}
+use Rattle.std.specs.List.{flat_map}
 use Rattle.std.specs.Prelude.{codes}
 use Rattle.std.proofs.lemmas.Bool.{or_from}
 use Rattle.json.specs.Print.{quoted}
@@ -16,11 +18,11 @@ use Rattle.ti_words.specs.declared.Kind.TheVariants as kinds
 use Rattle.ti_words.specs.declared.Number.{Number}
 use Rattle.ti_words.specs.declared.Number.TheVariants as numbers
 use Rattle.ti_words.specs.declared.Width.{Width}
-use Rattle.ti_words.specs.declared.all_names.NameTable.TheVariants as tables
+use Rattle.ti_names.specs.declared.name_table.NameTable.TheVariants as tables
 use Rattle.ti_words.specs.Texts.{TextValue, AbsentText, CancelledText, TextOf}
-use Rattle.ti_words.specs.Value.{EntryValue, NamedPart, PartValue}
+use Rattle.ti_words.specs.Value.{EntryValue}
 use Rattle.ti_words.specs.Widths.{format_name}
-use Rattle.ti_json.specs.Objects.{Subject, StandardSubject, OwnSubject, array_text, described, entry_objects, entry_text, fault_object, flag_objects, kind_word, number_objects, objects_from, own_flag, own_number, own_objects, own_text, sound_object, standard_flag, standard_number, standard_objects, standard_text, state_member, text_json, text_objects, value_member, whole_objects}
+use Rattle.ti_json.specs.Objects.{array_text, described, entry_objects, entry_text, fault_object, flag_objects, item_objects, kind_word, number_objects, sound_object, state_member, text_json, text_objects, value_member, whole_objects}
 use Rattle.ti_json.proofs.TextLemmas.{IsText, both, decimal_text, label_text, quoted_text, signed_text}
 
 -- strings are printable, and numbers are integers
@@ -109,59 +111,45 @@ word kinds.Flag = refl
 word kinds.Number = refl
 word kinds.Text = refl
 
-pub one : (subject : Subject) (last : Members) → ArePlainMembers last → HavePlain (described subject last ∷ [])
+pub one : (subject : SubjectValue) (last : Members) → ArePlainMembers last → HavePlain (described subject last ∷ [])
 one (StandardSubject kind index) last are = ((refl, word kind, (refl, label_text tables.All kind index, are)), tt)
-one (OwnSubject kind name) last are = ((refl, word kind, (refl, label_chars_printable (label_notation name) (has_no_space name), (refl, tt, are))), tt)
+one (ExtendedSubject kind name) last are = ((refl, word kind, (refl, label_chars_printable (label_notation name) (has_no_space name), (refl, tt, are))), tt)
 
-cancelled : (subject : Subject) → HavePlain (described subject (state_member (codes "cancelled")) ∷ [])
+cancelled : (subject : SubjectValue) → HavePlain (described subject (state_member (codes "cancelled")) ∷ [])
 cancelled subject = one subject (state_member (codes "cancelled")) (refl, refl, tt)
 
-of_flag : (subject : Subject) (flag : Flag) → HavePlain (flag_objects subject flag)
+of_flag : (subject : SubjectValue) (flag : Flag) → HavePlain (flag_objects subject flag)
 of_flag subject flags.No = tt
 of_flag subject flags.Yes = one subject (value_member (boolean true)) (refl, tt, tt)
 of_flag subject flags.Cancelled = cancelled subject
 of_flag subject flags.Missing = one subject (state_member (codes "missing")) (refl, refl, tt)
 
-of_number : (subject : Subject) (n : Number) → HavePlain (number_objects subject n)
+of_number : (subject : SubjectValue) (n : Number) → HavePlain (number_objects subject n)
 of_number subject numbers.Absent = tt
 of_number subject numbers.Cancelled = cancelled subject
 of_number subject (numbers.Value n) = one subject (value_member (number (of_integer n))) (refl, integer n, tt)
 
-of_text : (subject : Subject) (text : TextValue) → HavePlain (text_objects subject text)
+of_text : (subject : SubjectValue) (text : TextValue) → HavePlain (text_objects subject text)
 of_text subject AbsentText = tt
 of_text subject CancelledText = cancelled subject
 of_text subject (TextOf bytes) = one subject (value_member (string (notation bytes))) (refl, is_printable_all bytes, tt)
 
-pub of_all : {X : Type 0} (objects : ℕ → X → List Data) → ((i : ℕ) (x : X) → HavePlain (objects i x)) → (i : ℕ) (xs : List X) → HavePlain (objects_from objects i xs)
-of_all objects each i [] = tt
-of_all objects each i (x ∷ xs) = joined (objects i x) (objects_from objects (suc i) xs) (each i x) (of_all objects each (suc i) xs)
+of_item : (listed : Listed) → HavePlain (item_objects listed)
+of_item (subject, FlagItem flag) = of_flag subject flag
+of_item (subject, NumberItem n) = of_number subject n
+of_item (subject, TextItem text) = of_text subject text
 
-standard : (p : PartValue) → HavePlain (standard_objects p)
-standard p =
-    let flags = objects_from standard_flag 0 p.flags in
-    let numbers = objects_from standard_number 0 p.numbers in
-    let texts = objects_from standard_text 0 p.texts in
-    joined (flags ++ numbers) texts
-    (joined flags numbers (of_all standard_flag (λ i x. of_flag (StandardSubject kinds.Flag i) x) 0 p.flags) (of_all standard_number (λ i x. of_number (StandardSubject kinds.Number i) x) 0 p.numbers))
-    (of_all standard_text (λ i x. of_text (StandardSubject kinds.Text i) x) 0 p.texts)
-
-own : (p : NamedPart) → HavePlain (own_objects p)
-own p =
-    let flags = objects_from own_flag 0 p.flags in
-    let numbers = objects_from own_number 0 p.numbers in
-    let texts = objects_from own_text 0 p.texts in
-    joined (flags ++ numbers) texts
-    (joined flags numbers (of_all own_flag (λ i x. of_flag (OwnSubject kinds.Flag x.0) x.1) 0 p.flags) (of_all own_number (λ i x. of_number (OwnSubject kinds.Number x.0) x.1) 0 p.numbers))
-    (of_all own_text (λ i x. of_text (OwnSubject kinds.Text x.0) x.1) 0 p.texts)
+pub of_all : {X : Type 0} (objects : X → List Data) → ((x : X) → HavePlain (objects x)) → (xs : List X) → HavePlain (flat_map objects xs)
+of_all objects each [] = tt
+of_all objects each (x ∷ xs) = joined (objects x) (flat_map objects xs) (each x) (of_all objects each xs)
 
 pub format : (width : Width) → IsText (format_name width)
 format width = grind arith
 
 pub entry_is_plain : (v : EntryValue) → IsPlain (array (items_of (entry_objects v)))
 entry_is_plain v =
-    joined (whole_objects v) (standard_objects v.standard ++ own_objects v.extended)
-    ((refl, refl, (refl, format v.width, tt)), ((refl, refl, (refl, is_printable_all v.names, tt)), tt))
-    (joined (standard_objects v.standard) (own_objects v.extended) (standard v.standard) (own v.extended))
+    joined (whole_objects v) (flat_map item_objects (items v))
+    ((refl, refl, (refl, format v.width, tt)), ((refl, refl, (refl, is_printable_all v.names, tt)), tt)) (of_all item_objects of_item (items v))
 
 pub array_is_text : (objects : List Data) → HavePlain objects → IsText (array_text objects)
 array_is_text objects are = is_text (array (items_of objects)) are
@@ -174,12 +162,12 @@ json_is_text text = quoted_text (notation text) (is_printable_all text)
 
 -- ---- verdicts
 
-pub sound_is_plain : (subject : Subject) (depth bound : ℕ) → IsPlain (sound_object subject depth bound)
+pub sound_is_plain : (subject : SubjectValue) (depth bound : ℕ) → IsPlain (sound_object subject depth bound)
 sound_is_plain (StandardSubject kind index) depth bound = (refl, refl, (refl, refl, (refl, word kind, (refl, label_text tables.All kind index, tt))))
-sound_is_plain (OwnSubject kind name) depth bound =
+sound_is_plain (ExtendedSubject kind name) depth bound =
     (refl, refl, (refl, refl, (refl, word kind, (refl, label_chars_printable (label_notation name) (has_no_space name), (refl, tt, tt)))))
 
-pub fault_is_plain : (subject : Subject) (fault : List ℕ) (place : ℕ) → IsText fault → IsPlain (fault_object subject fault place)
+pub fault_is_plain : (subject : SubjectValue) (fault : List ℕ) (place : ℕ) → IsText fault → IsPlain (fault_object subject fault place)
 fault_is_plain (StandardSubject kind index) fault place is = (refl, is, (refl, word kind, (refl, label_text tables.All kind index, (refl, refl, tt))))
-fault_is_plain (OwnSubject kind name) fault place is =
+fault_is_plain (ExtendedSubject kind name) fault place is =
     (refl, is, (refl, word kind, (refl, label_chars_printable (label_notation name) (has_no_space name), (refl, tt, (refl, refl, tt)))))

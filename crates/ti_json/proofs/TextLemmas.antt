@@ -10,10 +10,10 @@ use Rattle.std.proofs.lemmas.List.Folds.{list_all-append}
 use Rattle.json.specs.Print.{escape, escape_byte, quoted}
 use Rattle.ti_words.specs.declared.Kind.{Kind}
 use Rattle.ti_words.specs.declared.Kind.TheVariants as kinds
-use Rattle.ti_words.specs.declared.all_names.NameTable.{NameTable}
-use Rattle.ti_words.specs.declared.all_names.NameTable.TheVariants as tables
-use Rattle.ti_words.specs.AllNames.{has_index, listed, name_in}
-use Rattle.ti_words.specs.NameLists.{all_flags, all_numbers, all_texts}
+use Rattle.ti_names.specs.declared.name_table.NameTable.{NameTable}
+use Rattle.ti_names.specs.declared.name_table.NameTable.TheVariants as tables
+use Rattle.ti_names.specs.AllNames.{has_index, listed, name_in}
+use Rattle.ti_names.specs.NameLists.{all_flags, all_numbers, all_texts}
 use Rattle.ti_escape.specs.Laws.{is_printable}
 
 abbrev pub IsText : List ℕ → Type 0

@@ -1,5 +1,6 @@
 -- The JSON of what two entries do not have alike: an object for each item, with what each of them has of it.
 use Rattle.std.specs.Prelude.{ℕ, true, List, codes}
+use Rattle.ti_words.specs.Items.{ExtendedSubject, StandardSubject, SubjectValue}
 use Rattle.serde_json.specs.Data.{Data, boolean, number, string, object, no_members, member}
 use Rattle.serde_json.specs.Find.{of_integer}
 use Rattle.ti_escape.specs.Notation.{label_notation, notation}
@@ -10,7 +11,7 @@ use Rattle.ti_words.specs.declared.Number.TheVariants as numbers
 use Rattle.ti_words.specs.declared.Width.{Width}
 use Rattle.ti_words.specs.Texts.{TextValue, AbsentText, CancelledText, TextOf}
 use Rattle.ti_words.specs.Widths.{format_name}
-use Rattle.ti_json.specs.Objects.{Subject, StandardSubject, OwnSubject, kind_word, standard_label, state_member, value_member}
+use Rattle.ti_json.specs.Objects.{kind_word, standard_label, state_member, value_member}
 
 -- ---- what one entry has of an item
 
@@ -46,13 +47,13 @@ text_side (TextOf bytes) = valued (string (notation bytes))
 -- ---- what both have, with the members in the order of their names
 
 -- of a capability
-abbrev pub compared : Subject → Data → Data → Data
+abbrev pub compared : SubjectValue → Data → Data → Data
 compared (StandardSubject kind index) first other =
     object (member (codes "first") first
     (member (codes "kind") (string (kind_word kind))
     (member (codes "name") (string (standard_label kind index))
     (member (codes "other") other no_members))))
-compared (OwnSubject kind name) first other =
+compared (ExtendedSubject kind name) first other =
     object (member (codes "first") first
     (member (codes "kind") (string (kind_word kind))
     (member (codes "name") (string (label_notation name))

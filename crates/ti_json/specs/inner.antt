@@ -1,3 +1,2 @@
 -- What private clauses alone cite.
-pub mod Subject
 pub mod Described

@@ -1,14 +1,14 @@
 //! The object on an item that two entries do not have alike.
 
 ghost use Rattle.std.specs.Prelude.{◌≡◌, ◌++◌, ◌∷◌, [], IfOk, OnOk, map};
+ghost use Rattle.ti_words.specs.Items.{subject_value};
 ghost use Rattle.serde_json.specs.View.{view};
 ghost use Rattle.ti_json.specs.Sides.{compared as the_compared, compared_whole};
-ghost use Rattle.ti_json.specs.inner.Subject.{subject_of};
 
 use crate::members::{object_on, with_member, with_string};
-use crate::object::Subject;
 use serde_json::{Map, Value};
 use std::alloc::{AllocError, Global};
+use ti_words::Subject;
 
 /// The object on a capability.
 fn compared(
@@ -18,7 +18,7 @@ fn compared(
     other: Value,
 ) -> Result<Value, AllocError>
     ensures { IfOk result (λ made. view made
-        ≡ the_compared (subject_of subject.entry) (view first) (view other)) }
+        ≡ the_compared (subject_value subject.entry) (view first) (view other)) }
 {
     let members = with_member(alloc, Map::new(alloc), "first", first)?;
     let members = with_member(alloc, members, "other", other)?;
@@ -38,7 +38,7 @@ pub fn push_compared(
     other: Value,
 ) -> Result<(), AllocError>
     ensures { OnOk result (map view out.new.items ≡ map view out.old.items
-        ++ the_compared (subject_of subject.entry) (view first) (view other) ∷ []) }
+        ++ the_compared (subject_value subject.entry) (view first) (view other) ∷ []) }
 {
     out.push(compared(alloc, subject, first, other)?)?;
     Ok(())

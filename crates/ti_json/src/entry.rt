@@ -1,115 +1,21 @@
 //! The objects on an entry.
 
-ghost use Rattle.std.specs.List.{list_all};
-ghost use Rattle.std.specs.Prelude.{◌≡◌, ◌++◌, ◌∷◌, [], false, get_or, true, IfOk, OnOk, map};
+ghost use Rattle.std.specs.List.{flat_map, list_all};
+ghost use Rattle.std.specs.Prelude.{◌≡◌, ◌++◌, ◌∷◌, [], false, true, IfOk, OnOk, map};
 ghost use Rattle.serde_json.specs.View.{items_of, view};
 ghost use Rattle.serde_json.specs.Written.{items_have_float};
-ghost use Rattle.ti_entry.specs.Finding.{names_of};
+ghost use Rattle.ti_words.specs.Items.{items};
 ghost use Rattle.ti_escape.specs.Laws.{is_printable};
 ghost use Rattle.ti_json.specs.inner.Described.{of_kind};
-ghost use Rattle.ti_json.specs.Objects.{array_text, entry_text, objects_from, own_flag, own_number, own_objects, own_text, standard_flag, standard_number, standard_objects, standard_text, whole_objects};
+ghost use Rattle.ti_json.specs.Objects.{array_text, entry_text, item_objects, whole_objects};
 
 use crate::members::{with_member, with_string};
-use crate::object::{Subject, push_flag, push_number, push_text};
+use crate::object::push_item;
 use crate::string::text_string;
 use serde_json::{Map, Value};
 use std::alloc::{AllocError, Global};
-use ti_entry::{Entry, Extended};
-use ti_words::{Kind, format_name};
-
-/// Adds the objects on the flags of terminfo(5).
-fn push_flags(alloc: Global, out: &mut Vec<Value>, entry: &Entry<'_>) -> Result<(), AllocError>
-    ensures { OnOk result (map view out.new.items
-        ≡ map view out.old.items ++ objects_from standard_flag 0 entry.now.standard.flags) }
-{
-    'flags: for index in 0..entry.flag_count() {
-        let subject = Subject::Standard(Kind::Flag, index);
-        push_flag(alloc, out, subject, entry.flag(index))?;
-    }
-    Ok(())
-}
-
-/// Adds the objects on the numbers of terminfo(5).
-fn push_numbers(alloc: Global, out: &mut Vec<Value>, entry: &Entry<'_>) -> Result<(), AllocError>
-    ensures { OnOk result (map view out.new.items
-        ≡ map view out.old.items ++ objects_from standard_number 0 entry.now.standard.numbers) }
-{
-    'numbers: for index in 0..entry.number_count() {
-        let subject = Subject::Standard(Kind::Number, index);
-        push_number(alloc, out, subject, entry.number(index))?;
-    }
-    Ok(())
-}
-
-/// Adds the objects on the texts of terminfo(5).
-fn push_texts(alloc: Global, out: &mut Vec<Value>, entry: &Entry<'_>) -> Result<(), AllocError>
-    ensures { OnOk result (map view out.new.items
-        ≡ map view out.old.items ++ objects_from standard_text 0 entry.now.standard.texts) }
-{
-    'texts: for index in 0..entry.text_count() {
-        let subject = Subject::Standard(Kind::Text, index);
-        push_text(alloc, out, subject, entry.text(index))?;
-    }
-    Ok(())
-}
-
-/// The name of one of the entry's own capabilities.
-fn own_name<'a>(extended: &Extended<'a>, kind: Kind, index: usize) -> &'a [u8]
-    ensures { result.now ≡ get_or (names_of extended.now kind) index [] }
-{
-    match extended.name(kind, index) {
-        Some(name) => name,
-        None => &[],
-    }
-}
-
-/// Adds the objects on the entry's own flags.
-fn push_own_flags(
-    alloc: Global,
-    out: &mut Vec<Value>,
-    extended: &Extended<'_>,
-) -> Result<(), AllocError>
-    ensures { OnOk result (map view out.new.items
-        ≡ map view out.old.items ++ objects_from own_flag 0 extended.now.flags) }
-{
-    'flags: for index in 0..extended.flag_count() {
-        let subject = Subject::Own(Kind::Flag, own_name(extended, Kind::Flag, index));
-        push_flag(alloc, out, subject, extended.flag(index))?;
-    }
-    Ok(())
-}
-
-/// Adds the objects on the entry's own numbers.
-fn push_own_numbers(
-    alloc: Global,
-    out: &mut Vec<Value>,
-    extended: &Extended<'_>,
-) -> Result<(), AllocError>
-    ensures { OnOk result (map view out.new.items
-        ≡ map view out.old.items ++ objects_from own_number 0 extended.now.numbers) }
-{
-    'numbers: for index in 0..extended.number_count() {
-        let subject = Subject::Own(Kind::Number, own_name(extended, Kind::Number, index));
-        push_number(alloc, out, subject, extended.number(index))?;
-    }
-    Ok(())
-}
-
-/// Adds the objects on the entry's own texts.
-fn push_own_texts(
-    alloc: Global,
-    out: &mut Vec<Value>,
-    extended: &Extended<'_>,
-) -> Result<(), AllocError>
-    ensures { OnOk result (map view out.new.items
-        ≡ map view out.old.items ++ objects_from own_text 0 extended.now.texts) }
-{
-    'texts: for index in 0..extended.text_count() {
-        let subject = Subject::Own(Kind::Text, own_name(extended, Kind::Text, index));
-        push_text(alloc, out, subject, extended.text(index))?;
-    }
-    Ok(())
-}
+use ti_entry::Entry;
+use ti_words::format_name;
 
 /// An object of a kind and a value.
 fn kind_value(alloc: Global, kind: &str, value: Value) -> Result<Value, AllocError>
@@ -143,22 +49,16 @@ fn push_whole(alloc: Global, out: &mut Vec<Value>, entry: &Entry<'_>) -> Result<
     push_kind(alloc, out, "names", Value::String(names))
 }
 
-/// Adds the objects on the capabilities of terminfo(5).
-fn push_standard(alloc: Global, out: &mut Vec<Value>, entry: &Entry<'_>) -> Result<(), AllocError>
-    ensures { OnOk result (map view out.new.items ≡ map view out.old.items ++ standard_objects entry.now.standard) }
+/// Adds the objects on the capabilities.
+fn push_items(alloc: Global, out: &mut Vec<Value>, entry: &Entry<'_>) -> Result<(), AllocError>
+    ensures { OnOk result
+        (map view out.new.items ≡ map view out.old.items ++ flat_map item_objects (items entry.now)) }
 {
-    push_flags(alloc, out, entry)?;
-    push_numbers(alloc, out, entry)?;
-    push_texts(alloc, out, entry)
-}
-
-/// Adds the objects on the entry's own capabilities.
-fn push_own(alloc: Global, out: &mut Vec<Value>, extended: &Extended<'_>) -> Result<(), AllocError>
-    ensures { OnOk result (map view out.new.items ≡ map view out.old.items ++ own_objects extended.now) }
-{
-    push_own_flags(alloc, out, extended)?;
-    push_own_numbers(alloc, out, extended)?;
-    push_own_texts(alloc, out, extended)
+    let mut items = entry.items();
+    'items: while let Some((subject, item)) = items.next() {
+        push_item(alloc, out, subject, item)?;
+    }
+    Ok(())
 }
 
 /// Objects without a float as an array of JSON, without a space between tokens.
@@ -189,7 +89,6 @@ pub fn entry_json(alloc: Global, entry: &Entry<'_>) -> Result<Vec<u8>, AllocErro
 {
     let mut objects = Vec::new(alloc);
     push_whole(alloc, &mut objects, entry)?;
-    push_standard(alloc, &mut objects, entry)?;
-    push_own(alloc, &mut objects, &entry.extended())?;
+    push_items(alloc, &mut objects, entry)?;
     array_json(alloc, objects)
 }

@@ -16,7 +16,6 @@ mod verdict;
 pub use compared::{push_compared, push_compared_whole};
 pub use entry::{array_json, entry_json};
 pub use members::{with_member, with_string, with_text};
-pub use object::Subject;
 pub use side::{flag_side, format_side, names_side, number_side, text_side};
 pub use string::{label_string, printable_string, text_json, text_string};
 pub use verdict::{push_fault, push_sound};

@@ -1,17 +1,17 @@
 //! The members of an object, one at a time.
 
 ghost use Rattle.std.specs.Prelude.{◌≡◌, IfOk, string_bytes};
+ghost use Rattle.ti_words.specs.Items.{subject_value};
 ghost use Rattle.serde_json.specs.Data.{object, put as put_member, string};
 ghost use Rattle.serde_json.specs.View.{members_view, view};
 ghost use Rattle.ti_escape.specs.Notation.{notation};
 ghost use Rattle.ti_json.specs.inner.Described.{with_name as the_with_name, with_subject as the_with_subject};
-ghost use Rattle.ti_json.specs.inner.Subject.{subject_of};
 
-use crate::object::{Subject, kind_word};
+use crate::object::kind_word;
 use crate::string::{label_string, standard_label, text_string};
 use serde_json::{Map, Value, put};
 use std::alloc::{AllocError, Global};
-use ti_words::Kind;
+use ti_words::{Kind, Subject};
 
 /// Members with one more, in the order of their names. One that has the name already gets the new value.
 ///
@@ -89,14 +89,14 @@ fn with_subject(
     subject: Subject<'_>,
 ) -> Result<Map<String, Value>, AllocError>
     ensures { IfOk result (λ made. members_view made.entries
-        ≡ the_with_subject (subject_of subject.entry) (members_view members.entries)) }
+        ≡ the_with_subject (subject_value subject.entry) (members_view members.entries)) }
 {
     match subject {
         Subject::Standard(kind, index) => {
             let name = standard_label(alloc, kind, index)?;
             with_name(alloc, members, kind, name)
         }
-        Subject::Own(kind, name) => {
+        Subject::Extended(kind, name) => {
             let name = label_string(alloc, name)?;
             let members = with_name(alloc, members, kind, name)?;
             with_member(alloc, members, "own", Value::Bool(true))
@@ -111,7 +111,7 @@ pub fn object_on(
     subject: Subject<'_>,
 ) -> Result<Value, AllocError>
     ensures { IfOk result (λ made. view made
-        ≡ object (the_with_subject (subject_of subject.entry) (members_view members.entries))) }
+        ≡ object (the_with_subject (subject_value subject.entry) (members_view members.entries))) }
 {
     Ok(Value::Object(with_subject(alloc, members, subject)?))
 }

@@ -1,18 +1,17 @@
 //! Texts and names as strings.
 
 ghost use Rattle.std.specs.List.{list_all};
-ghost use Rattle.std.specs.Prelude.{◌≡◌, true, IfOk, option_map, string_bytes};
+ghost use Rattle.std.specs.Prelude.{◌≡◌, true, IfOk, string_bytes};
 ghost use Rattle.ti_escape.specs.Laws.{is_printable};
 ghost use Rattle.ti_escape.specs.Notation.{label_notation, notation};
 ghost use Rattle.ti_json.specs.Objects.{standard_label as the_standard_label, text_json as the_text_json};
-ghost use Rattle.ti_words.specs.AllNames.{name_in};
-ghost use Rattle.ti_words.specs.declared.all_names.NameTable.{NameTable};
 
 use itoa::Buffer;
 use serde_json::Value;
 use std::alloc::{AllocError, Global};
 use ti_escape::{push_label, push_notation};
-use ti_words::{Kind, NameTable};
+use ti_names::NameTable;
+use ti_words::Kind;
 
 /// The string of printable bytes, which takes no memory.
 pub fn printable_string(bytes: Vec<u8>) -> String
@@ -51,23 +50,11 @@ pub fn label_string(alloc: Global, name: &[u8]) -> Result<String, AllocError>
     Ok(printable_string(bytes))
 }
 
-/// The name of a standard capability.
-fn standard_name(kind: Kind, index: usize) -> Option<&'static str>
-    ensures { option_map (λ name. name.now) result ≡ name_in NameTable.All kind index }
-{
-    let table = NameTable::All;
-    match kind {
-        Kind::Flag => table.flag_name(index),
-        Kind::Number => table.number_name(index),
-        Kind::Text => table.text_name(index),
-    }
-}
-
 /// What a standard capability is called: its name, or `#` and its index if it has none.
 pub fn standard_label(alloc: Global, kind: Kind, index: usize) -> Result<String, AllocError>
     ensures { IfOk result (λ string. string_bytes string ≡ the_standard_label kind index) }
 {
-    match standard_name(kind, index) {
+    match NameTable::All.name_at(kind, index) {
         Some(name) => String::from_str(alloc, name),
         None => {
             let mut digits = Buffer::new();

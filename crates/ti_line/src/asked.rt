@@ -10,7 +10,8 @@ use crate::options::{
 use crate::request::{Asked, OfCapability, OfEntry};
 use ti_escape::{Color, Form};
 use ti_lint::Scope;
-use ti_words::{NameTable, Width};
+use ti_names::NameTable;
+use ti_words::Width;
 
 /// What is asked of an input by `--source`, which says that it is the notation of a capability.
 pub fn input_asked<'a>(source: bool, asked: OfCapability) -> Asked<'a>

@@ -2,7 +2,7 @@
 
 use ti_escape::{Color, Form};
 use ti_lint::Scope;
-use ti_words::NameTable;
+use ti_names::NameTable;
 
 /// How the names that an entry brings with it are written: its own, and those of its extended capabilities.
 #[derive(Clone, Copy, Debug, PartialEq, Eq)]

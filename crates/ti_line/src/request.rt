@@ -5,8 +5,9 @@ use crate::options::{Comparison, Document, Likeness, ListOptions, Naming, Output
 use ti_escape::Color;
 use ti_expand::Value;
 use ti_lint::Scope;
+use ti_names::NameTable;
 use ti_pad::Padding;
-use ti_words::{NameTable, Width};
+use ti_words::Width;
 
 /// What a command line requests of an input.
 #[derive(Debug, Drop)]

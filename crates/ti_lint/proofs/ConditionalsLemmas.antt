@@ -13,9 +13,9 @@ use Rattle.ti_cap.specs.Height.{pops, pushes, next_height}
 use Rattle.ti_cap.specs.Tree.{Sequence, Empty, Simple, Arms, Lone, Else, ElseIf, tokens, arm_tokens, closing}
 use Rattle.ti_lint.specs.declared.conditional.Idle.{Idle}
 use Rattle.ti_lint.specs.declared.conditional.Idle.TheVariants.{Test, Body, Turn}
-use Rattle.ti_lint.specs.Conditionals.{only_computes, computed, values_left, LeavesMore, starts_test, is_constant, are_constant, IsConstantTest, closes_just, EndsWithTest, HasEarlier, IsRepeatedTest, AreIdle, HasNoEffect}
+use Rattle.ti_lint.specs.Conditionals.{only_computes, computed, values_left, starts_test, is_constant, are_constant, IsConstantTest, closes_just, EndsWithTest, HasEarlier, IsRepeatedTest, AreIdle, HasNoEffect}
 use Rattle.ti_lint.proofs.FoundLemmas.{both_are}
-use Rattle.ti_lint.specs.inner.Conditionals.{test_length, height_of, in_test, may_end, ends_at, idle_after, stays_idle, LeavesValue, ConstantsFrom}
+use Rattle.ti_lint.specs.inner.Conditionals.{test_length, height_of, in_test, ends_at, idle_after, stays_idle, LeavesValue, ConstantsFrom}
 
 -- ---- a token more
 

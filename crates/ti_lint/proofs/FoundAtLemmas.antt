@@ -12,7 +12,7 @@ use Rattle.ti_cap.proofs.WrittenLemmas.{Same, one_form, one_cutting, spelled_lon
 use Rattle.ti_lint.specs.declared.expected.Expected.{Expected}
 use Rattle.ti_lint.specs.declared.finding.Finding.{Finding}
 use Rattle.ti_lint.specs.declared.finding.Finding.TheVariants.{StackUnderflow, TermcapParameter, ParameterRange, RepeatedIncrement, UnsetVariable, OperandType, NoEffect, ConstantCondition, RepeatedCondition}
-use Rattle.ti_lint.specs.declared.found.Found.{Found}
+use Rattle.ti_lint.specs.declared.placed_finding.PlacedFinding.{PlacedFinding}
 use Rattle.ti_lint.specs.OnSomePath.{Stands}
 use Rattle.ti_lint.specs.Findings.{Underway, IsFoundBefore, IsFoundAfter, IsFoundWithin}
 use Rattle.ti_lint.specs.Found.{IsFoundAt, Precedes}
@@ -54,9 +54,9 @@ one_place bytes spot other k l all also s o e =
 
 -- ---- a list with a finding more
 
-pub in_noted : (list : List Found) (place : ℕ) (finding : Option Finding) (one : Found)
+pub in_noted : (list : List PlacedFinding) (place : ℕ) (finding : Option Finding) (one : PlacedFinding)
     → Contains (list ++ found_at place finding) one ↔ (Contains list one ⊎ ((one.place ≡ place) × (finding ≡ Some one.finding)))
-in_noted list place None one = ((λ c. let P : List Found → Type 0 = λ x. Contains x one in inl (subst P (append-nil list) c)), other)
+in_noted list place None one = ((λ c. let P : List PlacedFinding → Type 0 = λ x. Contains x one in inl (subst P (append-nil list) c)), other)
   where
     other : Contains list one ⊎ ((one.place ≡ place) × (None ≡ Some one.finding)) → Contains (list ++ []) one
     other (inl c) = Contains-append_left list [] one c
@@ -75,24 +75,24 @@ in_noted list place (Some g) one = (there, back)
     back : Contains list one ⊎ ((one.place ≡ place) × (Some g ≡ Some one.finding)) → Contains (list ++ record { place = place; finding = g } ∷ []) one
     back (inl old) = Contains-append_left list (record { place = place; finding = g } ∷ []) one old
     back (inr p) =
-        let P : Found → Type 0 = λ x. Contains (list ++ record { place = place; finding = g } ∷ []) x in
+        let P : PlacedFinding → Type 0 = λ x. Contains (list ++ record { place = place; finding = g } ∷ []) x in
         let is : record { place = place; finding = g } ≡ one = ap (λ x. record { place = x; finding = g }) (sym p.0) ∙ ap (λ x. record { place = one.place; finding = x }) (same p.1) in
         subst P is (Contains-push list (record { place = place; finding = g }))
 
-noted_all : (P : Found → Type 0) (list : List Found) (place : ℕ) (finding : Option Finding) → All P list → ((g : Finding) → finding ≡ Some g → P (record { place = place; finding = g }))
+noted_all : (P : PlacedFinding → Type 0) (list : List PlacedFinding) (place : ℕ) (finding : Option Finding) → All P list → ((g : Finding) → finding ≡ Some g → P (record { place = place; finding = g }))
     → All P (list ++ found_at place finding)
-noted_all P list place None all new = let Q : List Found → Type 0 = λ x. All P x in subst Q (sym (append-nil list)) all
+noted_all P list place None all new = let Q : List PlacedFinding → Type 0 = λ x. All P x in subst Q (sym (append-nil list)) all
 noted_all P list place (Some g) all new = All-push P list (record { place = place; finding = g }) all (new g refl)
 
-noted_order : (list : List Found) (place : ℕ) (finding : Option Finding) → AllPairs Precedes list
+noted_order : (list : List PlacedFinding) (place : ℕ) (finding : Option Finding) → AllPairs Precedes list
     → ((g : Finding) → finding ≡ Some g → All (λ one. Precedes one (record { place = place; finding = g })) list) → AllPairs Precedes (list ++ found_at place finding)
-noted_order list place None order before = let Q : List Found → Type 0 = λ x. AllPairs Precedes x in subst Q (sym (append-nil list)) order
+noted_order list place None order before = let Q : List PlacedFinding → Type 0 = λ x. AllPairs Precedes x in subst Q (sym (append-nil list)) order
 noted_order list place (Some g) order before = all_pairs_push Precedes list (record { place = place; finding = g }) order (before g refl)
 
 -- ---- the list so far
 
 -- what was found before a place is exactly what holds of the tokens before it
-pub record Lists (bytes : List ℕ) (expected : Expected) (at : Underway) (list : List Found) : Type 0 where
+pub record Lists (bytes : List ℕ) (expected : Expected) (at : Underway) (list : List PlacedFinding) : Type 0 where
   pub formed : IsWellFormed bytes
   pub all : whole at.spot ≡ bytes
   pub judged_by : at.expected ≡ expected
@@ -100,7 +100,7 @@ pub record Lists (bytes : List ℕ) (expected : Expected) (at : Underway) (list 
   pub after : List Token
   pub taken : Written before at.spot.taken
   pub left : Written after at.spot.left
-  pub exact : (one : Found) → Contains list one ↔ ((f : IsFoundAt bytes expected one) × (length f.stands.before < length before))
+  pub exact : (one : PlacedFinding) → Contains list one ↔ ((f : IsFoundAt bytes expected one) × (length f.stands.before < length before))
   pub low : All (λ one. one.place < length at.spot.taken) list
   pub order : AllPairs Precedes list
 
@@ -157,7 +157,7 @@ pub record IsJudged (at new : Underway) (k : Token) (before after within : Optio
 abbrev pub IsFoundOf : Underway → Token → Finding → Type 0
 IsFoundOf at k g = IsFoundBefore at k g ⊎ IsFoundAfter at k g ⊎ IsFoundWithin at k g
 
-pub lists_next : (bytes : List ℕ) (expected : Expected) (at new : Underway) (k : Token) (before after within : Option Finding) (list : List Found) → Lists bytes expected at list
+pub lists_next : (bytes : List ℕ) (expected : Expected) (at new : Underway) (k : Token) (before after within : Option Finding) (list : List PlacedFinding) → Lists bytes expected at list
     → IsJudged at new k before after within
     → Lists bytes expected new (((list ++ found_at (length at.spot.taken) before) ++ found_at (length at.spot.taken) after) ++ found_at (length at.spot.taken) within)
 lists_next bytes expected at new k before after within list l j = record {
@@ -183,7 +183,7 @@ lists_next bytes expected at new k before after within list l j = record {
     place : ℕ
     place = length at.spot.taken
 
-    all_noted : (P : Found → Type 0) → All P list → ((g : Finding) → P (record { place = place; finding = g })) → ((g : Finding) → P (record { place = place; finding = g }))
+    all_noted : (P : PlacedFinding → Type 0) → All P list → ((g : Finding) → P (record { place = place; finding = g })) → ((g : Finding) → P (record { place = place; finding = g }))
         → ((g : Finding) → P (record { place = place; finding = g })) → All P (((list ++ found_at place before) ++ found_at place after) ++ found_at place within)
     all_noted P all one two three = noted_all P _ place within (noted_all P _ place after (noted_all P list place before all (λ g e. one g)) (λ g e. two g)) (λ g e. three g)
 
@@ -196,7 +196,7 @@ lists_next bytes expected at new k before after within list l j = record {
     earlier : (g : Finding) → All (λ one. Precedes one (record { place = place; finding = g })) list
     earlier g = All-weaker (λ one. one.place < place) (λ one. Precedes one (record { place = place; finding = g })) (λ one low. (omega arith, (λ e. let same : one.place ≡ place = ap (λ x. x.place) e in omega arith))) list l.low
 
-    differs : (h g : Finding) → (h ≡ g → ⊥) → ◌≢◌ {A = Found} (record { place = place; finding = h }) (record { place = place; finding = g })
+    differs : (h g : Finding) → (h ≡ g → ⊥) → ◌≢◌ {A = PlacedFinding} (record { place = place; finding = h }) (record { place = place; finding = g })
     differs h g other same = other (ap (λ x. x.finding) same)
 
     by_both : (h g : Finding) → before ≡ Some h → after ≡ Some g → h ≡ g → ⊥
@@ -230,10 +230,10 @@ lists_next bytes expected at new k before after within list l j = record {
     counts : length (l.before ++ k ∷ []) ≡ length l.before + 1
     counts = length-append l.before (k ∷ [])
 
-    Holds : Found → Type 0
+    Holds : PlacedFinding → Type 0
     Holds one = (f : IsFoundAt bytes expected one) × (length f.stands.before < length (l.before ++ k ∷ []))
 
-    found : (one : Found) → one.place ≡ place → IsFoundOf at k one.finding → Holds one
+    found : (one : PlacedFinding) → one.place ≡ place → IsFoundOf at k one.finding → Holds one
     found one is either = (
       record {
         spot = at.spot;
@@ -246,7 +246,7 @@ lists_next bytes expected at new k before after within list l j = record {
       omega (arith, counts),
     )
 
-    there : (one : Found) → Contains (((list ++ found_at place before) ++ found_at place after) ++ found_at place within) one → Holds one
+    there : (one : PlacedFinding) → Contains (((list ++ found_at place before) ++ found_at place after) ++ found_at place within) one → Holds one
     there one c = elim ((in_noted ((list ++ found_at place before) ++ found_at place after) place within one).0 c) [
       | inr p ↦ found one p.0 (inr (inr ((j.by_within one.finding).0 p.1)))
       | inl b ↦ elim ((in_noted (list ++ found_at place before) place after one).0 b) [
@@ -262,7 +262,7 @@ lists_next bytes expected at new k before after within list l j = record {
     near a b less = grind arith
 
     -- it is found of this token
-    this : (one : Found) (f : IsFoundAt bytes expected one) → length f.stands.before ≡ length l.before
+    this : (one : PlacedFinding) (f : IsFoundAt bytes expected one) → length f.stands.before ≡ length l.before
         → (one.place ≡ place) × ((before ≡ Some one.finding) ⊎ (after ≡ Some one.finding) ⊎ (within ≡ Some one.finding))
     this one f e =
         let same : One at.spot f.spot k f.token = one_place bytes at.spot f.spot k f.token l.all f.all stands f.stands e in
@@ -277,13 +277,13 @@ lists_next bytes expected at new k before after within list l j = record {
         told (inr (inr h)) = inr (inr ((j.by_within one.finding).1 h))
 
     -- what is in the list before the last addition
-    kept : (one : Found) → Contains ((list ++ found_at place before) ++ found_at place after) one → Contains (((list ++ found_at place before) ++ found_at place after) ++ found_at place within) one
+    kept : (one : PlacedFinding) → Contains ((list ++ found_at place before) ++ found_at place after) one → Contains (((list ++ found_at place before) ++ found_at place after) ++ found_at place within) one
     kept one c = (in_noted ((list ++ found_at place before) ++ found_at place after) place within one).1 (inl c)
 
-    first : (one : Found) → Contains (list ++ found_at place before) one → Contains (((list ++ found_at place before) ++ found_at place after) ++ found_at place within) one
+    first : (one : PlacedFinding) → Contains (list ++ found_at place before) one → Contains (((list ++ found_at place before) ++ found_at place after) ++ found_at place within) one
     first one c = kept one ((in_noted (list ++ found_at place before) place after one).1 (inl c))
 
-    back : (one : Found) → Holds one → Contains (((list ++ found_at place before) ++ found_at place after) ++ found_at place within) one
+    back : (one : PlacedFinding) → Holds one → Contains (((list ++ found_at place before) ++ found_at place after) ++ found_at place within) one
     back one (f, less) = elim (near (length f.stands.before) (length l.before) (omega (arith, counts))) [
       | inl old ↦ first one ((in_noted list place before one).1 (inl ((l.exact one).1 (f, old))))
       | inr e ↦ let t = this one f e in elim t.1 [
@@ -294,8 +294,8 @@ lists_next bytes expected at new k before after within list l j = record {
     ]
 
 -- at the end
-pub listed : (bytes : List ℕ) (expected : Expected) (at : Underway) (list : List Found) → Lists bytes expected at list → at.spot.left ≡ []
-    → (one : Found) → Contains list one ↔ IsFoundAt bytes expected one
+pub listed : (bytes : List ℕ) (expected : Expected) (at : Underway) (list : List PlacedFinding) → Lists bytes expected at list → at.spot.left ≡ []
+    → (one : PlacedFinding) → Contains list one ↔ IsFoundAt bytes expected one
 listed bytes expected at list l end one = ((λ c. ((l.exact one).0 c).0), (λ f. (l.exact one).1 (f, within f)))
   where
     written : Written l.before bytes

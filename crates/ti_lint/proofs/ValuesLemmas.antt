@@ -1,20 +1,18 @@
 -- The places of values, by their bits, against the values on the stack after a path.
-use Rattle.std.proofs.Common.{◌≡◌, ℕ, zero, suc, ◌+◌, ◌-◌, ◌*◌, ◌/◌, ◌%◌, ◌^◌, ◌<◌, ◌≤◌, max, ◌⊎◌, inl, inr, ◌↔◌, List, [], ◌∷◌, ◌++◌, length, drop, replicate, get_or, refl, sym, ◌∙◌, ap, subst, arith, Bool, true, false, bit_or, nat_eq}
-use Rattle.std.specs.Prelude.{Option, Some, None}
+use Rattle.std.proofs.Common.{◌≡◌, ℕ, zero, suc, ◌+◌, ◌*◌, ◌/◌, ◌%◌, ◌^◌, ◌<◌, ◌≤◌, ◌⊎◌, inl, inr, ◌↔◌, List, [], ◌∷◌, ◌++◌, length, drop, replicate, get_or, refl, sym, ◌∙◌, ap, arith, Bool, true, false, bit_or}
+use Rattle.std.specs.Prelude.{Option, None}
 use Rattle.std.specs.Int.{bit_at}
 use Rattle.std.proofs.lemmas.List.{length-replicate, get_or-drop}
 use Rattle.std.proofs.Common.{length-append, length-drop}
-use Rattle.std.proofs.lemmas.Nat.Bits.{bit_at-suc, bit_at_or, bit_at-lt, bit_at-zero, bit_at-pow_same, bit_at-pow_other}
+use Rattle.std.proofs.lemmas.Nat.Bits.{bit_at-suc, bit_at_or, bit_at-lt, bit_at-pow_same, bit_at-pow_other}
 use Rattle.ti_cap.specs.declared.language.Token.{Token}
 use Rattle.ti_cap.specs.Height.{pops, pushes, next_height, end_height}
-use Rattle.ti_cap.specs.Sources.{source, next_sources, sources_from, sources}
-use Rattle.ti_lint.specs.declared.heights.Heights.{Heights}
+use Rattle.ti_cap.specs.Sources.{source, next_sources, sources_from}
 use Rattle.ti_lint.specs.declared.values.Source.{Source}
 use Rattle.ti_lint.specs.declared.values.Source.TheVariants.{First, Second, Third, Other}
 use Rattle.ti_lint.specs.declared.values.Values.{Values}
-use Rattle.ti_lint.specs.inner.Facts.{raised}
 use Rattle.ti_lint.specs.inner.Values.{source_of, same_source, mask_of, no_values, either_values, dropped, pushed, moved, after_values}
-use Rattle.ti_lint.proofs.HeightsLemmas.{HasHeight, has_raised, has_either}
+use Rattle.ti_lint.proofs.HeightsLemmas.{has_raised, has_either}
 
 abbrev pub HasValue : Values → Source → ℕ → Type 0
 HasValue v one place = bit_at (mask_of one v) place ≡ 1

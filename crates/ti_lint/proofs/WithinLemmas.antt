@@ -1,6 +1,5 @@
 -- A list of all tokens, between those that were taken and those that are left.
 use Rattle.std.proofs.Common.{◌≡◌, ℕ, ◌+◌, ◌<◌, ◌≤◌, ◌↔◌, List, [], ◌∷◌, ◌++◌, length, refl, sym, ◌∙◌, ap, subst, arith, append_assoc, length-append}
-use Rattle.std.specs.Prelude.{Some}
 use Rattle.ti_base.specs.Limits.{most_capability_bytes}
 use Rattle.ti_cap.specs.declared.language.Token.{Token}
 use Rattle.ti_cap.specs.Spelling.{Written}
@@ -9,7 +8,7 @@ use Rattle.ti_cap.proofs.WrittenLemmas.{one_cutting, written-append, written_one
 use Rattle.ti_lint.specs.declared.expected.Expected.{Expected}
 use Rattle.ti_lint.specs.declared.finding.Finding.{Finding}
 use Rattle.ti_lint.specs.Conditionals.{IsFoundAmong}
-use Rattle.ti_lint.specs.Findings.{Underway, IsFoundWithin}
+use Rattle.ti_lint.specs.Findings.{IsFoundWithin}
 use Rattle.ti_lint.specs.inner.Conditionals.{HasTokens}
 use Rattle.ti_lint.proofs.AheadLemmas.{written_long}
 

@@ -3,7 +3,7 @@ use Rattle.std.specs.Prelude.{◌≡◌, ℕ, zero, suc, nat_eq, nat_le, Bool, t
 use Rattle.ti_cap.specs.declared.language.Token.{Token}
 use Rattle.ti_cap.specs.declared.language.Token.TheVariants.{Param, Constant, Load, Length, Compute, CondOpen, CondThen, CondElse, CondClose}
 use Rattle.ti_cap.specs.Height.{pops, next_height}
-use Rattle.ti_cap.specs.Tree.{Sequence, Empty, Arms, Lone, Else, ElseIf, tokens, arm_tokens, closing}
+use Rattle.ti_cap.specs.Tree.{Empty, Arms, Lone, Else, ElseIf, tokens, arm_tokens, closing}
 use Rattle.ti_lint.specs.declared.finding.Finding.{Finding}
 use Rattle.ti_lint.specs.declared.finding.Finding.TheVariants.{NoEffect, ConstantCondition, RepeatedCondition}
 

@@ -3,12 +3,12 @@ use Rattle.std.specs.Prelude.{◌≡◌, ◌≢◌, ℕ, ◌≤◌, ◌⊎◌, L
 use Rattle.ti_cap.specs.declared.language.Token.{Token}
 use Rattle.ti_cap.specs.Capability.{Spot, whole}
 use Rattle.ti_lint.specs.declared.expected.Expected.{Expected}
-use Rattle.ti_lint.specs.declared.found.Found.{Found}
+use Rattle.ti_lint.specs.declared.placed_finding.PlacedFinding.{PlacedFinding}
 use Rattle.ti_lint.specs.OnSomePath.{Stands}
 use Rattle.ti_lint.specs.Findings.{IsFoundBefore, IsFoundAfter, IsFoundWithin}
 
 -- The bytes have a token after so many of them, and the finding holds of that token.
-pub record IsFoundAt (bytes : List ℕ) (expected : Expected) (found : Found) : Type 0 where
+pub record IsFoundAt (bytes : List ℕ) (expected : Expected) (found : PlacedFinding) : Type 0 where
   pub spot : Spot
   pub token : Token
   pub all : whole spot ≡ bytes
@@ -19,5 +19,5 @@ pub record IsFoundAt (bytes : List ℕ) (expected : Expected) (found : Found) : 
       ⊎ IsFoundWithin (record { spot = spot; expected = expected }) token found.finding
 
 -- no place comes after a greater one, and nothing is found twice
-abbrev pub Precedes : Found → Found → Type 0
+abbrev pub Precedes : PlacedFinding → PlacedFinding → Type 0
 Precedes one other = (one.place ≤ other.place) × (one ≢ other)

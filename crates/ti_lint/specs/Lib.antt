@@ -1,6 +1,5 @@
-pub mod OwnClasses
+pub mod ExtendedClasses
 pub mod Variables
-pub mod Classes
 pub mod Pairs
 pub mod Plain
 pub mod TextParameters

@@ -8,23 +8,20 @@
 #![tactic(auto)]
 
 mod backward;
-mod class;
-mod class_table;
 mod conditional;
 mod expected;
+mod extended_class;
 mod facts;
 mod finding;
 mod findings;
-mod found;
 mod heights;
 mod kinds;
-pub mod laws;
 mod marks;
 mod outlook;
-mod own_class;
 mod pairs;
 mod parameters;
 mod pass;
+mod placed_finding;
 mod plain;
 mod scope;
 mod stored;
@@ -33,17 +30,16 @@ mod tokens;
 mod values;
 mod variables;
 
-pub use class::{Class, class_of};
 pub use conditional::constant_test;
 pub use expected::{Expected, TextParameters};
+pub use extended_class::extended_class_of;
 pub use finding::Finding;
 pub use findings::{Findings, Judged};
-pub use found::{Found, findings_of};
 pub use kinds::text_parameters;
 pub use marks::{find_false_mark, find_mark};
-pub use own_class::own_class_of;
 pub use pairs::{is_half_paired, toggling_pairs, undoing_pairs};
 pub use parameters::unused_parameters;
+pub use placed_finding::{PlacedFinding, findings_of};
 pub use plain::{find_double_percent, is_meant_to_expand};
 pub use scope::Scope;
 pub use stored::stored_by;

@@ -1,54 +1,54 @@
 //! Texts that undo each other, and lists of pairs.
 
 ghost use Rattle.std.specs.Prelude.{◌≡◌, ◌%◌, ◌↔◌, map, length, IsTrue};
-ghost use Rattle.ti_lint.specs.Pairs.{named_pair, all_pairs, all_toggles};
+ghost use Rattle.ti_lint.specs.Pairs.{all_pairs, all_toggles, names_of};
 
-/// The indices of `sc` and `rc`, `smam` and `rmam`, `smacs` and `rmacs`, `mc5` and `mc4`, `smkx` and `rmkx`, `cvvis` and
-/// `cnorm`.
-static PAIRS: [(usize, usize); 6] = [
-    (128, 126),
-    (151, 152),
-    (25, 38),
-    (120, 119),
-    (89, 88),
-    (20, 16),
+/// Save and restore the cursor; margins on and off; the other character set in and out; the printer on and off; the keys to send
+/// and back; the cursor very visible and normal.
+static PAIRS: [(&str, &str); 6] = [
+    ("sc", "rc"),
+    ("smam", "rmam"),
+    ("smacs", "rmacs"),
+    ("mc5", "mc4"),
+    ("smkx", "rmkx"),
+    ("cvvis", "cnorm"),
 ];
 
-/// The indices of texts of which one undoes what the other does, so that no two of them are the same.
-pub fn undoing_pairs() -> &'static [(usize, usize)]
-    ensures names { map named_pair result.now ≡ all_pairs }
+/// The names of texts of which one undoes what the other does, so that no two of them are the same.
+#[tactic(auto, unfolding(crate::specs::Pairs::all_pairs))]
+pub fn undoing_pairs() -> &'static [(&'static str, &'static str)]
+    ensures names { map names_of result.now ≡ all_pairs }
 {
     &PAIRS
 }
 
-/// The indices of modes and their ends: `smso` and `rmso`, `smul` and `rmul`, `smcup` and `rmcup`, `smir` and `rmir`, `smdc` and
-/// `rmdc`, `smm` and `rmm`, `smxon` and `rmxon`, `smln` and `rmln`, `sitm` and `ritm`, `swidm` and `rwidm`, `sshm` and `rshm`,
-/// `ssubm` and `rsubm`, `ssupm` and `rsupm`, `slm` and `rlm`, `sum` and `rum`, `smicm` and `rmicm`, `smpch` and `rmpch`, `smsc`
-/// and `rmsc`.
-static TOGGLES: [(usize, usize); 18] = [
-    (35, 43),
-    (36, 44),
-    (28, 40),
-    (31, 42),
-    (29, 41),
-    (102, 101),
-    (149, 150),
-    (156, 157),
-    (311, 321),
-    (309, 320),
-    (316, 324),
-    (317, 325),
-    (318, 326),
-    (312, 322),
-    (319, 327),
-    (313, 323),
-    (379, 380),
-    (381, 382),
+/// The start and the end of modes: standout, underline, the screen of the cursor, insert, delete, the meta key, flow control,
+/// labels, italics, wide, shadowed, lowered and raised letters, leftward and upward, micro motion, characters of the PC, scan codes.
+static TOGGLES: [(&str, &str); 18] = [
+    ("smso", "rmso"),
+    ("smul", "rmul"),
+    ("smcup", "rmcup"),
+    ("smir", "rmir"),
+    ("smdc", "rmdc"),
+    ("smm", "rmm"),
+    ("smxon", "rmxon"),
+    ("smln", "rmln"),
+    ("sitm", "ritm"),
+    ("swidm", "rwidm"),
+    ("sshm", "rshm"),
+    ("ssubm", "rsubm"),
+    ("ssupm", "rsupm"),
+    ("slm", "rlm"),
+    ("sum", "rum"),
+    ("smicm", "rmicm"),
+    ("smpch", "rmpch"),
+    ("smsc", "rmsc"),
 ];
 
-/// The indices of texts of which one starts and one ends a mode. On a terminal that toggles the mode they may be the same.
-pub fn toggling_pairs() -> &'static [(usize, usize)]
-    ensures names { map named_pair result.now ≡ all_toggles }
+/// The names of texts of which one starts and one ends a mode. On a terminal that toggles the mode they may be the same.
+#[tactic(auto, unfolding(crate::specs::Pairs::all_toggles))]
+pub fn toggling_pairs() -> &'static [(&'static str, &'static str)]
+    ensures names { map names_of result.now ≡ all_toggles }
 {
     &TOGGLES
 }

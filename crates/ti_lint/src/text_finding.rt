@@ -14,7 +14,7 @@ pub enum TextFinding {
     UninterpretedEscape,
     /// A text that is sent as it stands, or that a key sends, has two percent signs: [`crate::find_double_percent`].
     UninterpretedPercent,
-    /// Two texts that undo each other, such as `sc` and `rc`, are the same: [`crate::undoing_pairs`] has their indices.
+    /// Two texts that undo each other, such as `sc` and `rc`, are the same: [`crate::undoing_pairs`] has their names.
     EqualPair,
     /// A `$<` in a text that is sent starts no padding mark: [`crate::find_false_mark`].
     FalseMark,
@@ -26,13 +26,13 @@ pub enum TextFinding {
     KeyPrefix,
     /// Two keys send the same.
     AlikeKeys,
-    /// A name of an entry's own stands more than once, or is one of terminfo(5).
+    /// An extended name stands more than once, or is one of terminfo(5).
     RepeatedName,
     /// An entry has colors, and not what they need.
     Colors,
     /// The bytes of an entry are not those that are written of it.
     Layout,
-    /// Readers of an entry differ in where its own names start.
+    /// Readers of an entry differ in where its extended names start.
     Base,
 }
 

@@ -7,14 +7,14 @@ ghost use Rattle.std.specs.Prelude.{◌≡◌, ◌<◌, ◌≤◌};
 ghost use Rattle.ti_cap.specs.Height.{pops, pushes};
 ghost use Rattle.ti_cap.specs.Sources.{source, takes_text};
 ghost use Rattle.ti_lint.specs.inner.Facts.{agrees, has_bit, has_kind, is_other_below};
-ghost use Rattle.ti_lint.specs.inner.Values.{after_values, dropped, either_values, moved, pushed, same_source, source_of};
+ghost use Rattle.ti_lint.specs.inner.Values.{after_values, dropped, either_values, moved, pushed, source_of};
 
 use crate::expected::TextParameters;
 use crate::outlook::{pops, pushes};
 use ti_cap::{Conversion, Token};
 
 /// Where a value comes from: one of the parameters that may be texts, or anything else, which is a number.
-#[derive(Clone, Copy)]
+#[derive(Clone, Copy, PartialEq, Eq)]
 pub enum Source {
     First,
     Second,
@@ -129,19 +129,6 @@ fn source_of(token: Token) -> Source
     }
 }
 
-/// Whether two sources are the same.
-fn same_source(one: Source, other: Source) -> bool
-    ensures { result ≡ same_source one other }
-{
-    match (one, other) {
-        (Source::First, Source::First)
-        | (Source::Second, Source::Second)
-        | (Source::Third, Source::Third)
-        | (Source::Other, Source::Other) => true,
-        _ => false,
-    }
-}
-
 /// The places after so many pops.
 fn dropped(count: usize, mask: u64) -> u64
     requires { count ≤ 2 }
@@ -170,6 +157,6 @@ fn pushed(count: usize, is_top: bool, mask: u64) -> u64
 fn moved(token: Token, one: Source, mask: u64) -> u64
     ensures { result ≡ moved token one mask }
 {
-    let is_top = same_source(one, source_of(token));
+    let is_top = one == source_of(token);
     pushed(pushes(token), is_top, dropped(pops(token), mask))
 }

@@ -15,6 +15,7 @@ macro_rules! assert_that {
 }
 
 mod attributes;
+mod entries;
 mod lint_findings;
 mod lint_reports;
 mod lint_texts;

@@ -1,5 +1,7 @@
 -- Two entries are told apart exactly if they do not say the same.
 use Rattle.std.proofs.Common.{◌≡◌, ◌∙◌, ◌≤◌, ◌<◌, ℕ, zero, suc, List, [], ◌∷◌, ◌++◌, length, inl, inr, refl, sym, ap, subst, arith}
+use Rattle.ti_words.specs.Spelling.{unnamed}
+use Rattle.ti_words.specs.Items.{ExtendedSubject, FlagItem, ItemValue, NumberItem, StandardSubject, TextItem, none_of}
 use Rattle.std.proofs.lemmas.Bool.{cases_lt}
 use Rattle.std.proofs.lemmas.Int.{ints, clamps}
 use Rattle.std.proofs.lemmas.List.{get_or_past}
@@ -13,10 +15,9 @@ use Rattle.ti_words.specs.Texts.{AbsentText}
 use Rattle.ti_words.specs.Value.{EntryValue}
 use Rattle.ti_entry.specs.Finding.{IsLeastIndex, names_of}
 use Rattle.ti_entry.specs.declared.finding.Position.TheVariants.{Standard, Extended}
-use Rattle.ti_json.specs.Objects.{StandardSubject, OwnSubject}
 use Rattle.ti_line.specs.declared.options.Likeness.{Likeness}
-use Rattle.ti_listing.specs.Differences.{AreAlike, AreBelow, AreDifferences, AreOfKinds, AreSame, AreSameItems, AreOwnChanges, AreStandardChanges, DifferenceValue, FormatDiffers, IsChange, IsFirst, IsOwn, IsOwnChange, IsOwnNew, IsStandardChange, ItemDiffers, NamesDiffer, TellsApart, name_at, none_of, own_found, standard_count}
-use Rattle.ti_listing.specs.Items.{ItemValue, FlagItem, NumberItem, TextItem, item_at}
+use Rattle.ti_listing.specs.Differences.{AreAlike, AreBelow, AreDifferences, AreOfKinds, AreSame, AreSameItems, AreOwnChanges, AreStandardChanges, DifferenceValue, FormatDiffers, IsChange, IsFirst, IsOwnChange, IsOwnNew, IsStandardChange, ItemDiffers, NamesDiffer, TellsApart, name_at}
+use Rattle.ti_entry.specs.Items.{IsItemOf, count_of_kind, item_at, item_found}
 use Rattle.ti_listing.proofs.IsLeastIndexLemmas.{one_first}
 
 -- ---- lists
@@ -50,19 +51,19 @@ module _ (by : Likeness) (v w : EntryValue) (alike : AreAlike by v w) where
     where
       first : (i : ℕ) (one : List DifferenceValue) → IsOwnChange by kind v w i one → one ≡ []
       first i one (inl (is_first, (other, own, change))) =
-          change_empty (AreSameItems by) (ItemDiffers (OwnSubject kind (name_at kind v i))) (item_at v (Extended kind i)) other one change
+          change_empty (AreSameItems by) (ItemDiffers (ExtendedSubject kind (name_at kind v i))) (item_at v (Extended kind i)) other one change
           (alike.own kind (name_at kind v i) (item_at v (Extended kind i)) other (Some i, is_first, refl) own)
       first i one (inr (not_first, none)) = none
 
       second : (i : ℕ) (one : List DifferenceValue) → IsOwnNew by kind v w i one → one ≡ []
       second i one (inl ((is_first, lacks), change)) =
-          change_empty (AreSameItems by) (ItemDiffers (OwnSubject kind (name_at kind w i))) (none_of kind) (item_at w (Extended kind i)) one change
+          change_empty (AreSameItems by) (ItemDiffers (ExtendedSubject kind (name_at kind w i))) (none_of kind) (item_at w (Extended kind i)) one change
           (alike.own kind (name_at kind w i) (none_of kind) (item_at w (Extended kind i)) (None, lacks, refl) (Some i, is_first, refl))
       second i one (inr (old, none)) = none
 
   standard_empty : (kind : Kind) (out : List DifferenceValue) → AreStandardChanges by kind v w out → out ≡ []
   standard_empty kind out are =
-      below_empty (IsStandardChange by kind v w) (max (standard_count kind v) (standard_count kind w)) out
+      below_empty (IsStandardChange by kind v w) (max (count_of_kind v.standard kind) (count_of_kind w.standard kind)) out
       (λ i one change. change_empty (AreSameItems by) (ItemDiffers (StandardSubject kind i)) (item_at v (Standard kind i)) (item_at w (Standard kind i)) one change (alike.standard kind i)) are
 
   alike_tells : (out : List DifferenceValue) → AreDifferences by v w out → out ≡ []
@@ -76,7 +77,7 @@ module _ (by : Likeness) (v w : EntryValue) (alike : AreAlike by v w) where
 -- ---- two entries of which nothing is told
 
 -- past the end nothing is there
-past_standard : (kind : Kind) (v : EntryValue) (i : ℕ) → standard_count kind v ≤ i → item_at v (Standard kind i) ≡ none_of kind
+past_standard : (kind : Kind) (v : EntryValue) (i : ℕ) → count_of_kind v.standard kind ≤ i → item_at v (Standard kind i) ≡ none_of kind
 past_standard kinds.Flag v i h = ap FlagItem (get_or_past v.standard.flags i flags.No h)
 past_standard kinds.Number v i h = ap NumberItem (get_or_past v.standard.numbers i numbers.Absent h)
 past_standard kinds.Text v i h = ap TextItem (get_or_past v.standard.texts i AbsentText h)
@@ -119,10 +120,10 @@ max_right m n i h = omega (arith, ints, clamps)
 module _ (by : Likeness) (v w : EntryValue) where
   same_standard : (kind : Kind) (i : ℕ) → AreStandardChanges by kind v w [] → AreSameItems by (item_at v (Standard kind i)) (item_at w (Standard kind i))
   same_standard kind i are =
-      let most : ℕ = max (standard_count kind v) (standard_count kind w) in
+      let most : ℕ = max (count_of_kind v.standard kind) (count_of_kind w.standard kind) in
       elim (cases_lt i most) [
         | inl h ↦ change_same (AreSameItems by) (ItemDiffers (StandardSubject kind i)) (item_at v (Standard kind i)) (item_at w (Standard kind i)) (below_each (IsStandardChange by kind v w) most [] are refl i h)
-        | inr h ↦ inl (past_standard kind v i (max_left (standard_count kind v) (standard_count kind w) i h) ∙ sym (past_standard kind w i (max_right (standard_count kind v) (standard_count kind w) i h)))
+        | inr h ↦ inl (past_standard kind v i (max_left (count_of_kind v.standard kind) (count_of_kind w.standard kind) i h) ∙ sym (past_standard kind w i (max_right (count_of_kind v.standard kind) (count_of_kind w.standard kind) i h)))
       ]
 
   -- the first of a name is the first of the name at its index
@@ -133,31 +134,31 @@ module _ (by : Likeness) (v w : EntryValue) where
       (same, subst Least (sym same) least)
 
   -- what an entry has with a name is one value
-  one_own : (kind : Kind) (x : EntryValue) (name other : List ℕ) (a b : ItemValue) → name ≡ other → IsOwn kind x name a → IsOwn kind x other b → a ≡ b
+  one_own : (kind : Kind) (x : EntryValue) (name other : List ℕ) (a b : ItemValue) → name ≡ other → IsItemOf x (ExtendedSubject kind name) a → IsItemOf x (ExtendedSubject kind other) b → a ≡ b
   one_own kind x name other a b same (found, least, is) (again, also, is_too) =
       let Least : List ℕ → Type 0 = λ n. IsLeastIndex (names_of x.extended kind) n found in
-      is ∙ ap (own_found kind x) (one_first (names_of x.extended kind) other found again (subst Least same least) also) ∙ sym is_too
+      is ∙ ap (item_found (unnamed x.extended) kind) (one_first (names_of x.extended kind) other found again (subst Least same least) also) ∙ sym is_too
 
-  same_own : (kind : Kind) → AreOwnChanges by kind v w [] → (name : List ℕ) (one other : ItemValue) → IsOwn kind v name one → IsOwn kind w name other → AreSameItems by one other
+  same_own : (kind : Kind) → AreOwnChanges by kind v w [] → (name : List ℕ) (one other : ItemValue) → IsItemOf v (ExtendedSubject kind name) one → IsItemOf w (ExtendedSubject kind name) other → AreSameItems by one other
   same_own kind (compared, more, a, b, joined) name one other = go
     where
       parts : (compared ≡ []) × (more ≡ [])
       parts = both_empty compared more (sym joined)
 
-      beside : (i : ℕ) → IsOwnChange by kind v w i [] → IsFirst kind v i → name_at kind v i ≡ name → IsOwn kind w name other → AreSameItems by (item_at v (Extended kind i)) other
+      beside : (i : ℕ) → IsOwnChange by kind v w i [] → IsFirst kind v i → name_at kind v i ≡ name → IsItemOf w (ExtendedSubject kind name) other → AreSameItems by (item_at v (Extended kind i)) other
       beside i (inr (not_first, none)) first called own = absurd (not_first first)
       beside i (inl (is_first, (value, own_value, change))) first called own =
           let same : value ≡ other = one_own kind w (name_at kind v i) name value other called own_value own in
           let Same : ItemValue → Type 0 = λ x. AreSameItems by (item_at v (Extended kind i)) x in
-          subst Same same (change_same (AreSameItems by) (ItemDiffers (OwnSubject kind (name_at kind v i))) (item_at v (Extended kind i)) value change)
+          subst Same same (change_same (AreSameItems by) (ItemDiffers (ExtendedSubject kind (name_at kind v i))) (item_at v (Extended kind i)) value change)
 
       new : (i : ℕ) → IsOwnNew by kind v w i [] → IsFirst kind w i → name_at kind w i ≡ name → IsLeastIndex (names_of v.extended kind) name None → AreSameItems by (none_of kind) (item_at w (Extended kind i))
-      new i (inl (is_new, change)) first called lacks = change_same (AreSameItems by) (ItemDiffers (OwnSubject kind (name_at kind w i))) (none_of kind) (item_at w (Extended kind i)) change
+      new i (inl (is_new, change)) first called lacks = change_same (AreSameItems by) (ItemDiffers (ExtendedSubject kind (name_at kind w i))) (none_of kind) (item_at w (Extended kind i)) change
       new i (inr (old, none)) first called lacks =
           let Least : List ℕ → Type 0 = λ n. IsLeastIndex (names_of v.extended kind) n None in
           absurd (old (first, subst Least (sym called) lacks))
 
-      go : IsOwn kind v name one → IsOwn kind w name other → AreSameItems by one other
+      go : IsItemOf v (ExtendedSubject kind name) one → IsItemOf w (ExtendedSubject kind name) other → AreSameItems by one other
       go (Some i, least, is) own =
           let at = first_at kind v name i least in
           let within = slice_get_within (names_of v.extended kind) i name least.0 in

@@ -1,5 +1,6 @@
 -- Differences that are added one after another.
 use Rattle.std.proofs.Common.{◌≡◌, ◌∙◌, ℕ, ◌+◌, Bool, List, [], ◌∷◌, ◌++◌, length, map, get_or, inl, inr, refl, sym, ap, subst, append_assoc, add-one, arith}
+use Rattle.ti_words.specs.Items.{ExtendedSubject, ItemValue, none_of}
 use Rattle.std.proofs.lemmas.List.{append-nil, map-append}
 use Rattle.std.specs.Prelude.{Option, Some, None, Result, Ok, Err, OnOk, ◌↔◌, IsTrue, true}
 use Rattle.ti_words.specs.declared.Kind.{Kind}
@@ -9,10 +10,9 @@ use Rattle.ti_words.specs.contracts.WidthPartialEq as width_eq
 use Rattle.ti_words.specs.declared.Width.{Width}
 use Rattle.ti_entry.specs.Finding.{IsLeastIndex, Lacks, names_of}
 use Rattle.ti_entry.specs.declared.finding.Position.TheVariants.{Extended}
-use Rattle.ti_json.specs.Objects.{OwnSubject}
 use Rattle.ti_line.specs.declared.options.Likeness.{Likeness}
-use Rattle.ti_listing.specs.Items.{ItemValue, item_at}
-use Rattle.ti_listing.specs.Differences.{AreBelow, AreDifferences, AreOfKinds, AreSame, AreSameItems, AreOwnChanges, AreStandardChanges, DifferenceValue, FormatDiffers, IsChange, IsFirst, IsOwn, IsOwnChange, IsOwnNew, ItemDiffers, NamesDiffer, name_at, none_of}
+use Rattle.ti_entry.specs.Items.{IsItemOf, item_at}
+use Rattle.ti_listing.specs.Differences.{AreBelow, AreDifferences, AreOfKinds, AreSame, AreSameItems, AreOwnChanges, AreStandardChanges, DifferenceValue, FormatDiffers, IsChange, IsFirst, IsOwnChange, IsOwnNew, ItemDiffers, NamesDiffer, name_at}
 use Rattle.ti_listing.specs.Values.{difference_value}
 use Rattle.ti_listing.specs.declared.difference.Difference.{Difference}
 use Rattle.ti_listing.specs.inner.Differences.{Adds}
@@ -49,22 +49,22 @@ change_of {V = V} Same differ a b x y out new e f h =
 -- ---- an extended capability
 
 pub own_at : {E : Type 0} (by : Likeness) (kind : Kind) (v w : EntryValue) (i : ℕ) (r : Result (Unit {0}) E) (ext : NamedPart) (name : List ℕ) (value other : ItemValue) (out new : List DifferenceValue) → IsFirst kind v i → ext ≡ v.extended
-    → name ≡ get_or (names_of ext kind) i [] → value ≡ item_at v (Extended kind i) → IsOwn kind w name other
-    → OnOk r (Adds (IsChange (AreSameItems by) (ItemDiffers (OwnSubject kind name)) value other) out new) → OnOk r (Adds (IsOwnChange by kind v w i) out new)
+    → name ≡ get_or (names_of ext kind) i [] → value ≡ item_at v (Extended kind i) → IsItemOf w (ExtendedSubject kind name) other
+    → OnOk r (Adds (IsChange (AreSameItems by) (ItemDiffers (ExtendedSubject kind name)) value other) out new) → OnOk r (Adds (IsOwnChange by kind v w i) out new)
 own_at by kind v w i (Err e) ext name value other out new first same n is own h = tt
 own_at by kind v w i (Ok u) ext name value other out new first same n is own (told, change, added) =
     let called : name ≡ name_at kind v i = n ∙ ap (λ x. get_or (names_of x kind) i []) same in
-    let Change : List ℕ → ItemValue → Type 0 = λ x a. IsChange (AreSameItems by) (ItemDiffers (OwnSubject kind x)) a other told in
-    let Own : List ℕ → Type 0 = λ x. IsOwn kind w x other in
+    let Change : List ℕ → ItemValue → Type 0 = λ x a. IsChange (AreSameItems by) (ItemDiffers (ExtendedSubject kind x)) a other told in
+    let Own : List ℕ → Type 0 = λ x. IsItemOf w (ExtendedSubject kind x) other in
     (told, inl (first, (other, subst Own called own, subst (λ x. Change x (item_at v (Extended kind i))) called (subst (Change name) is change))), added)
 
 pub new_at : {E : Type 0} (by : Likeness) (kind : Kind) (v w : EntryValue) (i : ℕ) (r : Result (Unit {0}) E) (ext : NamedPart) (name : List ℕ) (none value : ItemValue) (out new : List DifferenceValue) → IsFirst kind w i
     → Lacks (names_of v.extended kind) name → ext ≡ w.extended → name ≡ get_or (names_of ext kind) i [] → none ≡ none_of kind → value ≡ item_at w (Extended kind i)
-    → OnOk r (Adds (IsChange (AreSameItems by) (ItemDiffers (OwnSubject kind name)) none value) out new) → OnOk r (Adds (IsOwnNew by kind v w i) out new)
+    → OnOk r (Adds (IsChange (AreSameItems by) (ItemDiffers (ExtendedSubject kind name)) none value) out new) → OnOk r (Adds (IsOwnNew by kind v w i) out new)
 new_at by kind v w i (Err e) ext name none value out new first lacks same n absent is h = tt
 new_at by kind v w i (Ok u) ext name none value out new first lacks same n absent is (told, change, added) =
     let called : name ≡ name_at kind w i = n ∙ ap (λ x. get_or (names_of x kind) i []) same in
-    let Change : List ℕ → ItemValue → ItemValue → Type 0 = λ x a b. IsChange (AreSameItems by) (ItemDiffers (OwnSubject kind x)) a b told in
+    let Change : List ℕ → ItemValue → ItemValue → Type 0 = λ x a b. IsChange (AreSameItems by) (ItemDiffers (ExtendedSubject kind x)) a b told in
     let LacksIt : List ℕ → Type 0 = λ x. Lacks (names_of v.extended kind) x in
     let change_too : Change name (none_of kind) (item_at w (Extended kind i)) = subst (λ b. Change name (none_of kind) b) is (subst (λ a. Change name a value) absent change) in
     (told, inl ((first, subst LacksIt called lacks), subst (λ x. Change x (none_of kind) (item_at w (Extended kind i))) called change_too), added)

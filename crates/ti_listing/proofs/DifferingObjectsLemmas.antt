@@ -1,12 +1,12 @@
 -- Each character of the JSON of differences can be printed, and no object has a float.
 use Rattle.std.proofs.Common.{List, [], ◌∷◌, map, refl}
+use Rattle.ti_words.specs.Items.{FlagItem, ItemValue, NumberItem, TextItem}
 use Rattle.std.specs.Prelude.{codes}
 use Rattle.ti_json.proofs.PlainLemmas.{HavePlain, IsPlain}
 use Rattle.ti_json.proofs.SidesLemmas.{compared_is_plain, flag_is_plain, format_is_plain, names_are_plain, number_is_plain, text_is_plain, whole_is_plain}
 use Rattle.ti_json.specs.Sides.{format_side, names_side}
 use Rattle.ti_listing.specs.Differences.{DifferenceValue, FormatDiffers, NamesDiffer, ItemDiffers}
 use Rattle.ti_listing.specs.DifferingObjects.{difference_object, item_side}
-use Rattle.ti_listing.specs.Items.{ItemValue, FlagItem, NumberItem, TextItem}
 
 item_is_plain : (item : ItemValue) → IsPlain (item_side item)
 item_is_plain (FlagItem flag) = flag_is_plain flag

@@ -1,5 +1,4 @@
 pub mod IsLeastIndexLemmas
-pub mod LinesFromLemmas
 pub mod TokensLemmas
 pub mod DifferencesLemmas
 pub mod AreAlikeLemmas

@@ -1,21 +1,19 @@
 -- What two entries do not have alike, one item after another.
-use Rattle.std.specs.Prelude.{◌≡◌, ◌⊎◌, ℕ, zero, suc, List, [], ◌∷◌, ◌++◌, Option, Some, None, get_or, length, max}
-use Rattle.ti_words.specs.declared.Flag.TheVariants as flags
+use Rattle.std.specs.Prelude.{◌≡◌, ◌⊎◌, ℕ, zero, suc, List, [], ◌∷◌, ◌++◌, Some, get_or, length, max}
+use Rattle.ti_words.specs.Items.{ExtendedSubject, ItemValue, StandardSubject, SubjectValue, TextItem, none_of}
 use Rattle.ti_words.specs.declared.Kind.{Kind}
 use Rattle.ti_words.specs.declared.Kind.TheVariants as kinds
-use Rattle.ti_words.specs.declared.Number.TheVariants as numbers
 use Rattle.ti_words.specs.declared.Width.{Width}
-use Rattle.ti_words.specs.Texts.{AbsentText, TextOf}
+use Rattle.ti_words.specs.Texts.{TextOf}
 use Rattle.ti_words.specs.Value.{EntryValue}
 use Rattle.ti_cap.specs.declared.language.Token.{Token}
 use Rattle.ti_cap.specs.Refusal.{IsFaultless}
 use Rattle.ti_cap.specs.Spelling.{Written}
 use Rattle.ti_entry.specs.Finding.{IsLeastIndex, Lacks, names_of}
 use Rattle.ti_entry.specs.declared.finding.Position.TheVariants.{Standard, Extended}
-use Rattle.ti_json.specs.Objects.{Subject, StandardSubject, OwnSubject}
 use Rattle.ti_line.specs.declared.options.Likeness.{Likeness}
 use Rattle.ti_line.specs.declared.options.Likeness.TheVariants as likenesses
-use Rattle.ti_listing.specs.Items.{ItemValue, FlagItem, NumberItem, TextItem, item_at}
+use Rattle.ti_entry.specs.Items.{IsItemOf, count_of_kind, item_at}
 
 -- ---- one item
 
@@ -23,7 +21,7 @@ use Rattle.ti_listing.specs.Items.{ItemValue, FlagItem, NumberItem, TextItem, it
 pub data DifferenceValue : Type 0 where
   FormatDiffers : Width → Width → DifferenceValue
   NamesDiffer : List ℕ → List ℕ → DifferenceValue
-  ItemDiffers : Subject → ItemValue → ItemValue → DifferenceValue
+  ItemDiffers : SubjectValue → ItemValue → ItemValue → DifferenceValue
 
 -- nothing is told of what both have alike
 abbrev pub IsChange : {V : Type 0} → (V → V → Type 0) → (V → V → DifferenceValue) → V → V
@@ -63,37 +61,16 @@ IsStandardChange by kind v w index =
     IsChange (AreSameItems by) (ItemDiffers (StandardSubject kind index))
     (item_at v (Standard kind index)) (item_at w (Standard kind index))
 
--- how many of a kind an entry has
-abbrev pub standard_count : Kind → EntryValue → ℕ
-standard_count kinds.Flag v = length v.standard.flags
-standard_count kinds.Number v = length v.standard.numbers
-standard_count kinds.Text v = length v.standard.texts
-
 -- to the end of the entry that has more
 abbrev pub AreStandardChanges : Likeness → Kind → EntryValue → EntryValue
     → List DifferenceValue → Type 0
 AreStandardChanges by kind v w =
-    AreBelow (IsStandardChange by kind v w) (max (standard_count kind v) (standard_count kind w))
+    AreBelow (IsStandardChange by kind v w) (max (count_of_kind v.standard kind) (count_of_kind w.standard kind))
 
 -- extended ones are compared by their name. If a name stands twice in an entry, the first is meant, and
--- the others are passed over.
+-- the others are skipped.
 
--- what stands for one that is not there
-abbrev pub none_of : Kind → ItemValue
-none_of kinds.Flag = FlagItem flags.No
-none_of kinds.Number = NumberItem numbers.Absent
-none_of kinds.Text = TextItem AbsentText
-
--- what an entry has of a kind with a name, if it is found at an index, or not at all
-abbrev pub own_found : Kind → EntryValue → Option ℕ → ItemValue
-own_found kind v None = none_of kind
-own_found kind v (Some index) = item_at v (Extended kind index)
-
-abbrev pub IsOwn : Kind → EntryValue → List ℕ → ItemValue → Type 0
-IsOwn kind v name item =
-    (found : Option ℕ) × IsLeastIndex (names_of v.extended kind) name found
-    × (item ≡ own_found kind v found)
-
+-- the name of an extended capability
 abbrev pub name_at : Kind → EntryValue → ℕ → List ℕ
 name_at kind v index = get_or (names_of v.extended kind) index []
 
@@ -105,8 +82,8 @@ IsFirst kind v index =
 -- those of the first entry, beside what the other has with the name
 abbrev pub IsOwnChange : Likeness → Kind → EntryValue → EntryValue → ℕ → List DifferenceValue → Type 0
 IsOwnChange by kind v w index told =
-    (IsFirst kind v index × ((other : ItemValue) × IsOwn kind w (name_at kind v index) other
-    × IsChange (AreSameItems by) (ItemDiffers (OwnSubject kind (name_at kind v index)))
+    (IsFirst kind v index × ((other : ItemValue) × IsItemOf w (ExtendedSubject kind (name_at kind v index)) other
+    × IsChange (AreSameItems by) (ItemDiffers (ExtendedSubject kind (name_at kind v index)))
     (item_at v (Extended kind index)) other told))
     ⊎ ((¬ IsFirst kind v index) × (told ≡ []))
 
@@ -118,7 +95,7 @@ IsNew kind v w index =
 abbrev pub IsOwnNew : Likeness → Kind → EntryValue → EntryValue → ℕ → List DifferenceValue → Type 0
 IsOwnNew by kind v w index told =
     (IsNew kind v w index
-    × IsChange (AreSameItems by) (ItemDiffers (OwnSubject kind (name_at kind w index)))
+    × IsChange (AreSameItems by) (ItemDiffers (ExtendedSubject kind (name_at kind w index)))
     (none_of kind) (item_at w (Extended kind index)) told)
     ⊎ ((¬ IsNew kind v w index) × (told ≡ []))
 
@@ -157,7 +134,7 @@ pub record AreAlike (by : Likeness) (v w : EntryValue) : Type 0 where
   pub standard : (kind : Kind) (index : ℕ)
       → AreSameItems by (item_at v (Standard kind index)) (item_at w (Standard kind index))
   pub own : (kind : Kind) (name : List ℕ) (one other : ItemValue)
-      → IsOwn kind v name one → IsOwn kind w name other → AreSameItems by one other
+      → IsItemOf v (ExtendedSubject kind name) one → IsItemOf w (ExtendedSubject kind name) other → AreSameItems by one other
 
 -- nothing is told exactly if they do
 abbrev pub TellsApart : Likeness → EntryValue → EntryValue → List DifferenceValue → Type 0

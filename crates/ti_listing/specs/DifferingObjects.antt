@@ -1,10 +1,10 @@
 -- The JSON of what two entries do not have alike: an array with an object for each difference.
 use Rattle.std.specs.Prelude.{ℕ, List, codes, map}
+use Rattle.ti_words.specs.Items.{FlagItem, ItemValue, NumberItem, TextItem}
 use Rattle.serde_json.specs.Data.{Data}
 use Rattle.ti_json.specs.Objects.{array_text}
 use Rattle.ti_json.specs.Sides.{compared, compared_whole, flag_side, format_side, names_side, number_side, text_side}
 use Rattle.ti_listing.specs.Differences.{DifferenceValue, FormatDiffers, NamesDiffer, ItemDiffers}
-use Rattle.ti_listing.specs.Items.{ItemValue, FlagItem, NumberItem, TextItem}
 
 -- what one entry has of a capability
 abbrev pub item_side : ItemValue → Data

@@ -1,6 +1,5 @@
 pub mod Labels
 pub mod Listing
-pub mod Items
 pub mod Differences
 pub mod Values
 pub mod DifferingLines

@@ -1,2 +1,3 @@
 -- What private clauses alone cite.
 pub mod Differences
+pub mod Headings

@@ -1,19 +1,17 @@
 //! Whether two entries have a capability alike.
 
 ghost use Rattle.std.specs.Prelude.{◌≡◌, ◌↔◌, IsTrue, OnOk, map};
+ghost use Rattle.ti_words.specs.Items.{item_value, subject_value};
 ghost use Rattle.ti_words.specs.Texts.{text_value};
-ghost use Rattle.ti_json.specs.inner.Subject.{subject_of};
 ghost use Rattle.ti_listing.specs.Differences.{AreSameItems, AreSpelledAlike, IsChange, ItemDiffers};
-ghost use Rattle.ti_listing.specs.Values.{difference_value, item_value};
+ghost use Rattle.ti_listing.specs.Values.{difference_value};
 ghost use Rattle.ti_listing.specs.inner.Differences.{Adds};
 
 use crate::difference::Difference;
-use crate::item::Item;
 use crate::tokens::have_same_tokens;
 use std::alloc::{AllocError, Allocator};
-use ti_json::Subject;
 use ti_line::Likeness;
-use ti_words::Text;
+use ti_words::{Item, Subject, Text};
 
 /// Whether two texts are the same.
 fn are_same_texts(one: Text<'_>, other: Text<'_>) -> bool
@@ -95,7 +93,7 @@ pub fn push_change<'a, A: Allocator>(
     other: Item<'a>,
 ) -> Result<(), AllocError>
     ensures { OnOk result (Adds
-        (IsChange (AreSameItems likeness) (ItemDiffers (subject_of subject.entry))
+        (IsChange (AreSameItems likeness) (ItemDiffers (subject_value subject.entry))
         (item_value first.entry) (item_value other.entry))
         (map difference_value out.old.items) (map difference_value out.new.items)) }
 {

@@ -4,41 +4,16 @@
 
 ghost use Rattle.std.specs.Prelude.{◌≡◌, ◌↔◌, length, IfOk, IsTrue, OnOk, map};
 ghost use Rattle.ti_entry.specs.Finding.{Lacks, names_of};
-ghost use Rattle.ti_listing.specs.Differences.{AreBelow, AreDifferences, AreSame, AreOfKinds, AreOwnChanges, AreStandardChanges, FormatDiffers, IsChange, IsFirst, IsOwn, IsOwnChange, IsOwnNew, NamesDiffer, TellsApart, none_of as the_none_of, standard_count as the_standard_count};
-ghost use Rattle.ti_listing.specs.Values.{difference_value, item_value};
+ghost use Rattle.ti_listing.specs.Differences.{AreBelow, AreDifferences, AreSame, AreOfKinds, AreOwnChanges, AreStandardChanges, FormatDiffers, IsChange, IsFirst, IsOwnChange, IsOwnNew, NamesDiffer, TellsApart};
+ghost use Rattle.ti_listing.specs.Values.{difference_value};
 ghost use Rattle.ti_listing.specs.inner.Differences.{Adds};
 
 use crate::change::push_change;
 use crate::difference::Difference;
-use crate::item::{Item, item_at};
-use crate::label::own_name;
 use std::alloc::{AllocError, Allocator};
-use ti_entry::{Entry, Extended, Position};
-use ti_json::Subject;
+use ti_entry::{Entry, Position};
 use ti_line::Likeness;
-use ti_words::{Flag, Kind, Number, Text, Width};
-
-/// How many standard capabilities of a kind an entry has.
-fn standard_count(entry: &Entry<'_>, kind: Kind) -> usize
-    ensures { result ≡ the_standard_count kind entry.now }
-{
-    match kind {
-        Kind::Flag => entry.flag_count(),
-        Kind::Number => entry.number_count(),
-        Kind::Text => entry.text_count(),
-    }
-}
-
-/// How many extended capabilities of a kind there are.
-fn own_count(extended: &Extended<'_>, kind: Kind) -> usize
-    ensures { result ≡ length (names_of extended.now kind) }
-{
-    match kind {
-        Kind::Flag => extended.flag_count(),
-        Kind::Number => extended.number_count(),
-        Kind::Text => extended.text_count(),
-    }
-}
+use ti_words::{Item, Kind, Subject, Width};
 
 /// Adds what differs of the standard capabilities of a kind.
 fn push_standard<'a, A: Allocator>(
@@ -51,35 +26,17 @@ fn push_standard<'a, A: Allocator>(
     ensures { OnOk result (Adds (AreStandardChanges likeness kind one.now other.now)
         (map difference_value out.old.items) (map difference_value out.new.items)) }
 {
-    let end = standard_count(one, kind).max(standard_count(other, kind));
+    let end = one
+        .standard()
+        .count_of(kind)
+        .max(other.standard().count_of(kind));
     for index in 0..end {
         let place = Position::Standard(kind, index);
         let subject = Subject::Standard(kind, index);
-        let (value, of_other) = (item_at(one, place), item_at(other, place));
+        let (value, of_other) = (one.item_at(place), other.item_at(place));
         push_change(out, likeness, subject, value, of_other)?;
     }
     Ok(())
-}
-
-/// The value of a capability that is not there.
-fn none_of<'a>(kind: Kind) -> Item<'a>
-    ensures { item_value result ≡ the_none_of kind }
-{
-    match kind {
-        Kind::Flag => Item::Flag(Flag::No),
-        Kind::Number => Item::Number(Number::Absent),
-        Kind::Text => Item::Text(Text::Absent),
-    }
-}
-
-/// The first extended capability of a kind with a name, or the value of one that is not there.
-fn own_item<'a>(entry: &Entry<'a>, kind: Kind, name: &[u8]) -> Item<'a>
-    ensures { IsOwn kind entry.now name.now (item_value result) }
-{
-    match entry.extended().find_of(kind, name) {
-        Some(index) => item_at(entry, Position::Extended(kind, index)),
-        None => none_of(kind),
-    }
 }
 
 /// Whether an extended capability is the first of its kind with its name.
@@ -87,7 +44,7 @@ fn is_first(entry: &Entry<'_>, kind: Kind, index: usize) -> bool
     ensures { IsTrue result ↔ IsFirst kind entry.now index }
 {
     let extended = entry.extended();
-    let found = extended.find_of(kind, own_name(&extended, kind, index));
+    let found = extended.find_of(kind, extended.name_or_empty(kind, index));
     found == Some(index)
 }
 
@@ -114,10 +71,10 @@ fn push_own_at<'a, A: Allocator>(
     if !is_first(one, kind, index) {
         return Ok(());
     }
-    let name = own_name(&one.extended(), kind, index);
-    let value = item_at(one, Position::Extended(kind, index));
-    let of_other = own_item(other, kind, name);
-    push_change(out, likeness, Subject::Own(kind, name), value, of_other)
+    let name = one.extended().name_or_empty(kind, index);
+    let value = one.item_at(Position::Extended(kind, index));
+    let subject = Subject::Extended(kind, name);
+    push_change(out, likeness, subject, value, other.item(subject))
 }
 
 /// Adds an extended capability of the other entry, if the first lacks it.
@@ -136,16 +93,16 @@ fn push_new_at<'a, A: Allocator>(
     if !is_first(other, kind, index) {
         return Ok(());
     }
-    let name = own_name(&other.extended(), kind, index);
+    let name = other.extended().name_or_empty(kind, index);
     if !lacks(one, kind, name) {
         return Ok(());
     }
-    let value = item_at(other, Position::Extended(kind, index));
+    let value = other.item_at(Position::Extended(kind, index));
     push_change(
         out,
         likeness,
-        Subject::Own(kind, name),
-        none_of(kind),
+        Subject::Extended(kind, name),
+        Item::none_of(kind),
         value,
     )
 }
@@ -162,7 +119,7 @@ fn push_compared<'a, A: Allocator>(
         (length (names_of one.now.extended kind)))
         (map difference_value out.old.items) (map difference_value out.new.items)) }
 {
-    for index in 0..own_count(&one.extended(), kind) {
+    for index in 0..one.extended().count_of(kind) {
         push_own_at(out, likeness, kind, one, other, index)?;
     }
     Ok(())
@@ -180,7 +137,7 @@ fn push_new<'a, A: Allocator>(
         (length (names_of other.now.extended kind)))
         (map difference_value out.old.items) (map difference_value out.new.items)) }
 {
-    for index in 0..own_count(&other.extended(), kind) {
+    for index in 0..other.extended().count_of(kind) {
         push_new_at(out, likeness, kind, one, other, index)?;
     }
     Ok(())

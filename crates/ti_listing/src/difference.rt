@@ -1,8 +1,6 @@
 //! What two entries do not have alike, one item after another.
 
-use crate::item::Item;
-use ti_json::Subject;
-use ti_words::Width;
+use ti_words::{Item, Subject, Width};
 
 /// An item that two entries do not have alike, with what the first has and what the other has.
 #[derive(Clone, Copy)]

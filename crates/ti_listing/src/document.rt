@@ -1,20 +1,21 @@
 //! The JSON of what two entries do not have alike.
 
 ghost use Rattle.std.specs.List.{list_all};
+ghost use Rattle.ti_words.specs.Items.{item_value};
 ghost use Rattle.std.specs.Prelude.{◌≡◌, ◌++◌, ◌∷◌, [], IfOk, OnOk, map, true};
 ghost use Rattle.serde_json.specs.View.{view};
 ghost use Rattle.ti_escape.specs.Laws.{is_printable};
 ghost use Rattle.ti_listing.specs.DifferingObjects.{difference_object, differing_text, item_side as the_item_side};
-ghost use Rattle.ti_listing.specs.Values.{difference_value, item_value};
+ghost use Rattle.ti_listing.specs.Values.{difference_value};
 
 use crate::difference::Difference;
-use crate::item::Item;
 use serde_json::Value;
 use std::alloc::{AllocError, Global};
 use ti_json::{
     array_json, flag_side, format_side, names_side, number_side, push_compared,
     push_compared_whole, text_side,
 };
+use ti_words::Item;
 
 /// What one entry has of a capability.
 fn item_side(global: Global, item: Item<'_>) -> Result<Value, AllocError>

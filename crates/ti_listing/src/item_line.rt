@@ -1,40 +1,49 @@
 //! One line on one capability: a word, a label, and what is said of it.
 
 ghost use Rattle.std.specs.Prelude.{◌≡◌, ◌++◌, OnOk};
+ghost use Rattle.ti_words.specs.Items.{item_value};
 ghost use Rattle.ti_words.specs.Texts.{text_value};
-ghost use Rattle.ti_listing.specs.Listing.{flag_line, number_line, text_line};
-ghost use Rattle.ti_listing.specs.Values.{label_bytes};
+ghost use Rattle.ti_listing.specs.Listing.{flag_line, item_line, number_line, text_line};
+ghost use Rattle.ti_listing.specs.inner.Headings.{label_in, word_in};
 
-use crate::label::{Label, push_label};
+use crate::label::{push_label, subject_word};
 use itoa::Buffer;
 use std::alloc::{AllocError, Allocator};
 use ti_escape::{Form, push_shown};
-use ti_words::{Flag, Number, Text};
+use ti_line::Naming;
+use ti_words::{Flag, Item, Number, Subject, Text};
 
-/// Writes a line of a word, a label and what stands after it.
+/// What stands before the value in a line: a sign, if two entries are compared, and what the capability is called.
+#[derive(Clone, Copy)]
+pub struct Heading<'a> {
+    pub sign: &'a [u8],
+    pub naming: Naming,
+    pub subject: Subject<'a>,
+}
+
+/// Writes what stands before the value, and an end.
 fn push_line<A: Allocator>(
     out: &mut Vec<u8, A>,
-    word: &[u8],
-    label: Label<'_>,
+    heading: Heading<'_>,
     end: &[u8],
 ) -> Result<(), AllocError>
-    ensures { OnOk result (out.new.items
-        ≡ out.old.items ++ (word.now ++ label_bytes label.entry ++ end.now)) }
+    ensures { OnOk result (out.new.items ≡ out.old.items
+        ++ (word_in heading.entry ++ label_in heading.entry ++ end.now)) }
 {
-    out.extend_from_slice(word)?;
-    push_label(out, label)?;
+    out.extend_from_slice(heading.sign)?;
+    out.extend_from_slice(subject_word(heading.subject))?;
+    push_label(out, heading.naming, heading.subject)?;
     out.extend_from_slice(end)
 }
 
 /// Writes the line of a flag, or none.
-pub fn push_flag<A: Allocator>(
+fn push_flag<A: Allocator>(
     out: &mut Vec<u8, A>,
-    word: &[u8],
-    label: Label<'_>,
+    heading: Heading<'_>,
     flag: Flag,
 ) -> Result<(), AllocError>
     ensures { OnOk result (out.new.items
-        ≡ out.old.items ++ flag_line word.now (label_bytes label.entry) flag) }
+        ≡ out.old.items ++ flag_line (word_in heading.entry) (label_in heading.entry) flag) }
 {
     let end: &[u8] = match flag {
         Flag::No => return Ok(()),
@@ -42,25 +51,24 @@ pub fn push_flag<A: Allocator>(
         Flag::Cancelled => b" cancelled\n",
         Flag::Missing => b" missing\n",
     };
-    push_line(out, word, label, end)
+    push_line(out, heading, end)
 }
 
 /// Writes the line of a number, or none.
-pub fn push_number<A: Allocator>(
+fn push_number<A: Allocator>(
     out: &mut Vec<u8, A>,
-    word: &[u8],
-    label: Label<'_>,
+    heading: Heading<'_>,
     number: Number,
 ) -> Result<(), AllocError>
     ensures { OnOk result (out.new.items
-        ≡ out.old.items ++ number_line word.now (label_bytes label.entry) number) }
+        ≡ out.old.items ++ number_line (word_in heading.entry) (label_in heading.entry) number) }
 {
     match number {
         Number::Absent => Ok(()),
-        Number::Cancelled => push_line(out, word, label, b" cancelled\n"),
+        Number::Cancelled => push_line(out, heading, b" cancelled\n"),
         Number::Value(value) => {
             let mut digits = Buffer::new();
-            push_line(out, word, label, b" ")?;
+            push_line(out, heading, b" ")?;
             out.extend_from_slice(digits.format(value).as_bytes())?;
             out.extend_from_slice(b"\n")
         }
@@ -68,23 +76,39 @@ pub fn push_number<A: Allocator>(
 }
 
 /// Writes the line of a text, or none. Its bytes are shown in a form.
-pub fn push_text<A: Allocator>(
+fn push_text<A: Allocator>(
     out: &mut Vec<u8, A>,
-    word: &[u8],
-    label: Label<'_>,
+    heading: Heading<'_>,
     form: Form,
     text: Text<'_>,
 ) -> Result<(), AllocError>
     ensures { OnOk result (out.new.items ≡ out.old.items
-        ++ text_line form word.now (label_bytes label.entry) (text_value text.entry)) }
+        ++ text_line form (word_in heading.entry) (label_in heading.entry) (text_value text.entry)) }
 {
     match text {
         Text::Absent => Ok(()),
-        Text::Cancelled => push_line(out, word, label, b" cancelled\n"),
+        Text::Cancelled => push_line(out, heading, b" cancelled\n"),
         Text::Value(bytes) => {
-            push_line(out, word, label, b" ")?;
+            push_line(out, heading, b" ")?;
             push_shown(out, form, bytes)?;
             out.extend_from_slice(b"\n")
         }
+    }
+}
+
+/// Writes the line of a value, or none if it is absent. A text is shown in a form.
+pub fn push_item<A: Allocator>(
+    out: &mut Vec<u8, A>,
+    heading: Heading<'_>,
+    form: Form,
+    item: Item<'_>,
+) -> Result<(), AllocError>
+    ensures { OnOk result (out.new.items ≡ out.old.items
+        ++ item_line form (word_in heading.entry) (label_in heading.entry) (item_value item.entry)) }
+{
+    match item {
+        Item::Flag(flag) => push_flag(out, heading, flag),
+        Item::Number(number) => push_number(out, heading, number),
+        Item::Text(text) => push_text(out, heading, form, text),
     }
 }

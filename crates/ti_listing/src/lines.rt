@@ -1,65 +1,24 @@
 //! The lines on what two entries do not have alike.
 
 ghost use Rattle.std.specs.List.{flat_map};
-ghost use Rattle.std.specs.Prelude.{◌≡◌, ◌++◌, codes, IfOk, OnOk, map};
-ghost use Rattle.ti_json.specs.inner.Subject.{subject_of};
-ghost use Rattle.ti_listing.specs.DifferingLines.{colored, difference_lines, differing_lines as the_differing_lines, first_line, format_line, item_line, names_line, other_line, subject_label, subject_word};
-ghost use Rattle.ti_listing.specs.Values.{difference_value, item_value, label_bytes};
+ghost use Rattle.ti_words.specs.Items.{item_value, subject_value};
+ghost use Rattle.std.specs.Prelude.{◌≡◌, ◌++◌, IfOk, OnOk, map};
+ghost use Rattle.ti_listing.specs.DifferingLines.{colored, difference_lines, differing_lines as the_differing_lines, first_line, format_line, names_line, other_line, signed_line};
+ghost use Rattle.ti_listing.specs.Values.{difference_value};
 
 use crate::difference::Difference;
-use crate::item::Item;
-use crate::item_line::{push_flag, push_number, push_text};
-use crate::label::Label;
+use crate::item_line::{Heading, push_item};
 use std::alloc::{AllocError, Allocator};
 use ti_escape::{Color, Form, Style, push_closing, push_notation, push_opening};
-use ti_json::Subject;
-use ti_line::NameForm;
-use ti_words::{Kind, NameTable, Width, format_name};
+use ti_line::{NameForm, Naming};
+use ti_names::NameTable;
+use ti_words::{Item, Subject, Width, format_name};
 
-/// The start of a line on what the first entry has of a capability.
-fn minus_word(subject: Subject<'_>) -> &'static [u8]
-    ensures { result.now ≡ codes "- " ++ subject_word (subject_of subject.entry) }
-{
-    match subject {
-        Subject::Standard(Kind::Flag, _) => b"- flag ",
-        Subject::Standard(Kind::Number, _) => b"- number ",
-        Subject::Standard(Kind::Text, _) => b"- text ",
-        Subject::Own(Kind::Flag, _) => b"- flag+ ",
-        Subject::Own(Kind::Number, _) => b"- number+ ",
-        Subject::Own(Kind::Text, _) => b"- text+ ",
-    }
-}
-
-/// The start of a line on what the other entry has of it.
-fn plus_word(subject: Subject<'_>) -> &'static [u8]
-    ensures { result.now ≡ codes "+ " ++ subject_word (subject_of subject.entry) }
-{
-    match subject {
-        Subject::Standard(Kind::Flag, _) => b"+ flag ",
-        Subject::Standard(Kind::Number, _) => b"+ number ",
-        Subject::Standard(Kind::Text, _) => b"+ text ",
-        Subject::Own(Kind::Flag, _) => b"+ flag+ ",
-        Subject::Own(Kind::Number, _) => b"+ number+ ",
-        Subject::Own(Kind::Text, _) => b"+ text+ ",
-    }
-}
-
-/// What a capability is called in a line: with all names, and in the notation.
-fn label_of(subject: Subject<'_>) -> Label<'_>
-    ensures { label_bytes result ≡ subject_label (subject_of subject.entry) }
-{
-    match subject {
-        Subject::Standard(kind, index) => Label::Standard {
-            table: NameTable::All,
-            kind,
-            index,
-        },
-        Subject::Own(_, name) => Label::Own {
-            form: NameForm::Notation,
-            name,
-        },
-    }
-}
+/// Capabilities are called by all names, and in the notation.
+const IN_FULL: Naming = Naming {
+    table: NameTable::All,
+    form: NameForm::Notation,
+};
 
 /// Writes the line of a format after a sign.
 fn push_format<A: Allocator>(
@@ -89,21 +48,22 @@ fn push_names<A: Allocator>(
     out.extend_from_slice(b"\n")
 }
 
-/// Writes the line of a value, or none.
-fn push_item<A: Allocator>(
+/// Writes the line of a value after a sign, or none.
+fn push_signed<A: Allocator>(
     out: &mut Vec<u8, A>,
-    word: &[u8],
-    label: Label<'_>,
+    sign: &[u8],
+    subject: Subject<'_>,
     item: Item<'_>,
 ) -> Result<(), AllocError>
     ensures { OnOk result (out.new.items ≡ out.old.items
-        ++ item_line word.now (label_bytes label.entry) (item_value item.entry)) }
+        ++ signed_line sign.now (subject_value subject.entry) (item_value item.entry)) }
 {
-    match item {
-        Item::Flag(flag) => push_flag(out, word, label, flag),
-        Item::Number(number) => push_number(out, word, label, number),
-        Item::Text(text) => push_text(out, word, label, Form::Notation, text),
-    }
+    let heading = Heading {
+        sign,
+        naming: IN_FULL,
+        subject,
+    };
+    push_item(out, heading, Form::Notation, item)
 }
 
 /// Writes the line on what the first entry has, or none.
@@ -117,9 +77,7 @@ fn push_first<A: Allocator>(
     match difference {
         Difference::Format { first, .. } => push_format(out, b"- ", first),
         Difference::Names { first, .. } => push_names(out, b"- ", first),
-        Difference::Capability { subject, first, .. } => {
-            push_item(out, minus_word(subject), label_of(subject), first)
-        }
+        Difference::Capability { subject, first, .. } => { push_signed(out, b"- ", subject, first) }
     }
 }
 
@@ -134,9 +92,7 @@ fn push_other<A: Allocator>(
     match difference {
         Difference::Format { other, .. } => push_format(out, b"+ ", other),
         Difference::Names { other, .. } => push_names(out, b"+ ", other),
-        Difference::Capability { subject, other, .. } => {
-            push_item(out, plus_word(subject), label_of(subject), other)
-        }
+        Difference::Capability { subject, other, .. } => { push_signed(out, b"+ ", subject, other) }
     }
 }
 

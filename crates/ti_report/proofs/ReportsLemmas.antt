@@ -1,7 +1,7 @@
 -- Lines that are written one item after another.
 use Rattle.std.proofs.Common.{◌≡◌, ◌∙◌, ◌+◌, ◌<◌, ◌≤◌, ℕ, suc, List, [], ◌∷◌, ◌++◌, length, drop, get_or, refl, sym, ap, subst, append_assoc, add-one, drop-cons}
 use Rattle.std.proofs.lemmas.List.{append-nil, drop_all}
-use Rattle.ti_report.specs.Lines.{AreReports}
+use Rattle.ti_report.specs.Lines.{Adds, AreAll, AreReports}
 
 -- what was written so far goes on to lines of the whole, whatever is told of the items from an index on
 pub record GoesOn {X Y : Type 0} (L : ℕ → X → List Y → Type 0) (xs : List X) (before : List Y) (i : ℕ) (out : List Y) : Type 0 where
@@ -26,4 +26,27 @@ pub goes_end : {X Y : Type 0} (L : ℕ → X → List Y → Type 0) (xs : List X
 goes_end L xs i before out h g =
     let P : List _ → Type 0 = λ l. AreReports L i l [] in
     let (lines, are, e) = g.goes [] (subst P (sym (drop_all i xs h)) refl) in
+    (lines, are, sym (append-nil out) ∙ e)
+
+-- ---- the same of the capabilities of a list, taken one after another
+
+-- what was written so far goes on to lines of all, whatever is told of those that are left
+pub record GoesOnWith {X Y : Type 0} (L : X → List Y → Type 0) (all left : List X) (before out : List Y) : Type 0 where
+  pub goes : (more : List Y) → AreAll L left more → (lines : List Y) × AreAll L all lines × (out ++ more ≡ before ++ lines)
+
+pub all_first : {X Y : Type 0} (L : X → List Y → Type 0) (all : List X) (out : List Y) → GoesOnWith L all all out out
+all_first L all out = record { goes = λ more h. (more, h, refl) }
+
+pub all_next : {X Y : Type 0} (L : X → List Y → Type 0) (all left rest : List X) (x : X) (before out new : List Y) → left ≡ x ∷ rest
+    → GoesOnWith L all left before out → Adds (L x) out new → GoesOnWith L all rest before new
+all_next L all left rest x before out new is g (line, told, n) = record {
+  goes = λ more later.
+      let front : AreAll L (x ∷ rest) (line ++ more) = (line, more, told, later, refl) in
+      let (lines, are, e) = g.goes (line ++ more) (subst (λ l. AreAll L l (line ++ more)) (sym is) front) in
+      (lines, are, ap (λ l. l ++ more) n ∙ append_assoc out line more ∙ e);
+}
+
+pub all_end : {X Y : Type 0} (L : X → List Y → Type 0) (all left : List X) (before out : List Y) → left ≡ [] → GoesOnWith L all left before out → Adds (AreAll L all) before out
+all_end L all left before out is g =
+    let (lines, are, e) = g.goes [] (subst (λ l. AreAll L l []) (sym is) refl) in
     (lines, are, sym (append-nil out) ∙ e)

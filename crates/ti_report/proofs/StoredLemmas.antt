@@ -1,48 +1,48 @@
 -- The variables into which the texts store that were gone over.
-use Rattle.std.proofs.Common.{◌≡◌, ◌⊎◌, ◌↔◌, ◌+◌, ◌<◌, ◌≤◌, ℕ, inl, inr, arith, subst, sym}
-use Rattle.std.proofs.lemmas.Bool.{cases_lt}
+use Rattle.std.proofs.Common.{◌≡◌, ◌⊎◌, ◌↔◌, ℕ, List, [], ◌∷◌, inl, inr, subst, sym}
+use Rattle.ti_words.specs.Items.{Listed, text_in}
 use Rattle.ti_lint.specs.declared.variables.Variables.{Variables}
 use Rattle.ti_lint.specs.Variables.{HasVariable}
 use Rattle.ti_lint.proofs.VariablesLemmas.{has_no_variable}
+use Rattle.ti_report.specs.Reports.{SomeStores, Stores}
+use Rattle.ti_report.specs.Subjects.{subject_class}
 
--- exactly those into which one before an index stores
-pub record AreStoredBelow (S : ℕ → ℕ → Type 0) (index : ℕ) (stored : Variables) : Type 0 where
-  pub exact : (which : ℕ) → HasVariable stored which ↔ ((j : ℕ) × (j < index) × S j which)
+-- into a variable some text stores exactly if one so far does, or one that is left
+pub record AreStoredBeside (all left : List Listed) (stored : Variables) : Type 0 where
+  pub exact : (which : ℕ) → SomeStores all which ↔ (HasVariable stored which ⊎ SomeStores left which)
 
-pub stored_none : (S : ℕ → ℕ → Type 0) (stored : Variables) → stored ≡ record { mask = 0 } → AreStoredBelow S 0 stored
-stored_none S stored is =
-    let P : Variables → Type 0 = λ s. AreStoredBelow S 0 s in
-    subst P (sym is) (record { exact = λ which. ((λ h. absurd (has_no_variable which h)), (λ (j, low, s). absurd (omega arith))) })
+pub stored_none : (all : List Listed) (stored : Variables) → stored ≡ record { mask = 0 } → AreStoredBeside all all stored
+stored_none all stored is =
+    subst (λ s. AreStoredBeside all all s) (sym is) (record {
+      exact = λ which. ((λ some. inr some), (λ either. elim either [ inl has ↦ absurd (has_no_variable which has) | inr some ↦ some ]));
+    })
 
-pub stored_more : (S : ℕ → ℕ → Type 0) (index : ℕ) (stored one new : Variables) → AreStoredBelow S index stored → ((which : ℕ) → HasVariable one which ↔ S index which)
-    → ((which : ℕ) → HasVariable new which ↔ (HasVariable stored which ⊎ HasVariable one which)) → AreStoredBelow S (index + 1) new
-stored_more S index stored one new below at union = record { exact = λ which. (there which, back which) }
+pub stored_more : (all left rest : List Listed) (x : Listed) (stored one new : Variables) → left ≡ x ∷ rest → AreStoredBeside all left stored
+    → ((which : ℕ) → HasVariable one which ↔ Stores (text_in x.1) (subject_class x.0) which) → ((which : ℕ) → HasVariable new which ↔ (HasVariable stored which ⊎ HasVariable one which))
+    → AreStoredBeside all rest new
+stored_more all left rest x stored one new is beside at union =
+    record { exact = λ which. (there which, back which) }
   where
-    there : (which : ℕ) → HasVariable new which → (j : ℕ) × (j < index + 1) × S j which
-    there which h = elim ((union which).0 h) [
-      | inl a ↦ let (j, low, s) = (below.exact which).0 a in (j, omega arith, s)
-      | inr a ↦ (index, omega arith, (at which).0 a)
-    ]
+    before : (which : ℕ) → SomeStores all which ↔ (HasVariable stored which ⊎ SomeStores (x ∷ rest) which)
+    before which = subst (λ l. SomeStores all which ↔ (HasVariable stored which ⊎ SomeStores l which)) is (beside.exact which)
 
-    back : (which : ℕ) → (j : ℕ) × (j < index + 1) × S j which → HasVariable new which
-    back which (j, low, s) =
-        let P : ℕ → Type 0 = λ k. S k which in
-        elim (cases_lt j index) [
-          | inl less ↦ (union which).1 (inl ((below.exact which).1 (j, less, s)))
-          | inr more ↦ let same : j ≡ index = omega arith in (union which).1 (inr ((at which).1 (subst P same s)))
+    there : (which : ℕ) → SomeStores all which → HasVariable new which ⊎ SomeStores rest which
+    there which some =
+        elim ((before which).0 some) [
+          | inl has ↦ inl ((union which).1 (inl has))
+          | inr (inl stores) ↦ inl ((union which).1 (inr ((at which).1 stores)))
+          | inr (inr more) ↦ inr more
         ]
 
--- none from the index on stores
-pub stored_all : (S : ℕ → ℕ → Type 0) (index : ℕ) (stored : Variables) → ((j which : ℕ) → index ≤ j → ¬ S j which) → AreStoredBelow S index stored
-    → (which : ℕ) → HasVariable stored which ↔ ((j : ℕ) × S j which)
-stored_all S index stored none below which = (there, back)
-  where
-    there : HasVariable stored which → (j : ℕ) × S j which
-    there h = let (j, low, s) = (below.exact which).0 h in (j, s)
-
-    back : (j : ℕ) × S j which → HasVariable stored which
-    back (j, s) =
-        elim (cases_lt j index) [
-          | inl less ↦ (below.exact which).1 (j, less, s)
-          | inr more ↦ absurd (none j which (omega arith) s)
+    back : (which : ℕ) → HasVariable new which ⊎ SomeStores rest which → SomeStores all which
+    back which (inl has) =
+        elim ((union which).0 has) [
+          | inl stored ↦ (before which).1 (inl stored)
+          | inr added ↦ (before which).1 (inr (inl ((at which).0 added)))
         ]
+    back which (inr more) = (before which).1 (inr (inr more))
+
+pub stored_all : (all left : List Listed) (stored : Variables) → left ≡ [] → AreStoredBeside all left stored → (which : ℕ) → HasVariable stored which ↔ SomeStores all which
+stored_all all left stored is beside which =
+    let exact = subst (λ l. SomeStores all which ↔ (HasVariable stored which ⊎ SomeStores l which)) is (beside.exact which) in
+    ((λ has. exact.1 (inl has)), (λ some. elim (exact.0 some) [ inl has ↦ has | inr none ↦ absurd none ]))

@@ -1,5 +1,5 @@
 -- A text of which nothing is told in one entry is quiet.
-use Rattle.std.proofs.Common.{◌≡◌, ap, arith, length, length-append, ◌++◌, Bool, List, Option, None, Some, [], ◌∷◌, ℕ, false, refl, subst, sym, true}
+use Rattle.std.proofs.Common.{◌≡◌, ap, arith, length, length-append, Bool, List, Option, None, Some, [], ◌∷◌, ℕ, false, refl, subst, sym, true}
 use Rattle.ti_values.specs.Ranges.{values}
 use Rattle.ti_values.specs.declared.range.Range.{Range}
 use Rattle.ti_values.specs.declared.tried.Tried.{Tried}

@@ -2,22 +2,19 @@
 use Rattle.std.specs.Prelude.{◌≡◌, ◌&&◌, ℕ, Bool, true, false, Option, Some, None, List, [], ◌∷◌, ◌++◌, find, if◌then◌else◌, length, nat_eq, nat_lt}
 use Rattle.std.specs.Str.{bytes_eq}
 use Rattle.std.specs.Cmp.Lexicographic.{slice_cmp}
-use Rattle.std.specs.List.{starts_with}
+use Rattle.std.specs.List.{flat_map, starts_with}
 use Rattle.std.specs.List.Sorted.{IsPermutation, IsSorted}
 use Rattle.std.specs.Ordering.{nat_cmp, ordering_then}
 use Rattle.std.specs.declared.cmp.Ordering.{Ordering}
-use Rattle.ti_words.specs.Texts.{TextValue, AbsentText, CancelledText, TextOf}
+use Rattle.ti_words.specs.Items.{Listed, items, text_in}
 use Rattle.ti_words.specs.Value.{EntryValue}
-use Rattle.ti_lint.specs.declared.class.Class.{Class}
-use Rattle.ti_lint.specs.declared.class.Class.TheVariants as classes
-use Rattle.ti_lint.specs.Classes.{class_at}
-use Rattle.ti_lint.specs.OwnClasses.{own_class}
+use Rattle.ti_names.specs.declared.class.Class.{Class}
+use Rattle.ti_names.specs.declared.class.Class.TheVariants as classes
 use Rattle.ti_lint.specs.declared.scope.Scope.{Scope}
 use Rattle.ti_lint.specs.declared.scope.Scope.TheVariants as scopes
 use Rattle.ti_report.specs.declared.wrong.Wrong.{Wrong}
 use Rattle.ti_report.specs.declared.wrong.Wrong.TheVariants as wrongs
-use Rattle.ti_report.specs.Lines.{AreReports}
-use Rattle.ti_report.specs.Pairs.{standard_label}
+use Rattle.ti_report.specs.Subjects.{subject_class, subject_name}
 use Rattle.ti_report.specs.Remarks.{OfTwo, IsWrong, Remark, unmarked}
 
 -- what a key sends, and its name
@@ -29,22 +26,16 @@ is_of_key (Some classes.Key) = true
 is_of_key class = false
 
 -- a text that is there, if it is of a key
-abbrev pub keys_if : Option Class → List ℕ → TextValue → List Key
-keys_if class name AbsentText = []
-keys_if class name CancelledText = []
-keys_if class name (TextOf text) = if is_of_key class then (text, name) ∷ [] else []
+abbrev pub keys_if : Option Class → List ℕ → Option (List ℕ) → List Key
+keys_if class name None = []
+keys_if class name (Some text) = if is_of_key class then (text, name) ∷ [] else []
 
--- the keys of terminfo(5), and those with names of the entry's own
-abbrev pub IsStandardKey : ℕ → TextValue → List Key → Type 0
-IsStandardKey index text keys = keys ≡ keys_if (class_at index) (standard_label index) text
+abbrev pub keys_in : Listed → List Key
+keys_in (subject, item) = keys_if (subject_class subject) (subject_name subject) (text_in item)
 
-abbrev pub IsOwnKey : ℕ → List ℕ × TextValue → List Key → Type 0
-IsOwnKey index (name, text) keys = keys ≡ keys_if (own_class name) name text
-
-abbrev pub AreKeys : EntryValue → List Key → Type 0
-AreKeys v keys =
-    (one : List Key) × (more : List Key) × AreReports IsStandardKey 0 v.standard.texts one
-    × AreReports IsOwnKey 0 v.extended.texts more × (keys ≡ one ++ more)
+-- the keys of an entry, in the order of its capabilities
+abbrev pub entry_keys : EntryValue → List Key
+entry_keys v = flat_map keys_in (items v)
 
 -- the order of the bytes that they send, and then of their names
 abbrev pub key_cmp : Key → Key → Ordering
@@ -85,9 +76,7 @@ on_keys scope all (one ∷ rest) = on_key scope all one (alike_key one.0 rest) +
 
 -- The keys in order. What one sends is told, once, exactly if it is the first part of what another one sends.
 pub record AreKeyRemarks (scope : Scope) (v : EntryValue) (remarks : List Remark) : Type 0 where
-  pub keys : List Key
-  pub are_keys : AreKeys v keys
   pub row : List Key
-  pub same : IsPermutation keys row
+  pub same : IsPermutation (entry_keys v) row
   pub ascends : IsSorted key_cmp row
   pub remarks_are : remarks ≡ on_keys scope row row

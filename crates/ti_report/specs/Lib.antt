@@ -8,6 +8,7 @@ pub mod Lines
 pub mod Constants
 pub mod Texts
 pub mod Pairs
+pub mod Subjects
 pub mod Keys
 pub mod Names
 pub mod Reports

@@ -1,7 +1,7 @@
 -- Names of an entry's own that stand twice, or that are names of terminfo(5).
 use Rattle.std.specs.Prelude.{◌≡◌, ◌⊎◌, ℕ, List, [], Contains, if◌then◌else◌, is_some, take}
-use Rattle.ti_words.specs.declared.all_names.NameTable.TheVariants as tables
-use Rattle.ti_words.specs.AllNames.{place_in}
+use Rattle.ti_names.specs.declared.name_table.NameTable.TheVariants as tables
+use Rattle.ti_names.specs.AllNames.{place_in}
 use Rattle.ti_words.specs.Spelling.{part_names}
 use Rattle.ti_words.specs.Value.{NamedPart}
 use Rattle.ti_report.specs.declared.wrong.Wrong.TheVariants as wrongs

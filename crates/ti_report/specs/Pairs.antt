@@ -1,13 +1,15 @@
 -- Two texts of which one should undo the other.
-use Rattle.std.specs.Prelude.{◌==◌, ◌||◌, ℕ, List, [], if◌then◌else◌, get_or, length, not, unwrap_or}
+use Rattle.std.specs.Prelude.{◌==◌, ◌||◌, ℕ, List, [], if◌then◌else◌, length, not, unwrap_or}
 use Rattle.std.specs.Str.{bytes_eq}
 use Rattle.ti_words.specs.declared.Kind.TheVariants as kinds
-use Rattle.ti_words.specs.declared.all_names.NameTable.TheVariants as tables
-use Rattle.ti_words.specs.AllNames.{name_in}
-use Rattle.ti_words.specs.Texts.{TextValue, AbsentText, TextOf}
+use Rattle.ti_names.specs.declared.name_table.NameTable.TheVariants as tables
+use Rattle.ti_names.specs.AllNames.{name_in}
+use Rattle.ti_words.specs.Texts.{TextValue, TextOf}
 use Rattle.ti_words.specs.Value.{EntryValue}
 use Rattle.ti_report.specs.declared.wrong.Wrong.TheVariants as wrongs
+use Rattle.ti_lint.specs.Pairs.{NamePair}
 use Rattle.ti_report.specs.Remarks.{OfTwo, IsWrong, Remark, unmarked}
+use Rattle.ti_report.specs.Values.{text_named}
 
 -- what the standard text at an index is called
 abbrev pub standard_label : ℕ → List ℕ
@@ -20,8 +22,6 @@ equal_pair one other (TextOf text) (TextOf same) =
     else unmarked (OfTwo one text other same) (IsWrong wrongs.EqualPair)
 equal_pair one other text same = []
 
--- the texts at two indices of an entry
-abbrev pub pair_remarks : EntryValue → ℕ × ℕ → List Remark
-pair_remarks v (one, other) =
-    equal_pair (standard_label one) (standard_label other)
-    (get_or v.standard.texts one AbsentText) (get_or v.standard.texts other AbsentText)
+-- the texts of an entry with two names
+abbrev pub pair_remarks : EntryValue → NamePair → List Remark
+pair_remarks v (one, other) = equal_pair one other (text_named v one) (text_named v other)

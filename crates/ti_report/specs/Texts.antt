@@ -5,13 +5,13 @@ use Rattle.ti_cap.specs.declared.parameter_set.ParameterSet.{ParameterSet}
 use Rattle.ti_cap.specs.Sources.{Has, IsNamed}
 use Rattle.ti_cap.specs.declared.language.CapRefused.{CapRefused}
 use Rattle.ti_cap.specs.Refusal.{IsFaultless, IsRefusal}
-use Rattle.ti_lint.specs.declared.class.Class.{Class}
-use Rattle.ti_lint.specs.declared.class.Class.TheVariants as classes
+use Rattle.ti_names.specs.declared.class.Class.{Class}
+use Rattle.ti_names.specs.declared.class.Class.TheVariants as classes
 use Rattle.ti_lint.specs.declared.expected.Expected.{Expected}
 use Rattle.ti_lint.specs.declared.finding.Finding.{Finding}
 use Rattle.ti_lint.specs.declared.finding.Finding.TheVariants.{StackUnderflow, TermcapParameter, ParameterRange, RepeatedIncrement, UnsetVariable, StackResidue, UnusedIncrement, LateIncrement, DeadStore, OperandType, NoEffect, ConstantCondition, RepeatedCondition}
 use Rattle.ti_lint.specs.declared.variables.Variables.{Variables}
-use Rattle.ti_lint.specs.declared.found.Found.{Found}
+use Rattle.ti_lint.specs.declared.placed_finding.PlacedFinding.{PlacedFinding}
 use Rattle.ti_lint.specs.Found.{IsFoundAt, Precedes}
 use Rattle.ti_lint.specs.Plain.{IsMeantToExpand}
 use Rattle.ti_lint.specs.TextParameters.{text_parameters}
@@ -33,12 +33,12 @@ all_findings =
     ∷ LateIncrement ∷ UnsetVariable ∷ DeadStore ∷ OperandType ∷ NoEffect ∷ ConstantCondition ∷ RepeatedCondition ∷ []
 
 -- all findings of a capability, in order of their places
-pub record AreFound (text : List ℕ) (expected : Expected) (founds : List Found) : Type 0 where
-  pub exact : (one : Found) → Contains founds one ↔ IsFoundAt text expected one
+pub record AreFound (text : List ℕ) (expected : Expected) (founds : List PlacedFinding) : Type 0 where
+  pub exact : (one : PlacedFinding) → Contains founds one ↔ IsFoundAt text expected one
   pub order : AllPairs Precedes founds
 
 -- a finding, at its places; but a test of constants is told alone, with its value
-abbrev pub IsFindingReport : List ℕ → List ℕ → ℕ → List Found → ℕ → Finding → List Remark → Type 0
+abbrev pub IsFindingReport : List ℕ → List ℕ → ℕ → List PlacedFinding → ℕ → Finding → List Remark → Type 0
 IsFindingReport name text parameters founds index finding remarks =
     ((finding ≡ ConstantCondition) × IsTestsReport name text remarks)
     ⊎ ((finding ≢ ConstantCondition) × (places : List ℕ) × ArePlacesOf finding founds places
@@ -68,7 +68,7 @@ unused_remarks scope name text unused [] =
     if unused.mask == 0 || may_leave_out scope name then []
     else on_text name text (wrongs.UnusedParameters unused)
 
-abbrev pub IsUnusedReport : Scope → List ℕ → List ℕ → ℕ → List Found → List Remark → Type 0
+abbrev pub IsUnusedReport : Scope → List ℕ → List ℕ → ℕ → List PlacedFinding → List Remark → Type 0
 IsUnusedReport scope name text parameters founds remarks =
     (unused : ParameterSet) × (places : List ℕ) × AreUnused text parameters unused × ArePlacesOf TermcapParameter founds places
     × (remarks ≡ unused_remarks scope name text unused places)
@@ -76,7 +76,7 @@ IsUnusedReport scope name text parameters founds remarks =
 -- the remarks of all findings, and then of the parameters that are left out
 abbrev pub IsFindingsReport : Scope → List ℕ → List ℕ → Expected → List Remark → Type 0
 IsFindingsReport scope name text expected remarks =
-    (founds : List Found) × AreFound text expected founds
+    (founds : List PlacedFinding) × AreFound text expected founds
     × InTurn (AreReports (IsFindingReport name text expected.parameters founds) 0 all_findings)
     (IsUnusedReport scope name text expected.parameters founds) remarks
 

@@ -6,8 +6,8 @@ use Rattle.ti_words.specs.declared.Flag.TheVariants as flags
 use Rattle.ti_words.specs.declared.Kind.TheVariants as kinds
 use Rattle.ti_words.specs.declared.Number.{Number}
 use Rattle.ti_words.specs.declared.Number.TheVariants as numbers
-use Rattle.ti_words.specs.declared.all_names.NameTable.TheVariants as tables
-use Rattle.ti_words.specs.AllNames.{Place, place_in}
+use Rattle.ti_names.specs.declared.name_table.NameTable.TheVariants as tables
+use Rattle.ti_names.specs.AllNames.{Place, place_in}
 use Rattle.ti_words.specs.Texts.{TextValue, AbsentText, TextOf}
 use Rattle.ti_words.specs.Value.{EntryValue}
 use Rattle.ti_draft.specs.Canonical.{canonical}

@@ -10,7 +10,7 @@ ghost use Rattle.ti_report.specs.Whole.{has};
 
 use crate::colors::has;
 use crate::lookup::{is_ansi_entry, text_named};
-use crate::remark::{Remark, Subject, Told, push_told};
+use crate::remark::{NamedText, Remark, Told, push_told};
 use crate::sent::{copy_of, push_unended, tried_at};
 use std::alloc::{AllocError, Allocator};
 use ti_entry::Entry;
@@ -44,7 +44,7 @@ fn push_differing<'a, A: Allocator + Copy>(
     alloc: A,
     out: &mut Vec<Remark<'a, A>, A>,
     entry: &Entry<'a>,
-    subject: &Subject<'a>,
+    subject: &NamedText<'a>,
     sent: &[Vec<u8, A>],
     name: &'static str,
     set: u16,
@@ -67,7 +67,7 @@ fn push_all_differing<'a, A: Allocator + Copy>(
     alloc: A,
     out: &mut Vec<Remark<'a, A>, A>,
     entry: &Entry<'a>,
-    subject: &Subject<'a>,
+    subject: &NamedText<'a>,
     sent: &[Vec<u8, A>],
 ) -> Result<(), AllocError>
     ensures { OnOk result (out.new.items ≡ out.old.items ++ flat_map (on_differing entry.now
@@ -83,7 +83,7 @@ fn push_all_differing<'a, A: Allocator + Copy>(
 fn push_combination<'a, A: Allocator + Copy>(
     alloc: A,
     out: &mut Vec<Remark<'a, A>, A>,
-    subject: &Subject<'a>,
+    subject: &NamedText<'a>,
     tried: &[Tried],
     sent: &[Vec<u8, A>],
 ) -> Result<(), AllocError>
@@ -105,7 +105,7 @@ fn push_combination<'a, A: Allocator + Copy>(
 fn push_shown_text<'a, A: Allocator + Copy>(
     alloc: A,
     out: &mut Vec<Remark<'a, A>, A>,
-    subject: &Subject<'a>,
+    subject: &NamedText<'a>,
     tried: &[Tried],
     sent: &[Vec<u8, A>],
 ) -> Result<(), AllocError>
@@ -132,7 +132,7 @@ fn push_ignored<'a, A: Allocator + Copy>(
     alloc: A,
     out: &mut Vec<Remark<'a, A>, A>,
     told: bool,
-    subject: &Subject<'a>,
+    subject: &NamedText<'a>,
     name: &'static str,
     set: u16,
 ) -> Result<(), AllocError>
@@ -158,7 +158,7 @@ fn push_all_ignored<'a, A: Allocator + Copy>(
     alloc: A,
     out: &mut Vec<Remark<'a, A>, A>,
     entry: &Entry<'a>,
-    subject: &Subject<'a>,
+    subject: &NamedText<'a>,
     sent: &[Vec<u8, A>],
 ) -> Result<(), AllocError>
     ensures { OnOk result (out.new.items ≡ out.old.items ++ flat_map (on_ignored entry.now
@@ -183,7 +183,7 @@ pub fn push_attributes_remarks<'a, A: Allocator + Copy>(
     alloc: A,
     out: &mut Vec<Remark<'a, A>, A>,
     entry: &Entry<'a>,
-    subject: &Subject<'a>,
+    subject: &NamedText<'a>,
     tried: &[Tried],
     sent: &[Vec<u8, A>],
 ) -> Result<(), AllocError>

@@ -6,7 +6,7 @@ ghost use Rattle.ti_escape.specs.Notation.{column as the_column};
 ghost use Rattle.ti_report.specs.Blocks.{about_lines, caret_line, carets, head, painted, remark_lines, report_lines, sentence, text_of, what_meaning, what_word};
 ghost use Rattle.ti_report.specs.inner.Held.{about_held, what_held};
 
-use crate::remark::{About, Remark, Subject, What};
+use crate::remark::{About, NamedText, Remark, What};
 use crate::told::push_meaning_told;
 use crate::wrong::push_meaning;
 use std::alloc::{AllocError, Allocator};
@@ -18,7 +18,7 @@ use ti_escape::{
 fn push_head<A: Allocator>(
     out: &mut Vec<u8, A>,
     prefix: &[u8],
-    subject: Subject<'_>,
+    subject: NamedText<'_>,
 ) -> Result<(), AllocError>
     ensures { OnOk result (out.new.items
         ≡ out.old.items ++ head prefix.now subject.entry.name.now subject.entry.text.now) }

@@ -8,7 +8,8 @@ use crate::remark::{Remark, push_if};
 use crate::wrong::Wrong;
 use std::alloc::{AllocError, Allocator};
 use ti_entry::Entry;
-use ti_words::{Flag, Kind, NameTable, Number, Text};
+use ti_names::NameTable;
+use ti_words::{Flag, Kind, Number, Text};
 
 /// Whether a number is above 0.
 fn is_above_0(number: Number) -> bool

@@ -7,7 +7,7 @@ ghost use Rattle.ti_lint.specs.Conditionals.{IsConstantTest};
 ghost use Rattle.ti_report.specs.Constants.{IsTestReport, IsTestsReport};
 ghost use Rattle.ti_report.specs.Lines.{Adds};
 
-use crate::remark::{Remark, Subject, push_marked};
+use crate::remark::{NamedText, Remark, push_marked};
 use crate::wrong::Wrong;
 use std::alloc::{AllocError, Allocator};
 use ti_cap::{Capability, Token};
@@ -31,7 +31,7 @@ fn test_of(before: &[Token], token: Token) -> Option<&[Token]>
 fn push_test<'a, A: Allocator + Copy>(
     alloc: A,
     out: &mut Vec<Remark<'a, A>, A>,
-    subject: &Subject<'a>,
+    subject: &NamedText<'a>,
     before: &[Token],
     token: Token,
     place: usize,
@@ -54,7 +54,7 @@ fn push_test<'a, A: Allocator + Copy>(
 pub fn push_tests<'a, A: Allocator + Copy>(
     alloc: A,
     out: &mut Vec<Remark<'a, A>, A>,
-    subject: &Subject<'a>,
+    subject: &NamedText<'a>,
     capability: &Capability<'_>,
 ) -> Result<(), AllocError>
     requires { capability.now ≡ subject.now.text.now }

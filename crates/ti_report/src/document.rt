@@ -12,7 +12,7 @@ ghost use Rattle.ti_report.specs.Reports.{IsReportJson};
 ghost use Rattle.ti_report.specs.inner.Held.{about_held, what_held};
 
 use crate::block::{push_meaning_of, word_of_what};
-use crate::remark::{About, Remark, Subject, What};
+use crate::remark::{About, NamedText, Remark, What};
 use crate::report::remarks_of;
 use crate::trials::Trials;
 use serde_json::{Map, Value};
@@ -63,7 +63,7 @@ fn name_value(alloc: Global, name: &[u8]) -> Result<Value, AllocError>
 }
 
 /// The object on a text and its name.
-fn text_value(alloc: Global, subject: Subject<'_>) -> Result<Value, AllocError>
+fn text_value(alloc: Global, subject: NamedText<'_>) -> Result<Value, AllocError>
     ensures { IfOk result
         (λ made. view made ≡ text_object subject.entry.name.now subject.entry.text.now) }
 {
@@ -81,7 +81,7 @@ fn push_name(alloc: Global, out: &mut Vec<Value>, name: &[u8]) -> Result<(), All
 }
 
 /// Adds the object on a text and its name.
-fn push_text(alloc: Global, out: &mut Vec<Value>, subject: Subject<'_>) -> Result<(), AllocError>
+fn push_text(alloc: Global, out: &mut Vec<Value>, subject: NamedText<'_>) -> Result<(), AllocError>
     ensures { OnOk result (map view out.new.items ≡ map view out.old.items
         ++ text_object subject.entry.name.now subject.entry.text.now ∷ []) }
 {

@@ -1,21 +1,20 @@
 //! What keys send. After what is the first part of another key's text a program has to wait for what may follow.
 
 ghost use Rattle.std.specs.Prelude.{◌≡◌, ◌++◌, OnOk, IfOk};
-ghost use Rattle.ti_lint.specs.Classes.{class_at};
-ghost use Rattle.ti_report.specs.Keys.{AreKeyRemarks, AreKeys, IsOwnKey, IsStandardKey, on_alike, is_first_part, is_of_key, keys_if, on_two};
-ghost use Rattle.ti_report.specs.Lines.{Adds, AreReports};
+ghost use Rattle.ti_report.specs.Keys.{AreKeyRemarks, entry_keys, is_first_part, is_of_key, keys_in, on_alike, on_two};
+ghost use Rattle.ti_report.specs.Lines.{Adds};
 ghost use Rattle.ti_report.specs.inner.Lent.{key_lent, keys_lent};
 ghost use Rattle.ti_report.specs.inner.Neighbours.{on_neighbours, on_row};
-ghost use Rattle.ti_words.specs.Texts.{text_value};
+ghost use Rattle.ti_words.specs.Items.{item_value, subject_value};
 
-use crate::names::name_of;
-use crate::pairs::standard_label;
-use crate::remark::{Remark, Subject, push_on_two};
+use crate::remark::{NamedText, Remark, push_on_two};
+use crate::subject::{subject_class, subject_name};
 use crate::wrong::Wrong;
 use std::alloc::{AllocError, Allocator};
-use ti_entry::{Entry, Extended};
-use ti_lint::{Class, Scope, class_of, own_class_of};
-use ti_words::{Kind, Text};
+use ti_entry::Entry;
+use ti_lint::Scope;
+use ti_names::Class;
+use ti_words::{Item, Subject};
 
 /// Whether a text is what a key sends.
 fn is_of_key(class: Option<Class>) -> bool
@@ -27,50 +26,19 @@ fn is_of_key(class: Option<Class>) -> bool
     }
 }
 
-/// Adds a text that is there, with its name, if it is what a key sends.
+/// Adds a capability, if it is what a key sends.
 fn add_key<'a, A: Allocator>(
     keys: &mut Vec<(&'a [u8], &'a [u8]), A>,
-    class: Option<Class>,
-    name: &'a [u8],
-    text: Text<'a>,
+    subject: Subject<'a>,
+    item: Item<'a>,
 ) -> Result<(), AllocError>
     ensures { OnOk result (keys_lent keys.new.items
-        ≡ keys_lent keys.old.items ++ keys_if class name.now (text_value text.entry)) }
+        ≡ keys_lent keys.old.items ++ keys_in (subject_value subject.entry, item_value item.entry)) }
 {
-    if let Text::Value(text) = text {
-        if is_of_key(class) {
-            keys.push((text, name))?;
+    if let Some(text) = item.text() {
+        if is_of_key(subject_class(subject)) {
+            keys.push((text, subject_name(subject)))?;
         }
-    }
-    Ok(())
-}
-
-/// Adds the keys of terminfo(5).
-fn add_standard<'a, A: Allocator>(
-    keys: &mut Vec<(&'a [u8], &'a [u8]), A>,
-    entry: &Entry<'a>,
-) -> Result<(), AllocError>
-    ensures { OnOk result (Adds (AreReports IsStandardKey 0 entry.now.standard.texts)
-        (keys_lent keys.old.items) (keys_lent keys.new.items)) }
-{
-    'texts: for index in 0..entry.text_count() {
-        let name = standard_label(index).as_bytes();
-        add_key(keys, class_of(index), name, entry.text(index))?;
-    }
-    Ok(())
-}
-
-/// Adds the keys with names of the entry's own.
-fn add_own<'a, A: Allocator>(
-    keys: &mut Vec<(&'a [u8], &'a [u8]), A>,
-    extended: &Extended<'a>,
-) -> Result<(), AllocError>
-    ensures { OnOk result (Adds (AreReports IsOwnKey 0 extended.now.texts)
-        (keys_lent keys.old.items) (keys_lent keys.new.items)) }
-{
-    'texts: for index in 0..extended.text_count() {
-        let name = name_of(extended, Kind::Text, index);
-        add_key(keys, own_class_of(name), name, extended.text(index))?;
     }
     Ok(())
 }
@@ -80,11 +48,13 @@ fn keys_of<'a, A: Allocator>(
     alloc: A,
     entry: &Entry<'a>,
 ) -> Result<Vec<(&'a [u8], &'a [u8]), A>, AllocError>
-    ensures { IfOk result (λ keys. AreKeys entry.now (keys_lent keys.items)) }
+    ensures { IfOk result (λ keys. keys_lent keys.items ≡ entry_keys entry.now) }
 {
     let mut keys = Vec::new(alloc);
-    add_standard(&mut keys, entry)?;
-    add_own(&mut keys, &entry.extended())?;
+    let mut items = entry.items();
+    'items: while let Some((subject, item)) = items.next() {
+        add_key(&mut keys, subject, item)?;
+    }
     Ok(keys)
 }
 
@@ -106,11 +76,11 @@ fn push_two<'a, A: Allocator + Copy>(
     ensures { OnOk result (out.new.items
         ≡ out.old.items ++ on_two (key_lent one.entry) (key_lent other.entry) wrong) }
 {
-    let one = Subject {
+    let one = NamedText {
         name: one.1,
         text: one.0,
     };
-    let other = Subject {
+    let other = NamedText {
         name: other.1,
         text: other.0,
     };

@@ -23,6 +23,7 @@ mod report;
 mod sent;
 mod sequences;
 mod stored;
+mod subject;
 mod texts;
 mod told;
 mod trials;

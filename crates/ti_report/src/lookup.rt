@@ -5,8 +5,9 @@ ghost use Rattle.ti_words.specs.Texts.{text_value};
 ghost use Rattle.ti_report.specs.Values.{is_ansi_entry, number_named, number_of, text_named};
 
 use ti_entry::Entry;
+use ti_names::NameTable;
 use ti_values::is_ansi;
-use ti_words::{Kind, NameTable, Number, Text};
+use ti_words::{Kind, Number, Text};
 
 /// The text of terminfo(5) with a name.
 #[tactic(auto, unfolding(crate::specs::Values::text_named))]

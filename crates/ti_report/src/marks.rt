@@ -8,7 +8,7 @@ ghost use Rattle.ti_report.specs.Texts.{AreEscapes};
 use std::alloc::{AllocError, Allocator};
 use ti_cap::Capability;
 use ti_lint::{
-    Finding, Found, find_double_percent, find_false_mark, find_mark, is_meant_to_expand,
+    Finding, PlacedFinding, find_double_percent, find_false_mark, find_mark, is_meant_to_expand,
 };
 
 /// Whether two findings are the same.
@@ -21,7 +21,7 @@ fn is_same(one: Finding, other: Finding) -> bool
 /// The places at which a finding was found.
 pub fn places_of<A: Allocator>(
     alloc: A,
-    founds: &[Found],
+    founds: &[PlacedFinding],
     finding: Finding,
 ) -> Result<Vec<usize, A>, AllocError>
     ensures { IfOk result (λ places. ArePlacesOf finding founds.now places.items) }

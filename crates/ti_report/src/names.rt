@@ -12,28 +12,8 @@ use crate::wrong::Wrong;
 use std::alloc::{AllocError, Allocator};
 use std::collections::BTreeSet;
 use ti_entry::Extended;
-use ti_words::{Kind, NameTable};
-
-/// The name of the entry's own that a capability of a kind has at an index.
-pub fn name_of<'a>(extended: &Extended<'a>, kind: Kind, index: usize) -> &'a [u8]
-    ensures { result.now ≡ get_or (the_names_of extended.now kind) index [] }
-{
-    match extended.name(kind, index) {
-        Some(name) => name,
-        None => &[],
-    }
-}
-
-/// How many capabilities of a kind have names of the entry's own.
-fn count_of(extended: &Extended<'_>, kind: Kind) -> usize
-    ensures { result ≡ length (the_names_of extended.now kind) }
-{
-    match kind {
-        Kind::Flag => extended.flag_count(),
-        Kind::Number => extended.number_count(),
-        Kind::Text => extended.text_count(),
-    }
-}
+use ti_names::NameTable;
+use ti_words::Kind;
 
 /// Adds the names of a kind.
 fn add_names<'a, A: Allocator>(
@@ -44,8 +24,8 @@ fn add_names<'a, A: Allocator>(
     ensures { OnOk result (texts_lent names.new.items
         ≡ texts_lent names.old.items ++ the_names_of extended.now kind) }
 {
-    'names: for index in 0..count_of(extended, kind) {
-        names.push(name_of(extended, kind, index))?;
+    'names: for index in 0..extended.count_of(kind) {
+        names.push(extended.name_or_empty(kind, index))?;
     }
     Ok(())
 }

@@ -1,18 +1,21 @@
 //! Two texts of which one should undo the other.
 
-ghost use Rattle.std.specs.Prelude.{◌≡◌, ◌++◌, OnOk, unwrap_or, get_or};
+ghost use Rattle.std.specs.Prelude.{◌≡◌, ◌++◌, OnOk, map};
 ghost use Rattle.std.specs.List.{flat_map};
-ghost use Rattle.ti_words.specs.Texts.{AbsentText, text_value};
+ghost use Rattle.ti_lint.specs.Pairs.{names_of};
+ghost use Rattle.ti_words.specs.Texts.{text_value};
 ghost use Rattle.ti_report.specs.Pairs.{equal_pair, pair_remarks, standard_label};
 ghost use Rattle.ti_report.specs.Reports.{ArePairRemarks};
 ghost use Rattle.ti_report.specs.Lines.{Adds};
 
-use crate::remark::{Remark, Subject, push_on_two};
+use crate::lookup::text_named;
+use crate::remark::{NamedText, Remark, push_on_two};
 use crate::wrong::Wrong;
 use std::alloc::{AllocError, Allocator};
 use ti_entry::Entry;
 use ti_lint::{Scope, toggling_pairs, undoing_pairs};
-use ti_words::{NameTable, Text};
+use ti_names::NameTable;
+use ti_words::Text;
 
 /// What the standard text at an index is called.
 pub fn standard_label(index: usize) -> &'static str
@@ -25,11 +28,11 @@ pub fn standard_label(index: usize) -> &'static str
 fn push_equal<'a, A: Allocator + Copy>(
     alloc: A,
     out: &mut Vec<Remark<'a, A>, A>,
-    labels: (&'static str, &'static str),
+    names: (&'static str, &'static str),
     texts: (Text<'a>, Text<'a>),
 ) -> Result<(), AllocError>
     ensures { OnOk result (out.new.items ≡ out.old.items
-        ++ equal_pair labels.entry.0.now labels.entry.1.now
+        ++ equal_pair names.entry.0.now names.entry.1.now
         (text_value texts.entry.0) (text_value texts.entry.1)) }
 {
     let (Text::Value(one), Text::Value(other)) = texts else {
@@ -38,12 +41,12 @@ fn push_equal<'a, A: Allocator + Copy>(
     if one.is_empty() || one != other {
         return Ok(());
     }
-    let one = Subject {
-        name: labels.0.as_bytes(),
+    let one = NamedText {
+        name: names.0.as_bytes(),
         text: one,
     };
-    let other = Subject {
-        name: labels.1.as_bytes(),
+    let other = NamedText {
+        name: names.1.as_bytes(),
         text: other,
     };
     push_on_two(alloc, out, one, other, Wrong::EqualPair)
@@ -54,14 +57,15 @@ fn push_pairs_of<'a, A: Allocator + Copy>(
     alloc: A,
     out: &mut Vec<Remark<'a, A>, A>,
     entry: &Entry<'a>,
-    pairs: &[(usize, usize)],
+    pairs: &[(&'static str, &'static str)],
 ) -> Result<(), AllocError>
     ensures { OnOk result
-        (out.new.items ≡ out.old.items ++ flat_map (pair_remarks entry.now) pairs.now) }
+        (out.new.items ≡ out.old.items
+        ++ flat_map (pair_remarks entry.now) (map names_of pairs.now)) }
 {
     'pairs: for (one, other) in pairs {
-        let labels = (standard_label(*one), standard_label(*other));
-        push_equal(alloc, out, labels, (entry.text(*one), entry.text(*other)))?;
+        let texts = (text_named(entry, one), text_named(entry, other));
+        push_equal(alloc, out, (*one, *other), texts)?;
     }
     Ok(())
 }

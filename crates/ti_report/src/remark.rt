@@ -13,7 +13,7 @@ use ti_values::Tried;
 
 /// A text and its name.
 #[derive(Clone, Copy)]
-pub struct Subject<'a> {
+pub struct NamedText<'a> {
     pub name: &'a [u8],
     pub text: &'a [u8],
 }
@@ -23,8 +23,8 @@ pub struct Subject<'a> {
 pub enum About<'a> {
     Entry,
     Name(&'a [u8]),
-    Text(Subject<'a>),
-    Two(Subject<'a>, Subject<'a>),
+    Text(NamedText<'a>),
+    Two(NamedText<'a>, NamedText<'a>),
 }
 
 /// What is wrong with what is sent for some values, with these values and what is sent for them.
@@ -124,7 +124,7 @@ impl<'a, A: Allocator> Remark<'a, A> {
 /// Adds a remark on a text at some places. Without a place there is none.
 pub fn push_marked<'a, A: Allocator>(
     out: &mut Vec<Remark<'a, A>, A>,
-    subject: &Subject<'a>,
+    subject: &NamedText<'a>,
     places: Vec<usize, A>,
     wrong: Wrong,
 ) -> Result<(), AllocError>
@@ -142,7 +142,7 @@ pub fn push_marked<'a, A: Allocator>(
 pub fn push_on_text<'a, A: Allocator + Copy>(
     alloc: A,
     out: &mut Vec<Remark<'a, A>, A>,
-    subject: &Subject<'a>,
+    subject: &NamedText<'a>,
     wrong: Wrong,
 ) -> Result<(), AllocError>
     ensures { OnOk result (out.new.items
@@ -157,7 +157,7 @@ pub fn push_on_text<'a, A: Allocator + Copy>(
 pub fn push_told<'a, A: Allocator + Copy>(
     alloc: A,
     out: &mut Vec<Remark<'a, A>, A>,
-    subject: &Subject<'a>,
+    subject: &NamedText<'a>,
     told: Told<A>,
 ) -> Result<(), AllocError>
     ensures { OnOk result (out.new.items
@@ -172,8 +172,8 @@ pub fn push_told<'a, A: Allocator + Copy>(
 pub fn push_on_two<'a, A: Allocator + Copy>(
     alloc: A,
     out: &mut Vec<Remark<'a, A>, A>,
-    one: Subject<'a>,
-    other: Subject<'a>,
+    one: NamedText<'a>,
+    other: NamedText<'a>,
     wrong: Wrong,
 ) -> Result<(), AllocError>
     ensures { OnOk result (out.new.items ≡ out.old.items

@@ -1,134 +1,82 @@
 //! The report on an entry.
 
 ghost use Rattle.std.specs.Prelude.{IfOk, OnOk};
-ghost use Rattle.ti_words.specs.Texts.{text_value};
-ghost use Rattle.ti_report.specs.Lines.{Adds, AreReports};
-ghost use Rattle.ti_report.specs.Reports.{AreLines, IsNamedReport, IsOwnReport, IsReport, IsReportAt, IsReportOfText, IsStandardReport};
+ghost use Rattle.ti_words.specs.Items.{item_value, items, subject_value};
+ghost use Rattle.ti_report.specs.Lines.{Adds, AreAll};
+ghost use Rattle.ti_report.specs.Reports.{AreLines, IsClassReport, IsItemReport, IsReport};
+ghost use Rattle.ti_report.specs.Subjects.{subject_class as the_subject_class, subject_name as the_subject_name};
 
 use crate::block::push_lines;
 use crate::keys::push_keys;
-use crate::names::{name_of, push_names};
-use crate::pairs::{push_pairs, standard_label};
-use crate::remark::{Remark, Subject};
+use crate::names::push_names;
+use crate::pairs::push_pairs;
+use crate::remark::{NamedText, Remark};
 use crate::sequences::push_sequences;
 use crate::stored::stored_by_texts;
+use crate::subject::{subject_class, subject_name};
 use crate::texts::push_text;
 use crate::trials::Trials;
 use crate::values::push_values;
 use crate::whole::push_whole;
 use std::alloc::{AllocError, Allocator};
-use ti_entry::{Entry, Extended};
+use ti_entry::Entry;
 use ti_escape::Color;
-use ti_lint::{Scope, Variables, class_of, own_class_of};
-use ti_words::{Kind, Text};
+use ti_lint::{Scope, Variables};
+use ti_words::{Item, Subject};
 
-/// Adds the remarks on the text of terminfo(5) at an index.
-fn push_standard_text<'a, A: Allocator + Copy>(
+/// Adds the remarks on a text, if it is one of which something is known.
+fn push_text_of<'a, A: Allocator + Copy>(
     alloc: A,
     out: &mut Vec<Remark<'a, A>, A>,
     scope: Scope,
     stored: Variables,
-    index: usize,
+    subject: Subject<'a>,
     text: &'a [u8],
 ) -> Result<(), AllocError>
-    ensures { OnOk result (Adds (IsStandardReport scope stored index text.now)
+    ensures { let s = subject_value subject.entry in OnOk result
+        (Adds (IsClassReport scope (the_subject_name s) stored (the_subject_class s) text.now)
         out.old.items out.new.items) }
 {
-    let Some(class) = class_of(index) else {
+    let Some(class) = subject_class(subject) else {
         return Ok(());
     };
-    let name = standard_label(index).as_bytes();
-    let subject = Subject { name, text };
-    push_text(alloc, out, scope, &subject, stored, class)
+    let name = subject_name(subject);
+    push_text(alloc, out, scope, &NamedText { name, text }, stored, class)
 }
 
-/// The same, if the text is there.
-fn push_at<'a, A: Allocator + Copy>(
+/// Adds the remarks on a capability, if it is a text.
+fn push_item<'a, A: Allocator + Copy>(
     alloc: A,
     out: &mut Vec<Remark<'a, A>, A>,
     scope: Scope,
     stored: Variables,
-    index: usize,
-    text: Text<'a>,
+    subject: Subject<'a>,
+    item: Item<'a>,
 ) -> Result<(), AllocError>
-    ensures { OnOk result (Adds (IsReportAt scope stored index (text_value text.entry))
+    ensures { OnOk result (Adds
+        (IsItemReport scope stored (subject_value subject.entry, item_value item.entry))
         out.old.items out.new.items) }
 {
-    match text {
-        Text::Value(text) => { push_standard_text(alloc, out, scope, stored, index, text) }
-        Text::Absent | Text::Cancelled => Ok(()),
+    match item.text() {
+        Some(text) => push_text_of(alloc, out, scope, stored, subject, text),
+        None => Ok(()),
     }
 }
 
-/// Adds the remarks on the texts of terminfo(5).
-fn push_standard<'a, A: Allocator + Copy>(
+/// Adds the remarks on all texts.
+fn push_items<'a, A: Allocator + Copy>(
     alloc: A,
     out: &mut Vec<Remark<'a, A>, A>,
     scope: Scope,
     stored: Variables,
     entry: &Entry<'a>,
 ) -> Result<(), AllocError>
-    ensures { OnOk result (Adds (AreReports (IsReportAt scope stored) 0
-        entry.now.standard.texts) out.old.items out.new.items) }
-{
-    'texts: for index in 0..entry.text_count() {
-        push_at(alloc, out, scope, stored, index, entry.text(index))?;
-    }
-    Ok(())
-}
-
-/// Adds the remarks on one of the entry's own texts.
-fn push_own_text<'a, A: Allocator + Copy>(
-    alloc: A,
-    out: &mut Vec<Remark<'a, A>, A>,
-    scope: Scope,
-    stored: Variables,
-    name: &'a [u8],
-    text: &'a [u8],
-) -> Result<(), AllocError>
-    ensures { OnOk result (Adds (IsOwnReport scope stored name.now text.now)
+    ensures { OnOk result (Adds (AreAll (IsItemReport scope stored) (items entry.now))
         out.old.items out.new.items) }
 {
-    let Some(class) = own_class_of(name) else {
-        return Ok(());
-    };
-    let subject = Subject { name, text };
-    push_text(alloc, out, scope, &subject, stored, class)?;
-    Ok(())
-}
-
-/// The same, if the text is there.
-fn push_named<'a, A: Allocator + Copy>(
-    alloc: A,
-    out: &mut Vec<Remark<'a, A>, A>,
-    scope: Scope,
-    stored: Variables,
-    name: &'a [u8],
-    text: Text<'a>,
-) -> Result<(), AllocError>
-    ensures { OnOk result (Adds (IsReportOfText (IsOwnReport scope stored name.now)
-        (text_value text.entry)) out.old.items out.new.items) }
-{
-    match text {
-        Text::Value(text) => push_own_text(alloc, out, scope, stored, name, text),
-        Text::Absent | Text::Cancelled => Ok(()),
-    }
-}
-
-/// Adds the remarks on the entry's own texts.
-fn push_own<'a, A: Allocator + Copy>(
-    alloc: A,
-    out: &mut Vec<Remark<'a, A>, A>,
-    scope: Scope,
-    stored: Variables,
-    extended: &Extended<'a>,
-) -> Result<(), AllocError>
-    ensures { OnOk result (Adds (AreReports (IsNamedReport scope stored) 0
-        extended.now.texts) out.old.items out.new.items) }
-{
-    'texts: for index in 0..extended.text_count() {
-        let name = name_of(extended, Kind::Text, index);
-        push_named(alloc, out, scope, stored, name, extended.text(index))?;
+    let mut items = entry.items();
+    'items: while let Some((subject, item)) = items.next() {
+        push_item(alloc, out, scope, stored, subject, item)?;
     }
     Ok(())
 }
@@ -145,8 +93,7 @@ pub fn remarks_of<'a, A: Allocator + Copy>(
 {
     let stored = stored_by_texts(entry);
     let mut out = Vec::new(alloc);
-    push_standard(alloc, &mut out, scope, stored, entry)?;
-    push_own(alloc, &mut out, scope, stored, &entry.extended())?;
+    push_items(alloc, &mut out, scope, stored, entry)?;
     push_values(alloc, &mut out, trials, scope, entry)?;
     push_sequences(alloc, &mut out, entry)?;
     push_pairs(alloc, &mut out, scope, entry)?;

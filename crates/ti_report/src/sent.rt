@@ -7,7 +7,7 @@ ghost use Rattle.ti_report.specs.Lines.{Adds};
 ghost use Rattle.ti_report.specs.Values.{AreNumbersRemarks, IsEmptyReport, IsNegativeReport, IsSameReport, IsUnendedFound, IsUnendedReport, tried_at};
 
 use crate::lookup::is_ansi_entry;
-use crate::remark::{Remark, Subject, Told, push_told};
+use crate::remark::{NamedText, Remark, Told, push_told};
 use std::alloc::{AllocError, Allocator};
 use ti_cap::Capability;
 use ti_entry::Entry;
@@ -40,7 +40,7 @@ pub fn copy_of<A: Allocator + Copy>(
 fn push_empty<'a, A: Allocator + Copy>(
     alloc: A,
     out: &mut Vec<Remark<'a, A>, A>,
-    subject: &Subject<'a>,
+    subject: &NamedText<'a>,
     tried: &[Tried],
     sent: &[Vec<u8, A>],
 ) -> Result<(), AllocError>
@@ -61,7 +61,7 @@ fn push_empty<'a, A: Allocator + Copy>(
 fn push_same<'a, A: Allocator + Copy>(
     alloc: A,
     out: &mut Vec<Remark<'a, A>, A>,
-    subject: &Subject<'a>,
+    subject: &NamedText<'a>,
     tried: &[Tried],
     sent: &[Vec<u8, A>],
 ) -> Result<(), AllocError>
@@ -88,7 +88,7 @@ fn push_same<'a, A: Allocator + Copy>(
 fn push_negative<'a, A: Allocator + Copy>(
     alloc: A,
     out: &mut Vec<Remark<'a, A>, A>,
-    subject: &Subject<'a>,
+    subject: &NamedText<'a>,
     capability: &Capability<'_>,
     tried: &[Tried],
     sent: &[Vec<u8, A>],
@@ -112,7 +112,7 @@ fn push_negative<'a, A: Allocator + Copy>(
 fn push_unended_found<'a, A: Allocator + Copy>(
     alloc: A,
     out: &mut Vec<Remark<'a, A>, A>,
-    subject: &Subject<'a>,
+    subject: &NamedText<'a>,
     tried: &[Tried],
     sent: &[Vec<u8, A>],
 ) -> Result<(), AllocError>
@@ -139,7 +139,7 @@ pub fn push_unended<'a, A: Allocator + Copy>(
     alloc: A,
     out: &mut Vec<Remark<'a, A>, A>,
     ansi: bool,
-    subject: &Subject<'a>,
+    subject: &NamedText<'a>,
     tried: &[Tried],
     sent: &[Vec<u8, A>],
 ) -> Result<(), AllocError>
@@ -157,7 +157,7 @@ pub fn push_numbers_remarks<'a, A: Allocator + Copy>(
     alloc: A,
     out: &mut Vec<Remark<'a, A>, A>,
     entry: &Entry<'a>,
-    subject: &Subject<'a>,
+    subject: &NamedText<'a>,
     capability: &Capability<'_>,
     tried: &[Tried],
     sent: &[Vec<u8, A>],

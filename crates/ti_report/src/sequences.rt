@@ -1,26 +1,26 @@
 //! Texts that are sent as they stand and have a control sequence that is not ended.
 
 ghost use Rattle.std.specs.Prelude.{OnOk};
-ghost use Rattle.ti_lint.specs.Classes.{class_at};
-ghost use Rattle.ti_words.specs.Texts.{text_value};
-ghost use Rattle.ti_report.specs.Lines.{Adds, AreReports};
+ghost use Rattle.ti_names.specs.NameLists.{class_at};
+ghost use Rattle.ti_words.specs.Items.{item_value, items, subject_value};
+ghost use Rattle.ti_report.specs.Lines.{Adds, AreAll};
 ghost use Rattle.ti_report.specs.Pairs.{standard_label};
-ghost use Rattle.ti_report.specs.Sequences.{AreSequenceRemarks, AreSequencesIf, IsSequenceAt, IsSequenceOf, IsSequenceReport};
+ghost use Rattle.ti_report.specs.Sequences.{AreSequenceRemarks, AreSequencesIf, IsSequenceIn, IsSequenceOf, IsSequenceReport};
 
 use crate::lookup::is_ansi_entry;
 use crate::pairs::standard_label;
-use crate::remark::{Remark, Subject, Told, push_told};
+use crate::remark::{NamedText, Remark, Told, push_told};
 use std::alloc::{AllocError, Allocator};
 use ti_entry::Entry;
-use ti_lint::{Class, class_of};
+use ti_names::{Class, class_of};
 use ti_values::has_unended;
-use ti_words::Text;
+use ti_words::{Item, Subject};
 
 /// Adds the remark on a text, if it has one.
 fn push_sequence<'a, A: Allocator + Copy>(
     alloc: A,
     out: &mut Vec<Remark<'a, A>, A>,
-    subject: &Subject<'a>,
+    subject: &NamedText<'a>,
 ) -> Result<(), AllocError>
     ensures { OnOk result (Adds (IsSequenceReport subject.now.name.now
         subject.now.text.now) out.old.items out.new.items) }
@@ -33,49 +33,51 @@ fn push_sequence<'a, A: Allocator + Copy>(
 }
 
 /// The same of the text of terminfo(5) at an index, if it is sent as it stands.
-fn push_sequence_of<'a, A: Allocator + Copy>(
+fn push_sequence_at<'a, A: Allocator + Copy>(
     alloc: A,
     out: &mut Vec<Remark<'a, A>, A>,
     index: usize,
     text: &'a [u8],
 ) -> Result<(), AllocError>
-    ensures { OnOk result (Adds (IsSequenceOf (standard_label index) (class_at index)
+    ensures { OnOk result (Adds (IsSequenceIn (standard_label index) (class_at index)
         text.now) out.old.items out.new.items) }
 {
     let name = standard_label(index).as_bytes();
     match class_of(index) {
-        Some(Class::Plain) => push_sequence(alloc, out, &Subject { name, text }),
+        Some(Class::Plain) => push_sequence(alloc, out, &NamedText { name, text }),
         _ => Ok(()),
     }
 }
 
-/// The same, if the text is there.
-fn push_sequence_at<'a, A: Allocator + Copy>(
+/// The same of a capability, if it is a text of terminfo(5).
+fn push_sequence_of<'a, A: Allocator + Copy>(
     alloc: A,
     out: &mut Vec<Remark<'a, A>, A>,
-    index: usize,
-    text: Text<'a>,
+    subject: Subject<'a>,
+    item: Item<'a>,
 ) -> Result<(), AllocError>
-    ensures { OnOk result (Adds (IsSequenceAt index (text_value text.entry))
+    ensures { OnOk result (Adds
+        (IsSequenceOf (subject_value subject.entry, item_value item.entry))
         out.old.items out.new.items) }
 {
-    match text {
-        Text::Value(text) => push_sequence_of(alloc, out, index, text),
-        Text::Absent | Text::Cancelled => Ok(()),
+    match (subject, item.text()) {
+        (Subject::Standard(_, index), Some(text)) => push_sequence_at(alloc, out, index, text),
+        _ => Ok(()),
     }
 }
 
-/// Adds the remarks on the texts of terminfo(5).
+/// Adds the remarks on all texts.
 fn push_all_sequences<'a, A: Allocator + Copy>(
     alloc: A,
     out: &mut Vec<Remark<'a, A>, A>,
     entry: &Entry<'a>,
 ) -> Result<(), AllocError>
-    ensures { OnOk result (Adds (AreReports IsSequenceAt 0 entry.now.standard.texts)
+    ensures { OnOk result (Adds (AreAll IsSequenceOf (items entry.now))
         out.old.items out.new.items) }
 {
-    'texts: for index in 0..entry.text_count() {
-        push_sequence_at(alloc, out, index, entry.text(index))?;
+    let mut items = entry.items();
+    'items: while let Some((subject, item)) = items.next() {
+        push_sequence_of(alloc, out, subject, item)?;
     }
     Ok(())
 }

@@ -1,16 +1,15 @@
 //! The variables into which the texts of an entry store.
 
-ghost use Rattle.std.specs.Prelude.{ℕ, ◌↔◌, [], get_or};
+ghost use Rattle.std.specs.Prelude.{ℕ, ◌↔◌, option_map};
 ghost use Rattle.ti_cap.specs.Refusal.{IsFaultless};
 ghost use Rattle.ti_lint.specs.Variables.{HasVariable, IsStored};
-ghost use Rattle.ti_report.specs.Reports.{AreStored, Stores, StoresAs, StoresAt, StoresNamed};
-ghost use Rattle.ti_words.specs.Texts.{AbsentText, text_value};
+ghost use Rattle.ti_report.specs.Reports.{AreStored, Stores, StoresAs};
 
-use crate::names::name_of;
+use crate::subject::subject_class;
 use ti_cap::Capability;
-use ti_entry::{Entry, Extended};
-use ti_lint::{Class, Variables, class_of, own_class_of, stored_by};
-use ti_words::{Kind, Text};
+use ti_entry::Entry;
+use ti_lint::{Variables, stored_by};
+use ti_names::Class;
 
 /// The variables into which a text stores, if it is a capability.
 fn stored_in(text: &[u8]) -> Variables
@@ -33,45 +32,25 @@ fn stored_as(text: &[u8], class: Class) -> Variables
     }
 }
 
-/// The same of a text that may not be there, nor be one of terminfo(5).
-fn stored_at(text: Text<'_>, class: Option<Class>) -> Variables
+/// The same of a text that may not be there, nor be known.
+fn stored_at(text: Option<&[u8]>, class: Option<Class>) -> Variables
     ensures { (which : ℕ) → HasVariable result which
-        ↔ Stores (text_value text.entry) class which }
+        ↔ Stores (option_map (λ bytes. bytes.now) text.entry) class which }
 {
     match (text, class) {
-        (Text::Value(text), Some(class)) => stored_as(text, class),
+        (Some(text), Some(class)) => stored_as(text, class),
         _ => Variables::NONE,
     }
-}
-
-/// Those into which a text of terminfo(5) stores.
-fn stored_by_standard(entry: &Entry<'_>) -> Variables
-    ensures { (which : ℕ) → HasVariable result which
-        ↔ ((index : ℕ) × StoresAt entry.now index which) }
-{
-    let mut stored = Variables::NONE;
-    'texts: for index in 0..entry.text_count() {
-        stored = stored.union(stored_at(entry.text(index), class_of(index)));
-    }
-    stored
-}
-
-/// Those into which a text with a name of the entry's own stores.
-fn stored_by_own(extended: &Extended<'_>) -> Variables
-    ensures { (which : ℕ) → HasVariable result which ↔ ((index : ℕ)
-        × StoresNamed (get_or extended.now.texts index ([], AbsentText)) which) }
-{
-    let mut stored = Variables::NONE;
-    'texts: for index in 0..extended.text_count() {
-        let class = own_class_of(name_of(extended, Kind::Text, index));
-        stored = stored.union(stored_at(extended.text(index), class));
-    }
-    stored
 }
 
 /// The variables into which some text of an entry stores.
 pub fn stored_by_texts(entry: &Entry<'_>) -> Variables
     ensures { AreStored entry.now result }
 {
-    stored_by_standard(entry).union(stored_by_own(&entry.extended()))
+    let mut stored = Variables::NONE;
+    let mut items = entry.items();
+    'items: while let Some((subject, item)) = items.next() {
+        stored = stored.union(stored_at(item.text(), subject_class(subject)));
+    }
+    stored
 }

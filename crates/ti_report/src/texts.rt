@@ -7,14 +7,15 @@ ghost use Rattle.ti_report.specs.Texts.{AreUnused, IsCapabilityReport, IsEscapeR
 
 use crate::constants::push_tests;
 use crate::marks::{Sought, escapes_of, places_at, places_of};
-use crate::remark::{Remark, Subject, push_marked, push_on_text};
+use crate::remark::{NamedText, Remark, push_marked, push_on_text};
 use crate::wrong::Wrong;
 use std::alloc::{AllocError, Allocator};
 use ti_cap::{CapRefused, Capability, ParameterSet};
 use ti_lint::{
-    Class, Expected, Finding, Found, Scope, Variables, findings_of, is_half_paired,
+    Expected, Finding, PlacedFinding, Scope, Variables, findings_of, is_half_paired,
     text_parameters, unused_parameters,
 };
+use ti_names::Class;
 
 /// The findings of tokens, in the order in which they are told.
 static ALL_FINDINGS: [Finding; 13] = [
@@ -45,9 +46,9 @@ fn all_findings() -> &'static [Finding]
 fn push_found<'a, A: Allocator + Copy>(
     alloc: A,
     out: &mut Vec<Remark<'a, A>, A>,
-    subject: &Subject<'a>,
+    subject: &NamedText<'a>,
     capability: &Capability<'_>,
-    founds: &[Found],
+    founds: &[PlacedFinding],
     finding: Finding,
     parameters: u8,
 ) -> Result<(), AllocError>
@@ -69,9 +70,9 @@ fn push_found<'a, A: Allocator + Copy>(
 fn push_founds<'a, A: Allocator + Copy>(
     alloc: A,
     out: &mut Vec<Remark<'a, A>, A>,
-    subject: &Subject<'a>,
+    subject: &NamedText<'a>,
     capability: &Capability<'_>,
-    founds: &[Found],
+    founds: &[PlacedFinding],
     parameters: u8,
 ) -> Result<(), AllocError>
     requires { capability.now ≡ subject.now.text.now }
@@ -116,7 +117,7 @@ fn push_left_out<'a, A: Allocator + Copy>(
     alloc: A,
     out: &mut Vec<Remark<'a, A>, A>,
     scope: Scope,
-    subject: &Subject<'a>,
+    subject: &NamedText<'a>,
     unused: ParameterSet,
     from_empty: &[usize],
 ) -> Result<(), AllocError>
@@ -134,10 +135,10 @@ fn push_unused<'a, A: Allocator + Copy>(
     alloc: A,
     out: &mut Vec<Remark<'a, A>, A>,
     scope: Scope,
-    subject: &Subject<'a>,
+    subject: &NamedText<'a>,
     unused: ParameterSet,
     parameters: u8,
-    founds: &[Found],
+    founds: &[PlacedFinding],
 ) -> Result<(), AllocError>
     requires { AreUnused subject.now.text.now parameters unused }
     ensures { OnOk result (Adds (IsUnusedReport scope subject.now.name.now
@@ -153,7 +154,7 @@ fn push_findings<'a, A: Allocator + Copy>(
     alloc: A,
     out: &mut Vec<Remark<'a, A>, A>,
     scope: Scope,
-    subject: &Subject<'a>,
+    subject: &NamedText<'a>,
     capability: &Capability<'_>,
     expected: Expected,
 ) -> Result<(), AllocError>
@@ -189,7 +190,7 @@ fn push_findings<'a, A: Allocator + Copy>(
 fn push_malformed<'a, A: Allocator + Copy>(
     alloc: A,
     out: &mut Vec<Remark<'a, A>, A>,
-    subject: &Subject<'a>,
+    subject: &NamedText<'a>,
     refused: CapRefused,
 ) -> Result<(), AllocError>
     ensures { OnOk result (out.new.items ≡ out.old.items ++ marked subject.now.name.now
@@ -205,7 +206,7 @@ fn push_capability<'a, A: Allocator + Copy>(
     alloc: A,
     out: &mut Vec<Remark<'a, A>, A>,
     scope: Scope,
-    subject: &Subject<'a>,
+    subject: &NamedText<'a>,
     expected: Expected,
 ) -> Result<(), AllocError>
     ensures { OnOk result (Adds (IsCapabilityReport scope
@@ -222,7 +223,7 @@ fn push_capability<'a, A: Allocator + Copy>(
 fn push_places<'a, A: Allocator + Copy>(
     alloc: A,
     out: &mut Vec<Remark<'a, A>, A>,
-    subject: &Subject<'a>,
+    subject: &NamedText<'a>,
     sought: Sought,
     wrong: Wrong,
 ) -> Result<(), AllocError>
@@ -238,7 +239,7 @@ fn push_places<'a, A: Allocator + Copy>(
 fn push_percents<'a, A: Allocator + Copy>(
     alloc: A,
     out: &mut Vec<Remark<'a, A>, A>,
-    subject: &Subject<'a>,
+    subject: &NamedText<'a>,
 ) -> Result<(), AllocError>
     ensures { OnOk result (Adds (IsPercentReport subject.now.name.now subject.now.text.now)
         out.old.items out.new.items) }
@@ -251,7 +252,7 @@ fn push_percents<'a, A: Allocator + Copy>(
 fn push_escapes<'a, A: Allocator + Copy>(
     alloc: A,
     out: &mut Vec<Remark<'a, A>, A>,
-    subject: &Subject<'a>,
+    subject: &NamedText<'a>,
 ) -> Result<(), AllocError>
     ensures { OnOk result (Adds (IsEscapeReport subject.now.name.now subject.now.text.now)
         out.old.items out.new.items) }
@@ -264,7 +265,7 @@ fn push_escapes<'a, A: Allocator + Copy>(
 fn push_plain<'a, A: Allocator + Copy>(
     alloc: A,
     out: &mut Vec<Remark<'a, A>, A>,
-    subject: &Subject<'a>,
+    subject: &NamedText<'a>,
 ) -> Result<(), AllocError>
     ensures { OnOk result (Adds (IsPlainReport subject.now.name.now subject.now.text.now)
         out.old.items out.new.items) }
@@ -279,7 +280,7 @@ fn push_plain<'a, A: Allocator + Copy>(
 fn push_key<'a, A: Allocator + Copy>(
     alloc: A,
     out: &mut Vec<Remark<'a, A>, A>,
-    subject: &Subject<'a>,
+    subject: &NamedText<'a>,
 ) -> Result<(), AllocError>
     ensures { OnOk result (Adds (IsKeyReport subject.now.name.now subject.now.text.now)
         out.old.items out.new.items) }
@@ -293,7 +294,7 @@ fn push_key<'a, A: Allocator + Copy>(
 fn push_half_paired<'a, A: Allocator + Copy>(
     alloc: A,
     out: &mut Vec<Remark<'a, A>, A>,
-    subject: &Subject<'a>,
+    subject: &NamedText<'a>,
 ) -> Result<(), AllocError>
     ensures { OnOk result (out.new.items ≡ out.old.items ++ half_paired
         subject.now.name.now subject.now.text.now) }
@@ -309,7 +310,7 @@ pub fn push_text<'a, A: Allocator + Copy>(
     alloc: A,
     out: &mut Vec<Remark<'a, A>, A>,
     scope: Scope,
-    subject: &Subject<'a>,
+    subject: &NamedText<'a>,
     stored: Variables,
     class: Class,
 ) -> Result<(), AllocError>

@@ -7,7 +7,7 @@ ghost use Rattle.ti_report.specs.Values.{AreValueRemarks, IsAttributesReport, Is
 
 use crate::attributes::push_attributes_remarks;
 use crate::lookup::{is_ansi_entry, number_named, text_named};
-use crate::remark::{Remark, Subject, Told, push_told};
+use crate::remark::{NamedText, Remark, Told, push_told};
 use crate::sent::push_numbers_remarks;
 use crate::trials::Trials;
 use std::alloc::{AllocError, Allocator};
@@ -22,7 +22,7 @@ fn push_not_tried<'a, A: Allocator + Copy>(
     alloc: A,
     out: &mut Vec<Remark<'a, A>, A>,
     scope: Scope,
-    subject: &Subject<'a>,
+    subject: &NamedText<'a>,
 ) -> Result<(), AllocError>
     ensures { OnOk result (out.new.items ≡ out.old.items ++ on_not_tried scope
         subject.now.name.now subject.now.text.now) }
@@ -41,7 +41,7 @@ fn push_tried_numbers<'a, A: Allocator + Copy>(
     alloc: A,
     out: &mut Vec<Remark<'a, A>, A>,
     entry: &Entry<'a>,
-    subject: &Subject<'a>,
+    subject: &NamedText<'a>,
     capability: &Capability<'_>,
     range: Range,
 ) -> Result<(), AllocError>
@@ -64,7 +64,7 @@ fn push_of_numbers<'a, A: Allocator + Copy>(
     out: &mut Vec<Remark<'a, A>, A>,
     trials: &mut Trials<A>,
     entry: &Entry<'a>,
-    subject: &Subject<'a>,
+    subject: &NamedText<'a>,
     capability: &Capability<'_>,
     range: Range,
 ) -> Result<(), AllocError>
@@ -91,7 +91,7 @@ fn push_of_attributes<'a, A: Allocator + Copy>(
     out: &mut Vec<Remark<'a, A>, A>,
     trials: &mut Trials<A>,
     entry: &Entry<'a>,
-    subject: &Subject<'a>,
+    subject: &NamedText<'a>,
     capability: &Capability<'_>,
 ) -> Result<(), AllocError>
     requires { capability.now ≡ subject.now.text.now }
@@ -115,7 +115,7 @@ fn push_values_of<'a, A: Allocator + Copy>(
     out: &mut Vec<Remark<'a, A>, A>,
     trials: &mut Trials<A>,
     entry: &Entry<'a>,
-    subject: &Subject<'a>,
+    subject: &NamedText<'a>,
     capability: &Capability<'_>,
     range: Range,
 ) -> Result<(), AllocError>
@@ -139,7 +139,7 @@ fn push_if_short<'a, A: Allocator + Copy>(
     trials: &mut Trials<A>,
     scope: Scope,
     entry: &Entry<'a>,
-    subject: &Subject<'a>,
+    subject: &NamedText<'a>,
     capability: &Capability<'_>,
     range: Range,
 ) -> Result<(), AllocError>
@@ -163,7 +163,7 @@ fn push_tried_text<'a, A: Allocator + Copy>(
     trials: &mut Trials<A>,
     scope: Scope,
     entry: &Entry<'a>,
-    subject: &Subject<'a>,
+    subject: &NamedText<'a>,
     range: Range,
 ) -> Result<(), AllocError>
     ensures { OnOk result (Adds (IsTriedReport scope entry.now
@@ -203,7 +203,7 @@ fn push_named<'a, A: Allocator + Copy>(
     let Text::Value(text) = text_named(entry, name) else {
         return Ok(());
     };
-    let subject = Subject {
+    let subject = NamedText {
         name: name.as_bytes(),
         text,
     };

@@ -3,8 +3,8 @@ use Rattle.std.proofs.Common.{◌≡◌, ℕ, List, ◌++◌, get_or, sym, ap, �
 use Rattle.std.specs.Prelude.{Option, Some, None, codes}
 use Rattle.std.specs.Str.Parse.{digits_value}
 use Rattle.ti_words.specs.declared.Kind.TheVariants as kinds
-use Rattle.ti_words.specs.declared.all_names.NameTable.{NameTable}
-use Rattle.ti_words.specs.AllNames.{Place, place_in}
+use Rattle.ti_names.specs.declared.name_table.NameTable.{NameTable}
+use Rattle.ti_names.specs.AllNames.{Place, place_in}
 use Rattle.ti_words.specs.Texts.{TextValue, AbsentText}
 use Rattle.ti_words.specs.Value.{NamedPart, EntryValue}
 use Rattle.ti_entry.specs.Finding.{names_of}

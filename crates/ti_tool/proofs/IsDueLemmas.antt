@@ -1,5 +1,6 @@
 -- What is never due: that a write failed, and that memory was refused.
 use Rattle.std.proofs.Common.{ℕ, Bool, true, false, cond, inl, inr, length, List, Ok, Err}
+use Rattle.ti_words.specs.Items.{FlagItem, ItemValue, NumberItem, TextItem}
 use Rattle.std.specs.Prelude.{Option, Some, None, Result, nat_lt}
 use Rattle.ti_escape.specs.Reading.{reading}
 use Rattle.ti_escape.specs.declared.reading.NotationRefused.{NotationRefused}
@@ -17,7 +18,6 @@ use Rattle.ti_line.specs.declared.request.TraceOf.{TraceOf}
 use Rattle.ti_tool.specs.Expansions.{IsPadded}
 use Rattle.ti_tool.specs.Got.{IsDueBy, IsTextResult, IsValueResult}
 use Rattle.ti_tool.specs.Traces.{IsTraced, IsTracedBy, IsTracedValue}
-use Rattle.ti_listing.specs.Items.{FlagItem, ItemValue, NumberItem, TextItem}
 use Rattle.ti_tool.specs.Results.{IsDue, IsOutputOf}
 use Rattle.ti_tool.specs.Sources.{IsDueForSource, IsDueForText, most_notation_chars, notation_in, text_read, too_long}
 

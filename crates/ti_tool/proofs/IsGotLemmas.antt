@@ -1,5 +1,6 @@
 -- What `get` makes of a value, and that it is one result.
 use Rattle.std.proofs.Common.{◌≡◌, ℕ, suc, ◌+◌, ◌<◌, ◌≤◌, Bool, true, List, [], ◌∷◌, ◌++◌, length, Ok, Err, Some, inl, inr, refl, sym, ap, ap₂, subst, ◌∙◌, arith, set, take, get_or, add-one}
+use Rattle.ti_words.specs.Items.{ItemValue, TextItem}
 use Rattle.std.specs.Prelude.{Option, Result, IfOk, IfErr, MatchResult, slice_set}
 use Rattle.std.proofs.Math.Seq.{take-suc}
 use Rattle.std.proofs.lemmas.List.{length-take-le}
@@ -22,7 +23,6 @@ use Rattle.ti_tool.specs.declared.fault.ToolFault.TheVariants as fault
 use Rattle.ti_tool.specs.Calls.{NeedsMemory}
 use Rattle.ti_tool.specs.Expansions.{IsExpansion, IsPadded}
 use Rattle.ti_tool.specs.Got.{AreTaken, AreTakenFrom, IsDueBy, IsGot, IsPaddedAlone, IsTaken, IsTextResult, IsValueResult}
-use Rattle.ti_listing.specs.Items.{ItemValue, TextItem}
 use Rattle.ti_tool.specs.ItemNames.{IsItemCalled}
 use Rattle.ti_tool.specs.Traces.{IsTracedOf, IsTracedValue}
 use Rattle.ti_tool.specs.inner.Dues.{FailsAsDue}

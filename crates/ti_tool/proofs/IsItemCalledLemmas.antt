@@ -1,15 +1,17 @@
 -- A name means at most one capability of an entry.
 use Rattle.std.proofs.Common.{◌≡◌, ℕ, List, [], ◌∷◌, ◌++◌, take, get_or, refl, sym, ap, ap₂, subst, ◌∙◌, inl, inr, arith}
+use Rattle.ti_words.specs.Items.{ItemValue}
 use Rattle.std.specs.Prelude.{Option, Some, None, slice_get, option_map, unwrap_or}
 use Rattle.ti_words.specs.declared.Kind.{Kind}
 use Rattle.ti_words.specs.declared.Kind.TheVariants as kinds
-use Rattle.ti_words.specs.AllNames.{Place}
+use Rattle.ti_names.specs.AllNames.{Place}
 use Rattle.ti_words.specs.Spelling.{part_names}
 use Rattle.ti_words.specs.Value.{EntryValue}
 use Rattle.ti_entry.specs.Finding.{IsPosition, Lacks, names_before, names_of}
 use Rattle.ti_entry.specs.declared.finding.Position.{Position}
 use Rattle.ti_entry.specs.declared.finding.Position.TheVariants.{Standard, Extended}
-use Rattle.ti_listing.specs.Items.{ItemValue, item_at, kind_word}
+use Rattle.ti_entry.specs.Items.{item_at}
+use Rattle.ti_json.specs.Objects.{kind_word}
 use Rattle.ti_tool.specs.ItemNames.{IsItemCalled, IsKindLabel, IsPlaceCalled}
 use Rattle.ti_tool.specs.Names.{IsLabel}
 use Rattle.ti_listing.proofs.IsLeastIndexLemmas.{not_there, one_index}

@@ -19,7 +19,7 @@ use Rattle.ti_pad.specs.Setting.{Setting}
 use Rattle.ti_pad.specs.Padded.{padded_text}
 use Rattle.ti_entry.proofs.SpellsAtMostOneLemmas.{at_most_one}
 use Rattle.ti_entry.proofs.SpelledExtendedLemmas.{only}
-use Rattle.ti_words.specs.declared.all_names.NameTable.{NameTable}
+use Rattle.ti_names.specs.declared.name_table.NameTable.{NameTable}
 use Rattle.ti_line.specs.declared.options.Output.{Output}
 use Rattle.ti_tool.specs.declared.fault.ToolFault.{ToolFault}
 use Rattle.ti_tool.specs.declared.fault.ToolFault.TheVariants as fault

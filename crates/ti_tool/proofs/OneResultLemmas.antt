@@ -1,5 +1,6 @@
 -- For given parameters and bytes at most one result is due, and no fault of a call itself.
 use Rattle.std.proofs.Common.{◌≡◌, ◌⊎◌, ℕ, zero, suc, ◌<◌, ◌≤◌, Bool, ◌&&◌, List, [], ◌∷◌, ◌++◌, length, Ok, Err, Some, None, inl, inr, refl, sym, ap, subst, ◌∙◌, arith, pos}
+use Rattle.ti_words.specs.Items.{ExtendedSubject, FlagItem, ItemValue, Listed, NumberItem, StandardSubject, SubjectValue, TextItem, items, text_in}
 use Rattle.std.specs.Prelude.{Option, Result, replicate, codes}
 use Rattle.ti_words.specs.declared.Kind.TheVariants as kinds
 use Rattle.ti_words.specs.Texts.{TextValue, AbsentText, CancelledText, TextOf}
@@ -26,7 +27,7 @@ use Rattle.ti_pad.specs.Setting.{Setting}
 use Rattle.ti_pad.specs.Padded.{padded_text}
 use Rattle.ti_base.specs.Limits.{most_padded_bytes}
 use Rattle.ti_entry.proofs.SpellsAtMostOneLemmas.{at_most_one}
-use Rattle.ti_words.specs.declared.all_names.NameTable.{NameTable}
+use Rattle.ti_names.specs.declared.name_table.NameTable.{NameTable}
 use Rattle.ti_line.specs.declared.options.Naming.{Naming}
 use Rattle.ti_line.specs.declared.options.Output.{Output}
 use Rattle.ti_line.specs.declared.request.Asked.TheVariants.{Capability, Difference, Entry, Source}
@@ -36,7 +37,6 @@ use Rattle.ti_line.specs.declared.request.OfEntry.{OfEntry}
 use Rattle.ti_line.specs.declared.request.OfEntry.TheVariants as of_entry
 use Rattle.ti_tool.specs.declared.fault.ToolFault.{ToolFault}
 use Rattle.ti_tool.specs.declared.fault.ToolFault.TheVariants as fault
-use Rattle.ti_listing.specs.Labels.{label_of, own_label}
 use Rattle.ti_tool.specs.Laws.{CheckHasOneVerdict, HasOneAnswer, IsSpelledOut}
 use Rattle.ti_line.specs.Options.{output_bytes}
 use Rattle.ti_line.specs.declared.options.Document.{Document}
@@ -48,13 +48,12 @@ use Rattle.ti_line.specs.declared.options.TraceForm.{TraceForm}
 use Rattle.ti_line.specs.declared.options.TraceForm.TheVariants as trace_forms
 use Rattle.ti_tool.specs.Traces.{IsTraceAs, IsTraced, IsTracedBy, IsTracedOf, IsTracedValue, no_values}
 use Rattle.serde_json.specs.Data.{Data}
-use Rattle.ti_json.specs.Objects.{StandardSubject, OwnSubject, array_text}
-use Rattle.ti_tool.specs.Verdicts.{AreAllTold, AreTold, AreVerdictObjects, AreVerdicts, IsExtendedLine, IsOwnObject, IsStandardLine, IsStandardObject, IsTold, Telling, in_line, in_object}
+use Rattle.ti_json.specs.Objects.{array_text}
+use Rattle.ti_tool.specs.Verdicts.{AreTold, AreVerdictObjects, AreVerdicts, IsTold, Telling, in_line, in_object}
 use Rattle.ti_line.specs.declared.given.Given.{Given}
 use Rattle.ti_line.specs.declared.request.Get.{Get}
 use Rattle.ti_line.specs.declared.request.TraceOf.{TraceOf}
 use Rattle.ti_tool.specs.Got.{IsDueBy, IsGot, IsPaddedAlone, IsTextResult, IsValueResult}
-use Rattle.ti_listing.specs.Items.{FlagItem, ItemValue, NumberItem, TextItem}
 use Rattle.ti_tool.proofs.IsCalledLemmas.{one_called}
 use Rattle.ti_tool.proofs.IsDueLemmas.{IsNeverOwn, text_never, traced_never, value_never}
 use Rattle.ti_tool.proofs.IsGotLemmas.{one_taken}
@@ -216,48 +215,30 @@ one_depth text a b (s, p, d) (t, q, e) = greatest_once s height a b d (subst (λ
 one_bound : (text : List ℕ) (a b : ℕ) → HasBound text 0 a → HasBound text 0 b → a ≡ b
 one_bound text a b (s, p, d) (t, q, e) = greatest_once s (λ path. size path 0) a b d (subst (λ (x : Sequence). IsGreatest x (λ path. size path 0) b) (tree_once t s text q p) e)
 
-one_told : {Y : Type 0} (telling : Telling Y) (text : TextValue) (told other : List Y) (sound as_sound : Bool) → IsTold telling text told sound → IsTold telling text other as_sound → (told ≡ other) × (sound ≡ as_sound)
-one_told telling AbsentText told other sound as_sound d h = (d.0 ∙ sym h.0, d.1 ∙ sym h.1)
-one_told telling CancelledText told other sound as_sound d h = (d.0 ∙ sym h.0, d.1 ∙ sym h.1)
-one_told telling (TextOf text) told other sound as_sound (inl (s, (depth, bound, passes, deep, big, is))) (inl (t, (depths, bounds, again, deeper, bigger, same))) =
+one_told : {Y : Type 0} (telling : Telling Y) (text : Option (List ℕ)) (told other : List Y) (sound as_sound : Bool) → IsTold telling text told sound → IsTold telling text other as_sound → (told ≡ other) × (sound ≡ as_sound)
+one_told telling None told other sound as_sound d h = (d.0 ∙ sym h.0, d.1 ∙ sym h.1)
+one_told telling (Some text) told other sound as_sound (inl (s, (depth, bound, passes, deep, big, is))) (inl (t, (depths, bounds, again, deeper, bigger, same))) =
     (is ∙ ap (λ d. telling.sound d bound) (one_depth text depth depths deep deeper) ∙ ap (telling.sound depths) (one_bound text bound bounds big bigger) ∙ sym same, s ∙ sym t)
-one_told telling (TextOf text) told other sound as_sound (inl (s, (depth, bound, passes, deep, big, is))) (inr (t, (refused, why, same))) = absurd (faultless_passes text refused passes why)
-one_told telling (TextOf text) told other sound as_sound (inr (s, (refused, why, is))) (inl (t, (depth, bound, passes, deep, big, same))) = absurd (faultless_passes text refused passes why)
-one_told telling (TextOf text) told other sound as_sound (inr (s, (refused, why, is))) (inr (t, (refuses, because, same))) =
+one_told telling (Some text) told other sound as_sound (inl (s, (depth, bound, passes, deep, big, is))) (inr (t, (refused, why, same))) = absurd (faultless_passes text refused passes why)
+one_told telling (Some text) told other sound as_sound (inr (s, (refused, why, is))) (inl (t, (depth, bound, passes, deep, big, same))) = absurd (faultless_passes text refused passes why)
+one_told telling (Some text) told other sound as_sound (inr (s, (refused, why, is))) (inr (t, (refuses, because, same))) =
     (is ∙ ap telling.fault (one_refusal refused refuses text why because) ∙ sym same, s ∙ sym t)
 
-abbrev pub IsOneTold : {X Y : Type 0} → (ℕ → X → List Y → Bool → Type 0) → Type 0
-IsOneTold {X} {Y} L = (index : ℕ) (x : X) (told other : List Y) (sound as_sound : Bool) → L index x told sound → L index x other as_sound → (told ≡ other) × (sound ≡ as_sound)
-
-all_told : {X Y : Type 0} (L : ℕ → X → List Y → Bool → Type 0) → IsOneTold L → (index : ℕ) (xs : List X) (told others : List Y) (sound as_sound : Bool)
-    → AreTold L index xs told sound → AreTold L index xs others as_sound → (told ≡ others) × (sound ≡ as_sound)
-all_told L once index [] told others sound as_sound d h = (d.0 ∙ sym h.0, d.1 ∙ sym h.1)
-all_told L once index (x ∷ xs) told others sound as_sound (first, more, one, rest, is, are, joined, both) (first', more', one', rest', is', are', joined', both') =
-    let front = once index x first first' one one' is is' in
-    let back = all_told L once (suc index) xs more more' rest rest' are are' in (
+all_told : {Y : Type 0} (telling : SubjectValue → Telling Y) (xs : List Listed) (told others : List Y) (sound as_sound : Bool)
+    → AreTold telling xs told sound → AreTold telling xs others as_sound → (told ≡ others) × (sound ≡ as_sound)
+all_told telling [] told others sound as_sound d h = (d.0 ∙ sym h.0, d.1 ∙ sym h.1)
+all_told telling (x ∷ xs) told others sound as_sound (first, more, one, rest, is, are, joined, both) (first', more', one', rest', is', are', joined', both') =
+    let front = one_told (telling x.0) (text_in x.1) first first' one one' is is' in
+    let back = all_told telling xs more more' rest rest' are are' in (
       joined ∙ ap (λ l. l ++ more) front.0 ∙ ap (λ l. first' ++ l) back.0 ∙ sym joined',
       both ∙ ap (λ b. b && rest) front.1 ∙ ap (λ b. one' && b) back.1 ∙ sym both',
     )
 
-both_told : {Y : Type 0} (S : ℕ → TextValue → List Y → Bool → Type 0) (O : ℕ → List ℕ × TextValue → List Y → Bool → Type 0) → IsOneTold S → IsOneTold O → (v : EntryValue) (told others : List Y) (sound as_sound : Bool)
-    → AreAllTold S O v told sound → AreAllTold S O v others as_sound → (told ≡ others) × (sound ≡ as_sound)
-both_told S O once_s once_o v told others sound as_sound (first, second, one, other, a, b, joined, both) (first', second', one', other', a', b', joined', both') =
-    let front = all_told S once_s 0 v.standard.texts first first' one one' a a' in
-    let back = all_told O once_o 0 v.extended.texts second second' other other' b b' in (
-      joined ∙ ap (λ l. l ++ second) front.0 ∙ ap (λ l. first' ++ l) back.0 ∙ sym joined',
-      both ∙ ap (λ b. b && other) front.1 ∙ ap (λ b. one' && b) back.1 ∙ sym both',
-    )
-
 one_verdicts : (naming : Naming) (v : EntryValue) (lines others : List ℕ) (sound as_sound : Bool) → AreVerdicts naming v lines sound → AreVerdicts naming v others as_sound → (lines ≡ others) × (sound ≡ as_sound)
-one_verdicts naming v lines others sound as_sound d h =
-    both_told (IsStandardLine naming.table) (IsExtendedLine naming.form)
-    (λ index x line lines s t. one_told (in_line (codes "text ") (label_of naming.table kinds.Text index)) x line lines s t)
-    (λ index x line lines s t. one_told (in_line (codes "text+ ") (own_label naming.form x.0)) x.1 line lines s t) v lines others sound as_sound d h
+one_verdicts naming v lines others sound as_sound d h = all_told (in_line naming) (items v) lines others sound as_sound d h
 
 one_objects : (v : EntryValue) (objects others : List Data) (sound as_sound : Bool) → AreVerdictObjects v objects sound → AreVerdictObjects v others as_sound → (objects ≡ others) × (sound ≡ as_sound)
-one_objects v objects others sound as_sound d h =
-    both_told IsStandardObject IsOwnObject (λ index x told others s t. one_told (in_object (StandardSubject kinds.Text index)) x told others s t)
-    (λ index x told others s t. one_told (in_object (OwnSubject kinds.Text x.0)) x.1 told others s t) v objects others sound as_sound d h
+one_objects v objects others sound as_sound d h = all_told in_object (items v) objects others sound as_sound d h
 
 one_judgement : (naming : Naming) (v : EntryValue) (sound as_sound : Bool) (r s : Result (List ℕ) ToolFault) → IsJudgement naming sound v r → IsJudgement naming as_sound v s → r ≡ s
 one_judgement naming v sound as_sound (Ok a) (Ok b) d h = ap Ok (one_verdicts naming v a b sound as_sound d h).0

@@ -1,5 +1,6 @@
 -- Results under `--escape` are printable lines, as many as are due.
 use Rattle.std.proofs.Common.{◌≡◌, ◌∙◌, ◌+◌, ℕ, suc, Bool, true, List, [], ◌∷◌, ◌++◌, Some, inl, inr, refl, sym, ap, subst, arith, append_assoc, map}
+use Rattle.ti_words.specs.Items.{ExtendedSubject, FlagItem, ItemValue, Listed, NumberItem, StandardSubject, SubjectValue, TextItem, items, text_in}
 use Rattle.std.specs.Prelude.{◌-◌, Option, None, Ok, get_or, length, take, ◌⊎◌, codes, decimal}
 use Rattle.std.specs.List.{flat_map, list_all}
 use Rattle.std.specs.Fmt.{signed_decimal}
@@ -31,30 +32,30 @@ use Rattle.ti_escape.proofs.PrintableLemmas.{has_no_space, is_printable_all, lab
 use Rattle.ti_pad.specs.Padded.{padded_text}
 use Rattle.ti_line.specs.declared.options.ListOptions.{ListOptions}
 use Rattle.ti_line.specs.declared.options.NameForm.{NameForm}
+use Rattle.ti_line.specs.declared.options.Naming.{Naming}
 use Rattle.ti_line.specs.declared.options.NameForm.TheVariants as name_forms
 use Rattle.ti_line.specs.declared.given.Given.{Given}
 use Rattle.ti_line.specs.declared.options.Output.{Output}
 use Rattle.ti_line.specs.declared.options.Output.TheVariants as outputs
 use Rattle.ti_pad.specs.Setting.{Setting}
 use Rattle.ti_tool.specs.Got.{IsTextResult, IsValueResult, number_or_none, number_result}
-use Rattle.ti_listing.specs.Items.{ItemValue, FlagItem, NumberItem, TextItem}
-use Rattle.ti_listing.specs.Labels.{label_of, own_label, own_label_at, own_names}
-use Rattle.ti_listing.specs.Items.{kind_word}
-use Rattle.ti_listing.specs.Listing.{entry_lines, flag_line, number_line, text_line, lines_from, flag_at, number_at, text_at, part_lines}
+use Rattle.ti_listing.specs.Labels.{extended_label, names_in_form, subject_label, subject_word}
+use Rattle.ti_json.specs.Objects.{kind_word}
+use Rattle.ti_listing.specs.Listing.{entry_lines, flag_line, listed_line, number_line, text_line}
 use Rattle.serde_json.specs.Data.{Data}
-use Rattle.ti_tool.specs.Verdicts.{AreTold, AreVerdictObjects, IsExtendedLine, IsOwnObject, IsStandardLine, IsStandardObject, IsTold, fault_verdict, in_line, in_object, sound_verdict}
+use Rattle.ti_tool.specs.Verdicts.{AreTold, AreVerdictObjects, IsTold, fault_verdict, in_line, in_object, sound_verdict}
 use Rattle.ti_json.proofs.TextLemmas.{IsText, both, decimal_text, label_text, signed_text}
 use Rattle.ti_json.proofs.PlainLemmas.{HavePlain, array_is_text, entry_is_text, fault_is_plain, format, joined as plain_joined, json_is_text, sound_is_plain}
 use Rattle.std.proofs.Math.Seq.{take-append_seam}
-use Rattle.ti_words.specs.AllNames.{front}
-use Rattle.ti_json.specs.Objects.{Subject, StandardSubject, OwnSubject, entry_text, text_json}
+use Rattle.ti_names.specs.AllNames.{front}
+use Rattle.ti_json.specs.Objects.{entry_text, text_json}
 use Rattle.ti_line.specs.declared.options.Document.{Document}
 use Rattle.ti_line.specs.declared.options.Document.TheVariants as documents
 use Rattle.ti_report.specs.Objects.{remark_object}
 use Rattle.ti_report.proofs.PlainLemmas.{remarks_are_plain}
 use Rattle.ti_tool.specs.Documents.{IsDocument, key_of}
 use Rattle.ti_tool.specs.Results.{IsDueFrom}
-use Rattle.ti_tool.specs.Printable.{JsonIsPrintable, ObjectIsPrintable, ArePrintableLines, flag_lines, number_lines, text_lines, verdict_lines, lines_due, part_lines_due, listed_lines, checked_lines, ShowIsPrintable, CheckIsPrintable, CapIsPrintable, ExpandIsPrintable, GetIsPrintable}
+use Rattle.ti_tool.specs.Printable.{JsonIsPrintable, ObjectIsPrintable, ArePrintableLines, flag_lines, number_lines, text_lines, item_lines, verdict_lines, lines_of, listed_lines, checked_lines, ShowIsPrintable, CheckIsPrintable, CapIsPrintable, ExpandIsPrintable, GetIsPrintable}
 
 -- ---- joining
 
@@ -83,13 +84,22 @@ joined_lines m n a b of_a of_b = record {
 
 -- ---- labels
 
-own_text : (form : NameForm) (name : List ℕ) → form ≡ name_forms.Notation → IsText (own_label form name)
-own_text name_forms.Raw name e = absurd cc
-own_text name_forms.Notation name e = label_chars_printable (label_notation name) (has_no_space name)
+names_text : (form : NameForm) (names : List ℕ) → form ≡ name_forms.Notation → IsText (names_in_form form names)
+names_text name_forms.Raw names e = absurd cc
+names_text name_forms.Notation names e = is_printable_all names
 
-own_names_text : (form : NameForm) (names : List ℕ) → form ≡ name_forms.Notation → IsText (own_names form names)
-own_names_text name_forms.Raw names e = absurd cc
-own_names_text name_forms.Notation names e = is_printable_all names
+word_text : (subject : SubjectValue) → IsText (subject_word subject)
+word_text (StandardSubject kinds.Flag index) = refl
+word_text (StandardSubject kinds.Number index) = refl
+word_text (StandardSubject kinds.Text index) = refl
+word_text (ExtendedSubject kinds.Flag name) = refl
+word_text (ExtendedSubject kinds.Number name) = refl
+word_text (ExtendedSubject kinds.Text name) = refl
+
+subject_text : (naming : Naming) (subject : SubjectValue) → naming.form ≡ name_forms.Notation → IsText (subject_label naming subject)
+subject_text naming (StandardSubject kind index) e = label_text naming.table kind index
+subject_text naming (ExtendedSubject kind name) e =
+    subst (λ form. IsText (extended_label form name)) (sym e) (label_chars_printable (label_notation name) (has_no_space name))
 
 -- ---- the line of an item
 
@@ -127,28 +137,14 @@ text_text forms.Notation word label (TextOf bytes) e of_word of_label = valued w
 
 -- ---- the listing
 
-all_lines : {X : Type 0} (line : ℕ → X → List ℕ) (count : X → ℕ) → ((index : ℕ) (x : X) → ArePrintableLines (count x) (line index x)) → (index : ℕ) (xs : List X) → ArePrintableLines (lines_due count xs) (lines_from line index xs)
-all_lines line count each index [] = none
-all_lines line count each index (x ∷ xs) = joined_lines (count x) (lines_due count xs) (line index x) (lines_from line (suc index) xs) (each index x) (all_lines line count each (suc index) xs)
+listed_text : (options : ListOptions) (listed : Listed) → options.form ≡ forms.Notation → options.naming.form ≡ name_forms.Notation → ArePrintableLines (item_lines listed) (listed_line options listed)
+listed_text options (subject, FlagItem flag) e n = flag_text (subject_word subject) (subject_label options.naming subject) flag (word_text subject) (subject_text options.naming subject n)
+listed_text options (subject, NumberItem number) e n = number_text (subject_word subject) (subject_label options.naming subject) number (word_text subject) (subject_text options.naming subject n)
+listed_text options (subject, TextItem text) e n = text_text options.form (subject_word subject) (subject_label options.naming subject) text e (word_text subject) (subject_text options.naming subject n)
 
-part_text_lines : (form : Form) (mark : List ℕ) (label : Kind → ℕ → List ℕ) (p : PartValue) → form ≡ forms.Notation → ((kind : Kind) → IsText (kind_word kind ++ mark)) → ((kind : Kind) (index : ℕ) → IsText (label kind index))
-    → ArePrintableLines (part_lines_due p) (part_lines form mark label p)
-part_text_lines form mark label p e of_word of_label =
-    joined_lines _ _ _ _
-    (joined_lines _ _ _ _
-    (all_lines (flag_at mark label) flag_lines (λ index flag. flag_text (kind_word kinds.Flag ++ mark) (label kinds.Flag index) flag (of_word kinds.Flag) (of_label kinds.Flag index)) 0 p.flags)
-    (all_lines (number_at mark label) number_lines (λ index number. number_text (kind_word kinds.Number ++ mark) (label kinds.Number index) number (of_word kinds.Number) (of_label kinds.Number index)) 0 p.numbers))
-    (all_lines (text_at form mark label) text_lines (λ index text. text_text form (kind_word kinds.Text ++ mark) (label kinds.Text index) text e (of_word kinds.Text) (of_label kinds.Text index)) 0 p.texts)
-
-standard_word : (kind : Kind) → IsText (kind_word kind ++ codes " ")
-standard_word kinds.Flag = refl
-standard_word kinds.Number = refl
-standard_word kinds.Text = refl
-
-own_word : (kind : Kind) → IsText (kind_word kind ++ codes "+ ")
-own_word kinds.Flag = refl
-own_word kinds.Number = refl
-own_word kinds.Text = refl
+all_lines : (options : ListOptions) → options.form ≡ forms.Notation → options.naming.form ≡ name_forms.Notation → (xs : List Listed) → ArePrintableLines (lines_of item_lines xs) (flat_map (listed_line options) xs)
+all_lines options e n [] = none
+all_lines options e n (x ∷ xs) = joined_lines (item_lines x) (lines_of item_lines xs) (listed_line options x) (flat_map (listed_line options) xs) (listed_text options x e n) (all_lines options e n xs)
 
 format_text : (width : Width) → IsText (codes "format: " ++ format_name width)
 format_text width = both (codes "format: ") (format_name width) refl (format width)
@@ -169,10 +165,8 @@ shown_lines options input out e n (inr (v, spells, listed)) =
     let P : List ℕ → Type 0 = λ x. ArePrintableLines (listed_lines v) x in (
       v,
       spells,
-      subst P (sym is) (
-          joined_lines _ _ _ _
-          (joined_lines _ _ _ _ (head_lines (codes "format: " ++ format_name v.width) (own_names options.naming.form v.names) (format_text v.width) (own_names_text options.naming.form v.names n)) (part_text_lines options.form (codes " ") (label_of options.naming.table) v.standard e standard_word (label_text options.naming.table)))
-          (part_text_lines options.form (codes "+ ") (own_label_at options.naming.form v.extended) (unnamed v.extended) e own_word (λ kind index. own_text options.naming.form (get_or (names_of v.extended kind) index []) n))),
+      subst P (sym is) (joined_lines _ _ _ _
+          (head_lines (codes "format: " ++ format_name v.width) (names_in_form options.naming.form v.names) (format_text v.width) (names_text options.naming.form v.names n)) (all_lines options e n (items v))),
     )
 
 -- ---- faults
@@ -194,23 +188,18 @@ fault_text cap_faults.StackTooDeep = refl
 
 -- ---- documents
 
-plain_told : (subject : Subject) (text : TextValue) (told : List Data) (sound : Bool) → IsTold (in_object subject) text told sound → HavePlain told
-plain_told subject AbsentText told sound is = subst HavePlain (sym is.0) tt
-plain_told subject CancelledText told sound is = subst HavePlain (sym is.0) tt
-plain_told subject (TextOf text) told sound (inl (passes, (depth, bound, faultless, d, b, is))) = subst HavePlain (sym is) (sound_is_plain subject depth bound, tt)
-plain_told subject (TextOf text) told sound (inr (fails, (refused, h, is))) = subst HavePlain (sym is) (fault_is_plain subject (cap_fault_word refused.fault) refused.place (fault_text refused.fault), tt)
+plain_told : (subject : SubjectValue) (text : Option (List ℕ)) (told : List Data) (sound : Bool) → IsTold (in_object subject) text told sound → HavePlain told
+plain_told subject None told sound is = subst HavePlain (sym is.0) tt
+plain_told subject (Some text) told sound (inl (passes, (depth, bound, faultless, d, b, is))) = subst HavePlain (sym is) (sound_is_plain subject depth bound, tt)
+plain_told subject (Some text) told sound (inr (fails, (refused, h, is))) = subst HavePlain (sym is) (fault_is_plain subject (cap_fault_word refused.fault) refused.place (fault_text refused.fault), tt)
 
-all_plain : {X : Type 0} (L : ℕ → X → List Data → Bool → Type 0) → ((i : ℕ) (x : X) (told : List Data) (sound : Bool) → L i x told sound → HavePlain told)
-    → (i : ℕ) (xs : List X) (told : List Data) (sound : Bool) → AreTold L i xs told sound → HavePlain told
-all_plain L each i [] told sound are = subst HavePlain (sym are.0) tt
-all_plain L each i (x ∷ xs) told sound (first, more, one, rest, is, are, e, s) =
-    subst HavePlain (sym e) (plain_joined first more (each i x first one is) (all_plain L each (suc i) xs more rest are))
+all_plain : (xs : List Listed) (told : List Data) (sound : Bool) → AreTold in_object xs told sound → HavePlain told
+all_plain [] told sound are = subst HavePlain (sym are.0) tt
+all_plain (x ∷ xs) told sound (first, more, one, rest, is, are, e, s) =
+    subst HavePlain (sym e) (plain_joined first more (plain_told x.0 (text_in x.1) first one is) (all_plain xs more rest are))
 
 pub plain_verdicts : (v : EntryValue) (objects : List Data) (sound : Bool) → AreVerdictObjects v objects sound → HavePlain objects
-plain_verdicts v objects sound (first, second, one, other, are, are_too, e, s) =
-    subst HavePlain (sym e) (plain_joined first second
-    (all_plain IsStandardObject (λ i text told b is. plain_told (StandardSubject kinds.Text i) text told b is) 0 v.standard.texts first one are)
-    (all_plain IsOwnObject (λ i item told b is. plain_told (OwnSubject kinds.Text item.0) item.1 told b is) 0 v.extended.texts second other are_too))
+plain_verdicts v objects sound are = all_plain (items v) objects sound are
 
 document_line : (document : Document) (sound : Bool) (input : List ℕ) (v : EntryValue) (out : List ℕ) → IsDocument document sound input v (Ok out) → (text : List ℕ) × IsText text × (out ≡ text ++ codes "\n")
 document_line documents.Listing sound input v out is = (entry_text v, entry_is_text v, cc)
@@ -249,36 +238,29 @@ object_line document sound name input out due =
 
 -- ---- verdicts
 
-line_text : (word label : List ℕ) (text : TextValue) (line : List ℕ) (sound : Bool) → IsText word → IsText label → IsTold (in_line word label) text line sound → ArePrintableLines (verdict_lines text) line
-line_text word label AbsentText line sound of_word of_label h = let P : List ℕ → Type 0 = λ x. ArePrintableLines 0 x in subst P (sym h.0) none
-line_text word label CancelledText line sound of_word of_label h = let P : List ℕ → Type 0 = λ x. ArePrintableLines 0 x in subst P (sym h.0) none
-line_text word label (TextOf text) line sound of_word of_label (inl (passes, (depth, bound, faultless, d, b, is))) =
-    ended word label (codes " ok depth " ++ decimal depth ++ codes " bound " ++ decimal bound) (sound_verdict depth bound) line of_word of_label
+line_text : (naming : Naming) (subject : SubjectValue) (text : Option (List ℕ)) (line : List ℕ) (sound : Bool) → naming.form ≡ name_forms.Notation → IsTold (in_line naming subject) text line sound
+    → ArePrintableLines (verdict_lines text) line
+line_text naming subject None line sound n h = let P : List ℕ → Type 0 = λ x. ArePrintableLines 0 x in subst P (sym h.0) none
+line_text naming subject (Some text) line sound n (inl (passes, (depth, bound, faultless, d, b, is))) =
+    ended (subject_word subject) (subject_label naming subject) (codes " ok depth " ++ decimal depth ++ codes " bound " ++ decimal bound) (sound_verdict depth bound) line (word_text subject) (subject_text naming subject n)
     (both (codes " ok depth " ++ decimal depth ++ codes " bound ") (decimal bound) (both (codes " ok depth " ++ decimal depth) (codes " bound ") (both (codes " ok depth ") (decimal depth) refl (decimal_text depth)) refl) (decimal_text bound))
     refl is
-line_text word label (TextOf text) line sound of_word of_label (inr (fails, (refused, h, is))) =
-    ended word label (codes " fault " ++ cap_fault_word refused.fault ++ codes " at " ++ decimal refused.place) (fault_verdict refused) line of_word of_label
+line_text naming subject (Some text) line sound n (inr (fails, (refused, h, is))) =
+    ended (subject_word subject) (subject_label naming subject) (codes " fault " ++ cap_fault_word refused.fault ++ codes " at " ++ decimal refused.place) (fault_verdict refused) line (word_text subject) (subject_text naming subject n)
     (both (codes " fault " ++ cap_fault_word refused.fault ++ codes " at ") (decimal refused.place) (both (codes " fault " ++ cap_fault_word refused.fault) (codes " at ") (both (codes " fault ") (cap_fault_word refused.fault) refl (fault_text refused.fault)) refl) (decimal_text refused.place))
     refl is
 
-each_line : {X : Type 0} (IsLineOf : ℕ → X → List ℕ → Bool → Type 0) (count : X → ℕ) → ((index : ℕ) (x : X) (line : List ℕ) (sound : Bool) → IsLineOf index x line sound → ArePrintableLines (count x) line)
-    → (index : ℕ) (xs : List X) (lines : List ℕ) (sound : Bool) → AreTold IsLineOf index xs lines sound → ArePrintableLines (lines_due count xs) lines
-each_line IsLineOf count each index [] lines sound h = let P : List ℕ → Type 0 = λ x. ArePrintableLines 0 x in subst P (sym h.0) none
-each_line IsLineOf count each index (x ∷ xs) lines sound (line, more, this, rest, is, are, e, s) =
-    let P : List ℕ → Type 0 = λ z. ArePrintableLines (count x + lines_due count xs) z in
-    subst P (sym e) (joined_lines (count x) (lines_due count xs) line more (each index x line this is) (each_line IsLineOf count each (suc index) xs more rest are))
+each_line : (naming : Naming) → naming.form ≡ name_forms.Notation → (xs : List Listed) (lines : List ℕ) (sound : Bool) → AreTold (in_line naming) xs lines sound
+    → ArePrintableLines (lines_of (λ listed. verdict_lines (text_in listed.1)) xs) lines
+each_line naming n [] lines sound h = let P : List ℕ → Type 0 = λ x. ArePrintableLines 0 x in subst P (sym h.0) none
+each_line naming n (x ∷ xs) lines sound (line, more, this, rest, is, are, e, s) =
+    let count : ℕ = lines_of (λ listed. verdict_lines (text_in listed.1)) xs in
+    let P : List ℕ → Type 0 = λ z. ArePrintableLines (verdict_lines (text_in x.1) + count) z in
+    subst P (sym e) (joined_lines (verdict_lines (text_in x.1)) count line more (line_text naming x.0 (text_in x.1) line this n is) (each_line naming n xs more rest are))
 
 pub check_lines : CheckIsPrintable
 check_lines naming input out sound n (inl (refused, is, same)) = absurd cc
-check_lines naming input out sound n (inr (v, spells, (first, second, this, other, are, are_too, e, s))) =
-    let P : List ℕ → Type 0 = λ z. ArePrintableLines (checked_lines v) z in (
-      v,
-      spells,
-      subst P (sym e) (
-          joined_lines _ _ _ _
-          (each_line (IsStandardLine naming.table) verdict_lines (λ index text line sound is. line_text (codes "text ") (label_of naming.table kinds.Text index) text line sound refl (label_text naming.table kinds.Text index) is) 0 v.standard.texts first this are)
-          (each_line (IsExtendedLine naming.form) (λ item. verdict_lines (mark_in item)) (λ index item line sound is. line_text (codes "text+ ") (own_label naming.form item.0) item.1 line sound refl (own_text naming.form item.0 n) is) 0 v.extended.texts second other are_too)),
-    )
+check_lines naming input out sound n (inr (v, spells, are)) = (v, spells, each_line naming n (items v) out sound are)
 
 -- ---- outputs
 

@@ -1,7 +1,7 @@
 -- The documents of JSON on an entry, and those of one of several files.
 use Rattle.std.specs.Prelude.{◌≡◌, ℕ, Bool, true, List, ◌++◌, Result, Ok, Err, codes}
 use Rattle.serde_json.specs.Data.{Data}
-use Rattle.ti_words.specs.AllNames.{front}
+use Rattle.ti_names.specs.AllNames.{front}
 use Rattle.ti_words.specs.Value.{EntryValue}
 use Rattle.ti_json.specs.Objects.{array_text, entry_text, text_json}
 use Rattle.ti_line.specs.declared.options.Document.{Document}

@@ -1,5 +1,6 @@
 -- What `get` makes of the value of a capability.
 use Rattle.std.specs.Prelude.{◌≡◌, ◌≤◌, ◌<◌, ◌⊎◌, ℕ, suc, Bool, true, false, List, [], ◌∷◌, ◌++◌, codes, length, Option, Some, None, Result, Ok, Err, ℤ, neg_ℤ, pos}
+use Rattle.ti_words.specs.Items.{FlagItem, ItemValue, NumberItem, TextItem}
 use Rattle.std.specs.Fmt.{signed_decimal}
 use Rattle.ti_base.specs.Limits.{most_padded_bytes}
 use Rattle.ti_words.specs.declared.Flag.{Flag}
@@ -22,7 +23,6 @@ use Rattle.ti_line.specs.declared.options.Output.{Output}
 use Rattle.ti_line.specs.declared.request.Get.{Get}
 use Rattle.ti_line.specs.Options.{output_bytes}
 use Rattle.ti_tool.specs.Expansions.{IsPadded}
-use Rattle.ti_listing.specs.Items.{ItemValue, FlagItem, NumberItem, TextItem}
 use Rattle.ti_tool.specs.ItemNames.{IsItemCalled}
 use Rattle.ti_tool.specs.declared.fault.ToolFault.{ToolFault}
 use Rattle.ti_tool.specs.declared.fault.ToolFault.TheVariants as fault

@@ -1,11 +1,13 @@
 -- Which capability of an entry a name means, and its value.
 use Rattle.std.specs.Prelude.{◌≡◌, ◌⊎◌, ℕ, List, ◌++◌, Option, Some, option_map}
+use Rattle.ti_words.specs.Items.{ItemValue}
 use Rattle.ti_words.specs.declared.Kind.{Kind}
 use Rattle.ti_words.specs.Value.{EntryValue}
 use Rattle.ti_entry.specs.Finding.{IsPosition}
 use Rattle.ti_entry.specs.declared.finding.Position.{Position}
 use Rattle.ti_entry.specs.declared.finding.Position.TheVariants.{Standard}
-use Rattle.ti_listing.specs.Items.{ItemValue, item_at, kind_word}
+use Rattle.ti_entry.specs.Items.{item_at}
+use Rattle.ti_json.specs.Objects.{kind_word}
 use Rattle.ti_tool.specs.Names.{IsLabel}
 
 -- `flag`, `number` or `text`, then `#` and an index, such as `text#10`

@@ -2,8 +2,8 @@
 use Rattle.std.specs.Prelude.{◌≡◌, ◌≤◌, ◌⊎◌, ℕ, List, ◌++◌, length, codes, get_or, map, Option, Some, None}
 use Rattle.std.specs.Str.Parse.{IsNumeral, digits_value}
 use Rattle.ti_words.specs.declared.Kind.TheVariants as kinds
-use Rattle.ti_words.specs.declared.all_names.NameTable.{NameTable}
-use Rattle.ti_words.specs.AllNames.{Place, place_in}
+use Rattle.ti_names.specs.declared.name_table.NameTable.{NameTable}
+use Rattle.ti_names.specs.AllNames.{Place, place_in}
 use Rattle.ti_words.specs.Texts.{TextValue, AbsentText}
 use Rattle.ti_words.specs.Value.{NamedPart, EntryValue}
 use Rattle.ti_words.specs.Spelling.{mark_in}

@@ -4,8 +4,8 @@ use Rattle.std.specs.Str.{IsUtf8, chars}
 use Rattle.strsim.specs.Edits.{osa_table}
 use Rattle.ti_entry.specs.Finding.{names_of}
 use Rattle.ti_words.specs.declared.Kind.{Kind}
-use Rattle.ti_words.specs.declared.all_names.NameTable.TheVariants.{All, Long}
-use Rattle.ti_words.specs.AllNames.{name_in}
+use Rattle.ti_names.specs.declared.name_table.NameTable.TheVariants.{All, Long}
+use Rattle.ti_names.specs.AllNames.{name_in}
 use Rattle.ti_words.specs.Value.{EntryValue, NamedPart}
 
 -- ---- the names that there are

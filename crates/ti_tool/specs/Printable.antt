@@ -1,15 +1,16 @@
 -- What the program shows of an entry that a stranger wrote: lines that can be printed, and no more than
 -- are due.
-use Rattle.std.specs.Prelude.{◌≡◌, ◌⊎◌, ℕ, ◌+◌, Bool, true, List, [], ◌∷◌, ◌++◌, Ok, codes, length}
+use Rattle.std.specs.Prelude.{◌≡◌, ◌⊎◌, ℕ, ◌+◌, Bool, true, List, [], ◌∷◌, ◌++◌, Option, Some, None, Ok, codes, length}
 use Rattle.std.specs.List.{flat_map, list_all}
 use Rattle.ti_words.specs.declared.Flag.{Flag}
 use Rattle.ti_words.specs.declared.Flag.TheVariants as flags
 use Rattle.ti_words.specs.declared.Number.{Number}
 use Rattle.ti_words.specs.declared.Number.TheVariants as numbers
-use Rattle.ti_words.specs.declared.all_names.NameTable.{NameTable}
-use Rattle.ti_words.specs.Spelling.{Spells, mark_in, unnamed}
+use Rattle.ti_names.specs.declared.name_table.NameTable.{NameTable}
+use Rattle.ti_words.specs.Items.{FlagItem, Listed, NumberItem, TextItem, items, text_in}
+use Rattle.ti_words.specs.Spelling.{Spells}
 use Rattle.ti_words.specs.Texts.{TextValue, AbsentText, CancelledText, TextOf}
-use Rattle.ti_words.specs.Value.{PartValue, EntryValue}
+use Rattle.ti_words.specs.Value.{EntryValue}
 use Rattle.ti_escape.specs.Laws.{is_printable}
 use Rattle.ti_escape.specs.declared.form.Form.TheVariants as forms
 use Rattle.ti_expand.specs.declared.values.Value.{Value}
@@ -50,29 +51,28 @@ text_lines AbsentText = 0
 text_lines CancelledText = 1
 text_lines (TextOf bytes) = 1
 
--- of a text in the lines of `check`
-abbrev pub verdict_lines : TextValue → ℕ
-verdict_lines AbsentText = 0
-verdict_lines CancelledText = 0
-verdict_lines (TextOf bytes) = 1
+-- of a capability in the lines of `show`
+abbrev pub item_lines : Listed → ℕ
+item_lines (subject, FlagItem flag) = flag_lines flag
+item_lines (subject, NumberItem number) = number_lines number
+item_lines (subject, TextItem text) = text_lines text
 
--- of items together
-abbrev pub lines_due : {X : Type 0} → (X → ℕ) → List X → ℕ
-lines_due lines_of [] = 0
-lines_due lines_of (x ∷ xs) = lines_of x + lines_due lines_of xs
+-- and in those of `check`
+abbrev pub verdict_lines : Option (List ℕ) → ℕ
+verdict_lines None = 0
+verdict_lines (Some text) = 1
 
--- of a part in the lines of `show`
-abbrev pub part_lines_due : PartValue → ℕ
-part_lines_due p = lines_due flag_lines p.flags + lines_due number_lines p.numbers + lines_due text_lines p.texts
+-- of all together
+abbrev pub lines_of : (Listed → ℕ) → List Listed → ℕ
+lines_of count [] = 0
+lines_of count (x ∷ xs) = count x + lines_of count xs
 
 -- of a whole entry: in `show` the format and the names come first
 abbrev pub listed_lines : EntryValue → ℕ
-listed_lines v = 2 + part_lines_due v.standard + part_lines_due (unnamed v.extended)
+listed_lines v = 2 + lines_of item_lines (items v)
 
 abbrev pub checked_lines : EntryValue → ℕ
-checked_lines v =
-    lines_due verdict_lines v.standard.texts
-    + lines_due (λ item. verdict_lines (mark_in item)) v.extended.texts
+checked_lines v = lines_of (λ listed. verdict_lines (text_in listed.1)) (items v)
 
 -- ---- results under `--escape`
 

@@ -6,8 +6,8 @@ use Rattle.ti_layout.specs.declared.fault.Refused.{Refused}
 use Rattle.ti_words.specs.Value.{EntryValue}
 use Rattle.ti_words.specs.Spelling.{Spells}
 use Rattle.ti_layout.specs.Refusal.{refusal}
-use Rattle.ti_words.specs.declared.all_names.NameTable.{NameTable}
-use Rattle.ti_words.specs.declared.all_names.NameTable.TheVariants as tables
+use Rattle.ti_names.specs.declared.name_table.NameTable.{NameTable}
+use Rattle.ti_names.specs.declared.name_table.NameTable.TheVariants as tables
 use Rattle.ti_words.specs.declared.Width.{Width}
 use Rattle.ti_words.specs.Texts.{TextValue, AbsentText, CancelledText, TextOf}
 use Rattle.ti_pad.specs.Setting.{Setting}

@@ -1,5 +1,6 @@
 -- What `trace` makes of a capability, and of one of an entry.
 use Rattle.std.specs.Prelude.{◌≡◌, ◌++◌, ℕ, List, codes, Option, Some, None, Result, Ok, Err, pos, replicate}
+use Rattle.ti_words.specs.Items.{FlagItem, ItemValue, NumberItem, TextItem}
 use Rattle.ti_words.specs.Texts.{AbsentText, CancelledText, TextOf}
 use Rattle.ti_words.specs.Value.{EntryValue}
 use Rattle.ti_cap.specs.Refusal.{IsFaultless}
@@ -14,7 +15,6 @@ use Rattle.ti_line.specs.declared.options.TraceForm.TheVariants as forms
 use Rattle.ti_line.specs.declared.request.TraceOf.{TraceOf}
 use Rattle.ti_tool.specs.Expansions.{IsUnexpanded}
 use Rattle.ti_tool.specs.Got.{IsDueBy}
-use Rattle.ti_listing.specs.Items.{ItemValue, FlagItem, NumberItem, TextItem}
 use Rattle.ti_tool.specs.ItemNames.{IsItemCalled}
 use Rattle.ti_tool.specs.declared.fault.ToolFault.{ToolFault}
 use Rattle.ti_tool.specs.declared.fault.ToolFault.TheVariants as fault

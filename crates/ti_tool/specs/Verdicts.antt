@@ -1,18 +1,15 @@
 -- What `check` tells of the texts of an entry, in lines or in objects of JSON, and whether all of them are capabilities.
-use Rattle.std.specs.Prelude.{◌≡◌, ◌⊎◌, ℕ, suc, Bool, true, false, ◌&&◌, List, [], ◌∷◌, ◌++◌, codes, decimal}
+use Rattle.std.specs.Prelude.{◌≡◌, ◌⊎◌, ℕ, Bool, true, false, ◌&&◌, List, [], ◌∷◌, ◌++◌, Option, Some, None, codes, decimal}
+use Rattle.ti_words.specs.Items.{Listed, SubjectValue, items, text_in}
 use Rattle.serde_json.specs.Data.{Data}
-use Rattle.ti_words.specs.declared.Kind.TheVariants as kinds
-use Rattle.ti_words.specs.declared.all_names.NameTable.{NameTable}
-use Rattle.ti_words.specs.Texts.{TextValue, AbsentText, CancelledText, TextOf}
 use Rattle.ti_words.specs.Value.{EntryValue}
 use Rattle.ti_cap.specs.declared.language.CapRefused.{CapRefused}
 use Rattle.ti_cap.specs.Capability.{HasDepth, HasBound}
 use Rattle.ti_cap.specs.Refusal.{IsFaultless, IsRefusal}
 use Rattle.ti_cap.specs.FaultNames.{cap_fault_word}
-use Rattle.ti_json.specs.Objects.{Subject, StandardSubject, OwnSubject, fault_object, sound_object}
-use Rattle.ti_line.specs.declared.options.NameForm.{NameForm}
+use Rattle.ti_json.specs.Objects.{fault_object, sound_object}
 use Rattle.ti_line.specs.declared.options.Naming.{Naming}
-use Rattle.ti_listing.specs.Labels.{label_of, own_label}
+use Rattle.ti_listing.specs.Labels.{subject_label, subject_word}
 
 -- ---- one text
 
@@ -32,11 +29,10 @@ abbrev pub IsFaultyText : {Y : Type 0} → Telling Y → List ℕ → List Y →
 IsFaultyText telling text told =
     (refused : CapRefused) × IsRefusal text refused × (told ≡ telling.fault refused)
 
--- of a text that is present, and whether it has no fault
-abbrev pub IsTold : {Y : Type 0} → Telling Y → TextValue → List Y → Bool → Type 0
-IsTold telling AbsentText told sound = (told ≡ []) × (sound ≡ true)
-IsTold telling CancelledText told sound = (told ≡ []) × (sound ≡ true)
-IsTold telling (TextOf text) told sound =
+-- of a text that is there, and whether it has no fault
+abbrev pub IsTold : {Y : Type 0} → Telling Y → Option (List ℕ) → List Y → Bool → Type 0
+IsTold telling None told sound = (told ≡ []) × (sound ≡ true)
+IsTold telling (Some text) told sound =
     ((sound ≡ true) × IsSoundText telling text told)
     ⊎ ((sound ≡ false) × IsFaultyText telling text told)
 
@@ -51,52 +47,30 @@ abbrev pub fault_verdict : CapRefused → List ℕ
 fault_verdict refused =
     codes " fault " ++ cap_fault_word refused.fault ++ codes " at " ++ decimal refused.place ++ codes "\n"
 
-abbrev pub in_line : List ℕ → List ℕ → Telling ℕ
-in_line word label = record {
-  sound = λ depth bound. word ++ label ++ sound_verdict depth bound;
-  fault = λ refused. word ++ label ++ fault_verdict refused;
+abbrev pub in_line : Naming → SubjectValue → Telling ℕ
+in_line naming subject = record {
+  sound = λ depth bound. subject_word subject ++ subject_label naming subject ++ sound_verdict depth bound;
+  fault = λ refused. subject_word subject ++ subject_label naming subject ++ fault_verdict refused;
 }
 
-abbrev pub IsStandardLine : NameTable → ℕ → TextValue → List ℕ → Bool → Type 0
-IsStandardLine table index = IsTold (in_line (codes "text ") (label_of table kinds.Text index))
-
-abbrev pub IsExtendedLine : NameForm → ℕ → List ℕ × TextValue → List ℕ → Bool → Type 0
-IsExtendedLine form index (name, text) = IsTold (in_line (codes "text+ ") (own_label form name)) text
-
-abbrev pub in_object : Subject → Telling Data
+abbrev pub in_object : SubjectValue → Telling Data
 in_object subject = record {
   sound = λ depth bound. sound_object subject depth bound ∷ [];
   fault = λ refused. fault_object subject (cap_fault_word refused.fault) refused.place ∷ [];
 }
 
-abbrev pub IsStandardObject : ℕ → TextValue → List Data → Bool → Type 0
-IsStandardObject index = IsTold (in_object (StandardSubject kinds.Text index))
-
-abbrev pub IsOwnObject : ℕ → List ℕ × TextValue → List Data → Bool → Type 0
-IsOwnObject index (name, text) = IsTold (in_object (OwnSubject kinds.Text name)) text
-
 -- ---- all texts
 
--- what is told of each item from an index on, and whether none has a fault
-abbrev pub AreTold : {X Y : Type 0} → (ℕ → X → List Y → Bool → Type 0) → ℕ → List X → List Y
-    → Bool → Type 0
-AreTold IsToldOf index [] told sound = (told ≡ []) × (sound ≡ true)
-AreTold {X} {Y} IsToldOf index (x ∷ xs) told sound =
-    (first : List Y) × (more : List Y) × (one : Bool) × (rest : Bool) × IsToldOf index x first one
-    × AreTold IsToldOf (suc index) xs more rest
-    × (told ≡ first ++ more) × (sound ≡ (one && rest))
-
--- of the texts in the order of their indices, then of those of the extended part
-abbrev pub AreAllTold : {Y : Type 0} → (ℕ → TextValue → List Y → Bool → Type 0)
-    → (ℕ → List ℕ × TextValue → List Y → Bool → Type 0) → EntryValue → List Y → Bool → Type 0
-AreAllTold {Y} IsStandard IsOwn v told sound =
-    (first : List Y) × (second : List Y) × (one : Bool) × (other : Bool)
-    × AreTold IsStandard 0 v.standard.texts first one
-    × AreTold IsOwn 0 v.extended.texts second other
-    × (told ≡ first ++ second) × (sound ≡ (one && other))
+-- what is told of each capability that is a text, and whether none has a fault
+abbrev pub AreTold : {Y : Type 0} → (SubjectValue → Telling Y) → List Listed → List Y → Bool → Type 0
+AreTold telling [] told sound = (told ≡ []) × (sound ≡ true)
+AreTold {Y} telling (listed ∷ rest) told sound =
+    (first : List Y) × (more : List Y) × (one : Bool) × (others : Bool)
+    × IsTold (telling listed.0) (text_in listed.1) first one × AreTold telling rest more others
+    × (told ≡ first ++ more) × (sound ≡ (one && others))
 
 abbrev pub AreVerdicts : Naming → EntryValue → List ℕ → Bool → Type 0
-AreVerdicts naming = AreAllTold (IsStandardLine naming.table) (IsExtendedLine naming.form)
+AreVerdicts naming v = AreTold (in_line naming) (items v)
 
 abbrev pub AreVerdictObjects : EntryValue → List Data → Bool → Type 0
-AreVerdictObjects = AreAllTold IsStandardObject IsOwnObject
+AreVerdictObjects v = AreTold in_object (items v)

@@ -12,8 +12,9 @@ use ti_expand::Value;
 use ti_line::{
     Asked, Expand, OfCapability, OfEntry, TextName, list_options, naming_asked, output_asked,
 };
+use ti_names::NameTable;
 use ti_pad::Padding;
-use ti_words::{NameTable, Width};
+use ti_words::Width;
 
 /// What is handed over if there are no parameters.
 const NO_PARAMETERS: [Value<'static>; 9] = [Value::Num(0); 9];

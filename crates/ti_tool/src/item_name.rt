@@ -1,15 +1,14 @@
 //! The value of a capability of any kind, by any name.
 
 ghost use Rattle.std.specs.Prelude.{◌≡◌, ◌≢◌, ◌++◌, ℕ, IfSome, IfNone, List, option_map};
+ghost use Rattle.ti_words.specs.Items.{item_value};
 ghost use Rattle.ti_words.specs.declared.Kind.{Kind};
-ghost use Rattle.ti_listing.specs.Items.{kind_word};
-ghost use Rattle.ti_listing.specs.Values.{item_value};
+ghost use Rattle.ti_json.specs.Objects.{kind_word};
 ghost use Rattle.ti_tool.specs.ItemNames.{IsItemCalled, IsKindLabel, IsPlaceCalled};
 
 use crate::text_name::index_of;
 use ti_entry::{Entry, Position};
-use ti_listing::{Item, item_at};
-use ti_words::Kind;
+use ti_words::{Item, Kind};
 
 /// The kind whose word a name begins with, and what stands after it.
 fn after_kind(name: &str) -> Option<(Kind, &str)>
@@ -58,7 +57,7 @@ pub fn item_called<'a>(entry: &Entry<'a>, name: &str) -> Option<Item<'a>>
     ensures { IsItemCalled name.now entry.now (option_map item_value result) }
 {
     match place_called(entry, name) {
-        Some(place) => Some(item_at(entry, place)),
+        Some(place) => Some(entry.item_at(place)),
         None => None,
     }
 }

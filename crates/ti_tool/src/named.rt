@@ -3,7 +3,7 @@
 ghost use Rattle.std.specs.Prelude.{◌≡◌, ◌⊎◌, ◌++◌, codes, Err, OnOk, IfErr, IfOk, true};
 ghost use Rattle.ti_line.specs.declared.request.Asked.TheVariants as asks;
 ghost use Rattle.ti_tool.specs.declared.fault.ToolFault.TheVariants as fault;
-ghost use Rattle.ti_words.specs.AllNames.{front};
+ghost use Rattle.ti_names.specs.AllNames.{front};
 ghost use Rattle.ti_tool.specs.Documents.{in_object as the_object, key_of as the_key};
 ghost use Rattle.ti_tool.specs.Files.{IsDueOfFile, before_findings as the_before_findings, each_line, file_line as the_file_line, one_of_several as the_one_of_several, result_of_file, shown_file};
 ghost use Rattle.ti_tool.specs.Results.{Finds, IsDueOf};

@@ -7,7 +7,7 @@ ghost use Rattle.std.specs.Prelude.{◌≡◌, ◌≤◌, ◌<◌, ◌↔◌, �
 ghost use Rattle.std.specs.Str.{chars};
 ghost use Rattle.ti_entry.specs.Finding.{names_of};
 ghost use Rattle.ti_words.specs.declared.Kind.{Kind};
-ghost use Rattle.ti_words.specs.AllNames.{name_in};
+ghost use Rattle.ti_names.specs.AllNames.{name_in};
 ghost use Rattle.ti_tool.specs.Near.{AreNearest, IsName, IsNext, IsOwnAt, NoneIsNear, edits, most_edits};
 ghost use Rattle.ti_tool.specs.inner.Near.{IsFarther, IsFartherIn, IsFartherOwn, IsFound, IsShortOrLong, IsSought, told_of};
 
@@ -16,8 +16,8 @@ use std::alloc::{AllocError, Allocator};
 use std::str;
 use strsim::osa_distance;
 use ti_entry::{Entry, Extended};
-use ti_listing::standard_name;
-use ti_words::{Kind, NameTable};
+use ti_names::NameTable;
+use ti_words::Kind;
 
 /// How many indices there are of the kind that has most.
 const MOST_NAMES: usize = 414;
@@ -98,11 +98,11 @@ fn nearer<'n, A: Allocator + Copy>(
     })
 }
 
-/// The name of a standard capability.
+/// The name of a standard capability, lent for as long as the names that are compared with it.
 fn standard_text<'n>(table: NameTable, kind: Kind, index: usize) -> Option<&'n str>
     ensures { option_map (λ name. name.now) result ≡ name_in table kind index }
 {
-    standard_name(table, kind, index)
+    table.name_at(kind, index)
 }
 
 /// What is found among the names of a kind in a table.
@@ -148,17 +148,6 @@ fn nearest_of<'n, A: Allocator + Copy>(
     nearest_in(alloc, sought, numbers, table, Kind::Text)
 }
 
-/// How many capabilities of a kind an entry names itself.
-fn own_count(extended: &Extended<'_>, kind: Kind) -> usize
-    ensures { result ≡ length (names_of extended.now kind) }
-{
-    match kind {
-        Kind::Flag => extended.flag_count(),
-        Kind::Number => extended.number_count(),
-        Kind::Text => extended.text_count(),
-    }
-}
-
 /// One of an entry's own names, if it is UTF-8: a word is, so no other is near to one.
 fn own_text<'n>(extended: &Extended<'n>, kind: Kind, index: usize) -> Option<&'n str>
     ensures some { IfSome result (λ name. IsOwnAt extended.now kind index name.now) }
@@ -185,7 +174,7 @@ fn nearest_own_in<'n, A: Allocator + Copy>(
 {
     let extended = sought.entry.extended();
     let mut best = found;
-    for index in 0..own_count(&extended, kind) {
+    for index in 0..extended.count_of(kind) {
         if let Some(name) = own_text(&extended, kind, index) {
             best = nearer(alloc, sought, best, name)?;
         }

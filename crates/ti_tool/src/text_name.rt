@@ -6,7 +6,8 @@ ghost use Rattle.ti_tool.specs.Names.{IsLabel, IsExtendedCalled, IsCalled};
 
 use ti_entry::{Entry, Extended};
 use ti_line::TextName;
-use ti_words::{Kind, NameTable, Text};
+use ti_names::NameTable;
+use ti_words::{Kind, Text};
 
 /// The most digits of an index.
 const MOST_DIGITS: usize = 5;

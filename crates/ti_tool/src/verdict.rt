@@ -3,14 +3,16 @@
 //! A text is analysed once for each run of equal texts, since texts of an entry may share a long slice.
 
 ghost use Rattle.std.specs.Prelude.{◌≡◌, ◌++◌, OnOk};
-ghost use Rattle.ti_tool.specs.Verdicts.{fault_verdict, sound_verdict};
-ghost use Rattle.ti_listing.specs.Values.{label_bytes};
-ghost use Rattle.ti_tool.specs.inner.Verdict.{IsJudged, is_sound, verdict_line};
+ghost use Rattle.ti_words.specs.Items.{subject_value};
+ghost use Rattle.ti_tool.specs.Verdicts.{fault_verdict, in_line, sound_verdict};
+ghost use Rattle.ti_tool.specs.inner.Verdict.{IsJudged, is_sound, told_by, verdict_line};
 
 use itoa::Buffer;
 use std::alloc::{AllocError, Allocator};
 use ti_cap::{CapRefused, Capability};
-use ti_listing::{Label, push_label};
+use ti_line::Naming;
+use ti_listing::{push_label, subject_word};
+use ti_words::Subject;
 
 /// What a text is as a capability.
 #[derive(Clone, Copy)]
@@ -105,16 +107,17 @@ fn push_verdict<A: Allocator>(out: &mut Vec<u8, A>, verdict: Verdict) -> Result<
 }
 
 /// Writes the line of a text.
+#[tactic(auto, using(crate::proofs::AreToldLemmas::line_told))]
 pub fn push_line<A: Allocator>(
     out: &mut Vec<u8, A>,
-    word: &[u8],
-    label: Label<'_>,
+    naming: Naming,
+    subject: Subject<'_>,
     verdict: Verdict,
 ) -> Result<(), AllocError>
     ensures { OnOk result (out.new.items
-        ≡ out.old.items ++ (word.now ++ label_bytes label.entry ++ verdict_line verdict)) }
+        ≡ out.old.items ++ told_by (in_line naming (subject_value subject.entry)) verdict) }
 {
-    out.extend_from_slice(word)?;
-    push_label(out, label)?;
+    out.extend_from_slice(subject_word(subject))?;
+    push_label(out, naming, subject)?;
     push_verdict(out, verdict)
 }

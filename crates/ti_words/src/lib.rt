@@ -1,24 +1,17 @@
-//! What the bytes and words of a compiled terminfo entry mean (term(5)), and the names of capabilities by index.
+//! What the bytes and words of a compiled terminfo entry mean (term(5)).
 //!
 //! A flag is one byte, a number is one word, a text is an offset or a mark. Each function here is exact both ways: a
-//! byte and its flag, a word and its number, a name and its kind and index determine each other. None takes memory; a
-//! byte or word takes a few instructions, a name a hash of its bytes and a comparison. `specs/Spelling.antt` says which
-//! bytes spell an entry: reading and writing stand on it, each in crates of their own.
+//! byte and its flag, a word and its number determine each other. None takes memory, and each takes a few instructions.
+//! `specs/Spelling.antt` says which bytes spell an entry: reading and writing stand on it, each in crates of their own.
 #![tactic(auto)]
 
 ghost use Rattle.std.specs.Prelude.{◌≡◌, ◌<◌, ◌^◌, pos, IfSome};
 ghost use Rattle.ti_words.specs.Marks.{byte_of_flag, flag_of_byte, word_of_number, number_of_word, HasWord};
 ghost use Rattle.ti_words.specs.Widths.{number_size as the_number_size, magic_number as the_magic_number, width_of_magic as the_width_of_magic, greatest_number as the_greatest_number, format_name as the_format_name};
 
-mod all_names;
-mod hint;
-pub mod laws;
-mod names;
-mod slots;
-mod table;
+mod item;
 
-pub use all_names::{NameTable, find_short_or_long};
-pub use names::{find, flag_name, number_name, text_name};
+pub use item::{Item, Subject};
 use ti_base::{GREATEST_WIDE_WORD, GREATEST_WORD};
 
 /// A flag of an entry (a boolean capability of terminfo(5)).

@@ -7,7 +7,7 @@ use Rattle.ti_cap.specs.declared.language.CapFault.TheVariants as capability
 use Rattle.ti_layout.specs.Faults.{fault_word}
 use Rattle.ti_layout.specs.declared.fault.Fault.{Fault}
 use Rattle.ti_layout.specs.declared.fault.Fault.TheVariants as entry
-use Rattle.ti_words.specs.AllNames.{front}
+use Rattle.ti_names.specs.AllNames.{front}
 use Rattle.ti_c.specs.Numbers.{capability_number, entry_number}
 use Rattle.ti_c.specs.Words.{Row, other_rows}
 

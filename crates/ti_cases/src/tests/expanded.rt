@@ -1,13 +1,13 @@
 //! The two calls that expand: into slices of exactly the promised size, and as a vector.
 
 use std::alloc::Global;
-use std::test::Fail;
 use ti_base::MOST_VALUES;
 use ti_cap::Capability;
 use ti_expand::{ExpandFault, Value, Vars, expand, expand_into};
+use ti_fixtures::Unfound;
 
 /// The capability that the bytes write.
-pub fn capability_of<'a>(bytes: &'a [u8]) -> Result<Capability<'a>, Fail> {
+pub fn capability_of<'a>(bytes: &'a [u8]) -> Result<Capability<'a>, Unfound> {
     Ok(Capability::parse(bytes).ok().ok_or("parse")?)
 }
 
@@ -18,7 +18,7 @@ pub fn into_slices(
     parameters: &[Value<'_>; 9],
     longest: u16,
     vars: &mut Vars,
-) -> Result<Vec<u8>, Fail> {
+) -> Result<Vec<u8>, Unfound> {
     let capability = capability_of(bytes)?;
     let mut stack = [Value::Num(0); MOST_VALUES];
     let mut out = vec![in alloc; 0u8; capability.bound(longest) as usize]?;
@@ -40,7 +40,7 @@ pub fn into_vector(
     bytes: &[u8],
     parameters: &[Value<'_>; 9],
     vars: &mut Vars,
-) -> Result<Vec<u8>, Fail> {
+) -> Result<Vec<u8>, Unfound> {
     let capability = capability_of(bytes)?;
     Ok(
         expand(alloc, &capability, parameters, vars)

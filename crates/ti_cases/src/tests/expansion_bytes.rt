@@ -1,20 +1,20 @@
 //! The bytes of a capability, which are expanded in one call.
 
+use std::alloc::Global;
 use std::test::Fail;
 use ti_cap::{CapFault, CapRefused};
-use ti_expand::Value::{Num, Text};
-use ti_expand::{BytesFault, ExpandFault, Value, Vars, expand_bytes};
-use ti_fixtures::capabilities::{SETAF, nine};
+use ti_expand::Value::Num;
+use ti_expand::{BytesFault, ExpandFault, Vars, expand_bytes};
+use ti_fixtures::capabilities::{SETAF, nine, values_of};
+use ti_fixtures::{Unfound, bytes_of, check_rows, fields_of, shown};
 
 #[test]
 fn bytes_are_expanded(rt: HostRuntime) -> Result<(), Fail> {
     let mut out = [0xee; 32];
     let parameters = nine(&[Num(200)]);
     let run = expand_bytes(SETAF, &parameters, &mut Vars::new(), &mut out)?;
-    assert_that!(rt; &out[..run.written] == b"\x1b[38;5;200m".as_slice());
-    assert_that!(rt; run.ran == 22);
-    assert_that!(rt; run.passed == 8);
-    assert_that!(rt; run.peak == 2);
+    assert_same!(rt; &out[..run.written], b"\x1b[38;5;200m");
+    assert_that!(rt; run.ran == 22 && run.passed == 8 && run.peak == 2);
     Ok(())
 }
 
@@ -28,26 +28,31 @@ fn a_variable_lasts(rt: HostRuntime) -> Result<(), Fail> {
 
 /// Capabilities with the first of their parameters, and the length of their output: with a text, with no escape, with much
 /// output, with many values and with many open conditionals.
-const EXPANDED: [(&[u8], &[Value<'static>], usize); 5] = [
-    (b"%p1%s", &[Text(b"a")], 1),
-    (b"abc", &[], 3),
-    (b"%p1%129d", &[], 129),
-    (b"%p1%p1%p1%p1%p1%p1%d", &[], 1),
-    (
-        b"%?%p1%t%?%p1%t%?%p1%t%?%p1%t%?%p1%ta%;%;%;%;%;",
-        &[Num(1)],
-        1,
-    ),
-];
+const EXPANDED: &str = r"
+%p1%s | a => 1
+abc | - => 3
+%p1%129d | - => 129
+%p1%p1%p1%p1%p1%p1%d | - => 1
+%?%p1%t%?%p1%t%?%p1%t%?%p1%t%?%p1%ta%;%;%;%;%; | 1 => 1
+";
+
+/// How many bytes a capability writes.
+fn written_by(alloc: Global, given: &str) -> Result<Vec<u8>, Unfound> {
+    let [capability, words, ..] = fields_of(given);
+    let bytes = bytes_of(alloc, capability)?;
+    let mut out = [0xee; 200];
+    let run = expand_bytes(
+        bytes.as_slice(),
+        &values_of(words),
+        &mut Vars::new(),
+        &mut out,
+    )?;
+    shown(alloc, &run.written)
+}
 
 #[test]
 fn each_way_writes(rt: HostRuntime) -> Result<(), Fail> {
-    let mut out = [0xee; 200];
-    for (bytes, first, written) in EXPANDED {
-        let run = expand_bytes(bytes, &nine(first), &mut Vars::new(), &mut out)?;
-        assert_that!(rt; run.written == written);
-    }
-    Ok(())
+    check_rows(rt.alloc(), EXPANDED, written_by)
 }
 
 #[test]

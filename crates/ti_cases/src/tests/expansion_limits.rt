@@ -21,9 +21,9 @@ fn longest() -> [u8; 32767] {
 fn the_longest_capability_is_expanded(rt: HostRuntime) -> Result<(), Fail> {
     let bytes = longest();
     let out = into_slices(rt.alloc(), &bytes, &NUMBERS, 0, &mut Vars::new())?;
-    assert_that!(rt; out.as_slice() == b"x".as_slice());
+    assert_same!(rt; out.as_slice(), b"x");
     let out = into_vector(rt.alloc(), &bytes, &NUMBERS, &mut Vars::new())?;
-    assert_that!(rt; out.as_slice() == b"x".as_slice());
+    assert_same!(rt; out.as_slice(), b"x");
     Ok(())
 }
 
@@ -31,8 +31,7 @@ fn the_longest_capability_is_expanded(rt: HostRuntime) -> Result<(), Fail> {
 fn texts_are_bounded_by_the_longest(rt: HostRuntime) -> Result<(), Fail> {
     let bytes = longest();
     let capability = capability_of(&bytes)?;
-    assert_that!(rt; capability.depth() == 0);
-    assert_that!(rt; capability.bound(0) == 1);
+    assert_that!(rt; capability.depth() == 0 && capability.bound(0) == 1);
     assert_that!(rt; capability.bound(32767) == 536821762);
     Ok(())
 }
@@ -54,9 +53,9 @@ fn the_longest_text_is_written(rt: HostRuntime) -> Result<(), Fail> {
     let text = [b'a'; 32767];
     let parameters = nine(&[Value::Text(&text)]);
     let out = into_slices(rt.alloc(), b"%p1%s", &parameters, 32767, &mut Vars::new())?;
-    assert_that!(rt; out.as_slice() == text.as_slice());
+    assert_same!(rt; out.as_slice(), text.as_slice());
     let out = into_vector(rt.alloc(), b"%p1%s", &parameters, &mut Vars::new())?;
-    assert_that!(rt; out.as_slice() == text.as_slice());
+    assert_same!(rt; out.as_slice(), text.as_slice());
     Ok(())
 }
 
@@ -77,11 +76,10 @@ fn the_longest_text_needs_its_room(rt: HostRuntime) -> Result<(), Fail> {
 fn a_deep_capability_is_analysed_and_expanded(rt: HostRuntime) -> Result<(), Fail> {
     let bytes = deep(rt.alloc())?;
     let capability = capability_of(bytes.as_slice())?;
-    assert_that!(rt; capability.depth() == 32);
-    assert_that!(rt; capability.nest() == 32);
+    assert_that!(rt; capability.depth() == 32 && capability.nest() == 32);
     assert_that!(rt; capability.bound(0) == 341);
     let output = b"12121212121212121212121212121212121212121212121212121212121212";
     let out = into_vector(rt.alloc(), bytes.as_slice(), &NUMBERS, &mut Vars::new())?;
-    assert_that!(rt; out.as_slice() == output.as_slice());
+    assert_same!(rt; out.as_slice(), output.as_slice());
     Ok(())
 }

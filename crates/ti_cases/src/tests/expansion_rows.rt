@@ -1,15 +1,16 @@
 //! What capabilities write, into slices of exactly the promised size and as a vector.
 
 use super::expanded::{into_slices, into_vector};
-use std::process::Abort;
+use std::alloc::Global;
 use std::test::Fail;
 use ti_expand::{Value, Vars};
 use ti_fixtures::capabilities::{
-    COLORS, CONDITIONAL, Expansion, FORMATS, OPERATIONS, SGR, STACK, TEXTS, nine,
+    COLORS, CONDITIONAL, FORMATS, OPERATIONS, SGR, STACK, TEXTS, values_of,
 };
+use ti_fixtures::{Unfound, bytes_of, check_rows, fields_of};
 
 /// The length of the longest text among the values.
-fn longest_text(values: &[Value<'static>]) -> u16 {
+fn longest_text(values: &[Value<'_>]) -> u16 {
     let mut longest = 0;
     for value in values {
         if let Value::Text(text) = value {
@@ -19,62 +20,52 @@ fn longest_text(values: &[Value<'static>]) -> u16 {
     longest
 }
 
-/// Each row through exact slices.
-fn assert_in_slices(rt: &(impl Abort + AllocGlobal), rows: &[Expansion]) -> Result<(), Fail> {
-    for (bytes, first, output) in rows {
-        let longest = longest_text(*first);
-        let out = into_slices(rt.alloc(), *bytes, &nine(*first), longest, &mut Vars::new())?;
-        assert_that!(rt; out.as_slice() == *output);
+/// What a capability writes, which is the same into exact slices and as a vector.
+pub fn written(alloc: Global, given: &str) -> Result<Vec<u8>, Unfound> {
+    let [capability, words, ..] = fields_of(given);
+    let bytes = bytes_of(alloc, capability)?;
+    let values = values_of(words);
+    let longest = longest_text(&values);
+    let one = into_slices(alloc, bytes.as_slice(), &values, longest, &mut Vars::new())?;
+    let other = into_vector(alloc, bytes.as_slice(), &values, &mut Vars::new())?;
+    if one.as_slice() == other.as_slice() {
+        Ok(one)
+    } else {
+        Err(Unfound)
     }
-    Ok(())
-}
-
-/// Each row as a vector.
-fn assert_in_vectors(rt: &(impl Abort + AllocGlobal), rows: &[Expansion]) -> Result<(), Fail> {
-    for (bytes, first, output) in rows {
-        let out = into_vector(rt.alloc(), *bytes, &nine(*first), &mut Vars::new())?;
-        assert_that!(rt; out.as_slice() == *output);
-    }
-    Ok(())
-}
-
-/// Each row through exact slices and as a vector.
-fn assert_written(rt: &(impl Abort + AllocGlobal), rows: &[Expansion]) -> Result<(), Fail> {
-    assert_in_slices(rt, rows)?;
-    assert_in_vectors(rt, rows)
 }
 
 #[test]
 fn the_stack_is_as_terminfo_says(rt: HostRuntime) -> Result<(), Fail> {
-    assert_written(&rt, &STACK)
+    check_rows(rt.alloc(), STACK, written)
 }
 
 #[test]
 fn operations_are_as_terminfo_says(rt: HostRuntime) -> Result<(), Fail> {
-    assert_written(&rt, &OPERATIONS)
+    check_rows(rt.alloc(), OPERATIONS, written)
 }
 
 #[test]
 fn numbers_are_printed_as_terminfo_says(rt: HostRuntime) -> Result<(), Fail> {
-    assert_written(&rt, &FORMATS)
+    check_rows(rt.alloc(), FORMATS, written)
 }
 
 #[test]
 fn texts_are_printed_as_terminfo_says(rt: HostRuntime) -> Result<(), Fail> {
-    assert_written(&rt, &TEXTS)
+    check_rows(rt.alloc(), TEXTS, written)
 }
 
 #[test]
 fn conditionals_write_what_terminfo_says(rt: HostRuntime) -> Result<(), Fail> {
-    assert_written(&rt, &CONDITIONAL)
+    check_rows(rt.alloc(), CONDITIONAL, written)
 }
 
 #[test]
 fn colors_are_what_tput_prints(rt: HostRuntime) -> Result<(), Fail> {
-    assert_written(&rt, &COLORS)
+    check_rows(rt.alloc(), COLORS, written)
 }
 
 #[test]
 fn sgr_is_what_tput_prints(rt: HostRuntime) -> Result<(), Fail> {
-    assert_written(&rt, &SGR)
+    check_rows(rt.alloc(), SGR, written)
 }

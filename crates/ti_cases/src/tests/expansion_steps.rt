@@ -3,6 +3,7 @@
 use super::expanded::capability_of;
 use std::test::Fail;
 use ti_expand::{ExpandFault, Outcome, Run, Steps, Value, Vars};
+use ti_fixtures::Unfound;
 use ti_fixtures::capabilities::nine;
 
 /// A conditional, whose otherwise part runs.
@@ -10,7 +11,7 @@ const OTHERWISE: &[u8] = b"%?%p1%t1%e2%;";
 
 /// What became of each token with 0 for the parameter, and then the bytes taken, the values on the stack and what was
 /// written.
-const STEPS: [(Outcome, usize, usize, &[u8]); 7] = [
+const STEPS: &[(Outcome, usize, usize, &[u8])] = &[
     (Outcome::Ran, 2, 0, b""),
     (Outcome::Ran, 5, 1, b""),
     (Outcome::Ran, 7, 0, b""),
@@ -20,32 +21,24 @@ const STEPS: [(Outcome, usize, usize, &[u8]); 7] = [
     (Outcome::Ran, 13, 0, b"2"),
 ];
 
+/// Whether a pass stops after each token as the rows say, and has no token after them.
+fn are_steps(steps: &mut Steps<'_, '_, '_>, rows: &[(Outcome, usize, usize, &[u8])]) -> bool {
+    let mut is_each = true;
+    for (outcome, at, values, output) in rows {
+        let became = steps.step().map(|step| step.outcome);
+        is_each &= became == Some(*outcome) && steps.at() == *at;
+        is_each &= steps.stack().len() == *values && steps.output() == *output;
+    }
+    is_each && steps.step() == None
+}
+
 #[test]
 fn a_pass_stops_after_each_token(rt: HostRuntime) -> Result<(), Fail> {
     let capability = capability_of(OTHERWISE)?;
     let parameters = nine(&[]);
     let (mut vars, mut stack, mut out) = (Vars::new(), [Value::Num(0); 1], [0u8; 1]);
     let mut steps = Steps::new(&capability, &parameters, &mut vars, &mut stack, &mut out)?;
-    for (outcome, at, values, output) in STEPS {
-        let step = steps.step().ok_or("no token")?;
-        assert_that!(rt; step.outcome == outcome);
-        assert_that!(rt; steps.at() == at);
-        assert_that!(rt; steps.stack().len() == values);
-        assert_that!(rt; steps.output() == output);
-    }
-    assert_that!(rt; steps.step() == None);
-    Ok(())
-}
-
-#[test]
-fn the_steps_of_a_pass_are_counted(rt: HostRuntime) -> Result<(), Fail> {
-    let capability = capability_of(OTHERWISE)?;
-    let parameters = nine(&[]);
-    let (mut vars, mut stack, mut out) = (Vars::new(), [Value::Num(0); 1], [0u8; 1]);
-    let mut steps = Steps::new(&capability, &parameters, &mut vars, &mut stack, &mut out)?;
-    for _ in STEPS {
-        steps.step().ok_or("no token")?;
-    }
+    assert_that!(rt; are_steps(&mut steps, STEPS));
     let whole = Run {
         written: 1,
         ran: 6,
@@ -58,7 +51,7 @@ fn the_steps_of_a_pass_are_counted(rt: HostRuntime) -> Result<(), Fail> {
 }
 
 /// Why a pass does not start in so much room.
-fn fault_of(stack: &mut [Value<'_>], out: &mut [u8]) -> Result<Option<ExpandFault>, Fail> {
+fn fault_of(stack: &mut [Value<'_>], out: &mut [u8]) -> Result<Option<ExpandFault>, Unfound> {
     let capability = capability_of(OTHERWISE)?;
     Ok(Steps::new(&capability, &nine(&[]), &mut Vars::new(), stack, out).err())
 }

@@ -17,11 +17,11 @@ const WRITES: &[u8] = b"%gA%d";
 fn variables_last_in_slices(rt: HostRuntime) -> Result<(), Fail> {
     let mut vars = Vars::new();
     let out = into_slices(rt.alloc(), SETS, &NUMBERS, 0, &mut vars)?;
-    assert_that!(rt; out.as_slice() == b"144".as_slice());
+    assert_same!(rt; out.as_slice(), b"144");
     let out = into_slices(rt.alloc(), WRITES, &NUMBERS, 0, &mut vars)?;
-    assert_that!(rt; out.as_slice() == b"12".as_slice());
+    assert_same!(rt; out.as_slice(), b"12");
     let out = into_slices(rt.alloc(), WRITES, &NUMBERS, 0, &mut Vars::new())?;
-    assert_that!(rt; out.as_slice() == b"0".as_slice());
+    assert_same!(rt; out.as_slice(), b"0");
     Ok(())
 }
 
@@ -29,11 +29,11 @@ fn variables_last_in_slices(rt: HostRuntime) -> Result<(), Fail> {
 fn variables_last_in_vectors(rt: HostRuntime) -> Result<(), Fail> {
     let mut vars = Vars::new();
     let out = into_vector(rt.alloc(), SETS, &NUMBERS, &mut vars)?;
-    assert_that!(rt; out.as_slice() == b"144".as_slice());
+    assert_same!(rt; out.as_slice(), b"144");
     let out = into_vector(rt.alloc(), WRITES, &NUMBERS, &mut vars)?;
-    assert_that!(rt; out.as_slice() == b"12".as_slice());
+    assert_same!(rt; out.as_slice(), b"12");
     let out = into_vector(rt.alloc(), WRITES, &NUMBERS, &mut Vars::new())?;
-    assert_that!(rt; out.as_slice() == b"0".as_slice());
+    assert_same!(rt; out.as_slice(), b"0");
     Ok(())
 }
 
@@ -46,7 +46,7 @@ fn expanding_without_memory_keeps_the_variables(rt: HostRuntime) -> Result<(), F
     assert_that!(rt; matches!(refused, Err(ExpandFault::Memory)));
     assert_that!(rt; vars.get(b'A') == Some(0));
     let out = into_vector(rt.alloc(), SETS, &NUMBERS, &mut vars)?;
-    assert_that!(rt; out.as_slice() == b"144".as_slice());
+    assert_same!(rt; out.as_slice(), b"144");
     assert_that!(rt; vars.get(b'A') == Some(12));
     Ok(())
 }

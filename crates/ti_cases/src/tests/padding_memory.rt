@@ -5,30 +5,31 @@ use linked_list_allocator::LocalHeap;
 use std::alloc::Global;
 use std::process::Abort;
 use std::test::Fail;
-use ti_fixtures::Tally;
+use ti_fixtures::{Tally, Unfound, check_rows, fields_of, number_of, shown_numbers};
 use ti_pad::{PadFault, Padding, pad};
 
-/// Texts, the length of what they are padded to, and the memory that it takes.
-const TAKEN: [(&[u8], usize, usize); 7] = [
-    (b"$<1>", 1, 16),
-    (b"$<15>", 15, 16),
-    (b"$<16>", 16, 16),
-    (b"$<17>", 17, 32),
-    (b"abc$<29>", 32, 32),
-    (b"abc$<15>d$<15>", 34, 48),
-    (b"abc", 3, 16),
-];
+/// Texts with the size of a heap, the length of what they are padded to, and the memory that it takes.
+const TAKEN: &str = r"
+$<1> | 16 => 1 16
+$<15> | 16 => 15 16
+$<16> | 16 => 16 16
+$<17> | 32 => 17 32
+abc$<29> | 32 => 32 32
+abc$<15>d$<15> | 48 => 34 48
+abc | 16 => 3 16
+";
+
+/// The length of a padded text, and the memory that it takes of a heap.
+fn taken_by(alloc: Global, given: &str) -> Result<Vec<u8>, Unfound> {
+    let [text, block, ..] = fields_of(given);
+    let heap = LocalHeap::new(alloc, number_of(block)? as usize)?;
+    let padded = pad(&heap, text.as_bytes(), &padding_of(1000, 1, false)?)?;
+    shown_numbers(alloc, &[padded.len() as u64, heap.used() as u64])
+}
 
 #[test]
 fn padding_takes_its_length_at_once(rt: HostRuntime) -> Result<(), Fail> {
-    let padding = padding_of(1000, 1, false)?;
-    for (text, long, block) in TAKEN {
-        let heap = LocalHeap::new(rt.alloc(), block)?;
-        let padded = pad(&heap, text, &padding)?;
-        assert_that!(rt; padded.len() == long);
-        assert_that!(rt; heap.used() == block);
-    }
-    Ok(())
+    check_rows(rt.alloc(), TAKEN, taken_by)
 }
 
 /// Whether a text is padded with so much memory, all of which is given back.

@@ -84,7 +84,7 @@ fn a_writer_that_fails_took_what_was_counted(rt: HostRuntime) {
     }
     let mut writer = Sink::failing_at(rt.alloc(), 1, 13);
     assert_that!(rt; write_out(&mut writer, b"0123456789ab").is_ok());
-    assert_that!(rt; writer.taken.as_slice() == b"0123456789ab".as_slice());
+    assert_same!(rt; writer.taken.as_slice(), b"0123456789ab");
 }
 
 #[test]
@@ -110,7 +110,7 @@ fn what_writes_flushes_nothing(rt: HostRuntime) -> Result<(), Fail> {
     let mut writer = Flushed::new(rt.alloc());
     assert_that!(rt; write_out(&mut writer, b"abc").is_ok());
     assert_that!(rt; write_padded(&mut writer, b"d$<2>e", &padding_of(1000, 1, false)?).is_ok());
-    assert_that!(rt; writer.taken.as_slice() == b"abcd\0\0e".as_slice());
+    assert_same!(rt; writer.taken.as_slice(), b"abcd\0\0e");
     assert_that!(rt; writer.flushes == 0);
     Ok(())
 }

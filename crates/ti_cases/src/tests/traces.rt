@@ -21,7 +21,7 @@ fn a_choice_is_traced(rt: HostRuntime) -> Result<(), Fail> {
         Form::Hex,
         Color::Never,
     )?;
-    assert_that!(rt; made.as_slice() == CHOICE_OF_3);
+    assert_same!(rt; made.as_slice(), CHOICE_OF_3);
     Ok(())
 }
 
@@ -34,7 +34,7 @@ fn no_token_is_traced(rt: HostRuntime) -> Result<(), Fail> {
         Form::Notation,
         Color::Never,
     )?;
-    assert_that!(rt; made.as_slice() == NOTHING);
+    assert_same!(rt; made.as_slice(), NOTHING);
     Ok(())
 }
 
@@ -48,7 +48,7 @@ fn a_long_text_and_a_number_are_traced(rt: HostRuntime) -> Result<(), Fail> {
         Form::Notation,
         Color::Never,
     )?;
-    assert_that!(rt; made.as_slice() == TEXT_AND_NUMBER);
+    assert_same!(rt; made.as_slice(), TEXT_AND_NUMBER);
     Ok(())
 }
 
@@ -60,7 +60,7 @@ const CHOICE_AS_JSON: &[u8] =
 fn a_choice_is_traced_for_programs(rt: HostRuntime) -> Result<(), Fail> {
     let mixed = nine(&[Value::Num(1), Value::Text(b"\x070123456789abcdef")]);
     let made = trace_json(rt.alloc(), b"%?%p1%t%p2%s%e9%;", &mixed)?;
-    assert_that!(rt; made.as_slice() == CHOICE_AS_JSON);
+    assert_same!(rt; made.as_slice(), CHOICE_AS_JSON);
     Ok(())
 }
 
@@ -96,7 +96,7 @@ fn a_text_that_is_too_long_has_no_trace(rt: HostRuntime) {
 #[test]
 fn a_fault_of_a_trace_is_shown(rt: HostRuntime) -> Result<(), Fail> {
     let message = format!(in rt.alloc(); "{}", TraceFault::Cap(CUT))?;
-    assert_that!(rt; message.as_str() == "Cap CutShort at 1");
+    assert_same!(rt; message.as_str().as_bytes(), "Cap CutShort at 1".as_bytes());
     Ok(())
 }
 

@@ -3,5 +3,6 @@
 mod cap;
 mod escape;
 mod expand;
+mod kept;
 mod pad;
 mod trace;

@@ -1,6 +1,7 @@
 //! Names of capabilities, which are those of ncurses.
 
-use ti_words::{Kind, NameTable, find, find_short_or_long, flag_name, number_name, text_name};
+use ti_names::{NameTable, find, find_short_or_long, flag_name, number_name, text_name};
+use ti_words::Kind;
 
 #[test]
 fn names_are_those_of_ncurses(rt: HostRuntime) {

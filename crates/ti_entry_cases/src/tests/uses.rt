@@ -5,4 +5,5 @@ mod draft;
 mod entry;
 mod json;
 mod layout;
+mod names;
 mod words;

@@ -1,5 +1,5 @@
 -- How the tests of a conditional are gone over, token by token.
-use Rattle.std.specs.Prelude.{◌≡◌, ℕ, suc, ◌+◌, ◌≤◌, nat_eq, nat_lt, Bool, true, false, if◌then◌else◌, List, [], ◌∷◌, ◌++◌, length, drop, Option, Some, None}
+use Rattle.std.specs.Prelude.{◌≡◌, ℕ, ◌+◌, ◌≤◌, nat_eq, nat_lt, Bool, true, false, if◌then◌else◌, List, [], ◌∷◌, ◌++◌, length, drop, Option, Some, None}
 use Rattle.ti_base.specs.Limits.{most_capability_bytes}
 use Rattle.ti_cap.specs.Spelling.{Written}
 use Rattle.ti_cap.specs.Capability.{Spot}

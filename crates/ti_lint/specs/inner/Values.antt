@@ -1,5 +1,5 @@
 -- Which values may be at each place of the stack, the top first.
-use Rattle.std.specs.Prelude.{ℕ, zero, suc, ◌*◌, ◌/◌, ◌%◌, ◌^◌, nat_eq, Bool, true, false, not, ◌||◌, ◌&&◌, if◌then◌else◌, Option, Some, None, bit_or}
+use Rattle.std.specs.Prelude.{ℕ, zero, suc, ◌*◌, ◌/◌, ◌%◌, ◌^◌, nat_eq, Bool, true, false, if◌then◌else◌, Option, Some, None, bit_or}
 use Rattle.ti_cap.specs.declared.language.Token.{Token}
 use Rattle.ti_cap.specs.Height.{pops, pushes}
 use Rattle.ti_cap.specs.Sources.{source}

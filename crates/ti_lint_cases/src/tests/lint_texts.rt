@@ -4,14 +4,15 @@ use std::test::Fail;
 use ti_cap::{Capability, Token};
 use ti_fixtures::capabilities::CUP;
 use ti_lint::{
-    Class, TextFinding, Variables, class_of, find_double_percent, find_false_mark, find_mark,
-    is_half_paired, is_meant_to_expand, own_class_of, stored_by, toggling_pairs, undoing_pairs,
+    TextFinding, Variables, extended_class_of, find_double_percent, find_false_mark, find_mark,
+    is_half_paired, is_meant_to_expand, stored_by, toggling_pairs, undoing_pairs,
     unused_parameters,
 };
-use ti_words::{Kind, NameTable};
+use ti_names::{Class, NameTable, class_of};
+use ti_words::Kind;
 
 /// Names of texts with what they are. In micro mode a text has the parameters of the text that it is like.
-const CLASSES: [(&str, Class); 16] = [
+const CLASSES: &[(&'static str, Class)] = &[
     ("cup", Class::Parameterized(2)),
     ("sgr", Class::Parameterized(9)),
     ("setaf", Class::Parameterized(1)),
@@ -30,16 +31,24 @@ const CLASSES: [(&str, Class); 16] = [
     ("u6", Class::Input),
 ];
 
-#[test]
-fn texts_have_their_classes(rt: HostRuntime) -> Result<(), Fail> {
-    for (name, class) in CLASSES {
-        let (kind, index) = NameTable::All.find(name).ok_or("name")?;
-        assert_that!(rt; kind == Kind::Text);
-        assert_that!(rt; class_of(index) == Some(class));
+/// The first text that has another class.
+fn first_other_class(classes: &[(&'static str, Class)]) -> &'static str {
+    for (name, class) in classes {
+        let found = match NameTable::All.find(*name) {
+            Some((Kind::Text, index)) => class_of(index),
+            _ => None,
+        };
+        if found != Some(*class) {
+            return *name;
+        }
     }
-    assert_that!(rt; class_of(413).is_some());
-    assert_that!(rt; class_of(414).is_none());
-    Ok(())
+    ""
+}
+
+#[test]
+fn texts_have_their_classes(rt: HostRuntime) {
+    assert_that!(rt; first_other_class(CLASSES).is_empty());
+    assert_that!(rt; class_of(413).is_some() && class_of(414).is_none());
 }
 
 #[test]
@@ -110,8 +119,7 @@ fn some_tokens_are_meant_to_be_expanded(rt: HostRuntime) -> Result<(), Fail> {
 #[test]
 fn pairs_undo_each_other(rt: HostRuntime) -> Result<(), Fail> {
     for (names, pair) in [("sc", "rc"), ("smam", "rmam")].iter().zip(undoing_pairs()) {
-        assert_that!(rt; NameTable::All.text_name(pair.0) == Some(names.0));
-        assert_that!(rt; NameTable::All.text_name(pair.1) == Some(names.1));
+        assert_that!(rt; names == pair);
     }
     assert_that!(rt; undoing_pairs().len() == 6);
     // `acsc` of vt100 has 25 pairs; here are two.
@@ -126,8 +134,7 @@ fn modes_start_and_end(rt: HostRuntime) -> Result<(), Fail> {
         .iter()
         .zip(toggling_pairs())
     {
-        assert_that!(rt; NameTable::All.text_name(pair.0) == Some(names.0));
-        assert_that!(rt; NameTable::All.text_name(pair.1) == Some(names.1));
+        assert_that!(rt; names == pair);
     }
     assert_that!(rt; toggling_pairs().len() == 18);
     Ok(())
@@ -136,32 +143,46 @@ fn modes_start_and_end(rt: HostRuntime) -> Result<(), Fail> {
 #[test]
 fn some_texts_of_own_names_are_known(rt: HostRuntime) -> Result<(), Fail> {
     // user_caps(5): XM has one parameter, E3 has none, and the names of keys start with k.
-    assert_that!(rt; own_class_of(b"XM") == Some(Class::Parameterized(1)));
-    assert_that!(rt; own_class_of(b"E3") == Some(Class::Plain));
-    assert_that!(rt; own_class_of(b"kDC5") == Some(Class::Key));
-    assert_that!(rt; own_class_of(b"xm") == Some(Class::Input));
+    assert_that!(rt; extended_class_of(b"XM") == Some(Class::Parameterized(1)));
+    assert_that!(rt; extended_class_of(b"E3") == Some(Class::Plain));
+    assert_that!(rt; extended_class_of(b"kDC5") == Some(Class::Key));
+    assert_that!(rt; extended_class_of(b"xm") == Some(Class::Input));
     // tmux(1) gives Ms two parameters.
-    assert_that!(rt; own_class_of(b"Ms") == Some(Class::Parameterized(2)));
-    assert_that!(rt; own_class_of(b"Xm") == None);
-    assert_that!(rt; own_class_of(b"") == None);
+    assert_that!(rt; extended_class_of(b"Ms") == Some(Class::Parameterized(2)));
+    assert_that!(rt; extended_class_of(b"Xm") == None);
+    assert_that!(rt; extended_class_of(b"") == None);
     Ok(())
 }
 
+/// The findings of texts and entries, and their words.
+const WORDS: &[(TextFinding, &'static str)] = &[
+    (TextFinding::Malformed, "malformed"),
+    (TextFinding::UnusedParameter, "parameter-unused"),
+    (TextFinding::UninterpretedEscape, "uninterpreted-escape"),
+    (TextFinding::UninterpretedPercent, "uninterpreted-percent"),
+    (TextFinding::EqualPair, "pair-equal"),
+    (TextFinding::FalseMark, "padding-malformed"),
+    (TextFinding::MarkInKey, "padding-in-key"),
+    (TextFinding::HalfPaired, "acsc-odd"),
+    (TextFinding::KeyPrefix, "key-prefix"),
+    (TextFinding::AlikeKeys, "keys-alike"),
+    (TextFinding::RepeatedName, "name-repeated"),
+    (TextFinding::Colors, "colors-pair"),
+    (TextFinding::Layout, "layout"),
+    (TextFinding::Base, "base"),
+];
+
+/// The first word that is not the one of its finding.
+fn first_other(words: &[(TextFinding, &'static str)]) -> &'static str {
+    for (finding, word) in words {
+        if finding.word() != *word {
+            return *word;
+        }
+    }
+    ""
+}
+
 #[test]
-fn each_finding_of_a_text_has_a_word(rt: HostRuntime) -> Result<(), Fail> {
-    assert_that!(rt; TextFinding::Malformed.word() == "malformed");
-    assert_that!(rt; TextFinding::UnusedParameter.word() == "parameter-unused");
-    assert_that!(rt; TextFinding::UninterpretedEscape.word() == "uninterpreted-escape");
-    assert_that!(rt; TextFinding::UninterpretedPercent.word() == "uninterpreted-percent");
-    assert_that!(rt; TextFinding::EqualPair.word() == "pair-equal");
-    assert_that!(rt; TextFinding::FalseMark.word() == "padding-malformed");
-    assert_that!(rt; TextFinding::MarkInKey.word() == "padding-in-key");
-    assert_that!(rt; TextFinding::HalfPaired.word() == "acsc-odd");
-    assert_that!(rt; TextFinding::KeyPrefix.word() == "key-prefix");
-    assert_that!(rt; TextFinding::AlikeKeys.word() == "keys-alike");
-    assert_that!(rt; TextFinding::RepeatedName.word() == "name-repeated");
-    assert_that!(rt; TextFinding::Colors.word() == "colors-pair");
-    assert_that!(rt; TextFinding::Layout.word() == "layout");
-    assert_that!(rt; TextFinding::Base.word() == "base");
-    Ok(())
+fn each_finding_of_a_text_has_a_word(rt: HostRuntime) {
+    assert_that!(rt; first_other(WORDS).is_empty());
 }

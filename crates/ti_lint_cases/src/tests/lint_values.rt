@@ -1,108 +1,91 @@
 //! The lines on texts by what they send for the values that they may be given.
 
+use super::entries::lines_in;
 use std::alloc::Global;
 use std::test::Fail;
-use ti_draft::{Draft, encode};
-use ti_entry::read;
-use ti_report::{Color, Scope, Trials, push_report};
-use ti_words::{NameTable, Number, Text, Width};
-
-/// The lines on an entry of five columns, four lines and eight colors with one text.
-fn lines_on(
-    alloc: Global,
-    trials: &mut Trials,
-    scope: Scope,
-    name: &str,
-    text: &[u8],
-) -> Result<Vec<u8>, Fail> {
-    let (_, index) = NameTable::All.find(name).ok_or("name")?;
-    let mut draft = Draft::new(alloc, b"t", Width::Legacy);
-    draft.push_number(Number::Value(5))?;
-    draft.push_number(Number::Absent)?;
-    draft.push_number(Number::Value(4))?;
-    for _ in 3..13 {
-        draft.push_number(Number::Absent)?;
-    }
-    draft.push_number(Number::Value(8))?;
-    for _ in 0..index {
-        draft.push_text(Text::Absent)?;
-    }
-    draft.push_text(Text::Value(text))?;
-    let file = encode(alloc, &draft)?;
-    let mut lines = Vec::new(alloc);
-    push_report(
-        alloc,
-        &mut lines,
-        trials,
-        scope,
-        Color::Never,
-        b"",
-        file.as_slice(),
-        &read(file.as_slice())?,
-    )?;
-    Ok(lines)
-}
+use ti_fixtures::{Unfound, check_rows};
+use ti_report::Trials;
 
 /// Texts that send what they should not for some value, with the first lines on the entry.
-const MISTAKEN: [(&str, &[u8], &[u8]); 4] = [
-    // `setf` of gs6300.
-    (
-        "setf",
-        b"\x1b[?%?%p1%{0}%=%t0%e%p1%{1}%=%t2%e%p1%{1}%-%d%;m",
-        b"setf\n  \\E[?%?%p1%{0}%=%t0%e%p1%{1}%=%t2%e%p1%{1}%-%d%;m\n  same-output: for 1 and for 3 it sends \\E[?2m\n",
-    ),
-    (
-        "cub",
-        b"%?%p1%{3}%=%t%e\x1b[%p1%dD%;",
-        b"cub\n  %?%p1%{3}%=%t%e\\E[%p1%dD%;\n  empty-output: for 3 it sends nothing\n",
-    ),
-    // `sgr` of xterm-bold has a letter too many as well.
-    (
-        "sgr",
-        b"\x1b[0mB",
-        b"sgr\n  \\E[0mB\n  sgr-text: for no attribute it sends \\E[0mB, of which some is shown\n",
-    ),
-    (
-        "cup",
-        b"\x1b[%i%p1%d;%p2%dH\x1b[",
-        b"cup\n  \\E[%i%p1%d;%p2%dH\\E[\n  control-sequence: for 0 0 it sends \\E[1;1H\\E[, where a \\E[ is not ended\n",
-    ),
-];
+const MISTAKEN: &str = r"
+# `setf` of gs6300.
+mistakes | cols#5 | lines#4 | colors#8 | setf=\E[?%?%p1%{0}%=%t0%e%p1%{1}%=%t2%e%p1%{1}%-%d%;m => setf\n  \\E[?%?%p1%{0}%=%t0%e%p1%{1}%=%t2%e%p1%{1}%-%d%;m\n  same-output: for 1 and for 3 it sends \\E[?2m\n
+mistakes | cols#5 | lines#4 | colors#8 | cub=%?%p1%{3}%=%t%e\E[%p1%dD%; => cub\n  %?%p1%{3}%=%t%e\\E[%p1%dD%;\n  empty-output: for 3 it sends nothing\n
+# `sgr` of xterm-bold has a letter too many as well.
+mistakes | cols#5 | lines#4 | colors#8 | sgr=\E[0mB => sgr\n  \\E[0mB\n  sgr-text: for no attribute it sends \\E[0mB, of which some is shown\n
+mistakes | cols#5 | lines#4 | colors#8 | cup=\E[%i%p1%d;%p2%dH\E[ => cup\n  \\E[%i%p1%d;%p2%dH\\E[\n  control-sequence: for 0 0 it sends \\E[1;1H\\E[, where a \\E[ is not ended\n
+";
+
+/// A text that is not tried, which is told if all is.
+const NOT_TRIED: &str = r"
+all | cols#5 | lines#4 | colors#8 | cub=%p1%200d%p1%200d => cub\n  %p1%200d%p1%200d\n  not-tried: it is too long, or may send too much\n
+";
+
+/// The same, of which nothing is told among the mistakes: the first line is one on the entry.
+const NO_MISTAKE: &str = r"
+mistakes | cols#5 | lines#4 | colors#8 | cub=%p1%200d%p1%200d => entry\n
+";
+
+/// So many of the first lines.
+fn front_of(alloc: Global, lines: &[u8], count: usize) -> Result<Vec<u8>, Unfound> {
+    let mut front = Vec::new(alloc);
+    let mut left = count;
+    for byte in lines {
+        if left > 0 {
+            front.push(*byte)?;
+            if *byte == b'\n' {
+                left -= 1;
+            }
+        }
+    }
+    Ok(front)
+}
+
+/// The first three lines on the entry of a row, which are the same if it was tried before.
+fn three_lines(alloc: Global, given: &str) -> Result<Vec<u8>, Unfound> {
+    let mut trials = Trials::new(alloc);
+    let lines = lines_in(alloc, &mut trials, given)?;
+    let again = lines_in(alloc, &mut trials, given)?;
+    let is_same = again.as_slice() == lines.as_slice();
+    front_of(alloc, lines.as_slice(), if is_same { 3 } else { 0 })
+}
+
+/// The first line on the entry of a row.
+fn first_line(alloc: Global, given: &str) -> Result<Vec<u8>, Unfound> {
+    let lines = lines_in(alloc, &mut Trials::new(alloc), given)?;
+    front_of(alloc, lines.as_slice(), 1)
+}
 
 #[test]
 fn values_are_told(rt: HostRuntime) -> Result<(), Fail> {
-    let mut trials = Trials::new(rt.alloc());
-    for (name, text, wanted) in MISTAKEN {
-        let lines = lines_on(rt.alloc(), &mut trials, Scope::Mistakes, name, text)?;
-        assert_that!(rt; lines.as_slice().starts_with(wanted));
-    }
-    Ok(())
+    check_rows(rt.alloc(), MISTAKEN, three_lines)
 }
 
 #[test]
 fn what_is_not_tried_is_told_if_all_is(rt: HostRuntime) -> Result<(), Fail> {
-    let text = b"%p1%200d%p1%200d";
-    let wanted = b"cub\n  %p1%200d%p1%200d\n  not-tried: it is too long, or may send too much\n";
-    let mut trials = Trials::new(rt.alloc());
-    let lines = lines_on(rt.alloc(), &mut trials, Scope::All, "cub", text)?;
-    assert_that!(rt; lines.as_slice().starts_with(wanted));
-    let lines = lines_on(rt.alloc(), &mut trials, Scope::Mistakes, "cub", text)?;
-    assert_that!(rt; lines.as_slice().starts_with(b"entry\n"));
-    Ok(())
+    check_rows(rt.alloc(), NOT_TRIED, three_lines)?;
+    check_rows(rt.alloc(), NO_MISTAKE, first_line)
 }
+
+/// Whether the same is told of entries that are tried one after another, each twice.
+fn are_told_again(alloc: Global, rows: &str) -> Result<bool, Unfound> {
+    let mut trials = Trials::new(alloc);
+    let mut is_each = true;
+    for row in rows.lines() {
+        if let Some((given, _)) = row.split_once(" => ") {
+            let lines = lines_in(alloc, &mut trials, given)?;
+            is_each &= lines_in(alloc, &mut trials, given)?.as_slice() == lines.as_slice();
+        }
+    }
+    Ok(is_each)
+}
+
+/// A text of which nothing is told.
+const TOLD_NOTHING: &str = r"mistakes | cols#5 | lines#4 | colors#8 | cub=\E[%p1%dD => -";
 
 #[test]
 fn the_same_is_told_of_a_text_that_was_tried(rt: HostRuntime) -> Result<(), Fail> {
-    let mut trials = Trials::new(rt.alloc());
-    for (name, text, _) in MISTAKEN {
-        let lines = lines_on(rt.alloc(), &mut trials, Scope::Mistakes, name, text)?;
-        let again = lines_on(rt.alloc(), &mut trials, Scope::Mistakes, name, text)?;
-        assert_that!(rt; again.as_slice() == lines.as_slice());
-    }
-    // Nothing is told of what this text sends.
-    let text = b"\x1b[%p1%dD";
-    let lines = lines_on(rt.alloc(), &mut trials, Scope::Mistakes, "cub", text)?;
-    let again = lines_on(rt.alloc(), &mut trials, Scope::Mistakes, "cub", text)?;
-    assert_that!(rt; again.as_slice() == lines.as_slice());
+    assert_that!(rt; are_told_again(rt.alloc(), MISTAKEN)?);
+    assert_that!(rt; are_told_again(rt.alloc(), TOLD_NOTHING)?);
     Ok(())
 }

@@ -9,10 +9,10 @@ use ti_cap::{CapFault, CapRefused};
 use ti_escape::Form;
 use ti_expand::Value;
 use ti_fixtures::capabilities::{
-    COLORS, CONDITIONAL, Expansion, FORMATS, OPERATIONS, SGR, STACK, TEXTS, nine,
+    COLORS, CONDITIONAL, FORMATS, OPERATIONS, SGR, STACK, TEXTS, values_of,
 };
 use ti_fixtures::traces::COLUMN;
-use ti_fixtures::{Endless, Sink, Source, Tally};
+use ti_fixtures::{Endless, Sink, Source, Tally, Unfound, bytes_of, check_rows, fields_of};
 use ti_line::{Asked, OfCapability, Output};
 use ti_tool::{ToolFault, cap_run, carry_out};
 
@@ -36,55 +36,34 @@ fn capped<A: Allocator + Copy>(
     }
 }
 
-/// Each row is written as it says.
-fn assert_rows(rt: &(impl Abort + AllocGlobal), rows: &[Expansion]) {
-    for (bytes, first, output) in rows {
-        let source = Source::new(*bytes, 7);
-        let written = capped(
-            rt.alloc(),
-            source,
-            &nine(*first),
-            false,
-            Sink::new(rt.alloc()),
-        );
-        assert_that!(rt; written.result.is_ok());
-        assert_that!(rt; written.taken.as_slice() == *output);
+/// What the capability of a row writes.
+fn written_in(alloc: Global, given: &str) -> Result<Vec<u8>, Unfound> {
+    let [capability, words, ..] = fields_of(given);
+    let bytes = bytes_of(alloc, capability)?;
+    let source = Source::new(bytes.as_slice(), 7);
+    let Written { result, taken } = capped(
+        alloc,
+        source,
+        &values_of(words),
+        false,
+        Sink::new(alloc),
+    );
+    result?;
+    Ok(taken)
+}
+
+#[test]
+fn capabilities_write_what_terminfo_says(rt: HostRuntime) -> Result<(), Fail> {
+    for rows in [STACK, OPERATIONS, FORMATS, TEXTS, CONDITIONAL] {
+        check_rows(rt.alloc(), rows, written_in)?;
     }
+    Ok(())
 }
 
 #[test]
-fn the_stack_is_as_terminfo_says(rt: HostRuntime) {
-    assert_rows(&rt, &STACK);
-}
-
-#[test]
-fn operations_are_as_terminfo_says(rt: HostRuntime) {
-    assert_rows(&rt, &OPERATIONS);
-}
-
-#[test]
-fn numbers_are_printed_as_terminfo_says(rt: HostRuntime) {
-    assert_rows(&rt, &FORMATS);
-}
-
-#[test]
-fn texts_are_printed_as_terminfo_says(rt: HostRuntime) {
-    assert_rows(&rt, &TEXTS);
-}
-
-#[test]
-fn conditionals_write_what_terminfo_says(rt: HostRuntime) {
-    assert_rows(&rt, &CONDITIONAL);
-}
-
-#[test]
-fn colors_are_what_tput_prints(rt: HostRuntime) {
-    assert_rows(&rt, &COLORS);
-}
-
-#[test]
-fn sgr_is_what_tput_prints(rt: HostRuntime) {
-    assert_rows(&rt, &SGR);
+fn capabilities_write_what_tput_prints(rt: HostRuntime) -> Result<(), Fail> {
+    check_rows(rt.alloc(), COLORS, written_in)?;
+    check_rows(rt.alloc(), SGR, written_in)
 }
 
 #[test]
@@ -102,7 +81,7 @@ fn a_source_that_fails_too_late(rt: HostRuntime) {
     let source = Source::failing_at(COLUMN, 1, 10);
     let written = capped(rt.alloc(), source, &NUMBERS, false, Sink::new(rt.alloc()));
     assert_that!(rt; written.result.is_ok());
-    assert_that!(rt; written.taken.as_slice() == b"\x1b[7G".as_slice());
+    assert_same!(rt; written.taken.as_slice(), b"\x1b[7G");
 }
 
 #[test]
@@ -111,7 +90,7 @@ fn interrupted_reads_are_tried_again(rt: HostRuntime) {
     source.pending = 1000;
     let written = capped(rt.alloc(), source, &NUMBERS, true, Sink::new(rt.alloc()));
     assert_that!(rt; written.result.is_ok());
-    assert_that!(rt; written.taken.as_slice() == b"1b5b3747\n".as_slice());
+    assert_same!(rt; written.taken.as_slice(), b"1b5b3747\n");
 }
 
 #[test]
@@ -177,7 +156,7 @@ fn each_growth_of_a_call_is_refused_in_turn(rt: HostRuntime) -> Result<(), Fail>
 }
 
 /// The forms of an output, and ESC, 7, ^, a comma and a space in them.
-pub const FORMS: [(Output, &[u8]); 3] = [
+const FORMS: &[(Output, &[u8])] = &[
     (Output::Raw, b"\x1b7^, "),
     (Output::Line(Form::Hex), b"1b375e2c20\n"),
     (Output::Line(Form::Notation), b"\\E7\\^\\,\\s\n"),
@@ -196,11 +175,17 @@ fn formed<A: Allocator + Copy>(alloc: A, output: Output, writer: Sink) -> Writte
     }
 }
 
+/// Whether each output has its form.
+fn are_formed(alloc: Global, forms: &[(Output, &[u8])]) -> bool {
+    let mut is_each = true;
+    for (output, expected) in forms {
+        let written = formed(alloc, *output, Sink::new(alloc));
+        is_each &= written.result == Ok(()) && written.taken.as_slice() == *expected;
+    }
+    is_each
+}
+
 #[test]
 fn outputs_have_the_form_that_is_asked(rt: HostRuntime) {
-    for (output, expected) in FORMS {
-        let written = formed(rt.alloc(), output, Sink::new(rt.alloc()));
-        assert_that!(rt; written.result == Ok(()));
-        assert_that!(rt; written.taken.as_slice() == expected);
-    }
+    assert_that!(rt; are_formed(rt.alloc(), FORMS));
 }

@@ -4,78 +4,28 @@ use linked_list_allocator::LocalHeap;
 use std::alloc::{Allocator, Global};
 use std::process::Abort;
 use std::test::Fail;
-use ti_fixtures::entries::{DUMB, EXTENDED, EXTENDED_BY_TIC, QUESTION, SHARED, SMALL, TEXT};
-use ti_fixtures::{Sink, Source, Tally};
+use ti_fixtures::entries::{DUMB, SMALL};
+use ti_fixtures::{Sink, Source, Tally, Unfound, bytes_of, check_rows};
 use ti_tool::{ToolFault, check};
 
-/// An entry, its verdicts, and whether no text has a fault.
-struct Row {
-    entry: &'static [u8],
-    lines: &'static [u8],
-    sound: bool,
-}
-
-const ROWS: [Row; 11] = [
-    Row {
-        entry: SMALL,
-        lines: b"text bel ok depth 0 bound 1\n",
-        sound: true,
-    },
-    Row {
-        entry: EXTENDED,
-        lines: b"text bel ok depth 0 bound 1\ntext+ E3 ok depth 0 bound 4\n",
-        sound: true,
-    },
-    Row {
-        entry: QUESTION,
-        lines: b"text bel fault UnknownEscape at 3\n",
-        sound: false,
-    },
-    Row {
-        entry: SHARED,
-        lines: b"text cbt ok depth 0 bound 1\ntext bel ok depth 0 bound 1\n",
-        sound: true,
-    },
-    Row {
-        entry: TEXT,
-        lines: b"text cbt ok depth 1 bound 0\n",
-        sound: true,
-    },
-    Row {
-        entry: DUMB,
-        lines: b"text bel ok depth 0 bound 1\ntext cr ok depth 0 bound 1\ntext cud1 ok depth 0 bound 1\ntext ind ok depth 0 bound 1\n",
-        sound: true,
-    },
-    Row {
-        entry: EXTENDED_BY_TIC,
-        lines: b"text bel ok depth 0 bound 1\ntext cr ok depth 0 bound 1\ntext clear ok depth 0 bound 7\ntext cup ok depth 1 bound 26\ntext+ E3 ok depth 0 bound 4\ntext+ Smulx ok depth 1 bound 16\ntext+ kUP5 ok depth 0 bound 6\n",
-        sound: true,
-    },
-    // a fault before a sound text, and an absent one between
-    Row {
-        entry: b"\x1a\x01\x02\0\0\0\0\0\x03\0\x06\0t\0\0\0\xff\xff\x02\0%\0%t%\0",
-        lines: b"text cbt fault CutShort at 0\ntext cr fault StrayThen at 0\n",
-        sound: false,
-    },
-    // equal texts in a row, another of the same length, and one that is its end
-    Row {
-        entry: b"\x1a\x01\x02\0\0\0\0\0\x05\0\x06\0t\0\0\0\0\0\x03\0\x03\0\x04\0%t\0ab\0",
-        lines: b"text cbt fault StrayThen at 0\ntext bel fault StrayThen at 0\ntext cr ok depth 0 bound 2\ntext csr ok depth 0 bound 2\ntext tbc ok depth 0 bound 1\n",
-        sound: false,
-    },
-    // an extended text with a fault
-    Row {
-        entry: b"\x1a\x01\x02\0\0\0\0\0\0\0\0\0t\0\0\0\0\0\x01\0\x02\0\x06\0\0\0\0\0%p\0E3\0",
-        lines: b"text+ E3 fault CutShort at 0\n",
-        sound: false,
-    },
-    // no text at all
-    Row {
-        entry: b"\x1a\x01\x02\0\0\0\0\0\0\0\0\0t\0",
-        lines: b"",
-        sound: true,
-    },
-];
+/// An entry, whether no text has a fault, and its verdicts.
+const ROWS: &str = r"
+@SMALL => true text bel ok depth 0 bound 1\n
+@EXTENDED => true text bel ok depth 0 bound 1\ntext+ E3 ok depth 0 bound 4\n
+@QUESTION => false text bel fault UnknownEscape at 3\n
+@SHARED => true text cbt ok depth 0 bound 1\ntext bel ok depth 0 bound 1\n
+@TEXT => true text cbt ok depth 1 bound 0\n
+@DUMB => true text bel ok depth 0 bound 1\ntext cr ok depth 0 bound 1\ntext cud1 ok depth 0 bound 1\ntext ind ok depth 0 bound 1\n
+@EXTENDED_BY_TIC => true text bel ok depth 0 bound 1\ntext cr ok depth 0 bound 1\ntext clear ok depth 0 bound 7\ntext cup ok depth 1 bound 26\ntext+ E3 ok depth 0 bound 4\ntext+ Smulx ok depth 1 bound 16\ntext+ kUP5 ok depth 0 bound 6\n
+# a fault before a sound text, and an absent one between
+^Z^A^B\000\000\000\000\000^C\000^F\000t\000\000\000\377\377^B\000%\000%t%\000 => false text cbt fault CutShort at 0\ntext cr fault StrayThen at 0\n
+# equal texts in a row, another of the same length, and one that is its end
+^Z^A^B\000\000\000\000\000^E\000^F\000t\000\000\000\000\000^C\000^C\000^D\000%t\000ab\000 => false text cbt fault StrayThen at 0\ntext bel fault StrayThen at 0\ntext cr ok depth 0 bound 2\ntext csr ok depth 0 bound 2\ntext tbc ok depth 0 bound 1\n
+# an extended text with a fault
+^Z^A^B\000\000\000\000\000\000\000\000\000t\000\000\000\000\000^A\000^B\000^F\000\000\000\000\000%p\000E3\000 => false text+ E3 fault CutShort at 0\n
+# no text at all
+^Z^A^B\000\000\000\000\000\000\000\000\000t\000 => true
+";
 
 /// What a call returned, and what its writer took.
 #[derive(Drop)]
@@ -96,13 +46,23 @@ fn checked<A: Allocator + Copy>(alloc: A, source: Source<'_>, writer: Sink) -> V
     }
 }
 
-#[test]
-fn texts_are_analysed(rt: HostRuntime) {
-    for row in ROWS.iter() {
-        let verdicts = checked(rt.alloc(), Source::new(row.entry, 7), Sink::new(rt.alloc()));
-        assert_that!(rt; verdicts.result == Ok(row.sound));
-        assert_that!(rt; verdicts.taken.as_slice() == row.lines);
+/// Whether the texts of the entry of a row are sound, and its verdicts.
+fn verdicts_in(alloc: Global, given: &str) -> Result<Vec<u8>, Unfound> {
+    let entry = bytes_of(alloc, given)?;
+    let verdicts = checked(alloc, Source::new(entry.as_slice(), 7), Sink::new(alloc));
+    let is_sound = verdicts.result?;
+    let front: &[u8] = if is_sound { b"true" } else { b"false" };
+    let mut found = front.to_vec(alloc)?;
+    if !verdicts.taken.is_empty() {
+        found.push(b' ')?;
     }
+    found.extend_from_slice(verdicts.taken.as_slice())?;
+    Ok(found)
+}
+
+#[test]
+fn texts_are_analysed(rt: HostRuntime) -> Result<(), Fail> {
+    check_rows(rt.alloc(), ROWS, verdicts_in)
 }
 
 #[test]

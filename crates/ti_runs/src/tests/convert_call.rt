@@ -1,58 +1,46 @@
 //! The call that writes an entry in its canonical layout, in either format.
 
-use super::ending::end_of;
+use super::ending::{end_of, is_end};
 use super::show_call::Written;
-use std::alloc::Allocator;
+use std::alloc::{Allocator, Global};
 use std::process::Abort;
+use std::test::Fail;
 use ti_entry::EncodeFault;
-use ti_fixtures::entries::{
-    DUMB, EXTENDED, EXTENDED_BY_TIC, QUESTION, SHARED, SMALL, TEXT, WIDE, WIDE_BY_TIC,
-    WIDE_EXTENDED, WIDENED,
-};
-use ti_fixtures::{Sink, Source, TMUX};
+use ti_fixtures::{Sink, Source, TMUX, Unfound, bytes_of, check_rows, fields_of, shown};
 use ti_tool::{ToolFault, convert};
 use ti_words::Width;
 
 /// An entry that is canonical already.
-const CANONICAL: [&[u8]; 14] = [
-    SMALL,
-    EXTENDED,
-    QUESTION,
-    TEXT,
-    // what tic and tic -x write
-    DUMB,
-    EXTENDED_BY_TIC,
-    WIDE_BY_TIC,
-    // an odd table
-    b"\x1a\x01\x02\0\x01\0\x01\0\x02\0\x03\0t\0\x01\0P\0\xff\xff\0\0\x07\x07\0",
-    // an extended number alone
-    b"\x1a\x01\x02\0\0\0\0\0\0\0\0\0t\0\0\0\x01\0\0\0\x01\0\x03\0P\0\0\0U8\0",
-    // the 32-bit format, with the number absent, cancelled and the greatest
-    WIDE,
-    WIDE_EXTENDED,
-    b"\x1e\x02\x02\0\x01\0\x01\0\x02\0\x02\0t\0\x01\0\xff\xff\xff\xff\xff\xff\0\0\x07\0",
-    b"\x1e\x02\x02\0\x01\0\x01\0\x02\0\x02\0t\0\x01\0\xfe\xff\xff\xff\xff\xff\0\0\x07\0",
-    b"\x1e\x02\x02\0\x01\0\x01\0\x02\0\x02\0t\0\x01\0\xff\xff\xff\x7f\xff\xff\0\0\x07\0",
-];
+const CANONICAL: &str = r"
+@SMALL => @SMALL
+@EXTENDED => @EXTENDED
+@QUESTION => @QUESTION
+@TEXT => @TEXT
+# what tic and tic -x write
+@DUMB => @DUMB
+@EXTENDED_BY_TIC => @EXTENDED_BY_TIC
+@WIDE_BY_TIC => @WIDE_BY_TIC
+# an odd table
+^Z^A^B\000^A\000^A\000^B\000^C\000t\000^A\000P\000\377\377\000\000^G^G\000 => ^Z^A^B\000^A\000^A\000^B\000^C\000t\000^A\000P\000\377\377\000\000^G^G\000
+# an extended number alone
+^Z^A^B\000\000\000\000\000\000\000\000\000t\000\000\000^A\000\000\000^A\000^C\000P\000\000\000U8\000 => ^Z^A^B\000\000\000\000\000\000\000\000\000t\000\000\000^A\000\000\000^A\000^C\000P\000\000\000U8\000
+# the 32-bit format, with the number absent, cancelled and the greatest
+@WIDE => @WIDE
+@WIDE_EXTENDED => @WIDE_EXTENDED
+^^^B^B\000^A\000^A\000^B\000^B\000t\000^A\000\377\377\377\377\377\377\000\000^G\000 => ^^^B^B\000^A\000^A\000^B\000^B\000t\000^A\000\377\377\377\377\377\377\000\000^G\000
+^^^B^B\000^A\000^A\000^B\000^B\000t\000^A\000\376\377\377\377\377\377\000\000^G\000 => ^^^B^B\000^A\000^A\000^B\000^B\000t\000^A\000\376\377\377\377\377\377\000\000^G\000
+^^^B^B\000^A\000^A\000^B\000^B\000t\000^A\000\377\377\377^?\377\377\000\000^G\000 => ^^^B^B\000^A\000^A\000^B\000^B\000t\000^A\000\377\377\377^?\377\377\000\000^G\000
+";
 
 /// An entry, and its canonical bytes.
-const CONVERTED: [(&[u8], &[u8]); 3] = [
-    // a shared text
-    (
-        SHARED,
-        b"\x1a\x01\x02\0\0\0\0\0\x02\0\x04\0t\0\0\0\x02\0\x07\0\x07\0",
-    ),
-    // an extended part without a capability
-    (
-        b"\x1a\x01\x02\0\x01\0\x01\0\x02\0\x02\0t\0\x01\0P\0\xff\xff\0\0\x07\0\0\0\0\0\0\0\0\0\0\0",
-        SMALL,
-    ),
-    // texts that overlap
-    (
-        b"\x1a\x01\x02\0\0\0\0\0\x03\0\x03\0t\0\0\0\x01\0\x02\0ab\0",
-        b"\x1a\x01\x02\0\0\0\0\0\x03\0\x06\0t\0\0\0\x03\0\x05\0ab\0b\0\0",
-    ),
-];
+const CONVERTED: &str = r"
+# a shared text
+@SHARED => ^Z^A^B\000\000\000\000\000^B\000^D\000t\000\000\000^B\000^G\000^G\000
+# an extended part without a capability
+^Z^A^B\000^A\000^A\000^B\000^B\000t\000^A\000P\000\377\377\000\000^G\000\000\000\000\000\000\000\000\000\000\000 => @SMALL
+# texts that overlap
+^Z^A^B\000\000\000\000\000^C\000^C\000t\000\000\000^A\000^B\000ab\000 => ^Z^A^B\000\000\000\000\000^C\000^F\000t\000\000\000^C\000^E\000ab\000b\000\000
+";
 
 /// Converts an entry from a source, with a writer.
 pub fn converted<A: Allocator + Copy>(
@@ -85,7 +73,7 @@ fn assert_converted(
         Sink::new(rt.alloc()),
     );
     assert_that!(rt; written.result.is_ok());
-    assert_that!(rt; written.taken.as_slice() == bytes);
+    assert_same!(rt; written.taken.as_slice(), bytes);
 }
 
 /// An entry is not converted, for this fault.
@@ -105,61 +93,58 @@ fn assert_refused(
     assert_that!(rt; written.taken.is_empty());
 }
 
+/// What the entry of a row is converted to in a format, or its own; or the fault, if nothing is written.
+fn converted_in(alloc: Global, given: &str) -> Result<Vec<u8>, Unfound> {
+    let [entry, width, ..] = fields_of(given);
+    let width = match width {
+        "wide" => Some(Width::Wide),
+        "legacy" => Some(Width::Legacy),
+        _ => None,
+    };
+    let entry = bytes_of(alloc, entry)?;
+    let source = Source::new(entry.as_slice(), 7);
+    let Written { result, taken } = converted(alloc, source, width, Sink::new(alloc));
+    match result {
+        Err(fault) if taken.is_empty() => shown(alloc, &fault),
+        Err(_) => Err(Unfound),
+        Ok(()) => Ok(taken),
+    }
+}
+
 #[test]
-fn entries_are_written_in_one_layout(rt: HostRuntime) {
-    for entry in CANONICAL {
-        assert_converted(&rt, entry, None, entry);
-    }
-    for (entry, bytes) in CONVERTED {
-        assert_converted(&rt, entry, None, bytes);
-    }
+fn entries_are_written_in_one_layout(rt: HostRuntime) -> Result<(), Fail> {
+    check_rows(rt.alloc(), CANONICAL, converted_in)?;
+    check_rows(rt.alloc(), CONVERTED, converted_in)
 }
 
 /// An entry, the width that is requested, and the bytes that are written.
-const MOVED: [(&[u8], Width, &[u8]); 8] = [
-    (SMALL, Width::Wide, WIDE),
-    (WIDE, Width::Legacy, SMALL),
-    (EXTENDED, Width::Wide, WIDENED),
-    (WIDENED, Width::Legacy, EXTENDED),
-    (WIDE, Width::Wide, WIDE),
-    (SMALL, Width::Legacy, SMALL),
-    // the number is 32767
-    (
-        b"\x1e\x02\x02\0\x01\0\x01\0\x02\0\x02\0t\0\x01\0\xff\x7f\0\0\xff\xff\0\0\x07\0",
-        Width::Legacy,
-        b"\x1a\x01\x02\0\x01\0\x01\0\x02\0\x02\0t\0\x01\0\xff\x7f\xff\xff\0\0\x07\0",
-    ),
-    // the number is cancelled
-    (
-        b"\x1e\x02\x02\0\x01\0\x01\0\x02\0\x02\0t\0\x01\0\xfe\xff\xff\xff\xff\xff\0\0\x07\0",
-        Width::Legacy,
-        b"\x1a\x01\x02\0\x01\0\x01\0\x02\0\x02\0t\0\x01\0\xfe\xff\xff\xff\0\0\x07\0",
-    ),
-];
+const MOVED: &str = r"
+@SMALL | wide => @WIDE
+@WIDE | legacy => @SMALL
+@EXTENDED | wide => @WIDENED
+@WIDENED | legacy => @EXTENDED
+@WIDE | wide => @WIDE
+@SMALL | legacy => @SMALL
+# the number is 32767
+^^^B^B\000^A\000^A\000^B\000^B\000t\000^A\000\377^?\000\000\377\377\000\000^G\000 | legacy => ^Z^A^B\000^A\000^A\000^B\000^B\000t\000^A\000\377^?\377\377\000\000^G\000
+# the number is cancelled
+^^^B^B\000^A\000^A\000^B\000^B\000t\000^A\000\376\377\377\377\377\377\000\000^G\000 | legacy => ^Z^A^B\000^A\000^A\000^B\000^B\000t\000^A\000\376\377\377\377\000\000^G\000
+";
 
 #[test]
-fn entries_are_moved_between_the_formats(rt: HostRuntime) {
-    for (entry, width, bytes) in MOVED {
-        assert_converted(&rt, entry, Some(width), bytes);
-    }
+fn entries_are_moved_between_the_formats(rt: HostRuntime) -> Result<(), Fail> {
+    check_rows(rt.alloc(), MOVED, converted_in)
 }
 
 /// Entries with a number, or an extended number, above 32767.
-const TOO_GREAT: [&[u8]; 2] = [
-    b"\x1e\x02\x02\0\x01\0\x01\0\x02\0\x02\0t\0\x01\0\0\x80\0\0\xff\xff\0\0\x07\0",
-    WIDE_EXTENDED,
-];
+const TOO_GREAT: &str = r"
+^^^B^B\000^A\000^A\000^B\000^B\000t\000^A\000\000\200\000\000\377\377\000\000^G\000 | legacy => Encode NumberOutOfRange
+@WIDE_EXTENDED | legacy => Encode NumberOutOfRange
+";
 
 #[test]
-fn numbers_too_great_are_not_narrowed(rt: HostRuntime) {
-    for entry in TOO_GREAT {
-        assert_refused(
-            &rt,
-            entry,
-            Some(Width::Legacy),
-            EncodeFault::NumberOutOfRange,
-        );
-    }
+fn numbers_too_great_are_not_narrowed(rt: HostRuntime) -> Result<(), Fail> {
+    check_rows(rt.alloc(), TOO_GREAT, converted_in)
 }
 
 /// 16000 texts that are all the same 699 bytes `a`: 32714 bytes, and 11232014 if none is shared.
@@ -178,9 +163,7 @@ fn texts_shared_by_many_are_too_long(rt: HostRuntime) {
     let bytes = shared_by_many();
     assert_refused(&rt, &bytes, None, EncodeFault::TooManyOrLong);
     let end = end_of(rt.alloc(), &["ti", "convert"], &bytes);
-    assert_that!(rt; end.status == 3);
-    assert_that!(rt; end.output.is_empty());
-    assert_that!(rt; end.errors.as_slice() == b"entry: TooManyOrLong\n".as_slice());
+    assert_that!(rt; is_end(&end, 3, b"", b"entry: TooManyOrLong\n"));
 }
 
 /// Names `t`, 80 columns, and a text of 32749 bytes `a`: 32768 bytes, and two more in the 32-bit format.
@@ -200,9 +183,7 @@ fn the_longest_entry_is_not_widened(rt: HostRuntime) {
     assert_converted(&rt, &bytes, None, &bytes);
     assert_refused(&rt, &bytes, Some(Width::Wide), EncodeFault::TooManyOrLong);
     let end = end_of(rt.alloc(), &["ti", "convert", "--wide"], &bytes);
-    assert_that!(rt; end.status == 3);
-    assert_that!(rt; end.output.is_empty());
-    assert_that!(rt; end.errors.as_slice() == b"entry: TooManyOrLong\n".as_slice());
+    assert_that!(rt; is_end(&end, 3, b"", b"entry: TooManyOrLong\n"));
 }
 
 #[test]

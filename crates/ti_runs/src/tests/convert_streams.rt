@@ -55,20 +55,33 @@ fn is_converted(
 }
 
 /// An entry, the width that is requested, and the bytes that are written.
-const GROWING: [(&[u8], Option<Width>, &[u8]); 3] = [
+type Row = (&'static [u8], Option<Width>, &'static [u8]);
+
+const GROWING: &[Row] = &[
     (EXTENDED, None, EXTENDED),
     (EXTENDED, Some(Width::Wide), WIDENED),
     (WIDENED, Some(Width::Legacy), EXTENDED),
 ];
 
+/// The tries of a conversion with more and more memory.
+fn tally_of(rt: &impl Abort, alloc: Global, row: &Row) -> Result<Tally, Fail> {
+    let mut tally = Tally::NONE;
+    for step in 0..120usize {
+        tally.count(is_converted(rt, alloc, *row, 16 * step)?);
+    }
+    Ok(tally)
+}
+
+fn are_refused_in_turn(rt: &impl Abort, alloc: Global, rows: &[Row]) -> Result<bool, Fail> {
+    let mut is_each = true;
+    for row in rows {
+        is_each &= tally_of(rt, alloc, row)?.is_refused_then_given(4);
+    }
+    Ok(is_each)
+}
+
 #[test]
 fn each_growth_of_a_conversion_is_refused_in_turn(rt: HostRuntime) -> Result<(), Fail> {
-    for row in GROWING {
-        let mut tally = Tally::NONE;
-        for step in 0..120usize {
-            tally.count(is_converted(&rt, rt.alloc(), row, 16 * step)?);
-        }
-        assert_that!(rt; tally.is_refused_then_given(4));
-    }
+    assert_that!(rt; are_refused_in_turn(&rt, rt.alloc(), GROWING)?);
     Ok(())
 }

@@ -1,8 +1,8 @@
 //! Runs of the program, and how they end.
 
 use std::alloc::{Allocator, Global};
-use std::process::Abort;
-use ti_fixtures::{Sink, Source};
+use std::str::from_utf8;
+use ti_fixtures::{Sink, Source, Unfound, bytes_of, fields_of, shown};
 use ti_tool::{Color, Destination, run};
 
 /// How a run ends: with its status, what its two writers took, and how often it read.
@@ -57,22 +57,81 @@ pub fn end_of(alloc: Global, words: &[&str], input: &[u8]) -> End {
     )
 }
 
-/// Words, what is read, the status, what is written, and the line on a fault.
-pub struct Row {
-    pub words: &'static [&'static str],
-    pub input: &'static [u8],
-    pub status: u8,
-    pub output: &'static [u8],
-    pub errors: &'static [u8],
+/// How a run ended in one text: its status, and what its writers took.
+pub fn told(alloc: Global, status: u8, output: &[u8], errors: &[u8]) -> Result<Vec<u8>, Unfound> {
+    let mut told = shown(alloc, &status)?;
+    for (front, part) in [(" out ", output), (" err ", errors)] {
+        if !part.is_empty() {
+            told.extend_from_slice(front.as_bytes())?;
+            told.extend_from_slice(part)?;
+        }
+    }
+    Ok(told)
 }
 
-/// Each row ends as it says, and reads nothing if its words are refused.
-pub fn assert_rows(rt: &(impl Abort + AllocGlobal), rows: &[Row]) {
-    for row in rows {
-        let end = end_of(rt.alloc(), row.words, row.input);
-        assert_that!(rt; end.status == row.status);
-        assert_that!(rt; end.output.as_slice() == row.output);
-        assert_that!(rt; end.errors.as_slice() == row.errors);
-        assert_that!(rt; end.status != 2 || end.reads == 0);
+/// The words of a text, between which blanks stand.
+pub fn words_of(alloc: Global, text: &str) -> Result<Vec<&str>, Unfound> {
+    let mut words = Vec::new(alloc);
+    if !text.is_empty() {
+        for word in text.split(' ') {
+            words.push(word)?;
+        }
     }
+    Ok(words)
+}
+
+/// What is found for the words of a field, which is in the notation.
+pub fn of_words<F: Fn(Global, &[&str]) -> Result<Vec<u8>, Unfound>>(
+    alloc: Global,
+    field: &str,
+    found: F,
+) -> Result<Vec<u8>, Unfound>
+    requires { F.IsAlwaysCallable found }
+{
+    let text = bytes_of(alloc, field)?;
+    let words = words_of(alloc, from_utf8(text.as_slice())?)?;
+    found(alloc, words.as_slice())
+}
+
+/// The end of a run over the words and the input of a row.
+fn end_on(alloc: Global, words: &str, input: &str) -> Result<End, Unfound> {
+    let text = bytes_of(alloc, words)?;
+    let words = words_of(alloc, from_utf8(text.as_slice())?)?;
+    let input = bytes_of(alloc, input)?;
+    Ok(end_of(alloc, words.as_slice(), input.as_slice()))
+}
+
+/// How the run of a row ends: words and the input give a status, and what is written. Words that are refused read nothing.
+pub fn end_in(alloc: Global, given: &str) -> Result<Vec<u8>, Unfound> {
+    let [words, input, ..] = fields_of(given);
+    let end = end_on(alloc, words, input)?;
+    if end.status == 2 && end.reads > 0 {
+        return Err(Unfound);
+    }
+    told(
+        alloc,
+        end.status,
+        end.output.as_slice(),
+        end.errors.as_slice(),
+    )
+}
+
+/// What the run of a row writes, if it ends well.
+pub fn output_in(alloc: Global, given: &str) -> Result<Vec<u8>, Unfound> {
+    let [words, input, ..] = fields_of(given);
+    let End {
+        status,
+        output,
+        errors,
+        ..
+    } = end_on(alloc, words, input)?;
+    if status > 0 || !errors.is_empty() {
+        return Err(Unfound);
+    }
+    Ok(output)
+}
+
+/// Whether a run ends with this status, and its writers took this.
+pub fn is_end(end: &End, status: u8, output: &[u8], errors: &[u8]) -> bool {
+    end.status == status && end.output.as_slice() == output && end.errors.as_slice() == errors
 }

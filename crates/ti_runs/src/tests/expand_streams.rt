@@ -109,7 +109,7 @@ fn a_text_of_a_large_entry_is_expanded(rt: HostRuntime) -> Result<(), Fail> {
         &mut writer,
     );
     assert_that!(rt; result.is_ok());
-    assert_that!(rt; writer.taken.as_slice() == b"\x1b[24;80H".as_slice());
+    assert_same!(rt; writer.taken.as_slice(), b"\x1b[24;80H");
     Ok(())
 }
 
@@ -122,5 +122,5 @@ fn a_text_of_a_large_entry_is_expanded_by_itself(rt: HostRuntime) {
     let global = rt.alloc();
     let result = cap_run(global, global, &mut source, &parameters, true, &mut writer);
     assert_that!(rt; result.is_ok());
-    assert_that!(rt; writer.taken.as_slice() == b"1b5b32343b383048\n".as_slice());
+    assert_same!(rt; writer.taken.as_slice(), b"1b5b32343b383048\n");
 }

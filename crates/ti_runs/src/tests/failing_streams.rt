@@ -1,9 +1,10 @@
 //! Runs whose input or output fails, which end with status 5.
 
-use super::ending::{End, end_over};
+use super::ending::{End, end_over, is_end, of_words};
 use std::alloc::Global;
+use std::test::Fail;
 use ti_fixtures::entries::{EXTENDED, SMALL};
-use ti_fixtures::{Sink, Source};
+use ti_fixtures::{Sink, Source, Unfound, check_rows};
 
 const WORDS: [&str; 3] = ["ti", "cap", "n:7"];
 
@@ -19,9 +20,7 @@ fn an_input_that_fails_ends_with_status_five(rt: HostRuntime) {
         Sink::new(alloc),
         Sink::new(alloc),
     );
-    assert_that!(rt; end.status == 5);
-    assert_that!(rt; end.output.is_empty());
-    assert_that!(rt; end.errors.as_slice() == b"input: failed\n".as_slice());
+    assert_that!(rt; is_end(&end, 5, b"", b"input: failed\n"));
 }
 
 #[test]
@@ -30,8 +29,7 @@ fn an_output_that_fails_ends_with_status_five(rt: HostRuntime) {
     let output = Sink::failing_at(alloc, 512, 1);
     let source = Source::new(b"%p1%d", 1);
     let end = end_over(alloc, alloc, &WORDS, source, output, Sink::new(alloc));
-    assert_that!(rt; end.status == 5);
-    assert_that!(rt; end.errors.as_slice() == b"output: failed\n".as_slice());
+    assert_that!(rt; is_end(&end, 5, b"", b"output: failed\n"));
 }
 
 #[test]
@@ -47,8 +45,7 @@ fn an_expansion_that_cannot_be_written_ends_with_status_five(rt: HostRuntime) {
         output,
         Sink::new(alloc),
     );
-    assert_that!(rt; end.status == 5);
-    assert_that!(rt; end.errors.as_slice() == b"output: failed\n".as_slice());
+    assert_that!(rt; is_end(&end, 5, b"", b"output: failed\n"));
 }
 
 #[test]
@@ -66,33 +63,35 @@ fn a_fault_line_that_cannot_be_written_changes_no_status(rt: HostRuntime) {
     assert_that!(rt; end.status == 4);
 }
 
-const COMMANDS: [&[&str]; 5] = [
-    &["ti", "trace"],
-    &["ti", "show"],
-    &["ti", "check"],
-    &["ti", "convert"],
-    &["ti", "expand", "E3"],
-];
+/// Words of commands that read an entry.
+const COMMANDS: &str = r"
+ti trace => nothing
+ti show => nothing
+ti check => nothing
+ti convert => nothing
+ti expand E3 => nothing
+";
 
-#[test]
-fn a_command_whose_source_fails_writes_nothing(rt: HostRuntime) {
-    let alloc = rt.alloc();
-    for words in COMMANDS {
-        for k in 1..55usize {
-            let source = Source::failing_at(EXTENDED, 1, k);
-            let end = end_over(
-                alloc,
-                alloc,
-                words,
-                source,
-                Sink::new(alloc),
-                Sink::new(alloc),
-            );
-            assert_that!(rt; end.status == 5);
-            assert_that!(rt; end.output.is_empty());
-            assert_that!(rt; end.errors.as_slice() == b"input: failed\n".as_slice());
+/// What is written if the source fails at any of its reads.
+fn written_of_failing(alloc: Global, words: &[&str]) -> Result<Vec<u8>, Unfound> {
+    for k in 1..55usize {
+        let source = Source::failing_at(EXTENDED, 1, k);
+        let (output, errors) = (Sink::new(alloc), Sink::new(alloc));
+        let end = end_over(alloc, alloc, words, source, output, errors);
+        if !is_end(&end, 5, b"", b"input: failed\n") {
+            return Err(Unfound);
         }
     }
+    Ok(b"nothing".to_vec(alloc)?)
+}
+
+#[test]
+fn a_command_whose_source_fails_writes_nothing(rt: HostRuntime) -> Result<(), Fail> {
+    check_rows(
+        rt.alloc(),
+        COMMANDS,
+        |alloc, given| of_words(alloc, given, written_of_failing),
+    )
 }
 
 /// An entry whose text 0 is `\E[H$<5*/>`.
@@ -121,16 +120,12 @@ fn end_of_padded(alloc: Global, write: usize) -> End {
 fn padded_text_stops_where_the_writer_fails(rt: HostRuntime) {
     for k in 1..=WHOLE.len() {
         let end = end_of_padded(rt.alloc(), k);
-        assert_that!(rt; end.status == 5);
-        assert_that!(rt; end.output.as_slice() == &WHOLE[..k - 1]);
-        assert_that!(rt; end.errors.as_slice() == b"output: failed\n".as_slice());
+        assert_that!(rt; is_end(&end, 5, &WHOLE[..k - 1], b"output: failed\n"));
     }
 }
 
 #[test]
 fn padded_text_is_written_if_the_writer_fails_too_late(rt: HostRuntime) {
     let end = end_of_padded(rt.alloc(), 14);
-    assert_that!(rt; end.status == 0);
-    assert_that!(rt; end.output.as_slice() == WHOLE);
-    assert_that!(rt; end.errors.is_empty());
+    assert_that!(rt; is_end(&end, 0, WHOLE, b""));
 }

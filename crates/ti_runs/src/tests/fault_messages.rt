@@ -1,14 +1,17 @@
 //! What the faults of the calls are shown as.
 
+use std::alloc::Global;
+use std::fmt::Display;
 use std::test::Fail;
 use ti_cap::{CapFault, CapRefused};
 use ti_entry::{EncodeFault, Fault, Refused};
+use ti_fixtures::{Unfound, shown};
 use ti_line::NoLine;
 use ti_tool::{ToolFault, WordFault};
 use ti_trace::TraceFault;
 
 /// Each fault of a call, and its message.
-const FAULTS: [(ToolFault, &str); 10] = [
+const FAULTS: &[(ToolFault, &str)] = &[
     (
         ToolFault::Entry(Refused {
             fault: Fault::Truncated,
@@ -40,7 +43,7 @@ const FAULTS: [(ToolFault, &str); 10] = [
 ];
 
 /// Each fault of a trace, and its message.
-const FAULTS_OF_TRACES: [(TraceFault, &str); 3] = [
+const FAULTS_OF_TRACES: &[(TraceFault, &str)] = &[
     (
         TraceFault::Cap(CapRefused {
             fault: CapFault::StrayEnd,
@@ -52,36 +55,39 @@ const FAULTS_OF_TRACES: [(TraceFault, &str); 3] = [
     (TraceFault::Memory, "Memory"),
 ];
 
+/// Whether each fault is shown as its message.
+fn are_shown<D: Display>(alloc: Global, faults: &[(D, &str)]) -> Result<bool, Unfound> {
+    let mut is_each = true;
+    for (fault, message) in faults {
+        is_each &= shown(alloc, fault)?.as_slice() == message.as_bytes();
+    }
+    Ok(is_each)
+}
+
 #[test]
 fn faults_of_calls_are_shown(rt: HostRuntime) -> Result<(), Fail> {
-    for (fault, message) in FAULTS {
-        let text = format!(in rt.alloc(); "{fault}")?;
-        assert_that!(rt; text.as_str() == message);
-    }
+    assert_that!(rt; are_shown(rt.alloc(), FAULTS)?);
     Ok(())
 }
 
 #[test]
 fn faults_of_traces_are_shown(rt: HostRuntime) -> Result<(), Fail> {
-    for (fault, message) in FAULTS_OF_TRACES {
-        let text = format!(in rt.alloc(); "{fault}")?;
-        assert_that!(rt; text.as_str() == message);
-    }
+    assert_that!(rt; are_shown(rt.alloc(), FAULTS_OF_TRACES)?);
     Ok(())
 }
 
 #[test]
 fn faults_of_words_are_shown(rt: HostRuntime) -> Result<(), Fail> {
-    let many = format!(in rt.alloc(); "{}", WordFault::TooMany)?;
-    assert_that!(rt; many.as_str() == "TooMany");
-    let bad = format!(in rt.alloc(); "{}", WordFault::BadWord { which: 3 })?;
-    assert_that!(rt; bad.as_str() == "BadWord 3");
+    let faults = [
+        (WordFault::TooMany, "TooMany"),
+        (WordFault::BadWord { which: 3 }, "BadWord 3"),
+    ];
+    assert_that!(rt; are_shown(rt.alloc(), &faults)?);
     Ok(())
 }
 
 #[test]
 fn no_memory_for_a_line_is_shown(rt: HostRuntime) -> Result<(), Fail> {
-    let memory = format!(in rt.alloc(); "{}", NoLine::Memory)?;
-    assert_that!(rt; memory.as_str() == "Memory");
+    assert_same!(rt; shown(rt.alloc(), &NoLine::Memory)?.as_slice(), b"Memory");
     Ok(())
 }

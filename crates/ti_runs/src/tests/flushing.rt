@@ -11,7 +11,7 @@ fn the_program_flushes_nothing(rt: HostRuntime) {
     let mut errors = Flushed::new(alloc);
     let mut input = Source::new(b"%p1%d", 512);
     assert_that!(rt; run(alloc, alloc, &words, &mut input, &mut output, &mut errors) == 0);
-    assert_that!(rt; output.taken.as_slice() == b"7".as_slice());
+    assert_same!(rt; output.taken.as_slice(), b"7");
     assert_that!(rt; output.flushes == 0);
     assert_that!(rt; errors.flushes == 0);
 }
@@ -24,7 +24,7 @@ fn a_fault_line_is_not_flushed(rt: HostRuntime) {
     let mut errors = Flushed::new(alloc);
     let mut input = Source::new(b"%p0", 512);
     assert_that!(rt; run(alloc, alloc, &words, &mut input, &mut output, &mut errors) == 4);
-    assert_that!(rt; errors.taken.as_slice() == b"capability: BadParameter at 0\n".as_slice());
+    assert_same!(rt; errors.taken.as_slice(), b"capability: BadParameter at 0\n");
     assert_that!(rt; output.flushes == 0);
     assert_that!(rt; errors.flushes == 0);
 }

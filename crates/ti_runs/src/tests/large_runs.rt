@@ -25,11 +25,20 @@ fn written(alloc: Global, words: &[&str], bytes: &[u8]) -> Result<Vec<u8>, Fail>
     Err(Fail::from("another status"))
 }
 
+/// The bytes of a draft with a text more.
+fn encoded_with<'a>(
+    alloc: Global,
+    draft: &mut Draft<'a, Global>,
+    text: &'a [u8],
+) -> Result<Vec<u8>, Fail> {
+    draft.push_text(Text::Value(text))?;
+    Ok(encode(alloc, &*draft)?)
+}
+
 /// An entry whose one text is this.
 fn entry_of(alloc: Global, text: &[u8]) -> Result<Vec<u8>, Fail> {
     let mut draft = Draft::new(alloc, b"t", Width::Legacy);
-    draft.push_text(Text::Value(text))?;
-    Ok(encode(alloc, &draft).ok().ok_or("encode")?)
+    encoded_with(alloc, &mut draft, text)
 }
 
 /// The words that expand the one text of an entry.
@@ -42,7 +51,7 @@ const DEEP_OUTPUT: &[u8] = b"121212121212121212121212121212121212121212121212121
 fn a_deep_capability_is_run_and_traced(rt: HostRuntime) -> Result<(), Fail> {
     let bytes = deep(rt.alloc())?;
     let out = written(rt.alloc(), &["ti", "cap", "n:12"], bytes.as_slice())?;
-    assert_that!(rt; out.as_slice() == DEEP_OUTPUT);
+    assert_same!(rt; out.as_slice(), DEEP_OUTPUT);
     let traced = written(rt.alloc(), &["ti", "trace", "n:12"], bytes.as_slice())?;
     let counts = b"\nwritten: 62\nran: 190\npassed: 0\nheight: 32\ndepth: 32\nbound: 341\n";
     assert_that!(rt; traced.as_slice().ends_with(counts));
@@ -54,9 +63,9 @@ fn a_deep_text_is_expanded_and_converted(rt: HostRuntime) -> Result<(), Fail> {
     let bytes = deep(rt.alloc())?;
     let entry = entry_of(rt.alloc(), bytes.as_slice())?;
     let out = written(rt.alloc(), &EXPAND, entry.as_slice())?;
-    assert_that!(rt; out.as_slice() == DEEP_OUTPUT);
+    assert_same!(rt; out.as_slice(), DEEP_OUTPUT);
     let same = written(rt.alloc(), &["ti", "convert"], entry.as_slice())?;
-    assert_that!(rt; same.as_slice() == entry.as_slice());
+    assert_same!(rt; same.as_slice(), entry.as_slice());
     Ok(())
 }
 
@@ -65,7 +74,7 @@ fn a_deep_text_is_checked_and_shown(rt: HostRuntime) -> Result<(), Fail> {
     let bytes = deep(rt.alloc())?;
     let entry = entry_of(rt.alloc(), bytes.as_slice())?;
     let verdict = written(rt.alloc(), &["ti", "check"], entry.as_slice())?;
-    assert_that!(rt; verdict.as_slice() == b"text cbt ok depth 32 bound 341\n".as_slice());
+    assert_same!(rt; verdict.as_slice(), b"text cbt ok depth 32 bound 341\n");
     let shown = written(rt.alloc(), &["ti", "show"], entry.as_slice())?;
     assert_that!(rt; shown.as_slice().starts_with(b"format: legacy\nnames: t\ntext cbt 257031257031"));
     assert_that!(rt; shown.len() == 920);
@@ -112,7 +121,7 @@ fn a_large_text_is_expanded_and_converted(rt: HostRuntime) -> Result<(), Fail> {
     let out = written(rt.alloc(), &EXPAND, entry.as_slice())?;
     assert_that!(rt; out.as_slice() == large_output(rt.alloc())?.as_slice());
     let same = written(rt.alloc(), &["ti", "convert"], entry.as_slice())?;
-    assert_that!(rt; same.as_slice() == entry.as_slice());
+    assert_same!(rt; same.as_slice(), entry.as_slice());
     Ok(())
 }
 
@@ -121,7 +130,7 @@ fn a_large_text_is_checked_and_shown(rt: HostRuntime) -> Result<(), Fail> {
     let bytes = large(rt.alloc())?;
     let entry = entry_of(rt.alloc(), bytes.as_slice())?;
     let verdict = written(rt.alloc(), &["ti", "check"], entry.as_slice())?;
-    assert_that!(rt; verdict.as_slice() == b"text cbt ok depth 1 bound 32011\n".as_slice());
+    assert_same!(rt; verdict.as_slice(), b"text cbt ok depth 1 bound 32011\n");
     let shown = written(rt.alloc(), &["ti", "show"], entry.as_slice())?;
     assert_that!(rt; shown.as_slice().ends_with(b"61612570312564\n"));
     assert_that!(rt; shown.len() == 64044);

@@ -1,9 +1,9 @@
 //! Listings and verdicts with the look that is requested, and of a large entry.
 
-use super::rows_of_show::UNCOMMON;
 use super::show_call::Written;
 use std::alloc::Global;
 use std::test::Fail;
+use ti_fixtures::entries::UNCOMMON;
 use ti_fixtures::{Sink, Source, TMUX};
 use ti_line::{Destination, Request, Task, read_line};
 use ti_tool::{carry_out, check, show};
@@ -26,7 +26,7 @@ fn a_listing_has_the_look_that_is_asked(rt: HostRuntime) -> Result<(), Fail> {
     let listing = done(rt.alloc(), &["ti", "show", "--escape", "--all-names"])?;
     assert_that!(rt; listing.result == Ok(()));
     let lines = b"format: legacy\nnames: t\nflag xsb\ntext bel ^G\ntext cmdch \\E%p1%d\\^\\,\\s\n";
-    assert_that!(rt; listing.taken.as_slice() == lines.as_slice());
+    assert_same!(rt; listing.taken.as_slice(), lines.as_slice());
     Ok(())
 }
 
@@ -35,7 +35,7 @@ fn verdicts_have_the_names_that_are_asked(rt: HostRuntime) -> Result<(), Fail> {
     let verdicts = done(rt.alloc(), &["ti", "check", "--escape", "--all-names"])?;
     assert_that!(rt; verdicts.result == Ok(()));
     let lines = b"text bel ok depth 0 bound 1\ntext cmdch ok depth 1 bound 15\n";
-    assert_that!(rt; verdicts.taken.as_slice() == lines.as_slice());
+    assert_same!(rt; verdicts.taken.as_slice(), lines.as_slice());
     Ok(())
 }
 

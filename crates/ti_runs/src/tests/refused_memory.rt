@@ -1,12 +1,12 @@
 //! Runs without memory, which end with status 6: each growth refused in turn.
 
-use super::ending::{End, end_over};
+use super::ending::{End, end_over, is_end, words_of};
 use linked_list_allocator::LocalHeap;
 use std::alloc::Global;
 use std::process::Abort;
 use std::test::Fail;
-use ti_fixtures::entries::{EXTENDED, EXTENDED_BY_TIC, TEXT};
-use ti_fixtures::{Sink, Source, Tally};
+use ti_fixtures::entries::{EXTENDED_BY_TIC, TEXT};
+use ti_fixtures::{Sink, Source, Tally, Unfound, bytes_of, check_rows, fields_of};
 
 /// Runs the program with so much memory for all but `clap`, all of which is given back.
 fn end_with(
@@ -32,9 +32,7 @@ fn end_with(
 
 /// The run was without memory, and wrote nothing but its line.
 fn assert_no_memory(rt: &impl Abort, end: &End) {
-    assert_that!(rt; end.status == 6);
-    assert_that!(rt; end.output.is_empty());
-    assert_that!(rt; end.errors.as_slice() == b"memory\n".as_slice());
+    assert_that!(rt; is_end(end, 6, b"", b"memory\n"));
 }
 
 #[test]
@@ -60,58 +58,57 @@ fn an_expansion_without_memory_says_so(rt: HostRuntime) -> Result<(), Fail> {
 fn a_missing_name_without_memory_is_told_alone(rt: HostRuntime) -> Result<(), Fail> {
     let words = ["ti", "get", "Smulxx"];
     let end = end_with(&rt, rt.alloc(), &words, EXTENDED_BY_TIC, 0)?;
-    assert_that!(rt; end.status == 4);
-    assert_that!(rt; end.errors.as_slice() == b"get: Smulxx: no such capability\n".as_slice());
+    assert_that!(rt; is_end(&end, 4, b"", b"get: Smulxx: no such capability\n"));
     Ok(())
 }
 
 /// Words for each command, and what it reads.
-const COMMANDS: [(&[&str], &[u8]); 11] = [
-    (&["ti", "cap", "--hex", "n:7"], b"\x1b[%p1%40dG"),
-    (&["ti", "cap", "--escape", "n:7"], b"\x1b[%p1%40dG"),
-    (&["ti", "trace", "n:7"], b"\x1b[%p1%dG"),
-    (&["ti", "trace", "--escape", "n:7"], b"\x1b[%p1%dG"),
-    (&["ti", "show"], EXTENDED),
-    (&["ti", "show", "--escape", "--all-names"], EXTENDED),
-    (&["ti", "check"], EXTENDED),
-    (&["ti", "check", "--escape"], EXTENDED),
-    (
-        &[
-            "ti",
-            "expand",
-            "--rate",
-            "960",
-            "#0",
-            "s:a$<9> and some more bytes after it, as many as sixty or so",
-        ],
-        TEXT,
-    ),
-    (&["ti", "convert"], EXTENDED),
-    (
-        &[
-            "ti",
-            "get",
-            "--rate",
-            "960",
-            "text#0",
-            "a$<9> and some more bytes after it, as many as sixty or so",
-        ],
-        TEXT,
-    ),
-];
+const COMMANDS: &str = r"
+ti cap --hex n:7 | \E[%p1%40dG => refused, then given
+ti cap --escape n:7 | \E[%p1%40dG => refused, then given
+ti trace n:7 | \E[%p1%dG => refused, then given
+ti trace --escape n:7 | \E[%p1%dG => refused, then given
+ti show | @EXTENDED => refused, then given
+ti show --escape --all-names | @EXTENDED => refused, then given
+ti check | @EXTENDED => refused, then given
+ti check --escape | @EXTENDED => refused, then given
+ti expand --rate 960 #0 s:a$<9>_and_some_more_bytes_after_it,_as_many_as_sixty_or_so | @TEXT => refused, then given
+ti convert | @EXTENDED => refused, then given
+ti get --rate 960 text#0 a$<9>_and_some_more_bytes_after_it,_as_many_as_sixty_or_so | @TEXT => refused, then given
+";
+
+/// Whether a run with so much memory ends well, or has no memory and writes its line alone.
+fn is_given(alloc: Global, words: &[&str], input: &[u8], memory: usize) -> Result<bool, Unfound> {
+    let heap = LocalHeap::new(alloc, memory)?;
+    let (output, errors) = (Sink::new(alloc), Sink::new(alloc));
+    let end = end_over(alloc, &heap, words, Source::new(input, 512), output, errors);
+    let is_refused = is_end(&end, 6, b"", b"memory\n");
+    if heap.used() > 0 || end.status != 0 && !is_refused {
+        return Err(Unfound);
+    }
+    Ok(!is_refused)
+}
+
+/// How runs with more and more memory end.
+fn ends_of(alloc: Global, words: &[&str], input: &[u8]) -> Result<Vec<u8>, Unfound> {
+    let mut tally = Tally::NONE;
+    for step in 0..80usize {
+        tally.count(is_given(alloc, words, input, 32 * step)?);
+    }
+    if !tally.is_refused_then_given(2) {
+        return Err(Unfound);
+    }
+    Ok(b"refused, then given".to_vec(alloc)?)
+}
+
+/// How the runs of a row end.
+fn ends_in(alloc: Global, given: &str) -> Result<Vec<u8>, Unfound> {
+    let [words, input, ..] = fields_of(given);
+    let words = words_of(alloc, words)?;
+    ends_of(alloc, words.as_slice(), bytes_of(alloc, input)?.as_slice())
+}
 
 #[test]
 fn each_growth_of_the_program_is_refused_in_turn(rt: HostRuntime) -> Result<(), Fail> {
-    for (words, bytes) in COMMANDS {
-        let mut tally = Tally::NONE;
-        for step in 0..80usize {
-            let end = end_with(&rt, rt.alloc(), words, bytes, 32 * step)?;
-            if end.status != 0 {
-                assert_no_memory(&rt, &end);
-            }
-            tally.count(end.status == 0);
-        }
-        assert_that!(rt; tally.is_refused_then_given(2));
-    }
-    Ok(())
+    check_rows(rt.alloc(), COMMANDS, ends_in)
 }

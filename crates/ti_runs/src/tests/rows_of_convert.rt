@@ -1,48 +1,24 @@
 //! Runs of `ti convert`.
 
-use super::ending::{Row, assert_rows};
-use ti_fixtures::entries::{SHARED, SMALL, WIDE, WIDE_EXTENDED};
+use super::ending::{end_in, output_in};
+use std::test::Fail;
+use ti_fixtures::check_rows;
 
 /// Runs of the command.
-const ROWS: [Row; 5] = [
-    Row {
-        words: &["ti", "convert"],
-        input: SHARED,
-        status: 0,
-        output: b"\x1a\x01\x02\0\0\0\0\0\x02\0\x04\0t\0\0\0\x02\0\x07\0\x07\0",
-        errors: b"",
-    },
-    Row {
-        words: &["ti", "convert", "--wide"],
-        input: SMALL,
-        status: 0,
-        output: WIDE,
-        errors: b"",
-    },
-    Row {
-        words: &["ti", "convert", "--narrow"],
-        input: WIDE,
-        status: 0,
-        output: SMALL,
-        errors: b"",
-    },
-    Row {
-        words: &["ti", "convert", "--narrow"],
-        input: WIDE_EXTENDED,
-        status: 3,
-        output: b"",
-        errors: b"entry: NumberOutOfRange\n",
-    },
-    Row {
-        words: &["ti", "convert", "--wide", "--narrow"],
-        input: SMALL,
-        status: 2,
-        output: b"",
-        errors: b"convert: both widths\n",
-    },
-];
+const ROWS: &str = r"
+ti convert | @SHARED => 0 out ^Z^A^B\000\000\000\000\000^B\000^D\000t\000\000\000^B\000^G\000^G\000
+ti convert --narrow | @WIDE_EXTENDED => 3 err entry: NumberOutOfRange\n
+ti convert --wide --narrow | @SMALL => 2 err convert: both widths\n
+";
+
+/// The same, which write what has a name.
+const ROWS_OUTPUTS: &str = r"
+ti convert --wide | @SMALL => @WIDE
+ti convert --narrow | @WIDE => @SMALL
+";
 
 #[test]
-fn runs_of_convert_end_as_they_should(rt: HostRuntime) {
-    assert_rows(&rt, &ROWS);
+fn runs_of_convert_end_as_they_should(rt: HostRuntime) -> Result<(), Fail> {
+    check_rows(rt.alloc(), ROWS, end_in)?;
+    check_rows(rt.alloc(), ROWS_OUTPUTS, output_in)
 }

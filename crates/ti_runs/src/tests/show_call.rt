@@ -1,98 +1,43 @@
 //! The call that lists an entry: what it lists, and what it refuses.
 
-use super::ending::end_of;
+use super::ending::{end_of, is_end};
 use linked_list_allocator::LocalHeap;
 use std::alloc::{Allocator, Global};
 use std::process::Abort;
 use std::test::Fail;
-use ti_fixtures::entries::{
-    DUMB, EXTENDED, EXTENDED_BY_TIC, QUESTION, SHARED, SMALL, WIDE, WIDE_BY_TIC, WIDE_EXTENDED,
-};
-use ti_fixtures::{Sink, Source, Tally};
+use ti_fixtures::entries::{DUMB, SMALL};
+use ti_fixtures::{Sink, Source, Tally, Unfound, bytes_of, check_rows};
 use ti_tool::{ToolFault, show};
 
 /// An entry, and its listing.
-struct Row {
-    entry: &'static [u8],
-    lines: &'static [u8],
-}
-
-const ROWS: [Row; 16] = [
-    Row {
-        entry: SMALL,
-        lines: b"format: legacy\nnames: t\nflag bw\nnumber cols 80\ntext bel 07\n",
-    },
-    Row {
-        entry: SHARED,
-        lines: b"format: legacy\nnames: t\ntext cbt 07\ntext bel 07\n",
-    },
-    Row {
-        entry: QUESTION,
-        lines: b"format: legacy\nnames: t\nflag bw\nnumber cols 80\ntext bel 1b5b3f255b3b303132333435363738395d63\n",
-    },
-    // the flag and the number cancelled
-    Row {
-        entry: b"\x1a\x01\x02\0\x01\0\x01\0\x02\0\x02\0t\0\xfe\0\xfe\xff\xff\xff\0\0\x07\0",
-        lines: b"format: legacy\nnames: t\nflag bw cancelled\nnumber cols cancelled\ntext bel 07\n",
-    },
-    // the flag missing, the number absent, a text cancelled, and one of no bytes
-    Row {
-        entry: b"\x1a\x01\x02\0\x01\0\x01\0\x02\0\x02\0t\0\xff\0\xff\xff\xfe\xff\x01\0\x07\0",
-        lines: b"format: legacy\nnames: t\nflag bw missing\ntext cbt cancelled\ntext bel -\n",
-    },
-    // texts that overlap
-    Row {
-        entry: b"\x1a\x01\x02\0\0\0\0\0\x03\0\x03\0t\0\0\0\x01\0\x02\0ab\0",
-        lines: b"format: legacy\nnames: t\ntext cbt 6162\ntext bel 62\ntext cr -\n",
-    },
-    Row {
-        entry: EXTENDED,
-        lines: b"format: legacy\nnames: t\nflag bw\nnumber cols 80\ntext bel 07\nflag+ AX\ntext+ E3 1b5b334a\n",
-    },
-    // an extended part without a capability
-    Row {
-        entry: b"\x1a\x01\x02\0\x01\0\x01\0\x02\0\x02\0t\0\x01\0P\0\xff\xff\0\0\x07\0\0\0\0\0\0\0\0\0\0\0",
-        lines: b"format: legacy\nnames: t\nflag bw\nnumber cols 80\ntext bel 07\n",
-    },
-    // an extended number
-    Row {
-        entry: b"\x1a\x01\x02\0\0\0\0\0\0\0\0\0t\0\0\0\x01\0\0\0\x01\0\x03\0P\0\0\0U8\0",
-        lines: b"format: legacy\nnames: t\nnumber+ U8 80\n",
-    },
-    // a name without a place in the table of names
-    Row {
-        entry: b"\x1a\x01\x02\0\x04\0\0\0\0\0\0\0t\0\0\0\x01\xfe",
-        lines: b"format: legacy\nnames: t\nflag #2\nflag #3 cancelled\n",
-    },
-    // the 32-bit format: the small entry, the greatest number, and an extended number
-    Row {
-        entry: WIDE,
-        lines: b"format: wide\nnames: t\nflag bw\nnumber cols 80\ntext bel 07\n",
-    },
-    Row {
-        entry: b"\x1e\x02\x02\0\x01\0\x01\0\x02\0\x02\0t\0\x01\0\xff\xff\xff\x7f\xff\xff\0\0\x07\0",
-        lines: b"format: wide\nnames: t\nflag bw\nnumber cols 2147483647\ntext bel 07\n",
-    },
-    Row {
-        entry: WIDE_EXTENDED,
-        lines: b"format: wide\nnames: t\nflag bw\nnumber cols 80\ntext bel 07\nnumber+ U8 70000\n",
-    },
-    // what infocmp -x prints of it, as bytes
-    Row {
-        entry: EXTENDED_BY_TIC,
-        lines: b"format: legacy\nnames: mog|mogyarsu test terminal\nflag am\nnumber cols 80\nnumber lines 24\ntext bel 07\ntext cr 0d\ntext clear 1b5b481b5b324a\ntext cup 1b5b256925703125643b257032256448\nflag+ AX\nflag+ XT\nnumber+ U8 1\ntext+ E3 1b5b334a\ntext+ Smulx 1b5b343a25703125646d\ntext+ kUP5 1b5b313b3541\n",
-    },
-    // the same of an entry with numbers of 32 bits
-    Row {
-        entry: WIDE_BY_TIC,
-        lines: b"format: wide\nnames: mogw|mogyarsu wide terminal\nflag am\nnumber cols 80\nnumber colors 16777216\nnumber pairs 65536\ntext bel 07\ntext cr 0d\nflag+ AX\nnumber+ U8 70000\ntext+ E3 1b5b334a\n",
-    },
-    // infocmp: am, cols#80, bel=^G, cr=\r, cud1=\n, ind=\n
-    Row {
-        entry: DUMB,
-        lines: b"format: legacy\nnames: dumb|80-column dumb tty\nflag am\nnumber cols 80\ntext bel 07\ntext cr 0d\ntext cud1 0a\ntext ind 0a\n",
-    },
-];
+const ROWS: &str = r"
+@SMALL => format: legacy\nnames: t\nflag bw\nnumber cols 80\ntext bel 07\n
+@SHARED => format: legacy\nnames: t\ntext cbt 07\ntext bel 07\n
+@QUESTION => format: legacy\nnames: t\nflag bw\nnumber cols 80\ntext bel 1b5b3f255b3b303132333435363738395d63\n
+# the flag and the number cancelled
+^Z^A^B\000^A\000^A\000^B\000^B\000t\000\376\000\376\377\377\377\000\000^G\000 => format: legacy\nnames: t\nflag bw cancelled\nnumber cols cancelled\ntext bel 07\n
+# the flag missing, the number absent, a text cancelled, and one of no bytes
+^Z^A^B\000^A\000^A\000^B\000^B\000t\000\377\000\377\377\376\377^A\000^G\000 => format: legacy\nnames: t\nflag bw missing\ntext cbt cancelled\ntext bel -\n
+# texts that overlap
+^Z^A^B\000\000\000\000\000^C\000^C\000t\000\000\000^A\000^B\000ab\000 => format: legacy\nnames: t\ntext cbt 6162\ntext bel 62\ntext cr -\n
+@EXTENDED => format: legacy\nnames: t\nflag bw\nnumber cols 80\ntext bel 07\nflag+ AX\ntext+ E3 1b5b334a\n
+# an extended part without a capability
+^Z^A^B\000^A\000^A\000^B\000^B\000t\000^A\000P\000\377\377\000\000^G\000\000\000\000\000\000\000\000\000\000\000 => format: legacy\nnames: t\nflag bw\nnumber cols 80\ntext bel 07\n
+# an extended number
+^Z^A^B\000\000\000\000\000\000\000\000\000t\000\000\000^A\000\000\000^A\000^C\000P\000\000\000U8\000 => format: legacy\nnames: t\nnumber+ U8 80\n
+# a name without a place in the table of names
+^Z^A^B\000^D\000\000\000\000\000\000\000t\000\000\000^A\376 => format: legacy\nnames: t\nflag #2\nflag #3 cancelled\n
+# the 32-bit format: the small entry, the greatest number, and an extended number
+@WIDE => format: wide\nnames: t\nflag bw\nnumber cols 80\ntext bel 07\n
+^^^B^B\000^A\000^A\000^B\000^B\000t\000^A\000\377\377\377^?\377\377\000\000^G\000 => format: wide\nnames: t\nflag bw\nnumber cols 2147483647\ntext bel 07\n
+@WIDE_EXTENDED => format: wide\nnames: t\nflag bw\nnumber cols 80\ntext bel 07\nnumber+ U8 70000\n
+# what infocmp -x prints of it, as bytes
+@EXTENDED_BY_TIC => format: legacy\nnames: mog|mogyarsu test terminal\nflag am\nnumber cols 80\nnumber lines 24\ntext bel 07\ntext cr 0d\ntext clear 1b5b481b5b324a\ntext cup 1b5b256925703125643b257032256448\nflag+ AX\nflag+ XT\nnumber+ U8 1\ntext+ E3 1b5b334a\ntext+ Smulx 1b5b343a25703125646d\ntext+ kUP5 1b5b313b3541\n
+# the same of an entry with numbers of 32 bits
+@WIDE_BY_TIC => format: wide\nnames: mogw|mogyarsu wide terminal\nflag am\nnumber cols 80\nnumber colors 16777216\nnumber pairs 65536\ntext bel 07\ntext cr 0d\nflag+ AX\nnumber+ U8 70000\ntext+ E3 1b5b334a\n
+# infocmp: am, cols#80, bel=^G, cr=\r, cud1=\n, ind=\n
+@DUMB => format: legacy\nnames: dumb|80-column dumb tty\nflag am\nnumber cols 80\ntext bel 07\ntext cr 0d\ntext cud1 0a\ntext ind 0a\n
+";
 
 /// What a call returned, and what its writer took.
 #[derive(Drop)]
@@ -112,21 +57,24 @@ fn shown<A: Allocator + Copy>(global: Global, alloc: A, source: Source<'_>) -> W
     }
 }
 
+/// The listing of the entry of a row.
+fn listing_in(alloc: Global, given: &str) -> Result<Vec<u8>, Unfound> {
+    let entry = bytes_of(alloc, given)?;
+    let Written { result, taken } = shown(alloc, alloc, Source::new(entry.as_slice(), 11));
+    result?;
+    Ok(taken)
+}
+
 #[test]
-fn entries_are_listed(rt: HostRuntime) {
-    for row in ROWS.iter() {
-        let listed = shown(rt.alloc(), rt.alloc(), Source::new(row.entry, 11));
-        assert_that!(rt; listed.result.is_ok());
-        assert_that!(rt; listed.taken.as_slice() == row.lines);
-    }
+fn entries_are_listed(rt: HostRuntime) -> Result<(), Fail> {
+    check_rows(rt.alloc(), ROWS, listing_in)
 }
 
 #[test]
 fn fronts_of_entries_end_with_status_three(rt: HostRuntime) {
     for k in 0..SMALL.len() {
         let end = end_of(rt.alloc(), &["ti", "show"], &SMALL[..k]);
-        assert_that!(rt; end.status == 3);
-        assert_that!(rt; end.output.is_empty());
+        assert_that!(rt; end.status == 3 && end.output.is_empty());
         assert_that!(rt; end.errors.as_slice().starts_with(b"entry: Truncated at "));
     }
 }
@@ -134,8 +82,7 @@ fn fronts_of_entries_end_with_status_three(rt: HostRuntime) {
 #[test]
 fn bytes_that_are_no_entry_end_with_status_three(rt: HostRuntime) {
     let end = end_of(rt.alloc(), &["ti", "show"], b"\x1b\x01");
-    assert_that!(rt; end.status == 3);
-    assert_that!(rt; end.errors.as_slice() == b"entry: BadMagic at 0\n".as_slice());
+    assert_that!(rt; is_end(&end, 3, b"", b"entry: BadMagic at 0\n"));
 }
 
 #[test]

@@ -67,7 +67,7 @@ fn a_writer_of_a_trace_fails_at_each_byte(rt: HostRuntime) {
         let writer = Sink::failing_at(rt.alloc(), 1, k);
         let written = traced(rt.alloc(), Source::new(COLUMN, 3), &NUMBERS, writer);
         assert_that!(rt; written.result == Err(ToolFault::Write(k as u64 - 1)));
-        assert_that!(rt; written.taken.as_slice() == &COLUMN_OF_7[..k - 1]);
+        assert_same!(rt; written.taken.as_slice(), &COLUMN_OF_7[..k - 1]);
     }
 }
 
@@ -86,7 +86,7 @@ fn a_source_of_a_trace_that_fails_too_late(rt: HostRuntime) {
     let source = Source::failing_at(COLUMN, 1, 10);
     let written = traced(rt.alloc(), source, &NUMBERS, Sink::new(rt.alloc()));
     assert_that!(rt; written.result.is_ok());
-    assert_that!(rt; written.taken.as_slice() == COLUMN_OF_7);
+    assert_same!(rt; written.taken.as_slice(), COLUMN_OF_7);
 }
 
 /// `%;` without its `%?`.

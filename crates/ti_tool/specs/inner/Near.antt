@@ -4,9 +4,9 @@ use Rattle.std.specs.Borrow.{Bor}
 use Rattle.std.specs.Str.{chars}
 use Rattle.ti_entry.specs.Finding.{names_of}
 use Rattle.ti_words.specs.declared.Kind.{Kind}
-use Rattle.ti_words.specs.declared.all_names.NameTable.{NameTable}
-use Rattle.ti_words.specs.declared.all_names.NameTable.TheVariants as tables
-use Rattle.ti_words.specs.AllNames.{name_in}
+use Rattle.ti_names.specs.declared.name_table.NameTable.{NameTable}
+use Rattle.ti_names.specs.declared.name_table.NameTable.TheVariants as tables
+use Rattle.ti_names.specs.AllNames.{name_in}
 use Rattle.ti_tool.specs.Near.{IsName, IsOwnAt, edits, most_edits, most_names}
 use Rattle.ti_tool.specs.declared.near.Found.{Found}
 use Rattle.ti_tool.specs.declared.near.Sought.{Sought}

@@ -1,8 +1,8 @@
 -- The verdict of the code on a text.
-use Rattle.std.specs.Prelude.{◌≡◌, ℕ, Bool, true, false, List, ◌++◌}
+use Rattle.std.specs.Prelude.{◌≡◌, ℕ, Bool, true, false, List}
 use Rattle.ti_cap.specs.Capability.{HasDepth, HasBound}
 use Rattle.ti_cap.specs.Refusal.{IsFaultless, IsRefusal}
-use Rattle.ti_tool.specs.Verdicts.{AreTold, Telling, fault_verdict, sound_verdict}
+use Rattle.ti_tool.specs.Verdicts.{Telling, fault_verdict, sound_verdict}
 use Rattle.ti_tool.specs.declared.verdict.Verdict.{Verdict}
 use Rattle.ti_tool.specs.declared.verdict.Verdict.TheVariants.{Sound, Faulty}
 
@@ -24,9 +24,3 @@ verdict_line (Faulty refused) = fault_verdict refused
 abbrev pub told_by : {Y : Type 0} → Telling Y → Verdict → List Y
 told_by telling (Sound depth bound) = telling.sound depth bound
 told_by telling (Faulty refused) = telling.fault refused
-
--- what is told of all the items comes after what was there
-abbrev pub AddsTold : {X Y : Type 0} → (ℕ → X → List Y → Bool → Type 0) → List X
-    → List Y → List Y → Bool → Type 0
-AddsTold {X} {Y} IsToldOf items old new sound =
-    (told : List Y) × AreTold IsToldOf 0 items told sound × (new ≡ old ++ told)

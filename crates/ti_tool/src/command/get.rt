@@ -3,9 +3,9 @@
 //! A flag writes nothing; a number takes memory once; a text takes it as `expand` does, and without parameters once less.
 
 ghost use Rattle.std.specs.Prelude.{◌≡◌, Ok, IfOk, MatchResult, option_map, true};
+ghost use Rattle.ti_words.specs.Items.{item_value};
 ghost use Rattle.ti_tool.specs.Got.{IsExpandedBy, IsGot, IsTextResult, IsValueResult, number_or_none as the_number_or_none, number_result as the_number_result};
 ghost use Rattle.ti_tool.specs.inner.Dues.{FailsAsDue};
-ghost use Rattle.ti_listing.specs.Values.{item_value};
 
 use crate::command::Answer;
 use crate::command::expand::{expand_and_pad, padded_output};
@@ -17,9 +17,8 @@ use std::alloc::{AllocError, Allocator};
 use ti_cap::Capability;
 use ti_entry::Entry;
 use ti_line::{Get, Given, Output};
-use ti_listing::Item;
 use ti_pad::Padding;
-use ti_words::{Flag, Number, Text};
+use ti_words::{Flag, Item, Number, Text};
 
 /// A number, -1 if the entry has none.
 fn number_or_none(number: Number) -> i32

@@ -1,10 +1,10 @@
 //! `trace`: what one capability does, token by token, also one of an entry.
 
 ghost use Rattle.std.specs.Prelude.{Ok, MatchResult, option_map};
+ghost use Rattle.ti_words.specs.Items.{item_value};
 ghost use Rattle.ti_line.specs.declared.options.TraceForm.TheVariants as trace_forms;
 ghost use Rattle.ti_tool.specs.Got.{IsDueBy};
 ghost use Rattle.ti_tool.specs.Traces.{IsTraced, IsTracedBy, IsTracedOf, IsTracedValue};
-ghost use Rattle.ti_listing.specs.Values.{item_value};
 ghost use Rattle.ti_tool.specs.inner.Dues.{FailsAsDue};
 
 use crate::command::json::as_line;
@@ -17,9 +17,8 @@ use ti_entry::Entry;
 use ti_escape::{Color, Form};
 use ti_expand::Value;
 use ti_line::{Given, TraceForm, TraceOf};
-use ti_listing::Item;
 use ti_trace::{TraceFault, trace, trace_json};
-use ti_words::Text;
+use ti_words::{Item, Text};
 
 /// The parameters if no word gives one.
 const NO_VALUES: [Value<'static>; 9] = [Value::Num(0); 9];

@@ -1,20 +1,20 @@
 //! `check --json`: the verdicts on the texts of an entry as objects of JSON, one after another as the lines of `check`.
 
-ghost use Rattle.std.specs.Prelude.{◌≡◌, ◌++◌, IfOk, OnOk, map};
+ghost use Rattle.std.specs.Prelude.{◌≡◌, ◌++◌, List, IfOk, OnOk, map};
+ghost use Rattle.ti_words.specs.Items.{subject_value};
+ghost use Rattle.serde_json.specs.Data.{Data};
 ghost use Rattle.serde_json.specs.View.{view};
-ghost use Rattle.ti_json.specs.inner.Subject.{subject_of};
 ghost use Rattle.ti_tool.specs.Documents.{AreVerdictsIn};
-ghost use Rattle.ti_tool.specs.Verdicts.{IsOwnObject, IsStandardObject, in_object};
-ghost use Rattle.ti_tool.specs.inner.Verdict.{AddsTold, told_by};
+ghost use Rattle.ti_tool.specs.Verdicts.{AreVerdictObjects, in_object};
+ghost use Rattle.ti_tool.specs.inner.Verdict.{told_by};
 
 use crate::command::Answer;
 use crate::verdict::{Verdict, judge};
 use serde_json::Value;
 use std::alloc::{AllocError, Global};
-use ti_entry::{Entry, Extended};
-use ti_json::{Subject, array_json, push_fault, push_sound};
-use ti_listing::own_name;
-use ti_words::{Kind, Text};
+use ti_entry::Entry;
+use ti_json::{array_json, push_fault, push_sound};
+use ti_words::Subject;
 
 /// Adds the object of a text.
 fn push_verdict(
@@ -24,7 +24,7 @@ fn push_verdict(
     verdict: Verdict,
 ) -> Result<(), AllocError>
     ensures { OnOk result (map view out.new.items
-        ≡ map view out.old.items ++ told_by (in_object (subject_of subject.entry)) verdict) }
+        ≡ map view out.old.items ++ told_by (in_object (subject_value subject.entry)) verdict) }
 {
     match verdict {
         Verdict::Sound { depth, bound } => push_sound(global, out, subject, depth, bound),
@@ -32,43 +32,21 @@ fn push_verdict(
     }
 }
 
-/// Adds the objects of the standard texts, and returns whether none has a fault.
-fn push_standard(
+/// Adds the objects of the texts, and returns whether none has a fault.
+fn push_verdicts(
     global: Global,
     out: &mut Vec<Value>,
     entry: &Entry<'_>,
 ) -> Result<bool, AllocError>
-    ensures { IfOk result (AddsTold IsStandardObject entry.now.standard.texts
-        (map view out.old.items) (map view out.new.items)) }
+    ensures { IfOk result (λ sound. (objects : List Data) × AreVerdictObjects entry.now objects sound
+        × (map view out.new.items ≡ map view out.old.items ++ objects)) }
 {
     let mut sound = true;
     let mut last = judge(b"");
-    for index in 0..entry.text_count() {
-        if let Text::Value(text) = entry.text(index) {
+    let mut items = entry.items();
+    'items: while let Some((subject, item)) = items.next() {
+        if let Some(text) = item.text() {
             last = last.next(text);
-            let subject = Subject::Standard(Kind::Text, index);
-            push_verdict(global, out, subject, last.verdict)?;
-            sound &= last.verdict.is_sound();
-        }
-    }
-    Ok(sound)
-}
-
-/// Adds the objects of the texts of the extended part, and returns whether none has a fault.
-fn push_own(
-    global: Global,
-    out: &mut Vec<Value>,
-    extended: &Extended<'_>,
-) -> Result<bool, AllocError>
-    ensures { IfOk result (AddsTold IsOwnObject extended.now.texts
-        (map view out.old.items) (map view out.new.items)) }
-{
-    let mut sound = true;
-    let mut last = judge(b"");
-    for index in 0..extended.text_count() {
-        if let Text::Value(text) = extended.text(index) {
-            last = last.next(text);
-            let subject = Subject::Own(Kind::Text, own_name(extended, Kind::Text, index));
             push_verdict(global, out, subject, last.verdict)?;
             sound &= last.verdict.is_sound();
         }
@@ -81,11 +59,7 @@ pub fn verdicts_json(global: Global, entry: &Entry<'_>) -> Result<Answer<Global>
     ensures { IfOk result (λ a. AreVerdictsIn entry.now a.bytes.items a.sound) }
 {
     let mut objects = Vec::new(global);
-    let standard = push_standard(global, &mut objects, entry)?;
-    let own = push_own(global, &mut objects, &entry.extended())?;
+    let sound = push_verdicts(global, &mut objects, entry)?;
     let bytes = array_json(global, objects)?;
-    Ok(Answer {
-        bytes,
-        sound: standard & own,
-    })
+    Ok(Answer { bytes, sound })
 }

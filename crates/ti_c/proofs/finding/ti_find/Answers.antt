@@ -1,7 +1,7 @@
 use Rattle.std.proofs.Common.{◌∙◌, ap, sym}
 use Rattle.ti_c.specs.Names.{name_under}
-use Rattle.ti_words.specs.declared.all_names.NameTable.TheVariants.{All}
-use Rattle.ti_words.proofs.NamesLemmas.{inverse}
+use Rattle.ti_names.specs.declared.name_table.NameTable.TheVariants.{All}
+use Rattle.ti_names.proofs.NamesLemmas.{inverse}
 use Rattle.ti_c.proofs.finding.ti_find.Goals as goal
 
 pub returns-in-Some-clause-found : goal.returns-in-Some-clause-found

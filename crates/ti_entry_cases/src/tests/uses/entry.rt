@@ -2,7 +2,7 @@
 
 use std::test::Fail;
 use ti_entry::{Position, read};
-use ti_words::{Flag, Kind, Number, Text};
+use ti_words::{Flag, Item, Kind, Number, Subject, Text};
 
 /// An entry called `t`, with auto_left_margin, 80 columns, a bell, and an extended text E3.
 const FILE: &[u8] =
@@ -19,5 +19,8 @@ fn what_an_entry_says(rt: HostRuntime) -> Result<(), Fail> {
     assert!(rt; entry.position(b"columns") == Some(Position::Standard(Kind::Number, 0)));
     assert!(rt; entry.position(b"E3") == Some(Position::Extended(Kind::Text, 0)));
     assert!(rt; entry.extended().text(0) == Text::Value(b"\x1b[3J"));
+    // One after another.
+    let mut items = entry.items();
+    assert!(rt; items.next() == Some((Subject::Standard(Kind::Flag, 0), Item::Flag(Flag::Yes))));
     Ok(())
 }

@@ -1,12 +1,12 @@
-//! What the capability that moves the cursor is called, and where it stands.
+//! What a byte, a word and a magic number of an entry mean.
 
 use std::test::Fail;
-use ti_words::{Kind, NameTable};
+use ti_words::{Flag, Number, Width, flag_of, number_of, width_of_magic};
 
 #[test]
-fn names_of_the_cursor_address(rt: HostRuntime) -> Result<(), Fail> {
-    assert!(rt; NameTable::All.find("cup") == Some((Kind::Text, 10)));
-    assert!(rt; NameTable::Long.find("cursor_address") == Some((Kind::Text, 10)));
-    assert!(rt; NameTable::Common.text_name(10) == Some("cup"));
+fn marks_of_an_entry(rt: HostRuntime) -> Result<(), Fail> {
+    assert!(rt; flag_of(1) == Some(Flag::Yes));
+    assert!(rt; number_of(-1) == Some(Number::Absent));
+    assert!(rt; width_of_magic(0o432) == Some(Width::Legacy));
     Ok(())
 }

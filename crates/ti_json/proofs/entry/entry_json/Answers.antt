@@ -12,13 +12,13 @@ use Rattle.ti_json.proofs.entry.entry_json.Goals as goal
 pub array_json-requires : goal.array_json-requires
 array_json-requires c =
     let v = c.args.entry.now in
-    let objects = all_objects v c.extended.result (map view c.new-objects.result.items) _ _ (map view c.push_own.new.out.items) (ap (map view) c.new-objects.ensures.items) c.in_ok-push_whole.ensures c.in_ok-push_standard.ensures c.extended.ensures c.in_ok-push_own.ensures in
+    let objects = all_objects v (map view c.new-objects.result.items) _ (map view c.push_items.new.out.items) (ap (map view) c.new-objects.ensures.items) c.in_ok-push_whole.ensures c.in_ok-push_items.ensures in
     ap (λ ds. items_have_float (items_of ds)) objects ∙ no_float (array (items_of (entry_objects v))) (entry_is_plain v)
 
 pub returns : goal.returns
 returns c =
     let v = c.args.entry.now in
-    let objects = all_objects v c.extended.result (map view c.new-objects.result.items) _ _ (map view c.push_own.new.out.items) (ap (map view) c.new-objects.ensures.items) c.in_ok-push_whole.ensures c.in_ok-push_standard.ensures c.extended.ensures c.in_ok-push_own.ensures in
+    let objects = all_objects v (map view c.new-objects.result.items) _ (map view c.push_items.new.out.items) (ap (map view) c.new-objects.ensures.items) c.in_ok-push_whole.ensures c.in_ok-push_items.ensures in
     record {
       text = IfOk-weaker c.array_json.result _ _ (λ bytes e. e ∙ ap array_text objects) c.array_json.ensures;
       printable = IfOk-weaker c.array_json.result _ _ (λ bytes e. subst IsText (sym (e ∙ ap array_text objects)) (entry_is_text v)) c.array_json.ensures;

@@ -1,5 +1,5 @@
-use Rattle.std.proofs.Common.{◌≡◌, ℕ, ◌+◌, ◌-◌, List, sym, ◌∙◌, subst, arith, refl}
-use Rattle.ti_lint.proofs.ConditionalsLemmas.{Looked, no_earlier, is_earlier}
+use Rattle.std.proofs.Common.{refl}
+use Rattle.ti_lint.proofs.ConditionalsLemmas.{no_earlier, is_earlier}
 use Rattle.ti_lint.proofs.conditional.has_earlier.Goals as goal
 
 pub returns-then-closed-eq0 : goal.returns-then-closed-eq0

@@ -1,5 +1,5 @@
 -- No arm has the test from here on, and so many conditionals are closed that are not opened there.
-use Rattle.std.proofs.Common.{ℕ, ◌+◌, ◌≤◌, length}
+use Rattle.std.proofs.Common.{◌+◌, ◌≤◌, length}
 use Rattle.ti_lint.proofs.ConditionalsLemmas.{Looked}
 use Rattle.ti_lint.proofs.conditional.has_earlier.Given as goal
 

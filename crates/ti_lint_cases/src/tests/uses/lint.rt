@@ -2,7 +2,7 @@
 
 use std::test::Fail;
 use ti_cap::Capability;
-use ti_lint::{Expected, Finding, Findings, Found, TextParameters, Variables, findings_of};
+use ti_lint::{Expected, Finding, Findings, PlacedFinding, TextParameters, Variables, findings_of};
 
 /// `tsl` as the entry of the IBM 8514 has it. Its parameter is a column.
 const TSL: &[u8] = b"\x1bj\x1bYI%+ \x1bo";
@@ -17,11 +17,11 @@ fn a_text_of_termcap(rt: HostRuntime) -> Result<(), Fail> {
     // The sum pops two values, and nothing pushes any: termcap has `%+ ` for what terminfo writes as `%p1%' '%+%c`. The
     // value that it pushes is never printed.
     let wanted = [
-        Found {
+        PlacedFinding {
             place: 5,
             finding: Finding::TermcapParameter,
         },
-        Found {
+        PlacedFinding {
             place: 5,
             finding: Finding::StackResidue,
         },

@@ -1,11 +1,10 @@
 use Rattle.std.proofs.Common.{◌∙◌, refl, sym, true≢false}
-use Rattle.ti_json.specs.inner.Subject.{subject_of}
+use Rattle.ti_words.specs.Items.{item_value, subject_value}
 use Rattle.ti_listing.specs.Differences.{AreSameItems, ItemDiffers}
-use Rattle.ti_listing.specs.Values.{item_value}
 use Rattle.ti_listing.proofs.DifferencesLemmas.{change_told}
 use Rattle.ti_listing.proofs.change.push_change.Goals as goal
 
 pub returns : goal.returns
 returns g c =
-    change_told (AreSameItems c.args.likeness) (ItemDiffers (subject_of c.args.subject)) (item_value c.args.first) (item_value c.args.other) _ c.args.out.now.items c.push.new.self.items
+    change_told (AreSameItems c.args.likeness) (ItemDiffers (subject_value c.args.subject)) (item_value c.args.first) (item_value c.args.other) _ c.args.out.now.items c.push.new.self.items
     (λ same. true≢false (sym (c.are_alike.ensures.1 same) ∙ c.if-are_alike.false)) refl c.in_ok-push.ensures.items

@@ -14,6 +14,6 @@ loop-index-preserved g c =
 
 pub returns : goal.returns
 returns g c =
-    let end : c.loop-index.index ≡ c.own_count-index-end.result = omega (arith, c.loop-index-test.false, c.loop-index.auto.index-end) in
+    let end : c.loop-index.index ≡ c.count_of-index-end.result = omega (arith, c.loop-index-test.false, c.loop-index.auto.index-end) in
     below_end (IsOwnNew c.args.likeness c.args.kind c.args.one.now c.args.other.now) c.loop-index.index _ _ (map difference_value c.loop-index.out.items)
-    (end ∙ c.own_count-index-end.ensures ∙ ap (λ p. length (names_of p c.args.kind)) c.extended.ensures) c.loop-index.invariant
+    (end ∙ c.count_of-index-end.ensures ∙ ap (λ p. length (names_of p c.args.kind)) c.extended.ensures) c.loop-index.invariant

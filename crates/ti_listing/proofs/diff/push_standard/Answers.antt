@@ -1,9 +1,10 @@
-use Rattle.std.proofs.Common.{◌≡◌, ◌∙◌, ap₂, arith, map}
+use Rattle.std.proofs.Common.{◌≡◌, ◌∙◌, ap, ap₂, arith, map}
+use Rattle.ti_words.specs.Items.{StandardSubject}
 use Rattle.std.specs.Prelude.{max}
 use Rattle.ti_entry.specs.declared.finding.Position.TheVariants.{Standard}
-use Rattle.ti_json.specs.Objects.{StandardSubject}
 use Rattle.ti_listing.specs.Differences.{AreSameItems, IsStandardChange, ItemDiffers}
-use Rattle.ti_listing.specs.Items.{item_at}
+use Rattle.ti_words.specs.Value.{PartValue}
+use Rattle.ti_entry.specs.Items.{count_of_kind, item_at}
 use Rattle.ti_listing.specs.Values.{difference_value}
 use Rattle.ti_listing.proofs.DifferencesLemmas.{below_end, below_next, below_none, change_of}
 use Rattle.ti_listing.proofs.diff.push_standard.Goals as goal
@@ -21,4 +22,4 @@ pub returns : goal.returns
 returns g c =
     let end : c.loop-index.index ≡ c.max-end.result = omega (arith, c.loop-index-test.false, c.loop-index.auto.index-end) in
     below_end (IsStandardChange c.args.likeness c.args.kind c.args.one.now c.args.other.now) c.loop-index.index _ _ (map difference_value c.loop-index.out.items)
-    (end ∙ c.max-end.ensures ∙ ap₂ max c.standard_count.ensures c.standard_count-2.ensures) c.loop-index.invariant
+    (end ∙ c.max-end.ensures ∙ ap₂ max (c.count_of.ensures ∙ ap (λ (p : PartValue). count_of_kind p c.args.kind) c.standard.ensures) (c.count_of-2.ensures ∙ ap (λ (p : PartValue). count_of_kind p c.args.kind) c.standard-2.ensures)) c.loop-index.invariant

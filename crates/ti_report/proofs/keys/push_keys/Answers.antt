@@ -1,4 +1,5 @@
-use Rattle.std.proofs.Common.{◌≡◌, ◌∙◌, ◌++◌, ap}
+use Rattle.std.proofs.Common.{◌≡◌, ◌∙◌, ◌++◌, ap, subst}
+use Rattle.std.specs.List.Sorted.{IsPermutation}
 use Rattle.std.proofs.lemmas.List.Sorted.{IsPermutation-map}
 use Rattle.ti_report.specs.Keys.{on_keys}
 use Rattle.ti_report.specs.inner.Lent.{key_lent, keys_lent}
@@ -15,10 +16,8 @@ returns g c =
     let remarks : on_row c.args.scope (keys_lent row) ≡ on_keys c.args.scope (keys_lent row) (keys_lent row) = neighbours_are c.args.scope (keys_lent row) ascends in (
       on_row c.args.scope (keys_lent row),
       record {
-        keys = keys_lent keys;
-        are_keys = c.in_ok-keys.ensures;
         row = keys_lent row;
-        same = IsPermutation-map key_lent keys row c.sort_unstable.ensures.permutation;
+        same = subst (λ all. IsPermutation all (keys_lent row)) c.in_ok-keys.ensures (IsPermutation-map key_lent keys row c.sort_unstable.ensures.permutation);
         ascends = ascends;
         remarks_are = remarks;
       },

@@ -1,11 +1,11 @@
 use Rattle.std.proofs.Common.{◌∙◌, ap, inl, inr}
 use Rattle.ti_lint.specs.declared.finding.Finding.TheVariants.{StackUnderflow}
-use Rattle.ti_lint.specs.declared.found.Found.{Found}
+use Rattle.ti_lint.specs.declared.placed_finding.PlacedFinding.{PlacedFinding}
 use Rattle.ti_report.proofs.PlacesOfLemmas.{going_end, going_next}
 use Rattle.ti_report.proofs.marks.places_of.Goals.{then-is_same+in_ok-push, else-is_same}
 use Rattle.ti_report.proofs.marks.places_of.Goals as goal
 
-abbrev none : Found
+abbrev none : PlacedFinding
 none = record { place = 0; finding = StackUnderflow }
 
 pub founds-preserved : goal.founds-preserved

@@ -1,21 +1,12 @@
-use Rattle.std.proofs.Common.{◌<◌, arith, length, subst}
-use Rattle.ti_words.specs.Texts.{AbsentText, TextValue}
-use Rattle.ti_report.specs.Lines.{Adds}
-use Rattle.ti_report.specs.Sequences.{IsSequenceAt}
-use Rattle.ti_report.proofs.ReportsLemmas.{goes_end, goes_next}
+use Rattle.ti_words.specs.Items.{items, listed_value}
+use Rattle.ti_report.specs.Sequences.{IsSequenceOf}
+use Rattle.ti_report.proofs.ReportsLemmas.{all_end, all_next}
 use Rattle.ti_report.proofs.sequences.push_all_sequences.Goals as goal
 
-pub texts-preserved : goal.texts-preserved
-texts-preserved g c =
-    let texts = c.args.entry.now.standard.texts in
-    let i = c.texts.index in
-    let old = c.texts.out.items in
-    let new = c.push_sequence_at.new.out.items in
-    let P : TextValue → Type 0 = λ t. Adds (IsSequenceAt i t) old new in
-    let within : i < length texts = omega (arith, c.texts-test.true, c.text_count-index-end.ensures) in
-    goes_next IsSequenceAt texts i AbsentText c.args.out.now.items old new within c.texts.invariant (subst P c.text.ensures c.in_ok-push_sequence_at.ensures)
+pub items-preserved : goal.items-preserved
+items-preserved g c =
+    all_next IsSequenceOf (items c.args.entry.now) c.items.items c.next.new.self (listed_value (c.in-Some.subject, c.in-Some.item)) c.args.out.now.items c.items.out.items c.push_sequence_of.new.out.items
+    c.in-Some.ensures.some c.items.invariant c.in_ok-push_sequence_of.ensures
 
 pub returns : goal.returns
-returns g c =
-    goes_end IsSequenceAt c.args.entry.now.standard.texts c.texts.index c.args.out.now.items c.texts.out.items
-    (omega (arith, c.texts-test.false, c.text_count-index-end.ensures)) c.texts.invariant
+returns g c = all_end IsSequenceOf (items c.args.entry.now) c.items.items c.args.out.now.items c.items.out.items c.in_default.ensures.none.0 c.items.invariant

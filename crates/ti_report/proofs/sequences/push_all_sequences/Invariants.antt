@@ -1,7 +1,12 @@
 -- The remarks so far go on to those on all texts.
-use Rattle.ti_report.specs.Sequences.{IsSequenceAt}
-use Rattle.ti_report.proofs.ReportsLemmas.{GoesOn}
+use Rattle.std.proofs.Common.{length}
+use Rattle.ti_words.specs.Items.{items}
+use Rattle.ti_report.specs.Sequences.{IsSequenceOf}
+use Rattle.ti_report.proofs.ReportsLemmas.{GoesOnWith}
 use Rattle.ti_report.proofs.sequences.push_all_sequences.Given as goal
 
-abbrev pub invariant-texts : goal.invariant-texts
-invariant-texts g l = GoesOn (IsSequenceAt) l.entry.standard.texts l.initial.out.items l.index l.out.items
+abbrev pub invariant-items : goal.invariant-items
+invariant-items g l = GoesOnWith IsSequenceOf (items l.entry) l.items l.initial.out.items l.out.items
+
+abbrev pub decreases-items : goal.decreases-items
+decreases-items g l = length l.items

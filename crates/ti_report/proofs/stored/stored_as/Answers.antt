@@ -1,5 +1,5 @@
 use Rattle.std.proofs.Common.{◌↔◌, ℕ, subst, sym}
-use Rattle.ti_lint.specs.declared.class.Class.{Class}
+use Rattle.ti_names.specs.declared.class.Class.{Class}
 use Rattle.ti_lint.specs.Variables.{HasVariable}
 use Rattle.ti_report.specs.Reports.{StoresAs}
 use Rattle.ti_report.proofs.stored.stored_as.Goals as goal

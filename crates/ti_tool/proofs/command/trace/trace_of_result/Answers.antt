@@ -1,5 +1,5 @@
 use Rattle.std.specs.Option.{option_map}
-use Rattle.ti_listing.specs.Values.{item_value}
+use Rattle.ti_words.specs.Items.{item_value}
 use Rattle.ti_tool.proofs.IsGotLemmas.{traced_of}
 use Rattle.ti_tool.proofs.command.trace.trace_of_result.Goals as goal
 

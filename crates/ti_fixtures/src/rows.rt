@@ -1,0 +1,159 @@
+//! Rows of tests, which are lines of one text.
+//!
+//! A row is what is given, ` => ` and what is to be found for it. ` | ` stands between its fields. Bytes are as terminfo(5) writes
+//! them, as in `\E[H^G\000`; `-` is no bytes, and `@NAME` the entry, capability or trace of that name. A line that starts with
+//! `# ` is a remark.
+
+use crate::named::named;
+use std::alloc::{AllocError, Global};
+use std::fmt::{Debug, Display};
+use std::test::Fail;
+
+/// The first five fields of a row or of a part of it. Those that it lacks are empty.
+pub fn fields_of(row: &str) -> [&str; 5] {
+    let mut fields = [""; 5];
+    let mut count = 0;
+    for field in row.split(" | ") {
+        if count < 5 {
+            fields[count] = field;
+            count += 1;
+        }
+    }
+    fields
+}
+
+/// The number of a field.
+pub fn number_of(field: &str) -> Result<u64, Unfound> {
+    Ok(field.parse::<u64>().ok().ok_or("a number")?)
+}
+
+/// The place or the length of a field.
+pub fn place_of(field: &str) -> Result<usize, Unfound> {
+    Ok(field.parse::<usize>().ok().ok_or("a place")?)
+}
+
+/// How far a byte in the notation is read.
+#[derive(Clone, Copy)]
+enum Part {
+    Whole,
+    Backslash,
+    Caret,
+    /// The value of so many octal digits.
+    Octal(u8, u8),
+}
+
+/// What a character adds: the part that is read now, and a byte that is whole.
+fn read_character(part: Part, character: u8) -> (Part, Option<u8>) {
+    match (part, character) {
+        (Part::Whole, b'\\') => (Part::Backslash, None),
+        (Part::Whole, b'^') => (Part::Caret, None),
+        (Part::Whole, _) => (Part::Whole, Some(character)),
+        (Part::Caret, _) => (Part::Whole, Some(character ^ 0x40)),
+        (Part::Backslash, b'E') => (Part::Whole, Some(0x1b)),
+        (Part::Backslash, b'n') => (Part::Whole, Some(b'\n')),
+        (Part::Backslash, b's') => (Part::Whole, Some(b' ')),
+        (Part::Backslash, b'0'..=b'7') => (Part::Octal(character & 7, 1), None),
+        (Part::Backslash, _) => (Part::Whole, Some(character)),
+        (Part::Octal(value, 2), _) => (Part::Whole, Some(value << 3 | character & 7)),
+        (Part::Octal(value, _), _) => (Part::Octal(value << 3 | character & 7, 2), None),
+    }
+}
+
+/// The bytes of a field.
+pub fn bytes_of(alloc: Global, field: &str) -> Result<Vec<u8>, AllocError> {
+    if field == "-" {
+        return Ok(Vec::new(alloc));
+    }
+    if let Some(bytes) = named(field) {
+        return bytes.to_vec(alloc);
+    }
+    let mut bytes = Vec::new(alloc);
+    let mut part = Part::Whole;
+    for character in field.as_bytes() {
+        let (next, byte) = read_character(part, *character);
+        part = next;
+        if let Some(byte) = byte {
+            bytes.push(byte)?;
+        }
+    }
+    Ok(bytes)
+}
+
+/// Why nothing is found for a row: any error.
+#[derive(Drop)]
+pub struct Unfound;
+
+// It has no `Debug`, so that each error that has it converts.
+impl<E: Debug + Drop> From<E> for Unfound {
+    fn from(_error: E) -> Unfound {
+        Unfound
+    }
+}
+
+impl From<Unfound> for Fail {
+    fn from(_error: Unfound) -> Fail {
+        Fail::from("nothing is found")
+    }
+}
+
+/// What a value prints.
+pub fn shown<D: Display>(alloc: Global, value: &D) -> Result<Vec<u8>, Unfound> {
+    let text = format!(in alloc; "{value}")?;
+    Ok(text.as_str().as_bytes().to_vec(alloc)?)
+}
+
+/// Numbers with a blank between them.
+pub fn shown_numbers(alloc: Global, numbers: &[u64]) -> Result<Vec<u8>, Unfound> {
+    let mut text = Vec::new(alloc);
+    for number in numbers {
+        if !text.is_empty() {
+            text.push(b' ')?;
+        }
+        text.extend_from_slice(shown(alloc, number)?.as_slice())?;
+    }
+    Ok(text)
+}
+
+/// Whether what is found for what a row gives is what the row says.
+fn holds<F: Fn(Global, &str) -> Result<Vec<u8>, Unfound>>(
+    alloc: Global,
+    row: &str,
+    found: &F,
+) -> Result<bool, Unfound>
+    requires { F.IsAlwaysCallable found.now }
+{
+    let (given, wanted) = row.split_once(" => ").ok_or("a row")?;
+    let found = found(alloc, given)?;
+    Ok(found.as_slice() == bytes_of(alloc, wanted)?.as_slice())
+}
+
+/// The first row for which nothing, or something else, is found than it says, if there is one.
+pub fn first_wrong<'a, F: Fn(Global, &str) -> Result<Vec<u8>, Unfound>>(
+    alloc: Global,
+    rows: &'a str,
+    found: &F,
+) -> Option<&'a str>
+    requires { F.IsAlwaysCallable found.now }
+{
+    for row in rows.lines() {
+        let is_row = !row.is_empty() && !row.starts_with("# ");
+        if is_row && !holds(alloc, row, found).unwrap_or(false) {
+            return Some(row);
+        }
+    }
+    None
+}
+
+/// Fails with the first row that does not hold.
+pub fn check_rows<F: Fn(Global, &str) -> Result<Vec<u8>, Unfound>>(
+    alloc: Global,
+    rows: &str,
+    found: F,
+) -> Result<(), Fail>
+    requires { F.IsAlwaysCallable found }
+{
+    match first_wrong(alloc, rows, &found) {
+        Some(row) => Err(Fail::from(row)),
+        None => Ok(()),
+    }
+}

@@ -1,0 +1,3 @@
+pub mod NameLists
+pub mod AllNames
+pub mod inner
