@@ -36,6 +36,7 @@ impl<'e, 'a> Model for Items<'e, 'a> {
 }
 
 /// The value of the capability of a kind at an index, its texts read one after another.
+#[inline(always)]
 fn item_of<'a>(part: &PartView<'a>, texts: &mut Texts<'a>, kind: Kind, index: usize) -> Item<'a>
     requires { texts.old ≡ part.now.texts }
     ensures value { item_value result ≡ item_in part.now kind index }
@@ -49,6 +50,7 @@ fn item_of<'a>(part: &PartView<'a>, texts: &mut Texts<'a>, kind: Kind, index: us
 
 impl<'a> Items<'_, 'a> {
     /// The next capability and its value, or none at the end.
+    #[inline]
     pub fn next(&mut self) -> Option<(Subject<'a>, Item<'a>)>
         ensures some { IfSome result (λ listed. self.old ≡ listed_value listed ∷ self.new) }
         ensures none { IfNone result ((self.old ≡ []) × (self.new ≡ [])) }

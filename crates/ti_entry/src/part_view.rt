@@ -84,6 +84,7 @@ impl<'a> PartView<'a> {
     }
 
     /// How many capabilities of a kind there are.
+    #[inline]
     pub fn count_of(&self, kind: Kind) -> usize
         ensures { result ≡ count_of_kind self.now kind }
     {
@@ -91,6 +92,7 @@ impl<'a> PartView<'a> {
     }
 
     /// How many capabilities there are.
+    #[inline]
     #[tactic(auto, using(crate::proofs::ItemsLemmas::few))]
     pub fn count(&self) -> usize
         ensures exact { result ≡ count_of self.now }
@@ -101,6 +103,7 @@ impl<'a> PartView<'a> {
     }
 
     /// The value of the capability of a kind at an index; at or above the count a flag No, or absent.
+    #[inline]
     pub fn item(&self, kind: Kind, i: usize) -> Item<'a>
         ensures { item_value result ≡ item_in self.now kind i }
     {
@@ -112,6 +115,7 @@ impl<'a> PartView<'a> {
     }
 
     /// The kind and the index of the capability at a place of all: flags before numbers before texts.
+    #[inline]
     pub(crate) fn at(&self, place: usize) -> (Kind, usize)
         ensures { StandsAt self.now place result.0 result.1 }
     {

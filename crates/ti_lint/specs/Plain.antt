@@ -1,13 +1,12 @@
 -- What a text that is sent as it stands may have of the capability language.
-use Rattle.std.specs.Prelude.{◌≡◌, ℕ, ◌+◌, ◌<◌, List, length, slice_index, codes}
-use Rattle.ti_base.specs.Letters.{letter}
+use Rattle.std.specs.Prelude.{ℕ, List, drop, nat_eq, IsTrue, codes}
+use Rattle.std.specs.List.{starts_with}
 use Rattle.ti_cap.specs.declared.language.Token.{Token}
 use Rattle.ti_cap.specs.declared.language.Token.TheVariants.{Param, Constant, Store, Load, Print, CondOpen}
 
 -- two percent signs stand at the place
 abbrev pub IsDoublePercent : List ℕ → ℕ → Type 0
-IsDoublePercent bytes place =
-    (place + 1 < length bytes) × (slice_index bytes place ≡ letter (codes "%")) × (slice_index bytes (place + 1) ≡ letter (codes "%"))
+IsDoublePercent bytes place = IsTrue (starts_with nat_eq (drop place bytes) (codes "%%"))
 
 -- `%p`, `%P`, `%g`, `%{`, `%'`, `%?` and prints have no sense but to be expanded
 abbrev pub IsMeantToExpand : Token → Type 0

@@ -1,25 +1,16 @@
 //! What a text that is sent as it stands has of the capability language. There `%` is a byte like others.
 
-ghost use Rattle.std.specs.Prelude.{ℕ, ◌<◌, ◌≤◌, ◌↔◌, IsTrue, IfSome, IfNone};
+ghost use Rattle.std.specs.Prelude.{◌≤◌, ◌↔◌, IsTrue, length};
 ghost use Rattle.ti_lint.specs.Plain.{IsDoublePercent, IsMeantToExpand};
 
 use ti_cap::Token;
 
-/// The place of the first two percent signs from a place on. In a capability they write one.
-pub fn find_double_percent(text: &[u8], from: usize) -> Option<usize>
-    ensures found { IfSome result
-        (λ place. (from ≤ place) × IsDoublePercent text.now place) }
-    ensures first { IfSome result (λ place. (other : ℕ)
-        → from ≤ other → other < place → ¬ IsDoublePercent text.now other) }
-    ensures none { IfNone result ((other : ℕ)
-        → from ≤ other → ¬ IsDoublePercent text.now other) }
+/// Whether two percent signs stand at a place. In a capability they write one.
+pub fn is_double_percent(text: &[u8], place: usize) -> bool
+    requires { place ≤ length text.now }
+    ensures exact { IsTrue result ↔ IsDoublePercent text.now place }
 {
-    for place in from..text.len().saturating_sub(1) {
-        if text[place] == b'%' && text[place + 1] == b'%' {
-            return Some(place);
-        }
-    }
-    None
+    text[place..].starts_with(b"%%")
 }
 
 /// Whether a token shows that its text was meant to be expanded: it pushes or stores a value, starts a conditional or prints.

@@ -12,13 +12,13 @@ pub enum TextFinding {
     UnusedParameter,
     /// A text that is sent as it stands has a token that [`crate::is_meant_to_expand`].
     UninterpretedEscape,
-    /// A text that is sent as it stands, or that a key sends, has two percent signs: [`crate::find_double_percent`].
+    /// A text that is sent as it stands, or that a key sends, has two percent signs: [`crate::is_double_percent`].
     UninterpretedPercent,
     /// Two texts that undo each other, such as `sc` and `rc`, are the same: [`crate::undoing_pairs`] has their names.
     EqualPair,
-    /// A `$<` in a text that is sent starts no padding mark: [`crate::find_false_mark`].
+    /// A `$<` in a text that is sent starts no padding mark: [`crate::is_false_mark`].
     FalseMark,
-    /// A text that a key sends has a padding mark: [`crate::find_mark`].
+    /// A text that a key sends has a padding mark: [`crate::is_mark`].
     MarkInKey,
     /// A list of pairs of bytes, as `acsc` is, has an odd number of them: [`crate::is_half_paired`].
     HalfPaired,

@@ -1,6 +1,6 @@
 //! The places of a text at which something is wrong.
 
-ghost use Rattle.std.specs.Prelude.{◌≡◌, ℕ, ◌<◌, ◌≤◌, ◌↔◌, length, IsTrue, IfOk, IfNone, IfSome};
+ghost use Rattle.std.specs.Prelude.{◌≤◌, ◌↔◌, length, IsTrue, IfOk};
 ghost use Rattle.ti_lint.specs.Plain.{IsMeantToExpand};
 ghost use Rattle.ti_report.specs.Marks.{AreMarked, ArePlacesFrom, ArePlacesOf, IsSought};
 ghost use Rattle.ti_report.specs.Texts.{AreEscapes};
@@ -8,15 +8,8 @@ ghost use Rattle.ti_report.specs.Texts.{AreEscapes};
 use std::alloc::{AllocError, Allocator};
 use ti_cap::Capability;
 use ti_lint::{
-    Finding, PlacedFinding, find_double_percent, find_false_mark, find_mark, is_meant_to_expand,
+    Finding, PlacedFinding, is_double_percent, is_false_mark, is_mark, is_meant_to_expand,
 };
-
-/// Whether two findings are the same.
-fn is_same(one: Finding, other: Finding) -> bool
-    ensures { IsTrue result ↔ (one ≡ other) }
-{
-    one == other
-}
 
 /// The places at which a finding was found.
 pub fn places_of<A: Allocator>(
@@ -28,7 +21,7 @@ pub fn places_of<A: Allocator>(
 {
     let mut places = Vec::new(alloc);
     'founds: for found in founds {
-        if is_same(found.finding, finding) {
+        if found.finding == finding {
             places.push(found.place)?;
         }
     }
@@ -76,18 +69,15 @@ pub enum Sought {
     FalseMark,
 }
 
-/// The first place from one on at which it stands.
-fn find(text: &[u8], sought: Sought, from: usize) -> Option<usize>
-    ensures found { IfSome result (λ place. (from ≤ place) × IsSought text.now sought place) }
-    ensures first { IfSome result (λ place. (other : ℕ)
-        → from ≤ other → other < place → ¬ IsSought text.now sought other) }
-    ensures none { IfNone result ((other : ℕ) → from ≤ other → ¬ IsSought text.now sought other) }
-    ensures within { IfSome result (λ place. place < length text.now) }
+/// Whether it stands at a place.
+fn stands_at(text: &[u8], sought: Sought, place: usize) -> bool
+    requires { place ≤ length text.now }
+    ensures exact { IsTrue result ↔ IsSought text.now sought place }
 {
     match sought {
-        Sought::Percents => find_double_percent(text, from),
-        Sought::Mark => find_mark(text, from),
-        Sought::FalseMark => find_false_mark(text, from),
+        Sought::Percents => is_double_percent(text, place),
+        Sought::Mark => is_mark(text, place),
+        Sought::FalseMark => is_false_mark(text, place),
     }
 }
 
@@ -101,10 +91,10 @@ pub fn places_at<A: Allocator>(
         (λ places. ArePlacesFrom (IsSought text.now sought) 0 places.items) }
 {
     let mut places = Vec::new(alloc);
-    let mut from = 0;
-    'places: while let Some(place) = find(text, sought, from) {
-        places.push(place)?;
-        from = place + 1;
+    'places: for place in 0..text.len() {
+        if stands_at(text, sought, place) {
+            places.push(place)?;
+        }
     }
     Ok(places)
 }

@@ -32,6 +32,6 @@ pub use range::{Range, values_of};
 pub use same::{Same, first_same};
 pub use screen::tried_texts;
 pub use sent::sent_for;
-pub use sequence::{find_unended, first_shown, first_unended, has_unended, is_ansi};
+pub use sequence::{first_shown, first_unended, has_unended, is_ansi};
 pub use tried::Tried;
 pub use value_finding::ValueFinding;

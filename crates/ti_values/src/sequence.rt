@@ -85,27 +85,16 @@ fn is_unended(bytes: &[u8], place: usize) -> bool
     bytes[place..].starts_with(b"\x1b[") && !is_ended(&bytes[place + 2..])
 }
 
-/// The place of the first `\E[` from a place on that is not ended: no parameter bytes, intermediate bytes and final byte follow
-/// (ECMA-48, 5.4).
-pub fn find_unended(bytes: &[u8], from: usize) -> Option<usize>
-    ensures found { IfSome result (λ place. (from ≤ place) × IsUnended bytes.now place) }
-    ensures first { IfSome result (λ place. (other : ℕ)
-        → from ≤ other → other < place → ¬ IsUnended bytes.now other) }
-    ensures none { IfNone result ((other : ℕ) → from ≤ other → ¬ IsUnended bytes.now other) }
-{
-    'bytes: for place in from..bytes.len() {
-        if is_unended(bytes, place) {
-            return Some(place);
-        }
-    }
-    None
-}
-
-/// Whether there is one at all.
+/// Whether there is a `\E[` that is not ended: no parameter bytes, intermediate bytes and final byte follow (ECMA-48, 5.4).
 pub fn has_unended(bytes: &[u8]) -> bool
     ensures exact { IsTrue result ↔ HasUnended bytes.now }
 {
-    find_unended(bytes, 0).is_some()
+    'bytes: for place in 0..bytes.len() {
+        if is_unended(bytes, place) {
+            return true;
+        }
+    }
+    false
 }
 
 /// The place of the first value for which a `\E[` is sent that is not ended.
@@ -238,24 +227,16 @@ fn is_rendition(bytes: &[u8], place: usize) -> bool
     starts_rendition(&rest[parameter_len(rest)..])
 }
 
-/// The place of the first one.
-fn find_rendition(bytes: &[u8]) -> Option<usize>
-    ensures found { IfSome result (λ place. IsRendition bytes.now place) }
-    ensures none { IfNone result ((other : ℕ) → ¬ IsRendition bytes.now other) }
-{
-    'bytes: for place in 0..bytes.len() {
-        if is_rendition(bytes, place) {
-            return Some(place);
-        }
-    }
-    None
-}
-
 /// Whether there is one at all.
 fn has_rendition(bytes: &[u8]) -> bool
     ensures exact { IsTrue result ↔ HasRendition bytes.now }
 {
-    find_rendition(bytes).is_some()
+    'bytes: for place in 0..bytes.len() {
+        if is_rendition(bytes, place) {
+            return true;
+        }
+    }
+    false
 }
 
 /// The place of the first value for which something is sent that shows on the screen.

@@ -4,9 +4,8 @@ use std::test::Fail;
 use ti_cap::{Capability, Token};
 use ti_fixtures::capabilities::CUP;
 use ti_lint::{
-    TextFinding, Variables, extended_class_of, find_double_percent, find_false_mark, find_mark,
-    is_half_paired, is_meant_to_expand, stored_by, toggling_pairs, undoing_pairs,
-    unused_parameters,
+    TextFinding, Variables, extended_class_of, is_double_percent, is_false_mark, is_half_paired,
+    is_mark, is_meant_to_expand, stored_by, toggling_pairs, undoing_pairs, unused_parameters,
 };
 use ti_names::{Class, NameTable, class_of};
 use ti_words::Kind;
@@ -79,30 +78,31 @@ fn parameters_are_left_out(rt: HostRuntime) -> Result<(), Fail> {
 #[test]
 fn two_percent_signs_are_found(rt: HostRuntime) -> Result<(), Fail> {
     // `kf50` of d200, and `rmacs` of f110 and of tvi955.
-    assert_that!(rt; find_double_percent(b"\x1e%%", 0) == Some(1));
-    assert_that!(rt; find_double_percent(b"\x1b%%", 0) == Some(1));
-    assert_that!(rt; find_double_percent(b"\x1b%", 0).is_none());
-    assert_that!(rt; find_double_percent(b"%a%%%", 0) == Some(2));
-    assert_that!(rt; find_double_percent(b"%a%%%", 4).is_none());
-    assert_that!(rt; find_double_percent(b"%%", 7).is_none());
-    assert_that!(rt; find_double_percent(b"", 0).is_none());
+    assert_that!(rt; !is_double_percent(b"\x1e%%", 0) && is_double_percent(b"\x1e%%", 1));
+    assert_that!(rt; !is_double_percent(b"\x1b%%", 0) && is_double_percent(b"\x1b%%", 1));
+    assert_that!(rt; !is_double_percent(b"\x1b%", 0) && !is_double_percent(b"\x1b%", 1));
+    assert_that!(rt; !is_double_percent(b"%a%%%", 0) && !is_double_percent(b"%a%%%", 1));
+    assert_that!(rt; is_double_percent(b"%a%%%", 2) && is_double_percent(b"%a%%%", 3));
+    assert_that!(rt; !is_double_percent(b"%a%%%", 4));
+    assert_that!(rt; !is_double_percent(b"%%", 2));
+    assert_that!(rt; !is_double_percent(b"", 0));
     Ok(())
 }
 
 #[test]
 fn padding_marks_are_found(rt: HostRuntime) -> Result<(), Fail> {
     // `kdl1` of tvi921 has a mark, as a key must not.
-    assert_that!(rt; find_mark(b"\x1bR$<1*/>", 0) == Some(2));
-    assert_that!(rt; find_mark(b"\x1bR$<1*/>", 3).is_none());
-    assert_that!(rt; find_mark(b"$<5$<5>", 0) == Some(3));
-    assert_that!(rt; find_mark(b"$<>", 0).is_none());
-    assert_that!(rt; find_mark(b"", 1).is_none());
+    assert_that!(rt; !is_mark(b"\x1bR$<1*/>", 1) && is_mark(b"\x1bR$<1*/>", 2));
+    assert_that!(rt; !is_mark(b"\x1bR$<1*/>", 3));
+    assert_that!(rt; !is_mark(b"$<5$<5>", 0) && is_mark(b"$<5$<5>", 3));
+    assert_that!(rt; !is_mark(b"$<>", 0));
+    assert_that!(rt; !is_mark(b"", 0));
     // A mark has a digit, at most five before the point, and an end.
-    assert_that!(rt; find_false_mark(b"a$<5>b$<>", 0) == Some(6));
-    assert_that!(rt; find_false_mark(b"$<123456>", 0) == Some(0));
-    assert_that!(rt; find_false_mark(b"$<5$<5>", 0) == Some(0));
-    assert_that!(rt; find_false_mark(b"$<5$<5>", 1).is_none());
-    assert_that!(rt; find_false_mark(b"$$<.5/>", 0).is_none());
+    assert_that!(rt; !is_false_mark(b"a$<5>b$<>", 1) && is_false_mark(b"a$<5>b$<>", 6));
+    assert_that!(rt; is_false_mark(b"$<123456>", 0));
+    assert_that!(rt; is_false_mark(b"$<5$<5>", 0));
+    assert_that!(rt; !is_false_mark(b"$<5$<5>", 3));
+    assert_that!(rt; !is_false_mark(b"$$<.5/>", 0) && !is_false_mark(b"$$<.5/>", 1));
     Ok(())
 }
 

@@ -1,8 +1,8 @@
-use Rattle.std.proofs.Common.{◌∙◌, ap, inl, inr}
+use Rattle.std.proofs.Common.{◌∙◌, ap, inl, inr, rules}
 use Rattle.ti_lint.specs.declared.finding.Finding.TheVariants.{StackUnderflow}
 use Rattle.ti_lint.specs.declared.placed_finding.PlacedFinding.{PlacedFinding}
 use Rattle.ti_report.proofs.PlacesOfLemmas.{going_end, going_next}
-use Rattle.ti_report.proofs.marks.places_of.Goals.{then-is_same+in_ok-push, else-is_same}
+use Rattle.ti_report.proofs.marks.places_of.Goals.{then-eq+in_ok-push, else-eq}
 use Rattle.ti_report.proofs.marks.places_of.Goals as goal
 
 abbrev none : PlacedFinding
@@ -11,10 +11,10 @@ none = record { place = 0; finding = StackUnderflow }
 pub founds-preserved : goal.founds-preserved
 founds-preserved g c =
     let i = c.founds.found-index in
-    going_next c.args.finding c.args.founds.now i none c.founds.places.items c.if-is_same.places.items c.founds-test.true
-    (elim c.if-is_same.branch [
-      | then-is_same+in_ok-push w ↦ inl (c.is_same.ensures.0 w.if-is_same.true, ap (λ v. v.items) w.places-is ∙ w.in_ok-push.ensures.items)
-      | else-is_same w ↦ inr (λ h. let yes = c.is_same.ensures.1 h in absurd (cc (yes, w.if-is_same.false)), ap (λ v. v.items) w.places-is)
+    going_next c.args.finding c.args.founds.now i none c.founds.places.items c.if-eq.places.items c.founds-test.true
+    (elim c.if-eq.branch [
+      | then-eq+in_ok-push w ↦ inl (search (rules, w.if-eq.true, c.eq.ensures), ap (λ v. v.items) w.places-is ∙ w.in_ok-push.ensures.items)
+      | else-eq w ↦ inr (λ h. search (rules, h, w.if-eq.false, c.eq.ensures), ap (λ v. v.items) w.places-is)
     ])
     c.founds.invariant
 

@@ -1,7 +1,6 @@
-use Rattle.std.proofs.Common.{◌<◌, ◌∙◌, arith, length}
+use Rattle.std.proofs.Common.{arith}
 use Rattle.std.proofs.lemmas.Grind.{common_steps}
 use Rattle.std.proofs.lemmas.List.{length-map}
-use Rattle.ti_values.specs.Sent.{texts_of}
 use Rattle.ti_values.proofs.empty.first_empty.Goals as goal
 
 pub returns-then-is_empty : goal.returns-then-is_empty

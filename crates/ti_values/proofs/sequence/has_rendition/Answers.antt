@@ -2,7 +2,7 @@ use Rattle.std.proofs.Common.{◌<◌, ◌≤◌, ◌⊎◌, inl, inr, ℕ, List
 use Rattle.std.specs.List.{starts_with}
 use Rattle.std.proofs.lemmas.List.{drop_all}
 use Rattle.ti_values.specs.Sequences.{IsRendition, introducer}
-use Rattle.ti_values.proofs.sequence.find_rendition.Goals as goal
+use Rattle.ti_values.proofs.sequence.has_rendition.Goals as goal
 
 none_after : (bytes : List ℕ) (place : ℕ) → length bytes ≤ place → ¬ IsRendition bytes place
 none_after bytes place past at =
@@ -12,8 +12,13 @@ none_after bytes place past at =
 apart : (a b : ℕ) → (a < b) ⊎ (b ≤ a)
 apart a b = grind arith
 
-pub returns-clause-none : goal.returns-clause-none
-returns-clause-none c = λ other at. elim (apart other (length c.args.bytes.now)) [
-  | inl within ↦ c.bytes.invariant other (omega (arith, within, c.bytes-test.false)) at
-  | inr past ↦ none_after c.args.bytes.now other past at
-]
+pub returns : goal.returns
+returns c = record {
+  exact = (
+    λ is. cc is,
+    λ has. absurd (elim (apart has.0 (length c.args.bytes.now)) [
+      | inl within ↦ c.bytes.invariant has.0 (omega (arith, within, c.bytes-test.false)) has.1
+      | inr past ↦ none_after c.args.bytes.now has.0 past has.1
+    ]),
+  );
+}
