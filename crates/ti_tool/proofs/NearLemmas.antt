@@ -1,19 +1,20 @@
 -- The nearest of the names that are not told yet.
-use Rattle.std.proofs.Common.{◌≡◌, ◌≤◌, ◌<◌, ◌+◌, ◌∙◌, ℕ, List, [], ◌∷◌, ◌++◌, ◌≢◌, ◌↔◌, Bool, true, false, IsTrue, MatchBool, inl, inr, length, map, take, get_or, ap, arith, below_more, length-append, refl, subst, sym}
+use Rattle.std.proofs.Common.{◌≡◌, ◌≤◌, ◌<◌, ◌∙◌, ℕ, zero, suc, List, [], ◌∷◌, ◌++◌, ◌≢◌, ◌↔◌, Bool, true, false, IsTrue, MatchBool, inl, inr, length, map, take, get_or, ap, arith, below_more, length-append, refl, subst, sym}
 use Rattle.std.specs.Borrow.{Bor}
+use Rattle.std.specs.Str.{IsUtf8}
 use Rattle.std.specs.Prelude.{Contains, Option, Some, None, IfSome, IfNone, Result, Ok, Err, IfOk}
 use Rattle.std.specs.List.{AllWithin, HoldsAt}
 use Rattle.std.proofs.lemmas.List.{get_or-map, get_or_append_left, length-map, map-append, take-append-le}
 use Rattle.std.proofs.Math.Seq.{get_or-append_seam, take-append_seam}
 use Rattle.std.proofs.lemmas.Bool.{false≢true}
-use Rattle.std.proofs.lemmas.Option.{slice_get_within}
 use Rattle.ti_words.specs.declared.Kind.{Kind}
 use Rattle.ti_words.specs.declared.Kind.TheVariants as kinds
 use Rattle.ti_names.specs.declared.name_table.NameTable.{NameTable}
 use Rattle.ti_names.specs.declared.name_table.NameTable.TheVariants.{All, Long}
-use Rattle.ti_words.specs.Value.{EntryValue, NamedPart}
-use Rattle.ti_tool.specs.Near.{AreNearest, IsName, IsNext, IsOwnAt, NoneIsNear, most_told}
-use Rattle.ti_tool.specs.inner.Near.{IsFarther, IsFartherIn, IsFartherOwn, IsFartherOwnBelow, IsFound, IsFoundName, told_of}
+use Rattle.ti_words.specs.Items.{ExtendedSubject, Listed, items}
+use Rattle.ti_words.specs.Value.{EntryValue}
+use Rattle.ti_tool.specs.Near.{AreNearest, IsName, IsNameAmong, IsNameOf, IsNext, NoneIsNear, most_told}
+use Rattle.ti_tool.specs.inner.Near.{AreFarther, IsFarther, IsFartherIn, IsFartherOf, IsFound, IsFoundName, told_of}
 use Rattle.ti_tool.specs.declared.near.Found.{Found}
 use Rattle.ti_tool.specs.declared.near.Sought.{Sought}
 
@@ -35,14 +36,11 @@ told_from_cases false (x ∷ xs) name none = (
 -- ---- the next name
 
 -- no name that is not told is nearer, if none of terminfo(5)'s is and none of the entry's own
-farther : (s : Sought) (least : ℕ) → ((kind : Kind) → IsFartherIn s least All kind) → ((kind : Kind) → IsFartherIn s least Long kind) → ((kind : Kind) → IsFartherOwn s least kind)
+farther : (s : Sought) (least : ℕ) → ((kind : Kind) → IsFartherIn s least All kind) → ((kind : Kind) → IsFartherIn s least Long kind) → AreFarther s least (items s.entry.now)
     → (other : List ℕ) → IsName s.entry.now other → IsFarther s least other
-farther s least short long own other (kind, index, inl (within, inl is)) = short kind index other within is
-farther s least short long own other (kind, index, inl (within, inr is)) = long kind index other within is
-farther s least short long own other (kind, index, inr (is, text)) = own kind index other (slice_get_within _ index other is) (is, text)
-
-some_same : (a b : List ℕ) → Some a ≡ Some b → a ≡ b
-some_same a b is = cc
+farther s least short long extended other (inl (kind, index, (within, inl is))) = short kind index other within is
+farther s least short long extended other (inl (kind, index, (within, inr is))) = long kind index other within is
+farther s least short long extended other (inr among) = extended other among
 
 of_kinds : (P : Kind → Type 0) → P kinds.Flag → P kinds.Number → P kinds.Text → (kind : Kind) → P kind
 of_kinds P flag number text kinds.Flag = flag
@@ -59,26 +57,43 @@ farther_of s table flags numbers (Ok f) of_flags less of_numbers least of_texts 
     of_kinds (λ kind. IsFartherIn s f.edits table kind) (farther_in s f.edits flags.edits table kinds.Flag (omega (arith, less, least)) of_flags) (farther_in s f.edits numbers.edits table kinds.Number least of_numbers) of_texts
 farther_of s table flags numbers (Err e) of_flags less of_numbers least of_texts = tt
 
-own_more : (s : Sought) (best new : ℕ) (kind : Kind) (i : ℕ) → new ≤ best → IsFartherOwnBelow s best kind i → ((name : List ℕ) → IsOwnAt s.entry.now.extended kind i name → IsFarther s new name)
-    → IsFartherOwnBelow s new kind (i + 1)
-own_more s best new kind i less below at index name within own =
-    below_more (λ k. (other : List ℕ) → IsOwnAt s.entry.now.extended kind k other → IsFarther s new other) i (λ k h other is untold. omega (arith, less, below k other h is untold)) at index within name own
+-- ---- the names that an entry gives
 
-own_same : (part : NamedPart) (kind : Kind) (i : ℕ) (name other : List ℕ) → IsOwnAt part kind i name → IsOwnAt part kind i other → name ≡ other
-own_same part kind i name other (is, text) (also, other_text) = some_same name other (sym is ∙ also)
+among_more : (name : List ℕ) (first : Listed) (rest : List Listed) → IsNameAmong rest name → IsNameAmong (first ∷ rest) name
+among_more name first rest (k, one, within, at, is) = (suc k, one, omega (arith, within), at, is)
 
--- one more of an entry's own names is no nearer
-pub own_next : (s : Sought) (part : NamedPart) (best new : ℕ) (kind : Kind) (i : ℕ) (name : List ℕ) → part ≡ s.entry.now.extended → IsOwnAt part kind i name → new ≤ best → IsFarther s new name
-    → IsFartherOwnBelow s best kind i → IsFartherOwnBelow s new kind (i + 1)
-own_next s part best new kind i name same own less far below =
-    let IsOwn : NamedPart → Type 0 = λ x. IsOwnAt x kind i name in
-    own_more s best new kind i less below (λ other is. subst (IsFarther s new) (own_same s.entry.now.extended kind i name other (subst IsOwn same own) is) far)
+farther_more : (s : Sought) (best near : ℕ) (first : Listed) (rest : List Listed) → best ≤ near → IsFartherOf s near first.0 → AreFarther s best rest → AreFarther s best (first ∷ rest)
+farther_more s best near first rest below far others name (zero, one, within, at, is) new = omega (arith, below, far name (subst (λ x. IsNameOf x.0 name) (sym at) is) new)
+farther_more s best near first rest below far others name (suc k, one, within, at, is) new = others name (k, one, omega (arith, within), at, is) new
 
--- nor is one that there is not
-pub own_none : (s : Sought) (part : NamedPart) (best : ℕ) (kind : Kind) (i : ℕ) → part ≡ s.entry.now.extended → ((name : List ℕ) → ¬ IsOwnAt part kind i name)
-    → IsFartherOwnBelow s best kind i → IsFartherOwnBelow s best kind (i + 1)
-own_none s part best kind i same none below =
-    own_more s best best kind i (omega arith) below (λ other is. let IsOwn : NamedPart → Type 0 = λ x. IsOwnAt x kind i other in absurd (none other (subst IsOwn (sym same) is)))
+-- bytes that are UTF-8 are a name
+pub named_as : (kind : Kind) (bytes name : List ℕ) → (name ≡ bytes) × IsUtf8 bytes → IsNameOf (ExtendedSubject kind bytes) name
+named_as kind bytes name (is, text) = (sym is, subst IsUtf8 (sym is) text)
+
+pub farther_as : {E : Type 0} (s : Sought) (kind : Kind) (bytes name : List ℕ) (r : Result Found E) → name ≡ bytes → IfOk r (λ f. IsFarther s f.edits name)
+    → IfOk r (λ f. IsFartherOf s f.edits (ExtendedSubject kind bytes))
+farther_as s kind bytes name (Ok f) is far = λ other (same, text). subst (λ x. IsFarther s f.edits x) (is ∙ same) far
+farther_as s kind bytes name (Err e) is far = tt
+
+-- no name of a capability that is not left is nearer
+pub record Searched (s : Sought) (best : ℕ) (left : List Listed) : Type 0 where
+  pub named : (name : List ℕ) → IsNameAmong left name → IsName s.entry.now name
+  pub farther : (least : ℕ) → least ≤ best → AreFarther s least left → AreFarther s least (items s.entry.now)
+
+pub searched_start : (s : Sought) (best : ℕ) → Searched s best (items s.entry.now)
+searched_start s best = record { named = λ name h. inr h; farther = λ least below h. h }
+
+pub searched_named : (s : Sought) (best : ℕ) (old new : List Listed) (one : Listed) (name : List ℕ) → old ≡ one ∷ new → Searched s best old → IsNameOf one.0 name → IsName s.entry.now name
+searched_named s best old new one name is h of = h.named name (subst (λ l. IsNameAmong l name) (sym is) (0, one, omega arith, refl, of))
+
+pub searched_next : (s : Sought) (best near : ℕ) (old new : List Listed) (one : Listed) → old ≡ one ∷ new → near ≤ best → IsFartherOf s near one.0 → Searched s best old → Searched s near new
+searched_next s best near old new one is below far h = record {
+  named = λ name among. h.named name (subst (λ l. IsNameAmong l name) (sym is) (among_more name one new among));
+  farther = λ least low others. h.farther least (omega (arith, low, below)) (subst (λ l. AreFarther s least l) (sym is) (farther_more s least near one new low far others));
+}
+
+pub searched_end : (s : Sought) (best : ℕ) (left : List Listed) → left ≡ [] → Searched s best left → AreFarther s best (items s.entry.now)
+searched_end s best left is h = h.farther best (omega arith) (subst (λ l. AreFarther s best l) (sym is) (λ name (k, one, within, at, of). absurd (omega (arith, within))))
 
 -- what is found among all names is told next
 next_of : (s : Sought) (least : ℕ) (found : Option (Bor (List ℕ))) → IsFoundName s least found
@@ -96,10 +111,10 @@ next_of s least (Some name) found all = (
 next_of s least None found all = (tt, λ other named new. omega (arith, found, all other named new))
 
 pub found_next : (s : Sought) (short standard f : Found) → IsFound s f → standard.edits ≤ short.edits → f.edits ≤ standard.edits
-    → ((kind : Kind) → IsFartherIn s short.edits All kind) → ((kind : Kind) → IsFartherIn s standard.edits Long kind) → ((kind : Kind) → IsFartherOwn s f.edits kind)
+    → ((kind : Kind) → IsFartherIn s short.edits All kind) → ((kind : Kind) → IsFartherIn s standard.edits Long kind) → AreFarther s f.edits (items s.entry.now)
     → IfSome f.name (λ name. IsNext s.entry.now s.word.now (told_of s) name.now) × IfNone f.name (NoneIsNear s.entry.now s.word.now (told_of s))
-found_next s short standard f found below least of_short of_long own =
-    next_of s f.edits f.name found (farther s f.edits (λ kind. farther_in s f.edits short.edits All kind (omega (arith, below, least)) (of_short kind)) (λ kind. farther_in s f.edits standard.edits Long kind least (of_long kind)) own)
+found_next s short standard f found below least of_short of_long extended =
+    next_of s f.edits f.name found (farther s f.edits (λ kind. farther_in s f.edits short.edits All kind (omega (arith, below, least)) (of_short kind)) (λ kind. farther_in s f.edits standard.edits Long kind least (of_long kind)) extended)
 
 -- each name that is told is the next one after those before it
 abbrev pub EachIsNext : EntryValue → List ℕ → List (List ℕ) → Type 0

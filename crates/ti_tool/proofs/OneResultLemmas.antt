@@ -1,8 +1,7 @@
 -- For given parameters and bytes at most one result is due, and no fault of a call itself.
 use Rattle.std.proofs.Common.{◌≡◌, ◌⊎◌, ℕ, zero, suc, ◌<◌, ◌≤◌, Bool, ◌&&◌, List, [], ◌∷◌, ◌++◌, length, Ok, Err, Some, None, inl, inr, refl, sym, ap, subst, ◌∙◌, arith, pos}
-use Rattle.ti_words.specs.Items.{ExtendedSubject, FlagItem, ItemValue, Listed, NumberItem, StandardSubject, SubjectValue, TextItem, items, text_in}
+use Rattle.ti_words.specs.Items.{FlagItem, ItemValue, Listed, NumberItem, SubjectValue, TextItem, items, text_in}
 use Rattle.std.specs.Prelude.{Option, Result, replicate, codes}
-use Rattle.ti_words.specs.declared.Kind.TheVariants as kinds
 use Rattle.ti_words.specs.Texts.{TextValue, AbsentText, CancelledText, TextOf}
 use Rattle.ti_words.specs.Value.{EntryValue}
 use Rattle.ti_layout.specs.declared.fault.Refused.{Refused}

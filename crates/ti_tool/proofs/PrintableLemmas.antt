@@ -1,7 +1,7 @@
 -- Results under `--escape` are printable lines, as many as are due.
-use Rattle.std.proofs.Common.{◌≡◌, ◌∙◌, ◌+◌, ℕ, suc, Bool, true, List, [], ◌∷◌, ◌++◌, Some, inl, inr, refl, sym, ap, subst, arith, append_assoc, map}
+use Rattle.std.proofs.Common.{◌≡◌, ◌∙◌, ◌+◌, ℕ, Bool, true, List, [], ◌∷◌, ◌++◌, Some, inl, inr, refl, sym, ap, subst, arith, append_assoc, map}
 use Rattle.ti_words.specs.Items.{ExtendedSubject, FlagItem, ItemValue, Listed, NumberItem, StandardSubject, SubjectValue, TextItem, items, text_in}
-use Rattle.std.specs.Prelude.{◌-◌, Option, None, Ok, get_or, length, take, ◌⊎◌, codes, decimal}
+use Rattle.std.specs.Prelude.{◌-◌, Option, None, Ok, length, take, ◌⊎◌, codes, decimal}
 use Rattle.std.specs.List.{flat_map, list_all}
 use Rattle.std.specs.Fmt.{signed_decimal}
 use Rattle.std.proofs.lemmas.Bool.{and_from}
@@ -10,16 +10,13 @@ use Rattle.std.proofs.lemmas.List.{append-nil, length-append}
 use Rattle.std.proofs.lemmas.List.Folds.{list_all-append}
 use Rattle.ti_words.specs.declared.Flag.{Flag}
 use Rattle.ti_words.specs.declared.Flag.TheVariants as flags
-use Rattle.ti_words.specs.declared.Kind.{Kind}
 use Rattle.ti_words.specs.declared.Kind.TheVariants as kinds
 use Rattle.ti_words.specs.declared.Number.{Number}
 use Rattle.ti_words.specs.declared.Number.TheVariants as numbers
 use Rattle.ti_words.specs.declared.Width.{Width}
-use Rattle.ti_words.specs.Spelling.{mark_in, unnamed}
 use Rattle.ti_words.specs.Texts.{TextValue, AbsentText, CancelledText, TextOf}
-use Rattle.ti_words.specs.Value.{PartValue, EntryValue}
+use Rattle.ti_words.specs.Value.{EntryValue}
 use Rattle.ti_words.specs.Widths.{format_name}
-use Rattle.ti_entry.specs.Finding.{names_of}
 use Rattle.ti_cap.specs.declared.language.CapFault.{CapFault}
 use Rattle.ti_cap.specs.declared.language.CapFault.TheVariants as cap_faults
 use Rattle.ti_cap.specs.FaultNames.{cap_fault_word}
@@ -40,7 +37,6 @@ use Rattle.ti_line.specs.declared.options.Output.TheVariants as outputs
 use Rattle.ti_pad.specs.Setting.{Setting}
 use Rattle.ti_tool.specs.Got.{IsTextResult, IsValueResult, number_or_none, number_result}
 use Rattle.ti_listing.specs.Labels.{extended_label, names_in_form, subject_label, subject_word}
-use Rattle.ti_json.specs.Objects.{kind_word}
 use Rattle.ti_listing.specs.Listing.{entry_lines, flag_line, listed_line, number_line, text_line}
 use Rattle.serde_json.specs.Data.{Data}
 use Rattle.ti_tool.specs.Verdicts.{AreTold, AreVerdictObjects, IsTold, fault_verdict, in_line, in_object, sound_verdict}
@@ -55,7 +51,7 @@ use Rattle.ti_report.specs.Objects.{remark_object}
 use Rattle.ti_report.proofs.PlainLemmas.{remarks_are_plain}
 use Rattle.ti_tool.specs.Documents.{IsDocument, key_of}
 use Rattle.ti_tool.specs.Results.{IsDueFrom}
-use Rattle.ti_tool.specs.Printable.{JsonIsPrintable, ObjectIsPrintable, ArePrintableLines, flag_lines, number_lines, text_lines, item_lines, verdict_lines, lines_of, listed_lines, checked_lines, ShowIsPrintable, CheckIsPrintable, CapIsPrintable, ExpandIsPrintable, GetIsPrintable}
+use Rattle.ti_tool.specs.Printable.{JsonIsPrintable, ObjectIsPrintable, ArePrintableLines, flag_lines, number_lines, text_lines, item_lines, verdict_lines, lines_of, listed_lines, ShowIsPrintable, CheckIsPrintable, CapIsPrintable, ExpandIsPrintable, GetIsPrintable}
 
 -- ---- joining
 

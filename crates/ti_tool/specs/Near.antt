@@ -1,12 +1,13 @@
 -- The names that are told in place of a word that nothing has.
-use Rattle.std.specs.Prelude.{◌≡◌, ◌⊎◌, ◌<◌, ◌≤◌, ◌/◌, ℕ, List, [], Contains, get_or, length, slice_get, take, Some}
+use Rattle.std.specs.Prelude.{◌≡◌, ◌⊎◌, ◌<◌, ◌≤◌, ◌/◌, ℕ, List, [], Contains, get_or, length, take, Some}
+use Rattle.std.specs.List.{Any}
 use Rattle.std.specs.Str.{IsUtf8, chars}
 use Rattle.strsim.specs.Edits.{osa_table}
-use Rattle.ti_entry.specs.Finding.{names_of}
 use Rattle.ti_words.specs.declared.Kind.{Kind}
+use Rattle.ti_words.specs.Items.{ExtendedSubject, Listed, StandardSubject, SubjectValue, items}
 use Rattle.ti_names.specs.declared.name_table.NameTable.TheVariants.{All, Long}
 use Rattle.ti_names.specs.AllNames.{name_in}
-use Rattle.ti_words.specs.Value.{EntryValue, NamedPart}
+use Rattle.ti_words.specs.Value.{EntryValue}
 
 -- ---- the names that there are
 
@@ -19,12 +20,17 @@ abbrev pub IsStandardAt : Kind → ℕ → List ℕ → Type 0
 IsStandardAt kind index name =
     (index < most_names) × ((name_in All kind index ≡ Some name) ⊎ (name_in Long kind index ≡ Some name))
 
--- an entry has the name for the capability of its own of a kind at an index; only UTF-8 can be near to a word
-abbrev pub IsOwnAt : NamedPart → Kind → ℕ → List ℕ → Type 0
-IsOwnAt part kind index name = (slice_get (names_of part kind) index ≡ Some name) × IsUtf8 name
+-- an entry names the capability so; only UTF-8 can be near to a word
+abbrev pub IsNameOf : SubjectValue → List ℕ → Type 0
+IsNameOf (StandardSubject kind index) name = ⊥
+IsNameOf (ExtendedSubject kind extended) name = (extended ≡ name) × IsUtf8 name
+
+-- some of these capabilities has the name
+abbrev pub IsNameAmong : List Listed → List ℕ → Type 0
+IsNameAmong listed name = Any (λ one. IsNameOf one.0 name) listed
 
 abbrev pub IsName : EntryValue → List ℕ → Type 0
-IsName v name = (kind : Kind) × (index : ℕ) × (IsStandardAt kind index name ⊎ IsOwnAt v.extended kind index name)
+IsName v name = ((kind : Kind) × (index : ℕ) × IsStandardAt kind index name) ⊎ IsNameAmong (items v) name
 
 -- ---- how near they are
 

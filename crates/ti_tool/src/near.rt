@@ -1,23 +1,23 @@
 //! The names that are nearest to a word that nothing has, for the line on it.
 //!
-//! They are found one after another. For each, all short and long names and the entry's own are gone over once. A name that
+//! They are found one after another. For each, all short and long names and those of the entry's extended capabilities are gone over once. A name that
 //! is much longer or shorter than the word is passed over; each other one takes memory for its distance.
 
 ghost use Rattle.std.specs.Prelude.{◌≡◌, ◌≤◌, ◌<◌, ◌↔◌, ℕ, List, Contains, IfOk, IfSome, IfNone, IsTrue, false, length, map, option_map};
 ghost use Rattle.std.specs.Str.{chars};
-ghost use Rattle.ti_entry.specs.Finding.{names_of};
 ghost use Rattle.ti_words.specs.declared.Kind.{Kind};
+ghost use Rattle.ti_words.specs.Items.{items, subject_value};
 ghost use Rattle.ti_names.specs.AllNames.{name_in};
-ghost use Rattle.ti_tool.specs.Near.{AreNearest, IsName, IsNext, IsOwnAt, NoneIsNear, edits, most_edits};
-ghost use Rattle.ti_tool.specs.inner.Near.{IsFarther, IsFartherIn, IsFartherOwn, IsFound, IsShortOrLong, IsSought, told_of};
+ghost use Rattle.ti_tool.specs.Near.{AreNearest, IsName, IsNameOf, IsNext, NoneIsNear, edits, most_edits};
+ghost use Rattle.ti_tool.specs.inner.Near.{AreFarther, IsFarther, IsFartherIn, IsFartherOf, IsFound, IsShortOrLong, IsSought, told_of};
 
 use arrayvec::ArrayVec;
 use std::alloc::{AllocError, Allocator};
 use std::str;
 use strsim::osa_distance;
-use ti_entry::{Entry, Extended};
+use ti_entry::Entry;
 use ti_names::NameTable;
-use ti_words::Kind;
+use ti_words::{Kind, Subject};
 
 /// How many indices there are of the kind that has most.
 const MOST_NAMES: usize = 414;
@@ -148,55 +148,47 @@ fn nearest_of<'n, A: Allocator + Copy>(
     nearest_in(alloc, sought, numbers, table, Kind::Text)
 }
 
-/// One of an entry's own names, if it is UTF-8: a word is, so no other is near to one.
-fn own_text<'n>(extended: &Extended<'n>, kind: Kind, index: usize) -> Option<&'n str>
-    ensures some { IfSome result (λ name. IsOwnAt extended.now kind index name.now) }
-    ensures none { IfNone result ((name : List ℕ) → ¬ IsOwnAt extended.now kind index name) }
-{
-    match extended.name(kind, index) {
-        Some(name) => str::from_utf8(name).ok(),
-        None => None,
-    }
-}
-
-/// What is found among an entry's own names of a kind.
-fn nearest_own_in<'n, A: Allocator + Copy>(
+/// The nearer of what was found and the name of a capability, if the entry names it: in UTF-8, as a word is.
+fn nearer_extended<'n, A: Allocator + Copy>(
     alloc: A,
     sought: &Sought<'_, 'n>,
     found: Found<'n>,
-    kind: Kind,
+    subject: Subject<'n>,
+) -> Result<Found<'n>, AllocError>
+    requires sought { IsSought sought.now }
+    requires named { (name : List ℕ) → IsNameOf (subject_value subject) name → IsName sought.now.entry.now name }
+    requires found { IsFound sought.now found }
+    ensures found { IfOk result (IsFound sought.now) }
+    ensures less { IfOk result (λ f. f.edits ≤ found.entry.edits) }
+    ensures least { IfOk result (λ f. IsFartherOf sought.now f.edits (subject_value subject.entry)) }
+{
+    let Subject::Extended(_, name) = subject else {
+        return Ok(found);
+    };
+    match str::from_utf8(name) {
+        Ok(name) => nearer(alloc, sought, found, name),
+        Err(_) => Ok(found),
+    }
+}
+
+/// What is found among the names of an entry's extended capabilities.
+fn nearest_extended<'n, A: Allocator + Copy>(
+    alloc: A,
+    sought: &Sought<'_, 'n>,
+    found: Found<'n>,
 ) -> Result<Found<'n>, AllocError>
     requires sought { IsSought sought.now }
     requires found { IsFound sought.now found }
     ensures found { IfOk result (IsFound sought.now) }
     ensures less { IfOk result (λ f. f.edits ≤ found.entry.edits) }
-    ensures least { IfOk result (λ f. IsFartherOwn sought.now f.edits kind) }
+    ensures least { IfOk result (λ f. AreFarther sought.now f.edits (items sought.now.entry.now)) }
 {
-    let extended = sought.entry.extended();
     let mut best = found;
-    for index in 0..extended.count_of(kind) {
-        if let Some(name) = own_text(&extended, kind, index) {
-            best = nearer(alloc, sought, best, name)?;
-        }
+    let mut items = sought.entry.items();
+    'items: while let Some(listed) = items.next() {
+        best = nearer_extended(alloc, sought, best, listed.0)?;
     }
     Ok(best)
-}
-
-/// What is found among all of an entry's own names.
-fn nearest_own<'n, A: Allocator + Copy>(
-    alloc: A,
-    sought: &Sought<'_, 'n>,
-    found: Found<'n>,
-) -> Result<Found<'n>, AllocError>
-    requires sought { IsSought sought.now }
-    requires found { IsFound sought.now found }
-    ensures found { IfOk result (IsFound sought.now) }
-    ensures less { IfOk result (λ f. f.edits ≤ found.entry.edits) }
-    ensures least { IfOk result (λ f. (kind : Kind) → IsFartherOwn sought.now f.edits kind) }
-{
-    let flags = nearest_own_in(alloc, sought, found, Kind::Flag)?;
-    let numbers = nearest_own_in(alloc, sought, flags, Kind::Number)?;
-    nearest_own_in(alloc, sought, numbers, Kind::Text)
 }
 
 /// The name that is nearest to a word of those that are not told, the first of several, or none if none is near.
@@ -216,7 +208,7 @@ fn next_name<'n, A: Allocator + Copy>(
     };
     let short = nearest_of(alloc, sought, none, NameTable::All)?;
     let standard = nearest_of(alloc, sought, short, NameTable::Long)?;
-    let found = nearest_own(alloc, sought, standard)?;
+    let found = nearest_extended(alloc, sought, standard)?;
     Ok(found.name)
 }
 

@@ -2,12 +2,12 @@
 use Rattle.std.specs.Prelude.{◌≡◌, ◌+◌, ◌<◌, ◌≤◌, ℕ, List, Contains, Option, Some, None, length, map}
 use Rattle.std.specs.Borrow.{Bor}
 use Rattle.std.specs.Str.{chars}
-use Rattle.ti_entry.specs.Finding.{names_of}
 use Rattle.ti_words.specs.declared.Kind.{Kind}
+use Rattle.ti_words.specs.Items.{Listed, SubjectValue}
 use Rattle.ti_names.specs.declared.name_table.NameTable.{NameTable}
 use Rattle.ti_names.specs.declared.name_table.NameTable.TheVariants as tables
 use Rattle.ti_names.specs.AllNames.{name_in}
-use Rattle.ti_tool.specs.Near.{IsName, IsOwnAt, edits, most_edits, most_names}
+use Rattle.ti_tool.specs.Near.{IsName, IsNameAmong, IsNameOf, edits, most_edits, most_names}
 use Rattle.ti_tool.specs.declared.near.Found.{Found}
 use Rattle.ti_tool.specs.declared.near.Sought.{Sought}
 
@@ -46,10 +46,10 @@ IsFartherBelow s least table kind end =
 abbrev pub IsFartherIn : Sought → ℕ → NameTable → Kind → Type 0
 IsFartherIn s least table kind = IsFartherBelow s least table kind most_names
 
--- nor any of the entry's own names of a kind
-abbrev pub IsFartherOwnBelow : Sought → ℕ → Kind → ℕ → Type 0
-IsFartherOwnBelow s least kind end =
-    (index : ℕ) (name : List ℕ) → index < end → IsOwnAt s.entry.now.extended kind index name → IsFarther s least name
+-- nor the name that the entry gives a capability
+abbrev pub IsFartherOf : Sought → ℕ → SubjectValue → Type 0
+IsFartherOf s least subject = (name : List ℕ) → IsNameOf subject name → IsFarther s least name
 
-abbrev pub IsFartherOwn : Sought → ℕ → Kind → Type 0
-IsFartherOwn s least kind = IsFartherOwnBelow s least kind (length (names_of s.entry.now.extended kind))
+-- nor any of such names
+abbrev pub AreFarther : Sought → ℕ → List Listed → Type 0
+AreFarther s least listed = (name : List ℕ) → IsNameAmong listed name → IsFarther s least name
