@@ -13,29 +13,6 @@ use std::alloc::{AllocError, Allocator};
 use ti_line::Likeness;
 use ti_words::{Item, Subject, Text};
 
-/// Whether two texts are the same.
-fn are_same_texts(one: Text<'_>, other: Text<'_>) -> bool
-    ensures { IsTrue result ↔ (text_value one.entry ≡ text_value other.entry) }
-{
-    match one {
-        Text::Absent => match other {
-            Text::Absent => true,
-            Text::Cancelled => false,
-            Text::Value(_) => false,
-        },
-        Text::Cancelled => match other {
-            Text::Absent => false,
-            Text::Cancelled => true,
-            Text::Value(_) => false,
-        },
-        Text::Value(bytes) => match other {
-            Text::Absent => false,
-            Text::Cancelled => false,
-            Text::Value(others) => bytes == others,
-        },
-    }
-}
-
 /// Whether two values are texts with the same tokens.
 fn are_spelled_alike(one: Item<'_>, other: Item<'_>) -> bool
     ensures { IsTrue result ↔ AreSpelledAlike (item_value one.entry) (item_value other.entry) }
@@ -56,31 +33,8 @@ fn are_alike(likeness: Likeness, one: Item<'_>, other: Item<'_>) -> bool
     ensures { IsTrue result ↔ AreSameItems likeness (item_value one.entry) (item_value other.entry) }
 {
     match likeness {
-        Likeness::Bytes => are_same(one, other),
-        Likeness::Tokens => are_same(one, other) || are_spelled_alike(one, other),
-    }
-}
-
-/// Whether two values are the same.
-fn are_same(one: Item<'_>, other: Item<'_>) -> bool
-    ensures { IsTrue result ↔ (item_value one.entry ≡ item_value other.entry) }
-{
-    match one {
-        Item::Flag(flag) => match other {
-            Item::Flag(of_other) => flag == of_other,
-            Item::Number(_) => false,
-            Item::Text(_) => false,
-        },
-        Item::Number(number) => match other {
-            Item::Flag(_) => false,
-            Item::Number(of_other) => number == of_other,
-            Item::Text(_) => false,
-        },
-        Item::Text(text) => match other {
-            Item::Flag(_) => false,
-            Item::Number(_) => false,
-            Item::Text(of_other) => are_same_texts(text, of_other),
-        },
+        Likeness::Bytes => one == other,
+        Likeness::Tokens => one == other || are_spelled_alike(one, other),
     }
 }
 

@@ -5,14 +5,7 @@ ghost use Rattle.ti_cap.specs.declared.language.Token.{Token};
 ghost use Rattle.ti_cap.specs.Spelling.{Written};
 ghost use Rattle.ti_listing.specs.Differences.{HaveSameTokens};
 
-use ti_cap::{Capability, Tape, Token};
-
-/// Whether two tokens are the same.
-fn is_same(one: Token, other: Token) -> bool
-    ensures { IsTrue result ↔ (one ≡ other) }
-{
-    one == other
-}
+use ti_cap::{Capability, Tape};
 
 /// Whether the tokens that are left on two tapes are the same.
 fn are_same_left(mut one: Tape<'_>, mut other: Tape<'_>) -> bool
@@ -20,11 +13,9 @@ fn are_same_left(mut one: Tape<'_>, mut other: Tape<'_>) -> bool
         × Written ks one.entry.left × Written ks other.entry.left) }
 {
     'tokens: while let Some(token) = one.token() {
-        let Some(of_other) = other.token() else {
-            return false;
-        };
-        if !is_same(token, of_other) {
-            return false;
+        match other.token() {
+            Some(of_other) if token == of_other => {}
+            _ => return false,
         }
     }
     other.token().is_none()
