@@ -15,7 +15,7 @@ use Rattle.ti_words.specs.Items.{ExtendedSubject, Listed, items}
 use Rattle.ti_words.specs.Value.{EntryValue}
 use Rattle.ti_tool.specs.Near.{AreNearest, IsName, IsNameAmong, IsNameOf, IsNext, NoneIsNear, most_told}
 use Rattle.ti_tool.specs.inner.Near.{AreFarther, IsFarther, IsFartherIn, IsFartherOf, IsFound, IsFoundName, told_of}
-use Rattle.ti_tool.specs.declared.near.Found.{Found}
+use Rattle.ti_tool.specs.declared.near.Nearest.{Nearest}
 use Rattle.ti_tool.specs.declared.near.Sought.{Sought}
 
 -- ---- the names that are told
@@ -51,7 +51,7 @@ farther_in : (s : Sought) (less more : ℕ) (table : NameTable) (kind : Kind) �
 farther_in s less more table kind below far index name within is new = omega (arith, below, far index name within is new)
 
 -- what is found among the names of each kind, one kind after the other
-pub farther_of : {E : Type 0} (s : Sought) (table : NameTable) (flags numbers : Found) (r : Result Found E) → IsFartherIn s flags.edits table kinds.Flag → numbers.edits ≤ flags.edits → IsFartherIn s numbers.edits table kinds.Number
+pub farther_of : {E : Type 0} (s : Sought) (table : NameTable) (flags numbers : Nearest) (r : Result Nearest E) → IsFartherIn s flags.edits table kinds.Flag → numbers.edits ≤ flags.edits → IsFartherIn s numbers.edits table kinds.Number
     → IfOk r (λ f. f.edits ≤ numbers.edits) → IfOk r (λ f. IsFartherIn s f.edits table kinds.Text) → IfOk r (λ f. (kind : Kind) → IsFartherIn s f.edits table kind)
 farther_of s table flags numbers (Ok f) of_flags less of_numbers least of_texts =
     of_kinds (λ kind. IsFartherIn s f.edits table kind) (farther_in s f.edits flags.edits table kinds.Flag (omega (arith, less, least)) of_flags) (farther_in s f.edits numbers.edits table kinds.Number least of_numbers) of_texts
@@ -70,7 +70,7 @@ farther_more s best near first rest below far others name (suc k, one, within, a
 pub named_as : (kind : Kind) (bytes name : List ℕ) → (name ≡ bytes) × IsUtf8 bytes → IsNameOf (ExtendedSubject kind bytes) name
 named_as kind bytes name (is, text) = (sym is, subst IsUtf8 (sym is) text)
 
-pub farther_as : {E : Type 0} (s : Sought) (kind : Kind) (bytes name : List ℕ) (r : Result Found E) → name ≡ bytes → IfOk r (λ f. IsFarther s f.edits name)
+pub farther_as : {E : Type 0} (s : Sought) (kind : Kind) (bytes name : List ℕ) (r : Result Nearest E) → name ≡ bytes → IfOk r (λ f. IsFarther s f.edits name)
     → IfOk r (λ f. IsFartherOf s f.edits (ExtendedSubject kind bytes))
 farther_as s kind bytes name (Ok f) is far = λ other (same, text). subst (λ x. IsFarther s f.edits x) (is ∙ same) far
 farther_as s kind bytes name (Err e) is far = tt
@@ -110,7 +110,7 @@ next_of s least (Some name) found all = (
 )
 next_of s least None found all = (tt, λ other named new. omega (arith, found, all other named new))
 
-pub found_next : (s : Sought) (short standard f : Found) → IsFound s f → standard.edits ≤ short.edits → f.edits ≤ standard.edits
+pub found_next : (s : Sought) (short standard f : Nearest) → IsFound s f → standard.edits ≤ short.edits → f.edits ≤ standard.edits
     → ((kind : Kind) → IsFartherIn s short.edits All kind) → ((kind : Kind) → IsFartherIn s standard.edits Long kind) → AreFarther s f.edits (items s.entry.now)
     → IfSome f.name (λ name. IsNext s.entry.now s.word.now (told_of s) name.now) × IfNone f.name (NoneIsNear s.entry.now s.word.now (told_of s))
 found_next s short standard f found below least of_short of_long extended =

@@ -42,7 +42,7 @@ pub struct Sought<'w, 'n> {
 
 /// The nearest name so far, and its distance; with no name it is one more than the most edits.
 #[derive(Clone, Copy)]
-pub struct Found<'n> {
+pub struct Nearest<'n> {
     edits: usize,
     name: Option<&'n str>,
 }
@@ -74,9 +74,9 @@ fn may_be_near(sought: &Sought<'_, '_>, name: &str) -> bool
 fn nearer<'n, A: Allocator + Copy>(
     alloc: A,
     sought: &Sought<'_, 'n>,
-    found: Found<'n>,
+    found: Nearest<'n>,
     name: &'n str,
-) -> Result<Found<'n>, AllocError>
+) -> Result<Nearest<'n>, AllocError>
     requires sought { IsSought sought.now }
     requires named { IsName sought.now.entry.now name.now }
     requires found { IsFound sought.now found }
@@ -89,7 +89,7 @@ fn nearer<'n, A: Allocator + Copy>(
     }
     let edits = osa_distance(alloc, sought.word, name)?;
     Ok(if edits < found.edits {
-        Found {
+        Nearest {
             edits,
             name: Some(name),
         }
@@ -109,10 +109,10 @@ fn standard_text<'n>(table: NameTable, kind: Kind, index: usize) -> Option<&'n s
 fn nearest_in<'n, A: Allocator + Copy>(
     alloc: A,
     sought: &Sought<'_, 'n>,
-    found: Found<'n>,
+    found: Nearest<'n>,
     table: NameTable,
     kind: Kind,
-) -> Result<Found<'n>, AllocError>
+) -> Result<Nearest<'n>, AllocError>
     requires sought { IsSought sought.now }
     requires table { IsShortOrLong table }
     requires found { IsFound sought.now found }
@@ -133,9 +133,9 @@ fn nearest_in<'n, A: Allocator + Copy>(
 fn nearest_of<'n, A: Allocator + Copy>(
     alloc: A,
     sought: &Sought<'_, 'n>,
-    found: Found<'n>,
+    found: Nearest<'n>,
     table: NameTable,
-) -> Result<Found<'n>, AllocError>
+) -> Result<Nearest<'n>, AllocError>
     requires sought { IsSought sought.now }
     requires table { IsShortOrLong table }
     requires found { IsFound sought.now found }
@@ -152,9 +152,9 @@ fn nearest_of<'n, A: Allocator + Copy>(
 fn nearer_extended<'n, A: Allocator + Copy>(
     alloc: A,
     sought: &Sought<'_, 'n>,
-    found: Found<'n>,
+    found: Nearest<'n>,
     subject: Subject<'n>,
-) -> Result<Found<'n>, AllocError>
+) -> Result<Nearest<'n>, AllocError>
     requires sought { IsSought sought.now }
     requires named { (name : List ℕ) → IsNameOf (subject_value subject) name → IsName sought.now.entry.now name }
     requires found { IsFound sought.now found }
@@ -175,8 +175,8 @@ fn nearer_extended<'n, A: Allocator + Copy>(
 fn nearest_extended<'n, A: Allocator + Copy>(
     alloc: A,
     sought: &Sought<'_, 'n>,
-    found: Found<'n>,
-) -> Result<Found<'n>, AllocError>
+    found: Nearest<'n>,
+) -> Result<Nearest<'n>, AllocError>
     requires sought { IsSought sought.now }
     requires found { IsFound sought.now found }
     ensures found { IfOk result (IsFound sought.now) }
@@ -202,7 +202,7 @@ fn next_name<'n, A: Allocator + Copy>(
     ensures none { IfOk result (λ next. IfNone next
         (NoneIsNear sought.now.entry.now sought.now.word.now (told_of sought.now))) }
 {
-    let none = Found {
+    let none = Nearest {
         edits: sought.word.len() / BYTES_OF_AN_EDIT + 1,
         name: None,
     };

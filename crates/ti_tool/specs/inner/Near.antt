@@ -8,7 +8,7 @@ use Rattle.ti_names.specs.declared.name_table.NameTable.{NameTable}
 use Rattle.ti_names.specs.declared.name_table.NameTable.TheVariants as tables
 use Rattle.ti_names.specs.AllNames.{name_in}
 use Rattle.ti_tool.specs.Near.{IsName, IsNameAmong, IsNameOf, edits, most_edits, most_names}
-use Rattle.ti_tool.specs.declared.near.Found.{Found}
+use Rattle.ti_tool.specs.declared.near.Nearest.{Nearest}
 use Rattle.ti_tool.specs.declared.near.Sought.{Sought}
 
 abbrev pub IsShortOrLong : NameTable → Type 0
@@ -30,7 +30,7 @@ IsFoundName s least (Some name) =
     IsName s.entry.now name.now × (¬ Contains (told_of s) name.now)
     × (least ≡ edits s.word.now name.now) × (least ≤ most_edits s.word.now)
 
-abbrev pub IsFound : Sought → Found → Type 0
+abbrev pub IsFound : Sought → Nearest → Type 0
 IsFound s found = IsFoundName s found.edits found.name
 
 -- a name that is not told is no nearer than so many edits
