@@ -76,6 +76,21 @@ impl<'a> Items<'_, 'a> {
     }
 }
 
+impl<'a> Iterator for Items<'_, 'a> {
+    ghost use Rattle.std.specs.Iterator.{YieldsFirstBy, item_count};
+    ghost use Rattle.ti_words.specs.Items.{listed_value};
+
+    type Item = (Subject<'a>, Item<'a>);
+
+    ghost next_gives = { YieldsFirstBy listed_value (λ items. items) };
+
+    ghost remaining = { item_count (λ items. items) };
+
+    fn next(&mut self) -> Option<(Subject<'a>, Item<'a>)> {
+        Items::next(self)
+    }
+}
+
 impl<'a> Entry<'a> {
     /// Its capabilities in the order of a listing: each flag, number and text of terminfo(5), and then each that it names
     /// itself, those too that are absent or cancelled.
