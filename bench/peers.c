@@ -23,13 +23,17 @@ enum { MOST_ITEMS = 4096, LONGEST_LINE = 1 << 17, MOST_NUMBERS = 9, ROOM = 4096,
 
 #define LOOKED_UP "xterm-256color"
 
+struct compiled {
+    enum { NEW, KEPT, NOT_KEPT } state;
+    ti_kept kept;
+};
+
 struct item {
     char *bytes;
     size_t length;
     int numbers[MOST_NUMBERS];
     int needed;
-    enum { NEW, KEPT, NOT_KEPT } state;
-    ti_kept kept;
+    struct compiled *compiled;
 };
 
 static struct item items[MOST_ITEMS], looked_up;
@@ -43,6 +47,13 @@ static int needed_by(const struct item *item) {
         if (byte[0] == '%' && byte[1] == 'p' && byte[2] >= '1' && byte[2] <= '9' && byte[2] - '0' > most) most = byte[2] - '0';
     }
     return most;
+}
+
+/* What equal bytes before are compiled into, or room for it. */
+static struct compiled *compiled_for(const struct item *item) {
+    for (const struct item *other = items; other < item; other++)
+        if (other->length == item->length && memcmp(other->bytes, item->bytes, item->length) == 0) return other->compiled;
+    return calloc(1, sizeof(struct compiled));
 }
 
 static void read_item(struct item *item, char *hex) {
@@ -65,7 +76,11 @@ static void read_items(const char *group) {
     while (fgets(line, sizeof line, stdin) && count < MOST_ITEMS) {
         char *word = strtok(line, " \n"), *name = strtok(NULL, " \n"), *hex = strtok(NULL, " \n");
         if (!word || !hex) continue;
-        if (strcmp(word, group) == 0) read_item(&items[count++], hex);
+        if (strcmp(word, group) == 0) {
+            read_item(&items[count], hex);
+            items[count].compiled = compiled_for(&items[count]);
+            count++;
+        }
         else if (strcmp(word, "entry") == 0 && strcmp(name, LOOKED_UP) == 0) read_item(&looked_up, hex);
     }
 }
@@ -121,19 +136,20 @@ static size_t run_ti_compile(const struct item *item) {
 }
 
 /* A capability that does not fit is expanded from its bytes. */
-static size_t expand_kept_with(struct item *item, int passed) {
+static size_t expand_kept_with(const struct item *item, int passed) {
     static ti_vars vars;
     static unsigned char out[ROOM];
+    struct compiled *c = item->compiled;
     size_t place, written;
-    if (item->state == NEW)
-        item->state = ti_compile((const unsigned char *)item->bytes, item->length, &item->kept, &place) == TI_DONE ? KEPT : NOT_KEPT;
-    if (item->state == NOT_KEPT) return expand_with(item, passed);
-    return ti_expand_kept(&item->kept, item->numbers, (size_t)passed, &vars, out, sizeof out, &written) == TI_DONE;
+    if (c->state == NEW)
+        c->state = ti_compile((const unsigned char *)item->bytes, item->length, &c->kept, &place) == TI_DONE ? KEPT : NOT_KEPT;
+    if (c->state == NOT_KEPT) return expand_with(item, passed);
+    return ti_expand_kept(&c->kept, item->numbers, (size_t)passed, &vars, out, sizeof out, &written) == TI_DONE;
 }
 
-static size_t run_ti_expand_kept(const struct item *item) { return expand_kept_with(&items[item - items], MOST_NUMBERS); }
+static size_t run_ti_expand_kept(const struct item *item) { return expand_kept_with(item, MOST_NUMBERS); }
 
-static size_t run_ti_expand_kept_needed(const struct item *item) { return expand_kept_with(&items[item - items], item->needed); }
+static size_t run_ti_expand_kept_needed(const struct item *item) { return expand_kept_with(item, item->needed); }
 
 /* What each expansion of nine parameters costs before the call. */
 static size_t run_call(const struct item *item) {

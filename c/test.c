@@ -1,9 +1,13 @@
 /* Tests each call of include/ti.h. The values are from terminfo(5), ncurses' term.h, and from hand. */
+#define _DEFAULT_SOURCE
+
 #include "../include/ti.h"
 
 #include <stdio.h>
 #include <stdlib.h>
 #include <string.h>
+#include <sys/mman.h>
+#include <unistd.h>
 
 #define E "\033"
 #define ROOM 256
@@ -273,30 +277,81 @@ static void compiles(const char *text) {
     free(bytes);
 }
 
-/* Capabilities of random tokens: 100000 expansions of those that are compiled, and the faults of the others. */
-static void test_random_capabilities(void) {
+/* A text that is made of tokens. */
+typedef struct {
+    char text[4096];
+    size_t length;
+} made_text;
+
+static void add(made_text *made, const char *token) {
+    size_t length = strlen(token);
+    if (made->length + length > sizeof made->text) return;
+    memcpy(made->text + made->length, token, length);
+    made->length += length;
+}
+
+static void add_random_token(made_text *made) {
     static const char *const tokens[] = {"a", ";", "[", "%%", "%i", "%p1", "%p2", "%p3", "%p9", "%d", "%d", "%c", "%02x", "%:-5d",
                                          "%+", "%-", "%*", "%/", "%m", "%&", "%|", "%^", "%=", "%>", "%<", "%A", "%O", "%!", "%~",
                                          "%{32}", "%'x'", "%Pa", "%ga", "%PZ", "%gZ", "%#o", "%X", "%s", "%p", "%;"};
-    int same = 1, refused = 1, expansions = 0;
-    while (expansions < 100000) {
-        char text[256] = "";
-        size_t place = 7, end = 0, count = next_random() % 40;
-        for (size_t i = 0; i < count; i++) {
-            const char *token = tokens[next_random() % (sizeof tokens / sizeof *tokens - (next_random() % 64 ? 3 : 0))];
-            memcpy(text + end, token, strlen(token));
-            end += strlen(token);
-        }
-        const unsigned char *bytes = (const unsigned char *)text;
-        uint32_t answer = compile(bytes, end, &place);
-        if (answer == TI_DONE) {
-            for (int i = 0; i < 20; i++) same &= is_same_expansion(bytes, end);
-            expansions += 20;
-        } else if (answer != TI_DOES_NOT_FIT) {
-            refused &= ti_expand(bytes, end, NULL, 0, &vars, out, ROOM, &run) == answer && run.place == place;
+    add(made, tokens[next_random() % (sizeof tokens / sizeof *tokens - (next_random() % 64 ? 3 : 0))]);
+}
+
+static void add_random_part(made_text *made, uint32_t tokens, int level);
+
+static void add_random_test(made_text *made, int level) {
+    static const char *const tests[] = {"%p1", "%p2", "%ga", "%p1%{8}%<", "%p3%{0}%=", "%p2%p1%>", "%p1%{1}%+", "", "%i%p1%!"};
+    if (next_random() % 8 == 0) add_random_part(made, next_random() % 4, level);
+    add(made, tests[next_random() % (sizeof tests / sizeof *tests)]);
+    add(made, "%t");
+}
+
+/* A conditional; an end is missing at times. */
+static void add_random_conditional(made_text *made, int level) {
+    add(made, "%?");
+    add_random_test(made, level);
+    add_random_part(made, next_random() % 4, level);
+    while (next_random() % 3 == 0) {
+        add(made, "%e");
+        add_random_test(made, level);
+        add_random_part(made, next_random() % 4, level);
+    }
+    if (next_random() % 2) {
+        add(made, "%e");
+        add_random_part(made, next_random() % 4, level);
+    }
+    if (next_random() % 16) add(made, "%;");
+}
+
+/* So many random tokens, some of them conditionals up to a level. */
+static void add_random_part(made_text *made, uint32_t tokens, int level) {
+    for (uint32_t i = 0; i < tokens; i++) {
+        if (level > 0 && next_random() % 6 == 0) {
+            add_random_conditional(made, level - 1);
+        } else {
+            add_random_token(made);
         }
     }
-    expect(same, "random capabilities do what their bytes do");
+}
+
+/* Capabilities of random tokens: 100000 expansions of those that are compiled, and the faults of the others. */
+static void test_random_capabilities(int level, const char *words) {
+    int same = 1, refused = 1, expansions = 0;
+    while (expansions < 100000) {
+        made_text made = {"", 0};
+        size_t place = 7;
+        add_random_part(&made, next_random() % 40, level);
+        const unsigned char *bytes = (const unsigned char *)made.text;
+        uint32_t answer = compile(bytes, made.length, &place);
+        if (answer == TI_DONE) {
+            int counts = level == 0 || strstr(made.text, "%?") != NULL;
+            for (int i = 0; i < 20; i++) same &= is_same_expansion(bytes, made.length);
+            expansions += counts ? 20 : 0;
+        } else if (answer != TI_DOES_NOT_FIT) {
+            refused &= ti_expand(bytes, made.length, NULL, 0, &vars, out, ROOM, &run) == answer && run.place == place;
+        }
+    }
+    expect(same, words);
     expect(refused, "those that are refused have the fault of an expansion, and its place");
 }
 
@@ -320,12 +375,19 @@ static void test_compiled(void) {
     compiles("%p1%p2%=%p3%p4%>%A%p5%p6%<%O%d%c%d");
     compiles("%p1%p2%p3%p4%p5%p6%p7%p8%+%+%+%+%+%+%+%d");
     compiles("%i%i%p1%d%p2%d%p3%d");
+    compiles(SETAF);
+    compiles(E "[%?%p1%{8}%<%t3%p1%d%e%p1%{16}%<%t9%p1%{8}%-%d%e38;5;%p1%d%;m");
+    compiles(E "[0%?%p6%t;1%;%?%p2%t;4%;%?%p1%p3%|%t;7%;%?%p4%t;5%;%?%p7%t;8%;m%?%p9%t\016%e\017%;");
+    compiles("%?%p1%t%?%p2%t1%e%?%p3%t2%e3%;%;4%e%?%p2%t5%e6%;7%;8");
+    compiles("%?%?%p1%t%p2%e%p3%;%ta%eb%;%?%p1%{0}%=%tc");
+    compiles("%?%p1%{1}%=%ta%e%p1%{2}%=%tb%e%p1%{3}%=%tc%ed%;");
 }
 
 static void test_not_compiled(void) {
     not_compiled("%p1%s", TI_DOES_NOT_FIT, 7);
     not_compiled("%p1%l%d", TI_DOES_NOT_FIT, 7);
-    not_compiled(SETAF, TI_DOES_NOT_FIT, 7);
+    not_compiled("%?%p1%ta%e%p2%s%;", TI_DOES_NOT_FIT, 7);
+    not_compiled("%?%p1%p2%p3%p4%p5%p6%p7%p8%p9%ta%;", TI_DOES_NOT_FIT, 7);
     not_compiled("%p1%p2%p3%p4%p5%p6%p7%p8%p9", TI_DOES_NOT_FIT, 7);
     not_compiled("ab%k", TI_UNKNOWN_ESCAPE, 2);
     not_compiled("%p1%d%", TI_CUT_SHORT, 5);
@@ -363,15 +425,26 @@ static void test_compiled_faults(void) {
     expect(compile((const unsigned char *)"$%p1%d<$", 8, &place) == TI_DONE && compiled.marked == 0, "no mark of padding");
 }
 
+/* The end of a page, after which there is none that may be written. */
+static unsigned char *page_end(void) {
+    size_t size = (size_t)sysconf(_SC_PAGESIZE);
+    void *pages = mmap(NULL, 2 * size, PROT_READ | PROT_WRITE, MAP_PRIVATE | MAP_ANONYMOUS, -1, 0);
+    if (pages == MAP_FAILED) exit(2);
+    unsigned char *end = (unsigned char *)pages + size;
+    if (mprotect(end, size, PROT_NONE) != 0) exit(2);
+    return end;
+}
+
 /* Steps that nobody compiled write nothing past the room, and no more counts than the room has. The room ends where its memory
- * does, so that a tool that watches memory sees more. */
+ * or its page does, so that a tool that watches memory sees more, and a run without one ends. */
 static void test_forged(void) {
     static const char *const texts[] = {"", CUP, "%p1%02x%p2%d", "0123456789012345678901234567890123456789"};
-    for (int i = 0; i < 20000; i++) {
+    unsigned char *end = page_end();
+    for (int i = 0; i < 40000; i++) {
         size_t room = next_random() % 40, written = 0, length;
         int32_t numbers[9];
         const char *text = texts[next_random() % 4];
-        unsigned char *own = copy_of(out, room), *bytes;
+        unsigned char *copy = copy_of(out, room), *own = i % 4 < 2 ? copy : end - room, *bytes;
         length = strlen(text);
         bytes = copy_of(text, length);
         compiled.bytes.bytes = bytes;
@@ -379,7 +452,7 @@ static void test_forged(void) {
         compiled.bound = next_random() % 40;
         compiled.count = next_random() % 8 ? next_random() % 100 : UINT32_MAX;
         for (int j = 0; j < 96; j++) {
-            compiled.steps[j].kind = (uint8_t)(next_random() % (i % 2 ? 20 : 256));
+            compiled.steps[j].kind = (uint8_t)(next_random() % (i % 2 ? 30 : 256));
             compiled.steps[j].small = (uint8_t)(next_random() % (i % 3 ? 20 : 256));
             compiled.steps[j].place = (uint16_t)(next_random() % (i % 5 ? 40 : 65536));
             compiled.steps[j].number = random_number();
@@ -389,9 +462,10 @@ static void test_forged(void) {
         if (answer != (room < compiled.bound ? TI_OUT_TOO_SMALL : TI_DONE) || written > room) {
             expect(0, "forged steps keep to the room");
         }
-        free(own);
+        free(copy);
         free(bytes);
     }
+    munmap(end - sysconf(_SC_PAGESIZE), 2 * (size_t)sysconf(_SC_PAGESIZE));
     expect(1, "forged steps");
 }
 
@@ -1163,7 +1237,8 @@ int main(void) {
     test_expansion_faults();
     test_order_of_faults();
     test_compiled();
-    test_random_capabilities();
+    test_random_capabilities(0, "random capabilities do what their bytes do");
+    test_random_capabilities(3, "and so do those with conditionals");
     test_not_compiled();
     test_compiled_faults();
     test_forged();

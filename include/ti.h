@@ -314,8 +314,8 @@ uint32_t ti_expand(const unsigned char *capability, size_t length, const ti_para
  *
  * TI_DONE: the ti_kept is written, and the place is as it was.
  * 101 to 113: the bytes are no capability; the place says where. The ti_kept is as it was.
- * TI_DOES_NOT_FIT: nothing is written. The capability has a conditional, takes a text (by %s or %l), needs more than 8 values on
- * the stack or more than 96 steps, each of which is an escape or a run of up to 255 plain bytes. Expand it with ti_expand.
+ * TI_DOES_NOT_FIT: nothing is written. The capability takes a text (by %s or %l), needs more than 8 values on the stack or more
+ * than 96 steps, each of which is an escape or a run of up to 255 plain bytes. Expand it with ti_expand.
  *
  * The ti_kept holds a pointer to the bytes, which must stay where they are and as they are. A Go program must therefore pin them
  * or keep them in C memory. */

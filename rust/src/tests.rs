@@ -101,8 +101,18 @@ fn a_compiled_capability_is_expanded_again_and_again() {
     assert_eq!(cup.expand_into(&[], &mut vars, &mut [0; 25]), Err(ExpandError::OutTooSmall { need: 26 }));
     assert_eq!(cup.expand_into(&[0; 10], &mut vars, &mut out), Err(ExpandError::TooManyParameters { given: 10 }));
     assert_eq!(Kept::compile(b"%p1%s").unwrap_err(), CompileError::DoesNotFit);
-    assert_eq!(Kept::compile(b"%?%p1%t1%;").unwrap_err().to_string(), "DoesNotFit");
+    assert_eq!(Kept::compile(b"%?%p1%t%p2%s%;").unwrap_err().to_string(), "DoesNotFit");
     assert_eq!(Kept::compile(b"ab%p0").unwrap_err().to_string(), "BadParameter at 2");
+}
+
+#[test]
+fn a_compiled_conditional_chooses_anew_each_time() {
+    let setaf = Kept::compile(b"\x1b[%?%p1%{8}%<%t3%p1%d%e%p1%{16}%<%t9%p1%{8}%-%d%e38;5;%p1%d%;m").unwrap();
+    let (mut vars, mut out) = (Vars::new(), [0; 64]);
+    for (color, output) in [(1, &b"\x1b[31m"[..]), (12, b"\x1b[94m"), (200, b"\x1b[38;5;200m"), (7, b"\x1b[37m")] {
+        let written = setaf.expand_into(&[color], &mut vars, &mut out).unwrap();
+        assert_eq!(&out[..written], output);
+    }
 }
 
 #[test]
