@@ -102,6 +102,12 @@ pub fn shown<D: Display>(alloc: Global, value: &D) -> Result<Vec<u8>, Unfound> {
     Ok(text.as_str().as_bytes().to_vec(alloc)?)
 }
 
+/// What a value prints with `{:?}`.
+pub fn debug_of<D: Debug>(alloc: Global, value: &D) -> Result<Vec<u8>, Unfound> {
+    let text = format!(in alloc; "{value:?}")?;
+    Ok(text.as_str().as_bytes().to_vec(alloc)?)
+}
+
 /// Numbers with a blank between them.
 pub fn shown_numbers(alloc: Global, numbers: &[u64]) -> Result<Vec<u8>, Unfound> {
     let mut text = Vec::new(alloc);

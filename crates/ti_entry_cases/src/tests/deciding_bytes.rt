@@ -1,142 +1,87 @@
 //! At which byte a reader refuses: bytes in one piece, and byte by byte.
 
-use std::process::Abort;
+use super::entry_refusals::changed_in;
+use std::alloc::Global;
 use std::test::Fail;
-use ti_entry::{EntryReader, Fault, Refused, read};
-use ti_fixtures::entries::{EXTENDED, ODD_AND_MORE, SMALL, WIDE, changed};
+use ti_entry::{EntryReader, Refused, read};
+use ti_fixtures::{Unfound, check_rows};
 
-/// A refusal of a reader, then of all its calls.
-fn assert_refused(rt: &impl Abort, reader: &mut EntryReader, want: Refused, kept: usize) {
-    assert_that!(rt; reader.kept() == kept);
-    assert_that!(rt; reader.finish().err() == Some(want));
-    assert_that!(rt; reader.feed(&[]).err() == Some(want));
-    assert_that!(rt; reader.feed(&[0]).err() == Some(want));
-    assert_that!(rt; reader.kept() == kept);
+/// Whether a reader keeps its refusal and so many bytes at all its calls.
+fn keeps(reader: &mut EntryReader, refused: Refused, kept: usize) -> bool {
+    reader.kept() == kept
+        && reader.finish().err() == Some(refused)
+        && reader.feed(&[]) == Err(refused)
+        && reader.feed(&[0]) == Err(refused)
+        && reader.kept() == kept
 }
 
-/// Bytes that are refused at the byte after the first `kept`: in one piece, and fed one by one.
-fn assert_decided(rt: &impl Abort, bytes: &[u8], want: Refused, kept: usize) {
-    assert_that!(rt; read(bytes).err() == Some(want));
-    let mut whole = EntryReader::new();
-    assert_that!(rt; whole.feed(bytes).err() == Some(want));
-    assert_refused(rt, &mut whole, want, kept);
-    let (before, after) = bytes.split_at(kept.min(bytes.len()));
-    let mut single = EntryReader::new();
-    for byte in before {
-        assert_that!(rt; single.feed(&[*byte]).is_ok());
+/// How many bytes are kept of those that are refused in one piece, if the reader keeps its refusal.
+fn kept_at_once(bytes: &[u8], refused: Refused) -> Option<usize> {
+    let mut reader = EntryReader::new();
+    let is_refused = reader.feed(bytes) == Err(refused);
+    let kept = reader.kept();
+    (is_refused && keeps(&mut reader, refused, kept)).then_some(kept)
+}
+
+/// The same for bytes that are fed one by one, up to the one that is refused.
+fn kept_one_by_one(bytes: &[u8], refused: Refused) -> Option<usize> {
+    let mut reader = EntryReader::new();
+    for (place, byte) in bytes.iter().enumerate() {
+        if let Err(found) = reader.feed(&[*byte]) {
+            return (found == refused && keeps(&mut reader, refused, place)).then_some(place);
+        }
     }
-    assert_that!(rt; single.kept() == kept);
-    let deciding = &after[..after.len().min(1)];
-    assert_that!(rt; single.feed(deciding).err() == Some(want));
-    assert_refused(rt, &mut single, want, kept);
+    None
 }
 
-/// A refusal, and how many bytes are kept before it.
-type Decided = (usize, &'static [u8], Fault, usize, usize);
-
-/// Where bytes of the small entry are changed, to which, the fault and its place, and how many bytes are kept.
-const PLAIN: [Decided; 5] = [
-    (0, &[0x1b], Fault::BadMagic, 0, 1),
-    (3, &[0x80], Fault::BadHeader, 2, 3),
-    (
-        2,
-        &[0xff, 0x7f, 0xff, 0x7f, 0xff, 0x7f, 0xff, 0x7f, 0xff, 0x7f],
-        Fault::HeaderTooBig,
-        0,
-        11,
-    ),
-    (14, &[0x02], Fault::BadFlag, 14, 14),
-    (23, &[0x01], Fault::Unterminated, 20, 23),
-];
-
-/// The same of the extended entry.
-const IN_EXTENDED: [Decided; 2] = [
-    (32, &[0xff, 0x7f], Fault::ExtendedTooBig, 24, 33),
-    (52, &[0x01], Fault::Unterminated, 40, 52),
-];
-
-#[test]
-fn decided_in_the_plain_part(rt: HostRuntime) -> Result<(), Fail> {
-    for (from, others, fault, place, kept) in PLAIN {
-        let bytes = changed(rt.alloc(), SMALL, from, others)?;
-        assert_decided(&rt, bytes.as_slice(), Refused { fault, place }, kept);
+/// The refusal of the bytes of a row and how many are kept before it, in either way to feed them; nothing if they are read.
+fn decided_in(alloc: Global, given: &str) -> Result<Vec<u8>, Unfound> {
+    let bytes = changed_in(alloc, given)?;
+    let bytes = bytes.as_slice();
+    let Err(refused) = read(bytes) else {
+        return Ok(Vec::new(alloc));
+    };
+    let kept = kept_at_once(bytes, refused).ok_or("kept")?;
+    if kept_one_by_one(bytes, refused) != Some(kept) {
+        return Err(Unfound);
     }
-    Ok(())
+    let text = format!(in alloc; "{refused}, kept {kept}")?;
+    Ok(text.as_str().as_bytes().to_vec(alloc)?)
 }
 
-#[test]
-fn decided_at_the_byte_after_an_odd_table(rt: HostRuntime) -> Result<(), Fail> {
-    let bytes = changed(rt.alloc(), ODD_AND_MORE, 25, &[0x01])?;
-    let bad_pad = Refused {
-        fault: Fault::BadPad,
-        place: 25,
-    };
-    assert_decided(&rt, bytes.as_slice(), bad_pad, 25);
-    Ok(())
-}
+/// Entries, a place, what the bytes there are changed to, the refusal, and how many bytes are kept before it.
+const CHANGED: &str = r"
+@SMALL | 0 | \E => BadMagic at 0, kept 1
+@SMALL | 3 | \200 => BadHeader at 2, kept 3
+@SMALL | 2 | \377^?\377^?\377^?\377^?\377^? => HeaderTooBig at 0, kept 11
+@SMALL | 14 | ^B => BadFlag at 14, kept 14
+@SMALL | 23 | ^A => Unterminated at 20, kept 23
+# the byte after an odd table
+@ODD_AND_MORE | 25 | ^A => BadPad at 25, kept 25
+@EXTENDED | 32 | \377^? => ExtendedTooBig at 24, kept 33
+@EXTENDED | 52 | ^A => Unterminated at 40, kept 52
+# a number of four bytes is checked with its fourth
+@WIDE | 16 | \375\377\377\377 => BadNumber at 16, kept 19
+";
 
 #[test]
-fn decided_in_the_extended_part(rt: HostRuntime) -> Result<(), Fail> {
-    for (from, others, fault, place, kept) in IN_EXTENDED {
-        let bytes = changed(rt.alloc(), EXTENDED, from, others)?;
-        assert_decided(&rt, bytes.as_slice(), Refused { fault, place }, kept);
-    }
-    Ok(())
+fn changed_bytes_are_decided_at_a_byte(rt: HostRuntime) -> Result<(), Fail> {
+    check_rows(rt.alloc(), CHANGED, decided_in)
 }
 
-/// A number of four bytes is checked with its fourth.
-#[test]
-fn decided_at_a_wide_number(rt: HostRuntime) -> Result<(), Fail> {
-    let bytes = changed(rt.alloc(), WIDE, 16, &[0xfd, 0xff, 0xff, 0xff])?;
-    let bad_number = Refused {
-        fault: Fault::BadNumber,
-        place: 16,
-    };
-    assert_decided(&rt, bytes.as_slice(), bad_number, 19);
-    Ok(())
-}
+/// The same for lengths, up to which there are bytes 0.
+const LONG: &str = r"
+@EXTENDED | - | - | 54 => Trailing at 53, kept 53
+@EXTENDED | - | - | 1000054 => Trailing at 53, kept 53
+# a string table that ends with the last byte that an entry may have, and a byte after it
+^Z^A^B\000\000\000\000\000\000\000\362^?t\000 | - | - | 32768 => -
+^Z^A^B\000\000\000\000\000\000\000\362^?t\000 | - | - | 32769 => ExtendedTooBig at 32768, kept 32768
+# the small entry with such an extended table
+^Z^A^B\000^A\000^A\000^B\000^B\000t\000^A\000P\000\377\377\000\000^G\000\000\000\000\000\000\000\000\000\336^? | - | - | 32768 => -
+^Z^A^B\000^A\000^A\000^B\000^B\000t\000^A\000P\000\377\377\000\000^G\000\000\000\000\000\000\000\000\000\336^? | - | - | 32769 => Trailing at 32768, kept 32768
+";
 
 #[test]
-fn decided_after_the_end(rt: HostRuntime) -> Result<(), Fail> {
-    let trailing = Refused {
-        fault: Fault::Trailing,
-        place: 53,
-    };
-    let mut bytes = EXTENDED.to_vec(rt.alloc())?;
-    bytes.push(0)?;
-    assert_decided(&rt, bytes.as_slice(), trailing, 53);
-    bytes.resize(1000054, 0)?;
-    assert_decided(&rt, bytes.as_slice(), trailing, 53);
-    Ok(())
-}
-
-/// A string table that ends with the last byte that an entry may have, and a byte after it.
-#[test]
-fn a_byte_too_many_after_a_string_table(rt: HostRuntime) -> Result<(), Fail> {
-    let mut bytes = b"\x1a\x01\x02\0\0\0\0\0\0\0\xf2\x7ft\0".to_vec(rt.alloc())?;
-    bytes.resize(32768, 0)?;
-    assert_that!(rt; read(bytes.as_slice()).is_ok());
-    bytes.push(0)?;
-    let too_big = Refused {
-        fault: Fault::ExtendedTooBig,
-        place: 32768,
-    };
-    assert_decided(&rt, bytes.as_slice(), too_big, 32768);
-    Ok(())
-}
-
-/// An extended table that ends with the last byte that an entry may have, and a byte after it.
-#[test]
-fn a_byte_too_many_after_an_extended_table(rt: HostRuntime) -> Result<(), Fail> {
-    let mut bytes = SMALL.to_vec(rt.alloc())?;
-    bytes.extend_from_slice(b"\0\0\0\0\0\0\0\0\xde\x7f")?;
-    bytes.resize(32768, 0)?;
-    assert_that!(rt; read(bytes.as_slice()).is_ok());
-    bytes.push(0)?;
-    let trailing = Refused {
-        fault: Fault::Trailing,
-        place: 32768,
-    };
-    assert_decided(&rt, bytes.as_slice(), trailing, 32768);
-    Ok(())
+fn bytes_after_the_end_are_decided_at_the_first(rt: HostRuntime) -> Result<(), Fail> {
+    check_rows(rt.alloc(), LONG, decided_in)
 }

@@ -1,205 +1,190 @@
 //! Drafts, and the bytes that they are written as.
 
-use std::alloc::Global;
-use std::process::Abort;
+use super::entry_views::entry_of;
+use std::alloc::{AllocError, Allocator, Global};
+use std::str::from_utf8;
 use std::test::Fail;
-use ti_entry::{Draft, EncodeFault, Entry, encode, encoded_len, read};
-use ti_fixtures::entries::{APART, EXTENDED, ODD, SHARED, SMALL};
+use ti_entry::{Draft, EncodeFault, encode, encoded_len};
+use ti_fixtures::{Said, Unfound, bytes_of, check_rows, item_of};
 use ti_words::{Flag, Number, Text, Width};
 
-/// The small entry with an extended part without a capability: a header of ten bytes 0 says that there are none.
-const NO_CAPABILITY: &[u8] =
-    b"\x1a\x01\x02\0\x01\0\x01\0\x02\0\x02\0t\0\x01\0P\0\xff\xff\0\0\x07\0\0\0\0\0\0\0\0\0\0\0";
-
-/// Names `t` and the extended number U8, which is 80.
-const NUMBERED: &[u8] = b"\x1a\x01\x02\0\0\0\0\0\0\0\0\0t\0\0\0\x01\0\0\0\x01\0\x03\0P\0\0\0U8\0";
-
-/// The draft is written as these bytes, of which the length is known before.
-pub fn assert_written(rt: &impl Abort, alloc: Global, draft: &Draft<'_>, bytes: &[u8]) {
-    assert_that!(rt; encoded_len(draft) == bytes.len() as u64);
+/// What a draft is written as, of the length that is known before, or why it is not.
+pub fn written<A: Allocator>(alloc: Global, draft: &Draft<'_, A>) -> Result<Vec<u8>, Unfound> {
     match encode(alloc, draft) {
-        Ok(written) => assert_that!(rt; written.as_slice() == bytes),
-        Err(_) => assert_that!(rt; false),
+        Ok(bytes) if encoded_len(draft) == bytes.len() as u64 => Ok(bytes),
+        Ok(_) => Err(Unfound),
+        Err(fault) => Ok(fault.word().as_bytes().to_vec(alloc)?),
     }
 }
 
-/// The draft is not written, for this fault.
-fn assert_refused(rt: &impl Abort, alloc: Global, draft: &Draft<'_>, fault: EncodeFault) {
-    assert_that!(rt; matches!(encode(alloc, draft), Err(found) if found == fault));
+/// Pushes an item without a name onto a list of terminfo(5): a flag, `#80`, `=text`, or `@` for an absent text.
+fn push_standard<'a>(draft: &mut Draft<'a>, said: Said<'a>) -> Result<(), AllocError> {
+    match said {
+        Said::Yes => draft.push_flag(Flag::Yes),
+        Said::Number(number) => draft.push_number(Number::Value(number)),
+        Said::Text(text) => draft.push_text(Text::Value(text)),
+        Said::Cancelled => draft.push_text(Text::Absent),
+    }
 }
 
-/// A draft with these names and lists.
-fn drafted<'a>(
+/// Pushes an item with a name onto an extended list: `AX`, `U8#80`, `E3=text`, or `AX@`.
+fn push_extended<'a>(
+    draft: &mut Draft<'a>,
+    name: &'a [u8],
+    said: Said<'a>,
+) -> Result<(), AllocError> {
+    match said {
+        Said::Yes => draft.push_extended_flag(name, Flag::Yes),
+        Said::Number(number) => draft.push_extended_number(name, Number::Value(number)),
+        Said::Text(text) => draft.push_extended_text(name, Text::Value(text)),
+        Said::Cancelled => draft.push_extended_flag(name, Flag::Cancelled),
+    }
+}
+
+/// Pushes an item of a row. The flag of terminfo(5) is `yes`.
+fn push<'a>(draft: &mut Draft<'a>, item: &'a str) -> Result<(), AllocError> {
+    let (name, said) = item_of(item);
+    if name.is_empty() || item == "yes" {
+        push_standard(draft, said)
+    } else {
+        push_extended(draft, name.as_bytes(), said)
+    }
+}
+
+/// Pushes all items, and writes the draft.
+fn written_with<'a>(
     alloc: Global,
-    names: &'a [u8],
-    flags: &[Flag],
-    numbers: &[Number],
-    texts: &[Text<'a>],
-) -> Result<Draft<'a>, Fail> {
-    let mut draft = Draft::new(alloc, names, Width::Legacy);
-    for flag in flags {
-        draft.push_flag(*flag)?;
+    draft: &mut Draft<'a>,
+    items: Option<&'a str>,
+) -> Result<Vec<u8>, Unfound> {
+    if let Some(items) = items {
+        for item in items.split(" | ") {
+            push(draft, item)?;
+        }
     }
-    for number in numbers {
-        draft.push_number(*number)?;
-    }
-    for text in texts {
-        draft.push_text(*text)?;
-    }
-    Ok(draft)
+    written(alloc, &*draft)
 }
 
-/// What a draft with these lists and names `t` is written as.
-struct Plain {
-    flags: &'static [Flag],
-    numbers: &'static [Number],
-    texts: &'static [Text<'static>],
-    bytes: &'static [u8],
+/// What a draft with these names and items is written as.
+fn written_as(
+    alloc: Global,
+    width: Width,
+    names: &str,
+    items: Option<&str>,
+) -> Result<Vec<u8>, Unfound> {
+    let mut draft = Draft::new(alloc, names.as_bytes(), width);
+    written_with(alloc, &mut draft, items)
 }
 
-const PLAIN: [Plain; 3] = [
-    Plain {
-        flags: &[Flag::Yes],
-        numbers: &[Number::Value(80)],
-        texts: &[Text::Absent, Text::Value(b"\x07")],
-        bytes: SMALL,
-    },
-    Plain {
-        flags: &[],
-        numbers: &[],
-        texts: &[Text::Value(b"\x07"), Text::Value(b"\x07")],
-        bytes: APART,
-    },
-    Plain {
-        flags: &[Flag::Yes],
-        numbers: &[Number::Value(80)],
-        texts: &[Text::Absent, Text::Value(b"\x07\x07")],
-        bytes: ODD,
-    },
-];
-
-#[test]
-fn plain_drafts_are_written(rt: HostRuntime) -> Result<(), Fail> {
-    let alloc = rt.alloc();
-    for row in &PLAIN {
-        let draft = drafted(alloc, b"t", row.flags, row.numbers, row.texts)?;
-        assert_written(&rt, alloc, &draft, row.bytes);
+/// The same for those of a row.
+fn written_in(alloc: Global, width: Width, given: &str) -> Result<Vec<u8>, Unfound> {
+    let bytes = bytes_of(alloc, given)?;
+    let given = from_utf8(bytes.as_slice())?;
+    match given.split_once(" | ") {
+        Some((names, items)) => written_as(alloc, width, names, Some(items)),
+        None => written_as(alloc, width, given, None),
     }
-    Ok(())
+}
+
+/// The names and the items of drafts, and the bytes that they are written as.
+const WRITTEN: &str = r"
+t | yes | #80 | @ | =^G => @SMALL
+t | =^G | =^G => @APART
+t | yes | #80 | @ | =^G^G => @ODD
+t | yes | #80 | @ | =^G | AX | E3=\E[3J => @EXTENDED
+t | U8#80 => ^Z^A^B\000\000\000\000\000\000\000\000\000t\000\000\000^A\000\000\000^A\000^C\000P\000\000\000U8\000
+";
+
+/// The same of the legacy format.
+fn legacy_in(alloc: Global, given: &str) -> Result<Vec<u8>, Unfound> {
+    written_in(alloc, Width::Legacy, given)
 }
 
 #[test]
-fn extended_flags_and_texts_are_written(rt: HostRuntime) -> Result<(), Fail> {
-    let alloc = rt.alloc();
-    let row = &PLAIN[0];
-    let mut draft = drafted(alloc, b"t", row.flags, row.numbers, row.texts)?;
-    draft.push_extended_flag(b"AX", Flag::Yes)?;
-    draft.push_extended_text(b"E3", Text::Value(b"\x1b[3J"))?;
-    assert_written(&rt, alloc, &draft, EXTENDED);
-    Ok(())
+fn drafts_are_written(rt: HostRuntime) -> Result<(), Fail> {
+    check_rows(rt.alloc(), WRITTEN, legacy_in)
 }
 
-#[test]
-fn extended_numbers_are_written(rt: HostRuntime) -> Result<(), Fail> {
-    let alloc = rt.alloc();
-    let mut draft = Draft::new(alloc, b"t", Width::Legacy);
-    draft.push_extended_number(b"U8", Number::Value(80))?;
-    assert_written(&rt, alloc, &draft, NUMBERED);
-    Ok(())
-}
-
-/// Why a draft is not written. Of two faults it is the first.
-struct Faulty {
-    names: &'static [u8],
-    numbers: &'static [Number],
-    texts: &'static [Text<'static>],
-    fault: EncodeFault,
-}
-
-const FAULTY: [Faulty; 6] = [
-    Faulty {
-        names: b"",
-        numbers: &[],
-        texts: &[],
-        fault: EncodeFault::BadName,
-    },
-    Faulty {
-        names: b"",
-        numbers: &[],
-        texts: &[Text::Value(b"a\0")],
-        fault: EncodeFault::BadName,
-    },
-    Faulty {
-        names: b"t",
-        numbers: &[],
-        texts: &[Text::Value(b"a\0")],
-        fault: EncodeFault::NulInText,
-    },
-    Faulty {
-        names: b"t",
-        numbers: &[Number::Value(-5)],
-        texts: &[Text::Value(b"a\0")],
-        fault: EncodeFault::NulInText,
-    },
-    Faulty {
-        names: b"t",
-        numbers: &[Number::Value(-5)],
-        texts: &[],
-        fault: EncodeFault::NumberOutOfRange,
-    },
-    Faulty {
-        names: b"t",
-        numbers: &[Number::Value(32768)],
-        texts: &[],
-        fault: EncodeFault::NumberOutOfRange,
-    },
-];
+/// The names and the items of drafts, and why they are not written. Of two faults it is the first.
+const FAULTY: &str = r"
+ => BadName
+ | =a\000 => BadName
+t | =a\000 => NulInText
+t | #-5 | =a\000 => NulInText
+t | #-5 => NumberOutOfRange
+t | #32768 => NumberOutOfRange
+";
 
 #[test]
 fn the_first_fault_of_a_draft_is_reported(rt: HostRuntime) -> Result<(), Fail> {
-    let alloc = rt.alloc();
-    for row in &FAULTY {
-        let draft = drafted(alloc, row.names, &[], row.numbers, row.texts)?;
-        assert_refused(&rt, alloc, &draft, row.fault);
+    check_rows(rt.alloc(), FAULTY, legacy_in)
+}
+
+/// The same of the 32-bit format, in which no number is below 0 either.
+const WIDE_NUMBERS: &str = r"
+t | #2147483647 => ^^^B^B\000\000\000^A\000\000\000\000\000t\000\377\377\377^?
+t | #2147483647 | #-5 => NumberOutOfRange
+";
+
+#[test]
+fn wide_drafts_are_written(rt: HostRuntime) -> Result<(), Fail> {
+    check_rows(
+        rt.alloc(),
+        WIDE_NUMBERS,
+        |alloc, given| written_in(alloc, Width::Wide, given),
+    )
+}
+
+/// Whether a draft of 16000 texts of 699 bytes would be so long, and is not written since it is.
+fn is_too_long(alloc: Global, draft: &mut Draft<'static>) -> Result<bool, AllocError> {
+    const TEXT: &[u8] = &[b'a'; 699];
+    for _ in 0..16000 {
+        draft.push_text(Text::Value(TEXT))?;
     }
-    Ok(())
+    let fault = encode(alloc, &*draft).err();
+    Ok(encoded_len(&*draft) == 11_232_014 && fault == Some(EncodeFault::TooManyOrLong))
 }
 
 /// 16000 texts that are one slice.
 #[test]
-fn texts_that_are_not_shared_are_too_long(rt: HostRuntime) -> Result<(), Fail> {
-    let alloc = rt.alloc();
-    let text = [b'a'; 699];
-    let mut draft = Draft::new(alloc, b"t", Width::Legacy);
-    for _ in 0..16000 {
-        draft.push_text(Text::Value(&text))?;
-    }
-    assert_that!(rt; encoded_len(&draft) == 11_232_014);
-    assert_refused(&rt, alloc, &draft, EncodeFault::TooManyOrLong);
-    Ok(())
+fn texts_that_are_not_shared_are_too_long(rt: HostRuntime) {
+    let mut draft = Draft::new(rt.alloc(), b"t", Width::Legacy);
+    let is_too_long = is_too_long(rt.alloc(), &mut draft).unwrap_or(false);
+    assert_that!(rt; is_too_long);
 }
 
-/// The draft of an entry that was read is written as these bytes.
-fn assert_again(rt: &impl Abort, alloc: Global, entry: &Entry<'_>, bytes: &[u8]) {
-    match entry.draft(alloc) {
-        Ok(draft) => assert_written(rt, alloc, &draft, bytes),
-        Err(_) => assert_that!(rt; false),
+/// Entries, and the bytes that their drafts are written as.
+const AGAIN: &str = r"
+@SMALL => @SMALL
+@SHARED => @APART
+@ODD => @ODD
+@EXTENDED => @EXTENDED
+@NO_CAPABILITY => @SMALL
+# the example of term(5)
+@ADM3A => @ADM3A
+";
+
+/// What a draft is written as, if there is one.
+fn written_if_given(
+    alloc: Global,
+    draft: &Result<Draft<'_>, AllocError>,
+) -> Result<Vec<u8>, Unfound> {
+    match draft {
+        Ok(draft) => written(alloc, draft),
+        Err(_) => Err(Unfound),
     }
+}
+
+/// What the draft of an entry is written as.
+pub fn written_again(alloc: Global, bytes: &[u8]) -> Result<Vec<u8>, Unfound> {
+    written_if_given(alloc, &entry_of(bytes)?.draft(alloc))
 }
 
 #[test]
 fn entries_that_were_read_are_written(rt: HostRuntime) -> Result<(), Fail> {
-    let alloc = rt.alloc();
-    let pairs: [(&[u8], &[u8]); 5] = [
-        (SMALL, SMALL),
-        (SHARED, APART),
-        (ODD, ODD),
-        (EXTENDED, EXTENDED),
-        (NO_CAPABILITY, SMALL),
-    ];
-    for (bytes, written) in pairs {
-        let entry = read(bytes).ok().ok_or("refused")?;
-        assert_again(&rt, alloc, &entry, written);
-    }
-    Ok(())
+    check_rows(
+        rt.alloc(),
+        AGAIN,
+        |alloc, given| written_again(alloc, bytes_of(alloc, given)?.as_slice()),
+    )
 }

@@ -1,19 +1,9 @@
 //! The ways to read bytes, which all have the same result: `read`, one `feed`, and feeding byte by byte.
 
-use super::entry_views::assert_equal;
-use std::alloc::Global;
-use std::process::Abort;
-use std::test::Fail;
-use ti_entry::{Entry, EntryReader, Refused, encode, read};
-
-/// An entry written again is read as an entry equal to it.
-fn assert_again(rt: &impl Abort, alloc: Global, entry: &Entry<'_>) -> Result<(), Fail> {
-    let draft = entry.draft(alloc)?;
-    let bytes = encode(alloc, &draft).ok().ok_or("encode")?;
-    let again = read(bytes.as_slice()).ok().ok_or("read")?;
-    assert_equal(rt, entry, &again);
-    Ok(())
-}
+use super::entry_views::are_same;
+use std::alloc::{AllocError, Global};
+use ti_entry::{Draft, Entry, EntryReader, Refused, encode, read};
+use ti_fixtures::Unfound;
 
 /// Feeds the bytes at once, or one by one, up to a refusal.
 fn feed(reader: &mut EntryReader, bytes: &[u8], at_once: bool) -> Result<(), Refused> {
@@ -26,38 +16,46 @@ fn feed(reader: &mut EntryReader, bytes: &[u8], at_once: bool) -> Result<(), Ref
     Ok(())
 }
 
-/// A reader that is fed the bytes returns this entry, or this refusal.
-fn assert_fed(rt: &impl Abort, bytes: &[u8], at_once: bool, want: &Result<Entry<'_>, Refused>) {
+/// Whether a reader that is fed the bytes returns what `read` does, and refuses them for nothing else.
+fn is_fed_alike(bytes: &[u8], at_once: bool, read: &Result<Entry<'_>, Refused>) -> bool {
     let mut reader = EntryReader::new();
-    let refusal = feed(&mut reader, bytes, at_once).err();
-    match (reader.finish(), want) {
-        (Ok(entry), Ok(same)) => {
-            assert_that!(rt; refusal == None);
-            assert_equal(rt, &entry, same);
+    let is_refused_alike = match (feed(&mut reader, bytes, at_once), read) {
+        (Err(refused), Err(same)) => refused == *same,
+        (fed, _) => fed.is_ok(),
+    };
+    is_refused_alike && are_same(&reader.finish(), read)
+}
+
+/// Whether there is a draft, and it is written as bytes that are read as the same.
+fn is_written_alike(
+    alloc: Global,
+    draft: &Result<Draft<'_>, AllocError>,
+    same: &Result<Entry<'_>, Refused>,
+) -> Result<bool, Unfound> {
+    match draft {
+        Ok(draft) => {
+            let bytes = encode(alloc, draft)?;
+            Ok(are_same(&read(bytes.as_slice()), same))
         }
-        (Err(refused), Err(same)) => {
-            assert_that!(rt; refused == *same);
-            assert_that!(rt; refusal.unwrap_or(refused) == *same);
-        }
-        _ => assert_that!(rt; false),
+        Err(_) => Err(Unfound),
+    }
+}
+
+/// Whether an entry, if there is one, is read as equal once it is written again.
+fn is_read_again(alloc: Global, read: &Result<Entry<'_>, Refused>) -> Result<bool, Unfound> {
+    match read {
+        Ok(entry) => is_written_alike(alloc, &entry.draft(alloc), read),
+        Err(_) => Ok(true),
     }
 }
 
 /// Why the bytes are refused, which each way reports; an entry is written again and read as equal.
-pub fn refusal_by_each_way(
-    rt: &impl Abort,
-    alloc: Global,
-    bytes: &[u8],
-) -> Result<Option<Refused>, Fail> {
-    let want = read(bytes);
-    for at_once in [true, false] {
-        assert_fed(rt, bytes, at_once, &want);
-    }
-    match want {
-        Ok(entry) => {
-            assert_again(rt, alloc, &entry)?;
-            Ok(None)
-        }
-        Err(refused) => Ok(Some(refused)),
+pub fn refusal_by_each_way(alloc: Global, bytes: &[u8]) -> Result<Option<Refused>, Unfound> {
+    let read = read(bytes);
+    let is_fed = is_fed_alike(bytes, true, &read) && is_fed_alike(bytes, false, &read);
+    if is_fed && is_read_again(alloc, &read)? {
+        Ok(read.err())
+    } else {
+        Err(Unfound)
     }
 }

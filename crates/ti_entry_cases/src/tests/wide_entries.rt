@@ -1,109 +1,68 @@
 //! Entries of the 32-bit format: what they say and how they are written.
 
-use super::drafts_written::assert_written;
-use super::entry_refusals::refused;
-use super::entry_views::entry_of;
-use std::process::Abort;
+use super::drafts_written::written_again;
+use super::entries_read::said_in;
+use super::entry_refusals::{changed_in, refusal_in};
+use std::alloc::Global;
 use std::test::Fail;
-use ti_entry::{Draft, EncodeFault, Entry, EntryReader, Fault, Refused, encode, read};
-use ti_fixtures::entries::{WIDE, WIDE_EXTENDED, changed};
-use ti_words::{Flag, Kind, Number, Text, Width};
+use ti_fixtures::{Unfound, check_rows};
 
-/// The entry says what `WIDE` says, but for its number.
-fn assert_wide(rt: &impl Abort, entry: &Entry<'_>, number: Number) {
-    assert_that!(rt; entry.width() == Width::Wide);
-    assert_that!(rt; entry.names() == b"t".as_slice());
-    assert_that!(rt; entry.flag(0) == Flag::Yes);
-    assert_that!(rt; entry.number_count() == 1);
-    assert_that!(rt; entry.number(0) == number);
-    assert_that!(rt; entry.number(1) == Number::Absent);
-    assert_that!(rt; entry.text(0) == Text::Absent);
-    assert_that!(rt; entry.text(1) == Text::Value(b"\x07".as_slice()));
-}
-
-/// Why the bytes are refused by `read`; a reader that is fed them returns the same.
-fn refusal(rt: &impl Abort, bytes: &[u8]) -> Option<Refused> {
-    let refused = read(bytes).err();
-    let mut reader = EntryReader::new();
-    match reader.feed(bytes) {
-        Ok(()) => assert_that!(rt; reader.finish().err() == refused),
-        Err(first) => assert_that!(rt; Some(first) == refused),
-    }
-    refused
-}
-
-/// The four bytes of a number, and the number.
-const NUMBERS: [([u8; 4], Number); 4] = [
-    ([0x50, 0x00, 0x00, 0x00], Number::Value(80)),
-    ([0xff, 0xff, 0xff, 0xff], Number::Absent),
-    ([0xfe, 0xff, 0xff, 0xff], Number::Cancelled),
-    ([0xff, 0xff, 0xff, 0x7f], Number::Value(2147483647)),
-];
+/// Entries of the 32-bit format and their numbers of four bytes, and what they say: see `entries_read`.
+const SAID: &str = r"
+@WIDE => (Wide, [116], [Yes, No], [Value(80), Absent], [Absent, Value([7]), Absent])([(None, No)], [(None, Absent)], [(None, Absent)])
+@WIDE | 16 | P\000\000\000 => (Wide, [116], [Yes, No], [Value(80), Absent], [Absent, Value([7]), Absent])([(None, No)], [(None, Absent)], [(None, Absent)])
+@WIDE | 16 | \377\377\377\377 => (Wide, [116], [Yes, No], [Absent, Absent], [Absent, Value([7]), Absent])([(None, No)], [(None, Absent)], [(None, Absent)])
+@WIDE | 16 | \376\377\377\377 => (Wide, [116], [Yes, No], [Cancelled, Absent], [Absent, Value([7]), Absent])([(None, No)], [(None, Absent)], [(None, Absent)])
+@WIDE | 16 | \377\377\377^? => (Wide, [116], [Yes, No], [Value(2147483647), Absent], [Absent, Value([7]), Absent])([(None, No)], [(None, Absent)], [(None, Absent)])
+# an extended number is wide
+@WIDE_EXTENDED => (Wide, [116], [Yes, No], [Value(80), Absent], [Absent, Value([7]), Absent])([(None, No)], [(Some([85, 56]), Value(70000)), (None, Absent)], [(None, Absent)])
+# the same without its extended part
+@WIDE_EXTENDED | - | - | 26 => (Wide, [116], [Yes, No], [Value(80), Absent], [Absent, Value([7]), Absent])([(None, No)], [(None, Absent)], [(None, Absent)])
+";
 
 #[test]
-fn wide_numbers_are_read_and_written(rt: HostRuntime) -> Result<(), Fail> {
-    for (word, number) in NUMBERS {
-        let bytes = changed(rt.alloc(), WIDE, 16, &word)?;
-        let entry = entry_of(bytes.as_slice())?;
-        assert_wide(&rt, &entry, number);
-        assert_written(&rt, rt.alloc(), &entry.draft(rt.alloc())?, bytes.as_slice());
-    }
-    Ok(())
+fn wide_entries_say_what_they_say(rt: HostRuntime) -> Result<(), Fail> {
+    check_rows(rt.alloc(), SAID, said_in)
 }
 
-#[test]
-fn each_front_of_a_wide_entry_is_truncated(rt: HostRuntime) {
-    for cut in 0..WIDE.len() {
-        assert_that!(rt; refusal(&rt, &WIDE[..cut]) == refused(Fault::Truncated, cut));
-    }
+/// What the draft of an entry of a row is written as, but if that is the entry, nothing.
+fn written_alike(alloc: Global, given: &str) -> Result<Vec<u8>, Unfound> {
+    let bytes = changed_in(alloc, given)?;
+    let again = written_again(alloc, bytes.as_slice())?;
+    Ok(if again.as_slice() == bytes.as_slice() {
+        Vec::new(alloc)
+    } else {
+        again
+    })
 }
 
-#[test]
-fn a_wide_number_below_minus_two_is_refused(rt: HostRuntime) -> Result<(), Fail> {
-    let below = changed(rt.alloc(), WIDE, 16, &[0xfd, 0xff, 0xff, 0xff])?;
-    let below = below.as_slice();
-    assert_that!(rt; below.len() == 26);
-    assert_that!(rt; refusal(&rt, below) == refused(Fault::BadNumber, 16));
-    let (front, _) = below.split_at(below.len().min(20));
-    assert_that!(rt; refusal(&rt, front) == refused(Fault::BadNumber, 16));
-    let (front, _) = below.split_at(below.len().min(19));
-    assert_that!(rt; refusal(&rt, front) == refused(Fault::Truncated, 19));
-    Ok(())
-}
+/// Entries that are written as they are.
+const WRITTEN: &str = r"
+@WIDE | 16 | P\000\000\000 => -
+@WIDE | 16 | \377\377\377\377 => -
+@WIDE | 16 | \376\377\377\377 => -
+@WIDE | 16 | \377\377\377^? => -
+@WIDE_EXTENDED => -
+@WIDE_EXTENDED | - | - | 26 => -
+";
 
 #[test]
-fn the_magic_numbers_have_two_bytes(rt: HostRuntime) {
-    assert_that!(rt; refusal(&rt, &[0x1e, 0x01]) == refused(Fault::BadMagic, 0));
-    assert_that!(rt; refusal(&rt, &[0x1a, 0x02]) == refused(Fault::BadMagic, 0));
+fn wide_entries_are_written_as_they_are(rt: HostRuntime) -> Result<(), Fail> {
+    check_rows(rt.alloc(), WRITTEN, written_alike)
 }
 
-#[test]
-fn an_extended_number_is_wide(rt: HostRuntime) -> Result<(), Fail> {
-    let entry = entry_of(WIDE_EXTENDED)?;
-    assert_wide(&rt, &entry, Number::Value(80));
-    let extended = entry.extended();
-    assert_that!(rt; extended.number_count() == 1);
-    assert_that!(rt; extended.number(0) == Number::Value(70000));
-    assert_that!(rt; extended.name(Kind::Number, 0) == Some(b"U8".as_slice()));
-    assert_written(&rt, rt.alloc(), &entry.draft(rt.alloc())?, WIDE_EXTENDED);
-    Ok(())
-}
+/// Bytes of the 32-bit format, and why they are refused.
+const REFUSED: &str = r"
+# a number below minus two, whole, without what comes after it, and without its last byte
+@WIDE | 16 | \375\377\377\377 => BadNumber at 16
+@WIDE | 16 | \375\377\377\377 | 20 => BadNumber at 16
+@WIDE | 16 | \375\377\377\377 | 19 => Truncated at 19
+# the magic numbers have two bytes
+^^^A => BadMagic at 0
+^Z^B => BadMagic at 0
+";
 
 #[test]
-fn a_wide_entry_without_its_extended_part(rt: HostRuntime) -> Result<(), Fail> {
-    let entry = entry_of(&WIDE_EXTENDED[..26])?;
-    assert_wide(&rt, &entry, Number::Value(80));
-    assert_written(&rt, rt.alloc(), &entry.draft(rt.alloc())?, WIDE);
-    Ok(())
-}
-
-#[test]
-fn a_wide_draft_has_no_number_below_0(rt: HostRuntime) -> Result<(), Fail> {
-    let alloc = rt.alloc();
-    let mut draft = Draft::new(alloc, b"t", Width::Wide);
-    draft.push_number(Number::Value(2147483647))?;
-    assert_that!(rt; encode(alloc, &draft).is_ok());
-    draft.push_number(Number::Value(-5))?;
-    assert_that!(rt; matches!(encode(alloc, &draft), Err(EncodeFault::NumberOutOfRange)));
-    Ok(())
+fn wide_bytes_are_refused(rt: HostRuntime) -> Result<(), Fail> {
+    check_rows(rt.alloc(), REFUSED, refusal_in)
 }

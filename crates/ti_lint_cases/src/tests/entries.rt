@@ -4,33 +4,10 @@ use std::alloc::Global;
 use std::str::from_utf8;
 use ti_draft::{Draft, encode};
 use ti_entry::read;
-use ti_fixtures::{Unfound, bytes_of};
+use ti_fixtures::{Said, Unfound, bytes_of, item_of};
 use ti_names::NameTable;
 use ti_report::{Color, Scope, Trials, push_report};
 use ti_words::{Flag, Kind, Number, Text, Width};
-
-/// What an item says of a capability.
-#[derive(Clone, Copy)]
-enum Said<'a> {
-    Yes,
-    Number(i32),
-    Text(&'a [u8]),
-    Cancelled,
-}
-
-/// The name of an item, and what it says: `am`, `cols#80`, `bel=^G` or `bel@`.
-fn item_of(item: &str) -> (&str, Said<'_>) {
-    if let Some((name, text)) = item.split_once('=') {
-        return (name, Said::Text(text.as_bytes()));
-    }
-    if let Some((name, number)) = item.split_once('#') {
-        return (name, Said::Number(number.parse::<i32>().unwrap_or(-1)));
-    }
-    match item.strip_suffix('@') {
-        Some(name) => (name, Said::Cancelled),
-        None => (item, Said::Yes),
-    }
-}
 
 /// What the items say of a capability of terminfo(5).
 fn said_of(items: &str, kind: Kind, index: usize) -> Option<Said<'_>> {
