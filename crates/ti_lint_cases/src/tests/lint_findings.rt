@@ -40,6 +40,10 @@ const ROWS: &str = r"
 %?%p1%t%i%;%i%p1%d | 1 | 0 => 7 %i-late 11 %i-repeated 11 %i-late
 %?%p1%t%i%e%i%; | 1 | 0 => 7 %i-unused 11 %i-unused
 %i%i%i%p2%d | 2 | 0 => 2 %i-repeated 4 %i-repeated
+# What ti(1) says of `%i`, and what it writes in place of a finding.
+%p1%d;%i%p2%d | 2 | 0 => 6 %i-late
+%i%p1%d | 1 | 0 => -
+%p1%' '%+%c | 1 | 0 => -
 # `setf` of qnx loads `b` before a text stored it; only A to Z keep what another text stored.
 \E@%p1%Pf%gb%gf%d%d | 1 | 0 => 8 unset-variable
 %?%p1%t%p2%Pa%;%ga%d | 2 | 0 => 15 unset-variable
@@ -90,6 +94,7 @@ const ROWS: &str = r"
 %{1}%?%{1}%=%tA%; | 0 | 0 => -
 # The test of an earlier arm, and not that of a conditional in it or around it.
 %?%p1%tA%e%p1%tB%; | 1 | 0 => 8 repeated-condition
+%?%p1%t..%e%p1%t..%; | 1 | 0 => 9 repeated-condition
 %?%p1%tA%e%p2%t%?%p1%tB%;%e%p1%tC%; | 2 | 0 => 25 repeated-condition
 %?%p1%t%?%p1%tA%;%; | 1 | 0 => -
 %?%p1%t%?%p2%tA%e%p1%tB%;%; | 2 | 0 => -

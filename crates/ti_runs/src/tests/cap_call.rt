@@ -52,18 +52,24 @@ fn written_in(alloc: Global, given: &str) -> Result<Vec<u8>, Unfound> {
     Ok(taken)
 }
 
+/// Fails with the first row that does not hold.
+fn check(alloc: Global, rows: &str) -> Result<(), Fail> {
+    check_rows(alloc, rows, written_in)
+}
+
 #[test]
 fn capabilities_write_what_terminfo_says(rt: HostRuntime) -> Result<(), Fail> {
-    for rows in [STACK, OPERATIONS, FORMATS, TEXTS, CONDITIONAL] {
-        check_rows(rt.alloc(), rows, written_in)?;
-    }
-    Ok(())
+    check(rt.alloc(), STACK)?;
+    check(rt.alloc(), OPERATIONS)?;
+    check(rt.alloc(), FORMATS)?;
+    check(rt.alloc(), TEXTS)?;
+    check(rt.alloc(), CONDITIONAL)
 }
 
 #[test]
 fn capabilities_write_what_tput_prints(rt: HostRuntime) -> Result<(), Fail> {
-    check_rows(rt.alloc(), COLORS, written_in)?;
-    check_rows(rt.alloc(), SGR, written_in)
+    check(rt.alloc(), COLORS)?;
+    check(rt.alloc(), SGR)
 }
 
 #[test]

@@ -18,6 +18,7 @@ const CANONICAL: &str = r"
 @TEXT => @TEXT
 # what tic and tic -x write
 @DUMB => @DUMB
+@ADM3A => @ADM3A
 @EXTENDED_BY_TIC => @EXTENDED_BY_TIC
 @WIDE_BY_TIC => @WIDE_BY_TIC
 # an odd table

@@ -55,6 +55,33 @@ fn capabilities_are_got_by_any_name(rt: HostRuntime) -> Result<(), Fail> {
     check_rows(rt.alloc(), NAMED, end_in)
 }
 
+/// Runs on the entry that term(5) prints as source and in hexadecimal digits.
+const PRINTED: &str = r"
+ti get am | @ADM3A => 0
+ti get bw | @ADM3A => 1
+ti get cols | @ADM3A => 0 out 80\n
+ti get it | @ADM3A => 0 out -1\n
+ti get lines | @ADM3A => 0 out 24\n
+ti get bel | @ADM3A => 0 out ^G
+ti get clear | @ADM3A => 0 out ^Z
+ti get clear --rate 2000 | @ADM3A => 0 out ^Z\000\000
+ti get cr | @ADM3A => 0 out ^M
+ti get cub1 | @ADM3A => 0 out ^H
+ti get cud1 | @ADM3A => 0 out ^J
+ti get cuf1 | @ADM3A => 0 out ^L
+ti get cup | @ADM3A => 0 out \E=%p1%{32}%+%c%p2%{32}%+%c
+ti get cup 3 12 | @ADM3A => 0 out \E=#,
+ti get cuu1 | @ADM3A => 0 out ^K
+ti get home | @ADM3A => 0 out ^^
+ti get ind | @ADM3A => 0 out ^J
+ti get el | @ADM3A => 4 err get: el: absent\n
+";
+
+#[test]
+fn the_example_of_term_is_got(rt: HostRuntime) -> Result<(), Fail> {
+    check_rows(rt.alloc(), PRINTED, end_in)
+}
+
 /// Runs with parameters, or on texts that take some.
 const GIVEN: &str = r"
 # without a parameter a text is not expanded
