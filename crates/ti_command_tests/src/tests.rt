@@ -1,4 +1,4 @@
-//! Runs of the program and its calls, in tables of rows.
+//! Words of command lines and runs of the program, in tables of rows.
 
 use std::process::Abort;
 
@@ -26,13 +26,7 @@ macro_rules! assert_same {
     };
 }
 
-mod cap_call;
-mod check_call;
-mod convert_call;
-mod convert_streams;
 mod ending;
-mod expand_call;
-mod expand_streams;
 mod failing_streams;
 mod fault_lines;
 mod fault_messages;
@@ -40,9 +34,9 @@ mod flushing;
 mod forged_names;
 mod help;
 mod large_runs;
-mod listings;
 mod parameters;
 mod read_lines;
+mod refused_entries;
 mod refused_lines;
 mod refused_memory;
 mod rows_of_cap;
@@ -56,6 +50,4 @@ mod runs_of_diff;
 mod runs_of_files;
 mod runs_of_lint;
 mod runs_of_source;
-mod show_call;
-mod trace_call;
 mod uses;

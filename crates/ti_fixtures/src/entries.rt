@@ -118,3 +118,25 @@ pub const WIDE_BY_TIC: &[u8] = b"\
     \xff\xff\xff\xff\xff\xff\xff\xff\xff\xff\xff\xff\xff\xff\xff\xff\xff\xff\xff\xff\xff\xff\xff\
     \xff\0\0\0\x01\0\0\x01\0\xff\xff\0\0\x02\0\x07\0\x0d\0\x01\0\x01\0\x01\0\x04\0\x0e\0\x01\0p\
     \x11\x01\0\0\0\0\0\x03\0\x06\0\x1b[3J\0AX\0U8\0E3\0";
+
+/// 16000 texts that are all the same 699 bytes `a`: 32714 bytes, and 11232014 if none is shared.
+pub fn shared_by_many() -> [u8; 32714] {
+    let mut bytes = [0u8; 32714];
+    let header = [
+        0x1a, 0x01, 0x02, 0, 0, 0, 0, 0, 0x80, 0x3e, 0xbc, 0x02, b't', 0,
+    ];
+    bytes[..14].copy_from_slice(&header);
+    bytes[32014..32713].fill(b'a');
+    bytes
+}
+
+/// Names `t`, 80 columns, and a text of 32749 bytes `a`: 32768 bytes, and two more in the 32-bit format.
+pub fn longest() -> [u8; 32768] {
+    let mut bytes = [b'a'; 32768];
+    let front = [
+        0x1a, 0x01, 0x02, 0, 0, 0, 0x01, 0, 0x01, 0, 0xee, 0x7f, b't', 0, 0x50, 0, 0, 0,
+    ];
+    bytes[..18].copy_from_slice(&front);
+    bytes[32767] = 0;
+    bytes
+}

@@ -17,8 +17,8 @@ pub mod traces;
 pub use flushed::Flushed;
 pub use items::{Said, item_of};
 pub use rows::{
-    Unfound, bytes_of, check_rows, debug_of, fields_of, first_wrong, number_of, place_of, shown,
-    shown_numbers,
+    Unfound, bytes_of, check_rows, debug_of, fields_of, first_wrong, number_of, of_words, place_of,
+    shown, shown_numbers, words_of,
 };
 pub use sink::Sink;
 pub use source::{Endless, Source};

@@ -2,7 +2,7 @@
 
 use std::alloc::{Allocator, Global};
 use std::str::from_utf8;
-use ti_fixtures::{Sink, Source, Unfound, bytes_of, fields_of, shown};
+use ti_fixtures::{Sink, Source, Unfound, bytes_of, fields_of, shown, words_of};
 use ti_tool::{Color, Destination, run};
 
 /// How a run ends: with its status, what its two writers took, and how often it read.
@@ -67,30 +67,6 @@ pub fn told(alloc: Global, status: u8, output: &[u8], errors: &[u8]) -> Result<V
         }
     }
     Ok(told)
-}
-
-/// The words of a text, between which blanks stand.
-pub fn words_of(alloc: Global, text: &str) -> Result<Vec<&str>, Unfound> {
-    let mut words = Vec::new(alloc);
-    if !text.is_empty() {
-        for word in text.split(' ') {
-            words.push(word)?;
-        }
-    }
-    Ok(words)
-}
-
-/// What is found for the words of a field, which is in the notation.
-pub fn of_words<F: Fn(Global, &[&str]) -> Result<Vec<u8>, Unfound>>(
-    alloc: Global,
-    field: &str,
-    found: F,
-) -> Result<Vec<u8>, Unfound>
-    requires { F.IsAlwaysCallable found }
-{
-    let text = bytes_of(alloc, field)?;
-    let words = words_of(alloc, from_utf8(text.as_slice())?)?;
-    found(alloc, words.as_slice())
 }
 
 /// The end of a run over the words and the input of a row.

@@ -1,10 +1,10 @@
 //! Runs whose input or output fails, which end with status 5.
 
-use super::ending::{End, end_over, is_end, of_words};
+use super::ending::{End, end_over, is_end};
 use std::alloc::Global;
 use std::test::Fail;
 use ti_fixtures::entries::{EXTENDED, SMALL};
-use ti_fixtures::{Sink, Source, Unfound, check_rows};
+use ti_fixtures::{Sink, Source, Unfound, check_rows, of_words};
 
 const WORDS: [&str; 3] = ["ti", "cap", "n:7"];
 

@@ -1,11 +1,11 @@
 //! The lines on faults, and what is left of them if their writer fails.
 
-use super::ending::{end_of, end_over, is_end, told, words_of};
+use super::ending::{end_of, end_over, is_end, told};
 use std::alloc::Global;
 use std::str::from_utf8;
 use std::test::Fail;
 use ti_fixtures::entries::TEXT;
-use ti_fixtures::{Sink, Source, Unfound, bytes_of, check_rows, fields_of};
+use ti_fixtures::{Sink, Source, Unfound, bytes_of, check_rows, fields_of, words_of};
 
 /// Words, what is read, the status, and the line on the fault.
 const LINES: &str = r"

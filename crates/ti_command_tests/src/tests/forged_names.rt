@@ -1,9 +1,9 @@
 //! Names that forge a line, or that a terminal would obey.
 
-use super::ending::{destination, told, words_of};
+use super::ending::{destination, told};
 use std::alloc::Global;
 use std::test::Fail;
-use ti_fixtures::{Sink, Source, Unfound, bytes_of, check_rows, fields_of};
+use ti_fixtures::{Sink, Source, Unfound, bytes_of, check_rows, fields_of, words_of};
 use ti_tool::{NoStore, Terminals, run_at};
 
 /// Words, whether results go to a terminal or to a file, what is read, and the status with what is written.

@@ -1,11 +1,11 @@
 //! Words that ask for help, and the help.
 
-use super::ending::{End, end_of, end_over, is_end, of_words};
+use super::ending::{End, end_of, end_over, is_end};
 use super::refused_lines::has_part;
 use std::alloc::Global;
 use std::test::Fail;
 use ti_fixtures::entries::SMALL;
-use ti_fixtures::{Sink, Source, Unfound, bytes_of, check_rows};
+use ti_fixtures::{Sink, Source, Unfound, bytes_of, check_rows, of_words};
 use ti_line::{Destination, NoLine, read_line};
 
 /// Words that ask for help, and what the help has.

@@ -1,10 +1,10 @@
 //! Words that are parameters, and texts that are as long as they may be.
 
-use super::ending::{end_of, is_end, of_words};
+use super::ending::{end_of, is_end};
 use std::alloc::Global;
 use std::test::Fail;
 use ti_fixtures::traces::LENGTH_OF_TEXT;
-use ti_fixtures::{Unfound, check_rows};
+use ti_fixtures::{Unfound, check_rows, of_words};
 use ti_line::read_given;
 use ti_tool::read_params;
 

@@ -1,10 +1,9 @@
 //! Words that are read as a command line, and what it requests.
 
-use super::ending::of_words;
 use std::alloc::Global;
 use std::test::Fail;
 use ti_escape::Color;
-use ti_fixtures::{Unfound, check_rows, shown};
+use ti_fixtures::{Unfound, check_rows, of_words, shown};
 use ti_line::{Asked, Destination, LineFault, NoLine, Request, Task, read_line};
 
 /// A terminal on which parts of lines stand out.

@@ -1,10 +1,10 @@
 //! Words that are no command line, and what the user is told of them.
 
-use super::ending::{end_of, is_end, of_words};
+use super::ending::{end_of, is_end};
 use std::alloc::Global;
 use std::test::Fail;
 use ti_fixtures::entries::SMALL;
-use ti_fixtures::{Unfound, bytes_of, check_rows, fields_of};
+use ti_fixtures::{Unfound, bytes_of, check_rows, fields_of, of_words};
 use ti_line::{Destination, NoLine, read_line};
 
 /// Words that are refused, and what the text on them has.

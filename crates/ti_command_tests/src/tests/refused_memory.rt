@@ -1,12 +1,12 @@
 //! Runs without memory, which end with status 6: each growth refused in turn.
 
-use super::ending::{End, end_over, is_end, words_of};
+use super::ending::{End, end_over, is_end};
 use linked_list_allocator::LocalHeap;
 use std::alloc::Global;
 use std::process::Abort;
 use std::test::Fail;
 use ti_fixtures::entries::{EXTENDED_BY_TIC, TEXT};
-use ti_fixtures::{Sink, Source, Tally, Unfound, bytes_of, check_rows, fields_of};
+use ti_fixtures::{Sink, Source, Tally, Unfound, bytes_of, check_rows, fields_of, words_of};
 
 /// Runs the program with so much memory for all but `clap`, all of which is given back.
 fn end_with(

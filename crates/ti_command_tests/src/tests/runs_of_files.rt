@@ -1,13 +1,13 @@
 //! Runs over files that are named, and over a folder.
 
-use super::ending::{End, destination, is_end, told, words_of};
+use super::ending::{End, destination, is_end, told};
 use std::alloc::{Allocator, Global};
 use std::io;
 use std::io::ErrorKind;
 use std::str::from_utf8;
 use std::test::Fail;
 use ti_fixtures::entries::{EXTENDED, EXTENDED_BY_TIC, QUESTION, SMALL, WIDE_BY_TIC, WIDENED};
-use ti_fixtures::{Sink, Source, Unfound, bytes_of, check_rows, fields_of};
+use ti_fixtures::{Sink, Source, Unfound, bytes_of, check_rows, fields_of, words_of};
 use ti_tool::{Files, Found, Store, Terminals, one_file, read_contents, run_at};
 
 /// The small entry with an extended flag A twice: it is set, and it is not.

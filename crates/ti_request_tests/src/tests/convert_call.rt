@@ -1,11 +1,11 @@
 //! The call that writes an entry in its canonical layout, in either format.
 
-use super::ending::{end_of, is_end};
 use super::show_call::Written;
 use std::alloc::{Allocator, Global};
 use std::process::Abort;
 use std::test::Fail;
 use ti_entry::EncodeFault;
+use ti_fixtures::entries::{longest, shared_by_many};
 use ti_fixtures::{Sink, Source, TMUX, Unfound, bytes_of, check_rows, fields_of, shown};
 use ti_tool::{ToolFault, convert};
 use ti_words::Width;
@@ -148,34 +148,10 @@ fn numbers_too_great_are_not_narrowed(rt: HostRuntime) -> Result<(), Fail> {
     check_rows(rt.alloc(), TOO_GREAT, converted_in)
 }
 
-/// 16000 texts that are all the same 699 bytes `a`: 32714 bytes, and 11232014 if none is shared.
-fn shared_by_many() -> [u8; 32714] {
-    let mut bytes = [0u8; 32714];
-    let header = [
-        0x1a, 0x01, 0x02, 0, 0, 0, 0, 0, 0x80, 0x3e, 0xbc, 0x02, b't', 0,
-    ];
-    bytes[..14].copy_from_slice(&header);
-    bytes[32014..32713].fill(b'a');
-    bytes
-}
-
 #[test]
 fn texts_shared_by_many_are_too_long(rt: HostRuntime) {
     let bytes = shared_by_many();
     assert_refused(&rt, &bytes, None, EncodeFault::TooManyOrLong);
-    let end = end_of(rt.alloc(), &["ti", "convert"], &bytes);
-    assert_that!(rt; is_end(&end, 3, b"", b"entry: TooManyOrLong\n"));
-}
-
-/// Names `t`, 80 columns, and a text of 32749 bytes `a`: 32768 bytes, and two more in the 32-bit format.
-fn longest() -> [u8; 32768] {
-    let mut bytes = [b'a'; 32768];
-    let front = [
-        0x1a, 0x01, 0x02, 0, 0, 0, 0x01, 0, 0x01, 0, 0xee, 0x7f, b't', 0, 0x50, 0, 0, 0,
-    ];
-    bytes[..18].copy_from_slice(&front);
-    bytes[32767] = 0;
-    bytes
 }
 
 #[test]
@@ -183,8 +159,6 @@ fn the_longest_entry_is_not_widened(rt: HostRuntime) {
     let bytes = longest();
     assert_converted(&rt, &bytes, None, &bytes);
     assert_refused(&rt, &bytes, Some(Width::Wide), EncodeFault::TooManyOrLong);
-    let end = end_of(rt.alloc(), &["ti", "convert", "--wide"], &bytes);
-    assert_that!(rt; is_end(&end, 3, b"", b"entry: TooManyOrLong\n"));
 }
 
 #[test]

@@ -1,13 +1,12 @@
 //! The call that expands a text of an entry by name: which text, and with which padding.
 
-use super::ending::of_words;
 use super::show_call::Written;
 use std::alloc::{Allocator, Global};
 use std::test::Fail;
 use ti_expand::Value;
 use ti_fixtures::capabilities::nine;
 use ti_fixtures::entries::{TEXT, UNCOMMON};
-use ti_fixtures::{Sink, Source, Unfound, bytes_of, check_rows, fields_of, shown};
+use ti_fixtures::{Sink, Source, Unfound, bytes_of, check_rows, fields_of, of_words, shown};
 use ti_line::{Destination, Request, Task, read_line};
 use ti_pad::Padding;
 use ti_tool::{ToolFault, carry_out, expand_named};

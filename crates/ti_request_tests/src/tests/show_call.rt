@@ -1,6 +1,5 @@
 //! The call that lists an entry: what it lists, and what it refuses.
 
-use super::ending::{end_of, is_end};
 use linked_list_allocator::LocalHeap;
 use std::alloc::{Allocator, Global};
 use std::process::Abort;
@@ -68,21 +67,6 @@ fn listing_in(alloc: Global, given: &str) -> Result<Vec<u8>, Unfound> {
 #[test]
 fn entries_are_listed(rt: HostRuntime) -> Result<(), Fail> {
     check_rows(rt.alloc(), ROWS, listing_in)
-}
-
-#[test]
-fn fronts_of_entries_end_with_status_three(rt: HostRuntime) {
-    for k in 0..SMALL.len() {
-        let end = end_of(rt.alloc(), &["ti", "show"], &SMALL[..k]);
-        assert_that!(rt; end.status == 3 && end.output.is_empty());
-        assert_that!(rt; end.errors.as_slice().starts_with(b"entry: Truncated at "));
-    }
-}
-
-#[test]
-fn bytes_that_are_no_entry_end_with_status_three(rt: HostRuntime) {
-    let end = end_of(rt.alloc(), &["ti", "show"], b"\x1b\x01");
-    assert_that!(rt; is_end(&end, 3, b"", b"entry: BadMagic at 0\n"));
 }
 
 #[test]
