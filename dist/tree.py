@@ -13,7 +13,7 @@ from checks.dist import FILES, sum_of
 from checks.machine import ROOT
 
 KIT = "a-kit logic 0123456789abcdef"
-CRATES = "ti_base:\nti_c staticlib: ti_base\nti: ti_base\nti_cases: ti_base\n"
+CRATES = "ti_base:\nti_c staticlib: ti_base\nti: ti_base\nti_capability_tests: ti_base\n"
 SOURCES = {
     "crates/ti_base/src/version.rt": 'pub const VERSION: &str = "1.2.3";\n',
     "crates/ti_base/specs/Version.antt": "-- a definition\n",
@@ -21,7 +21,7 @@ SOURCES = {
     "crates/ti_base/README.md": "What it is.\n",
     "crates/ti_c/src/lib.rt": "fn ti_call() {}\n",
     "crates/ti/src/main.rt": "fn main() {}\n",
-    "crates/ti_cases/src/lib.rt": "fn test() {}\n",
+    "crates/ti_capability_tests/src/lib.rt": "fn test() {}\n",
 }
 # What the tree has of this repository.
 SHARED = ["ti", "install", "gate", "checks", "include", "python", "completions", "docs/ti.1", "docs/ti.3",

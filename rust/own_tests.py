@@ -10,8 +10,8 @@ HERE = Path(__file__).resolve().parent
 # The crates of tests, each with the files that are not added.
 TESTS = {
     "fixtures": ["flushed", "sink", "source", "tally"],
-    "entry_cases": ["base", "draft_growths", "draft_memory", "entry_messages", "entry_objects", "entry_sources", "json"],
-    "cases": [
+    "entry_tests": ["base", "draft_growths", "draft_memory", "entry_messages", "entry_objects", "entry_sources", "json"],
+    "capability_tests": [
         "expansion_memory", "expansion_variables", "notation_memory", "padding_memory", "padding_rows", "padding_writers",
         "trace", "traces",
     ],

@@ -63,6 +63,10 @@ pub const SCREEN_SGR: &[u8] =
 pub const LINUX_SGR: &[u8] =
     b"\x1b[0;10%?%p1%t;7%;%?%p2%t;4%;%?%p3%t;7%;%?%p4%t;5%;%?%p5%t;2%;%?%p6%t;1%;m%?%p9%t\x0e%e\x0f%;";
 
+/// `sgr` of vt220 in terminfo(5).
+pub const VT220_SGR: &[u8] =
+    b"\x1b[0%?%p1%p6%|%t;1%;%?%p2%t;4%;%?%p4%t;5%;%?%p1%p3%|%t;7%;%?%p7%t;8%;m%?%p9%t\x0e%e\x0f%;";
+
 /// 32 values on the stack.
 pub const PUSHED_32: &[u8] =
     b"%p1%p1%p1%p1%p1%p1%p1%p1%p1%p1%p1%p1%p1%p1%p1%p1%p1%p1%p1%p1%p1%p1%p1%p1%p1%p1%p1%p1%p1%p1%p1%p1";
@@ -105,6 +109,12 @@ pub const OPERATIONS: &str = r"
 %p1%c | 0 => \200
 %p1%c | 256 => \200
 %p1%c | 65 => A
+# x-5, and `rep` of ansi, in terminfo(5)
+%p1%Px%gx%{5}%-%d | 12 => 7
+%p1%c\E[%p2%{1}%-%db | 120 5 => x\E[4b
+# `cup` of the ACT-IV in terminfo(5), which takes row and column in binary, and of the ADM-3a, which adds a space to each
+^T%p1%c%p2%c | 5 9 => ^T^E^I
+\E=%p1%' '%+%c%p2%' '%+%c | 3 12 => \E=#,
 ";
 
 /// Formats of numbers.
@@ -122,6 +132,8 @@ pub const FORMATS: &str = r"
 %p1%#06x | 255 => 0x00ff
 %p1% d | 5 => \s5
 %p1%o | -1 => 37777777777
+# what the HP2645 takes for line 3 and column 12 in terminfo(5)
+\E&a%p2%02dc%p1%02dY | 3 12 => \E&a12c03Y
 ";
 
 /// Capabilities with texts among their parameters, or with formats of texts.
@@ -150,6 +162,16 @@ pub const CONDITIONAL: &str = r"
 %?%p1%tA%e%p2%tB | 0 0 => -
 @INNER_PARTS | 0 0 0 => ef
 @INNER_PARTS | 1 0 0 => bcf
+# no attribute, each but dim and protect, and all, in terminfo(5)
+@VT220_SGR | - => \E[0m^O
+@VT220_SGR | 1 => \E[0;1;7m^O
+@VT220_SGR | 0 1 => \E[0;4m^O
+@VT220_SGR | 0 0 1 => \E[0;7m^O
+@VT220_SGR | 0 0 0 1 => \E[0;5m^O
+@VT220_SGR | 0 0 0 0 0 1 => \E[0;1m^O
+@VT220_SGR | 0 0 0 0 0 0 1 => \E[0;8m^O
+@VT220_SGR | 0 0 0 0 0 0 0 0 1 => \E[0m^N
+@VT220_SGR | 1 1 1 1 1 1 1 1 1 => \E[0;1;4;5;7;8m^N
 ";
 
 /// Colours and the cursor of xterm-256color, screen and linux, with what `tput` prints of them.

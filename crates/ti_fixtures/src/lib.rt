@@ -1,10 +1,11 @@
-//! What the tests of more than one crate share: rows as lines of a text, entries as bytes, capabilities with what they write,
+//! What the tests of more than one crate share: rows as lines of a text, entries as bytes and items of them as text, capabilities with what they write,
 //! traces as text, and readers and writers that go in small steps, are interrupted and fail. It has no tests of its own.
 #![tactic(auto)]
 
 pub mod capabilities;
 pub mod entries;
 mod flushed;
+mod items;
 mod named;
 mod rows;
 mod sink;
@@ -14,9 +15,10 @@ mod tmux;
 pub mod traces;
 
 pub use flushed::Flushed;
+pub use items::{Said, item_of};
 pub use rows::{
-    Unfound, bytes_of, check_rows, fields_of, first_wrong, number_of, place_of, shown,
-    shown_numbers,
+    Unfound, bytes_of, check_rows, debug_of, fields_of, first_wrong, number_of, of_words, place_of,
+    shown, shown_numbers, words_of,
 };
 pub use sink::Sink;
 pub use source::{Endless, Source};

@@ -1,12 +1,14 @@
 //! Entries, capabilities and traces by their names in rows.
 
 use crate::capabilities::{
-    CLOSED_32, CUP, INNER_PARTS, LINUX_SGR, OPEN_32, PUSHED_32, SCREEN_SGR, SETAB, SETAF, XTERM_SGR,
+    CLOSED_32, CUP, INNER_PARTS, LINUX_SGR, OPEN_32, PUSHED_32, SCREEN_SGR, SETAB, SETAF,
+    VT220_SGR, XTERM_SGR,
 };
 use crate::entries::{
-    APART, COLUMN, DUMB, EXTENDED, EXTENDED_BY_TIC, NO_CAPABILITY, ODD, ODD_AND_MORE, QUESTION,
-    SHARED, SMALL, TEXT, UNCOMMON, WIDE, WIDE_BY_TIC, WIDE_EXTENDED, WIDENED,
+    ADM3A, APART, COLUMN, DUMB, EXTENDED, EXTENDED_BY_TIC, NO_CAPABILITY, ODD, ODD_AND_MORE,
+    QUESTION, SHARED, SMALL, TEXT, UNCOMMON, WIDE, WIDE_BY_TIC, WIDE_EXTENDED, WIDENED,
 };
+use crate::tmux::TMUX;
 use crate::traces;
 
 /// The names in rows, and their bytes.
@@ -20,7 +22,9 @@ const NAMED: &[(&str, &[u8])] = &[
     ("@SCREEN_SGR", SCREEN_SGR),
     ("@SETAB", SETAB),
     ("@SETAF", SETAF),
+    ("@VT220_SGR", VT220_SGR),
     ("@XTERM_SGR", XTERM_SGR),
+    ("@ADM3A", ADM3A),
     ("@APART", APART),
     ("@COLUMN", COLUMN),
     ("@DUMB", DUMB),
@@ -53,6 +57,10 @@ const NAMED: &[(&str, &[u8])] = &[
 
 /// The bytes that a field names.
 pub fn named(field: &str) -> Option<&'static [u8]> {
+    // The table would be too large a constant with it.
+    if field == "@TMUX" {
+        return Some(TMUX);
+    }
     for (name, bytes) in NAMED {
         if *name == field {
             return Some(*bytes);

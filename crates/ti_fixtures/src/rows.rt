@@ -7,6 +7,7 @@
 use crate::named::named;
 use std::alloc::{AllocError, Global};
 use std::fmt::{Debug, Display};
+use std::str::from_utf8;
 use std::test::Fail;
 
 /// The first five fields of a row or of a part of it. Those that it lacks are empty.
@@ -96,9 +97,39 @@ impl From<Unfound> for Fail {
     }
 }
 
+/// The words of a text, between which blanks stand.
+pub fn words_of(alloc: Global, text: &str) -> Result<Vec<&str>, Unfound> {
+    let mut words = Vec::new(alloc);
+    if !text.is_empty() {
+        for word in text.split(' ') {
+            words.push(word)?;
+        }
+    }
+    Ok(words)
+}
+
+/// What is found for the words of a field, which is in the notation.
+pub fn of_words<F: Fn(Global, &[&str]) -> Result<Vec<u8>, Unfound>>(
+    alloc: Global,
+    field: &str,
+    found: F,
+) -> Result<Vec<u8>, Unfound>
+    requires { F.IsAlwaysCallable found }
+{
+    let text = bytes_of(alloc, field)?;
+    let words = words_of(alloc, from_utf8(text.as_slice())?)?;
+    found(alloc, words.as_slice())
+}
+
 /// What a value prints.
 pub fn shown<D: Display>(alloc: Global, value: &D) -> Result<Vec<u8>, Unfound> {
     let text = format!(in alloc; "{value}")?;
+    Ok(text.as_str().as_bytes().to_vec(alloc)?)
+}
+
+/// What a value prints with `{:?}`.
+pub fn debug_of<D: Debug>(alloc: Global, value: &D) -> Result<Vec<u8>, Unfound> {
+    let text = format!(in alloc; "{value:?}")?;
     Ok(text.as_str().as_bytes().to_vec(alloc)?)
 }
 

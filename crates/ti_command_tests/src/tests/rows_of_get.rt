@@ -1,0 +1,118 @@
+//! Runs of `ti get`.
+
+use super::ending::{end_in, end_of, is_end};
+use std::test::Fail;
+use ti_fixtures::check_rows;
+use ti_fixtures::entries::SMALL;
+
+/// Runs by the names of capabilities of each kind.
+const NAMED: &str = r"
+ti get bw | @SMALL => 0
+ti get auto_left_margin | @SMALL => 0
+# a flag that is not there is not set
+ti get am | @SMALL => 1
+ti get AX | @EXTENDED => 0
+ti get flag#0 | @SMALL => 0
+ti get flag#00001 | @SMALL => 1
+ti get cols | @SMALL => 0 out 80\n
+ti get columns | @SMALL => 0 out 80\n
+ti get number#0 | @SMALL => 0 out 80\n
+ti get lines | @SMALL => 0 out -1\n
+# no option and no parameter changes what is written of a number
+ti get --hex cols 5 | @SMALL => 0 out 80\n
+ti get U8 | @WIDE_EXTENDED => 0 out 70000\n
+ti get bel | @SMALL => 0 out ^G
+ti get bell | @SMALL => 0 out ^G
+ti get text#1 --escape | @SMALL => 0 out \^G\n
+ti get E3 | @EXTENDED => 0 out \E[3J
+ti get cbt | @SMALL => 4 err get: cbt: absent\n
+ti get back_tab | @SMALL => 4 err get: back_tab: absent\n
+ti get text#413 | @SMALL => 4 err get: text#413: absent\n
+ti get nosuch | @SMALL => 4 err get: nosuch: no such capability\n
+# the nearest of all names, if any is near
+ti get cuf11 | @SMALL => 4 err get: cuf11: no such capability; nearest: cuf1\n
+ti get cursor_adress | @SMALL => 4 err get: cursor_adress: no such capability; nearest: cursor_address\n
+ti get cursor_addre | @SMALL => 4 err get: cursor_addre: no such capability; nearest: cursor_address, cursor_down, cursor_home\n
+# one edit leads to each of these and to cpi, which comes after them
+ti get cpu | @SMALL => 4 err get: cpu: no such capability; nearest: cps, cup, cuu\n
+# to the long name bell as well, which comes after the short ones
+ti get bel1 | @SMALL => 4 err get: bel1: no such capability; nearest: bel, el1, bell\n
+# the entry's own names are among them, after those of terminfo(5)
+ti get Smulxx | @EXTENDED_BY_TIC => 4 err get: Smulxx: no such capability; nearest: Smulx\n
+ti get smulx | @EXTENDED_BY_TIC => 4 err get: smulx: no such capability; nearest: smul, Smulx\n
+ti get E33 | @EXTENDED => 4 err get: E33: no such capability; nearest: E3\n
+# The extended entry with an own flag whose name is no UTF-8.
+ti get AXX | ^Z^A^B\000^A\000^A\000^B\000^B\000t\000^A\000P\000\377\377\000\000^G\000^A\000\000\000^A\000^C\000^K\000^A\000\000\000\000\000^C\000\E[3J\000A\377\000E3\000 => 4 err get: AXX: no such capability\n
+# a label has the kind in front
+ti get #1 | @SMALL => 4 err get: #1: no such capability\n
+ti get text#000001 | @SMALL => 4 err get: text#000001: no such capability\n
+ti get 1234567890123456789012345678901234567890 | @SMALL => 4 err get: 1234567890123456789012345678901234567890: no such capability\n
+ti get 12345678901234567890123456789012345678901 | @SMALL => 4 err get: ..: no such capability\n
+";
+
+#[test]
+fn capabilities_are_got_by_any_name(rt: HostRuntime) -> Result<(), Fail> {
+    check_rows(rt.alloc(), NAMED, end_in)
+}
+
+/// Runs on the entry that term(5) prints as source and in hexadecimal digits.
+const PRINTED: &str = r"
+ti get am | @ADM3A => 0
+ti get bw | @ADM3A => 1
+ti get cols | @ADM3A => 0 out 80\n
+ti get it | @ADM3A => 0 out -1\n
+ti get lines | @ADM3A => 0 out 24\n
+ti get bel | @ADM3A => 0 out ^G
+ti get clear | @ADM3A => 0 out ^Z
+ti get clear --rate 2000 | @ADM3A => 0 out ^Z\000\000
+ti get cr | @ADM3A => 0 out ^M
+ti get cub1 | @ADM3A => 0 out ^H
+ti get cud1 | @ADM3A => 0 out ^J
+ti get cuf1 | @ADM3A => 0 out ^L
+ti get cup | @ADM3A => 0 out \E=%p1%{32}%+%c%p2%{32}%+%c
+ti get cup 3 12 | @ADM3A => 0 out \E=#,
+ti get cuu1 | @ADM3A => 0 out ^K
+ti get home | @ADM3A => 0 out ^^
+ti get ind | @ADM3A => 0 out ^J
+ti get el | @ADM3A => 4 err get: el: absent\n
+";
+
+#[test]
+fn the_example_of_term_is_got(rt: HostRuntime) -> Result<(), Fail> {
+    check_rows(rt.alloc(), PRINTED, end_in)
+}
+
+/// Runs with parameters, or on texts that take some.
+const GIVEN: &str = r"
+# without a parameter a text is not expanded
+ti get cbt | @TEXT => 0 out %p1%s
+ti get cbt 7 | @TEXT => 0 out 7
+ti get cbt abc | @TEXT => 0 out abc
+ti get cbt s:n:1 | @TEXT => 0 out n:1
+ti get cbt -- -5 | @TEXT => 0 out -5
+ti get cmdch 7 | @UNCOMMON => 0 out \E7\^,\s
+ti get cmdch n:7 | @UNCOMMON => 0 out \E7\^,\s
+ti get cmdch -- -7 | @UNCOMMON => 0 out \E-7\^,\s
+ti get command_character 7 | @UNCOMMON => 0 out \E7\^,\s
+# what is not expanded may be no capability
+ti get bel | @QUESTION => 0 out \E[?%[;0123456789]c
+ti get bel 1 | @QUESTION => 4 err capability: UnknownEscape at 3\n
+ti get cbt --hex --rate 960 $<5> | @TEXT => 0 out 0000000000\n
+ti get cbt $<5> | @TEXT => 0
+ti get cbt --rate 1000000 --lines 65535 $<99999*> | @TEXT => 4 err capability: TooMuch 6553434465000\n
+ti get bel | ^Z^A^B\000^A => 3 err entry: Truncated at 5\n
+ti get --hex --escape bel | @SMALL => 2 err --hex and --escape exclude each other\n
+ti get bel n:x | @SMALL => 2 err parameter 1: bad word\n
+";
+
+#[test]
+fn texts_are_got_with_parameters(rt: HostRuntime) -> Result<(), Fail> {
+    check_rows(rt.alloc(), GIVEN, end_in)
+}
+
+/// No byte of a name is shown but printable ones.
+#[test]
+fn a_name_with_control_characters_is_shown_by_its_notation(rt: HostRuntime) {
+    let end = end_of(rt.alloc(), &["ti", "get", "a\u{1b}[2J b "], SMALL);
+    assert_that!(rt; is_end(&end, 4, b"", b"get: a\\E[2J b\\s: no such capability\n"));
+}

@@ -1,0 +1,167 @@
+//! Runs over files that are named, and over a folder.
+
+use super::ending::{End, destination, is_end, told};
+use std::alloc::{Allocator, Global};
+use std::io;
+use std::io::ErrorKind;
+use std::str::from_utf8;
+use std::test::Fail;
+use ti_fixtures::entries::{EXTENDED, EXTENDED_BY_TIC, QUESTION, SMALL, WIDE_BY_TIC, WIDENED};
+use ti_fixtures::{Sink, Source, Unfound, bytes_of, check_rows, fields_of, words_of};
+use ti_tool::{Files, Found, Store, Terminals, one_file, read_contents, run_at};
+
+/// The small entry with an extended flag A twice: it is set, and it is not.
+const TWICE: &[u8] =
+    b"\x1a\x01\x02\0\x01\0\x01\0\x02\0\x02\0t\0\x01\0P\0\xff\xff\0\0\x07\0\x02\0\0\0\0\0\x02\0\x04\0\x01\0\0\0\x02\0A\0A\0";
+
+/// The small entry with an extended flag A, which is set.
+const ONCE: &[u8] =
+    b"\x1a\x01\x02\0\x01\0\x01\0\x02\0\x02\0t\0\x01\0P\0\xff\xff\0\0\x07\0\x01\0\0\0\0\0\x01\0\x02\0\x01\0\0\0A\0";
+
+/// The small entry with two percent signs in `bel`, which nothing expands.
+const PERCENT: &[u8] = b"\x1a\x01\x02\0\x01\0\x01\0\x02\0\x04\0t\0\x01\0P\0\xff\xff\0\0\x07%%\0";
+
+/// The small entry with a newline in `bel` by a constant of digits.
+const DIGITS: &[u8] = b"\x1a\x01\x02\0\x01\0\x01\0\x02\0\x08\0t\0\x01\0P\0\xff\xff\0\0%{10}%c\0";
+
+/// The same by a constant between apostrophes.
+const QUOTED: &[u8] = b"\x1a\x01\x02\0\x01\0\x01\0\x02\0\x07\0t\0\x01\0P\0\xff\xff\0\0%'\n'%c\0";
+
+/// The files of a shelf: their names and contents.
+const SHELF: &[(&str, &[u8])] = &[
+    ("small", SMALL),
+    ("more\x1b", EXTENDED),
+    ("folder/fault", QUESTION),
+    ("folder/whole", EXTENDED),
+    ("cut", b"\x1a\x01\x02\0\x01"),
+    ("widened", WIDENED),
+    ("tic", EXTENDED_BY_TIC),
+    ("wide", WIDE_BY_TIC),
+    ("twice", TWICE),
+    ("once", ONCE),
+    ("percent\x1b", PERCENT),
+    ("digits", DIGITS),
+    ("quoted", QUOTED),
+];
+
+/// Files in memory, and a folder with two of them and a name that is not valid UTF-8.
+struct Shelf;
+
+/// Adds a file of the folder.
+fn put<A: Allocator + Copy>(
+    alloc: A,
+    files: &mut Files<A>,
+    name: &str,
+    fault: Option<io::Error>,
+) -> io::Result<()> {
+    let name = String::from_str(alloc, name)?;
+    files.found.push(Found { name, fault })?;
+    Ok(())
+}
+
+impl Store for Shelf {
+    fn find<A: Allocator + Copy>(&self, alloc: A, name: &str) -> io::Result<Files<A>> {
+        if name != "folder" {
+            return one_file(alloc, name, None);
+        }
+        let invalid = io::Error::from(ErrorKind::InvalidFilename);
+        let mut files = one_file(alloc, "folder", Some(invalid))?;
+        put(alloc, &mut files, "folder/fault", None)?;
+        put(alloc, &mut files, "folder/whole", None)?;
+        files.are_in_folder = true;
+        Ok(files)
+    }
+
+    fn read<A: Allocator>(&self, name: &str, contents: &mut Vec<u8, A>) -> io::Result<()> {
+        for (known, bytes) in SHELF {
+            if *known == name {
+                return read_contents(&mut Source::new(*bytes, 7), contents);
+            }
+        }
+        Err(io::Error::from(ErrorKind::NotFound))
+    }
+}
+
+/// Words, whether results go to a terminal or to a file, and the status with what is written.
+const ROWS: &str = r#"
+ti show small | file => 0 out format: legacy\nnames: t\nflag bw\nnumber cols 80\ntext bel 07\n
+# the input has another text
+ti show small - | file => 0 out file: small\nformat: legacy\nnames: t\nflag bw\nnumber cols 80\ntext bel 07\nfile: -\nformat: legacy\nnames: t\nflag bw\nnumber cols 80\ntext bel 1b5b3f255b3b303132333435363738395d63\n
+ti show --json small | terminal => 0 out [{"kind":"format","value":"legacy"},{"kind":"names","value":"t"},{"kind":"flag","name":"bw","value":true},{"kind":"number","name":"cols","value":80},{"kind":"text","name":"bel","value":"\^G"}]\n
+# a file that is no entry has no document
+ti show --json more\E cut small | file => 3 out {"file":"more\\\\E","items":[{"kind":"format","value":"legacy"},{"kind":"names","value":"t"},{"kind":"flag","name":"bw","value":true},{"kind":"number","name":"cols","value":80},{"kind":"text","name":"bel","value":"\^G"},{"kind":"flag","name":"AX","own":true,"value":true},{"kind":"text","name":"E3","own":true,"value":"\\\\E[3J"}]}\n{"file":"small","items":[{"kind":"format","value":"legacy"},{"kind":"names","value":"t"},{"kind":"flag","name":"bw","value":true},{"kind":"number","name":"cols","value":80},{"kind":"text","name":"bel","value":"\^G"}]}\n err cut: entry: Truncated at 5\n
+ti check more\E small | file => 0 out more\E: text bel ok depth 0 bound 1\nmore\E: text+ E3 ok depth 0 bound 4\nsmall: text bel ok depth 0 bound 1\n
+ti check --escape more\E small | file => 0 out more\\E: text bel ok depth 0 bound 1\nmore\\E: text+ E3 ok depth 0 bound 4\nsmall: text bel ok depth 0 bound 1\n
+ti check more\E small | terminal => 0 out more\\E: text bel ok depth 0 bound 1\nmore\\E: text+ E3 ok depth 0 bound 4\nsmall: text bel ok depth 0 bound 1\n
+ti check folder | file => 5 out folder/fault: text bel fault UnknownEscape at 3\nfolder/whole: text bel ok depth 0 bound 1\nfolder/whole: text+ E3 ok depth 0 bound 4\n err folder: invalid filename\n
+ti check --json folder | file => 5 out {"file":"folder/fault","verdicts":[{"fault":"UnknownEscape","kind":"text","name":"bel","place":3}]}\n{"file":"folder/whole","verdicts":[{"bound":1,"depth":0,"kind":"text","name":"bel"},{"bound":4,"depth":0,"kind":"text","name":"E3","own":true}]}\n err folder: invalid filename\n
+ti check - | file => 1 out text bel fault UnknownEscape at 3\n
+ti check none\E cut small | file => 5 out small: text bel ok depth 0 bound 1\n err none\\E: entity not found\ncut: entry: Truncated at 5\n
+ti convert cut | file => 3 err cut: entry: Truncated at 5\n
+ti get cols --entry small | file => 0 out 80\n
+ti get cup --entry small | file => 4 err small: get: cup: absent\n
+ti trace --of cup --entry small | file => 4 err small: trace: cup: no such text\n
+ti expand bel -x --entry=small | file => 0 out 07\n
+"#;
+
+/// Runs the program over the shelf, and a writer that fails at this write.
+pub fn end_at(alloc: Global, words: &[&str], at_terminal: bool, fails_at: usize) -> End {
+    let mut output = Sink::failing_at(alloc, usize::MAX, fails_at);
+    let mut errors = Sink::new(alloc);
+    let mut input = Source::new(QUESTION, 100);
+    let at = Terminals {
+        output: destination(at_terminal),
+        ..Terminals::NONE
+    };
+    let status = run_at(
+        &Shelf,
+        alloc,
+        alloc,
+        at,
+        words,
+        &mut input,
+        &mut output,
+        &mut errors,
+    );
+    End {
+        status,
+        output: output.taken,
+        errors: errors.taken,
+        reads: input.calls,
+    }
+}
+
+/// How the run of a row over the shelf ends.
+pub fn shelf_end(alloc: Global, given: &str) -> Result<Vec<u8>, Unfound> {
+    let [words, at, ..] = fields_of(given);
+    let text = bytes_of(alloc, words)?;
+    let words = words_of(alloc, from_utf8(text.as_slice())?)?;
+    let end = end_at(alloc, words.as_slice(), at == "terminal", usize::MAX);
+    told(
+        alloc,
+        end.status,
+        end.output.as_slice(),
+        end.errors.as_slice(),
+    )
+}
+
+#[test]
+fn files_are_done_one_after_another(rt: HostRuntime) -> Result<(), Fail> {
+    check_rows(rt.alloc(), ROWS, shelf_end)
+}
+
+#[test]
+fn files_stop_where_results_cannot_be_written(rt: HostRuntime) {
+    let end = end_at(rt.alloc(), &["ti", "check", "more\x1b", "small"], false, 2);
+    let first = b"more\x1b: text bel ok depth 0 bound 1\nmore\x1b: text+ E3 ok depth 0 bound 4\n";
+    assert_that!(rt; is_end(&end, 5, first, b"output: failed\n"));
+}
+
+/// Faults of files before one whose result can't be written, and a file after it.
+#[test]
+fn faults_before_a_failed_write_are_told(rt: HostRuntime) {
+    let words = ["ti", "check", "cut", "none", "small", "small"];
+    let end = end_at(rt.alloc(), &words, false, 1);
+    let errors = b"cut: entry: Truncated at 5\nnone: entity not found\noutput: failed\n";
+    assert_that!(rt; is_end(&end, 5, b"", errors));
+}

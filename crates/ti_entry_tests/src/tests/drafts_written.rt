@@ -1,0 +1,190 @@
+//! Drafts, and the bytes that they are written as.
+
+use super::entry_views::entry_of;
+use std::alloc::{AllocError, Allocator, Global};
+use std::str::from_utf8;
+use std::test::Fail;
+use ti_entry::{Draft, EncodeFault, encode, encoded_len};
+use ti_fixtures::{Said, Unfound, bytes_of, check_rows, item_of};
+use ti_words::{Flag, Number, Text, Width};
+
+/// What a draft is written as, of the length that is known before, or why it is not.
+pub fn written<A: Allocator>(alloc: Global, draft: &Draft<'_, A>) -> Result<Vec<u8>, Unfound> {
+    match encode(alloc, draft) {
+        Ok(bytes) if encoded_len(draft) == bytes.len() as u64 => Ok(bytes),
+        Ok(_) => Err(Unfound),
+        Err(fault) => Ok(fault.word().as_bytes().to_vec(alloc)?),
+    }
+}
+
+/// Pushes an item without a name onto a list of terminfo(5): a flag, `#80`, `=text`, or `@` for an absent text.
+fn push_standard<'a>(draft: &mut Draft<'a>, said: Said<'a>) -> Result<(), AllocError> {
+    match said {
+        Said::Yes => draft.push_flag(Flag::Yes),
+        Said::Number(number) => draft.push_number(Number::Value(number)),
+        Said::Text(text) => draft.push_text(Text::Value(text)),
+        Said::Cancelled => draft.push_text(Text::Absent),
+    }
+}
+
+/// Pushes an item with a name onto an extended list: `AX`, `U8#80`, `E3=text`, or `AX@`.
+fn push_extended<'a>(
+    draft: &mut Draft<'a>,
+    name: &'a [u8],
+    said: Said<'a>,
+) -> Result<(), AllocError> {
+    match said {
+        Said::Yes => draft.push_extended_flag(name, Flag::Yes),
+        Said::Number(number) => draft.push_extended_number(name, Number::Value(number)),
+        Said::Text(text) => draft.push_extended_text(name, Text::Value(text)),
+        Said::Cancelled => draft.push_extended_flag(name, Flag::Cancelled),
+    }
+}
+
+/// Pushes an item of a row. The flag of terminfo(5) is `yes`.
+fn push<'a>(draft: &mut Draft<'a>, item: &'a str) -> Result<(), AllocError> {
+    let (name, said) = item_of(item);
+    if name.is_empty() || item == "yes" {
+        push_standard(draft, said)
+    } else {
+        push_extended(draft, name.as_bytes(), said)
+    }
+}
+
+/// Pushes all items, and writes the draft.
+fn written_with<'a>(
+    alloc: Global,
+    draft: &mut Draft<'a>,
+    items: Option<&'a str>,
+) -> Result<Vec<u8>, Unfound> {
+    if let Some(items) = items {
+        for item in items.split(" | ") {
+            push(draft, item)?;
+        }
+    }
+    written(alloc, &*draft)
+}
+
+/// What a draft with these names and items is written as.
+fn written_as(
+    alloc: Global,
+    width: Width,
+    names: &str,
+    items: Option<&str>,
+) -> Result<Vec<u8>, Unfound> {
+    let mut draft = Draft::new(alloc, names.as_bytes(), width);
+    written_with(alloc, &mut draft, items)
+}
+
+/// The same for those of a row.
+fn written_in(alloc: Global, width: Width, given: &str) -> Result<Vec<u8>, Unfound> {
+    let bytes = bytes_of(alloc, given)?;
+    let given = from_utf8(bytes.as_slice())?;
+    match given.split_once(" | ") {
+        Some((names, items)) => written_as(alloc, width, names, Some(items)),
+        None => written_as(alloc, width, given, None),
+    }
+}
+
+/// The names and the items of drafts, and the bytes that they are written as.
+const WRITTEN: &str = r"
+t | yes | #80 | @ | =^G => @SMALL
+t | =^G | =^G => @APART
+t | yes | #80 | @ | =^G^G => @ODD
+t | yes | #80 | @ | =^G | AX | E3=\E[3J => @EXTENDED
+t | U8#80 => ^Z^A^B\000\000\000\000\000\000\000\000\000t\000\000\000^A\000\000\000^A\000^C\000P\000\000\000U8\000
+";
+
+/// The same of the legacy format.
+fn legacy_in(alloc: Global, given: &str) -> Result<Vec<u8>, Unfound> {
+    written_in(alloc, Width::Legacy, given)
+}
+
+#[test]
+fn drafts_are_written(rt: HostRuntime) -> Result<(), Fail> {
+    check_rows(rt.alloc(), WRITTEN, legacy_in)
+}
+
+/// The names and the items of drafts, and why they are not written. Of two faults it is the first.
+const FAULTY: &str = r"
+ => BadName
+ | =a\000 => BadName
+t | =a\000 => NulInText
+t | #-5 | =a\000 => NulInText
+t | #-5 => NumberOutOfRange
+t | #32768 => NumberOutOfRange
+";
+
+#[test]
+fn the_first_fault_of_a_draft_is_reported(rt: HostRuntime) -> Result<(), Fail> {
+    check_rows(rt.alloc(), FAULTY, legacy_in)
+}
+
+/// The same of the 32-bit format, in which no number is below 0 either.
+const WIDE_NUMBERS: &str = r"
+t | #2147483647 => ^^^B^B\000\000\000^A\000\000\000\000\000t\000\377\377\377^?
+t | #2147483647 | #-5 => NumberOutOfRange
+";
+
+#[test]
+fn wide_drafts_are_written(rt: HostRuntime) -> Result<(), Fail> {
+    check_rows(
+        rt.alloc(),
+        WIDE_NUMBERS,
+        |alloc, given| written_in(alloc, Width::Wide, given),
+    )
+}
+
+/// Whether a draft of 16000 texts of 699 bytes would be so long, and is not written since it is.
+fn is_too_long(alloc: Global, draft: &mut Draft<'static>) -> Result<bool, AllocError> {
+    const TEXT: &[u8] = &[b'a'; 699];
+    for _ in 0..16000 {
+        draft.push_text(Text::Value(TEXT))?;
+    }
+    let fault = encode(alloc, &*draft).err();
+    Ok(encoded_len(&*draft) == 11_232_014 && fault == Some(EncodeFault::TooManyOrLong))
+}
+
+/// 16000 texts that are one slice.
+#[test]
+fn texts_that_are_not_shared_are_too_long(rt: HostRuntime) {
+    let mut draft = Draft::new(rt.alloc(), b"t", Width::Legacy);
+    let is_too_long = is_too_long(rt.alloc(), &mut draft).unwrap_or(false);
+    assert_that!(rt; is_too_long);
+}
+
+/// Entries, and the bytes that their drafts are written as.
+const AGAIN: &str = r"
+@SMALL => @SMALL
+@SHARED => @APART
+@ODD => @ODD
+@EXTENDED => @EXTENDED
+@NO_CAPABILITY => @SMALL
+# the example of term(5)
+@ADM3A => @ADM3A
+";
+
+/// What a draft is written as, if there is one.
+fn written_if_given(
+    alloc: Global,
+    draft: &Result<Draft<'_>, AllocError>,
+) -> Result<Vec<u8>, Unfound> {
+    match draft {
+        Ok(draft) => written(alloc, draft),
+        Err(_) => Err(Unfound),
+    }
+}
+
+/// What the draft of an entry is written as.
+pub fn written_again(alloc: Global, bytes: &[u8]) -> Result<Vec<u8>, Unfound> {
+    written_if_given(alloc, &entry_of(bytes)?.draft(alloc))
+}
+
+#[test]
+fn entries_that_were_read_are_written(rt: HostRuntime) -> Result<(), Fail> {
+    check_rows(
+        rt.alloc(),
+        AGAIN,
+        |alloc, given| written_again(alloc, bytes_of(alloc, given)?.as_slice()),
+    )
+}

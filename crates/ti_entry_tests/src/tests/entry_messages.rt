@@ -1,0 +1,92 @@
+//! What the faults of entries and drafts are shown as.
+
+use std::alloc::Global;
+use std::test::Fail;
+use ti_entry::{EncodeFault, Fault, ReadStop, Refused};
+use ti_fixtures::{Unfound, check_rows, place_of, shown};
+
+/// The faults of bytes.
+const FAULTS: &[Fault] = &[
+    Fault::Truncated,
+    Fault::BadMagic,
+    Fault::BadHeader,
+    Fault::HeaderTooBig,
+    Fault::BadNames,
+    Fault::BadFlag,
+    Fault::BadPad,
+    Fault::BadNumber,
+    Fault::BadOffset,
+    Fault::Unterminated,
+    Fault::BadExtendedHeader,
+    Fault::ExtendedTooBig,
+    Fault::BadExtendedName,
+    Fault::Trailing,
+];
+
+/// Each fault in the same order, its word, a refusal for it at place 20, and a read that stops at this.
+const SHOWN: &str = r"
+0 => Truncated, Truncated, Truncated at 20, Truncated at 20
+1 => BadMagic, BadMagic, BadMagic at 20, BadMagic at 20
+2 => BadHeader, BadHeader, BadHeader at 20, BadHeader at 20
+3 => HeaderTooBig, HeaderTooBig, HeaderTooBig at 20, HeaderTooBig at 20
+4 => BadNames, BadNames, BadNames at 20, BadNames at 20
+5 => BadFlag, BadFlag, BadFlag at 20, BadFlag at 20
+6 => BadPad, BadPad, BadPad at 20, BadPad at 20
+7 => BadNumber, BadNumber, BadNumber at 20, BadNumber at 20
+8 => BadOffset, BadOffset, BadOffset at 20, BadOffset at 20
+9 => Unterminated, Unterminated, Unterminated at 20, Unterminated at 20
+10 => BadExtendedHeader, BadExtendedHeader, BadExtendedHeader at 20, BadExtendedHeader at 20
+11 => ExtendedTooBig, ExtendedTooBig, ExtendedTooBig at 20, ExtendedTooBig at 20
+12 => BadExtendedName, BadExtendedName, BadExtendedName at 20, BadExtendedName at 20
+13 => Trailing, Trailing, Trailing at 20, Trailing at 20
+";
+
+/// What is shown of the fault at a place.
+fn shown_at(alloc: Global, given: &str) -> Result<Vec<u8>, Unfound> {
+    let fault = *FAULTS.get(place_of(given)?).ok_or("a fault")?;
+    let refused = Refused { fault, place: 20 };
+    let stop = ReadStop::Refused(refused);
+    let text = format!(in alloc; "{fault}, {}, {refused}, {stop}", fault.word())?;
+    Ok(text.as_str().as_bytes().to_vec(alloc)?)
+}
+
+#[test]
+fn faults_of_entries_are_shown_as_their_names(rt: HostRuntime) -> Result<(), Fail> {
+    check_rows(rt.alloc(), SHOWN, shown_at)
+}
+
+#[test]
+fn a_read_that_fails_is_shown(rt: HostRuntime) -> Result<(), Fail> {
+    assert_that!(rt; shown(rt.alloc(), &ReadStop::Io)?.as_slice() == b"Io".as_slice());
+    Ok(())
+}
+
+/// The faults of drafts.
+const FAULTS_OF_DRAFTS: &[EncodeFault] = &[
+    EncodeFault::BadName,
+    EncodeFault::NulInText,
+    EncodeFault::NumberOutOfRange,
+    EncodeFault::TooManyOrLong,
+    EncodeFault::Memory,
+];
+
+/// Each of them in the same order, and its word.
+const SHOWN_OF_DRAFTS: &str = r"
+0 => BadName, BadName
+1 => NulInText, NulInText
+2 => NumberOutOfRange, NumberOutOfRange
+3 => TooManyOrLong, TooManyOrLong
+4 => Memory, Memory
+";
+
+/// What is shown of the fault of a draft at a place.
+fn shown_of_draft_at(alloc: Global, given: &str) -> Result<Vec<u8>, Unfound> {
+    let fault = *FAULTS_OF_DRAFTS.get(place_of(given)?).ok_or("a fault")?;
+    let text = format!(in alloc; "{fault}, {}", fault.word())?;
+    Ok(text.as_str().as_bytes().to_vec(alloc)?)
+}
+
+#[test]
+fn faults_of_drafts_are_shown_as_their_names(rt: HostRuntime) -> Result<(), Fail> {
+    check_rows(rt.alloc(), SHOWN_OF_DRAFTS, shown_of_draft_at)
+}

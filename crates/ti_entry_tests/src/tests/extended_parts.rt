@@ -1,0 +1,73 @@
+//! Entries with an extended part: what its names are, and what a changed byte makes of them.
+
+use super::entry_refusals::{long_in, refusal, refusal_in, refusal_shown};
+use super::entry_views::entry_of;
+use std::alloc::Global;
+use std::test::Fail;
+use ti_fixtures::{Unfound, bytes_of, check_rows, debug_of, fields_of};
+
+/// Entries and names, with the capability of that name, and the text.
+const FOUND: &str = r"
+@EXTENDED | AX => (Some((Flag, 0)), None)
+@EXTENDED | E3 => (Some((Text, 0)), Some(0))
+@EXTENDED | E => (None, None)
+@EXTENDED | E3\000 => (None, None)
+@NO_CAPABILITY | - => (None, None)
+@WIDE_EXTENDED | U8 => (Some((Number, 0)), None)
+";
+
+/// Where the name of a row stands.
+fn found_in(alloc: Global, given: &str) -> Result<Vec<u8>, Unfound> {
+    let [entry, name, ..] = fields_of(given);
+    let bytes = bytes_of(alloc, entry)?;
+    let name = bytes_of(alloc, name)?;
+    let extended = entry_of(bytes.as_slice())?.extended();
+    debug_of(
+        alloc,
+        &(
+            extended.find(name.as_slice()),
+            extended.find_text(name.as_slice()),
+        ),
+    )
+}
+
+#[test]
+fn extended_capabilities_are_found_by_their_names(rt: HostRuntime) -> Result<(), Fail> {
+    check_rows(rt.alloc(), FOUND, found_in)
+}
+
+/// An entry, a place, what the bytes there are changed to and a length, and why they are refused.
+const REFUSED: &str = r"
+@EXTENDED | 25 | \200 => BadExtendedHeader at 24
+@EXTENDED | 32 | \377^? => ExtendedTooBig at 24
+@EXTENDED | 34 | ^B => BadFlag at 34
+@EXTENDED | 35 | ^A => BadPad at 35
+@EXTENDED | 38 | \377\377 => BadExtendedName at 38
+@EXTENDED | 40 | ^F => BadExtendedName at 40
+@EXTENDED | 52 | ^A => Unterminated at 40
+# the number of items in the table is not looked at
+@EXTENDED | 30 | \377\377 => -
+# a byte after the part is too many
+@EXTENDED | - | - | 54 => Trailing at 53
+";
+
+#[test]
+fn changed_bytes_of_an_extended_part_are_refused(rt: HostRuntime) -> Result<(), Fail> {
+    check_rows(rt.alloc(), REFUSED, refusal_in)
+}
+
+/// Why the long entry of a row is refused.
+fn refusal_of_long(alloc: Global, given: &str) -> Result<Vec<u8>, Unfound> {
+    let bytes = long_in(alloc, given)?;
+    refusal_shown(alloc, refusal(bytes.as_slice())?)
+}
+
+/// The small entry with 6000 extended texts at the one place of a table of 7000 bytes: their sizes sum past it.
+const MANY: &str = r"
+^Z^A^B\000^A\000^A\000^B\000^B\000t\000^A\000P\000\377\377\000\000^G\000\000\000\000\000p^W\000\000X\E | 24034 | 31033 => BadExtendedName at 12034
+";
+
+#[test]
+fn many_extended_texts_are_too_long(rt: HostRuntime) -> Result<(), Fail> {
+    check_rows(rt.alloc(), MANY, refusal_of_long)
+}

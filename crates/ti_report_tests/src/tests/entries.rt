@@ -1,0 +1,183 @@
+//! Entries as text, and the lines on them.
+
+use std::alloc::Global;
+use std::str::from_utf8;
+use ti_draft::{Draft, encode};
+use ti_entry::read;
+use ti_fixtures::{Said, Unfound, bytes_of, item_of};
+use ti_names::NameTable;
+use ti_report::{Color, Scope, Trials, push_report};
+use ti_words::{Flag, Kind, Number, Text, Width};
+
+/// What the items say of a capability of terminfo(5).
+fn said_of(items: &str, kind: Kind, index: usize) -> Option<Said<'_>> {
+    for item in items.split(" | ") {
+        let (name, said) = item_of(item);
+        if NameTable::All.find(name) == Some((kind, index)) {
+            return Some(said);
+        }
+    }
+    None
+}
+
+/// How many capabilities of a kind an entry has whose last is among the items.
+fn count_of(items: &str, kind: Kind) -> usize {
+    let mut count = 0usize;
+    for item in items.split(" | ") {
+        if let Some((same, index)) = NameTable::All.find(item_of(item).0) {
+            if same == kind {
+                count = count.max(index.saturating_add(1));
+            }
+        }
+    }
+    count
+}
+
+fn push_flags(draft: &mut Draft<'_, Global>, items: &str) -> Result<(), Unfound> {
+    for index in 0..count_of(items, Kind::Flag) {
+        draft.push_flag(match said_of(items, Kind::Flag, index) {
+            Some(Said::Yes) => Flag::Yes,
+            Some(Said::Cancelled) => Flag::Cancelled,
+            _ => Flag::No,
+        })?;
+    }
+    Ok(())
+}
+
+fn push_numbers(draft: &mut Draft<'_, Global>, items: &str) -> Result<(), Unfound> {
+    for index in 0..count_of(items, Kind::Number) {
+        draft.push_number(match said_of(items, Kind::Number, index) {
+            Some(Said::Number(number)) => Number::Value(number),
+            Some(Said::Cancelled) => Number::Cancelled,
+            _ => Number::Absent,
+        })?;
+    }
+    Ok(())
+}
+
+/// Pushes the texts. The item `*@` cancels all others of terminfo(5).
+fn push_texts<'a>(draft: &mut Draft<'a, Global>, items: &'a str) -> Result<(), Unfound> {
+    let are_others_cancelled = items.ends_with("*@");
+    let count = if are_others_cancelled {
+        414
+    } else {
+        count_of(items, Kind::Text)
+    };
+    let other = if are_others_cancelled {
+        Text::Cancelled
+    } else {
+        Text::Absent
+    };
+    for index in 0..count {
+        draft.push_text(match said_of(items, Kind::Text, index) {
+            Some(Said::Text(text)) => Text::Value(text),
+            _ => other,
+        })?;
+    }
+    Ok(())
+}
+
+/// Pushes the extended capabilities, whose items start with `+`.
+fn push_extended<'a>(draft: &mut Draft<'a, Global>, items: &'a str) -> Result<(), Unfound> {
+    for item in items.split(" | ") {
+        if let Some(item) = item.strip_prefix('+') {
+            let (name, said) = item_of(item);
+            match said {
+                Said::Yes => draft.push_extended_flag(name.as_bytes(), Flag::Yes)?,
+                Said::Number(number) => {
+                    draft.push_extended_number(name.as_bytes(), Number::Value(number))?
+                }
+                Said::Text(text) => draft.push_extended_text(name.as_bytes(), Text::Value(text))?,
+                Said::Cancelled => draft.push_extended_flag(name.as_bytes(), Flag::Cancelled)?,
+            }
+        }
+    }
+    Ok(())
+}
+
+/// Pushes all items, and encodes the draft.
+fn encoded_with<'a>(
+    alloc: Global,
+    draft: &mut Draft<'a, Global>,
+    items: &'a str,
+) -> Result<Vec<u8>, Unfound> {
+    push_flags(draft, items)?;
+    push_numbers(draft, items)?;
+    push_texts(draft, items)?;
+    push_extended(draft, items)?;
+    Ok(encode(alloc, &*draft)?)
+}
+
+/// The entry `t` with these items.
+fn encoded(alloc: Global, items: &str) -> Result<Vec<u8>, Unfound> {
+    let mut draft = Draft::new(alloc, b"t", Width::Legacy);
+    encoded_with(alloc, &mut draft, items)
+}
+
+/// The entry that a text names, whose bytes it is, or whose items it has.
+pub fn entry_of(alloc: Global, text: &str) -> Result<Vec<u8>, Unfound> {
+    let bytes = bytes_of(alloc, text)?;
+    if text.starts_with('@') || text.starts_with('^') {
+        return Ok(bytes);
+    }
+    encoded(alloc, from_utf8(bytes.as_slice())?)
+}
+
+/// Which lines on an entry are requested, and how they look.
+#[derive(Clone, Copy)]
+pub struct Look {
+    pub scope: Scope,
+    pub color: Color,
+    pub prefix: &'static [u8],
+}
+
+/// The lines on an entry.
+pub fn lines_with(
+    alloc: Global,
+    trials: &mut Trials,
+    look: Look,
+    file: &[u8],
+) -> Result<Vec<u8>, Unfound> {
+    let mut lines = Vec::new(alloc);
+    push_report(
+        alloc,
+        &mut lines,
+        trials,
+        look.scope,
+        look.color,
+        look.prefix,
+        file,
+        &read(file)?,
+    )?;
+    Ok(lines)
+}
+
+/// The lines on an entry that was not tried before.
+pub fn lines_on(alloc: Global, look: Look, file: &[u8]) -> Result<Vec<u8>, Unfound> {
+    lines_with(alloc, &mut Trials::new(alloc), look, file)
+}
+
+/// Mistakes, without color and without a name in front.
+pub const MISTAKES: Look = Look {
+    scope: Scope::Mistakes,
+    color: Color::Never,
+    prefix: b"",
+};
+
+/// The look that the first field of a row asks for: `mistakes` or `all`, and each `in file` or not.
+pub fn look_of(words: &str) -> Look {
+    let is_all = words.starts_with("all");
+    let is_named = words.ends_with("in file");
+    Look {
+        scope: if is_all { Scope::All } else { Scope::Mistakes },
+        color: Color::Never,
+        prefix: if is_named { b"file: " } else { b"" },
+    }
+}
+
+/// The lines on the entry of a row, after the look.
+pub fn lines_in(alloc: Global, trials: &mut Trials, given: &str) -> Result<Vec<u8>, Unfound> {
+    let (look, entry) = given.split_once(" | ").ok_or("a look")?;
+    let file = entry_of(alloc, entry)?;
+    lines_with(alloc, trials, look_of(look), file.as_slice())
+}

@@ -1,0 +1,3 @@
+//! What a caller of the listings writes, as their README shows it.
+
+mod listing;

@@ -1,5 +1,0 @@
-//! What a caller of the command line and of the program writes, as their READMEs show it.
-
-mod line;
-mod listing;
-mod tool;
