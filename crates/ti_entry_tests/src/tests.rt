@@ -28,6 +28,7 @@ mod entry_refusals;
 mod entry_sources;
 mod entry_views;
 mod extended_parts;
+mod items;
 mod large_entry;
 mod names;
 mod uses;
