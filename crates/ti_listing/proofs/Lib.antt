@@ -1,5 +1,7 @@
 pub mod IsLeastIndexLemmas
 pub mod TokensLemmas
 pub mod DifferencesLemmas
+pub mod ExtendedNamesLemmas
 pub mod AreAlikeLemmas
 pub mod DifferingObjectsLemmas
+pub mod Examples

@@ -1,6 +1,8 @@
 -- What two entries do not have alike, one item after another.
-use Rattle.std.specs.Prelude.{◌≡◌, ◌⊎◌, ℕ, zero, suc, List, [], ◌∷◌, ◌++◌, Some, get_or, length, max}
-use Rattle.ti_words.specs.Items.{ExtendedSubject, ItemValue, StandardSubject, SubjectValue, TextItem, none_of}
+use Rattle.std.specs.Prelude.{◌≡◌, ◌⊎◌, ℕ, Bool, List, [], ◌∷◌, ◌++◌, map, max, if◌then◌else◌}
+use Rattle.std.specs.List.{list_any, range_with_len}
+use Rattle.std.specs.Str.{bytes_eq}
+use Rattle.ti_words.specs.Items.{ExtendedSubject, ItemValue, StandardSubject, SubjectValue, TextItem}
 use Rattle.ti_words.specs.declared.Kind.{Kind}
 use Rattle.ti_words.specs.declared.Kind.TheVariants as kinds
 use Rattle.ti_words.specs.declared.Width.{Width}
@@ -9,11 +11,10 @@ use Rattle.ti_words.specs.Value.{EntryValue}
 use Rattle.ti_cap.specs.declared.language.Token.{Token}
 use Rattle.ti_cap.specs.Refusal.{IsFaultless}
 use Rattle.ti_cap.specs.Spelling.{Written}
-use Rattle.ti_entry.specs.Finding.{IsLeastIndex, Lacks, names_of}
-use Rattle.ti_entry.specs.declared.finding.Position.TheVariants.{Standard, Extended}
+use Rattle.ti_entry.specs.Finding.{names_of}
 use Rattle.ti_line.specs.declared.options.Likeness.{Likeness}
 use Rattle.ti_line.specs.declared.options.Likeness.TheVariants as likenesses
-use Rattle.ti_entry.specs.Items.{IsItemOf, count_of_kind, item_at}
+use Rattle.ti_entry.specs.Items.{IsItemOf, count_of_kind}
 
 -- ---- one item
 
@@ -45,96 +46,67 @@ AreSameItems by one other = (one ≡ other) ⊎ ((by ≡ likenesses.Tokens) × A
 abbrev pub AreSame : {V : Type 0} → V → V → Type 0
 AreSame one other = one ≡ other
 
--- ---- the capabilities of a kind
+-- what is told of a capability, by what each entry has of it
+abbrev pub IsDifference : Likeness → EntryValue → EntryValue → SubjectValue → List DifferenceValue → Type 0
+IsDifference by v w subject told =
+    (one : ItemValue) × (other : ItemValue) × IsItemOf v subject one × IsItemOf w subject other
+    × IsChange (AreSameItems by) (ItemDiffers subject) one other told
 
--- what is told of each index below an end, one after another
-abbrev pub AreBelow : (ℕ → List DifferenceValue → Type 0) → ℕ → List DifferenceValue → Type 0
-AreBelow IsAt zero told = told ≡ []
-AreBelow IsAt (suc end) told =
-    (front : List DifferenceValue) × (last : List DifferenceValue)
-    × AreBelow IsAt end front × IsAt end last × (told ≡ front ++ last)
+-- ---- the capabilities of two entries, each once
 
--- standard ones are compared by their index
-abbrev pub IsStandardChange : Likeness → Kind → EntryValue → EntryValue → ℕ
-    → List DifferenceValue → Type 0
-IsStandardChange by kind v w index =
-    IsChange (AreSameItems by) (ItemDiffers (StandardSubject kind index))
-    (item_at v (Standard kind index)) (item_at w (Standard kind index))
+-- those of terminfo(5) of a kind, to the end of the entry that has more
+abbrev pub standard_of_both : EntryValue → EntryValue → Kind → List SubjectValue
+standard_of_both v w kind =
+    map (StandardSubject kind) (range_with_len 0 (max (count_of_kind v.standard kind) (count_of_kind w.standard kind)))
 
--- to the end of the entry that has more
-abbrev pub AreStandardChanges : Likeness → Kind → EntryValue → EntryValue
-    → List DifferenceValue → Type 0
-AreStandardChanges by kind v w =
-    AreBelow (IsStandardChange by kind v w) (max (count_of_kind v.standard kind) (count_of_kind w.standard kind))
+-- whether a name is among others
+abbrev pub has : List (List ℕ) → List ℕ → Bool
+has names name = list_any (bytes_eq name) names
 
--- extended ones are compared by their name. If a name stands twice in an entry, the first is meant, and
--- the others are skipped.
+-- the names, and after them those of a list that are not among them yet
+abbrev pub with_new : List (List ℕ) → List (List ℕ) → List (List ℕ)
+with_new names [] = names
+with_new names (name ∷ more) = with_new (if has names name then names else names ++ name ∷ []) more
 
--- the name of an extended capability
-abbrev pub name_at : Kind → EntryValue → ℕ → List ℕ
-name_at kind v index = get_or (names_of v.extended kind) index []
+-- the extended ones of a kind, by the names of the first entry and then by those that only the other has
+abbrev pub names_of_both : EntryValue → EntryValue → Kind → List (List ℕ)
+names_of_both v w kind = with_new (with_new [] (names_of v.extended kind)) (names_of w.extended kind)
 
--- an index is the first of its name
-abbrev pub IsFirst : Kind → EntryValue → ℕ → Type 0
-IsFirst kind v index =
-    IsLeastIndex (names_of v.extended kind) (name_at kind v index) (Some index)
+abbrev pub extended_of_both : EntryValue → EntryValue → Kind → List SubjectValue
+extended_of_both v w kind = map (ExtendedSubject kind) (names_of_both v w kind)
 
--- those of the first entry, beside what the other has with the name
-abbrev pub IsOwnChange : Likeness → Kind → EntryValue → EntryValue → ℕ → List DifferenceValue → Type 0
-IsOwnChange by kind v w index told =
-    (IsFirst kind v index × ((other : ItemValue) × IsItemOf w (ExtendedSubject kind (name_at kind v index)) other
-    × IsChange (AreSameItems by) (ItemDiffers (ExtendedSubject kind (name_at kind v index)))
-    (item_at v (Extended kind index)) other told))
-    ⊎ ((¬ IsFirst kind v index) × (told ≡ []))
+-- flags, then numbers, then texts
+abbrev pub of_each_kind : (Kind → List SubjectValue) → List SubjectValue
+of_each_kind of_kind = of_kind kinds.Flag ++ of_kind kinds.Number ++ of_kind kinds.Text
 
--- and those of the other whose name the first entry lacks
-abbrev pub IsNew : Kind → EntryValue → EntryValue → ℕ → Type 0
-IsNew kind v w index =
-    IsFirst kind w index × Lacks (names_of v.extended kind) (name_at kind w index)
-
-abbrev pub IsOwnNew : Likeness → Kind → EntryValue → EntryValue → ℕ → List DifferenceValue → Type 0
-IsOwnNew by kind v w index told =
-    (IsNew kind v w index
-    × IsChange (AreSameItems by) (ItemDiffers (ExtendedSubject kind (name_at kind w index)))
-    (none_of kind) (item_at w (Extended kind index)) told)
-    ⊎ ((¬ IsNew kind v w index) × (told ≡ []))
-
-abbrev pub AreOwnChanges : Likeness → Kind → EntryValue → EntryValue → List DifferenceValue → Type 0
-AreOwnChanges by kind v w told =
-    (compared : List DifferenceValue) × (more : List DifferenceValue)
-    × AreBelow (IsOwnChange by kind v w) (length (names_of v.extended kind)) compared
-    × AreBelow (IsOwnNew by kind v w) (length (names_of w.extended kind)) more
-    × (told ≡ compared ++ more)
+abbrev pub subjects_of_both : EntryValue → EntryValue → List SubjectValue
+subjects_of_both v w = of_each_kind (standard_of_both v w) ++ of_each_kind (extended_of_both v w)
 
 -- ---- two entries
 
--- flags, then numbers, then texts
-abbrev pub AreOfKinds : (Kind → List DifferenceValue → Type 0) → List DifferenceValue → Type 0
-AreOfKinds AreOf told =
-    (first : List DifferenceValue) × (second : List DifferenceValue) × (third : List DifferenceValue)
-    × AreOf kinds.Flag first × AreOf kinds.Number second × AreOf kinds.Text third
-    × (told ≡ first ++ second ++ third)
+-- what is told of each of some capabilities, one after another
+abbrev pub AreTold : (SubjectValue → List DifferenceValue → Type 0) → List SubjectValue → List DifferenceValue → Type 0
+AreTold IsTold [] told = told ≡ []
+AreTold IsTold (subject ∷ more) told =
+    (first : List DifferenceValue) × (last : List DifferenceValue)
+    × IsTold subject first × AreTold IsTold more last × (told ≡ first ++ last)
 
--- the format and the names, then the standard capabilities and the extended ones
+-- the format and the names, then the capabilities
 pub record AreDifferences (by : Likeness) (v w : EntryValue) (told : List DifferenceValue) : Type 0 where
   pub format : List DifferenceValue
   pub names : List DifferenceValue
-  pub standard : List DifferenceValue
-  pub own : List DifferenceValue
+  pub capabilities : List DifferenceValue
   pub in_format : IsChange AreSame FormatDiffers v.width w.width format
   pub in_names : IsChange AreSame NamesDiffer v.names w.names names
-  pub in_standard : AreOfKinds (λ kind. AreStandardChanges by kind v w) standard
-  pub in_own : AreOfKinds (λ kind. AreOwnChanges by kind v w) own
-  pub joined : told ≡ format ++ names ++ standard ++ own
+  pub in_capabilities : AreTold (IsDifference by v w) (subjects_of_both v w) capabilities
+  pub joined : told ≡ format ++ names ++ capabilities
 
--- two entries say the same: of each standard capability, and of each name of their own
+-- two entries say the same of the format, the names and each capability
 pub record AreAlike (by : Likeness) (v w : EntryValue) : Type 0 where
   pub format : v.width ≡ w.width
   pub names : v.names ≡ w.names
-  pub standard : (kind : Kind) (index : ℕ)
-      → AreSameItems by (item_at v (Standard kind index)) (item_at w (Standard kind index))
-  pub own : (kind : Kind) (name : List ℕ) (one other : ItemValue)
-      → IsItemOf v (ExtendedSubject kind name) one → IsItemOf w (ExtendedSubject kind name) other → AreSameItems by one other
+  pub capabilities : (subject : SubjectValue) (one other : ItemValue)
+      → IsItemOf v subject one → IsItemOf w subject other → AreSameItems by one other
 
 -- nothing is told exactly if they do
 abbrev pub TellsApart : Likeness → EntryValue → EntryValue → List DifferenceValue → Type 0

@@ -1,161 +1,79 @@
 //! What two entries do not have alike, one item after another.
-//!
-//! Extended capabilities are looked up by their names, so the time grows with the product of how many the entries have.
 
-ghost use Rattle.std.specs.Prelude.{◌≡◌, ◌↔◌, length, IfOk, IsTrue, OnOk, map};
-ghost use Rattle.ti_entry.specs.Finding.{Lacks, names_of};
-ghost use Rattle.ti_listing.specs.Differences.{AreBelow, AreDifferences, AreSame, AreOfKinds, AreOwnChanges, AreStandardChanges, FormatDiffers, IsChange, IsFirst, IsOwnChange, IsOwnNew, NamesDiffer, TellsApart};
+ghost use Rattle.std.specs.Prelude.{◌≡◌, IfOk, OnOk, map};
+ghost use Rattle.ti_words.specs.Items.{subject_value};
+ghost use Rattle.ti_listing.specs.Differences.{AreDifferences, AreSame, AreTold, FormatDiffers, IsChange, IsDifference, NamesDiffer, TellsApart, extended_of_both, standard_of_both};
 ghost use Rattle.ti_listing.specs.Values.{difference_value};
 ghost use Rattle.ti_listing.specs.inner.Differences.{Adds};
 
 use crate::change::push_change;
 use crate::difference::Difference;
+use crate::extended_names::names_of_both;
 use std::alloc::{AllocError, Allocator};
-use ti_entry::{Entry, Position};
+use ti_entry::Entry;
 use ti_line::Likeness;
-use ti_words::{Item, Kind, Subject, Width};
+use ti_words::{Kind, Subject, Width};
 
-/// Adds what differs of the standard capabilities of a kind.
-fn push_standard<'a, A: Allocator>(
-    out: &mut Vec<Difference<'a>, A>,
+/// Two entries, and when they have a capability alike.
+#[derive(Clone, Copy)]
+pub struct Compared<'e, 'a> {
     likeness: Likeness,
-    kind: Kind,
-    one: &Entry<'a>,
-    other: &Entry<'a>,
-) -> Result<(), AllocError>
-    ensures { OnOk result (Adds (AreStandardChanges likeness kind one.now other.now)
-        (map difference_value out.old.items) (map difference_value out.new.items)) }
-{
-    let end = one
-        .standard()
-        .count_of(kind)
-        .max(other.standard().count_of(kind));
-    for index in 0..end {
-        let place = Position::Standard(kind, index);
-        let subject = Subject::Standard(kind, index);
-        let (value, of_other) = (one.item_at(place), other.item_at(place));
-        push_change(out, likeness, subject, value, of_other)?;
+    one: &'e Entry<'a>,
+    other: &'e Entry<'a>,
+}
+
+impl<'a> Compared<'_, 'a> {
+    /// Adds what differs of a capability.
+    fn push<A: Allocator>(
+        self,
+        out: &mut Vec<Difference<'a>, A>,
+        subject: Subject<'a>,
+    ) -> Result<(), AllocError>
+        ensures { OnOk result (Adds
+            (IsDifference self.entry.likeness self.entry.one.now self.entry.other.now (subject_value subject.entry))
+            (map difference_value out.old.items) (map difference_value out.new.items)) }
+    {
+        let (first, other) = (self.one.item(subject), self.other.item(subject));
+        push_change(out, self.likeness, subject, first, other)
     }
-    Ok(())
-}
 
-/// Whether an extended capability is the first of its kind with its name.
-fn is_first(entry: &Entry<'_>, kind: Kind, index: usize) -> bool
-    ensures { IsTrue result ↔ IsFirst kind entry.now index }
-{
-    let extended = entry.extended();
-    let found = extended.find_of(kind, extended.name_or_empty(kind, index));
-    found == Some(index)
-}
-
-/// Whether an entry has no extended capability of a kind with a name.
-fn lacks(entry: &Entry<'_>, kind: Kind, name: &[u8]) -> bool
-    ensures { IsTrue result ↔ Lacks (names_of entry.now.extended kind) name.now }
-{
-    entry.extended().find_of(kind, name).is_none()
-}
-
-/// Adds what differs of an extended capability of the first entry.
-fn push_own_at<'a, A: Allocator>(
-    out: &mut Vec<Difference<'a>, A>,
-    likeness: Likeness,
-    kind: Kind,
-    one: &Entry<'a>,
-    other: &Entry<'a>,
-    index: usize,
-) -> Result<(), AllocError>
-    ensures { OnOk result
-        (Adds (IsOwnChange likeness kind one.now other.now index)
-        (map difference_value out.old.items) (map difference_value out.new.items)) }
-{
-    if !is_first(one, kind, index) {
-        return Ok(());
+    /// Adds what differs of the capabilities of terminfo(5) of a kind.
+    fn push_standard<A: Allocator>(
+        self,
+        out: &mut Vec<Difference<'a>, A>,
+        kind: Kind,
+    ) -> Result<(), AllocError>
+        ensures { OnOk result (Adds
+            (AreTold (IsDifference self.entry.likeness self.entry.one.now self.entry.other.now)
+            (standard_of_both self.entry.one.now self.entry.other.now kind))
+            (map difference_value out.old.items) (map difference_value out.new.items)) }
+    {
+        let (one, other) = (self.one.standard(), self.other.standard());
+        let end = one.count_of(kind).max(other.count_of(kind));
+        for index in 0..end {
+            self.push(out, Subject::Standard(kind, index))?;
+        }
+        Ok(())
     }
-    let name = one.extended().name_or_empty(kind, index);
-    let value = one.item_at(Position::Extended(kind, index));
-    let subject = Subject::Extended(kind, name);
-    push_change(out, likeness, subject, value, other.item(subject))
-}
 
-/// Adds an extended capability of the other entry, if the first lacks it.
-fn push_new_at<'a, A: Allocator>(
-    out: &mut Vec<Difference<'a>, A>,
-    likeness: Likeness,
-    kind: Kind,
-    one: &Entry<'a>,
-    other: &Entry<'a>,
-    index: usize,
-) -> Result<(), AllocError>
-    ensures { OnOk result
-        (Adds (IsOwnNew likeness kind one.now other.now index)
-        (map difference_value out.old.items) (map difference_value out.new.items)) }
-{
-    if !is_first(other, kind, index) {
-        return Ok(());
+    /// Adds what differs of the extended capabilities of a kind.
+    fn push_extended<A: Allocator + Copy>(
+        self,
+        alloc: A,
+        out: &mut Vec<Difference<'a>, A>,
+        kind: Kind,
+    ) -> Result<(), AllocError>
+        ensures { OnOk result (Adds
+            (AreTold (IsDifference self.entry.likeness self.entry.one.now self.entry.other.now)
+            (extended_of_both self.entry.one.now self.entry.other.now kind))
+            (map difference_value out.old.items) (map difference_value out.new.items)) }
+    {
+        let names = names_of_both(alloc, kind, self.one, self.other)?;
+        for index in 0..names.len() {
+            self.push(out, Subject::Extended(kind, names[index]))?;
+        }
+        Ok(())
     }
-    let name = other.extended().name_or_empty(kind, index);
-    if !lacks(one, kind, name) {
-        return Ok(());
-    }
-    let value = other.item_at(Position::Extended(kind, index));
-    push_change(
-        out,
-        likeness,
-        Subject::Extended(kind, name),
-        Item::none_of(kind),
-        value,
-    )
-}
-
-/// Adds what differs of the extended capabilities of a kind that the first entry has.
-fn push_compared<'a, A: Allocator>(
-    out: &mut Vec<Difference<'a>, A>,
-    likeness: Likeness,
-    kind: Kind,
-    one: &Entry<'a>,
-    other: &Entry<'a>,
-) -> Result<(), AllocError>
-    ensures { OnOk result (Adds (AreBelow (IsOwnChange likeness kind one.now other.now)
-        (length (names_of one.now.extended kind)))
-        (map difference_value out.old.items) (map difference_value out.new.items)) }
-{
-    for index in 0..one.extended().count_of(kind) {
-        push_own_at(out, likeness, kind, one, other, index)?;
-    }
-    Ok(())
-}
-
-/// Adds those that the other has, and the first lacks.
-fn push_new<'a, A: Allocator>(
-    out: &mut Vec<Difference<'a>, A>,
-    likeness: Likeness,
-    kind: Kind,
-    one: &Entry<'a>,
-    other: &Entry<'a>,
-) -> Result<(), AllocError>
-    ensures { OnOk result (Adds (AreBelow (IsOwnNew likeness kind one.now other.now)
-        (length (names_of other.now.extended kind)))
-        (map difference_value out.old.items) (map difference_value out.new.items)) }
-{
-    for index in 0..other.extended().count_of(kind) {
-        push_new_at(out, likeness, kind, one, other, index)?;
-    }
-    Ok(())
-}
-
-/// Adds what differs of all extended capabilities of a kind.
-fn push_own<'a, A: Allocator>(
-    out: &mut Vec<Difference<'a>, A>,
-    likeness: Likeness,
-    kind: Kind,
-    one: &Entry<'a>,
-    other: &Entry<'a>,
-) -> Result<(), AllocError>
-    ensures { OnOk result (Adds (AreOwnChanges likeness kind one.now other.now)
-        (map difference_value out.old.items) (map difference_value out.new.items)) }
-{
-    push_compared(out, likeness, kind, one, other)?;
-    push_new(out, likeness, kind, one, other)
 }
 
 /// Adds the formats, if they differ.
@@ -190,39 +108,9 @@ fn push_names<'a, A: Allocator>(
     Ok(())
 }
 
-/// Adds what differs of all standard capabilities.
-fn push_all_standard<'a, A: Allocator>(
-    out: &mut Vec<Difference<'a>, A>,
-    likeness: Likeness,
-    one: &Entry<'a>,
-    other: &Entry<'a>,
-) -> Result<(), AllocError>
-    ensures { OnOk result (Adds (AreOfKinds (λ kind. AreStandardChanges likeness kind one.now other.now))
-        (map difference_value out.old.items) (map difference_value out.new.items)) }
-{
-    push_standard(out, likeness, Kind::Flag, one, other)?;
-    push_standard(out, likeness, Kind::Number, one, other)?;
-    push_standard(out, likeness, Kind::Text, one, other)
-}
-
-/// Adds what differs of all extended capabilities.
-fn push_all_own<'a, A: Allocator>(
-    out: &mut Vec<Difference<'a>, A>,
-    likeness: Likeness,
-    one: &Entry<'a>,
-    other: &Entry<'a>,
-) -> Result<(), AllocError>
-    ensures { OnOk result (Adds (AreOfKinds (λ kind. AreOwnChanges likeness kind one.now other.now))
-        (map difference_value out.old.items) (map difference_value out.new.items)) }
-{
-    push_own(out, likeness, Kind::Flag, one, other)?;
-    push_own(out, likeness, Kind::Number, one, other)?;
-    push_own(out, likeness, Kind::Text, one, other)
-}
-
-/// What two entries do not have alike: the format, the names, then the capabilities of terminfo(5) by their indices, and those
-/// that the entries have names of their own for by these names. There is nothing exactly if both say the same, with texts that
-/// are alike counted as the same.
+/// What two entries do not have alike: the format, the names, then the capabilities of terminfo(5) by their indices, and the
+/// extended ones by their names. If a name stands twice in an entry, the first counts. There is nothing exactly if both say the
+/// same, with texts that are alike counted as the same.
 ///
 /// # Errors
 ///
@@ -238,10 +126,19 @@ pub fn difference_of<'a, A: Allocator + Copy>(
     ensures apart { IfOk result (λ v. TellsApart likeness one.now other.now
         (map difference_value v.items)) }
 {
+    let compared = Compared {
+        likeness,
+        one,
+        other,
+    };
     let mut out = Vec::new(alloc);
     push_format(&mut out, one.width(), other.width())?;
     push_names(&mut out, one.names(), other.names())?;
-    push_all_standard(&mut out, likeness, one, other)?;
-    push_all_own(&mut out, likeness, one, other)?;
+    compared.push_standard(&mut out, Kind::Flag)?;
+    compared.push_standard(&mut out, Kind::Number)?;
+    compared.push_standard(&mut out, Kind::Text)?;
+    compared.push_extended(alloc, &mut out, Kind::Flag)?;
+    compared.push_extended(alloc, &mut out, Kind::Number)?;
+    compared.push_extended(alloc, &mut out, Kind::Text)?;
     Ok(out)
 }

@@ -24,11 +24,11 @@ pub struct Heading<'a> {
 /// Writes what stands before the value, and an end.
 fn push_line<A: Allocator>(
     out: &mut Vec<u8, A>,
-    heading: Heading<'_>,
+    heading: &Heading<'_>,
     end: &[u8],
 ) -> Result<(), AllocError>
     ensures { OnOk result (out.new.items ≡ out.old.items
-        ++ (word_in heading.entry ++ label_in heading.entry ++ end.now)) }
+        ++ (word_in heading.now ++ label_in heading.now ++ end.now)) }
 {
     out.extend_from_slice(heading.sign)?;
     out.extend_from_slice(subject_word(heading.subject))?;
@@ -39,11 +39,11 @@ fn push_line<A: Allocator>(
 /// Writes the line of a flag, or none.
 fn push_flag<A: Allocator>(
     out: &mut Vec<u8, A>,
-    heading: Heading<'_>,
+    heading: &Heading<'_>,
     flag: Flag,
 ) -> Result<(), AllocError>
     ensures { OnOk result (out.new.items
-        ≡ out.old.items ++ flag_line (word_in heading.entry) (label_in heading.entry) flag) }
+        ≡ out.old.items ++ flag_line (word_in heading.now) (label_in heading.now) flag) }
 {
     let end: &[u8] = match flag {
         Flag::No => return Ok(()),
@@ -57,11 +57,11 @@ fn push_flag<A: Allocator>(
 /// Writes the line of a number, or none.
 fn push_number<A: Allocator>(
     out: &mut Vec<u8, A>,
-    heading: Heading<'_>,
+    heading: &Heading<'_>,
     number: Number,
 ) -> Result<(), AllocError>
     ensures { OnOk result (out.new.items
-        ≡ out.old.items ++ number_line (word_in heading.entry) (label_in heading.entry) number) }
+        ≡ out.old.items ++ number_line (word_in heading.now) (label_in heading.now) number) }
 {
     match number {
         Number::Absent => Ok(()),
@@ -78,12 +78,12 @@ fn push_number<A: Allocator>(
 /// Writes the line of a text, or none. Its bytes are shown in a form.
 fn push_text<A: Allocator>(
     out: &mut Vec<u8, A>,
-    heading: Heading<'_>,
+    heading: &Heading<'_>,
     form: Form,
     text: Text<'_>,
 ) -> Result<(), AllocError>
     ensures { OnOk result (out.new.items ≡ out.old.items
-        ++ text_line form (word_in heading.entry) (label_in heading.entry) (text_value text.entry)) }
+        ++ text_line form (word_in heading.now) (label_in heading.now) (text_value text.entry)) }
 {
     match text {
         Text::Absent => Ok(()),
@@ -99,12 +99,12 @@ fn push_text<A: Allocator>(
 /// Writes the line of a value, or none if it is absent. A text is shown in a form.
 pub fn push_item<A: Allocator>(
     out: &mut Vec<u8, A>,
-    heading: Heading<'_>,
+    heading: &Heading<'_>,
     form: Form,
     item: Item<'_>,
 ) -> Result<(), AllocError>
     ensures { OnOk result (out.new.items ≡ out.old.items
-        ++ item_line form (word_in heading.entry) (label_in heading.entry) (item_value item.entry)) }
+        ++ item_line form (word_in heading.now) (label_in heading.now) (item_value item.entry)) }
 {
     match item {
         Item::Flag(flag) => push_flag(out, heading, flag),

@@ -8,6 +8,7 @@ mod change;
 mod diff;
 mod difference;
 mod document;
+mod extended_names;
 mod item_line;
 mod label;
 mod lines;

@@ -63,7 +63,7 @@ fn push_signed<A: Allocator>(
         naming: IN_FULL,
         subject,
     };
-    push_item(out, heading, Form::Notation, item)
+    push_item(out, &heading, Form::Notation, item)
 }
 
 /// Writes the line on what the first entry has, or none.

@@ -46,7 +46,7 @@ fn push_items<A: Allocator>(
             naming,
             subject,
         };
-        push_item(out, heading, options.form, item)?;
+        push_item(out, &heading, options.form, item)?;
     }
     Ok(())
 }

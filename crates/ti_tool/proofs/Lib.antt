@@ -14,6 +14,7 @@ pub mod ReadsIntoLemmas
 pub mod AreToldLemmas
 pub mod WideAndBackLemmas
 pub mod OneResultLemmas
+pub mod OneComparisonLemmas
 pub mod PrintableLemmas
 pub mod IsItemCalledLemmas
 pub mod IsGotLemmas

@@ -5,12 +5,15 @@ use Rattle.ti_words.specs.Value.{EntryValue}
 use Rattle.ti_words.specs.Spelling.{Spells}
 use Rattle.ti_draft.specs.Canonical.{canonical}
 use Rattle.ti_expand.specs.declared.values.Value.{Value}
+use Rattle.ti_line.specs.declared.options.Comparison.{Comparison}
 use Rattle.ti_line.specs.declared.options.Document.TheVariants as documents
+use Rattle.ti_line.specs.declared.options.Likeness.{Likeness}
 use Rattle.ti_line.specs.declared.options.Naming.{Naming}
 use Rattle.ti_line.specs.declared.request.Asked.{Asked}
 use Rattle.ti_line.specs.declared.request.Asked.TheVariants.{Entry}
 use Rattle.ti_line.specs.declared.request.OfEntry.TheVariants as of_entry
 use Rattle.ti_tool.specs.declared.fault.ToolFault.{ToolFault}
+use Rattle.ti_tool.specs.Comparisons.{IsCompared}
 use Rattle.ti_tool.specs.Results.{IsAnswer, IsConverted, IsDueFrom, IsJudgement}
 
 -- if an entry of the legacy format is widened, and what is written narrowed again, its canonical
@@ -39,3 +42,15 @@ CheckHasOneVerdict = (naming : Naming) (input lines others : List ℕ) (sound ot
     → IsDueFrom (IsJudgement naming sound) input (Ok lines)
     → IsDueFrom (IsJudgement naming other_sound) input (Ok others)
     → sound ≡ other_sound
+
+-- two runs write the same bytes and the same line on a fault, and end with the same status
+abbrev pub AreOne : List ℕ → List ℕ → List ℕ → List ℕ → ℕ → ℕ → Type 0
+AreOne out outs line lines status code = (out ≡ outs) × (line ≡ lines) × (status ≡ code)
+
+-- the contents of two files lead to one result of `diff`
+abbrev pub DiffHasOneResult : Type 0
+DiffHasOneResult = (by : Likeness) (form : Comparison) (file other one two : List ℕ)
+    (out outs line lines : List ℕ) (status code : ℕ)
+    → IsCompared by form file other one two out line status
+    → IsCompared by form file other one two outs lines code
+    → AreOne out outs line lines status code
