@@ -3,7 +3,7 @@
 use std::alloc::{AllocError, Allocator};
 use std::rt::Files;
 use std::{fs, io};
-use ti_tool::{Found, Store, one_file, read_contents};
+use ti_tool::{FoundFile, Store, one_file, read_contents};
 
 /// The files that a runtime reaches.
 #[derive(Drop)]
@@ -35,7 +35,7 @@ fn walk<R: Files + Alloc + Clone + Drop, A: Allocator + Copy>(
     rt: &R,
     alloc: A,
     name: &str,
-) -> Result<Vec<Found<A>, A>, AllocError> {
+) -> Result<Vec<FoundFile<A>, A>, AllocError> {
     let mut found = Vec::new(alloc);
     let mut folders = Vec::new(alloc);
     folders.push(String::from_str(alloc, name)?)?;
@@ -44,7 +44,7 @@ fn walk<R: Files + Alloc + Clone + Drop, A: Allocator + Copy>(
             return Ok(found);
         };
         if let Err(error) = list(rt, alloc, folder.as_str(), &mut folders, &mut found) {
-            found.push(Found {
+            found.push(FoundFile {
                 name: folder,
                 fault: Some(error),
             })?;
@@ -59,7 +59,7 @@ fn list<R: Files + Alloc + Clone + Drop, A: Allocator + Copy>(
     alloc: A,
     folder: &str,
     folders: &mut Vec<String<A>, A>,
-    found: &mut Vec<Found<A>, A>,
+    found: &mut Vec<FoundFile<A>, A>,
 ) -> io::Result<()> {
     for entry in fs::read_dir(rt, folder)? {
         match entry {
@@ -69,10 +69,10 @@ fn list<R: Files + Alloc + Clone + Drop, A: Allocator + Copy>(
                 if kind.is_dir() {
                     folders.push(name)?;
                 } else if kind.is_file() {
-                    found.push(Found { name, fault: None })?;
+                    found.push(FoundFile { name, fault: None })?;
                 }
             }
-            Err(error) => found.push(Found {
+            Err(error) => found.push(FoundFile {
                 name: String::from_str(alloc, folder)?,
                 fault: Some(error),
             })?,

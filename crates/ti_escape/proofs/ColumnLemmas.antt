@@ -24,12 +24,12 @@ column_within byte rest place within =
     rw e (length-append (first_notation byte rest) (spaced_all Kept byte (take place rest)))
 
 -- the columns between a place that is not the first, and a later one
-pub column-between : (text run : List ℕ) (from to count : ℕ) → 0 < from → from ≤ to → to < length text → run ≡ take count (drop from text) → count ≡ to - from
-    → column text from + length (spaced_all Kept (get_or text (from - 1) 0) run) ≡ column text to
-column-between [] run from to count some order within taken same = absurd (omega arith)
-column-between (byte ∷ rest) run zero to count some order within taken same = absurd (omega arith)
-column-between (byte ∷ rest) run (suc from) zero count some order within taken same = absurd (omega arith)
-column-between (byte ∷ rest) run (suc from) (suc to) count some order within taken same =
+pub column-between : (text span : List ℕ) (from to count : ℕ) → 0 < from → from ≤ to → to < length text → span ≡ take count (drop from text) → count ≡ to - from
+    → column text from + length (spaced_all Kept (get_or text (from - 1) 0) span) ≡ column text to
+column-between [] span from to count some order within taken same = absurd (omega arith)
+column-between (byte ∷ rest) span zero to count some order within taken same = absurd (omega arith)
+column-between (byte ∷ rest) span (suc from) zero count some order within taken same = absurd (omega arith)
+column-between (byte ∷ rest) span (suc from) (suc to) count some order within taken same =
     let low : from ≤ length rest = omega arith in
     let n : count ≡ to - from = omega arith in
     let whole : from + (to - from) ≡ to = omega arith in

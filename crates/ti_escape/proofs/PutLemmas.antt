@@ -5,21 +5,21 @@ use Rattle.ti_escape.specs.declared.stretch.Space.{Space}
 use Rattle.ti_escape.proofs.NotationLemmas.{spaced_all}
 
 -- the next stretch of bytes that have room has room
-pub stretch_fits : (out before after run rest whole : List ℕ) (at end : ℕ) → end ≤ length out → take end out ++ after ≡ take at before ++ whole → after ≡ run ++ rest
-    → length out ≡ length before → at + length whole ≤ length before → end + length run ≤ length out
-stretch_fits out before after run rest whole at end within made next same room =
+pub stretch_fits : (out before after span rest whole : List ℕ) (at end : ℕ) → end ≤ length out → take end out ++ after ≡ take at before ++ whole → after ≡ span ++ rest
+    → length out ≡ length before → at + length whole ≤ length before → end + length span ≤ length out
+stretch_fits out before after span rest whole at end within made next same room =
     let low : at ≤ length before = omega arith in
-    omega (arith, ap length made, length-append (take end out) after, length-append (take at before) whole, length-take-le end out within, length-take-le at before low, ap length next, length-append run rest)
+    omega (arith, ap length made, length-append (take end out) after, length-append (take at before) whole, length-take-le end out within, length-take-le at before low, ap length next, length-append span rest)
 
 -- what is put is what was put and the stretch
-pub put-stretch : (out new text after run rest : List ℕ) (at end : ℕ) → take at out ++ after ≡ text → after ≡ run ++ rest → take end new ≡ take at out ++ run → take end new ++ rest ≡ text
-put-stretch out new text after run rest at end made next put =
-    ap (λ l. l ++ rest) put ∙ append_assoc (take at out) run rest ∙ ap (λ l. take at out ++ l) (sym next) ∙ made
+pub put-stretch : (out new text after span rest : List ℕ) (at end : ℕ) → take at out ++ after ≡ text → after ≡ span ++ rest → take end new ≡ take at out ++ span → take end new ++ rest ≡ text
+put-stretch out new text after span rest at end made next put =
+    ap (λ l. l ++ rest) put ∙ append_assoc (take at out) span rest ∙ ap (λ l. take at out ++ l) (sym next) ∙ made
 
 -- what is kept after a place is kept after a later one too
-pub kept-later : (out new before run : List ℕ) (at end : ℕ) → drop at out ≡ drop at before → end ≡ at + length run → drop end new ≡ drop end out → drop end new ≡ drop end before
-kept-later out new before run at end kept is put =
-    rw is (rw is at put ∙ sym (drop-drop (length run) at out) ∙ ap (drop (length run)) kept ∙ drop-drop (length run) at before)
+pub kept-later : (out new before span : List ℕ) (at end : ℕ) → drop at out ≡ drop at before → end ≡ at + length span → drop end new ≡ drop end out → drop end new ≡ drop end before
+kept-later out new before span at end kept is put =
+    rw is (rw is at put ∙ sym (drop-drop (length span) at out) ∙ ap (drop (length span)) kept ∙ drop-drop (length span) at before)
 
 -- if no bytes are left, the notation of all is put
 pub put-end : (space : Space) (last : ℕ) (rest out before whole : List ℕ) (at end : ℕ) → length rest ≡ 0 → end ≤ length out → take end out ++ spaced_all space last rest ≡ take at before ++ whole

@@ -5,8 +5,8 @@
 ghost use Rattle.std.specs.Prelude.{◌≡◌, ◌+◌, ◌-◌, ◌*◌, ◌<◌, ◌≤◌, length};
 ghost use Rattle.ti_escape.specs.Notation.{column as the_column};
 
-use crate::length::{notation_len, run_len};
-use crate::stretch::{Run, Space, start_stretch};
+use crate::length::{notation_len, span_len};
+use crate::stretch::{Space, Span, start_stretch};
 
 /// How many characters of the notation of a text stand before that of the byte at a place. All of them do if the place is
 /// the end.
@@ -26,12 +26,12 @@ pub fn column(text: &[u8], place: usize) -> u128
     if place >= text.len() {
         return notation_len(text);
     }
-    let run = Run {
+    let span = Span {
         space: Space::Kept,
         before: text[0],
         bytes: &text[1..place],
     };
-    start_stretch(text, &text[0]).len() as u128 + run_len(run)
+    start_stretch(text, &text[0]).len() as u128 + span_len(span)
 }
 
 /// How many more characters stand before that of the byte at one place than before that at an earlier one.
@@ -44,10 +44,10 @@ pub fn columns_between(text: &[u8], from: usize, to: usize) -> u128
     if from == 0 {
         return column(text, to);
     }
-    let run = Run {
+    let span = Span {
         space: Space::Kept,
         before: text[from - 1],
         bytes: &text[from..to],
     };
-    run_len(run)
+    span_len(span)
 }

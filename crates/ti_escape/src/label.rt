@@ -5,8 +5,8 @@
 ghost use Rattle.std.specs.Prelude.{◌≡◌, ◌≤◌, ◌+◌, ◌++◌, length, vec_len, vec_capacity, OnOk, OnErr, IsOk};
 ghost use Rattle.ti_escape.specs.Notation.{label_notation};
 
-use crate::length::run_len;
-use crate::slice::put_run;
+use crate::length::span_len;
+use crate::slice::put_span;
 use crate::stretch::label_of;
 use std::alloc::{AllocError, Allocator};
 
@@ -20,11 +20,11 @@ pub fn push_label<A: Allocator>(out: &mut Vec<u8, A>, name: &[u8]) -> Result<(),
 {
     let start = out.len();
     let label = label_of(name);
-    let Ok(len) = usize::try_from(run_len(label)) else {
+    let Ok(len) = usize::try_from(span_len(label)) else {
         return Err(AllocError);
     };
     out.reserve(len)?;
     out.resize(start + len, 0)?;
-    put_run(&mut out.as_mut_slice()[start..], 0, label);
+    put_span(&mut out.as_mut_slice()[start..], 0, label);
     Ok(())
 }

@@ -4,9 +4,9 @@
 
 ghost use Rattle.std.specs.Prelude.{◌≡◌, ◌≤◌, ◌*◌, length};
 ghost use Rattle.ti_escape.specs.Notation.{notation};
-ghost use Rattle.ti_escape.specs.inner.Stretch.{run_notation};
+ghost use Rattle.ti_escape.specs.inner.Stretch.{span_notation};
 
-use crate::stretch::{Run, first_stretch, parts_of};
+use crate::stretch::{Span, first_stretch, parts_of};
 
 /// How many characters the notation of a text has: at most four for each of its bytes.
 pub fn notation_len(text: &[u8]) -> u128
@@ -14,15 +14,15 @@ pub fn notation_len(text: &[u8]) -> u128
     ensures few { result ≤ 4 * length text.now }
 {
     let parts = parts_of(text);
-    parts.first.len() as u128 + run_len(parts.middle) + parts.last.len() as u128
+    parts.first.len() as u128 + span_len(parts.middle) + parts.last.len() as u128
 }
 
-/// How many characters the notation of a run has.
-pub fn run_len(run: Run<'_>) -> u128
-    ensures value { result ≡ length (run_notation run.entry) }
-    ensures few { result ≤ 4 * length run.entry.bytes.now }
+/// How many characters the notation of a span has.
+pub fn span_len(span: Span<'_>) -> u128
+    ensures value { result ≡ length (span_notation span.entry) }
+    ensures few { result ≤ 4 * length span.entry.bytes.now }
 {
-    let mut rest = run;
+    let mut rest = span;
     let mut total: u128 = 0;
     'stretches: while !rest.bytes.is_empty() {
         let front = first_stretch(rest);

@@ -4,10 +4,10 @@
 
 ghost use Rattle.std.specs.Prelude.{◌≡◌, ◌≤◌, ◌<◌, ◌+◌, ◌++◌, ◌↔◌, None, length, take, drop, IfSome, IfNone};
 ghost use Rattle.ti_escape.specs.Notation.{notation, octal as the_octal};
-ghost use Rattle.ti_escape.specs.inner.Stretch.{run_notation, stretch_notation};
+ghost use Rattle.ti_escape.specs.inner.Stretch.{span_notation, stretch_notation};
 
 use crate::length::notation_len;
-use crate::stretch::{Run, Stretch, first_stretch, parts_of};
+use crate::stretch::{Span, Stretch, first_stretch, parts_of};
 
 /// Writes the notation of a text into the slice, and returns the length of the notation. The bytes of the slice after it
 /// are as before.
@@ -35,18 +35,18 @@ pub fn put_notation(text: &[u8], out: &mut [u8]) -> usize
 {
     let parts = parts_of(text);
     let start = put_stretch(out, 0, &parts.first);
-    let end = put_run(out, start, parts.middle);
+    let end = put_span(out, start, parts.middle);
     put_stretch(out, end, &parts.last)
 }
 
-/// Puts the notation of a run at a place, and returns the place after it.
-pub fn put_run(out: &mut [u8], at: usize, run: Run<'_>) -> usize
-    requires { at + length (run_notation run) ≤ length out.old }
-    ensures end { result ≡ at + length (run_notation run.entry) }
-    ensures written { take result out.new ≡ take at out.old ++ run_notation run.entry }
+/// Puts the notation of a span at a place, and returns the place after it.
+pub fn put_span(out: &mut [u8], at: usize, span: Span<'_>) -> usize
+    requires { at + length (span_notation span) ≤ length out.old }
+    ensures end { result ≡ at + length (span_notation span.entry) }
+    ensures written { take result out.new ≡ take at out.old ++ span_notation span.entry }
     ensures rest { drop result out.new ≡ drop result out.old }
 {
-    let mut rest = run;
+    let mut rest = span;
     let mut end = at;
     'stretches: while !rest.bytes.is_empty() {
         let front = first_stretch(rest);

@@ -5,7 +5,7 @@
 ghost use Rattle.std.specs.Prelude.{◌≡◌, ◌≤◌, ◌<◌, ◌+◌, ◌-◌, ◌*◌, ◌++◌, ◌∷◌, [], length, drop, slice_index};
 ghost use Rattle.std.specs.List.{prefix_len};
 ghost use Rattle.ti_escape.specs.Notation.{byte_notation, end_notation, first_notation, label_notation, looks_like_a_word as the_looks_like_a_word, notation};
-ghost use Rattle.ti_escape.specs.inner.Stretch.{is_plain as the_is_plain, least_plain as the_least_plain, run_notation, spaced_notation, stretch_notation};
+ghost use Rattle.ti_escape.specs.inner.Stretch.{is_plain as the_is_plain, least_plain as the_least_plain, span_notation, spaced_notation, stretch_notation};
 
 use std::slice;
 
@@ -33,25 +33,25 @@ pub enum Space {
 
 /// Bytes that are all written in one way, and the byte before them.
 #[derive(Clone, Copy)]
-pub struct Run<'a> {
+pub struct Span<'a> {
     pub space: Space,
     /// 0 if there is none.
     pub before: u8,
     pub bytes: &'a [u8],
 }
 
-/// The stretch at the front of a run, and the run after it.
+/// The stretch at the front of a span, and the span after it.
 #[derive(Clone, Copy)]
 pub struct Front<'a> {
     pub stretch: Stretch<'a>,
-    pub rest: Run<'a>,
+    pub rest: Span<'a>,
 }
 
 /// A text as its ends, which are written as such, and the bytes between them.
 #[derive(Clone, Copy)]
 pub struct Parts<'a> {
     pub first: Stretch<'a>,
-    pub middle: Run<'a>,
+    pub middle: Span<'a>,
     pub last: Stretch<'a>,
 }
 
@@ -154,12 +154,12 @@ pub fn start_stretch<'a>(text: &[u8], byte: &'a u8) -> Stretch<'a>
 /// The parts of a text.
 pub fn parts_of(text: &[u8]) -> Parts<'_>
     ensures notation { notation text.now ≡ stretch_notation result.first
-        ++ run_notation result.middle ++ stretch_notation result.last }
+        ++ span_notation result.middle ++ stretch_notation result.last }
     ensures few { length (stretch_notation result.first) + 4 * length result.middle.bytes.now
         + length (stretch_notation result.last) ≤ 4 * length text.now }
 {
     const NONE: Stretch<'static> = Stretch::Plain(&[]);
-    const NO_BYTES: Run<'static> = Run {
+    const NO_BYTES: Span<'static> = Span {
         space: Space::Kept,
         before: 0,
         bytes: &[],
@@ -177,7 +177,7 @@ pub fn parts_of(text: &[u8]) -> Parts<'_>
         },
         [byte, middle @ .., last] => Parts {
             first: start_stretch(text, byte),
-            middle: Run {
+            middle: Span {
                 space: Space::Kept,
                 before: *byte,
                 bytes: middle,
@@ -187,48 +187,48 @@ pub fn parts_of(text: &[u8]) -> Parts<'_>
     }
 }
 
-/// A name whose spaces are all escaped, as a run.
-pub fn label_of(name: &[u8]) -> Run<'_>
-    ensures { run_notation result ≡ label_notation name.now }
+/// A name whose spaces are all escaped, as a span.
+pub fn label_of(name: &[u8]) -> Span<'_>
+    ensures { span_notation result ≡ label_notation name.now }
 {
-    Run {
+    Span {
         space: Space::Escaped,
         before: 0,
         bytes: name,
     }
 }
 
-/// A run without its first `len` bytes.
-fn without(run: Run<'_>, len: usize) -> Run<'_>
-    requires { 0 < len × len ≤ length run.bytes.now }
-    ensures space { result.space ≡ run.entry.space }
-    ensures before { result.before ≡ slice_index run.entry.bytes.now (len - 1) }
-    ensures bytes { result.bytes.now ≡ drop len run.entry.bytes.now }
+/// A span without its first `len` bytes.
+fn without(span: Span<'_>, len: usize) -> Span<'_>
+    requires { 0 < len × len ≤ length span.bytes.now }
+    ensures space { result.space ≡ span.entry.space }
+    ensures before { result.before ≡ slice_index span.entry.bytes.now (len - 1) }
+    ensures bytes { result.bytes.now ≡ drop len span.entry.bytes.now }
 {
-    Run {
-        space: run.space,
-        before: run.bytes[len - 1],
-        bytes: &run.bytes[len..],
+    Span {
+        space: span.space,
+        before: span.bytes[len - 1],
+        bytes: &span.bytes[len..],
     }
 }
 
 /// The stretch at the front: all bytes up to one that is not written as it is, or such a byte.
-pub fn first_stretch(run: Run<'_>) -> Front<'_>
-    requires { 0 < length run.bytes.now }
-    ensures notation { run_notation run.entry
-        ≡ stretch_notation result.stretch ++ run_notation result.rest }
-    ensures shorter { length result.rest.bytes.now < length run.entry.bytes.now }
+pub fn first_stretch(span: Span<'_>) -> Front<'_>
+    requires { 0 < length span.bytes.now }
+    ensures notation { span_notation span.entry
+        ≡ stretch_notation result.stretch ++ span_notation result.rest }
+    ensures shorter { length result.rest.bytes.now < length span.entry.bytes.now }
     ensures few { length (stretch_notation result.stretch)
-        + 4 * length result.rest.bytes.now ≤ 4 * length run.entry.bytes.now }
+        + 4 * length result.rest.bytes.now ≤ 4 * length span.entry.bytes.now }
 {
-    match plain_len(run.space, run.bytes) {
+    match plain_len(span.space, span.bytes) {
         0 => Front {
-            stretch: spaced_stretch(run.space, run.before, &run.bytes[0]),
-            rest: without(run, 1),
+            stretch: spaced_stretch(span.space, span.before, &span.bytes[0]),
+            rest: without(span, 1),
         },
         len => Front {
-            stretch: Stretch::Plain(&run.bytes[..len]),
-            rest: without(run, len),
+            stretch: Stretch::Plain(&span.bytes[..len]),
+            rest: without(span, len),
         },
     }
 }

@@ -14,7 +14,7 @@ use Rattle.ti_cap.specs.Capability.{Spot, IsFirst}
 use Rattle.ti_cap.proofs.WrittenLemmas.{one_cutting, spelled_long}
 use Rattle.ti_cap.proofs.ClimbsLemmas.{passes_on}
 use Rattle.ti_lint.specs.declared.outlook.Outlook.{Outlook}
-use Rattle.ti_lint.specs.declared.backward.Open.{Open}
+use Rattle.ti_lint.specs.declared.backward.OpenOutlooks.{OpenOutlooks}
 use Rattle.ti_lint.specs.inner.Facts.{IsLettered}
 use Rattle.ti_lint.specs.inner.Outlook.{Ahead, end_outlook, end_open, at_end, outlook_before, outer_opens, ahead_of, ahead_of_all, outlooks, IsAhead}
 use Rattle.ti_lint.proofs.HoldsLemmas.{Path}
@@ -56,12 +56,12 @@ unchanged o = ap₂ (λ n b. record { needs = n; names_first_two = b; loads = o.
 into : (o p : Outlook) (within : Path → Type 0) → o ≡ p → Shows o within → Shows p within
 into o p within e h = let P : Outlook → Type 0 = λ x. Shows x within in subst P e h
 
-outer : (opens : List Open) (n : ℕ) → get_or opens (suc n) end_open ≡ get_or (drop 1 opens) n end_open
+outer : (opens : List OpenOutlooks) (n : ℕ) → get_or opens (suc n) end_open ≡ get_or (drop 1 opens) n end_open
 outer [] n = refl
 outer (o ∷ opens) n = refl
 
 -- those that wait further out
-sees_outer : (part : Open → Outlook) (a : Ahead) (n : ℕ) (within : Path → Type 0) → Shows (part (get_or a.opens (suc n) end_open)) within
+sees_outer : (part : OpenOutlooks → Outlook) (a : Ahead) (n : ℕ) (within : Path → Type 0) → Shows (part (get_or a.opens (suc n) end_open)) within
     → Shows (part (get_or (outer_opens a) n end_open)) within
 sees_outer part a n within h = into _ _ within (ap (λ o. part o) (outer a.opens n)) h
 

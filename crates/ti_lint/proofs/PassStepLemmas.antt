@@ -11,7 +11,7 @@ use Rattle.ti_cap.proofs.NestLemmas.{below, level_after, allowed_level}
 use Rattle.ti_cap.proofs.ReachesLemmas.{Moved, reaches_next, simple_running, simple_waiting}
 use Rattle.ti_cap.proofs.IsAliveLemmas.{alive_step}
 use Rattle.ti_lint.specs.declared.facts.Facts.{Facts}
-use Rattle.ti_lint.specs.declared.pass.Open.{Open}
+use Rattle.ti_lint.specs.declared.pass.OpenFacts.{OpenFacts}
 use Rattle.ti_lint.specs.declared.pass.Pass.{Pass}
 use Rattle.ti_lint.specs.inner.Facts.{no_facts, joined, after_token}
 use Rattle.ti_lint.specs.inner.Pass.{fresh, innermost, passed}
@@ -39,10 +39,10 @@ simple_step before k parts onto p simple level w = record {
 }
 
 -- the open conditionals, of which one is written
-at_same : (opens : List Open) (i j : ℕ) (o : Open) → j ≡ i → i < length opens → get_or (set opens i o) j fresh ≡ o
+at_same : (opens : List OpenFacts) (i j : ℕ) (o : OpenFacts) → j ≡ i → i < length opens → get_or (set opens i o) j fresh ≡ o
 at_same opens i j o e low = ap (λ x. get_or (set opens i o) x fresh) e ∙ get_or-set_same opens i o fresh low
 
-at_other : (opens : List Open) (i j : ℕ) (o : Open) → j ≢ i → get_or (set opens i o) j fresh ≡ get_or opens j fresh
+at_other : (opens : List OpenFacts) (i j : ℕ) (o : OpenFacts) → j ≢ i → get_or (set opens i o) j fresh ≡ get_or opens j fresh
 at_other opens i j o e = get_or-set_other opens i j o fresh e
 
 holds_along : (o p : Facts) (within : Path → Type 0) → o ≡ p → Holds p within → Holds o within
@@ -118,7 +118,7 @@ then_step before parts onto p w some few = record {
   done = done;
 }
   where
-    written : Open
+    written : OpenFacts
     written = record (innermost p) { failed = joined (innermost p).failed (after_token CondThen p.here) }
 
     within : p.nesting - 1 < length p.opens
@@ -152,7 +152,7 @@ else_step before parts onto p w some few = record {
   done = done;
 }
   where
-    written : Open
+    written : OpenFacts
     written = record { failed = no_facts; done = joined (innermost p).done p.here }
 
     within : p.nesting - 1 < length p.opens

@@ -3,7 +3,7 @@
 //! Where parts meet, the paths that go on from each are known; where a test may go either way, they are joined. The cost is
 //! constant a token.
 
-ghost use Rattle.std.specs.Prelude.{◌≡◌, ◌≤◌, IfOk, All, vec_len};
+ghost use Rattle.std.specs.Prelude.{◌≡◌, ◌≤◌, IfOk, All, length};
 ghost use Rattle.ti_base.specs.Limits.{most_capability_bytes};
 ghost use Rattle.ti_cap.specs.declared.language.Token.{Token};
 ghost use Rattle.ti_lint.specs.inner.Facts.{IsLettered};
@@ -16,16 +16,16 @@ use ti_cap::Token;
 
 /// What the paths go on to that wait in an open conditional.
 #[derive(Clone, Copy)]
-pub struct Open {
+pub struct OpenOutlooks {
     /// Those whose test fails, up to the next `%e` or `%;`.
     failed: Outlook,
     /// Those whose body has ended, up to the `%;`.
     done: Outlook,
 }
 
-impl Open {
+impl OpenOutlooks {
     /// A conditional that the end closes.
-    const END: Open = Open {
+    const END: OpenOutlooks = OpenOutlooks {
         failed: Outlook::END,
         done: Outlook::END,
     };
@@ -37,7 +37,7 @@ pub struct Backward<A: Allocator> {
     /// What is true on some path from here.
     here: Outlook,
     /// The open conditionals, the innermost last. Those that the end closes may be missing.
-    opens: Vec<Open, A>,
+    opens: Vec<OpenOutlooks, A>,
 }
 
 impl<A: Allocator> Model for Backward<A> {
@@ -98,7 +98,7 @@ impl<A: Allocator> Backward<A> {
     fn leave(&mut self) -> Result<(), AllocError>
         ensures { OnOk result (self.new ≡ ahead_of Token.CondClose self.old) }
     {
-        self.opens.push(Open {
+        self.opens.push(OpenOutlooks {
             failed: self.here,
             done: self.here,
         })?;
@@ -109,8 +109,8 @@ impl<A: Allocator> Backward<A> {
     fn turn(&mut self) -> Result<(), AllocError>
         ensures { OnOk result (self.new ≡ ahead_of Token.CondElse self.old) }
     {
-        let done = self.opens.pop().unwrap_or(Open::END).done;
-        self.opens.push(Open {
+        let done = self.opens.pop().unwrap_or(OpenOutlooks::END).done;
+        self.opens.push(OpenOutlooks {
             failed: self.here,
             done,
         })?;
@@ -123,7 +123,7 @@ impl<A: Allocator> Backward<A> {
         requires few { self.old.here.needs < 2 ^ 32 }
         ensures { OnOk result (self.new ≡ ahead_of Token.CondThen self.old) }
     {
-        let open = self.opens.pop().unwrap_or(Open::END);
+        let open = self.opens.pop().unwrap_or(OpenOutlooks::END);
         self.opens.push(open)?;
         self.here.join(&open.failed);
         self.here.precede(Token::CondThen);
@@ -134,18 +134,19 @@ impl<A: Allocator> Backward<A> {
 /// What is true on some path after each token, that of the first token last.
 pub fn outlooks<A: Allocator + Copy>(
     alloc: A,
-    tokens: Vec<Token, A>,
+    tokens: &[Token],
 ) -> Result<Vec<Outlook, A>, AllocError>
-    requires lettered { All IsLettered tokens.items }
-    requires few { vec_len tokens ≤ most_capability_bytes }
-    ensures { IfOk result (λ list. list.items ≡ outlooks tokens.items) }
+    requires lettered { All IsLettered tokens.now }
+    requires few { length tokens.now ≤ most_capability_bytes }
+    ensures { IfOk result (λ list. list.items ≡ outlooks tokens.now) }
 {
-    let mut tokens = tokens;
     let mut pass = Backward::new(alloc);
     let mut list = Vec::new(alloc);
-    while let Some(token) = tokens.pop() {
+    let mut left = tokens;
+    'tokens: while let Some((token, before)) = left.split_last() {
         list.push(*pass.here())?;
-        pass.take(token)?;
+        pass.take(*token)?;
+        left = before;
     }
     Ok(list)
 }

@@ -87,10 +87,11 @@ impl<'a, A: Allocator> Findings<'a, A> {
         let _depth = capability.depth();
         let named = capability.parameters().named;
         let tokens = tokens_of(alloc, capability)?;
+        let outlooks = outlooks(alloc, tokens.as_slice())?;
         Ok(Findings {
             tape: capability.tape(),
             pass: Pass::new(),
-            outlooks: outlooks(alloc, tokens_of(alloc, capability)?)?,
+            outlooks,
             tokens,
             count: 0,
             expected,

@@ -10,16 +10,16 @@ use ti_cap::Token;
 
 /// What waits in an open conditional.
 #[derive(Clone, Copy)]
-pub struct Open {
+pub struct OpenFacts {
     /// What its tests failed with, since its last `%e`.
     failed: Facts,
     /// What its bodies ended with.
     done: Facts,
 }
 
-impl Open {
+impl OpenFacts {
     /// A conditional in its first test.
-    const FRESH: Open = Open {
+    const FRESH: OpenFacts = OpenFacts {
         failed: Facts::NONE,
         done: Facts::NONE,
     };
@@ -30,7 +30,7 @@ impl Open {
 pub struct Pass {
     /// What is true on some path here.
     here: Facts,
-    opens: [Open; MOST_OPEN],
+    opens: [OpenFacts; MOST_OPEN],
     /// How many conditionals are open.
     nesting: usize,
 }
@@ -47,7 +47,7 @@ impl Pass {
     {
         Pass {
             here: Facts::START,
-            opens: [Open::FRESH; MOST_OPEN],
+            opens: [OpenFacts::FRESH; MOST_OPEN],
             nesting: 0,
         }
     }
@@ -79,7 +79,7 @@ impl Pass {
         requires { self.old.nesting < most_open }
         ensures { self.new ≡ passed self.old Token.CondOpen }
     {
-        self.opens[self.nesting] = Open::FRESH;
+        self.opens[self.nesting] = OpenFacts::FRESH;
         self.nesting += 1;
     }
 

@@ -20,7 +20,7 @@ pub struct PlacedFinding {
     pub finding: Finding,
 }
 
-/// All findings of a capability, in order of their places. It goes over the tokens four times, and takes memory for each token
+/// All findings of a capability, in order of their places. It goes over the tokens three times, and takes memory for each token
 /// and finding.
 pub fn findings_of<A: Allocator + Copy>(
     alloc: A,

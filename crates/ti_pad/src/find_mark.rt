@@ -10,7 +10,7 @@ ghost use Rattle.ti_pad.specs.Marks.{bytes_after_front, bytes_after_number, byte
 ghost use Rattle.ti_pad.specs.inner.Decimals.{AreDecimals, decimals_of};
 ghost use Rattle.ti_pad.specs.inner.Mark.{LeavesAfter, found_mark};
 
-use crate::mark::{Found, Mark};
+use crate::mark::{LeadingMark, Mark};
 
 /// The most digits before the point; a longer number is no mark.
 const MOST_DIGITS: usize = 5;
@@ -64,7 +64,7 @@ fn mark_after_number<'a>(
     whole: &'a [u8],
     decimals: Option<&'a [u8]>,
     bytes: &'a [u8],
-) -> Option<Found<'a>>
+) -> Option<LeadingMark<'a>>
     requires whole { list_all is_ascii_digit whole.now ≡ true }
     requires decimals { AreDecimals decimals }
     ensures mark { found_mark result
@@ -85,14 +85,14 @@ fn mark_after_number<'a>(
         decimals,
         flags,
     };
-    Some(Found {
+    Some(LeadingMark {
         mark,
         rest: &bytes[flags.len() + 1..],
     })
 }
 
 /// The mark after its whole milliseconds.
-fn mark_after_whole<'a>(whole: &'a [u8], bytes: &'a [u8]) -> Option<Found<'a>>
+fn mark_after_whole<'a>(whole: &'a [u8], bytes: &'a [u8]) -> Option<LeadingMark<'a>>
     requires { list_all is_ascii_digit whole.now ≡ true }
     ensures mark { found_mark result ≡ the_mark_after_whole whole.now bytes.now }
     ensures rest { IfSome result (LeavesAfter bytes_after_whole bytes.now) }
@@ -105,7 +105,7 @@ fn mark_after_whole<'a>(whole: &'a [u8], bytes: &'a [u8]) -> Option<Found<'a>>
 }
 
 /// The mark after its `$<`.
-fn mark_after_front(bytes: &[u8]) -> Option<Found<'_>>
+fn mark_after_front(bytes: &[u8]) -> Option<LeadingMark<'_>>
     ensures mark { found_mark result ≡ the_mark_after_front bytes.now }
     ensures rest { IfSome result (LeavesAfter bytes_after_front bytes.now) }
 {
@@ -114,7 +114,7 @@ fn mark_after_front(bytes: &[u8]) -> Option<Found<'_>>
 }
 
 /// The mark at the front.
-pub fn mark_at_front(bytes: &[u8]) -> Option<Found<'_>>
+pub fn mark_at_front(bytes: &[u8]) -> Option<LeadingMark<'_>>
     ensures mark { found_mark result ≡ mark_at bytes.now }
     ensures rest { IfSome result (LeavesAfter mark_bytes bytes.now) }
 {

@@ -18,7 +18,7 @@ pub struct Mark<'a> {
 
 /// A mark at the front of some bytes, and what stands after it.
 #[derive(Clone, Copy)]
-pub struct Found<'a> {
+pub struct LeadingMark<'a> {
     pub mark: Mark<'a>,
     pub rest: &'a [u8],
 }

@@ -1,4 +1,4 @@
--- Where the names of an entry's own start, by three rules (term(5), extended storage format).
+-- Where the names of extended capabilities start, by three rules (term(5), extended storage format).
 use Rattle.std.specs.Prelude.{ℕ, ◌+◌, ◌==◌, ◌&&◌, Bool, not, List, count_by, is_none, take}
 use Rattle.ti_words.specs.Texts.{is_nul}
 use Rattle.ti_words.specs.Word.{unsigned_at}
@@ -20,7 +20,7 @@ bases_agree bytes x items =
     (last_end bytes table (places (offsets_from x) 2 x.texts) == base)
     && (count_by is_nul (take base table) + x.names == items)
 
--- the bytes are an entry that has a name of its own, and the three do not agree
+-- the bytes are an entry that has an extended name, and the three do not agree
 abbrev pub bases_differ : List ℕ → Bool
 bases_differ bytes =
     let x = extended bytes in

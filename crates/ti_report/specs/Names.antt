@@ -1,4 +1,4 @@
--- Names of an entry's own that stand twice, or that are names of terminfo(5).
+-- Names of extended capabilities that stand twice, or that are names of terminfo(5).
 use Rattle.std.specs.Prelude.{◌≡◌, ◌⊎◌, ℕ, List, [], Contains, if◌then◌else◌, is_some, take}
 use Rattle.ti_names.specs.declared.name_table.NameTable.TheVariants as tables
 use Rattle.ti_names.specs.AllNames.{place_in}

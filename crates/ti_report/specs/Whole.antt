@@ -1,4 +1,4 @@
--- What is wrong with an entry as a whole: its colors, its layout, and where its own names start.
+-- What is wrong with an entry as a whole: its colors, its layout, and where its extended names start.
 use Rattle.std.specs.Prelude.{ℕ, suc, ◌&&◌, ◌||◌, pos, Bool, true, false, not, List, [], ◌++◌, codes, get_or, if◌then◌else◌, is_none, Option, Some, None}
 use Rattle.std.specs.Str.{bytes_eq}
 use Rattle.ti_words.specs.declared.Flag.{Flag}

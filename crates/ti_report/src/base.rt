@@ -1,4 +1,4 @@
-//! Whether readers find the names of an entry's own from one base.
+//! Whether readers find the names of an entry's extended capabilities from one base.
 //!
 //! Some readers sum the sizes of the texts, some go to the end of the last one, and some count the items that the header
 //! says.
@@ -50,7 +50,7 @@ fn bases_of_entry_differ(bytes: &[u8], entry: &Entry<'_>, base: usize) -> bool
     names != 0 && !bases_agree(bytes, &part, base, names, items)
 }
 
-/// Whether the bytes are an entry with a name of its own that readers find from more than one base.
+/// Whether the bytes are an entry with an extended name that readers find from more than one base.
 pub(crate) fn bases_differ(bytes: &[u8]) -> bool
     ensures { result ≡ bases_differ bytes.now }
 {

@@ -1,4 +1,4 @@
-//! The names of an entry's own: each should stand once, and be none of terminfo(5).
+//! The names of extended capabilities: each should stand once, and be none of terminfo(5).
 
 ghost use Rattle.std.specs.Prelude.{◌≡◌, ◌++◌, [], IfOk, OnOk, get_or, length};
 ghost use Rattle.ti_entry.specs.Finding.{names_of as the_names_of};
@@ -79,7 +79,7 @@ fn push_each<'a, A: Allocator + Copy>(
     Ok(())
 }
 
-/// Adds the remarks on the names of an entry's own.
+/// Adds the remarks on the names of extended capabilities.
 pub fn push_names<'a, A: Allocator + Copy>(
     alloc: A,
     out: &mut Vec<Remark<'a, A>, A>,

@@ -37,9 +37,9 @@ pub enum Wrong {
     KeyPrefix,
     /// Two keys send the same.
     AlikeKeys,
-    /// A capability with a name of the entry's own is not the first with this name.
+    /// An extended capability is not the first with its name.
     RepeatedName,
-    /// A name of the entry's own is one of terminfo(5).
+    /// An extended name is one of terminfo(5).
     StandardName,
     /// There are colors, and nothing that resets them.
     ColorsStay,
@@ -49,7 +49,7 @@ pub enum Wrong {
     ColorsAreFixed,
     /// The bytes are not those that are written of the entry.
     Layout,
-    /// Readers differ in where the entry's own names start.
+    /// Readers differ in where the extended names start.
     Base,
 }
 

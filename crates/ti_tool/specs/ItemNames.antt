@@ -16,7 +16,7 @@ IsKindLabel name kind index =
     (label : List ℕ) × (name ≡ kind_word kind ++ label) × IsLabel label index
 
 -- the place that such a name tells, or else that of the capability with the name: a short name of
--- terminfo(5), a long one, or one of the entry's own
+-- terminfo(5), a long one, or an extended one
 abbrev pub IsPlaceCalled : List ℕ → EntryValue → Option Position → Type 0
 IsPlaceCalled name v place =
     ((kind : Kind) × (index : ℕ) × IsKindLabel name kind index

@@ -19,7 +19,7 @@ use crate::named::{Named, answer_of_file, file_line};
 use crate::program::told_names;
 use crate::result::write_result;
 use crate::status::status;
-use crate::store::{Files, Found, Store, one_file, read_contents};
+use crate::store::{Files, FoundFile, Store, one_file, read_contents};
 use std::alloc::{AllocError, Allocator, Global};
 use std::io;
 use std::io::{ErrorKind, Read, Write};
@@ -141,7 +141,7 @@ fn outcome_of_found<S: Store, A: Allocator + Copy, R: Read>(
     alloc: A,
     trials: &mut Trials<A>,
     errand: &Errand<'_>,
-    found: &Found<A>,
+    found: &FoundFile<A>,
     is_one_of_several: bool,
     input: &mut R,
 ) -> Result<Outcome<A>, AllocError>
@@ -235,7 +235,7 @@ fn run_found<S: Store, A: Allocator + Copy, R: Read, W: Write, E: Write>(
     alloc: A,
     trials: &mut Trials<A>,
     errand: &Errand<'_>,
-    files: &[Found<A>],
+    files: &[FoundFile<A>],
     is_one_of_several: bool,
     input: &mut R,
     output: &mut W,

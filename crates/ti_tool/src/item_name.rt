@@ -42,7 +42,7 @@ fn place_of_label(name: &str) -> Option<(Kind, usize)>
 }
 
 /// The place of the capability that a name means: `flag#`, `number#` or `text#` and one to five digits tell its index; else
-/// it is a short name of terminfo(5), a long one, or one of the entry's own.
+/// it is a short name of terminfo(5), a long one, or an extended one.
 fn place_called(entry: &Entry<'_>, name: &str) -> Option<Position>
     ensures { IsPlaceCalled name.now entry.now result }
 {

@@ -30,7 +30,7 @@ pub use command::Answer;
 pub use fault::ToolFault;
 pub use named::{Named, answer_of_file, file_line};
 pub use program::{run, run_at};
-pub use store::{Files, Found, NoStore, Store, one_file, read_contents};
+pub use store::{Files, FoundFile, NoStore, Store, one_file, read_contents};
 pub use terminals::Terminals;
 pub use ti_escape::Color;
 pub use ti_line::{Destination, WordFault, read_params};

@@ -10,7 +10,7 @@ use ti_base::MOST_ENTRY_BYTES;
 
 /// A file that a word of the command line names, or that lies in a folder that it names; or why the system does not give it.
 #[derive(Drop)]
-pub struct Found<A: Allocator> {
+pub struct FoundFile<A: Allocator> {
     /// Its name.
     pub name: String<A>,
     /// Why it can't be read, if that is known before it is opened.
@@ -21,7 +21,7 @@ pub struct Found<A: Allocator> {
 #[derive(Drop)]
 pub struct Files<A: Allocator> {
     /// Those in a folder by their paths, else the one.
-    pub found: Vec<Found<A>, A>,
+    pub found: Vec<FoundFile<A>, A>,
     /// Whether they lie in a folder that was named.
     pub are_in_folder: bool,
 }
@@ -64,7 +64,7 @@ pub fn one_file<A: Allocator + Copy>(
 {
     let mut found = Vec::new(alloc);
     found
-        .push(Found {
+        .push(FoundFile {
             name: String::from_str(alloc, name)?,
             fault,
         })

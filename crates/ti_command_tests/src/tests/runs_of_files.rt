@@ -8,7 +8,7 @@ use std::str::from_utf8;
 use std::test::Fail;
 use ti_fixtures::entries::{EXTENDED, EXTENDED_BY_TIC, QUESTION, SMALL, WIDE_BY_TIC, WIDENED};
 use ti_fixtures::{Sink, Source, Unfound, bytes_of, check_rows, fields_of, words_of};
-use ti_tool::{Files, Found, Store, Terminals, one_file, read_contents, run_at};
+use ti_tool::{Files, FoundFile, Store, Terminals, one_file, read_contents, run_at};
 
 /// The small entry with an extended flag A twice: it is set, and it is not.
 const TWICE: &[u8] =
@@ -55,7 +55,7 @@ fn put<A: Allocator + Copy>(
     fault: Option<io::Error>,
 ) -> io::Result<()> {
     let name = String::from_str(alloc, name)?;
-    files.found.push(Found { name, fault })?;
+    files.found.push(FoundFile { name, fault })?;
     Ok(())
 }
 

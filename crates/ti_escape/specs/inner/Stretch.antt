@@ -2,7 +2,7 @@
 use Rattle.std.specs.Prelude.{◌&&◌, ℕ, Bool, not, List, [], ◌∷◌, ◌++◌, codes, nat_le, nat_lt}
 use Rattle.ti_base.specs.Letters.{letter}
 use Rattle.ti_escape.specs.Notation.{byte_notation, each_notation, end_notation, has_meaning, octal}
-use Rattle.ti_escape.specs.declared.stretch.Run.{Run}
+use Rattle.ti_escape.specs.declared.stretch.Span.{Span}
 use Rattle.ti_escape.specs.declared.stretch.Space.{Space}
 use Rattle.ti_escape.specs.declared.stretch.Space.TheVariants.{Kept, Escaped}
 use Rattle.ti_escape.specs.declared.stretch.Stretch.{Stretch}
@@ -31,5 +31,5 @@ is_plain space byte =
     nat_le (least_plain space) byte && nat_lt byte 127 && not (has_meaning byte)
 
 -- the notation of bytes that are all written in one way
-abbrev pub run_notation : Run → List ℕ
-run_notation run = each_notation (spaced_notation run.space) run.before run.bytes.now
+abbrev pub span_notation : Span → List ℕ
+span_notation span = each_notation (spaced_notation span.space) span.before span.bytes.now

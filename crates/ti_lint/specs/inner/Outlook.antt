@@ -8,7 +8,7 @@ use Rattle.ti_cap.specs.Capability.{Spot}
 use Rattle.ti_lint.specs.declared.variables.Variables.{Variables}
 use Rattle.ti_lint.specs.declared.facts.Facts.{Facts}
 use Rattle.ti_lint.specs.declared.outlook.Outlook.{Outlook}
-use Rattle.ti_lint.specs.declared.backward.Open.{Open}
+use Rattle.ti_lint.specs.declared.backward.OpenOutlooks.{OpenOutlooks}
 use Rattle.ti_lint.specs.declared.finding.Finding.{Finding}
 use Rattle.ti_lint.specs.declared.finding.Finding.TheVariants.{StackResidue, UnusedIncrement, LateIncrement, DeadStore}
 use Rattle.ti_lint.specs.inner.Facts.{has_bit, place_of, stored_also, is_first_two, found_if}
@@ -55,19 +55,19 @@ prospect token before after = found_if (nat_lt 0 (pushes token) && nat_eq after.
 -- the paths that go on from a place, and for each open conditional those that wait for its next part, the innermost first
 pub record Ahead : Type 0 where
   pub here : Outlook
-  pub opens : List Open
+  pub opens : List OpenOutlooks
 
-abbrev pub end_open : Open
+abbrev pub end_open : OpenOutlooks
 end_open = record { failed = end_outlook; done = end_outlook }
 
 -- nothing goes on in a conditional that the end closes
 abbrev pub at_end : Ahead
 at_end = record { here = end_outlook; opens = [] }
 
-abbrev pub innermost_open : Ahead → Open
+abbrev pub innermost_open : Ahead → OpenOutlooks
 innermost_open a = get_or a.opens 0 end_open
 
-abbrev pub outer_opens : Ahead → List Open
+abbrev pub outer_opens : Ahead → List OpenOutlooks
 outer_opens a = drop 1 a.opens
 
 -- with one token before

@@ -5,21 +5,21 @@ use Rattle.ti_cap.specs.declared.language.Token.{Token}
 use Rattle.ti_cap.specs.declared.language.Token.TheVariants.{CondOpen, CondThen, CondElse, CondClose}
 use Rattle.ti_cap.specs.Spelling.{Written}
 use Rattle.ti_cap.specs.Capability.{Spot, IsWellFormed, whole}
-use Rattle.ti_lint.specs.declared.pass.Open.{Open}
+use Rattle.ti_lint.specs.declared.pass.OpenFacts.{OpenFacts}
 use Rattle.ti_lint.specs.declared.pass.Pass.{Pass}
 use Rattle.ti_lint.specs.inner.Facts.{no_facts, first_facts, joined, after_token, IsLettered}
 
-abbrev pub fresh : Open
+abbrev pub fresh : OpenFacts
 fresh = record { failed = no_facts; done = no_facts }
 
 abbrev pub first_pass : Pass
 first_pass = record { here = first_facts; opens = replicate most_open fresh; nesting = 0 }
 
 -- the innermost open conditional
-abbrev pub innermost : Pass → Open
+abbrev pub innermost : Pass → OpenFacts
 innermost p = get_or p.opens (p.nesting - 1) fresh
 
-abbrev pub with_innermost : Pass → Open → List Open
+abbrev pub with_innermost : Pass → OpenFacts → List OpenFacts
 with_innermost p one = slice_set p.opens (p.nesting - 1) one
 
 abbrev pub after_open : Pass → Pass

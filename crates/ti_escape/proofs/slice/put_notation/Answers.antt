@@ -5,15 +5,15 @@ use Rattle.ti_escape.proofs.slice.put_notation.Goals as goal
 
 pub returns-clause-rest : goal.returns-clause-rest
 returns-clause-rest c =
-    kept-later _ _ _ _ c.put_run-end.result _
-    (kept-later _ _ _ _ c.put_stretch-start.result _ c.put_stretch-start.ensures.rest c.put_run-end.ensures.end c.put_run-end.ensures.rest)
+    kept-later _ _ _ _ c.put_span-end.result _
+    (kept-later _ _ _ _ c.put_stretch-start.result _ c.put_stretch-start.ensures.rest c.put_span-end.ensures.end c.put_span-end.ensures.rest)
     c.put_stretch.ensures.end c.put_stretch.ensures.rest
 
 pub put_stretch-start-requires : goal.put_stretch-start-requires
 put_stretch-start-requires c = grind (arith, common_steps)
 
-pub put_run-end-requires : goal.put_run-end-requires
-put_run-end-requires c = grind (arith, common_steps)
+pub put_span-end-requires : goal.put_span-end-requires
+put_span-end-requires c = grind (arith, common_steps)
 
 pub put_stretch-requires : goal.put_stretch-requires
 put_stretch-requires c = grind (arith, common_steps)

@@ -5,6 +5,6 @@ use Rattle.ti_lint.proofs.backward.outlooks.Goals as goal
 
 pub take-requires-clause-few : goal.take-requires-clause-few
 take-requires-clause-few g c =
-    let i = c.loop-token.invariant in
+    let i = c.tokens.invariant in
     let P : Ahead → Type 0 = λ x. x.here.needs < 2 ^ 32 in
-    subst P (sym i.2) (few_needed c.args.tokens.items c.loop-token.tokens.items i.0 c.requires.lettered (omega (arith, c.requires.few)) i.1)
+    subst P (sym i.2) (few_needed c.args.tokens.now c.tokens.left.now i.0 c.requires.lettered (omega (arith, c.requires.few)) i.1)

@@ -1,11 +1,11 @@
 use Rattle.std.proofs.Common.{◌≡◌, ◌↔◌, Option, Some, None, Bool, IsTrue, is_some, List, ℕ, refl, sym, ◌∙◌, ap, subst}
-use Rattle.ti_pad.specs.declared.mark.Found.{Found}
+use Rattle.ti_pad.specs.declared.mark.LeadingMark.{LeadingMark}
 use Rattle.ti_pad.specs.Marks.{Mark, mark_at, StartsWithMark}
 use Rattle.ti_pad.specs.inner.Mark.{found_mark}
 use Rattle.ti_pad.proofs.FindsMarksLemmas.{finds_marks}
 use Rattle.ti_pad.proofs.find_mark.starts_with_mark.Goals as goal
 
-same : (f : Option Found) → is_some (found_mark f) ≡ is_some f
+same : (f : Option LeadingMark) → is_some (found_mark f) ≡ is_some f
 same None = refl
 same (Some f) = refl
 

@@ -1,12 +1,12 @@
--- What is put and the notation of the rest are the notation of the run; the bytes after it are as before.
+-- What is put and the notation of the rest are the notation of the span; the bytes after it are as before.
 use Rattle.std.proofs.Common.{◌≡◌, ◌≤◌, ◌++◌, length, take, drop}
-use Rattle.ti_escape.specs.inner.Stretch.{run_notation}
-use Rattle.ti_escape.proofs.slice.put_run.Given as goal
+use Rattle.ti_escape.specs.inner.Stretch.{span_notation}
+use Rattle.ti_escape.proofs.slice.put_span.Given as goal
 
 abbrev pub invariant-stretches : goal.invariant-stretches
 invariant-stretches l = record {
   within : l.end ≤ length l.out;
-  made : take l.end l.out ++ run_notation l.rest ≡ take l.fn.at l.fn.out ++ run_notation l.fn.run;
+  made : take l.end l.out ++ span_notation l.rest ≡ take l.fn.at l.fn.out ++ span_notation l.fn.span;
   kept : drop l.end l.out ≡ drop l.end l.fn.out;
 }
 
