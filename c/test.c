@@ -421,6 +421,19 @@ static void test_compiled_faults(void) {
     memset(&compiled, UNWRITTEN, sizeof compiled);
     expect(ti_expand_kept(&copy, NULL, 0, &vars, out, 26, &written) == TI_DONE && written == 6, "a copy is one too");
     expect(memcmp(out, E "[1;1H", 6) == 0, "missing parameters are 0");
+    expect(copy.varied == 0 && ti_expand_kept(&copy, numbers, 2, NULL, out, 26, &written) == TI_DONE && written == 6
+               && memcmp(out, E "[1;2H", 6) == 0, "cup needs no variables");
+    expect(ti_expand_kept(&copy, numbers, 2, NULL, out, 25, &written) == TI_OUT_TOO_SMALL, "one byte less, and no variables");
+    expect(ti_expand_kept_with(&copy, numbers, 2, NULL, 0, out, 26, &written) == TI_DONE && written == 6, "an empty array of them");
+    compile((const unsigned char *)"%p1%Pa", 6, &place);
+    written = 5;
+    memset(out, UNWRITTEN, sizeof out);
+    expect(compiled.varied == 1 && ti_expand_kept(&compiled, numbers, 2, NULL, out, ROOM, &written) == TI_NO_VARIABLES, "%Pa needs them");
+    expect(ti_expand_kept(&compiled, numbers, 10, NULL, out, ROOM, &written) == TI_TOO_MANY_PARAMETERS, "ten, and no variables");
+    expect(are_unwritten(out, sizeof out) && written == 5, "nothing is written without variables");
+    compile((const unsigned char *)"%gA%d", 5, &place);
+    expect(compiled.varied == 1 && ti_expand_kept(&compiled, numbers, 2, NULL, out, 0, &written) == TI_NO_VARIABLES, "%gA needs them");
+    expect(compile((const unsigned char *)"%%Pa%%gb", 8, &place) == TI_DONE && compiled.varied == 0, "no variable");
     expect(compile((const unsigned char *)"%p1%d$<5>", 9, &place) == TI_DONE && compiled.marked == 1, "a mark of padding");
     expect(compile((const unsigned char *)"$%p1%d<$", 8, &place) == TI_DONE && compiled.marked == 0, "no mark of padding");
 }
@@ -450,6 +463,7 @@ static void test_forged(void) {
         compiled.bytes.bytes = bytes;
         compiled.bytes.length = length;
         compiled.bound = next_random() % 40;
+        compiled.varied = next_random() % 2;
         compiled.count = next_random() % 8 ? next_random() % 100 : UINT32_MAX;
         for (int j = 0; j < 96; j++) {
             compiled.steps[j].kind = (uint8_t)(next_random() % (i % 2 ? 30 : 256));
@@ -458,8 +472,10 @@ static void test_forged(void) {
             compiled.steps[j].number = random_number();
         }
         for (int j = 0; j < 9; j++) numbers[j] = random_number();
-        uint32_t answer = ti_expand_kept(&compiled, numbers, 9, &vars, own, room, &written);
-        if (answer != (room < compiled.bound ? TI_OUT_TOO_SMALL : TI_DONE) || written > room) {
+        ti_vars *given = next_random() % 2 ? &vars : NULL;
+        uint32_t answer = ti_expand_kept(&compiled, numbers, 9, given, own, room, &written);
+        if (given == NULL && compiled.varied ? answer != TI_NO_VARIABLES || written != 0
+                                             : answer != (room < compiled.bound ? TI_OUT_TOO_SMALL : TI_DONE) || written > room) {
             expect(0, "forged steps keep to the room");
         }
         free(copy);
@@ -1123,6 +1139,7 @@ static const struct {
     {TI_TEXT_TOO_LONG, "TextTooLong"},
     {TI_OUT_TOO_SMALL, "OutTooSmall"},
     {TI_DOES_NOT_FIT, "DoesNotFit"},
+    {TI_NO_VARIABLES, "NoVariables"},
     {TI_BAD_PADDING, "BadPadding"},
     {TI_TOO_MUCH, "TooMuch"},
     {TI_NOT_NAMED, "NotNamed"},
@@ -1147,7 +1164,7 @@ static void test_words(void) {
     expect(known == count, "no other number has a word, and then the word is kept");
     ti_bytes word = {out, 7};
     expect(ti_word(TI_DONE, &word) == TI_NOT_NAMED, "done is no fault");
-    expect(ti_word(205, &word) == TI_NOT_NAMED, "no call returns 205");
+    expect(ti_word(206, &word) == TI_NOT_NAMED, "no call returns 206");
     expect(ti_word(UINT32_MAX, &word) == TI_NOT_NAMED, "the greatest number");
 }
 

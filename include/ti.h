@@ -4,7 +4,7 @@
  * A call that returns a uint32_t returns TI_DONE or the number of a fault, but for ti_version. Nothing is
  * allocated, nothing is kept between calls, and any thread may call. The caller must pass valid pointers with correct
  * lengths: each pointer has as many elements as the length beside it says, and what is written overlaps no other argument.
- * A pointer may be null if its length is 0, the others not. Memory that a call fills may never have been written
+ * A pointer may be null if its length is 0, the others not, but for the variables of ti_expand_kept. Memory that a call fills may never have been written
  * before; only ti_vars is read first.
  * Lengths and places are in bytes. Capabilities are bytes as a compiled entry holds them: no NUL ends them, and escape is
  * the byte 27.
@@ -77,6 +77,7 @@ enum {
     TI_TEXT_TOO_LONG = 202,       /* a text of more than 32767 bytes; the place is its parameter, counted from 1 */
     TI_OUT_TOO_SMALL = 203,       /* less room than the capability's bound, or than the padded text; that is written */
     TI_DOES_NOT_FIT = 204,        /* a capability that ti_compile does not take */
+    TI_NO_VARIABLES = 205,        /* a compiled capability sets or gets a variable, and there are none */
     /* Faults of padding. */
     TI_BAD_PADDING = 301,         /* a rate above 1000000, or affected lines above 65535; no length is written */
     TI_TOO_MUCH = 302,            /* the padded text would have more than 67108864 bytes */
@@ -212,7 +213,8 @@ typedef struct {
     ti_bytes bytes;    /* the capability */
     uint64_t bound;    /* bytes of output, at most */
     uint32_t count;    /* steps */
-    uint32_t marked;   /* 1 if $<, with which each mark of padding starts, stands in the bytes, else 0 */
+    uint16_t marked;   /* 1 if $<, with which each mark of padding starts, stands in the bytes, else 0 */
+    uint16_t varied;   /* 1 if it sets or gets a variable, else 0 */
     ti_step steps[96]; /* the steps, of which the first count */
 } ti_kept;
 
@@ -321,11 +323,16 @@ uint32_t ti_expand(const unsigned char *capability, size_t length, const ti_para
  * or keep them in C memory. */
 uint32_t ti_compile(const unsigned char *capability, size_t length, ti_kept *kept, size_t *place);
 
+/* What ti_expand_kept calls, for languages that have no inline functions of C: vars_count is 1, or 0, and then vars may be null. */
+uint32_t ti_expand_kept_with(const ti_kept *kept, const int32_t *parameters, size_t count, ti_vars *vars, size_t vars_count,
+                             unsigned char *out, size_t room, size_t *written);
+
 /* Expands a compiled capability over numbers, and may write over all of the room. What it writes, and the variables afterwards, are
- * those of ti_expand for the same numbers. A missing parameter is 0.
+ * those of ti_expand for the same numbers. A missing parameter is 0. vars may be null if kept->varied is 0.
  *
  * TI_DONE: the room starts with the output, and its length is written. What the rest of the room holds is left open.
  * TI_TOO_MANY_PARAMETERS: more than nine; nothing is written.
+ * TI_NO_VARIABLES: vars is null, and kept->varied is not 0; nothing is written.
  * TI_OUT_TOO_SMALL: less room than kept->bound; nothing is written.
  *
  * If the ti_kept was changed, or was never compiled, the output may be wrong, but nothing is written past the room.
@@ -355,8 +362,10 @@ uint32_t ti_compile(const unsigned char *capability, size_t length, ti_kept *kep
  *         if (fault == TI_DONE) *written = run.written;
  *         return fault;
  *     } */
-uint32_t ti_expand_kept(const ti_kept *kept, const int32_t *parameters, size_t count, ti_vars *vars, unsigned char *out,
-                        size_t room, size_t *written);
+static inline uint32_t ti_expand_kept(const ti_kept *kept, const int32_t *parameters, size_t count, ti_vars *vars,
+                                      unsigned char *out, size_t room, size_t *written) {
+    return ti_expand_kept_with(kept, parameters, count, vars, vars != NULL, out, room, written);
+}
 
 /* Pads a text, such as the output of ti_expand: each mark of padding, such as $<5> (terminfo(5), "Delays and Padding"),
  * becomes the smallest number of pad bytes that takes its time.
@@ -449,7 +458,8 @@ TI_LAYOUT(offsetof(ti_run, passed) == 16 && offsetof(ti_run, peak) == 24 && offs
 TI_LAYOUT(sizeof(ti_step) == 8 && offsetof(ti_step, kind) == 0 && offsetof(ti_step, small) == 1);
 TI_LAYOUT(offsetof(ti_step, place) == 2 && offsetof(ti_step, number) == 4);
 TI_LAYOUT(sizeof(ti_kept) == 800 && offsetof(ti_kept, bytes) == 0 && offsetof(ti_kept, bound) == 16);
-TI_LAYOUT(offsetof(ti_kept, count) == 24 && offsetof(ti_kept, marked) == 28 && offsetof(ti_kept, steps) == 32);
+TI_LAYOUT(offsetof(ti_kept, count) == 24 && offsetof(ti_kept, marked) == 28 && offsetof(ti_kept, varied) == 30);
+TI_LAYOUT(offsetof(ti_kept, steps) == 32);
 TI_LAYOUT(sizeof(ti_padding) == 12 && offsetof(ti_padding, rate) == 0 && offsetof(ti_padding, affected_lines) == 4);
 TI_LAYOUT(offsetof(ti_padding, xon) == 8 && offsetof(ti_padding, pad) == 9);
 #undef TI_LAYOUT

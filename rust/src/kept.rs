@@ -48,9 +48,9 @@ impl<'a> Kept<'a> {
     ///
     /// `TooManyParameters` or `OutTooSmall`. The variables and the slice are as before then.
     pub fn expand_into(&self, numbers: &[i32], vars: &mut Vars, out: &mut [u8]) -> Result<usize, ExpandError> {
-        let mut all = [0; MOST_PARAMETERS];
-        let given = numbers.len();
-        all.get_mut(..given).ok_or(ExpandError::TooManyParameters { given })?.copy_from_slice(numbers);
-        expand_kept(&self.0, &all, vars, out).ok_or(ExpandError::OutTooSmall { need: self.0.bound })
+        if numbers.len() > MOST_PARAMETERS {
+            return Err(ExpandError::TooManyParameters { given: numbers.len() });
+        }
+        expand_kept(&self.0, numbers, vars, out).ok_or(ExpandError::OutTooSmall { need: self.0.bound })
     }
 }

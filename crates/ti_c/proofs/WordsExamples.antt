@@ -13,4 +13,4 @@ capability_row : IsWord 108 (codes "StrayThen")
 capability_row = inr (inl (capability.StrayThen, refl, refl))
 
 padding_row : IsWord 301 (codes "BadPadding")
-padding_row = inr (inr (4, lit≤ tt, refl))
+padding_row = inr (inr (5, lit≤ tt, refl))

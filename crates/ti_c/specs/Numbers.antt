@@ -58,6 +58,10 @@ out_too_small = 203
 abbrev pub does_not_fit : ℕ
 does_not_fit = 204
 
+-- no variables for a kept capability that has some
+abbrev pub no_variables : ℕ
+no_variables = 205
+
 -- the faults of padding: a rate or a count of lines above its limit, a padded text that is too long
 abbrev pub bad_padding : ℕ
 bad_padding = 301

@@ -4,7 +4,7 @@ use Rattle.ti_cap.specs.FaultNames.{cap_fault_word}
 use Rattle.ti_cap.specs.declared.language.CapFault.{CapFault}
 use Rattle.ti_layout.specs.Faults.{fault_word}
 use Rattle.ti_layout.specs.declared.fault.Fault.{Fault}
-use Rattle.ti_c.specs.Numbers.{bad_padding, capability_number, does_not_fit, entry_number, not_named, out_too_small, room_too_small, text_too_long, too_many_parameters, too_much}
+use Rattle.ti_c.specs.Numbers.{bad_padding, capability_number, does_not_fit, entry_number, no_variables, not_named, out_too_small, room_too_small, text_too_long, too_many_parameters, too_much}
 
 -- the number of a fault and its word
 abbrev pub Row : Type 0
@@ -14,7 +14,8 @@ Row = ℕ × List ℕ
 abbrev pub other_rows : List Row
 other_rows =
     (too_many_parameters, codes "TooManyParameters") ∷ (text_too_long, codes "TextTooLong") ∷
-    (out_too_small, codes "OutTooSmall") ∷ (does_not_fit, codes "DoesNotFit") ∷ (bad_padding, codes "BadPadding") ∷ (too_much, codes "TooMuch") ∷
+    (out_too_small, codes "OutTooSmall") ∷ (does_not_fit, codes "DoesNotFit") ∷ (no_variables, codes "NoVariables") ∷
+    (bad_padding, codes "BadPadding") ∷ (too_much, codes "TooMuch") ∷
     (not_named, codes "NotNamed") ∷ (room_too_small, codes "RoomTooSmall") ∷ []
 
 -- the number and the word are those of one fault

@@ -21,6 +21,9 @@ pub(crate) const OUT_TOO_SMALL: u32 = 203;
 /// A capability that is not kept.
 pub(crate) const DOES_NOT_FIT: u32 = 204;
 
+/// A capability with variables, and none of them.
+pub(crate) const NO_VARIABLES: u32 = 205;
+
 /// A rate or a count of lines above its limit.
 pub(crate) const BAD_PADDING: u32 = 301;
 

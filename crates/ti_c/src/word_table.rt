@@ -3,7 +3,7 @@
 //! The faults of entries, of capabilities, of an expansion, of padding, of a search and of arrays, by their numbers. After
 //! each word stands a NUL, which is no part of it: C programs may print it.
 
-pub(crate) static WORDS: [(u32, &str); 35] = [
+pub(crate) static WORDS: [(u32, &str); 36] = [
     (1, "Truncated\0"),
     (2, "BadMagic\0"),
     (3, "BadHeader\0"),
@@ -35,6 +35,7 @@ pub(crate) static WORDS: [(u32, &str); 35] = [
     (202, "TextTooLong\0"),
     (203, "OutTooSmall\0"),
     (204, "DoesNotFit\0"),
+    (205, "NoVariables\0"),
     (301, "BadPadding\0"),
     (302, "TooMuch\0"),
     (401, "NotNamed\0"),
