@@ -5,7 +5,6 @@ use Rattle.ti_layout.specs.declared.fault.Refused.{Refused}
 use Rattle.ti_entry.proofs.SpellsAtMostOneLemmas.{at_most_one}
 use Rattle.ti_line.specs.declared.options.Comparison.{Comparison}
 use Rattle.ti_line.specs.declared.options.Likeness.{Likeness}
-use Rattle.ti_listing.specs.Differences.{DifferenceValue}
 use Rattle.ti_listing.proofs.AreAlikeLemmas.{one_list}
 use Rattle.ti_tool.specs.declared.fault.ToolFault.TheVariants as fault
 use Rattle.ti_tool.specs.Comparisons.{AreCompared, IsCompared, IsRefusedFile, comparison_text, status_of}
@@ -33,11 +32,11 @@ one_comparison by form file other one two out outs line lines status code = go
         let First : EntryValue → Type 0 = λ z. AreCompared by form z w out line status in
         let Second : EntryValue → Type 0 = λ z. AreCompared by form x z out line status in
         one_compared by form x y out outs line lines status code (subst Second (at_most_one two w y of_two two_too) (subst First (at_most_one one v x of_one one_too) are)) also
-    go (inl (v, w, of_one, of_two, are)) (inr (inl (r, refuses, rest))) = absurd (never_refused one v r of_one refuses)
-    go (inl (v, w, of_one, of_two, are)) (inr (inr (first, (r, refuses, rest)))) = absurd (never_refused two w r of_two refuses)
-    go (inr (inl (r, refuses, rest))) (inl (v, w, of_one, of_two, are)) = absurd (never_refused one v r of_one refuses)
+    go (inl (v, w, of_one, of_two, are)) (inr (inl (r, refuses, empty, same, t))) = absurd (never_refused one v r of_one refuses)
+    go (inl (v, w, of_one, of_two, are)) (inr (inr (first, (r, refuses, empty, same, t)))) = absurd (never_refused two w r of_two refuses)
+    go (inr (inl (r, refuses, empty, same, t))) (inl (v, w, of_one, of_two, are)) = absurd (never_refused one v r of_one refuses)
     go (inr (inl a)) (inr (inl b)) = one_refused file one out outs line lines status code a b
-    go (inr (inl (r, refuses, rest))) (inr (inr ((v, spells), b))) = absurd (never_refused one v r spells refuses)
-    go (inr (inr (first, (r, refuses, rest)))) (inl (v, w, of_one, of_two, are)) = absurd (never_refused two w r of_two refuses)
-    go (inr (inr ((v, spells), a))) (inr (inl (r, refuses, rest))) = absurd (never_refused one v r spells refuses)
+    go (inr (inl (r, refuses, empty, same, t))) (inr (inr ((v, spells), b))) = absurd (never_refused one v r spells refuses)
+    go (inr (inr (first, (r, refuses, empty, same, t)))) (inl (v, w, of_one, of_two, are)) = absurd (never_refused two w r of_two refuses)
+    go (inr (inr ((v, spells), b))) (inr (inl (r, refuses, empty, same, t))) = absurd (never_refused one v r spells refuses)
     go (inr (inr (first, a))) (inr (inr (too, b))) = one_refused other two out outs line lines status code a b
