@@ -15,7 +15,7 @@ use Rattle.ti_names.specs.declared.name_table.NameTable.TheVariants as tables
 use Rattle.ti_entry.specs.Items.{item_at}
 use Rattle.ti_entry.specs.Finding.{IsPosition, names_of}
 use Rattle.ti_entry.specs.Reading.{base_of_names}
-use Rattle.ti_c.specs.declared.view.Found.{Found}
+use Rattle.ti_c.specs.declared.view.FoundItem.{FoundItem}
 use Rattle.ti_c.specs.declared.view.View.{View}
 use Rattle.ti_c.specs.Entries.{flag_mark, text_shown}
 
@@ -28,7 +28,7 @@ IsOpen view v = Spells view.bytes.now v × (view.base ≡ base_of_names v)
 abbrev pub Shown : Type 0
 Shown = ℕ × ℤ × List ℕ
 
-abbrev pub value_held : Found → Shown
+abbrev pub value_held : FoundItem → Shown
 value_held value = (value.kind, value.number, value.text.now)
 
 abbrev pub flag_shown : Flag → Shown

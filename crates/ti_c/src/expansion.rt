@@ -24,7 +24,7 @@ pub struct Parameter<'a> {
 /// How an expansion went, or where its fault stands.
 #[repr(C)]
 #[derive(Clone, Copy, Debug)]
-pub struct Run {
+pub struct PlacedRun {
     /// What was written and run.
     pub counts: ti_expand::Run,
     /// Of a capability's fault the place in its bytes; else the parameter whose text is too long, counted from 1, or the
@@ -131,7 +131,7 @@ pub extern "C" fn ti_expand<'a>(
     parameters: &[Parameter<'a>],
     variables: &mut Vars,
     out: &mut [u8],
-    run: &mut Run,
+    run: &mut PlacedRun,
 ) -> u32
     // A fault is the first in the order of the parameters, the capability and the expansion, and it is returned.
     ensures answer { (result ≡ done) ⊎ IsExpansionFault capability.now (values_given parameters.now)
@@ -171,7 +171,7 @@ fn expand_values<'a>(
     parameters: &[Parameter<'a>],
     variables: &mut Vars,
     out: &mut [u8],
-    run: &mut Run,
+    run: &mut PlacedRun,
 ) -> u32
     requires few { length parameters.now ≤ 9 }
     ensures answer { (result ≡ done) ⊎ IsExpansionFault capability.now (values_given parameters.now)

@@ -37,7 +37,7 @@ pub struct View<'a> {
 /// What an entry says of a capability.
 #[repr(C)]
 #[derive(Clone, Copy, Debug)]
-pub struct Found<'a> {
+pub struct FoundItem<'a> {
     /// The bytes of a text that is there, else none.
     pub text: &'a [u8],
     /// The mark of a flag or a text, or the value of a number.
@@ -140,7 +140,7 @@ pub extern "C" fn ti_view_text<'a>(view: &View<'a>, index: usize, text: &mut Byt
 
 /// Finds what the entry says of the capability with a name: 0 and its value, or 401, and the value is as before.
 #[unsafe(no_mangle)]
-pub extern "C" fn ti_view_find<'a>(view: &View<'a>, name: &[u8], value: &mut Found<'a>) -> u32
+pub extern "C" fn ti_view_find<'a>(view: &View<'a>, name: &[u8], value: &mut FoundItem<'a>) -> u32
     ensures answer { (result ≡ done) ⊎ (result ≡ not_named) }
     ensures found { (v : EntryValue) → IsOpen view.now v → result ≡ done
         → IsFoundIn v name.now (value_held value.new) }
@@ -155,7 +155,7 @@ pub extern "C" fn ti_view_find<'a>(view: &View<'a>, name: &[u8], value: &mut Fou
 }
 
 /// Finds what the entry says of the standard capability of a kind at an index.
-fn find_standard<'a>(view: &View<'a>, kind: Kind, index: usize, value: &mut Found<'a>) -> u32
+fn find_standard<'a>(view: &View<'a>, kind: Kind, index: usize, value: &mut FoundItem<'a>) -> u32
     ensures answer { (result ≡ done) ⊎ (result ≡ not_named) }
     ensures found { (v : EntryValue) → IsOpen view.now v
         → (result ≡ done) × (value_held value.new ≡ value_at v (Standard kind index)) }
@@ -169,7 +169,7 @@ fn find_standard<'a>(view: &View<'a>, kind: Kind, index: usize, value: &mut Foun
 }
 
 /// Finds what the entry says of the first capability to which it gives a name itself.
-fn find_extended<'a>(view: &View<'a>, name: &[u8], value: &mut Found<'a>) -> u32
+fn find_extended<'a>(view: &View<'a>, name: &[u8], value: &mut FoundItem<'a>) -> u32
     ensures answer { (result ≡ done) ⊎ (result ≡ not_named) }
     ensures found { (v : EntryValue) → IsOpen view.now v → result ≡ done
         → (at : Kind × ℕ) × IsFirstNamed v.extended name.now (Some at)
@@ -198,7 +198,7 @@ pub extern "C" fn ti_view_extended<'a>(
     kind: u32,
     index: usize,
     name: &mut Bytes<'a>,
-    value: &mut Found<'a>,
+    value: &mut FoundItem<'a>,
 ) -> u32
     ensures answer { (result ≡ done) ⊎ (result ≡ not_named) }
     ensures found { (v : EntryValue) → IsOpen view.now v → result ≡ done
@@ -230,7 +230,7 @@ pub extern "C" fn ti_view_item<'a>(
     place: usize,
     name: &mut Bytes<'a>,
     extended: &mut u32,
-    value: &mut Found<'a>,
+    value: &mut FoundItem<'a>,
 ) -> u32
     ensures answer { (result ≡ done) ⊎ (result ≡ not_named) }
     ensures found { (v : EntryValue) → IsOpen view.now v → result ≡ done
@@ -287,7 +287,7 @@ fn kind_of(number: u32) -> Option<Kind>
 }
 
 /// Puts what an entry says of a capability into a value.
-fn put_item<'a>(value: &mut Found<'a>, item: Item<'a>)
+fn put_item<'a>(value: &mut FoundItem<'a>, item: Item<'a>)
     ensures { value_held value.new ≡ item_shown (item_value item.entry) }
 {
     match item {
@@ -297,7 +297,7 @@ fn put_item<'a>(value: &mut Found<'a>, item: Item<'a>)
     }
 }
 
-fn put_flag(value: &mut Found<'_>, flag: Flag)
+fn put_flag(value: &mut FoundItem<'_>, flag: Flag)
     ensures { value_held value.new ≡ flag_shown flag }
 {
     value.kind = kind_number(Kind::Flag);
@@ -305,7 +305,7 @@ fn put_flag(value: &mut Found<'_>, flag: Flag)
     value.text = &[];
 }
 
-fn put_number(value: &mut Found<'_>, number: Number)
+fn put_number(value: &mut FoundItem<'_>, number: Number)
     ensures { value_held value.new ≡ number_shown number }
 {
     value.kind = kind_number(Kind::Number);
@@ -313,7 +313,7 @@ fn put_number(value: &mut Found<'_>, number: Number)
     value.text = &[];
 }
 
-fn put_text<'a>(value: &mut Found<'a>, text: Text<'a>)
+fn put_text<'a>(value: &mut FoundItem<'a>, text: Text<'a>)
     ensures { value_held value.new ≡ text_value_shown (text_value text.entry) }
 {
     value.kind = kind_number(Kind::Text);
