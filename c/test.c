@@ -424,7 +424,7 @@ static void test_compiled_faults(void) {
     expect(copy.varied == 0 && ti_expand_kept(&copy, numbers, 2, NULL, out, 26, &written) == TI_DONE && written == 6
                && memcmp(out, E "[1;2H", 6) == 0, "cup needs no variables");
     expect(ti_expand_kept(&copy, numbers, 2, NULL, out, 25, &written) == TI_OUT_TOO_SMALL, "one byte less, and no variables");
-    expect(ti_expand_kept_with(&copy, numbers, 2, NULL, 0, out, 26, &written) == TI_DONE && written == 6, "an empty array of them");
+    expect(ti_expand_kept_alone(&copy, NULL, 0, out, 26, &written) == TI_DONE && memcmp(out, E "[1;1H", 6) == 0, "nor does it by its own call");
     compile((const unsigned char *)"%p1%Pa", 6, &place);
     written = 5;
     memset(out, UNWRITTEN, sizeof out);

@@ -323,9 +323,11 @@ uint32_t ti_expand(const unsigned char *capability, size_t length, const ti_para
  * or keep them in C memory. */
 uint32_t ti_compile(const unsigned char *capability, size_t length, ti_kept *kept, size_t *place);
 
-/* What ti_expand_kept calls, for languages that have no inline functions of C: vars_count is 1, or 0, and then vars may be null. */
-uint32_t ti_expand_kept_with(const ti_kept *kept, const int32_t *parameters, size_t count, ti_vars *vars, size_t vars_count,
-                             unsigned char *out, size_t room, size_t *written);
+/* What ti_expand_kept calls, with variables and without, for languages that have no inline functions of C. */
+uint32_t ti_expand_kept_over(const ti_kept *kept, const int32_t *parameters, size_t count, ti_vars *vars, unsigned char *out,
+                             size_t room, size_t *written);
+uint32_t ti_expand_kept_alone(const ti_kept *kept, const int32_t *parameters, size_t count, unsigned char *out, size_t room,
+                              size_t *written);
 
 /* Expands a compiled capability over numbers, and may write over all of the room. What it writes, and the variables afterwards, are
  * those of ti_expand for the same numbers. A missing parameter is 0. vars may be null if kept->varied is 0.
@@ -364,7 +366,8 @@ uint32_t ti_expand_kept_with(const ti_kept *kept, const int32_t *parameters, siz
  *     } */
 static inline uint32_t ti_expand_kept(const ti_kept *kept, const int32_t *parameters, size_t count, ti_vars *vars,
                                       unsigned char *out, size_t room, size_t *written) {
-    return ti_expand_kept_with(kept, parameters, count, vars, vars != NULL, out, room, written);
+    return vars != NULL ? ti_expand_kept_over(kept, parameters, count, vars, out, room, written)
+                        : ti_expand_kept_alone(kept, parameters, count, out, room, written);
 }
 
 /* Pads a text, such as the output of ti_expand: each mark of padding, such as $<5> (terminfo(5), "Delays and Padding"),

@@ -40,6 +40,11 @@ impl<'a> Kept<'a> {
         self.0.bound
     }
 
+    /// Whether it sets or gets a variable. If not, an expansion neither reads nor changes those that it is given.
+    pub fn has_variables(&self) -> bool {
+        self.0.varied != 0
+    }
+
     /// Writes what the capability writes for at most nine numbers to the front of a slice, and returns how many bytes that are;
     /// numbers that are not given are 0. The slice needs as many bytes as [`Kept::bound`] says, and what it holds after the output
     /// is left open.

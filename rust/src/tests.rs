@@ -100,6 +100,7 @@ fn a_compiled_capability_is_expanded_again_and_again() {
     }
     assert_eq!(cup.expand_into(&[], &mut vars, &mut [0; 25]), Err(ExpandError::OutTooSmall { need: 26 }));
     assert_eq!(cup.expand_into(&[0; 10], &mut vars, &mut out), Err(ExpandError::TooManyParameters { given: 10 }));
+    assert!(!cup.has_variables() && Kept::compile(b"%p1%Pa").unwrap().has_variables());
     assert_eq!(Kept::compile(b"%p1%s").unwrap_err(), CompileError::DoesNotFit);
     assert_eq!(Kept::compile(b"%?%p1%t%p2%s%;").unwrap_err().to_string(), "DoesNotFit");
     assert_eq!(Kept::compile(b"ab%p0").unwrap_err().to_string(), "BadParameter at 2");

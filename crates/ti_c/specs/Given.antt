@@ -1,5 +1,5 @@
 -- What C hands to an expansion, and the number and the place that it returns.
-use Rattle.std.specs.Prelude.{◌≡◌, ℕ, ◌<◌, ◌≤◌, ◌⊎◌, if◌then◌else◌, nat_eq, List, [], ◌∷◌, map, get_or, pos, ℤ, length, replicate}
+use Rattle.std.specs.Prelude.{◌≡◌, ℕ, ◌<◌, ◌≤◌, ◌⊎◌, if◌then◌else◌, nat_eq, List, [], ◌∷◌, map, get_or, pos}
 use Rattle.ti_cap.specs.declared.language.CapFault.{CapFault}
 use Rattle.ti_cap.specs.Refusal.{IsRefusal}
 use Rattle.ti_c.specs.declared.expansion.Parameter.{Parameter}
@@ -9,7 +9,6 @@ use Rattle.ti_expand.specs.declared.fault.BytesFault.{BytesFault}
 use Rattle.ti_expand.specs.declared.fault.BytesFault.TheVariants.{Refused, Failed}
 use Rattle.ti_expand.specs.declared.fault.ExpandFault.TheVariants.{TextTooLong, OutTooSmall}
 use Rattle.ti_expand.specs.declared.values.Value.{Value}
-use Rattle.ti_kept.specs.declared.kept.Kept.{Kept}
 use Rattle.ti_expand.specs.declared.values.Value.TheVariants.{Num, Text}
 
 -- the value that a parameter means
@@ -23,14 +22,6 @@ value_at parameters i = get_or (map value_given parameters) i (Num (pos 0))
 -- the values of the nine parameters
 abbrev pub values_given : List Parameter → List Value
 values_given parameters = map (value_at parameters) (0 ∷ 1 ∷ 2 ∷ 3 ∷ 4 ∷ 5 ∷ 6 ∷ 7 ∷ 8 ∷ [])
-
--- the variables of an expansion: the first ones, 0 if there are none
-abbrev pub variables_given : List (List ℤ) → List ℤ
-variables_given variables = get_or variables 0 (replicate 52 (pos 0))
-
--- a kept capability may run: there are variables, or it has none
-abbrev pub MayRun : Kept → List (List ℤ) → Type 0
-MayRun kept variables = (0 < length variables) ⊎ (kept.varied ≡ 0)
 
 -- the number is that of the fault of which the bytes are refused, at this place
 abbrev pub IsRefusedAs : List ℕ → ℕ → ℕ → Type 0

@@ -2,7 +2,7 @@
 //!
 //! The caller keeps its steps, so each call tests them again: they may be any.
 
-ghost use Rattle.std.specs.Prelude.{◌≡◌, ◌≤◌, ◌<◌, ◌⊎◌, ◌↔◌, ◌∷◌, [], ℕ, List, drop, length, take, IsTrue};
+ghost use Rattle.std.specs.Prelude.{◌≡◌, ◌≤◌, ◌<◌, ◌⊎◌, ◌↔◌, ℕ, List, length, pos, replicate, take, IsTrue};
 ghost use Rattle.ti_cap.specs.declared.language.Token.{Token};
 ghost use Rattle.ti_cap.specs.Capability.{IsWellFormed};
 ghost use Rattle.ti_cap.specs.Refusal.{IsFaultless};
@@ -10,7 +10,7 @@ ghost use Rattle.ti_cap.specs.Spelling.{Written};
 ghost use Rattle.ti_expand.specs.Expands.{ForMeaning};
 ghost use Rattle.ti_kept.specs.Kept.{IsKept, Fits, HasMarkStart, nine_of, take_variable, values_of};
 ghost use Rattle.ti_c.specs.Numbers.{done, does_not_fit, no_variables, out_too_small, too_many_parameters};
-ghost use Rattle.ti_c.specs.Given.{IsRefusedAs, MayRun, variables_given};
+ghost use Rattle.ti_c.specs.Given.{IsRefusedAs};
 
 use crate::faults::{
     DOES_NOT_FIT, DONE, NO_VARIABLES, OUT_TOO_SMALL, TOO_MANY_PARAMETERS, capability_number,
@@ -50,21 +50,25 @@ pub extern "C" fn ti_compile<'a>(bytes: &'a [u8], kept: &mut Kept<'a>, place: &m
     }
 }
 
-/// Expands a compiled capability over at most nine numbers and variables, as said below.
-#[inline(never)]
-fn expand_over(
+/// Expands a compiled capability over numbers, and may write over all of the output. It returns 0 and how many bytes of the
+/// output count; or 201 for more than nine parameters, or 203 for less room than the bound, and then nothing is written.
+#[unsafe(no_mangle)]
+pub extern "C" fn ti_expand_kept_over(
     kept: &Kept<'_>,
     parameters: &[i32],
     variables: &mut Vars,
     out: &mut [u8],
     written: &mut usize,
 ) -> u32
-    requires few { length parameters.now ≤ 9 }
-    ensures small { length out.old < kept.now.bound → result ≡ out_too_small }
-    ensures enough { kept.now.bound ≤ length out.old → result ≡ done }
+    ensures many { 9 < length parameters.now → result ≡ too_many_parameters }
+    ensures small { length parameters.now ≤ 9 → length out.old < kept.now.bound
+        → result ≡ out_too_small }
+    ensures enough { length parameters.now ≤ 9 → kept.now.bound ≤ length out.old → result ≡ done }
     ensures same { (result ≡ done) ⊎ ((variables.new ≡ variables.old) × (out.new ≡ out.old)
         × (written.new ≡ written.old)) }
+    // Whatever the steps are, what counts lies in the output.
     ensures within { result ≡ done → written.new ≤ length out.new }
+    // If they are those of a capability, its expansion is what counts, and the variables are those after it.
     ensures tree { result ≡ done → IsKept kept.now → IsWellFormed kept.now.bytes.now }
     ensures output { result ≡ done → IsKept kept.now → ForMeaning kept.now.bytes.now variables.old
         (values_of (nine_of parameters.now))
@@ -73,6 +77,9 @@ fn expand_over(
         variables.old (values_of (nine_of parameters.now))
         (λ end. variables.new ≡ end.variables) }
 {
+    if parameters.len() > 9 {
+        return TOO_MANY_PARAMETERS;
+    }
     match expand_kept(kept, parameters, variables, out) {
         Some(count) => {
             *written = count;
@@ -82,68 +89,31 @@ fn expand_over(
     }
 }
 
-/// The same over variables that are 0.
-#[inline(never)]
-fn expand_over_zeros(
-    kept: &Kept<'_>,
-    parameters: &[i32],
-    out: &mut [u8],
-    written: &mut usize,
-) -> u32
-    requires few { length parameters.now ≤ 9 }
-    ensures small { length out.old < kept.now.bound → result ≡ out_too_small }
-    ensures enough { kept.now.bound ≤ length out.old → result ≡ done }
-    ensures same { (result ≡ done) ⊎ ((out.new ≡ out.old) × (written.new ≡ written.old)) }
-    ensures within { result ≡ done → written.new ≤ length out.new }
-    ensures tree { result ≡ done → IsKept kept.now → IsWellFormed kept.now.bytes.now }
-    ensures output { result ≡ done → IsKept kept.now → ForMeaning kept.now.bytes.now
-        (variables_given []) (values_of (nine_of parameters.now))
-        (λ end. take written.new out.new ≡ end.output) }
-{
-    let mut zeros = Vars::new();
-    expand_over(kept, parameters, &mut zeros, out, written)
-}
-
-/// Expands a compiled capability over numbers, and may write over all of the output. It returns 0 and how many bytes of the
-/// output count; or 201 for more than nine parameters, 205 if there are no variables and the capability has some, or 203 for
-/// less room than the bound, and then nothing is written. Of variables the first are taken.
+/// The same without variables, which are 0. It returns 205, and nothing is written, if there are at most nine parameters and
+/// the capability has variables.
 #[unsafe(no_mangle)]
-pub extern "C" fn ti_expand_kept_with(
+pub extern "C" fn ti_expand_kept_alone(
     kept: &Kept<'_>,
     parameters: &[i32],
-    variables: &mut [Vars],
     out: &mut [u8],
     written: &mut usize,
 ) -> u32
     ensures many { 9 < length parameters.now → result ≡ too_many_parameters }
-    ensures needed { length parameters.now ≤ 9 → (MayRun kept.now variables.old → ⊥)
-        → result ≡ no_variables }
-    ensures small { length parameters.now ≤ 9 → MayRun kept.now variables.old
+    ensures needed { length parameters.now ≤ 9 → 0 < kept.now.varied → result ≡ no_variables }
+    ensures small { length parameters.now ≤ 9 → kept.now.varied ≡ 0
         → length out.old < kept.now.bound → result ≡ out_too_small }
-    ensures enough { length parameters.now ≤ 9 → MayRun kept.now variables.old
+    ensures enough { length parameters.now ≤ 9 → kept.now.varied ≡ 0
         → kept.now.bound ≤ length out.old → result ≡ done }
-    ensures same { (result ≡ done) ⊎ ((variables.new ≡ variables.old) × (out.new ≡ out.old)
-        × (written.new ≡ written.old)) }
-    // Whatever the steps are, what counts lies in the output.
+    ensures same { (result ≡ done) ⊎ ((out.new ≡ out.old) × (written.new ≡ written.old)) }
     ensures within { result ≡ done → written.new ≤ length out.new }
-    // If they are those of a capability, its expansion is what counts, and the variables are those after it.
     ensures tree { result ≡ done → IsKept kept.now → IsWellFormed kept.now.bytes.now }
     ensures output { result ≡ done → IsKept kept.now → ForMeaning kept.now.bytes.now
-        (variables_given variables.old) (values_of (nine_of parameters.now))
+        (replicate 52 (pos 0)) (values_of (nine_of parameters.now))
         (λ end. take written.new out.new ≡ end.output) }
-    ensures variables { result ≡ done → IsKept kept.now → 0 < length variables.old
-        → ForMeaning kept.now.bytes.now (variables_given variables.old)
-        (values_of (nine_of parameters.now))
-        (λ end. variables.new ≡ end.variables ∷ drop 1 variables.old) }
 {
-    if parameters.len() > 9 {
-        return TOO_MANY_PARAMETERS;
-    }
-    if !variables.is_empty() {
-        return expand_over(kept, parameters, &mut variables[0], out, written);
-    }
-    if kept.varied != 0 {
+    if parameters.len() <= 9 && kept.varied != 0 {
         return NO_VARIABLES;
     }
-    expand_over_zeros(kept, parameters, out, written)
+    let mut zeros = Vars::new();
+    ti_expand_kept_over(kept, parameters, &mut zeros, out, written)
 }
