@@ -11,10 +11,8 @@ HERE = Path(__file__).resolve().parent
 TESTS = {
     "fixtures": ["flushed", "sink", "source", "tally"],
     "entry_tests": ["base", "draft_growths", "draft_memory", "entry_messages", "entry_objects", "entry_sources", "json"],
-    "capability_tests": [
-        "expansion_memory", "expansion_variables", "notation_memory", "padding_memory", "padding_rows", "padding_writers",
-        "trace", "traces",
-    ],
+    "capability_tests": ["expansion_memory", "expansion_variables"],
+    "notation_tests": ["notation_memory", "padding_memory", "padding_rows", "padding_writers", "trace", "traces"],
 }
 # What a test of Rattle has for its handle `rt`, which those of Rust do without. KIT is the crate's own kit.
 RENAMES = [
@@ -27,7 +25,7 @@ RENAMES = [
     (r"&\$rt, ", ""),
     (r"(?<=!\()rt;\s", ""),
     (r"(?<=\()\s*&?rt,\s*", ""),
-    (r"\brt\.alloc\(\)", "KIT::Global"),
+    (r"\brt\.alloc\(\)|\*\w+\.allocator\(\)", "KIT::Global"),
     (r"format!\(in ", "format_in!("),
     (r"\.(to_string|to_vec)\((?=\w)", r".\1_in("),
 ]

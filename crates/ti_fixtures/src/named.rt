@@ -53,6 +53,7 @@ const NAMED: &[(&str, &[u8])] = &[
     ("@MARKS", traces::MARKS),
     ("@NOTHING", traces::NOTHING),
     ("@COLUMN_OF_7", traces::COLUMN_OF_7),
+    ("@TEXT_AND_NUMBER", traces::TEXT_AND_NUMBER),
 ];
 
 /// The bytes that a field names.

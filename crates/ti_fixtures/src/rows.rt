@@ -97,6 +97,92 @@ impl From<Unfound> for Fail {
     }
 }
 
+/// Adds what a value prints.
+pub fn show<D: Display>(found: &mut Vec<u8>, value: &D) -> Result<(), Unfound> {
+    let text = format!(in *found.allocator(); "{value}")?;
+    Ok(found.extend_from_slice(text.as_str().as_bytes())?)
+}
+
+/// Adds what a value prints with `{:?}`.
+pub fn show_debug<D: Debug>(found: &mut Vec<u8>, value: &D) -> Result<(), Unfound> {
+    let text = format!(in *found.allocator(); "{value:?}")?;
+    Ok(found.extend_from_slice(text.as_str().as_bytes())?)
+}
+
+/// Adds numbers with a blank between them.
+pub fn show_numbers(found: &mut Vec<u8>, numbers: &[u64]) -> Result<(), Unfound> {
+    let mut is_first = true;
+    for number in numbers {
+        if !is_first {
+            found.push(b' ')?;
+        }
+        is_first = false;
+        show(found, number)?;
+    }
+    Ok(())
+}
+
+/// Finds nothing unless a condition holds.
+pub fn only_if(holds: bool) -> Result<(), Unfound> {
+    if holds { Ok(()) } else { Err(Unfound) }
+}
+
+/// Whether a value prints this.
+fn is_shown<D: Display>(alloc: Global, value: &D, text: &str) -> Result<bool, Unfound> {
+    let mut shown = Vec::new(alloc);
+    show(&mut shown, value)?;
+    Ok(shown.as_slice() == text.as_bytes())
+}
+
+/// Whether each value prints its text.
+pub fn are_shown<D: Display>(alloc: Global, values: &[(D, &str)]) -> bool {
+    let mut is_each = true;
+    for (value, text) in values {
+        is_each &= is_shown(alloc, value, *text).unwrap_or(false);
+    }
+    is_each
+}
+
+/// What a row gives.
+#[derive(Clone, Copy)]
+pub struct Given<'a, 'w> {
+    /// All of it.
+    pub text: &'a str,
+    /// The bytes of the first field.
+    pub bytes: &'a [u8],
+    /// The bytes of the second field.
+    pub second: &'a [u8],
+    /// The bytes of the third field.
+    pub third: &'a [u8],
+    /// The words of the first field, between which blanks stand. There are none if its bytes are no text.
+    pub words: &'w [&'a str],
+}
+
+impl<'a, 'w> Given<'a, 'w> {
+    /// Its fields.
+    pub fn fields(&self) -> [&'a str; 5] {
+        fields_of(self.text)
+    }
+}
+
+/// A way to find what rows are about.
+pub trait Finds {
+    /// Adds what is found for what a row gives.
+    fn find(&self, given: &Given<'_, '_>, found: &mut Vec<u8>) -> Result<(), Unfound>;
+}
+
+/// Whether what is found for what a row gives is this.
+fn is_found<F: Finds>(
+    alloc: Global,
+    finds: &F,
+    given: &Given<'_, '_>,
+    wanted: &str,
+) -> Result<bool, Unfound> {
+    let mut found = Vec::new(alloc);
+    finds.find(given, &mut found)?;
+    Ok(found.as_slice() == bytes_of(alloc, wanted)?.as_slice())
+}
+
 /// The words of a text, between which blanks stand.
 pub fn words_of(alloc: Global, text: &str) -> Result<Vec<&str>, Unfound> {
     let mut words = Vec::new(alloc);
@@ -106,6 +192,46 @@ pub fn words_of(alloc: Global, text: &str) -> Result<Vec<&str>, Unfound> {
         }
     }
     Ok(words)
+}
+
+/// Whether a row holds that gives this text, and these bytes of its first field.
+fn holds_with<F: Finds>(
+    alloc: Global,
+    finds: &F,
+    (text, wanted): (&str, &str),
+    bytes: &[u8],
+) -> Result<bool, Unfound> {
+    let [_, second, third, ..] = fields_of(text);
+    let second = bytes_of(alloc, second)?;
+    let third = bytes_of(alloc, third)?;
+    let words = words_of(alloc, from_utf8(bytes).unwrap_or(""))?;
+    let given = Given {
+        text,
+        bytes,
+        second: second.as_slice(),
+        third: third.as_slice(),
+        words: words.as_slice(),
+    };
+    is_found(alloc, finds, &given, wanted)
+}
+
+/// Whether what is found for what a row gives is what the row says.
+fn holds<F: Finds>(alloc: Global, finds: &F, row: &str) -> Result<bool, Unfound> {
+    let (text, wanted) = row.split_once(" => ").ok_or("a row")?;
+    let [first, ..] = fields_of(text);
+    let bytes = bytes_of(alloc, first)?;
+    holds_with(alloc, finds, (text, wanted), bytes.as_slice())
+}
+
+/// The first row for which nothing, or something else, is found than it says, if there is one.
+pub fn first_wrong<'a, F: Finds>(alloc: Global, rows: &'a str, finds: &F) -> Option<&'a str> {
+    for row in rows.lines() {
+        let is_row = !row.is_empty() && !row.starts_with("# ");
+        if is_row && !holds(alloc, finds, row).unwrap_or(false) {
+            return Some(row);
+        }
+    }
+    None
 }
 
 /// What is found for the words of a field, which is in the notation.
@@ -146,7 +272,7 @@ pub fn shown_numbers(alloc: Global, numbers: &[u64]) -> Result<Vec<u8>, Unfound>
 }
 
 /// Whether what is found for what a row gives is what the row says.
-fn holds<F: Fn(Global, &str) -> Result<Vec<u8>, Unfound>>(
+fn is_found_by<F: Fn(Global, &str) -> Result<Vec<u8>, Unfound>>(
     alloc: Global,
     row: &str,
     found: &F,
@@ -159,7 +285,7 @@ fn holds<F: Fn(Global, &str) -> Result<Vec<u8>, Unfound>>(
 }
 
 /// The first row for which nothing, or something else, is found than it says, if there is one.
-pub fn first_wrong<'a, F: Fn(Global, &str) -> Result<Vec<u8>, Unfound>>(
+fn first_wrong_by<'a, F: Fn(Global, &str) -> Result<Vec<u8>, Unfound>>(
     alloc: Global,
     rows: &'a str,
     found: &F,
@@ -168,7 +294,7 @@ pub fn first_wrong<'a, F: Fn(Global, &str) -> Result<Vec<u8>, Unfound>>(
 {
     for row in rows.lines() {
         let is_row = !row.is_empty() && !row.starts_with("# ");
-        if is_row && !holds(alloc, row, found).unwrap_or(false) {
+        if is_row && !is_found_by(alloc, row, found).unwrap_or(false) {
             return Some(row);
         }
     }
@@ -183,7 +309,7 @@ pub fn check_rows<F: Fn(Global, &str) -> Result<Vec<u8>, Unfound>>(
 ) -> Result<(), Fail>
     requires { F.IsAlwaysCallable found }
 {
-    match first_wrong(alloc, rows, &found) {
+    match first_wrong_by(alloc, rows, &found) {
         Some(row) => Err(Fail::from(row)),
         None => Ok(()),
     }

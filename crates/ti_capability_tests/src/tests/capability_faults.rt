@@ -1,9 +1,8 @@
 //! Which bytes are no capability, and where they are at fault.
 
-use std::alloc::Global;
-use std::test::Fail;
-use ti_cap::{CapFault, Capability};
-use ti_fixtures::{Unfound, bytes_of, check_rows, number_of, shown};
+use crate::tests::check_rows;
+use ti_cap::{CapFault, CapRefused, Capability};
+use ti_fixtures::{Finds, Given, Unfound, only_if, place_of, show};
 
 /// Bytes that are no capability for an escape that is none, with the fault and its place.
 const ESCAPES: &str = r"
@@ -40,29 +39,34 @@ const TREES: &str = r"
 ";
 
 /// The fault of bytes, and its place.
-fn refusal_of(alloc: Global, given: &str) -> Result<Vec<u8>, Unfound> {
-    let bytes = bytes_of(alloc, given)?;
-    let refused = Capability::parse(bytes.as_slice()).err().ok_or("accepted")?;
-    shown(alloc, &refused)
+struct RefusalOf;
+
+impl Finds for RefusalOf {
+    fn find(&self, given: &Given<'_, '_>, found: &mut Vec<u8>) -> Result<(), Unfound> {
+        let refused = Capability::parse(given.bytes).err().ok_or("accepted")?;
+        show(found, &refused)
+    }
 }
 
 #[test]
-fn faults_of_escapes_stand_where_they_are(rt: HostRuntime) -> Result<(), Fail> {
-    check_rows(rt.alloc(), ESCAPES, refusal_of)
+fn faults_of_escapes_stand_where_they_are(rt: HostRuntime) {
+    check_rows(&rt, ESCAPES, &RefusalOf);
 }
 
 #[test]
-fn faults_of_trees_stand_where_they_are(rt: HostRuntime) -> Result<(), Fail> {
-    check_rows(rt.alloc(), TREES, refusal_of)
+fn faults_of_trees_stand_where_they_are(rt: HostRuntime) {
+    check_rows(&rt, TREES, &RefusalOf);
 }
 
 #[test]
-fn too_long_comes_before_all_else(rt: HostRuntime) -> Result<(), Fail> {
+fn too_long_comes_before_all_else(rt: HostRuntime) {
     let bytes = [b'%'; 32768];
-    let refused = Capability::parse(&bytes).err().ok_or("accepted")?;
-    assert_that!(rt; refused.fault == CapFault::TooLong && refused.place == 32767);
+    let refused = CapRefused {
+        fault: CapFault::TooLong,
+        place: 32767,
+    };
+    assert_that!(rt; Capability::parse(&bytes).err() == Some(refused));
     assert_that!(rt; Capability::parse(&bytes[..32766]).is_ok());
-    Ok(())
 }
 
 const FAULTS: &[CapFault] = &[
@@ -81,21 +85,6 @@ const FAULTS: &[CapFault] = &[
     CapFault::StackTooDeep,
 ];
 
-/// Whether each fault is shown as its word.
-fn are_words(alloc: Global, faults: &[CapFault]) -> Result<bool, Unfound> {
-    let mut is_each = true;
-    for fault in faults {
-        is_each &= shown(alloc, fault)?.as_slice() == fault.word().as_bytes();
-    }
-    Ok(is_each)
-}
-
-#[test]
-fn faults_of_capabilities_are_shown_as_their_words(rt: HostRuntime) -> Result<(), Fail> {
-    assert_that!(rt; are_words(rt.alloc(), FAULTS)?);
-    Ok(())
-}
-
 /// The words of faults, in the order of the faults.
 const WORDS: &str = r"
 0 => TooLong
@@ -113,14 +102,18 @@ const WORDS: &str = r"
 12 => StackTooDeep
 ";
 
-/// The word of the fault at a place.
-fn word_at(alloc: Global, given: &str) -> Result<Vec<u8>, Unfound> {
-    let place = usize::try_from(number_of(given)?).ok().ok_or("a place")?;
-    let fault = FAULTS.get(place).ok_or("a fault")?;
-    Ok(fault.word().as_bytes().to_vec(alloc)?)
+/// The word of the fault at a place, which the fault is shown as.
+struct WordAt;
+
+impl Finds for WordAt {
+    fn find(&self, given: &Given<'_, '_>, found: &mut Vec<u8>) -> Result<(), Unfound> {
+        let fault = FAULTS.get(place_of(given.text)?).ok_or("a fault")?;
+        show(found, fault)?;
+        only_if(found.as_slice() == fault.word().as_bytes())
+    }
 }
 
 #[test]
-fn faults_of_capabilities_have_words(rt: HostRuntime) -> Result<(), Fail> {
-    check_rows(rt.alloc(), WORDS, word_at)
+fn faults_of_capabilities_are_shown_as_their_words(rt: HostRuntime) {
+    check_rows(&rt, WORDS, &WordAt);
 }

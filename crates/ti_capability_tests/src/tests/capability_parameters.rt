@@ -1,10 +1,9 @@
 //! The parameters that capabilities name, and those that they take as texts.
 
 use super::expanded::capability_of;
-use std::alloc::Global;
-use std::test::Fail;
+use crate::tests::check_rows;
 use ti_cap::ParameterSet;
-use ti_fixtures::{Unfound, bytes_of, check_rows, shown_numbers};
+use ti_fixtures::{Finds, Given, Unfound, number_of, show, show_numbers};
 
 /// Capabilities with the masks of the parameters that they name and that they take as texts. Bit 0 is parameter 1.
 const PARAMETERS: &str = r"
@@ -25,29 +24,45 @@ const PARAMETERS: &str = r"
 ";
 
 /// The masks of a capability.
-fn masks_of(alloc: Global, given: &str) -> Result<Vec<u8>, Unfound> {
-    let bytes = bytes_of(alloc, given)?;
-    let parameters = capability_of(bytes.as_slice())?.parameters();
-    shown_numbers(
-        alloc,
-        &[parameters.named.mask as u64, parameters.texts.mask as u64],
-    )
+struct MasksOf;
+
+impl Finds for MasksOf {
+    fn find(&self, given: &Given<'_, '_>, found: &mut Vec<u8>) -> Result<(), Unfound> {
+        let parameters = capability_of(given.bytes)?.parameters();
+        show_numbers(
+            found,
+            &[parameters.named.mask as u64, parameters.texts.mask as u64],
+        )
+    }
 }
 
 #[test]
-fn parameters_are_those_of_all_paths(rt: HostRuntime) -> Result<(), Fail> {
-    check_rows(rt.alloc(), PARAMETERS, masks_of)
+fn parameters_are_those_of_all_paths(rt: HostRuntime) {
+    check_rows(&rt, PARAMETERS, &MasksOf);
+}
+
+/// Numbers, and whether the set of 2 and 9 has them.
+const CONTAINED: &str = r"
+2 => true
+9 => true
+1 => false
+0 => false
+17 => false
+";
+
+/// Whether the set has a number.
+struct IsContained;
+
+impl Finds for IsContained {
+    fn find(&self, given: &Given<'_, '_>, found: &mut Vec<u8>) -> Result<(), Unfound> {
+        let set = ParameterSet {
+            mask: 0b1_0000_0010,
+        };
+        show(found, &set.contains(u8::try_from(number_of(given.text)?)?))
+    }
 }
 
 #[test]
-fn a_set_contains_what_its_bits_say(rt: HostRuntime) -> Result<(), Fail> {
-    let set = ParameterSet {
-        mask: 0b1_0000_0010,
-    };
-    assert_that!(rt; set.contains(2));
-    assert_that!(rt; set.contains(9));
-    assert_that!(rt; !set.contains(1));
-    assert_that!(rt; !set.contains(0));
-    assert_that!(rt; !set.contains(17));
-    Ok(())
+fn a_set_contains_what_its_bits_say(rt: HostRuntime) {
+    check_rows(&rt, CONTAINED, &IsContained);
 }

@@ -1,9 +1,8 @@
 //! Depths, bounds and nesting of capabilities.
 
 use super::expanded::capability_of;
-use std::alloc::Global;
-use std::test::Fail;
-use ti_fixtures::{Unfound, bytes_of, check_rows, shown_numbers};
+use crate::tests::check_rows;
+use ti_fixtures::{Finds, Given, Unfound, only_if, show_numbers};
 
 /// Capabilities with their depth, their bound for texts of no bytes, and how deep their conditionals nest.
 const SIZES: &str = r"
@@ -37,27 +36,24 @@ const GREATEST: &str = r"
 ";
 
 /// The sizes of a capability, whose length is that of its bytes.
-fn sizes_of(alloc: Global, given: &str) -> Result<Vec<u8>, Unfound> {
-    let bytes = bytes_of(alloc, given)?;
-    let capability = capability_of(bytes.as_slice())?;
-    let is_whole = capability.len() == bytes.len();
-    let depth = if is_whole {
-        capability.depth()
-    } else {
-        usize::MAX
-    };
-    shown_numbers(
-        alloc,
-        &[depth as u64, capability.bound(0), capability.nest() as u64],
-    )
+struct SizesOf;
+
+impl Finds for SizesOf {
+    fn find(&self, given: &Given<'_, '_>, found: &mut Vec<u8>) -> Result<(), Unfound> {
+        let capability = capability_of(given.bytes)?;
+        let depth = capability.depth() as u64;
+        let nest = capability.nest() as u64;
+        show_numbers(found, &[depth, capability.bound(0), nest])?;
+        only_if(capability.len() == given.bytes.len())
+    }
 }
 
 #[test]
-fn sizes_are_those_of_the_greatest_path(rt: HostRuntime) -> Result<(), Fail> {
-    check_rows(rt.alloc(), SIZES, sizes_of)
+fn sizes_are_those_of_the_greatest_path(rt: HostRuntime) {
+    check_rows(&rt, SIZES, &SizesOf);
 }
 
 #[test]
-fn the_greatest_path_decides(rt: HostRuntime) -> Result<(), Fail> {
-    check_rows(rt.alloc(), GREATEST, sizes_of)
+fn the_greatest_path_decides(rt: HostRuntime) {
+    check_rows(&rt, GREATEST, &SizesOf);
 }

@@ -4,34 +4,36 @@ use std::alloc::Global;
 use ti_base::MOST_VALUES;
 use ti_cap::Capability;
 use ti_expand::{ExpandFault, Value, Vars, expand, expand_into};
-use ti_fixtures::Unfound;
+use ti_fixtures::{Unfound, only_if};
 
 /// The capability that the bytes write.
 pub fn capability_of<'a>(bytes: &'a [u8]) -> Result<Capability<'a>, Unfound> {
     Ok(Capability::parse(bytes).ok().ok_or("parse")?)
 }
 
-/// What a capability writes into a slice of exactly its bound.
-pub fn into_slices(
-    alloc: Global,
+/// Writes what a capability does into a slice of exactly its bound.
+pub fn write_in_slices(
+    out: &mut Vec<u8>,
     bytes: &[u8],
     parameters: &[Value<'_>; 9],
     longest: u16,
     vars: &mut Vars,
-) -> Result<Vec<u8>, Unfound> {
+) -> Result<(), Unfound> {
     let capability = capability_of(bytes)?;
     let mut stack = [Value::Num(0); MOST_VALUES];
-    let mut out = vec![in alloc; 0u8; capability.bound(longest) as usize]?;
     let depth = capability.depth();
+    out.truncate(0);
+    out.resize(capability.bound(longest) as usize, 0)?;
+    let room = out.as_mut_slice();
     let run = expand_into(
         capability.tape(),
         parameters,
         vars,
         &mut stack[..depth],
-        out.as_mut_slice(),
-    );
-    out.truncate(run.ok().ok_or("run")?.written);
-    Ok(out)
+        room,
+    )?;
+    out.truncate(run.written);
+    Ok(())
 }
 
 /// What a capability writes into a vector of its own.
@@ -41,12 +43,31 @@ pub fn into_vector(
     parameters: &[Value<'_>; 9],
     vars: &mut Vars,
 ) -> Result<Vec<u8>, Unfound> {
-    let capability = capability_of(bytes)?;
-    Ok(
-        expand(alloc, &capability, parameters, vars)
-            .ok()
-            .ok_or("expand")?,
-    )
+    Ok(expand(alloc, &capability_of(bytes)?, parameters, vars)?)
+}
+
+/// Writes what a capability does in both ways, which has to be the same.
+pub fn write_in_both_ways(
+    out: &mut Vec<u8>,
+    bytes: &[u8],
+    parameters: &[Value<'_>; 9],
+    longest: u16,
+) -> Result<(), Unfound> {
+    write_in_slices(out, bytes, parameters, longest, &mut Vars::new())?;
+    let other = into_vector(*out.allocator(), bytes, parameters, &mut Vars::new())?;
+    only_if(out.as_slice() == other.as_slice())
+}
+
+/// Whether a capability writes this in both ways.
+pub fn is_written(
+    alloc: Global,
+    bytes: &[u8],
+    parameters: &[Value<'_>; 9],
+    longest: u16,
+    output: &[u8],
+) -> bool {
+    let mut out = Vec::new(alloc);
+    write_in_both_ways(&mut out, bytes, parameters, longest).is_ok() && out.as_slice() == output
 }
 
 /// Why `expand_into` writes nothing into `out`, with room for so many values.

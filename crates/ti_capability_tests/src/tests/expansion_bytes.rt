@@ -1,29 +1,41 @@
 //! The bytes of a capability, which are expanded in one call.
 
-use std::alloc::Global;
-use std::test::Fail;
+use crate::tests::check_rows;
 use ti_cap::{CapFault, CapRefused};
 use ti_expand::Value::Num;
 use ti_expand::{BytesFault, ExpandFault, Vars, expand_bytes};
-use ti_fixtures::capabilities::{SETAF, nine, values_of};
-use ti_fixtures::{Unfound, bytes_of, check_rows, fields_of, shown};
+use ti_fixtures::capabilities::{nine, values_of};
+use ti_fixtures::{Finds, Given, Unfound, show, show_numbers};
 
-#[test]
-fn bytes_are_expanded(rt: HostRuntime) -> Result<(), Fail> {
-    let mut out = [0xee; 32];
-    let parameters = nine(&[Num(200)]);
-    let run = expand_bytes(SETAF, &parameters, &mut Vars::new(), &mut out)?;
-    assert_same!(rt; &out[..run.written], b"\x1b[38;5;200m");
-    assert_that!(rt; run.ran == 22 && run.passed == 8 && run.peak == 2);
-    Ok(())
+/// A capability with its first parameter, its output, how many tokens run and are passed over, and how high the stack gets.
+const WHOLE: &str = r"
+@SETAF | 200 => \E[38;5;200m 22 8 2
+";
+
+/// What a capability writes, and the counts of its run.
+struct RunOf;
+
+impl Finds for RunOf {
+    fn find(&self, given: &Given<'_, '_>, found: &mut Vec<u8>) -> Result<(), Unfound> {
+        let mut out = [0xee; 32];
+        let values = values_of(given.fields()[1]);
+        let run = expand_bytes(given.bytes, &values, &mut Vars::new(), &mut out)?;
+        found.extend_from_slice(out.get(..run.written).unwrap_or(b"too long"))?;
+        found.push(b' ')?;
+        show_numbers(found, &[run.ran as u64, run.passed as u64, run.peak as u64])
+    }
 }
 
 #[test]
-fn a_variable_lasts(rt: HostRuntime) -> Result<(), Fail> {
+fn bytes_are_expanded(rt: HostRuntime) {
+    check_rows(&rt, WHOLE, &RunOf);
+}
+
+#[test]
+fn a_variable_lasts(rt: HostRuntime) {
     let mut vars = Vars::new();
-    let _run = expand_bytes(b"%p1%PA", &nine(&[Num(7)]), &mut vars, &mut [])?;
-    assert_that!(rt; vars.get(b'A') == Some(7));
-    Ok(())
+    let is_run = expand_bytes(b"%p1%PA", &nine(&[Num(7)]), &mut vars, &mut []).is_ok();
+    assert_that!(rt; is_run && vars.get(b'A') == Some(7));
 }
 
 /// Capabilities with the first of their parameters, and the length of their output: with a text, with no escape, with much
@@ -37,26 +49,24 @@ abc | - => 3
 ";
 
 /// How many bytes a capability writes.
-fn written_by(alloc: Global, given: &str) -> Result<Vec<u8>, Unfound> {
-    let [capability, words, ..] = fields_of(given);
-    let bytes = bytes_of(alloc, capability)?;
-    let mut out = [0xee; 200];
-    let run = expand_bytes(
-        bytes.as_slice(),
-        &values_of(words),
-        &mut Vars::new(),
-        &mut out,
-    )?;
-    shown(alloc, &run.written)
+struct LengthOf;
+
+impl Finds for LengthOf {
+    fn find(&self, given: &Given<'_, '_>, found: &mut Vec<u8>) -> Result<(), Unfound> {
+        let mut out = [0xee; 200];
+        let values = values_of(given.fields()[1]);
+        let run = expand_bytes(given.bytes, &values, &mut Vars::new(), &mut out)?;
+        show(found, &run.written)
+    }
 }
 
 #[test]
-fn each_way_writes(rt: HostRuntime) -> Result<(), Fail> {
-    check_rows(rt.alloc(), EXPANDED, written_by)
+fn each_way_writes(rt: HostRuntime) {
+    check_rows(&rt, EXPANDED, &LengthOf);
 }
 
 #[test]
-fn a_fault_is_told(rt: HostRuntime) -> Result<(), Fail> {
+fn a_fault_is_told(rt: HostRuntime) {
     let refused = CapRefused {
         fault: CapFault::BadParameter,
         place: 6,
@@ -65,5 +75,4 @@ fn a_fault_is_told(rt: HostRuntime) -> Result<(), Fail> {
     assert_that!(rt; told == Err(BytesFault::Refused(refused)));
     let told = expand_bytes(b"abc", &nine(&[]), &mut Vars::new(), &mut [0; 2]);
     assert_that!(rt; told == Err(BytesFault::Failed(ExpandFault::OutTooSmall { need: 3 })));
-    Ok(())
 }

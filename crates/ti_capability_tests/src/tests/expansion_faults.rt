@@ -1,12 +1,12 @@
 //! What an expansion refuses: by both calls alike, and without a change.
 
 use super::expanded::{fault_of_slices, fault_of_vector};
+use crate::tests::check_rows;
 use std::alloc::Global;
-use std::test::Fail;
 use ti_cap::Capability;
 use ti_expand::{ExpandFault, Value, Vars, expand};
 use ti_fixtures::capabilities::{CUP, SETAF, nine};
-use ti_fixtures::{Unfound, shown};
+use ti_fixtures::{Finds, Given, Unfound, are_shown, only_if, place_of, show};
 
 /// Faults, and their messages.
 const MESSAGES: &[(ExpandFault, &str)] = &[
@@ -16,33 +16,65 @@ const MESSAGES: &[(ExpandFault, &str)] = &[
     (ExpandFault::Memory, "Memory"),
 ];
 
-/// Whether each fault is shown as its message.
-fn are_shown(alloc: Global, messages: &[(ExpandFault, &str)]) -> Result<bool, Unfound> {
-    let mut is_each = true;
-    for (fault, message) in messages {
-        is_each &= shown(alloc, fault)?.as_slice() == message.as_bytes();
+#[test]
+fn messages_of_expansions_are_names_and_numbers(rt: HostRuntime) {
+    assert_that!(rt; are_shown(rt.alloc(), MESSAGES));
+}
+
+/// Capabilities with the length of a text that is their second parameter, if it is none, for how many values and for how many
+/// bytes there is room, and why they are not expanded.
+const REFUSED: &str = r"
+@CUP | 32768 | 1 | 26 => TextTooLong 2
+# which is found before the room
+@CUP | 32768 | 1 | 25 => TextTooLong 2
+@CUP | - | 0 | 25 => StackTooSmall 1
+@CUP | - | 1 | 25 => OutTooSmall 26
+@CUP | - | 0 | 26 => StackTooSmall 1
+# a text needs its room each time
+%p1%s%p2%s | 32767 | 1 | 26 => OutTooSmall 65534
+";
+
+/// A text of so many bytes, or the number 9.
+fn second_of<'a>(text: &'a [u8], length: &str) -> Value<'a> {
+    match text.get(..place_of(length).unwrap_or(usize::MAX)) {
+        Some(text) => Value::Text(text),
+        None => Value::Num(9),
     }
-    Ok(is_each)
+}
+
+/// Adds why a capability is not expanded with room for so many values and bytes, which changes neither the variables nor what
+/// was in the room.
+fn show_fault<'a>(
+    found: &mut Vec<u8>,
+    bytes: &'a [u8],
+    second: Value<'a>,
+    (values, room): (usize, usize),
+) -> Result<(), Unfound> {
+    let parameters = nine(&[Value::Num(4), second]);
+    let (mut vars, mut stack, mut out) = (Vars::new(), [Value::Num(3); 1], [0xee; 26]);
+    let is_set = vars.set(b'A', 7);
+    let values = stack.get_mut(..values).ok_or("values")?;
+    let room = out.get_mut(..room).ok_or("room")?;
+    let fault = fault_of_slices(bytes, &parameters, &mut vars, values, room);
+    show(found, &fault.ok_or("expanded")?)?;
+    only_if(is_set && vars.get(b'A') == Some(7) && out == [0xee; 26])
+}
+
+/// The same for a row.
+struct FaultOfSlices;
+
+impl Finds for FaultOfSlices {
+    fn find(&self, given: &Given<'_, '_>, found: &mut Vec<u8>) -> Result<(), Unfound> {
+        let [_, second, values, room, ..] = given.fields();
+        let text = [b'a'; 32768];
+        let sizes = (place_of(values)?, place_of(room)?);
+        show_fault(found, given.bytes, second_of(&text, second), sizes)
+    }
 }
 
 #[test]
-fn messages_of_expansions_are_names_and_numbers(rt: HostRuntime) -> Result<(), Fail> {
-    assert_that!(rt; are_shown(rt.alloc(), MESSAGES)?);
-    Ok(())
-}
-
-#[test]
-fn a_text_that_is_too_long_changes_nothing_in_slices(rt: HostRuntime) {
-    let long = [b'a'; 32768];
-    let parameters = nine(&[Value::Num(4), Value::Text(&long)]);
-    let mut vars = Vars::new();
-    assert_that!(rt; vars.set(b'A', 7));
-    let mut stack = [Value::Num(3); 1];
-    let mut out = [0xee; 26];
-    let fault = fault_of_slices(CUP, &parameters, &mut vars, &mut stack, &mut out);
-    assert_that!(rt; fault == Some(ExpandFault::TextTooLong { parameter: 2 }));
-    assert_that!(rt; out == [0xee; 26]);
-    assert_that!(rt; vars.get(b'A') == Some(7));
+fn what_is_refused_in_slices_changes_nothing(rt: HostRuntime) {
+    check_rows(&rt, REFUSED, &FaultOfSlices);
 }
 
 #[test]
@@ -50,70 +82,10 @@ fn a_text_that_is_too_long_changes_nothing_in_a_vector(rt: HostRuntime) {
     let long = [b'a'; 32768];
     let parameters = nine(&[Value::Num(12), Value::Text(&long)]);
     let mut vars = Vars::new();
-    assert_that!(rt; vars.set(b'A', 7));
+    let is_set = vars.set(b'A', 7);
     let fault = fault_of_vector(rt.alloc(), CUP, &parameters, &mut vars);
     assert_that!(rt; fault == Some(ExpandFault::TextTooLong { parameter: 2 }));
-    assert_that!(rt; vars.get(b'A') == Some(7));
-}
-
-#[test]
-fn a_text_that_is_too_long_is_found_before_the_room(rt: HostRuntime) {
-    let long = [b'a'; 32768];
-    let parameters = nine(&[Value::Num(4), Value::Text(&long)]);
-    let mut stack = [Value::Num(3); 1];
-    let mut out = [0xee; 25];
-    let fault = fault_of_slices(CUP, &parameters, &mut Vars::new(), &mut stack, &mut out);
-    assert_that!(rt; fault == Some(ExpandFault::TextTooLong { parameter: 2 }));
-    assert_that!(rt; out == [0xee; 25]);
-}
-
-#[test]
-fn a_stack_without_room_changes_nothing(rt: HostRuntime) {
-    let parameters = nine(&[Value::Num(4), Value::Num(9)]);
-    let mut vars = Vars::new();
-    assert_that!(rt; vars.set(b'A', 7));
-    let mut out = [0xee; 25];
-    let fault = fault_of_slices(CUP, &parameters, &mut vars, &mut [], &mut out);
-    assert_that!(rt; fault == Some(ExpandFault::StackTooSmall { need: 1 }));
-    assert_that!(rt; out == [0xee; 25]);
-    assert_that!(rt; vars.get(b'A') == Some(7));
-}
-
-#[test]
-fn an_output_without_room_changes_nothing(rt: HostRuntime) {
-    let parameters = nine(&[Value::Num(4), Value::Num(9)]);
-    let mut vars = Vars::new();
-    assert_that!(rt; vars.set(b'A', 7));
-    let mut stack = [Value::Num(3); 1];
-    let mut out = [0xee; 25];
-    let fault = fault_of_slices(CUP, &parameters, &mut vars, &mut stack, &mut out);
-    assert_that!(rt; fault == Some(ExpandFault::OutTooSmall { need: 26 }));
-    assert_that!(rt; out == [0xee; 25]);
-    assert_that!(rt; vars.get(b'A') == Some(7));
-}
-
-#[test]
-fn an_expansion_says_what_it_needs(rt: HostRuntime) {
-    let parameters = [Value::Num(4); 9];
-    let mut stack = [Value::Num(7); 1];
-    let mut out = [0xeeu8; 26];
-    let mut vars = Vars::new();
-    let fault = fault_of_slices(CUP, &parameters, &mut vars, &mut stack, &mut out[..25]);
-    assert_that!(rt; fault == Some(ExpandFault::OutTooSmall { need: 26 }));
-    let fault = fault_of_slices(CUP, &parameters, &mut vars, &mut [], &mut out);
-    assert_that!(rt; fault == Some(ExpandFault::StackTooSmall { need: 1 }));
-    assert_that!(rt; out == [0xee; 26]);
-}
-
-#[test]
-fn a_text_needs_its_room_each_time(rt: HostRuntime) {
-    let long = [b'a'; 32767];
-    let parameters = nine(&[Value::Num(4), Value::Text(&long)]);
-    let mut stack = [Value::Num(7); 1];
-    let mut out = [0u8; 26];
-    let mut vars = Vars::new();
-    let fault = fault_of_slices(b"%p1%s%p2%s", &parameters, &mut vars, &mut stack, &mut out);
-    assert_that!(rt; fault == Some(ExpandFault::OutTooSmall { need: 65534 }));
+    assert_that!(rt; is_set && vars.get(b'A') == Some(7));
 }
 
 /// Whether a front of a real capability is refused, or is expanded whatever its parameters are.
@@ -130,10 +102,9 @@ fn is_refused_or_expanded(alloc: Global, front: &[u8]) -> bool {
 }
 
 #[test]
-fn each_front_of_a_capability_is_refused_or_expanded(rt: HostRuntime) -> Result<(), Fail> {
+fn each_front_of_a_capability_is_refused_or_expanded(rt: HostRuntime) {
     for len in 0..SETAF.len() {
         assert_that!(rt; is_refused_or_expanded(rt.alloc(), &SETAF[..len]));
     }
     assert_that!(rt; Capability::parse(SETAF).is_ok());
-    Ok(())
 }

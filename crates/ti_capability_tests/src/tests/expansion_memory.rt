@@ -1,12 +1,12 @@
 //! The memory that an expansion takes: once, and exactly as much as it needs.
 
 use super::expanded::capability_of;
+use crate::tests::check_rows;
 use linked_list_allocator::LocalHeap;
 use std::alloc::Global;
-use std::test::Fail;
 use ti_expand::{Value, Vars, expand};
 use ti_fixtures::capabilities::nine;
-use ti_fixtures::{Unfound, check_rows, fields_of, number_of, shown};
+use ti_fixtures::{Finds, Given, Unfound, only_if, place_of, show};
 
 /// Numbers of bytes, and what a heap takes for them: units of 16. A heap of that size has room for one growth alone,
 /// and a byte more or less than these would take another size at 16 and 17, or at 32 and 33.
@@ -19,7 +19,24 @@ const BLOCKS: &str = r"
 33 => 48
 ";
 
-/// What a heap takes that has exactly so many bytes, if a capability that is expanded in it writes this.
+/// What a heap takes for a capability that is expanded in it, and writes this.
+fn taken_of(
+    heap: &LocalHeap,
+    bytes: &[u8],
+    first: Value<'_>,
+    output: &[u8],
+) -> Result<usize, Unfound> {
+    let out = expand(
+        heap,
+        &capability_of(bytes)?,
+        &nine(&[first]),
+        &mut Vars::new(),
+    )?;
+    only_if(out.as_slice() == output)?;
+    Ok(heap.used())
+}
+
+/// The same for a heap of exactly so many bytes.
 fn taken(
     alloc: Global,
     bytes: &[u8],
@@ -27,30 +44,29 @@ fn taken(
     output: &[u8],
     block: usize,
 ) -> Result<usize, Unfound> {
-    let capability = capability_of(bytes)?;
     let heap = LocalHeap::new(alloc, block)?;
-    let out = expand(&heap, &capability, &nine(&[first]), &mut Vars::new())?;
-    Ok(if out.as_slice() == output {
-        heap.used()
-    } else {
-        0
-    })
+    taken_of(&heap, bytes, first, output)
 }
 
 /// What so many bytes take as a capability, and as much as a text.
-fn taken_by(alloc: Global, given: &str) -> Result<Vec<u8>, Unfound> {
-    let long = number_of(given)? as usize;
-    let bytes = [b'a'; 48];
-    let text = &bytes[..long.min(48)];
-    let block = long.saturating_add(15) / 16 * 16;
-    let used = taken(alloc, text, Value::Num(12), text, block)?;
-    let same = taken(alloc, b"%p1%s", Value::Text(text), text, block)?;
-    shown(alloc, if used == same { &used } else { &0 })
+struct TakenBy;
+
+impl Finds for TakenBy {
+    fn find(&self, given: &Given<'_, '_>, found: &mut Vec<u8>) -> Result<(), Unfound> {
+        let long = place_of(given.text)?;
+        let bytes = [b'a'; 48];
+        let text = bytes.get(..long).ok_or("at most 48")?;
+        let (alloc, block) = (*found.allocator(), long.saturating_add(15) / 16 * 16);
+        let used = taken(alloc, text, Value::Num(12), text, block)?;
+        let same = taken(alloc, b"%p1%s", Value::Text(text), text, block)?;
+        show(found, &used)?;
+        only_if(used == same)
+    }
 }
 
 #[test]
-fn expanding_takes_its_bound_at_once(rt: HostRuntime) -> Result<(), Fail> {
-    check_rows(rt.alloc(), BLOCKS, taken_by)
+fn expanding_takes_its_bound_at_once(rt: HostRuntime) {
+    check_rows(&rt, BLOCKS, &TakenBy);
 }
 
 /// Capabilities, what they write for the number 12, and the memory that they take.
@@ -61,20 +77,18 @@ const TAKEN: &str = r"
 ";
 
 /// The memory that a capability takes, if it writes what it should.
-fn taken_for_twelve(alloc: Global, given: &str) -> Result<Vec<u8>, Unfound> {
-    let [text, output, block, ..] = fields_of(given);
-    let block = number_of(block)? as usize;
-    let used = taken(
-        alloc,
-        text.as_bytes(),
-        Value::Num(12),
-        output.as_bytes(),
-        block,
-    )?;
-    shown(alloc, &used)
+struct TakenForTwelve;
+
+impl Finds for TakenForTwelve {
+    fn find(&self, given: &Given<'_, '_>, found: &mut Vec<u8>) -> Result<(), Unfound> {
+        let block = place_of(given.fields()[2])?;
+        let alloc = *found.allocator();
+        let used = taken(alloc, given.bytes, Value::Num(12), given.second, block)?;
+        show(found, &used)
+    }
 }
 
 #[test]
-fn what_is_not_written_is_taken_with_the_rest(rt: HostRuntime) -> Result<(), Fail> {
-    check_rows(rt.alloc(), TAKEN, taken_for_twelve)
+fn what_is_not_written_is_taken_with_the_rest(rt: HostRuntime) {
+    check_rows(&rt, TAKEN, &TakenForTwelve);
 }

@@ -1,13 +1,12 @@
 //! What capabilities write, into slices of exactly the promised size and as a vector.
 
-use super::expanded::{into_slices, into_vector};
-use std::alloc::Global;
-use std::test::Fail;
-use ti_expand::{Value, Vars};
+use super::expanded::write_in_both_ways;
+use crate::tests::check_rows;
+use ti_expand::Value;
 use ti_fixtures::capabilities::{
     COLORS, CONDITIONAL, FORMATS, OPERATIONS, SGR, STACK, TEXTS, values_of,
 };
-use ti_fixtures::{Unfound, bytes_of, check_rows, fields_of};
+use ti_fixtures::{Finds, Given, Unfound};
 
 /// The length of the longest text among the values.
 fn longest_text(values: &[Value<'_>]) -> u16 {
@@ -21,51 +20,46 @@ fn longest_text(values: &[Value<'_>]) -> u16 {
 }
 
 /// What a capability writes, which is the same into exact slices and as a vector.
-pub fn written(alloc: Global, given: &str) -> Result<Vec<u8>, Unfound> {
-    let [capability, words, ..] = fields_of(given);
-    let bytes = bytes_of(alloc, capability)?;
-    let values = values_of(words);
-    let longest = longest_text(&values);
-    let one = into_slices(alloc, bytes.as_slice(), &values, longest, &mut Vars::new())?;
-    let other = into_vector(alloc, bytes.as_slice(), &values, &mut Vars::new())?;
-    if one.as_slice() == other.as_slice() {
-        Ok(one)
-    } else {
-        Err(Unfound)
+pub struct Written;
+
+impl Finds for Written {
+    fn find(&self, given: &Given<'_, '_>, found: &mut Vec<u8>) -> Result<(), Unfound> {
+        let values = values_of(given.fields()[1]);
+        write_in_both_ways(found, given.bytes, &values, longest_text(&values))
     }
 }
 
 #[test]
-fn the_stack_is_as_terminfo_says(rt: HostRuntime) -> Result<(), Fail> {
-    check_rows(rt.alloc(), STACK, written)
+fn the_stack_is_as_terminfo_says(rt: HostRuntime) {
+    check_rows(&rt, STACK, &Written);
 }
 
 #[test]
-fn operations_are_as_terminfo_says(rt: HostRuntime) -> Result<(), Fail> {
-    check_rows(rt.alloc(), OPERATIONS, written)
+fn operations_are_as_terminfo_says(rt: HostRuntime) {
+    check_rows(&rt, OPERATIONS, &Written);
 }
 
 #[test]
-fn numbers_are_printed_as_terminfo_says(rt: HostRuntime) -> Result<(), Fail> {
-    check_rows(rt.alloc(), FORMATS, written)
+fn numbers_are_printed_as_terminfo_says(rt: HostRuntime) {
+    check_rows(&rt, FORMATS, &Written);
 }
 
 #[test]
-fn texts_are_printed_as_terminfo_says(rt: HostRuntime) -> Result<(), Fail> {
-    check_rows(rt.alloc(), TEXTS, written)
+fn texts_are_printed_as_terminfo_says(rt: HostRuntime) {
+    check_rows(&rt, TEXTS, &Written);
 }
 
 #[test]
-fn conditionals_write_what_terminfo_says(rt: HostRuntime) -> Result<(), Fail> {
-    check_rows(rt.alloc(), CONDITIONAL, written)
+fn conditionals_write_what_terminfo_says(rt: HostRuntime) {
+    check_rows(&rt, CONDITIONAL, &Written);
 }
 
 #[test]
-fn colors_are_what_tput_prints(rt: HostRuntime) -> Result<(), Fail> {
-    check_rows(rt.alloc(), COLORS, written)
+fn colors_are_what_tput_prints(rt: HostRuntime) {
+    check_rows(&rt, COLORS, &Written);
 }
 
 #[test]
-fn sgr_is_what_tput_prints(rt: HostRuntime) -> Result<(), Fail> {
-    check_rows(rt.alloc(), SGR, written)
+fn sgr_is_what_tput_prints(rt: HostRuntime) {
+    check_rows(&rt, SGR, &Written);
 }

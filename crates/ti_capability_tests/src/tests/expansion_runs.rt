@@ -1,14 +1,14 @@
 //! Capabilities with the counts of their runs, expanded into slices of exactly the promised size.
 
 use super::expanded::capability_of;
-use super::expansion_rows::written;
+use super::expansion_rows::Written;
+use crate::tests::check_rows;
 use std::alloc::Global;
-use std::test::Fail;
 use ti_base::MOST_VALUES;
 use ti_expand::Value::Num;
 use ti_expand::{Run, Value, Vars, expand_into};
 use ti_fixtures::capabilities::values_of;
-use ti_fixtures::{Unfound, bytes_of, check_rows, fields_of, shown_numbers};
+use ti_fixtures::{Finds, Given, Unfound, show_numbers};
 
 /// A capability, the first of its parameters, how many bytes it writes, how many tokens run and are passed over, and how high
 /// the stack gets.
@@ -55,42 +55,48 @@ fn run_of(alloc: Global, bytes: &[u8], parameters: &[Value<'_>; 9]) -> Result<Ru
     Ok(run?)
 }
 
-/// The run of a row.
-fn run_in(alloc: Global, given: &str) -> Result<Run, Unfound> {
-    let [capability, words, ..] = fields_of(given);
-    run_of(
-        alloc,
-        bytes_of(alloc, capability)?.as_slice(),
-        &values_of(words),
-    )
-}
-
 /// All counts of a run.
-fn counts_of(alloc: Global, given: &str) -> Result<Vec<u8>, Unfound> {
-    let run = run_in(alloc, given)?;
-    let counts = [
-        run.written as u64,
-        run.ran as u64,
-        run.passed as u64,
-        run.peak as u64,
-    ];
-    shown_numbers(alloc, &counts)
+struct CountsOf;
+
+impl Finds for CountsOf {
+    fn find(&self, given: &Given<'_, '_>, found: &mut Vec<u8>) -> Result<(), Unfound> {
+        let run = run_of(
+            *found.allocator(),
+            given.bytes,
+            &values_of(given.fields()[1]),
+        )?;
+        let counts = [
+            run.written as u64,
+            run.ran as u64,
+            run.passed as u64,
+            run.peak as u64,
+        ];
+        show_numbers(found, &counts)
+    }
 }
 
 /// The counts of tokens and of values.
-fn tokens_of(alloc: Global, given: &str) -> Result<Vec<u8>, Unfound> {
-    let run = run_in(alloc, given)?;
-    shown_numbers(alloc, &[run.ran as u64, run.passed as u64, run.peak as u64])
+struct TokensOf;
+
+impl Finds for TokensOf {
+    fn find(&self, given: &Given<'_, '_>, found: &mut Vec<u8>) -> Result<(), Unfound> {
+        let run = run_of(
+            *found.allocator(),
+            given.bytes,
+            &values_of(given.fields()[1]),
+        )?;
+        show_numbers(found, &[run.ran as u64, run.passed as u64, run.peak as u64])
+    }
 }
 
 #[test]
-fn runs_have_the_counts_of_the_tree(rt: HostRuntime) -> Result<(), Fail> {
-    check_rows(rt.alloc(), RUNS, counts_of)
+fn runs_have_the_counts_of_the_tree(rt: HostRuntime) {
+    check_rows(&rt, RUNS, &CountsOf);
 }
 
 #[test]
-fn runs_write_what_the_tree_means(rt: HostRuntime) -> Result<(), Fail> {
-    check_rows(rt.alloc(), OUTPUTS, written)
+fn runs_write_what_the_tree_means(rt: HostRuntime) {
+    check_rows(&rt, OUTPUTS, &Written);
 }
 
 /// A capability, the first of its parameters, how many tokens run and are passed over, and how high the stack gets.
@@ -127,11 +133,11 @@ const CONDITIONAL: &str = r"
 ";
 
 #[test]
-fn without_a_conditional_all_tokens_run(rt: HostRuntime) -> Result<(), Fail> {
-    check_rows(rt.alloc(), STRAIGHT, tokens_of)
+fn without_a_conditional_all_tokens_run(rt: HostRuntime) {
+    check_rows(&rt, STRAIGHT, &TokensOf);
 }
 
 #[test]
-fn counts_are_those_of_the_taken_path(rt: HostRuntime) -> Result<(), Fail> {
-    check_rows(rt.alloc(), CONDITIONAL, tokens_of)
+fn counts_are_those_of_the_taken_path(rt: HostRuntime) {
+    check_rows(&rt, CONDITIONAL, &TokensOf);
 }

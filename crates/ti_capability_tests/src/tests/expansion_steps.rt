@@ -1,9 +1,7 @@
 //! A pass that stops after each token.
 
-use super::expanded::capability_of;
-use std::test::Fail;
+use ti_cap::Capability;
 use ti_expand::{ExpandFault, Outcome, Run, Steps, Value, Vars};
-use ti_fixtures::Unfound;
 use ti_fixtures::capabilities::nine;
 
 /// A conditional, whose otherwise part runs.
@@ -32,35 +30,37 @@ fn are_steps(steps: &mut Steps<'_, '_, '_>, rows: &[(Outcome, usize, usize, &[u8
     is_each && steps.step() == None
 }
 
-#[test]
-fn a_pass_stops_after_each_token(rt: HostRuntime) -> Result<(), Fail> {
-    let capability = capability_of(OTHERWISE)?;
+/// The run of the conditional, and its variable `a`, if its steps are those of the rows.
+fn run_of_steps() -> Option<(Run, Option<i32>)> {
+    let capability = Capability::parse(OTHERWISE).ok()?;
     let parameters = nine(&[]);
     let (mut vars, mut stack, mut out) = (Vars::new(), [Value::Num(0); 1], [0u8; 1]);
-    let mut steps = Steps::new(&capability, &parameters, &mut vars, &mut stack, &mut out)?;
-    assert_that!(rt; are_steps(&mut steps, STEPS));
+    let steps = Steps::new(&capability, &parameters, &mut vars, &mut stack, &mut out);
+    let mut steps = steps.ok()?;
+    are_steps(&mut steps, STEPS).then_some((steps.run(), steps.vars().get(b'a')))
+}
+
+#[test]
+fn a_pass_stops_after_each_token(rt: HostRuntime) {
     let whole = Run {
         written: 1,
         ran: 6,
         passed: 1,
         peak: 1,
     };
-    assert_that!(rt; steps.run() == whole);
-    assert_that!(rt; steps.vars().get(b'a') == Some(0));
-    Ok(())
+    assert_that!(rt; run_of_steps() == Some((whole, Some(0))));
 }
 
 /// Why a pass does not start in so much room.
-fn fault_of(stack: &mut [Value<'_>], out: &mut [u8]) -> Result<Option<ExpandFault>, Unfound> {
-    let capability = capability_of(OTHERWISE)?;
-    Ok(Steps::new(&capability, &nine(&[]), &mut Vars::new(), stack, out).err())
+fn fault_of(stack: &mut [Value<'_>], out: &mut [u8]) -> Option<ExpandFault> {
+    let capability = Capability::parse(OTHERWISE).ok()?;
+    Steps::new(&capability, &nine(&[]), &mut Vars::new(), stack, out).err()
 }
 
 #[test]
-fn a_pass_needs_the_room_of_an_expansion(rt: HostRuntime) -> Result<(), Fail> {
+fn a_pass_needs_the_room_of_an_expansion(rt: HostRuntime) {
     let small = ExpandFault::StackTooSmall { need: 1 };
-    assert_that!(rt; fault_of(&mut [], &mut [0; 1])? == Some(small));
+    assert_that!(rt; fault_of(&mut [], &mut [0; 1]) == Some(small));
     let short = ExpandFault::OutTooSmall { need: 1 };
-    assert_that!(rt; fault_of(&mut [Value::Num(0); 1], &mut [])? == Some(short));
-    Ok(())
+    assert_that!(rt; fault_of(&mut [Value::Num(0); 1], &mut []) == Some(short));
 }

@@ -1,9 +1,10 @@
 //! Variables, which last while they are shared.
 
-use super::expanded::{capability_of, into_slices, into_vector};
+use super::expanded::{capability_of, into_vector, write_in_slices};
 use linked_list_allocator::LocalHeap;
-use std::test::Fail;
+use std::alloc::Global;
 use ti_expand::{ExpandFault, Value, Vars, expand};
+use ti_fixtures::Unfound;
 
 const NUMBERS: [Value<'static>; 9] = [Value::Num(12); 9];
 
@@ -13,40 +14,58 @@ const SETS: &[u8] = b"%p1%PA%gA%gA%*%d";
 /// Writes A.
 const WRITES: &[u8] = b"%gA%d";
 
-#[test]
-fn variables_last_in_slices(rt: HostRuntime) -> Result<(), Fail> {
-    let mut vars = Vars::new();
-    let out = into_slices(rt.alloc(), SETS, &NUMBERS, 0, &mut vars)?;
-    assert_same!(rt; out.as_slice(), b"144");
-    let out = into_slices(rt.alloc(), WRITES, &NUMBERS, 0, &mut vars)?;
-    assert_same!(rt; out.as_slice(), b"12");
-    let out = into_slices(rt.alloc(), WRITES, &NUMBERS, 0, &mut Vars::new())?;
-    assert_same!(rt; out.as_slice(), b"0");
-    Ok(())
+/// Whether a capability writes this in slices.
+fn is_in_slices(alloc: Global, bytes: &[u8], vars: &mut Vars, output: &[u8]) -> bool {
+    let mut out = Vec::new(alloc);
+    write_in_slices(&mut out, bytes, &NUMBERS, 0, vars).is_ok() && out.as_slice() == output
 }
 
 #[test]
-fn variables_last_in_vectors(rt: HostRuntime) -> Result<(), Fail> {
-    let mut vars = Vars::new();
-    let out = into_vector(rt.alloc(), SETS, &NUMBERS, &mut vars)?;
-    assert_same!(rt; out.as_slice(), b"144");
-    let out = into_vector(rt.alloc(), WRITES, &NUMBERS, &mut vars)?;
-    assert_same!(rt; out.as_slice(), b"12");
-    let out = into_vector(rt.alloc(), WRITES, &NUMBERS, &mut Vars::new())?;
-    assert_same!(rt; out.as_slice(), b"0");
-    Ok(())
+fn variables_last_in_slices(rt: HostRuntime) {
+    let (alloc, mut vars) = (rt.alloc(), Vars::new());
+    assert_that!(rt; is_in_slices(alloc, SETS, &mut vars, b"144"));
+    assert_that!(rt; is_in_slices(alloc, WRITES, &mut vars, b"12"));
+    assert_that!(rt; is_in_slices(alloc, WRITES, &mut Vars::new(), b"0"));
+}
+
+/// Whether a capability writes this into a vector.
+fn is_in_vector(
+    alloc: Global,
+    bytes: &[u8],
+    vars: &mut Vars,
+    output: &[u8],
+) -> Result<bool, Unfound> {
+    Ok(into_vector(alloc, bytes, &NUMBERS, vars)?.as_slice() == output)
 }
 
 #[test]
-fn expanding_without_memory_keeps_the_variables(rt: HostRuntime) -> Result<(), Fail> {
-    let mut vars = Vars::new();
-    let heap = LocalHeap::new(rt.alloc(), 64)?;
+fn variables_last_in_vectors(rt: HostRuntime) {
+    let (alloc, mut vars) = (rt.alloc(), Vars::new());
+    assert_that!(rt; is_in_vector(alloc, SETS, &mut vars, b"144").unwrap_or(false));
+    assert_that!(rt; is_in_vector(alloc, WRITES, &mut vars, b"12").unwrap_or(false));
+    assert_that!(rt; is_in_vector(alloc, WRITES, &mut Vars::new(), b"0").unwrap_or(false));
+}
+
+/// Whether an expansion that is wider than the heap is refused for the memory.
+fn is_refused(heap: &LocalHeap, vars: &mut Vars) -> Result<bool, Unfound> {
     let wide = capability_of(b"%p1%PA%gA%255d")?;
-    let refused = expand(&heap, &wide, &NUMBERS, &mut vars);
-    assert_that!(rt; matches!(refused, Err(ExpandFault::Memory)));
-    assert_that!(rt; vars.get(b'A') == Some(0));
-    let out = into_vector(rt.alloc(), SETS, &NUMBERS, &mut vars)?;
-    assert_same!(rt; out.as_slice(), b"144");
-    assert_that!(rt; vars.get(b'A') == Some(12));
-    Ok(())
+    Ok(matches!(
+        expand(heap, &wide, &NUMBERS, vars),
+        Err(ExpandFault::Memory)
+    ))
+}
+
+/// The same for a heap of 64 bytes.
+fn is_refused_in_64(alloc: Global, vars: &mut Vars) -> Result<bool, Unfound> {
+    let heap = LocalHeap::new(alloc, 64)?;
+    is_refused(&heap, vars)
+}
+
+#[test]
+fn expanding_without_memory_keeps_the_variables(rt: HostRuntime) {
+    let (alloc, mut vars) = (rt.alloc(), Vars::new());
+    let is_refused = is_refused_in_64(alloc, &mut vars).unwrap_or(false);
+    assert_that!(rt; is_refused && vars.get(b'A') == Some(0));
+    let is_set = is_in_vector(alloc, SETS, &mut vars, b"144").unwrap_or(false);
+    assert_that!(rt; is_set && vars.get(b'A') == Some(12));
 }

@@ -1,8 +1,5 @@
 //! What a caller writes: for each library crate a first program, which its README shows.
 
 mod cap;
-mod escape;
 mod expand;
 mod kept;
-mod pad;
-mod trace;

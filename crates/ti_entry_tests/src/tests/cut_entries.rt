@@ -2,10 +2,10 @@
 
 use super::entry_views::{entry_of, is_read_as};
 use super::ways_to_read::refusal_by_each_way;
+use crate::tests::check_rows;
 use std::alloc::Global;
-use std::test::Fail;
 use ti_entry::{Entry, EntryReader, Fault, Refused, read};
-use ti_fixtures::{Unfound, bytes_of, check_rows, shown, shown_numbers};
+use ti_fixtures::{Finds, Given, Unfound, show};
 
 /// Entries, and the lengths of their fronts that are entries too: of an extended one also that without its extended part.
 /// Each other front is truncated at its length.
@@ -32,20 +32,25 @@ fn is_entry(alloc: Global, front: &[u8]) -> Result<bool, Unfound> {
 }
 
 /// The lengths of the fronts that are entries.
-fn fronts_in(alloc: Global, given: &str) -> Result<Vec<u8>, Unfound> {
-    let bytes = bytes_of(alloc, given)?;
-    let mut lengths = Vec::new(alloc);
-    for cut in 0..=bytes.len() {
-        if is_entry(alloc, &bytes.as_slice()[..cut])? {
-            lengths.push(cut as u64)?;
+struct FrontsIn;
+
+impl Finds for FrontsIn {
+    fn find(&self, given: &Given<'_, '_>, found: &mut Vec<u8>) -> Result<(), Unfound> {
+        for cut in 0..=given.bytes.len() {
+            if is_entry(*found.allocator(), &given.bytes[..cut])? {
+                if !found.is_empty() {
+                    found.push(b' ')?;
+                }
+                show(found, &cut)?;
+            }
         }
+        Ok(())
     }
-    shown_numbers(alloc, lengths.as_slice())
 }
 
 #[test]
-fn each_front_is_truncated_at_its_length(rt: HostRuntime) -> Result<(), Fail> {
-    check_rows(rt.alloc(), FRONTS, fronts_in)
+fn each_front_is_truncated_at_its_length(rt: HostRuntime) {
+    check_rows(&rt, FRONTS, &FrontsIn);
 }
 
 /// Why a reader that is fed two pieces refuses them.
@@ -85,18 +90,21 @@ const CUTS: &str = r"
 ";
 
 /// How many cuts of fronts of an entry are refused as the front is whole.
-fn cuts_in(alloc: Global, given: &str) -> Result<Vec<u8>, Unfound> {
-    let bytes = bytes_of(alloc, given)?;
-    let mut count = 0u32;
-    for len in 0..bytes.len() {
-        count = count.saturating_add(cuts_of(&bytes.as_slice()[..len]));
+struct CutsIn;
+
+impl Finds for CutsIn {
+    fn find(&self, given: &Given<'_, '_>, found: &mut Vec<u8>) -> Result<(), Unfound> {
+        let mut count = 0u32;
+        for len in 0..given.bytes.len() {
+            count = count.saturating_add(cuts_of(&given.bytes[..len]));
+        }
+        show(found, &count)
     }
-    shown(alloc, &count)
 }
 
 #[test]
-fn each_front_is_refused_alike_however_it_is_cut(rt: HostRuntime) -> Result<(), Fail> {
-    check_rows(rt.alloc(), CUTS, cuts_in)
+fn each_front_is_refused_alike_however_it_is_cut(rt: HostRuntime) {
+    check_rows(&rt, CUTS, &CutsIn);
 }
 
 /// Whether an entry that is cut in two says what it says whole, and the pieces are kept.
@@ -110,17 +118,20 @@ fn is_read_in_two(entry: &Entry<'_>, first: &[u8], second: &[u8]) -> bool {
 }
 
 /// In how many ways an entry is cut in two. Either piece may be empty.
-fn cuts_read_in(alloc: Global, given: &str) -> Result<Vec<u8>, Unfound> {
-    let bytes = bytes_of(alloc, given)?;
-    let entry = entry_of(bytes.as_slice())?;
-    let mut count = 0u32;
-    for cut in 0..=bytes.len() {
-        let (first, second) = bytes.as_slice().split_at(cut);
-        if is_read_in_two(&entry, first, second) {
-            count = count.saturating_add(1);
+struct CutsReadIn;
+
+impl Finds for CutsReadIn {
+    fn find(&self, given: &Given<'_, '_>, found: &mut Vec<u8>) -> Result<(), Unfound> {
+        let entry = entry_of(given.bytes)?;
+        let mut count = 0u32;
+        for cut in 0..=given.bytes.len() {
+            let (first, second) = given.bytes.split_at(cut);
+            if is_read_in_two(&entry, first, second) {
+                count = count.saturating_add(1);
+            }
         }
+        show(found, &count)
     }
-    shown(alloc, &count)
 }
 
 /// Entries, and in how many ways they are cut in two: of n bytes n + 1.
@@ -131,6 +142,6 @@ const IN_TWO: &str = r"
 ";
 
 #[test]
-fn an_entry_is_cut_anywhere(rt: HostRuntime) -> Result<(), Fail> {
-    check_rows(rt.alloc(), IN_TWO, cuts_read_in)
+fn an_entry_is_cut_anywhere(rt: HostRuntime) {
+    check_rows(&rt, IN_TWO, &CutsReadIn);
 }

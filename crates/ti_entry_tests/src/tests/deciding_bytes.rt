@@ -1,10 +1,9 @@
 //! At which byte a reader refuses: bytes in one piece, and byte by byte.
 
 use super::entry_refusals::changed_in;
-use std::alloc::Global;
-use std::test::Fail;
+use crate::tests::check_rows;
 use ti_entry::{EntryReader, Refused, read};
-use ti_fixtures::{Unfound, check_rows};
+use ti_fixtures::{Finds, Given, Unfound, only_if, show};
 
 /// Whether a reader keeps its refusal and so many bytes at all its calls.
 fn keeps(reader: &mut EntryReader, refused: Refused, kept: usize) -> bool {
@@ -34,19 +33,26 @@ fn kept_one_by_one(bytes: &[u8], refused: Refused) -> Option<usize> {
     None
 }
 
-/// The refusal of the bytes of a row and how many are kept before it, in either way to feed them; nothing if they are read.
-fn decided_in(alloc: Global, given: &str) -> Result<Vec<u8>, Unfound> {
-    let bytes = changed_in(alloc, given)?;
-    let bytes = bytes.as_slice();
+/// Adds the refusal of bytes and how many are kept before it, in either way to feed them; nothing if they are read.
+fn show_decided(found: &mut Vec<u8>, bytes: &[u8]) -> Result<(), Unfound> {
     let Err(refused) = read(bytes) else {
-        return Ok(Vec::new(alloc));
+        return Ok(());
     };
     let kept = kept_at_once(bytes, refused).ok_or("kept")?;
-    if kept_one_by_one(bytes, refused) != Some(kept) {
-        return Err(Unfound);
+    show(found, &refused)?;
+    found.extend_from_slice(b", kept ")?;
+    show(found, &kept)?;
+    only_if(kept_one_by_one(bytes, refused) == Some(kept))
+}
+
+/// The same for the bytes of a row.
+struct DecidedIn;
+
+impl Finds for DecidedIn {
+    fn find(&self, given: &Given<'_, '_>, found: &mut Vec<u8>) -> Result<(), Unfound> {
+        let bytes = changed_in(*found.allocator(), given)?;
+        show_decided(found, bytes.as_slice())
     }
-    let text = format!(in alloc; "{refused}, kept {kept}")?;
-    Ok(text.as_str().as_bytes().to_vec(alloc)?)
 }
 
 /// Entries, a place, what the bytes there are changed to, the refusal, and how many bytes are kept before it.
@@ -65,8 +71,8 @@ const CHANGED: &str = r"
 ";
 
 #[test]
-fn changed_bytes_are_decided_at_a_byte(rt: HostRuntime) -> Result<(), Fail> {
-    check_rows(rt.alloc(), CHANGED, decided_in)
+fn changed_bytes_are_decided_at_a_byte(rt: HostRuntime) {
+    check_rows(&rt, CHANGED, &DecidedIn);
 }
 
 /// The same for lengths, up to which there are bytes 0.
@@ -82,6 +88,6 @@ const LONG: &str = r"
 ";
 
 #[test]
-fn bytes_after_the_end_are_decided_at_the_first(rt: HostRuntime) -> Result<(), Fail> {
-    check_rows(rt.alloc(), LONG, decided_in)
+fn bytes_after_the_end_are_decided_at_the_first(rt: HostRuntime) {
+    check_rows(&rt, LONG, &DecidedIn);
 }

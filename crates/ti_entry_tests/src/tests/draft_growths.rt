@@ -4,10 +4,9 @@ use super::drafts_written::written;
 use super::entry_views::entry_of;
 use linked_list_allocator::LocalHeap;
 use std::alloc::{AllocError, Allocator, Global};
-use std::test::Fail;
 use ti_entry::{Draft, EncodeFault, Entry, encode};
 use ti_fixtures::entries::EXTENDED;
-use ti_fixtures::{Tally, Unfound};
+use ti_fixtures::{Tally, Tries, Unfound, tally_of};
 use ti_words::{Flag, Number, Text, Width};
 
 /// The push of a number below 6.
@@ -56,19 +55,24 @@ fn pushes_made_within(alloc: Global, memory: usize) -> Result<u32, Unfound> {
     if heap.used() == 0 { made } else { Err(Unfound) }
 }
 
-/// A refused push leaves the draft as one that was not made. Of 864 pushes more than 100 are made, and more than 100 refused.
-#[test]
-fn refused_pushes_change_nothing(rt: HostRuntime) -> Result<(), Fail> {
+/// How many pushes are made in 48 heaps, each of which has 24 bytes more than the one before it.
+fn pushes_made_in_all(alloc: Global) -> Result<u32, Unfound> {
     let mut made = 0u32;
     for step in 0..48usize {
-        made = made.saturating_add(pushes_made_within(rt.alloc(), 24 * step)?);
+        made = made.saturating_add(pushes_made_within(alloc, 24 * step)?);
     }
+    Ok(made)
+}
+
+/// A refused push leaves the draft as one that was not made. Of 864 pushes more than 100 are made, and more than 100 refused.
+#[test]
+fn refused_pushes_change_nothing(rt: HostRuntime) {
+    let made = pushes_made_in_all(rt.alloc()).unwrap_or(0);
     assert_that!(rt; made > 100 && made < 764);
-    Ok(())
 }
 
 /// Whether there is a draft, which has to be written as the extended entry.
-fn is_given<A: Allocator>(
+fn is_draft_given<A: Allocator>(
     alloc: Global,
     draft: &Result<Draft<'_, A>, AllocError>,
 ) -> Result<bool, Unfound> {
@@ -79,29 +83,21 @@ fn is_given<A: Allocator>(
     }
 }
 
-/// Whether a draft of an entry is made with so much memory, all of which it gives back.
-fn is_drafted(alloc: Global, entry: &Entry<'_>, memory: usize) -> Result<bool, Unfound> {
-    let heap = LocalHeap::new(alloc, memory)?;
-    let draft = entry.draft(&heap);
-    let is_given = is_given(alloc, &draft);
-    drop(draft);
-    if heap.used() == 0 {
-        is_given
-    } else {
-        Err(Unfound)
+/// Makes a draft of the extended entry.
+#[derive(Drop)]
+struct Drafted(Global);
+
+impl Tries for Drafted {
+    fn is_given(&self, heap: &LocalHeap) -> Result<bool, Unfound> {
+        is_draft_given(self.0, &entry_of(EXTENDED)?.draft(heap))
     }
 }
 
 /// A draft of an entry is given whole or not at all, and the heap has all of its memory back.
 #[test]
-fn refused_drafts_of_an_entry(rt: HostRuntime) -> Result<(), Fail> {
-    let entry = entry_of(EXTENDED)?;
-    let mut tally = Tally::NONE;
-    for step in 0..48usize {
-        tally.count(is_drafted(rt.alloc(), &entry, 16 * step)?);
-    }
+fn refused_drafts_of_an_entry(rt: HostRuntime) {
+    let tally = tally_of(rt.alloc(), &Drafted(rt.alloc()), 0, 16, 48);
     assert_that!(rt; tally.is_refused_then_given(4));
-    Ok(())
 }
 
 /// Whether there are bytes, which have to be those of the extended entry in memory of their length.
@@ -113,35 +109,35 @@ fn are_given<A: Allocator>(bytes: &Result<Vec<u8, A>, EncodeFault>) -> Result<bo
     }
 }
 
-/// Whether a draft is encoded with so much memory, all of which is given back.
-fn is_encoded(alloc: Global, draft: &Draft<'_>, memory: usize) -> Result<bool, Unfound> {
-    let heap = LocalHeap::new(alloc, memory)?;
-    let bytes = encode(&heap, draft);
-    let are_given = are_given(&bytes);
-    drop(bytes);
-    if heap.used() == 0 {
-        are_given
-    } else {
-        Err(Unfound)
+/// Encodes a draft, if there is one.
+#[derive(Drop)]
+struct Encoded<'d, 'a>(&'d Result<Draft<'a>, AllocError>);
+
+impl Tries for Encoded<'_, '_> {
+    fn is_given(&self, heap: &LocalHeap) -> Result<bool, Unfound> {
+        match self.0 {
+            Ok(draft) => are_given(&encode(heap, draft)),
+            Err(_) => Err(Unfound),
+        }
     }
 }
 
-/// How often a draft is encoded, and the memory for it refused.
-fn encodings(alloc: Global, draft: &Result<Draft<'_>, AllocError>) -> Result<Tally, Unfound> {
-    let mut tally = Tally::NONE;
-    if let Ok(draft) = draft {
-        for step in 0..24usize {
-            tally.count(is_encoded(alloc, draft, 8 * step)?);
-        }
+/// The draft of the extended entry, if it is read.
+fn extended_draft(alloc: Global) -> Result<Draft<'static>, AllocError> {
+    match entry_of(EXTENDED) {
+        Ok(entry) => entry.draft(alloc),
+        Err(_) => Err(AllocError),
     }
-    Ok(tally)
+}
+
+/// The tries to encode a draft.
+fn encodings(alloc: Global, draft: &Result<Draft<'_>, AllocError>) -> Tally {
+    tally_of(alloc, &Encoded(draft), 0, 8, 24)
 }
 
 /// Encoding grows once, to the length of the bytes.
 #[test]
-fn refused_encoding(rt: HostRuntime) -> Result<(), Fail> {
-    let draft = entry_of(EXTENDED)?.draft(rt.alloc());
-    let tally = encodings(rt.alloc(), &draft).unwrap_or(Tally::NONE);
-    assert_that!(rt; tally.is_refused_then_given(4));
-    Ok(())
+fn refused_encoding(rt: HostRuntime) {
+    let draft = extended_draft(rt.alloc());
+    assert_that!(rt; encodings(rt.alloc(), &draft).is_refused_then_given(4));
 }

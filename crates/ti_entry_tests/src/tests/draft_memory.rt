@@ -1,12 +1,12 @@
 //! How much memory a draft and its bytes take: each list grows once, to its size.
 
 use super::entry_views::entry_of;
+use crate::tests::check_rows;
 use linked_list_allocator::LocalHeap;
 use std::alloc::{AllocError, Allocator, Global};
 use std::mem::size_of;
-use std::test::Fail;
 use ti_entry::{Draft, EncodeFault, Entry, encode};
-use ti_fixtures::{TMUX, Unfound, bytes_of, check_rows, debug_of};
+use ti_fixtures::{Finds, Given, TMUX, Unfound, bytes_of, show_debug};
 use ti_words::{Flag, Number, Text};
 
 /// The bytes that a heap gives for so many.
@@ -74,21 +74,33 @@ fn is_drafted(alloc: Global, entry: &Entry<'_>, memory: usize) -> Result<bool, U
     }
 }
 
-/// Whether a draft of a row is made with exactly the memory of its lists, and with less.
-fn drafted_in(alloc: Global, given: &str) -> Result<Vec<u8>, Unfound> {
-    let (kinds, parts) = given.split_once(" | ").ok_or("parts")?;
-    let bytes = repeated(alloc, parts)?;
-    let entry = entry_of(bytes.as_slice())?;
-    let memory = memory_of(kinds);
+/// Whether a draft of an entry is made with exactly so much memory, and with less.
+fn drafted_within(alloc: Global, bytes: &[u8], memory: usize) -> Result<(bool, bool), Unfound> {
+    let entry = entry_of(bytes)?;
     let is_made = is_drafted(alloc, &entry, memory)?;
     let is_made_of_less = is_drafted(alloc, &entry, memory.saturating_sub(16))?;
-    debug_of(alloc, &(is_made, is_made_of_less))
+    Ok((is_made, is_made_of_less))
+}
+
+/// The same for a row, with the memory of its lists.
+struct DraftedIn;
+
+impl Finds for DraftedIn {
+    fn find(&self, given: &Given<'_, '_>, found: &mut Vec<u8>) -> Result<(), Unfound> {
+        let (kinds, parts) = given.text.split_once(" | ").ok_or("parts")?;
+        let bytes = repeated(*found.allocator(), parts)?;
+        let memory = memory_of(kinds);
+        show_debug(
+            found,
+            &drafted_within(*found.allocator(), bytes.as_slice(), memory)?,
+        )
+    }
 }
 
 /// With exactly the memory of its lists, a list can grow only once, and to its size.
 #[test]
-fn each_list_of_a_draft_grows_once(rt: HostRuntime) -> Result<(), Fail> {
-    check_rows(rt.alloc(), ALIKE, drafted_in)
+fn each_list_of_a_draft_grows_once(rt: HostRuntime) {
+    check_rows(&rt, ALIKE, &DraftedIn);
 }
 
 /// Whether bytes are those of a large entry, in memory of their length.
@@ -124,9 +136,15 @@ fn is_written_in_length(alloc: Global, draft: &Result<Draft<'_>, AllocError>) ->
     }
 }
 
+/// Whether the same holds for the draft of the large entry.
+fn is_tmux_written_in_length(alloc: Global) -> bool {
+    match entry_of(TMUX) {
+        Ok(entry) => is_written_in_length(alloc, &entry.draft(alloc)),
+        Err(_) => false,
+    }
+}
+
 #[test]
-fn the_bytes_of_a_draft_grow_once(rt: HostRuntime) -> Result<(), Fail> {
-    let draft = entry_of(TMUX)?.draft(rt.alloc());
-    assert_that!(rt; is_written_in_length(rt.alloc(), &draft));
-    Ok(())
+fn the_bytes_of_a_draft_grow_once(rt: HostRuntime) {
+    assert_that!(rt; is_tmux_written_in_length(rt.alloc()));
 }

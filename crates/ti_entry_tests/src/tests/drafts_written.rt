@@ -1,11 +1,11 @@
 //! Drafts, and the bytes that they are written as.
 
 use super::entry_views::entry_of;
+use crate::tests::check_rows;
 use std::alloc::{AllocError, Allocator, Global};
 use std::str::from_utf8;
-use std::test::Fail;
 use ti_entry::{Draft, EncodeFault, encode, encoded_len};
-use ti_fixtures::{Said, Unfound, bytes_of, check_rows, item_of};
+use ti_fixtures::{Finds, Given, Said, Unfound, bytes_of, item_of};
 use ti_words::{Flag, Number, Text, Width};
 
 /// What a draft is written as, of the length that is known before, or why it is not.
@@ -76,13 +76,23 @@ fn written_as(
     written_with(alloc, &mut draft, items)
 }
 
-/// The same for those of a row.
-fn written_in(alloc: Global, width: Width, given: &str) -> Result<Vec<u8>, Unfound> {
-    let bytes = bytes_of(alloc, given)?;
-    let given = from_utf8(bytes.as_slice())?;
-    match given.split_once(" | ") {
+/// The same for those of a text.
+fn written_from(alloc: Global, width: Width, text: &str) -> Result<Vec<u8>, Unfound> {
+    match text.split_once(" | ") {
         Some((names, items)) => written_as(alloc, width, names, Some(items)),
-        None => written_as(alloc, width, given, None),
+        None => written_as(alloc, width, text, None),
+    }
+}
+
+/// The same for those of a row, in a format.
+struct WrittenIn(Width);
+
+impl Finds for WrittenIn {
+    fn find(&self, given: &Given<'_, '_>, found: &mut Vec<u8>) -> Result<(), Unfound> {
+        let bytes = bytes_of(*found.allocator(), given.text)?;
+        let text = from_utf8(bytes.as_slice())?;
+        let written = written_from(*found.allocator(), self.0, text)?;
+        Ok(found.extend_from_slice(written.as_slice())?)
     }
 }
 
@@ -95,14 +105,9 @@ t | yes | #80 | @ | =^G | AX | E3=\E[3J => @EXTENDED
 t | U8#80 => ^Z^A^B\000\000\000\000\000\000\000\000\000t\000\000\000^A\000\000\000^A\000^C\000P\000\000\000U8\000
 ";
 
-/// The same of the legacy format.
-fn legacy_in(alloc: Global, given: &str) -> Result<Vec<u8>, Unfound> {
-    written_in(alloc, Width::Legacy, given)
-}
-
 #[test]
-fn drafts_are_written(rt: HostRuntime) -> Result<(), Fail> {
-    check_rows(rt.alloc(), WRITTEN, legacy_in)
+fn drafts_are_written(rt: HostRuntime) {
+    check_rows(&rt, WRITTEN, &WrittenIn(Width::Legacy));
 }
 
 /// The names and the items of drafts, and why they are not written. Of two faults it is the first.
@@ -116,8 +121,8 @@ t | #32768 => NumberOutOfRange
 ";
 
 #[test]
-fn the_first_fault_of_a_draft_is_reported(rt: HostRuntime) -> Result<(), Fail> {
-    check_rows(rt.alloc(), FAULTY, legacy_in)
+fn the_first_fault_of_a_draft_is_reported(rt: HostRuntime) {
+    check_rows(&rt, FAULTY, &WrittenIn(Width::Legacy));
 }
 
 /// The same of the 32-bit format, in which no number is below 0 either.
@@ -127,12 +132,8 @@ t | #2147483647 | #-5 => NumberOutOfRange
 ";
 
 #[test]
-fn wide_drafts_are_written(rt: HostRuntime) -> Result<(), Fail> {
-    check_rows(
-        rt.alloc(),
-        WIDE_NUMBERS,
-        |alloc, given| written_in(alloc, Width::Wide, given),
-    )
+fn wide_drafts_are_written(rt: HostRuntime) {
+    check_rows(&rt, WIDE_NUMBERS, &WrittenIn(Width::Wide));
 }
 
 /// Whether a draft of 16000 texts of 699 bytes would be so long, and is not written since it is.
@@ -180,11 +181,17 @@ pub fn written_again(alloc: Global, bytes: &[u8]) -> Result<Vec<u8>, Unfound> {
     written_if_given(alloc, &entry_of(bytes)?.draft(alloc))
 }
 
+/// What the draft of the entry of a row is written as.
+struct WrittenAgain;
+
+impl Finds for WrittenAgain {
+    fn find(&self, given: &Given<'_, '_>, found: &mut Vec<u8>) -> Result<(), Unfound> {
+        let written = written_again(*found.allocator(), given.bytes)?;
+        Ok(found.extend_from_slice(written.as_slice())?)
+    }
+}
+
 #[test]
-fn entries_that_were_read_are_written(rt: HostRuntime) -> Result<(), Fail> {
-    check_rows(
-        rt.alloc(),
-        AGAIN,
-        |alloc, given| written_again(alloc, bytes_of(alloc, given)?.as_slice()),
-    )
+fn entries_that_were_read_are_written(rt: HostRuntime) {
+    check_rows(&rt, AGAIN, &WrittenAgain);
 }

@@ -1,11 +1,10 @@
 //! Entries of the legacy format: what they say, and what a changed byte makes of them.
 
-use super::entry_refusals::{changed_in, first_other_front_in, long_in, refusal_in};
-use super::entry_views::{entry_of, is_read_as, said_by};
-use std::alloc::Global;
-use std::test::Fail;
+use super::entry_refusals::{FirstOtherFrontIn, RefusalIn, changed_in, long_in};
+use super::entry_views::{entry_of, is_read_as, show_entry};
+use crate::tests::check_rows;
 use ti_entry::{Entry, EntryReader, Fault, Refused};
-use ti_fixtures::{Unfound, bytes_of, check_rows, debug_of, fields_of, shown};
+use ti_fixtures::{Finds, Given, Unfound, place_of, show, show_debug};
 use ti_words::Text;
 
 /// Entries, and what they say: their format and names, and each flag, number and text, with one after them, and then those
@@ -27,14 +26,18 @@ const SAID: &str = r"
 ";
 
 /// What the entry of a row says.
-pub fn said_in(alloc: Global, given: &str) -> Result<Vec<u8>, Unfound> {
-    let bytes = changed_in(alloc, given)?;
-    said_by(alloc, &entry_of(bytes.as_slice())?)
+pub struct SaidIn;
+
+impl Finds for SaidIn {
+    fn find(&self, given: &Given<'_, '_>, found: &mut Vec<u8>) -> Result<(), Unfound> {
+        let bytes = changed_in(*found.allocator(), given)?;
+        show_entry(found, &entry_of(bytes.as_slice())?)
+    }
 }
 
 #[test]
-fn entries_say_what_they_say(rt: HostRuntime) -> Result<(), Fail> {
-    check_rows(rt.alloc(), SAID, said_in)
+fn entries_say_what_they_say(rt: HostRuntime) {
+    check_rows(&rt, SAID, &SaidIn);
 }
 
 /// Entries and indexes, and the flag, the number and the text there.
@@ -45,20 +48,22 @@ const AT_INDEX: &str = r"
 ";
 
 /// The capabilities of a row.
-fn at_index(alloc: Global, given: &str) -> Result<Vec<u8>, Unfound> {
-    let [entry, index, ..] = fields_of(given);
-    let bytes = bytes_of(alloc, entry)?;
-    let entry = entry_of(bytes.as_slice())?;
-    let index = index.parse::<usize>()?;
-    debug_of(
-        alloc,
-        &(entry.flag(index), entry.number(index), entry.text(index)),
-    )
+struct AtIndex;
+
+impl Finds for AtIndex {
+    fn find(&self, given: &Given<'_, '_>, found: &mut Vec<u8>) -> Result<(), Unfound> {
+        let index = place_of(given.fields()[1])?;
+        let entry = entry_of(given.bytes)?;
+        show_debug(
+            found,
+            &(entry.flag(index), entry.number(index), entry.text(index)),
+        )
+    }
 }
 
 #[test]
-fn capabilities_have_indexes(rt: HostRuntime) -> Result<(), Fail> {
-    check_rows(rt.alloc(), AT_INDEX, at_index)
+fn capabilities_have_indexes(rt: HostRuntime) {
+    check_rows(&rt, AT_INDEX, &AtIndex);
 }
 
 /// Entries, and a length from which on each front is truncated at its length: up to which.
@@ -69,8 +74,8 @@ const FRONTS: &str = r"
 ";
 
 #[test]
-fn each_front_of_an_entry_is_truncated(rt: HostRuntime) -> Result<(), Fail> {
-    check_rows(rt.alloc(), FRONTS, first_other_front_in)
+fn each_front_of_an_entry_is_truncated(rt: HostRuntime) {
+    check_rows(&rt, FRONTS, &FirstOtherFrontIn);
 }
 
 /// Whether a reader that is finished after a first piece too reads an entry.
@@ -83,22 +88,25 @@ fn is_read_after_finishing(entry: &Entry<'_>, first: &[u8], second: &[u8]) -> bo
 }
 
 /// After how many fronts of an entry its reader is finished too early, and goes on to read it.
-fn early_in(alloc: Global, given: &str) -> Result<Vec<u8>, Unfound> {
-    let bytes = bytes_of(alloc, given)?;
-    let entry = entry_of(bytes.as_slice())?;
-    let mut count = 0u32;
-    for cut in 0..bytes.len() {
-        let (first, second) = bytes.as_slice().split_at(cut);
-        if is_read_after_finishing(&entry, first, second) {
-            count = count.saturating_add(1);
+struct EarlyIn;
+
+impl Finds for EarlyIn {
+    fn find(&self, given: &Given<'_, '_>, found: &mut Vec<u8>) -> Result<(), Unfound> {
+        let entry = entry_of(given.bytes)?;
+        let mut count = 0u32;
+        for cut in 0..given.bytes.len() {
+            let (first, second) = given.bytes.split_at(cut);
+            if is_read_after_finishing(&entry, first, second) {
+                count = count.saturating_add(1);
+            }
         }
+        show(found, &count)
     }
-    shown(alloc, &count)
 }
 
 #[test]
-fn a_reader_that_was_finished_too_early_goes_on(rt: HostRuntime) -> Result<(), Fail> {
-    check_rows(rt.alloc(), "@SMALL => 24", early_in)
+fn a_reader_that_was_finished_too_early_goes_on(rt: HostRuntime) {
+    check_rows(&rt, "@SMALL => 24", &EarlyIn);
 }
 
 /// Whether a reader that has so many bytes of an entry is truncated there, and keeps one more.
@@ -113,15 +121,18 @@ fn is_fed_at(reader: &mut EntryReader, place: usize, byte: u8) -> bool {
 }
 
 /// What an entry says that is fed byte by byte.
-fn said_byte_by_byte(alloc: Global, given: &str) -> Result<Vec<u8>, Unfound> {
-    let bytes = bytes_of(alloc, given)?;
-    let mut reader = EntryReader::new();
-    for (place, byte) in bytes.iter().enumerate() {
-        if !is_fed_at(&mut reader, place, *byte) {
-            return Err(Unfound);
+struct SaidByteByByte;
+
+impl Finds for SaidByteByByte {
+    fn find(&self, given: &Given<'_, '_>, found: &mut Vec<u8>) -> Result<(), Unfound> {
+        let mut reader = EntryReader::new();
+        for (place, byte) in given.bytes.iter().enumerate() {
+            if !is_fed_at(&mut reader, place, *byte) {
+                return Err(Unfound);
+            }
         }
+        show_entry(found, &reader.finish()?)
     }
-    said_by(alloc, &reader.finish()?)
 }
 
 /// An entry, and what it says.
@@ -130,8 +141,8 @@ const FED: &str = r"
 ";
 
 #[test]
-fn a_small_entry_is_fed_byte_by_byte(rt: HostRuntime) -> Result<(), Fail> {
-    check_rows(rt.alloc(), FED, said_byte_by_byte)
+fn a_small_entry_is_fed_byte_by_byte(rt: HostRuntime) {
+    check_rows(&rt, FED, &SaidByteByByte);
 }
 
 /// Entries, a place and what the bytes there are changed to, and why they are refused.
@@ -157,8 +168,8 @@ const REFUSED: &str = r"
 ";
 
 #[test]
-fn changed_bytes_of_an_entry_are_refused(rt: HostRuntime) -> Result<(), Fail> {
-    check_rows(rt.alloc(), REFUSED, refusal_in)
+fn changed_bytes_of_an_entry_are_refused(rt: HostRuntime) {
+    check_rows(&rt, REFUSED, &RefusalIn);
 }
 
 /// How many texts an entry has up to the first that is not this.
@@ -171,15 +182,23 @@ fn equal_texts(entry: &Entry<'_>, text: &[u8]) -> usize {
     entry.text_count()
 }
 
-/// How many texts the long entry of a row has, which are all the letters of its table, and how many of its bytes are kept.
-fn texts_and_kept(alloc: Global, given: &str) -> Result<Vec<u8>, Unfound> {
-    let bytes = long_in(alloc, given)?;
-    let table = bytes.len().saturating_sub(700);
-    let (_, text) = bytes.as_slice().split_at(table);
+/// Adds how many texts a long entry has, which are all the letters of its table, and how many of its bytes are kept.
+fn show_texts_and_kept(found: &mut Vec<u8>, bytes: &[u8]) -> Result<(), Unfound> {
+    let (_, text) = bytes.split_at(bytes.len().saturating_sub(700));
     let mut reader = EntryReader::new();
-    reader.feed(bytes.as_slice())?;
+    reader.feed(bytes)?;
     let count = equal_texts(&reader.finish()?, text.split_last().ok_or("a table")?.1);
-    debug_of(alloc, &(count, reader.kept()))
+    show_debug(found, &(count, reader.kept()))
+}
+
+/// The same for the long entry of a row.
+struct TextsAndKept;
+
+impl Finds for TextsAndKept {
+    fn find(&self, given: &Given<'_, '_>, found: &mut Vec<u8>) -> Result<(), Unfound> {
+        let bytes = long_in(*found.allocator(), given)?;
+        show_texts_and_kept(found, bytes.as_slice())
+    }
 }
 
 /// 16000 offsets of the one text of a table of 700 bytes.
@@ -188,6 +207,6 @@ const MANY: &str = r"
 ";
 
 #[test]
-fn many_texts_are_one(rt: HostRuntime) -> Result<(), Fail> {
-    check_rows(rt.alloc(), MANY, texts_and_kept)
+fn many_texts_are_one(rt: HostRuntime) {
+    check_rows(&rt, MANY, &TextsAndKept);
 }

@@ -1,10 +1,10 @@
 //! Entries that were read before, and their capabilities by any name.
 
 use super::entry_views::{are_equal, entry_of};
-use std::alloc::Global;
-use std::test::Fail;
+use crate::tests::check_rows;
 use ti_entry::{read_with_base, reopen};
-use ti_fixtures::{Unfound, bytes_of, check_rows, debug_of, fields_of, place_of, shown};
+use ti_fixtures::entries::EXTENDED;
+use ti_fixtures::{Finds, Given, Unfound, only_if, place_of, show, show_debug};
 
 /// An entry, and the place of its extended texts.
 const BASES: &str = r"
@@ -12,21 +12,21 @@ const BASES: &str = r"
 ";
 
 /// The base of an entry that says the same however it is opened.
-fn base_in(alloc: Global, given: &str) -> Result<Vec<u8>, Unfound> {
-    let bytes = bytes_of(alloc, given)?;
-    let read = entry_of(bytes.as_slice())?;
-    let (entry, base) = read_with_base(bytes.as_slice())?;
-    let reopened = reopen(bytes.as_slice(), base).ok_or("opened again")?;
-    if are_equal(&entry, &read) && are_equal(&reopened, &read) {
-        shown(alloc, &base)
-    } else {
-        Err(Unfound)
+struct BaseIn;
+
+impl Finds for BaseIn {
+    fn find(&self, given: &Given<'_, '_>, found: &mut Vec<u8>) -> Result<(), Unfound> {
+        let read = entry_of(given.bytes)?;
+        let (entry, base) = read_with_base(given.bytes)?;
+        let reopened = reopen(given.bytes, base).ok_or("opened again")?;
+        show(found, &base)?;
+        only_if(are_equal(&entry, &read) && are_equal(&reopened, &read))
     }
 }
 
 #[test]
-fn an_entry_is_opened_again(rt: HostRuntime) -> Result<(), Fail> {
-    check_rows(rt.alloc(), BASES, base_in)
+fn an_entry_is_opened_again(rt: HostRuntime) {
+    check_rows(&rt, BASES, &BaseIn);
 }
 
 /// Entries, the length of their front and a base, and whether that is opened again.
@@ -39,16 +39,19 @@ const OPENED: &str = r"
 ";
 
 /// Whether the front of a row is opened.
-fn opened_in(alloc: Global, given: &str) -> Result<Vec<u8>, Unfound> {
-    let [entry, length, base, ..] = fields_of(given);
-    let bytes = bytes_of(alloc, entry)?;
-    let front = bytes.as_slice().get(..place_of(length)?).ok_or("a front")?;
-    shown(alloc, &reopen(front, place_of(base)?).is_some())
+struct OpenedIn;
+
+impl Finds for OpenedIn {
+    fn find(&self, given: &Given<'_, '_>, found: &mut Vec<u8>) -> Result<(), Unfound> {
+        let [_, length, base, ..] = given.fields();
+        let front = given.bytes.get(..place_of(length)?).ok_or("a front")?;
+        show(found, &reopen(front, place_of(base)?).is_some())
+    }
 }
 
 #[test]
-fn bytes_without_their_headers_are_not_opened(rt: HostRuntime) -> Result<(), Fail> {
-    check_rows(rt.alloc(), OPENED, opened_in)
+fn bytes_without_their_headers_are_not_opened(rt: HostRuntime) {
+    check_rows(&rt, OPENED, &OpenedIn);
 }
 
 /// Names, and where the extended entry has the capability.
@@ -62,16 +65,15 @@ E4 => None
 ";
 
 /// Where the capability of a name stands.
-fn position_of(alloc: Global, given: &str) -> Result<Vec<u8>, Unfound> {
-    let bytes = bytes_of(alloc, "@EXTENDED")?;
-    let name = bytes_of(alloc, given)?;
-    debug_of(
-        alloc,
-        &entry_of(bytes.as_slice())?.position(name.as_slice()),
-    )
+struct PositionOf;
+
+impl Finds for PositionOf {
+    fn find(&self, given: &Given<'_, '_>, found: &mut Vec<u8>) -> Result<(), Unfound> {
+        show_debug(found, &entry_of(EXTENDED)?.position(given.bytes))
+    }
 }
 
 #[test]
-fn capabilities_are_found_by_any_name(rt: HostRuntime) -> Result<(), Fail> {
-    check_rows(rt.alloc(), POSITIONS, position_of)
+fn capabilities_are_found_by_any_name(rt: HostRuntime) {
+    check_rows(&rt, POSITIONS, &PositionOf);
 }

@@ -1,9 +1,8 @@
 //! What the faults of entries and drafts are shown as.
 
-use std::alloc::Global;
-use std::test::Fail;
+use crate::tests::check_rows;
 use ti_entry::{EncodeFault, Fault, ReadStop, Refused};
-use ti_fixtures::{Unfound, check_rows, place_of, shown};
+use ti_fixtures::{Finds, Given, Unfound, are_shown, place_of};
 
 /// The faults of bytes.
 const FAULTS: &[Fault] = &[
@@ -42,23 +41,27 @@ const SHOWN: &str = r"
 ";
 
 /// What is shown of the fault at a place.
-fn shown_at(alloc: Global, given: &str) -> Result<Vec<u8>, Unfound> {
-    let fault = *FAULTS.get(place_of(given)?).ok_or("a fault")?;
-    let refused = Refused { fault, place: 20 };
-    let stop = ReadStop::Refused(refused);
-    let text = format!(in alloc; "{fault}, {}, {refused}, {stop}", fault.word())?;
-    Ok(text.as_str().as_bytes().to_vec(alloc)?)
+struct ShownAt;
+
+impl Finds for ShownAt {
+    fn find(&self, given: &Given<'_, '_>, found: &mut Vec<u8>) -> Result<(), Unfound> {
+        let fault = *FAULTS.get(place_of(given.text)?).ok_or("a fault")?;
+        let refused = Refused { fault, place: 20 };
+        let stop = ReadStop::Refused(refused);
+        let alloc = *found.allocator();
+        let text = format!(in alloc; "{fault}, {}, {refused}, {stop}", fault.word())?;
+        Ok(found.extend_from_slice(text.as_str().as_bytes())?)
+    }
 }
 
 #[test]
-fn faults_of_entries_are_shown_as_their_names(rt: HostRuntime) -> Result<(), Fail> {
-    check_rows(rt.alloc(), SHOWN, shown_at)
+fn faults_of_entries_are_shown_as_their_names(rt: HostRuntime) {
+    check_rows(&rt, SHOWN, &ShownAt);
 }
 
 #[test]
-fn a_read_that_fails_is_shown(rt: HostRuntime) -> Result<(), Fail> {
-    assert_that!(rt; shown(rt.alloc(), &ReadStop::Io)?.as_slice() == b"Io".as_slice());
-    Ok(())
+fn a_read_that_fails_is_shown(rt: HostRuntime) {
+    assert_that!(rt; are_shown(rt.alloc(), &[(ReadStop::Io, "Io")]));
 }
 
 /// The faults of drafts.
@@ -80,13 +83,19 @@ const SHOWN_OF_DRAFTS: &str = r"
 ";
 
 /// What is shown of the fault of a draft at a place.
-fn shown_of_draft_at(alloc: Global, given: &str) -> Result<Vec<u8>, Unfound> {
-    let fault = *FAULTS_OF_DRAFTS.get(place_of(given)?).ok_or("a fault")?;
-    let text = format!(in alloc; "{fault}, {}", fault.word())?;
-    Ok(text.as_str().as_bytes().to_vec(alloc)?)
+struct ShownOfDraftAt;
+
+impl Finds for ShownOfDraftAt {
+    fn find(&self, given: &Given<'_, '_>, found: &mut Vec<u8>) -> Result<(), Unfound> {
+        let fault = *FAULTS_OF_DRAFTS
+            .get(place_of(given.text)?)
+            .ok_or("a fault")?;
+        let text = format!(in *found.allocator(); "{fault}, {}", fault.word())?;
+        Ok(found.extend_from_slice(text.as_str().as_bytes())?)
+    }
 }
 
 #[test]
-fn faults_of_drafts_are_shown_as_their_names(rt: HostRuntime) -> Result<(), Fail> {
-    check_rows(rt.alloc(), SHOWN_OF_DRAFTS, shown_of_draft_at)
+fn faults_of_drafts_are_shown_as_their_names(rt: HostRuntime) {
+    check_rows(&rt, SHOWN_OF_DRAFTS, &ShownOfDraftAt);
 }

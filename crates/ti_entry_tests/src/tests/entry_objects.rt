@@ -1,10 +1,10 @@
 //! Entries as JSON.
 
+use crate::tests::check_rows;
 use std::alloc::Global;
-use std::test::Fail;
 use ti_draft::{Draft, encode};
 use ti_entry::read;
-use ti_fixtures::{Unfound, bytes_of, check_rows};
+use ti_fixtures::{Finds, Given, Unfound};
 use ti_json::entry_json;
 use ti_words::{Flag, Number, Text, Width};
 
@@ -14,15 +14,24 @@ const OBJECTS: &str = r#"
 @WIDE_EXTENDED => [{"kind":"format","value":"wide"},{"kind":"names","value":"t"},{"kind":"flag","name":"bw","value":true},{"kind":"number","name":"cols","value":80},{"kind":"text","name":"bel","value":"\^G"},{"kind":"number","name":"U8","own":true,"value":70000}]
 "#;
 
+/// Adds an entry as JSON.
+fn add_object(found: &mut Vec<u8>, bytes: &[u8]) -> Result<(), Unfound> {
+    let object = entry_json(*found.allocator(), &read(bytes)?)?;
+    Ok(found.extend_from_slice(object.as_slice())?)
+}
+
 /// The entry of a row as JSON.
-fn object_in(alloc: Global, given: &str) -> Result<Vec<u8>, Unfound> {
-    let bytes = bytes_of(alloc, given)?;
-    Ok(entry_json(alloc, &read(bytes.as_slice())?)?)
+struct ObjectIn;
+
+impl Finds for ObjectIn {
+    fn find(&self, given: &Given<'_, '_>, found: &mut Vec<u8>) -> Result<(), Unfound> {
+        add_object(found, given.bytes)
+    }
 }
 
 #[test]
-fn each_capability_is_an_object(rt: HostRuntime) -> Result<(), Fail> {
-    check_rows(rt.alloc(), OBJECTS, object_in)
+fn each_capability_is_an_object(rt: HostRuntime) {
+    check_rows(&rt, OBJECTS, &ObjectIn);
 }
 
 /// The bytes of a draft with capabilities of which none has a value of its own, but for a text that needs an escape.
@@ -43,10 +52,13 @@ fn hostile(alloc: Global, names: &[u8]) -> Result<Vec<u8>, Unfound> {
 }
 
 /// The same for the names of a row, as JSON.
-fn hostile_object_in(alloc: Global, given: &str) -> Result<Vec<u8>, Unfound> {
-    let names = bytes_of(alloc, given)?;
-    let bytes = hostile(alloc, names.as_slice())?;
-    Ok(entry_json(alloc, &read(bytes.as_slice())?)?)
+struct HostileObjectIn;
+
+impl Finds for HostileObjectIn {
+    fn find(&self, given: &Given<'_, '_>, found: &mut Vec<u8>) -> Result<(), Unfound> {
+        let bytes = hostile(*found.allocator(), given.bytes)?;
+        add_object(found, bytes.as_slice())
+    }
 }
 
 /// Names of an entry in which nothing has a value of its own, and the entry.
@@ -55,6 +67,6 @@ t|"a\\b"\377 => [{"kind":"format","value":"legacy"},{"kind":"names","value":"t|\
 "#;
 
 #[test]
-fn what_has_no_value_has_a_state(rt: HostRuntime) -> Result<(), Fail> {
-    check_rows(rt.alloc(), HOSTILE, hostile_object_in)
+fn what_has_no_value_has_a_state(rt: HostRuntime) {
+    check_rows(&rt, HOSTILE, &HostileObjectIn);
 }

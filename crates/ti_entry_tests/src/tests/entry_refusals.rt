@@ -3,7 +3,7 @@
 use std::alloc::Global;
 use ti_entry::{EntryReader, Fault, Refused, read};
 use ti_fixtures::entries::changed;
-use ti_fixtures::{Unfound, bytes_of, fields_of, place_of, shown};
+use ti_fixtures::{Finds, Given, Unfound, place_of, show};
 
 /// Why the bytes are refused by `read`, which a reader that is fed them returns too.
 pub fn refusal(bytes: &[u8]) -> Result<Option<Refused>, Unfound> {
@@ -21,31 +21,32 @@ pub fn refusal(bytes: &[u8]) -> Result<Option<Refused>, Unfound> {
     }
 }
 
-/// A refusal as text; none is no bytes.
-pub fn refusal_shown(alloc: Global, refusal: Option<Refused>) -> Result<Vec<u8>, Unfound> {
-    match refusal {
-        Some(refused) => shown(alloc, &refused),
-        None => Ok(Vec::new(alloc)),
+/// Adds why bytes are refused; nothing if they are read.
+pub fn show_refusal(found: &mut Vec<u8>, bytes: &[u8]) -> Result<(), Unfound> {
+    match refusal(bytes)? {
+        Some(refused) => show(found, &refused),
+        None => Ok(()),
     }
 }
 
 /// The bytes of a row: an entry, a place and what the bytes there are changed to, and a length, to which it is cut, or made
 /// longer by bytes 0.
-pub fn changed_in(alloc: Global, given: &str) -> Result<Vec<u8>, Unfound> {
-    let [entry, from, others, length, ..] = fields_of(given);
-    let bytes = bytes_of(alloc, entry)?;
-    let others = bytes_of(alloc, others)?;
-    let from = place_of(from).unwrap_or(0);
-    let mut changed = changed(alloc, bytes.as_slice(), from, others.as_slice())?;
+pub fn changed_in(alloc: Global, given: &Given<'_, '_>) -> Result<Vec<u8>, Unfound> {
+    let [_, from, _, length, ..] = given.fields();
+    let mut changed = changed(alloc, given.bytes, place_of(from).unwrap_or(0), given.third)?;
     let length = place_of(length).unwrap_or(changed.len());
     changed.resize(length, 0)?;
     Ok(changed)
 }
 
 /// Why the bytes of a row are refused.
-pub fn refusal_in(alloc: Global, given: &str) -> Result<Vec<u8>, Unfound> {
-    let bytes = changed_in(alloc, given)?;
-    refusal_shown(alloc, refusal(bytes.as_slice())?)
+pub struct RefusalIn;
+
+impl Finds for RefusalIn {
+    fn find(&self, given: &Given<'_, '_>, found: &mut Vec<u8>) -> Result<(), Unfound> {
+        let bytes = changed_in(*found.allocator(), given)?;
+        show_refusal(found, bytes.as_slice())
+    }
 }
 
 /// The length of the first front, from one on, that is not truncated at its length.
@@ -63,19 +64,19 @@ fn first_other_front(bytes: &[u8], from: usize) -> Result<usize, Unfound> {
 }
 
 /// The same for the entry and the length of a row.
-pub fn first_other_front_in(alloc: Global, given: &str) -> Result<Vec<u8>, Unfound> {
-    let [entry, from, ..] = fields_of(given);
-    let bytes = bytes_of(alloc, entry)?;
-    shown(
-        alloc,
-        &first_other_front(bytes.as_slice(), place_of(from)?)?,
-    )
+pub struct FirstOtherFrontIn;
+
+impl Finds for FirstOtherFrontIn {
+    fn find(&self, given: &Given<'_, '_>, found: &mut Vec<u8>) -> Result<(), Unfound> {
+        let from = place_of(given.fields()[1])?;
+        show(found, &first_other_front(given.bytes, from)?)
+    }
 }
 
 /// The bytes of a row: the front of an entry, bytes 0 up to a length, bytes `a` up to another, and a byte 0.
-pub fn long_in(alloc: Global, given: &str) -> Result<Vec<u8>, Unfound> {
-    let [front, from, to, ..] = fields_of(given);
-    let mut bytes = bytes_of(alloc, front)?;
+pub fn long_in(alloc: Global, given: &Given<'_, '_>) -> Result<Vec<u8>, Unfound> {
+    let [_, from, to, ..] = given.fields();
+    let mut bytes = given.bytes.to_vec(alloc)?;
     bytes.resize(place_of(from)?, 0)?;
     bytes.resize(place_of(to)?, b'a')?;
     bytes.push(0)?;

@@ -1,43 +1,40 @@
 //! Sources that are read into a reader of entries: how often, and what is left if they fail.
 
 use super::entry_refusals::changed_in;
-use std::alloc::Global;
-use std::test::Fail;
+use crate::tests::check_rows;
 use ti_entry::{EntryReader, ReadStop, read_from};
-use ti_fixtures::{Source, Unfound, bytes_of, check_rows, debug_of, fields_of, place_of, shown};
+use ti_fixtures::{Finds, Given, Source, Unfound, only_if, place_of, show, show_debug};
 
 /// The source of a row: how many bytes it gives at a time, how many reads are interrupted before the first and before each
 /// of the others, and which read fails. What is no number is more than there are.
-fn source_in<'a>(bytes: &'a [u8], given: &str) -> Result<Source<'a>, Unfound> {
-    let [_, step, pending, interruptions, fails_at] = fields_of(given);
+fn source_in<'a>(given: &Given<'a, '_>) -> Result<Source<'a>, Unfound> {
+    let [_, step, pending, interruptions, fails_at] = given.fields();
     let most = |field: &str| place_of(field).unwrap_or(usize::MAX);
-    let mut source = Source::failing_at(bytes, most(step), most(fails_at));
+    let mut source = Source::failing_at(given.bytes, most(step), most(fails_at));
     source.pending = u32::try_from(place_of(pending)?)?;
     source.interruptions = u32::try_from(place_of(interruptions)?)?;
     Ok(source)
 }
 
-/// What reading a source comes to, how many reads are made, and how many bytes are kept.
-fn read_as(
-    alloc: Global,
+/// Adds what reading a source comes to, how many reads are made, and how many bytes are kept. Whether it is read.
+fn show_reading(
+    found: &mut Vec<u8>,
     reader: &mut EntryReader,
     source: &mut Source<'_>,
-) -> Result<Vec<u8>, Unfound> {
+) -> Result<bool, Unfound> {
     let result = read_from(reader, source);
-    debug_of(alloc, &(result, source.calls, reader.kept()))
+    show_debug(found, &(result, source.calls, reader.kept()))?;
+    Ok(result.is_ok())
 }
 
 /// The same for a source of a row, which is an entry if it is read.
-fn reading_in(alloc: Global, given: &str) -> Result<Vec<u8>, Unfound> {
-    let [entry, ..] = fields_of(given);
-    let bytes = bytes_of(alloc, entry)?;
-    let mut reader = EntryReader::new();
-    let said = read_as(alloc, &mut reader, &mut source_in(bytes.as_slice(), given)?)?;
-    let is_read = said.starts_with(b"(Ok");
-    if is_read == reader.finish().is_ok() {
-        Ok(said)
-    } else {
-        Err(Unfound)
+struct ReadingIn;
+
+impl Finds for ReadingIn {
+    fn find(&self, given: &Given<'_, '_>, found: &mut Vec<u8>) -> Result<(), Unfound> {
+        let mut reader = EntryReader::new();
+        let is_read = show_reading(found, &mut reader, &mut source_in(given)?)?;
+        only_if(is_read == reader.finish().is_ok())
     }
 }
 
@@ -52,8 +49,8 @@ const READ: &str = r"
 ";
 
 #[test]
-fn a_source_is_read_in_pieces(rt: HostRuntime) -> Result<(), Fail> {
-    check_rows(rt.alloc(), READ, reading_in)
+fn a_source_is_read_in_pieces(rt: HostRuntime) {
+    check_rows(&rt, READ, &ReadingIn);
 }
 
 /// Whether a second reading, with as many interruptions as may be, goes on to the entry `t`.
@@ -67,16 +64,14 @@ fn is_going_on(reader: &mut EntryReader, source: &mut Source<'_>) -> bool {
 }
 
 /// What reading a source of a row comes to, if a second reading goes on.
-fn going_on_in(alloc: Global, given: &str) -> Result<Vec<u8>, Unfound> {
-    let [entry, ..] = fields_of(given);
-    let bytes = bytes_of(alloc, entry)?;
-    let mut source = source_in(bytes.as_slice(), given)?;
-    let mut reader = EntryReader::new();
-    let said = read_as(alloc, &mut reader, &mut source)?;
-    if is_going_on(&mut reader, &mut source) {
-        Ok(said)
-    } else {
-        Err(Unfound)
+struct GoingOnIn;
+
+impl Finds for GoingOnIn {
+    fn find(&self, given: &Given<'_, '_>, found: &mut Vec<u8>) -> Result<(), Unfound> {
+        let mut source = source_in(given)?;
+        let mut reader = EntryReader::new();
+        let _is_read = show_reading(found, &mut reader, &mut source)?;
+        only_if(is_going_on(&mut reader, &mut source))
     }
 }
 
@@ -92,18 +87,20 @@ const STOPPED: &str = r"
 ";
 
 #[test]
-fn a_reader_goes_on_after_a_source_that_failed(rt: HostRuntime) -> Result<(), Fail> {
-    check_rows(rt.alloc(), STOPPED, going_on_in)
+fn a_reader_goes_on_after_a_source_that_failed(rt: HostRuntime) {
+    check_rows(&rt, STOPPED, &GoingOnIn);
 }
 
 /// What reading the bytes of a row one by one comes to.
-fn one_by_one_in(alloc: Global, given: &str) -> Result<Vec<u8>, Unfound> {
-    let bytes = changed_in(alloc, given)?;
-    read_as(
-        alloc,
-        &mut EntryReader::new(),
-        &mut Source::new(bytes.as_slice(), 1),
-    )
+struct OneByOneIn;
+
+impl Finds for OneByOneIn {
+    fn find(&self, given: &Given<'_, '_>, found: &mut Vec<u8>) -> Result<(), Unfound> {
+        let bytes = changed_in(*found.allocator(), given)?;
+        let mut source = Source::new(bytes.as_slice(), 1);
+        let _is_read = show_reading(found, &mut EntryReader::new(), &mut source)?;
+        Ok(())
+    }
 }
 
 /// Entries with bytes 0 up to a length, and what reading them one by one comes to.
@@ -116,8 +113,8 @@ const LONG: &str = r"
 ";
 
 #[test]
-fn a_source_is_not_read_past_the_byte_that_decides(rt: HostRuntime) -> Result<(), Fail> {
-    check_rows(rt.alloc(), LONG, one_by_one_in)
+fn a_source_is_not_read_past_the_byte_that_decides(rt: HostRuntime) {
+    check_rows(&rt, LONG, &OneByOneIn);
 }
 
 /// How many bytes are kept of a source that gives one at a time and fails at a read.
@@ -129,14 +126,17 @@ fn kept_before(bytes: &[u8], call: usize) -> Option<usize> {
 }
 
 /// The first read at which a source does not fail, or with other bytes kept than those of the reads before it.
-fn first_other_read(alloc: Global, given: &str) -> Result<Vec<u8>, Unfound> {
-    let bytes = bytes_of(alloc, given)?;
-    for kept in 0..100usize {
-        if kept_before(bytes.as_slice(), kept + 1) != Some(kept) {
-            return shown(alloc, &(kept + 1));
+struct FirstOtherRead;
+
+impl Finds for FirstOtherRead {
+    fn find(&self, given: &Given<'_, '_>, found: &mut Vec<u8>) -> Result<(), Unfound> {
+        for kept in 0..100usize {
+            if kept_before(given.bytes, kept + 1) != Some(kept) {
+                return show(found, &(kept + 1));
+            }
         }
+        Err(Unfound)
     }
-    Err(Unfound)
 }
 
 /// The extended entry of 53 bytes, after which one more read brings none.
@@ -145,6 +145,6 @@ const FAILING: &str = r"
 ";
 
 #[test]
-fn a_source_that_fails_leaves_what_came(rt: HostRuntime) -> Result<(), Fail> {
-    check_rows(rt.alloc(), FAILING, first_other_read)
+fn a_source_that_fails_leaves_what_came(rt: HostRuntime) {
+    check_rows(&rt, FAILING, &FirstOtherRead);
 }

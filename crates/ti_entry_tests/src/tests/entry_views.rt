@@ -2,7 +2,7 @@
 
 use std::alloc::{AllocError, Global};
 use ti_entry::{Entry, EntryReader, Extended, Refused, read};
-use ti_fixtures::{Unfound, debug_of};
+use ti_fixtures::{Unfound, show_debug};
 use ti_words::{Flag, Kind, Number, Text};
 
 /// The entry that the bytes spell.
@@ -37,10 +37,11 @@ fn texts_of<'a>(alloc: Global, entry: &Entry<'a>) -> Result<Vec<Text<'a>>, Alloc
     Ok(texts)
 }
 
-/// What an entry says, but for its extended part: its format, its names, its flags, its numbers and its texts.
-fn said_by_standard(alloc: Global, entry: &Entry<'_>) -> Result<Vec<u8>, Unfound> {
-    debug_of(
-        alloc,
+/// Adds what an entry says, but for its extended part: its format, its names, its flags, its numbers and its texts.
+fn show_standard(found: &mut Vec<u8>, entry: &Entry<'_>) -> Result<(), Unfound> {
+    let alloc = *found.allocator();
+    show_debug(
+        found,
         &(
             entry.width(),
             entry.names(),
@@ -90,10 +91,11 @@ fn extended_texts_of<'a>(
     Ok(texts)
 }
 
-/// What an extended part says: its flags, its numbers and its texts, with their names.
-fn said_by_extended(alloc: Global, extended: &Extended<'_>) -> Result<Vec<u8>, Unfound> {
-    debug_of(
-        alloc,
+/// Adds what an extended part says: its flags, its numbers and its texts, with their names.
+fn show_extended(found: &mut Vec<u8>, extended: &Extended<'_>) -> Result<(), Unfound> {
+    let alloc = *found.allocator();
+    show_debug(
+        found,
         &(
             extended_flags_of(alloc, extended)?.as_slice(),
             extended_numbers_of(alloc, extended)?.as_slice(),
@@ -102,11 +104,10 @@ fn said_by_extended(alloc: Global, extended: &Extended<'_>) -> Result<Vec<u8>, U
     )
 }
 
-/// What an entry says, and then what its extended part does.
-pub fn said_by(alloc: Global, entry: &Entry<'_>) -> Result<Vec<u8>, Unfound> {
-    let mut said = said_by_standard(alloc, entry)?;
-    said.extend_from_slice(said_by_extended(alloc, &entry.extended())?.as_slice())?;
-    Ok(said)
+/// Adds what an entry says, and then what its extended part does.
+pub fn show_entry(found: &mut Vec<u8>, entry: &Entry<'_>) -> Result<(), Unfound> {
+    show_standard(found, entry)?;
+    show_extended(found, &entry.extended())
 }
 
 /// Whether two entries say the same but for their extended parts.

@@ -1,10 +1,9 @@
 //! Entries with an extended part: what its names are, and what a changed byte makes of them.
 
-use super::entry_refusals::{long_in, refusal, refusal_in, refusal_shown};
+use super::entry_refusals::{RefusalIn, long_in, show_refusal};
 use super::entry_views::entry_of;
-use std::alloc::Global;
-use std::test::Fail;
-use ti_fixtures::{Unfound, bytes_of, check_rows, debug_of, fields_of};
+use crate::tests::check_rows;
+use ti_fixtures::{Finds, Given, Unfound, show_debug};
 
 /// Entries and names, with the capability of that name, and the text.
 const FOUND: &str = r"
@@ -17,23 +16,24 @@ const FOUND: &str = r"
 ";
 
 /// Where the name of a row stands.
-fn found_in(alloc: Global, given: &str) -> Result<Vec<u8>, Unfound> {
-    let [entry, name, ..] = fields_of(given);
-    let bytes = bytes_of(alloc, entry)?;
-    let name = bytes_of(alloc, name)?;
-    let extended = entry_of(bytes.as_slice())?.extended();
-    debug_of(
-        alloc,
-        &(
-            extended.find(name.as_slice()),
-            extended.find_text(name.as_slice()),
-        ),
-    )
+struct FoundIn;
+
+impl Finds for FoundIn {
+    fn find(&self, given: &Given<'_, '_>, found: &mut Vec<u8>) -> Result<(), Unfound> {
+        let extended = entry_of(given.bytes)?.extended();
+        show_debug(
+            found,
+            &(
+                extended.find(given.second),
+                extended.find_text(given.second),
+            ),
+        )
+    }
 }
 
 #[test]
-fn extended_capabilities_are_found_by_their_names(rt: HostRuntime) -> Result<(), Fail> {
-    check_rows(rt.alloc(), FOUND, found_in)
+fn extended_capabilities_are_found_by_their_names(rt: HostRuntime) {
+    check_rows(&rt, FOUND, &FoundIn);
 }
 
 /// An entry, a place, what the bytes there are changed to and a length, and why they are refused.
@@ -52,14 +52,18 @@ const REFUSED: &str = r"
 ";
 
 #[test]
-fn changed_bytes_of_an_extended_part_are_refused(rt: HostRuntime) -> Result<(), Fail> {
-    check_rows(rt.alloc(), REFUSED, refusal_in)
+fn changed_bytes_of_an_extended_part_are_refused(rt: HostRuntime) {
+    check_rows(&rt, REFUSED, &RefusalIn);
 }
 
 /// Why the long entry of a row is refused.
-fn refusal_of_long(alloc: Global, given: &str) -> Result<Vec<u8>, Unfound> {
-    let bytes = long_in(alloc, given)?;
-    refusal_shown(alloc, refusal(bytes.as_slice())?)
+struct RefusalOfLong;
+
+impl Finds for RefusalOfLong {
+    fn find(&self, given: &Given<'_, '_>, found: &mut Vec<u8>) -> Result<(), Unfound> {
+        let bytes = long_in(*found.allocator(), given)?;
+        show_refusal(found, bytes.as_slice())
+    }
 }
 
 /// The small entry with 6000 extended texts at the one place of a table of 7000 bytes: their sizes sum past it.
@@ -68,6 +72,6 @@ const MANY: &str = r"
 ";
 
 #[test]
-fn many_extended_texts_are_too_long(rt: HostRuntime) -> Result<(), Fail> {
-    check_rows(rt.alloc(), MANY, refusal_of_long)
+fn many_extended_texts_are_too_long(rt: HostRuntime) {
+    check_rows(&rt, MANY, &RefusalOfLong);
 }

@@ -1,9 +1,8 @@
 //! Names of capabilities, which are those of ncurses.
 
-use std::alloc::Global;
+use crate::tests::check_rows;
 use std::str::from_utf8;
-use std::test::Fail;
-use ti_fixtures::{Unfound, bytes_of, check_rows, debug_of, fields_of, place_of};
+use ti_fixtures::{Finds, Given, Unfound, only_if, place_of, show_debug};
 use ti_names::{NameTable, find, find_short_or_long, flag_name, number_name, text_name};
 use ti_words::Kind;
 
@@ -28,20 +27,24 @@ fn kind_of(field: &str) -> Kind {
 }
 
 /// The common name of a row.
-fn common_name_in(alloc: Global, given: &str) -> Result<Vec<u8>, Unfound> {
-    let [kind, index, ..] = fields_of(given);
-    let index = place_of(index)?;
-    let name = match kind_of(kind) {
-        Kind::Flag => flag_name(index),
-        Kind::Number => number_name(index),
-        Kind::Text => text_name(index),
-    };
-    Ok(name.unwrap_or("").as_bytes().to_vec(alloc)?)
+struct CommonNameIn;
+
+impl Finds for CommonNameIn {
+    fn find(&self, given: &Given<'_, '_>, found: &mut Vec<u8>) -> Result<(), Unfound> {
+        let [kind, index, ..] = given.fields();
+        let index = place_of(index)?;
+        let name = match kind_of(kind) {
+            Kind::Flag => flag_name(index),
+            Kind::Number => number_name(index),
+            Kind::Text => text_name(index),
+        };
+        Ok(found.extend_from_slice(name.unwrap_or("").as_bytes())?)
+    }
 }
 
 #[test]
-fn names_are_those_of_ncurses(rt: HostRuntime) -> Result<(), Fail> {
-    check_rows(rt.alloc(), COMMON, common_name_in)
+fn names_are_those_of_ncurses(rt: HostRuntime) {
+    check_rows(&rt, COMMON, &CommonNameIn);
 }
 
 /// The same for the tables of names.
@@ -67,20 +70,24 @@ fn table_of(field: &str) -> NameTable {
 }
 
 /// The name of a row.
-fn name_in(alloc: Global, given: &str) -> Result<Vec<u8>, Unfound> {
-    let [kind, index, table, ..] = fields_of(given);
-    let (table, index) = (table_of(table), place_of(index)?);
-    let name = match kind_of(kind) {
-        Kind::Flag => table.flag_name(index),
-        Kind::Number => table.number_name(index),
-        Kind::Text => table.text_name(index),
-    };
-    Ok(name.unwrap_or("").as_bytes().to_vec(alloc)?)
+struct NameIn;
+
+impl Finds for NameIn {
+    fn find(&self, given: &Given<'_, '_>, found: &mut Vec<u8>) -> Result<(), Unfound> {
+        let [kind, index, table, ..] = given.fields();
+        let (table, index) = (table_of(table), place_of(index)?);
+        let name = match kind_of(kind) {
+            Kind::Flag => table.flag_name(index),
+            Kind::Number => table.number_name(index),
+            Kind::Text => table.text_name(index),
+        };
+        Ok(found.extend_from_slice(name.unwrap_or("").as_bytes())?)
+    }
 }
 
 #[test]
-fn all_names_are_those_of_ncurses(rt: HostRuntime) -> Result<(), Fail> {
-    check_rows(rt.alloc(), IN_TABLES, name_in)
+fn all_names_are_those_of_ncurses(rt: HostRuntime) {
+    check_rows(&rt, IN_TABLES, &NameIn);
 }
 
 /// Common names, and where they stand.
@@ -91,13 +98,18 @@ xon => Some((Flag, 20))
  => None
 ";
 
+/// Where a common name stands.
+struct CommonPlace;
+
+impl Finds for CommonPlace {
+    fn find(&self, given: &Given<'_, '_>, found: &mut Vec<u8>) -> Result<(), Unfound> {
+        show_debug(found, &find(given.text))
+    }
+}
+
 #[test]
-fn common_names_are_found(rt: HostRuntime) -> Result<(), Fail> {
-    check_rows(
-        rt.alloc(),
-        PLACES,
-        |alloc, given| debug_of(alloc, &find(given)),
-    )
+fn common_names_are_found(rt: HostRuntime) {
+    check_rows(&rt, PLACES, &CommonPlace);
 }
 
 /// Names, a table, and where it has them.
@@ -112,19 +124,23 @@ cup | common => Some((Text, 10))
 ";
 
 /// Where a name stands, which as a text and as bytes is the same.
-fn place_in(alloc: Global, given: &str) -> Result<Vec<u8>, Unfound> {
-    let [name, table, ..] = fields_of(given);
-    let (name, table) = (bytes_of(alloc, name)?, table_of(table));
-    let place = table.find_bytes(name.as_slice());
-    match from_utf8(name.as_slice()) {
-        Ok(text) if table.find(text) != place => Err(Unfound),
-        _ => debug_of(alloc, &place),
+struct PlaceIn;
+
+impl Finds for PlaceIn {
+    fn find(&self, given: &Given<'_, '_>, found: &mut Vec<u8>) -> Result<(), Unfound> {
+        let table = table_of(given.fields()[1]);
+        let place = table.find_bytes(given.bytes);
+        show_debug(found, &place)?;
+        match from_utf8(given.bytes) {
+            Ok(text) => only_if(table.find(text) == place),
+            Err(_) => Ok(()),
+        }
     }
 }
 
 #[test]
-fn names_are_found_in_tables(rt: HostRuntime) -> Result<(), Fail> {
-    check_rows(rt.alloc(), PLACES_IN_TABLES, place_in)
+fn names_are_found_in_tables(rt: HostRuntime) {
+    check_rows(&rt, PLACES_IN_TABLES, &PlaceIn);
 }
 
 /// Names, short or long, and where they stand.
@@ -135,11 +151,16 @@ set_a_foregrounD => None
  => None
 ";
 
+/// Where a name stands, short or long.
+struct ShortOrLongPlace;
+
+impl Finds for ShortOrLongPlace {
+    fn find(&self, given: &Given<'_, '_>, found: &mut Vec<u8>) -> Result<(), Unfound> {
+        show_debug(found, &find_short_or_long(given.bytes))
+    }
+}
+
 #[test]
-fn names_are_found_short_or_long(rt: HostRuntime) -> Result<(), Fail> {
-    check_rows(
-        rt.alloc(),
-        SHORT_OR_LONG,
-        |alloc, given| debug_of(alloc, &find_short_or_long(given.as_bytes())),
-    )
+fn names_are_found_short_or_long(rt: HostRuntime) {
+    check_rows(&rt, SHORT_OR_LONG, &ShortOrLongPlace);
 }

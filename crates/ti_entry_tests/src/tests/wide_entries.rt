@@ -1,11 +1,10 @@
 //! Entries of the 32-bit format: what they say and how they are written.
 
 use super::drafts_written::written_again;
-use super::entries_read::said_in;
-use super::entry_refusals::{changed_in, refusal_in};
-use std::alloc::Global;
-use std::test::Fail;
-use ti_fixtures::{Unfound, check_rows};
+use super::entries_read::SaidIn;
+use super::entry_refusals::{RefusalIn, changed_in};
+use crate::tests::check_rows;
+use ti_fixtures::{Finds, Given, Unfound};
 
 /// Entries of the 32-bit format and their numbers of four bytes, and what they say: see `entries_read`.
 const SAID: &str = r"
@@ -21,19 +20,23 @@ const SAID: &str = r"
 ";
 
 #[test]
-fn wide_entries_say_what_they_say(rt: HostRuntime) -> Result<(), Fail> {
-    check_rows(rt.alloc(), SAID, said_in)
+fn wide_entries_say_what_they_say(rt: HostRuntime) {
+    check_rows(&rt, SAID, &SaidIn);
 }
 
 /// What the draft of an entry of a row is written as, but if that is the entry, nothing.
-fn written_alike(alloc: Global, given: &str) -> Result<Vec<u8>, Unfound> {
-    let bytes = changed_in(alloc, given)?;
-    let again = written_again(alloc, bytes.as_slice())?;
-    Ok(if again.as_slice() == bytes.as_slice() {
-        Vec::new(alloc)
-    } else {
-        again
-    })
+struct WrittenAlike;
+
+impl Finds for WrittenAlike {
+    fn find(&self, given: &Given<'_, '_>, found: &mut Vec<u8>) -> Result<(), Unfound> {
+        let alloc = *found.allocator();
+        let bytes = changed_in(alloc, given)?;
+        let again = written_again(alloc, bytes.as_slice())?;
+        if again.as_slice() != bytes.as_slice() {
+            found.extend_from_slice(again.as_slice())?;
+        }
+        Ok(())
+    }
 }
 
 /// Entries that are written as they are.
@@ -47,8 +50,8 @@ const WRITTEN: &str = r"
 ";
 
 #[test]
-fn wide_entries_are_written_as_they_are(rt: HostRuntime) -> Result<(), Fail> {
-    check_rows(rt.alloc(), WRITTEN, written_alike)
+fn wide_entries_are_written_as_they_are(rt: HostRuntime) {
+    check_rows(&rt, WRITTEN, &WrittenAlike);
 }
 
 /// Bytes of the 32-bit format, and why they are refused.
@@ -63,6 +66,6 @@ const REFUSED: &str = r"
 ";
 
 #[test]
-fn wide_bytes_are_refused(rt: HostRuntime) -> Result<(), Fail> {
-    check_rows(rt.alloc(), REFUSED, refusal_in)
+fn wide_bytes_are_refused(rt: HostRuntime) {
+    check_rows(&rt, REFUSED, &RefusalIn);
 }

@@ -1,0 +1,5 @@
+//! What a caller writes: for each library crate a first program, which its README shows.
+
+mod escape;
+mod pad;
+mod trace;
