@@ -131,30 +131,32 @@ pub struct Look {
     pub prefix: &'static [u8],
 }
 
-/// The lines on an entry.
-pub fn lines_with(
-    alloc: Global,
+/// Adds the lines on an entry.
+pub fn add_report(
+    lines: &mut Vec<u8>,
     trials: &mut Trials,
     look: Look,
     file: &[u8],
-) -> Result<Vec<u8>, Unfound> {
-    let mut lines = Vec::new(alloc);
-    push_report(
+) -> Result<(), Unfound> {
+    let alloc = *lines.allocator();
+    let entry = read(file)?;
+    Ok(push_report(
         alloc,
-        &mut lines,
+        lines,
         trials,
         look.scope,
         look.color,
         look.prefix,
         file,
-        &read(file)?,
-    )?;
-    Ok(lines)
+        &entry,
+    )?)
 }
 
 /// The lines on an entry that was not tried before.
 pub fn lines_on(alloc: Global, look: Look, file: &[u8]) -> Result<Vec<u8>, Unfound> {
-    lines_with(alloc, &mut Trials::new(alloc), look, file)
+    let mut lines = Vec::new(alloc);
+    add_report(&mut lines, &mut Trials::new(alloc), look, file)?;
+    Ok(lines)
 }
 
 /// Mistakes, without color and without a name in front.
@@ -175,9 +177,9 @@ pub fn look_of(words: &str) -> Look {
     }
 }
 
-/// The lines on the entry of a row, after the look.
-pub fn lines_in(alloc: Global, trials: &mut Trials, given: &str) -> Result<Vec<u8>, Unfound> {
+/// Adds the lines on the entry of a row, after the look.
+pub fn add_lines(found: &mut Vec<u8>, trials: &mut Trials, given: &str) -> Result<(), Unfound> {
     let (look, entry) = given.split_once(" | ").ok_or("a look")?;
-    let file = entry_of(alloc, entry)?;
-    lines_with(alloc, trials, look_of(look), file.as_slice())
+    let file = entry_of(*found.allocator(), entry)?;
+    add_report(found, trials, look_of(look), file.as_slice())
 }

@@ -1,14 +1,13 @@
 //! What is wrong with tokens of capabilities on some of their paths, or by their conditionals: rows worked by hand.
 
+use crate::tests::check_rows;
 use Finding::{
     ConstantCondition, DeadStore, LateIncrement, NoEffect, OperandType, ParameterRange,
     RepeatedCondition, RepeatedIncrement, StackResidue, StackUnderflow, TermcapParameter,
     UnsetVariable, UnusedIncrement,
 };
-use std::alloc::Global;
-use std::test::Fail;
 use ti_cap::Capability;
-use ti_fixtures::{Unfound, bytes_of, check_rows, fields_of, number_of, shown, shown_numbers};
+use ti_fixtures::{Finds, Given, Unfound, number_of, show, show_debug};
 use ti_lint::{
     Expected, Finding, PlacedFinding, TextParameters, Variables, findings_of, text_parameters,
 };
@@ -103,38 +102,41 @@ const ROWS: &str = r"
 %?%p1%tA%e%p1%;%d | 1 | 0 => 15 stack-underflow
 ";
 
-/// Findings with their places.
-fn listed(alloc: Global, findings: &[PlacedFinding]) -> Result<Vec<u8>, Unfound> {
-    let mut list = Vec::new(alloc);
-    for found in findings {
-        if !list.is_empty() {
-            list.push(b' ')?;
+/// Adds findings with their places.
+fn show_findings(found: &mut Vec<u8>, findings: &[PlacedFinding]) -> Result<(), Unfound> {
+    for PlacedFinding { place, finding } in findings {
+        if !found.is_empty() {
+            found.push(b' ')?;
         }
-        list.extend_from_slice(shown(alloc, &found.place)?.as_slice())?;
-        list.push(b' ')?;
-        list.extend_from_slice(found.finding.word().as_bytes())?;
+        show(found, place)?;
+        found.push(b' ')?;
+        found.extend_from_slice(finding.word().as_bytes())?;
     }
-    Ok(list)
+    Ok(())
 }
 
 /// What is wrong with the capability of a row.
-fn findings_in(alloc: Global, given: &str) -> Result<Vec<u8>, Unfound> {
-    let [text, parameters, mask, ..] = fields_of(given);
-    let bytes = bytes_of(alloc, text)?;
-    let expected = Expected {
-        parameters: parameters.parse::<u8>()?,
-        texts: TextParameters::NONE,
-        stored: Variables {
-            mask: number_of(mask)?,
-        },
-    };
-    let found = findings_of(alloc, &Capability::parse(bytes.as_slice())?, expected)?;
-    listed(alloc, found.as_slice())
+struct FindingsIn;
+
+impl Finds for FindingsIn {
+    fn find(&self, given: &Given<'_, '_>, found: &mut Vec<u8>) -> Result<(), Unfound> {
+        let [_, parameters, mask, ..] = given.fields();
+        let expected = Expected {
+            parameters: parameters.parse::<u8>()?,
+            texts: TextParameters::NONE,
+            stored: Variables {
+                mask: number_of(mask)?,
+            },
+        };
+        let capability = Capability::parse(given.bytes)?;
+        let findings = findings_of(*found.allocator(), &capability, expected)?;
+        show_findings(found, findings.as_slice())
+    }
 }
 
 #[test]
-fn findings_hold_on_some_path(rt: HostRuntime) -> Result<(), Fail> {
-    check_rows(rt.alloc(), ROWS, findings_in)
+fn findings_hold_on_some_path(rt: HostRuntime) {
+    check_rows(&rt, ROWS, &FindingsIn);
 }
 
 /// The name of a capability with two parameters, the capability, and where it takes a value of the other kind.
@@ -158,43 +160,60 @@ pfkey | %?%p1%t%p2%e%p2%;%d => 17
 pfkey | %?%p1%t%p2%;%d => -
 ";
 
-/// The places of the findings on operands.
-fn places_of(alloc: Global, findings: &[PlacedFinding]) -> Result<Vec<u8>, Unfound> {
-    let mut places = Vec::new(alloc);
-    for found in findings {
-        if found.finding == OperandType {
-            places.push(found.place as u64)?;
+/// Adds the places of the findings on operands.
+fn show_places(found: &mut Vec<u8>, findings: &[PlacedFinding]) -> Result<(), Unfound> {
+    for PlacedFinding { place, finding } in findings {
+        if *finding == OperandType {
+            if !found.is_empty() {
+                found.push(b' ')?;
+            }
+            show(found, place)?;
         }
     }
-    shown_numbers(alloc, places.as_slice())
+    Ok(())
 }
 
 /// Where the capability of a row takes a value of the other kind.
-fn places_in(alloc: Global, given: &str) -> Result<Vec<u8>, Unfound> {
-    let [name, text, ..] = fields_of(given);
-    let bytes = bytes_of(alloc, text)?;
-    let expected = Expected {
-        parameters: 2,
-        texts: text_parameters(name.as_bytes()),
-        stored: Variables::NONE,
-    };
-    let found = findings_of(alloc, &Capability::parse(bytes.as_slice())?, expected)?;
-    places_of(alloc, found.as_slice())
+struct PlacesIn;
+
+impl Finds for PlacesIn {
+    fn find(&self, given: &Given<'_, '_>, found: &mut Vec<u8>) -> Result<(), Unfound> {
+        let expected = Expected {
+            parameters: 2,
+            texts: text_parameters(given.bytes),
+            stored: Variables::NONE,
+        };
+        let capability = Capability::parse(given.second)?;
+        let findings = findings_of(*found.allocator(), &capability, expected)?;
+        show_places(found, findings.as_slice())
+    }
 }
 
 #[test]
-fn values_are_of_the_kind_that_is_taken(rt: HostRuntime) -> Result<(), Fail> {
-    check_rows(rt.alloc(), KINDS, places_in)
+fn values_are_of_the_kind_that_is_taken(rt: HostRuntime) {
+    check_rows(&rt, KINDS, &PlacesIn);
+}
+
+/// Names, and which of their first three parameters are texts.
+const PARAMETERS: &str = r"
+pfxl => (false, true, true)
+Ms => (true, true, false)
+cup => (false, false, false)
+";
+
+/// Which parameters of a name are texts.
+struct AreTexts;
+
+impl Finds for AreTexts {
+    fn find(&self, given: &Given<'_, '_>, found: &mut Vec<u8>) -> Result<(), Unfound> {
+        let texts = text_parameters(given.bytes);
+        show_debug(found, &(texts.first, texts.second, texts.third))
+    }
 }
 
 #[test]
-fn some_parameters_are_texts(rt: HostRuntime) -> Result<(), Fail> {
-    let third = text_parameters(b"pfxl");
-    assert_that!(rt; !third.first && third.second && third.third);
-    let first = text_parameters(b"Ms");
-    assert_that!(rt; first.first && first.second && !first.third);
-    assert_that!(rt; text_parameters(b"cup") == TextParameters::NONE);
-    Ok(())
+fn some_parameters_are_texts(rt: HostRuntime) {
+    check_rows(&rt, PARAMETERS, &AreTexts);
 }
 
 /// The findings, and their words.
@@ -229,15 +248,29 @@ fn each_finding_has_a_word(rt: HostRuntime) {
     assert_that!(rt; first_other(WORDS).is_empty());
 }
 
+/// Letters and other characters, and whether the set of `D` and `z` has them.
+const CONTAINED: &str = r"
+D => true
+z => true
+d => false
+@ => false
+{ => false
+";
+
+/// Whether the set has a character.
+struct IsContained;
+
+impl Finds for IsContained {
+    fn find(&self, given: &Given<'_, '_>, found: &mut Vec<u8>) -> Result<(), Unfound> {
+        let set = Variables {
+            mask: 1 << 3 | 1 << 57,
+        };
+        let letter = *given.bytes.first().ok_or("a letter")?;
+        show(found, &set.contains(letter))
+    }
+}
+
 #[test]
-fn a_set_has_the_letters_of_its_bits(rt: HostRuntime) -> Result<(), Fail> {
-    let set = Variables {
-        mask: 1 << 3 | 1 << 57,
-    };
-    assert_that!(rt; set.contains(b'D'));
-    assert_that!(rt; set.contains(b'z'));
-    assert_that!(rt; !set.contains(b'd'));
-    assert_that!(rt; !set.contains(b'@'));
-    assert_that!(rt; !set.contains(b'{'));
-    Ok(())
+fn a_set_has_the_letters_of_its_bits(rt: HostRuntime) {
+    check_rows(&rt, CONTAINED, &IsContained);
 }

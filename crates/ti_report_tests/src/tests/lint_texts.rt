@@ -1,8 +1,8 @@
 //! What terminfo(5) says of the texts, and what capabilities store and leave out.
 
-use std::test::Fail;
+use crate::tests::check_rows;
 use ti_cap::{Capability, Token};
-use ti_fixtures::capabilities::CUP;
+use ti_fixtures::{Finds, Given, Unfound, place_of, show, show_debug};
 use ti_lint::{
     TextFinding, Variables, extended_class_of, is_double_percent, is_false_mark, is_half_paired,
     is_mark, is_meant_to_expand, stored_by, toggling_pairs, undoing_pairs, unused_parameters,
@@ -50,74 +50,155 @@ fn texts_have_their_classes(rt: HostRuntime) {
     assert_that!(rt; class_of(413).is_some() && class_of(414).is_none());
 }
 
-#[test]
-fn capabilities_store_into_variables(rt: HostRuntime) -> Result<(), Fail> {
-    // `setf` of qnx stores into `f` alone.
-    let stored = stored_by(&Capability::parse(b"\x1b@%p1%Pf%gb%gf%d%d")?);
-    assert_that!(rt; stored.contains(b'f'));
-    assert_that!(rt; !stored.contains(b'b'));
-    let both = stored_by(&Capability::parse(b"%?%p1%t%{1}%PA%e%{2}%PZ%;")?);
-    assert_that!(rt; both == Variables { mask: 1 | 1 << 25 });
-    assert_that!(rt; both.union(stored).contains(b'f'));
-    Ok(())
+/// Capabilities, and the masks of the variables into which they store.
+const STORED: &str = r"
+# `setf` of qnx stores into `f` alone, which is bit 37.
+\E@%p1%Pf%gb%gf%d%d => 137438953472
+%?%p1%t%{1}%PA%e%{2}%PZ%; => 33554433
+";
+
+/// The mask of the variables into which a capability stores.
+struct StoredBy;
+
+impl Finds for StoredBy {
+    fn find(&self, given: &Given<'_, '_>, found: &mut Vec<u8>) -> Result<(), Unfound> {
+        show(found, &stored_by(&Capability::parse(given.bytes)?).mask)
+    }
 }
 
 #[test]
-fn parameters_are_left_out(rt: HostRuntime) -> Result<(), Fail> {
-    let cup = Capability::parse(CUP)?;
-    assert_that!(rt; unused_parameters(&cup, 2).mask == 0);
-    assert_that!(rt; unused_parameters(&cup, 4).mask == 0b1100);
-    assert_that!(rt; unused_parameters(&cup, 0).mask == 0);
-    // A path that is not always taken pushes it.
-    let one = Capability::parse(b"%?%p1%t%p3%d%;")?;
-    assert_that!(rt; unused_parameters(&one, 3).mask == 0b10);
-    assert_that!(rt; unused_parameters(&one, 9).contains(9));
-    Ok(())
+fn capabilities_store_into_variables(rt: HostRuntime) {
+    check_rows(&rt, STORED, &StoredBy);
 }
 
 #[test]
-fn two_percent_signs_are_found(rt: HostRuntime) -> Result<(), Fail> {
-    // `kf50` of d200, and `rmacs` of f110 and of tvi955.
-    assert_that!(rt; !is_double_percent(b"\x1e%%", 0) && is_double_percent(b"\x1e%%", 1));
-    assert_that!(rt; !is_double_percent(b"\x1b%%", 0) && is_double_percent(b"\x1b%%", 1));
-    assert_that!(rt; !is_double_percent(b"\x1b%", 0) && !is_double_percent(b"\x1b%", 1));
-    assert_that!(rt; !is_double_percent(b"%a%%%", 0) && !is_double_percent(b"%a%%%", 1));
-    assert_that!(rt; is_double_percent(b"%a%%%", 2) && is_double_percent(b"%a%%%", 3));
-    assert_that!(rt; !is_double_percent(b"%a%%%", 4));
-    assert_that!(rt; !is_double_percent(b"%%", 2));
-    assert_that!(rt; !is_double_percent(b"", 0));
-    Ok(())
+fn two_sets_of_variables_are_joined(rt: HostRuntime) {
+    let (one, other) = (Variables { mask: 1 | 1 << 25 }, Variables { mask: 1 << 37 });
+    assert_that!(rt; one.union(other) == Variables { mask: 1 | 1 << 25 | 1 << 37 });
+}
+
+/// Capabilities with a count of parameters, and the mask of those up to it that nothing pushes.
+const UNUSED: &str = r"
+@CUP | 2 => 0
+@CUP | 4 => 12
+@CUP | 0 => 0
+# a path that is not always taken pushes the third
+%?%p1%t%p3%d%; | 3 => 2
+%?%p1%t%p3%d%; | 9 => 506
+";
+
+/// The mask of the parameters that a capability leaves out.
+struct LeftOutBy;
+
+impl Finds for LeftOutBy {
+    fn find(&self, given: &Given<'_, '_>, found: &mut Vec<u8>) -> Result<(), Unfound> {
+        let count = given.fields()[1].parse::<u8>()?;
+        let capability = Capability::parse(given.bytes)?;
+        show(found, &unused_parameters(&capability, count).mask)
+    }
 }
 
 #[test]
-fn padding_marks_are_found(rt: HostRuntime) -> Result<(), Fail> {
-    // `kdl1` of tvi921 has a mark, as a key must not.
-    assert_that!(rt; !is_mark(b"\x1bR$<1*/>", 1) && is_mark(b"\x1bR$<1*/>", 2));
-    assert_that!(rt; !is_mark(b"\x1bR$<1*/>", 3));
-    assert_that!(rt; !is_mark(b"$<5$<5>", 0) && is_mark(b"$<5$<5>", 3));
-    assert_that!(rt; !is_mark(b"$<>", 0));
-    assert_that!(rt; !is_mark(b"", 0));
-    // A mark has a digit, at most five before the point, and an end.
-    assert_that!(rt; !is_false_mark(b"a$<5>b$<>", 1) && is_false_mark(b"a$<5>b$<>", 6));
-    assert_that!(rt; is_false_mark(b"$<123456>", 0));
-    assert_that!(rt; is_false_mark(b"$<5$<5>", 0));
-    assert_that!(rt; !is_false_mark(b"$<5$<5>", 3));
-    assert_that!(rt; !is_false_mark(b"$$<.5/>", 0) && !is_false_mark(b"$$<.5/>", 1));
-    Ok(())
+fn parameters_are_left_out(rt: HostRuntime) {
+    check_rows(&rt, UNUSED, &LeftOutBy);
+}
+
+/// Texts and places, and whether one of two percent signs stands there. The first are `kf50` of d200, and `rmacs` of f110 and of
+/// tvi955.
+const PERCENT: &str = r"
+^^%% | 0 => false
+^^%% | 1 => true
+\E%% | 0 => false
+\E%% | 1 => true
+\E% | 0 => false
+\E% | 1 => false
+%a%%% | 0 => false
+%a%%% | 1 => false
+%a%%% | 2 => true
+%a%%% | 3 => true
+%a%%% | 4 => false
+%% | 2 => false
+- | 0 => false
+";
+
+/// Whether one of two percent signs stands at a place of a text.
+struct IsDoublePercent;
+
+impl Finds for IsDoublePercent {
+    fn find(&self, given: &Given<'_, '_>, found: &mut Vec<u8>) -> Result<(), Unfound> {
+        let place = place_of(given.fields()[1])?.min(given.bytes.len());
+        show(found, &is_double_percent(given.bytes, place))
+    }
 }
 
 #[test]
-fn some_tokens_are_meant_to_be_expanded(rt: HostRuntime) -> Result<(), Fail> {
+fn two_percent_signs_are_found(rt: HostRuntime) {
+    check_rows(&rt, PERCENT, &IsDoublePercent);
+}
+
+/// Texts and places, and whether a padding mark starts there. `kdl1` of tvi921 has a mark, as a key must not.
+const MARKS: &str = r"
+\ER$<1*/> | 1 => false
+\ER$<1*/> | 2 => true
+\ER$<1*/> | 3 => false
+$<5$<5> | 0 => false
+$<5$<5> | 3 => true
+$<> | 0 => false
+- | 0 => false
+";
+
+/// Whether a padding mark starts at a place of a text.
+struct IsMark;
+
+impl Finds for IsMark {
+    fn find(&self, given: &Given<'_, '_>, found: &mut Vec<u8>) -> Result<(), Unfound> {
+        let place = place_of(given.fields()[1])?.min(given.bytes.len());
+        show(found, &is_mark(given.bytes, place))
+    }
+}
+
+#[test]
+fn padding_marks_are_found(rt: HostRuntime) {
+    check_rows(&rt, MARKS, &IsMark);
+}
+
+/// The same for what starts as a mark and is none. A mark has a digit, at most five before the point, and an end.
+const FALSE_MARKS: &str = r"
+a$<5>b$<> | 1 => false
+a$<5>b$<> | 6 => true
+$<123456> | 0 => true
+$<5$<5> | 0 => true
+$<5$<5> | 3 => false
+$$<.5/> | 0 => false
+$$<.5/> | 1 => false
+";
+
+/// Whether something that is no mark starts like one at a place of a text.
+struct IsFalseMark;
+
+impl Finds for IsFalseMark {
+    fn find(&self, given: &Given<'_, '_>, found: &mut Vec<u8>) -> Result<(), Unfound> {
+        let place = place_of(given.fields()[1])?.min(given.bytes.len());
+        show(found, &is_false_mark(given.bytes, place))
+    }
+}
+
+#[test]
+fn false_padding_marks_are_found(rt: HostRuntime) {
+    check_rows(&rt, FALSE_MARKS, &IsFalseMark);
+}
+
+#[test]
+fn some_tokens_are_meant_to_be_expanded(rt: HostRuntime) {
     // `op` of d220 begins with ESC, `[` and `%?%gD%t`.
     assert_that!(rt; is_meant_to_expand(Token::CondOpen));
     assert_that!(rt; is_meant_to_expand(Token::Load(b'D')));
     assert_that!(rt; !is_meant_to_expand(Token::CondThen));
     assert_that!(rt; !is_meant_to_expand(Token::Byte(b'%')));
-    Ok(())
 }
 
 #[test]
-fn pairs_undo_each_other(rt: HostRuntime) -> Result<(), Fail> {
+fn pairs_undo_each_other(rt: HostRuntime) {
     for (names, pair) in [("sc", "rc"), ("smam", "rmam")].iter().zip(undoing_pairs()) {
         assert_that!(rt; names == pair);
     }
@@ -125,11 +206,10 @@ fn pairs_undo_each_other(rt: HostRuntime) -> Result<(), Fail> {
     // `acsc` of vt100 has 25 pairs; here are two.
     assert_that!(rt; !is_half_paired(b"``aa"));
     assert_that!(rt; is_half_paired(b"``aaf"));
-    Ok(())
 }
 
 #[test]
-fn modes_start_and_end(rt: HostRuntime) -> Result<(), Fail> {
+fn modes_start_and_end(rt: HostRuntime) {
     for (names, pair) in [("smso", "rmso"), ("smul", "rmul"), ("smcup", "rmcup")]
         .iter()
         .zip(toggling_pairs())
@@ -137,21 +217,33 @@ fn modes_start_and_end(rt: HostRuntime) -> Result<(), Fail> {
         assert_that!(rt; names == pair);
     }
     assert_that!(rt; toggling_pairs().len() == 18);
-    Ok(())
+}
+
+/// Names of an entry's own, and what their texts are.
+const OWN_CLASSES: &str = r"
+# user_caps(5): XM has one parameter, E3 has none, and the names of keys start with k
+XM => Some(Parameterized(1))
+E3 => Some(Plain)
+kDC5 => Some(Key)
+xm => Some(Input)
+# tmux(1) gives Ms two parameters
+Ms => Some(Parameterized(2))
+Xm => None
+- => None
+";
+
+/// What the text of an own name is.
+struct OwnClassOf;
+
+impl Finds for OwnClassOf {
+    fn find(&self, given: &Given<'_, '_>, found: &mut Vec<u8>) -> Result<(), Unfound> {
+        show_debug(found, &extended_class_of(given.bytes))
+    }
 }
 
 #[test]
-fn some_texts_of_own_names_are_known(rt: HostRuntime) -> Result<(), Fail> {
-    // user_caps(5): XM has one parameter, E3 has none, and the names of keys start with k.
-    assert_that!(rt; extended_class_of(b"XM") == Some(Class::Parameterized(1)));
-    assert_that!(rt; extended_class_of(b"E3") == Some(Class::Plain));
-    assert_that!(rt; extended_class_of(b"kDC5") == Some(Class::Key));
-    assert_that!(rt; extended_class_of(b"xm") == Some(Class::Input));
-    // tmux(1) gives Ms two parameters.
-    assert_that!(rt; extended_class_of(b"Ms") == Some(Class::Parameterized(2)));
-    assert_that!(rt; extended_class_of(b"Xm") == None);
-    assert_that!(rt; extended_class_of(b"") == None);
-    Ok(())
+fn some_texts_of_own_names_are_known(rt: HostRuntime) {
+    check_rows(&rt, OWN_CLASSES, &OwnClassOf);
 }
 
 /// The findings of texts and entries, and their words.

@@ -1,9 +1,9 @@
 //! The lines on texts by what they send for the values that they may be given.
 
-use super::entries::lines_in;
+use super::entries::add_lines;
+use crate::tests::check_rows;
 use std::alloc::Global;
-use std::test::Fail;
-use ti_fixtures::{Unfound, check_rows};
+use ti_fixtures::{Finds, Given, Unfound, only_if};
 use ti_report::Trials;
 
 /// Texts that send what they should not for some value, with the first lines on the entry.
@@ -26,66 +26,75 @@ const NO_MISTAKE: &str = r"
 mistakes | cols#5 | lines#4 | colors#8 | cub=%p1%200d%p1%200d => entry\n
 ";
 
-/// So many of the first lines.
-fn front_of(alloc: Global, lines: &[u8], count: usize) -> Result<Vec<u8>, Unfound> {
-    let mut front = Vec::new(alloc);
+/// Adds so many of the first lines.
+fn add_front(found: &mut Vec<u8>, lines: &[u8], count: usize) -> Result<(), Unfound> {
     let mut left = count;
     for byte in lines {
         if left > 0 {
-            front.push(*byte)?;
+            found.push(*byte)?;
             if *byte == b'\n' {
                 left -= 1;
             }
         }
     }
-    Ok(front)
+    Ok(())
 }
 
-/// The first three lines on the entry of a row, which are the same if it was tried before.
-fn three_lines(alloc: Global, given: &str) -> Result<Vec<u8>, Unfound> {
-    let mut trials = Trials::new(alloc);
-    let lines = lines_in(alloc, &mut trials, given)?;
-    let again = lines_in(alloc, &mut trials, given)?;
-    let is_same = again.as_slice() == lines.as_slice();
-    front_of(alloc, lines.as_slice(), if is_same { 3 } else { 0 })
+/// The lines on the entry of a row.
+fn lines_in(alloc: Global, trials: &mut Trials, given: &str) -> Result<Vec<u8>, Unfound> {
+    let mut lines = Vec::new(alloc);
+    add_lines(&mut lines, trials, given)?;
+    Ok(lines)
 }
 
-/// The first line on the entry of a row.
-fn first_line(alloc: Global, given: &str) -> Result<Vec<u8>, Unfound> {
-    let lines = lines_in(alloc, &mut Trials::new(alloc), given)?;
-    front_of(alloc, lines.as_slice(), 1)
+/// The lines on the entry of a row, which are the same if it was tried before.
+fn lines_again(alloc: Global, trials: &mut Trials, given: &str) -> Result<Vec<u8>, Unfound> {
+    let lines = lines_in(alloc, trials, given)?;
+    let again = lines_in(alloc, trials, given)?;
+    only_if(again.as_slice() == lines.as_slice())?;
+    Ok(lines)
+}
+
+/// So many of the first lines on the entry of a row.
+struct FirstLines(usize);
+
+impl Finds for FirstLines {
+    fn find(&self, given: &Given<'_, '_>, found: &mut Vec<u8>) -> Result<(), Unfound> {
+        let mut trials = Trials::new(*found.allocator());
+        let lines = lines_again(*found.allocator(), &mut trials, given.text)?;
+        add_front(found, lines.as_slice(), self.0)
+    }
 }
 
 #[test]
-fn values_are_told(rt: HostRuntime) -> Result<(), Fail> {
-    check_rows(rt.alloc(), MISTAKEN, three_lines)
+fn values_are_told(rt: HostRuntime) {
+    check_rows(&rt, MISTAKEN, &FirstLines(3));
 }
 
 #[test]
-fn what_is_not_tried_is_told_if_all_is(rt: HostRuntime) -> Result<(), Fail> {
-    check_rows(rt.alloc(), NOT_TRIED, three_lines)?;
-    check_rows(rt.alloc(), NO_MISTAKE, first_line)
+fn what_is_not_tried_is_told_if_all_is(rt: HostRuntime) {
+    check_rows(&rt, NOT_TRIED, &FirstLines(3));
+    check_rows(&rt, NO_MISTAKE, &FirstLines(1));
 }
 
 /// Whether the same is told of entries that are tried one after another, each twice.
 fn are_told_again(alloc: Global, rows: &str) -> Result<bool, Unfound> {
     let mut trials = Trials::new(alloc);
-    let mut is_each = true;
     for row in rows.lines() {
         if let Some((given, _)) = row.split_once(" => ") {
-            let lines = lines_in(alloc, &mut trials, given)?;
-            is_each &= lines_in(alloc, &mut trials, given)?.as_slice() == lines.as_slice();
+            let _lines = lines_again(alloc, &mut trials, given)?;
         }
     }
-    Ok(is_each)
+    Ok(true)
 }
 
 /// A text of which nothing is told.
-const TOLD_NOTHING: &str = r"mistakes | cols#5 | lines#4 | colors#8 | cub=\E[%p1%dD => -";
+const TOLD_NOTHING: &str = r"
+mistakes | cols#5 | lines#4 | colors#8 | cub=\E[%p1%dD => -
+";
 
 #[test]
-fn the_same_is_told_of_a_text_that_was_tried(rt: HostRuntime) -> Result<(), Fail> {
-    assert_that!(rt; are_told_again(rt.alloc(), MISTAKEN)?);
-    assert_that!(rt; are_told_again(rt.alloc(), TOLD_NOTHING)?);
-    Ok(())
+fn the_same_is_told_of_a_text_that_was_tried(rt: HostRuntime) {
+    assert_that!(rt; are_told_again(rt.alloc(), MISTAKEN).unwrap_or(false));
+    assert_that!(rt; are_told_again(rt.alloc(), TOLD_NOTHING).unwrap_or(false));
 }

@@ -1,25 +1,29 @@
 //! The lines on what is wrong with an entry as a whole.
 
 use super::entries::{entry_of, lines_on, look_of};
-use std::alloc::Global;
-use std::test::Fail;
+use crate::tests::check_rows;
 use ti_fixtures::entries::{EXTENDED, changed};
-use ti_fixtures::{Unfound, check_rows};
+use ti_fixtures::{Finds, Given, Unfound};
 
-/// The lines on an entry as a whole, which come after those on its texts.
-fn whole_lines_on(alloc: Global, file: &[u8]) -> Result<Vec<u8>, Unfound> {
-    let lines = lines_on(alloc, look_of("mistakes in file"), file)?;
+/// Adds the lines on an entry as a whole, which come after those on its texts.
+fn add_whole(found: &mut Vec<u8>, file: &[u8]) -> Result<(), Unfound> {
+    let lines = lines_on(*found.allocator(), look_of("mistakes in file"), file)?;
     for start in 0..lines.len() {
         if lines.as_slice()[start..].starts_with(b"file: entry\n") {
-            return Ok(lines.as_slice()[start..].to_vec(alloc)?);
+            return Ok(found.extend_from_slice(&lines.as_slice()[start..])?);
         }
     }
-    Ok(Vec::new(alloc))
+    Ok(())
 }
 
 /// The lines on the entry of a row as a whole.
-fn whole_lines(alloc: Global, given: &str) -> Result<Vec<u8>, Unfound> {
-    whole_lines_on(alloc, entry_of(alloc, given)?.as_slice())
+struct WholeLines;
+
+impl Finds for WholeLines {
+    fn find(&self, given: &Given<'_, '_>, found: &mut Vec<u8>) -> Result<(), Unfound> {
+        let file = entry_of(*found.allocator(), given.text)?;
+        add_whole(found, file.as_slice())
+    }
 }
 
 /// What an entry has of color, with its findings. All its other texts are cancelled.
@@ -42,8 +46,8 @@ ccc@ | colors#8 | op=\E[m | setaf=\E[m | *@ => -
 ";
 
 #[test]
-fn colors_that_lack_a_text_are_reported(rt: HostRuntime) -> Result<(), Fail> {
-    check_rows(rt.alloc(), COLORS, whole_lines)
+fn colors_that_lack_a_text_are_reported(rt: HostRuntime) {
+    check_rows(&rt, COLORS, &WholeLines);
 }
 
 /// Entries, with their findings.
@@ -67,8 +71,8 @@ const LAYOUTS: &str = r"
 ";
 
 #[test]
-fn layouts_that_tic_does_not_write_are_reported(rt: HostRuntime) -> Result<(), Fail> {
-    check_rows(rt.alloc(), LAYOUTS, whole_lines)
+fn layouts_that_tic_does_not_write_are_reported(rt: HostRuntime) {
+    check_rows(&rt, LAYOUTS, &WholeLines);
 }
 
 /// Counts of items in the header of the extended entry, which has one text and two names.
@@ -79,12 +83,17 @@ const COUNTS: &str = r"
 ";
 
 /// The lines on the extended entry with another count of items.
-fn lines_on_count(alloc: Global, given: &str) -> Result<Vec<u8>, Unfound> {
-    let items = given.parse::<u8>()?;
-    whole_lines_on(alloc, changed(alloc, EXTENDED, 30, &[items])?.as_slice())
+struct LinesOnCount;
+
+impl Finds for LinesOnCount {
+    fn find(&self, given: &Given<'_, '_>, found: &mut Vec<u8>) -> Result<(), Unfound> {
+        let items = given.text.parse::<u8>()?;
+        let file = changed(*found.allocator(), EXTENDED, 30, &[items])?;
+        add_whole(found, file.as_slice())
+    }
 }
 
 #[test]
-fn a_count_of_items_that_is_not_theirs_is_reported(rt: HostRuntime) -> Result<(), Fail> {
-    check_rows(rt.alloc(), COUNTS, lines_on_count)
+fn a_count_of_items_that_is_not_theirs_is_reported(rt: HostRuntime) {
+    check_rows(&rt, COUNTS, &LinesOnCount);
 }
