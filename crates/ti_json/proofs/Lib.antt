@@ -1,5 +1,4 @@
 pub mod AsciiLemmas
-pub mod ObjectsLemmas
 pub mod TextLemmas
+pub mod TokensLemmas
 pub mod PlainLemmas
-pub mod SidesLemmas

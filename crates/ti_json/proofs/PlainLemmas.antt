@@ -1,14 +1,12 @@
--- Each character of an entry's JSON can be printed, and no object has a float.
-use Rattle.std.proofs.Common.{◌≡◌, ◌++◌, ℕ, ℤ, pos, negsuc, Bool, true, false, List, [], ◌∷◌, refl, arith}
-use Rattle.ti_words.specs.Items.{ExtendedSubject, FlagItem, Listed, NumberItem, StandardSubject, SubjectValue, TextItem, items}
+-- Each character of the JSON on an entry and on two can be printed.
+use Rattle.std.proofs.Common.{◌++◌, ℕ, Bool, true, false, List, [], ◌∷◌, refl, arith}
+use Rattle.ti_words.specs.Items.{ExtendedSubject, FlagItem, ItemValue, Listed, NumberItem, StandardSubject, SubjectValue, TextItem, items}
 use Rattle.std.specs.List.{flat_map}
-use Rattle.std.specs.Prelude.{codes}
-use Rattle.std.proofs.lemmas.Bool.{or_from}
+use Rattle.std.specs.Prelude.{codes, if◌then◌else◌}
 use Rattle.json.specs.Print.{quoted}
 use Rattle.serde_json.specs.Data.{Num, unsigned, negative, float, Data, null, boolean, number, string, array, object, Items, no_items, item, Members, no_members, member}
-use Rattle.serde_json.specs.Find.{of_integer, is_float}
 use Rattle.serde_json.specs.View.{items_of}
-use Rattle.serde_json.specs.Written.{comma_if, compact_text, has_float, items_have_float, items_text, members_have_float, members_text, number_text}
+use Rattle.serde_json.specs.Written.{comma_if, compact_text, items_text, members_text, number_text}
 use Rattle.ti_escape.specs.Notation.{label_notation, notation}
 use Rattle.ti_escape.proofs.PrintableLemmas.{has_no_space, is_printable_all, label_chars_printable}
 use Rattle.ti_words.specs.declared.Flag.{Flag}
@@ -22,15 +20,16 @@ use Rattle.ti_names.specs.declared.name_table.NameTable.TheVariants as tables
 use Rattle.ti_words.specs.Texts.{TextValue, AbsentText, CancelledText, TextOf}
 use Rattle.ti_words.specs.Value.{EntryValue}
 use Rattle.ti_words.specs.Widths.{format_name}
-use Rattle.ti_json.specs.Objects.{array_text, described, entry_objects, entry_text, fault_object, flag_objects, item_objects, kind_word, number_objects, sound_object, state_member, text_json, text_objects, value_member, whole_objects}
+use Rattle.ti_json.specs.Objects.{array_text, described, entry_objects, entry_text, fault_object, flag_member, is_absent, item_member, item_objects, kind_word, named, number_member, owned, sound_object, text_json, text_member, whole_objects}
+use Rattle.ti_json.specs.Sides.{compared, compared_whole, format_member, names_member}
 use Rattle.ti_json.proofs.TextLemmas.{IsText, both, decimal_text, label_text, quoted_text, signed_text}
 
--- strings are printable, and numbers are integers
+-- strings are printable
 abbrev mutual
   pub IsPlain : Data → Type 0
   IsPlain null = Unit {0}
   IsPlain (boolean b) = Unit {0}
-  IsPlain (number n) = is_float n ≡ false
+  IsPlain (number n) = Unit {0}
   IsPlain (string s) = IsText s
   IsPlain (array ds) = ArePlain ds
   IsPlain (object ms) = ArePlainMembers ms
@@ -44,23 +43,6 @@ abbrev mutual
   ArePlainMembers (member k d ms) = IsText k × IsPlain d × ArePlainMembers ms
 
 -- ---- what follows
-
-mutual
-  pub no_float : (d : Data) → IsPlain d → has_float d ≡ false
-  no_float null is = refl
-  no_float (boolean b) is = refl
-  no_float (number n) is = is
-  no_float (string s) is = refl
-  no_float (array ds) is = no_floats ds is
-  no_float (object ms) is = no_float_members ms is
-
-  no_floats : (ds : Items) → ArePlain ds → items_have_float ds ≡ false
-  no_floats no_items are = refl
-  no_floats (item d ds) are = or_from (has_float d) (items_have_float ds) (no_float d are.0) (no_floats ds are.1)
-
-  no_float_members : (ms : Members) → ArePlainMembers ms → members_have_float ms ≡ false
-  no_float_members no_members are = refl
-  no_float_members (member k d ms) are = or_from (has_float d) (members_have_float ms) (no_float d are.1) (no_float_members ms are.2)
 
 number_is_text : (n : Num) → IsText (number_text n)
 number_is_text (unsigned n) = decimal_text n
@@ -102,42 +84,48 @@ pub joined : (ds es : List Data) → HavePlain ds → HavePlain es → HavePlain
 joined [] es of_ds of_es = of_es
 joined (d ∷ ds) es of_ds of_es = (of_ds.0, joined ds es of_ds.1 of_es)
 
-pub integer : (z : ℤ) → is_float (of_integer z) ≡ false
-integer (pos n) = refl
-integer (negsuc n) = refl
-
 pub word : (kind : Kind) → IsText (kind_word kind)
 word kinds.Flag = refl
 word kinds.Number = refl
 word kinds.Text = refl
 
-pub one : (subject : SubjectValue) (last : Members) → ArePlainMembers last → HavePlain (described subject last ∷ [])
-one (StandardSubject kind index) last are = ((refl, word kind, (refl, label_text tables.All kind index, are)), tt)
-one (ExtendedSubject kind name) last are = ((refl, word kind, (refl, label_chars_printable (label_notation name) (has_no_space name), (refl, tt, are))), tt)
+named_plain : (subject : SubjectValue) (more : Members) → ArePlainMembers more → ArePlainMembers (named subject more)
+named_plain (StandardSubject kind index) more are = (refl, word kind, (refl, label_text tables.All kind index, are))
+named_plain (ExtendedSubject kind name) more are = (refl, word kind, (refl, label_chars_printable (label_notation name) (has_no_space name), are))
 
-cancelled : (subject : SubjectValue) → HavePlain (described subject (state_member (codes "cancelled")) ∷ [])
-cancelled subject = one subject (state_member (codes "cancelled")) (refl, refl, tt)
+owned_plain : (subject : SubjectValue) (more : Members) → ArePlainMembers more → ArePlainMembers (owned subject more)
+owned_plain (StandardSubject kind index) more are = are
+owned_plain (ExtendedSubject kind name) more are = (refl, tt, are)
 
-of_flag : (subject : SubjectValue) (flag : Flag) → HavePlain (flag_objects subject flag)
-of_flag subject flags.No = tt
-of_flag subject flags.Yes = one subject (value_member (boolean true)) (refl, tt, tt)
-of_flag subject flags.Cancelled = cancelled subject
-of_flag subject flags.Missing = one subject (state_member (codes "missing")) (refl, refl, tt)
+flag_plain : (flag : Flag) → ArePlainMembers (flag_member flag)
+flag_plain flags.No = (refl, refl, tt)
+flag_plain flags.Yes = (refl, tt, tt)
+flag_plain flags.Cancelled = (refl, refl, tt)
+flag_plain flags.Missing = (refl, refl, tt)
 
-of_number : (subject : SubjectValue) (n : Number) → HavePlain (number_objects subject n)
-of_number subject numbers.Absent = tt
-of_number subject numbers.Cancelled = cancelled subject
-of_number subject (numbers.Value n) = one subject (value_member (number (of_integer n))) (refl, integer n, tt)
+number_plain : (n : Number) → ArePlainMembers (number_member n)
+number_plain numbers.Absent = (refl, refl, tt)
+number_plain numbers.Cancelled = (refl, refl, tt)
+number_plain (numbers.Value n) = (refl, tt, tt)
 
-of_text : (subject : SubjectValue) (text : TextValue) → HavePlain (text_objects subject text)
-of_text subject AbsentText = tt
-of_text subject CancelledText = cancelled subject
-of_text subject (TextOf bytes) = one subject (value_member (string (notation bytes))) (refl, is_printable_all bytes, tt)
+text_plain : (text : TextValue) → ArePlainMembers (text_member text)
+text_plain AbsentText = (refl, refl, tt)
+text_plain CancelledText = (refl, refl, tt)
+text_plain (TextOf bytes) = (refl, is_printable_all bytes, tt)
+
+item_plain : (value : ItemValue) → ArePlainMembers (item_member value)
+item_plain (FlagItem flag) = flag_plain flag
+item_plain (NumberItem n) = number_plain n
+item_plain (TextItem text) = text_plain text
+
+unless_absent : (absent : Bool) (d : Data) → IsPlain d → HavePlain (if absent then [] else d ∷ [])
+unless_absent true d is = tt
+unless_absent false d is = (is, tt)
 
 of_item : (listed : Listed) → HavePlain (item_objects listed)
-of_item (subject, FlagItem flag) = of_flag subject flag
-of_item (subject, NumberItem n) = of_number subject n
-of_item (subject, TextItem text) = of_text subject text
+of_item (subject, value) =
+    let last = item_member value in
+    unless_absent (is_absent value) (described subject last) (named_plain subject (owned subject last) (owned_plain subject last (item_plain value)))
 
 pub of_all : {X : Type 0} (objects : X → List Data) → ((x : X) → HavePlain (objects x)) → (xs : List X) → HavePlain (flat_map objects xs)
 of_all objects each [] = tt
@@ -163,11 +151,22 @@ json_is_text text = quoted_text (notation text) (is_printable_all text)
 -- ---- verdicts
 
 pub sound_is_plain : (subject : SubjectValue) (depth bound : ℕ) → IsPlain (sound_object subject depth bound)
-sound_is_plain (StandardSubject kind index) depth bound = (refl, refl, (refl, refl, (refl, word kind, (refl, label_text tables.All kind index, tt))))
-sound_is_plain (ExtendedSubject kind name) depth bound =
-    (refl, refl, (refl, refl, (refl, word kind, (refl, label_chars_printable (label_notation name) (has_no_space name), (refl, tt, tt)))))
+sound_is_plain subject depth bound = (refl, tt, (refl, tt, named_plain subject (owned subject no_members) (owned_plain subject no_members tt)))
 
 pub fault_is_plain : (subject : SubjectValue) (fault : List ℕ) (place : ℕ) → IsText fault → IsPlain (fault_object subject fault place)
-fault_is_plain (StandardSubject kind index) fault place is = (refl, is, (refl, word kind, (refl, label_text tables.All kind index, (refl, refl, tt))))
-fault_is_plain (ExtendedSubject kind name) fault place is =
-    (refl, is, (refl, word kind, (refl, label_chars_printable (label_notation name) (has_no_space name), (refl, tt, (refl, refl, tt)))))
+fault_is_plain subject fault place is =
+    let last = member (codes "place") (number (unsigned place)) no_members in
+    (refl, is, named_plain subject (owned subject last) (owned_plain subject last (refl, tt, tt)))
+
+-- ---- differences
+
+pub compared_is_plain : (subject : SubjectValue) (first other : ItemValue) → IsPlain (compared subject first other)
+compared_is_plain subject first other =
+    let last = member (codes "other") (object (item_member other)) (owned subject no_members) in
+    (refl, item_plain first, named_plain subject last (refl, item_plain other, owned_plain subject no_members tt))
+
+pub formats_are_plain : (first other : Width) → IsPlain (compared_whole (codes "format") (format_member first) (format_member other))
+formats_are_plain first other = (refl, (refl, format first, tt), (refl, refl, (refl, (refl, format other, tt), tt)))
+
+pub names_are_plain : (first other : List ℕ) → IsPlain (compared_whole (codes "names") (names_member first) (names_member other))
+names_are_plain first other = (refl, (refl, is_printable_all first, tt), (refl, refl, (refl, (refl, is_printable_all other, tt), tt)))

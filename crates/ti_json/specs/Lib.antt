@@ -1,3 +1,3 @@
 pub mod Objects
+pub mod Printed
 pub mod Sides
-pub mod inner

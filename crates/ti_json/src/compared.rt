@@ -1,74 +1,79 @@
 //! The object on an item that two entries do not have alike.
 
-ghost use Rattle.std.specs.Prelude.{◌≡◌, ◌++◌, ◌∷◌, [], IfOk, OnOk, map};
-ghost use Rattle.ti_words.specs.Items.{subject_value};
-ghost use Rattle.serde_json.specs.View.{view};
-ghost use Rattle.ti_json.specs.Sides.{compared as the_compared, compared_whole};
+ghost use Rattle.std.specs.Prelude.{◌≡◌, ◌∷◌, codes};
+ghost use Rattle.json.specs.Token.{key};
+ghost use Rattle.serde_json.specs.Data.{object};
+ghost use Rattle.ti_words.specs.Items.{item_value, subject_value};
+ghost use Rattle.ti_json.specs.Objects.{item_member};
+ghost use Rattle.ti_json.specs.Printed.{Prints, data_tokens};
+ghost use Rattle.ti_json.specs.Sides.{compared, compared_whole, format_member, names_member};
 
-use crate::members::{object_on, with_member, with_string};
-use serde_json::{Map, Value};
-use std::alloc::{AllocError, Global};
-use ti_words::Subject;
+use crate::object::{print_member, print_named, print_owned};
+use crate::printer::Printer;
+use std::alloc::Allocator;
+use ti_words::{Item, Subject, Width, format_name};
 
-/// The object on a capability.
-fn compared(
-    alloc: Global,
+/// Prints a member with what one entry has of a capability.
+fn print_side<A: Allocator>(printer: &mut Printer<A>, name: &str, item: Item<'_>)
+    ensures { Prints printer.old printer.new
+        (key name.now ∷ data_tokens (object (item_member (item_value item.entry)))) }
+{
+    printer.key(name);
+    printer.begin_object();
+    print_member(printer, item);
+    printer.end_object()
+}
+
+/// Prints the object on a capability that two entries do not have alike: what the `first` has, and what the `other` has.
+pub fn print_compared<A: Allocator>(
+    printer: &mut Printer<A>,
     subject: Subject<'_>,
-    first: Value,
-    other: Value,
-) -> Result<Value, AllocError>
-    ensures { IfOk result (λ made. view made
-        ≡ the_compared (subject_value subject.entry) (view first) (view other)) }
+    first: Item<'_>,
+    other: Item<'_>,
+)
+    ensures { Prints printer.old printer.new (data_tokens
+        (compared (subject_value subject.entry) (item_value first.entry) (item_value other.entry))) }
 {
-    let members = with_member(alloc, Map::new(alloc), "first", first)?;
-    let members = with_member(alloc, members, "other", other)?;
-    object_on(alloc, members, subject)
+    printer.begin_object();
+    print_side(printer, "first", first);
+    print_named(printer, subject);
+    print_side(printer, "other", other);
+    print_owned(printer, subject);
+    printer.end_object()
 }
 
-/// Adds the object on a capability that two entries do not have alike: what the `first` has, and what the `other` has.
-///
-/// # Errors
-///
-/// Memory was refused.
-pub fn push_compared(
-    alloc: Global,
-    out: &mut Vec<Value>,
-    subject: Subject<'_>,
-    first: Value,
-    other: Value,
-) -> Result<(), AllocError>
-    ensures { OnOk result (map view out.new.items ≡ map view out.old.items
-        ++ the_compared (subject_value subject.entry) (view first) (view other) ∷ []) }
+/// Prints the object on the formats of two entries.
+pub fn print_formats<A: Allocator>(printer: &mut Printer<A>, first: Width, other: Width)
+    ensures { Prints printer.old printer.new (data_tokens
+        (compared_whole (codes "format") (format_member first) (format_member other))) }
 {
-    out.push(compared(alloc, subject, first, other)?)?;
-    Ok(())
+    printer.begin_object();
+    printer.key("first");
+    printer.begin_object();
+    printer.word("value", format_name(first));
+    printer.end_object();
+    printer.word("kind", "format");
+    printer.key("other");
+    printer.begin_object();
+    printer.word("value", format_name(other));
+    printer.end_object();
+    printer.end_object()
 }
 
-/// The object on the format or the names.
-fn whole(alloc: Global, kind: &str, first: Value, other: Value) -> Result<Value, AllocError>
-    ensures { IfOk result
-        (λ made. view made ≡ compared_whole kind.now (view first) (view other)) }
+/// Prints the object on the names of two entries.
+pub fn print_names<A: Allocator>(printer: &mut Printer<A>, first: &[u8], other: &[u8])
+    ensures { Prints printer.old printer.new (data_tokens
+        (compared_whole (codes "names") (names_member first.now) (names_member other.now))) }
 {
-    let members = with_member(alloc, Map::new(alloc), "first", first)?;
-    let members = with_member(alloc, members, "other", other)?;
-    Ok(Value::Object(with_string(alloc, members, "kind", kind)?))
-}
-
-/// Adds the object on the format or the names, which have a kind of their own.
-///
-/// # Errors
-///
-/// Memory was refused.
-pub fn push_compared_whole(
-    alloc: Global,
-    out: &mut Vec<Value>,
-    kind: &str,
-    first: Value,
-    other: Value,
-) -> Result<(), AllocError>
-    ensures { OnOk result (map view out.new.items ≡ map view out.old.items
-        ++ compared_whole kind.now (view first) (view other) ∷ []) }
-{
-    out.push(whole(alloc, kind, first, other)?)?;
-    Ok(())
+    printer.begin_object();
+    printer.key("first");
+    printer.begin_object();
+    printer.text("value", first);
+    printer.end_object();
+    printer.word("kind", "names");
+    printer.key("other");
+    printer.begin_object();
+    printer.text("value", other);
+    printer.end_object();
+    printer.end_object()
 }

@@ -1,76 +1,52 @@
 //! The objects on an entry.
 
 ghost use Rattle.std.specs.List.{flat_map, list_all};
-ghost use Rattle.std.specs.Prelude.{◌≡◌, ◌++◌, ◌∷◌, [], false, true, IfOk, OnOk, map};
-ghost use Rattle.serde_json.specs.View.{items_of, view};
-ghost use Rattle.serde_json.specs.Written.{items_have_float};
+ghost use Rattle.std.specs.Prelude.{◌≡◌, true, IfOk};
+ghost use Rattle.serde_json.specs.Data.{array};
+ghost use Rattle.serde_json.specs.View.{items_of};
 ghost use Rattle.ti_words.specs.Items.{items};
 ghost use Rattle.ti_escape.specs.Laws.{is_printable};
-ghost use Rattle.ti_json.specs.inner.Described.{of_kind};
-ghost use Rattle.ti_json.specs.Objects.{array_text, entry_text, item_objects, whole_objects};
+ghost use Rattle.ti_json.specs.Objects.{entry_objects, entry_text, item_objects, whole_objects};
+ghost use Rattle.ti_json.specs.Printed.{Prints, all_tokens, data_tokens};
 
-use crate::members::{with_member, with_string};
-use crate::object::push_item;
-use crate::string::text_string;
-use serde_json::{Map, Value};
-use std::alloc::{AllocError, Global};
+use crate::object::print_item;
+use crate::printer::Printer;
+use std::alloc::{AllocError, Allocator};
 use ti_entry::Entry;
 use ti_words::format_name;
 
-/// An object of a kind and a value.
-fn kind_value(alloc: Global, kind: &str, value: Value) -> Result<Value, AllocError>
-    ensures { IfOk result (λ made. view made ≡ of_kind kind.now (view value)) }
+/// Prints the objects on the whole entry.
+fn print_whole<A: Allocator>(printer: &mut Printer<A>, entry: &Entry<'_>)
+    ensures { Prints printer.old printer.new (all_tokens (whole_objects entry.now)) }
 {
-    let members = with_string(alloc, Map::new(alloc), "kind", kind)?;
-    Ok(Value::Object(with_member(alloc, members, "value", value)?))
+    printer.begin_object();
+    printer.word("kind", "format");
+    printer.word("value", format_name(entry.width()));
+    printer.end_object();
+    printer.begin_object();
+    printer.word("kind", "names");
+    printer.text("value", entry.names());
+    printer.end_object()
 }
 
-/// Adds an object of a kind and a value.
-fn push_kind(
-    alloc: Global,
-    out: &mut Vec<Value>,
-    kind: &str,
-    value: Value,
-) -> Result<(), AllocError>
-    ensures { OnOk result (map view out.new.items
-        ≡ map view out.old.items ++ of_kind kind.now (view value) ∷ []) }
-{
-    out.push(kind_value(alloc, kind, value)?)?;
-    Ok(())
-}
-
-/// Adds the objects on the whole entry.
-fn push_whole(alloc: Global, out: &mut Vec<Value>, entry: &Entry<'_>) -> Result<(), AllocError>
-    ensures { OnOk result (map view out.new.items ≡ map view out.old.items ++ whole_objects entry.now) }
-{
-    let format = Value::try_from_str(alloc, format_name(entry.width()))?;
-    push_kind(alloc, out, "format", format)?;
-    let names = text_string(alloc, entry.names())?;
-    push_kind(alloc, out, "names", Value::String(names))
-}
-
-/// Adds the objects on the capabilities.
-fn push_items(alloc: Global, out: &mut Vec<Value>, entry: &Entry<'_>) -> Result<(), AllocError>
-    ensures { OnOk result
-        (map view out.new.items ≡ map view out.old.items ++ flat_map item_objects (items entry.now)) }
+/// Prints the objects on the capabilities.
+fn print_items<A: Allocator>(printer: &mut Printer<A>, entry: &Entry<'_>)
+    ensures { Prints printer.old printer.new (all_tokens (flat_map item_objects (items entry.now))) }
 {
     let mut items = entry.items();
     'items: while let Some((subject, item)) = items.next() {
-        push_item(alloc, out, subject, item)?;
+        print_item(printer, subject, item);
     }
-    Ok(())
 }
 
-/// Objects without a float as an array of JSON, without a space between tokens.
-///
-/// # Errors
-///
-/// Memory was refused.
-pub fn array_json(alloc: Global, objects: Vec<Value>) -> Result<Vec<u8>, AllocError>
-    requires { items_have_float (items_of (map view objects.items)) ≡ false }
-    ensures { IfOk result (λ bytes. bytes.items ≡ array_text (map view objects.items)) }
+/// Prints an entry as an array of objects, those of [`entry_json`].
+pub fn print_entry<A: Allocator>(printer: &mut Printer<A>, entry: &Entry<'_>)
+    ensures { Prints printer.old printer.new (data_tokens (array (items_of (entry_objects entry.now)))) }
 {
-    Value::Array(objects).to_vec(alloc)
+    printer.begin_list();
+    print_whole(printer, entry);
+    print_items(printer, entry);
+    printer.end_list()
 }
 
 /// An entry as JSON: an array of objects, without a space between tokens.
@@ -83,12 +59,14 @@ pub fn array_json(alloc: Global, objects: Vec<Value>) -> Result<Vec<u8>, AllocEr
 /// # Errors
 ///
 /// Memory was refused.
-pub fn entry_json(alloc: Global, entry: &Entry<'_>) -> Result<Vec<u8>, AllocError>
+pub fn entry_json<A: Allocator + Copy>(
+    alloc: A,
+    entry: &Entry<'_>,
+) -> Result<Vec<u8, A>, AllocError>
     ensures text { IfOk result (λ bytes. bytes.items ≡ entry_text entry.now) }
     ensures printable { IfOk result (λ bytes. list_all is_printable bytes.items ≡ true) }
 {
-    let mut objects = Vec::new(alloc);
-    push_whole(alloc, &mut objects, entry)?;
-    push_items(alloc, &mut objects, entry)?;
-    array_json(alloc, objects)
+    let mut printer = Printer::new(alloc);
+    print_entry(&mut printer, entry);
+    printer.into_bytes()
 }

@@ -1,19 +1,19 @@
 //! The object on one capability.
 
-ghost use Rattle.std.specs.Prelude.{◌≡◌, ◌++◌, ◌∷◌, [], IfOk, OnOk, map};
+ghost use Rattle.std.specs.Prelude.{◌≡◌};
+ghost use Rattle.serde_json.specs.Data.{no_members};
 ghost use Rattle.ti_words.specs.Items.{item_value, subject_value};
-ghost use Rattle.serde_json.specs.View.{view};
 ghost use Rattle.ti_words.specs.Texts.{text_value};
-ghost use Rattle.ti_json.specs.Objects.{described, flag_objects, item_objects, kind_word as the_kind_word, number_objects, state_member, text_objects, value_member};
+ghost use Rattle.ti_json.specs.Objects.{described, flag_member, is_absent as the_is_absent, item_member, item_objects, kind_word as the_kind_word, named, number_member, owned, text_member};
+ghost use Rattle.ti_json.specs.Printed.{Prints, all_tokens, data_tokens, member_tokens};
 
-use crate::members::{object_on, with_member, with_string};
-use crate::string::text_string;
-use serde_json::{Map, Value};
-use std::alloc::{AllocError, Global};
+use crate::printer::Printer;
+use std::alloc::Allocator;
+use ti_names::NameTable;
 use ti_words::{Flag, Item, Kind, Number, Subject, Text};
 
 /// The word for a kind.
-pub fn kind_word(kind: Kind) -> &'static str
+fn kind_word(kind: Kind) -> &'static str
     ensures { result.now ≡ the_kind_word kind }
 {
     match kind {
@@ -23,118 +23,104 @@ pub fn kind_word(kind: Kind) -> &'static str
     }
 }
 
-/// A capability with a value.
-fn with_value(alloc: Global, subject: Subject<'_>, value: Value) -> Result<Value, AllocError>
-    ensures { IfOk result (λ made. view made ≡ described (subject_value subject.entry) (value_member (view value))) }
+/// Prints the kind and the name of a capability: a standard one without a name is called by `#` and its index.
+pub fn print_named<A: Allocator>(printer: &mut Printer<A>, subject: Subject<'_>)
+    ensures { Prints printer.old printer.new (member_tokens (named (subject_value subject.entry) no_members)) }
 {
-    let members = with_member(alloc, Map::new(alloc), "value", value)?;
-    object_on(alloc, members, subject)
+    printer.word("kind", kind_word(subject.kind()));
+    match subject {
+        Subject::Standard(kind, index) => match NameTable::All.name_at(kind, index) {
+            Some(name) => printer.word("name", name),
+            None => printer.index("name", index),
+        },
+        Subject::Extended(_kind, name) => printer.label("name", name),
+    }
 }
 
-/// A capability without a value.
-fn with_state(alloc: Global, subject: Subject<'_>, state: &str) -> Result<Value, AllocError>
-    ensures { IfOk result (λ made. view made ≡ described (subject_value subject.entry) (state_member state.now)) }
+/// Prints that the entry names the capability itself, if it does.
+pub fn print_owned<A: Allocator>(printer: &mut Printer<A>, subject: Subject<'_>)
+    ensures { Prints printer.old printer.new (member_tokens (owned (subject_value subject.entry) no_members)) }
 {
-    let members = with_string(alloc, Map::new(alloc), "state", state)?;
-    object_on(alloc, members, subject)
+    match subject {
+        Subject::Standard(_kind, _index) => {}
+        Subject::Extended(_kind, _name) => printer.yes("own"),
+    }
 }
 
-/// Adds the object on a capability with a value.
-fn push_value(
-    alloc: Global,
-    out: &mut Vec<Value>,
-    subject: Subject<'_>,
-    value: Value,
-) -> Result<(), AllocError>
-    ensures { OnOk result (map view out.new.items ≡ map view out.old.items
-        ++ described (subject_value subject.entry) (value_member (view value)) ∷ []) }
-{
-    out.push(with_value(alloc, subject, value)?)?;
-    Ok(())
-}
-
-/// Adds the object on a capability without a value.
-fn push_state(
-    alloc: Global,
-    out: &mut Vec<Value>,
-    subject: Subject<'_>,
-    state: &str,
-) -> Result<(), AllocError>
-    ensures { OnOk result (map view out.new.items ≡ map view out.old.items
-        ++ described (subject_value subject.entry) (state_member state.now) ∷ []) }
-{
-    out.push(with_state(alloc, subject, state)?)?;
-    Ok(())
-}
-
-/// Adds the object on a flag, if it is there.
-fn push_flag(
-    alloc: Global,
-    out: &mut Vec<Value>,
-    subject: Subject<'_>,
-    flag: Flag,
-) -> Result<(), AllocError>
-    ensures { OnOk result (map view out.new.items
-        ≡ map view out.old.items ++ flag_objects (subject_value subject.entry) flag) }
+/// Prints the value or the state of a flag.
+fn print_flag<A: Allocator>(printer: &mut Printer<A>, flag: Flag)
+    ensures { Prints printer.old printer.new (member_tokens (flag_member flag)) }
 {
     match flag {
-        Flag::No => Ok(()),
-        Flag::Yes => push_value(alloc, out, subject, Value::Bool(true)),
-        Flag::Cancelled => push_state(alloc, out, subject, "cancelled"),
-        Flag::Missing => push_state(alloc, out, subject, "missing"),
+        Flag::No => printer.word("state", "absent"),
+        Flag::Yes => printer.yes("value"),
+        Flag::Cancelled => printer.word("state", "cancelled"),
+        Flag::Missing => printer.word("state", "missing"),
     }
 }
 
-/// Adds the object on a number, if it is there.
-fn push_number(
-    alloc: Global,
-    out: &mut Vec<Value>,
-    subject: Subject<'_>,
-    number: Number,
-) -> Result<(), AllocError>
-    ensures { OnOk result (map view out.new.items
-        ≡ map view out.old.items ++ number_objects (subject_value subject.entry) number) }
+/// Prints the value or the state of a number.
+fn print_number<A: Allocator>(printer: &mut Printer<A>, number: Number)
+    ensures { Prints printer.old printer.new (member_tokens (number_member number)) }
 {
     match number {
-        Number::Absent => Ok(()),
-        Number::Cancelled => push_state(alloc, out, subject, "cancelled"),
-        Number::Value(value) => push_value(alloc, out, subject, Value::from(value)),
+        Number::Absent => printer.word("state", "absent"),
+        Number::Cancelled => printer.word("state", "cancelled"),
+        Number::Value(value) => printer.number("value", value),
     }
 }
 
-/// Adds the object on a text, if it is there.
-fn push_text(
-    alloc: Global,
-    out: &mut Vec<Value>,
-    subject: Subject<'_>,
-    text: Text<'_>,
-) -> Result<(), AllocError>
-    ensures { OnOk result (map view out.new.items
-        ≡ map view out.old.items ++ text_objects (subject_value subject.entry) (text_value text.entry)) }
+/// Prints the value or the state of a text.
+fn print_text<A: Allocator>(printer: &mut Printer<A>, text: Text<'_>)
+    ensures { Prints printer.old printer.new (member_tokens (text_member (text_value text.entry))) }
 {
     match text {
-        Text::Absent => Ok(()),
-        Text::Cancelled => push_state(alloc, out, subject, "cancelled"),
-        Text::Value(bytes) => {
-            let value = Value::String(text_string(alloc, bytes)?);
-            push_value(alloc, out, subject, value)
-        }
+        Text::Absent => printer.word("state", "absent"),
+        Text::Cancelled => printer.word("state", "cancelled"),
+        Text::Value(bytes) => printer.text("value", bytes),
     }
 }
 
-/// Adds the object on a capability, if it is there.
-pub fn push_item(
-    alloc: Global,
-    out: &mut Vec<Value>,
-    subject: Subject<'_>,
-    item: Item<'_>,
-) -> Result<(), AllocError>
-    ensures { OnOk result (map view out.new.items ≡ map view out.old.items
-        ++ item_objects (subject_value subject.entry, item_value item.entry)) }
+/// Prints the value or the state of a capability.
+pub fn print_member<A: Allocator>(printer: &mut Printer<A>, item: Item<'_>)
+    ensures { Prints printer.old printer.new (member_tokens (item_member (item_value item.entry))) }
 {
     match item {
-        Item::Flag(flag) => push_flag(alloc, out, subject, flag),
-        Item::Number(number) => push_number(alloc, out, subject, number),
-        Item::Text(text) => push_text(alloc, out, subject, text),
+        Item::Flag(flag) => print_flag(printer, flag),
+        Item::Number(number) => print_number(printer, number),
+        Item::Text(text) => print_text(printer, text),
+    }
+}
+
+/// Whether an entry does not have the capability.
+fn is_absent(item: Item<'_>) -> bool
+    ensures { result ≡ the_is_absent (item_value item.entry) }
+{
+    match item {
+        Item::Flag(flag) => matches!(flag, Flag::No),
+        Item::Number(number) => matches!(number, Number::Absent),
+        Item::Text(text) => matches!(text, Text::Absent),
+    }
+}
+
+/// Prints the object on a capability.
+fn print_described<A: Allocator>(printer: &mut Printer<A>, subject: Subject<'_>, item: Item<'_>)
+    ensures { Prints printer.old printer.new
+        (data_tokens (described (subject_value subject.entry) (item_member (item_value item.entry)))) }
+{
+    printer.begin_object();
+    print_named(printer, subject);
+    print_owned(printer, subject);
+    print_member(printer, item);
+    printer.end_object()
+}
+
+/// Prints the object on a capability, if the entry has it.
+pub fn print_item<A: Allocator>(printer: &mut Printer<A>, subject: Subject<'_>, item: Item<'_>)
+    ensures { Prints printer.old printer.new
+        (all_tokens (item_objects (subject_value subject.entry, item_value item.entry))) }
+{
+    if !is_absent(item) {
+        print_described(printer, subject, item);
     }
 }

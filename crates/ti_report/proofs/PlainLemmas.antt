@@ -1,5 +1,5 @@
--- Each character of a report's JSON can be printed, and no object has a float.
-use Rattle.std.proofs.Common.{◌≡◌, ◌+◌, ◌<◌, ◌≤◌, ◌++◌, ℕ, zero, suc, Bool, true, false, List, [], ◌∷◌, arith, cond, map, refl}
+-- Each character of a report's JSON can be printed.
+use Rattle.std.proofs.Common.{◌≡◌, ◌+◌, ◌<◌, ◌≤◌, ◌++◌, ℕ, zero, suc, Bool, true, false, List, [], ◌∷◌, arith, cond, map, refl, subst, sym}
 use Rattle.std.specs.Prelude.{◌==◌, codes, decimal}
 use Rattle.std.specs.Fmt.{signed_decimal}
 use Rattle.std.proofs.lemmas.Bool.{and_from}
@@ -13,7 +13,9 @@ use Rattle.ti_escape.specs.Laws.{is_printable}
 use Rattle.ti_escape.specs.Notation.{label_notation}
 use Rattle.ti_escape.specs.declared.form.Form.TheVariants as forms
 use Rattle.ti_escape.proofs.PrintableLemmas.{has_no_space, is_printable_all, label_chars_printable}
-use Rattle.ti_json.proofs.PlainLemmas.{HavePlain, IsPlain}
+use Rattle.serde_json.specs.Data.{Data}
+use Rattle.ti_json.specs.Objects.{array_text}
+use Rattle.ti_json.proofs.PlainLemmas.{HavePlain, IsPlain, array_is_text}
 use Rattle.ti_json.proofs.TextLemmas.{IsText, both, decimal_text, signed_text}
 use Rattle.ti_lint.specs.declared.finding.Finding.{Finding}
 use Rattle.ti_lint.specs.declared.finding.Finding.TheVariants.{StackUnderflow, TermcapParameter, ParameterRange, RepeatedIncrement, UnsetVariable, StackResidue, UnusedIncrement, LateIncrement, DeadStore, OperandType, NoEffect, ConstantCondition, RepeatedCondition}
@@ -26,6 +28,9 @@ use Rattle.ti_report.specs.declared.wrong.Wrong.TheVariants as wrongs
 use Rattle.ti_report.specs.Blocks.{what_meaning, what_word}
 use Rattle.ti_report.specs.Objects.{about_objects, place_number, remark_object}
 use Rattle.ti_report.specs.Remarks.{About, OfEntry, OfName, OfText, OfTwo, Remark, Told, Empty, Same, Negative, Unended, Shown, Ignored, Differing, Combined, UnendedText, NotTried, What, IsWrong, IsTold}
+use Rattle.ti_lint.specs.declared.scope.Scope.{Scope}
+use Rattle.ti_words.specs.Value.{EntryValue}
+use Rattle.ti_report.specs.Reports.{AreFindings}
 use Rattle.ti_report.specs.Sentences.{finding_meaning, is_in, last_parameter, meaning_of, parameter_word, parameter_words, word_of}
 use Rattle.ti_report.specs.ValueSentences.{finding_told, meaning_told, sent_words, value_words}
 
@@ -206,7 +211,7 @@ meaning_text (IsTold told) = told_meaning told
 
 places_are_plain : (places : List ℕ) → HavePlain (map place_number places)
 places_are_plain [] = tt
-places_are_plain (place ∷ places) = (refl, places_are_plain places)
+places_are_plain (place ∷ places) = (tt, places_are_plain places)
 
 subjects_are_plain : (about : About) → HavePlain (about_objects about)
 subjects_are_plain OfEntry = tt
@@ -219,6 +224,10 @@ remark_is_plain : (r : Remark) → IsPlain (remark_object r)
 remark_is_plain r =
     (refl, word_text r.what, (refl, meaning_text r.what, (refl, places_are_plain r.places, (refl, subjects_are_plain r.about, tt))))
 
-pub remarks_are_plain : (remarks : List Remark) → HavePlain (map remark_object remarks)
+remarks_are_plain : (remarks : List Remark) → HavePlain (map remark_object remarks)
 remarks_are_plain [] = tt
 remarks_are_plain (r ∷ remarks) = (remark_is_plain r, remarks_are_plain remarks)
+
+pub report_is_text : (scope : Scope) (bytes : List ℕ) (v : EntryValue) (sound : Bool) (objects : List Data) → AreFindings scope bytes v sound objects → IsText (array_text objects)
+report_is_text scope bytes v sound objects are =
+    subst (λ ds. IsText (array_text ds)) (sym are.objects_are) (array_is_text (map remark_object are.remarks) (remarks_are_plain are.remarks))

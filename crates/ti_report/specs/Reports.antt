@@ -12,6 +12,7 @@ use Rattle.ti_lint.specs.Variables.{HasVariable, IsStored}
 use Rattle.ti_lint.specs.declared.scope.Scope.{Scope}
 use Rattle.ti_lint.specs.declared.scope.Scope.TheVariants as scopes
 use Rattle.ti_escape.specs.declared.color.Color.{Color}
+use Rattle.serde_json.specs.Data.{Data}
 use Rattle.ti_json.specs.Objects.{array_text}
 use Rattle.ti_report.specs.Blocks.{report_lines}
 use Rattle.ti_report.specs.Keys.{AreKeyRemarks}
@@ -80,9 +81,14 @@ abbrev pub AreLines : Scope → Color → List ℕ → List ℕ → EntryValue �
 AreLines scope color before bytes v lines =
     (remarks : List Remark) × IsReport scope bytes v remarks × (lines ≡ report_lines color before remarks)
 
--- the array of the objects of all remarks, and whether there is none
-pub record IsReportJson (scope : Scope) (bytes : List ℕ) (v : EntryValue) (text : List ℕ) (sound : Bool) : Type 0 where
+-- the objects of all remarks, and whether there is none
+pub record AreFindings (scope : Scope) (bytes : List ℕ) (v : EntryValue) (sound : Bool) (objects : List Data) : Type 0 where
   pub remarks : List Remark
   pub report : IsReport scope bytes v remarks
-  pub text_is : text ≡ array_text (map remark_object remarks)
   pub sound_is : sound ≡ (length remarks == 0)
+  pub objects_are : objects ≡ map remark_object remarks
+
+-- the array of these
+abbrev pub IsReportJson : Scope → List ℕ → EntryValue → List ℕ → Bool → Type 0
+IsReportJson scope bytes v text sound =
+    (objects : List Data) × AreFindings scope bytes v sound objects × (text ≡ array_text objects)

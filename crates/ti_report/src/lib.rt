@@ -31,7 +31,7 @@ mod values;
 mod whole;
 mod wrong;
 
-pub use document::{ReportJson, report_json};
+pub use document::{ReportJson, print_report, report_json};
 pub use report::push_report;
 pub use ti_escape::Color;
 pub use ti_lint::Scope;

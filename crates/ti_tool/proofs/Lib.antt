@@ -21,3 +21,4 @@ pub mod IsGotLemmas
 pub mod FileLemmas
 pub mod FileRunsLemmas
 pub mod ComparisonLemmas
+pub mod DocumentLemmas

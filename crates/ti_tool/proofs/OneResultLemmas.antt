@@ -40,7 +40,7 @@ use Rattle.ti_tool.specs.Laws.{CheckHasOneVerdict, HasOneAnswer, IsSpelledOut}
 use Rattle.ti_line.specs.Options.{output_bytes}
 use Rattle.ti_line.specs.declared.options.Document.{Document}
 use Rattle.ti_line.specs.declared.options.Document.TheVariants as documents
-use Rattle.ti_tool.specs.Documents.{IsDocument}
+use Rattle.ti_tool.specs.Documents.{AreObjects, IsDocument}
 use Rattle.ti_tool.specs.Results.{IsExpansion, IsUnexpanded, IsCappedAs, IsPadded, IsDue, IsDueFor, IsDueFrom, IsDueIn, IsDueOf, IsEncoding, IsJudgement, IsOutputOf, in_width}
 use Rattle.ti_tool.specs.Sources.{IsDueForText, notation_in, text_of}
 use Rattle.ti_line.specs.declared.options.TraceForm.{TraceForm}
@@ -307,19 +307,21 @@ one_traced_of t v r s (item, called, d) (other, again, h) =
 
 -- ---- documents
 
+one_list : (document : Document) (sound as_sound : Bool) (input : List ℕ) (v : EntryValue) (objects others : List Data) → IsSpelledOut (Entry (of_entry.Json document))
+    → AreObjects document sound input v objects → AreObjects document as_sound input v others → objects ≡ others
+one_list documents.Listing sound as_sound input v objects others spelled are are_too = are ∙ sym are_too
+one_list documents.Verdicts sound as_sound input v objects others spelled are are_too = (one_objects v objects others sound as_sound are are_too).0
+one_list (documents.Findings scope) sound as_sound input v objects others spelled are are_too = absurd spelled
+
 one_document : (document : Document) (sound as_sound : Bool) (input : List ℕ) (v : EntryValue) (r s : Result (List ℕ) ToolFault) → IsSpelledOut (Entry (of_entry.Json document)) → IsDocument document sound input v r
     → IsDocument document as_sound input v s → r ≡ s
-one_document documents.Listing sound as_sound input v r s spelled d h = d ∙ sym h
-one_document (documents.Findings scope) sound as_sound input v r s spelled d h = absurd spelled
-one_document documents.Verdicts sound as_sound input v (Ok a) (Ok b) spelled (text, (objects, are, is), e) (other, (others, are_too, same), f) =
-    ap Ok (e ∙ ap (λ x. x ++ codes "\n") (is ∙ ap array_text (one_objects v objects others sound as_sound are are_too).0 ∙ sym same) ∙ sym f)
-one_document documents.Verdicts sound as_sound input v (Ok a) (Err e) spelled d h = absurd h
-one_document documents.Verdicts sound as_sound input v (Err e) s spelled d h = absurd d
+one_document document sound as_sound input v (Ok a) (Ok b) spelled (objects, are, e) (others, are_too, f) =
+    ap Ok (e ∙ ap (λ ds. array_text ds ++ codes "\n") (one_list document sound as_sound input v objects others spelled are are_too) ∙ sym f)
+one_document document sound as_sound input v (Ok a) (Err e) spelled d h = absurd h
+one_document document sound as_sound input v (Err e) s spelled d h = absurd d
 
 document_never : (document : Document) (sound : Bool) (input : List ℕ) (v : EntryValue) → IsNeverOwn (IsDocument document sound input v)
-document_never documents.Listing sound input v = record { no_write = λ gone d. cc; no_memory = λ d. cc }
-document_never documents.Verdicts sound input v = record { no_write = λ gone d. d; no_memory = λ d. d }
-document_never (documents.Findings scope) sound input v = record { no_write = λ gone d. d; no_memory = λ d. d }
+document_never document sound input v = record { no_write = λ gone d. d; no_memory = λ d. d }
 
 -- ---- requests
 

@@ -44,12 +44,12 @@ use Rattle.ti_json.proofs.TextLemmas.{IsText, both, decimal_text, label_text, si
 use Rattle.ti_json.proofs.PlainLemmas.{HavePlain, array_is_text, entry_is_text, fault_is_plain, format, joined as plain_joined, json_is_text, sound_is_plain}
 use Rattle.std.proofs.Math.Seq.{take-append_seam}
 use Rattle.ti_names.specs.AllNames.{front}
-use Rattle.ti_json.specs.Objects.{entry_text, text_json}
+use Rattle.ti_json.specs.Objects.{array_text, text_json}
 use Rattle.ti_line.specs.declared.options.Document.{Document}
 use Rattle.ti_line.specs.declared.options.Document.TheVariants as documents
-use Rattle.ti_report.specs.Objects.{remark_object}
-use Rattle.ti_report.proofs.PlainLemmas.{remarks_are_plain}
-use Rattle.ti_tool.specs.Documents.{IsDocument, key_of}
+use Rattle.ti_report.proofs.PlainLemmas.{report_is_text}
+use Rattle.ti_tool.specs.Documents.{AreObjects, IsDocument, key_of}
+use Rattle.ti_tool.proofs.DocumentLemmas.{without_newline}
 use Rattle.ti_tool.specs.Results.{IsDueFrom}
 use Rattle.ti_tool.specs.Printable.{JsonIsPrintable, ObjectIsPrintable, ArePrintableLines, flag_lines, number_lines, text_lines, item_lines, verdict_lines, lines_of, listed_lines, ShowIsPrintable, CheckIsPrintable, CapIsPrintable, ExpandIsPrintable, GetIsPrintable}
 
@@ -194,27 +194,20 @@ all_plain [] told sound are = subst HavePlain (sym are.0) tt
 all_plain (x ∷ xs) told sound (first, more, one, rest, is, are, e, s) =
     subst HavePlain (sym e) (plain_joined first more (plain_told x.0 (text_in x.1) first one is) (all_plain xs more rest are))
 
-pub plain_verdicts : (v : EntryValue) (objects : List Data) (sound : Bool) → AreVerdictObjects v objects sound → HavePlain objects
+plain_verdicts : (v : EntryValue) (objects : List Data) (sound : Bool) → AreVerdictObjects v objects sound → HavePlain objects
 plain_verdicts v objects sound are = all_plain (items v) objects sound are
 
-document_line : (document : Document) (sound : Bool) (input : List ℕ) (v : EntryValue) (out : List ℕ) → IsDocument document sound input v (Ok out) → (text : List ℕ) × IsText text × (out ≡ text ++ codes "\n")
-document_line documents.Listing sound input v out is = (entry_text v, entry_is_text v, cc)
-document_line documents.Verdicts sound input v out (text, (objects, are, is), e) = (text, subst IsText (sym is) (array_is_text objects (plain_verdicts v objects sound are)), e)
-document_line (documents.Findings scope) sound input v out (text, is, e) =
-    (text, subst IsText (sym is.text_is) (array_is_text (map remark_object is.remarks) (remarks_are_plain is.remarks)), e)
+objects_text : (document : Document) (sound : Bool) (input : List ℕ) (v : EntryValue) (objects : List Data) → AreObjects document sound input v objects → IsText (array_text objects)
+objects_text documents.Listing sound input v objects are = subst (λ ds. IsText (array_text ds)) (sym are) (entry_is_text v)
+objects_text documents.Verdicts sound input v objects are = array_is_text objects (plain_verdicts v objects sound are)
+objects_text (documents.Findings scope) sound input v objects are = report_is_text scope input v sound objects are
 
 document_of : (document : Document) (sound : Bool) (input out : List ℕ) → IsDueFrom (IsDocument document sound input) input (Ok out) → (text : List ℕ) × IsText text × (out ≡ text ++ codes "\n")
 document_of document sound input out (inl (refused, is, same)) = absurd cc
-document_of document sound input out (inr (v, spells, is)) = document_line document sound input v out is
+document_of document sound input out (inr (v, spells, (objects, are, e))) = (array_text objects, objects_text document sound input v objects are, e)
 
 pub json_line : JsonIsPrintable
 json_line document sound input out due = let (text, is, e) = document_of document sound input out due in one text out is e
-
--- a line without its newline is its text
-without_newline : (text : List ℕ) → front (text ++ codes "\n") ≡ text
-without_newline text =
-    let len : length (text ++ codes "\n") - 1 ≡ length text = omega (arith, length-append text (codes "\n")) in
-    ap (λ n. take n (text ++ codes "\n")) len ∙ take-append_seam text (codes "\n")
 
 key_text : (document : Document) → IsText (key_of document)
 key_text documents.Listing = refl

@@ -3,27 +3,24 @@ use Rattle.std.specs.Prelude.{◌≡◌, ℕ, Bool, true, List, ◌++◌, Result
 use Rattle.serde_json.specs.Data.{Data}
 use Rattle.ti_names.specs.AllNames.{front}
 use Rattle.ti_words.specs.Value.{EntryValue}
-use Rattle.ti_json.specs.Objects.{array_text, entry_text, text_json}
+use Rattle.ti_json.specs.Objects.{array_text, entry_objects, text_json}
 use Rattle.ti_line.specs.declared.options.Document.{Document}
 use Rattle.ti_line.specs.declared.options.Document.TheVariants as documents
-use Rattle.ti_report.specs.Reports.{IsReportJson}
+use Rattle.ti_report.specs.Reports.{AreFindings}
 use Rattle.ti_tool.specs.declared.fault.ToolFault.{ToolFault}
 use Rattle.ti_tool.specs.Verdicts.{AreVerdictObjects}
 
--- the objects of the verdicts on the texts of an entry, and whether none has a fault
-abbrev pub AreVerdictsIn : EntryValue → List ℕ → Bool → Type 0
-AreVerdictsIn v text sound =
-    (objects : List Data) × AreVerdictObjects v objects sound × (text ≡ array_text objects)
+-- the objects of a document on an entry that the bytes spell, with nothing wrong or with something in verdicts or findings
+abbrev pub AreObjects : Document → Bool → List ℕ → EntryValue → List Data → Type 0
+AreObjects documents.Listing sound input v objects = objects ≡ entry_objects v
+AreObjects documents.Verdicts sound input v objects = AreVerdictObjects v objects sound
+AreObjects (documents.Findings scope) sound input v objects = AreFindings scope input v sound objects
 
--- a document in a line, of nothing that is wrong or of something if it has verdicts or findings
+-- the document in a line
 abbrev pub IsDocument : Document → Bool → List ℕ → EntryValue → Result (List ℕ) ToolFault → Type 0
-IsDocument documents.Listing sound input v answer = answer ≡ Ok (entry_text v ++ codes "\n")
-IsDocument documents.Verdicts sound input v (Ok out) =
-    (text : List ℕ) × AreVerdictsIn v text sound × (out ≡ text ++ codes "\n")
-IsDocument documents.Verdicts sound input v (Err e) = ⊥
-IsDocument (documents.Findings scope) sound input v (Ok out) =
-    (text : List ℕ) × IsReportJson scope input v text sound × (out ≡ text ++ codes "\n")
-IsDocument (documents.Findings scope) sound input v (Err e) = ⊥
+IsDocument document sound input v (Ok out) =
+    (objects : List Data) × AreObjects document sound input v objects × (out ≡ array_text objects ++ codes "\n")
+IsDocument document sound input v (Err e) = ⊥
 
 -- only verdicts and findings find that something is wrong
 abbrev pub FindsIn : Document → Bool → Type 0
@@ -42,3 +39,8 @@ abbrev pub in_object : Document → List ℕ → List ℕ → List ℕ
 in_object document name line =
     codes "{\"file\":" ++ text_json name ++ codes ",\"" ++ key_of document ++ codes "\":"
     ++ front line ++ codes "}\n"
+
+-- the line of the document on the entry of a file
+abbrev pub IsDocumentOfFile : Document → List ℕ → Bool → List ℕ → EntryValue → List ℕ → Type 0
+IsDocumentOfFile document name sound input v out =
+    (plain : List ℕ) × IsDocument document sound input v (Ok plain) × (out ≡ in_object document name plain)

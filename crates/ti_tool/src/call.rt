@@ -15,7 +15,7 @@ use crate::fault::ToolFault;
 use crate::result::write_result;
 use crate::source::{MOST_BYTES, MOST_CHARACTERS, read_up_to};
 use arrayvec::ArrayVec;
-use std::alloc::{Allocator, Global};
+use std::alloc::Allocator;
 use std::io::{Read, Write};
 use ti_entry::{EntryReader, read_from};
 use ti_expand::Value;
@@ -25,7 +25,6 @@ use ti_report::Trials;
 /// Takes what the reader gives as one capability, each byte of it as it stands. At most 32768 bytes of the input are kept,
 /// which is one more than a capability may have.
 fn call_on_capability<A: Allocator + Copy, R: Read, W: Write>(
-    global: Global,
     alloc: A,
     asked: OfCapability,
     parameters: &[Value<'_>; 9],
@@ -39,14 +38,13 @@ fn call_on_capability<A: Allocator + Copy, R: Read, W: Write>(
 {
     let mut input: ArrayVec<u8, MOST_BYTES> = ArrayVec::new();
     read_up_to(&mut input, reader)?;
-    let result = answer_of_capability(global, alloc, asked, parameters, input.as_slice())?;
+    let result = answer_of_capability(alloc, asked, parameters, input.as_slice())?;
     write_result(writer, result.as_slice())
 }
 
 /// Takes what the reader gives as the notation of one capability. At most 131070 characters of the input are kept: those of
 /// the longest notation, a newline and one more.
 fn call_on_source<A: Allocator + Copy, R: Read, W: Write>(
-    global: Global,
     alloc: A,
     asked: OfCapability,
     parameters: &[Value<'_>; 9],
@@ -60,14 +58,13 @@ fn call_on_source<A: Allocator + Copy, R: Read, W: Write>(
 {
     let mut input: ArrayVec<u8, MOST_CHARACTERS> = ArrayVec::new();
     read_up_to(&mut input, reader)?;
-    let result = answer_of_source(global, alloc, asked, parameters, input.as_mut_slice())?;
+    let result = answer_of_source(alloc, asked, parameters, input.as_mut_slice())?;
     write_result(writer, result.as_slice())
 }
 
 /// Takes what the reader gives as an entry, which is kept. The result is whether no text that was analysed has a fault, and
 /// no flag that was asked for is not set.
 fn call_on_entry<A: Allocator + Copy, R: Read, W: Write>(
-    global: Global,
     alloc: A,
     asked: &OfEntry<'_>,
     parameters: &[Value<'_>; 9],
@@ -87,23 +84,14 @@ fn call_on_entry<A: Allocator + Copy, R: Read, W: Write>(
     let entry = kept.finish()?;
     let bytes = kept.bytes();
     let mut trials = Trials::new(alloc);
-    let answer = answer_of_entry(
-        global,
-        alloc,
-        &mut trials,
-        asked,
-        parameters,
-        b"",
-        bytes,
-        &entry,
-    )?;
+    let answer = answer_of_entry(alloc, &mut trials, asked, parameters, b"", bytes, &entry)?;
     write_result(writer, answer.bytes.as_slice())?;
     Ok(answer.sound)
 }
 
 /// Does what is asked: what the reader gives is taken as one capability, as the notation of one or as an entry, and what is
 /// due for it is written. Each variable of a capability starts as 0. The result is false if `check` found a text with a fault,
-/// `lint` something wrong, or `get` a flag that is not set. JSON is made in the memory of `global`.
+/// `lint` something wrong, or `get` a flag that is not set.
 ///
 /// Nothing is written before the whole result is there: after a fault other than `Write` the writer is as it was.
 ///
@@ -115,7 +103,6 @@ fn call_on_entry<A: Allocator + Copy, R: Read, W: Write>(
 /// 67108864 bytes, `Encode` if a number is above 32767 and the legacy format is requested, or else if the canonical bytes would
 /// be more than 32768, which shared texts or wider numbers can lead to, `Write`; `Memory` if a growth is refused.
 pub fn carry_out<A: Allocator + Copy, R: Read, W: Write>(
-    global: Global,
     alloc: A,
     asked: &Asked<'_>,
     parameters: &[Value<'_>; 9],
@@ -130,12 +117,11 @@ pub fn carry_out<A: Allocator + Copy, R: Read, W: Write>(
     ensures unwritten { IfErr result (λ e. IsFailedWrite e ⊎ (writer.new ≡ writer.old)) }
 {
     let mut kept = EntryReader::new();
-    carry_out_keeping(global, alloc, asked, parameters, &mut kept, reader, writer)
+    carry_out_keeping(alloc, asked, parameters, &mut kept, reader, writer)
 }
 
 /// [`carry_out`] with a new reader of entries, which keeps the bytes of an entry: a line on a fault may tell its names.
 pub(crate) fn carry_out_keeping<A: Allocator + Copy, R: Read, W: Write>(
-    global: Global,
     alloc: A,
     asked: &Asked<'_>,
     parameters: &[Value<'_>; 9],
@@ -153,16 +139,14 @@ pub(crate) fn carry_out_keeping<A: Allocator + Copy, R: Read, W: Write>(
 {
     match asked {
         Asked::Capability(asked) => {
-            call_on_capability(global, alloc, *asked, parameters, reader, writer)?;
+            call_on_capability(alloc, *asked, parameters, reader, writer)?;
             Ok(true)
         }
         Asked::Source(asked) => {
-            call_on_source(global, alloc, *asked, parameters, reader, writer)?;
+            call_on_source(alloc, *asked, parameters, reader, writer)?;
             Ok(true)
         }
-        Asked::Entry(asked) => {
-            call_on_entry(global, alloc, asked, parameters, kept, reader, writer)
-        }
+        Asked::Entry(asked) => { call_on_entry(alloc, asked, parameters, kept, reader, writer) }
         Asked::Difference(_) => Err(ToolFault::Read),
     }
 }

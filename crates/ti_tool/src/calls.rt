@@ -6,7 +6,7 @@ ghost use Rattle.ti_tool.specs.Results.{IsCapped, IsChecked, IsConverted, IsExpa
 
 use crate::call::carry_out;
 use crate::fault::ToolFault;
-use std::alloc::{Allocator, Global};
+use std::alloc::Allocator;
 use std::io::{Read, Write};
 use ti_expand::Value;
 use ti_line::{
@@ -32,7 +32,6 @@ fn without_value(answer: Result<bool, ToolFault>) -> Result<(), ToolFault>
 /// Expands what the reader gives as one capability, each byte of it as it stands, and writes the output as it stands, or
 /// with `hex` the same in lower-case hex and a newline. Marks of padding stay as they are.
 pub fn cap_run<A: Allocator + Copy, R: Read, W: Write>(
-    global: Global,
     alloc: A,
     reader: &mut R,
     parameters: &[Value<'_>; 9],
@@ -46,14 +45,13 @@ pub fn cap_run<A: Allocator + Copy, R: Read, W: Write>(
     ensures unwritten { IfErr result (λ e. IsFailedWrite e ⊎ (writer.new ≡ writer.old)) }
 {
     let asked = Asked::Capability(OfCapability::Cap(output_asked(hex, false)));
-    without_value(carry_out(global, alloc, &asked, parameters, reader, writer))
+    without_value(carry_out(alloc, &asked, parameters, reader, writer))
 }
 
 /// Lists the entry that the reader gives, one line an item: the format, the names, then the flags, numbers and texts in
 /// the order of their indices. A flag that is No and what is absent is not listed. Names are the common ones or as they
 /// stand in the entry, and texts are in lower-case hex; `-` is a text without bytes.
 pub fn show<A: Allocator + Copy, R: Read, W: Write>(
-    global: Global,
     alloc: A,
     reader: &mut R,
     writer: &mut W,
@@ -65,14 +63,13 @@ pub fn show<A: Allocator + Copy, R: Read, W: Write>(
     ensures unwritten { IfErr result (λ e. IsFailedWrite e ⊎ (writer.new ≡ writer.old)) }
 {
     let asked = Asked::Entry(OfEntry::Show(list_options(false, false, false)));
-    without_value(carry_out(global, alloc, &asked, &NO_PARAMETERS, reader, writer))
+    without_value(carry_out(alloc, &asked, &NO_PARAMETERS, reader, writer))
 }
 
 /// Analyses each text of the entry that the reader gives, and writes a line for each that is present, in the order of
 /// [`show`]: its depth and bound, or its fault with the place. The bound is that of text parameters without bytes. The
 /// result is whether no text has a fault.
 pub fn check<A: Allocator + Copy, R: Read, W: Write>(
-    global: Global,
     alloc: A,
     reader: &mut R,
     writer: &mut W,
@@ -84,7 +81,7 @@ pub fn check<A: Allocator + Copy, R: Read, W: Write>(
     ensures unwritten { IfErr result (λ e. IsFailedWrite e ⊎ (writer.new ≡ writer.old)) }
 {
     let asked = Asked::Entry(OfEntry::Check(naming_asked(false, false, false)));
-    carry_out(global, alloc, &asked, &NO_PARAMETERS, reader, writer)
+    carry_out(alloc, &asked, &NO_PARAMETERS, reader, writer)
 }
 
 /// Expands one text of the entry that the reader gives, pads it, and writes the result as it stands, or with `hex` the
@@ -93,7 +90,6 @@ pub fn check<A: Allocator + Copy, R: Read, W: Write>(
 /// A name is `#` and one to five digits, which is the index of a text; else the common name of a text; else that of an
 /// extended text, the first of those that have it.
 pub fn expand_named<A: Allocator + Copy, R: Read, W: Write>(
-    global: Global,
     alloc: A,
     reader: &mut R,
     name: &str,
@@ -114,7 +110,7 @@ pub fn expand_named<A: Allocator + Copy, R: Read, W: Write>(
         padding: *padding,
         output: output_asked(hex, false),
     }));
-    without_value(carry_out(global, alloc, &asked, parameters, reader, writer))
+    without_value(carry_out(alloc, &asked, parameters, reader, writer))
 }
 
 /// Writes the entry that the reader gives in its canonical layout: each text in its place without sharing, the extended
@@ -122,7 +118,6 @@ pub fn expand_named<A: Allocator + Copy, R: Read, W: Write>(
 ///
 /// The entry is written in the format of `width`, or with none in its own. Nothing else of it changes.
 pub fn convert<A: Allocator + Copy, R: Read, W: Write>(
-    global: Global,
     alloc: A,
     reader: &mut R,
     width: Option<Width>,
@@ -135,5 +130,5 @@ pub fn convert<A: Allocator + Copy, R: Read, W: Write>(
     ensures unwritten { IfErr result (λ e. IsFailedWrite e ⊎ (writer.new ≡ writer.old)) }
 {
     let asked = Asked::Entry(OfEntry::Convert(width));
-    without_value(carry_out(global, alloc, &asked, &NO_PARAMETERS, reader, writer))
+    without_value(carry_out(alloc, &asked, &NO_PARAMETERS, reader, writer))
 }

@@ -26,7 +26,7 @@ use crate::command::lint::findings_of_entry;
 use crate::command::trace::{trace_of_result, trace_result};
 use crate::fault::ToolFault;
 use crate::notation::put_text;
-use std::alloc::{Allocator, Global};
+use std::alloc::Allocator;
 use ti_entry::Entry;
 use ti_expand::Value;
 use ti_line::{OfCapability, OfEntry};
@@ -44,7 +44,6 @@ pub struct Answer<A: Allocator> {
 
 /// What is due for a capability.
 pub fn answer_of_capability<A: Allocator + Copy>(
-    global: Global,
     alloc: A,
     asked: OfCapability,
     parameters: &[Value<'_>; 9],
@@ -56,13 +55,12 @@ pub fn answer_of_capability<A: Allocator + Copy>(
 {
     match asked {
         OfCapability::Cap(output) => cap_result(alloc, input, parameters, output),
-        OfCapability::Trace(form) => trace_result(global, alloc, input, parameters, form),
+        OfCapability::Trace(form) => trace_result(alloc, input, parameters, form),
     }
 }
 
 /// What is due for the capability whose notation is in an input. Its text is put in the place of the notation.
 pub fn answer_of_source<A: Allocator + Copy>(
-    global: Global,
     alloc: A,
     asked: OfCapability,
     parameters: &[Value<'_>; 9],
@@ -72,13 +70,12 @@ pub fn answer_of_source<A: Allocator + Copy>(
         MatchResult result (λ v. IsDue (Ok v.items)) (FailsAsDue IsDue) }
 {
     let len = put_text(input)?;
-    answer_of_capability(global, alloc, asked, parameters, &input[..len])
+    answer_of_capability(alloc, asked, parameters, &input[..len])
 }
 
 /// What is due for an entry that the bytes spell. Something stands before the first line of each finding of `lint`, for which
 /// texts that were tried for earlier entries with the same trials are not tried again.
 pub fn answer_of_entry<A: Allocator + Copy>(
-    global: Global,
     alloc: A,
     trials: &mut Trials<A>,
     asked: &OfEntry<'_>,
@@ -97,7 +94,7 @@ pub fn answer_of_entry<A: Allocator + Copy>(
     let bytes = match asked {
         OfEntry::Show(options) => lines_of(alloc, *options, entry)?,
         OfEntry::Json(document) => {
-            return Ok(document_of(global, alloc, trials, *document, bytes, entry)?);
+            return Ok(document_of(alloc, trials, *document, bytes, entry)?);
         }
         OfEntry::Check(naming) => return Ok(verdicts_of(alloc, *naming, entry)?),
         OfEntry::Lint(scope, color) => {
@@ -106,7 +103,7 @@ pub fn answer_of_entry<A: Allocator + Copy>(
         OfEntry::Expand(expand) => expand_result(alloc, entry, expand, parameters)?,
         OfEntry::Convert(width) => convert_result(alloc, entry, *width)?,
         OfEntry::Get(get) => return get_result(alloc, entry, get),
-        OfEntry::Trace(of) => trace_of_result(global, alloc, entry, of)?,
+        OfEntry::Trace(of) => trace_of_result(alloc, entry, of)?,
     };
     Ok(Answer { bytes, sound: true })
 }

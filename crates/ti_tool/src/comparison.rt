@@ -15,7 +15,7 @@ use crate::fault::ToolFault;
 use crate::fault_line::fault_line;
 use crate::files::{Outcome, contents_of, deliver, fault_outcome, refused_outcome};
 use crate::store::Store;
-use std::alloc::{AllocError, Allocator, Global};
+use std::alloc::{AllocError, Allocator};
 use std::io::{Read, Write};
 use ti_entry::{Entry, Refused, read};
 use ti_line::{Comparison, Difference, Likeness};
@@ -39,7 +39,6 @@ fn refusal_outcome<A: Allocator + Copy>(
 
 /// What two entries do not have alike, as it is asked for.
 fn comparison_text<A: Allocator + Copy>(
-    global: Global,
     alloc: A,
     form: Comparison,
     differences: &[ti_listing::Difference<'_>],
@@ -49,13 +48,12 @@ fn comparison_text<A: Allocator + Copy>(
 {
     match form {
         Comparison::Lines(color) => differing_lines(alloc, color, differences),
-        Comparison::Json => as_line(alloc, differing_json(global, differences)?.as_slice()),
+        Comparison::Json => as_line(differing_json(alloc, differences)?),
     }
 }
 
 /// What two entries lead to: what they do not have alike.
 fn difference_outcome<'a, A: Allocator + Copy>(
-    global: Global,
     alloc: A,
     likeness: Likeness,
     form: Comparison,
@@ -68,7 +66,7 @@ fn difference_outcome<'a, A: Allocator + Copy>(
 {
     let differences = difference_of(alloc, likeness, one, other)?;
     let status = if differences.is_empty() { 0 } else { 1 };
-    let bytes = comparison_text(global, alloc, form, differences.as_slice())?;
+    let bytes = comparison_text(alloc, form, differences.as_slice())?;
     Ok(Outcome {
         bytes,
         line: Vec::new(alloc),
@@ -78,7 +76,6 @@ fn difference_outcome<'a, A: Allocator + Copy>(
 
 /// What the contents of two files lead to.
 fn outcome_of_both<A: Allocator + Copy>(
-    global: Global,
     alloc: A,
     pair: &Difference<'_>,
     contents: &[u8],
@@ -96,13 +93,12 @@ fn outcome_of_both<A: Allocator + Copy>(
         Ok(entry) => entry,
         Err(refused) => return refusal_outcome(alloc, pair.other, of_other, refused),
     };
-    difference_outcome(global, alloc, pair.likeness, pair.form, &one, &other)
+    difference_outcome(alloc, pair.likeness, pair.form, &one, &other)
 }
 
 /// What two files lead to.
 fn outcome_of_pair<S: Store, A: Allocator + Copy, R: Read>(
     store: &S,
-    global: Global,
     alloc: A,
     pair: &Difference<'_>,
     input: &mut R,
@@ -120,19 +116,12 @@ fn outcome_of_pair<S: Store, A: Allocator + Copy, R: Read>(
         Ok(contents) => contents,
         Err(error) => return refused_outcome(alloc, pair.other, &error),
     };
-    outcome_of_both(
-        global,
-        alloc,
-        pair,
-        contents.as_slice(),
-        of_other.as_slice(),
-    )
+    outcome_of_both(alloc, pair, contents.as_slice(), of_other.as_slice())
 }
 
 /// Compares two files, and writes what they do not have alike.
 pub fn run_pair<S: Store, A: Allocator + Copy, R: Read, W: Write, E: Write>(
     store: &S,
-    global: Global,
     alloc: A,
     pair: &Difference<'_>,
     input: &mut R,
@@ -144,6 +133,6 @@ pub fn run_pair<S: Store, A: Allocator + Copy, R: Read, W: Write, E: Write>(
     ensures ran { RanDifference pair.now (W.contents output.old) (W.contents output.new)
         (E.contents errors.old) (E.contents errors.new) result }
 {
-    let outcome = outcome_of_pair(store, global, alloc, pair, input);
+    let outcome = outcome_of_pair(store, alloc, pair, input);
     deliver(outcome, output, errors).unwrap_or(5)
 }

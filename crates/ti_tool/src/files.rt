@@ -20,7 +20,7 @@ use crate::program::told_names;
 use crate::result::write_result;
 use crate::status::status;
 use crate::store::{Files, FoundFile, Store, one_file, read_contents};
-use std::alloc::{AllocError, Allocator, Global};
+use std::alloc::{AllocError, Allocator};
 use std::io;
 use std::io::{ErrorKind, Read, Write};
 use ti_expand::Value;
@@ -39,8 +39,6 @@ pub struct Errand<'a> {
     pub parameters: &'a [Value<'a>; 9],
     /// Whether there are several files.
     pub has_several: bool,
-    /// Where JSON is made.
-    pub global: Global,
 }
 
 /// What a file leads to: a result or a line on its fault, and the status.
@@ -102,10 +100,9 @@ fn outcome_of<A: Allocator + Copy>(
     let Errand {
         of_entry,
         parameters,
-        global,
         ..
     } = *errand;
-    match answer_of_file(global, alloc, trials, of_entry, parameters, file, contents) {
+    match answer_of_file(alloc, trials, of_entry, parameters, file, contents) {
         Ok(answer) => Ok(Outcome {
             bytes: answer.bytes,
             line: Vec::new(alloc),

@@ -1,20 +1,19 @@
 //! What is due for a file that was named, from its contents: nothing here reads or writes.
 
-ghost use Rattle.std.specs.Prelude.{◌≡◌, ◌⊎◌, ◌++◌, codes, Err, OnOk, IfErr, IfOk, true};
+ghost use Rattle.std.specs.Prelude.{◌≡◌, ◌⊎◌, ◌++◌, codes, Err, None, OnOk, IfErr, IfOk, true};
 ghost use Rattle.ti_line.specs.declared.request.Asked.TheVariants as asks;
 ghost use Rattle.ti_tool.specs.declared.fault.ToolFault.TheVariants as fault;
-ghost use Rattle.ti_names.specs.AllNames.{front};
-ghost use Rattle.ti_tool.specs.Documents.{in_object as the_object, key_of as the_key};
-ghost use Rattle.ti_tool.specs.Files.{IsDueOfFile, before_findings as the_before_findings, each_line, file_line as the_file_line, one_of_several as the_one_of_several, result_of_file, shown_file};
-ghost use Rattle.ti_tool.specs.Results.{Finds, IsDueOf};
+ghost use Rattle.ti_tool.specs.Files.{IsDueOfFile, before_findings as the_before_findings, each_line, file_line as the_file_line, one_of_several as the_one_of_several, shown_file};
+ghost use Rattle.ti_tool.specs.Results.{Finds, IsDueIn, IsDueOf};
+ghost use Rattle.ti_tool.specs.inner.Several.{IsDueOfSeveral, document_in as the_document_in};
 
+use crate::command::json::document_of_file;
 use crate::command::{Answer, answer_of_entry};
 use crate::fault::ToolFault;
-use std::alloc::{AllocError, Allocator, Global};
-use ti_entry::read;
+use std::alloc::{AllocError, Allocator};
+use ti_entry::{Entry, read};
 use ti_escape::push_notation;
 use ti_expand::Value;
-use ti_json::text_json;
 use ti_line::{Document, NameForm, OfEntry};
 use ti_report::Trials;
 
@@ -97,87 +96,100 @@ fn by_name<A: Allocator + Copy>(
     Ok(out)
 }
 
-/// A line without its newline.
-fn without_newline(line: &[u8]) -> &[u8]
-    ensures { result.now ≡ front line.now }
-{
-    match line {
-        [text @ .., _] => text,
-        [] => line,
-    }
-}
-
-/// What a document is called in the object of its file.
-fn key_of(document: Document) -> &'static str
-    ensures { result.now ≡ the_key document }
-{
-    match document {
-        Document::Listing => "items",
-        Document::Verdicts => "verdicts",
-        Document::Findings(_) => "findings",
-    }
-}
-
-/// A document in an object with the name of its file.
-fn in_object<A: Allocator + Copy>(
-    global: Global,
-    alloc: A,
-    document: Document,
-    name: &str,
-    line: &[u8],
-) -> Result<Vec<u8, A>, AllocError>
-    ensures { IfOk result (λ v. v.items ≡ the_object document name.now line.now) }
-{
-    let mut out = Vec::from_slice(alloc, b"{\"file\":")?;
-    out.extend_from_slice(text_json(global, name.as_bytes())?.as_slice())?;
-    out.extend_from_slice(b",\"")?;
-    out.extend_from_slice(key_of(document).as_bytes())?;
-    out.extend_from_slice(b"\":")?;
-    out.extend_from_slice(without_newline(line))?;
-    out.extend_from_slice(b"}\n")?;
-    Ok(out)
-}
-
-/// What stands before the first line of each finding in a file: its name, if it is one of several.
-fn before_findings<A: Allocator + Copy>(alloc: A, file: Named<'_>) -> Result<Vec<u8, A>, AllocError>
-    ensures { IfOk result (λ v. v.items
-        ≡ the_before_findings file.entry.is_one_of_several file.entry.name.now) }
+/// What stands before the first line of each finding in one of several files.
+fn before_findings<A: Allocator + Copy>(alloc: A, name: &str) -> Result<Vec<u8, A>, AllocError>
+    ensures { IfOk result (λ v. v.items ≡ the_before_findings true name.now) }
 {
     let mut before = Vec::new(alloc);
-    if file.is_one_of_several {
-        push_notation(&mut before, file.name.as_bytes())?;
-        before.extend_from_slice(b": ")?;
-    }
+    push_notation(&mut before, name.as_bytes())?;
+    before.extend_from_slice(b": ")?;
     Ok(before)
 }
 
-/// The result of one of several files.
+/// The output for one of several files, if no document is requested.
 fn one_of_several<A: Allocator + Copy>(
-    global: Global,
     alloc: A,
     asked: &OfEntry<'_>,
     name: &str,
     plain: Vec<u8, A>,
 ) -> Result<Vec<u8, A>, AllocError>
+    requires { the_document_in asked.now ≡ None }
     ensures { IfOk result (λ v. v.items ≡ the_one_of_several asked.now name.now plain.items) }
 {
     match asked {
         OfEntry::Show(options) => after_name(alloc, options.naming.form, name, plain.as_slice()),
         OfEntry::Check(naming) => by_name(alloc, naming.form, name, plain.as_slice()),
-        OfEntry::Json(document) => in_object(global, alloc, *document, name, plain.as_slice()),
+        OfEntry::Json(_document) => unreachable!(),
         _ => Ok(plain),
     }
 }
 
+/// The document that is requested, if one is.
+fn document_in(asked: &OfEntry<'_>) -> Option<Document>
+    ensures { result ≡ the_document_in asked.now }
+{
+    match asked {
+        OfEntry::Json(document) => Some(*document),
+        _ => None,
+    }
+}
+
+/// The output of a request for one of several files, if no document is requested.
+fn lines_of_file<A: Allocator + Copy>(
+    alloc: A,
+    trials: &mut Trials<A>,
+    asked: &OfEntry<'_>,
+    parameters: &[Value<'_>; 9],
+    name: &str,
+    contents: &[u8],
+    entry: &Entry<'_>,
+) -> Result<Answer<A>, ToolFault>
+    requires { the_document_in asked.now ≡ None }
+    ensures finds { IfOk result (λ a. Finds (asks.Entry asked.now) a.sound) }
+    ensures due { IfOk result (λ a. IsDueOfSeveral asked.now parameters.now name.now
+        a.sound contents.now entry.now a.bytes.items) }
+    ensures fault { IfErr result (λ e. (e ≡ fault.Memory)
+        ⊎ IsDueIn (the_before_findings true name.now) asked.now parameters.now true
+        contents.now entry.now (Err e)) }
+{
+    let before = before_findings(alloc, name)?;
+    let before = before.as_slice();
+    let answer = answer_of_entry(alloc, trials, asked, parameters, before, contents, entry)?;
+    let Answer { bytes, sound } = answer;
+    let bytes = one_of_several(alloc, asked, name, bytes)?;
+    Ok(Answer { bytes, sound })
+}
+
+/// The output of a request for one of several files.
+fn answer_of_several<A: Allocator + Copy>(
+    alloc: A,
+    trials: &mut Trials<A>,
+    asked: &OfEntry<'_>,
+    parameters: &[Value<'_>; 9],
+    name: &str,
+    contents: &[u8],
+    entry: &Entry<'_>,
+) -> Result<Answer<A>, ToolFault>
+    ensures finds { IfOk result (λ a. Finds (asks.Entry asked.now) a.sound) }
+    ensures due { IfOk result (λ a. IsDueOfSeveral asked.now parameters.now name.now
+        a.sound contents.now entry.now a.bytes.items) }
+    ensures fault { IfErr result (λ e. (e ≡ fault.Memory)
+        ⊎ IsDueIn (the_before_findings true name.now) asked.now parameters.now true
+        contents.now entry.now (Err e)) }
+{
+    match document_in(asked) {
+        Some(document) => Ok(document_of_file(alloc, trials, document, name, contents, entry)?),
+        None => lines_of_file(alloc, trials, asked, parameters, name, contents, entry),
+    }
+}
+
 /// What is due for the contents of a file: what is due for an entry of these bytes, with the name of the file if it is one
-/// of several. A document of JSON is made in the memory of `global`, and its bytes are then `alloc`'s. `lint` does not try again
-/// the texts that were tried for earlier files with the same trials.
+/// of several. `lint` does not try again the texts that were tried for earlier files with the same trials.
 ///
 /// # Errors
 ///
 /// Those of the entry; [`ToolFault::Memory`] if a growth is refused.
 pub fn answer_of_file<A: Allocator + Copy>(
-    global: Global,
     alloc: A,
     trials: &mut Trials<A>,
     asked: &OfEntry<'_>,
@@ -193,22 +205,12 @@ pub fn answer_of_file<A: Allocator + Copy>(
         asked.now parameters.now true contents.now (Err e)) }
 {
     let entry = read(contents)?;
-    let before = before_findings(alloc, file)?;
-    let Answer { bytes, sound } = answer_of_entry(
-        global,
-        alloc,
-        trials,
-        asked,
-        parameters,
-        before.as_slice(),
-        contents,
-        &entry,
-    )?;
     if file.is_one_of_several {
-        let bytes = one_of_several(global, alloc, asked, file.name, bytes)?;
-        return Ok(Answer { bytes, sound });
+        return answer_of_several(
+            alloc, trials, asked, parameters, file.name, contents, &entry,
+        );
     }
-    Ok(Answer { bytes, sound })
+    answer_of_entry(alloc, trials, asked, parameters, b"", contents, &entry)
 }
 
 /// The line on the fault of a file, after its name, of which each character can be printed.

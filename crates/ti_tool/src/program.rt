@@ -75,7 +75,6 @@ fn finish<A: Allocator + Copy, E: Write>(
 
 /// Carries a request out. A fault is told.
 fn run_request<A: Allocator + Copy, R: Read, W: Write, E: Write>(
-    global: Global,
     alloc: A,
     asked: &Asked<'_>,
     parameters: &[Value<'_>; 9],
@@ -90,14 +89,13 @@ fn run_request<A: Allocator + Copy, R: Read, W: Write, E: Write>(
     ensures silent { result ≤ 1 → errors.new ≡ errors.old }
 {
     let mut kept = EntryReader::new();
-    let answer = carry_out_keeping(global, alloc, asked, parameters, &mut kept, input, output);
+    let answer = carry_out_keeping(alloc, asked, parameters, &mut kept, input, output);
     finish(alloc, errors, asked, kept.bytes(), answer)
 }
 
 /// Does what is requested, of standard input or of files.
 fn run_task<S: Store, A: Allocator + Copy, R: Read, W: Write, E: Write>(
     store: &S,
-    global: Global,
     alloc: A,
     asked: &Asked<'_>,
     parameters: &[Value<'_>; 9],
@@ -120,21 +118,16 @@ fn run_task<S: Store, A: Allocator + Copy, R: Read, W: Write, E: Write>(
                 of_entry,
                 parameters,
                 has_several: files.len() > 1,
-                global,
             };
             run_files(store, alloc, &errand, files, input, output, errors)
         }
         Asked::Difference(pair) if !files.is_empty() => {
-            run_pair(store, global, alloc, pair, input, output, errors)
+            run_pair(store, alloc, pair, input, output, errors)
         }
-        Asked::Capability(_) => {
-            run_request(global, alloc, asked, parameters, input, output, errors)
-        }
-        Asked::Source(_) => { run_request(global, alloc, asked, parameters, input, output, errors) }
-        Asked::Entry(_) => { run_request(global, alloc, asked, parameters, input, output, errors) }
-        Asked::Difference(_) => {
-            run_request(global, alloc, asked, parameters, input, output, errors)
-        }
+        Asked::Capability(_) => { run_request(alloc, asked, parameters, input, output, errors) }
+        Asked::Source(_) => { run_request(alloc, asked, parameters, input, output, errors) }
+        Asked::Entry(_) => { run_request(alloc, asked, parameters, input, output, errors) }
+        Asked::Difference(_) => { run_request(alloc, asked, parameters, input, output, errors) }
     }
 }
 
@@ -232,7 +225,6 @@ pub fn run_at<S: Store, A: Allocator + Copy, R: Read, W: Write, E: Write>(
             let files = files.as_slice();
             run_task(
                 store,
-                global,
                 alloc,
                 &asked,
                 &parameters,

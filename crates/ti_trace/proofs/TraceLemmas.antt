@@ -1,16 +1,22 @@
 -- The text and the objects of what is to be told.
-use Rattle.std.proofs.Common.{◌≡◌, ◌∙◌, ℕ, List, [], ◌∷◌, ◌++◌, ap, append_assoc, flat_map, map, sym}
-use Rattle.std.proofs.lemmas.List.Concat.{flat_map_single}
-use Rattle.serde_json.specs.Data.{Data}
+use Rattle.std.proofs.Common.{◌≡◌, ◌∙◌, ℕ, false, List, [], ◌∷◌, ◌++◌, ap, append_assoc, flat_map, map, refl, sym}
+use Rattle.std.proofs.lemmas.Grind.{flat_map-append}
+use Rattle.json.specs.Print.{print}
+use Rattle.json.specs.Token.{begin_array, end_array}
+use Rattle.serde_json.specs.Data.{array}
+use Rattle.serde_json.specs.View.{items_of}
 use Rattle.ti_escape.specs.declared.color.Color.{Color}
 use Rattle.ti_escape.specs.declared.form.Form.{Form}
 use Rattle.ti_expand.specs.declared.values.Value.{Value}
+use Rattle.ti_json.specs.Printed.{Printed, Prints, all_tokens, data_tokens}
+use Rattle.ti_json.proofs.TokensLemmas.{◌then◌, as_said, document, list_printed}
 use Rattle.ti_trace.specs.Columns.{header}
 use Rattle.ti_trace.specs.Footer.{footer}
 use Rattle.ti_trace.specs.Lines.{token_line}
-use Rattle.ti_trace.specs.Objects.{AreTraceObjects, token_object, totals_object, trace_objects}
+use Rattle.ti_trace.specs.Objects.{IsTraceJson, token_object, totals_object, trace_objects}
 use Rattle.ti_trace.specs.Told.{Told, Totals, TracedToken}
 use Rattle.ti_trace.specs.Trace.{IsTrace}
+use Rattle.ti_trace.specs.inner.Traced.{token_tokens}
 use Rattle.ti_trace.proofs.TracedLemmas.{Telling}
 
 pub trace_is : (form : Form) (color : Color) (bytes : List ℕ) (parameters : List Value) (lines out : List ℕ) (facts totals : Totals)
@@ -24,17 +30,22 @@ trace_is form color bytes parameters lines out facts totals t same put = (
       ∙ append_assoc header (flat_map (token_line form color) t.told.tokens) (footer form t.told.totals),
 )
 
--- an object for each token
-abbrev pub alone : TracedToken → List Data
-alone t = token_object t ∷ []
+-- the tokens of the objects of all tokens
+each_object : (ts : List TracedToken) → flat_map token_tokens ts ≡ all_tokens (map token_object ts)
+each_object [] = refl
+each_object (t ∷ ts) = ap (λ rest. token_tokens t ++ rest) (each_object ts)
 
-pub objects_are : (bytes : List ℕ) (parameters : List Value) (none tokens all : List Data) (last : Data) (facts totals : Totals)
-    → Telling alone bytes parameters none tokens totals → none ≡ [] → facts ≡ totals → all ≡ tokens ++ last ∷ [] → last ≡ totals_object facts
-    → AreTraceObjects bytes parameters all
-objects_are bytes parameters none tokens all last facts totals t empty same put is = (
-  t.told,
-  t.is,
-  put ∙ ap (λ (d : Data). tokens ++ d ∷ []) (is ∙ ap totals_object (same ∙ t.totals_are))
-      ∙ ap (λ (ds : List Data). ds ++ totals_object t.told.totals ∷ [])
-      (t.rendered ∙ ap (λ (ds : List Data). ds ++ flat_map alone t.told.tokens) empty ∙ flat_map_single token_object t.told.tokens),
-)
+-- what a printer hands out
+pub document_is : (bytes : List ℕ) (parameters : List Value) (first begun done summed last : Printed) (out : List ℕ) (facts totals : Totals) → first.tokens ≡ []
+    → Prints first begun (begin_array ∷ []) → (done.is_refused ≡ false → begun.is_refused ≡ false)
+    → (done.is_refused ≡ false → Telling token_tokens bytes parameters begun.tokens done.tokens totals) → facts ≡ totals
+    → Prints done summed (data_tokens (totals_object facts)) → Prints summed last (end_array ∷ []) → (last.is_refused ≡ false) × (out ≡ print last.tokens)
+    → IsTraceJson bytes parameters out
+document_is bytes parameters first begun done summed last out facts totals none starts kept tells same sums ends p =
+    let t = tells (sums.kept (ends.kept p.0)) in
+    let objects = trace_objects t.told in
+    let tokens : Prints begun done (all_tokens (map token_object t.told.tokens)) = as_said (each_object t.told.tokens) (record { kept = kept; added = λ is. t.rendered }) in
+    let summed_up : Prints done summed (all_tokens (totals_object t.told.totals ∷ [])) = as_said (ap (λ (x : Totals). data_tokens (totals_object x)) (same ∙ t.totals_are)) sums in
+    let all : Prints begun summed (all_tokens objects) =
+    as_said (sym (flat_map-append data_tokens (map token_object t.told.tokens) (totals_object t.told.totals ∷ []))) (tokens then summed_up) in
+    (objects, (t.told, t.is, refl), document (array (items_of objects)) first last out none (list_printed objects starts all ends) p)

@@ -3,83 +3,76 @@
 //! One pass over the tokens, in time linear in the capability and in what is written.
 
 ghost use Rattle.std.specs.List.{list_all};
-ghost use Rattle.std.specs.Prelude.{◌≡◌, ℕ, ◌<◌, ◌≤◌, ◌↔◌, [], ◌∷◌, true, false, Ok, Err, length, IfOk, OnOk, map};
-ghost use Rattle.serde_json.specs.View.{view};
+ghost use Rattle.std.specs.Prelude.{◌≡◌, ℕ, ◌<◌, ◌≤◌, ◌↔◌, [], true, false, Ok, Err, length, IfOk, OnOk};
 ghost use Rattle.ti_base.specs.Limits.{most_text_bytes};
 ghost use Rattle.ti_cap.specs.Capability.{IsWellFormed, whole};
 ghost use Rattle.ti_cap.specs.Refusal.{IsFaultless, IsRefusal};
 ghost use Rattle.ti_escape.specs.Laws.{is_printable};
 ghost use Rattle.ti_expand.specs.Expands.{AreShort, IsFirstTooLong, longest_text as the_longest_text};
 ghost use Rattle.ti_trace.specs.declared.fault.TraceFault.TheVariants as fault;
-ghost use Rattle.ti_trace.specs.Objects.{AreTraceObjects, IsTraceJson, token_object};
-ghost use Rattle.ti_trace.specs.inner.Traced.{GoesOn, IsFresh, IsTraced};
+ghost use Rattle.ti_trace.specs.Objects.{IsTraceJson};
+ghost use Rattle.ti_trace.specs.inner.Traced.{HasPrinted, IsFresh, PrintsOn};
 
 use crate::fault::TraceFault;
 use crate::footer::facts_of;
-use crate::object::{push_token, push_totals};
+use crate::object::{print_token, print_totals};
 use crate::row::row_taken;
 use crate::tracing::longest_of;
-use serde_json::Value as Json;
-use std::alloc::{AllocError, Global};
+use std::alloc::{AllocError, Allocator};
 use ti_base::MOST_VALUES;
 use ti_cap::{CapRefused, Capability};
 use ti_expand::{Steps, Value, Vars};
-use ti_json::array_json;
+use ti_json::Printer;
 
-/// Takes the next token and adds its object. False at the end, if nothing changes.
-fn push_next(
-    alloc: Global,
-    out: &mut Vec<Json>,
+/// Takes the next token and prints its object. False at the end, if nothing changes.
+fn print_next<A: Allocator>(
+    printer: &mut Printer<A>,
     bytes: &[u8],
     steps: &mut Steps<'_, '_, '_>,
-) -> Result<bool, AllocError>
+) -> bool
     requires { whole steps.old.spot ≡ bytes.now }
-    ensures whole { OnOk result (whole steps.new.spot ≡ bytes.now) }
-    ensures objects { OnOk result (GoesOn (λ t. token_object t ∷ []) bytes.now steps.old steps.new
-        (map view out.old.items) (map view out.new.items)) }
-    ensures end { (result ≡ Ok false) → steps.new.spot.left ≡ [] }
-    ensures forward { (result ≡ Ok true)
+    ensures whole { whole steps.new.spot ≡ bytes.now }
+    ensures objects { PrintsOn bytes.now steps.old steps.new printer.old printer.new }
+    ensures end { (result ≡ false) → steps.new.spot.left ≡ [] }
+    ensures forward { (result ≡ true)
         → length steps.new.spot.left < length steps.old.spot.left }
 {
     let place = steps.at();
     let written = steps.output().len();
     let Some(step) = steps.step() else {
-        return Ok(false);
+        return false;
     };
     let row = row_taken(bytes, steps, step.outcome, place, written);
-    push_token(alloc, out, &row)?;
-    Ok(true)
+    print_token(printer, &row);
+    true
 }
 
-/// Takes all tokens and adds their objects.
-fn push_objects(
-    alloc: Global,
-    out: &mut Vec<Json>,
+/// Takes all tokens and prints their objects.
+fn print_tokens<A: Allocator>(
+    printer: &mut Printer<A>,
     bytes: &[u8],
     steps: &mut Steps<'_, '_, '_>,
-) -> Result<(), AllocError>
+)
     requires fresh { IsFresh bytes.now steps.old }
     requires tree { IsWellFormed bytes.now }
-    ensures objects { OnOk result (IsTraced (λ t. token_object t ∷ []) bytes.now steps.old.state
-        steps.new (map view out.old.items) (map view out.new.items)) }
-    ensures end { OnOk result (steps.new.spot.left ≡ []) }
+    ensures objects { HasPrinted bytes.now steps.old.state steps.new printer.old printer.new }
+    ensures end { steps.new.spot.left ≡ [] }
 {
-    'tokens: while push_next(alloc, out, bytes, steps)? {}
-    Ok(())
+    'tokens: while print_next(printer, bytes, steps) {}
 }
 
-/// The objects, if no text is longer than `longest`. Each variable is 0 at first.
-fn objects_of(
-    alloc: Global,
+/// The document, if no text is longer than `longest`. Each variable is 0 at first.
+fn document_of<A: Allocator + Copy>(
+    alloc: A,
     bytes: &[u8],
     capability: &Capability<'_>,
     parameters: &[Value<'_>; 9],
     longest: u16,
-) -> Result<Vec<Json>, AllocError>
+) -> Result<Vec<u8, A>, AllocError>
     requires bytes { capability.now ≡ bytes.now }
     requires short { AreShort parameters.now longest }
-    ensures { IfOk result
-        (λ out. AreTraceObjects bytes.now parameters.now (map view out.items)) }
+    ensures is { IfOk result (λ out. IsTraceJson bytes.now parameters.now out.items) }
+    ensures printable { IfOk result (λ out. list_all is_printable out.items ≡ true) }
 {
     let bound = capability.bound(longest);
     let depth = capability.depth();
@@ -96,28 +89,13 @@ fn objects_of(
         Ok(steps) => steps,
         Err(_fault) => unreachable!(),
     };
-    let mut objects = Vec::new(alloc);
-    push_objects(alloc, &mut objects, bytes, &mut steps)?;
+    let mut printer = Printer::new(alloc);
+    printer.begin_list();
+    print_tokens(&mut printer, bytes, &mut steps);
     let facts = facts_of(&steps, depth, bound);
-    push_totals(alloc, &mut objects, &facts)?;
-    Ok(objects)
-}
-
-/// The document, if no text is longer than `longest`.
-fn document_of(
-    alloc: Global,
-    bytes: &[u8],
-    capability: &Capability<'_>,
-    parameters: &[Value<'_>; 9],
-    longest: u16,
-) -> Result<Vec<u8>, AllocError>
-    requires bytes { capability.now ≡ bytes.now }
-    requires short { AreShort parameters.now longest }
-    ensures is { IfOk result (λ out. IsTraceJson bytes.now parameters.now out.items) }
-    ensures printable { IfOk result (λ out. list_all is_printable out.items ≡ true) }
-{
-    let objects = objects_of(alloc, bytes, capability, parameters, longest)?;
-    array_json(alloc, objects)
+    print_totals(&mut printer, &facts);
+    printer.end_list();
+    printer.into_bytes()
 }
 
 /// What a capability does, token by token, as JSON: an array with an object for each token, and one with the totals, without
@@ -130,11 +108,11 @@ fn document_of(
 ///
 /// # Errors
 /// Those of [`crate::trace`], each exactly if it holds there.
-pub fn trace_json(
-    alloc: Global,
+pub fn trace_json<A: Allocator + Copy>(
+    alloc: A,
     capability: &[u8],
     parameters: &[Value<'_>; 9],
-) -> Result<Vec<u8>, TraceFault>
+) -> Result<Vec<u8, A>, TraceFault>
     ensures is { IfOk result (λ out. IsTraceJson capability.now parameters.now out.items) }
     ensures printable { IfOk result (λ out. list_all is_printable out.items ≡ true) }
     ensures accepted { OnOk result (IsFaultless capability.now) }

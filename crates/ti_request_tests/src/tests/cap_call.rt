@@ -28,8 +28,7 @@ fn capped<A: Allocator + Copy>(
 ) -> Written {
     let mut source = source;
     let mut writer = writer;
-    let global = *writer.taken.allocator();
-    let result = cap_run(global, alloc, &mut source, parameters, hex, &mut writer);
+    let result = cap_run(alloc, &mut source, parameters, hex, &mut writer);
     Written {
         result,
         taken: writer.taken,
@@ -129,7 +128,7 @@ fn a_source_without_end_is_too_long(rt: HostRuntime) {
     let mut source = Endless { reads: 0 };
     let mut writer = Sink::new(rt.alloc());
     let global = rt.alloc();
-    let result = cap_run(global, global, &mut source, &NUMBERS, false, &mut writer);
+    let result = cap_run(global, &mut source, &NUMBERS, false, &mut writer);
     assert_that!(rt; result == Err(ToolFault::Cap(TOO_LONG)));
     assert_that!(rt; source.reads <= 32768);
     assert_that!(rt; writer.taken.is_empty());
@@ -173,8 +172,7 @@ fn formed<A: Allocator + Copy>(alloc: A, output: Output, writer: Sink) -> Writte
     let mut writer = writer;
     let mut source = Source::new(b"\x1b%p1%d^, ", 3);
     let asked = Asked::Capability(OfCapability::Cap(output));
-    let global = *writer.taken.allocator();
-    let result = carry_out(global, alloc, &asked, &NUMBERS, &mut source, &mut writer);
+    let result = carry_out(alloc, &asked, &NUMBERS, &mut source, &mut writer);
     Written {
         result: result.map(|_sound| ()),
         taken: writer.taken,

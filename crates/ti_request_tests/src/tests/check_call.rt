@@ -38,8 +38,7 @@ struct Verdicts {
 fn checked<A: Allocator + Copy>(alloc: A, source: Source<'_>, writer: Sink) -> Verdicts {
     let mut source = source;
     let mut writer = writer;
-    let global = *writer.taken.allocator();
-    let result = check(global, alloc, &mut source, &mut writer);
+    let result = check(alloc, &mut source, &mut writer);
     Verdicts {
         result,
         taken: writer.taken,

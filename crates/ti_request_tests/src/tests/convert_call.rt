@@ -52,8 +52,7 @@ pub fn converted<A: Allocator + Copy>(
 ) -> Written {
     let mut source = source;
     let mut writer = writer;
-    let global = *writer.taken.allocator();
-    let result = convert(global, alloc, &mut source, width, &mut writer);
+    let result = convert(alloc, &mut source, width, &mut writer);
     Written {
         result,
         taken: writer.taken,

@@ -35,9 +35,7 @@ pub fn expanded<A: Allocator + Copy>(
     let mut source = source;
     let mut writer = writer;
     let parameters = nine(&[Value::Text(asked.text)]);
-    let global = *writer.taken.allocator();
     let result = expand_named(
-        global,
         alloc,
         &mut source,
         asked.name,

@@ -120,7 +120,7 @@ fn a_text_of_a_large_entry_is_expanded_by_itself(rt: HostRuntime) {
     let mut writer = Sink::new(rt.alloc());
     let mut source = Source::new(CUP, 512);
     let global = rt.alloc();
-    let result = cap_run(global, global, &mut source, &parameters, true, &mut writer);
+    let result = cap_run(global, &mut source, &parameters, true, &mut writer);
     assert_that!(rt; result.is_ok());
     assert_same!(rt; writer.taken.as_slice(), b"1b5b32343b383048\n");
 }

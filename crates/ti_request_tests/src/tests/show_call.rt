@@ -49,7 +49,7 @@ pub struct Written {
 fn shown<A: Allocator + Copy>(global: Global, alloc: A, source: Source<'_>) -> Written {
     let mut source = source;
     let mut writer = Sink::new(global);
-    let result = show(global, alloc, &mut source, &mut writer);
+    let result = show(alloc, &mut source, &mut writer);
     Written {
         result,
         taken: writer.taken,

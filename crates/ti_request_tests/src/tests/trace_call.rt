@@ -26,8 +26,7 @@ fn traced<A: Allocator + Copy>(
     let mut source = source;
     let mut writer = writer;
     let asked = Asked::Capability(OfCapability::Trace(TraceForm::Lines(Form::Hex, Color::Never)));
-    let global = *writer.taken.allocator();
-    let result = carry_out(global, alloc, &asked, parameters, &mut source, &mut writer);
+    let result = carry_out(alloc, &asked, parameters, &mut source, &mut writer);
     Written {
         result: result.map(|_sound| ()),
         taken: writer.taken,

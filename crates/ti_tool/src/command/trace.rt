@@ -11,7 +11,7 @@ use crate::command::json::as_line;
 use crate::fault::ToolFault;
 use crate::item_name::item_called;
 use crate::taken::values_for;
-use std::alloc::{Allocator, Global};
+use std::alloc::Allocator;
 use ti_cap::Capability;
 use ti_entry::Entry;
 use ti_escape::{Color, Form};
@@ -44,7 +44,6 @@ fn trace_lines<A: Allocator + Copy>(
 
 /// A trace as JSON, in a line.
 fn trace_document<A: Allocator + Copy>(
-    global: Global,
     alloc: A,
     input: &[u8],
     parameters: &[Value<'_>; 9],
@@ -52,8 +51,8 @@ fn trace_document<A: Allocator + Copy>(
     ensures { let IsDue = IsTraced parameters.now trace_forms.Json input.now in
         MatchResult result (λ v. IsDue (Ok v.items)) (FailsAsDue IsDue) }
 {
-    match trace_json(global, input, parameters) {
-        Ok(text) => Ok(as_line(alloc, text.as_slice())?),
+    match trace_json(alloc, input, parameters) {
+        Ok(text) => Ok(as_line(text)?),
         Err(TraceFault::Cap(refused)) => Err(ToolFault::Cap(refused)),
         Err(TraceFault::TextTooLong(which)) => Err(ToolFault::TextTooLong(which)),
         Err(TraceFault::Memory) => Err(ToolFault::Memory),
@@ -62,7 +61,6 @@ fn trace_document<A: Allocator + Copy>(
 
 /// The result of `trace` for an input.
 pub fn trace_result<A: Allocator + Copy>(
-    global: Global,
     alloc: A,
     input: &[u8],
     parameters: &[Value<'_>; 9],
@@ -74,13 +72,12 @@ pub fn trace_result<A: Allocator + Copy>(
 {
     match form {
         TraceForm::Lines(form, color) => trace_lines(alloc, input, parameters, form, color),
-        TraceForm::Json => trace_document(global, alloc, input, parameters),
+        TraceForm::Json => trace_document(alloc, input, parameters),
     }
 }
 
 /// The trace of a text with the parameters that words gave.
 fn trace_given<A: Allocator + Copy>(
-    global: Global,
     alloc: A,
     text: &[u8],
     given: &Given<'_>,
@@ -91,12 +88,11 @@ fn trace_given<A: Allocator + Copy>(
 {
     let capability = Capability::parse(text)?;
     let parameters = values_for(&capability, given.params);
-    trace_result(global, alloc, text, &parameters, form)
+    trace_result(alloc, text, &parameters, form)
 }
 
 /// The trace of a text. With no parameter all are the number 0.
 fn trace_text<A: Allocator + Copy>(
-    global: Global,
     alloc: A,
     text: &[u8],
     asked: &TraceOf<'_>,
@@ -105,14 +101,13 @@ fn trace_text<A: Allocator + Copy>(
         MatchResult result (λ v. IsDue (Ok v.items)) (FailsAsDue IsDue) }
 {
     match &asked.given {
-        Some(given) => trace_given(global, alloc, text, given, asked.form),
-        None => trace_result(global, alloc, text, &NO_VALUES, asked.form),
+        Some(given) => trace_given(alloc, text, given, asked.form),
+        None => trace_result(alloc, text, &NO_VALUES, asked.form),
     }
 }
 
 /// The trace of a value, if it is a text that is there.
 fn trace_value<A: Allocator + Copy>(
-    global: Global,
     alloc: A,
     item: Option<Item<'_>>,
     asked: &TraceOf<'_>,
@@ -121,7 +116,7 @@ fn trace_value<A: Allocator + Copy>(
         MatchResult result (λ v. IsDue (Ok v.items)) (FailsAsDue IsDue) }
 {
     match item {
-        Some(Item::Text(Text::Value(text))) => trace_text(global, alloc, text, asked),
+        Some(Item::Text(Text::Value(text))) => trace_text(alloc, text, asked),
         Some(Item::Text(Text::Absent | Text::Cancelled)) => Err(ToolFault::NoSuchText),
         Some(Item::Flag(_)) | Some(Item::Number(_)) => Err(ToolFault::NoSuchText),
         None => Err(ToolFault::NoSuchName),
@@ -130,7 +125,6 @@ fn trace_value<A: Allocator + Copy>(
 
 /// The result of `trace` for a capability of an entry.
 pub fn trace_of_result<A: Allocator + Copy>(
-    global: Global,
     alloc: A,
     entry: &Entry<'_>,
     asked: &TraceOf<'_>,
@@ -139,5 +133,5 @@ pub fn trace_of_result<A: Allocator + Copy>(
         (λ v. IsTracedOf asked.now entry.now (Ok v.items))
         (FailsAsDue (IsTracedOf asked.now entry.now)) }
 {
-    trace_value(global, alloc, item_called(entry, asked.name), asked)
+    trace_value(alloc, item_called(entry, asked.name), asked)
 }

@@ -1,45 +1,34 @@
 //! `check --json`: the verdicts on the texts of an entry as objects of JSON, one after another as the lines of `check`.
 
-ghost use Rattle.std.specs.Prelude.{◌≡◌, ◌++◌, List, IfOk, OnOk, map};
+ghost use Rattle.std.specs.Prelude.{◌≡◌, List};
+ghost use Rattle.serde_json.specs.Data.{Data, array};
+ghost use Rattle.serde_json.specs.View.{items_of};
+ghost use Rattle.ti_json.specs.Printed.{Prints, all_tokens, data_tokens};
 ghost use Rattle.ti_words.specs.Items.{subject_value};
-ghost use Rattle.serde_json.specs.Data.{Data};
-ghost use Rattle.serde_json.specs.View.{view};
-ghost use Rattle.ti_tool.specs.Documents.{AreVerdictsIn};
 ghost use Rattle.ti_tool.specs.Verdicts.{AreVerdictObjects, in_object};
 ghost use Rattle.ti_tool.specs.inner.Verdict.{told_by};
 
-use crate::command::Answer;
 use crate::verdict::{Verdict, judge};
-use serde_json::Value;
-use std::alloc::{AllocError, Global};
+use std::alloc::Allocator;
 use ti_entry::Entry;
-use ti_json::{array_json, push_fault, push_sound};
+use ti_json::{Printer, print_fault, print_sound};
 use ti_words::Subject;
 
-/// Adds the object of a text.
-fn push_verdict(
-    global: Global,
-    out: &mut Vec<Value>,
-    subject: Subject<'_>,
-    verdict: Verdict,
-) -> Result<(), AllocError>
-    ensures { OnOk result (map view out.new.items
-        ≡ map view out.old.items ++ told_by (in_object (subject_value subject.entry)) verdict) }
+/// Prints the object of a text.
+fn print_verdict<A: Allocator>(printer: &mut Printer<A>, subject: Subject<'_>, verdict: Verdict)
+    ensures { Prints printer.old printer.new
+        (all_tokens (told_by (in_object (subject_value subject.entry)) verdict)) }
 {
     match verdict {
-        Verdict::Sound { depth, bound } => push_sound(global, out, subject, depth, bound),
-        Verdict::Faulty(refused) => push_fault(global, out, subject, refused),
+        Verdict::Sound { depth, bound } => print_sound(printer, subject, depth, bound),
+        Verdict::Faulty(refused) => print_fault(printer, subject, refused),
     }
 }
 
-/// Adds the objects of the texts, and returns whether none has a fault.
-fn push_verdicts(
-    global: Global,
-    out: &mut Vec<Value>,
-    entry: &Entry<'_>,
-) -> Result<bool, AllocError>
-    ensures { IfOk result (λ sound. (objects : List Data) × AreVerdictObjects entry.now objects sound
-        × (map view out.new.items ≡ map view out.old.items ++ objects)) }
+/// Prints the objects of the texts, and returns whether none has a fault.
+fn print_objects<A: Allocator>(printer: &mut Printer<A>, entry: &Entry<'_>) -> bool
+    ensures { (objects : List Data) × AreVerdictObjects entry.now objects result
+        × Prints printer.old printer.new (all_tokens objects) }
 {
     let mut sound = true;
     let mut last = judge(b"");
@@ -47,19 +36,20 @@ fn push_verdicts(
     'items: while let Some((subject, item)) = items.next() {
         if let Some(text) = item.text() {
             last = last.next(text);
-            push_verdict(global, out, subject, last.verdict)?;
+            print_verdict(printer, subject, last.verdict);
             sound &= last.verdict.is_sound();
         }
     }
-    Ok(sound)
+    sound
 }
 
-/// The objects of an entry, as an array.
-pub fn verdicts_json(global: Global, entry: &Entry<'_>) -> Result<Answer<Global>, AllocError>
-    ensures { IfOk result (λ a. AreVerdictsIn entry.now a.bytes.items a.sound) }
+/// Prints the objects of an entry as an array, and returns whether no text has a fault.
+pub fn print_verdicts<A: Allocator>(printer: &mut Printer<A>, entry: &Entry<'_>) -> bool
+    ensures { (objects : List Data) × AreVerdictObjects entry.now objects result
+        × Prints printer.old printer.new (data_tokens (array (items_of objects))) }
 {
-    let mut objects = Vec::new(global);
-    let sound = push_verdicts(global, &mut objects, entry)?;
-    let bytes = array_json(global, objects)?;
-    Ok(Answer { bytes, sound })
+    printer.begin_list();
+    let sound = print_objects(printer, entry);
+    printer.end_list();
+    sound
 }

@@ -1,5 +1,7 @@
 -- How far the lines of a pass have come.
-use Rattle.std.specs.Prelude.{◌≡◌, ℕ, ◌+◌, ◌≤◌, max, List, ◌++◌, flat_map, length}
+use Rattle.std.specs.Prelude.{◌≡◌, ℕ, ◌+◌, ◌≤◌, max, false, List, ◌++◌, flat_map, length}
+use Rattle.json.specs.Token.{Token}
+use Rattle.ti_json.specs.Printed.{Printed, data_tokens}
 use Rattle.ti_cap.specs.Height.{height_from}
 use Rattle.ti_cap.specs.declared.mode.Mode.TheVariants.{Run}
 use Rattle.ti_expand.specs.declared.values.Value.{Value}
@@ -8,6 +10,7 @@ use Rattle.ti_expand.specs.State.{State}
 use Rattle.ti_expand.specs.Steps.{Step, Underway, at_start, last_state, steps, tokens_run}
 use Rattle.ti_trace.specs.declared.fault.TraceFault.{TraceFault}
 use Rattle.ti_trace.specs.declared.fault.TraceFault.TheVariants.{TextTooLong}
+use Rattle.ti_trace.specs.Objects.{token_object}
 use Rattle.ti_trace.specs.Told.{IsCut, Spelled, Totals, TracedToken, tokens_of, traced_pass}
 
 -- a pass that has taken nothing
@@ -35,6 +38,18 @@ pub record IsTraced {X : Type 0} (render : TracedToken → List X) (bytes : List
 abbrev pub GoesOn : {X : Type 0} → (TracedToken → List X) → List ℕ → (old new : Underway) → (before after : List X) → Type 0
 GoesOn {X} render bytes old new before after = (first : State) (begun : List X)
     → IsTraced render bytes first old begun before → IsTraced render bytes first new begun after
+
+-- a printer has printed the objects of the tokens that were taken, unless memory is refused
+abbrev pub token_tokens : TracedToken → List Token
+token_tokens t = data_tokens (token_object t)
+
+abbrev pub PrintsOn : List ℕ → (old new : Underway) → (before after : Printed) → Type 0
+PrintsOn bytes old new before after =
+    after.is_refused ≡ false → (before.is_refused ≡ false) × GoesOn token_tokens bytes old new before.tokens after.tokens
+
+abbrev pub HasPrinted : List ℕ → State → Underway → (before after : Printed) → Type 0
+HasPrinted bytes first u before after =
+    after.is_refused ≡ false → (before.is_refused ≡ false) × IsTraced token_tokens bytes first u before.tokens after.tokens
 
 -- the totals of a pass so far
 abbrev pub totals_so_far : Underway → (depth bound : ℕ) → Totals

@@ -26,7 +26,7 @@ cup
   stack-residue: on some path the value that it pushes is left
 ";
     assert!(rt; lines.as_slice() == wanted.as_slice());
-    let json = report_json(alloc, alloc, trials, scope, FILE, &entry)?;
+    let json = report_json(alloc, trials, scope, FILE, &entry)?;
     let wanted =
         br#"[{"finding":"termcap-parameter","meaning":"it pops a value, and the text has no %p","places":[2,5],"subjects":[{"name":"cup","text":"\\E=%+ %+\\s"}]},{"finding":"stack-residue","meaning":"on some path the value that it pushes is left","places":[5],"subjects":[{"name":"cup","text":"\\E=%+ %+\\s"}]}]"#;
     assert!(rt; json.text.as_slice() == wanted.as_slice());

@@ -1,13 +1,23 @@
-use Rattle.std.proofs.Common.{◌∙◌, refl}
-use Rattle.ti_tool.proofs.FileLemmas.{due_of_file}
+use Rattle.std.proofs.Common.{[], refl}
+use Rattle.std.proofs.lemmas.Result.{IfErr-weaker, IfOk-weaker}
+use Rattle.ti_tool.specs.Files.{before_findings}
+use Rattle.ti_tool.proofs.FileLemmas.{due_of_file, due_of_several, fault_as_due, fault_of_file}
 use Rattle.ti_tool.proofs.named.answer_of_file.Goals as goal
 
-pub returns-then-file-clause-due : goal.returns-then-file-clause-due
-returns-then-file-clause-due g c =
-    due_of_file c.args.file.is_one_of_several c.args.asked.now c.args.parameters.now c.args.file.name.now c.in_ok-bytes.field-0.sound c.args.contents.now _ _ c.in_ok-bytes.field-0.bytes.items c.in_ok-bytes-2.bytes.items
-    (c.as_slice.ensures.value ∙ c.in_ok-before.ensures) c.in_ok-entry.ensures.found c.in_ok-bytes.ensures.due (rw c.if-file.true c.in_ok-bytes-2.ensures)
+pub returns-then-file : goal.returns-then-file
+returns-then-file g c =
+    let name = c.args.file.name.now in
+    record {
+      finds = c.answer_of_several.ensures.finds;
+      due = IfOk-weaker c.answer_of_several.result _ _ (λ a due. rw c.if-file.true (due_of_several c.args.asked.now c.args.parameters.now name a.sound c.args.contents.now _ a.bytes.items c.in_ok-entry.ensures.found due)) c.answer_of_several.ensures.due;
+      fault = IfErr-weaker c.answer_of_several.result _ _ (λ e due. rw c.if-file.true (fault_of_file (before_findings true name) c.args.asked.now c.args.parameters.now c.args.contents.now _ e c.in_ok-entry.ensures.found due)) c.answer_of_several.ensures.fault;
+    }
 
-pub returns-clause-due : goal.returns-clause-due
-returns-clause-due g c =
-    due_of_file c.args.file.is_one_of_several c.args.asked.now c.args.parameters.now c.args.file.name.now c.in_ok-bytes.field-0.sound c.args.contents.now _ _ c.in_ok-bytes.field-0.bytes.items c.in_ok-bytes.field-0.bytes.items
-    (c.as_slice.ensures.value ∙ c.in_ok-before.ensures) c.in_ok-entry.ensures.found c.in_ok-bytes.ensures.due (rw c.if-file.false refl)
+pub returns : goal.returns
+returns g c =
+    let name = c.args.file.name.now in
+    record {
+      finds = c.answer_of_entry.ensures.finds;
+      due = IfOk-weaker c.answer_of_entry.result _ _ (λ a due. rw c.if-file.false (due_of_file false c.args.asked.now c.args.parameters.now name a.sound c.args.contents.now _ [] a.bytes.items a.bytes.items refl c.in_ok-entry.ensures.found due refl)) c.answer_of_entry.ensures.due;
+      fault = IfErr-weaker c.answer_of_entry.result _ _ (λ e due. rw c.if-file.false (fault_of_file [] c.args.asked.now c.args.parameters.now c.args.contents.now _ e c.in_ok-entry.ensures.found (fault_as_due _ e due))) c.answer_of_entry.ensures.fault;
+    }
