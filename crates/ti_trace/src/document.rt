@@ -48,11 +48,7 @@ fn print_next<A: Allocator>(
 }
 
 /// Takes all tokens and prints their objects.
-fn print_tokens<A: Allocator>(
-    printer: &mut Printer<A>,
-    bytes: &[u8],
-    steps: &mut Steps<'_, '_, '_>,
-)
+fn print_tokens<A: Allocator>(printer: &mut Printer<A>, bytes: &[u8], steps: &mut Steps<'_, '_, '_>)
     requires fresh { IsFresh bytes.now steps.old }
     requires tree { IsWellFormed bytes.now }
     ensures objects { HasPrinted bytes.now steps.old.state steps.new printer.old printer.new }

@@ -13,6 +13,8 @@ row_taken-row-requires-clause-written g c =
 pub returns-clause-objects : goal.returns-clause-objects
 returns-clause-objects g c =
     let step = c.in-Some.ensures in
-    λ is. (c.print_token.ensures.kept is,
-    row_goes_on token_tokens c.args.bytes.now c.args.printer.now.tokens c.print_token.new.printer.tokens _ c.args.steps.now c.step.new.self c.in-Some.step.token c.at-place.result (length c.output-written.result.now) c.in-Some.step.outcome _
-    c.requires step.takes step.mode step.state step.ran step.passed step.peak step.outcome c.at-place.ensures (ap length c.output-written.ensures) c.row_taken-row.ensures (c.print_token.ensures.added is) refl)
+    λ is. (
+      c.print_token.ensures.kept is,
+      row_goes_on token_tokens c.args.bytes.now c.args.printer.now.tokens c.print_token.new.printer.tokens _ c.args.steps.now c.step.new.self c.in-Some.step.token c.at-place.result (length c.output-written.result.now) c.in-Some.step.outcome _
+          c.requires step.takes step.mode step.state step.ran step.passed step.peak step.outcome c.at-place.ensures (ap length c.output-written.ensures) c.row_taken-row.ensures (c.print_token.ensures.added is) refl,
+    )
