@@ -6,7 +6,7 @@ use Rattle.serde_json.specs.View.{items_of}
 use Rattle.ti_escape.specs.Notation.{notation}
 use Rattle.ti_json.proofs.TokensLemmas.{◌then◌, as_said, document, word_said}
 use Rattle.ti_tool.proofs.DocumentLemmas.{document_of_file, file_object}
-use Rattle.ti_tool.proofs.command.documents.document_of_file.Goals as goal
+use Rattle.ti_tool.proofs.command.json.document_of_file.Goals as goal
 
 pub returns-clause-due : goal.returns-clause-due
 returns-clause-due g c =
