@@ -1,5 +1,5 @@
 -- The line of a document, alone and in the object of its file.
-use Rattle.std.proofs.Common.{◌≡◌, ◌∙◌, ◌++◌, ◌-◌, ℕ, Bool, List, [], ◌∷◌, Some, None, absurd, ap, append_assoc, arith, length, length-append, refl, subst, sym, take}
+use Rattle.std.proofs.Common.{◌≡◌, ◌∙◌, ◌++◌, ◌-◌, ℕ, Bool, List, [], ◌∷◌, Some, None, ap, append_assoc, arith, length, length-append, refl, subst, sym, take}
 use Rattle.std.specs.Prelude.{Ok, codes}
 use Rattle.std.proofs.Math.Seq.{take-append_seam}
 use Rattle.json.specs.Print.{escape_byte, quoted}
@@ -30,18 +30,19 @@ without_newline text =
 abbrev pub file_object : Document → List ℕ → Data → Data
 file_object document name d = object (member (codes "file") (string (notation name)) (member (key_of document) d no_members))
 
-in_order : (head name key text : List ℕ) → (head ++ (name ++ (key ++ (text ++ codes "}")))) ++ codes "\n" ≡ head ++ (name ++ (key ++ (front (text ++ codes "\n") ++ codes "}\n")))
-in_order head name key text =
-    append_assoc head (name ++ (key ++ (text ++ codes "}"))) (codes "\n")
-    ∙ ap (λ x. head ++ x) (append_assoc name (key ++ (text ++ codes "}")) (codes "\n")
-    ∙ ap (λ x. name ++ x) (append_assoc key (text ++ codes "}") (codes "\n")
-    ∙ ap (λ x. key ++ x) (append_assoc text (codes "}") (codes "\n") ∙ ap (λ x. x ++ codes "}\n") (sym (without_newline text)))))
+regroup : (a b c d e f x y : List ℕ) → (a ++ (b ++ (c ++ (d ++ (e ++ (f ++ x)))))) ++ y ≡ a ++ b ++ c ++ d ++ e ++ f ++ (x ++ y)
+regroup a b c d e f x y = simp append_assoc
+
+in_order : (head name comma key colon text : List ℕ)
+    → (head ++ (name ++ (comma ++ (key ++ (colon ++ (text ++ codes "}")))))) ++ codes "\n" ≡ head ++ name ++ comma ++ key ++ colon ++ front (text ++ codes "\n") ++ codes "}\n"
+in_order head name comma key colon text =
+    regroup head name comma key colon text (codes "}") (codes "\n") ∙ ap (λ x. head ++ name ++ comma ++ key ++ colon ++ x ++ codes "}\n") (sym (without_newline text))
 
 object_is : (document : Document) (name : List ℕ) (d : Data) → compact_text (file_object document name d) ++ codes "\n" ≡ in_object document name (compact_text d ++ codes "\n")
 unfolding escape_byte
-object_is documents.Listing name d = in_order (codes "{\"file\":") (quoted (notation name)) (codes ",\"items\":") (compact_text d)
-object_is documents.Verdicts name d = in_order (codes "{\"file\":") (quoted (notation name)) (codes ",\"verdicts\":") (compact_text d)
-object_is (documents.Findings scope) name d = in_order (codes "{\"file\":") (quoted (notation name)) (codes ",\"findings\":") (compact_text d)
+object_is documents.Listing name d = in_order (codes "{\"file\":") (quoted (notation name)) (codes ",\"") (codes "items") (codes "\":") (compact_text d)
+object_is documents.Verdicts name d = in_order (codes "{\"file\":") (quoted (notation name)) (codes ",\"") (codes "verdicts") (codes "\":") (compact_text d)
+object_is (documents.Findings scope) name d = in_order (codes "{\"file\":") (quoted (notation name)) (codes ",\"") (codes "findings") (codes "\":") (compact_text d)
 
 pub document_of_file : (document : Document) (name : List ℕ) (sound : Bool) (input : List ℕ) (v : EntryValue) (objects : List Data) (bytes out : List ℕ) → AreObjects document sound input v objects
     → bytes ≡ compact_text (file_object document name (array (items_of objects))) → out ≡ bytes ++ codes "\n" → IsDocumentOfFile document name sound input v out

@@ -1,5 +1,5 @@
 -- What is due for a file, and how it ends.
-use Rattle.std.proofs.Common.{◌≡◌, ◌<◌, ◌==◌, ℕ, Bool, List, [], ◌⊎◌, arith, inl, inr, length, subst, sym}
+use Rattle.std.proofs.Common.{◌≡◌, ◌<◌, ◌==◌, ℕ, Bool, true, List, [], ◌⊎◌, arith, inl, inr, length, subst, sym}
 use Rattle.std.specs.Prelude.{Result, Ok, Err}
 use Rattle.ti_words.specs.Spelling.{Spells}
 use Rattle.ti_words.specs.Value.{EntryValue}

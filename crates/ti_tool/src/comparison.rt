@@ -10,7 +10,7 @@ ghost use Rattle.ti_layout.specs.Refusal.{refusal};
 ghost use Rattle.ti_tool.specs.FileRuns.{Supply};
 ghost use Rattle.ti_tool.specs.inner.Files.{EndsFile};
 
-use crate::command::json::as_line;
+use crate::command::document::as_line;
 use crate::fault::ToolFault;
 use crate::fault_line::fault_line;
 use crate::files::{Outcome, contents_of, deliver, fault_outcome, refused_outcome};

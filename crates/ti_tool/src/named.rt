@@ -7,7 +7,7 @@ ghost use Rattle.ti_tool.specs.Files.{IsDueOfFile, before_findings as the_before
 ghost use Rattle.ti_tool.specs.Results.{Finds, IsDueIn, IsDueOf};
 ghost use Rattle.ti_tool.specs.inner.Several.{IsDueOfSeveral, document_in as the_document_in};
 
-use crate::command::json::document_of_file;
+use crate::command::document::document_of_file;
 use crate::command::{Answer, answer_of_entry};
 use crate::fault::ToolFault;
 use std::alloc::{AllocError, Allocator};

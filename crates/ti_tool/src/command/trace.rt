@@ -7,7 +7,7 @@ ghost use Rattle.ti_tool.specs.Got.{IsDueBy};
 ghost use Rattle.ti_tool.specs.Traces.{IsTraced, IsTracedBy, IsTracedOf, IsTracedValue};
 ghost use Rattle.ti_tool.specs.inner.Dues.{FailsAsDue};
 
-use crate::command::json::as_line;
+use crate::command::document::as_line;
 use crate::fault::ToolFault;
 use crate::item_name::item_called;
 use crate::taken::values_for;

@@ -6,7 +6,7 @@ use Rattle.ti_tool.proofs.command.trace.trace_document.Goals as goal
 
 pub returns-in-Err-TextTooLong : goal.returns-in-Err-TextTooLong
 returns-in-Err-TextTooLong g c =
-    inr (rw c.in-Err-TextTooLong.field-0-is ((c.trace_json.ensures.too_long c.in-Err-TextTooLong.which).0 (c.in-Err-TextTooLong.is ∙ ap Err c.in-Err-TextTooLong.field-0-is)))
+    inr ((c.trace_json.ensures.too_long c.in-Err-TextTooLong.which).0 (c.in-Err-TextTooLong.is ∙ ap Err c.in-Err-TextTooLong.field-0-is))
 
 pub returns-in-Err-Memory : goal.returns-in-Err-Memory
 returns-in-Err-Memory g c =

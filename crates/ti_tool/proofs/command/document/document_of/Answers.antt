@@ -3,7 +3,7 @@ use Rattle.std.specs.Prelude.{codes}
 use Rattle.serde_json.specs.Data.{array}
 use Rattle.serde_json.specs.View.{items_of}
 use Rattle.ti_json.proofs.TokensLemmas.{document}
-use Rattle.ti_tool.proofs.command.json.document_of.Goals as goal
+use Rattle.ti_tool.proofs.command.document.document_of.Goals as goal
 
 pub returns-clause-due : goal.returns-clause-due
 returns-clause-due g c =
