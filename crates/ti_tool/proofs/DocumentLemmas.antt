@@ -1,6 +1,6 @@
 -- The line of a document, alone and in the object of its file.
-use Rattle.std.proofs.Common.{◌≡◌, ◌∙◌, ◌++◌, ◌-◌, ℕ, Bool, List, [], ◌∷◌, Some, None, ap, append_assoc, arith, length, length-append, refl, subst, sym, take}
-use Rattle.std.specs.Prelude.{Ok, codes}
+use Rattle.std.proofs.Common.{◌≡◌, ◌∙◌, ◌++◌, ◌-◌, ℕ, Bool, List, Some, ap, append_assoc, arith, length, length-append, refl, subst, sym, take}
+use Rattle.std.specs.Prelude.{codes}
 use Rattle.std.proofs.Math.Seq.{take-append_seam}
 use Rattle.json.specs.Print.{escape_byte, quoted}
 use Rattle.serde_json.specs.Data.{Data, array, member, no_members, object, string}

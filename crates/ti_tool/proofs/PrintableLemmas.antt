@@ -1,7 +1,7 @@
 -- Results under `--escape` are printable lines, as many as are due.
-use Rattle.std.proofs.Common.{◌≡◌, ◌∙◌, ◌+◌, ℕ, Bool, true, List, [], ◌∷◌, ◌++◌, Some, inl, inr, refl, sym, ap, subst, arith, append_assoc, map}
+use Rattle.std.proofs.Common.{◌≡◌, ◌∙◌, ◌+◌, ℕ, Bool, true, List, [], ◌∷◌, ◌++◌, Some, inl, inr, refl, sym, ap, subst, arith, append_assoc}
 use Rattle.ti_words.specs.Items.{ExtendedSubject, FlagItem, ItemValue, Listed, NumberItem, StandardSubject, SubjectValue, TextItem, items, text_in}
-use Rattle.std.specs.Prelude.{◌-◌, Option, None, Ok, length, take, ◌⊎◌, codes, decimal}
+use Rattle.std.specs.Prelude.{Option, None, Ok, ◌⊎◌, codes, decimal}
 use Rattle.std.specs.List.{flat_map, list_all}
 use Rattle.std.specs.Fmt.{signed_decimal}
 use Rattle.std.proofs.lemmas.Bool.{and_from}
@@ -42,7 +42,6 @@ use Rattle.serde_json.specs.Data.{Data}
 use Rattle.ti_tool.specs.Verdicts.{AreTold, AreVerdictObjects, IsTold, fault_verdict, in_line, in_object, sound_verdict}
 use Rattle.ti_json.proofs.TextLemmas.{IsText, both, decimal_text, label_text, signed_text}
 use Rattle.ti_json.proofs.PlainLemmas.{HavePlain, array_is_text, entry_is_text, fault_is_plain, format, joined as plain_joined, json_is_text, sound_is_plain}
-use Rattle.std.proofs.Math.Seq.{take-append_seam}
 use Rattle.ti_names.specs.AllNames.{front}
 use Rattle.ti_json.specs.Objects.{array_text, text_json}
 use Rattle.ti_line.specs.declared.options.Document.{Document}
