@@ -159,7 +159,7 @@ fn expanded_by(alloc: Global, words: &[&str]) -> Result<Vec<u8>, Unfound> {
     let Request { parameters, asked } = request;
     let mut writer = Sink::new(alloc);
     let mut source = Source::new(UNCOMMON, 3);
-    match carry_out(alloc, alloc, &asked, &parameters, &mut source, &mut writer) {
+    match carry_out(alloc, &asked, &parameters, &mut source, &mut writer) {
         Err(fault) if writer.taken.is_empty() => shown(alloc, &fault),
         Err(_) => Err(Unfound),
         Ok(_) => Ok(writer.taken),

@@ -100,7 +100,6 @@ fn a_text_of_a_large_entry_is_expanded(rt: HostRuntime) -> Result<(), Fail> {
     let mut source = Source::new(TMUX, 512);
     let result = expand_named(
         rt.alloc(),
-        rt.alloc(),
         &mut source,
         "cup",
         &parameters,

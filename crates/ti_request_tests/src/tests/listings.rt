@@ -14,7 +14,7 @@ fn done(alloc: Global, words: &[&str]) -> Result<Written, Fail> {
     let Request { parameters, asked } = request;
     let mut output = Sink::new(alloc);
     let mut input = Source::new(UNCOMMON, 7);
-    let result = carry_out(alloc, alloc, &asked, &parameters, &mut input, &mut output);
+    let result = carry_out(alloc, &asked, &parameters, &mut input, &mut output);
     Ok(Written {
         result: result.map(|_sound| ()),
         taken: output.taken,
@@ -43,12 +43,7 @@ fn verdicts_have_the_names_that_are_asked(rt: HostRuntime) -> Result<(), Fail> {
 #[test]
 fn a_large_entry_is_listed(rt: HostRuntime) {
     let mut writer = Sink::new(rt.alloc());
-    let result = show(
-        rt.alloc(),
-        rt.alloc(),
-        &mut Source::new(TMUX, 512),
-        &mut writer,
-    );
+    let result = show(rt.alloc(), &mut Source::new(TMUX, 512), &mut writer);
     assert_that!(rt; result.is_ok());
     let lines = writer.taken.as_slice();
     let front =
@@ -72,12 +67,7 @@ fn line_count(bytes: &[u8]) -> u32 {
 #[test]
 fn a_large_entry_is_checked(rt: HostRuntime) {
     let mut writer = Sink::new(rt.alloc());
-    let sound = check(
-        rt.alloc(),
-        rt.alloc(),
-        &mut Source::new(TMUX, 512),
-        &mut writer,
-    );
+    let sound = check(rt.alloc(), &mut Source::new(TMUX, 512), &mut writer);
     assert_that!(rt; sound == Ok(true));
     assert_that!(rt; line_count(writer.taken.as_slice()) == 230);
 }
