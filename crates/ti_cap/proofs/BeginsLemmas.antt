@@ -5,8 +5,8 @@ use Rattle.std.proofs.lemmas.List.{append-nil}
 use Rattle.ti_cap.specs.declared.language.Token.{Token}
 use Rattle.ti_cap.specs.declared.language.Token.TheVariants.{CondOpen, CondThen, CondElse, CondClose}
 use Rattle.ti_cap.specs.Tree.{Sequence, Empty, Simple, Conditional, Arms, Lone, Else, ElseIf, tokens, arm_tokens, closing, IsFormed, AreFormed, IsTree}
-use Rattle.ti_cap.specs.declared.scan.Part.{Part}
-use Rattle.ti_cap.specs.declared.scan.Part.TheVariants.{FirstTest, Body, Otherwise}
+use Rattle.ti_cap.specs.declared.scan.ConditionalPart.{ConditionalPart}
+use Rattle.ti_cap.specs.declared.scan.ConditionalPart.TheVariants.{FirstTest, Body, Otherwise}
 use Rattle.ti_cap.specs.Refusal.{Begins}
 use Rattle.ti_cap.proofs.PartsLemmas.{allowed, at_then, at_else, at_close, AreSettled}
 
@@ -69,7 +69,7 @@ pub data Where : Type 0 where
   InBody : (test : Sequence) → Where
   InOther : (test body : Sequence) → Where
 
-abbrev pub part_of : Where → Part
+abbrev pub part_of : Where → ConditionalPart
 part_of InTest = FirstTest
 part_of (InBody t) = Body
 part_of (InOther t b) = Otherwise
@@ -89,7 +89,7 @@ pub record Level : Type 0 where
   pub earlier : List Whole
   pub spot : Where
 
-abbrev pub parts : List Level → List Part
+abbrev pub parts : List Level → List ConditionalPart
 parts lvs = map (λ l. part_of l.spot) lvs
 
 abbrev pub AreLevels : List Level → Type 0
@@ -113,7 +113,7 @@ front-append (l ∷ lvs) a b =
     ∙ front-append lvs (tokens l.before ++ CondOpen ∷ (early l.earlier ++ reached l.spot a)) b
 
 -- the tokens, and where they stand
-pub record Context (before : List Token) (ps : List Part) : Type 0 where
+pub record Context (before : List Token) (ps : List ConditionalPart) : Type 0 where
   pub levels : List Level
   pub current : Sequence
   pub formed : IsFormed false current
@@ -175,7 +175,7 @@ finish (l ∷ lvs) s h g =
           ∙ append_assoc _ (ender l.spot) r.1,
     )
 
-pub context_begins : (before : List Token) (ps : List Part) → Context before ps → Begins before
+pub context_begins : (before : List Token) (ps : List ConditionalPart) → Context before ps → Begins before
 context_begins before ps c =
     let r : (tree : Sequence) × (after : List Token) × IsTree tree × (tokens tree ≡ front c.levels (tokens c.current) ++ after) = finish c.levels c.current c.sound c.formed in
     (r.0, r.1, r.2, r.3 ∙ ap (λ x. x ++ r.1) c.spans)
@@ -187,7 +187,7 @@ context_start = record { levels = []; current = Empty; formed = tt; sound = tt; 
 at_end : (lvs : List Level) (x y : List Token) (k : Token) → x ≡ y ++ k ∷ [] → front lvs x ≡ front lvs y ++ k ∷ []
 at_end lvs x y k e = ap (λ z. front lvs z) e ∙ front-append lvs y (k ∷ [])
 
-step_then : (b : Sequence) (es : List Whole) (w : Where) (lvs : List Level) (s : Sequence) (qs : List Part) → AreLevels (record { before = b; earlier = es; spot = w } ∷ lvs) → IsFormed false s
+step_then : (b : Sequence) (es : List Whole) (w : Where) (lvs : List Level) (s : Sequence) (qs : List ConditionalPart) → AreLevels (record { before = b; earlier = es; spot = w } ∷ lvs) → IsFormed false s
     → at_then (part_of w ∷ parts lvs) ≡ Some qs → Context (front lvs (tokens b ++ CondOpen ∷ (early es ++ reached w (tokens s))) ++ CondThen ∷ []) qs
 step_then b es InTest lvs s qs h g e = record {
   levels = record { before = b; earlier = es; spot = InBody s } ∷ lvs;
@@ -208,7 +208,7 @@ step_then b es (InOther t o) lvs s qs h g e = record {
   stands = cc;
 }
 
-step_else : (b : Sequence) (es : List Whole) (w : Where) (lvs : List Level) (s : Sequence) (qs : List Part) → AreLevels (record { before = b; earlier = es; spot = w } ∷ lvs) → IsFormed false s
+step_else : (b : Sequence) (es : List Whole) (w : Where) (lvs : List Level) (s : Sequence) (qs : List ConditionalPart) → AreLevels (record { before = b; earlier = es; spot = w } ∷ lvs) → IsFormed false s
     → at_else (part_of w ∷ parts lvs) ≡ Some qs → Context (front lvs (tokens b ++ CondOpen ∷ (early es ++ reached w (tokens s))) ++ CondElse ∷ []) qs
 step_else b es InTest lvs s qs h g e = absurd (cc)
 step_else b es (InBody t) lvs s qs h g e = record {
@@ -221,7 +221,7 @@ step_else b es (InBody t) lvs s qs h g e = record {
 }
 step_else b es (InOther t o) lvs s qs h g e = absurd (cc)
 
-step_close : (b : Sequence) (es : List Whole) (w : Where) (lvs : List Level) (s : Sequence) (qs : List Part) → AreLevels (record { before = b; earlier = es; spot = w } ∷ lvs) → IsFormed false s
+step_close : (b : Sequence) (es : List Whole) (w : Where) (lvs : List Level) (s : Sequence) (qs : List ConditionalPart) → AreLevels (record { before = b; earlier = es; spot = w } ∷ lvs) → IsFormed false s
     → at_close (part_of w ∷ parts lvs) ≡ Some qs → Context (front lvs (tokens b ++ CondOpen ∷ (early es ++ reached w (tokens s))) ++ CondClose ∷ []) qs
 step_close b es InTest lvs s qs h g e = absurd (cc)
 step_close b es (InBody t) lvs s qs h g e = record {
@@ -241,7 +241,7 @@ step_close b es (InOther t o) lvs s qs h g e = record {
   stands = cc;
 }
 
-step : (lvs : List Level) (s : Sequence) (k : Token) (qs : List Part) → AreLevels lvs → IsFormed false s → allowed k (parts lvs) ≡ Some qs → Context (front lvs (tokens s) ++ k ∷ []) qs
+step : (lvs : List Level) (s : Sequence) (k : Token) (qs : List ConditionalPart) → AreLevels lvs → IsFormed false s → allowed k (parts lvs) ≡ Some qs → Context (front lvs (tokens s) ++ k ∷ []) qs
 step lvs s CondOpen qs h g e = record {
   levels = record { before = s; earlier = []; spot = InTest } ∷ lvs;
   current = Empty;
@@ -266,7 +266,7 @@ step lvs s k qs h g e = record {
 }
 
 -- one token more
-pub context_step : (before : List Token) (ps qs : List Part) (k : Token) → Context before ps → allowed k ps ≡ Some qs → Context (before ++ k ∷ []) qs
+pub context_step : (before : List Token) (ps qs : List ConditionalPart) (k : Token) → Context before ps → allowed k ps ≡ Some qs → Context (before ++ k ∷ []) qs
 context_step before ps qs k c e =
     let P : List Token → Type 0 = λ x. Context (x ++ k ∷ []) qs in
     subst P c.spans (step c.levels c.current k qs c.sound c.formed (ap (λ x. allowed k x) c.stands ∙ e))
@@ -292,8 +292,8 @@ end_all (l ∷ lvs) s h n g =
     each (InBody t) n = refl
     each (InOther t b) n = refl
 
-pub context_ends : (before : List Token) (ps : List Part) → Context before ps → AreSettled ps → (tree : Sequence) × IsTree tree × (tokens tree ≡ before)
+pub context_ends : (before : List Token) (ps : List ConditionalPart) → Context before ps → AreSettled ps → (tree : Sequence) × IsTree tree × (tokens tree ≡ before)
 context_ends before ps c n =
-    let P : List Part → Type 0 = λ x. AreSettled x in
+    let P : List ConditionalPart → Type 0 = λ x. AreSettled x in
     let r : (tree : Sequence) × IsTree tree × (tokens tree ≡ front c.levels (tokens c.current)) = end_all c.levels c.current c.sound (subst P (sym c.stands) n) (loosen c.current c.formed) in
     (r.0, r.1, r.2 ∙ c.spans)

@@ -8,7 +8,7 @@ use Rattle.ti_cap.specs.declared.mode.Mode.{Mode}
 use Rattle.ti_cap.specs.declared.mode.Mode.TheVariants.{Run}
 use Rattle.ti_cap.specs.Pass.{next_mode, is_running, Passes}
 use Rattle.ti_cap.specs.Height.{next_height, end_height}
-use Rattle.ti_cap.specs.declared.scan.Part.{Part}
+use Rattle.ti_cap.specs.declared.scan.ConditionalPart.{ConditionalPart}
 use Rattle.ti_cap.specs.Refusal.{Begins, Climbs}
 use Rattle.ti_cap.proofs.PassesLemmas.{Over, walk_passes, Split, passes_split, passes-append, met_front}
 use Rattle.ti_cap.proofs.IsWalkLemmas.{Walked, walk_of}
@@ -74,17 +74,17 @@ climbs_now before k h (tree, after, formed, spans) c =
     or_true true = refl
     or_true false = refl
 
-pub leads_one : (ps qs rs : List Part) (ks : List Token) → Leads ps ks qs → Leads ps ks rs → qs ≡ rs
+pub leads_one : (ps qs rs : List ConditionalPart) (ks : List Token) → Leads ps ks qs → Leads ps ks rs → qs ≡ rs
 leads_one ps qs rs [] p q = p ∙ sym q
 leads_one ps qs rs (k ∷ ks) (ms, e, p) (ns, f, q) =
     let same : ns ≡ ms = cc in
-    let P : List Part → Type 0 = λ x. Leads x ks rs in leads_one ms qs rs ks p (subst P same q)
+    let P : List ConditionalPart → Type 0 = λ x. Leads x ks rs in leads_one ms qs rs ks p (subst P same q)
 
 -- no tree goes on with a token that may not stand there
-pub stray : (before : List Token) (ps : List Part) (k : Token) → Leads [] before ps → allowed k ps ≡ None → ¬ Begins (before ++ k ∷ [])
+pub stray : (before : List Token) (ps : List ConditionalPart) (k : Token) → Leads [] before ps → allowed k ps ≡ None → ¬ Begins (before ++ k ∷ [])
 stray before ps k l none b =
-    let r : (ms : List Part) × Leads [] (before ++ k ∷ []) ms = begins_leads (before ++ k ∷ []) b in
-    let s : (ns : List Part) × Leads [] before ns × Leads ns (k ∷ []) r.0 = leads_front [] r.0 before (k ∷ []) r.1 in
+    let r : (ms : List ConditionalPart) × Leads [] (before ++ k ∷ []) ms = begins_leads (before ++ k ∷ []) b in
+    let s : (ns : List ConditionalPart) × Leads [] before ns × Leads ns (k ∷ []) r.0 = leads_front [] r.0 before (k ∷ []) r.1 in
     let same : s.0 ≡ ps = leads_one [] s.0 ps before s.1 l in
     let e : allowed k ps ≡ Some s.2.0 = ap (λ x. allowed k x) (sym same) ∙ s.2.1 in
     absurd (cc)

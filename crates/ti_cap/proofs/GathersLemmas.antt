@@ -6,7 +6,7 @@ use Rattle.ti_cap.specs.declared.language.Token.TheVariants.{Param}
 use Rattle.ti_cap.specs.declared.parameter_set.ParameterSet.{ParameterSet}
 use Rattle.ti_cap.specs.declared.origins.Origins.{Origins}
 use Rattle.ti_cap.specs.declared.gathering.Gathering.{Gathering}
-use Rattle.ti_cap.specs.declared.scan.Part.{Part}
+use Rattle.ti_cap.specs.declared.scan.ConditionalPart.{ConditionalPart}
 use Rattle.ti_cap.specs.declared.mode.Mode.{Mode}
 use Rattle.ti_cap.specs.declared.mode.Mode.TheVariants.{Run, ToElse, ToEnd}
 use Rattle.ti_cap.specs.Sources.{next_sources, takes_text, Has, Names, TakesAsText}
@@ -24,7 +24,7 @@ abbrev pub Stacks : List Token → Mode → Stack → Type 0
 Stacks before m stack = Reaches next_sources [] before m stack
 
 -- what a pass has gathered over some tokens, with some parts open
-pub record Gathers (before : List Token) (parts : List Part) (g : Gathering) : Type 0 where
+pub record Gathers (before : List Token) (parts : List ConditionalPart) (g : Gathering) : Type 0 where
   pub leads : Leads [] before parts
   pub count : length parts ≡ g.nesting
   pub alive : IsAlive parts before

@@ -7,8 +7,8 @@ use Rattle.ti_cap.specs.declared.language.Token.{Token}
 use Rattle.ti_cap.specs.declared.language.Token.TheVariants.{Param, CondOpen, CondThen, CondElse, CondClose}
 use Rattle.ti_cap.specs.declared.origins.Origins.{Origins}
 use Rattle.ti_cap.specs.declared.gathering.Gathering.{Gathering}
-use Rattle.ti_cap.specs.declared.gathering.Open.{Open}
-use Rattle.ti_cap.specs.declared.scan.Part.{Part}
+use Rattle.ti_cap.specs.declared.gathering.OpenOrigins.{OpenOrigins}
+use Rattle.ti_cap.specs.declared.scan.ConditionalPart.{ConditionalPart}
 use Rattle.ti_cap.specs.Tree.{IsSimple}
 use Rattle.ti_cap.specs.Path.{path_of}
 use Rattle.ti_cap.specs.declared.mode.Mode.TheVariants.{Run, ToElse, ToEnd}
@@ -23,28 +23,28 @@ use Rattle.ti_cap.proofs.SeenLemmas.{Seen, Runs, TakesTop, names_step, texts_ste
 use Rattle.ti_cap.proofs.GathersLemmas.{Stacks, Gathers, after_step, holds_unmoved, swapped, regrouped, frame_named, frame_texts, chain, has_with_named, has_texts}
 
 -- where it may stand, and what is known of the stacks after it
-pub record Goes (before : List Token) (k : Token) (parts onto : List Part) (g : Gathering) : Type 0 where
+pub record Goes (before : List Token) (k : Token) (parts onto : List ConditionalPart) (g : Gathering) : Type 0 where
   pub old : Gathers before parts g
   pub stands : allowed k parts ≡ Some onto
   pub low : (x : Stack) → Stacks (before ++ k ∷ []) Run x → length x ≤ most_values
   pub takeable : IsTakeable k g.nesting
   pub fit : IsFit k
 
-leads_on : (before : List Token) (k : Token) (parts onto : List Part) (g : Gathering) → Goes before k parts onto g → Leads [] (before ++ k ∷ []) onto
+leads_on : (before : List Token) (k : Token) (parts onto : List ConditionalPart) (g : Gathering) → Goes before k parts onto g → Leads [] (before ++ k ∷ []) onto
 leads_on before k parts onto g w = leads-append [] parts onto before (k ∷ []) w.old.leads (onto, w.stands, refl)
 
 -- some stack runs here
-runs : (before : List Token) (parts : List Part) (g : Gathering) → Gathers before parts g → (x : Stack) × Stacks before Run x
+runs : (before : List Token) (parts : List ConditionalPart) (g : Gathering) → Gathers before parts g → (x : Stack) × Stacks before Run x
 runs before parts g w = (state_of next_sources [] (path_of w.alive.runs.0 before), record { walk = w.alive.runs.0; passes = w.alive.runs.1; value = refl })
 
 -- a token that all walks here meet
-holds_met : (before : List Token) (k : Token) (parts onto : List Part) (g : Gathering) → Goes before k parts onto g
+holds_met : (before : List Token) (k : Token) (parts onto : List ConditionalPart) (g : Gathering) → Goes before k parts onto g
     → ((x : Stack) → Moved next_sources (Stacks before Run) k x → Stacks (before ++ k ∷ []) Run x) → Holds (after_token k g.here) (Moved next_sources (Stacks before Run) k)
 holds_met before k parts onto g w on =
     let r : (x : Stack) × Stacks before Run x = runs before parts g w.old in
     holds_token k g.here (Stacks before Run) r.0 w.fit r.1 (λ x s. w.low (next_sources x k) (on (next_sources x k) (x, s, refl))) w.old.running
 
-simple_step : (before : List Token) (k : Token) (parts onto : List Part) (g : Gathering) → IsSimple k → level_after (length parts) k ≡ length parts → Goes before k parts onto g
+simple_step : (before : List Token) (k : Token) (parts onto : List ConditionalPart) (g : Gathering) → IsSimple k → level_after (length parts) k ≡ length parts → Goes before k parts onto g
     → Gathers (before ++ k ∷ []) onto (record g { here = after_token k g.here; found = found_by k g })
 simple_step before k parts onto g simple level w = record {
   leads = leads_on before k parts onto g w;
@@ -85,16 +85,16 @@ simple_step before k parts onto g simple level w = record {
         back (inr (x, r, t)) = inr (t.0, (w.old.running 0 which).1 (x, r, t.1))
 
 -- the open conditionals, of which one is written
-at_same : (opens : List Open) (i j : ℕ) (o : Open) → j ≡ i → i < length opens → get_or (set opens i o) j fresh ≡ o
+at_same : (opens : List OpenOrigins) (i j : ℕ) (o : OpenOrigins) → j ≡ i → i < length opens → get_or (set opens i o) j fresh ≡ o
 at_same opens i j o e low = ap (λ x. get_or (set opens i o) x fresh) e ∙ get_or-set_same opens i o fresh low
 
-at_other : (opens : List Open) (i j : ℕ) (o : Open) → j ≢ i → get_or (set opens i o) j fresh ≡ get_or opens j fresh
+at_other : (opens : List OpenOrigins) (i j : ℕ) (o : OpenOrigins) → j ≢ i → get_or (set opens i o) j fresh ≡ get_or opens j fresh
 at_other opens i j o e = get_or-set_other opens i j o fresh e
 
 holds_along : (o p : Origins) (within : Stack → Type 0) → o ≡ p → Holds p within → Holds o within
 holds_along o p within e h = let P : Origins → Type 0 = λ x. Holds x within in subst P (sym e) h
 
-open_step : (before : List Token) (parts onto : List Part) (g : Gathering) → Goes before CondOpen parts onto g → Gathers (before ++ CondOpen ∷ []) onto (gathered g CondOpen)
+open_step : (before : List Token) (parts onto : List ConditionalPart) (g : Gathering) → Goes before CondOpen parts onto g → Gathers (before ++ CondOpen ∷ []) onto (gathered g CondOpen)
 open_step before parts onto g w = record {
   leads = leads_on before CondOpen parts onto g w;
   count = omega (arith, allowed_level CondOpen parts onto w.stands, w.old.count);
@@ -124,17 +124,17 @@ open_step before parts onto g w = record {
         (holds_same _ (Stacks before (ToEnd n)) _ (after_step before CondOpen (ToEnd (suc n))) (w.old.done j n (omega arith)))
 
 -- the innermost conditional is that of the last place
-holds_innermost_failed : (before : List Token) (parts : List Part) (g : Gathering) → Gathers before parts g → 0 < g.nesting → Holds (innermost g).failed (Stacks before (ToElse zero))
+holds_innermost_failed : (before : List Token) (parts : List ConditionalPart) (g : Gathering) → Gathers before parts g → 0 < g.nesting → Holds (innermost g).failed (Stacks before (ToElse zero))
 holds_innermost_failed before parts g w some = w.failed (g.nesting - 1) zero (omega arith)
 
-holds_innermost_done : (before : List Token) (parts : List Part) (g : Gathering) → Gathers before parts g → 0 < g.nesting → Holds (innermost g).done (Stacks before (ToEnd zero))
+holds_innermost_done : (before : List Token) (parts : List ConditionalPart) (g : Gathering) → Gathers before parts g → 0 < g.nesting → Holds (innermost g).done (Stacks before (ToEnd zero))
 holds_innermost_done before parts g w some = w.done (g.nesting - 1) zero (omega arith)
 
 -- there is room for what is open
-few_open : (before : List Token) (parts : List Part) (g : Gathering) → Gathers before parts g → length parts ≤ most_open → g.nesting ≤ length g.opens
+few_open : (before : List Token) (parts : List ConditionalPart) (g : Gathering) → Gathers before parts g → length parts ≤ most_open → g.nesting ≤ length g.opens
 few_open before parts g w few = omega (arith, w.count, w.room)
 
-then_step : (before : List Token) (parts onto : List Part) (g : Gathering) → Goes before CondThen parts onto g → length parts ≤ most_open → Gathers (before ++ CondThen ∷ []) onto (gathered g CondThen)
+then_step : (before : List Token) (parts onto : List ConditionalPart) (g : Gathering) → Goes before CondThen parts onto g → length parts ≤ most_open → Gathers (before ++ CondThen ∷ []) onto (gathered g CondThen)
 then_step before parts onto g w few = record {
   leads = leads_on before CondThen parts onto g w;
   count = sym (allowed_level CondThen parts onto w.stands) ∙ w.old.count;
@@ -147,7 +147,7 @@ then_step before parts onto g w few = record {
   texts = λ which. chain (w.old.texts which) (frame_texts before CondThen which (λ e. absurd (cc)));
 }
   where
-    written : Open
+    written : OpenOrigins
     written = record (innermost g) { failed = joined (innermost g).failed (popped g.here) }
 
     within : g.nesting - 1 < length g.opens
@@ -169,7 +169,7 @@ then_step before parts onto g w few = record {
     done j (suc n) e = holds_along _ _ _ (ap (λ o. o.done) (at_other g.opens (g.nesting - 1) j written (λ i. omega arith)))
         (holds_same _ (Stacks before (ToEnd (suc n))) _ (after_step before CondThen (ToEnd (suc n))) (w.old.done j (suc n) e))
 
-else_step : (before : List Token) (parts onto : List Part) (g : Gathering) → Goes before CondElse parts onto g → length parts ≤ most_open → Gathers (before ++ CondElse ∷ []) onto (gathered g CondElse)
+else_step : (before : List Token) (parts onto : List ConditionalPart) (g : Gathering) → Goes before CondElse parts onto g → length parts ≤ most_open → Gathers (before ++ CondElse ∷ []) onto (gathered g CondElse)
 else_step before parts onto g w few = record {
   leads = leads_on before CondElse parts onto g w;
   count = sym (allowed_level CondElse parts onto w.stands) ∙ w.old.count;
@@ -183,7 +183,7 @@ else_step before parts onto g w few = record {
   texts = λ which. chain (w.old.texts which) (frame_texts before CondElse which (λ e. absurd (cc)));
 }
   where
-    written : Open
+    written : OpenOrigins
     written = record { failed = no_origins; done = joined (innermost g).done g.here }
 
     within : g.nesting - 1 < length g.opens
@@ -202,7 +202,7 @@ else_step before parts onto g w few = record {
     done j (suc n) e = holds_along _ _ _ (ap (λ o. o.done) (at_other g.opens (g.nesting - 1) j written (λ i. omega arith)))
         (holds_same _ (Stacks before (ToEnd (suc n))) _ (after_step before CondElse (ToEnd (suc n))) (w.old.done j (suc n) e))
 
-close_step : (before : List Token) (parts onto : List Part) (g : Gathering) → Goes before CondClose parts onto g → Gathers (before ++ CondClose ∷ []) onto (gathered g CondClose)
+close_step : (before : List Token) (parts onto : List ConditionalPart) (g : Gathering) → Goes before CondClose parts onto g → Gathers (before ++ CondClose ∷ []) onto (gathered g CondClose)
 close_step before parts onto g w = record {
   leads = leads_on before CondClose parts onto g w;
   count = omega (arith, allowed_level CondClose parts onto w.stands, less (length parts), w.old.count);
@@ -225,7 +225,7 @@ close_step before parts onto g w = record {
     less (suc n) = omega arith
 
 -- one token more
-pub gathers_step : (before : List Token) (k : Token) (parts onto : List Part) (g : Gathering) → Goes before k parts onto g → length parts ≤ most_open → Gathers (before ++ k ∷ []) onto (gathered g k)
+pub gathers_step : (before : List Token) (k : Token) (parts onto : List ConditionalPart) (g : Gathering) → Goes before k parts onto g → length parts ≤ most_open → Gathers (before ++ k ∷ []) onto (gathered g k)
 gathers_step before CondOpen parts onto g w few = open_step before parts onto g w
 gathers_step before CondThen parts onto g w few = then_step before parts onto g w few
 gathers_step before CondElse parts onto g w few = else_step before parts onto g w few

@@ -18,7 +18,7 @@ use Rattle.ti_cap.specs.declared.mode.Mode.TheVariants.{Run}
 use Rattle.ti_cap.specs.Pass.{next_mode}
 use Rattle.ti_cap.specs.Spelling.{Spells, Written}
 use Rattle.ti_cap.specs.inner.Lexer.{token_read}
-use Rattle.ti_cap.specs.declared.scan.Part.{Part}
+use Rattle.ti_cap.specs.declared.scan.ConditionalPart.{ConditionalPart}
 use Rattle.ti_cap.specs.Refusal.{Begins, Climbs, open_parts, IsNext, IsFaultBetween, IsUnreadable, IsSoundBelow, HasFault, escape_fault, IsRefusal, IsFaultless, opens_format}
 use Rattle.ti_cap.specs.inner.Analysis.{Frame, Progress, parts_of, are_in_test, place_fault, next_progress, greatest_of, Findings, no_findings, findings_after, first_fault, fault_of}
 use Rattle.ti_cap.specs.Capability.{IsCapability}
@@ -107,7 +107,7 @@ fine_step before rest s tail k d begins room peaks low e p f = each f
 -- what has been read up to a place
 pub record Parsed (bytes : List ℕ) (longest place count : ℕ) (found : Findings) : Type 0 where
   pub before : List Token
-  pub parts : List Part
+  pub parts : List ConditionalPart
   pub within : place ≤ length bytes
   pub written : Written before (take place bytes)
   pub counted : length before ≡ count
@@ -234,9 +234,9 @@ pub parse_step : (bytes : List ℕ) (longest place count : ℕ) (found : Finding
 parse_step bytes longest place count found k n fits p e none =
     let f : Front (drop place bytes) k n = token_sound (drop place bytes) k n (are_bytes (drop place bytes) (λ i. rw get_or-drop (fits (place + i)))) e in
     let ok : IsFine found k = fine found k none in
-    let P : List Part → Type 0 = λ x. place_fault k x ≡ None in
+    let P : List ConditionalPart → Type 0 = λ x. place_fault k x ≡ None in
     let placed : place_fault k p.parts ≡ None = subst P p.stands ok.placed in
-    let go : (qs : List Part) × (allowed k p.parts ≡ Some qs) = goes_on k p.parts placed in
+    let go : (qs : List ConditionalPart) × (allowed k p.parts ≡ Some qs) = goes_on k p.parts placed in
     let context : Context (p.before ++ k ∷ []) go.0 = context_step p.before p.parts go.0 k p.context go.1 in
     let leads : Leads [] (p.before ++ k ∷ []) go.0 = leads-append [] p.parts go.0 p.before (k ∷ []) p.leads (go.0, go.1, refl) in
     let h : Moves next_height p.before k (next_progress found.heights k (next_height found.heights.running k)) go.0 =
@@ -286,7 +286,7 @@ parse_step bytes longest place count found k n fits p e none =
         let r : length p.parts < most_open = has_room p.parts (subst P is placed) in
         omega (arith, ap length (leads_open p.parts p.before p.leads))
 
-    few_open : (k : Token) (ps qs : List Part) → place_fault k ps ≡ None → allowed k ps ≡ Some qs → length ps ≤ most_open → length qs ≤ most_open
+    few_open : (k : Token) (ps qs : List ConditionalPart) → place_fault k ps ≡ None → allowed k ps ≡ Some qs → length ps ≤ most_open → length qs ≤ most_open
     few_open CondOpen ps qs placed e few = omega (arith, has_room ps placed, allowed_level CondOpen ps qs e)
     few_open CondThen ps qs placed e few = omega (arith, allowed_level CondThen ps qs e)
     few_open CondElse ps qs placed e few = omega (arith, allowed_level CondElse ps qs e)
@@ -388,7 +388,7 @@ parse_misplaced bytes longest place count found k n f fits short p e some =
     deep : place_fault k p.parts ≡ None → (b : Bool) → nat_le (next_height found.heights.running k) most_values ≡ b → cond b None (Some StackTooDeep) ≡ Some f → IsFaultBetween f p.before (drop place bytes)
     deep placed true t g = absurd (cc)
     deep placed false t g =
-        let go : (qs : List Part) × (allowed k p.parts ≡ Some qs) = goes_on k p.parts placed in
+        let go : (qs : List ConditionalPart) × (allowed k p.parts ≡ Some qs) = goes_on k p.parts placed in
         let begins : Begins (p.before ++ k ∷ []) = context_begins _ _ (context_step p.before p.parts go.0 k p.context go.1) in
         let high : most_values < next_height found.heights.running k = grind arith in
         let is : StackTooDeep ≡ f = cc in
@@ -427,7 +427,7 @@ parse_no_then bytes longest place count found short end p e =
     none : (tree : Sequence) → IsTree tree → tokens tree ≢ p.before
     none tree formed is =
         let P : List Token → Type 0 = λ x. Leads [] x p.parts in
-        let Q : List Part → Type 0 = λ x. AreSettled x in
+        let Q : List ConditionalPart → Type 0 = λ x. AreSettled x in
         unsettled_by found.heights.frames e (subst Q (sym p.stands) (settled tree p.parts formed (subst P (sym is) p.leads)))
 
 -- nothing is at fault at the end
@@ -447,7 +447,7 @@ end_fine before tree formed is _ h = h.0 refl
 pub parse_done : (bytes : List ℕ) (longest place count : ℕ) (found : Findings) (limits : Limits) → length bytes ≤ most_capability_bytes → length bytes ≤ place → Parsed bytes longest place count found → are_in_test found.heights.frames ≡ false
     → limits.tokens ≡ count → limits.depth ≡ found.depth → limits.nest ≡ found.nest → limits.bound ≡ greatest_of found.sizes.frames found.sizes.running → IsCapability bytes longest limits
 parse_done bytes longest place count found limits short end p e count_is depth_is nest_is bound_is =
-    let Q : List Part → Type 0 = λ x. AreSettled x in
+    let Q : List ConditionalPart → Type 0 = λ x. AreSettled x in
     let r : (tree : Sequence) × IsTree tree × (tokens tree ≡ p.before) = context_ends p.before p.parts p.context (subst Q p.stands (settled_by found.heights.frames e)) in
     let at : place ≡ length bytes = omega (arith, p.within) in
     let all : Written p.before bytes = let P : List ℕ → Type 0 = λ x. Written p.before x in subst P (ap (λ x. take x bytes) at ∙ take-length bytes) p.written in

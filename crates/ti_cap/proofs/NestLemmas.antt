@@ -5,8 +5,8 @@ use Rattle.std.proofs.lemmas.List.{append-nil}
 use Rattle.ti_cap.specs.declared.language.Token.{Token}
 use Rattle.ti_cap.specs.declared.language.Token.TheVariants.{CondOpen, CondThen, CondElse, CondClose}
 use Rattle.ti_cap.specs.Tree.{Sequence, Empty, Simple, Conditional, Arms, Lone, Else, ElseIf, tokens, arm_tokens, IsSimple, IsFormed, AreFormed, nest, arm_nest}
-use Rattle.ti_cap.specs.declared.scan.Part.{Part}
-use Rattle.ti_cap.specs.declared.scan.Part.TheVariants.{FirstTest, Body, Otherwise}
+use Rattle.ti_cap.specs.declared.scan.ConditionalPart.{ConditionalPart}
+use Rattle.ti_cap.specs.declared.scan.ConditionalPart.TheVariants.{FirstTest, Body, Otherwise}
 use Rattle.ti_cap.proofs.PartsLemmas.{allowed, at_then, at_else, at_close, Leads}
 
 abbrev pub below : ℕ → ℕ
@@ -132,7 +132,7 @@ mutual
 
 -- ---- the parts of the open conditionals
 
-then_level : (ps qs : List Part) → at_then ps ≡ Some qs → length ps ≡ length qs
+then_level : (ps qs : List ConditionalPart) → at_then ps ≡ Some qs → length ps ≡ length qs
 then_level [] qs e = absurd (cc)
 then_level (FirstTest ∷ ps) qs e = ap (λ x. length x) (some e)
   where
@@ -144,7 +144,7 @@ then_level (Otherwise ∷ ps) qs e = ap (λ x. length x) (some e)
     some : Some (Body ∷ ps) ≡ Some qs → Body ∷ ps ≡ qs
     some p = cc
 
-else_level : (ps qs : List Part) → at_else ps ≡ Some qs → length ps ≡ length qs
+else_level : (ps qs : List ConditionalPart) → at_else ps ≡ Some qs → length ps ≡ length qs
 else_level [] qs e = absurd (cc)
 else_level (FirstTest ∷ ps) qs e = absurd (cc)
 else_level (Otherwise ∷ ps) qs e = absurd (cc)
@@ -153,7 +153,7 @@ else_level (Body ∷ ps) qs e = ap (λ x. length x) (some e)
     some : Some (Otherwise ∷ ps) ≡ Some qs → Otherwise ∷ ps ≡ qs
     some p = cc
 
-close_level : (ps qs : List Part) → at_close ps ≡ Some qs → below (length ps) ≡ length qs
+close_level : (ps qs : List ConditionalPart) → at_close ps ≡ Some qs → below (length ps) ≡ length qs
 close_level [] qs e = absurd (cc)
 close_level (FirstTest ∷ ps) qs e = absurd (cc)
 close_level (Body ∷ ps) qs e = ap (λ x. length x) (some e)
@@ -165,26 +165,26 @@ close_level (Otherwise ∷ ps) qs e = ap (λ x. length x) (some e)
     some : Some ps ≡ Some qs → ps ≡ qs
     some p = cc
 
-open_level : (ps qs : List Part) → Some (FirstTest ∷ ps) ≡ Some qs → suc (length ps) ≡ length qs
+open_level : (ps qs : List ConditionalPart) → Some (FirstTest ∷ ps) ≡ Some qs → suc (length ps) ≡ length qs
 open_level ps qs e = ap (λ x. length x) (some e)
   where
     some : Some (FirstTest ∷ ps) ≡ Some qs → FirstTest ∷ ps ≡ qs
     some p = cc
 
-same_level : (ps qs : List Part) → Some ps ≡ Some qs → length ps ≡ length qs
+same_level : (ps qs : List ConditionalPart) → Some ps ≡ Some qs → length ps ≡ length qs
 same_level ps qs e = ap (λ x. length x) (some e)
   where
     some : Some ps ≡ Some qs → ps ≡ qs
     some p = cc
 
 -- a token that may stand moves the number of open conditionals
-pub allowed_level : (k : Token) (ps qs : List Part) → allowed k ps ≡ Some qs → level_after (length ps) k ≡ length qs
+pub allowed_level : (k : Token) (ps qs : List ConditionalPart) → allowed k ps ≡ Some qs → level_after (length ps) k ≡ length qs
 allowed_level CondOpen ps qs e = open_level ps qs e
 allowed_level CondThen ps qs e = then_level ps qs e
 allowed_level CondElse ps qs e = else_level ps qs e
 allowed_level CondClose ps qs e = close_level ps qs e
 allowed_level _ ps qs e = same_level ps qs e
 
-pub leads_level : (ps qs : List Part) (ks : List Token) → Leads ps ks qs → end_level (length ps) ks ≡ length qs
+pub leads_level : (ps qs : List ConditionalPart) (ks : List Token) → Leads ps ks qs → end_level (length ps) ks ≡ length qs
 leads_level ps qs [] e = ap (λ x. length x) (sym e)
 leads_level ps qs (k ∷ ks) (ms, e, l) = ap (λ x. end_level x ks) (allowed_level k ps ms e) ∙ leads_level ms qs ks l

@@ -10,8 +10,8 @@ use Rattle.ti_cap.specs.declared.language.CapRefused.{CapRefused}
 use Rattle.ti_cap.specs.Path.{Walk, path_of}
 use Rattle.ti_cap.specs.Height.{next_height, end_height}
 use Rattle.ti_cap.specs.Spelling.{Written}
-use Rattle.ti_cap.specs.declared.scan.Part.{Part}
-use Rattle.ti_cap.specs.declared.scan.Part.TheVariants.{FirstTest, Body, Otherwise}
+use Rattle.ti_cap.specs.declared.scan.ConditionalPart.{ConditionalPart}
+use Rattle.ti_cap.specs.declared.scan.ConditionalPart.TheVariants.{FirstTest, Body, Otherwise}
 use Rattle.ti_cap.specs.Refusal.{Begins, Climbs, open_parts, IsInFirstTest, IsNext, IsStray, IsUnreadable, IsFaultBetween, HasFault, IsSoundBelow, IsRefusal, escape_fault}
 use Rattle.ti_cap.proofs.WrittenLemmas.{Same, one_form, one_cutting, spelled_long}
 use Rattle.ti_cap.proofs.PassesLemmas.{no_path}
@@ -182,15 +182,15 @@ one_reason rest f g u v = elim u.why [
 ]
 
 -- the fault of a token of a conditional's frame that may not stand in these parts
-abbrev stray_else : List Part → CapFault
+abbrev stray_else : List ConditionalPart → CapFault
 stray_else (FirstTest ∷ parts) = NoThen
 stray_else _ = StrayElse
 
-abbrev stray_close : List Part → CapFault
+abbrev stray_close : List ConditionalPart → CapFault
 stray_close [] = StrayEnd
 stray_close _ = NoThen
 
-abbrev stray_fault : Token → List Part → CapFault
+abbrev stray_fault : Token → List ConditionalPart → CapFault
 stray_fault CondElse parts = stray_else parts
 stray_fault CondClose parts = stray_close parts
 stray_fault _ parts = StrayThen
@@ -208,7 +208,7 @@ kind_of TooLong before rest h = absurd h
 kind_of StrayThen before rest h = Stray CondThen h (λ e. cc) refl
 kind_of StrayElse before rest h = Stray CondElse h.0 (λ e. cc) (by (open_parts before) h.1)
   where
-    by : (parts : List Part) → ¬ IsInFirstTest parts → StrayElse ≡ stray_else parts
+    by : (parts : List ConditionalPart) → ¬ IsInFirstTest parts → StrayElse ≡ stray_else parts
     by [] n = refl
     by (FirstTest ∷ parts) n = absurd (n tt)
     by (Body ∷ parts) n = refl
@@ -216,14 +216,14 @@ kind_of StrayElse before rest h = Stray CondElse h.0 (λ e. cc) (by (open_parts 
 kind_of StrayEnd before rest h = Stray CondClose h.0 (λ e. cc) (ap stray_close (sym h.1))
 kind_of NoThen before rest (inl h) = Stray CondElse h.0 (λ e. cc) (by (open_parts before) h.1)
   where
-    by : (parts : List Part) → IsInFirstTest parts → NoThen ≡ stray_else parts
+    by : (parts : List ConditionalPart) → IsInFirstTest parts → NoThen ≡ stray_else parts
     by [] n = absurd n
     by (FirstTest ∷ parts) n = refl
     by (Body ∷ parts) n = absurd n
     by (Otherwise ∷ parts) n = absurd n
 kind_of NoThen before rest (inr (inl h)) = Stray CondClose h.0 (λ e. cc) (by (open_parts before) h.1)
   where
-    by : (parts : List Part) → parts ≢ [] → NoThen ≡ stray_close parts
+    by : (parts : List ConditionalPart) → parts ≢ [] → NoThen ≡ stray_close parts
     by [] n = absurd (n refl)
     by (part ∷ parts) n = refl
 kind_of NoThen before rest (inr (inr h)) = Ended h.0 refl

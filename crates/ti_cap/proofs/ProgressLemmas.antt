@@ -6,8 +6,8 @@ use Rattle.ti_cap.specs.Tree.{IsSimple}
 use Rattle.ti_cap.specs.declared.mode.Mode.{Mode}
 use Rattle.ti_cap.specs.declared.mode.Mode.TheVariants.{Run, ToElse, ToEnd}
 use Rattle.ti_cap.specs.Pass.{next_mode, is_running}
-use Rattle.ti_cap.specs.declared.scan.Part.{Part}
-use Rattle.ti_cap.specs.declared.scan.Part.TheVariants.{FirstTest, Body, Otherwise}
+use Rattle.ti_cap.specs.declared.scan.ConditionalPart.{ConditionalPart}
+use Rattle.ti_cap.specs.declared.scan.ConditionalPart.TheVariants.{FirstTest, Body, Otherwise}
 use Rattle.ti_cap.specs.inner.Analysis.{Frame, Progress}
 use Rattle.ti_cap.proofs.NextModeLemmas.{simple_stays, opened_from, tested_from, turned_from, closed_from}
 use Rattle.ti_cap.proofs.PassesLemmas.{no_path}
@@ -38,7 +38,7 @@ abbrev pub frame_at : List Frame → ℕ → Frame
 frame_at frames n = get_or frames n (record { part = FirstTest; failed = 0; done = 0 })
 
 -- a test has failed if a body is being passed through
-abbrev pub failing : Part → Comings
+abbrev pub failing : ConditionalPart → Comings
 failing Body = Certain
 failing _ = Never
 
@@ -210,7 +210,7 @@ pub sums_else : (act : Act) (before : List Token) (now : ℕ) (f : Frame) (fs : 
     → Sums act (before ++ CondElse ∷ []) (record { running = act f.failed CondElse; frames = record { part = Otherwise; failed = 0; done = max f.done (act now CondElse) } ∷ fs })
 sums_else act before now f fs rising some sums Run =
     move act before CondElse (ToElse zero) Run false f.failed rising refl (λ g e. refl) (λ source g y c e. only source g e)
-    (let P : Part → Type 0 = λ y. IsBest act before (ToElse zero) (failing y) f.failed in subst P some (sums (ToElse zero)))
+    (let P : ConditionalPart → Type 0 = λ y. IsBest act before (ToElse zero) (failing y) f.failed in subst P some (sums (ToElse zero)))
   where
     only : (source : Mode) (g : Bool) → next_mode source CondElse g ≡ Run → source ≡ ToElse zero
     only Run g e = absurd (cc)

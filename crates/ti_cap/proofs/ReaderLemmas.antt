@@ -5,7 +5,7 @@ use Rattle.std.proofs.lemmas.List.{take_at, drop_at, drop-drop, take-append-drop
 use Rattle.std.proofs.Math.Seq.{take-add}
 use Rattle.ti_base.specs.Limits.{most_capability_bytes}
 use Rattle.ti_cap.specs.declared.language.Token.{Token}
-use Rattle.ti_cap.specs.declared.scan.Open.{Open}
+use Rattle.ti_cap.specs.declared.scan.OpenExtents.{OpenExtents}
 use Rattle.ti_cap.specs.declared.scan.Scan.{Scan}
 use Rattle.ti_cap.specs.declared.language.Conversion.TheVariants.{Signed}
 use Rattle.ti_cap.specs.Spelling.{SpellsEscape, SpellsFormat, Written}
@@ -43,7 +43,7 @@ parsed_on bytes place count found (k ∷ ks) s rest end fits p e (u, tail, spell
     subst Q at (subst R many more)
 
 -- what holds where a reader stands
-pub reading_parsed : (bytes left : List ℕ) (tokens : ℕ) (scan : Scan) (opens : List Open)
+pub reading_parsed : (bytes left : List ℕ) (tokens : ℕ) (scan : Scan) (opens : List OpenExtents)
     → IsReading bytes left tokens scan opens → Parsed bytes 0 (length bytes - length left) tokens (findings_of scan opens)
 reading_parsed bytes left tokens scan opens r =
     let place : ℕ = length bytes - length left in
@@ -56,7 +56,7 @@ reading_parsed bytes left tokens scan opens r =
     subst Q at (subst R many p)
 
 -- the start of a reader
-pub reading_start : (bytes : List ℕ) (scan : Scan) (opens : List Open) → ((i : ℕ) → get_or bytes i 0 < 256) → length bytes ≤ most_capability_bytes
+pub reading_start : (bytes : List ℕ) (scan : Scan) (opens : List OpenExtents) → ((i : ℕ) → get_or bytes i 0 < 256) → length bytes ≤ most_capability_bytes
     → findings_of scan opens ≡ no_findings → IsInOrder 4 scan → IsReading bytes bytes 0 scan opens
 reading_start bytes scan opens fits short found order =
     let none : length bytes - length bytes ≡ 0 = omega arith in
@@ -78,7 +78,7 @@ finds_more found [] end k last f fine is = let P : Findings → Type 0 = λ x. (
 finds_more found (l ∷ ks) end k last f fine is = (f.0, finds_more (findings_after 0 found l) ks end k last f.1 fine is)
 
 -- the next place of a reader
-pub record Further (bytes left : List ℕ) (tokens : ℕ) (k : Token) (long : ℕ) (scan : Scan) (opens : List Open) : Type 0 where
+pub record Further (bytes left : List ℕ) (tokens : ℕ) (k : Token) (long : ℕ) (scan : Scan) (opens : List OpenExtents) : Type 0 where
   pub low : long ≤ length left
   pub reading : IsReading bytes (take (length left - long) (drop long left)) (tokens + 1) scan opens
   pub takes : Takes k (record { taken = take (length bytes - length left) bytes; left = left })
@@ -86,7 +86,7 @@ pub record Further (bytes left : List ℕ) (tokens : ℕ) (k : Token) (long : �
   pub first : IsFirst k (record { taken = take (length bytes - length left) bytes; left = left })
       (record { taken = take (length bytes - length (take (length left - long) (drop long left))) bytes; left = take (length left - long) (drop long left) })
 
-pub reading_on : (bytes left : List ℕ) (tokens : ℕ) (k : Token) (long : ℕ) (scan : Scan) (opens : List Open) (next : Scan) (next_opens : List Open)
+pub reading_on : (bytes left : List ℕ) (tokens : ℕ) (k : Token) (long : ℕ) (scan : Scan) (opens : List OpenExtents) (next : Scan) (next_opens : List OpenExtents)
     → IsReading bytes left tokens scan opens → token_read left ≡ Ok (k, long)
     → fault_of (findings_of scan opens) k ≡ None → findings_of next next_opens ≡ findings_after 0 (findings_of scan opens) k → IsInOrder 4 next
     → Further bytes left tokens k long next next_opens

@@ -5,18 +5,18 @@ use Rattle.std.proofs.Math.Seq.{take-suc}
 use Rattle.std.proofs.lemmas.List.{reverse-append, length-reverse, length-take, length-map}
 use Rattle.ti_cap.specs.declared.language.Token.TheVariants.{CondClose}
 use Rattle.ti_cap.specs.declared.extent.Extent.{Extent}
-use Rattle.ti_cap.specs.declared.scan.Open.{Open}
+use Rattle.ti_cap.specs.declared.scan.OpenExtents.{OpenExtents}
 use Rattle.ti_cap.specs.declared.scan.Scan.{Scan}
 use Rattle.ti_cap.specs.inner.Analysis.{Frame, Findings, greatest_of, findings_after}
 use Rattle.ti_cap.specs.inner.Scan.{greater_extent, greatest_end, height_frame, size_frame, innermost_first, findings_of}
 
 -- the greatest size at the end is the greatest of the sizes
-pub greatest_end_size : (opens : List Open) (e : Extent) → (greatest_end opens e).size ≡ greatest_of (map size_frame opens) e.size
+pub greatest_end_size : (opens : List OpenExtents) (e : Extent) → (greatest_end opens e).size ≡ greatest_of (map size_frame opens) e.size
 greatest_end_size [] e = refl
 greatest_end_size (o ∷ os) e = greatest_end_size os (greater_extent o.done (greater_extent o.failed e))
 
 -- the innermost open conditional, and the others
-innermost_first_more : (n : ℕ) (opens : List Open) (d : Open) → 0 < n → n ≤ length opens → innermost_first n opens ≡ get_or opens (n - 1) d ∷ innermost_first (n - 1) opens
+innermost_first_more : (n : ℕ) (opens : List OpenExtents) (d : OpenExtents) → 0 < n → n ≤ length opens → innermost_first n opens ≡ get_or opens (n - 1) d ∷ innermost_first (n - 1) opens
 innermost_first_more zero opens d some within = absurd (omega arith)
 innermost_first_more (suc m) opens d some within =
     let e : suc m - 1 ≡ m = omega arith in
@@ -24,7 +24,7 @@ innermost_first_more (suc m) opens d some within =
     rw e (ap reverse (take-suc opens m d h) ∙ reverse-append (take m opens) (get_or opens m d ∷ []))
 
 -- what a scan has found while these conditionals are open
-abbrev found_with : Scan → List Open → Findings
+abbrev found_with : Scan → List OpenExtents → Findings
 found_with s stack = record {
   heights = record { running = s.here.height; frames = map height_frame stack };
   sizes = record { running = s.here.size; frames = map size_frame stack };
@@ -39,12 +39,12 @@ same_found : {h h2 z z2 d d2 n n2 : ℕ} (fs gs : List Frame) → h ≡ h2 → z
 same_found fs gs p q r t = cc
 
 -- the end of a conditional
-pub found_closed : (s : Scan) (opens : List Open) (d : Open) (here : Extent) (depth : ℕ) → 0 < s.nesting → s.nesting ≤ s.nest → s.nesting ≤ length opens
+pub found_closed : (s : Scan) (opens : List OpenExtents) (d : OpenExtents) (here : Extent) (depth : ℕ) → 0 < s.nesting → s.nesting ≤ s.nest → s.nesting ≤ length opens
     → here ≡ greater_extent (get_or opens (s.nesting - 1) d).done (greater_extent (get_or opens (s.nesting - 1) d).failed s.here) → depth ≡ max s.depth here.height
     → findings_of (record { here = here; depth = depth; nesting = s.nesting - 1; nest = s.nest }) opens ≡ findings_after 0 (findings_of s opens) CondClose
 found_closed s opens d here depth some many within here_is depth_is =
-    let o : Open = get_or opens (s.nesting - 1) d in
-    let xs : List Open = innermost_first (s.nesting - 1) opens in
+    let o : OpenExtents = get_or opens (s.nesting - 1) d in
+    let xs : List OpenExtents = innermost_first (s.nesting - 1) opens in
     let flat : s.here.height ≡ s.here.height - 0 + 0 = omega arith in
     let still : s.here.size ≡ s.here.size + 0 = omega arith in
     let height : here.height ≡ max o.done.height (max o.failed.height (s.here.height - 0 + 0)) = ap (λ e. e.height) here_is ∙ ap (λ y. max o.done.height (max o.failed.height y)) flat in

@@ -6,7 +6,7 @@ use Rattle.ti_base.specs.Limits.{most_open, most_values}
 use Rattle.ti_cap.specs.declared.language.Token.{Token}
 use Rattle.ti_cap.specs.declared.language.Token.TheVariants.{Param, CondOpen, CondThen, CondElse, CondClose}
 use Rattle.ti_cap.specs.declared.gathering.Gathering.{Gathering}
-use Rattle.ti_cap.specs.declared.scan.Part.{Part}
+use Rattle.ti_cap.specs.declared.scan.ConditionalPart.{ConditionalPart}
 use Rattle.ti_cap.specs.Tree.{Sequence, tokens}
 use Rattle.ti_cap.specs.Path.{IsPath, path_of}
 use Rattle.ti_cap.specs.declared.mode.Mode.TheVariants.{Run}
@@ -32,7 +32,7 @@ pub record Stands (bytes left : List ℕ) (g : Gathering) : Type 0 where
   pub formed : IsWellFormed bytes
   pub before : List Token
   pub after : List Token
-  pub parts : List Part
+  pub parts : List ConditionalPart
   pub spans : tokens formed.tree ≡ before ++ after
   pub written : Written after left
   pub gathers : Gathers before parts g
@@ -46,7 +46,7 @@ pub record Meets (bytes left rest : List ℕ) (k : Token) (g : Gathering) : Type
   pub few : g.nesting ≤ most_open
   pub stands : Stands bytes rest (gathered g k)
 
-takeable_by : (k : Token) (parts onto : List Part) → allowed k parts ≡ Some onto → length onto ≤ most_open → (n : ℕ) → length parts ≡ n → IsFit k → IsTakeable k n
+takeable_by : (k : Token) (parts onto : List ConditionalPart) → allowed k parts ≡ Some onto → length onto ≤ most_open → (n : ℕ) → length parts ≡ n → IsFit k → IsTakeable k n
 takeable_by (Param p) parts onto e few n is fit = fit
 takeable_by CondOpen parts onto e few n is fit = omega (arith, allowed_level CondOpen parts onto e)
 takeable_by CondThen [] onto e few n is fit = absurd (cc)
@@ -67,8 +67,8 @@ pub meets : (bytes left rest : List ℕ) (k : Token) (g : Gathering) → Stands 
 meets bytes left rest k g w first s spelled =
     let next : (more : List Token) × (w.after ≡ k ∷ more) × Written more rest = first w.after w.written in
     let spans : tokens w.formed.tree ≡ (w.before ++ k ∷ []) ++ next.0 = w.spans ∙ ap (λ x. w.before ++ x) next.1 ∙ sym (append_assoc w.before (k ∷ []) next.0) in
-    let r : (ms : List Part) × Leads [] (w.before ++ k ∷ []) ms = begins_leads (w.before ++ k ∷ []) (w.formed.tree, next.0, w.formed.writes.formed, spans) in
-    let l : (ns : List Part) × Leads [] w.before ns × Leads ns (k ∷ []) r.0 = leads_front [] r.0 w.before (k ∷ []) r.1 in
+    let r : (ms : List ConditionalPart) × Leads [] (w.before ++ k ∷ []) ms = begins_leads (w.before ++ k ∷ []) (w.formed.tree, next.0, w.formed.writes.formed, spans) in
+    let l : (ns : List ConditionalPart) × Leads [] w.before ns × Leads ns (k ∷ []) r.0 = leads_front [] r.0 w.before (k ∷ []) r.1 in
     let same : l.0 ≡ w.parts = leads_one [] l.0 w.parts w.before l.1 w.gathers.leads in
     let stands : allowed k w.parts ≡ Some l.2.0 = ap (λ x. allowed k x) (sym same) ∙ l.2.1 in
     let deep : levels 0 (tokens w.formed.tree) ≤ most_open = omega (arith, level_tree w.formed.tree 0 w.formed.writes.formed, w.formed.nests) in

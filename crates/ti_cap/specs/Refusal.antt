@@ -7,8 +7,8 @@ use Rattle.ti_cap.specs.declared.language.Token.TheVariants.{CondOpen, CondThen,
 use Rattle.ti_cap.specs.declared.language.CapFault.{CapFault}
 use Rattle.ti_cap.specs.declared.language.CapFault.TheVariants.{TooLong, CutShort, UnknownEscape, BadParameter, BadVariable, BadConstant, BadFormat, StrayThen, StrayElse, StrayEnd, NoThen, NestTooDeep, StackTooDeep}
 use Rattle.ti_cap.specs.declared.language.CapRefused.{CapRefused}
-use Rattle.ti_cap.specs.declared.scan.Part.{Part}
-use Rattle.ti_cap.specs.declared.scan.Part.TheVariants.{FirstTest, Body, Otherwise}
+use Rattle.ti_cap.specs.declared.scan.ConditionalPart.{ConditionalPart}
+use Rattle.ti_cap.specs.declared.scan.ConditionalPart.TheVariants.{FirstTest, Body, Otherwise}
 use Rattle.ti_cap.specs.Tree.{Sequence, IsTree, tokens}
 use Rattle.ti_cap.specs.Path.{Walk, IsWalk, path_of}
 use Rattle.ti_cap.specs.Height.{end_height}
@@ -19,21 +19,21 @@ abbrev pub Begins : List Token → Type 0
 Begins before = (tree : Sequence) × (after : List Token) × IsTree tree × (tokens tree ≡ before ++ after)
 
 -- the parts of the open conditionals after a token, innermost first
-abbrev pub next_parts : List Part → Token → List Part
+abbrev pub next_parts : List ConditionalPart → Token → List ConditionalPart
 next_parts parts CondOpen = FirstTest ∷ parts
 next_parts (part ∷ parts) CondThen = Body ∷ parts
 next_parts (part ∷ parts) CondElse = Otherwise ∷ parts
 next_parts (part ∷ parts) CondClose = parts
 next_parts parts token = parts
 
-abbrev pub parts_from : List Part → List Token → List Part
+abbrev pub parts_from : List ConditionalPart → List Token → List ConditionalPart
 parts_from parts [] = parts
 parts_from parts (token ∷ before) = parts_from (next_parts parts token) before
 
-abbrev pub open_parts : List Token → List Part
+abbrev pub open_parts : List Token → List ConditionalPart
 open_parts before = parts_from [] before
 
-abbrev pub IsInFirstTest : List Part → Type 0
+abbrev pub IsInFirstTest : List ConditionalPart → Type 0
 IsInFirstTest (FirstTest ∷ parts) = Unit {0}
 IsInFirstTest _ = ⊥
 

@@ -20,16 +20,16 @@ pub struct Parameters {
 
 /// What waits in an open conditional.
 #[derive(Clone, Copy)]
-pub struct Open {
+pub struct OpenOrigins {
     /// What its tests failed with, since its last `%e`.
     failed: Origins,
     /// What its bodies ended with.
     done: Origins,
 }
 
-impl Open {
+impl OpenOrigins {
     /// A conditional in its first test.
-    const FRESH: Open = Open {
+    const FRESH: OpenOrigins = OpenOrigins {
         failed: Origins::NONE,
         done: Origins::NONE,
     };
@@ -40,7 +40,7 @@ impl Open {
 pub struct Gathering {
     /// The parameters on the stack here.
     here: Origins,
-    opens: [Open; MOST_OPEN],
+    opens: [OpenOrigins; MOST_OPEN],
     /// How many conditionals are open.
     nesting: usize,
     found: Parameters,
@@ -58,7 +58,7 @@ impl Gathering {
     {
         Gathering {
             here: Origins::NONE,
-            opens: [Open::FRESH; MOST_OPEN],
+            opens: [OpenOrigins::FRESH; MOST_OPEN],
             nesting: 0,
             found: Parameters {
                 named: ParameterSet::NONE,
@@ -131,7 +131,7 @@ impl Gathering {
         requires { self.old.nesting < most_open }
         ensures { self.new ≡ gathered self.old Token.CondOpen }
     {
-        self.opens[self.nesting] = Open::FRESH;
+        self.opens[self.nesting] = OpenOrigins::FRESH;
         self.nesting += 1;
     }
 

@@ -9,7 +9,7 @@ ghost use Rattle.ti_cap.specs.Capability.{HasCount, HasDepth, HasBound, HasNest,
 use crate::language::{CapFault, CapRefused, Token};
 use crate::lexer::read_token;
 use crate::limits::Limits;
-use crate::scan::{Open, Scan};
+use crate::scan::{OpenExtents, Scan};
 use std::marker::Model;
 use ti_base::{MOST_CAPABILITY_BYTES, MOST_OPEN};
 
@@ -148,7 +148,7 @@ fn limits_of<const ROOM: usize>(bytes: &[u8], longest: u16) -> Result<Limits, Ca
         (λ refused. IsSure ROOM refused.fault → IsRefusal bytes.now refused) }
 {
     let mut scan = Scan::new();
-    let mut opens = [Open::FRESH; ROOM];
+    let mut opens = [OpenExtents::FRESH; ROOM];
     let mut left = bytes;
     let mut tokens = 0;
     'reads: while !left.is_empty() {

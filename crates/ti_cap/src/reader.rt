@@ -10,7 +10,7 @@ use crate::lexer::{read_digits, read_parameter, read_quoted, read_token, read_va
 use crate::limits::Limits;
 use crate::parse::{Capability, FEW_OPEN};
 use crate::read_format::plain;
-use crate::scan::{Open, Scan};
+use crate::scan::{OpenExtents, Scan};
 use std::marker::Model;
 
 /// What a token is handed on to.
@@ -34,7 +34,7 @@ pub trait Take {
 /// Room for the open conditionals of a reader. They stand apart from it, so that its counts stay in registers.
 #[derive(Drop)]
 pub struct Opens {
-    opens: [Open; FEW_OPEN],
+    opens: [OpenExtents; FEW_OPEN],
 }
 
 impl Opens {
@@ -42,7 +42,7 @@ impl Opens {
     #[inline(always)]
     pub fn new() -> Opens {
         Opens {
-            opens: [Open::FRESH; FEW_OPEN],
+            opens: [OpenExtents::FRESH; FEW_OPEN],
         }
     }
 }
@@ -54,7 +54,7 @@ pub struct Reader<'a, 'o> {
     left: &'a [u8],
     tokens: usize,
     scan: Scan,
-    opens: &'o mut [Open; FEW_OPEN],
+    opens: &'o mut [OpenExtents; FEW_OPEN],
 }
 
 impl<'a, 'o> Model for Reader<'a, 'o> {

@@ -12,7 +12,7 @@ use ti_base::MOST_VALUES;
 
 /// The part of an open conditional in which a place lies. What follows a `%e` is an otherwise part until a `%t` comes.
 #[derive(Clone, Copy)]
-pub enum Part {
+pub enum ConditionalPart {
     /// The test of the first arm.
     FirstTest,
     /// The body of an arm.
@@ -23,19 +23,19 @@ pub enum Part {
 
 /// What waits in an open conditional. What there is none of has no height and no bytes.
 #[derive(Clone, Copy)]
-pub struct Open {
+pub struct OpenExtents {
     /// Where the scan stands in it.
-    part: Part,
+    part: ConditionalPart,
     /// What its last test failed with, if a body is being passed through.
     failed: Extent,
     /// The greatest that its bodies ended with, if any did.
     done: Extent,
 }
 
-impl Open {
+impl OpenExtents {
     /// A conditional in its first test.
-    pub const FRESH: Open = Open {
-        part: Part::FirstTest,
+    pub const FRESH: OpenExtents = OpenExtents {
+        part: ConditionalPart::FirstTest,
         failed: Extent::NONE,
         done: Extent::NONE,
     };
@@ -59,13 +59,13 @@ impl Scan {
     ghost use Rattle.ti_base.specs.Limits.{most_open, most_values};
     ghost use Rattle.ti_cap.specs.declared.language.Token.{Token};
     ghost use Rattle.ti_cap.specs.declared.language.CapFault.{CapFault};
-    ghost use Rattle.ti_cap.specs.declared.scan.Open.{Open};
+    ghost use Rattle.ti_cap.specs.declared.scan.OpenExtents.{OpenExtents};
     ghost use Rattle.ti_cap.specs.inner.Analysis.{no_findings, are_in_test};
     ghost use Rattle.ti_cap.specs.inner.Scan.{findings_of, fault_at, Brings, IsInOrder, IsSure, after_write, after_push, innermost_first, height_frame, greatest_end, greatest_size};
 
     /// No token yet.
     pub fn new() -> Self
-        ensures start { (opens : List Open) → findings_of result opens ≡ no_findings }
+        ensures start { (opens : List OpenExtents) → findings_of result opens ≡ no_findings }
         ensures order { (room : ℕ) → IsInOrder room result }
     {
         Scan {
@@ -80,7 +80,7 @@ impl Scan {
     #[inline(always)]
     pub fn take<const ROOM: usize>(
         &mut self,
-        opens: &mut [Open; ROOM],
+        opens: &mut [OpenExtents; ROOM],
         token: Token,
         longest: u16,
     ) -> Result<(), CapFault>
@@ -144,7 +144,7 @@ impl Scan {
 
     /// A conditional begins.
     #[inline(always)]
-    fn enter<const ROOM: usize>(&mut self, opens: &mut [Open; ROOM]) -> Result<(), CapFault>
+    fn enter<const ROOM: usize>(&mut self, opens: &mut [OpenExtents; ROOM]) -> Result<(), CapFault>
         requires room { ROOM ≤ most_open }
         requires low { self.old.here.height ≤ most_values }
         requires order { IsInOrder ROOM self.old }
@@ -158,7 +158,7 @@ impl Scan {
         if self.nesting >= ROOM {
             return Err(CapFault::NestTooDeep);
         }
-        opens[self.nesting] = Open::FRESH;
+        opens[self.nesting] = OpenExtents::FRESH;
         self.nesting += 1;
         self.nest = self.nest.max(self.nesting);
         Ok(())
@@ -166,7 +166,7 @@ impl Scan {
 
     /// A test ends: a path may fail here, and go on after the `%e` or `%;` to come.
     #[inline(always)]
-    fn test<const ROOM: usize>(&mut self, opens: &mut [Open; ROOM]) -> Result<(), CapFault>
+    fn test<const ROOM: usize>(&mut self, opens: &mut [OpenExtents; ROOM]) -> Result<(), CapFault>
         requires low { self.old.here.height ≤ most_values }
         requires order { IsInOrder ROOM self.old }
         ensures refused { IfErr result
@@ -180,18 +180,18 @@ impl Scan {
             return Err(CapFault::StrayThen);
         }
         let open = &mut opens[self.nesting - 1];
-        if matches!(open.part, Part::Body) {
+        if matches!(open.part, ConditionalPart::Body) {
             return Err(CapFault::StrayThen);
         }
         self.here.height = self.here.height.saturating_sub(1);
-        open.part = Part::Body;
+        open.part = ConditionalPart::Body;
         open.failed = self.here;
         Ok(())
     }
 
     /// A body ends: what it ended with waits for the `%;`, and what its test failed with goes on.
     #[inline(always)]
-    fn turn<const ROOM: usize>(&mut self, opens: &mut [Open; ROOM]) -> Result<(), CapFault>
+    fn turn<const ROOM: usize>(&mut self, opens: &mut [OpenExtents; ROOM]) -> Result<(), CapFault>
         requires low { self.old.here.height ≤ most_values }
         requires order { IsInOrder ROOM self.old }
         ensures refused { IfErr result
@@ -206,10 +206,10 @@ impl Scan {
         }
         let open = &mut opens[self.nesting - 1];
         match open.part {
-            Part::FirstTest => Err(CapFault::NoThen),
-            Part::Otherwise => Err(CapFault::StrayElse),
-            Part::Body => {
-                open.part = Part::Otherwise;
+            ConditionalPart::FirstTest => Err(CapFault::NoThen),
+            ConditionalPart::Otherwise => Err(CapFault::StrayElse),
+            ConditionalPart::Body => {
+                open.part = ConditionalPart::Otherwise;
                 open.done = self.here.max(open.done);
                 self.here = open.failed;
                 open.failed = Extent::NONE;
@@ -221,7 +221,7 @@ impl Scan {
 
     /// A conditional ends: the greatest of what runs and what waits in it goes on.
     #[inline(always)]
-    fn leave<const ROOM: usize>(&mut self, opens: &[Open; ROOM]) -> Result<(), CapFault>
+    fn leave<const ROOM: usize>(&mut self, opens: &[OpenExtents; ROOM]) -> Result<(), CapFault>
         requires low { self.old.here.height ≤ most_values }
         requires order { IsInOrder ROOM self.old }
         ensures refused { IfErr result
@@ -234,8 +234,8 @@ impl Scan {
         if self.nesting == 0 {
             return Err(CapFault::StrayEnd);
         }
-        let Open { part, failed, done } = opens[self.nesting - 1];
-        if matches!(part, Part::FirstTest) {
+        let OpenExtents { part, failed, done } = opens[self.nesting - 1];
+        if matches!(part, ConditionalPart::FirstTest) {
             return Err(CapFault::NoThen);
         }
         self.here = self.here.max(failed).max(done);
@@ -263,7 +263,7 @@ impl Scan {
     /// The most bytes that any path writes, were this the end.
     #[tactic(auto, using(crate::proofs::ScanLemmas::greatest_end_size))]
     #[inline(always)]
-    pub fn bound<const ROOM: usize>(&self, opens: &[Open; ROOM]) -> u64
+    pub fn bound<const ROOM: usize>(&self, opens: &[OpenExtents; ROOM]) -> u64
         requires order { IsInOrder ROOM self.now }
         ensures { result ≡ greatest_size self.now opens.now }
     {
@@ -272,7 +272,7 @@ impl Scan {
 
     /// How far any path has come, were this the end.
     #[inline(always)]
-    fn end<const ROOM: usize>(&self, opens: &[Open; ROOM]) -> Extent
+    fn end<const ROOM: usize>(&self, opens: &[OpenExtents; ROOM]) -> Extent
         requires order { IsInOrder ROOM self.now }
         ensures { result ≡ greatest_end (innermost_first self.now.nesting opens.now) self.now.here }
     {
@@ -286,7 +286,7 @@ impl Scan {
 
     /// Whether a conditional is still in its first test.
     #[inline(always)]
-    pub fn is_in_first_test<const ROOM: usize>(&self, opens: &[Open; ROOM]) -> bool
+    pub fn is_in_first_test<const ROOM: usize>(&self, opens: &[OpenExtents; ROOM]) -> bool
         requires order { IsInOrder ROOM self.now }
         ensures { result
             ≡ are_in_test (map height_frame (innermost_first self.now.nesting opens.now)) }
@@ -295,7 +295,7 @@ impl Scan {
             .iter()
             .rev()
             .fold(false, |found, open| {
-                found || matches!(open.part, Part::FirstTest)
+                found || matches!(open.part, ConditionalPart::FirstTest)
             })
     }
 }

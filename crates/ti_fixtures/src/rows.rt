@@ -35,7 +35,7 @@ pub fn place_of(field: &str) -> Result<usize, Unfound> {
 
 /// How far a byte in the notation is read.
 #[derive(Clone, Copy)]
-enum Part {
+enum ByteSoFar {
     Whole,
     Backslash,
     Caret,
@@ -44,19 +44,19 @@ enum Part {
 }
 
 /// What a character adds: the part that is read now, and a byte that is whole.
-fn read_character(part: Part, character: u8) -> (Part, Option<u8>) {
+fn read_character(part: ByteSoFar, character: u8) -> (ByteSoFar, Option<u8>) {
     match (part, character) {
-        (Part::Whole, b'\\') => (Part::Backslash, None),
-        (Part::Whole, b'^') => (Part::Caret, None),
-        (Part::Whole, _) => (Part::Whole, Some(character)),
-        (Part::Caret, _) => (Part::Whole, Some(character ^ 0x40)),
-        (Part::Backslash, b'E') => (Part::Whole, Some(0x1b)),
-        (Part::Backslash, b'n') => (Part::Whole, Some(b'\n')),
-        (Part::Backslash, b's') => (Part::Whole, Some(b' ')),
-        (Part::Backslash, b'0'..=b'7') => (Part::Octal(character & 7, 1), None),
-        (Part::Backslash, _) => (Part::Whole, Some(character)),
-        (Part::Octal(value, 2), _) => (Part::Whole, Some(value << 3 | character & 7)),
-        (Part::Octal(value, _), _) => (Part::Octal(value << 3 | character & 7, 2), None),
+        (ByteSoFar::Whole, b'\\') => (ByteSoFar::Backslash, None),
+        (ByteSoFar::Whole, b'^') => (ByteSoFar::Caret, None),
+        (ByteSoFar::Whole, _) => (ByteSoFar::Whole, Some(character)),
+        (ByteSoFar::Caret, _) => (ByteSoFar::Whole, Some(character ^ 0x40)),
+        (ByteSoFar::Backslash, b'E') => (ByteSoFar::Whole, Some(0x1b)),
+        (ByteSoFar::Backslash, b'n') => (ByteSoFar::Whole, Some(b'\n')),
+        (ByteSoFar::Backslash, b's') => (ByteSoFar::Whole, Some(b' ')),
+        (ByteSoFar::Backslash, b'0'..=b'7') => (ByteSoFar::Octal(character & 7, 1), None),
+        (ByteSoFar::Backslash, _) => (ByteSoFar::Whole, Some(character)),
+        (ByteSoFar::Octal(value, 2), _) => (ByteSoFar::Whole, Some(value << 3 | character & 7)),
+        (ByteSoFar::Octal(value, _), _) => (ByteSoFar::Octal(value << 3 | character & 7, 2), None),
     }
 }
 
@@ -69,7 +69,7 @@ pub fn bytes_of(alloc: Global, field: &str) -> Result<Vec<u8>, AllocError> {
         return bytes.to_vec(alloc);
     }
     let mut bytes = Vec::new(alloc);
-    let mut part = Part::Whole;
+    let mut part = ByteSoFar::Whole;
     for character in field.as_bytes() {
         let (next, byte) = read_character(part, *character);
         part = next;

@@ -15,7 +15,7 @@ use Rattle.ti_line.specs.declared.given.Param.{Param}
 use Rattle.ti_line.specs.declared.params.WordFault.{WordFault}
 use Rattle.ti_line.specs.declared.request.Asked.TheVariants.{Entry}
 use Rattle.ti_line.specs.declared.request.Asked.TheVariants as asks
-use Rattle.ti_line.specs.declared.request.Difference as code_of_diff
+use Rattle.ti_line.specs.declared.request.Pair as code_of_diff
 use Rattle.ti_line.specs.declared.request.Expand as code
 use Rattle.ti_line.specs.declared.request.Get as code_of_get
 use Rattle.ti_line.specs.declared.request.TraceOf as code_of_trace
@@ -110,7 +110,7 @@ Asks to (Get name hex escape rate lines xon words) r =
     × IsGivenBy words g.given × (g.padding ≡ setting_of rate lines xon)
     × (g.output ≡ output_asked hex escape))
 Asks to (Diff json expand color files) r =
-    (d : code_of_diff.Difference) × (r.asked ≡ asks.Difference d)
+    (d : code_of_diff.Pair) × (r.asked ≡ asks.Difference d)
     × (compared files ≡ Some (d.file.now, d.other.now)) × (d.likeness ≡ likeness_asked expand)
     × ((c : Color) × (color_asked to color ≡ Some c) × (d.form ≡ comparison_asked json c))
 

@@ -30,5 +30,5 @@ pub use options::{
 pub use params::{WordFault, read_params};
 pub use read::read_line;
 pub use request::{
-    Asked, Difference, Expand, Get, OfCapability, OfEntry, Request, Task, TextName, TraceOf,
+    Asked, Expand, Get, OfCapability, OfEntry, Pair, Request, Task, TextName, TraceOf,
 };

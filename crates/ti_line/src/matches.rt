@@ -21,9 +21,7 @@ use crate::given::{Given, read_given};
 use crate::no_line::LineFault;
 use crate::options::{Comparison, Likeness, Output, TraceForm};
 use crate::params::{WordFault, read_params};
-use crate::request::{
-    Asked, Difference, Expand, Get, OfCapability, OfEntry, Request, TextName, TraceOf,
-};
+use crate::request::{Asked, Expand, Get, OfCapability, OfEntry, Pair, Request, TextName, TraceOf};
 use clap::ArgMatches;
 use std::alloc::{AllocError, Global};
 use ti_escape::Color;
@@ -310,20 +308,20 @@ fn convert<'a>(to: Destination, given: &ArgMatches<'a>) -> Result<Request<'a>, L
 }
 
 /// The files that words name to be compared.
-fn pair<'a>(likeness: Likeness, form: Comparison, words: &[&'a str]) -> Option<Difference<'a>>
+fn pair<'a>(likeness: Likeness, form: Comparison, words: &[&'a str]) -> Option<Pair<'a>>
     ensures files { option_map (λ d. (d.file.now, d.other.now)) result
         ≡ compared (texts_of words.now) }
     ensures likeness { IfSome result (λ d. d.likeness ≡ likeness) }
     ensures form { IfSome result (λ d. d.form ≡ form) }
 {
     match words {
-        [other] => Some(Difference {
+        [other] => Some(Pair {
             file: "-",
             other: *other,
             likeness,
             form,
         }),
-        [file, other] => Some(Difference {
+        [file, other] => Some(Pair {
             file: *file,
             other: *other,
             likeness,

@@ -38,12 +38,12 @@ pub enum Asked<'a> {
     /// Something of an input as an entry.
     Entry(OfEntry<'a>),
     /// What two entries do not have alike.
-    Difference(Difference<'a>),
+    Difference(Pair<'a>),
 }
 
 /// The two files that are compared, and how. `-` is standard input.
 #[derive(Clone, Copy, Debug, PartialEq, Eq)]
-pub struct Difference<'a> {
+pub struct Pair<'a> {
     /// The file of the first entry.
     pub file: &'a str,
     /// The file of the other.

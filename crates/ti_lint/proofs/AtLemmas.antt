@@ -5,7 +5,7 @@ use Rattle.std.proofs.lemmas.List.{append-nil}
 use Rattle.ti_base.specs.Limits.{most_open, most_values}
 use Rattle.ti_cap.specs.declared.language.Token.{Token}
 use Rattle.ti_cap.specs.declared.language.Token.TheVariants.{Store, Load, CondOpen, CondThen, CondElse, CondClose}
-use Rattle.ti_cap.specs.declared.scan.Part.{Part}
+use Rattle.ti_cap.specs.declared.scan.ConditionalPart.{ConditionalPart}
 use Rattle.ti_cap.specs.Tree.{tokens}
 use Rattle.ti_cap.specs.declared.mode.Mode.TheVariants.{Run}
 use Rattle.ti_cap.specs.Spelling.{Spells, Written}
@@ -34,7 +34,7 @@ end-front-le : (l : ℕ) (a b : List Token) → end_level l a ≤ levels l (a ++
 end-front-le l [] b = levels-ge l b
 end-front-le l (x ∷ a) b = omega (arith, end-front-le (level_after l x) a b)
 
-room_by : (k : Token) (parts onto : List Part) → allowed k parts ≡ Some onto → length onto ≤ most_open → (n : ℕ) → length parts ≡ n → HasRoom k n
+room_by : (k : Token) (parts onto : List ConditionalPart) → allowed k parts ≡ Some onto → length onto ≤ most_open → (n : ℕ) → length parts ≡ n → HasRoom k n
 room_by CondOpen parts onto e few n is = omega (arith, allowed_level CondOpen parts onto e)
 room_by CondThen [] onto e few n is = absurd (cc)
 room_by CondThen (p ∷ parts) onto e few n is = omega arith
@@ -53,17 +53,17 @@ takeable_by k n room fit = fit
 
 -- where a pass goes with the next token of a tree
 pub record Onto (before : List Token) (k : Token) (p : Pass) : Type 0 where
-  pub parts : List Part
+  pub parts : List ConditionalPart
   pub takeable : IsTakeable k p.nesting
   pub few : p.nesting ≤ most_open
   pub knows : Knows (before ++ k ∷ []) parts (passed p k)
 
-pub goes_onto : (bytes : List ℕ) (f : IsWellFormed bytes) (before after : List Token) (k : Token) (parts : List Part) (p : Pass) → tokens f.tree ≡ before ++ k ∷ after
+pub goes_onto : (bytes : List ℕ) (f : IsWellFormed bytes) (before after : List Token) (k : Token) (parts : List ConditionalPart) (p : Pass) → tokens f.tree ≡ before ++ k ∷ after
     → IsLettered k → Knows before parts p → Onto before k p
 goes_onto bytes f before after k parts p spans lettered w =
     let further : tokens f.tree ≡ (before ++ k ∷ []) ++ after = spans ∙ sym (append_assoc before (k ∷ []) after) in
-    let r : (ms : List Part) × Leads [] (before ++ k ∷ []) ms = begins_leads (before ++ k ∷ []) (f.tree, after, f.writes.formed, further) in
-    let l : (ns : List Part) × Leads [] before ns × Leads ns (k ∷ []) r.0 = leads_front [] r.0 before (k ∷ []) r.1 in
+    let r : (ms : List ConditionalPart) × Leads [] (before ++ k ∷ []) ms = begins_leads (before ++ k ∷ []) (f.tree, after, f.writes.formed, further) in
+    let l : (ns : List ConditionalPart) × Leads [] before ns × Leads ns (k ∷ []) r.0 = leads_front [] r.0 before (k ∷ []) r.1 in
     let same : l.0 ≡ parts = leads_one [] l.0 parts before l.1 w.leads in
     let stands : allowed k parts ≡ Some l.2.0 = ap (λ x. allowed k x) (sym same) ∙ l.2.1 in
     let deep : levels 0 (tokens f.tree) ≤ most_open = omega (arith, level_tree f.tree 0 f.writes.formed, f.nests) in
@@ -83,8 +83,8 @@ goes_onto bytes f before after k parts p spans lettered w =
     }
 
 -- what a pass knows after some more tokens of the tree
-knows_further : (bytes : List ℕ) (f : IsWellFormed bytes) (done todo after : List Token) (left : List ℕ) (parts : List Part) (p : Pass) → tokens f.tree ≡ (done ++ todo) ++ after
-    → Written todo left → Knows done parts p → (onto : List Part) × Knows (done ++ todo) onto (passed_all p todo)
+knows_further : (bytes : List ℕ) (f : IsWellFormed bytes) (done todo after : List Token) (left : List ℕ) (parts : List ConditionalPart) (p : Pass) → tokens f.tree ≡ (done ++ todo) ++ after
+    → Written todo left → Knows done parts p → (onto : List ConditionalPart) × Knows (done ++ todo) onto (passed_all p todo)
 knows_further bytes f done [] after left parts p spans written w =
     let P : List Token → Type 0 = λ x. Knows x parts p in
     (parts, subst P (sym (append-nil done)) w)
@@ -93,7 +93,7 @@ knows_further bytes f done (k ∷ todo) after left parts p spans (s, tail, spell
     let o : Onto done k p = goes_onto bytes f done (todo ++ after) k parts p here (lettered_of k s spelled) w in
     let same : (done ++ k ∷ []) ++ todo ≡ done ++ k ∷ todo = append_assoc done (k ∷ []) todo in
     let there : tokens f.tree ≡ ((done ++ k ∷ []) ++ todo) ++ after = spans ∙ ap (λ x. x ++ after) (sym same) in
-    let r : (onto : List Part) × Knows ((done ++ k ∷ []) ++ todo) onto (passed_all (passed p k) todo) = knows_further bytes f (done ++ k ∷ []) todo after tail o.parts (passed p k) there written o.knows in
+    let r : (onto : List ConditionalPart) × Knows ((done ++ k ∷ []) ++ todo) onto (passed_all (passed p k) todo) = knows_further bytes f (done ++ k ∷ []) todo after tail o.parts (passed p k) there written o.knows in
     let P : List Token → Type 0 = λ x. Knows x r.0 (passed_all (passed p k) todo) in
     (r.0, subst P same r.1)
 
@@ -102,7 +102,7 @@ pub record Stands (spot : Spot) (p : Pass) : Type 0 where
   pub formed : IsWellFormed (whole spot)
   pub before : List Token
   pub after : List Token
-  pub parts : List Part
+  pub parts : List ConditionalPart
   pub spans : tokens formed.tree ≡ before ++ after
   pub taken : Written before spot.taken
   pub left : Written after spot.left
@@ -112,7 +112,7 @@ pub stands_at : (spot : Spot) (p : Pass) → IsAt spot p → Stands spot p
 stands_at spot p w =
     let spans : tokens w.formed.tree ≡ w.before ++ w.after =
     one_cutting (tokens w.formed.tree) (w.before ++ w.after) (whole spot) w.formed.writes.written (written-append w.before w.after spot.taken spot.left w.taken w.left) in
-    let k : (onto : List Part) × Knows w.before onto (passed_all first_pass w.before) = knows_further (whole spot) w.formed [] w.before w.after spot.taken [] first_pass spans w.taken knows_start in
+    let k : (onto : List ConditionalPart) × Knows w.before onto (passed_all first_pass w.before) = knows_further (whole spot) w.formed [] w.before w.after spot.taken [] first_pass spans w.taken knows_start in
     let P : Pass → Type 0 = λ x. Knows w.before k.0 x in
     record {
       formed = w.formed;

@@ -3,7 +3,7 @@ use Rattle.std.proofs.Common.{◌≡◌, ℕ, suc, ◌+◌, ◌⊎◌, inl, inr,
 use Rattle.std.specs.Prelude.{Some}
 use Rattle.ti_base.specs.Limits.{most_open}
 use Rattle.ti_cap.specs.declared.language.Token.{Token}
-use Rattle.ti_cap.specs.declared.scan.Part.{Part}
+use Rattle.ti_cap.specs.declared.scan.ConditionalPart.{ConditionalPart}
 use Rattle.ti_cap.specs.Path.{path_of}
 use Rattle.ti_cap.specs.declared.mode.Mode.{Mode}
 use Rattle.ti_cap.specs.declared.mode.Mode.TheVariants.{Run, ToElse, ToEnd}
@@ -17,7 +17,7 @@ use Rattle.ti_lint.proofs.HoldsLemmas.{Path, snoc, Holds, AreLow, holds_first}
 use Rattle.ti_lint.proofs.ReachedLemmas.{Paths, path-is, reaches_by}
 
 -- what a pass knows over some tokens, with some parts open
-pub record Knows (before : List Token) (parts : List Part) (p : Pass) : Type 0 where
+pub record Knows (before : List Token) (parts : List ConditionalPart) (p : Pass) : Type 0 where
   pub leads : Leads [] before parts
   pub count : length parts ≡ p.nesting
   pub alive : IsAlive parts before
@@ -41,17 +41,17 @@ knows_start = record {
     empty x r = sym (path-is [] Run x r) ∙ ap (λ w. path_of w []) r.passes.0
 
 -- where a token may stand, and what is known of the paths before it
-pub record Goes (before : List Token) (k : Token) (parts onto : List Part) (p : Pass) : Type 0 where
+pub record Goes (before : List Token) (k : Token) (parts onto : List ConditionalPart) (p : Pass) : Type 0 where
   pub old : Knows before parts p
   pub stands : allowed k parts ≡ Some onto
   pub low : AreLow (Paths before Run)
   pub lettered : IsLettered k
 
-pub leads_on : (before : List Token) (k : Token) (parts onto : List Part) (p : Pass) → Goes before k parts onto p → Leads [] (before ++ k ∷ []) onto
+pub leads_on : (before : List Token) (k : Token) (parts onto : List ConditionalPart) (p : Pass) → Goes before k parts onto p → Leads [] (before ++ k ∷ []) onto
 leads_on before k parts onto p w = leads-append [] parts onto before (k ∷ []) w.old.leads (onto, w.stands, refl)
 
 -- some path runs here
-pub runs : (before : List Token) (parts : List Part) (p : Pass) → Knows before parts p → (x : Path) × Paths before Run x
+pub runs : (before : List Token) (parts : List ConditionalPart) (p : Pass) → Knows before parts p → (x : Path) × Paths before Run x
 runs before parts p w = (path_of w.alive.runs.0 before, reaches_by before Run w.alive.runs.0 w.alive.runs.1)
 
 -- sets of paths that are one step apart

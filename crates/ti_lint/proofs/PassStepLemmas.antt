@@ -4,7 +4,7 @@ use Rattle.std.proofs.lemmas.List.{get_or-set_same, get_or-set_other, length-set
 use Rattle.ti_base.specs.Limits.{most_open}
 use Rattle.ti_cap.specs.declared.language.Token.{Token}
 use Rattle.ti_cap.specs.declared.language.Token.TheVariants.{CondOpen, CondThen, CondElse, CondClose}
-use Rattle.ti_cap.specs.declared.scan.Part.{Part}
+use Rattle.ti_cap.specs.declared.scan.ConditionalPart.{ConditionalPart}
 use Rattle.ti_cap.specs.Tree.{IsSimple}
 use Rattle.ti_cap.specs.declared.mode.Mode.TheVariants.{Run, ToElse, ToEnd}
 use Rattle.ti_cap.proofs.NestLemmas.{below, level_after, allowed_level}
@@ -21,12 +21,12 @@ use Rattle.ti_lint.proofs.ReachedLemmas.{Paths}
 use Rattle.ti_lint.proofs.PassLemmas.{Knows, Goes, leads_on, runs, after_step, swapped, regrouped, chain}
 
 -- a token that all walks here meet
-holds_met : (before : List Token) (k : Token) (parts onto : List Part) (p : Pass) → Goes before k parts onto p → Holds (after_token k p.here) (Moved snoc (Paths before Run) k)
+holds_met : (before : List Token) (k : Token) (parts onto : List ConditionalPart) (p : Pass) → Goes before k parts onto p → Holds (after_token k p.here) (Moved snoc (Paths before Run) k)
 holds_met before k parts onto p w =
     let r : (x : Path) × Paths before Run x = runs before parts p w.old in
     holds_token k p.here (Paths before Run) r.0 w.lettered r.1 w.low w.old.running
 
-simple_step : (before : List Token) (k : Token) (parts onto : List Part) (p : Pass) → IsSimple k → level_after (length parts) k ≡ length parts → Goes before k parts onto p
+simple_step : (before : List Token) (k : Token) (parts onto : List ConditionalPart) (p : Pass) → IsSimple k → level_after (length parts) k ≡ length parts → Goes before k parts onto p
     → Knows (before ++ k ∷ []) onto (record p { here = after_token k p.here })
 simple_step before k parts onto p simple level w = record {
   leads = leads_on before k parts onto p w;
@@ -70,7 +70,7 @@ still_close = ((λ h. omega arith), (λ e. absurd (cc)), (λ which e. absurd (cc
     not_first (inl e) = absurd (cc)
     not_first (inr e) = absurd (cc)
 
-open_step : (before : List Token) (parts onto : List Part) (p : Pass) → Goes before CondOpen parts onto p → p.nesting < most_open → Knows (before ++ CondOpen ∷ []) onto (passed p CondOpen)
+open_step : (before : List Token) (parts onto : List ConditionalPart) (p : Pass) → Goes before CondOpen parts onto p → p.nesting < most_open → Knows (before ++ CondOpen ∷ []) onto (passed p CondOpen)
 open_step before parts onto p w room = record {
   leads = leads_on before CondOpen parts onto p w;
   count = omega (arith, allowed_level CondOpen parts onto w.stands, w.old.count);
@@ -97,17 +97,17 @@ open_step before parts onto p w room = record {
         (holds_same _ (Paths before (ToEnd n)) _ (after_step before CondOpen (ToEnd (suc n))) (w.old.done j n (omega arith)))
 
 -- the innermost conditional is that of the last place
-innermost_failed : (before : List Token) (parts : List Part) (p : Pass) → Knows before parts p → 0 < p.nesting → Holds (innermost p).failed (Paths before (ToElse zero))
+innermost_failed : (before : List Token) (parts : List ConditionalPart) (p : Pass) → Knows before parts p → 0 < p.nesting → Holds (innermost p).failed (Paths before (ToElse zero))
 innermost_failed before parts p w some = w.failed (p.nesting - 1) zero (omega arith)
 
-innermost_done : (before : List Token) (parts : List Part) (p : Pass) → Knows before parts p → 0 < p.nesting → Holds (innermost p).done (Paths before (ToEnd zero))
+innermost_done : (before : List Token) (parts : List ConditionalPart) (p : Pass) → Knows before parts p → 0 < p.nesting → Holds (innermost p).done (Paths before (ToEnd zero))
 innermost_done before parts p w some = w.done (p.nesting - 1) zero (omega arith)
 
 -- there is room for what is open
-few_open : (before : List Token) (parts : List Part) (p : Pass) → Knows before parts p → length parts ≤ most_open → p.nesting ≤ length p.opens
+few_open : (before : List Token) (parts : List ConditionalPart) (p : Pass) → Knows before parts p → length parts ≤ most_open → p.nesting ≤ length p.opens
 few_open before parts p w few = omega (arith, w.count, w.room)
 
-then_step : (before : List Token) (parts onto : List Part) (p : Pass) → Goes before CondThen parts onto p → 0 < p.nesting → length parts ≤ most_open → Knows (before ++ CondThen ∷ []) onto (passed p CondThen)
+then_step : (before : List Token) (parts onto : List ConditionalPart) (p : Pass) → Goes before CondThen parts onto p → 0 < p.nesting → length parts ≤ most_open → Knows (before ++ CondThen ∷ []) onto (passed p CondThen)
 then_step before parts onto p w some few = record {
   leads = leads_on before CondThen parts onto p w;
   count = sym (allowed_level CondThen parts onto w.stands) ∙ w.old.count;
@@ -140,7 +140,7 @@ then_step before parts onto p w some few = record {
     done j (suc n) e = holds_along _ _ _ (ap (λ o. o.done) (at_other p.opens (p.nesting - 1) j written (λ i. omega arith)))
         (holds_same _ (Paths before (ToEnd (suc n))) _ (after_step before CondThen (ToEnd (suc n))) (w.old.done j (suc n) e))
 
-else_step : (before : List Token) (parts onto : List Part) (p : Pass) → Goes before CondElse parts onto p → 0 < p.nesting → length parts ≤ most_open → Knows (before ++ CondElse ∷ []) onto (passed p CondElse)
+else_step : (before : List Token) (parts onto : List ConditionalPart) (p : Pass) → Goes before CondElse parts onto p → 0 < p.nesting → length parts ≤ most_open → Knows (before ++ CondElse ∷ []) onto (passed p CondElse)
 else_step before parts onto p w some few = record {
   leads = leads_on before CondElse parts onto p w;
   count = sym (allowed_level CondElse parts onto w.stands) ∙ w.old.count;
@@ -171,7 +171,7 @@ else_step before parts onto p w some few = record {
     done j (suc n) e = holds_along _ _ _ (ap (λ o. o.done) (at_other p.opens (p.nesting - 1) j written (λ i. omega arith)))
         (holds_same _ (Paths before (ToEnd (suc n))) _ (after_step before CondElse (ToEnd (suc n))) (w.old.done j (suc n) e))
 
-close_step : (before : List Token) (parts onto : List Part) (p : Pass) → Goes before CondClose parts onto p → 0 < p.nesting → Knows (before ++ CondClose ∷ []) onto (passed p CondClose)
+close_step : (before : List Token) (parts onto : List ConditionalPart) (p : Pass) → Goes before CondClose parts onto p → 0 < p.nesting → Knows (before ++ CondClose ∷ []) onto (passed p CondClose)
 close_step before parts onto p w some = record {
   leads = leads_on before CondClose parts onto p w;
   count = omega (arith, allowed_level CondClose parts onto w.stands, less (length parts), w.old.count);
@@ -200,7 +200,7 @@ HasRoom CondClose nesting = 0 < nesting
 HasRoom token nesting = Unit {0}
 
 -- one token more
-pub knows_step : (before : List Token) (k : Token) (parts onto : List Part) (p : Pass) → Goes before k parts onto p → HasRoom k p.nesting → length parts ≤ most_open
+pub knows_step : (before : List Token) (k : Token) (parts onto : List ConditionalPart) (p : Pass) → Goes before k parts onto p → HasRoom k p.nesting → length parts ≤ most_open
     → Knows (before ++ k ∷ []) onto (passed p k)
 knows_step before CondOpen parts onto p w room few = open_step before parts onto p w room
 knows_step before CondThen parts onto p w room few = then_step before parts onto p w room few

@@ -6,7 +6,7 @@ use Rattle.ti_words.specs.Spelling.{Spells}
 use Rattle.ti_words.specs.Value.{EntryValue}
 use Rattle.ti_line.specs.declared.options.Comparison.{Comparison}
 use Rattle.ti_line.specs.declared.options.Likeness.{Likeness}
-use Rattle.ti_line.specs.declared.request.Difference.{Difference}
+use Rattle.ti_line.specs.declared.request.Pair.{Pair}
 use Rattle.ti_tool.specs.declared.fault.ToolFault.TheVariants as fault
 use Rattle.ti_tool.specs.FaultLines.{fault_line}
 use Rattle.ti_tool.specs.FileRuns.{Contents, Delivered, Held, IsUnread, NoMemory, Supply, Unread}
@@ -47,7 +47,7 @@ module _ (F : Type 0) (O : Type 0) (bytes line : O → List ℕ) (status : O →
   both_read (Err e) contents of_other compared = tt
 
 -- what they led to is written
-pub ran_difference : {F O : Type 0} (bytes line : O → List ℕ) (code : O → ℕ) (d : Difference) (held0 held1 told0 told1 : Held) (outcome : Result O F) (answer : Option ℕ) (status : ℕ)
+pub ran_difference : {F O : Type 0} (bytes line : O → List ℕ) (code : O → ℕ) (d : Pair) (held0 held1 told0 told1 : Held) (outcome : Result O F) (answer : Option ℕ) (status : ℕ)
     → IfOk outcome (λ o. (one : Supply) × (two : Supply) × IsComparison d.likeness d.form d.file.now d.other.now one two (bytes o) (line o) (code o))
     → MatchResult outcome (λ o. Delivered held0 held1 told0 told1 answer (bytes o) (line o) (code o)) (λ _. Delivered held0 held1 told0 told1 answer [] (fault_line fault.Memory) 6)
     → status ≡ unwrap_or answer 5 → RanDifference d held0 held1 told0 told1 status

@@ -16,7 +16,7 @@ use Rattle.ti_words.specs.Value.{EntryValue}
 use Rattle.ti_tool.specs.Near.{AreNearest, IsName, IsNameAmong, IsNameOf, IsNext, NoneIsNear, most_told}
 use Rattle.ti_tool.specs.inner.Near.{AreFarther, IsFarther, IsFartherIn, IsFartherOf, IsFound, IsFoundName, told_of}
 use Rattle.ti_tool.specs.declared.near.Nearest.{Nearest}
-use Rattle.ti_tool.specs.declared.near.Sought.{Sought}
+use Rattle.ti_tool.specs.declared.near.SoughtName.{SoughtName}
 
 -- ---- the names that are told
 
@@ -36,7 +36,7 @@ told_from_cases false (x ∷ xs) name none = (
 -- ---- the next name
 
 -- no name that is not told is nearer, if none of terminfo(5)'s is and none of the entry's own
-farther : (s : Sought) (least : ℕ) → ((kind : Kind) → IsFartherIn s least All kind) → ((kind : Kind) → IsFartherIn s least Long kind) → AreFarther s least (items s.entry.now)
+farther : (s : SoughtName) (least : ℕ) → ((kind : Kind) → IsFartherIn s least All kind) → ((kind : Kind) → IsFartherIn s least Long kind) → AreFarther s least (items s.entry.now)
     → (other : List ℕ) → IsName s.entry.now other → IsFarther s least other
 farther s least short long extended other (inl (kind, index, (within, inl is))) = short kind index other within is
 farther s least short long extended other (inl (kind, index, (within, inr is))) = long kind index other within is
@@ -47,11 +47,11 @@ of_kinds P flag number text kinds.Flag = flag
 of_kinds P flag number text kinds.Number = number
 of_kinds P flag number text kinds.Text = text
 
-farther_in : (s : Sought) (less more : ℕ) (table : NameTable) (kind : Kind) → less ≤ more → IsFartherIn s more table kind → IsFartherIn s less table kind
+farther_in : (s : SoughtName) (less more : ℕ) (table : NameTable) (kind : Kind) → less ≤ more → IsFartherIn s more table kind → IsFartherIn s less table kind
 farther_in s less more table kind below far index name within is new = omega (arith, below, far index name within is new)
 
 -- what is found among the names of each kind, one kind after the other
-pub farther_of : {E : Type 0} (s : Sought) (table : NameTable) (flags numbers : Nearest) (r : Result Nearest E) → IsFartherIn s flags.edits table kinds.Flag → numbers.edits ≤ flags.edits → IsFartherIn s numbers.edits table kinds.Number
+pub farther_of : {E : Type 0} (s : SoughtName) (table : NameTable) (flags numbers : Nearest) (r : Result Nearest E) → IsFartherIn s flags.edits table kinds.Flag → numbers.edits ≤ flags.edits → IsFartherIn s numbers.edits table kinds.Number
     → IfOk r (λ f. f.edits ≤ numbers.edits) → IfOk r (λ f. IsFartherIn s f.edits table kinds.Text) → IfOk r (λ f. (kind : Kind) → IsFartherIn s f.edits table kind)
 farther_of s table flags numbers (Ok f) of_flags less of_numbers least of_texts =
     of_kinds (λ kind. IsFartherIn s f.edits table kind) (farther_in s f.edits flags.edits table kinds.Flag (omega (arith, less, least)) of_flags) (farther_in s f.edits numbers.edits table kinds.Number least of_numbers) of_texts
@@ -62,7 +62,7 @@ farther_of s table flags numbers (Err e) of_flags less of_numbers least of_texts
 among_more : (name : List ℕ) (first : Listed) (rest : List Listed) → IsNameAmong rest name → IsNameAmong (first ∷ rest) name
 among_more name first rest (k, one, within, at, is) = (suc k, one, omega (arith, within), at, is)
 
-farther_more : (s : Sought) (best near : ℕ) (first : Listed) (rest : List Listed) → best ≤ near → IsFartherOf s near first.0 → AreFarther s best rest → AreFarther s best (first ∷ rest)
+farther_more : (s : SoughtName) (best near : ℕ) (first : Listed) (rest : List Listed) → best ≤ near → IsFartherOf s near first.0 → AreFarther s best rest → AreFarther s best (first ∷ rest)
 farther_more s best near first rest below far others name (zero, one, within, at, is) new = omega (arith, below, far name (subst (λ x. IsNameOf x.0 name) (sym at) is) new)
 farther_more s best near first rest below far others name (suc k, one, within, at, is) new = others name (k, one, omega (arith, within), at, is) new
 
@@ -70,33 +70,33 @@ farther_more s best near first rest below far others name (suc k, one, within, a
 pub named_as : (kind : Kind) (bytes name : List ℕ) → (name ≡ bytes) × IsUtf8 bytes → IsNameOf (ExtendedSubject kind bytes) name
 named_as kind bytes name (is, text) = (sym is, subst IsUtf8 (sym is) text)
 
-pub farther_as : {E : Type 0} (s : Sought) (kind : Kind) (bytes name : List ℕ) (r : Result Nearest E) → name ≡ bytes → IfOk r (λ f. IsFarther s f.edits name)
+pub farther_as : {E : Type 0} (s : SoughtName) (kind : Kind) (bytes name : List ℕ) (r : Result Nearest E) → name ≡ bytes → IfOk r (λ f. IsFarther s f.edits name)
     → IfOk r (λ f. IsFartherOf s f.edits (ExtendedSubject kind bytes))
 farther_as s kind bytes name (Ok f) is far = λ other (same, text). subst (λ x. IsFarther s f.edits x) (is ∙ same) far
 farther_as s kind bytes name (Err e) is far = tt
 
 -- no name of a capability that is not left is nearer
-pub record Searched (s : Sought) (best : ℕ) (left : List Listed) : Type 0 where
+pub record Searched (s : SoughtName) (best : ℕ) (left : List Listed) : Type 0 where
   pub named : (name : List ℕ) → IsNameAmong left name → IsName s.entry.now name
   pub farther : (least : ℕ) → least ≤ best → AreFarther s least left → AreFarther s least (items s.entry.now)
 
-pub searched_start : (s : Sought) (best : ℕ) → Searched s best (items s.entry.now)
+pub searched_start : (s : SoughtName) (best : ℕ) → Searched s best (items s.entry.now)
 searched_start s best = record { named = λ name h. inr h; farther = λ least below h. h }
 
-pub searched_named : (s : Sought) (best : ℕ) (old new : List Listed) (one : Listed) (name : List ℕ) → old ≡ one ∷ new → Searched s best old → IsNameOf one.0 name → IsName s.entry.now name
+pub searched_named : (s : SoughtName) (best : ℕ) (old new : List Listed) (one : Listed) (name : List ℕ) → old ≡ one ∷ new → Searched s best old → IsNameOf one.0 name → IsName s.entry.now name
 searched_named s best old new one name is h of = h.named name (subst (λ l. IsNameAmong l name) (sym is) (0, one, omega arith, refl, of))
 
-pub searched_next : (s : Sought) (best near : ℕ) (old new : List Listed) (one : Listed) → old ≡ one ∷ new → near ≤ best → IsFartherOf s near one.0 → Searched s best old → Searched s near new
+pub searched_next : (s : SoughtName) (best near : ℕ) (old new : List Listed) (one : Listed) → old ≡ one ∷ new → near ≤ best → IsFartherOf s near one.0 → Searched s best old → Searched s near new
 searched_next s best near old new one is below far h = record {
   named = λ name among. h.named name (subst (λ l. IsNameAmong l name) (sym is) (among_more name one new among));
   farther = λ least low others. h.farther least (omega (arith, low, below)) (subst (λ l. AreFarther s least l) (sym is) (farther_more s least near one new low far others));
 }
 
-pub searched_end : (s : Sought) (best : ℕ) (left : List Listed) → left ≡ [] → Searched s best left → AreFarther s best (items s.entry.now)
+pub searched_end : (s : SoughtName) (best : ℕ) (left : List Listed) → left ≡ [] → Searched s best left → AreFarther s best (items s.entry.now)
 searched_end s best left is h = h.farther best (omega arith) (subst (λ l. AreFarther s best l) (sym is) (λ name (k, one, within, at, of). absurd (omega (arith, within))))
 
 -- what is found among all names is told next
-next_of : (s : Sought) (least : ℕ) (found : Option (Bor (List ℕ))) → IsFoundName s least found
+next_of : (s : SoughtName) (least : ℕ) (found : Option (Bor (List ℕ))) → IsFoundName s least found
     → ((other : List ℕ) → IsName s.entry.now other → IsFarther s least other)
     → IfSome found (λ name. IsNext s.entry.now s.word.now (told_of s) name.now) × IfNone found (NoneIsNear s.entry.now s.word.now (told_of s))
 next_of s least (Some name) found all = (
@@ -110,7 +110,7 @@ next_of s least (Some name) found all = (
 )
 next_of s least None found all = (tt, λ other named new. omega (arith, found, all other named new))
 
-pub found_next : (s : Sought) (short standard f : Nearest) → IsFound s f → standard.edits ≤ short.edits → f.edits ≤ standard.edits
+pub found_next : (s : SoughtName) (short standard f : Nearest) → IsFound s f → standard.edits ≤ short.edits → f.edits ≤ standard.edits
     → ((kind : Kind) → IsFartherIn s short.edits All kind) → ((kind : Kind) → IsFartherIn s standard.edits Long kind) → AreFarther s f.edits (items s.entry.now)
     → IfSome f.name (λ name. IsNext s.entry.now s.word.now (told_of s) name.now) × IfNone f.name (NoneIsNear s.entry.now s.word.now (told_of s))
 found_next s short standard f found below least of_short of_long extended =

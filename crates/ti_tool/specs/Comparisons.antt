@@ -7,7 +7,7 @@ use Rattle.ti_words.specs.Value.{EntryValue}
 use Rattle.ti_line.specs.declared.options.Comparison.{Comparison}
 use Rattle.ti_line.specs.declared.options.Comparison.TheVariants as forms
 use Rattle.ti_line.specs.declared.options.Likeness.{Likeness}
-use Rattle.ti_line.specs.declared.request.Difference.{Difference}
+use Rattle.ti_line.specs.declared.request.Pair.{Pair}
 use Rattle.ti_tool.specs.declared.fault.ToolFault.TheVariants as fault
 use Rattle.ti_listing.specs.Differences.{AreDifferences, DifferenceValue}
 use Rattle.ti_listing.specs.DifferingLines.{differing_lines}
@@ -55,7 +55,7 @@ IsComparison by form file other Unread two out line status = IsUnread file out l
 IsComparison by form file other _ _ out line status = IsRefusedMemory out line status
 
 -- what that led to is written, or a first part of it
-abbrev pub RanDifference : Difference → Held → Held → Held → Held → ℕ → Type 0
+abbrev pub RanDifference : Pair → Held → Held → Held → Held → ℕ → Type 0
 RanDifference d held0 held1 told0 told1 status =
     (one : Supply) × (two : Supply) × (out : List ℕ) × (line : List ℕ) × (code : ℕ)
     × (answer : Option ℕ) × IsComparison d.likeness d.form d.file.now d.other.now one two out line code

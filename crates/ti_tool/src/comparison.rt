@@ -18,8 +18,8 @@ use crate::store::Store;
 use std::alloc::{AllocError, Allocator};
 use std::io::{Read, Write};
 use ti_entry::{Entry, Refused, read};
-use ti_line::{Comparison, Difference, Likeness};
-use ti_listing::{difference_of, differing_json, differing_lines};
+use ti_line::{Comparison, Likeness, Pair};
+use ti_listing::{Difference, difference_of, differing_json, differing_lines};
 
 /// What contents lead to that are no entry.
 fn refusal_outcome<A: Allocator + Copy>(
@@ -41,7 +41,7 @@ fn refusal_outcome<A: Allocator + Copy>(
 fn comparison_text<A: Allocator + Copy>(
     alloc: A,
     form: Comparison,
-    differences: &[ti_listing::Difference<'_>],
+    differences: &[Difference<'_>],
 ) -> Result<Vec<u8, A>, AllocError>
     ensures { IfOk result (λ v. v.items
         ≡ the_comparison_text form (map difference_value differences.now)) }
@@ -77,7 +77,7 @@ fn difference_outcome<'a, A: Allocator + Copy>(
 /// What the contents of two files lead to.
 fn outcome_of_both<A: Allocator + Copy>(
     alloc: A,
-    pair: &Difference<'_>,
+    pair: &Pair<'_>,
     contents: &[u8],
     of_other: &[u8],
 ) -> Result<Outcome<A>, AllocError>
@@ -100,7 +100,7 @@ fn outcome_of_both<A: Allocator + Copy>(
 fn outcome_of_pair<S: Store, A: Allocator + Copy, R: Read>(
     store: &S,
     alloc: A,
-    pair: &Difference<'_>,
+    pair: &Pair<'_>,
     input: &mut R,
 ) -> Result<Outcome<A>, AllocError>
     ensures ends { IfOk result (λ o. EndsFile o.status o.line.items) }
@@ -123,7 +123,7 @@ fn outcome_of_pair<S: Store, A: Allocator + Copy, R: Read>(
 pub fn run_pair<S: Store, A: Allocator + Copy, R: Read, W: Write, E: Write>(
     store: &S,
     alloc: A,
-    pair: &Difference<'_>,
+    pair: &Pair<'_>,
     input: &mut R,
     output: &mut W,
     errors: &mut E,

@@ -33,7 +33,7 @@ pub type NearNames<'a> = ArrayVec<&'a str, MOST_TOLD>;
 
 /// A word, and the names of an entry that are told in its place so far.
 #[derive(Clone, Copy)]
-pub struct Sought<'w, 'n> {
+pub struct SoughtName<'w, 'n> {
     word: &'w str,
     characters: usize,
     entry: &'w Entry<'n>,
@@ -62,7 +62,7 @@ fn characters_of(text: &str) -> usize
 }
 
 /// Whether the lengths alone leave a name near.
-fn may_be_near(sought: &Sought<'_, '_>, name: &str) -> bool
+fn may_be_near(sought: &SoughtName<'_, '_>, name: &str) -> bool
     requires { IsSought sought.now }
     ensures { result ≡ false → most_edits sought.now.word.now < edits sought.now.word.now name.now }
 {
@@ -73,7 +73,7 @@ fn may_be_near(sought: &Sought<'_, '_>, name: &str) -> bool
 /// The nearer of what was found and a name.
 fn nearer<'n, A: Allocator + Copy>(
     alloc: A,
-    sought: &Sought<'_, 'n>,
+    sought: &SoughtName<'_, 'n>,
     found: Nearest<'n>,
     name: &'n str,
 ) -> Result<Nearest<'n>, AllocError>
@@ -108,7 +108,7 @@ fn standard_text<'n>(table: NameTable, kind: Kind, index: usize) -> Option<&'n s
 /// What is found among the names of a kind in a table.
 fn nearest_in<'n, A: Allocator + Copy>(
     alloc: A,
-    sought: &Sought<'_, 'n>,
+    sought: &SoughtName<'_, 'n>,
     found: Nearest<'n>,
     table: NameTable,
     kind: Kind,
@@ -132,7 +132,7 @@ fn nearest_in<'n, A: Allocator + Copy>(
 /// What is found among all names of a table.
 fn nearest_of<'n, A: Allocator + Copy>(
     alloc: A,
-    sought: &Sought<'_, 'n>,
+    sought: &SoughtName<'_, 'n>,
     found: Nearest<'n>,
     table: NameTable,
 ) -> Result<Nearest<'n>, AllocError>
@@ -151,7 +151,7 @@ fn nearest_of<'n, A: Allocator + Copy>(
 /// The nearer of what was found and the name of a capability, if the entry names it: in UTF-8, as a word is.
 fn nearer_extended<'n, A: Allocator + Copy>(
     alloc: A,
-    sought: &Sought<'_, 'n>,
+    sought: &SoughtName<'_, 'n>,
     found: Nearest<'n>,
     subject: Subject<'n>,
 ) -> Result<Nearest<'n>, AllocError>
@@ -174,7 +174,7 @@ fn nearer_extended<'n, A: Allocator + Copy>(
 /// What is found among the names of an entry's extended capabilities.
 fn nearest_extended<'n, A: Allocator + Copy>(
     alloc: A,
-    sought: &Sought<'_, 'n>,
+    sought: &SoughtName<'_, 'n>,
     found: Nearest<'n>,
 ) -> Result<Nearest<'n>, AllocError>
     requires sought { IsSought sought.now }
@@ -194,7 +194,7 @@ fn nearest_extended<'n, A: Allocator + Copy>(
 /// The name that is nearest to a word of those that are not told, the first of several, or none if none is near.
 fn next_name<'n, A: Allocator + Copy>(
     alloc: A,
-    sought: &Sought<'_, 'n>,
+    sought: &SoughtName<'_, 'n>,
 ) -> Result<Option<&'n str>, AllocError>
     requires { IsSought sought.now }
     ensures next { IfOk result (λ next. IfSome next (λ name.
@@ -224,7 +224,7 @@ pub fn nearest_names<'n, A: Allocator + Copy>(
     let characters = characters_of(word);
     let mut told = ArrayVec::new();
     for _ in 0..MOST_TOLD {
-        let sought = Sought {
+        let sought = SoughtName {
             word,
             characters,
             entry,

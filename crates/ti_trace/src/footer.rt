@@ -12,7 +12,7 @@ use ti_expand::Steps;
 
 /// The totals.
 #[derive(Clone, Copy)]
-pub struct Facts<'r> {
+pub struct PassTotals<'r> {
     pub output: &'r [u8],
     pub ran: usize,
     pub passed: usize,
@@ -22,11 +22,11 @@ pub struct Facts<'r> {
 }
 
 /// The totals of a pass so far.
-pub fn facts_of<'r>(steps: &'r Steps<'_, '_, '_>, depth: usize, bound: u64) -> Facts<'r>
+pub fn facts_of<'r>(steps: &'r Steps<'_, '_, '_>, depth: usize, bound: u64) -> PassTotals<'r>
     ensures { facts_totals result ≡ totals_so_far steps.now depth bound }
 {
     let run = steps.run();
-    Facts {
+    PassTotals {
         output: steps.output(),
         ran: run.ran,
         passed: run.passed,
@@ -51,7 +51,7 @@ fn push_fact<A: Allocator>(out: &mut Vec<u8, A>, label: &str, number: u64) -> Re
 pub fn push_footer<A: Allocator>(
     out: &mut Vec<u8, A>,
     form: Form,
-    facts: &Facts<'_>,
+    facts: &PassTotals<'_>,
 ) -> Result<(), AllocError>
     ensures { OnOk result (out.new.items ≡ out.old.items ++ footer form (facts_totals facts.now)) }
 {

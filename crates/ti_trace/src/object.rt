@@ -7,7 +7,7 @@ ghost use Rattle.ti_trace.specs.Lines.{outcome_word as the_outcome_word};
 ghost use Rattle.ti_trace.specs.Objects.{token_object, totals_object, value_data};
 ghost use Rattle.ti_trace.specs.inner.Rows.{facts_totals, row_token};
 
-use crate::footer::Facts;
+use crate::footer::PassTotals;
 use crate::items::MOST_SHOWN;
 use crate::row::Row;
 use std::alloc::Allocator;
@@ -72,7 +72,7 @@ pub fn print_token<A: Allocator>(printer: &mut Printer<A>, row: &Row<'_, '_>)
 }
 
 /// Prints the object with the totals.
-pub fn print_totals<A: Allocator>(printer: &mut Printer<A>, facts: &Facts<'_>)
+pub fn print_totals<A: Allocator>(printer: &mut Printer<A>, facts: &PassTotals<'_>)
     ensures { Prints printer.old printer.new (data_tokens (totals_object (facts_totals facts.now))) }
 {
     printer.begin_object();

@@ -7,13 +7,13 @@ use Rattle.ti_cap.specs.declared.language.CapFault.{CapFault}
 use Rattle.ti_cap.specs.declared.language.CapFault.TheVariants.{StrayThen, StrayElse, StrayEnd, NoThen, NestTooDeep, StackTooDeep}
 use Rattle.ti_cap.specs.Sizes.{token_size}
 use Rattle.ti_cap.specs.Height.{next_height}
-use Rattle.ti_cap.specs.declared.scan.Part.{Part}
-use Rattle.ti_cap.specs.declared.scan.Part.TheVariants.{FirstTest, Body, Otherwise}
+use Rattle.ti_cap.specs.declared.scan.ConditionalPart.{ConditionalPart}
+use Rattle.ti_cap.specs.declared.scan.ConditionalPart.TheVariants.{FirstTest, Body, Otherwise}
 
 -- what waits in an open conditional: the greatest value with which its last test failed, if a body is being passed
 -- through, and the greatest with which one of its bodies ended, if any did; otherwise 0
 pub record Frame : Type 0 where
-  pub part : Part
+  pub part : ConditionalPart
   pub failed : ℕ
   pub done : ℕ
 
@@ -23,7 +23,7 @@ pub record Progress : Type 0 where
   pub frames : List Frame
 
 -- where a place lies in them
-abbrev pub parts_of : List Frame → List Part
+abbrev pub parts_of : List Frame → List ConditionalPart
 parts_of frames = map (λ f. f.part) frames
 
 -- ---- one token more; `after` is what it makes of the value that runs
@@ -56,7 +56,7 @@ abbrev pub greatest_of : List Frame → ℕ → ℕ
 greatest_of frames y = fold (λ z f. max f.done (max f.failed z)) y frames
 
 -- whether some open conditional is in its first test
-abbrev pub is_first : Part → Bool
+abbrev pub is_first : ConditionalPart → Bool
 is_first FirstTest = true
 is_first _ = false
 
@@ -65,23 +65,23 @@ are_in_test frames = fold (λ found f. found || is_first f.part) false frames
 
 -- ---- faults of a token by its place
 
-abbrev pub then_fault : List Part → Option CapFault
+abbrev pub then_fault : List ConditionalPart → Option CapFault
 then_fault (FirstTest ∷ parts) = None
 then_fault (Otherwise ∷ parts) = None
 then_fault _ = Some StrayThen
 
-abbrev pub else_fault : List Part → Option CapFault
+abbrev pub else_fault : List ConditionalPart → Option CapFault
 else_fault (Body ∷ parts) = None
 else_fault (FirstTest ∷ parts) = Some NoThen
 else_fault _ = Some StrayElse
 
-abbrev pub close_fault : List Part → Option CapFault
+abbrev pub close_fault : List ConditionalPart → Option CapFault
 close_fault [] = Some StrayEnd
 close_fault (FirstTest ∷ parts) = Some NoThen
 close_fault _ = None
 
 -- the fault of a token that may not stand in these parts
-abbrev pub place_fault : Token → List Part → Option CapFault
+abbrev pub place_fault : Token → List ConditionalPart → Option CapFault
 place_fault CondOpen parts = if nat_lt (length parts) most_open then None else Some NestTooDeep
 place_fault CondThen parts = then_fault parts
 place_fault CondElse parts = else_fault parts

@@ -6,7 +6,7 @@ use Rattle.ti_cap.specs.declared.language.Token.TheVariants.{Param, CondOpen, Co
 use Rattle.ti_cap.specs.declared.language.Conversion.{Conversion}
 use Rattle.ti_cap.specs.declared.parameter_set.ParameterSet.{ParameterSet}
 use Rattle.ti_cap.specs.declared.origins.Origins.{Origins}
-use Rattle.ti_cap.specs.declared.gathering.Open.{Open}
+use Rattle.ti_cap.specs.declared.gathering.OpenOrigins.{OpenOrigins}
 use Rattle.ti_cap.specs.declared.gathering.Parameters.{Parameters}
 use Rattle.ti_cap.specs.declared.gathering.Gathering.{Gathering}
 use Rattle.ti_cap.specs.Height.{pops, pushes}
@@ -61,7 +61,7 @@ after_token token o = after_pushes (pushes token) (named_by token) (after_pops (
 
 -- ---- what is gathered
 
-abbrev pub fresh : Open
+abbrev pub fresh : OpenOrigins
 fresh = record { failed = no_origins; done = no_origins }
 
 abbrev pub no_gathering : Gathering
@@ -73,7 +73,7 @@ no_gathering = record {
 }
 
 -- the innermost open conditional
-abbrev pub innermost : Gathering → Open
+abbrev pub innermost : Gathering → OpenOrigins
 innermost g = get_or g.opens (g.nesting - 1) fresh
 
 abbrev pub after_open : Gathering → Gathering

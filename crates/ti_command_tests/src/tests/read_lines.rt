@@ -29,7 +29,7 @@ ti trace --json --of=cup --color always => Entry(Trace(TraceOf { name: "cup", gi
 ti trace --color=always => Capability(Trace(Lines(Hex, Always))) [Num(0), Num(0)]
 ti lint --all => Entry(Lint(All, Never)) [Num(0), Num(0)]
 ti lint --json => Entry(Json(Findings(Mistakes))) [Num(0), Num(0)]
-ti diff a b --json --expand => Difference(Difference { file: "a", other: "b", likeness: Tokens, form: Json }) [Num(0), Num(0)]
+ti diff a b --json --expand => Difference(Pair { file: "a", other: "b", likeness: Tokens, form: Json }) [Num(0), Num(0)]
 ti show => Entry(Show(ListOptions { naming: Naming { table: Common, form: Raw }, form: Hex })) [Num(0), Num(0)]
 ti show --escape => Entry(Show(ListOptions { naming: Naming { table: Common, form: Notation }, form: Notation })) [Num(0), Num(0)]
 ti show --all-names => Entry(Show(ListOptions { naming: Naming { table: All, form: Raw }, form: Hex })) [Num(0), Num(0)]

@@ -3,7 +3,7 @@ use Rattle.std.specs.Prelude.{ℕ, ◌-◌, List, drop, length, reverse, take}
 use Rattle.ti_expand.specs.declared.step.Outcome.{Outcome}
 use Rattle.ti_expand.specs.Steps.{Underway}
 use Rattle.ti_trace.specs.declared.row.Row.{Row}
-use Rattle.ti_trace.specs.declared.footer.Facts.{Facts}
+use Rattle.ti_trace.specs.declared.footer.PassTotals.{PassTotals}
 use Rattle.ti_trace.specs.Told.{Totals, TracedToken}
 
 -- the token that a row is about
@@ -17,6 +17,6 @@ token_taken bytes u outcome place written =
     record { place = place; spelling = take (length u.spot.taken - place) (drop place bytes); outcome = outcome; stack = reverse u.state.stack; wrote = drop written u.state.output }
 
 -- the totals that facts tell
-abbrev pub facts_totals : Facts → Totals
+abbrev pub facts_totals : PassTotals → Totals
 facts_totals facts =
     record { output = facts.output.now; ran = facts.ran; passed = facts.passed; height = facts.height; depth = facts.depth; bound = facts.bound }
