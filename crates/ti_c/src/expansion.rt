@@ -101,7 +101,7 @@ fn expand_if_plain(
     if has_text(parameters) {
         return None;
     }
-    expand_plain(&plain, variables, out)
+    expand_plain(&plain, out)
 }
 
 /// The number of a fault, with its place.

@@ -211,6 +211,7 @@ impl<'a> Capability<'a> {
     /// A tape at the first token.
     pub fn tape(&self) -> Tape<'a>
         ensures start { result ≡ record { taken = []; left = self.now } }
+        ensures tree { IsWellFormed self.now }
     {
         Tape::fresh(self.bytes, self.limits)
     }
@@ -219,6 +220,7 @@ impl<'a> Capability<'a> {
     #[inline(always)]
     pub fn bound(&self, longest: u16) -> u64
         ensures exact { HasBound self.now longest result }
+        ensures tree { IsWellFormed self.now }
     {
         bound_of(self.bytes, &self.limits, longest)
     }

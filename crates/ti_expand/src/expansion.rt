@@ -130,8 +130,6 @@ pub fn expand<'a, A: Allocator + Copy>(
     let longest = longest_text(parameters)?;
     let bound = capability.bound(longest) as usize;
     let mut out = Vec::from_elem(alloc, 0, bound)?;
-    // No capability is deeper than its own stack may be.
-    let _depth = capability.depth();
     let run = run_capability(capability, parameters, vars, out.as_mut_slice());
     out.truncate(run.written);
     Ok(out)

@@ -67,8 +67,6 @@ pub(crate) fn run_tape<'a>(
     let Some(written) = tape.copy_plain(out) else {
         return run_tokens(tape, parameters, vars, stack, out);
     };
-    // Each variable fits 32 bits, on which the bound rests.
-    let _numbers = vars.numbers();
     Run {
         written,
         ran: written,
@@ -92,8 +90,6 @@ fn run_tokens<'a>(
         (take result.written out.new) result }
     ensures rest { drop result.written out.new ≡ drop result.written out.old }
 {
-    // Each variable fits 32 bits, on which the bound rests.
-    let _numbers = vars.numbers();
     let tokens = tape.token_count();
     let mut machine = Machine::new(parameters, vars, stack, out);
     let mut passed = 0;

@@ -80,8 +80,6 @@ impl<'r, 'p, 'a> Steps<'r, 'p, 'a> {
     {
         let tape = capability.tape();
         check(&tape, parameters, stack.len(), out.len())?;
-        // Each variable fits 32 bits, on which the bound rests.
-        let _numbers = vars.numbers();
         let machine = Machine::new(parameters, vars, stack, out);
         Ok(Steps {
             tape,

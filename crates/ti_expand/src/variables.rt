@@ -52,7 +52,8 @@ impl Vars {
     /// Others with the same numbers.
     #[inline(always)]
     pub(crate) fn copy(&self) -> Vars
-        ensures { result ≡ self.now }
+        ensures same { result ≡ self.now }
+        ensures numbers { AreVariables self.now }
     {
         Vars {
             values: self.values,
@@ -61,8 +62,7 @@ impl Vars {
 
     /// All numbers, each of which fits 32 bits.
     pub(crate) fn numbers(&self) -> &[i32]
-        ensures all { result.now ≡ self.now }
-        ensures numbers { AreVariables self.now }
+        ensures { AreVariables self.now }
     {
         &self.values
     }

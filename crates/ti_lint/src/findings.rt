@@ -1,7 +1,7 @@
 //! The findings of a capability, token by token.
 
-ghost use Rattle.std.specs.Prelude.{◌≡◌, ◌↔◌, [], Some, length, IfSome, IfNone, IfOk};
-ghost use Rattle.ti_cap.specs.Capability.{Takes, IsFirst};
+ghost use Rattle.std.specs.Prelude.{◌≡◌, ◌↔◌, [], Some, length, IfSome, IfNone, IfOk, OnOk};
+ghost use Rattle.ti_cap.specs.Capability.{Takes, IsFirst, IsWellFormed};
 ghost use Rattle.ti_lint.specs.Findings.{IsFoundBefore, IsFoundAfter, IsFoundWithin};
 
 use crate::backward::outlooks;
@@ -82,14 +82,14 @@ impl<'a, A: Allocator> Findings<'a, A> {
         ensures start { IfOk result
             (λ findings. findings.spot ≡ record { taken = []; left = capability.now }) }
         ensures expected { IfOk result (λ findings. findings.expected ≡ expected) }
+        ensures tree { OnOk result (IsWellFormed capability.now) }
     {
-        // A tree writes it, on which what the pass knows rests.
-        let _depth = capability.depth();
+        let tape = capability.tape();
         let named = capability.parameters().named;
         let tokens = tokens_of(alloc, capability)?;
         let outlooks = outlooks(alloc, tokens.as_slice())?;
         Ok(Findings {
-            tape: capability.tape(),
+            tape,
             pass: Pass::new(),
             outlooks,
             tokens,

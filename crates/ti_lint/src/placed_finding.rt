@@ -31,8 +31,6 @@ pub fn findings_of<A: Allocator + Copy>(
         → Contains list.items one ↔ IsFoundAt capability.now expected one) }
     ensures order { IfOk result (λ list. AllPairs Precedes list.items) }
 {
-    // A tree writes it.
-    let _depth = capability.depth();
     let mut findings = Findings::new(alloc, capability, expected)?;
     let mut list = Vec::new(alloc);
     let mut place = 0;

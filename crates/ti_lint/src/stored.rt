@@ -10,8 +10,6 @@ use ti_cap::{Capability, Token};
 pub fn stored_by(capability: &Capability<'_>) -> Variables
     ensures exact { (which : ℕ) → HasVariable result which ↔ IsStored capability.now which }
 {
-    // A tree writes it.
-    let _depth = capability.depth();
     let mut tape = capability.tape();
     let mut stored = Variables::NONE;
     while let Some(token) = tape.token() {

@@ -61,8 +61,6 @@ pub fn push_tests<'a, A: Allocator + Copy>(
     ensures { OnOk result (Adds (IsTestsReport subject.now.name.now subject.now.text.now)
         out.old.items out.new.items) }
 {
-    // A tree writes it, which has no more tokens than bytes.
-    let _depth = capability.depth();
     let mut tape = capability.tape();
     let mut before = Vec::new(alloc);
     let mut place = 0;

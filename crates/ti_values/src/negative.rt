@@ -73,8 +73,6 @@ fn prints_negative<A: Allocator + Copy>(
         IsTrue negative ↔ PrintsNegative capability.now (parameters_of value)) }
 {
     let parameters = value.parameters();
-    // No capability needs more places than the stack has.
-    let _depth = capability.depth();
     let bound = capability.bound(0);
     let mut vars = Vars::new();
     let mut stack = [Value::Num(0); MOST_VALUES];

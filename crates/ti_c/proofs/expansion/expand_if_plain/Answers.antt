@@ -17,4 +17,4 @@ returns-clause-expansion c =
     if_some _ _ c.expand_plain.result (λ run over.
     let values = values_given c.args.parameters.now in
     let P : List ℕ → Type 0 = λ bytes. IsExpansion bytes values c.args.variables.now c.args.variables.now (take run.written c.expand_plain.new.out) run in
-    subst P c.in_ok-plain.ensures.value (over values c.if-has_text.ensures)) c.expand_plain.ensures.expansion
+    subst P c.in_ok-plain.ensures.value (over c.args.variables.now values)) c.expand_plain.ensures.expansion

@@ -3,6 +3,7 @@ use Rattle.std.proofs.lemmas.Result.{err_from_is_err_and}
 use Rattle.ti_cap.specs.Capability.{HasDepth, HasBound, IsWellFormed}
 use Rattle.ti_expand.specs.declared.fault.ExpandFault.TheVariants.{StackTooSmall, OutTooSmall}
 use Rattle.ti_expand.specs.Expands.{longest_text, HasStack}
+use Rattle.ti_expand.proofs.CanRunLemmas.{heights_low}
 use Rattle.ti_expand.proofs.IsExpandFaultLemmas.{too_long, refused, accepted}
 use Rattle.ti_expand.proofs.expansion.check.Goals as goal
 
@@ -33,7 +34,7 @@ returns-clause-ready c =
     let deep : HasDepth c.args.tape.now.left c.depth-need.result = rw c.requires at c.depth-need.ensures.exact in
     let formed : IsWellFormed c.args.tape.now.left = rw c.requires at c.depth-need.ensures.tree in
     let bounded : HasBound c.args.tape.now.left c.in_ok-longest.longest c.bound-need.result = rw c.requires at c.bound-need.ensures.exact in
-    record { longest = c.in_ok-longest.longest; texts = c.in_ok-longest.ensures.short; well_formed = formed; depth = c.depth-need.result; deep = deep; high = c.if-places-need.false; bound = c.bound-need.result; bounded = bounded; long = c.if-room-need.false }
+    record { longest = c.in_ok-longest.longest; texts = c.in_ok-longest.ensures.short; well_formed = formed; heights = heights_low c.args.tape.now.left formed c.depth-need.result c.args.places deep c.if-places-need.false; bound = c.bound-need.result; bounded = bounded; long = c.if-room-need.false }
 
 pub returns-clause-faults : goal.returns-clause-faults
 returns-clause-faults c = accepted c.args.tape.now.left c.args.parameters.now c.args.places c.args.room _ (returns-clause-ready c)

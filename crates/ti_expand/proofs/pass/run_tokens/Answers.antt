@@ -20,7 +20,7 @@ loop-token-init c =
     let a = c.args in
     let initial : State = start a.vars.now a.parameters.now in
     let first : IsUnderway a.tape.left initial (length a.stack.now) (length a.out.now) a.tape.left Run initial 0 0 0 =
-    underway_start a.tape.left initial (length a.stack.now) (length a.out.now) refl (can_run a.tape.left a.vars.now a.parameters.now (length a.stack.now) (length a.out.now) c.requires.ready c.numbers-numbers.ensures.numbers) in
+    underway_start a.tape.left initial (length a.stack.now) (length a.out.now) refl (can_run a.tape.left a.vars.now a.parameters.now (length a.stack.now) (length a.out.now) c.requires.ready c.new-machine.ensures.numbers) in
     let m = c.new-machine.ensures in
     record {
       here = record { ran = 0; underway = rw (m.state, m.highest) first };
@@ -89,7 +89,7 @@ returns-clause-expansion c =
     let vars = c.loop-token.invariant.place.vars ∙ c.new-machine.ensures.vars in
     let out = c.loop-token.invariant.place.out ∙ c.new-machine.ensures.out in
     given_back _ _ _ _ _ _ _ _ _ (grind (arith, vars)) (grind (arith, out))
-    (is_expansion a.tape.left a.vars.now a.parameters.now (length a.stack.now) (length a.out.now) (held m).state _ c.requires.ready c.numbers-numbers.ensures.numbers
+    (is_expansion a.tape.left a.vars.now a.parameters.now (length a.stack.now) (length a.out.now) (held m).state _ c.requires.ready c.new-machine.ensures.numbers
     (omega (arith, length-take m.written m.out.now, m.within))
     (λ tree w. rw c.highest.ensures (counted _ _ _ _ _ _ _ _ _ _ c.loop-token.invariant.here c.in_default.ensures.none.1 count tree w)))
 

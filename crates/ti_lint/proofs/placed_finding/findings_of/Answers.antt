@@ -8,7 +8,7 @@ pub loop-judged-init : goal.loop-judged-init
 loop-judged-init g c =
     let e = c.in_ok-findings.ensures in
     let P : List PlacedFinding → Type 0 = λ x. Lists c.args.capability.now c.args.expected c.in_ok-findings.findings x in (
-      subst P (sym c.new-list.ensures.items) (lists_start c.args.capability.now c.args.expected c.in_ok-findings.findings c.depth-depth.ensures.tree e.start e.expected),
+      subst P (sym c.new-list.ensures.items) (lists_start c.args.capability.now c.args.expected c.in_ok-findings.findings e.tree e.start e.expected),
       sym (ap (λ x. length x.taken) e.start),
     )
 

@@ -9,7 +9,7 @@ pub loop-token-init : goal.loop-token-init
 loop-token-init c =
     let bytes = c.args.capability.now in
     let P : Spot → Type 0 = λ x. Collects bytes x (record { mask = 0 }) in
-    subst P (sym c.tape-tape.ensures.start) (collects_start bytes c.depth-depth.ensures.tree)
+    subst P (sym c.tape-tape.ensures.start) (collects_start bytes c.tape-tape.ensures.tree)
 
 pub loop-token-preserved-in-Store : goal.loop-token-preserved-in-Store
 loop-token-preserved-in-Store c =

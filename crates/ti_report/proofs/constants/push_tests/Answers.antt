@@ -13,7 +13,7 @@ pub push_test-requires : goal.push_test-requires
 push_test-requires g c =
     let l = c.tokens in
     let P : List Token → Type 0 = λ x. length x ≤ most_capability_bytes in
-    subst P (sym c.as_slice.ensures.value) (few_taken c.args.capability.now l.tape l.before.items c.depth-depth.ensures.tree l.invariant.all l.invariant.written)
+    subst P (sym c.as_slice.ensures.value) (few_taken c.args.capability.now l.tape l.before.items c.tape-tape.ensures.tree l.invariant.all l.invariant.written)
 
 pub tokens-preserved : goal.tokens-preserved
 tokens-preserved g c =

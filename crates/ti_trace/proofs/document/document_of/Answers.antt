@@ -21,7 +21,7 @@ unreachable-requires g c =
     let bytes : List ℕ = c.args.capability.now in
     let room = length c.as_mut_slice.result.now in
     let ready : IsReady bytes c.args.parameters.now most_values room =
-    record { longest = c.args.longest; texts = c.requires.short; well_formed = c.depth-depth.ensures.tree; depth = c.depth-depth.result; deep = c.depth-depth.ensures.exact; high = c.depth-depth.ensures.low; bound = c.bound-bound.result; bounded = c.bound-bound.ensures.exact; long = omega (arith, c.as_mut_slice.ensures.len, c.in_ok-room.ensures.len) } in
+    record { longest = c.args.longest; texts = c.requires.short; well_formed = c.depth-depth.ensures.tree; heights = c.depth-depth.ensures.tree.heights; bound = c.bound-bound.result; bounded = c.bound-bound.ensures.exact; long = omega (arith, c.as_mut_slice.ensures.len, c.in_ok-room.ensures.len) } in
     let none = (accepted bytes c.args.parameters.now most_values room c.in-Err._fault ready c.in-Err._fault).1 ((c.in-Err.ensures.faults c.in-Err._fault).0 refl) in
     absurd (cc)
 

@@ -21,7 +21,7 @@ outlooks-requires-clause-lettered g c =
 
 pub outlooks-requires-clause-few : goal.outlooks-requires-clause-few
 outlooks-requires-clause-few g c =
-    omega (arith, written_long c.in_ok-tokens.tokens.items c.args.capability.now c.in_ok-tokens.ensures, c.depth-depth.ensures.tree.short, ap length c.as_slice.ensures.value)
+    omega (arith, written_long c.in_ok-tokens.tokens.items c.args.capability.now c.in_ok-tokens.ensures, c.tape-tape.ensures.tree.short, ap length c.as_slice.ensures.value)
 
 pub invariant_of-result : goal.invariant_of-result
 invariant_of-result g c =
@@ -33,9 +33,9 @@ invariant_of-result g c =
     let list = c.in_ok-outlooks.outlooks.items in
     let R : Spot → Type 0 = λ x. IsAt x c.new.result × (IsTrue c.eq.result ↔ NamesNone (whole x)) × IsAhead x list × HasTokens x c.in_ok-tokens.tokens.items 0 in
     let none : IsTrue (nat_eq named.mask 0) ↔ NamesNone (whole start) = names_none bytes named c.parameters.ensures.named in
-    subst R (sym c.tape.ensures.start) (
-      subst P (sym c.new.ensures) (at_start bytes c.depth-depth.ensures.tree),
+    subst R (sym c.tape-tape.ensures.start) (
+      subst P (sym c.new.ensures) (at_start bytes c.tape-tape.ensures.tree),
       subst Q (sym c.eq.ensures) none,
       record { rest = c.in_ok-tokens.tokens.items; left = c.in_ok-tokens.ensures; list_is = c.in_ok-outlooks.ensures ∙ ap outlooks c.as_slice.ensures.value },
-      tokens_start bytes c.in_ok-tokens.tokens.items c.in_ok-tokens.ensures c.depth-depth.ensures.tree.short,
+      tokens_start bytes c.in_ok-tokens.tokens.items c.in_ok-tokens.ensures c.tape-tape.ensures.tree.short,
     )
