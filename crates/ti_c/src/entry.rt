@@ -229,13 +229,13 @@ fn fill<'a>(entry: &Entry<'a>, extended: &Extended<'a>, arrays: &mut Arrays<'a, 
         (part_names entry.now.extended) }
     ensures stay { StayInPlace arrays.old arrays.new }
 {
-    let (standard, own) = (entry.standard(), extended.unnamed());
+    let (standard, extended_part) = (entry.standard(), extended.unnamed());
     put_flags(&standard, arrays.flags, 0);
-    put_flags(&own, arrays.flags, standard.flag_count());
+    put_flags(&extended_part, arrays.flags, standard.flag_count());
     put_numbers(&standard, arrays.numbers, 0);
-    put_numbers(&own, arrays.numbers, standard.number_count());
+    put_numbers(&extended_part, arrays.numbers, standard.number_count());
     put_texts(&standard, arrays.texts, 0);
-    put_texts(&own, arrays.texts, standard.text_count());
+    put_texts(&extended_part, arrays.texts, standard.text_count());
     put_all_names(extended, arrays.names);
 }
 

@@ -267,8 +267,8 @@ fn put_subject<'a>(name: &mut Bytes<'a>, extended: &mut u32, subject: Subject<'a
             };
             *extended = 0;
         }
-        Subject::Extended(_, own) => {
-            name.bytes = own;
+        Subject::Extended(_, bytes) => {
+            name.bytes = bytes;
             *extended = 1;
         }
     }
