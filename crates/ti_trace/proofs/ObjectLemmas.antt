@@ -1,5 +1,5 @@
 -- Each character of the JSON of a trace can be printed.
-use Rattle.std.proofs.Common.{◌∙◌, ℕ, List, [], ◌∷◌, ◌++◌, ap, map, refl, subst, sym, take}
+use Rattle.std.proofs.Common.{◌∙◌, ℕ, List, [], ◌∷◌, ap, map, refl, subst, sym, take}
 use Rattle.ti_escape.proofs.PrintableLemmas.{is_printable_all}
 use Rattle.ti_expand.specs.declared.step.Outcome.{Outcome}
 use Rattle.ti_expand.specs.declared.step.Outcome.TheVariants.{Ran, PassedOver}

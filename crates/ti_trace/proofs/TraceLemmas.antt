@@ -14,7 +14,7 @@ use Rattle.ti_trace.specs.Columns.{header}
 use Rattle.ti_trace.specs.Footer.{footer}
 use Rattle.ti_trace.specs.Lines.{token_line}
 use Rattle.ti_trace.specs.Objects.{IsTraceJson, token_object, totals_object, trace_objects}
-use Rattle.ti_trace.specs.Told.{Told, Totals, TracedToken}
+use Rattle.ti_trace.specs.Told.{Totals, TracedToken}
 use Rattle.ti_trace.specs.Trace.{IsTrace}
 use Rattle.ti_trace.specs.inner.Traced.{token_tokens}
 use Rattle.ti_trace.proofs.TracedLemmas.{Telling}
