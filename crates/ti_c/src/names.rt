@@ -6,6 +6,7 @@ ghost use Rattle.ti_c.specs.Names.{kind_at, name_under};
 
 use crate::faults::{DONE, NOT_NAMED};
 use ti_names::NameTable;
+use ti_words::Kind;
 
 /// Bytes that lie in something of the caller's, or in the library's own tables.
 #[repr(C)]
@@ -14,16 +15,23 @@ pub struct Bytes<'a> {
     pub bytes: &'a [u8],
 }
 
+/// The kind with a number.
+pub(crate) fn kind_of(number: u32) -> Option<Kind>
+    ensures { result ≡ kind_at number }
+{
+    match number {
+        0 => Some(Kind::Flag),
+        1 => Some(Kind::Number),
+        2 => Some(Kind::Text),
+        _ => None,
+    }
+}
+
 /// The name of the capability at an index, of the kind with this number, among all names.
 fn name_of(kind: u32, index: usize) -> Option<&'static str>
     ensures { option_map (λ name. name.now) result ≡ name_under (kind_at kind) index }
 {
-    match kind {
-        0 => NameTable::All.flag_name(index),
-        1 => NameTable::All.number_name(index),
-        2 => NameTable::All.text_name(index),
-        _ => None,
-    }
+    NameTable::All.name_at(kind_of(kind)?, index)
 }
 
 /// Finds the name of the capability at an index of the flags (kind 0), the numbers (1) or the texts (2).

@@ -17,7 +17,7 @@ ghost use Rattle.ti_c.specs.Views.{IsOpen, HasExtended, IsFoundIn, IsListedAt, L
 use crate::entry::{EntryCounts, flag_mark, number_word, put_counts};
 use crate::faults::{DONE, NOT_NAMED, entry_number};
 use crate::finding::kind_number;
-use crate::names::Bytes;
+use crate::names::{Bytes, kind_of};
 use ti_entry::{Entry, PartView, Position, read_with_base, reopen, reopen_standard};
 use ti_names::{NameTable, find_short_or_long};
 use ti_words::{Flag, Item, Kind, Number, Subject, Text};
@@ -271,18 +271,6 @@ fn put_subject<'a>(name: &mut Bytes<'a>, extended: &mut u32, subject: Subject<'a
             name.bytes = bytes;
             *extended = 1;
         }
-    }
-}
-
-/// The kind with a number.
-fn kind_of(number: u32) -> Option<Kind>
-    ensures { result ≡ kind_at number }
-{
-    match number {
-        0 => Some(Kind::Flag),
-        1 => Some(Kind::Number),
-        2 => Some(Kind::Text),
-        _ => None,
     }
 }
 
