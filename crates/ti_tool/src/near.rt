@@ -3,10 +3,11 @@
 //! They are found one after another. For each, all short and long names and those of the entry's extended capabilities are gone over once. A name that
 //! is much longer or shorter than the word is passed over; each other one takes memory for its distance.
 
-ghost use Rattle.std.specs.Prelude.{◌≡◌, ◌≤◌, ◌<◌, ◌↔◌, ℕ, List, Contains, IfOk, IfSome, IfNone, IsTrue, false, length, map};
+ghost use Rattle.std.specs.Prelude.{◌≡◌, ◌≤◌, ◌<◌, ◌↔◌, ℕ, List, Contains, IfOk, IfSome, IfNone, IsTrue, false, length, map, option_map};
 ghost use Rattle.std.specs.Str.{chars};
 ghost use Rattle.ti_words.specs.declared.Kind.{Kind};
 ghost use Rattle.ti_words.specs.Items.{items, subject_value};
+ghost use Rattle.ti_names.specs.AllNames.{name_in};
 ghost use Rattle.ti_tool.specs.Near.{AreNearest, IsName, IsNameOf, IsNext, NoneIsNear, edits, most_edits};
 ghost use Rattle.ti_tool.specs.inner.Near.{AreFarther, IsFarther, IsFartherIn, IsFartherOf, IsFound, IsShortOrLong, IsSought, told_of};
 
@@ -97,6 +98,13 @@ fn nearer<'n, A: Allocator + Copy>(
     })
 }
 
+/// The name of a standard capability, lent for as long as the names that are compared with it.
+fn standard_text<'n>(table: NameTable, kind: Kind, index: usize) -> Option<&'n str>
+    ensures { option_map (λ name. name.now) result ≡ name_in table kind index }
+{
+    table.name_at(kind, index)
+}
+
 /// What is found among the names of a kind in a table.
 fn nearest_in<'n, A: Allocator + Copy>(
     alloc: A,
@@ -114,7 +122,7 @@ fn nearest_in<'n, A: Allocator + Copy>(
 {
     let mut best = found;
     for index in 0..MOST_NAMES {
-        if let Some(name) = table.name_at(kind, index) {
+        if let Some(name) = standard_text(table, kind, index) {
             best = nearer(alloc, sought, best, name)?;
         }
     }
