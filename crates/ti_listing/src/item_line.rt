@@ -96,7 +96,9 @@ fn push_text<A: Allocator>(
     }
 }
 
-/// Writes the line of a value, or none if it is absent. A text is shown in a form.
+/// Writes the line of a value, or none if it is absent. A text is shown in a form. Most values of an entry are absent, and it takes
+/// less to find so in place than to make a heading for a call.
+#[inline(always)]
 pub fn push_item<A: Allocator>(
     out: &mut Vec<u8, A>,
     heading: &Heading<'_>,
