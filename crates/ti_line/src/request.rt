@@ -41,7 +41,7 @@ pub enum Asked<'a> {
     Difference(Pair<'a>),
 }
 
-/// The two files that are compared, and how. `-` is standard input.
+/// Two files to be compared, and how. `-` is standard input.
 #[derive(Clone, Copy, Debug, PartialEq, Eq)]
 pub struct Pair<'a> {
     /// The file of the first entry.
