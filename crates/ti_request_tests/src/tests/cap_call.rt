@@ -32,7 +32,6 @@ impl Calls for Expanded<'_> {
 }
 
 /// What a capability writes for the parameters of a row, as it stands or in hex.
-#[derive(Clone, Copy)]
 struct Written {
     hex: bool,
 }
@@ -145,7 +144,6 @@ impl Calls for Formed {
 }
 
 /// What a capability writes in the form of a row.
-#[derive(Clone, Copy)]
 struct InForm;
 
 impl Finds for InForm {

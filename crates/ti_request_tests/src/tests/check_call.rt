@@ -26,7 +26,6 @@ const ROWS: &str = r"
 ";
 
 /// Whether the texts of the entry of a row are sound, and its verdicts.
-#[derive(Clone, Copy)]
 struct Verdicts;
 
 impl Finds for Verdicts {

@@ -77,7 +77,6 @@ const MOVED: &str = r"
 ";
 
 /// What the entry of a row is converted to in a format, or the fault.
-#[derive(Clone, Copy)]
 struct ConvertedTo;
 
 impl Finds for ConvertedTo {
@@ -122,7 +121,6 @@ fn the_longest_entry_is_not_widened(rt: HostRuntime) {
 }
 
 /// How long an entry is if it is widened. It is narrowed to the same.
-#[derive(Clone, Copy)]
 struct LengthOfWidened;
 
 impl Finds for LengthOfWidened {

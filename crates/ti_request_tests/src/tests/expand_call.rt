@@ -66,7 +66,6 @@ fn expansion_in<'a>(given: &Given<'a, '_>) -> Result<Expanded<'a>, Unfound> {
 }
 
 /// What the text of a row is expanded and padded to.
-#[derive(Clone, Copy)]
 struct PaddedText;
 
 impl Finds for PaddedText {
@@ -81,7 +80,6 @@ fn named_texts_are_expanded_and_padded(rt: HostRuntime) {
 }
 
 /// How many reads and writes an expansion makes.
-#[derive(Clone, Copy)]
 struct StreamsOfPadded;
 
 impl Finds for StreamsOfPadded {
@@ -101,7 +99,6 @@ fn streams_of_padding_fail_at_each_read_and_byte(rt: HostRuntime) {
 }
 
 /// Whether an expansion is refused memory each time that it grows, and then is given it.
-#[derive(Clone, Copy)]
 struct GrowthsOfPadded;
 
 impl Finds for GrowthsOfPadded {
@@ -143,7 +140,6 @@ const NAMED: &str = r"
 ";
 
 /// What the text of an entry with a name is expanded to, or the fault.
-#[derive(Clone, Copy)]
 struct NamedText;
 
 impl Finds for NamedText {

@@ -29,7 +29,6 @@ impl Calls for CarriedOut<'_> {
 }
 
 /// What the words of a row request of the uncommon entry, or the fault.
-#[derive(Clone, Copy)]
 struct Requested;
 
 impl Finds for Requested {
@@ -96,7 +95,6 @@ fn line_count(bytes: &[u8]) -> u32 {
 }
 
 /// How many lines the verdicts on an entry have, all of whose texts are sound.
-#[derive(Clone, Copy)]
 struct VerdictCount;
 
 impl Finds for VerdictCount {

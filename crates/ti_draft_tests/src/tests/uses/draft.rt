@@ -1,27 +1,16 @@
 //! An entry for a terminal that can do one thing: ring.
 
-use std::alloc::Global;
 use std::test::Fail;
-use ti_draft::{Draft, EncodeFault, encode};
+use ti_draft::{Draft, encode};
 use ti_words::{Text, Width};
-
-/// The bytes of an entry that has a text more, which rings.
-fn with_bell(alloc: Global, draft: &mut Draft<'_>) -> Result<Vec<u8>, EncodeFault> {
-    draft.push_text(Text::Absent)?;
-    // The text at index 1 is `bel`.
-    draft.push_text(Text::Value(b"\x07"))?;
-    encode(alloc, &*draft)
-}
-
-/// The bytes of an entry of two names.
-fn ring(alloc: Global) -> Result<Vec<u8>, EncodeFault> {
-    let mut draft = Draft::new(alloc, b"ring|a bell", Width::Legacy);
-    with_bell(alloc, &mut draft)
-}
 
 #[test]
 fn a_terminal_that_rings(rt: HostRuntime) -> Result<(), Fail> {
-    let file = ring(rt.alloc())?;
+    let mut draft = Draft::new(rt.alloc(), b"ring|a bell", Width::Legacy);
+    draft.push_text(Text::Absent)?;
+    // The text at index 1 is `bel`.
+    draft.push_text(Text::Value(b"\x07"))?;
+    let file = encode(rt.alloc(), &draft)?;
     // The header (its length is that of the names, one flag, number and text after another), the names, and the texts.
     let header = b"\x1a\x01\x0c\0\0\0\0\0\x02\0\x02\0";
     let texts = b"ring|a bell\0\xff\xff\0\0\x07\0";
