@@ -2,7 +2,7 @@
 
 use crate::tests::check_rows;
 use ti_entry::EncodeFault;
-use ti_fixtures::{Finds, Given, Unfound, place_of};
+use ti_fixtures::{Finds, Given, Unfound, only_if, place_of, show};
 
 /// The faults of drafts.
 const FAULTS_OF_DRAFTS: &[EncodeFault] = &[
@@ -13,25 +13,25 @@ const FAULTS_OF_DRAFTS: &[EncodeFault] = &[
     EncodeFault::Memory,
 ];
 
-/// Each of them in the same order, and its word.
+/// The words of faults, in the order of the faults.
 const SHOWN_OF_DRAFTS: &str = r"
-0 => BadName, BadName
-1 => NulInText, NulInText
-2 => NumberOutOfRange, NumberOutOfRange
-3 => TooManyOrLong, TooManyOrLong
-4 => Memory, Memory
+0 => BadName
+1 => NulInText
+2 => NumberOutOfRange
+3 => TooManyOrLong
+4 => Memory
 ";
 
-/// What is shown of the fault of a draft at a place.
+/// The word of the fault of a draft at a place, which the fault is shown as.
 struct ShownOfDraftAt;
 
 impl Finds for ShownOfDraftAt {
     fn find(&self, given: &Given<'_, '_>, found: &mut Vec<u8>) -> Result<(), Unfound> {
-        let fault = *FAULTS_OF_DRAFTS
+        let fault = FAULTS_OF_DRAFTS
             .get(place_of(given.text)?)
             .ok_or("a fault")?;
-        let text = format!(in *found.allocator(); "{fault}, {}", fault.word())?;
-        Ok(found.extend_from_slice(text.as_str().as_bytes())?)
+        show(found, fault)?;
+        only_if(found.as_slice() == fault.word().as_bytes())
     }
 }
 
