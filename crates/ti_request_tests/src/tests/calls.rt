@@ -132,7 +132,7 @@ impl<C: Calls> Finds for StreamsOf<C> {
 }
 
 /// A call over bytes that takes its memory from a heap, and what it writes.
-#[derive(Clone, Copy)]
+#[derive(Drop)]
 struct Growing<'a, C> {
     alloc: Global,
     call: &'a C,

@@ -14,8 +14,8 @@ use ti_tool::{ToolFault, expand_named};
 #[derive(Clone, Copy)]
 struct Expanded<'a> {
     name: &'a str,
-    parameters: [Value<'a>; 9],
-    padding: Padding,
+    parameters: &'a [Value<'a>; 9],
+    padding: &'a Padding,
     hex: bool,
 }
 
@@ -26,10 +26,8 @@ impl Calls for Expanded<'_> {
         source: &mut Source<'_>,
         writer: &mut Sink,
     ) -> Result<(), ToolFault> {
-        let (parameters, padding) = (&self.parameters, &self.padding);
-        expand_named(
-            alloc, source, self.name, parameters, padding, self.hex, writer,
-        )
+        let (name, parameters, padding) = (self.name, self.parameters, self.padding);
+        expand_named(alloc, source, name, parameters, padding, self.hex, writer)
     }
 }
 
@@ -53,39 +51,51 @@ const PADDED: &str = r"
 #0 | $<99999*> | 1000000 | 65535 | - => TooMuch 6553434465000
 ";
 
-/// The expansion of a row.
-fn expansion_in<'a>(given: &Given<'a, '_>) -> Result<Expanded<'a>, Unfound> {
-    let [name, _, rate, lines, form] = given.fields();
-    let is_xon = form.starts_with("xon");
-    Ok(Expanded {
-        name,
-        parameters: nine(&[Value::Text(given.second)]),
-        padding: padding_of(rate.parse::<u32>()?, lines.parse::<u32>()?, is_xon)?,
-        hex: form.ends_with("hex"),
-    })
+/// What is found of an expansion: what is written, its reads and writes, or whether it is refused memory and then given it.
+#[derive(Clone, Copy)]
+enum Aspect {
+    Output,
+    Streams,
+    Growths,
 }
 
-/// What the text of a row is expanded and padded to.
-struct PaddedText;
+/// Adds what is found of an expansion of the one text.
+fn add_aspect(
+    found: &mut Vec<u8>,
+    aspect: Aspect,
+    expansion: &Expanded<'_>,
+) -> Result<(), Unfound> {
+    match aspect {
+        Aspect::Output => add_written(found, expansion, &mut Source::new(TEXT, 5)),
+        Aspect::Streams => add_streams(found, expansion, TEXT),
+        Aspect::Growths => {
+            let tally = growths_of(*found.allocator(), expansion, TEXT, 16, 160)?;
+            show(found, &tally.is_refused_then_given(4))
+        }
+    }
+}
+
+/// The same for the text of a row, which is expanded and padded.
+struct PaddedText(Aspect);
 
 impl Finds for PaddedText {
     fn find(&self, given: &Given<'_, '_>, found: &mut Vec<u8>) -> Result<(), Unfound> {
-        add_written(found, &expansion_in(given)?, &mut Source::new(TEXT, 5))
+        let [name, _, rate, lines, form] = given.fields();
+        let is_xon = form.starts_with("xon");
+        let padding = padding_of(rate.parse::<u32>()?, lines.parse::<u32>()?, is_xon)?;
+        let expansion = Expanded {
+            name,
+            parameters: &nine(&[Value::Text(given.second)]),
+            padding: &padding,
+            hex: form.ends_with("hex"),
+        };
+        add_aspect(found, self.0, &expansion)
     }
 }
 
 #[test]
 fn named_texts_are_expanded_and_padded(rt: HostRuntime) {
-    check_rows(&rt, PADDED, &PaddedText);
-}
-
-/// How many reads and writes an expansion makes.
-struct StreamsOfPadded;
-
-impl Finds for StreamsOfPadded {
-    fn find(&self, given: &Given<'_, '_>, found: &mut Vec<u8>) -> Result<(), Unfound> {
-        add_streams(found, &expansion_in(given)?, TEXT)
-    }
+    check_rows(&rt, PADDED, &PaddedText(Aspect::Output));
 }
 
 /// Three literal bytes, and a mark that becomes ten pad bytes for two lines.
@@ -95,17 +105,7 @@ const STREAMED: &str = r"
 
 #[test]
 fn streams_of_padding_fail_at_each_read_and_byte(rt: HostRuntime) {
-    check_rows(&rt, STREAMED, &StreamsOfPadded);
-}
-
-/// Whether an expansion is refused memory each time that it grows, and then is given it.
-struct GrowthsOfPadded;
-
-impl Finds for GrowthsOfPadded {
-    fn find(&self, given: &Given<'_, '_>, found: &mut Vec<u8>) -> Result<(), Unfound> {
-        let tally = growths_of(*found.allocator(), &expansion_in(given)?, TEXT, 16, 160)?;
-        show(found, &tally.is_refused_then_given(4))
-    }
+    check_rows(&rt, STREAMED, &PaddedText(Aspect::Streams));
 }
 
 /// A text whose output in hex is long.
@@ -115,7 +115,7 @@ const GROWING: &str = r"
 
 #[test]
 fn each_growth_of_an_expansion_is_refused_in_turn(rt: HostRuntime) {
-    check_rows(&rt, GROWING, &GrowthsOfPadded);
+    check_rows(&rt, GROWING, &PaddedText(Aspect::Growths));
 }
 
 /// Entries, and names of their texts with parameters, if the text takes any, and the output; and names that no text of them has.
@@ -145,10 +145,11 @@ struct NamedText;
 impl Finds for NamedText {
     fn find(&self, given: &Given<'_, '_>, found: &mut Vec<u8>) -> Result<(), Unfound> {
         let [_, name, words, ..] = given.fields();
+        let padding = padding_of(960, 1, false)?;
         let expansion = Expanded {
             name,
-            parameters: values_of(words),
-            padding: padding_of(960, 1, false)?,
+            parameters: &values_of(words),
+            padding: &padding,
             hex: false,
         };
         add_written(found, &expansion, &mut Source::new(given.bytes, 7))
