@@ -1,6 +1,6 @@
 //! Words that are parameters, and texts that are as long as they may be.
 
-use super::ending::{add_end, end_of};
+use super::ending::{End, add_end, end_of};
 use crate::tests::check_rows;
 use std::alloc::Global;
 use ti_fixtures::{Finds, Given, Unfound, place_of, show_debug};
@@ -63,17 +63,14 @@ fn words_give_parameters_to_get(rt: HostRuntime) {
     check_rows(&rt, GIVEN, &GivenToGet);
 }
 
-/// The run of words and one more, which is for a text of so many bytes `a`.
-fn add_end_with_text(
-    found: &mut Vec<u8>,
-    given: &Given<'_, '_>,
-    len: usize,
-) -> Result<(), Unfound> {
-    let alloc = *found.allocator();
-    let word = word_of(alloc, len)?;
-    let mut words = given.words.to_vec(alloc)?;
-    words.push(word.as_str())?;
-    add_end(found, &end_of(alloc, words.as_slice(), given.second))
+/// The run of `ti trace --escape` or of `ti cap n:1` with one word more.
+fn end_with(alloc: Global, is_trace: bool, word: &str, input: &[u8]) -> End {
+    let words = if is_trace {
+        ["ti", "trace", "--escape", word]
+    } else {
+        ["ti", "cap", "n:1", word]
+    };
+    end_of(alloc, &words, input)
 }
 
 /// A word for a text of so many bytes `a`.
@@ -90,15 +87,19 @@ struct EndWithText;
 
 impl Finds for EndWithText {
     fn find(&self, given: &Given<'_, '_>, found: &mut Vec<u8>) -> Result<(), Unfound> {
-        add_end_with_text(found, given, place_of(given.fields()[2])?)
+        let [command, _, len, ..] = given.fields();
+        let word = word_of(*found.allocator(), place_of(len)?)?;
+        let is_trace = command == "trace";
+        let end = end_with(*found.allocator(), is_trace, word.as_str(), given.second);
+        add_end(found, &end)
     }
 }
 
 /// Texts that are as long as they may be, or longer.
 const LONG: &str = r"
-ti cap n:1 | %p1%d | 32768 => 4 err capability: TextTooLong 2\n
-ti trace --escape | %p1%l%d | 32767 => 0 out place^Itoken          ^Irun    ^Istack                  ^Iwrote\n    0^I%p1            ^Iran    ^Is:aaaaaaaaaaaaaaaa,..32767^I-\n    3^I%l             ^Iran    ^I32767                  ^I-\n    5^I%d             ^Iran    ^I-                      ^I32767\noutput: 32767\nwritten: 5\nran: 3\npassed: 0\nheight: 1\ndepth: 1\nbound: 11\n
-ti trace --escape | %p1%l%d | 32768 => 4 err capability: TextTooLong 1\n
+cap | %p1%d | 32768 => 4 err capability: TextTooLong 2\n
+trace | %p1%l%d | 32767 => 0 out place^Itoken          ^Irun    ^Istack                  ^Iwrote\n    0^I%p1            ^Iran    ^Is:aaaaaaaaaaaaaaaa,..32767^I-\n    3^I%l             ^Iran    ^I32767                  ^I-\n    5^I%d             ^Iran    ^I-                      ^I32767\noutput: 32767\nwritten: 5\nran: 3\npassed: 0\nheight: 1\ndepth: 1\nbound: 11\n
+trace | %p1%l%d | 32768 => 4 err capability: TextTooLong 1\n
 ";
 
 #[test]

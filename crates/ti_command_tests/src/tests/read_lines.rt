@@ -134,7 +134,8 @@ struct AskedAtTerminal;
 impl Finds for AskedAtTerminal {
     fn find(&self, given: &Given<'_, '_>, found: &mut Vec<u8>) -> Result<(), Unfound> {
         let Task { request, .. } = read_line(*found.allocator(), TERMINAL, given.words)?;
-        show_debug(found, &request.asked)
+        let Request { asked, .. } = request;
+        show_debug(found, &asked)
     }
 }
 

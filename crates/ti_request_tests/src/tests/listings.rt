@@ -28,22 +28,18 @@ impl Calls for CarriedOut<'_> {
     }
 }
 
-/// Adds what is requested of the uncommon entry, or the fault.
-fn add_requested(found: &mut Vec<u8>, request: &Request<'_>) -> Result<(), Unfound> {
-    let carried = CarriedOut {
-        asked: &request.asked,
-        parameters: &request.parameters,
-    };
-    add_written(found, &carried, &mut Source::new(UNCOMMON, 3))
-}
-
-/// The same for the words of a row.
+/// What the words of a row request of the uncommon entry, or the fault.
 struct Requested;
 
 impl Finds for Requested {
     fn find(&self, given: &Given<'_, '_>, found: &mut Vec<u8>) -> Result<(), Unfound> {
         let Task { request, .. } = read_line(*found.allocator(), Destination::File, given.words)?;
-        add_requested(found, &request)
+        let Request { parameters, asked } = request;
+        let carried = CarriedOut {
+            asked: &asked,
+            parameters: &parameters,
+        };
+        add_written(found, &carried, &mut Source::new(UNCOMMON, 3))
     }
 }
 
