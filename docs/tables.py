@@ -8,7 +8,16 @@ from checks.machine import ROOT
 
 Tell = Callable[[bool, str], None]
 # Crates of tests, whose READMEs have no table of clauses.
-TESTS = ["ti_fixtures", "ti_entry_tests", "ti_capability_tests", "ti_notation_tests", "ti_report_tests", "ti_request_tests", "ti_command_tests"]
+TESTS = [
+    "ti_fixtures",
+    "ti_entry_tests",
+    "ti_draft_tests",
+    "ti_capability_tests",
+    "ti_notation_tests",
+    "ti_report_tests",
+    "ti_request_tests",
+    "ti_command_tests",
+]
 # A crate that shows the items of the crates below it under its own name.
 LAYERS = {"ti_entry": ["ti_layout", "ti_draft"]}
 CODE = re.compile(r"`([^`]+)`")

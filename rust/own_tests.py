@@ -10,7 +10,8 @@ HERE = Path(__file__).resolve().parent
 # The crates of tests, each with the files that are not added.
 TESTS = {
     "fixtures": ["flushed", "sink", "source", "tally"],
-    "entry_tests": ["base", "draft_growths", "draft_memory", "entry_messages", "entry_objects", "entry_sources", "json"],
+    "entry_tests": ["base", "entry_messages", "entry_sources"],
+    "draft_tests": ["draft_growths", "draft_memory", "draft_messages", "entry_objects", "json"],
     "capability_tests": ["expansion_memory", "expansion_variables"],
     "notation_tests": ["notation_memory", "padding_memory", "padding_rows", "padding_writers", "trace", "traces"],
 }

@@ -1,6 +1,7 @@
 //! Words of command lines and runs of the program, in tables of rows.
 
 use std::process::Abort;
+use ti_fixtures::{Finds, first_wrong};
 
 /// Ends the test unless the condition holds. One call for each condition keeps the proofs of the tests short.
 pub fn claim(rt: &impl Abort, holds: bool, condition: &str) {
@@ -14,16 +15,11 @@ macro_rules! assert_that {
     };
 }
 
-/// Ends the test unless the bytes are the same: one call, where `==` and a claim would be two.
-pub fn claim_same(rt: &impl Abort, one: &[u8], other: &[u8], what: &str) {
-    claim(rt, one == other, what);
-}
-
-/// Claims that bytes are the same.
-macro_rules! assert_same {
-    ($rt:expr; $one:expr, $other:expr) => {
-        crate::tests::claim_same(&$rt, $one, $other, stringify!($one))
-    };
+/// Ends the test with the first row that does not hold.
+pub fn check_rows<F: Finds>(rt: &(impl Abort + AllocGlobal), rows: &str, finds: &F) {
+    if let Some(row) = first_wrong(rt.alloc(), rows, finds) {
+        claim(rt, false, row);
+    }
 }
 
 mod ending;

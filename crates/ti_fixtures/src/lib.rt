@@ -17,9 +17,8 @@ pub mod traces;
 pub use flushed::Flushed;
 pub use items::{Said, item_of};
 pub use rows::{
-    Finds, Given, Unfound, are_shown, bytes_of, check_rows, debug_of, fields_of, first_wrong,
-    number_of, of_words, only_if, place_of, show, show_debug, show_numbers, shown, shown_numbers,
-    words_of,
+    Finds, Given, Unfound, are_shown, bytes_of, first_wrong, number_of, only_if, place_of, show,
+    show_debug, show_numbers,
 };
 pub use sink::Sink;
 pub use source::{Endless, Source};

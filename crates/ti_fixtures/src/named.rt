@@ -56,16 +56,21 @@ const NAMED: &[(&str, &[u8])] = &[
     ("@TEXT_AND_NUMBER", traces::TEXT_AND_NUMBER),
 ];
 
+/// The bytes that a table has for a name.
+fn bytes_in(table: &[(&str, &'static [u8])], name: &str) -> Option<&'static [u8]> {
+    for (known, bytes) in table {
+        if *known == name {
+            return Some(*bytes);
+        }
+    }
+    None
+}
+
 /// The bytes that a field names.
 pub fn named(field: &str) -> Option<&'static [u8]> {
     // The table would be too large a constant with it.
     if field == "@TMUX" {
         return Some(TMUX);
     }
-    for (name, bytes) in NAMED {
-        if *name == field {
-            return Some(*bytes);
-        }
-    }
-    None
+    bytes_in(NAMED, field)
 }

@@ -8,10 +8,9 @@ use crate::named::named;
 use std::alloc::{AllocError, Global};
 use std::fmt::{Debug, Display};
 use std::str::from_utf8;
-use std::test::Fail;
 
 /// The first five fields of a row or of a part of it. Those that it lacks are empty.
-pub fn fields_of(row: &str) -> [&str; 5] {
+fn fields_of(row: &str) -> [&str; 5] {
     let mut fields = [""; 5];
     let mut count = 0;
     for field in row.split(" | ") {
@@ -88,12 +87,6 @@ pub struct Unfound;
 impl<E: Debug + Drop> From<E> for Unfound {
     fn from(_error: E) -> Unfound {
         Unfound
-    }
-}
-
-impl From<Unfound> for Fail {
-    fn from(_error: Unfound) -> Fail {
-        Fail::from("nothing is found")
     }
 }
 
@@ -184,7 +177,7 @@ fn is_found<F: Finds>(
 }
 
 /// The words of a text, between which blanks stand.
-pub fn words_of(alloc: Global, text: &str) -> Result<Vec<&str>, Unfound> {
+fn words_of(alloc: Global, text: &str) -> Result<Vec<&str>, Unfound> {
     let mut words = Vec::new(alloc);
     if !text.is_empty() {
         for word in text.split(' ') {
@@ -232,85 +225,4 @@ pub fn first_wrong<'a, F: Finds>(alloc: Global, rows: &'a str, finds: &F) -> Opt
         }
     }
     None
-}
-
-/// What is found for the words of a field, which is in the notation.
-pub fn of_words<F: Fn(Global, &[&str]) -> Result<Vec<u8>, Unfound>>(
-    alloc: Global,
-    field: &str,
-    found: F,
-) -> Result<Vec<u8>, Unfound>
-    requires { F.IsAlwaysCallable found }
-{
-    let text = bytes_of(alloc, field)?;
-    let words = words_of(alloc, from_utf8(text.as_slice())?)?;
-    found(alloc, words.as_slice())
-}
-
-/// What a value prints.
-pub fn shown<D: Display>(alloc: Global, value: &D) -> Result<Vec<u8>, Unfound> {
-    let text = format!(in alloc; "{value}")?;
-    Ok(text.as_str().as_bytes().to_vec(alloc)?)
-}
-
-/// What a value prints with `{:?}`.
-pub fn debug_of<D: Debug>(alloc: Global, value: &D) -> Result<Vec<u8>, Unfound> {
-    let text = format!(in alloc; "{value:?}")?;
-    Ok(text.as_str().as_bytes().to_vec(alloc)?)
-}
-
-/// Numbers with a blank between them.
-pub fn shown_numbers(alloc: Global, numbers: &[u64]) -> Result<Vec<u8>, Unfound> {
-    let mut text = Vec::new(alloc);
-    for number in numbers {
-        if !text.is_empty() {
-            text.push(b' ')?;
-        }
-        text.extend_from_slice(shown(alloc, number)?.as_slice())?;
-    }
-    Ok(text)
-}
-
-/// Whether what is found for what a row gives is what the row says.
-fn is_found_by<F: Fn(Global, &str) -> Result<Vec<u8>, Unfound>>(
-    alloc: Global,
-    row: &str,
-    found: &F,
-) -> Result<bool, Unfound>
-    requires { F.IsAlwaysCallable found.now }
-{
-    let (given, wanted) = row.split_once(" => ").ok_or("a row")?;
-    let found = found(alloc, given)?;
-    Ok(found.as_slice() == bytes_of(alloc, wanted)?.as_slice())
-}
-
-/// The first row for which nothing, or something else, is found than it says, if there is one.
-fn first_wrong_by<'a, F: Fn(Global, &str) -> Result<Vec<u8>, Unfound>>(
-    alloc: Global,
-    rows: &'a str,
-    found: &F,
-) -> Option<&'a str>
-    requires { F.IsAlwaysCallable found.now }
-{
-    for row in rows.lines() {
-        let is_row = !row.is_empty() && !row.starts_with("# ");
-        if is_row && !is_found_by(alloc, row, found).unwrap_or(false) {
-            return Some(row);
-        }
-    }
-    None
-}
-
-/// Fails with the first row that does not hold.
-pub fn check_rows<F: Fn(Global, &str) -> Result<Vec<u8>, Unfound>>(
-    alloc: Global,
-    rows: &str,
-    found: F,
-) -> Result<(), Fail>
-    requires { F.IsAlwaysCallable found }
-{
-    match first_wrong_by(alloc, rows, &found) {
-        Some(row) => Err(Fail::from(row)),
-        None => Ok(()),
-    }
 }

@@ -155,20 +155,6 @@ depth: 2
 bound: 28
 ";
 
-/// The longest text as the one parameter.
-pub const LENGTH_OF_TEXT: &[u8] = b"place\ttoken          \trun    \tstack                  \twrote
-    0\t%p1            \tran    \ts:aaaaaaaaaaaaaaaa,..32767\t-
-    3\t%l             \tran    \t32767                  \t-
-    5\t%d             \tran    \t-                      \t32767
-output: 32767
-written: 5
-ran: 3
-passed: 0
-height: 1
-depth: 1
-bound: 11
-";
-
 pub const COLUMN: &[u8] = b"\x1b[%p1%dG";
 
 pub const COLUMN_OF_7: &[u8] = b"place\ttoken          \trun    \tstack                  \twrote

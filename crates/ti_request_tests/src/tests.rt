@@ -1,6 +1,7 @@
 //! Calls that carry out requests, in tables of rows.
 
 use std::process::Abort;
+use ti_fixtures::{Finds, first_wrong};
 
 /// Ends the test unless the condition holds. One call for each condition keeps the proofs of the tests short.
 pub fn claim(rt: &impl Abort, holds: bool, condition: &str) {
@@ -14,24 +15,18 @@ macro_rules! assert_that {
     };
 }
 
-/// Ends the test unless the bytes are the same: one call, where `==` and a claim would be two.
-pub fn claim_same(rt: &impl Abort, one: &[u8], other: &[u8], what: &str) {
-    claim(rt, one == other, what);
+/// Ends the test with the first row that does not hold.
+pub fn check_rows<F: Finds>(rt: &(impl Abort + AllocGlobal), rows: &str, finds: &F) {
+    if let Some(row) = first_wrong(rt.alloc(), rows, finds) {
+        claim(rt, false, row);
+    }
 }
 
-/// Claims that bytes are the same.
-macro_rules! assert_same {
-    ($rt:expr; $one:expr, $other:expr) => {
-        crate::tests::claim_same(&$rt, $one, $other, stringify!($one))
-    };
-}
-
+mod calls;
 mod cap_call;
 mod check_call;
 mod convert_call;
-mod convert_streams;
 mod expand_call;
-mod expand_streams;
 mod listings;
 mod show_call;
 mod trace_call;

@@ -1,8 +1,7 @@
 //! Runs of the program, and how they end.
 
 use std::alloc::{Allocator, Global};
-use std::str::from_utf8;
-use ti_fixtures::{Sink, Source, Unfound, bytes_of, fields_of, shown, words_of};
+use ti_fixtures::{Finds, Given, Sink, Source, Unfound, only_if, show};
 use ti_tool::{Color, Destination, run};
 
 /// How a run ends: with its status, what its two writers took, and how often it read.
@@ -44,67 +43,67 @@ pub fn end_over<A: Allocator + Copy>(
     }
 }
 
+/// Runs the program over a source, with an output that fails at this write.
+pub fn end_with(alloc: Global, words: &[&str], input: Source<'_>, output: Sink) -> End {
+    end_over(alloc, alloc, words, input, output, Sink::new(alloc))
+}
+
 /// Runs the program over bytes that come five at a time.
 pub fn end_of(alloc: Global, words: &[&str], input: &[u8]) -> End {
-    let source = Source::new(input, 5);
-    end_over(
-        alloc,
-        alloc,
-        words,
-        source,
-        Sink::new(alloc),
-        Sink::new(alloc),
-    )
+    end_with(alloc, words, Source::new(input, 5), Sink::new(alloc))
 }
 
-/// How a run ended in one text: its status, and what its writers took.
-pub fn told(alloc: Global, status: u8, output: &[u8], errors: &[u8]) -> Result<Vec<u8>, Unfound> {
-    let mut told = shown(alloc, &status)?;
-    for (front, part) in [(" out ", output), (" err ", errors)] {
-        if !part.is_empty() {
-            told.extend_from_slice(front.as_bytes())?;
-            told.extend_from_slice(part)?;
-        }
+/// Adds a word and what a writer took, if it took anything.
+fn add_part(found: &mut Vec<u8>, word: &str, part: &[u8]) -> Result<(), Unfound> {
+    if part.is_empty() {
+        return Ok(());
     }
-    Ok(told)
+    found.extend_from_slice(word.as_bytes())?;
+    Ok(found.extend_from_slice(part)?)
 }
 
-/// The end of a run over the words and the input of a row.
-fn end_on(alloc: Global, words: &str, input: &str) -> Result<End, Unfound> {
-    let text = bytes_of(alloc, words)?;
-    let words = words_of(alloc, from_utf8(text.as_slice())?)?;
-    let input = bytes_of(alloc, input)?;
-    Ok(end_of(alloc, words.as_slice(), input.as_slice()))
+/// Adds how a run ended: its status, and what its writers took.
+pub fn add_outcome(
+    found: &mut Vec<u8>,
+    status: u8,
+    output: &[u8],
+    errors: &[u8],
+) -> Result<(), Unfound> {
+    show(found, &status)?;
+    add_part(found, " out ", output)?;
+    add_part(found, " err ", errors)
 }
 
-/// How the run of a row ends: words and the input give a status, and what is written. Words that are refused read nothing.
-pub fn end_in(alloc: Global, given: &str) -> Result<Vec<u8>, Unfound> {
-    let [words, input, ..] = fields_of(given);
-    let end = end_on(alloc, words, input)?;
-    if end.status == 2 && end.reads > 0 {
-        return Err(Unfound);
-    }
-    told(
-        alloc,
+/// The same of a run that has ended.
+pub fn add_end(found: &mut Vec<u8>, end: &End) -> Result<(), Unfound> {
+    add_outcome(
+        found,
         end.status,
         end.output.as_slice(),
         end.errors.as_slice(),
     )
 }
 
-/// What the run of a row writes, if it ends well.
-pub fn output_in(alloc: Global, given: &str) -> Result<Vec<u8>, Unfound> {
-    let [words, input, ..] = fields_of(given);
-    let End {
-        status,
-        output,
-        errors,
-        ..
-    } = end_on(alloc, words, input)?;
-    if status > 0 || !errors.is_empty() {
-        return Err(Unfound);
+/// How the run of a row ends: words and the input give a status, and what is written. Words that are refused read nothing.
+pub struct EndOf;
+
+impl Finds for EndOf {
+    fn find(&self, given: &Given<'_, '_>, found: &mut Vec<u8>) -> Result<(), Unfound> {
+        let end = end_of(*found.allocator(), given.words, given.second);
+        only_if(end.status != 2 || end.reads == 0)?;
+        add_end(found, &end)
     }
-    Ok(output)
+}
+
+/// What the run of a row writes, which ends well.
+pub struct OutputOf;
+
+impl Finds for OutputOf {
+    fn find(&self, given: &Given<'_, '_>, found: &mut Vec<u8>) -> Result<(), Unfound> {
+        let end = end_of(*found.allocator(), given.words, given.second);
+        only_if(end.status == 0 && end.errors.is_empty())?;
+        Ok(found.extend_from_slice(end.output.as_slice())?)
+    }
 }
 
 /// Whether a run ends with this status, and its writers took this.

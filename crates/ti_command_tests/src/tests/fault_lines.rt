@@ -1,11 +1,9 @@
 //! The lines on faults, and what is left of them if their writer fails.
 
-use super::ending::{end_of, end_over, is_end, told};
+use super::ending::{EndOf, add_outcome, end_of, end_over};
+use crate::tests::check_rows;
 use std::alloc::Global;
-use std::str::from_utf8;
-use std::test::Fail;
-use ti_fixtures::entries::TEXT;
-use ti_fixtures::{Sink, Source, Unfound, bytes_of, check_rows, fields_of, words_of};
+use ti_fixtures::{Finds, Given, Sink, Source, Unfound, only_if};
 
 /// Words, what is read, the status, and the line on the fault.
 const LINES: &str = r"
@@ -29,51 +27,47 @@ ti get \E | @SMALL => 4 err get: \\E: no such capability\n
 ti expand --rate 1000000 --lines 65535 #0 s:$<99999*> | @TEXT => 4 err capability: TooMuch 6553434465000\n
 ";
 
+/// Whether a run ends with a status and the front of a line, after which the writer of lines fails.
+fn stops_after(alloc: Global, given: &Given<'_, '_>, status: u8, front: &[u8]) -> bool {
+    let errors = Sink::failing_at(alloc, 1, front.len().saturating_add(1));
+    let source = Source::new(given.second, 512);
+    let end = end_over(alloc, alloc, given.words, source, Sink::new(alloc), errors);
+    end.status == status && end.errors.as_slice() == front
+}
+
 /// Whether a line stops where its writer fails, and no other result changes.
-fn stops(alloc: Global, words: &[&str], input: &[u8], status: u8, line: &[u8]) -> bool {
+fn stops(alloc: Global, given: &Given<'_, '_>, status: u8, line: &[u8]) -> bool {
     let mut is_each = true;
-    for write in 1..64usize {
-        if let Some(front) = line.get(..write - 1) {
-            let errors = Sink::failing_at(alloc, 1, write);
-            let source = Source::new(input, 512);
-            let end = end_over(alloc, alloc, words, source, Sink::new(alloc), errors);
-            is_each &= end.status == status && end.errors.as_slice() == front;
-        }
+    for count in 0..line.len() {
+        is_each &= stops_after(alloc, given, status, &line[..count]);
     }
     is_each
 }
 
 /// The line on the fault of a row, which stops where its writer fails.
-fn line_in(alloc: Global, given: &str) -> Result<Vec<u8>, Unfound> {
-    let [words, input, ..] = fields_of(given);
-    let words = bytes_of(alloc, words)?;
-    let words = words_of(alloc, from_utf8(words.as_slice())?)?;
-    let input = bytes_of(alloc, input)?;
-    let end = end_of(alloc, words.as_slice(), input.as_slice());
-    let line = end.errors.as_slice();
-    if !stops(alloc, words.as_slice(), input.as_slice(), end.status, line) {
-        return Err(Unfound);
+struct LineOf;
+
+impl Finds for LineOf {
+    fn find(&self, given: &Given<'_, '_>, found: &mut Vec<u8>) -> Result<(), Unfound> {
+        let alloc = *found.allocator();
+        let end = end_of(alloc, given.words, given.second);
+        let line = end.errors.as_slice();
+        only_if(stops(alloc, given, end.status, line))?;
+        add_outcome(found, end.status, b"", line)
     }
-    told(alloc, end.status, b"", line)
 }
 
 #[test]
-fn a_line_stops_where_its_writer_fails(rt: HostRuntime) -> Result<(), Fail> {
-    check_rows(rt.alloc(), LINES, line_in)
+fn a_line_stops_where_its_writer_fails(rt: HostRuntime) {
+    check_rows(&rt, LINES, &LineOf);
 }
+
+/// A number of affected lines with a minus.
+const NO_LINE: &str = r"
+ti expand --hex --rate 960 --lines=-0 #0 s:a$<1*>b | @TEXT => 0 out 6162\n
+";
 
 #[test]
 fn no_affected_line_may_have_a_minus(rt: HostRuntime) {
-    let words = [
-        "ti",
-        "expand",
-        "--hex",
-        "--rate",
-        "960",
-        "--lines=-0",
-        "#0",
-        "s:a$<1*>b",
-    ];
-    let end = end_of(rt.alloc(), &words, TEXT);
-    assert_that!(rt; is_end(&end, 0, b"6162\n", b""));
+    check_rows(&rt, NO_LINE, &EndOf);
 }

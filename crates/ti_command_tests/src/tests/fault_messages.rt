@@ -1,11 +1,8 @@
 //! What the faults of the calls are shown as.
 
-use std::alloc::Global;
-use std::fmt::Display;
-use std::test::Fail;
 use ti_cap::{CapFault, CapRefused};
 use ti_entry::{EncodeFault, Fault, Refused};
-use ti_fixtures::{Unfound, shown};
+use ti_fixtures::are_shown;
 use ti_line::NoLine;
 use ti_tool::{ToolFault, WordFault};
 use ti_trace::TraceFault;
@@ -55,39 +52,28 @@ const FAULTS_OF_TRACES: &[(TraceFault, &str)] = &[
     (TraceFault::Memory, "Memory"),
 ];
 
-/// Whether each fault is shown as its message.
-fn are_shown<D: Display>(alloc: Global, faults: &[(D, &str)]) -> Result<bool, Unfound> {
-    let mut is_each = true;
-    for (fault, message) in faults {
-        is_each &= shown(alloc, fault)?.as_slice() == message.as_bytes();
-    }
-    Ok(is_each)
+/// Each fault of a word, and its message.
+const FAULTS_OF_WORDS: &[(WordFault, &str)] = &[
+    (WordFault::TooMany, "TooMany"),
+    (WordFault::BadWord { which: 3 }, "BadWord 3"),
+];
+
+#[test]
+fn faults_of_calls_are_shown(rt: HostRuntime) {
+    assert_that!(rt; are_shown(rt.alloc(), FAULTS));
 }
 
 #[test]
-fn faults_of_calls_are_shown(rt: HostRuntime) -> Result<(), Fail> {
-    assert_that!(rt; are_shown(rt.alloc(), FAULTS)?);
-    Ok(())
+fn faults_of_traces_are_shown(rt: HostRuntime) {
+    assert_that!(rt; are_shown(rt.alloc(), FAULTS_OF_TRACES));
 }
 
 #[test]
-fn faults_of_traces_are_shown(rt: HostRuntime) -> Result<(), Fail> {
-    assert_that!(rt; are_shown(rt.alloc(), FAULTS_OF_TRACES)?);
-    Ok(())
+fn faults_of_words_are_shown(rt: HostRuntime) {
+    assert_that!(rt; are_shown(rt.alloc(), FAULTS_OF_WORDS));
 }
 
 #[test]
-fn faults_of_words_are_shown(rt: HostRuntime) -> Result<(), Fail> {
-    let faults = [
-        (WordFault::TooMany, "TooMany"),
-        (WordFault::BadWord { which: 3 }, "BadWord 3"),
-    ];
-    assert_that!(rt; are_shown(rt.alloc(), &faults)?);
-    Ok(())
-}
-
-#[test]
-fn no_memory_for_a_line_is_shown(rt: HostRuntime) -> Result<(), Fail> {
-    assert_same!(rt; shown(rt.alloc(), &NoLine::Memory)?.as_slice(), b"Memory");
-    Ok(())
+fn no_memory_for_a_line_is_shown(rt: HostRuntime) {
+    assert_that!(rt; are_shown(rt.alloc(), &[(NoLine::Memory, "Memory")]));
 }

@@ -1,30 +1,43 @@
 //! What the program writes is not flushed: when bytes go on is the writer's own affair.
 
-use ti_fixtures::{Flushed, Source};
+use super::ending::add_outcome;
+use crate::tests::check_rows;
+use ti_fixtures::{Finds, Flushed, Given, Source, Unfound, only_if};
 use ti_tool::run;
 
-#[test]
-fn the_program_flushes_nothing(rt: HostRuntime) {
-    let alloc = rt.alloc();
-    let words = ["ti", "cap", "n:7"];
-    let mut output = Flushed::new(alloc);
-    let mut errors = Flushed::new(alloc);
-    let mut input = Source::new(b"%p1%d", 512);
-    assert_that!(rt; run(alloc, alloc, &words, &mut input, &mut output, &mut errors) == 0);
-    assert_same!(rt; output.taken.as_slice(), b"7");
-    assert_that!(rt; output.flushes == 0);
-    assert_that!(rt; errors.flushes == 0);
+/// A run, and one with a fault.
+const ROWS: &str = r"
+ti cap n:7 | %p1%d => 0 out 7
+ti cap n:7 | %p0 => 4 err capability: BadParameter at 0\n
+";
+
+/// How the run of a row ends, which flushes nothing.
+struct Unflushed;
+
+impl Finds for Unflushed {
+    fn find(&self, given: &Given<'_, '_>, found: &mut Vec<u8>) -> Result<(), Unfound> {
+        let alloc = *found.allocator();
+        let (mut output, mut errors) = (Flushed::new(alloc), Flushed::new(alloc));
+        let mut input = Source::new(given.second, 512);
+        let status = run(
+            alloc,
+            alloc,
+            given.words,
+            &mut input,
+            &mut output,
+            &mut errors,
+        );
+        only_if(output.flushes == 0 && errors.flushes == 0)?;
+        add_outcome(
+            found,
+            status,
+            output.taken.as_slice(),
+            errors.taken.as_slice(),
+        )
+    }
 }
 
 #[test]
-fn a_fault_line_is_not_flushed(rt: HostRuntime) {
-    let alloc = rt.alloc();
-    let words = ["ti", "cap", "n:7"];
-    let mut output = Flushed::new(alloc);
-    let mut errors = Flushed::new(alloc);
-    let mut input = Source::new(b"%p0", 512);
-    assert_that!(rt; run(alloc, alloc, &words, &mut input, &mut output, &mut errors) == 4);
-    assert_same!(rt; errors.taken.as_slice(), b"capability: BadParameter at 0\n");
-    assert_that!(rt; output.flushes == 0);
-    assert_that!(rt; errors.flushes == 0);
+fn the_program_flushes_nothing(rt: HostRuntime) {
+    check_rows(&rt, ROWS, &Unflushed);
 }

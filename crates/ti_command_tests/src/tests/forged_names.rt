@@ -1,9 +1,8 @@
 //! Names that forge a line, or that a terminal would obey.
 
-use super::ending::{destination, told};
-use std::alloc::Global;
-use std::test::Fail;
-use ti_fixtures::{Sink, Source, Unfound, bytes_of, check_rows, fields_of, words_of};
+use super::ending::{add_outcome, destination};
+use crate::tests::check_rows;
+use ti_fixtures::{Finds, Given, Sink, Source, Unfound};
 use ti_tool::{NoStore, Terminals, run_at};
 
 /// Words, whether results go to a terminal or to a file, what is read, and the status with what is written.
@@ -27,47 +26,38 @@ ti show | file | ^Z^A\000^A\000\000\000\000\000\000\000\000^A^B^C^D^E^F^G^H^I\n^
 ti expand #0 | terminal | ^Z^A^]\000\000\000\000\000^A\000^E\000x\E]0;pwned^G|\E[31mred\nflag am\000\000\000\000\E[2J\000 => 0 out \E[2J
 "##;
 
-/// How a run at a terminal or elsewhere ends.
-fn end_at(
-    alloc: Global,
-    words: &[&str],
-    at_terminal: bool,
-    input: &[u8],
-) -> Result<Vec<u8>, Unfound> {
-    let mut output = Sink::new(alloc);
-    let mut errors = Sink::new(alloc);
-    let mut input = Source::new(input, 100);
-    let at = Terminals {
-        output: destination(at_terminal),
-        ..Terminals::NONE
-    };
-    let status = run_at(
-        &NoStore,
-        alloc,
-        alloc,
-        at,
-        words,
-        &mut input,
-        &mut output,
-        &mut errors,
-    );
-    told(
-        alloc,
-        status,
-        output.taken.as_slice(),
-        errors.taken.as_slice(),
-    )
-}
+/// How the run of a row at a terminal or elsewhere ends.
+struct EndAt;
 
-/// How the run of a row ends.
-fn end_in(alloc: Global, given: &str) -> Result<Vec<u8>, Unfound> {
-    let [words, at, input, ..] = fields_of(given);
-    let words = words_of(alloc, words)?;
-    let input = bytes_of(alloc, input)?;
-    end_at(alloc, words.as_slice(), at == "terminal", input.as_slice())
+impl Finds for EndAt {
+    fn find(&self, given: &Given<'_, '_>, found: &mut Vec<u8>) -> Result<(), Unfound> {
+        let alloc = *found.allocator();
+        let (mut output, mut errors) = (Sink::new(alloc), Sink::new(alloc));
+        let mut input = Source::new(given.third, 100);
+        let at = Terminals {
+            output: destination(given.fields()[1] == "terminal"),
+            ..Terminals::NONE
+        };
+        let status = run_at(
+            &NoStore,
+            alloc,
+            alloc,
+            at,
+            given.words,
+            &mut input,
+            &mut output,
+            &mut errors,
+        );
+        add_outcome(
+            found,
+            status,
+            output.taken.as_slice(),
+            errors.taken.as_slice(),
+        )
+    }
 }
 
 #[test]
-fn names_forge_no_line_if_they_are_escaped(rt: HostRuntime) -> Result<(), Fail> {
-    check_rows(rt.alloc(), ROWS, end_in)
+fn names_forge_no_line_if_they_are_escaped(rt: HostRuntime) {
+    check_rows(&rt, ROWS, &EndAt);
 }

@@ -1,11 +1,11 @@
 //! Words that ask for help, and the help.
 
-use super::ending::{End, end_of, end_over, is_end};
+use super::ending::{end_of, end_with, is_end};
 use super::refused_lines::has_part;
+use crate::tests::check_rows;
 use std::alloc::Global;
-use std::test::Fail;
 use ti_fixtures::entries::SMALL;
-use ti_fixtures::{Sink, Source, Unfound, bytes_of, check_rows, of_words};
+use ti_fixtures::{Finds, Given, Sink, Source, Unfound, bytes_of, only_if};
 use ti_line::{Destination, NoLine, read_line};
 
 /// Words that ask for help, and what the help has.
@@ -25,10 +25,10 @@ ti get --help | <NAME> | < ENTRY | --entry <FILE> | cursor_address | flag#N | as
 ti --version | ti 0.3.0\n => -
 ";
 
-/// What is shown of the help that words ask for.
-fn help_of(alloc: Global, words: &[&str]) -> Result<Vec<u8>, Unfound> {
-    match read_line(alloc, Destination::File, words) {
-        Err(NoLine::Help(message)) => Ok(message.as_str().as_bytes().to_vec(alloc)?),
+/// Adds the help that words ask for.
+fn add_help(help: &mut Vec<u8>, words: &[&str]) -> Result<(), Unfound> {
+    match read_line(*help.allocator(), Destination::File, words) {
+        Err(NoLine::Help(message)) => Ok(help.extend_from_slice(message.as_str().as_bytes())?),
         _ => Err(Unfound),
     }
 }
@@ -49,30 +49,37 @@ fn is_narrow(text: &[u8]) -> bool {
     true
 }
 
-/// The parts that a text lacks.
-fn lacking(alloc: Global, text: &[u8], parts: &str) -> Result<Vec<u8>, Unfound> {
-    let mut lacking = Vec::new(alloc);
-    for part in parts.split(" | ") {
-        if !has_part(text, bytes_of(alloc, part)?.as_slice()) {
-            lacking.extend_from_slice(part.as_bytes())?;
-        }
+/// Adds the part of a row if a text lacks it.
+fn add_lacking(lacking: &mut Vec<u8>, text: &[u8], part: &str) -> Result<(), Unfound> {
+    if has_part(text, bytes_of(*lacking.allocator(), part)?.as_slice()) {
+        return Ok(());
     }
-    Ok(lacking)
+    Ok(lacking.extend_from_slice(part.as_bytes())?)
+}
+
+/// Adds the parts of a row that a text lacks.
+fn add_all_lacking(lacking: &mut Vec<u8>, text: &[u8], row: &str) -> Result<(), Unfound> {
+    for part in row.split(" | ").skip(1) {
+        add_lacking(lacking, text, part)?;
+    }
+    Ok(())
 }
 
 /// The parts that the help lacks for which the words of a row ask. No line has more than 80 bytes.
-fn lacking_in(alloc: Global, given: &str) -> Result<Vec<u8>, Unfound> {
-    let (words, parts) = given.split_once(" | ").ok_or("words")?;
-    let text = of_words(alloc, words, help_of)?;
-    if !is_narrow(text.as_slice()) {
-        return Err(Unfound);
+struct Lacking;
+
+impl Finds for Lacking {
+    fn find(&self, given: &Given<'_, '_>, found: &mut Vec<u8>) -> Result<(), Unfound> {
+        let mut help = Vec::new(*found.allocator());
+        add_help(&mut help, given.words)?;
+        only_if(is_narrow(help.as_slice()))?;
+        add_all_lacking(found, help.as_slice(), given.text)
     }
-    lacking(alloc, text.as_slice(), parts)
 }
 
 #[test]
-fn help_says_what_a_person_needs(rt: HostRuntime) -> Result<(), Fail> {
-    check_rows(rt.alloc(), HELP, lacking_in)
+fn help_says_what_a_person_needs(rt: HostRuntime) {
+    check_rows(&rt, HELP, &Lacking);
 }
 
 /// Words that ask for help or for the version, and what comes of it if it can be written, and if not.
@@ -84,70 +91,83 @@ ti expand --help => written
 ";
 
 /// Whether help goes where results go, and the run reads nothing; and fails if it cannot be written.
-fn asked(alloc: Global, words: &[&str]) -> Result<Vec<u8>, Unfound> {
-    let end = end_of(alloc, words, SMALL);
-    let is_written = end.status == 0 && end.errors.is_empty() && end.reads == 0;
-    let output = Sink::failing_at(alloc, 512, 1);
-    let source = Source::new(SMALL, 5);
-    let failed = end_over(alloc, alloc, words, source, output, Sink::new(alloc));
-    let is_told = failed.status == 5 && failed.errors.as_slice() == b"output: failed\n".as_slice();
-    if !is_written || end.output.is_empty() || !is_told {
-        return Err(Unfound);
+struct Asked;
+
+impl Finds for Asked {
+    fn find(&self, given: &Given<'_, '_>, found: &mut Vec<u8>) -> Result<(), Unfound> {
+        let alloc = *found.allocator();
+        let end = end_of(alloc, given.words, SMALL);
+        let is_written = end.status == 0 && end.errors.is_empty() && end.reads == 0;
+        only_if(is_written && !end.output.is_empty())?;
+        only_if(stops_after(alloc, given.words, b""))?;
+        Ok(found.extend_from_slice(b"written")?)
     }
-    Ok(b"written".to_vec(alloc)?)
 }
 
 #[test]
-fn help_goes_where_results_go(rt: HostRuntime) -> Result<(), Fail> {
+fn help_goes_where_results_go(rt: HostRuntime) {
+    check_rows(&rt, ASKING, &Asked);
+}
+
+/// What the help of the whole command has.
+const WHOLE: &str = r"
+ti --help | Read, check, compare, expand and write compiled terminfo entries\n | cap | trace | show | check | expand | convert | get => -
+";
+
+/// The parts of a row that the output of its words lacks, which starts with the first of them and ends a line.
+struct LackingInOutput;
+
+impl Finds for LackingInOutput {
+    fn find(&self, given: &Given<'_, '_>, found: &mut Vec<u8>) -> Result<(), Unfound> {
+        let end = end_of(*found.allocator(), given.words, SMALL);
+        let text = end.output.as_slice();
+        only_if(end.status == 0 && end.errors.is_empty())?;
+        only_if(text.starts_with(given.second) && text.ends_with(b"\n"))?;
+        add_all_lacking(found, text, given.text)
+    }
+}
+
+#[test]
+fn help_is_the_text_of_the_command(rt: HostRuntime) {
+    check_rows(&rt, WHOLE, &LackingInOutput);
+}
+
+/// Whether help ends as it should after these bytes, if its writer takes 64 at a time and then fails.
+fn stops_after(alloc: Global, words: &[&str], front: &[u8]) -> bool {
+    let output = Sink::failing_at(alloc, 64, (front.len() / 64).saturating_add(1));
+    let end = end_with(alloc, words, Source::new(SMALL, 512), output);
+    is_end(&end, 5, front, b"output: failed\n")
+}
+
+/// Whether help stops wherever its writer of 64 bytes at a time fails.
+fn stops_at_each(alloc: Global, words: &[&str], help: &[u8]) -> bool {
+    let mut is_each = true;
+    for count in 0..help.len().div_ceil(64) {
+        is_each &= stops_after(alloc, words, &help[..64 * count]);
+    }
+    is_each
+}
+
+/// Whether the help that words ask for is written in full, and stops where its writer fails.
+struct Stops;
+
+impl Finds for Stops {
+    fn find(&self, given: &Given<'_, '_>, found: &mut Vec<u8>) -> Result<(), Unfound> {
+        let alloc = *found.allocator();
+        let mut help = Vec::new(alloc);
+        add_help(&mut help, given.words)?;
+        let whole = end_of(alloc, given.words, SMALL);
+        only_if(is_end(&whole, 0, help.as_slice(), b""))?;
+        only_if(stops_at_each(alloc, given.words, help.as_slice()))?;
+        Ok(found.extend_from_slice(b"written in full, or up to a failed write")?)
+    }
+}
+
+#[test]
+fn help_stops_where_the_writer_fails(rt: HostRuntime) {
     check_rows(
-        rt.alloc(),
-        ASKING,
-        |alloc, given| of_words(alloc, given, asked),
-    )
-}
-
-#[test]
-fn help_is_the_text_of_the_command(rt: HostRuntime) -> Result<(), Fail> {
-    let end = end_of(rt.alloc(), &["ti", "--help"], SMALL);
-    assert_that!(rt; end.status == 0 && end.errors.is_empty());
-    let text = end.output.as_slice();
-    let about = b"Read, check, compare, expand and write compiled terminfo entries\n";
-    assert_that!(rt; text.starts_with(about) && text.ends_with(b"\n"));
-    let commands = "cap | trace | show | check | expand | convert | get";
-    assert_that!(rt; lacking(rt.alloc(), text, commands)?.is_empty());
-    Ok(())
-}
-
-const SHOW: [&str; 3] = ["ti", "show", "--help"];
-
-/// Runs `show --help` with a writer that takes 64 bytes at a time, and fails at this write.
-fn end_of_help(alloc: Global, write: usize) -> End {
-    let output = Sink::failing_at(alloc, 64, write);
-    end_over(
-        alloc,
-        alloc,
-        &SHOW,
-        Source::new(SMALL, 512),
-        output,
-        Sink::new(alloc),
-    )
-}
-
-#[test]
-fn help_stops_where_the_writer_fails(rt: HostRuntime) -> Result<(), Fail> {
-    let message = help_of(rt.alloc(), &SHOW)?;
-    let text = message.as_slice();
-    for k in 1..=text.len().div_ceil(64) {
-        let end = end_of_help(rt.alloc(), k);
-        assert_that!(rt; is_end(&end, 5, &text[..64 * (k - 1)], b"output: failed\n"));
-    }
-    Ok(())
-}
-
-#[test]
-fn help_is_written_in_full(rt: HostRuntime) -> Result<(), Fail> {
-    let message = help_of(rt.alloc(), &SHOW)?;
-    let end = end_of_help(rt.alloc(), usize::MAX);
-    assert_that!(rt; is_end(&end, 0, message.as_slice(), b""));
-    Ok(())
+        &rt,
+        "ti show --help => written in full, or up to a failed write",
+        &Stops,
+    );
 }

@@ -1,28 +1,20 @@
 //! Runs over a capability that is as deep or as long as it may be: each command goes through.
 
-use super::ending::end_over;
+use super::ending::{End, add_end, end_of, end_with};
+use crate::tests::check_rows;
 use std::alloc::Global;
-use std::test::Fail;
 use ti_entry::{Draft, encode};
 use ti_fixtures::capabilities::deep;
-use ti_fixtures::{Sink, Source};
+use ti_fixtures::entries::{longest, shared_by_many};
+use ti_fixtures::{Finds, Given, Sink, Source, Unfound, bytes_of, only_if, show};
 use ti_words::{Text, Width};
 
-/// What the program writes for words and the bytes that it reads, if it ends with status 0.
-fn written(alloc: Global, words: &[&str], bytes: &[u8]) -> Result<Vec<u8>, Fail> {
-    let source = Source::new(bytes, 512);
-    let end = end_over(
-        alloc,
-        alloc,
-        words,
-        source,
-        Sink::new(alloc),
-        Sink::new(alloc),
-    );
-    if end.status == 0 {
-        return Ok(end.output);
-    }
-    Err(Fail::from("another status"))
+/// So many bytes, and others after them.
+fn many(alloc: Global, byte: u8, count: usize, after: &[u8]) -> Result<Vec<u8>, Unfound> {
+    let mut bytes = Vec::new(alloc);
+    bytes.resize(count, byte)?;
+    bytes.extend_from_slice(after)?;
+    Ok(bytes)
 }
 
 /// The bytes of a draft with a text more.
@@ -30,118 +22,124 @@ fn encoded_with<'a>(
     alloc: Global,
     draft: &mut Draft<'a, Global>,
     text: &'a [u8],
-) -> Result<Vec<u8>, Fail> {
+) -> Result<Vec<u8>, Unfound> {
     draft.push_text(Text::Value(text))?;
     Ok(encode(alloc, &*draft)?)
 }
 
 /// An entry whose one text is this.
-fn entry_of(alloc: Global, text: &[u8]) -> Result<Vec<u8>, Fail> {
+fn entry_of(alloc: Global, text: &[u8]) -> Result<Vec<u8>, Unfound> {
     let mut draft = Draft::new(alloc, b"t", Width::Legacy);
     encoded_with(alloc, &mut draft, text)
 }
 
-/// The words that expand the one text of an entry.
-const EXPAND: [&str; 6] = ["ti", "expand", "--rate", "960", "cbt", "n:12"];
+/// The bytes of a name: a capability of depth 32, one of 32000 bytes `a` and a number, and what it writes for the number 12; an
+/// entry whose texts are the same bytes, and the longest; 20000 bytes 128; and NULs in octal, as many as a capability may have.
+fn input_of(alloc: Global, name: &str) -> Result<Vec<u8>, Unfound> {
+    match name {
+        "deep" => Ok(deep(alloc)?),
+        "large" => many(alloc, b'a', 32000, b"%p1%d"),
+        "large output" => many(alloc, b'a', 32000, b"12"),
+        "shared by many" => Ok(shared_by_many().to_vec(alloc)?),
+        "longest" => Ok(longest().to_vec(alloc)?),
+        "not ASCII" => many(alloc, 0x80, 20000, b""),
+        _ => Err(Unfound),
+    }
+}
 
-/// What the deep capability writes for the number 12.
-const DEEP_OUTPUT: &[u8] = b"12121212121212121212121212121212121212121212121212121212121212";
+/// The bytes of a name, or the entry whose one text is these bytes.
+fn named_of(alloc: Global, name: &str) -> Result<Vec<u8>, Unfound> {
+    match name.strip_prefix("entry of ") {
+        Some(text) => entry_of(alloc, input_of(alloc, text)?.as_slice()),
+        None => input_of(alloc, name),
+    }
+}
+
+/// The run of a row over what its second field names.
+fn run_of(alloc: Global, given: &Given<'_, '_>) -> Result<End, Unfound> {
+    let input = named_of(alloc, given.fields()[1])?;
+    let source = Source::new(input.as_slice(), 512);
+    Ok(end_with(alloc, given.words, source, Sink::new(alloc)))
+}
+
+/// How the run of a row ends.
+struct EndOfLarge;
+
+impl Finds for EndOfLarge {
+    fn find(&self, given: &Given<'_, '_>, found: &mut Vec<u8>) -> Result<(), Unfound> {
+        add_end(found, &run_of(*found.allocator(), given)?)
+    }
+}
+
+/// Runs over what is large, and what they write.
+const SHORT: &str = r"
+ti cap n:12 | deep => 0 out 12121212121212121212121212121212121212121212121212121212121212
+ti expand --rate 960 cbt n:12 | entry of deep => 0 out 12121212121212121212121212121212121212121212121212121212121212
+ti check | entry of deep => 0 out text cbt ok depth 32 bound 341\n
+ti check | entry of large => 0 out text cbt ok depth 1 bound 32011\n
+ti convert | shared by many => 3 err entry: TooManyOrLong\n
+ti convert --wide | longest => 3 err entry: TooManyOrLong\n
+";
 
 #[test]
-fn a_deep_capability_is_run_and_traced(rt: HostRuntime) -> Result<(), Fail> {
-    let bytes = deep(rt.alloc())?;
-    let out = written(rt.alloc(), &["ti", "cap", "n:12"], bytes.as_slice())?;
-    assert_same!(rt; out.as_slice(), DEEP_OUTPUT);
-    let traced = written(rt.alloc(), &["ti", "trace", "n:12"], bytes.as_slice())?;
-    let counts = b"\nwritten: 62\nran: 190\npassed: 0\nheight: 32\ndepth: 32\nbound: 341\n";
-    assert_that!(rt; traced.as_slice().ends_with(counts));
-    Ok(())
+fn large_inputs_are_run_and_checked(rt: HostRuntime) {
+    check_rows(&rt, SHORT, &EndOfLarge);
 }
+
+/// Whether the run of a row writes what its third field names.
+struct IsOutput;
+
+impl Finds for IsOutput {
+    fn find(&self, given: &Given<'_, '_>, found: &mut Vec<u8>) -> Result<(), Unfound> {
+        let alloc = *found.allocator();
+        let end = run_of(alloc, given)?;
+        let wanted = named_of(alloc, given.fields()[2])?;
+        show(
+            found,
+            &(end.status == 0 && end.output.as_slice() == wanted.as_slice()),
+        )
+    }
+}
+
+/// Runs that write what is large.
+const LONG: &str = r"
+ti convert | entry of deep | entry of deep => true
+ti convert | entry of large | entry of large => true
+ti cap n:12 | large | large output => true
+ti expand --rate 960 cbt n:12 | entry of large | large output => true
+";
 
 #[test]
-fn a_deep_text_is_expanded_and_converted(rt: HostRuntime) -> Result<(), Fail> {
-    let bytes = deep(rt.alloc())?;
-    let entry = entry_of(rt.alloc(), bytes.as_slice())?;
-    let out = written(rt.alloc(), &EXPAND, entry.as_slice())?;
-    assert_same!(rt; out.as_slice(), DEEP_OUTPUT);
-    let same = written(rt.alloc(), &["ti", "convert"], entry.as_slice())?;
-    assert_same!(rt; same.as_slice(), entry.as_slice());
-    Ok(())
+fn large_outputs_are_written(rt: HostRuntime) {
+    check_rows(&rt, LONG, &IsOutput);
 }
+
+/// How many bytes the run of a row writes, the first and the last of which are those of its fields.
+struct LengthOf;
+
+impl Finds for LengthOf {
+    fn find(&self, given: &Given<'_, '_>, found: &mut Vec<u8>) -> Result<(), Unfound> {
+        let alloc = *found.allocator();
+        let end = run_of(alloc, given)?;
+        let last = bytes_of(alloc, given.fields()[3])?;
+        let output = end.output.as_slice();
+        only_if(end.status == 0)?;
+        only_if(output.starts_with(given.third) && output.ends_with(last.as_slice()))?;
+        show(found, &output.len())
+    }
+}
+
+/// Runs with their first and last bytes, and how many there are. The trace of the large capability has a header of 60 bytes, 32000
+/// lines of 57, one of 56 and one of 59, and 64081 after them.
+const LENGTHS: &str = r"
+ti trace n:12 | deep | place^Itoken | \nwritten: 62\nran: 190\npassed: 0\nheight: 32\ndepth: 32\nbound: 341\n => 19296
+ti trace n:12 | large | place^Itoken | \nwritten: 32002\nran: 32002\npassed: 0\nheight: 1\ndepth: 1\nbound: 32011\n => 1888256
+ti show | entry of deep | format: legacy\nnames: t\ntext cbt 257031257031 | \n => 920
+ti show | entry of large | format: legacy\nnames: t\ntext cbt 6161 | 61612570312564\n => 64044
+ti cap --escape | not ASCII | \\200\\200 | \\200\\200\n => 80001
+";
 
 #[test]
-fn a_deep_text_is_checked_and_shown(rt: HostRuntime) -> Result<(), Fail> {
-    let bytes = deep(rt.alloc())?;
-    let entry = entry_of(rt.alloc(), bytes.as_slice())?;
-    let verdict = written(rt.alloc(), &["ti", "check"], entry.as_slice())?;
-    assert_same!(rt; verdict.as_slice(), b"text cbt ok depth 32 bound 341\n");
-    let shown = written(rt.alloc(), &["ti", "show"], entry.as_slice())?;
-    assert_that!(rt; shown.as_slice().starts_with(b"format: legacy\nnames: t\ntext cbt 257031257031"));
-    assert_that!(rt; shown.len() == 920);
-    Ok(())
-}
-
-/// A capability of 32000 bytes `a` and a number.
-fn large(alloc: Global) -> Result<Vec<u8>, Fail> {
-    let mut bytes = Vec::from_slice(alloc, &[b'a'; 32000])?;
-    bytes.extend_from_slice(b"%p1%d")?;
-    Ok(bytes)
-}
-
-/// What it writes for the number 12.
-fn large_output(alloc: Global) -> Result<Vec<u8>, Fail> {
-    let mut bytes = Vec::from_slice(alloc, &[b'a'; 32000])?;
-    bytes.extend_from_slice(b"12")?;
-    Ok(bytes)
-}
-
-#[test]
-fn a_large_capability_is_run(rt: HostRuntime) -> Result<(), Fail> {
-    let bytes = large(rt.alloc())?;
-    let out = written(rt.alloc(), &["ti", "cap", "n:12"], bytes.as_slice())?;
-    assert_that!(rt; out.as_slice() == large_output(rt.alloc())?.as_slice());
-    Ok(())
-}
-
-/// A header of 60 bytes, 32000 lines of 57, one of 56 and one of 59, and 64081 after them.
-#[test]
-fn a_large_capability_is_traced(rt: HostRuntime) -> Result<(), Fail> {
-    let bytes = large(rt.alloc())?;
-    let traced = written(rt.alloc(), &["ti", "trace", "n:12"], bytes.as_slice())?;
-    let counts = b"\nwritten: 32002\nran: 32002\npassed: 0\nheight: 1\ndepth: 1\nbound: 32011\n";
-    assert_that!(rt; traced.as_slice().ends_with(counts));
-    assert_that!(rt; traced.len() == 1888256);
-    Ok(())
-}
-
-#[test]
-fn a_large_text_is_expanded_and_converted(rt: HostRuntime) -> Result<(), Fail> {
-    let bytes = large(rt.alloc())?;
-    let entry = entry_of(rt.alloc(), bytes.as_slice())?;
-    let out = written(rt.alloc(), &EXPAND, entry.as_slice())?;
-    assert_that!(rt; out.as_slice() == large_output(rt.alloc())?.as_slice());
-    let same = written(rt.alloc(), &["ti", "convert"], entry.as_slice())?;
-    assert_same!(rt; same.as_slice(), entry.as_slice());
-    Ok(())
-}
-
-#[test]
-fn a_large_text_is_checked_and_shown(rt: HostRuntime) -> Result<(), Fail> {
-    let bytes = large(rt.alloc())?;
-    let entry = entry_of(rt.alloc(), bytes.as_slice())?;
-    let verdict = written(rt.alloc(), &["ti", "check"], entry.as_slice())?;
-    assert_same!(rt; verdict.as_slice(), b"text cbt ok depth 1 bound 32011\n");
-    let shown = written(rt.alloc(), &["ti", "show"], entry.as_slice())?;
-    assert_that!(rt; shown.as_slice().ends_with(b"61612570312564\n"));
-    assert_that!(rt; shown.len() == 64044);
-    Ok(())
-}
-
-#[test]
-fn a_long_notation_goes_through(rt: HostRuntime) -> Result<(), Fail> {
-    let shown = written(rt.alloc(), &["ti", "cap", "--escape"], &[0x80; 20000])?;
-    assert_that!(rt; shown.len() == 80001);
-    assert_that!(rt; shown.as_slice().starts_with(b"\\200\\200"));
-    assert_that!(rt; shown.as_slice().ends_with(b"\\200\\200\n"));
-    Ok(())
+fn large_traces_and_listings_have_their_lengths(rt: HostRuntime) {
+    check_rows(&rt, LENGTHS, &LengthOf);
 }

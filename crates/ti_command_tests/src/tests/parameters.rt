@@ -1,10 +1,9 @@
 //! Words that are parameters, and texts that are as long as they may be.
 
-use super::ending::{end_of, is_end};
+use super::ending::{End, add_end, end_of};
+use crate::tests::check_rows;
 use std::alloc::Global;
-use std::test::Fail;
-use ti_fixtures::traces::LENGTH_OF_TEXT;
-use ti_fixtures::{Unfound, check_rows, of_words};
+use ti_fixtures::{Finds, Given, Unfound, place_of, show_debug};
 use ti_line::read_given;
 use ti_tool::read_params;
 
@@ -21,18 +20,17 @@ n:0 n:1 s:$<5> => [Num(0), Num(1), Text([36, 60, 53, 62]), Num(0), Num(0), Num(0
 ";
 
 /// The parameters that words are.
-fn parameters_of(alloc: Global, words: &[&str]) -> Result<Vec<u8>, Unfound> {
-    let text = format!(in alloc; "{:?}", read_params(words)?)?;
-    Ok(text.as_str().as_bytes().to_vec(alloc)?)
+struct Parameters;
+
+impl Finds for Parameters {
+    fn find(&self, given: &Given<'_, '_>, found: &mut Vec<u8>) -> Result<(), Unfound> {
+        show_debug(found, &read_params(given.words)?)
+    }
 }
 
 #[test]
-fn words_are_read_as_parameters(rt: HostRuntime) -> Result<(), Fail> {
-    check_rows(
-        rt.alloc(),
-        READ,
-        |alloc, given| of_words(alloc, given, parameters_of),
-    )
+fn words_are_read_as_parameters(rt: HostRuntime) {
+    check_rows(&rt, READ, &Parameters);
 }
 
 /// Words of `get`, and the first two parameters that they give.
@@ -50,60 +48,61 @@ n - => [Text([110]), Text([45])]
 ";
 
 /// The first two parameters that words give to `get`.
-fn given_of(alloc: Global, words: &[&str]) -> Result<Vec<u8>, Unfound> {
-    let given = read_given(words)?.ok_or("none")?;
-    let text = format!(in alloc; "{:?}", &given.params[..2])?;
-    Ok(text.as_str().as_bytes().to_vec(alloc)?)
+struct GivenToGet;
+
+impl Finds for GivenToGet {
+    fn find(&self, given: &Given<'_, '_>, found: &mut Vec<u8>) -> Result<(), Unfound> {
+        let read = read_given(given.words)?.ok_or("none")?;
+        show_debug(found, &&read.params[..2])
+    }
 }
 
 #[test]
-fn words_give_parameters_to_get(rt: HostRuntime) -> Result<(), Fail> {
+fn words_give_parameters_to_get(rt: HostRuntime) {
     assert_that!(rt; matches!(read_given(&[]), Ok(None)));
-    check_rows(
-        rt.alloc(),
-        GIVEN,
-        |alloc, given| of_words(alloc, given, given_of),
-    )
+    check_rows(&rt, GIVEN, &GivenToGet);
+}
+
+/// The run of `ti trace --escape` or of `ti cap n:1` with one word more.
+fn end_with(alloc: Global, is_trace: bool, word: &str, input: &[u8]) -> End {
+    let words = if is_trace {
+        ["ti", "trace", "--escape", word]
+    } else {
+        ["ti", "cap", "n:1", word]
+    };
+    end_of(alloc, &words, input)
 }
 
 /// A word for a text of so many bytes `a`.
-fn word_of(alloc: Global, len: usize) -> Result<String, Fail> {
-    let mut word = String::new(alloc);
-    word.push_str("s:")?;
+fn word_of(alloc: Global, len: usize) -> Result<String, Unfound> {
+    let mut word = String::from_str(alloc, "s:")?;
     for _ in 0..len {
         word.push('a')?;
     }
     Ok(word)
 }
 
-#[test]
-fn a_text_that_is_too_long_has_its_line(rt: HostRuntime) -> Result<(), Fail> {
-    let word = word_of(rt.alloc(), 32768)?;
-    let end = end_of(rt.alloc(), &["ti", "cap", "n:1", word.as_str()], b"%p1%d");
-    assert_that!(rt; is_end(&end, 4, b"", b"capability: TextTooLong 2\n"));
-    Ok(())
+/// How the run of a row ends, whose last word is for a text as long as the third field says.
+struct EndWithText;
+
+impl Finds for EndWithText {
+    fn find(&self, given: &Given<'_, '_>, found: &mut Vec<u8>) -> Result<(), Unfound> {
+        let [command, _, len, ..] = given.fields();
+        let word = word_of(*found.allocator(), place_of(len)?)?;
+        let is_trace = command == "trace";
+        let end = end_with(*found.allocator(), is_trace, word.as_str(), given.second);
+        add_end(found, &end)
+    }
 }
 
-#[test]
-fn a_text_that_is_traced_is_as_long_as_it_may_be(rt: HostRuntime) -> Result<(), Fail> {
-    let word = word_of(rt.alloc(), 32767)?;
-    let end = end_of(
-        rt.alloc(),
-        &["ti", "trace", "--escape", word.as_str()],
-        b"%p1%l%d",
-    );
-    assert_that!(rt; is_end(&end, 0, LENGTH_OF_TEXT, b""));
-    Ok(())
-}
+/// Texts that are as long as they may be, or longer.
+const LONG: &str = r"
+cap | %p1%d | 32768 => 4 err capability: TextTooLong 2\n
+trace | %p1%l%d | 32767 => 0 out place^Itoken          ^Irun    ^Istack                  ^Iwrote\n    0^I%p1            ^Iran    ^Is:aaaaaaaaaaaaaaaa,..32767^I-\n    3^I%l             ^Iran    ^I32767                  ^I-\n    5^I%d             ^Iran    ^I-                      ^I32767\noutput: 32767\nwritten: 5\nran: 3\npassed: 0\nheight: 1\ndepth: 1\nbound: 11\n
+trace | %p1%l%d | 32768 => 4 err capability: TextTooLong 1\n
+";
 
 #[test]
-fn a_text_that_is_too_long_is_not_traced(rt: HostRuntime) -> Result<(), Fail> {
-    let word = word_of(rt.alloc(), 32768)?;
-    let end = end_of(
-        rt.alloc(),
-        &["ti", "trace", "--escape", word.as_str()],
-        b"%p1%l%d",
-    );
-    assert_that!(rt; is_end(&end, 4, b"", b"capability: TextTooLong 1\n"));
-    Ok(())
+fn a_text_is_at_most_as_long_as_it_may_be(rt: HostRuntime) {
+    check_rows(&rt, LONG, &EndWithText);
 }

@@ -1,9 +1,9 @@
 //! Words that are read as a command line, and what it requests.
 
+use crate::tests::check_rows;
 use std::alloc::Global;
-use std::test::Fail;
 use ti_escape::Color;
-use ti_fixtures::{Unfound, check_rows, of_words, shown};
+use ti_fixtures::{Finds, Given, Unfound, only_if, show, show_debug};
 use ti_line::{Asked, Destination, LineFault, NoLine, Request, Task, read_line};
 
 /// A terminal on which parts of lines stand out.
@@ -79,40 +79,40 @@ ti get bel 1 2 3 4 5 6 7 8 9 10 => TooMany
 ";
 
 /// What words request, and the first two parameters. No file is named but by a difference.
-fn request_of(alloc: Global, words: &[&str]) -> Result<Vec<u8>, Unfound> {
-    let Task { request, files } = read_line(alloc, Destination::File, words)?;
-    let Request { parameters, asked } = request;
-    if !files.is_empty() && !matches!(asked, Asked::Difference(_)) {
-        return Err(Unfound);
-    }
-    let text = format!(in alloc; "{asked:?} {:?}", &parameters[..2])?;
-    Ok(text.as_str().as_bytes().to_vec(alloc)?)
-}
+struct Requests;
 
-#[test]
-fn words_are_read_as_requests(rt: HostRuntime) -> Result<(), Fail> {
-    check_rows(
-        rt.alloc(),
-        READ,
-        |alloc, given| of_words(alloc, given, request_of),
-    )
-}
-
-/// The fault of the line that words are.
-fn fault_of(alloc: Global, words: &[&str]) -> Result<Vec<u8>, Unfound> {
-    match read_line(alloc, Destination::File, words) {
-        Err(NoLine::Fault(fault)) => shown(alloc, &fault),
-        _ => Err(Unfound),
+impl Finds for Requests {
+    fn find(&self, given: &Given<'_, '_>, found: &mut Vec<u8>) -> Result<(), Unfound> {
+        let alloc = *found.allocator();
+        let Task { request, files } = read_line(alloc, Destination::File, given.words)?;
+        let Request { parameters, asked } = request;
+        only_if(files.is_empty() || matches!(asked, Asked::Difference(_)))?;
+        show_debug(found, &asked)?;
+        found.push(b' ')?;
+        show_debug(found, &&parameters[..2])
     }
 }
 
 #[test]
-fn lines_have_faults(rt: HostRuntime) -> Result<(), Fail> {
-    check_rows(
-        rt.alloc(),
-        FAULTY,
-        |alloc, given| of_words(alloc, given, fault_of),
-    )
+fn words_are_read_as_requests(rt: HostRuntime) {
+    check_rows(&rt, READ, &Requests);
+}
+
+/// The fault of the line that words are, at a terminal or not.
+struct FaultAt(Destination);
+
+impl Finds for FaultAt {
+    fn find(&self, given: &Given<'_, '_>, found: &mut Vec<u8>) -> Result<(), Unfound> {
+        match read_line(*found.allocator(), self.0, given.words) {
+            Err(NoLine::Fault(fault)) => show(found, &fault),
+            _ => Err(Unfound),
+        }
+    }
+}
+
+#[test]
+fn lines_have_faults(rt: HostRuntime) {
+    check_rows(&rt, FAULTY, &FaultAt(Destination::File));
 }
 
 /// Words, and what they ask for at a terminal that has color.
@@ -129,27 +129,24 @@ ti lint --color=never => Entry(Lint(Mistakes, Never))
 ";
 
 /// What words ask for at a terminal.
-fn asked_at_terminal(alloc: Global, words: &[&str]) -> Result<Vec<u8>, Unfound> {
-    let Task { request, .. } = read_line(alloc, TERMINAL, words)?;
-    let Request { asked, .. } = request;
-    let text = format!(in alloc; "{asked:?}")?;
-    Ok(text.as_str().as_bytes().to_vec(alloc)?)
+struct AskedAtTerminal;
+
+impl Finds for AskedAtTerminal {
+    fn find(&self, given: &Given<'_, '_>, found: &mut Vec<u8>) -> Result<(), Unfound> {
+        let Task { request, .. } = read_line(*found.allocator(), TERMINAL, given.words)?;
+        let Request { asked, .. } = request;
+        show_debug(found, &asked)
+    }
 }
 
 #[test]
-fn a_terminal_asks_for_the_notation_and_color(rt: HostRuntime) -> Result<(), Fail> {
-    check_rows(
-        rt.alloc(),
-        AT_A_TERMINAL,
-        |alloc, given| of_words(alloc, given, asked_at_terminal),
-    )
+fn a_terminal_asks_for_the_notation_and_color(rt: HostRuntime) {
+    check_rows(&rt, AT_A_TERMINAL, &AskedAtTerminal);
 }
 
 #[test]
-fn an_entry_goes_to_a_terminal_by_force_alone(rt: HostRuntime) -> Result<(), Fail> {
-    let read = read_line(rt.alloc(), TERMINAL, &["ti", "convert", "--wide"]);
-    assert_that!(rt; matches!(read, Err(NoLine::Fault(LineFault::ToTerminal))));
-    Ok(())
+fn an_entry_goes_to_a_terminal_by_force_alone(rt: HostRuntime) {
+    check_rows(&rt, "ti convert --wide => ToTerminal", &FaultAt(TERMINAL));
 }
 
 /// Words, and the files that they name.
@@ -166,17 +163,16 @@ ti cap n:4 => []
 "#;
 
 /// The files that words name.
-fn files_of(alloc: Global, words: &[&str]) -> Result<Vec<u8>, Unfound> {
-    let Task { files, .. } = read_line(alloc, Destination::File, words)?;
-    let text = format!(in alloc; "{files:?}")?;
-    Ok(text.as_str().as_bytes().to_vec(alloc)?)
+struct FilesOf;
+
+impl Finds for FilesOf {
+    fn find(&self, given: &Given<'_, '_>, found: &mut Vec<u8>) -> Result<(), Unfound> {
+        let Task { files, .. } = read_line(*found.allocator(), Destination::File, given.words)?;
+        show_debug(found, &files)
+    }
 }
 
 #[test]
-fn words_name_files(rt: HostRuntime) -> Result<(), Fail> {
-    check_rows(
-        rt.alloc(),
-        FILES,
-        |alloc, given| of_words(alloc, given, files_of),
-    )
+fn words_name_files(rt: HostRuntime) {
+    check_rows(&rt, FILES, &FilesOf);
 }

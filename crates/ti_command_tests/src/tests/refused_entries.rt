@@ -1,31 +1,41 @@
-//! Runs on bytes that are no entry, and on entries that have no canonical bytes.
+//! Runs on bytes that are no entry.
 
-use super::ending::{end_of, is_end};
-use ti_fixtures::entries::{SMALL, longest, shared_by_many};
+use super::ending::{EndOf, end_of};
+use crate::tests::check_rows;
+use std::alloc::Global;
+use ti_fixtures::{Finds, Given, Unfound, only_if, show};
 
-#[test]
-fn fronts_of_entries_end_with_status_three(rt: HostRuntime) {
-    for k in 0..SMALL.len() {
-        let end = end_of(rt.alloc(), &["ti", "show"], &SMALL[..k]);
-        assert_that!(rt; end.status == 3 && end.output.is_empty());
-        assert_that!(rt; end.errors.as_slice().starts_with(b"entry: Truncated at "));
+/// Whether a run over the front of an entry ends with status 3 and the line on it.
+fn is_truncated(alloc: Global, words: &[&str], front: &[u8]) -> bool {
+    let end = end_of(alloc, words, front);
+    let is_alone = end.status == 3 && end.output.is_empty();
+    is_alone && end.errors.as_slice().starts_with(b"entry: Truncated at ")
+}
+
+/// How many fronts an entry has. Each is refused.
+struct FrontsOf;
+
+impl Finds for FrontsOf {
+    fn find(&self, given: &Given<'_, '_>, found: &mut Vec<u8>) -> Result<(), Unfound> {
+        let mut is_each = true;
+        for len in 0..given.second.len() {
+            is_each &= is_truncated(*found.allocator(), given.words, &given.second[..len]);
+        }
+        only_if(is_each)?;
+        show(found, &given.second.len())
     }
 }
 
 #[test]
+fn fronts_of_entries_end_with_status_three(rt: HostRuntime) {
+    check_rows(&rt, "ti show | @SMALL => 24", &FrontsOf);
+}
+
+#[test]
 fn bytes_that_are_no_entry_end_with_status_three(rt: HostRuntime) {
-    let end = end_of(rt.alloc(), &["ti", "show"], b"\x1b\x01");
-    assert_that!(rt; is_end(&end, 3, b"", b"entry: BadMagic at 0\n"));
-}
-
-#[test]
-fn texts_shared_by_many_end_with_status_three(rt: HostRuntime) {
-    let end = end_of(rt.alloc(), &["ti", "convert"], &shared_by_many());
-    assert_that!(rt; is_end(&end, 3, b"", b"entry: TooManyOrLong\n"));
-}
-
-#[test]
-fn the_longest_entry_that_is_widened_ends_with_status_three(rt: HostRuntime) {
-    let end = end_of(rt.alloc(), &["ti", "convert", "--wide"], &longest());
-    assert_that!(rt; is_end(&end, 3, b"", b"entry: TooManyOrLong\n"));
+    check_rows(
+        &rt,
+        r"ti show | \E^A => 3 err entry: BadMagic at 0\n",
+        &EndOf,
+    );
 }

@@ -1,10 +1,10 @@
 //! Words that are no command line, and what the user is told of them.
 
 use super::ending::{end_of, is_end};
+use crate::tests::check_rows;
 use std::alloc::Global;
-use std::test::Fail;
 use ti_fixtures::entries::SMALL;
-use ti_fixtures::{Unfound, bytes_of, check_rows, fields_of, of_words};
+use ti_fixtures::{Finds, Given, Unfound, only_if};
 use ti_line::{Destination, NoLine, read_line};
 
 /// Words that are refused, and what the text on them has.
@@ -34,10 +34,10 @@ ti expand --lines 65536 bel | 65536 is not in 0..=65535 => -
 ti expand --lines x bel | invalid value 'x' for '--lines <N>' => -
 ";
 
-/// What is shown of the refusal of words.
-fn refusal_of(alloc: Global, words: &[&str]) -> Result<Vec<u8>, Unfound> {
-    match read_line(alloc, Destination::File, words) {
-        Err(NoLine::Refused(message)) => Ok(message.as_str().as_bytes().to_vec(alloc)?),
+/// Adds the text on the refusal of words.
+fn add_refusal(text: &mut Vec<u8>, words: &[&str]) -> Result<(), Unfound> {
+    match read_line(*text.allocator(), Destination::File, words) {
+        Err(NoLine::Refused(message)) => Ok(text.extend_from_slice(message.as_str().as_bytes())?),
         _ => Err(Unfound),
     }
 }
@@ -62,31 +62,33 @@ pub fn has_part(text: &[u8], part: &[u8]) -> bool {
     false
 }
 
-/// Nothing, if the text on the refusal of the words has a part, is printable and ends a line.
-fn refusal_in(alloc: Global, given: &str) -> Result<Vec<u8>, Unfound> {
-    let [words, part, ..] = fields_of(given);
-    let text = of_words(alloc, words, refusal_of)?;
-    let part = bytes_of(alloc, part)?;
-    let is_text = is_printable(text.as_slice()) && text.as_slice().ends_with(b"\n");
-    if !is_text || !has_part(text.as_slice(), part.as_slice()) {
-        return Err(Unfound);
+/// Whether the text on the refusal of words has a part, is printable and ends a line.
+fn is_refused_with(alloc: Global, words: &[&str], part: &[u8]) -> bool {
+    let mut text = Vec::new(alloc);
+    let is_added = add_refusal(&mut text, words).is_ok();
+    let is_line = is_printable(text.as_slice()) && text.as_slice().ends_with(b"\n");
+    is_added && is_line && has_part(text.as_slice(), part)
+}
+
+/// Nothing, if the words of a row are refused with its part.
+struct RefusedWith;
+
+impl Finds for RefusedWith {
+    fn find(&self, given: &Given<'_, '_>, found: &mut Vec<u8>) -> Result<(), Unfound> {
+        only_if(is_refused_with(*found.allocator(), given.words, given.second))
     }
-    Ok(Vec::new(alloc))
 }
 
 #[test]
-fn other_words_are_refused_with_a_text(rt: HostRuntime) -> Result<(), Fail> {
-    check_rows(rt.alloc(), REFUSED, refusal_in)
+fn other_words_are_refused_with_a_text(rt: HostRuntime) {
+    check_rows(&rt, REFUSED, &RefusedWith);
 }
 
 /// No byte of a word is shown but printable ones.
 #[test]
-fn a_word_with_control_characters_is_shown_by_its_notation(rt: HostRuntime) -> Result<(), Fail> {
+fn a_word_with_control_characters_is_shown_by_its_notation(rt: HostRuntime) {
     let words = ["ti", "a\x1b]0;b\x07\nentry: c"];
-    let text = refusal_of(rt.alloc(), &words)?;
-    assert_that!(rt; has_part(text.as_slice(), b"'a\\E]0;b^G^Jentry: c'"));
-    assert_that!(rt; is_printable(text.as_slice()) && text.as_slice().ends_with(b"\n"));
-    Ok(())
+    assert_that!(rt; is_refused_with(rt.alloc(), &words, b"'a\\E]0;b^G^Jentry: c'"));
 }
 
 /// Words that are no command line.
@@ -106,29 +108,21 @@ ti cap --xon => refused
 ti cap -y => refused
 ";
 
-/// Whether a run is refused for its words, with a text, and reads nothing.
-fn end_of_refused(alloc: Global, words: &[&str]) -> Result<Vec<u8>, Unfound> {
-    let end = end_of(alloc, words, SMALL);
-    if end.status != 2 || end.reads > 0 || !end.output.is_empty() || end.errors.is_empty() {
-        return Err(Unfound);
+/// Whether a run is refused for its words, with the text on their refusal, and reads nothing.
+struct EndOfRefused;
+
+impl Finds for EndOfRefused {
+    fn find(&self, given: &Given<'_, '_>, found: &mut Vec<u8>) -> Result<(), Unfound> {
+        let alloc = *found.allocator();
+        let mut text = Vec::new(alloc);
+        add_refusal(&mut text, given.words)?;
+        let end = end_of(alloc, given.words, SMALL);
+        only_if(end.reads == 0 && !text.is_empty() && is_end(&end, 2, b"", text.as_slice()))?;
+        Ok(found.extend_from_slice(b"refused")?)
     }
-    Ok(b"refused".to_vec(alloc)?)
 }
 
 #[test]
-fn words_that_are_no_line_end_with_status_two(rt: HostRuntime) -> Result<(), Fail> {
-    check_rows(
-        rt.alloc(),
-        ENDED,
-        |alloc, given| of_words(alloc, given, end_of_refused),
-    )
-}
-
-#[test]
-fn a_refusal_is_written_in_full(rt: HostRuntime) -> Result<(), Fail> {
-    let words = ["ti", "show", "--hex"];
-    let text = refusal_of(rt.alloc(), &words)?;
-    let end = end_of(rt.alloc(), &words, SMALL);
-    assert_that!(rt; is_end(&end, 2, b"", text.as_slice()));
-    Ok(())
+fn words_that_are_no_line_end_with_status_two(rt: HostRuntime) {
+    check_rows(&rt, ENDED, &EndOfRefused);
 }

@@ -1,65 +1,47 @@
 //! Runs without memory, which end with status 6: each growth refused in turn.
 
-use super::ending::{End, end_over, is_end};
+use super::ending::{End, add_end, end_over, is_end};
+use crate::tests::check_rows;
 use linked_list_allocator::LocalHeap;
 use std::alloc::Global;
-use std::process::Abort;
-use std::test::Fail;
-use ti_fixtures::entries::{EXTENDED_BY_TIC, TEXT};
-use ti_fixtures::{Sink, Source, Tally, Unfound, bytes_of, check_rows, fields_of, words_of};
+use ti_fixtures::{Finds, Given, Sink, Source, Tries, Unfound, only_if, place_of, tally_of};
 
-/// Runs the program with so much memory for all but `clap`, all of which is given back.
-fn end_with(
-    rt: &impl Abort,
-    global: Global,
-    words: &[&str],
-    input: &[u8],
-    memory: usize,
-) -> Result<End, Fail> {
-    let heap = LocalHeap::new(global, memory)?;
+/// Runs the program with a heap for all but `clap`.
+fn end_in(alloc: Global, heap: &LocalHeap, words: &[&str], input: &[u8]) -> End {
     let source = Source::new(input, 512);
-    let end = end_over(
-        global,
-        &heap,
+    end_over(
+        alloc,
+        heap,
         words,
         source,
-        Sink::new(global),
-        Sink::new(global),
-    );
-    assert_that!(rt; heap.used() == 0);
-    Ok(end)
+        Sink::new(alloc),
+        Sink::new(alloc),
+    )
 }
 
-/// The run was without memory, and wrote nothing but its line.
-fn assert_no_memory(rt: &impl Abort, end: &End) {
-    assert_that!(rt; is_end(end, 6, b"", b"memory\n"));
+/// How the run of a row with so much memory ends, all of which is given back.
+struct EndWith;
+
+impl Finds for EndWith {
+    fn find(&self, given: &Given<'_, '_>, found: &mut Vec<u8>) -> Result<(), Unfound> {
+        let alloc = *found.allocator();
+        let heap = LocalHeap::new(alloc, place_of(given.fields()[2])?)?;
+        let end = end_in(alloc, &heap, given.words, given.second);
+        only_if(heap.used() == 0)?;
+        add_end(found, &end)
+    }
 }
 
-#[test]
-fn the_program_without_memory_says_so(rt: HostRuntime) -> Result<(), Fail> {
-    let words = ["ti", "cap", "n:7"];
-    assert_no_memory(&rt, &end_with(&rt, rt.alloc(), &words, b"%p1%255d", 64)?);
-    Ok(())
-}
-
-#[test]
-fn an_expansion_without_memory_says_so(rt: HostRuntime) -> Result<(), Fail> {
-    let words = [
-        "ti",
-        "expand",
-        "#0",
-        "s:0123456789012345678901234567890123456789012345678901234567890123456789",
-    ];
-    assert_no_memory(&rt, &end_with(&rt, rt.alloc(), &words, TEXT, 0)?);
-    Ok(())
-}
+/// Words, what is read, how much memory there is, and how the run ends. A name that is missing is told alone.
+const WITHOUT: &str = r"
+ti cap n:7 | %p1%255d | 64 => 6 err memory\n
+ti expand #0 s:0123456789012345678901234567890123456789012345678901234567890123456789 | @TEXT | 0 => 6 err memory\n
+ti get Smulxx | @EXTENDED_BY_TIC | 0 => 4 err get: Smulxx: no such capability\n
+";
 
 #[test]
-fn a_missing_name_without_memory_is_told_alone(rt: HostRuntime) -> Result<(), Fail> {
-    let words = ["ti", "get", "Smulxx"];
-    let end = end_with(&rt, rt.alloc(), &words, EXTENDED_BY_TIC, 0)?;
-    assert_that!(rt; is_end(&end, 4, b"", b"get: Smulxx: no such capability\n"));
-    Ok(())
+fn the_program_without_memory_says_so(rt: HostRuntime) {
+    check_rows(&rt, WITHOUT, &EndWith);
 }
 
 /// Words for each command, and what it reads.
@@ -80,38 +62,43 @@ ti convert | @EXTENDED => refused, then given
 ti get --rate 960 text#0 a$<9>_and_some_more_bytes_after_it,_as_many_as_sixty_or_so | @TEXT => refused, then given
 ";
 
-/// Whether a run with so much memory ends well, or has no memory and writes its line alone.
-fn is_given(alloc: Global, words: &[&str], input: &[u8], memory: usize) -> Result<bool, Unfound> {
-    let heap = LocalHeap::new(alloc, memory)?;
-    let (output, errors) = (Sink::new(alloc), Sink::new(alloc));
-    let end = end_over(alloc, &heap, words, Source::new(input, 512), output, errors);
-    let is_refused = is_end(&end, 6, b"", b"memory\n");
-    if heap.used() > 0 || end.status != 0 && !is_refused {
-        return Err(Unfound);
-    }
-    Ok(!is_refused)
+/// A run over an input, which may be refused memory.
+#[derive(Clone, Copy)]
+struct Run<'a, 'w> {
+    alloc: Global,
+    words: &'w [&'a str],
+    input: &'a [u8],
 }
 
-/// How runs with more and more memory end.
-fn ends_of(alloc: Global, words: &[&str], input: &[u8]) -> Result<Vec<u8>, Unfound> {
-    let mut tally = Tally::NONE;
-    for step in 0..80usize {
-        tally.count(is_given(alloc, words, input, 32 * step)?);
+impl Tries for Run<'_, '_> {
+    fn is_given(&self, heap: &LocalHeap) -> Result<bool, Unfound> {
+        let end = end_in(self.alloc, heap, self.words, self.input);
+        if end.status == 0 {
+            return Ok(true);
+        }
+        only_if(is_end(&end, 6, b"", b"memory\n"))?;
+        Ok(false)
     }
-    if !tally.is_refused_then_given(2) {
-        return Err(Unfound);
-    }
-    Ok(b"refused, then given".to_vec(alloc)?)
 }
 
-/// How the runs of a row end.
-fn ends_in(alloc: Global, given: &str) -> Result<Vec<u8>, Unfound> {
-    let [words, input, ..] = fields_of(given);
-    let words = words_of(alloc, words)?;
-    ends_of(alloc, words.as_slice(), bytes_of(alloc, input)?.as_slice())
+/// How the runs of a row with more and more memory end.
+struct Growths;
+
+impl Finds for Growths {
+    fn find(&self, given: &Given<'_, '_>, found: &mut Vec<u8>) -> Result<(), Unfound> {
+        let alloc = *found.allocator();
+        let (words, input) = (given.words, given.second);
+        let run = Run {
+            alloc,
+            words,
+            input,
+        };
+        only_if(tally_of(alloc, &run, 0, 32, 80).is_refused_then_given(2))?;
+        Ok(found.extend_from_slice(b"refused, then given")?)
+    }
 }
 
 #[test]
-fn each_growth_of_the_program_is_refused_in_turn(rt: HostRuntime) -> Result<(), Fail> {
-    check_rows(rt.alloc(), COMMANDS, ends_in)
+fn each_growth_of_the_program_is_refused_in_turn(rt: HostRuntime) {
+    check_rows(&rt, COMMANDS, &Growths);
 }

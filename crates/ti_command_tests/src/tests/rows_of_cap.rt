@@ -1,8 +1,7 @@
 //! Runs of `ti cap`.
 
-use super::ending::end_in;
-use std::test::Fail;
-use ti_fixtures::check_rows;
+use super::ending::EndOf;
+use crate::tests::check_rows;
 
 /// Runs without a form or another table of names.
 const ROWS: &str = r"
@@ -19,8 +18,8 @@ ti cap --hex n:4 n:9 | \E[%i%p1%d;%p2%dH => 0 out 1b5b353b313048\n
 ";
 
 #[test]
-fn runs_of_cap_end_as_they_should(rt: HostRuntime) -> Result<(), Fail> {
-    check_rows(rt.alloc(), ROWS, end_in)
+fn runs_of_cap_end_as_they_should(rt: HostRuntime) {
+    check_rows(&rt, ROWS, &EndOf);
 }
 
 /// Runs with `--escape`, `--hex` or `--all-names`, and those beside them without.
@@ -36,6 +35,6 @@ ti cap --escape x --hex | %d => 2 err --hex and --escape exclude each other\n
 ";
 
 #[test]
-fn runs_of_cap_in_other_forms_end_as_they_should(rt: HostRuntime) -> Result<(), Fail> {
-    check_rows(rt.alloc(), FORMED, end_in)
+fn runs_of_cap_in_other_forms_end_as_they_should(rt: HostRuntime) {
+    check_rows(&rt, FORMED, &EndOf);
 }

@@ -1,8 +1,7 @@
 //! Runs of `ti check`.
 
-use super::ending::end_in;
-use std::test::Fail;
-use ti_fixtures::check_rows;
+use super::ending::EndOf;
+use crate::tests::check_rows;
 
 /// Runs without a form or another table of names.
 const ROWS: &str = r"
@@ -12,8 +11,8 @@ ti check | \E^A => 3 err entry: BadMagic at 0\n
 ";
 
 #[test]
-fn runs_of_check_end_as_they_should(rt: HostRuntime) -> Result<(), Fail> {
-    check_rows(rt.alloc(), ROWS, end_in)
+fn runs_of_check_end_as_they_should(rt: HostRuntime) {
+    check_rows(&rt, ROWS, &EndOf);
 }
 
 /// Runs with `--escape`, `--hex` or `--all-names`, and those beside them without.
@@ -24,8 +23,8 @@ ti check --all-names | \E^A => 3 err entry: BadMagic at 0\n
 ";
 
 #[test]
-fn runs_of_check_in_other_forms_end_as_they_should(rt: HostRuntime) -> Result<(), Fail> {
-    check_rows(rt.alloc(), FORMED, end_in)
+fn runs_of_check_in_other_forms_end_as_they_should(rt: HostRuntime) {
+    check_rows(&rt, FORMED, &EndOf);
 }
 
 /// Runs with `--json`.
@@ -39,6 +38,6 @@ ti check --json --escape | @EXTENDED => 2 err --json excludes --escape and --all
 "#;
 
 #[test]
-fn runs_of_check_end_as_they_should_with_json(rt: HostRuntime) -> Result<(), Fail> {
-    check_rows(rt.alloc(), DOCUMENTS, end_in)
+fn runs_of_check_end_as_they_should_with_json(rt: HostRuntime) {
+    check_rows(&rt, DOCUMENTS, &EndOf);
 }

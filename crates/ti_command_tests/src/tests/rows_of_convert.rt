@@ -1,8 +1,7 @@
 //! Runs of `ti convert`.
 
-use super::ending::{end_in, output_in};
-use std::test::Fail;
-use ti_fixtures::check_rows;
+use super::ending::{EndOf, OutputOf};
+use crate::tests::check_rows;
 
 /// Runs of the command.
 const ROWS: &str = r"
@@ -18,7 +17,7 @@ ti convert --narrow | @WIDE => @SMALL
 ";
 
 #[test]
-fn runs_of_convert_end_as_they_should(rt: HostRuntime) -> Result<(), Fail> {
-    check_rows(rt.alloc(), ROWS, end_in)?;
-    check_rows(rt.alloc(), ROWS_OUTPUTS, output_in)
+fn runs_of_convert_end_as_they_should(rt: HostRuntime) {
+    check_rows(&rt, ROWS, &EndOf);
+    check_rows(&rt, ROWS_OUTPUTS, &OutputOf);
 }

@@ -1,8 +1,7 @@
 //! Runs of `ti expand`.
 
-use super::ending::end_in;
-use std::test::Fail;
-use ti_fixtures::check_rows;
+use super::ending::EndOf;
+use crate::tests::check_rows;
 
 /// Runs without a form or another table of names.
 const ROWS: &str = r"
@@ -25,8 +24,8 @@ ti expand #0 x | @TEXT => 2 err parameter 1: bad word\n
 ";
 
 #[test]
-fn runs_of_expand_end_as_they_should(rt: HostRuntime) -> Result<(), Fail> {
-    check_rows(rt.alloc(), ROWS, end_in)
+fn runs_of_expand_end_as_they_should(rt: HostRuntime) {
+    check_rows(&rt, ROWS, &EndOf);
 }
 
 /// Runs with `--escape`, `--hex` or `--all-names`, and those beside them without.
@@ -43,6 +42,6 @@ ti expand bel --escape --hex | @SMALL => 2 err --hex and --escape exclude each o
 ";
 
 #[test]
-fn runs_of_expand_in_other_forms_end_as_they_should(rt: HostRuntime) -> Result<(), Fail> {
-    check_rows(rt.alloc(), FORMED, end_in)
+fn runs_of_expand_in_other_forms_end_as_they_should(rt: HostRuntime) {
+    check_rows(&rt, FORMED, &EndOf);
 }

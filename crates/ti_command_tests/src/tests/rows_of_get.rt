@@ -1,8 +1,7 @@
 //! Runs of `ti get`.
 
-use super::ending::{end_in, end_of, is_end};
-use std::test::Fail;
-use ti_fixtures::check_rows;
+use super::ending::{EndOf, end_of, is_end};
+use crate::tests::check_rows;
 use ti_fixtures::entries::SMALL;
 
 /// Runs by the names of capabilities of each kind.
@@ -51,8 +50,8 @@ ti get 12345678901234567890123456789012345678901 | @SMALL => 4 err get: ..: no s
 ";
 
 #[test]
-fn capabilities_are_got_by_any_name(rt: HostRuntime) -> Result<(), Fail> {
-    check_rows(rt.alloc(), NAMED, end_in)
+fn capabilities_are_got_by_any_name(rt: HostRuntime) {
+    check_rows(&rt, NAMED, &EndOf);
 }
 
 /// Runs on the entry that term(5) prints as source and in hexadecimal digits.
@@ -78,8 +77,8 @@ ti get el | @ADM3A => 4 err get: el: absent\n
 ";
 
 #[test]
-fn the_example_of_term_is_got(rt: HostRuntime) -> Result<(), Fail> {
-    check_rows(rt.alloc(), PRINTED, end_in)
+fn the_example_of_term_is_got(rt: HostRuntime) {
+    check_rows(&rt, PRINTED, &EndOf);
 }
 
 /// Runs with parameters, or on texts that take some.
@@ -106,8 +105,8 @@ ti get bel n:x | @SMALL => 2 err parameter 1: bad word\n
 ";
 
 #[test]
-fn texts_are_got_with_parameters(rt: HostRuntime) -> Result<(), Fail> {
-    check_rows(rt.alloc(), GIVEN, end_in)
+fn texts_are_got_with_parameters(rt: HostRuntime) {
+    check_rows(&rt, GIVEN, &EndOf);
 }
 
 /// No byte of a name is shown but printable ones.

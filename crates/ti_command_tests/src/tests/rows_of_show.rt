@@ -1,8 +1,7 @@
 //! Runs of `ti show`.
 
-use super::ending::end_in;
-use std::test::Fail;
-use ti_fixtures::check_rows;
+use super::ending::EndOf;
+use crate::tests::check_rows;
 
 /// Runs without a form or another table of names.
 const ROWS: &str = r"
@@ -11,8 +10,8 @@ ti show | @WIDE => 0 out format: wide\nnames: t\nflag bw\nnumber cols 80\ntext b
 ";
 
 #[test]
-fn runs_of_show_end_as_they_should(rt: HostRuntime) -> Result<(), Fail> {
-    check_rows(rt.alloc(), ROWS, end_in)
+fn runs_of_show_end_as_they_should(rt: HostRuntime) {
+    check_rows(&rt, ROWS, &EndOf);
 }
 
 /// Runs with `--escape`, `--hex` or `--all-names`, and those beside them without.
@@ -28,8 +27,8 @@ ti show --escape | ^Z^A^B\000\000\000\000\000^C\000^L\000t\000^A\000\000\000^B\0
 ";
 
 #[test]
-fn runs_of_show_in_other_forms_end_as_they_should(rt: HostRuntime) -> Result<(), Fail> {
-    check_rows(rt.alloc(), FORMED, end_in)
+fn runs_of_show_in_other_forms_end_as_they_should(rt: HostRuntime) {
+    check_rows(&rt, FORMED, &EndOf);
 }
 
 /// Runs with `--json`.
@@ -42,6 +41,6 @@ ti show -a --json | @SMALL => 2 err --json excludes --escape and --all-names\n
 "#;
 
 #[test]
-fn runs_of_show_end_as_they_should_with_json(rt: HostRuntime) -> Result<(), Fail> {
-    check_rows(rt.alloc(), DOCUMENTS, end_in)
+fn runs_of_show_end_as_they_should_with_json(rt: HostRuntime) {
+    check_rows(&rt, DOCUMENTS, &EndOf);
 }

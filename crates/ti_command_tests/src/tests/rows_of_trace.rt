@@ -1,8 +1,7 @@
 //! Runs of `ti trace`.
 
-use super::ending::{end_in, output_in};
-use std::test::Fail;
-use ti_fixtures::check_rows;
+use super::ending::{EndOf, OutputOf};
+use crate::tests::check_rows;
 
 /// Runs of the command.
 const ROWS: &str = r"
@@ -27,9 +26,9 @@ ti trace --escape | - => @NOTHING
 ";
 
 #[test]
-fn runs_of_trace_end_as_they_should(rt: HostRuntime) -> Result<(), Fail> {
-    check_rows(rt.alloc(), ROWS, end_in)?;
-    check_rows(rt.alloc(), ROWS_OUTPUTS, output_in)
+fn runs_of_trace_end_as_they_should(rt: HostRuntime) {
+    check_rows(&rt, ROWS, &EndOf);
+    check_rows(&rt, ROWS_OUTPUTS, &OutputOf);
 }
 
 /// Runs of the command for a capability of an entry.
@@ -53,7 +52,7 @@ ti trace --of text#0 --entry - -- 7 | @COLUMN => @COLUMN_OF_7
 ";
 
 #[test]
-fn texts_of_an_entry_are_traced(rt: HostRuntime) -> Result<(), Fail> {
-    check_rows(rt.alloc(), OF_AN_ENTRY, end_in)?;
-    check_rows(rt.alloc(), OF_AN_ENTRY_OUTPUTS, output_in)
+fn texts_of_an_entry_are_traced(rt: HostRuntime) {
+    check_rows(&rt, OF_AN_ENTRY, &EndOf);
+    check_rows(&rt, OF_AN_ENTRY_OUTPUTS, &OutputOf);
 }

@@ -1,15 +1,13 @@
 //! Runs of `ti diff` over files, worked by hand from what they hold.
 
-use super::ending::is_end;
-use super::runs_of_files::{end_at, shelf_end};
+use super::runs_of_files::{ShelfEnd, ShelfEndOfWrite};
+use crate::tests::check_rows;
 use linked_list_allocator::LocalHeap;
-use std::alloc::{AllocError, Allocator, Global};
-use std::process::Abort;
-use std::test::Fail;
+use std::alloc::{AllocError, Allocator};
 use ti_entry::{Entry, read};
 use ti_escape::Color;
 use ti_fixtures::entries::{EXTENDED_BY_TIC, WIDE_BY_TIC};
-use ti_fixtures::{Tally, check_rows};
+use ti_fixtures::{Tries, Unfound, tally_of};
 use ti_line::Likeness;
 use ti_listing::{difference_of, differing_lines};
 
@@ -37,14 +35,14 @@ ti diff a b c | file => 2 err diff: one file or two\n
 ";
 
 #[test]
-fn entries_are_told_apart(rt: HostRuntime) -> Result<(), Fail> {
-    check_rows(rt.alloc(), ROWS, shelf_end)
+fn entries_are_told_apart(rt: HostRuntime) {
+    check_rows(&rt, ROWS, &ShelfEnd);
 }
 
 #[test]
 fn a_difference_that_cannot_be_written_is_told(rt: HostRuntime) {
-    let end = end_at(rt.alloc(), &["ti", "diff", "more\x1b", "widened"], false, 1);
-    assert_that!(rt; is_end(&end, 5, b"", b"output: failed\n"));
+    let row = r"ti diff more\E widened => 5 err output: failed\n";
+    check_rows(&rt, row, &ShelfEndOfWrite(1));
 }
 
 /// The lines on what two entries do not have alike.
@@ -57,21 +55,17 @@ fn lines_on<'a, A: Allocator + Copy>(
     differing_lines(alloc, Color::Never, differences.as_slice())
 }
 
-/// Whether two entries are told apart with so much memory, all of which is given back.
-fn are_told_apart(rt: &impl Abort, global: Global, memory: usize) -> Result<bool, Fail> {
-    let heap = LocalHeap::new(global, memory)?;
-    let (one, other) = (read(EXTENDED_BY_TIC)?, read(WIDE_BY_TIC)?);
-    let is_told = lines_on(&heap, &one, &other).is_ok();
-    assert_that!(rt; heap.used() == 0);
-    Ok(is_told)
+/// Two entries that are told apart.
+struct ToldApart;
+
+impl Tries for ToldApart {
+    fn is_given(&self, heap: &LocalHeap) -> Result<bool, Unfound> {
+        let (one, other) = (read(EXTENDED_BY_TIC)?, read(WIDE_BY_TIC)?);
+        Ok(lines_on(heap, &one, &other).is_ok())
+    }
 }
 
 #[test]
-fn each_growth_of_a_difference_is_refused_in_turn(rt: HostRuntime) -> Result<(), Fail> {
-    let mut tally = Tally::NONE;
-    for step in 0..60usize {
-        tally.count(are_told_apart(&rt, rt.alloc(), 64 + 400 * step)?);
-    }
-    assert_that!(rt; tally.is_refused_then_given(2));
-    Ok(())
+fn each_growth_of_a_difference_is_refused_in_turn(rt: HostRuntime) {
+    assert_that!(rt; tally_of(rt.alloc(), &ToldApart, 64, 400, 60).is_refused_then_given(2));
 }

@@ -1,13 +1,12 @@
 //! Runs over files that are named, and over a folder.
 
-use super::ending::{End, destination, is_end, told};
+use super::ending::{End, add_end, destination};
+use crate::tests::check_rows;
 use std::alloc::{Allocator, Global};
 use std::io;
 use std::io::ErrorKind;
-use std::str::from_utf8;
-use std::test::Fail;
 use ti_fixtures::entries::{EXTENDED, EXTENDED_BY_TIC, QUESTION, SMALL, WIDE_BY_TIC, WIDENED};
-use ti_fixtures::{Sink, Source, Unfound, bytes_of, check_rows, fields_of, words_of};
+use ti_fixtures::{Finds, Given, Sink, Source, Unfound};
 use ti_tool::{Files, FoundFile, Store, Terminals, one_file, read_contents, run_at};
 
 /// The small entry with an extended flag A twice: it is set, and it is not.
@@ -105,7 +104,7 @@ ti expand bel -x --entry=small | file => 0 out 07\n
 "#;
 
 /// Runs the program over the shelf, and a writer that fails at this write.
-pub fn end_at(alloc: Global, words: &[&str], at_terminal: bool, fails_at: usize) -> End {
+fn end_at(alloc: Global, words: &[&str], at_terminal: bool, fails_at: usize) -> End {
     let mut output = Sink::failing_at(alloc, usize::MAX, fails_at);
     let mut errors = Sink::new(alloc);
     let mut input = Source::new(QUESTION, 100);
@@ -132,36 +131,49 @@ pub fn end_at(alloc: Global, words: &[&str], at_terminal: bool, fails_at: usize)
 }
 
 /// How the run of a row over the shelf ends.
-pub fn shelf_end(alloc: Global, given: &str) -> Result<Vec<u8>, Unfound> {
-    let [words, at, ..] = fields_of(given);
-    let text = bytes_of(alloc, words)?;
-    let words = words_of(alloc, from_utf8(text.as_slice())?)?;
-    let end = end_at(alloc, words.as_slice(), at == "terminal", usize::MAX);
-    told(
-        alloc,
-        end.status,
-        end.output.as_slice(),
-        end.errors.as_slice(),
-    )
+pub struct ShelfEnd;
+
+impl Finds for ShelfEnd {
+    fn find(&self, given: &Given<'_, '_>, found: &mut Vec<u8>) -> Result<(), Unfound> {
+        let is_terminal = given.fields()[1] == "terminal";
+        let end = end_at(*found.allocator(), given.words, is_terminal, usize::MAX);
+        add_end(found, &end)
+    }
 }
 
 #[test]
-fn files_are_done_one_after_another(rt: HostRuntime) -> Result<(), Fail> {
-    check_rows(rt.alloc(), ROWS, shelf_end)
+fn files_are_done_one_after_another(rt: HostRuntime) {
+    check_rows(&rt, ROWS, &ShelfEnd);
 }
+
+/// How the run of a row over the shelf ends if this write of results fails.
+pub struct ShelfEndOfWrite(pub usize);
+
+impl Finds for ShelfEndOfWrite {
+    fn find(&self, given: &Given<'_, '_>, found: &mut Vec<u8>) -> Result<(), Unfound> {
+        add_end(
+            found,
+            &end_at(*found.allocator(), given.words, false, self.0),
+        )
+    }
+}
+
+/// Results of two files, of which the second cannot be written.
+const STOPPED: &str = r"
+ti check more\E small => 5 out more\E: text bel ok depth 0 bound 1\nmore\E: text+ E3 ok depth 0 bound 4\n err output: failed\n
+";
 
 #[test]
 fn files_stop_where_results_cannot_be_written(rt: HostRuntime) {
-    let end = end_at(rt.alloc(), &["ti", "check", "more\x1b", "small"], false, 2);
-    let first = b"more\x1b: text bel ok depth 0 bound 1\nmore\x1b: text+ E3 ok depth 0 bound 4\n";
-    assert_that!(rt; is_end(&end, 5, first, b"output: failed\n"));
+    check_rows(&rt, STOPPED, &ShelfEndOfWrite(2));
 }
 
 /// Faults of files before one whose result can't be written, and a file after it.
+const TOLD: &str = r"
+ti check cut none small small => 5 err cut: entry: Truncated at 5\nnone: entity not found\noutput: failed\n
+";
+
 #[test]
 fn faults_before_a_failed_write_are_told(rt: HostRuntime) {
-    let words = ["ti", "check", "cut", "none", "small", "small"];
-    let end = end_at(rt.alloc(), &words, false, 1);
-    let errors = b"cut: entry: Truncated at 5\nnone: entity not found\noutput: failed\n";
-    assert_that!(rt; is_end(&end, 5, b"", errors));
+    check_rows(&rt, TOLD, &ShelfEndOfWrite(1));
 }

@@ -1,9 +1,9 @@
 //! Runs of `ti cap --source` and `ti trace --source`, which read the notation of a capability.
 
-use super::ending::{end_in, end_of, is_end};
+use super::ending::{EndOf, end_of};
+use crate::tests::check_rows;
 use std::alloc::Global;
-use std::test::Fail;
-use ti_fixtures::check_rows;
+use ti_fixtures::{Finds, Given, Unfound, show_numbers};
 
 /// Notations whose texts are expanded.
 const EXPANDED: &str = r"
@@ -32,17 +32,17 @@ ti cap --source | \\033\\033%y => 4 err capability: UnknownEscape at 2\n
 ";
 
 #[test]
-fn notations_are_expanded_as_their_texts(rt: HostRuntime) -> Result<(), Fail> {
-    check_rows(rt.alloc(), EXPANDED, end_in)
+fn notations_are_expanded_as_their_texts(rt: HostRuntime) {
+    check_rows(&rt, EXPANDED, &EndOf);
 }
 
 #[test]
-fn what_is_no_notation_is_refused(rt: HostRuntime) -> Result<(), Fail> {
-    check_rows(rt.alloc(), REFUSED, end_in)
+fn what_is_no_notation_is_refused(rt: HostRuntime) {
+    check_rows(&rt, REFUSED, &EndOf);
 }
 
 /// So many NULs in octal, and what comes after them.
-fn nuls(alloc: Global, count: usize, after: &[u8]) -> Result<Vec<u8>, Fail> {
+fn nuls(alloc: Global, count: usize, after: &[u8]) -> Result<Vec<u8>, Unfound> {
     let mut characters = Vec::new(alloc);
     for _ in 0..count {
         characters.extend_from_slice(b"\\000")?;
@@ -51,15 +51,26 @@ fn nuls(alloc: Global, count: usize, after: &[u8]) -> Result<Vec<u8>, Fail> {
     Ok(characters)
 }
 
-#[test]
-fn the_longest_capability_has_four_characters_a_byte(rt: HostRuntime) -> Result<(), Fail> {
-    let longest = nuls(rt.alloc(), 32767, b"\n")?;
-    let end = end_of(rt.alloc(), &["ti", "cap", "--source"], longest.as_slice());
-    assert_that!(rt; end.status == 0 && end.output.len() == 32767);
+/// How the run of a row ends over as many NULs as a capability may have, with how many bytes of output.
+struct EndAfterNuls;
 
-    // whatever the character is that is too many
-    let longer = nuls(rt.alloc(), 32767, b"\\\n")?;
-    let end = end_of(rt.alloc(), &["ti", "cap", "--source"], longer.as_slice());
-    assert_that!(rt; is_end(&end, 4, b"", b"capability: TooLong at 32767\n"));
-    Ok(())
+impl Finds for EndAfterNuls {
+    fn find(&self, given: &Given<'_, '_>, found: &mut Vec<u8>) -> Result<(), Unfound> {
+        let alloc = *found.allocator();
+        let input = nuls(alloc, 32767, given.second)?;
+        let end = end_of(alloc, given.words, input.as_slice());
+        show_numbers(found, &[end.status as u64, end.output.len() as u64])?;
+        Ok(found.extend_from_slice(end.errors.as_slice())?)
+    }
+}
+
+/// The longest capability, and one that is longer, whatever the character is that is too many.
+const LONGEST: &str = r"
+ti cap --source | \n => 0 32767
+ti cap --source | \\\n => 4 0capability: TooLong at 32767\n
+";
+
+#[test]
+fn the_longest_capability_has_four_characters_a_byte(rt: HostRuntime) {
+    check_rows(&rt, LONGEST, &EndAfterNuls);
 }

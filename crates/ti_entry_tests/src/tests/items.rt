@@ -1,20 +1,24 @@
 //! The items of an entry, by the calls of an iterator.
 
 use super::entry_views::entry_of;
-use std::test::Fail;
-use ti_words::{Item, Kind, Subject, Text};
+use crate::tests::check_rows;
+use ti_fixtures::{Finds, Given, Unfound, show_debug};
+
+/// The last item of the entry of a row.
+struct LastItem;
+
+impl Finds for LastItem {
+    fn find(&self, given: &Given<'_, '_>, found: &mut Vec<u8>) -> Result<(), Unfound> {
+        show_debug(found, &entry_of(given.bytes)?.items().last())
+    }
+}
 
 /// An entry called `t`, with auto_left_margin, 80 columns, a bell, and an extended text E3.
-const FILE: &[u8] =
-    b"\x1a\x01\x02\0\x01\0\x01\0\x02\0\x02\0t\0\x01\0P\0\xff\xff\0\0\x07\0\0\0\0\0\x01\0\x02\0\x08\0\0\0\0\0\x1b[3J\0E3\0";
+const LAST: &str = r"
+^Z^A^B\000^A\000^A\000^B\000^B\000t\000^A\000P\000\377\377\000\000^G\000\000\000\000\000^A\000^B\000^H\000\000\000\000\000\E[3J\000E3\000 => Some((Extended(Text, [69, 51]), Text(Value([27, 91, 51, 74]))))
+";
 
 #[test]
-fn the_last_item_is_the_extended_text(rt: HostRuntime) -> Result<(), Fail> {
-    let entry = entry_of(FILE)?;
-    let last = (
-        Subject::Extended(Kind::Text, b"E3"),
-        Item::Text(Text::Value(b"\x1b[3J")),
-    );
-    assert!(rt; entry.items().last() == Some(last));
-    Ok(())
+fn the_last_item_is_the_extended_text(rt: HostRuntime) {
+    check_rows(&rt, LAST, &LastItem);
 }

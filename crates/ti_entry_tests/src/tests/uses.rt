@@ -1,9 +1,7 @@
 //! What a caller writes: for each library crate a first program, which its README shows.
 
 mod base;
-mod draft;
 mod entry;
-mod json;
 mod layout;
 mod names;
 mod words;

@@ -1,10 +1,8 @@
-//! Entries of the 32-bit format: what they say and how they are written.
+//! Entries of the 32-bit format: what they say.
 
-use super::drafts_written::written_again;
 use super::entries_read::SaidIn;
-use super::entry_refusals::{RefusalIn, changed_in};
+use super::entry_refusals::RefusalIn;
 use crate::tests::check_rows;
-use ti_fixtures::{Finds, Given, Unfound};
 
 /// Entries of the 32-bit format and their numbers of four bytes, and what they say: see `entries_read`.
 const SAID: &str = r"
@@ -22,36 +20,6 @@ const SAID: &str = r"
 #[test]
 fn wide_entries_say_what_they_say(rt: HostRuntime) {
     check_rows(&rt, SAID, &SaidIn);
-}
-
-/// What the draft of an entry of a row is written as, but if that is the entry, nothing.
-struct WrittenAlike;
-
-impl Finds for WrittenAlike {
-    fn find(&self, given: &Given<'_, '_>, found: &mut Vec<u8>) -> Result<(), Unfound> {
-        let alloc = *found.allocator();
-        let bytes = changed_in(alloc, given)?;
-        let again = written_again(alloc, bytes.as_slice())?;
-        if again.as_slice() != bytes.as_slice() {
-            found.extend_from_slice(again.as_slice())?;
-        }
-        Ok(())
-    }
-}
-
-/// Entries that are written as they are.
-const WRITTEN: &str = r"
-@WIDE | 16 | P\000\000\000 => -
-@WIDE | 16 | \377\377\377\377 => -
-@WIDE | 16 | \376\377\377\377 => -
-@WIDE | 16 | \377\377\377^? => -
-@WIDE_EXTENDED => -
-@WIDE_EXTENDED | - | - | 26 => -
-";
-
-#[test]
-fn wide_entries_are_written_as_they_are(rt: HostRuntime) {
-    check_rows(&rt, WRITTEN, &WrittenAlike);
 }
 
 /// Bytes of the 32-bit format, and why they are refused.

@@ -1,11 +1,9 @@
 //! The call that checks the texts of an entry: its verdicts, and what it returns.
 
-use linked_list_allocator::LocalHeap;
-use std::alloc::{Allocator, Global};
-use std::process::Abort;
-use std::test::Fail;
-use ti_fixtures::entries::{DUMB, SMALL};
-use ti_fixtures::{Sink, Source, Tally, Unfound, bytes_of, check_rows};
+use super::calls::{Calls, GrowthsOf, StreamsOf};
+use crate::tests::check_rows;
+use std::alloc::Allocator;
+use ti_fixtures::{Finds, Given, Sink, Source, Unfound, show};
 use ti_tool::{ToolFault, check};
 
 /// An entry, whether no text has a fault, and its verdicts.
@@ -27,84 +25,54 @@ const ROWS: &str = r"
 ^Z^A^B\000\000\000\000\000\000\000\000\000t\000 => true
 ";
 
-/// What a call returned, and what its writer took.
-#[derive(Drop)]
-struct Verdicts {
-    result: Result<bool, ToolFault>,
-    taken: Vec<u8>,
-}
-
-/// Checks the texts of an entry from a source, with a writer.
-fn checked<A: Allocator + Copy>(alloc: A, source: Source<'_>, writer: Sink) -> Verdicts {
-    let mut source = source;
-    let mut writer = writer;
-    let result = check(alloc, &mut source, &mut writer);
-    Verdicts {
-        result,
-        taken: writer.taken,
-    }
-}
-
 /// Whether the texts of the entry of a row are sound, and its verdicts.
-fn verdicts_in(alloc: Global, given: &str) -> Result<Vec<u8>, Unfound> {
-    let entry = bytes_of(alloc, given)?;
-    let verdicts = checked(alloc, Source::new(entry.as_slice(), 7), Sink::new(alloc));
-    let is_sound = verdicts.result?;
-    let front: &[u8] = if is_sound { b"true" } else { b"false" };
-    let mut found = front.to_vec(alloc)?;
-    if !verdicts.taken.is_empty() {
-        found.push(b' ')?;
-    }
-    found.extend_from_slice(verdicts.taken.as_slice())?;
-    Ok(found)
-}
+struct Verdicts;
 
-#[test]
-fn texts_are_analysed(rt: HostRuntime) -> Result<(), Fail> {
-    check_rows(rt.alloc(), ROWS, verdicts_in)
-}
-
-#[test]
-fn a_source_that_fails_has_no_verdict(rt: HostRuntime) {
-    for k in 1..26usize {
-        let source = Source::failing_at(SMALL, 1, k);
-        let verdicts = checked(rt.alloc(), source, Sink::new(rt.alloc()));
-        assert_that!(rt; verdicts.result == Err(ToolFault::Read));
-        assert_that!(rt; verdicts.taken.is_empty());
+impl Finds for Verdicts {
+    fn find(&self, given: &Given<'_, '_>, found: &mut Vec<u8>) -> Result<(), Unfound> {
+        let alloc = *found.allocator();
+        let mut writer = Sink::new(alloc);
+        show(
+            found,
+            &check(alloc, &mut Source::new(given.bytes, 7), &mut writer)?,
+        )?;
+        if !writer.taken.is_empty() {
+            found.push(b' ')?;
+        }
+        Ok(found.extend_from_slice(writer.taken.as_slice())?)
     }
 }
 
 #[test]
-fn a_writer_of_verdicts_fails_at_each_byte(rt: HostRuntime) {
-    for k in 1..29usize {
-        let writer = Sink::failing_at(rt.alloc(), 1, k);
-        let verdicts = checked(rt.alloc(), Source::new(SMALL, 512), writer);
-        assert_that!(rt; verdicts.result == Err(ToolFault::Write(k as u64 - 1)));
-        assert_that!(rt; verdicts.taken.len() == k - 1);
-    }
+fn texts_are_analysed(rt: HostRuntime) {
+    check_rows(&rt, ROWS, &Verdicts);
 }
 
-/// Whether an entry is checked with so much memory, all of which is given back.
-fn is_checked(rt: &impl Abort, global: Global, memory: usize) -> Result<bool, Fail> {
-    let heap = LocalHeap::new(global, memory)?;
-    let verdicts = checked(&heap, Source::new(DUMB, 512), Sink::new(global));
-    match verdicts.result {
-        Ok(sound) => assert_that!(rt; sound),
-        Err(fault) => {
-            assert_that!(rt; fault == ToolFault::Memory);
-            assert_that!(rt; verdicts.taken.is_empty());
+/// Checks the texts of an entry, which have to be sound.
+#[derive(Clone, Copy)]
+struct Checked;
+
+impl Calls for Checked {
+    fn call<A: Allocator + Copy>(
+        &self,
+        alloc: A,
+        source: &mut Source<'_>,
+        writer: &mut Sink,
+    ) -> Result<(), ToolFault> {
+        match check(alloc, source, writer) {
+            Ok(true) => Ok(()),
+            Ok(false) => Err(ToolFault::NoSuchText),
+            Err(fault) => Err(fault),
         }
     }
-    assert_that!(rt; heap.used() == 0);
-    Ok(verdicts.result.is_ok())
 }
 
 #[test]
-fn each_growth_of_the_verdicts_is_refused_in_turn(rt: HostRuntime) -> Result<(), Fail> {
-    let mut tally = Tally::NONE;
-    for step in 0..60usize {
-        tally.count(is_checked(&rt, rt.alloc(), 16 * step)?);
-    }
-    assert_that!(rt; tally.is_refused_then_given(2));
-    Ok(())
+fn streams_of_verdicts_fail_at_each_read_and_byte(rt: HostRuntime) {
+    check_rows(&rt, "@SMALL => 25 28", &StreamsOf(Checked));
+}
+
+#[test]
+fn each_growth_of_the_verdicts_is_refused_in_turn(rt: HostRuntime) {
+    check_rows(&rt, "@DUMB | 16 | 60 | 2 => true", &GrowthsOf(Checked));
 }

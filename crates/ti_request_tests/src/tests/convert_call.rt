@@ -1,12 +1,10 @@
 //! The call that writes an entry in its canonical layout, in either format.
 
-use super::show_call::Written;
-use std::alloc::{Allocator, Global};
-use std::process::Abort;
-use std::test::Fail;
-use ti_entry::EncodeFault;
+use super::calls::{Calls, GrowthsOf, StreamsOf, WrittenBy, add_written, is_written};
+use crate::tests::check_rows;
+use std::alloc::Allocator;
 use ti_fixtures::entries::{longest, shared_by_many};
-use ti_fixtures::{Sink, Source, TMUX, Unfound, bytes_of, check_rows, fields_of, shown};
+use ti_fixtures::{Finds, Given, Sink, Source, Unfound, only_if, show};
 use ti_tool::{ToolFault, convert};
 use ti_words::Width;
 
@@ -43,78 +41,25 @@ const CONVERTED: &str = r"
 ^Z^A^B\000\000\000\000\000^C\000^C\000t\000\000\000^A\000^B\000ab\000 => ^Z^A^B\000\000\000\000\000^C\000^F\000t\000\000\000^C\000^E\000ab\000b\000\000
 ";
 
-/// Converts an entry from a source, with a writer.
-pub fn converted<A: Allocator + Copy>(
-    alloc: A,
-    source: Source<'_>,
-    width: Option<Width>,
-    writer: Sink,
-) -> Written {
-    let mut source = source;
-    let mut writer = writer;
-    let result = convert(alloc, &mut source, width, &mut writer);
-    Written {
-        result,
-        taken: writer.taken,
-    }
-}
+/// Converts an entry to a format, or in its own.
+#[derive(Clone, Copy)]
+struct Converted(Option<Width>);
 
-/// An entry is converted to these bytes.
-fn assert_converted(
-    rt: &(impl Abort + AllocGlobal),
-    entry: &[u8],
-    width: Option<Width>,
-    bytes: &[u8],
-) {
-    let written = converted(
-        rt.alloc(),
-        Source::new(entry, 7),
-        width,
-        Sink::new(rt.alloc()),
-    );
-    assert_that!(rt; written.result.is_ok());
-    assert_same!(rt; written.taken.as_slice(), bytes);
-}
-
-/// An entry is not converted, for this fault.
-fn assert_refused(
-    rt: &(impl Abort + AllocGlobal),
-    entry: &[u8],
-    width: Option<Width>,
-    fault: EncodeFault,
-) {
-    let written = converted(
-        rt.alloc(),
-        Source::new(entry, 7),
-        width,
-        Sink::new(rt.alloc()),
-    );
-    assert_that!(rt; written.result == Err(ToolFault::Encode(fault)));
-    assert_that!(rt; written.taken.is_empty());
-}
-
-/// What the entry of a row is converted to in a format, or its own; or the fault, if nothing is written.
-fn converted_in(alloc: Global, given: &str) -> Result<Vec<u8>, Unfound> {
-    let [entry, width, ..] = fields_of(given);
-    let width = match width {
-        "wide" => Some(Width::Wide),
-        "legacy" => Some(Width::Legacy),
-        _ => None,
-    };
-    let entry = bytes_of(alloc, entry)?;
-    let source = Source::new(entry.as_slice(), 7);
-    let Written { result, taken } = converted(alloc, source, width, Sink::new(alloc));
-    match result {
-        Err(fault) if taken.is_empty() => shown(alloc, &fault),
-        Err(_) => Err(Unfound),
-        Ok(()) => Ok(taken),
+impl Calls for Converted {
+    fn call<A: Allocator + Copy>(
+        &self,
+        alloc: A,
+        source: &mut Source<'_>,
+        writer: &mut Sink,
+    ) -> Result<(), ToolFault> {
+        convert(alloc, source, self.0, writer)
     }
 }
 
 #[test]
-fn entries_are_written_in_one_layout(rt: HostRuntime) -> Result<(), Fail> {
-    check_rows(rt.alloc(), CANONICAL, converted_in)?;
-    check_rows(rt.alloc(), CONVERTED, converted_in)
+fn entries_are_written_in_one_layout(rt: HostRuntime) {
+    check_rows(&rt, CANONICAL, &WrittenBy(Converted(None)));
+    check_rows(&rt, CONVERTED, &WrittenBy(Converted(None)));
 }
 
 /// An entry, the width that is requested, and the bytes that are written.
@@ -131,9 +76,24 @@ const MOVED: &str = r"
 ^^^B^B\000^A\000^A\000^B\000^B\000t\000^A\000\376\377\377\377\377\377\000\000^G\000 | legacy => ^Z^A^B\000^A\000^A\000^B\000^B\000t\000^A\000\376\377\377\377\000\000^G\000
 ";
 
+/// What the entry of a row is converted to in a format, or the fault.
+struct ConvertedTo;
+
+impl Finds for ConvertedTo {
+    fn find(&self, given: &Given<'_, '_>, found: &mut Vec<u8>) -> Result<(), Unfound> {
+        let is_wide = given.fields()[1] == "wide";
+        let width = if is_wide { Width::Wide } else { Width::Legacy };
+        add_written(
+            found,
+            &Converted(Some(width)),
+            &mut Source::new(given.bytes, 7),
+        )
+    }
+}
+
 #[test]
-fn entries_are_moved_between_the_formats(rt: HostRuntime) -> Result<(), Fail> {
-    check_rows(rt.alloc(), MOVED, converted_in)
+fn entries_are_moved_between_the_formats(rt: HostRuntime) {
+    check_rows(&rt, MOVED, &ConvertedTo);
 }
 
 /// Entries with a number, or an extended number, above 32767.
@@ -143,34 +103,56 @@ const TOO_GREAT: &str = r"
 ";
 
 #[test]
-fn numbers_too_great_are_not_narrowed(rt: HostRuntime) -> Result<(), Fail> {
-    check_rows(rt.alloc(), TOO_GREAT, converted_in)
+fn numbers_too_great_are_not_narrowed(rt: HostRuntime) {
+    check_rows(&rt, TOO_GREAT, &ConvertedTo);
 }
 
 #[test]
 fn texts_shared_by_many_are_too_long(rt: HostRuntime) {
     let bytes = shared_by_many();
-    assert_refused(&rt, &bytes, None, EncodeFault::TooManyOrLong);
+    assert_that!(rt; is_written(rt.alloc(), &Converted(None), &bytes, b"Encode TooManyOrLong"));
 }
 
 #[test]
 fn the_longest_entry_is_not_widened(rt: HostRuntime) {
-    let bytes = longest();
-    assert_converted(&rt, &bytes, None, &bytes);
-    assert_refused(&rt, &bytes, Some(Width::Wide), EncodeFault::TooManyOrLong);
+    let (bytes, wide) = (longest(), Converted(Some(Width::Wide)));
+    assert_that!(rt; is_written(rt.alloc(), &Converted(None), &bytes, &bytes));
+    assert_that!(rt; is_written(rt.alloc(), &wide, &bytes, b"Encode TooManyOrLong"));
+}
+
+/// How long an entry is if it is widened. It is narrowed to the same.
+struct LengthOfWidened;
+
+impl Finds for LengthOfWidened {
+    fn find(&self, given: &Given<'_, '_>, found: &mut Vec<u8>) -> Result<(), Unfound> {
+        let alloc = *found.allocator();
+        let mut wide = Vec::new(alloc);
+        let (widens, narrows) = (Converted(Some(Width::Wide)), Converted(Some(Width::Legacy)));
+        add_written(&mut wide, &widens, &mut Source::new(given.bytes, 512))?;
+        only_if(is_written(alloc, &narrows, wide.as_slice(), given.bytes))?;
+        show(found, &wide.len())
+    }
+}
+
+// 15 numbers, and one of the extended part, have two bytes more.
+#[test]
+fn a_large_entry_is_widened_and_narrowed(rt: HostRuntime) {
+    check_rows(&rt, "@TMUX => 3203", &LengthOfWidened);
 }
 
 #[test]
-fn a_large_entry_is_widened_and_narrowed(rt: HostRuntime) {
-    let alloc = rt.alloc();
-    let wide = converted(
-        alloc,
-        Source::new(TMUX, 512),
-        Some(Width::Wide),
-        Sink::new(alloc),
+fn streams_of_an_entry_fail_at_each_read_and_byte(rt: HostRuntime) {
+    check_rows(&rt, "@EXTENDED => 54 53", &StreamsOf(Converted(None)));
+}
+
+#[test]
+fn each_growth_of_a_conversion_is_refused_in_turn(rt: HostRuntime) {
+    let (wide, narrow) = (Converted(Some(Width::Wide)), Converted(Some(Width::Legacy)));
+    check_rows(
+        &rt,
+        "@EXTENDED | 16 | 120 | 4 => true",
+        &GrowthsOf(Converted(None)),
     );
-    assert_that!(rt; wide.result.is_ok());
-    // 15 numbers, and one of the extended part, have two bytes more.
-    assert_that!(rt; wide.taken.len() == 3203);
-    assert_converted(&rt, wide.taken.as_slice(), Some(Width::Legacy), TMUX);
+    check_rows(&rt, "@EXTENDED | 16 | 120 | 4 => true", &GrowthsOf(wide));
+    check_rows(&rt, "@WIDENED | 16 | 120 | 4 => true", &GrowthsOf(narrow));
 }

@@ -1,55 +1,86 @@
-//! Listings and verdicts with the look that is requested, and of a large entry.
+//! Listings, verdicts and texts with the look that is requested, and of a large entry.
 
-use super::show_call::Written;
-use std::alloc::Global;
-use std::test::Fail;
+use super::calls::{Calls, add_written};
+use super::show_call::Listed;
+use crate::tests::check_rows;
+use std::alloc::{Allocator, Global};
+use ti_expand::Value;
 use ti_fixtures::entries::UNCOMMON;
-use ti_fixtures::{Sink, Source, TMUX};
-use ti_line::{Destination, Request, Task, read_line};
-use ti_tool::{carry_out, check, show};
+use ti_fixtures::{Finds, Given, Sink, Source, TMUX, Unfound, show};
+use ti_line::{Asked, Destination, Request, Task, read_line};
+use ti_tool::{ToolFault, carry_out, check};
 
-/// Does what words request of an entry.
-fn done(alloc: Global, words: &[&str]) -> Result<Written, Fail> {
-    let Task { request, .. } = read_line(alloc, Destination::File, &*words)?;
-    let Request { parameters, asked } = request;
-    let mut output = Sink::new(alloc);
-    let mut input = Source::new(UNCOMMON, 7);
-    let result = carry_out(alloc, &asked, &parameters, &mut input, &mut output);
-    Ok(Written {
-        result: result.map(|_sound| ()),
-        taken: output.taken,
-    })
+/// Does what is requested.
+#[derive(Clone, Copy)]
+struct CarriedOut<'a> {
+    asked: &'a Asked<'a>,
+    parameters: &'a [Value<'a>; 9],
 }
 
-#[test]
-fn a_listing_has_the_look_that_is_asked(rt: HostRuntime) -> Result<(), Fail> {
-    let listing = done(rt.alloc(), &["ti", "show", "--escape", "--all-names"])?;
-    assert_that!(rt; listing.result == Ok(()));
-    let lines = b"format: legacy\nnames: t\nflag xsb\ntext bel ^G\ntext cmdch \\E%p1%d\\^\\,\\s\n";
-    assert_same!(rt; listing.taken.as_slice(), lines.as_slice());
-    Ok(())
+impl Calls for CarriedOut<'_> {
+    fn call<A: Allocator + Copy>(
+        &self,
+        alloc: A,
+        source: &mut Source<'_>,
+        writer: &mut Sink,
+    ) -> Result<(), ToolFault> {
+        carry_out(alloc, self.asked, self.parameters, source, writer).map(|_sound| ())
+    }
 }
 
+/// What the words of a row request of the uncommon entry, or the fault.
+struct Requested;
+
+impl Finds for Requested {
+    fn find(&self, given: &Given<'_, '_>, found: &mut Vec<u8>) -> Result<(), Unfound> {
+        let Task { request, .. } = read_line(*found.allocator(), Destination::File, given.words)?;
+        let Request { parameters, asked } = request;
+        let carried = CarriedOut {
+            asked: &asked,
+            parameters: &parameters,
+        };
+        add_written(found, &carried, &mut Source::new(UNCOMMON, 3))
+    }
+}
+
+/// Words that request a listing or verdicts, and the lines.
+const LISTED: &str = r"
+ti show --escape --all-names => format: legacy\nnames: t\nflag xsb\ntext bel \^G\ntext cmdch \\E%p1%d\\\^\\,\\s\n
+ti check --escape --all-names => text bel ok depth 0 bound 1\ntext cmdch ok depth 1 bound 15\n
+";
+
 #[test]
-fn verdicts_have_the_names_that_are_asked(rt: HostRuntime) -> Result<(), Fail> {
-    let verdicts = done(rt.alloc(), &["ti", "check", "--escape", "--all-names"])?;
-    assert_that!(rt; verdicts.result == Ok(()));
-    let lines = b"text bel ok depth 0 bound 1\ntext cmdch ok depth 1 bound 15\n";
-    assert_same!(rt; verdicts.taken.as_slice(), lines.as_slice());
-    Ok(())
+fn listings_have_the_look_that_is_asked(rt: HostRuntime) {
+    check_rows(&rt, LISTED, &Requested);
+}
+
+/// Words that request an uncommon text, and what is written. It is not among the common names.
+const FORMED: &str = r"
+ti expand -a cmdch n:7 => \E7\^,\s
+ti expand -a -x cmdch n:7 => 1b375e2c20\n
+ti expand -a -e cmdch n:7 => \\E7\\\^\\,\\s\n
+ti expand cmdch n:7 => NoSuchText
+";
+
+#[test]
+fn expansions_have_the_form_that_is_asked(rt: HostRuntime) {
+    check_rows(&rt, FORMED, &Requested);
+}
+
+/// Whether a listing of the large entry has its first lines and its last ones.
+fn is_listed(alloc: Global) -> bool {
+    let mut lines = Vec::new(alloc);
+    let is_added = add_written(&mut lines, &Listed, &mut Source::new(TMUX, 512)).is_ok();
+    let front =
+        b"format: legacy\nnames: tmux|tmux terminal multiplexer\nflag am\nflag xenl\nflag km\nflag hs\nflag mir\nflag msgr\n";
+    let end = b"\ntext+ rmxx 1b5b32396d\ntext+ smxx 1b5b396d\n";
+    is_added && lines.as_slice().starts_with(front) && lines.as_slice().ends_with(end)
 }
 
 /// The listing, whose lines infocmp has in the same order; the flags OTbs and OTpt have no name in the table.
 #[test]
 fn a_large_entry_is_listed(rt: HostRuntime) {
-    let mut writer = Sink::new(rt.alloc());
-    let result = show(rt.alloc(), &mut Source::new(TMUX, 512), &mut writer);
-    assert_that!(rt; result.is_ok());
-    let lines = writer.taken.as_slice();
-    let front =
-        b"format: legacy\nnames: tmux|tmux terminal multiplexer\nflag am\nflag xenl\nflag km\nflag hs\nflag mir\nflag msgr\n";
-    assert_that!(rt; lines.starts_with(front));
-    assert_that!(rt; lines.ends_with(b"\ntext+ rmxx 1b5b32396d\ntext+ smxx 1b5b396d\n"));
+    assert_that!(rt; is_listed(rt.alloc()));
 }
 
 /// How many lines the bytes have.
@@ -63,11 +94,22 @@ fn line_count(bytes: &[u8]) -> u32 {
     count
 }
 
+/// How many lines the verdicts on an entry have, all of whose texts are sound.
+struct VerdictCount;
+
+impl Finds for VerdictCount {
+    fn find(&self, given: &Given<'_, '_>, found: &mut Vec<u8>) -> Result<(), Unfound> {
+        let alloc = *found.allocator();
+        let mut writer = Sink::new(alloc);
+        let is_sound = check(alloc, &mut Source::new(given.bytes, 512), &mut writer)?;
+        show(found, &is_sound)?;
+        found.push(b' ')?;
+        show(found, &line_count(writer.taken.as_slice()))
+    }
+}
+
 /// infocmp lists 230 texts, and each is a capability.
 #[test]
 fn a_large_entry_is_checked(rt: HostRuntime) {
-    let mut writer = Sink::new(rt.alloc());
-    let sound = check(rt.alloc(), &mut Source::new(TMUX, 512), &mut writer);
-    assert_that!(rt; sound == Ok(true));
-    assert_that!(rt; line_count(writer.taken.as_slice()) == 230);
+    check_rows(&rt, "@TMUX => true 230", &VerdictCount);
 }

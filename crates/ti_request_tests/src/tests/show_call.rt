@@ -1,11 +1,9 @@
 //! The call that lists an entry: what it lists, and what it refuses.
 
-use linked_list_allocator::LocalHeap;
-use std::alloc::{Allocator, Global};
-use std::process::Abort;
-use std::test::Fail;
-use ti_fixtures::entries::{DUMB, SMALL};
-use ti_fixtures::{Sink, Source, Tally, Unfound, bytes_of, check_rows};
+use super::calls::{Calls, GrowthsOf, StreamsOf, WrittenBy};
+use crate::tests::check_rows;
+use std::alloc::Allocator;
+use ti_fixtures::{Sink, Source};
 use ti_tool::{ToolFault, show};
 
 /// An entry, and its listing.
@@ -38,66 +36,32 @@ const ROWS: &str = r"
 @DUMB => format: legacy\nnames: dumb|80-column dumb tty\nflag am\nnumber cols 80\ntext bel 07\ntext cr 0d\ntext cud1 0a\ntext ind 0a\n
 ";
 
-/// What a call returned, and what its writer took.
-#[derive(Drop)]
-pub struct Written {
-    pub result: Result<(), ToolFault>,
-    pub taken: Vec<u8>,
-}
+/// Lists an entry.
+#[derive(Clone, Copy)]
+pub struct Listed;
 
-/// Lists an entry from a source.
-fn shown<A: Allocator + Copy>(global: Global, alloc: A, source: Source<'_>) -> Written {
-    let mut source = source;
-    let mut writer = Sink::new(global);
-    let result = show(alloc, &mut source, &mut writer);
-    Written {
-        result,
-        taken: writer.taken,
+impl Calls for Listed {
+    fn call<A: Allocator + Copy>(
+        &self,
+        alloc: A,
+        source: &mut Source<'_>,
+        writer: &mut Sink,
+    ) -> Result<(), ToolFault> {
+        show(alloc, source, writer)
     }
-}
-
-/// The listing of the entry of a row.
-fn listing_in(alloc: Global, given: &str) -> Result<Vec<u8>, Unfound> {
-    let entry = bytes_of(alloc, given)?;
-    let Written { result, taken } = shown(alloc, alloc, Source::new(entry.as_slice(), 11));
-    result?;
-    Ok(taken)
 }
 
 #[test]
-fn entries_are_listed(rt: HostRuntime) -> Result<(), Fail> {
-    check_rows(rt.alloc(), ROWS, listing_in)
+fn entries_are_listed(rt: HostRuntime) {
+    check_rows(&rt, ROWS, &WrittenBy(Listed));
 }
 
 #[test]
-fn a_source_that_fails_lists_nothing(rt: HostRuntime) {
-    for k in 1..26usize {
-        let mut source = Source::failing_at(SMALL, 1, k);
-        source.interruptions = 1;
-        let listed = shown(rt.alloc(), rt.alloc(), source);
-        assert_that!(rt; listed.result == Err(ToolFault::Read));
-        assert_that!(rt; listed.taken.is_empty());
-    }
-}
-
-/// Whether an entry is listed with so much memory, all of which is given back.
-fn is_shown(rt: &impl Abort, global: Global, memory: usize) -> Result<bool, Fail> {
-    let heap = LocalHeap::new(global, memory)?;
-    let listed = shown(global, &heap, Source::new(DUMB, 512));
-    if let Err(fault) = listed.result {
-        assert_that!(rt; fault == ToolFault::Memory);
-        assert_that!(rt; listed.taken.is_empty());
-    }
-    assert_that!(rt; heap.used() == 0);
-    Ok(listed.result.is_ok())
+fn streams_of_a_listing_fail_at_each_read_and_byte(rt: HostRuntime) {
+    check_rows(&rt, "@SMALL => 25 59", &StreamsOf(Listed));
 }
 
 #[test]
-fn each_growth_of_a_listing_is_refused_in_turn(rt: HostRuntime) -> Result<(), Fail> {
-    let mut tally = Tally::NONE;
-    for step in 0..60usize {
-        tally.count(is_shown(&rt, rt.alloc(), 64 + 16 * step)?);
-    }
-    assert_that!(rt; tally.is_refused_then_given(2));
-    Ok(())
+fn each_growth_of_a_listing_is_refused_in_turn(rt: HostRuntime) {
+    check_rows(&rt, "@DUMB | 16 | 64 | 2 => true", &GrowthsOf(Listed));
 }

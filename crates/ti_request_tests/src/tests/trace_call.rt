@@ -1,104 +1,82 @@
 //! The call that traces a capability, over memory, readers and writers that fail.
 
-use super::show_call::Written;
+use super::calls::{Calls, StreamsOf, WrittenBy};
+use crate::tests::check_rows;
 use linked_list_allocator::LocalHeap;
 use std::alloc::{Allocator, Global};
-use std::process::Abort;
-use std::test::Fail;
-use ti_cap::{CapFault, CapRefused};
 use ti_escape::{Color, Form};
 use ti_expand::Value;
 use ti_fixtures::traces::{COLUMN, COLUMN_OF_7};
-use ti_fixtures::{Sink, Source, Tally};
+use ti_fixtures::{Sink, Source, Tries, Unfound, only_if, tally_of};
 use ti_line::{Asked, OfCapability, TraceForm};
 use ti_tool::{ToolFault, carry_out};
 use ti_trace::trace;
 
 const NUMBERS: [Value<'static>; 9] = [Value::Num(7); 9];
 
-/// Traces a capability from a source, with a writer.
-fn traced<A: Allocator + Copy>(
-    alloc: A,
-    source: Source<'_>,
-    parameters: &[Value<'_>; 9],
-    writer: Sink,
-) -> Written {
-    let mut source = source;
-    let mut writer = writer;
-    let asked = Asked::Capability(OfCapability::Trace(TraceForm::Lines(Form::Hex, Color::Never)));
-    let result = carry_out(alloc, &asked, parameters, &mut source, &mut writer);
-    Written {
-        result: result.map(|_sound| ()),
-        taken: writer.taken,
-    }
-}
+/// Traces a capability for these parameters.
+#[derive(Clone, Copy)]
+struct Traced<'a>(&'a [Value<'a>; 9]);
 
-/// Whether a trace is written with so much memory, all of which is given back. It is as much as the text alone takes.
-fn is_traced(rt: &impl Abort, global: Global, memory: usize) -> Result<bool, Fail> {
-    let heap = LocalHeap::new(global, memory)?;
-    let written = traced(&heap, Source::new(COLUMN, 512), &NUMBERS, Sink::new(global));
-    match written.result {
-        Ok(()) => assert_that!(rt; written.taken.as_slice() == COLUMN_OF_7),
-        Err(fault) => {
-            assert_that!(rt; fault == ToolFault::Memory);
-            assert_that!(rt; written.taken.is_empty());
-        }
-    }
-    assert_that!(rt; heap.used() == 0);
-    let text = trace(&heap, COLUMN, &NUMBERS, Form::Hex, Color::Never);
-    assert_that!(rt; text.is_ok() == written.result.is_ok());
-    Ok(written.result.is_ok())
-}
-
-#[test]
-fn each_growth_of_a_trace_is_refused_in_turn(rt: HostRuntime) -> Result<(), Fail> {
-    let mut tally = Tally::NONE;
-    for step in 0..80usize {
-        tally.count(is_traced(&rt, rt.alloc(), 32 * step)?);
-    }
-    assert_that!(rt; tally.is_refused_then_given(4));
-    Ok(())
-}
-
-#[test]
-fn a_writer_of_a_trace_fails_at_each_byte(rt: HostRuntime) {
-    for k in 1..=COLUMN_OF_7.len() {
-        let writer = Sink::failing_at(rt.alloc(), 1, k);
-        let written = traced(rt.alloc(), Source::new(COLUMN, 3), &NUMBERS, writer);
-        assert_that!(rt; written.result == Err(ToolFault::Write(k as u64 - 1)));
-        assert_same!(rt; written.taken.as_slice(), &COLUMN_OF_7[..k - 1]);
+impl Calls for Traced<'_> {
+    fn call<A: Allocator + Copy>(
+        &self,
+        alloc: A,
+        source: &mut Source<'_>,
+        writer: &mut Sink,
+    ) -> Result<(), ToolFault> {
+        let lines = TraceForm::Lines(Form::Hex, Color::Never);
+        let asked = Asked::Capability(OfCapability::Trace(lines));
+        carry_out(alloc, &asked, self.0, source, writer).map(|_sound| ())
     }
 }
 
 #[test]
-fn a_source_of_a_trace_that_fails_writes_nothing(rt: HostRuntime) {
-    for k in 1..10usize {
-        let source = Source::failing_at(COLUMN, 1, k);
-        let written = traced(rt.alloc(), source, &NUMBERS, Sink::new(rt.alloc()));
-        assert_that!(rt; written.result == Err(ToolFault::Read));
-        assert_that!(rt; written.taken.is_empty());
+fn a_capability_is_traced(rt: HostRuntime) {
+    check_rows(
+        &rt,
+        r"\E[%p1%dG => @COLUMN_OF_7",
+        &WrittenBy(Traced(&NUMBERS)),
+    );
+}
+
+#[test]
+fn streams_of_a_trace_fail_at_each_read_and_byte(rt: HostRuntime) {
+    check_rows(&rt, r"\E[%p1%dG => 9 418", &StreamsOf(Traced(&NUMBERS)));
+}
+
+/// A trace that is written. It takes as much memory as the text alone does.
+#[derive(Clone, Copy)]
+struct Growing {
+    alloc: Global,
+}
+
+impl Tries for Growing {
+    fn is_given(&self, heap: &LocalHeap) -> Result<bool, Unfound> {
+        let mut writer = Sink::new(self.alloc);
+        let mut source = Source::new(COLUMN, 512);
+        let is_given = match Traced(&NUMBERS).call(heap, &mut source, &mut writer) {
+            Ok(()) if writer.taken.as_slice() == COLUMN_OF_7 => true,
+            Err(ToolFault::Memory) if writer.taken.is_empty() => false,
+            _ => return Err(Unfound),
+        };
+        let text = trace(heap, COLUMN, &NUMBERS, Form::Hex, Color::Never);
+        only_if(text.is_ok() == is_given)?;
+        Ok(is_given)
     }
 }
 
 #[test]
-fn a_source_of_a_trace_that_fails_too_late(rt: HostRuntime) {
-    let source = Source::failing_at(COLUMN, 1, 10);
-    let written = traced(rt.alloc(), source, &NUMBERS, Sink::new(rt.alloc()));
-    assert_that!(rt; written.result.is_ok());
-    assert_same!(rt; written.taken.as_slice(), COLUMN_OF_7);
+fn each_growth_of_a_trace_is_refused_in_turn(rt: HostRuntime) {
+    let growing = Growing { alloc: rt.alloc() };
+    assert_that!(rt; tally_of(rt.alloc(), &growing, 0, 32, 80).is_refused_then_given(4));
 }
-
-/// `%;` without its `%?`.
-const STRAY: CapRefused = CapRefused {
-    fault: CapFault::StrayEnd,
-    place: 0,
-};
 
 /// Capabilities, and the first of their faults if parameters 1 and 9 are texts that are too long.
-const FIRST: [(&[u8], ToolFault); 2] = [
-    (b"%p1%s", ToolFault::TextTooLong(1)),
-    (b"%;", ToolFault::Cap(STRAY)),
-];
+const FIRST: &str = r"
+%p1%s => TextTooLong 1
+%; => Cap StrayEnd at 0
+";
 
 #[test]
 fn a_trace_reports_the_first_of_its_faults(rt: HostRuntime) {
@@ -106,14 +84,5 @@ fn a_trace_reports_the_first_of_its_faults(rt: HostRuntime) {
     let mut parameters = NUMBERS;
     parameters[0] = Value::Text(&long);
     parameters[8] = Value::Text(&long);
-    for (bytes, fault) in FIRST {
-        let written = traced(
-            rt.alloc(),
-            Source::new(bytes, 512),
-            &parameters,
-            Sink::new(rt.alloc()),
-        );
-        assert_that!(rt; written.result == Err(fault));
-        assert_that!(rt; written.taken.is_empty());
-    }
+    check_rows(&rt, FIRST, &WrittenBy(Traced(&parameters)));
 }

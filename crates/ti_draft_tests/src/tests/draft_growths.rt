@@ -1,7 +1,6 @@
 //! Drafts and encoding with each growth refused in turn: heaps with room for the first growths alone.
 
-use super::drafts_written::written;
-use super::entry_views::entry_of;
+use super::drafts_written::{entry_of, written};
 use linked_list_allocator::LocalHeap;
 use std::alloc::{AllocError, Allocator, Global};
 use ti_entry::{Draft, EncodeFault, Entry, encode};

@@ -1,6 +1,6 @@
 //! How much memory a draft and its bytes take: each list grows once, to its size.
 
-use super::entry_views::entry_of;
+use super::drafts_written::entry_of;
 use crate::tests::check_rows;
 use linked_list_allocator::LocalHeap;
 use std::alloc::{AllocError, Allocator, Global};

@@ -1,7 +1,6 @@
 //! A large real entry through each call of the library that takes memory, if there is enough of it.
 
-use super::drafts_written::written;
-use super::entry_views::{are_equal, entry_of};
+use super::drafts_written::{entry_of, written};
 use std::alloc::{AllocError, Global};
 use ti_cap::Capability;
 use ti_entry::{Draft, Entry, Extended, encoded_len};
@@ -39,11 +38,10 @@ fn push_extended<'a>(draft: &mut Draft<'a>, extended: &Extended<'a>) -> Result<(
     Ok(())
 }
 
-/// Whether a draft is written as tic wrote the entry, and the bytes say what the entry does.
+/// Whether a draft is written as tic wrote the entry.
 fn is_tmux(alloc: Global, draft: &Draft<'_>) -> Result<bool, Unfound> {
     let bytes = written(alloc, draft)?;
-    let is_same = are_equal(&entry_of(bytes.as_slice())?, &entry_of(TMUX)?);
-    Ok(is_same && encoded_len(draft) == 3171 && bytes.as_slice() == TMUX)
+    Ok(encoded_len(draft) == 3171 && bytes.as_slice() == TMUX)
 }
 
 /// Whether the draft of the entry, if there is one, is written as tic wrote it.

@@ -1,12 +1,16 @@
 //! Drafts, and the bytes that they are written as.
 
-use super::entry_views::entry_of;
 use crate::tests::check_rows;
 use std::alloc::{AllocError, Allocator, Global};
 use std::str::from_utf8;
-use ti_entry::{Draft, EncodeFault, encode, encoded_len};
+use ti_entry::{Draft, EncodeFault, Entry, encode, encoded_len, read};
 use ti_fixtures::{Finds, Given, Said, Unfound, bytes_of, item_of};
 use ti_words::{Flag, Number, Text, Width};
+
+/// The entry that the bytes spell.
+pub fn entry_of<'a>(bytes: &'a [u8]) -> Result<Entry<'a>, Unfound> {
+    Ok(read(bytes)?)
+}
 
 /// What a draft is written as, of the length that is known before, or why it is not.
 pub fn written<A: Allocator>(alloc: Global, draft: &Draft<'_, A>) -> Result<Vec<u8>, Unfound> {
@@ -163,6 +167,12 @@ const AGAIN: &str = r"
 @NO_CAPABILITY => @SMALL
 # the example of term(5)
 @ADM3A => @ADM3A
+# the 32-bit format, with the number absent, cancelled and the greatest
+@WIDE => @WIDE
+^^^B^B\000^A\000^A\000^B\000^B\000t\000^A\000\377\377\377\377\377\377\000\000^G\000 => ^^^B^B\000^A\000^A\000^B\000^B\000t\000^A\000\377\377\377\377\377\377\000\000^G\000
+^^^B^B\000^A\000^A\000^B\000^B\000t\000^A\000\376\377\377\377\377\377\000\000^G\000 => ^^^B^B\000^A\000^A\000^B\000^B\000t\000^A\000\376\377\377\377\377\377\000\000^G\000
+^^^B^B\000^A\000^A\000^B\000^B\000t\000^A\000\377\377\377^?\377\377\000\000^G\000 => ^^^B^B\000^A\000^A\000^B\000^B\000t\000^A\000\377\377\377^?\377\377\000\000^G\000
+@WIDE_EXTENDED => @WIDE_EXTENDED
 ";
 
 /// What a draft is written as, if there is one.
@@ -177,7 +187,7 @@ fn written_if_given(
 }
 
 /// What the draft of an entry is written as.
-pub fn written_again(alloc: Global, bytes: &[u8]) -> Result<Vec<u8>, Unfound> {
+fn written_again(alloc: Global, bytes: &[u8]) -> Result<Vec<u8>, Unfound> {
     written_if_given(alloc, &entry_of(bytes)?.draft(alloc))
 }
 

@@ -1,0 +1,31 @@
+//! Drafts and the bytes that they are written as, and entries as JSON, in tables.
+
+use std::process::Abort;
+use ti_fixtures::{Finds, first_wrong};
+
+/// Ends the test unless the condition holds. One call for each condition keeps the proofs of the tests short.
+pub fn claim(rt: &impl Abort, holds: bool, condition: &str) {
+    assert!(rt; holds, "it does not hold that {condition}");
+}
+
+/// Claims a condition, which the message names.
+macro_rules! assert_that {
+    ($rt:expr; $condition:expr) => {
+        crate::tests::claim(&$rt, $condition, stringify!($condition))
+    };
+}
+
+/// Ends the test with the first row that does not hold.
+pub fn check_rows<F: Finds>(rt: &(impl Abort + AllocGlobal), rows: &str, finds: &F) {
+    if let Some(row) = first_wrong(rt.alloc(), rows, finds) {
+        claim(rt, false, row);
+    }
+}
+
+mod draft_growths;
+mod draft_memory;
+mod draft_messages;
+mod drafts_written;
+mod entry_objects;
+mod large_entry;
+mod uses;
