@@ -62,6 +62,20 @@ def append(path: Path, text: str) -> None:
     path.write_text(path.read_text() + text)
 
 
+def print_as_derived(shown: Path) -> None:
+    """Takes out how the crate prints values with bytes, since the tests hold what Rattle derives."""
+    text = shown.read_text()
+    shown.write_text(text[: text.index("impl fmt::Debug for Text")])
+
+
+def make_with_tests(make: ModuleType, target: Path) -> None:
+    """Makes the crate with the tests in a folder."""
+    make.SHOWN.clear()
+    make.make_library(target, is_alone=True)
+    print_as_derived(target / "src/shown.rs")
+    add_tests(make, target)
+
+
 def add_tests(make: ModuleType, target: Path) -> None:
     """Adds the tests to the crate in a folder."""
     for crate, left_out in TESTS.items():

@@ -20,13 +20,7 @@ macro_rules! format_in {
 }
 pub(crate) use format_in;
 
-impl<T: Clone, A: Allocator> Vec<T, A> {
-    pub fn from_slice(alloc: A, items: &[T]) -> Result<Self, AllocError> {
-        let mut made = Vec::new(alloc);
-        made.extend_from_slice(items)?;
-        Ok(made)
-    }
-
+impl<T, A: Allocator> Vec<T, A> {
     pub fn capacity(&self) -> usize {
         self.items.capacity()
     }

@@ -32,7 +32,14 @@ impl fmt::Display for CompileError {
     }
 }
 
-impl Error for CompileError {}
+impl Error for CompileError {
+    fn source(&self) -> Option<&(dyn Error + 'static)> {
+        match self {
+            CompileError::Refused(refused) => Some(refused),
+            CompileError::DoesNotFit => None,
+        }
+    }
+}
 
 impl fmt::Display for PadError {
     fn fmt(&self, f: &mut fmt::Formatter<'_>) -> fmt::Result {
@@ -75,5 +82,7 @@ io_errors! {
     ParseError => InvalidData,
     crate::EncodeError => InvalidInput,
     PadError => InvalidInput,
+    PadIntoError => InvalidInput,
+    CompileError => InvalidInput,
     crate::ExpandError => InvalidInput,
 }
