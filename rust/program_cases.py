@@ -129,6 +129,6 @@ def upper_cases(rounds: int, seed: int) -> Iterator[Case]:
         yield Case(("cap", "--source", "-e", "--", *parameters(made)), a_capability(made))
 
 
-def reads_no_file(case: Case) -> bool:
-    """Whether a call reads standard input alone, so that it runs where there are no files."""
-    return not any(word.startswith("/") for word in case.words)
+def reads_no_file(case: Case, due: str) -> bool:
+    """Whether a call reads standard input alone, so that it runs where there are no files, or other names for them and for faults."""
+    return not any(word.startswith("/") for word in case.words) and b"os error".hex() not in due

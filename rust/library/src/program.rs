@@ -2,23 +2,12 @@
 
 use crate::kit::host::HostRuntime;
 use crate::kit::{AllocError, Allocator, Vec};
-use crate::made::line::WordFault;
-use core::fmt;
 use std::io;
 use std::process::ExitCode;
 
 /// Runs `ti` on the words, the streams and the files of this process, and returns its exit status.
 pub fn main() -> ExitCode {
     crate::made::ti::main(HostRuntime)
-}
-
-impl fmt::Display for WordFault {
-    fn fmt(&self, f: &mut fmt::Formatter<'_>) -> fmt::Result {
-        match self {
-            WordFault::TooMany => f.write_str("TooMany"),
-            WordFault::BadWord { which } => write!(f, "BadWord {which}"),
-        }
-    }
 }
 
 impl From<AllocError> for io::Error {

@@ -31,7 +31,7 @@ pub struct Global;
 impl Allocator for Global {}
 
 /// A vector whose growth can be refused.
-#[derive(Clone, Debug)]
+#[derive(Clone)]
 pub struct Vec<T, A: Allocator = Global> {
     items: Items<T>,
     source: PhantomData<A>,
@@ -124,6 +124,12 @@ impl<T: Clone, A: Allocator> Vec<T, A> {
         self.reserve(count.saturating_sub(self.items.len()))?;
         self.items.resize(count, item);
         Ok(())
+    }
+}
+
+impl<T: fmt::Debug, A: Allocator> fmt::Debug for Vec<T, A> {
+    fn fmt(&self, f: &mut fmt::Formatter<'_>) -> fmt::Result {
+        f.debug_list().entries(self.iter()).finish()
     }
 }
 
