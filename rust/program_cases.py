@@ -16,12 +16,18 @@ COMMANDS = ["show", "check", "lint", "get", "diff", "expand", "convert", "cap", 
 TAILS = [
     "--help", "-h", "-h --json", "--hlep", "--jsno", "--json --json", "--json=1", "-q", "-e -x", "-xe", "--hex --escape", "--color",
     "--color red", "--color=always --color=never", "--rate", "--rate -1", "--rate 1000001", "--rate=", "--rate 5x", "--lines 65536",
-    "--wide --narrow", "--entry", "--of", "--of cup --source", "--nosuch=5", "-", "- -", "a b c", "cup n:1 n:2 n:3 n:4 n:5 n:6 n:7 n:8 n:9 n:10",
-    "cup x", "-- --json", "n:1 -5", "--expand", "--all", "--all-names --json", "--force --wide", "\x1b[2J", "--\x1bx", "é", "--rate é", "",
+    "--wide --narrow", "--entry", "--of", "--of cup --source", "--nosuch=5", "-", "- -", "a b c", "cup x", "-- --json", "n:1 -5",
+    "cup n:1 n:2 n:3 n:4 n:5 n:6 n:7 n:8 n:9 n:10", "--expand", "--all", "--all-names --json", "--force --wide", "\x1b[2J", "--\x1bx",
+    "é", "--rate é", "",
 ]
 WORDS = [
-    "", "--help", "-h", "--version", "-V", "help", "help help", "help show", "help nosuch", "help show get", "frob", "shwo", "lnit -q", "--frob",
-    "-- show", "show show", "SHOW", "--version show", "-Vh", "\x1b[2J",
+    "", "--help", "-h", "--version", "-V", "help", "help help", "help show", "help nosuch", "help show get", "frob", "shwo", "lnit -q",
+    "--frob", "-- show", "show show", "SHOW", "--version show", "-Vh", "\x1b[2J",
+]
+# What `ti` is called with for each of some entries.
+OF_AN_ENTRY = [
+    "convert", "convert --wide", "get cup 4 9", "get cols", "get nosuch", "get kcuu -e", "expand sgr n:1 n:0 n:1",
+    "trace --of setaf --json 9",
 ]
 # What each pair is called, how Debian's clap 4.0 says it, and how the proved program does.
 WORDINGS = [
@@ -46,7 +52,10 @@ WORDINGS = [
     ),
     ("missing argument", r"^error: The following required", "error: the following required"),
     ("wrong value", r"^error: Invalid value", "error: invalid value"),
-    ("missing value", r"^error: The argument '(.*)' requires a value but none was supplied$", r"error: a value is required for '\1' but none was supplied"),
+    (
+        "missing value", r"^error: The argument '(.*)' requires a value but none was supplied$",
+        r"error: a value is required for '\1' but none was supplied",
+    ),
     (
         "value of a flag", r"^error: The value '(.*)' was provided to '(.*)' but it wasn't expecting any more values$",
         r"error: unexpected value '\1' for '\2' found; no more were expected",
@@ -110,7 +119,7 @@ def entry_cases(every: int) -> Iterator[Case]:
     files = entry_files()[::every]
     for file, other in zip(files, files[1:] + files[:1]):
         data = file.read_bytes()
-        for line in ["convert", "convert --wide", "get cup 4 9", "get cols", "get nosuch", "get kcuu -e", "expand sgr n:1 n:0 n:1", "trace --of setaf --json 9"]:
+        for line in OF_AN_ENTRY:
             yield Case(words_of(line), data)
         yield from [Case((*words_of(form), str(file), str(other)), b"") for form in ["diff", "diff --json --expand"]]
 

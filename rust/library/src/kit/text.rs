@@ -63,3 +63,11 @@ pub fn format<A: Allocator>(alloc: A, words: fmt::Arguments<'_>) -> Result<Strin
     text.write_fmt(words).map_err(|_| AllocError)?;
     Ok(text)
 }
+
+/// A text that is formatted, by an allocator.
+macro_rules! format_in {
+    ($alloc:expr; $($words:tt)*) => {
+        crate::kit::text::format($alloc, format_args!($($words)*))
+    };
+}
+pub(crate) use format_in;
