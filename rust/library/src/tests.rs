@@ -181,6 +181,8 @@ fn a_name_that_nothing_has_is_known_from_what_is_absent() {
     assert_eq!(entry.find("cursor_address"), Some(Item::Text(Text::Absent)));
     assert_eq!(entry.find("lines"), Some(Item::Number(Number::Cancelled)));
     assert_eq!(entry.find("Ss"), Some(Item::Text(b"x".into())));
+    assert_eq!(entry.find("cols").map(Item::number), Some(Some(80)));
+    assert!(entry.find("AX").is_some_and(Item::is_set) && !entry.find("bw").is_some_and(Item::is_set));
     // The standard name comes first, also if the entry has the name for another kind.
     assert_eq!(entry.find("am"), Some(Item::Flag(Flag::Yes)));
     assert_eq!((entry.find("nosuch"), entry.find("")), (None, None));
