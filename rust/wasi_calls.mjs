@@ -3,7 +3,6 @@
 import { closeSync, mkdtempSync, openSync, readFileSync, rmSync, writeFileSync } from "node:fs";
 import { tmpdir } from "node:os";
 import { join } from "node:path";
-import { createInterface } from "node:readline";
 import { WASI } from "node:wasi";
 
 const program = await WebAssembly.compile(readFileSync(process.argv[2]));
@@ -20,7 +19,7 @@ async function status(words, streams) {
   }
 }
 
-for await (const line of createInterface({ input: process.stdin })) {
+for (const line of readFileSync(0, "utf8").slice(0, -1).split("\n")) {
   const [data, ...words] = line.split(" ").map((digits) => Buffer.from(digits, "hex"));
   writeFileSync(input, data);
   const streams = [openSync(input, "r"), openSync(output, "w"), openSync(errors, "w")];
