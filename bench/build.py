@@ -50,7 +50,7 @@ def build_rust(folder: Path) -> tuple[Path | None, bool]:
     subprocess.run([ROOT / "rust/make", made], check=True, stdout=subprocess.DEVNULL)
     program = folder / "rust"
     shutil.copytree(ROOT / "bench/rust", program)
-    settings = (program / "Cargo.toml").read_text().replace("../../rust/out", str(made))
+    settings = (program / "Cargo.toml").read_text().replace("../../rust/out/library", str(made / "library"))
     has_term = any(REGISTRY.glob("term-0.5*"))
     if not has_term:
         print("bench: left out: the crate term (Debian's librust-term-dev)")

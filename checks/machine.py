@@ -31,6 +31,8 @@ PACKAGES: dict[str, tuple[str, ...]] = {
     "binutils": ("readelf", "nm"),
     "dpkg": ("dpkg-deb",),
     "cargo-web": ("cargo", "rustc"),
+    "librust-clap-dev": (),
+    "librust-strsim-dev": (),
     "librust-term-dev": (),
     "man-db": ("man",),
     "jq": ("jq",),

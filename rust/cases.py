@@ -1,10 +1,11 @@
 """Made inputs for the commands of `ti`, and what the proved program writes for them. They are those of model/compare, and the
 entries of this machine, mostly broken by a few bytes."""
 
+import os
 import random
 import subprocess
 import sys
-from collections.abc import Iterator
+from collections.abc import Iterator, Mapping
 from concurrent.futures import ThreadPoolExecutor
 from dataclasses import dataclass
 from importlib.machinery import SourceFileLoader
@@ -32,9 +33,11 @@ class Case:
         """The call as a line for the driver."""
         return " ".join([self.data.hex(), *(word.encode().hex() for word in self.words)])
 
-    def proved(self) -> str:
-        """The line that the driver has to write, by the proved program."""
-        done = subprocess.run([PROGRAM, *self.words], input=self.data, capture_output=True, check=False)
+    def run(self, *command: str | Path, environment: Mapping[str, str] = os.environ) -> str:
+        """The line that a program gives for the call, as the driver writes it."""
+        words = [*command, *self.words]
+        # In a folder that has no file with a name of the calls.
+        done = subprocess.run(words, input=self.data, env=environment, cwd=ROOT / "examples", capture_output=True, check=False)
         return f"{done.returncode} {done.stdout.hex()} {done.stderr.hex()}"
 
 
@@ -122,13 +125,18 @@ def made_cases(rounds: int, seed: int) -> Iterator[Case]:
         yield from expanding(made, entry)
 
 
-def proved_lines(cases: list[Case]) -> list[str]:
-    """What the proved program writes for each case."""
+def lines_of(cases: list[Case], *command: str | Path, environment: Mapping[str, str] = os.environ) -> list[str]:
+    """What a program gives for each case."""
     with ThreadPoolExecutor(2) as pool:
-        return list(pool.map(Case.proved, cases))
+        return list(pool.map(lambda case: case.run(*command, environment=environment), cases))
 
 
-def written(command: list[str | Path], cases: list[Case], environment: dict[str, str]) -> list[str]:
+def proved_lines(cases: list[Case]) -> list[str]:
+    """What the proved program gives for each case."""
+    return lines_of(cases, PROGRAM)
+
+
+def written(command: list[str | Path], cases: list[Case], environment: Mapping[str, str]) -> list[str]:
     """What a driver writes for the cases, a line for each up to one at which it ends early."""
     lines = "".join(f"{case.line()}\n" for case in cases)
     done = subprocess.run(command, input=lines, env=environment, capture_output=True, text=True, check=False)

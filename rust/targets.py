@@ -1,5 +1,5 @@
-"""The other processors for which rust/check builds the crate: what Rust's library for them is made of, what links for them, and
-what runs their programs."""
+"""The other processors and systems for which rust/check builds the crate and the program: what Rust's library for them is made of,
+what links for them, and what runs their programs."""
 
 import os
 import subprocess
@@ -10,6 +10,8 @@ from pathlib import Path
 from checks.machine import is_there
 
 HERE = Path(__file__).resolve().parent
+# The sources of crates of Debian's packages.
+DEBIAN = Path("/usr/share/cargo/registry")
 # Debian's C library for WebAssembly, for a library of Rust that is built from its sources.
 WASI = Path("/usr/lib/wasm32-wasi")
 
@@ -28,9 +30,24 @@ def sources() -> Path | None:
     return library if library and (library / "vendor").is_dir() else None
 
 
+def has_crates() -> bool:
+    """Whether Debian's packages have the crates that the program needs."""
+    return all(any(DEBIAN.glob(name)) for name in ["clap-4.*", "strsim-0.10.*"])
+
+
+def all_sources(folder: Path) -> Path:
+    """A folder with the sources of Debian's crates and of those that Rust's library needs, as links."""
+    folder.mkdir(parents=True, exist_ok=True)
+    vendored = sources()
+    for path in [*(DEBIAN.iterdir() if DEBIAN.is_dir() else []), *((vendored / "vendor").iterdir() if vendored else [])]:
+        if not (folder / path.name).is_symlink():
+            (folder / path.name).symlink_to(path)
+    return folder
+
+
 @dataclass(frozen=True)
 class Target:
-    """Another processor. Its programs are linked by what is no part of Rust, if a linker is named, and run by the runner; `parts`
+    """Another processor or system. Its programs are linked by what is no part of Rust, if a linker is named, and run by the runner; `parts`
     are those of Rust's library that its programs need."""
 
     name: str
@@ -56,11 +73,11 @@ class Target:
             return "wasi-libc"
         return next((command for command in [self.links(), *self.runner[:1]] if command and not is_there(command)), None)
 
-    def options(self) -> list[str]:
-        """The words for cargo."""
+    def options(self, folder: Path) -> list[str]:
+        """The words for cargo. The folder has room for links to sources."""
         words = ["--target", self.name]
         if not self.has_library():
-            replaced = [f"source.crates-io.replace-with='vendored'", f"source.vendored.directory='{sources()}/vendor'"]
+            replaced = [f"source.crates-io.replace-with='vendored'", f"source.vendored.directory='{all_sources(folder)}'"]
             words += [f"-Zbuild-std={self.parts}", *(word for setting in replaced for word in ("--config", setting))]
         return words
 
@@ -81,3 +98,7 @@ OTHERS = [
 ]
 # With 32 bits and without an operating system; the first that can be tried is.
 BARE = [Target(name) for name in ["thumbv7em-none-eabi", "thumbv6m-none-eabi", "riscv32imac-unknown-none-elf"]]
+WINDOWS = Target("x86_64-pc-windows-gnu", "x86_64-w64-mingw32-gcc", (), "std,panic_abort")
+# What runs programs of Windows, if one is there: Debian's wine64 has no command on the path.
+WINE = next((path for path in ["wine", "/usr/lib/wine/wine64"] if is_there(path)), None)
+MACOS = Target("aarch64-apple-darwin", None, (), "std")

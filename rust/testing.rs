@@ -1,8 +1,7 @@
 //! What the tests of the sources take from Rattle, for those of them that rust/check runs.
 
 use super::{AllocError, Allocator, Global, Vec};
-use crate::made::escape::{NotationRefused, ReadingFault};
-use crate::made::expand::{BytesFault, ExpandFault};
+use crate::made::escape::ReadingFault;
 use core::error::Error;
 use core::fmt;
 use std::boxed::Box;
@@ -20,15 +19,16 @@ macro_rules! format_in {
 }
 pub(crate) use format_in;
 
-impl<T: Clone, A: Allocator> Vec<T, A> {
-    pub fn from_slice(alloc: A, items: &[T]) -> Result<Self, AllocError> {
-        let mut made = Vec::new(alloc);
-        made.extend_from_slice(items)?;
-        Ok(made)
-    }
-
+impl<T, A: Allocator> Vec<T, A> {
     pub fn capacity(&self) -> usize {
         self.items.capacity()
+    }
+}
+
+#[cfg(feature = "program")]
+impl<A: Allocator> crate::kit::text::String<A> {
+    pub fn push(&mut self, character: char) -> Result<(), AllocError> {
+        self.push_str(character.encode_utf8(&mut [0; 4]))
     }
 }
 
@@ -53,40 +53,6 @@ impl<T: ToString> ToStringIn for T {
         Ok(self.to_string())
     }
 }
-
-// The crate shows its own error in place of this one.
-impl fmt::Display for ExpandFault {
-    fn fmt(&self, f: &mut fmt::Formatter<'_>) -> fmt::Result {
-        match self {
-            ExpandFault::TextTooLong { parameter } => write!(f, "TextTooLong {parameter}"),
-            ExpandFault::StackTooSmall { need } => write!(f, "StackTooSmall {need}"),
-            ExpandFault::OutTooSmall { need } => write!(f, "OutTooSmall {need}"),
-            ExpandFault::Memory => f.write_str("Memory"),
-        }
-    }
-}
-
-impl Error for ExpandFault {}
-
-impl fmt::Display for BytesFault {
-    fn fmt(&self, f: &mut fmt::Formatter<'_>) -> fmt::Result {
-        match self {
-            BytesFault::Refused(refused) => refused.fmt(f),
-            BytesFault::Failed(fault) => fault.fmt(f),
-        }
-    }
-}
-
-impl Error for BytesFault {}
-
-// The crate reads no notation yet.
-impl fmt::Display for NotationRefused {
-    fn fmt(&self, f: &mut fmt::Formatter<'_>) -> fmt::Result {
-        write!(f, "{} at {}", self.fault, self.place)
-    }
-}
-
-impl Error for NotationRefused {}
 
 impl fmt::Display for ReadingFault {
     fn fmt(&self, f: &mut fmt::Formatter<'_>) -> fmt::Result {

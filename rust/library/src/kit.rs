@@ -2,12 +2,24 @@
 //! refused, vectors of bytes that are compared at once, `ArrayVec`, and words, digits and hex at a place. Written for Rust
 //! alone.
 
+#[cfg(feature = "program")]
+pub mod clap;
+#[cfg(feature = "program")]
+pub mod host;
+#[cfg(feature = "program")]
+pub mod json;
+#[cfg(feature = "program")]
+pub mod maps;
 #[cfg(not(feature = "alloc"))]
 mod no_items;
 pub mod simd;
 #[cfg(test)]
 mod tests;
+#[cfg(feature = "program")]
+pub mod text;
 mod vec;
+#[cfg(feature = "program")]
+pub mod words;
 
 pub use vec::{AllocError, Allocator, Global, Vec};
 
@@ -77,6 +89,16 @@ impl<T: Copy + Default, const N: usize> ArrayVec<T, N> {
         &self.items[..self.count]
     }
 
+    #[cfg(feature = "program")]
+    pub fn as_mut_slice(&mut self) -> &mut [T] {
+        &mut self.items[..self.count]
+    }
+
+    #[cfg(feature = "program")]
+    pub fn remaining_capacity(&self) -> usize {
+        N - self.count
+    }
+
     /// Adds an item at the end. It panics if the list is full.
     pub fn push(&mut self, item: T) {
         self.items[self.count] = item;
@@ -117,6 +139,28 @@ pub fn write_digits(number: u64, out: &mut [u8], end: usize) -> usize {
         if rest == 0 {
             return at;
         }
+    }
+}
+
+/// Room for the decimal digits of a number.
+#[cfg(feature = "program")]
+pub struct Buffer([u8; 20]);
+
+#[cfg(feature = "program")]
+impl Buffer {
+    pub fn new() -> Self {
+        Buffer([0; 20])
+    }
+
+    /// The digits of a number of at most 64 bits, after a `-` if it is negative.
+    pub fn format(&mut self, number: impl TryInto<i128>) -> &str {
+        let number = number.try_into().unwrap_or_default();
+        let mut start = write_digits(number.unsigned_abs() as u64, &mut self.0, 20);
+        if number < 0 {
+            start -= 1;
+            self.0[start] = b'-';
+        }
+        str::from_utf8(&self.0[start..]).unwrap_or_default()
     }
 }
 

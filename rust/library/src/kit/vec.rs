@@ -31,7 +31,7 @@ pub struct Global;
 impl Allocator for Global {}
 
 /// A vector whose growth can be refused.
-#[derive(Clone, Debug)]
+#[derive(Clone)]
 pub struct Vec<T, A: Allocator = Global> {
     items: Items<T>,
     source: PhantomData<A>,
@@ -62,8 +62,23 @@ impl<T, A: Allocator> Vec<T, A> {
         Ok(())
     }
 
+    pub fn pop(&mut self) -> Option<T> {
+        self.items.pop()
+    }
+
     pub fn truncate(&mut self, count: usize) {
         self.items.truncate(count);
+    }
+
+    pub fn clear(&mut self) {
+        self.items.clear();
+    }
+
+    /// Sorts by an order. It takes memory without a refusal.
+    #[cfg(feature = "alloc")]
+    pub fn sort_by(&mut self, order: impl FnMut(&T, &T) -> core::cmp::Ordering) -> Result<(), AllocError> {
+        self.items.sort_by(order);
+        Ok(())
     }
 
     pub fn as_slice(&self) -> &[T] {
@@ -71,6 +86,11 @@ impl<T, A: Allocator> Vec<T, A> {
     }
 
     pub fn as_mut_slice(&mut self) -> &mut [T] {
+        &mut self.items
+    }
+
+    /// The items, to change them by what Rust's own vector can.
+    pub fn as_items_mut(&mut self) -> &mut Items<T> {
         &mut self.items
     }
 
@@ -82,6 +102,12 @@ impl<T, A: Allocator> Vec<T, A> {
 }
 
 impl<T: Clone, A: Allocator> Vec<T, A> {
+    pub fn from_slice(alloc: A, items: &[T]) -> Result<Self, AllocError> {
+        let mut made = Vec::new(alloc);
+        made.extend_from_slice(items)?;
+        Ok(made)
+    }
+
     pub fn from_elem(alloc: A, item: T, count: usize) -> Result<Self, AllocError> {
         let mut made = Vec::with_capacity(alloc, count)?;
         made.items.resize(count, item);
@@ -101,6 +127,12 @@ impl<T: Clone, A: Allocator> Vec<T, A> {
     }
 }
 
+impl<T: fmt::Debug, A: Allocator> fmt::Debug for Vec<T, A> {
+    fn fmt(&self, f: &mut fmt::Formatter<'_>) -> fmt::Result {
+        f.debug_list().entries(self.iter()).finish()
+    }
+}
+
 impl<T, A: Allocator> Deref for Vec<T, A> {
     type Target = [T];
 
@@ -112,5 +144,24 @@ impl<T, A: Allocator> Deref for Vec<T, A> {
 impl<T, A: Allocator> DerefMut for Vec<T, A> {
     fn deref_mut(&mut self) -> &mut [T] {
         &mut self.items
+    }
+}
+
+impl<'v, T, A: Allocator> IntoIterator for &'v Vec<T, A> {
+    type Item = &'v T;
+    type IntoIter = core::slice::Iter<'v, T>;
+
+    fn into_iter(self) -> Self::IntoIter {
+        self.items.iter()
+    }
+}
+
+#[cfg(feature = "alloc")]
+impl<T, A: Allocator> IntoIterator for Vec<T, A> {
+    type Item = T;
+    type IntoIter = alloc::vec::IntoIter<T>;
+
+    fn into_iter(self) -> Self::IntoIter {
+        self.items.into_iter()
     }
 }

@@ -1,6 +1,7 @@
 //! What no example of the documentation shows. Expected values are from term(5) and terminfo(5), or made by hand.
 
 use crate::*;
+use std::error::Error;
 use std::io::ErrorKind;
 use std::string::ToString;
 use std::vec::Vec;
@@ -161,4 +162,53 @@ fn what_is_made_is_printed_cloned_and_sent() {
 #[test]
 fn the_version_is_that_of_the_sources() {
     assert_eq!(env!("CARGO_PKG_VERSION"), crate::made::base::VERSION);
+}
+
+#[test]
+fn numbers_of_each_width_are_parameters() {
+    let number = |value: Value<'_>| if let Value::Num(number) = value { number } else { i32::MIN };
+    let small = [255_u8.into(), (-128_i8).into(), 65_535_u16.into(), (-1_i16).into(), true.into(), false.into()];
+    assert_eq!(small.map(number), [255, -128, 65_535, -1, 1, 0]);
+    assert_eq!(Value::try_from(79_usize).map(number), Ok(79));
+    assert_eq!(Value::try_from(i64::from(i32::MIN)).map(number), Ok(i32::MIN));
+    assert!(Value::try_from(1_u32 << 31).is_err() && Value::try_from(1_i64 << 31).is_err());
+}
+
+#[test]
+fn a_name_that_nothing_has_is_known_from_what_is_absent() {
+    let file = marks();
+    let entry = Entry::read(&file).unwrap();
+    assert_eq!(entry.find("cursor_address"), Some(Item::Text(Text::Absent)));
+    assert_eq!(entry.find("lines"), Some(Item::Number(Number::Cancelled)));
+    assert_eq!(entry.find("Ss"), Some(Item::Text(b"x".into())));
+    assert_eq!(entry.find("cols").map(Item::number), Some(Some(80)));
+    assert!(entry.find("AX").is_some_and(Item::is_set) && !entry.find("bw").is_some_and(Item::is_set));
+    // The standard name comes first, also if the entry has the name for another kind.
+    assert_eq!(entry.find("am"), Some(Item::Flag(Flag::Yes)));
+    assert_eq!((entry.find("nosuch"), entry.find("")), (None, None));
+}
+
+#[test]
+fn all_items_are_those_of_the_three_lists() {
+    let file = marks();
+    let entry = Entry::read(&file).unwrap();
+    let names: Vec<_> = entry.items().map(|(name, _)| name.to_string()).collect();
+    assert_eq!(names, ["bw", "am", "cols", "lines", "cbt", "bel", "AX", "U8", "Ss", "am"]);
+}
+
+#[test]
+fn bytes_of_an_entry_are_printed_in_the_notation() {
+    assert_eq!(std::format!("{:?}", Text::from(b"\x1b[H")), r#"Value("\E[H")"#);
+    assert_eq!(std::format!("{:?}", Value::from("\x07")), r#"Text("^G")"#);
+    assert_eq!(std::format!("{:?}", Name::Extended(b"\x1b")), r#"Extended("\E")"#);
+    assert_eq!(std::format!("{:?}", Capability::parse(b"\x1b[%p1%dG").unwrap()), r#"Capability("\E[%p1%dG")"#);
+    assert_eq!(std::format!("{:?}", Text::from(&[7; 65])), std::format!("Value(\"{}\")", "^G".repeat(65)));
+}
+
+#[test]
+fn what_a_compilation_fails_by_is_its_source() {
+    let fault = Kept::compile(b"%").unwrap_err();
+    assert_eq!(fault.source().unwrap().to_string(), "CutShort at 0");
+    assert_eq!(fault.message().to_string(), "at byte 0: the bytes end inside an escape");
+    assert!(CompileError::DoesNotFit.source().is_none());
 }

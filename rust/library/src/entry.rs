@@ -2,8 +2,9 @@
 
 use crate::cap::Standard;
 use crate::made::entry::{Extended, ReadError, read};
-use crate::made::words::{Flag, Kind, Number, Text, Width};
+use crate::made::words::{Flag, Item, Kind, Number, Subject, Text, Width};
 use crate::name::{Name, standard_index};
+use crate::shown::Shown;
 use core::fmt;
 
 /// A compiled entry (term(5)). What it gives is lent from the bytes that it was read from.
@@ -77,6 +78,26 @@ impl<'a> Entry<'a> {
         S::mark(self)
     }
 
+    /// What the entry says of the capability with a name, of whatever kind: a short or long name of `term.h`, else the first of
+    /// the entry's own that is equal. `None` means that nothing has the name, neither `term.h` nor the entry; of a capability of
+    /// `term.h` that the terminal lacks the result is an absent item.
+    ///
+    /// ```
+    /// use ti_terminfo::{Item, Number, Text};
+    ///
+    /// # fn main() -> Result<(), Box<dyn std::error::Error>> {
+    /// # let file = std::fs::read("examples/linux")?;
+    /// # let entry = ti_terminfo::Entry::read(&file)?;
+    /// assert_eq!(entry.find("max_colors"), Some(Item::Number(Number::Value(8))));
+    /// assert_eq!(entry.find("kf63"), Some(Item::Text(Text::Absent)));
+    /// assert_eq!(entry.find("setfg"), None);
+    /// # Ok(())
+    /// # }
+    /// ```
+    pub fn find(&self, name: &str) -> Option<Item<'a>> {
+        Some(self.inner.item_at(self.inner.position(name.as_bytes())?))
+    }
+
     /// Whether the terminal has the flag of a name.
     ///
     /// ```
@@ -137,6 +158,27 @@ impl<'a> Entry<'a> {
         }
         let extended = self.inner.extended();
         extended.text(extended.find_text(name.as_bytes())?).value()
+    }
+
+    /// All that the entry says something of, in the order in which `ti show` lists it: the flags, numbers and texts of `term.h`, and
+    /// then those that the entry names itself.
+    ///
+    /// ```
+    /// # fn main() -> Result<(), Box<dyn std::error::Error>> {
+    /// # let file = std::fs::read("examples/linux")?;
+    /// # let entry = ti_terminfo::Entry::read(&file)?;
+    /// let there: Vec<String> = entry.items().filter(|(_, item)| item.is_there()).map(|(name, _)| name.to_string()).collect();
+    /// assert_eq!(there[..3], ["am", "xenl", "eo"]);
+    /// # Ok(())
+    /// # }
+    /// ```
+    pub fn items(&self) -> impl Iterator<Item = (Name<'a>, Item<'a>)> {
+        let says_nothing = |item| matches!(item, Item::Flag(Flag::No) | Item::Number(Number::Absent) | Item::Text(Text::Absent));
+        let said = self.inner.items().filter(move |(_, item)| !says_nothing(*item));
+        said.map(|(subject, item)| match subject {
+            Subject::Standard(kind, index) => (Name::Standard { kind, index }, item),
+            Subject::Extended(_, name) => (Name::Extended(name), item),
+        })
     }
 
     /// The flags that the entry says something of, those of standard capabilities first. `No` is not among them, as it says
@@ -216,7 +258,6 @@ impl<'a> Entry<'a> {
 
 impl fmt::Debug for Entry<'_> {
     fn fmt(&self, f: &mut fmt::Formatter<'_>) -> fmt::Result {
-        let names = self.names().escape_ascii();
-        f.debug_struct("Entry").field("names", &format_args!("\"{names}\"")).finish_non_exhaustive()
+        f.debug_struct("Entry").field("names", &Shown(self.names())).finish_non_exhaustive()
     }
 }

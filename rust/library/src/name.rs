@@ -3,13 +3,14 @@
 use crate::cap::{FLAGS, NUMBERS, TEXTS};
 use crate::made::names::{NameTable, find_short_or_long};
 use crate::made::words::Kind;
+use crate::shown::Shown;
 use core::fmt;
 
 /// What a capability is called.
 ///
 /// It prints as `ti` lists it: the short name, `#` and the index if `term.h` has no name there, or the name of an extended
 /// capability, in which bytes that can't be printed are escaped.
-#[derive(Clone, Copy, Debug, PartialEq, Eq)]
+#[derive(Clone, Copy, PartialEq, Eq)]
 pub enum Name<'a> {
     /// The capability of a kind at an index, of which `term.h` names the first 44 flags, 39 numbers and 414 texts.
     Standard {
@@ -76,6 +77,15 @@ impl fmt::Display for Name<'_> {
             (_, Some(short)) => f.write_str(short),
             (Name::Standard { index, .. }, None) => write!(f, "#{index}"),
             (Name::Extended(name), None) => write!(f, "{}", name.escape_ascii()),
+        }
+    }
+}
+
+impl fmt::Debug for Name<'_> {
+    fn fmt(&self, f: &mut fmt::Formatter<'_>) -> fmt::Result {
+        match self {
+            Name::Standard { kind, index } => f.debug_struct("Standard").field("kind", kind).field("index", index).finish(),
+            Name::Extended(name) => f.debug_tuple("Extended").field(&Shown(name)).finish(),
         }
     }
 }

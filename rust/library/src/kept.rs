@@ -3,6 +3,7 @@
 use crate::expand::ExpandError;
 use crate::made::expand::Vars;
 use crate::made::kept::{CompileError, expand_kept};
+use core::fmt;
 
 /// How many parameters a capability can have.
 const MOST_PARAMETERS: usize = 9;
@@ -21,7 +22,7 @@ const MOST_PARAMETERS: usize = 9;
 /// # Ok(())
 /// # }
 /// ```
-#[derive(Clone, Copy, Debug)]
+#[derive(Clone, Copy)]
 pub struct Kept<'a>(crate::made::kept::Kept<'a>);
 
 impl<'a> Kept<'a> {
@@ -57,5 +58,11 @@ impl<'a> Kept<'a> {
             return Err(ExpandError::TooManyParameters { given: numbers.len() });
         }
         expand_kept(&self.0, numbers, vars, out).ok_or(ExpandError::OutTooSmall { need: self.0.bound })
+    }
+}
+
+impl fmt::Debug for Kept<'_> {
+    fn fmt(&self, f: &mut fmt::Formatter<'_>) -> fmt::Result {
+        f.debug_struct("Kept").field("bound", &self.bound()).field("has_variables", &self.has_variables()).finish_non_exhaustive()
     }
 }

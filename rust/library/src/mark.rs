@@ -1,6 +1,6 @@
 //! What an entry says of a capability: its value, or that there is none.
 
-use crate::made::words::{Flag, Number, Text, Width};
+use crate::made::words::{Flag, Item, Number, Text, Width};
 
 impl Flag {
     /// Whether the terminal has it.
@@ -25,6 +25,21 @@ impl<'a> Text<'a> {
         match self {
             Text::Value(bytes) => Some(bytes),
             Text::Absent | Text::Cancelled => None,
+        }
+    }
+}
+
+impl Item<'_> {
+    /// Whether it is a flag that the terminal has.
+    pub fn is_set(self) -> bool {
+        matches!(self, Item::Flag(Flag::Yes))
+    }
+
+    /// The value of a number that is there.
+    pub fn number(self) -> Option<i32> {
+        match self {
+            Item::Number(number) => number.value(),
+            Item::Flag(_) | Item::Text(_) => None,
         }
     }
 }

@@ -30,7 +30,13 @@ impl<T> Items<T> {
 
     pub fn resize(&mut self, _count: usize, _item: T) {}
 
+    pub fn pop(&mut self) -> Option<T> {
+        None
+    }
+
     pub fn truncate(&mut self, _count: usize) {}
+
+    pub fn clear(&mut self) {}
 }
 
 impl<T> Deref for Items<T> {

@@ -1,6 +1,7 @@
 #![doc = include_str!("../README.md")]
 #![no_std]
 #![forbid(unsafe_code)]
+#![cfg_attr(docsrs, feature(doc_cfg))]
 #![warn(missing_docs)]
 
 #[cfg(feature = "alloc")]
@@ -18,12 +19,16 @@ mod kept;
 #[allow(missing_docs)]
 mod kit;
 // The sources are written for their proofs too, and parts of them are for other users.
-#[allow(clippy::complexity, clippy::manual_contains, clippy::style, dead_code, unused_imports, unused_labels, unused_variables, missing_docs)]
+#[allow(clippy::complexity, clippy::large_enum_variant, clippy::manual_contains, clippy::style, dead_code, unused_imports, unused_labels, unused_variables, missing_docs)]
 mod made;
 mod mark;
+mod message;
 mod name;
 mod pad;
+#[cfg(feature = "program")]
+pub mod program;
 mod reader;
+mod shown;
 #[cfg(all(test, feature = "std"))]
 mod tests;
 
@@ -37,6 +42,7 @@ pub use expand::expand_to;
 pub use expand::{ExpandError, expand_into};
 pub use kept::Kept;
 pub use kit::AllocError;
+pub use message::Message;
 /// A text of an entry that is parsed, with its exact limits over all parameters.
 ///
 /// ```
@@ -54,15 +60,12 @@ pub use kit::AllocError;
 /// ```
 pub use made::cap::Capability;
 pub use made::cap::{Conversion, Format, Op, ParseError, ParseFault, Tape, Token};
-#[cfg(feature = "alloc")]
 pub use made::draft::EncodeError;
 pub use made::entry::{ReadError, ReadFault};
 pub use made::expand::{Run, Value, Vars};
 pub use made::kept::CompileError;
-#[cfg(feature = "alloc")]
-pub use made::pad::PadError;
-pub use made::pad::{PadIntoError, Padding, pad_into, padded_len};
-pub use made::words::{Flag, Kind, Number, Text, Width};
+pub use made::pad::{PadError, PadIntoError, Padding, pad_into, padded_len};
+pub use made::words::{Flag, Item, Kind, Number, Text, Width};
 pub use name::Name;
 #[cfg(feature = "alloc")]
 pub use name::notation;

@@ -5,7 +5,9 @@ use crate::cap::Standard;
 use crate::kit::Global;
 use crate::made::draft::EncodeError;
 use crate::made::words::{Flag, Kind, Number, Text, Width};
+use crate::shown::Shown;
 use alloc::vec::Vec;
+use core::fmt;
 
 /// An entry that is being made. It lends its names and texts.
 ///
@@ -24,7 +26,7 @@ use alloc::vec::Vec;
 /// # Ok(())
 /// # }
 /// ```
-#[derive(Clone, Debug)]
+#[derive(Clone)]
 pub struct Draft<'a> {
     width: Width,
     names: &'a [u8],
@@ -141,6 +143,19 @@ impl<'a> Draft<'a> {
             draft.push_extended_text(name, *text)?;
         }
         Ok(crate::made::entry::encode(Global, &draft)?.into_items())
+    }
+}
+
+impl fmt::Debug for Draft<'_> {
+    fn fmt(&self, f: &mut fmt::Formatter<'_>) -> fmt::Result {
+        fn named<'d, T>(items: &'d [(&[u8], T)]) -> Vec<(Shown<'d>, &'d T)> {
+            items.iter().map(|(name, item)| (Shown(name), item)).collect()
+        }
+        let mut draft = f.debug_struct("Draft");
+        draft.field("width", &self.width).field("names", &Shown(self.names));
+        draft.field("flags", &self.flags).field("numbers", &self.numbers).field("texts", &self.texts);
+        draft.field("extended_flags", &named(&self.extended_flags)).field("extended_numbers", &named(&self.extended_numbers));
+        draft.field("extended_texts", &named(&self.extended_texts)).finish()
     }
 }
 

@@ -4,6 +4,7 @@ use crate::limits::MOST_VALUES;
 use crate::made::cap::{Capability, Tape, Token};
 use crate::made::expand::{ExpandFault, Run, Value, Vars};
 use core::fmt;
+use core::num::TryFromIntError;
 
 /// How many parameters a capability can have.
 const MOST_PARAMETERS: usize = 9;
@@ -169,11 +170,37 @@ fn expand_deep(
     Ok(crate::made::expand::expand_into(capability.tape(), parameters, vars, &mut stack, out)?)
 }
 
-impl From<i32> for Value<'_> {
-    fn from(number: i32) -> Self {
-        Value::Num(number)
-    }
+/// Numbers that 32 bits hold. A condition is 1 or 0.
+macro_rules! from_numbers {
+    ($($number:ty)*) => {
+        $(
+            impl From<$number> for Value<'_> {
+                fn from(number: $number) -> Self {
+                    Value::Num(number.into())
+                }
+            }
+        )*
+    };
 }
+
+from_numbers!(i32 i16 u16 i8 u8 bool);
+
+/// Numbers that 32 bits may not hold, such as a row that is a `usize`.
+macro_rules! try_from_numbers {
+    ($($number:ty)*) => {
+        $(
+            impl TryFrom<$number> for Value<'_> {
+                type Error = TryFromIntError;
+
+                fn try_from(number: $number) -> Result<Self, TryFromIntError> {
+                    Ok(Value::Num(number.try_into()?))
+                }
+            }
+        )*
+    };
+}
+
+try_from_numbers!(usize u32 i64 u64 isize);
 
 impl<'a> From<&'a [u8]> for Value<'a> {
     fn from(text: &'a [u8]) -> Self {
