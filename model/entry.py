@@ -321,7 +321,9 @@ def number_part(number):
 
 
 def text_part(text):
-    return {ABSENT: None, CANCELLED: {"state": CANCELLED}}.get(text) if isinstance(text, str) else {"value": notation(text).decode()}
+    if isinstance(text, str):
+        return {ABSENT: None, CANCELLED: {"state": CANCELLED}}.get(text)
+    return {"hex": text.hex(), "value": notation(text).decode()}
 
 
 def objects(entry, names):

@@ -1,5 +1,5 @@
 -- Texts of which each character can be printed.
-use Rattle.std.proofs.Common.{◌≡◌, ◌++◌, ◌∙◌, ◌/◌, ◌%◌, ◌<◌, ℕ, zero, suc, ℤ, pos, negsuc, Bool, true, false, List, [], ◌∷◌, None, cond, refl, arith}
+use Rattle.std.proofs.Common.{◌≡◌, ◌++◌, ◌∙◌, ◌/◌, ◌%◌, ◌<◌, ℕ, zero, suc, ℤ, pos, negsuc, Bool, true, false, List, [], ◌∷◌, None, ap₂, cond, get_or, map, refl, arith}
 use Rattle.std.specs.Prelude.{◌==◌, ◌||◌, codes, decimal, nat_eq, nat_lt, slice_get, unwrap_or}
 use Rattle.std.specs.Char.{digit_char}
 use Rattle.std.specs.List.{list_all}
@@ -14,7 +14,7 @@ use Rattle.ti_names.specs.declared.name_table.NameTable.{NameTable}
 use Rattle.ti_names.specs.declared.name_table.NameTable.TheVariants as tables
 use Rattle.ti_names.specs.AllNames.{has_index, listed, name_in}
 use Rattle.ti_names.specs.NameLists.{all_flags, all_numbers, all_texts}
-use Rattle.ti_escape.specs.Laws.{is_printable}
+use Rattle.ti_escape.specs.Laws.{AreBytes, is_byte, is_printable}
 
 abbrev pub IsText : List ℕ → Type 0
 IsText text = list_all is_printable text ≡ true
@@ -109,3 +109,18 @@ quoted_text text is = both (escape text) (34 ∷ []) (escaped text is) refl
     escaped (byte ∷ rest) all =
         let (first, more) = and_parts (is_printable byte) (list_all is_printable rest) all in
         both (escape_byte byte) (escape rest) (byte_text byte first) (escaped rest more)
+
+-- ---- bytes
+
+pub are_bytes : (xs : List ℕ) → ((i : ℕ) → get_or xs i 0 < 256) → AreBytes xs
+are_bytes [] small = refl
+are_bytes (x ∷ xs) small =
+    let low : x < 256 = small 0 in
+    let is : is_byte x ≡ true = grind (arith, nat_tests) in and_from (is_byte x) (list_all is_byte xs) is (are_bytes xs (λ i. small (suc i)))
+
+-- a byte is what hex says of it
+pub low_again : (xs : List ℕ) → ((i : ℕ) → get_or xs i 0 < 256) → xs ≡ map (λ byte. byte % 256) xs
+low_again [] small = refl
+low_again (x ∷ xs) small =
+    let low : x < 256 = small 0 in
+    let is : x ≡ x % 256 = omega arith in ap₂ (λ y ys. y ∷ ys) is (low_again xs (λ i. small (suc i)))

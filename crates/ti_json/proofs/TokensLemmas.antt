@@ -10,8 +10,7 @@ use Rattle.serde_json.specs.Data.{Data, Members, array, member, no_members, obje
 use Rattle.serde_json.specs.View.{items_of}
 use Rattle.serde_json.specs.Written.{compact_text, items_outline, members_outline}
 use Rattle.serde_json.proofs.Texts.{print-outline}
-use Rattle.ti_words.specs.Items.{ExtendedSubject, StandardSubject, SubjectValue}
-use Rattle.ti_json.specs.Objects.{described_by, named, owned}
+use Rattle.ti_json.specs.Objects.{Member, members_of}
 use Rattle.ti_json.specs.Printed.{Printed, Prints, all_tokens, data_tokens, member_tokens}
 
 -- ---- in turn
@@ -74,6 +73,11 @@ next_tokens f x left rest is = ap (λ l. all_tokens (flat_map f l)) is ∙ flat_
 pub no_tokens : {X : Type 0} (f : X → List Data) (left : List X) → left ≡ [] → all_tokens (flat_map f left) ≡ []
 no_tokens f left is = ap (λ l. all_tokens (flat_map f l)) is
 
+-- those of one more element come after those before
+pub one_more_tokens : {X : Type 0} (f : X → List Data) (xs : List X) (x : X) → all_tokens (flat_map f xs) ++ all_tokens (f x) ≡ all_tokens (flat_map f (xs ++ x ∷ []))
+one_more_tokens f xs x =
+    sym (flat_map-append data_tokens (flat_map f xs) (f x)) ∙ ap (λ ds. all_tokens (flat_map f xs ++ ds)) (sym (append-nil (f x))) ∙ ap all_tokens (sym (flat_map-append f xs (x ∷ [])))
+
 -- ---- objects
 
 closed : (ms : Members) → members_tokens (members_outline ms) ≡ member_tokens ms ++ end_object ∷ []
@@ -86,14 +90,14 @@ object_tokens ms = ap (λ ts. begin_object ∷ ts) (sym (closed ms))
 pub object_printed : {a b c d : Printed} (ms : Members) → Prints a b (begin_object ∷ []) → Prints b c (member_tokens ms) → Prints c d (end_object ∷ []) → Prints a d (data_tokens (object ms))
 object_printed ms begun all ended = as_said (object_tokens ms) (begun then all then ended)
 
-pub named_tokens : (subject : SubjectValue) (ms : Members) → member_tokens (named subject no_members) ++ member_tokens ms ≡ member_tokens (named subject ms)
-named_tokens (StandardSubject kind index) ms = refl
-named_tokens (ExtendedSubject kind name) ms = refl
+-- the members of two lists are those of both
+pub joined_tokens : (xs ys : List Member) → member_tokens (members_of xs) ++ member_tokens (members_of ys) ≡ member_tokens (members_of (xs ++ ys))
+joined_tokens [] ys = refl
+joined_tokens (x ∷ xs) ys =
+    ap (λ ts. key x.0 ∷ ts) (append_assoc (data_tokens x.1) (member_tokens (members_of xs)) (member_tokens (members_of ys)) ∙ ap (λ ts. data_tokens x.1 ++ ts) (joined_tokens xs ys))
 
-pub described_tokens : (subject : SubjectValue) (last : Members)
-    → member_tokens (named subject no_members) ++ (member_tokens (owned subject no_members) ++ member_tokens last) ≡ member_tokens (described_by subject last)
-described_tokens (StandardSubject kind index) last = refl
-described_tokens (ExtendedSubject kind name) last = refl
+pub both_printed : {a b c : Printed} (xs ys : List Member) → Prints a b (member_tokens (members_of xs)) → Prints b c (member_tokens (members_of ys)) → Prints a c (member_tokens (members_of (xs ++ ys)))
+both_printed xs ys p q = as_said (joined_tokens xs ys) (p then q)
 
 -- ---- a document
 

@@ -1,3 +1,3 @@
+pub mod Rows
 pub mod Objects
 pub mod Printed
-pub mod Sides

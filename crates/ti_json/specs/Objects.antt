@@ -1,53 +1,34 @@
--- The JSON of an entry: an object for each line of its listing, in the order of the lines.
+-- The JSON of rows: an object for each, and an array of them for an entry. Members stand in the order of their names.
 use Rattle.std.specs.List.{flat_map}
-use Rattle.std.specs.Prelude.{ℕ, Bool, true, false, List, [], ◌∷◌, ◌++◌, codes, decimal, if◌then◌else◌, unwrap_or}
+use Rattle.std.specs.Prelude.{ℕ, true, List, [], ◌∷◌, ◌++◌, ◌%◌, codes, decimal, if◌then◌else◌, map, unwrap_or}
+use Rattle.hex.specs.Hex.{encode_lower}
 use Rattle.serde_json.specs.Data.{Data, unsigned, boolean, number, string, array, object, Members, no_members, member}
 use Rattle.serde_json.specs.Find.{of_integer}
 use Rattle.serde_json.specs.View.{items_of}
 use Rattle.serde_json.specs.Written.{compact_text}
+use Rattle.ti_cap.specs.FaultNames.{cap_fault_word}
 use Rattle.ti_escape.specs.Notation.{label_notation, notation}
 use Rattle.ti_names.specs.AllNames.{name_in}
-use Rattle.ti_words.specs.declared.Flag.{Flag}
-use Rattle.ti_words.specs.declared.Flag.TheVariants as flags
 use Rattle.ti_words.specs.declared.Kind.{Kind}
 use Rattle.ti_words.specs.declared.Kind.TheVariants as kinds
-use Rattle.ti_words.specs.declared.Number.{Number}
-use Rattle.ti_words.specs.declared.Number.TheVariants as numbers
 use Rattle.ti_names.specs.declared.name_table.NameTable.TheVariants as tables
-use Rattle.ti_words.specs.Texts.{TextValue, AbsentText, CancelledText, TextOf}
-use Rattle.ti_words.specs.Items.{FlagItem, ExtendedSubject, ItemValue, Listed, NumberItem, StandardSubject, SubjectValue, TextItem, items}
+use Rattle.ti_words.specs.Items.{ExtendedSubject, StandardSubject}
 use Rattle.ti_words.specs.Value.{EntryValue}
 use Rattle.ti_words.specs.Widths.{format_name}
+use Rattle.ti_json.specs.Rows.{ContentValue, HasFault, HasFormat, HasLimits, HasNames, HasNumber, HasText, InState, IsSet, OfCapability, OfFormat, OfNames, RowValue, TopicValue, entry_rows, is_absent, state_word}
 
--- ---- one object
+-- ---- members
 
--- the last member: a value, or the state of a capability that has none
-abbrev pub value_member : Data → Members
-value_member value = member (codes "value") value no_members
+-- a name and what it has
+abbrev pub Member : Type 0
+Member = List ℕ × Data
 
-abbrev pub state_member : List ℕ → Members
-state_member word = member (codes "state") (string word) no_members
+abbrev pub members_of : List Member → Members
+members_of [] = no_members
+members_of (one ∷ more) = member one.0 one.1 (members_of more)
 
-abbrev pub flag_member : Flag → Members
-flag_member flags.No = state_member (codes "absent")
-flag_member flags.Yes = value_member (boolean true)
-flag_member flags.Cancelled = state_member (codes "cancelled")
-flag_member flags.Missing = state_member (codes "missing")
-
-abbrev pub number_member : Number → Members
-number_member numbers.Absent = state_member (codes "absent")
-number_member numbers.Cancelled = state_member (codes "cancelled")
-number_member (numbers.Value n) = value_member (number (of_integer n))
-
-abbrev pub text_member : TextValue → Members
-text_member AbsentText = state_member (codes "absent")
-text_member CancelledText = state_member (codes "cancelled")
-text_member (TextOf bytes) = value_member (string (notation bytes))
-
-abbrev pub item_member : ItemValue → Members
-item_member (FlagItem flag) = flag_member flag
-item_member (NumberItem n) = number_member n
-item_member (TextItem text) = text_member text
+abbrev pub object_of : List Member → Data
+object_of members = object (members_of members)
 
 abbrev pub kind_word : Kind → List ℕ
 kind_word kinds.Flag = codes "flag"
@@ -58,59 +39,70 @@ kind_word kinds.Text = codes "text"
 abbrev pub standard_label : Kind → ℕ → List ℕ
 standard_label kind index = unwrap_or (name_in tables.All kind index) (codes "#" ++ decimal index)
 
--- a kind and a name before other members
-abbrev pub named : SubjectValue → Members → Members
-named (StandardSubject kind index) more =
-    member (codes "kind") (string (kind_word kind))
-    (member (codes "name") (string (standard_label kind index)) more)
-named (ExtendedSubject kind name) more =
-    member (codes "kind") (string (kind_word kind))
-    (member (codes "name") (string (label_notation name)) more)
+-- a kind, and the name of a capability
+abbrev pub named : TopicValue → List Member
+named OfFormat = (codes "kind", string (codes "format")) ∷ []
+named OfNames = (codes "kind", string (codes "names")) ∷ []
+named (OfCapability (StandardSubject kind index)) =
+    (codes "kind", string (kind_word kind)) ∷ (codes "name", string (standard_label kind index)) ∷ []
+named (OfCapability (ExtendedSubject kind name)) =
+    (codes "kind", string (kind_word kind)) ∷ (codes "name", string (label_notation name)) ∷ []
 
--- that the entry names it itself, if it does
-abbrev pub owned : SubjectValue → Members → Members
-owned (StandardSubject kind index) more = more
-owned (ExtendedSubject kind name) more = member (codes "own") (boolean true) more
+-- that the entry names the capability itself, if it does
+abbrev pub owned : TopicValue → List Member
+owned (OfCapability (ExtendedSubject kind name)) = (codes "own", boolean true) ∷ []
+owned (OfCapability (StandardSubject kind index)) = []
+owned OfFormat = []
+owned OfNames = []
 
-abbrev pub described_by : SubjectValue → Members → Members
-described_by subject last = named subject (owned subject last)
+-- the bytes of a text in hex: two digits of each
+abbrev pub hex_text : List ℕ → List ℕ
+hex_text text = encode_lower (map (λ byte. byte % 256) text)
 
-abbrev pub described : SubjectValue → Members → Data
-described subject last = object (described_by subject last)
+-- what comes before the kind
+abbrev pub before : ContentValue → List Member
+before (HasLimits depth bound) =
+    (codes "bound", number (unsigned bound)) ∷ (codes "depth", number (unsigned depth)) ∷ []
+before (HasFault refused) = (codes "fault", string (cap_fault_word refused.fault)) ∷ []
+before (InState state) = []
+before IsSet = []
+before (HasNumber n) = []
+before (HasFormat width) = []
+before (HasNames names) = []
+before (HasText text) = (codes "hex", string (hex_text text)) ∷ []
 
--- a text that was analysed has a depth and a bound, or a fault and its place
-abbrev pub sound_object : SubjectValue → ℕ → ℕ → Data
-sound_object subject depth bound =
-    object (member (codes "bound") (number (unsigned bound))
-    (member (codes "depth") (number (unsigned depth)) (described_by subject no_members)))
+-- what comes last: a value, or the state of what has none, or the place of a fault
+abbrev pub last : ContentValue → List Member
+last (InState state) = (codes "state", string (state_word state)) ∷ []
+last IsSet = (codes "value", boolean true) ∷ []
+last (HasNumber n) = (codes "value", number (of_integer n)) ∷ []
+last (HasFormat width) = (codes "value", string (format_name width)) ∷ []
+last (HasNames names) = (codes "value", string (notation names)) ∷ []
+last (HasText text) = (codes "value", string (notation text)) ∷ []
+last (HasLimits depth bound) = []
+last (HasFault refused) = (codes "place", number (unsigned refused.place)) ∷ []
 
-abbrev pub fault_object : SubjectValue → List ℕ → ℕ → Data
-fault_object subject word place =
-    object (member (codes "fault") (string word)
-    (described_by subject (member (codes "place") (number (unsigned place)) no_members)))
+-- ---- objects
+
+abbrev pub row_members : RowValue → List Member
+row_members (topic, content) = before content ++ (named topic ++ (owned topic ++ last content))
+
+-- what is absent has no object
+abbrev pub row_objects : RowValue → List Data
+row_objects row = if is_absent row.1 then [] else object_of (row_members row) ∷ []
+
+-- what two entries have of one topic
+abbrev pub side : List ℕ → ContentValue → Member
+side name content = (name, object_of (before content ++ last content))
+
+abbrev pub compared_members : TopicValue → ContentValue → ContentValue → List Member
+compared_members topic first other =
+    side (codes "first") first ∷ (named topic ++ (side (codes "other") other ∷ owned topic))
 
 -- ---- an entry
 
-abbrev pub is_absent : ItemValue → Bool
-is_absent (FlagItem flags.No) = true
-is_absent (NumberItem numbers.Absent) = true
-is_absent (TextItem AbsentText) = true
-is_absent item = false
-
--- what is absent has no object
-abbrev pub item_objects : Listed → List Data
-item_objects (subject, item) = if is_absent item then [] else described subject (item_member item) ∷ []
-
--- what is said of the whole entry
-abbrev pub whole : List ℕ → List ℕ → Data
-whole kind value = object (member (codes "kind") (string kind) (value_member (string value)))
-
-abbrev pub whole_objects : EntryValue → List Data
-whole_objects v = whole (codes "format") (format_name v.width) ∷ whole (codes "names") (notation v.names) ∷ []
-
--- the format and the names, and then the capabilities
 abbrev pub entry_objects : EntryValue → List Data
-entry_objects v = whole_objects v ++ flat_map item_objects (items v)
+entry_objects v = flat_map row_objects (entry_rows v)
 
 abbrev pub array_text : List Data → List ℕ
 array_text objects = compact_text (array (items_of objects))

@@ -2,16 +2,15 @@
 //!
 //! [`entry_json`] is an array of objects, one for each line of a listing, in the order of the lines. Names and texts are strings
 //! in the notation of terminfo(5), so they are ASCII whatever bytes an entry has. A [`Printer`] prints such documents as they are
-//! made; [`print_compared`] and the others print an object each.
+//! made; [`print_row`] and [`print_compared`] print an object each, of rows that a listing shows as lines.
 #![tactic(auto)]
 
-mod compared;
 mod entry;
 mod object;
 mod printer;
-mod verdict;
+mod row;
 
-pub use compared::{print_compared, print_formats, print_names};
 pub use entry::{entry_json, print_entry};
+pub use object::{print_compared, print_row};
 pub use printer::Printer;
-pub use verdict::{print_fault, print_sound};
+pub use row::{Content, Topic, ValueState};

@@ -1,16 +1,15 @@
-//! The object on one capability.
+//! The object of a row.
 
-ghost use Rattle.std.specs.Prelude.{◌≡◌};
-ghost use Rattle.serde_json.specs.Data.{no_members};
-ghost use Rattle.ti_words.specs.Items.{item_value, subject_value};
-ghost use Rattle.ti_words.specs.Texts.{text_value};
-ghost use Rattle.ti_json.specs.Objects.{described, flag_member, is_absent as the_is_absent, item_member, item_objects, kind_word as the_kind_word, named, number_member, owned, text_member};
+ghost use Rattle.std.specs.Prelude.{◌≡◌, ◌∷◌, []};
+ghost use Rattle.ti_json.specs.Objects.{before, compared_members, kind_word as the_kind_word, last, members_of, named, object_of, owned, row_members, row_objects, side};
 ghost use Rattle.ti_json.specs.Printed.{Prints, all_tokens, data_tokens, member_tokens};
+ghost use Rattle.ti_json.specs.Rows.{content_value, topic_value};
 
 use crate::printer::Printer;
+use crate::row::{Content, Topic};
 use std::alloc::Allocator;
 use ti_names::NameTable;
-use ti_words::{Flag, Item, Kind, Number, Subject, Text};
+use ti_words::{Kind, Subject, format_name};
 
 /// The word for a kind.
 fn kind_word(kind: Kind) -> &'static str
@@ -23,104 +22,122 @@ fn kind_word(kind: Kind) -> &'static str
     }
 }
 
-/// Prints the kind and the name of a capability: a standard one without a name is called by `#` and its index.
-pub fn print_named<A: Allocator>(printer: &mut Printer<A>, subject: Subject<'_>)
-    ensures { Prints printer.old printer.new (member_tokens (named (subject_value subject.entry) no_members)) }
+/// Prints the kind of a topic, and the name of a capability: a standard one without a name is called by `#` and its index.
+fn print_named<A: Allocator>(printer: &mut Printer<A>, topic: Topic<'_>)
+    ensures { Prints printer.old printer.new (member_tokens (members_of (named (topic_value topic.entry)))) }
 {
-    printer.word("kind", kind_word(subject.kind()));
-    match subject {
-        Subject::Standard(kind, index) => match NameTable::All.name_at(kind, index) {
-            Some(name) => printer.word("name", name),
-            None => printer.index("name", index),
-        },
-        Subject::Extended(_kind, name) => printer.label("name", name),
+    match topic {
+        Topic::Format => printer.word("kind", "format"),
+        Topic::Names => printer.word("kind", "names"),
+        Topic::Capability(Subject::Standard(kind, index)) => {
+            printer.word("kind", kind_word(kind));
+            match NameTable::All.name_at(kind, index) {
+                Some(name) => printer.word("name", name),
+                None => printer.index("name", index),
+            }
+        }
+        Topic::Capability(Subject::Extended(kind, name)) => {
+            printer.word("kind", kind_word(kind));
+            printer.label("name", name)
+        }
     }
 }
 
-/// Prints that the entry names the capability itself, if it does.
-pub fn print_owned<A: Allocator>(printer: &mut Printer<A>, subject: Subject<'_>)
-    ensures { Prints printer.old printer.new (member_tokens (owned (subject_value subject.entry) no_members)) }
+/// Prints that the entry names a capability itself, if it does.
+fn print_owned<A: Allocator>(printer: &mut Printer<A>, topic: Topic<'_>)
+    ensures { Prints printer.old printer.new (member_tokens (members_of (owned (topic_value topic.entry)))) }
 {
-    match subject {
-        Subject::Standard(_kind, _index) => {}
-        Subject::Extended(_kind, _name) => printer.yes("own"),
+    match topic {
+        Topic::Format | Topic::Names | Topic::Capability(Subject::Standard(_, _)) => {}
+        Topic::Capability(Subject::Extended(_kind, _name)) => printer.yes("own"),
     }
 }
 
-/// Prints the value or the state of a flag.
-fn print_flag<A: Allocator>(printer: &mut Printer<A>, flag: Flag)
-    ensures { Prints printer.old printer.new (member_tokens (flag_member flag)) }
+/// Prints what comes before the kind.
+fn print_before<A: Allocator>(printer: &mut Printer<A>, content: Content<'_>)
+    ensures { Prints printer.old printer.new (member_tokens (members_of (before (content_value content.entry)))) }
 {
-    match flag {
-        Flag::No => printer.word("state", "absent"),
-        Flag::Yes => printer.yes("value"),
-        Flag::Cancelled => printer.word("state", "cancelled"),
-        Flag::Missing => printer.word("state", "missing"),
+    match content {
+        Content::Limits { depth, bound } => {
+            printer.count("bound", bound);
+            printer.count("depth", depth as u64)
+        }
+        Content::Fault(refused) => printer.word("fault", refused.fault.word()),
+        Content::Text(text) => printer.hex("hex", text),
+        Content::State(_)
+        | Content::Set
+        | Content::Number(_)
+        | Content::Format(_)
+        | Content::Names(_) => {}
     }
 }
 
-/// Prints the value or the state of a number.
-fn print_number<A: Allocator>(printer: &mut Printer<A>, number: Number)
-    ensures { Prints printer.old printer.new (member_tokens (number_member number)) }
+/// Prints what comes last: a value, a state in place of one, or the place of a fault.
+fn print_last<A: Allocator>(printer: &mut Printer<A>, content: Content<'_>)
+    ensures { Prints printer.old printer.new (member_tokens (members_of (last (content_value content.entry)))) }
 {
-    match number {
-        Number::Absent => printer.word("state", "absent"),
-        Number::Cancelled => printer.word("state", "cancelled"),
-        Number::Value(value) => printer.number("value", value),
+    match content {
+        Content::State(state) => printer.word("state", state.word()),
+        Content::Set => printer.yes("value"),
+        Content::Number(number) => printer.number("value", number),
+        Content::Format(width) => printer.word("value", format_name(width)),
+        Content::Names(names) => printer.text("value", names),
+        Content::Text(text) => printer.text("value", text),
+        Content::Limits { .. } => {}
+        Content::Fault(refused) => printer.count("place", refused.place as u64),
     }
 }
 
-/// Prints the value or the state of a text.
-fn print_text<A: Allocator>(printer: &mut Printer<A>, text: Text<'_>)
-    ensures { Prints printer.old printer.new (member_tokens (text_member (text_value text.entry))) }
-{
-    match text {
-        Text::Absent => printer.word("state", "absent"),
-        Text::Cancelled => printer.word("state", "cancelled"),
-        Text::Value(bytes) => printer.text("value", bytes),
-    }
-}
-
-/// Prints the value or the state of a capability.
-pub fn print_member<A: Allocator>(printer: &mut Printer<A>, item: Item<'_>)
-    ensures { Prints printer.old printer.new (member_tokens (item_member (item_value item.entry))) }
-{
-    match item {
-        Item::Flag(flag) => print_flag(printer, flag),
-        Item::Number(number) => print_number(printer, number),
-        Item::Text(text) => print_text(printer, text),
-    }
-}
-
-/// Whether an entry does not have the capability.
-fn is_absent(item: Item<'_>) -> bool
-    ensures { result ≡ the_is_absent (item_value item.entry) }
-{
-    match item {
-        Item::Flag(flag) => matches!(flag, Flag::No),
-        Item::Number(number) => matches!(number, Number::Absent),
-        Item::Text(text) => matches!(text, Text::Absent),
-    }
-}
-
-/// Prints the object on a capability.
-fn print_described<A: Allocator>(printer: &mut Printer<A>, subject: Subject<'_>, item: Item<'_>)
+/// Prints the object of a row.
+fn print_object<A: Allocator>(printer: &mut Printer<A>, topic: Topic<'_>, content: Content<'_>)
     ensures { Prints printer.old printer.new
-        (data_tokens (described (subject_value subject.entry) (item_member (item_value item.entry)))) }
+        (data_tokens (object_of (row_members (topic_value topic.entry, content_value content.entry)))) }
 {
     printer.begin_object();
-    print_named(printer, subject);
-    print_owned(printer, subject);
-    print_member(printer, item);
+    print_before(printer, content);
+    print_named(printer, topic);
+    print_owned(printer, topic);
+    print_last(printer, content);
     printer.end_object()
 }
 
-/// Prints the object on a capability, if the entry has it.
-pub fn print_item<A: Allocator>(printer: &mut Printer<A>, subject: Subject<'_>, item: Item<'_>)
+/// Prints the object of a row, if the entry has its topic: its `kind`, the `name` of a capability, and what is said of it.
+#[inline(always)]
+pub fn print_row<A: Allocator>(printer: &mut Printer<A>, topic: Topic<'_>, content: Content<'_>)
     ensures { Prints printer.old printer.new
-        (all_tokens (item_objects (subject_value subject.entry, item_value item.entry))) }
+        (all_tokens (row_objects (topic_value topic.entry, content_value content.entry))) }
 {
-    if !is_absent(item) {
-        print_described(printer, subject, item);
+    if !content.is_absent() {
+        print_object(printer, topic, content);
     }
+}
+
+/// Prints a member that is an object with what one entry has.
+fn print_side<A: Allocator>(printer: &mut Printer<A>, name: &str, content: Content<'_>)
+    ensures { Prints printer.old printer.new
+        (member_tokens (members_of (side name.now (content_value content.entry) ∷ []))) }
+{
+    printer.key(name);
+    printer.begin_object();
+    print_before(printer, content);
+    print_last(printer, content);
+    printer.end_object()
+}
+
+/// Prints the object on what two entries do not have alike: what the `first` has, and what the `other` has.
+pub fn print_compared<A: Allocator>(
+    printer: &mut Printer<A>,
+    topic: Topic<'_>,
+    first: Content<'_>,
+    other: Content<'_>,
+)
+    ensures { Prints printer.old printer.new (data_tokens (object_of
+        (compared_members (topic_value topic.entry) (content_value first.entry) (content_value other.entry)))) }
+{
+    printer.begin_object();
+    print_side(printer, "first", first);
+    print_named(printer, topic);
+    print_side(printer, "other", other);
+    print_owned(printer, topic);
+    printer.end_object()
 }

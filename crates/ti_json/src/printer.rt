@@ -1,14 +1,16 @@
 //! A printer of JSON, which remembers whether memory was refused.
 
 ghost use Rattle.std.specs.List.{list_all};
-ghost use Rattle.std.specs.Prelude.{◌≡◌, ◌++◌, ◌∷◌, [], true, false, codes, decimal, IfOk, OnOk};
+ghost use Rattle.std.specs.Prelude.{◌≡◌, ◌++◌, ◌∷◌, [], true, false, codes, decimal, IfErr, IfOk, OnOk};
 ghost use Rattle.json.specs.Print.{IsPrintable, print};
 ghost use Rattle.json.specs.Reads.{token_of};
 ghost use Rattle.json.specs.Token.{begin_array, begin_object, boolean, end_array, end_object, key as the_key, number as the_number, string as the_string};
 ghost use Rattle.serde_json.specs.Find.{of_integer};
 ghost use Rattle.serde_json.specs.Written.{number_text};
 ghost use Rattle.ti_escape.specs.Laws.{is_printable};
+ghost use Rattle.ti_escape.specs.Forms.{formed};
 ghost use Rattle.ti_escape.specs.Notation.{label_notation, notation};
+ghost use Rattle.ti_json.specs.Objects.{hex_text};
 ghost use Rattle.ti_json.specs.Printed.{Prints};
 
 use itoa::Buffer;
@@ -16,7 +18,7 @@ use json::{Token, Writer};
 use std::alloc::{AllocError, Allocator, Global};
 use std::marker::Model;
 use std::str::from_utf8;
-use ti_escape::{push_label, push_notation};
+use ti_escape::{Form, push_formed, push_label};
 
 /// Writes printable bytes as a string.
 fn write_string<A: Allocator>(writer: &mut Writer<A>, bytes: &[u8]) -> Result<(), AllocError>
@@ -30,18 +32,31 @@ fn write_string<A: Allocator>(writer: &mut Writer<A>, bytes: &[u8]) -> Result<()
     }
 }
 
-/// Writes the notation of a text as a string, by way of a buffer.
-fn write_notation<A: Allocator>(
+/// Writes a text in a form as a string, by way of a buffer.
+fn write_formed<A: Allocator>(
+    writer: &mut Writer<A>,
+    buffer: &mut Vec<u8, A>,
+    form: Form,
+    text: &[u8],
+) -> Result<(), AllocError>
+    ensures string { OnOk result (writer.new.tokens ≡ writer.old.tokens ++ the_string (formed form text.now) ∷ []) }
+    ensures before { writer.new.before ≡ writer.old.before }
+{
+    buffer.clear();
+    push_formed(buffer, form, text)?;
+    write_string(writer, buffer.as_slice())
+}
+
+/// Writes a text in hex as a string, by way of a buffer.
+fn write_hex<A: Allocator>(
     writer: &mut Writer<A>,
     buffer: &mut Vec<u8, A>,
     text: &[u8],
 ) -> Result<(), AllocError>
-    ensures string { OnOk result (writer.new.tokens ≡ writer.old.tokens ++ the_string (notation text.now) ∷ []) }
+    ensures string { OnOk result (writer.new.tokens ≡ writer.old.tokens ++ the_string (hex_text text.now) ∷ []) }
     ensures before { writer.new.before ≡ writer.old.before }
 {
-    buffer.clear();
-    push_notation(buffer, text)?;
-    write_string(writer, buffer.as_slice())
+    write_formed(writer, buffer, Form::Hex, text)
 }
 
 /// Writes the notation of a name as a string, without a space.
@@ -120,7 +135,9 @@ impl<A: Allocator> Printer<A> {
     ///
     /// Memory was refused.
     pub fn into_bytes(self) -> Result<Vec<u8, A>, AllocError>
-        ensures { IfOk result (λ bytes. (self.is_refused ≡ false) × (bytes.items ≡ print self.tokens)) }
+        ensures printed { IfOk result
+            (λ bytes. (self.is_refused ≡ false) × (bytes.items ≡ print self.tokens)) }
+        ensures refused { IfErr result (λ e. self.is_refused ≡ true) }
     {
         let Printer {
             writer,
@@ -235,7 +252,22 @@ impl<A: Allocator> Printer<A> {
     {
         self.key(name);
         if !self.is_refused {
-            self.is_refused = write_notation(&mut self.writer, &mut self.buffer, text).is_err();
+            self.is_refused = write_formed(
+                &mut self.writer,
+                &mut self.buffer,
+                Form::Notation,
+                text,
+            ).is_err();
+        }
+    }
+
+    /// Prints a member that is a text, in hex: two digits of each byte.
+    pub fn hex(&mut self, name: &str, text: &[u8])
+        ensures { Prints self.old self.new (the_key name.now ∷ the_string (hex_text text.now) ∷ []) }
+    {
+        self.key(name);
+        if !self.is_refused {
+            self.is_refused = write_hex(&mut self.writer, &mut self.buffer, text).is_err();
         }
     }
 

@@ -20,7 +20,7 @@ use Rattle.ti_words.specs.Texts.{AbsentText}
 use Rattle.ti_words.specs.Value.{EntryValue}
 use Rattle.ti_entry.specs.Finding.{IsLeastIndex, names_of}
 use Rattle.ti_line.specs.declared.options.Likeness.{Likeness}
-use Rattle.ti_listing.specs.Differences.{AreAlike, AreDifferences, AreSame, AreSameItems, AreTold, DifferenceValue, FormatDiffers, IsChange, IsDifference, ItemDiffers, NamesDiffer, TellsApart, extended_of_both, has, names_of_both, of_each_kind, standard_of_both, subjects_of_both, with_new}
+use Rattle.ti_listing.specs.Differences.{AreAlike, AreDifferences, AreSame, AreSameItems, AreTold, DifferenceValue, format_difference, IsChange, IsDifference, item_difference, names_difference, TellsApart, extended_of_both, has, names_of_both, of_each_kind, standard_of_both, subjects_of_both, with_new}
 use Rattle.ti_entry.specs.Items.{IsItemOf, count_of_kind, item_found, item_in}
 use Rattle.ti_listing.proofs.IsLeastIndexLemmas.{one_first}
 
@@ -169,37 +169,37 @@ module _ (by : Likeness) (v w : EntryValue) where
       go (a, b, of_a, of_b, change) =
           let Left : ItemValue → Type 0 = λ x. AreSameItems by x b in
           let Right : ItemValue → Type 0 = λ x. AreSameItems by one x in
-          subst Right (one_item w subject b other of_b of_other) (subst Left (one_item v subject a one of_a of_one) (change_same (AreSameItems by) (ItemDiffers subject) a b change))
+          subst Right (one_item w subject b other of_b of_other) (subst Left (one_item v subject a one of_a of_one) (change_same (AreSameItems by) (item_difference subject) a b change))
 
   alike_tells : (out : List DifferenceValue) → AreDifferences by v w out → AreAlike by v w → out ≡ []
   alike_tells out d alike =
       append_empty out (d.format ++ d.names) d.capabilities d.joined
-      (append_empty (d.format ++ d.names) d.format d.names refl (change_empty AreSame FormatDiffers v.width w.width d.format d.in_format alike.format) (change_empty AreSame NamesDiffer v.names w.names d.names d.in_names alike.names))
+      (append_empty (d.format ++ d.names) d.format d.names refl (change_empty AreSame format_difference v.width w.width d.format d.in_format alike.format) (change_empty AreSame names_difference v.names w.names d.names d.in_names alike.names))
       (told_empty (IsDifference by v w) (subjects_of_both v w) d.capabilities same d.in_capabilities)
     where
       same : (subject : SubjectValue) (told : List DifferenceValue) → IsDifference by v w subject told → told ≡ []
-      same subject told (one, other, of_one, of_other, change) = change_empty (AreSameItems by) (ItemDiffers subject) one other told change (alike.capabilities subject one other of_one of_other)
+      same subject told (one, other, of_one, of_other, change) = change_empty (AreSameItems by) (item_difference subject) one other told change (alike.capabilities subject one other of_one of_other)
 
   silent_alike : (out : List DifferenceValue) → AreDifferences by v w out → out ≡ [] → AreAlike by v w
   silent_alike out d none =
       let last = both_empty (d.format ++ d.names) d.capabilities (sym d.joined ∙ none) in
       let head = both_empty d.format d.names last.0 in record {
-        format = change_same AreSame FormatDiffers v.width w.width (subst (IsChange AreSame FormatDiffers v.width w.width) head.0 d.in_format);
-        names = change_same AreSame NamesDiffer v.names w.names (subst (IsChange AreSame NamesDiffer v.names w.names) head.1 d.in_names);
+        format = change_same AreSame format_difference v.width w.width (subst (IsChange AreSame format_difference v.width w.width) head.0 d.in_format);
+        names = change_same AreSame names_difference v.names w.names (subst (IsChange AreSame names_difference v.names w.names) head.1 d.in_names);
         capabilities = λ subject one other of_one of_other. same_in d.capabilities d.in_capabilities last.1 subject one other of_one of_other (is_listed v w subject one other of_one of_other);
       }
 
   one_difference : (subject : SubjectValue) (a b : List DifferenceValue) → IsDifference by v w subject a → IsDifference by v w subject b → a ≡ b
   one_difference subject a b (one, other, of_one, of_other, change) (again, too, of_again, of_too, changed) =
-      let Left : ItemValue → Type 0 = λ x. IsChange (AreSameItems by) (ItemDiffers subject) x other a in
-      let Right : ItemValue → Type 0 = λ x. IsChange (AreSameItems by) (ItemDiffers subject) again x a in
-      one_change (AreSameItems by) (ItemDiffers subject) again too a b (subst Right (one_item w subject other too of_other of_too) (subst Left (one_item v subject one again of_one of_again) change)) changed
+      let Left : ItemValue → Type 0 = λ x. IsChange (AreSameItems by) (item_difference subject) x other a in
+      let Right : ItemValue → Type 0 = λ x. IsChange (AreSameItems by) (item_difference subject) again x a in
+      one_change (AreSameItems by) (item_difference subject) again too a b (subst Right (one_item w subject other too of_other of_too) (subst Left (one_item v subject one again of_one of_again) change)) changed
 
   -- what is told of two entries is one list
   pub one_list : (a b : List DifferenceValue) → AreDifferences by v w a → AreDifferences by v w b → a ≡ b
   one_list a b x y =
       x.joined
-      ∙ ap₂ (λ c d. c ++ d) (ap₂ (λ c d. c ++ d) (one_change AreSame FormatDiffers v.width w.width x.format y.format x.in_format y.in_format) (one_change AreSame NamesDiffer v.names w.names x.names y.names x.in_names y.in_names))
+      ∙ ap₂ (λ c d. c ++ d) (ap₂ (λ c d. c ++ d) (one_change AreSame format_difference v.width w.width x.format y.format x.in_format y.in_format) (one_change AreSame names_difference v.names w.names x.names y.names x.in_names y.in_names))
       (told_once (IsDifference by v w) (subjects_of_both v w) x.capabilities y.capabilities one_difference x.in_capabilities y.in_capabilities)
       ∙ sym y.joined
 

@@ -10,7 +10,9 @@ use Rattle.ti_words.specs.contracts.WidthPartialEq as width_eq
 use Rattle.ti_words.specs.declared.Width.{Width}
 use Rattle.ti_line.specs.declared.options.Likeness.{Likeness}
 use Rattle.ti_entry.specs.Items.{IsItemOf}
-use Rattle.ti_listing.specs.Differences.{AreDifferences, AreSame, AreSameItems, AreTold, DifferenceValue, FormatDiffers, IsChange, IsDifference, ItemDiffers, NamesDiffer, of_each_kind, subjects_of_both}
+use Rattle.ti_listing.specs.Differences.{AreDifferences, AreSame, AreSameItems, AreTold, DifferenceValue, format_difference, IsChange, IsDifference, item_difference, names_difference, of_each_kind, subjects_of_both}
+use Rattle.ti_json.proofs.PlainLemmas.{HavePlain, compared_is_plain}
+use Rattle.ti_listing.specs.DifferingObjects.{difference_object}
 use Rattle.ti_listing.specs.Values.{difference_value}
 use Rattle.ti_listing.specs.declared.difference.Difference.{Difference}
 use Rattle.ti_listing.specs.inner.Differences.{Adds}
@@ -38,7 +40,7 @@ same_width a b same = subst (λ x. (width_eq.TheImpl.eq-value).it a x ≡ true) 
 
 -- what is added of a capability is by what the entries have of it
 pub difference_told : {E : Type 0} (by : Likeness) (v w : EntryValue) (subject : SubjectValue) (r : Result (Unit {0}) E) (one other : ItemValue) (out new : List DifferenceValue) → IsItemOf v subject one → IsItemOf w subject other
-    → OnOk r (Adds (IsChange (AreSameItems by) (ItemDiffers subject) one other) out new) → OnOk r (Adds (IsDifference by v w subject) out new)
+    → OnOk r (Adds (IsChange (AreSameItems by) (item_difference subject) one other) out new) → OnOk r (Adds (IsDifference by v w subject) out new)
 difference_told by v w subject (Err e) one other out new of_one of_other h = tt
 difference_told by v w subject (Ok u) one other out new of_one of_other (told, change, added) = (told, (one, other, of_one, of_other, change), added)
 
@@ -69,7 +71,7 @@ module _ (P : SubjectValue → List DifferenceValue → Type 0) where
 
 -- ---- a whole entry
 
-pub differences : (by : Likeness) (v w : EntryValue) (a b c d : List DifferenceValue) → a ≡ [] → Adds (IsChange AreSame FormatDiffers v.width w.width) a b → Adds (IsChange AreSame NamesDiffer v.names w.names) b c
+pub differences : (by : Likeness) (v w : EntryValue) (a b c d : List DifferenceValue) → a ≡ [] → Adds (IsChange AreSame format_difference v.width w.width) a b → Adds (IsChange AreSame names_difference v.names w.names) b c
     → Adds (AreTold (IsDifference by v w) (subjects_of_both v w)) c d → AreDifferences by v w d
 differences by v w a b c d none (x, p, f) (y, q, g) (z, r, h) = record {
   format = x;
@@ -80,3 +82,8 @@ differences by v w a b c d none (x, p, f) (y, q, g) (z, r, h) = record {
   in_capabilities = r;
   joined = h ∙ ap (λ l. l ++ z) (g ∙ ap (λ l. l ++ y) (f ∙ ap (λ l. l ++ x) none));
 }
+
+-- each character of their JSON can be printed
+pub differences_are_plain : (told : List DifferenceValue) → HavePlain (map difference_object told)
+differences_are_plain [] = tt
+differences_are_plain ((topic, first, other) ∷ ds) = (compared_is_plain topic first other, differences_are_plain ds)

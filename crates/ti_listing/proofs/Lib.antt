@@ -3,5 +3,4 @@ pub mod TokensLemmas
 pub mod DifferencesLemmas
 pub mod ExtendedNamesLemmas
 pub mod AreAlikeLemmas
-pub mod DifferingObjectsLemmas
 pub mod Examples

@@ -11,6 +11,7 @@ use Rattle.ti_words.specs.Value.{EntryValue}
 use Rattle.ti_cap.specs.declared.language.Token.{Token}
 use Rattle.ti_cap.specs.Refusal.{IsFaultless}
 use Rattle.ti_cap.specs.Spelling.{Written}
+use Rattle.ti_json.specs.Rows.{ContentValue, HasFormat, HasNames, OfCapability, OfFormat, OfNames, TopicValue, content_of}
 use Rattle.ti_entry.specs.Finding.{names_of}
 use Rattle.ti_line.specs.declared.options.Likeness.{Likeness}
 use Rattle.ti_line.specs.declared.options.Likeness.TheVariants as likenesses
@@ -18,11 +19,18 @@ use Rattle.ti_entry.specs.Items.{IsItemOf, count_of_kind}
 
 -- ---- one item
 
--- the format, the names or a capability, with what the first entry has and what the other has
-pub data DifferenceValue : Type 0 where
-  FormatDiffers : Width → Width → DifferenceValue
-  NamesDiffer : List ℕ → List ℕ → DifferenceValue
-  ItemDiffers : SubjectValue → ItemValue → ItemValue → DifferenceValue
+-- what differs, what the first entry has of it and what the other has
+abbrev pub DifferenceValue : Type 0
+DifferenceValue = TopicValue × ContentValue × ContentValue
+
+abbrev pub format_difference : Width → Width → DifferenceValue
+format_difference first other = (OfFormat, HasFormat first, HasFormat other)
+
+abbrev pub names_difference : List ℕ → List ℕ → DifferenceValue
+names_difference first other = (OfNames, HasNames first, HasNames other)
+
+abbrev pub item_difference : SubjectValue → ItemValue → ItemValue → DifferenceValue
+item_difference subject first other = (OfCapability subject, content_of first, content_of other)
 
 -- nothing is told of what both have alike
 abbrev pub IsChange : {V : Type 0} → (V → V → Type 0) → (V → V → DifferenceValue) → V → V
@@ -50,7 +58,7 @@ AreSame one other = one ≡ other
 abbrev pub IsDifference : Likeness → EntryValue → EntryValue → SubjectValue → List DifferenceValue → Type 0
 IsDifference by v w subject told =
     (one : ItemValue) × (other : ItemValue) × IsItemOf v subject one × IsItemOf w subject other
-    × IsChange (AreSameItems by) (ItemDiffers subject) one other told
+    × IsChange (AreSameItems by) (item_difference subject) one other told
 
 -- ---- the capabilities of two entries, each once
 
@@ -96,8 +104,8 @@ pub record AreDifferences (by : Likeness) (v w : EntryValue) (told : List Differ
   pub format : List DifferenceValue
   pub names : List DifferenceValue
   pub capabilities : List DifferenceValue
-  pub in_format : IsChange AreSame FormatDiffers v.width w.width format
-  pub in_names : IsChange AreSame NamesDiffer v.names w.names names
+  pub in_format : IsChange AreSame format_difference v.width w.width format
+  pub in_names : IsChange AreSame names_difference v.names w.names names
   pub in_capabilities : AreTold (IsDifference by v w) (subjects_of_both v w) capabilities
   pub joined : told ≡ format ++ names ++ capabilities
 

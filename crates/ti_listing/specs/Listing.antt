@@ -1,53 +1,42 @@
--- The lines that `show` writes of an entry.
+-- The lines of rows, as `show`, `check` and `diff` write them.
 use Rattle.std.specs.List.{flat_map}
-use Rattle.std.specs.Prelude.{ℕ, List, [], ◌++◌, codes}
+use Rattle.std.specs.Prelude.{ℕ, true, List, [], ◌++◌, codes, decimal, if◌then◌else◌}
 use Rattle.std.specs.Fmt.{signed_decimal}
-use Rattle.ti_escape.specs.declared.form.Form.{Form}
+use Rattle.ti_cap.specs.FaultNames.{cap_fault_word}
 use Rattle.ti_escape.specs.Forms.{shown}
-use Rattle.ti_words.specs.declared.Flag.{Flag}
-use Rattle.ti_words.specs.declared.Flag.TheVariants as flags
-use Rattle.ti_words.specs.declared.Number.{Number}
-use Rattle.ti_words.specs.declared.Number.TheVariants as numbers
-use Rattle.ti_words.specs.Texts.{TextValue, AbsentText, CancelledText, TextOf}
-use Rattle.ti_words.specs.Items.{FlagItem, ItemValue, Listed, NumberItem, TextItem, items}
 use Rattle.ti_words.specs.Value.{EntryValue}
 use Rattle.ti_words.specs.Widths.{format_name}
+use Rattle.ti_json.specs.Rows.{ContentValue, HasFault, HasFormat, HasLimits, HasNames, HasNumber, HasText, InState, IsSet, OfCapability, OfFormat, OfNames, RowValue, TopicValue, entry_rows, is_absent, state_word}
 use Rattle.ti_line.specs.declared.options.ListOptions.{ListOptions}
+use Rattle.ti_line.specs.declared.options.Naming.{Naming}
 use Rattle.ti_listing.specs.Labels.{names_in_form, subject_label, subject_word}
 
--- a word and a label, and after the label nothing, or a blank and a word; No has no line
-abbrev pub flag_line : List ℕ → List ℕ → Flag → List ℕ
-flag_line word label flags.No = []
-flag_line word label flags.Yes = word ++ label ++ codes "\n"
-flag_line word label flags.Cancelled = word ++ label ++ codes " cancelled\n"
-flag_line word label flags.Missing = word ++ label ++ codes " missing\n"
+-- what a row is about
+abbrev pub topic_label : Naming → TopicValue → List ℕ
+topic_label naming OfFormat = codes "format:"
+topic_label naming OfNames = codes "names:"
+topic_label naming (OfCapability subject) = subject_word subject ++ subject_label naming subject
 
-abbrev pub number_line : List ℕ → List ℕ → Number → List ℕ
-number_line word label numbers.Absent = []
-number_line word label numbers.Cancelled = word ++ label ++ codes " cancelled\n"
-number_line word label (numbers.Value n) =
-    word ++ label ++ codes " " ++ signed_decimal n ++ codes "\n"
+-- what it says: of a flag that is set nothing; a text is shown in the requested form, `-` in place of no bytes
+abbrev pub content_words : ListOptions → ContentValue → List ℕ
+content_words options (InState state) = codes " " ++ state_word state
+content_words options IsSet = []
+content_words options (HasNumber n) = codes " " ++ signed_decimal n
+content_words options (HasFormat width) = codes " " ++ format_name width
+content_words options (HasNames names) = codes " " ++ names_in_form options.naming.form names
+content_words options (HasText text) = codes " " ++ shown options.form text
+content_words options (HasLimits depth bound) = codes " ok depth " ++ decimal depth ++ codes " bound " ++ decimal bound
+content_words options (HasFault refused) =
+    codes " fault " ++ cap_fault_word refused.fault ++ codes " at " ++ decimal refused.place
 
--- a text is shown in the requested form, `-` in place of no bytes
-abbrev pub text_line : Form → List ℕ → List ℕ → TextValue → List ℕ
-text_line form word label AbsentText = []
-text_line form word label CancelledText = word ++ label ++ codes " cancelled\n"
-text_line form word label (TextOf bytes) =
-    word ++ label ++ codes " " ++ shown form bytes ++ codes "\n"
+-- a line after a sign; what is absent has none
+abbrev pub row_line : ListOptions → List ℕ → RowValue → List ℕ
+row_line options sign row =
+    if is_absent row.1 then []
+    else sign ++ topic_label options.naming row.0 ++ content_words options row.1 ++ codes "\n"
 
-abbrev pub item_line : Form → List ℕ → List ℕ → ItemValue → List ℕ
-item_line form word label (FlagItem flag) = flag_line word label flag
-item_line form word label (NumberItem number) = number_line word label number
-item_line form word label (TextItem text) = text_line form word label text
+abbrev pub row_lines : ListOptions → List RowValue → List ℕ
+row_lines options rows = flat_map (row_line options []) rows
 
--- the line of a capability, as it is requested; what is not there has none
-abbrev pub listed_line : ListOptions → Listed → List ℕ
-listed_line options (subject, item) =
-    item_line options.form (subject_word subject) (subject_label options.naming subject) item
-
--- the format and the names, and then the capabilities
 abbrev pub entry_lines : ListOptions → EntryValue → List ℕ
-entry_lines options v =
-    codes "format: " ++ format_name v.width
-    ++ codes "\nnames: " ++ names_in_form options.naming.form v.names ++ codes "\n"
-    ++ flat_map (listed_line options) (items v)
+entry_lines options v = row_lines options (entry_rows v)

@@ -1,11 +1,7 @@
 -- What the differences of the code say.
-use Rattle.ti_words.specs.Items.{item_value, subject_value}
-use Rattle.ti_listing.specs.Differences.{DifferenceValue, FormatDiffers, NamesDiffer, ItemDiffers}
+use Rattle.ti_json.specs.Rows.{content_value, topic_value}
+use Rattle.ti_listing.specs.Differences.{DifferenceValue}
 use Rattle.ti_listing.specs.declared.difference.Difference.{Difference}
-use Rattle.ti_listing.specs.declared.difference.Difference.TheVariants as differences
 
 abbrev pub difference_value : Difference → DifferenceValue
-difference_value (differences.Format first other) = FormatDiffers first other
-difference_value (differences.Names first other) = NamesDiffer first.now other.now
-difference_value (differences.Capability subject first other) =
-    ItemDiffers (subject_value subject) (item_value first) (item_value other)
+difference_value d = (topic_value d.topic, content_value d.first, content_value d.other)

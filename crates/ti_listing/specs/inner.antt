@@ -1,3 +1,2 @@
 -- What private clauses alone cite.
 pub mod Differences
-pub mod Headings

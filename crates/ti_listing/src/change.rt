@@ -3,13 +3,14 @@
 ghost use Rattle.std.specs.Prelude.{◌≡◌, ◌↔◌, IsTrue, OnOk, map};
 ghost use Rattle.ti_words.specs.Items.{item_value, subject_value};
 ghost use Rattle.ti_words.specs.Texts.{text_value};
-ghost use Rattle.ti_listing.specs.Differences.{AreSameItems, AreSpelledAlike, IsChange, ItemDiffers};
+ghost use Rattle.ti_listing.specs.Differences.{AreSameItems, AreSpelledAlike, IsChange, item_difference};
 ghost use Rattle.ti_listing.specs.Values.{difference_value};
 ghost use Rattle.ti_listing.specs.inner.Differences.{Adds};
 
 use crate::difference::Difference;
 use crate::tokens::have_same_tokens;
 use std::alloc::{AllocError, Allocator};
+use ti_json::{Content, Topic};
 use ti_line::Likeness;
 use ti_words::{Item, Subject, Text};
 
@@ -47,17 +48,17 @@ pub fn push_change<'a, A: Allocator>(
     other: Item<'a>,
 ) -> Result<(), AllocError>
     ensures { OnOk result (Adds
-        (IsChange (AreSameItems likeness) (ItemDiffers (subject_value subject.entry))
+        (IsChange (AreSameItems likeness) (item_difference (subject_value subject.entry))
         (item_value first.entry) (item_value other.entry))
         (map difference_value out.old.items) (map difference_value out.new.items)) }
 {
     if are_alike(likeness, first, other) {
         return Ok(());
     }
-    out.push(Difference::Capability {
-        subject,
-        first,
-        other,
+    out.push(Difference {
+        topic: Topic::Capability(subject),
+        first: Content::of(first),
+        other: Content::of(other),
     })?;
     Ok(())
 }

@@ -2,7 +2,7 @@
 
 ghost use Rattle.std.specs.Prelude.{◌≡◌, IfOk, OnOk, map};
 ghost use Rattle.ti_words.specs.Items.{subject_value};
-ghost use Rattle.ti_listing.specs.Differences.{AreDifferences, AreSame, AreTold, FormatDiffers, IsChange, IsDifference, NamesDiffer, TellsApart, extended_of_both, standard_of_both};
+ghost use Rattle.ti_listing.specs.Differences.{AreDifferences, AreSame, AreTold, format_difference, IsChange, IsDifference, names_difference, TellsApart, extended_of_both, standard_of_both};
 ghost use Rattle.ti_listing.specs.Values.{difference_value};
 ghost use Rattle.ti_listing.specs.inner.Differences.{Adds};
 
@@ -11,6 +11,7 @@ use crate::difference::Difference;
 use crate::extended_names::names_of_both;
 use std::alloc::{AllocError, Allocator};
 use ti_entry::Entry;
+use ti_json::{Content, Topic};
 use ti_line::Likeness;
 use ti_words::{Kind, Subject, Width};
 
@@ -82,13 +83,17 @@ fn push_format<A: Allocator>(
     first: Width,
     other: Width,
 ) -> Result<(), AllocError>
-    ensures { OnOk result (Adds (IsChange AreSame FormatDiffers first other)
+    ensures { OnOk result (Adds (IsChange AreSame format_difference first other)
         (map difference_value out.old.items) (map difference_value out.new.items)) }
 {
     if first == other {
         return Ok(());
     }
-    out.push(Difference::Format { first, other })?;
+    out.push(Difference {
+        topic: Topic::Format,
+        first: Content::Format(first),
+        other: Content::Format(other),
+    })?;
     Ok(())
 }
 
@@ -98,13 +103,17 @@ fn push_names<'a, A: Allocator>(
     first: &'a [u8],
     other: &'a [u8],
 ) -> Result<(), AllocError>
-    ensures { OnOk result (Adds (IsChange AreSame NamesDiffer first.now other.now)
+    ensures { OnOk result (Adds (IsChange AreSame names_difference first.now other.now)
         (map difference_value out.old.items) (map difference_value out.new.items)) }
 {
     if first == other {
         return Ok(());
     }
-    out.push(Difference::Names { first, other })?;
+    out.push(Difference {
+        topic: Topic::Names,
+        first: Content::Names(first),
+        other: Content::Names(other),
+    })?;
     Ok(())
 }
 

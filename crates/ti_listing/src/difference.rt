@@ -1,24 +1,14 @@
 //! What two entries do not have alike, one item after another.
 
-use ti_words::{Item, Subject, Width};
+use ti_json::{Content, Topic};
 
-/// An item that two entries do not have alike, with what the first has and what the other has.
+/// The format, the names or a capability that two entries do not have alike.
 #[derive(Clone, Copy)]
-pub enum Difference<'a> {
-    /// The format.
-    Format {
-        first: Width,
-        other: Width,
-    },
-    /// The names of the entry.
-    Names {
-        first: &'a [u8],
-        other: &'a [u8],
-    },
-    /// A capability; what an entry lacks is absent, a flag `No`.
-    Capability {
-        subject: Subject<'a>,
-        first: Item<'a>,
-        other: Item<'a>,
-    },
+pub struct Difference<'a> {
+    /// Which of these it is.
+    pub topic: Topic<'a>,
+    /// What the first entry has: of a capability that it lacks, the state `Absent`.
+    pub first: Content<'a>,
+    /// What the other entry has.
+    pub other: Content<'a>,
 }

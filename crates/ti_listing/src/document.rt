@@ -3,29 +3,13 @@
 ghost use Rattle.std.specs.List.{list_all};
 ghost use Rattle.std.specs.Prelude.{◌≡◌, IfOk, map, true};
 ghost use Rattle.ti_escape.specs.Laws.{is_printable};
-ghost use Rattle.ti_json.specs.Printed.{Prints, all_tokens, data_tokens};
+ghost use Rattle.ti_json.specs.Printed.{Prints, all_tokens};
 ghost use Rattle.ti_listing.specs.DifferingObjects.{difference_object, differing_text};
 ghost use Rattle.ti_listing.specs.Values.{difference_value};
 
 use crate::difference::Difference;
 use std::alloc::{AllocError, Allocator};
-use ti_json::{Printer, print_compared, print_formats, print_names};
-
-/// Prints the object of a difference.
-fn print_difference<A: Allocator>(printer: &mut Printer<A>, difference: Difference<'_>)
-    ensures { Prints printer.old printer.new
-        (data_tokens (difference_object (difference_value difference.entry))) }
-{
-    match difference {
-        Difference::Format { first, other } => print_formats(printer, first, other),
-        Difference::Names { first, other } => print_names(printer, first, other),
-        Difference::Capability {
-            subject,
-            first,
-            other,
-        } => print_compared(printer, subject, first, other),
-    }
-}
+use ti_json::{Printer, print_compared};
 
 /// Prints the objects of differences.
 fn print_differences<A: Allocator>(printer: &mut Printer<A>, differences: &[Difference<'_>])
@@ -33,16 +17,21 @@ fn print_differences<A: Allocator>(printer: &mut Printer<A>, differences: &[Diff
         (all_tokens (map difference_object (map difference_value differences.now))) }
 {
     'differences: for difference in differences {
-        print_difference(printer, *difference);
+        print_compared(
+            printer,
+            difference.topic,
+            difference.first,
+            difference.other,
+        );
     }
 }
 
 /// Differences as JSON: an array with an object for each, without a space between tokens.
 ///
 /// An object has `kind` (`format`, `names`, `flag`, `number` or `text`), of a capability the `name`, and `own` (`true`) if the name
-/// is the entry's own; and what the `first` entry has, and what the `other` has. Each of these is an object with a `value`, or with
-/// a `state`: `absent`, `cancelled`, or `missing` for a flag that the entry marks so. Each byte of the document is a character from
-/// the space to `~`.
+/// is the entry's own; and what the `first` entry has, and what the `other` has. Each of these is an object with a `value`, and of a
+/// text its bytes as `hex`, or with a `state`: `absent`, `cancelled`, or `missing` for a flag that the entry marks so. Each byte of
+/// the document is a character from the space to `~`.
 ///
 /// # Errors
 ///

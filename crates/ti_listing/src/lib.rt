@@ -1,6 +1,6 @@
 //! What an entry has, and what two do not have alike, as lines and as JSON.
 //!
-//! [`lines_of`] lists an entry. [`difference_of`] compares two: its list says of each item that they do not have alike what each of
+//! [`lines_of`] lists an entry, and [`push_row`] writes any row as a line. [`difference_of`] compares two: its list says of each item that they do not have alike what each of
 //! them has, and [`differing_lines`] and [`differing_json`] show it.
 #![tactic(auto)]
 
@@ -9,15 +9,15 @@ mod diff;
 mod difference;
 mod document;
 mod extended_names;
-mod item_line;
 mod label;
 mod lines;
 mod listing;
+mod row_line;
 mod tokens;
 
 pub use diff::difference_of;
 pub use difference::Difference;
 pub use document::differing_json;
-pub use label::{push_label, subject_word};
 pub use lines::differing_lines;
 pub use listing::lines_of;
+pub use row_line::push_row;

@@ -4,10 +4,7 @@ use Rattle.std.specs.Prelude.{◌==◌, codes, decimal}
 use Rattle.std.specs.Fmt.{signed_decimal}
 use Rattle.std.proofs.lemmas.Bool.{and_from}
 use Rattle.std.proofs.lemmas.Bool.Decides.{nat_tests}
-use Rattle.ti_cap.specs.declared.language.CapFault.{CapFault}
-use Rattle.ti_cap.specs.declared.language.CapFault.TheVariants as faults
 use Rattle.ti_cap.specs.declared.parameter_set.ParameterSet.{ParameterSet}
-use Rattle.ti_cap.specs.FaultNames.{cap_fault_word}
 use Rattle.ti_escape.specs.Forms.{shown}
 use Rattle.ti_escape.specs.Laws.{is_printable}
 use Rattle.ti_escape.specs.Notation.{label_notation}
@@ -15,7 +12,7 @@ use Rattle.ti_escape.specs.declared.form.Form.TheVariants as forms
 use Rattle.ti_escape.proofs.PrintableLemmas.{has_no_space, is_printable_all, label_chars_printable}
 use Rattle.serde_json.specs.Data.{Data}
 use Rattle.ti_json.specs.Objects.{array_text}
-use Rattle.ti_json.proofs.PlainLemmas.{HavePlain, IsPlain, array_is_text}
+use Rattle.ti_json.proofs.PlainLemmas.{HavePlain, IsPlain, array_is_text, fault_text}
 use Rattle.ti_json.proofs.TextLemmas.{IsText, both, decimal_text, signed_text}
 use Rattle.ti_lint.specs.declared.finding.Finding.{Finding}
 use Rattle.ti_lint.specs.declared.finding.Finding.TheVariants.{StackUnderflow, TermcapParameter, ParameterRange, RepeatedIncrement, UnsetVariable, StackResidue, UnusedIncrement, LateIncrement, DeadStore, OperandType, NoEffect, ConstantCondition, RepeatedCondition}
@@ -46,21 +43,6 @@ shown_text [] = refl
 shown_text (byte ∷ bytes) = is_printable_all (byte ∷ bytes)
 
 -- ---- what is wrong
-
-fault_text : (fault : CapFault) → IsText (cap_fault_word fault)
-fault_text faults.TooLong = refl
-fault_text faults.CutShort = refl
-fault_text faults.UnknownEscape = refl
-fault_text faults.BadParameter = refl
-fault_text faults.BadVariable = refl
-fault_text faults.BadConstant = refl
-fault_text faults.BadFormat = refl
-fault_text faults.StrayThen = refl
-fault_text faults.StrayElse = refl
-fault_text faults.StrayEnd = refl
-fault_text faults.NoThen = refl
-fault_text faults.NestTooDeep = refl
-fault_text faults.StackTooDeep = refl
 
 token_word : (finding : Finding) → IsText (finding_word finding)
 token_word StackUnderflow = refl

@@ -11,7 +11,7 @@ pub mod NeedsMemoryLemmas
 pub mod IsLabelLemmas
 pub mod DidLineLemmas
 pub mod ReadsIntoLemmas
-pub mod AreToldLemmas
+pub mod RowsLemmas
 pub mod WideAndBackLemmas
 pub mod OneResultLemmas
 pub mod OneComparisonLemmas

@@ -1,6 +1,8 @@
 -- For given parameters and bytes at most one result is due, and no fault of a call itself.
-use Rattle.std.proofs.Common.{◌≡◌, ◌⊎◌, ℕ, zero, suc, ◌<◌, ◌≤◌, Bool, ◌&&◌, List, [], ◌∷◌, ◌++◌, length, Ok, Err, Some, None, inl, inr, refl, sym, ap, subst, ◌∙◌, arith, pos}
+use Rattle.std.proofs.Common.{◌≡◌, ◌⊎◌, ℕ, zero, suc, ◌<◌, ◌≤◌, Bool, ◌&&◌, List, [], ◌∷◌, ◌++◌, length, Ok, Err, Some, None, inl, inr, refl, sym, ap, ap₂, subst, ◌∙◌, arith, pos}
 use Rattle.ti_words.specs.Items.{FlagItem, ItemValue, Listed, NumberItem, SubjectValue, TextItem, items, text_in}
+use Rattle.std.specs.List.{flat_map}
+use Rattle.ti_escape.specs.declared.form.Form.TheVariants as forms
 use Rattle.std.specs.Prelude.{Option, Result, replicate, codes}
 use Rattle.ti_words.specs.Texts.{TextValue, AbsentText, CancelledText, TextOf}
 use Rattle.ti_words.specs.Value.{EntryValue}
@@ -47,8 +49,11 @@ use Rattle.ti_line.specs.declared.options.TraceForm.{TraceForm}
 use Rattle.ti_line.specs.declared.options.TraceForm.TheVariants as trace_forms
 use Rattle.ti_tool.specs.Traces.{IsTraceAs, IsTraced, IsTracedBy, IsTracedOf, IsTracedValue, no_values}
 use Rattle.serde_json.specs.Data.{Data}
-use Rattle.ti_json.specs.Objects.{array_text}
-use Rattle.ti_tool.specs.Verdicts.{AreTold, AreVerdictObjects, AreVerdicts, IsTold, Telling, in_line, in_object}
+use Rattle.ti_json.specs.Objects.{array_text, row_objects}
+use Rattle.ti_json.specs.Rows.{ContentValue, HasFault, HasLimits, RowValue}
+use Rattle.ti_json.specs.Rows.{OfCapability as on_capability}
+use Rattle.ti_listing.specs.Listing.{row_lines}
+use Rattle.ti_tool.specs.Verdicts.{AreRows, AreVerdictObjects, AreVerdicts, HasRows, IsJudged, are_sound}
 use Rattle.ti_line.specs.declared.given.Given.{Given}
 use Rattle.ti_line.specs.declared.request.Get.{Get}
 use Rattle.ti_line.specs.declared.request.TraceOf.{TraceOf}
@@ -214,30 +219,29 @@ one_depth text a b (s, p, d) (t, q, e) = greatest_once s height a b d (subst (λ
 one_bound : (text : List ℕ) (a b : ℕ) → HasBound text 0 a → HasBound text 0 b → a ≡ b
 one_bound text a b (s, p, d) (t, q, e) = greatest_once s (λ path. size path 0) a b d (subst (λ (x : Sequence). IsGreatest x (λ path. size path 0) b) (tree_once t s text q p) e)
 
-one_told : {Y : Type 0} (telling : Telling Y) (text : Option (List ℕ)) (told other : List Y) (sound as_sound : Bool) → IsTold telling text told sound → IsTold telling text other as_sound → (told ≡ other) × (sound ≡ as_sound)
-one_told telling None told other sound as_sound d h = (d.0 ∙ sym h.0, d.1 ∙ sym h.1)
-one_told telling (Some text) told other sound as_sound (inl (s, (depth, bound, passes, deep, big, is))) (inl (t, (depths, bounds, again, deeper, bigger, same))) =
-    (is ∙ ap (λ d. telling.sound d bound) (one_depth text depth depths deep deeper) ∙ ap (telling.sound depths) (one_bound text bound bounds big bigger) ∙ sym same, s ∙ sym t)
-one_told telling (Some text) told other sound as_sound (inl (s, (depth, bound, passes, deep, big, is))) (inr (t, (refused, why, same))) = absurd (faultless_passes text refused passes why)
-one_told telling (Some text) told other sound as_sound (inr (s, (refused, why, is))) (inl (t, (depth, bound, passes, deep, big, same))) = absurd (faultless_passes text refused passes why)
-one_told telling (Some text) told other sound as_sound (inr (s, (refused, why, is))) (inr (t, (refuses, because, same))) =
-    (is ∙ ap telling.fault (one_refusal refused refuses text why because) ∙ sym same, s ∙ sym t)
+one_judged : (text : List ℕ) (a b : ContentValue) → IsJudged text a → IsJudged text b → a ≡ b
+one_judged text a b (inl (depth, bound, passes, deep, big, is)) (inl (depths, bounds, again, deeper, bigger, same)) =
+    is ∙ ap₂ (λ d b. HasLimits d b) (one_depth text depth depths deep deeper) (one_bound text bound bounds big bigger) ∙ sym same
+one_judged text a b (inl (depth, bound, passes, deep, big, is)) (inr (refused, why, same)) = absurd (faultless_passes text refused passes why)
+one_judged text a b (inr (refused, why, is)) (inl (depth, bound, passes, deep, big, same)) = absurd (faultless_passes text refused passes why)
+one_judged text a b (inr (refused, why, is)) (inr (refuses, because, same)) = is ∙ ap (λ r. HasFault r) (one_refusal refused refuses text why because) ∙ sym same
 
-all_told : {Y : Type 0} (telling : SubjectValue → Telling Y) (xs : List Listed) (told others : List Y) (sound as_sound : Bool)
-    → AreTold telling xs told sound → AreTold telling xs others as_sound → (told ≡ others) × (sound ≡ as_sound)
-all_told telling [] told others sound as_sound d h = (d.0 ∙ sym h.0, d.1 ∙ sym h.1)
-all_told telling (x ∷ xs) told others sound as_sound (first, more, one, rest, is, are, joined, both) (first', more', one', rest', is', are', joined', both') =
-    let front = one_told (telling x.0) (text_in x.1) first first' one one' is is' in
-    let back = all_told telling xs more more' rest rest' are are' in (
-      joined ∙ ap (λ l. l ++ more) front.0 ∙ ap (λ l. first' ++ l) back.0 ∙ sym joined',
-      both ∙ ap (λ b. b && rest) front.1 ∙ ap (λ b. one' && b) back.1 ∙ sym both',
-    )
+has_one : (subject : SubjectValue) (text : Option (List ℕ)) (rows others : List RowValue) → HasRows subject text rows → HasRows subject text others → rows ≡ others
+has_one subject None rows others is same = is ∙ sym same
+has_one subject (Some text) rows others (a, judged, is) (b, again, same) = is ∙ ap (λ content. (on_capability subject, content) ∷ []) (one_judged text a b judged again) ∙ sym same
+
+are_one : (xs : List Listed) (rows others : List RowValue) → AreRows xs rows → AreRows xs others → rows ≡ others
+are_one [] rows others is same = is ∙ sym same
+are_one (x ∷ xs) rows others (first, more, has, are, is) (first', more', has', are', same) =
+    is ∙ ap₂ (λ a b. a ++ b) (has_one x.0 (text_in x.1) first first' has has') (are_one xs more more' are are') ∙ sym same
 
 one_verdicts : (naming : Naming) (v : EntryValue) (lines others : List ℕ) (sound as_sound : Bool) → AreVerdicts naming v lines sound → AreVerdicts naming v others as_sound → (lines ≡ others) × (sound ≡ as_sound)
-one_verdicts naming v lines others sound as_sound d h = all_told (in_line naming) (items v) lines others sound as_sound d h
+one_verdicts naming v lines others sound as_sound (rows, are, is, s) (again, also, same, t) =
+    let one = are_one (items v) rows again are also in (is ∙ ap (row_lines (record { naming = naming; form = forms.Notation })) one ∙ sym same, s ∙ ap are_sound one ∙ sym t)
 
 one_objects : (v : EntryValue) (objects others : List Data) (sound as_sound : Bool) → AreVerdictObjects v objects sound → AreVerdictObjects v others as_sound → (objects ≡ others) × (sound ≡ as_sound)
-one_objects v objects others sound as_sound d h = all_told in_object (items v) objects others sound as_sound d h
+one_objects v objects others sound as_sound (rows, are, is, s) (again, also, same, t) =
+    let one = are_one (items v) rows again are also in (is ∙ ap (flat_map row_objects) one ∙ sym same, s ∙ ap are_sound one ∙ sym t)
 
 one_judgement : (naming : Naming) (v : EntryValue) (sound as_sound : Bool) (r s : Result (List ℕ) ToolFault) → IsJudgement naming sound v r → IsJudgement naming as_sound v s → r ≡ s
 one_judgement naming v sound as_sound (Ok a) (Ok b) d h = ap Ok (one_verdicts naming v a b sound as_sound d h).0

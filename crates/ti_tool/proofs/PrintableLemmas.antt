@@ -1,24 +1,16 @@
 -- Results under `--escape` are printable lines, as many as are due.
-use Rattle.std.proofs.Common.{◌≡◌, ◌∙◌, ◌+◌, ℕ, Bool, true, List, [], ◌∷◌, ◌++◌, Some, inl, inr, refl, sym, ap, subst, arith, append_assoc}
+use Rattle.std.proofs.Common.{◌≡◌, ◌∙◌, ◌+◌, ℕ, Bool, true, false, List, [], ◌∷◌, ◌++◌, Some, inl, inr, refl, sym, ap, ap₂, subst, arith, append_assoc}
 use Rattle.ti_words.specs.Items.{ExtendedSubject, FlagItem, ItemValue, Listed, NumberItem, StandardSubject, SubjectValue, TextItem, items, text_in}
-use Rattle.std.specs.Prelude.{Option, None, Ok, ◌⊎◌, codes, decimal}
+use Rattle.std.specs.Prelude.{Option, None, Ok, ◌⊎◌, codes, decimal, if◌then◌else◌}
 use Rattle.std.specs.List.{flat_map, list_all}
 use Rattle.std.specs.Fmt.{signed_decimal}
 use Rattle.std.proofs.lemmas.Bool.{and_from}
 use Rattle.std.proofs.lemmas.Grind.{flat_map-append}
 use Rattle.std.proofs.lemmas.List.{append-nil, length-append}
 use Rattle.std.proofs.lemmas.List.Folds.{list_all-append}
-use Rattle.ti_words.specs.declared.Flag.{Flag}
-use Rattle.ti_words.specs.declared.Flag.TheVariants as flags
 use Rattle.ti_words.specs.declared.Kind.TheVariants as kinds
-use Rattle.ti_words.specs.declared.Number.{Number}
-use Rattle.ti_words.specs.declared.Number.TheVariants as numbers
-use Rattle.ti_words.specs.declared.Width.{Width}
-use Rattle.ti_words.specs.Texts.{TextValue, AbsentText, CancelledText, TextOf}
+use Rattle.ti_words.specs.Texts.{AbsentText, CancelledText, TextOf}
 use Rattle.ti_words.specs.Value.{EntryValue}
-use Rattle.ti_words.specs.Widths.{format_name}
-use Rattle.ti_cap.specs.declared.language.CapFault.{CapFault}
-use Rattle.ti_cap.specs.declared.language.CapFault.TheVariants as cap_faults
 use Rattle.ti_cap.specs.FaultNames.{cap_fault_word}
 use Rattle.ti_escape.specs.Laws.{is_printable}
 use Rattle.ti_escape.specs.Notation.{label_notation, notation}
@@ -37,11 +29,12 @@ use Rattle.ti_line.specs.declared.options.Output.TheVariants as outputs
 use Rattle.ti_pad.specs.Setting.{Setting}
 use Rattle.ti_tool.specs.Got.{IsTextResult, IsValueResult, number_or_none, number_result}
 use Rattle.ti_listing.specs.Labels.{extended_label, names_in_form, subject_label, subject_word}
-use Rattle.ti_listing.specs.Listing.{entry_lines, flag_line, listed_line, number_line, text_line}
+use Rattle.ti_json.specs.Rows.{ContentValue, HasFault, HasFormat, HasLimits, HasNames, HasNumber, HasText, InState, IsSet, OfCapability, OfFormat, OfNames, RowValue, TopicValue, entry_rows, is_absent}
+use Rattle.ti_listing.specs.Listing.{content_words, entry_lines, row_line, row_lines, topic_label}
 use Rattle.serde_json.specs.Data.{Data}
-use Rattle.ti_tool.specs.Verdicts.{AreTold, AreVerdictObjects, IsTold, fault_verdict, in_line, in_object, sound_verdict}
+use Rattle.ti_tool.specs.Verdicts.{AreRows, HasRows}
 use Rattle.ti_json.proofs.TextLemmas.{IsText, both, decimal_text, label_text, signed_text}
-use Rattle.ti_json.proofs.PlainLemmas.{HavePlain, array_is_text, entry_is_text, fault_is_plain, format, joined as plain_joined, json_is_text, sound_is_plain}
+use Rattle.ti_json.proofs.PlainLemmas.{HavePlain, array_is_text, entry_is_text, fault_text, format, json_is_text, rows_are_plain, state_text}
 use Rattle.ti_names.specs.AllNames.{front}
 use Rattle.ti_json.specs.Objects.{array_text, text_json}
 use Rattle.ti_line.specs.declared.options.Document.{Document}
@@ -50,7 +43,7 @@ use Rattle.ti_report.proofs.PlainLemmas.{report_is_text}
 use Rattle.ti_tool.specs.Documents.{AreObjects, IsDocument, key_of}
 use Rattle.ti_tool.proofs.DocumentLemmas.{without_newline}
 use Rattle.ti_tool.specs.Results.{IsDueFrom}
-use Rattle.ti_tool.specs.Printable.{JsonIsPrintable, ObjectIsPrintable, ArePrintableLines, flag_lines, number_lines, text_lines, item_lines, verdict_lines, lines_of, listed_lines, ShowIsPrintable, CheckIsPrintable, CapIsPrintable, ExpandIsPrintable, GetIsPrintable}
+use Rattle.ti_tool.specs.Printable.{JsonIsPrintable, ObjectIsPrintable, ArePrintableLines, listed_lines, row_count, rows_count, text_count, texts_count, ShowIsPrintable, CheckIsPrintable, CapIsPrintable, ExpandIsPrintable, GetIsPrintable}
 
 -- ---- joining
 
@@ -96,109 +89,56 @@ subject_text naming (StandardSubject kind index) e = label_text naming.table kin
 subject_text naming (ExtendedSubject kind name) e =
     subst (λ form. IsText (extended_label form name)) (sym e) (label_chars_printable (label_notation name) (has_no_space name))
 
--- ---- the line of an item
+topic_text : (naming : Naming) (topic : TopicValue) → naming.form ≡ name_forms.Notation → IsText (topic_label naming topic)
+topic_text naming OfFormat e = refl
+topic_text naming OfNames e = refl
+topic_text naming (OfCapability subject) e = both (subject_word subject) (subject_label naming subject) (word_text subject) (subject_text naming subject e)
 
--- a line in three parts, of which the last ends it
-ended : (word label rest end out : List ℕ) → IsText word → IsText label → IsText rest → end ≡ rest ++ codes "\n" → out ≡ word ++ label ++ end → ArePrintableLines 1 out
-ended word label rest end out of_word of_label of_rest e is =
-    one (word ++ label ++ rest) out (both (word ++ label) rest (both word label of_word of_label) of_rest)
-    (is ∙ ap (λ x. word ++ label ++ x) e ∙ sym (append_assoc (word ++ label) rest (codes "\n")))
+-- ---- the line of a row
 
-flag_text : (word label : List ℕ) (flag : Flag) → IsText word → IsText label → ArePrintableLines (flag_lines flag) (flag_line word label flag)
-flag_text word label flags.No of_word of_label = none
-flag_text word label flags.Yes of_word of_label = ended word label [] (codes "\n") _ of_word of_label refl refl refl
-flag_text word label flags.Cancelled of_word of_label = ended word label (codes " cancelled") (codes " cancelled\n") _ of_word of_label refl refl refl
-flag_text word label flags.Missing of_word of_label = ended word label (codes " missing") (codes " missing\n") _ of_word of_label refl refl refl
+shown_text : (form : Form) (text : List ℕ) → form ≡ forms.Notation → IsText (shown form text)
+shown_text forms.Hex text e = absurd cc
+shown_text forms.Notation [] e = refl
+shown_text forms.Notation (byte ∷ bytes) e = is_printable_all (byte ∷ bytes)
 
--- a line in three parts and a value after a space
-valued : (word label value : List ℕ) → IsText word → IsText label → IsText value → ArePrintableLines 1 (word ++ label ++ codes " " ++ value ++ codes "\n")
-valued word label value of_word of_label of_value =
-    one (word ++ label ++ codes " " ++ value) _ (both (word ++ label ++ codes " ") value (both (word ++ label) (codes " ") (both word label of_word of_label) refl) of_value) refl
+content_text : (options : ListOptions) (content : ContentValue) → options.form ≡ forms.Notation → options.naming.form ≡ name_forms.Notation → IsText (content_words options content)
+content_text options (InState state) e n = state_text state
+content_text options IsSet e n = refl
+content_text options (HasNumber z) e n = signed_text z
+content_text options (HasFormat width) e n = format width
+content_text options (HasNames names) e n = names_text options.naming.form names n
+content_text options (HasText text) e n = shown_text options.form text e
+content_text options (HasLimits depth bound) e n =
+    both (codes " ok depth " ++ decimal depth ++ codes " bound ") (decimal bound) (both (codes " ok depth " ++ decimal depth) (codes " bound ") (both (codes " ok depth ") (decimal depth) refl (decimal_text depth)) refl) (decimal_text bound)
+content_text options (HasFault refused) e n =
+    both (codes " fault " ++ cap_fault_word refused.fault ++ codes " at ") (decimal refused.place)
+    (both (codes " fault " ++ cap_fault_word refused.fault) (codes " at ") (both (codes " fault ") (cap_fault_word refused.fault) refl (fault_text refused.fault)) refl) (decimal_text refused.place)
 
-number_text : (word label : List ℕ) (number : Number) → IsText word → IsText label → ArePrintableLines (number_lines number) (number_line word label number)
-number_text word label numbers.Absent of_word of_label = none
-number_text word label numbers.Cancelled of_word of_label = ended word label (codes " cancelled") (codes " cancelled\n") _ of_word of_label refl refl refl
-number_text word label (numbers.Value n) of_word of_label = valued word label (signed_decimal n) of_word of_label (signed_text n)
-
-shown_text : (text : List ℕ) → IsText (shown forms.Notation text)
-shown_text [] = refl
-shown_text (byte ∷ bytes) = is_printable_all (byte ∷ bytes)
-
-text_text : (form : Form) (word label : List ℕ) (text : TextValue) → form ≡ forms.Notation → IsText word → IsText label → ArePrintableLines (text_lines text) (text_line form word label text)
-text_text forms.Hex word label text e of_word of_label = absurd cc
-text_text forms.Notation word label AbsentText e of_word of_label = none
-text_text forms.Notation word label CancelledText e of_word of_label = ended word label (codes " cancelled") (codes " cancelled\n") _ of_word of_label refl refl refl
-text_text forms.Notation word label (TextOf bytes) e of_word of_label = valued word label (shown forms.Notation bytes) of_word of_label (shown_text bytes)
-
--- ---- the listing
-
-listed_text : (options : ListOptions) (listed : Listed) → options.form ≡ forms.Notation → options.naming.form ≡ name_forms.Notation → ArePrintableLines (item_lines listed) (listed_line options listed)
-listed_text options (subject, FlagItem flag) e n = flag_text (subject_word subject) (subject_label options.naming subject) flag (word_text subject) (subject_text options.naming subject n)
-listed_text options (subject, NumberItem number) e n = number_text (subject_word subject) (subject_label options.naming subject) number (word_text subject) (subject_text options.naming subject n)
-listed_text options (subject, TextItem text) e n = text_text options.form (subject_word subject) (subject_label options.naming subject) text e (word_text subject) (subject_text options.naming subject n)
-
-all_lines : (options : ListOptions) → options.form ≡ forms.Notation → options.naming.form ≡ name_forms.Notation → (xs : List Listed) → ArePrintableLines (lines_of item_lines xs) (flat_map (listed_line options) xs)
-all_lines options e n [] = none
-all_lines options e n (x ∷ xs) = joined_lines (item_lines x) (lines_of item_lines xs) (listed_line options x) (flat_map (listed_line options) xs) (listed_text options x e n) (all_lines options e n xs)
-
-format_text : (width : Width) → IsText (codes "format: " ++ format_name width)
-format_text width = both (codes "format: ") (format_name width) refl (format width)
-
-head_lines : (format names : List ℕ) → IsText format → IsText names → ArePrintableLines 2 (format ++ codes "\nnames: " ++ names ++ codes "\n")
-head_lines format names of_format of_names =
-    let P : List ℕ → Type 0 = λ x. ArePrintableLines 2 x in
-    subst P (rejoin format names)
-    (joined_lines 1 1 (format ++ codes "\n") (codes "names: " ++ names ++ codes "\n") (one format _ of_format refl) (one (codes "names: " ++ names) _ (both (codes "names: ") names refl of_names) refl))
+row_text : (options : ListOptions) (row : RowValue) → options.form ≡ forms.Notation → options.naming.form ≡ name_forms.Notation → ArePrintableLines (row_count row) (row_line options [] row)
+row_text options (topic, content) e n = go (is_absent content)
   where
-    rejoin : (format names : List ℕ) → (format ++ codes "\n") ++ (codes "names: " ++ names ++ codes "\n") ≡ format ++ codes "\nnames: " ++ names ++ codes "\n"
-    rejoin format names = simp append_assoc
+    line : List ℕ
+    line = topic_label options.naming topic ++ content_words options content
+
+    go : (b : Bool) → ArePrintableLines (if b then 0 else 1) (if b then [] else line ++ codes "\n")
+    go true = none
+    go false = one line (line ++ codes "\n") (both (topic_label options.naming topic) (content_words options content) (topic_text options.naming topic n) (content_text options content e n)) refl
+
+rows_text : (options : ListOptions) → options.form ≡ forms.Notation → options.naming.form ≡ name_forms.Notation → (rows : List RowValue) → ArePrintableLines (rows_count rows) (row_lines options rows)
+rows_text options e n [] = none
+rows_text options e n (row ∷ rows) = joined_lines (row_count row) (rows_count rows) (row_line options [] row) (row_lines options rows) (row_text options row e n) (rows_text options e n rows)
 
 pub shown_lines : ShowIsPrintable
 shown_lines options input out e n (inl (refused, is, same)) = absurd cc
 shown_lines options input out e n (inr (v, spells, listed)) =
     let is : out ≡ entry_lines options v = cc in
-    let P : List ℕ → Type 0 = λ x. ArePrintableLines (listed_lines v) x in (
-      v,
-      spells,
-      subst P (sym is) (joined_lines _ _ _ _
-          (head_lines (codes "format: " ++ format_name v.width) (names_in_form options.naming.form v.names) (format_text v.width) (names_text options.naming.form v.names n)) (all_lines options e n (items v))),
-    )
-
--- ---- faults
-
-fault_text : (fault : CapFault) → IsText (cap_fault_word fault)
-fault_text cap_faults.TooLong = refl
-fault_text cap_faults.CutShort = refl
-fault_text cap_faults.UnknownEscape = refl
-fault_text cap_faults.BadParameter = refl
-fault_text cap_faults.BadVariable = refl
-fault_text cap_faults.BadConstant = refl
-fault_text cap_faults.BadFormat = refl
-fault_text cap_faults.StrayThen = refl
-fault_text cap_faults.StrayElse = refl
-fault_text cap_faults.StrayEnd = refl
-fault_text cap_faults.NoThen = refl
-fault_text cap_faults.NestTooDeep = refl
-fault_text cap_faults.StackTooDeep = refl
+    let P : List ℕ → Type 0 = λ x. ArePrintableLines (listed_lines v) x in (v, spells, subst P (sym is) (rows_text options e n (entry_rows v)))
 
 -- ---- documents
 
-plain_told : (subject : SubjectValue) (text : Option (List ℕ)) (told : List Data) (sound : Bool) → IsTold (in_object subject) text told sound → HavePlain told
-plain_told subject None told sound is = subst HavePlain (sym is.0) tt
-plain_told subject (Some text) told sound (inl (passes, (depth, bound, faultless, d, b, is))) = subst HavePlain (sym is) (sound_is_plain subject depth bound, tt)
-plain_told subject (Some text) told sound (inr (fails, (refused, h, is))) = subst HavePlain (sym is) (fault_is_plain subject (cap_fault_word refused.fault) refused.place (fault_text refused.fault), tt)
-
-all_plain : (xs : List Listed) (told : List Data) (sound : Bool) → AreTold in_object xs told sound → HavePlain told
-all_plain [] told sound are = subst HavePlain (sym are.0) tt
-all_plain (x ∷ xs) told sound (first, more, one, rest, is, are, e, s) =
-    subst HavePlain (sym e) (plain_joined first more (plain_told x.0 (text_in x.1) first one is) (all_plain xs more rest are))
-
-plain_verdicts : (v : EntryValue) (objects : List Data) (sound : Bool) → AreVerdictObjects v objects sound → HavePlain objects
-plain_verdicts v objects sound are = all_plain (items v) objects sound are
-
 objects_text : (document : Document) (sound : Bool) (input : List ℕ) (v : EntryValue) (objects : List Data) → AreObjects document sound input v objects → IsText (array_text objects)
 objects_text documents.Listing sound input v objects are = subst (λ ds. IsText (array_text ds)) (sym are) (entry_is_text v)
-objects_text documents.Verdicts sound input v objects are = array_is_text objects (plain_verdicts v objects sound are)
+objects_text documents.Verdicts sound input v objects (rows, are, is, s) = array_is_text objects (subst HavePlain (sym is) (rows_are_plain rows))
 objects_text (documents.Findings scope) sound input v objects are = report_is_text scope input v sound objects are
 
 document_of : (document : Document) (sound : Bool) (input out : List ℕ) → IsDueFrom (IsDocument document sound input) input (Ok out) → (text : List ℕ) × IsText text × (out ≡ text ++ codes "\n")
@@ -226,29 +166,30 @@ object_line document sound name input out due =
 
 -- ---- verdicts
 
-line_text : (naming : Naming) (subject : SubjectValue) (text : Option (List ℕ)) (line : List ℕ) (sound : Bool) → naming.form ≡ name_forms.Notation → IsTold (in_line naming subject) text line sound
-    → ArePrintableLines (verdict_lines text) line
-line_text naming subject None line sound n h = let P : List ℕ → Type 0 = λ x. ArePrintableLines 0 x in subst P (sym h.0) none
-line_text naming subject (Some text) line sound n (inl (passes, (depth, bound, faultless, d, b, is))) =
-    ended (subject_word subject) (subject_label naming subject) (codes " ok depth " ++ decimal depth ++ codes " bound " ++ decimal bound) (sound_verdict depth bound) line (word_text subject) (subject_text naming subject n)
-    (both (codes " ok depth " ++ decimal depth ++ codes " bound ") (decimal bound) (both (codes " ok depth " ++ decimal depth) (codes " bound ") (both (codes " ok depth ") (decimal depth) refl (decimal_text depth)) refl) (decimal_text bound))
-    refl is
-line_text naming subject (Some text) line sound n (inr (fails, (refused, h, is))) =
-    ended (subject_word subject) (subject_label naming subject) (codes " fault " ++ cap_fault_word refused.fault ++ codes " at " ++ decimal refused.place) (fault_verdict refused) line (word_text subject) (subject_text naming subject n)
-    (both (codes " fault " ++ cap_fault_word refused.fault ++ codes " at ") (decimal refused.place) (both (codes " fault " ++ cap_fault_word refused.fault) (codes " at ") (both (codes " fault ") (cap_fault_word refused.fault) refl (fault_text refused.fault)) refl) (decimal_text refused.place))
-    refl is
+judged_count : (subject : SubjectValue) (text : Option (List ℕ)) (rows : List RowValue) → HasRows subject text rows → rows_count rows ≡ text_count text
+judged_count subject None rows is = ap rows_count is
+judged_count subject (Some text) rows (content, inl (depth, bound, faultless, d, b, says), is) = ap rows_count is ∙ ap (λ c. rows_count ((OfCapability subject, c) ∷ [])) says
+judged_count subject (Some text) rows (content, inr (refused, h, says), is) = ap rows_count is ∙ ap (λ c. rows_count ((OfCapability subject, c) ∷ [])) says
 
-each_line : (naming : Naming) → naming.form ≡ name_forms.Notation → (xs : List Listed) (lines : List ℕ) (sound : Bool) → AreTold (in_line naming) xs lines sound
-    → ArePrintableLines (lines_of (λ listed. verdict_lines (text_in listed.1)) xs) lines
-each_line naming n [] lines sound h = let P : List ℕ → Type 0 = λ x. ArePrintableLines 0 x in subst P (sym h.0) none
-each_line naming n (x ∷ xs) lines sound (line, more, this, rest, is, are, e, s) =
-    let count : ℕ = lines_of (λ listed. verdict_lines (text_in listed.1)) xs in
-    let P : List ℕ → Type 0 = λ z. ArePrintableLines (verdict_lines (text_in x.1) + count) z in
-    subst P (sym e) (joined_lines (verdict_lines (text_in x.1)) count line more (line_text naming x.0 (text_in x.1) line this n is) (each_line naming n xs more rest are))
+add_assoc : (k m n : ℕ) → k + (m + n) ≡ (k + m) + n
+add_assoc k m n = omega arith
+
+both_count : (first more : List RowValue) → rows_count (first ++ more) ≡ rows_count first + rows_count more
+both_count [] more = omega arith
+both_count (row ∷ first) more = ap (λ n. row_count row + n) (both_count first more) ∙ add_assoc (row_count row) (rows_count first) (rows_count more)
+
+rows_counted : (xs : List Listed) (rows : List RowValue) → AreRows xs rows → rows_count rows ≡ texts_count xs
+rows_counted [] rows is = ap rows_count is
+rows_counted (x ∷ xs) rows (first, more, has, are, is) =
+    ap rows_count is ∙ both_count first more ∙ ap₂ (λ m n. m + n) (judged_count x.0 (text_in x.1) first has) (rows_counted xs more are)
 
 pub check_lines : CheckIsPrintable
 check_lines naming input out sound n (inl (refused, is, same)) = absurd cc
-check_lines naming input out sound n (inr (v, spells, are)) = (v, spells, each_line naming n (items v) out sound are)
+check_lines naming input out sound n (inr (v, spells, (rows, are, is, s))) =
+    let options : ListOptions = record { naming = naming; form = forms.Notation } in
+    let P : ℕ → List ℕ → Type 0 = λ m x. ArePrintableLines m x in
+    let Q : ℕ → Type 0 = λ m. P m out in
+    (v, spells, subst Q (rows_counted (items v) rows are) (subst (P (rows_count rows)) (sym is) (rows_text options refl n rows)))
 
 -- ---- outputs
 

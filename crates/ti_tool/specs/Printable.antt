@@ -1,16 +1,12 @@
 -- What the program shows of an entry that a stranger wrote: lines that can be printed, and no more than
 -- are due.
-use Rattle.std.specs.Prelude.{◌≡◌, ◌⊎◌, ℕ, ◌+◌, Bool, true, List, [], ◌∷◌, ◌++◌, Option, Some, None, Ok, codes, length}
+use Rattle.std.specs.Prelude.{◌≡◌, ◌⊎◌, ℕ, ◌+◌, Bool, true, List, [], ◌∷◌, ◌++◌, Option, Some, None, Ok, codes, if◌then◌else◌, length}
 use Rattle.std.specs.List.{flat_map, list_all}
-use Rattle.ti_words.specs.declared.Flag.{Flag}
-use Rattle.ti_words.specs.declared.Flag.TheVariants as flags
-use Rattle.ti_words.specs.declared.Number.{Number}
-use Rattle.ti_words.specs.declared.Number.TheVariants as numbers
 use Rattle.ti_names.specs.declared.name_table.NameTable.{NameTable}
-use Rattle.ti_words.specs.Items.{FlagItem, Listed, NumberItem, TextItem, items, text_in}
+use Rattle.ti_words.specs.Items.{Listed, items, text_in}
 use Rattle.ti_words.specs.Spelling.{Spells}
-use Rattle.ti_words.specs.Texts.{TextValue, AbsentText, CancelledText, TextOf}
 use Rattle.ti_words.specs.Value.{EntryValue}
+use Rattle.ti_json.specs.Rows.{RowValue, entry_rows, is_absent}
 use Rattle.ti_escape.specs.Laws.{is_printable}
 use Rattle.ti_escape.specs.declared.form.Form.TheVariants as forms
 use Rattle.ti_expand.specs.declared.values.Value.{Value}
@@ -34,45 +30,29 @@ pub record ArePrintableLines (count : ℕ) (out : List ℕ) : Type 0 where
 
 -- ---- how many lines are due
 
--- of an item in the listing of `show`
-abbrev pub flag_lines : Flag → ℕ
-flag_lines flags.No = 0
-flag_lines flags.Yes = 1
-flag_lines flags.Cancelled = 1
-flag_lines flags.Missing = 1
+-- of rows: what is absent has none
+abbrev pub row_count : RowValue → ℕ
+row_count row = if is_absent row.1 then 0 else 1
 
-abbrev pub number_lines : Number → ℕ
-number_lines numbers.Absent = 0
-number_lines numbers.Cancelled = 1
-number_lines (numbers.Value n) = 1
+abbrev pub rows_count : List RowValue → ℕ
+rows_count [] = 0
+rows_count (row ∷ rows) = row_count row + rows_count rows
 
-abbrev pub text_lines : TextValue → ℕ
-text_lines AbsentText = 0
-text_lines CancelledText = 1
-text_lines (TextOf bytes) = 1
-
--- of a capability in the lines of `show`
-abbrev pub item_lines : Listed → ℕ
-item_lines (subject, FlagItem flag) = flag_lines flag
-item_lines (subject, NumberItem number) = number_lines number
-item_lines (subject, TextItem text) = text_lines text
-
--- and in those of `check`
-abbrev pub verdict_lines : Option (List ℕ) → ℕ
-verdict_lines None = 0
-verdict_lines (Some text) = 1
-
--- of all together
-abbrev pub lines_of : (Listed → ℕ) → List Listed → ℕ
-lines_of count [] = 0
-lines_of count (x ∷ xs) = count x + lines_of count xs
-
--- of a whole entry: in `show` the format and the names come first
+-- in `show` each item has its row
 abbrev pub listed_lines : EntryValue → ℕ
-listed_lines v = 2 + lines_of item_lines (items v)
+listed_lines v = rows_count (entry_rows v)
+
+-- in `check` each text that is there has one
+abbrev pub text_count : Option (List ℕ) → ℕ
+text_count None = 0
+text_count (Some text) = 1
+
+abbrev pub texts_count : List Listed → ℕ
+texts_count [] = 0
+texts_count (listed ∷ rest) = text_count (text_in listed.1) + texts_count rest
 
 abbrev pub checked_lines : EntryValue → ℕ
-checked_lines v = lines_of (λ listed. verdict_lines (text_in listed.1)) (items v)
+checked_lines v = texts_count (items v)
 
 -- ---- results under `--escape`
 

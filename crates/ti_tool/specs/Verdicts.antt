@@ -1,76 +1,61 @@
--- What `check` tells of the texts of an entry, in lines or in objects of JSON, and whether all of them are capabilities.
-use Rattle.std.specs.Prelude.{◌≡◌, ◌⊎◌, ℕ, Bool, true, false, ◌&&◌, List, [], ◌∷◌, ◌++◌, Option, Some, None, codes, decimal}
-use Rattle.ti_words.specs.Items.{Listed, SubjectValue, items, text_in}
+-- What `check` shows of the texts of an entry: a row on each, in a line or in an object of JSON, and whether all are capabilities.
+use Rattle.std.specs.Prelude.{◌≡◌, ◌⊎◌, ℕ, Bool, true, false, List, [], ◌∷◌, ◌++◌, Option, Some, None}
+use Rattle.std.specs.List.{flat_map, list_all}
 use Rattle.serde_json.specs.Data.{Data}
+use Rattle.ti_words.specs.Items.{Listed, SubjectValue, items, text_in}
 use Rattle.ti_words.specs.Value.{EntryValue}
 use Rattle.ti_cap.specs.declared.language.CapRefused.{CapRefused}
 use Rattle.ti_cap.specs.Capability.{HasDepth, HasBound}
 use Rattle.ti_cap.specs.Refusal.{IsFaultless, IsRefusal}
-use Rattle.ti_cap.specs.FaultNames.{cap_fault_word}
-use Rattle.ti_json.specs.Objects.{fault_object, sound_object}
+use Rattle.ti_escape.specs.declared.form.Form.TheVariants as forms
+use Rattle.ti_json.specs.Objects.{row_objects}
+use Rattle.ti_json.specs.Rows.{ContentValue, HasFault, HasLimits, OfCapability, RowValue}
 use Rattle.ti_line.specs.declared.options.Naming.{Naming}
-use Rattle.ti_listing.specs.Labels.{subject_label, subject_word}
+use Rattle.ti_listing.specs.Listing.{row_lines}
 
 -- ---- one text
 
--- how a verdict is told, in bytes or in objects: by a depth and a bound, or by a fault
-pub record Telling (Y : Type 0) : Type 0 where
-  pub sound : ℕ → ℕ → List Y
-  pub fault : CapRefused → List Y
-
--- what is told of a text without a fault: its depth, and its bound if texts among the parameters have no bytes
-abbrev pub IsSoundText : {Y : Type 0} → Telling Y → List ℕ → List Y → Type 0
-IsSoundText telling text told =
+-- a text without a fault has a depth, and a bound if texts among the parameters have no bytes
+abbrev pub IsSoundText : List ℕ → ContentValue → Type 0
+IsSoundText text content =
     (depth : ℕ) × (bound : ℕ) × IsFaultless text × HasDepth text depth × HasBound text 0 bound
-    × (told ≡ telling.sound depth bound)
+    × (content ≡ HasLimits depth bound)
 
--- and of a text with a fault: its name and its place
-abbrev pub IsFaultyText : {Y : Type 0} → Telling Y → List ℕ → List Y → Type 0
-IsFaultyText telling text told =
-    (refused : CapRefused) × IsRefusal text refused × (told ≡ telling.fault refused)
+abbrev pub IsFaultyText : List ℕ → ContentValue → Type 0
+IsFaultyText text content = (refused : CapRefused) × IsRefusal text refused × (content ≡ HasFault refused)
 
--- of a text that is there, and whether it has no fault
-abbrev pub IsTold : {Y : Type 0} → Telling Y → Option (List ℕ) → List Y → Bool → Type 0
-IsTold telling None told sound = (told ≡ []) × (sound ≡ true)
-IsTold telling (Some text) told sound =
-    ((sound ≡ true) × IsSoundText telling text told)
-    ⊎ ((sound ≡ false) × IsFaultyText telling text told)
+abbrev pub IsJudged : List ℕ → ContentValue → Type 0
+IsJudged text content = IsSoundText text content ⊎ IsFaultyText text content
 
--- ---- the line on a text, and its object
-
--- what the line says: a depth and a bound, or a fault and the place
-abbrev pub sound_verdict : ℕ → ℕ → List ℕ
-sound_verdict depth bound =
-    codes " ok depth " ++ decimal depth ++ codes " bound " ++ decimal bound ++ codes "\n"
-
-abbrev pub fault_verdict : CapRefused → List ℕ
-fault_verdict refused =
-    codes " fault " ++ cap_fault_word refused.fault ++ codes " at " ++ decimal refused.place ++ codes "\n"
-
-abbrev pub in_line : Naming → SubjectValue → Telling ℕ
-in_line naming subject = record {
-  sound = λ depth bound. subject_word subject ++ subject_label naming subject ++ sound_verdict depth bound;
-  fault = λ refused. subject_word subject ++ subject_label naming subject ++ fault_verdict refused;
-}
-
-abbrev pub in_object : SubjectValue → Telling Data
-in_object subject = record {
-  sound = λ depth bound. sound_object subject depth bound ∷ [];
-  fault = λ refused. fault_object subject (cap_fault_word refused.fault) refused.place ∷ [];
-}
+-- the row on a capability, if it is a text that is there
+abbrev pub HasRows : SubjectValue → Option (List ℕ) → List RowValue → Type 0
+HasRows subject None rows = rows ≡ []
+HasRows subject (Some text) rows =
+    (content : ContentValue) × IsJudged text content × (rows ≡ (OfCapability subject, content) ∷ [])
 
 -- ---- all texts
 
--- what is told of each capability that is a text, and whether none has a fault
-abbrev pub AreTold : {Y : Type 0} → (SubjectValue → Telling Y) → List Listed → List Y → Bool → Type 0
-AreTold telling [] told sound = (told ≡ []) × (sound ≡ true)
-AreTold {Y} telling (listed ∷ rest) told sound =
-    (first : List Y) × (more : List Y) × (one : Bool) × (others : Bool)
-    × IsTold (telling listed.0) (text_in listed.1) first one × AreTold telling rest more others
-    × (told ≡ first ++ more) × (sound ≡ (one && others))
+abbrev pub AreRows : List Listed → List RowValue → Type 0
+AreRows [] rows = rows ≡ []
+AreRows (listed ∷ rest) rows =
+    (first : List RowValue) × (more : List RowValue)
+    × HasRows listed.0 (text_in listed.1) first × AreRows rest more × (rows ≡ first ++ more)
 
+abbrev pub is_sound : ContentValue → Bool
+is_sound (HasFault refused) = false
+is_sound content = true
+
+-- whether none has a fault
+abbrev pub are_sound : List RowValue → Bool
+are_sound rows = list_all (λ row. is_sound row.1) rows
+
+-- the lines, and the objects
 abbrev pub AreVerdicts : Naming → EntryValue → List ℕ → Bool → Type 0
-AreVerdicts naming v = AreTold (in_line naming) (items v)
+AreVerdicts naming v out sound =
+    (rows : List RowValue) × AreRows (items v) rows
+    × (out ≡ row_lines (record { naming = naming; form = forms.Notation }) rows) × (sound ≡ are_sound rows)
 
 abbrev pub AreVerdictObjects : EntryValue → List Data → Bool → Type 0
-AreVerdictObjects v = AreTold in_object (items v)
+AreVerdictObjects v objects sound =
+    (rows : List RowValue) × AreRows (items v) rows
+    × (objects ≡ flat_map row_objects rows) × (sound ≡ are_sound rows)

@@ -5,4 +5,3 @@ pub mod Kept
 pub mod Near
 pub mod ReadsInto
 pub mod Several
-pub mod Verdict

@@ -14,7 +14,6 @@ pub mod expand;
 pub mod get;
 pub mod lint;
 pub mod trace;
-pub mod verdicts;
 
 use crate::command::cap::cap_result;
 use crate::command::check::verdicts_of;

@@ -1,16 +1,22 @@
-//! `check`: each text of an entry analysed as a capability.
+//! `check`: each text of an entry analysed as a capability, in lines or as objects of JSON.
 //!
 //! One pass over the texts, of which equal ones in a row are analysed once. A text that is no output string, such as a
 //! pattern of input, can have a fault in an entry that is right.
 
-ghost use Rattle.std.specs.Prelude.{IfOk};
-ghost use Rattle.ti_tool.specs.Verdicts.{AreVerdicts};
+ghost use Rattle.std.specs.Prelude.{◌≡◌, List, IfOk};
+ghost use Rattle.serde_json.specs.Data.{Data, array};
+ghost use Rattle.serde_json.specs.View.{items_of};
+ghost use Rattle.ti_json.specs.Printed.{Prints, all_tokens, data_tokens};
+ghost use Rattle.ti_tool.specs.Verdicts.{AreVerdictObjects, AreVerdicts};
 
 use crate::command::Answer;
-use crate::verdict::{judge, push_line};
+use crate::verdict::judge;
 use std::alloc::{AllocError, Allocator};
 use ti_entry::Entry;
-use ti_line::Naming;
+use ti_escape::Form;
+use ti_json::{Printer, Topic, print_row};
+use ti_line::{ListOptions, Naming};
+use ti_listing::push_row;
 
 /// The lines of an entry.
 pub fn verdicts_of<A: Allocator + Copy>(
@@ -20,6 +26,10 @@ pub fn verdicts_of<A: Allocator + Copy>(
 ) -> Result<Answer<A>, AllocError>
     ensures { IfOk result (λ v. AreVerdicts naming entry.now v.bytes.items v.sound) }
 {
+    let options = ListOptions {
+        naming,
+        form: Form::Notation,
+    };
     let mut lines = Vec::new(alloc);
     let mut sound = true;
     let mut last = judge(b"");
@@ -27,12 +37,47 @@ pub fn verdicts_of<A: Allocator + Copy>(
     'items: while let Some((subject, item)) = items.next() {
         if let Some(text) = item.text() {
             last = last.next(text);
-            push_line(&mut lines, naming, subject, last.verdict)?;
-            sound &= last.verdict.is_sound();
+            push_row(
+                &mut lines,
+                options,
+                b"",
+                Topic::Capability(subject),
+                last.content,
+            )?;
+            sound &= last.is_sound();
         }
     }
     Ok(Answer {
         bytes: lines,
         sound,
     })
+}
+
+/// Prints the objects of the texts, and returns whether none has a fault.
+fn print_objects<A: Allocator>(printer: &mut Printer<A>, entry: &Entry<'_>) -> bool
+    ensures { (objects : List Data) × AreVerdictObjects entry.now objects result
+        × Prints printer.old printer.new (all_tokens objects) }
+{
+    let mut are_sound = true;
+    let mut last = judge(b"");
+    let mut items = entry.items();
+    'items: while let Some((subject, item)) = items.next() {
+        if let Some(text) = item.text() {
+            last = last.next(text);
+            print_row(printer, Topic::Capability(subject), last.content);
+            are_sound &= last.is_sound();
+        }
+    }
+    are_sound
+}
+
+/// Prints the objects of an entry as an array, and returns whether no text has a fault.
+pub fn print_verdicts<A: Allocator>(printer: &mut Printer<A>, entry: &Entry<'_>) -> bool
+    ensures { (objects : List Data) × AreVerdictObjects entry.now objects result
+        × Prints printer.old printer.new (data_tokens (array (items_of objects))) }
+{
+    printer.begin_list();
+    let sound = print_objects(printer, entry);
+    printer.end_list();
+    sound
 }

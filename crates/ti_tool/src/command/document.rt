@@ -7,7 +7,7 @@ ghost use Rattle.ti_json.specs.Printed.{Prints, data_tokens};
 ghost use Rattle.ti_tool.specs.Documents.{AreObjects, FindsIn, IsDocument, IsDocumentOfFile, key_of as the_key};
 
 use crate::command::Answer;
-use crate::command::verdicts::print_verdicts;
+use crate::command::check::print_verdicts;
 use std::alloc::{AllocError, Allocator};
 use ti_entry::Entry;
 use ti_json::{Printer, print_entry};

@@ -13,7 +13,7 @@ fn an_entry_for_programs(rt: HostRuntime) -> Result<(), Fail> {
     let entry = read(FILE)?;
     let json = entry_json(rt.alloc(), &entry)?;
     let wanted =
-        br#"[{"kind":"format","value":"legacy"},{"kind":"names","value":"t"},{"kind":"flag","name":"bw","value":true},{"kind":"number","name":"cols","value":80},{"kind":"text","name":"bel","value":"^G"},{"kind":"text","name":"E3","own":true,"value":"\\E[3J"}]"#;
+        br#"[{"kind":"format","value":"legacy"},{"kind":"names","value":"t"},{"kind":"flag","name":"bw","value":true},{"kind":"number","name":"cols","value":80},{"hex":"07","kind":"text","name":"bel","value":"^G"},{"hex":"1b5b334a","kind":"text","name":"E3","own":true,"value":"\\E[3J"}]"#;
     assert!(rt; json.as_slice() == wanted.as_slice());
     Ok(())
 }

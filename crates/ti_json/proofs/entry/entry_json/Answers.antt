@@ -13,6 +13,6 @@ returns g c =
     let v = c.args.entry.now in
     let d = array (items_of (entry_objects v)) in
     record {
-      text = IfOk-weaker c.into_bytes.result _ _ (λ bytes p. document d _ _ bytes.items c.new-printer.ensures.tokens c.print_entry.ensures p) c.into_bytes.ensures;
-      printable = IfOk-weaker c.into_bytes.result _ _ (λ bytes p. subst IsText (sym (document d _ _ bytes.items c.new-printer.ensures.tokens c.print_entry.ensures p)) (entry_is_text v)) c.into_bytes.ensures;
+      text = IfOk-weaker c.into_bytes.result _ _ (λ bytes p. document d _ _ bytes.items c.new-printer.ensures.tokens c.print_entry.ensures p) c.into_bytes.ensures.printed;
+      printable = IfOk-weaker c.into_bytes.result _ _ (λ bytes p. subst IsText (sym (document d _ _ bytes.items c.new-printer.ensures.tokens c.print_entry.ensures p)) (entry_is_text v)) c.into_bytes.ensures.printed;
     }

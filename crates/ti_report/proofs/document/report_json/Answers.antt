@@ -9,7 +9,7 @@ use Rattle.ti_report.proofs.document.report_json.Goals as goal
 pub returns : goal.returns
 returns g c =
     let (objects, are, printed) = c.in_ok-sound.ensures in
-    let (done, bytes) = c.in_ok-into_bytes.ensures in
+    let (done, bytes) = c.in_ok-into_bytes.ensures.printed in
     let text = document (array (items_of objects)) c.new-printer.result c.print_report.new.printer _ c.new-printer.ensures.tokens printed (done, bytes) in
     record {
       text = (objects, are, text);

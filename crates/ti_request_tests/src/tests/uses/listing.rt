@@ -23,7 +23,7 @@ fn two_entries_are_compared(rt: HostRuntime) -> Result<(), Fail> {
     );
     let json = differing_json(global, differences.as_slice())?;
     let wanted =
-        br#"[{"first":{"value":80},"kind":"number","name":"cols","other":{"value":132}},{"first":{"state":"absent"},"kind":"text","name":"bel","other":{"value":"^G"}}]"#;
+        br#"[{"first":{"value":80},"kind":"number","name":"cols","other":{"value":132}},{"first":{"state":"absent"},"kind":"text","name":"bel","other":{"hex":"07","value":"^G"}}]"#;
     assert!(rt; json.as_slice() == wanted.as_slice());
     Ok(())
 }

@@ -43,6 +43,6 @@ returns g c =
     c.new-printer.ensures.tokens c.begin_list.ensures (λ is. (c.print_tokens.ensures.objects is).0) (told c.print_tokens.ensures.objects)
     c.facts_of-facts.ensures c.print_totals.ensures c.end_list.ensures in
     record {
-      is = IfOk-weaker c.into_bytes.result _ _ (λ out p. made out.items p) c.into_bytes.ensures;
-      printable = IfOk-weaker c.into_bytes.result _ _ (λ out p. trace_is_text _ _ _ (made out.items p)) c.into_bytes.ensures;
+      is = IfOk-weaker c.into_bytes.result _ _ (λ out p. made out.items p) c.into_bytes.ensures.printed;
+      printable = IfOk-weaker c.into_bytes.result _ _ (λ out p. trace_is_text _ _ _ (made out.items p)) c.into_bytes.ensures.printed;
     }

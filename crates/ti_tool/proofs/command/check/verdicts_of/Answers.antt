@@ -1,35 +1,47 @@
-use Rattle.std.proofs.Common.{[], subst, sym}
+use Rattle.std.proofs.Common.{◌++◌, ◌∷◌, [], refl, subst, sym}
 use Rattle.std.proofs.lemmas.List.{append-nil}
+use Rattle.ti_escape.specs.declared.form.Form.TheVariants as forms
+use Rattle.ti_json.specs.Rows.{OfCapability, content_value}
+use Rattle.ti_listing.specs.Listing.{row_line}
 use Rattle.ti_words.specs.Items.{item_value, items, listed_value, subject_value, text_in}
-use Rattle.ti_tool.specs.Verdicts.{AreTold, in_line}
-use Rattle.ti_tool.specs.inner.Verdict.{IsJudged, told_by}
-use Rattle.ti_tool.proofs.AreToldLemmas.{GoesOn, and_true, goes_end, goes_next, judged_told, none_told}
+use Rattle.ti_tool.specs.Verdicts.{IsJudged}
+use Rattle.ti_tool.proofs.RowsLemmas.{GoesOn, goes_end, goes_first, goes_next, goes_skip, no_row, one_more_made, one_more_sound, one_row}
 use Rattle.ti_tool.proofs.command.check.verdicts_of.Goals as goal
+
+pub items-init : goal.items-init
+items-init g c = record {
+  rows = ([], subst (λ left. GoesOn (items c.args.entry.now) left []) (sym c.items-items.ensures) (goes_first (items c.args.entry.now)), c.new-lines.ensures.items, refl);
+  judged = subst (λ text. IsJudged text (content_value c.judge-last.result.content)) (sym c.judge-last.ensures.text) c.judge-last.ensures.content;
+}
 
 pub items-preserved-in-Some-text : goal.items-preserved-in-Some-text
 items-preserved-in-Some-text g c =
-    let telling = in_line c.args.naming in
     let subject = subject_value c.in-Some.subject in
-    let verdict = c.next-last.result.verdict in record {
-      told = goes_next telling (items c.args.entry.now) c.items.items c.next.new.self (listed_value (c.in-Some.subject, c.in-Some.item)) [] c.items.lines.items c.push_line.new.out.items
-          (told_by (telling subject) verdict) c.items.sound c.is_sound-sound.result c.in-Some.ensures.some
-          (judged_told (telling subject) (text_in (item_value c.in-Some.item)) c.in-Some-text.text.now verdict c.is_sound-sound.result c.in-Some-text.ensures c.next-last.ensures.verdict c.is_sound-sound.ensures)
-          c.in_ok-push_line.ensures c.items.invariant.told;
-      judged = subst (λ text. IsJudged text verdict) (sym c.next-last.ensures.text) c.next-last.ensures.verdict;
+    let content = content_value c.next-last.result.content in
+    let (rows, goes, lines, sound) = c.items.invariant.rows in record {
+      rows = (
+        rows ++ (OfCapability subject, content) ∷ [],
+        goes_next (items c.args.entry.now) c.items.items c.next.new.self (listed_value (c.in-Some.subject, c.in-Some.item)) rows _ c.in-Some.ensures.some
+            (one_row subject (text_in (item_value c.in-Some.item)) c.in-Some-text.text.now content c.in-Some-text.ensures c.next-last.ensures.content) goes,
+        one_more_made (row_line (record { naming = c.args.naming; form = forms.Notation }) []) rows (OfCapability subject, content) [] c.items.lines.items c.push_row.new.out.items lines c.in_ok-push_row.ensures,
+        one_more_sound rows subject content c.items.sound c.is_sound-sound.result sound c.is_sound-sound.ensures,
+      );
+      judged = subst (λ text. IsJudged text content) (sym c.next-last.ensures.text) c.next-last.ensures.content;
     }
 
 pub items-preserved : goal.items-preserved
 items-preserved g c =
-    let telling = in_line c.args.naming in
-    let lines = c.items.lines.items in record {
-      told = subst (λ sound. GoesOn telling (items c.args.entry.now) c.next.new.self [] lines sound) (and_true c.items.sound)
-          (goes_next telling (items c.args.entry.now) c.items.items c.next.new.self (listed_value (c.in-Some.subject, c.in-Some.item)) [] lines lines [] c.items.sound _ c.in-Some.ensures.some
-          (none_told (telling (subject_value c.in-Some.subject)) (text_in (item_value c.in-Some.item)) c.in_default-text.ensures) (sym (append-nil lines)) c.items.invariant.told);
+    let (rows, goes, lines, sound) = c.items.invariant.rows in record {
+      rows = (
+        rows,
+        goes_skip (items c.args.entry.now) c.items.items c.next.new.self (listed_value (c.in-Some.subject, c.in-Some.item)) rows c.in-Some.ensures.some
+            (no_row (subject_value c.in-Some.subject) (text_in (item_value c.in-Some.item)) c.in_default-text.ensures) goes,
+        lines,
+        sound,
+      );
       judged = c.items.invariant.judged;
     }
 
 pub returns : goal.returns
 returns g c =
-    let telling = in_line c.args.naming in
-    let (told, are, e) = goes_end telling (items c.args.entry.now) c.items.items [] c.items.lines.items c.items.sound c.in_default.ensures.none.0 c.items.invariant.told in
-    subst (λ l. AreTold telling (items c.args.entry.now) l c.items.sound) (sym e) are
+    let (rows, goes, lines, sound) = c.items.invariant.rows in (rows, goes_end (items c.args.entry.now) c.items.items rows c.in_default.ensures.none.0 goes, lines, sound)

@@ -1,15 +1,16 @@
--- What was written goes on to all lines, and the last verdict is that on the last text.
-use Rattle.std.proofs.Common.{[], length}
+-- What was written is the lines of rows that go on to all rows, and the last judgement is that on the last text.
+use Rattle.std.proofs.Common.{◌≡◌, List, length}
+use Rattle.ti_json.specs.Rows.{RowValue, content_value}
+use Rattle.ti_listing.specs.Listing.{row_lines}
 use Rattle.ti_words.specs.Items.{items}
-use Rattle.ti_tool.specs.Verdicts.{in_line}
-use Rattle.ti_tool.specs.inner.Verdict.{IsJudged}
-use Rattle.ti_tool.proofs.AreToldLemmas.{GoesOn}
+use Rattle.ti_tool.specs.Verdicts.{IsJudged, are_sound}
+use Rattle.ti_tool.proofs.RowsLemmas.{GoesOn}
 use Rattle.ti_tool.proofs.command.check.verdicts_of.Given as goal
 
 abbrev pub invariant-items : goal.invariant-items
 invariant-items g l = record {
-  told : GoesOn (in_line l.naming) (items l.entry) l.items [] l.lines.items l.sound;
-  judged : IsJudged l.last.text.now l.last.verdict;
+  rows : (rows : List RowValue) × GoesOn (items l.entry) l.items rows × (l.lines.items ≡ row_lines l.options rows) × (l.sound ≡ are_sound rows);
+  judged : IsJudged l.last.text.now (content_value l.last.content);
 }
 
 abbrev pub decreases-items : goal.decreases-items

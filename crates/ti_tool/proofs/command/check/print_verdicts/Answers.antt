@@ -1,5 +1,5 @@
 use Rattle.ti_json.proofs.TokensLemmas.{list_printed}
-use Rattle.ti_tool.proofs.command.verdicts.print_verdicts.Goals as goal
+use Rattle.ti_tool.proofs.command.check.print_verdicts.Goals as goal
 
 pub returns : goal.returns
 returns g c =

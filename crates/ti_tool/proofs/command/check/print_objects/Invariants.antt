@@ -1,0 +1,19 @@
+-- The objects of rows are printed that go on to all rows, and the last judgement is that on the last text.
+use Rattle.std.proofs.Common.{◌≡◌, List, length}
+use Rattle.std.specs.List.{flat_map}
+use Rattle.ti_json.specs.Objects.{row_objects}
+use Rattle.ti_json.specs.Printed.{Prints, all_tokens}
+use Rattle.ti_json.specs.Rows.{RowValue, content_value}
+use Rattle.ti_words.specs.Items.{items}
+use Rattle.ti_tool.specs.Verdicts.{IsJudged, are_sound}
+use Rattle.ti_tool.proofs.RowsLemmas.{GoesOn}
+use Rattle.ti_tool.proofs.command.check.print_objects.Given as goal
+
+abbrev pub invariant-items : goal.invariant-items
+invariant-items g l = record {
+  rows : (rows : List RowValue) × GoesOn (items l.entry) l.items rows × Prints l.initial.printer l.printer (all_tokens (flat_map row_objects rows)) × (l.are_sound ≡ are_sound rows);
+  judged : IsJudged l.last.text.now (content_value l.last.content);
+}
+
+abbrev pub decreases-items : goal.decreases-items
+decreases-items g l = length l.items
