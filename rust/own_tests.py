@@ -22,7 +22,7 @@ ALONE = {
     "notation_tests": ["padding_memory", "padding_rows", "padding_writers", "trace", "traces"],
 }
 # What tests of memory that is refused take. Rust's own allocator refuses none on request, so they are not added.
-OF_MEMORY = ["LocalHeap", "Tally", "Tries", "tally_of"]
+OF_MEMORY = ["LocalHeap", "Tally", "Tries", "tally_of", "GrowthsOf", "growths_of"]
 # A function, a type or what is implemented for one, at the top of a file.
 ITEM = re.compile(
     r"(?:^(?://|#\[).*\n)*^(?:pub )?(?:fn (\w+)|struct (\w+)|impl(?:<.*?>)? (?:.* for )?(\w+)).*(?<!;)(?:\n(?!\}).*)*\n\}\n\n?", re.M
@@ -67,7 +67,8 @@ def without_memory(text: str) -> str:
         gone += [name for name in found.groups() if name]
         text = text[: found.start()] + text[found.end() :]
     text = re.sub(r"^use linked_list_allocator::.*;\n", "", text, flags=re.M)
-    return re.sub(rf"\b(?:{'|'.join(OF_MEMORY)})\b(?:, )?", "", text)
+    text = re.sub(rf"^(?:(?://|#\[).*\n)*(?:pub )?struct (?:{'|'.join(gone)})\b.*;\n\n?", "", text, flags=re.M)
+    return re.sub(rf"\b(?:{'|'.join(OF_MEMORY)})\b(?:,\s*)?", "", text)
 
 
 def test_of_rust(text: str, make: ModuleType, crate: str, left_out: list[str]) -> str:
