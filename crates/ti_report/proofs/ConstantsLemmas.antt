@@ -11,7 +11,7 @@ use Rattle.ti_cap.specs.Spelling.{Written}
 use Rattle.ti_lint.specs.Conditionals.{IsConstantTest}
 use Rattle.ti_lint.proofs.AheadLemmas.{written_long}
 use Rattle.ti_report.specs.Constants.{AreTestReports, IsTestReport, IsTestsReport}
-use Rattle.ti_report.specs.Remarks.{Remark}
+use Rattle.ti_report.specs.Remarks.{TextRemark}
 
 -- such a test, if the token is a `%t`
 pub at_then : (before : List Token) (token : Token) (test : Option (Bor (List Token))) → token ≡ CondThen
@@ -20,26 +20,26 @@ at_then before token None is found = tt
 at_then before token (Some t) is (found, same) = (found, is, same)
 
 -- whatever is told of the tokens that are left, it comes after what was told so far
-pub record Telling (name text : List ℕ) (initial : List Remark) (spot : Spot) (before : List Token) (out : List Remark) : Type 0 where
-  pub goes : (rest : List Token) (more : List Remark) → AreTestReports name text spot before rest more → (all : List Remark) × IsTestsReport name text all × (out ++ more ≡ initial ++ all)
+pub record Telling (text : List ℕ) (initial : List TextRemark) (spot : Spot) (before : List Token) (out : List TextRemark) : Type 0 where
+  pub goes : (rest : List Token) (more : List TextRemark) → AreTestReports spot before rest more → (all : List TextRemark) × IsTestsReport text all × (out ++ more ≡ initial ++ all)
 
-pub telling_start : (name text : List ℕ) (initial : List Remark) (spot : Spot) → spot ≡ record { taken = []; left = text } → Telling name text initial spot [] initial
-telling_start name text initial spot start = record {
-  goes = λ rest more h. let P : Spot → Type 0 = λ s. AreTestReports name text s [] rest more in (more, (rest, subst P start h), refl);
+pub telling_start : (text : List ℕ) (initial : List TextRemark) (spot : Spot) → spot ≡ record { taken = []; left = text } → Telling text initial spot [] initial
+telling_start text initial spot start = record {
+  goes = λ rest more h. let P : Spot → Type 0 = λ s. AreTestReports s [] rest more in (more, (rest, subst P start h), refl);
 }
 
-pub telling_next : (name text : List ℕ) (initial : List Remark) (spot next : Spot) (token : Token) (before : List Token) (out new : List Remark) → Takes token spot next
-    → (one : List Remark) × IsTestReport name text before token (length spot.taken) one × (new ≡ out ++ one) → Telling name text initial spot before out
-    → Telling name text initial next (before ++ token ∷ []) new
-telling_next name text initial spot next token before out new takes (one, is, told) t = record {
+pub telling_next : (text : List ℕ) (initial : List TextRemark) (spot next : Spot) (token : Token) (before : List Token) (out new : List TextRemark) → Takes token spot next
+    → (one : List TextRemark) × IsTestReport before token (length spot.taken) one × (new ≡ out ++ one) → Telling text initial spot before out
+    → Telling text initial next (before ++ token ∷ []) new
+telling_next text initial spot next token before out new takes (one, is, told) t = record {
   goes = λ rest more h.
       let (all, are, e) = t.goes (token ∷ rest) (one ++ more) (next, one, more, takes, is, h, refl) in
       (all, are, ap (λ l. l ++ more) told ∙ append_assoc out one more ∙ e);
 }
 
-pub telling_end : (name text : List ℕ) (initial : List Remark) (spot : Spot) (before : List Token) (out : List Remark) → spot.left ≡ [] → Telling name text initial spot before out
-    → (all : List Remark) × IsTestsReport name text all × (out ≡ initial ++ all)
-telling_end name text initial spot before out end t =
+pub telling_end : (text : List ℕ) (initial : List TextRemark) (spot : Spot) (before : List Token) (out : List TextRemark) → spot.left ≡ [] → Telling text initial spot before out
+    → (all : List TextRemark) × IsTestsReport text all × (out ≡ initial ++ all)
+telling_end text initial spot before out end t =
     let (all, are, e) = t.goes [] [] (end, refl) in
     (all, are, sym (append-nil out) ∙ e)
 

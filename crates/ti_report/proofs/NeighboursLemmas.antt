@@ -114,7 +114,7 @@ between (a ∷ x) (b ∷ y) (c ∷ z) low high p =
       ]
     ]
 
-both_ways : (x y : Text) → AreInOrder x y → AreInOrder y x → x ≡ y
+pub both_ways : (x y : Text) → AreInOrder x y → AreInOrder y x → x ≡ y
 both_ways [] [] low high = refl
 both_ways [] (b ∷ y) low high = absurd (cc)
 both_ways (a ∷ x) [] low high = absurd (cc)
@@ -140,7 +140,7 @@ abbrev Ascends : List Key → Type 0
 Ascends [] = Unit {0}
 Ascends (one ∷ later) = Later one later × Ascends later
 
-by_text : (o p : Ordering) → is_lt (ordering_then o p) ≡ false → is_lt o ≡ false
+pub by_text : (o p : Ordering) → is_lt (ordering_then o p) ≡ false → is_lt o ≡ false
 by_text Less p h = h
 by_text Equal p h = refl
 by_text Greater p h = refl

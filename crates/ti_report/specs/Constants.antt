@@ -6,24 +6,24 @@ use Rattle.ti_cap.specs.Capability.{Spot, Takes}
 use Rattle.ti_expand.specs.Constants.{value_of}
 use Rattle.ti_lint.specs.Conditionals.{IsConstantTest}
 use Rattle.ti_report.specs.declared.wrong.Wrong.TheVariants.{ConstantTest}
-use Rattle.ti_report.specs.Remarks.{Remark, marked}
+use Rattle.ti_report.specs.Remarks.{TextRemark, placed}
 
 -- one remark on a `%t` if the test before it has constants alone, and none on any other token
-abbrev pub IsTestReport : List ℕ → List ℕ → List Token → Token → ℕ → List Remark → Type 0
-IsTestReport name text before token place remarks =
+abbrev pub IsTestReport : List Token → Token → ℕ → List TextRemark → Type 0
+IsTestReport before token place remarks =
     ((found : IsConstantTest before) × (token ≡ CondThen)
-    × (remarks ≡ marked name text (place ∷ []) (ConstantTest (value_of found.test))))
+    × (remarks ≡ placed (place ∷ []) (ConstantTest (value_of found.test))))
     ⊎ ((¬ ((token ≡ CondThen) × IsConstantTest before)) × (remarks ≡ []))
 
 -- the tokens write the bytes that are left after those before them, and the remarks are on these tokens
-abbrev pub AreTestReports : List ℕ → List ℕ → Spot → List Token → List Token → List Remark → Type 0
-AreTestReports name text spot before [] remarks = (spot.left ≡ []) × (remarks ≡ [])
-AreTestReports name text spot before (token ∷ rest) remarks =
-    (next : Spot) × (one : List Remark) × (more : List Remark) × Takes token spot next
-    × IsTestReport name text before token (length spot.taken) one
-    × AreTestReports name text next (before ++ token ∷ []) rest more × (remarks ≡ one ++ more)
+abbrev pub AreTestReports : Spot → List Token → List Token → List TextRemark → Type 0
+AreTestReports spot before [] remarks = (spot.left ≡ []) × (remarks ≡ [])
+AreTestReports spot before (token ∷ rest) remarks =
+    (next : Spot) × (one : List TextRemark) × (more : List TextRemark) × Takes token spot next
+    × IsTestReport before token (length spot.taken) one
+    × AreTestReports next (before ++ token ∷ []) rest more × (remarks ≡ one ++ more)
 
 -- the remarks on all tokens of a text
-abbrev pub IsTestsReport : List ℕ → List ℕ → List Remark → Type 0
-IsTestsReport name text remarks =
-    (all : List Token) × AreTestReports name text (record { taken = []; left = text }) [] all remarks
+abbrev pub IsTestsReport : List ℕ → List TextRemark → Type 0
+IsTestsReport text remarks =
+    (all : List Token) × AreTestReports (record { taken = []; left = text }) [] all remarks

@@ -34,19 +34,30 @@ pub record Remark : Type 0 where
   pub places : List ℕ
   pub what : What
 
--- ---- the one remark on a text and its name, at no place
+-- what is wrong with a text, whatever its name is: the places at which it is so, and what it is
+pub record TextRemark : Type 0 where
+  pub places : List ℕ
+  pub wrong : Wrong
+
+-- ---- the one remark, at no place
 
 abbrev pub unmarked : About → What → List Remark
 unmarked about what = record { about = about; places = []; what = what } ∷ []
 
-abbrev pub on_text : List ℕ → List ℕ → Wrong → List Remark
-on_text name text wrong = unmarked (OfText name text) (IsWrong wrong)
-
 abbrev pub on_values : List ℕ → List ℕ → Told → List Remark
 on_values name text told = unmarked (OfText name text) (IsTold told)
 
--- nothing is told if no place is marked
-abbrev pub marked : List ℕ → List ℕ → List ℕ → Wrong → List Remark
-marked name text [] wrong = []
-marked name text (place ∷ places) wrong =
-    record { about = OfText name text; places = place ∷ places; what = IsWrong wrong } ∷ []
+abbrev pub unplaced : Wrong → List TextRemark
+unplaced wrong = record { places = []; wrong = wrong } ∷ []
+
+-- ---- the one at some places; there is none without a place
+
+abbrev pub placed : List ℕ → Wrong → List TextRemark
+placed [] wrong = []
+placed (place ∷ places) wrong = record { places = place ∷ places; wrong = wrong } ∷ []
+
+-- ---- the same on the text with a name
+
+abbrev pub with_name : List ℕ → List ℕ → TextRemark → Remark
+with_name name text remark =
+    record { about = OfText name text; places = remark.places; what = IsWrong remark.wrong }

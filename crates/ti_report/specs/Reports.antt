@@ -21,21 +21,39 @@ use Rattle.ti_report.specs.Subjects.{subject_class, subject_name}
 use Rattle.ti_report.specs.Names.{AreNameRemarks}
 use Rattle.ti_report.specs.Objects.{remark_object}
 use Rattle.ti_report.specs.Pairs.{pair_remarks}
-use Rattle.ti_report.specs.Remarks.{Remark}
+use Rattle.ti_report.specs.Remarks.{Remark, TextRemark, with_name}
 use Rattle.ti_report.specs.Sequences.{AreSequenceRemarks}
-use Rattle.ti_report.specs.Texts.{IsTextReport}
+use Rattle.ti_report.specs.Texts.{IsJudged, usage_of}
+use Rattle.ti_report.specs.declared.usage.Usage.{Usage}
 use Rattle.ti_report.specs.Values.{AreValueRemarks}
 use Rattle.ti_report.specs.Whole.{whole_remarks}
 
--- a text of a class; there is nothing to say of one of which nothing is known
-abbrev pub IsClassReport : Scope → List ℕ → Variables → Option Class → List ℕ → List Remark → Type 0
-IsClassReport scope name stored None text remarks = remarks ≡ []
-IsClassReport scope name stored (Some class) text remarks = IsTextReport scope name stored class text remarks
+-- ---- the texts
 
--- a capability that is a text, by what it is
+-- a text of an entry of which something is known: its name, its bytes, and how it is used
+pub record UsedText : Type 0 where
+  pub name : List ℕ
+  pub text : List ℕ
+  pub usage : Usage
+
+abbrev pub used_as : Scope → Variables → List ℕ → Option Class → Option (List ℕ) → Option UsedText
+used_as scope stored name (Some class) (Some text) =
+    Some (record { name = name; text = text; usage = usage_of scope stored name class })
+used_as scope stored name class text = None
+
+abbrev pub used_text : Scope → Variables → Listed → Option UsedText
+used_text scope stored (subject, item) = used_as scope stored (subject_name subject) (subject_class subject) (text_in item)
+
+-- its judgement, under its name
+abbrev pub IsTextReport : UsedText → List Remark → Type 0
+IsTextReport t remarks =
+    (judgement : List TextRemark) × IsJudged t.usage t.text judgement × (remarks ≡ map (with_name t.name t.text) judgement)
+
+-- a capability, if it is such a text
 abbrev pub IsItemReport : Scope → Variables → Listed → List Remark → Type 0
-IsItemReport scope stored (subject, item) =
-    IsIfThere (IsClassReport scope (subject_name subject) stored (subject_class subject)) (text_in item)
+IsItemReport scope stored listed = IsIfThere IsTextReport (used_text scope stored listed)
+
+-- ---- what they store into
 
 -- what a text with parameters stores into, if it is a capability
 abbrev pub StoresAs : Class → List ℕ → ℕ → Type 0

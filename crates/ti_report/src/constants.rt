@@ -7,7 +7,7 @@ ghost use Rattle.ti_lint.specs.Conditionals.{IsConstantTest};
 ghost use Rattle.ti_report.specs.Constants.{IsTestReport, IsTestsReport};
 ghost use Rattle.ti_report.specs.Lines.{Adds};
 
-use crate::remark::{NamedText, Remark, push_marked};
+use crate::text_remarks::TextRemarks;
 use crate::wrong::Wrong;
 use std::alloc::{AllocError, Allocator};
 use ti_cap::{Capability, Token};
@@ -27,47 +27,34 @@ fn test_of(before: &[Token], token: Token) -> Option<&[Token]>
     }
 }
 
-/// Adds the remark on a token that ends a test of constants.
-fn push_test<'a, A: Allocator + Copy>(
-    alloc: A,
-    out: &mut Vec<Remark<'a, A>, A>,
-    subject: &NamedText<'a>,
-    before: &[Token],
-    token: Token,
-    place: usize,
-) -> Result<(), AllocError>
-    requires { length before.now ≤ most_capability_bytes }
-    ensures { OnOk result (Adds (IsTestReport subject.now.name.now
-        subject.now.text.now before.now token place) out.old.items out.new.items) }
-{
-    let Some(test) = test_of(before, token) else {
-        return Ok(());
-    };
-    let value = constant_value(alloc, test)?;
-    let mut places = Vec::new(alloc);
-    places.push(place)?;
-    push_marked(out, subject, places, Wrong::ConstantTest(value))?;
-    Ok(())
-}
-
-/// Adds the remarks on the tests of constants of a capability. It takes memory for each token.
-pub fn push_tests<'a, A: Allocator + Copy>(
-    alloc: A,
-    out: &mut Vec<Remark<'a, A>, A>,
-    subject: &NamedText<'a>,
-    capability: &Capability<'_>,
-) -> Result<(), AllocError>
-    requires { capability.now ≡ subject.now.text.now }
-    ensures { OnOk result (Adds (IsTestsReport subject.now.name.now subject.now.text.now)
-        out.old.items out.new.items) }
-{
-    let mut tape = capability.tape();
-    let mut before = Vec::new(alloc);
-    let mut place = 0;
-    'tokens: while let Some(token) = tape.token() {
-        push_test(alloc, out, subject, before.as_slice(), token, place)?;
-        before.push(token)?;
-        place = tape.at();
+impl<A: Allocator + Copy> TextRemarks<A> {
+    /// Adds the remark on a token that ends a test of constants.
+    fn push_test(&mut self, before: &[Token], token: Token, place: usize) -> Result<(), AllocError>
+        requires { length before.now ≤ most_capability_bytes }
+        ensures { OnOk result (Adds (IsTestReport before.now token place) self.old self.new) }
+    {
+        let Some(test) = test_of(before, token) else {
+            return Ok(());
+        };
+        let value = constant_value(self.allocator(), test)?;
+        let mut places = Vec::new(self.allocator());
+        places.push(place)?;
+        self.push_at(places, Wrong::ConstantTest(value))?;
+        Ok(())
     }
-    Ok(())
+
+    /// Adds the remarks on the tests of constants of a capability. It takes memory for each token.
+    pub fn push_tests(&mut self, capability: &Capability<'_>) -> Result<(), AllocError>
+        ensures { OnOk result (Adds (IsTestsReport capability.now) self.old self.new) }
+    {
+        let mut tape = capability.tape();
+        let mut before = Vec::new(self.allocator());
+        let mut place = 0;
+        'tokens: while let Some(token) = tape.token() {
+            self.push_test(before.as_slice(), token, place)?;
+            before.push(token)?;
+            place = tape.at();
+        }
+        Ok(())
+    }
 }

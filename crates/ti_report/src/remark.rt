@@ -2,7 +2,7 @@
 
 ghost use Rattle.std.specs.Prelude.{◌≡◌, ◌++◌, OnOk};
 ghost use Rattle.ti_report.specs.Names.{on_name};
-ghost use Rattle.ti_report.specs.Remarks.{IsWrong, OfTwo, marked, on_text, on_values, unmarked};
+ghost use Rattle.ti_report.specs.Remarks.{IsWrong, OfTwo, on_values, unmarked};
 ghost use Rattle.ti_report.specs.Whole.{told_if};
 ghost use Rattle.ti_report.specs.inner.Held.{told_held};
 
@@ -82,6 +82,7 @@ impl<'a, A: Allocator> Model for Remark<'a, A> {
 
 impl<'a, A: Allocator> Remark<'a, A> {
     ghost use Rattle.std.specs.Prelude.{◌≡◌};
+    ghost use Rattle.ti_report.specs.Remarks.{IsWrong, OfText};
     ghost use Rattle.ti_report.specs.inner.Held.{about_held, what_held};
 
     /// A remark.
@@ -97,6 +98,17 @@ impl<'a, A: Allocator> Remark<'a, A> {
             places,
             what,
         }
+    }
+
+    /// A remark on a text at some places.
+    pub fn on_text(subject: &NamedText<'a>, places: Vec<usize, A>, wrong: Wrong) -> Self
+        ensures { result ≡ record {
+          about = OfText subject.now.name.now subject.now.text.now;
+          places = places.items;
+          what = IsWrong wrong;
+        } }
+    {
+        Remark::new(About::Text(*subject), places, What::Wrong(wrong))
     }
 
     /// What it is about.
@@ -119,38 +131,6 @@ impl<'a, A: Allocator> Remark<'a, A> {
     {
         &self.what
     }
-}
-
-/// Adds a remark on a text at some places. Without a place there is none.
-pub fn push_marked<'a, A: Allocator>(
-    out: &mut Vec<Remark<'a, A>, A>,
-    subject: &NamedText<'a>,
-    places: Vec<usize, A>,
-    wrong: Wrong,
-) -> Result<(), AllocError>
-    ensures { OnOk result (out.new.items
-        ≡ out.old.items ++ marked subject.now.name.now subject.now.text.now places.items wrong) }
-{
-    if places.is_empty() {
-        return Ok(());
-    }
-    out.push(Remark::new(About::Text(*subject), places, What::Wrong(wrong)))?;
-    Ok(())
-}
-
-/// Adds a remark on a text.
-pub fn push_on_text<'a, A: Allocator + Copy>(
-    alloc: A,
-    out: &mut Vec<Remark<'a, A>, A>,
-    subject: &NamedText<'a>,
-    wrong: Wrong,
-) -> Result<(), AllocError>
-    ensures { OnOk result (out.new.items
-        ≡ out.old.items ++ on_text subject.now.name.now subject.now.text.now wrong) }
-{
-    let about = About::Text(*subject);
-    out.push(Remark::new(about, Vec::new(alloc), What::Wrong(wrong)))?;
-    Ok(())
 }
 
 /// Adds a remark on what is sent by a text.

@@ -1,12 +1,13 @@
 //! The report on an entry.
 
-ghost use Rattle.std.specs.Prelude.{IfOk, OnOk};
+ghost use Rattle.std.specs.Prelude.{◌≡◌, IfOk, OnOk, option_map};
 ghost use Rattle.ti_words.specs.Items.{item_value, items, subject_value};
-ghost use Rattle.ti_report.specs.Lines.{Adds, AreAll};
-ghost use Rattle.ti_report.specs.Reports.{AreLines, IsClassReport, IsItemReport, IsReport};
-ghost use Rattle.ti_report.specs.Subjects.{subject_class as the_subject_class, subject_name as the_subject_name};
+ghost use Rattle.ti_report.specs.Lines.{Adds, AreAll, IsIfThere};
+ghost use Rattle.ti_report.specs.Reports.{AreLines, IsItemReport, IsReport, IsTextReport, used_text};
+ghost use Rattle.ti_report.specs.inner.Held.{used_held};
 
 use crate::block::push_lines;
+use crate::judgements::Judgements;
 use crate::keys::push_keys;
 use crate::names::push_names;
 use crate::pairs::push_pairs;
@@ -14,8 +15,9 @@ use crate::remark::{NamedText, Remark};
 use crate::sequences::push_sequences;
 use crate::stored::stored_by_texts;
 use crate::subject::{subject_class, subject_name};
-use crate::texts::push_text;
+use crate::texts::judge;
 use crate::trials::Trials;
+use crate::usage::Usage;
 use crate::values::push_values;
 use crate::whole::push_whole;
 use std::alloc::{AllocError, Allocator};
@@ -24,41 +26,65 @@ use ti_escape::Color;
 use ti_lint::{Scope, Variables};
 use ti_words::{Item, Subject};
 
-/// Adds the remarks on a text, if it is one of which something is known.
-fn push_text_of<'a, A: Allocator + Copy>(
-    alloc: A,
-    out: &mut Vec<Remark<'a, A>, A>,
-    scope: Scope,
-    stored: Variables,
-    subject: Subject<'a>,
-    text: &'a [u8],
-) -> Result<(), AllocError>
-    ensures { let s = subject_value subject.entry in OnOk result
-        (Adds (IsClassReport scope (the_subject_name s) stored (the_subject_class s) text.now)
-        out.old.items out.new.items) }
-{
-    let Some(class) = subject_class(subject) else {
-        return Ok(());
-    };
-    let name = subject_name(subject);
-    push_text(alloc, out, scope, &NamedText { name, text }, stored, class)
+/// A text of which something is known, and how it is used.
+#[derive(Clone, Copy)]
+pub struct UsedText<'a> {
+    pub subject: NamedText<'a>,
+    pub usage: Usage,
 }
 
-/// Adds the remarks on a capability, if it is a text.
-fn push_item<'a, A: Allocator + Copy>(
-    alloc: A,
-    out: &mut Vec<Remark<'a, A>, A>,
+/// A capability, if it is such a text.
+fn used_text<'a>(
     scope: Scope,
     stored: Variables,
     subject: Subject<'a>,
     item: Item<'a>,
+) -> Option<UsedText<'a>>
+    ensures { option_map used_held result
+        ≡ used_text scope stored (subject_value subject.entry, item_value item.entry) }
+{
+    let (Some(class), Some(text)) = (subject_class(subject), item.text()) else {
+        return None;
+    };
+    let name = subject_name(subject);
+    Some(UsedText {
+        subject: NamedText { name, text },
+        usage: Usage::of(scope, stored, name, class),
+    })
+}
+
+/// Adds the remarks on a text.
+fn push_text<'a, A: Allocator + Copy>(
+    alloc: A,
+    out: &mut Vec<Remark<'a, A>, A>,
+    judgements: &mut Judgements<'a, A>,
+    text: UsedText<'a>,
 ) -> Result<(), AllocError>
-    ensures { OnOk result (Adds
-        (IsItemReport scope stored (subject_value subject.entry, item_value item.entry))
+    ensures { OnOk result (Adds (IsTextReport (used_held text.entry)) out.old.items out.new.items) }
+{
+    let subject = text.subject;
+    judgements.begin(subject.text);
+    if let Some(remarks) = judgements.of(text.usage, subject.text) {
+        return remarks.push_with_name(out, &subject);
+    }
+    let remarks = judge(alloc, text.usage, subject.text)?;
+    remarks.push_with_name(out, &subject)?;
+    judgements.keep(text.usage, subject.text, remarks)?;
+    Ok(())
+}
+
+/// The same of a capability, if it is such a text.
+fn push_if_there<'a, A: Allocator + Copy>(
+    alloc: A,
+    out: &mut Vec<Remark<'a, A>, A>,
+    judgements: &mut Judgements<'a, A>,
+    text: Option<UsedText<'a>>,
+) -> Result<(), AllocError>
+    ensures { OnOk result (Adds (IsIfThere IsTextReport (option_map used_held text.entry))
         out.old.items out.new.items) }
 {
-    match item.text() {
-        Some(text) => push_text_of(alloc, out, scope, stored, subject, text),
+    match text {
+        Some(text) => push_text(alloc, out, judgements, text),
         None => Ok(()),
     }
 }
@@ -74,9 +100,11 @@ fn push_items<'a, A: Allocator + Copy>(
     ensures { OnOk result (Adds (AreAll (IsItemReport scope stored) (items entry.now))
         out.old.items out.new.items) }
 {
+    let mut judgements = Judgements::new(alloc);
     let mut items = entry.items();
     'items: while let Some((subject, item)) = items.next() {
-        push_item(alloc, out, scope, stored, subject, item)?;
+        let text = used_text(scope, stored, subject, item);
+        push_if_there(alloc, out, &mut judgements, text)?;
     }
     Ok(())
 }

@@ -15,6 +15,7 @@ pub mod RowsLemmas
 pub mod WideAndBackLemmas
 pub mod OneResultLemmas
 pub mod OneComparisonLemmas
+pub mod OneFileLemmas
 pub mod PrintableLemmas
 pub mod IsItemCalledLemmas
 pub mod IsGotLemmas

@@ -23,6 +23,9 @@ use Rattle.ti_expand.specs.declared.values.Value.{Value}
 use Rattle.ti_expand.specs.State.{start}
 use Rattle.ti_expand.specs.Meaning.{meaning}
 use Rattle.ti_expand.specs.Expands.{IsFirstTooLong}
+use Rattle.ti_escape.specs.declared.color.Color.{Color}
+use Rattle.ti_lint.specs.declared.scope.Scope.{Scope}
+use Rattle.ti_report.proofs.OneReportLemmas.{one_findings, one_lines}
 use Rattle.ti_trace.proofs.OneTraceLemmas.{is_one_trace, is_one_trace_json}
 use Rattle.ti_pad.specs.Setting.{Setting}
 use Rattle.ti_pad.specs.Padded.{padded_text}
@@ -38,12 +41,12 @@ use Rattle.ti_line.specs.declared.request.OfEntry.{OfEntry}
 use Rattle.ti_line.specs.declared.request.OfEntry.TheVariants as of_entry
 use Rattle.ti_tool.specs.declared.fault.ToolFault.{ToolFault}
 use Rattle.ti_tool.specs.declared.fault.ToolFault.TheVariants as fault
-use Rattle.ti_tool.specs.Laws.{CheckHasOneVerdict, HasOneAnswer, IsSpelledOut}
+use Rattle.ti_tool.specs.Laws.{HasOneAnswer}
 use Rattle.ti_line.specs.Options.{output_bytes}
 use Rattle.ti_line.specs.declared.options.Document.{Document}
 use Rattle.ti_line.specs.declared.options.Document.TheVariants as documents
 use Rattle.ti_tool.specs.Documents.{AreObjects, IsDocument}
-use Rattle.ti_tool.specs.Results.{IsExpansion, IsUnexpanded, IsCappedAs, IsPadded, IsDue, IsDueFor, IsDueFrom, IsDueIn, IsDueOf, IsEncoding, IsJudgement, IsOutputOf, in_width}
+use Rattle.ti_tool.specs.Results.{IsExpansion, IsUnexpanded, IsCappedAs, IsPadded, IsDue, IsDueFor, IsDueFrom, IsDueIn, IsDueOf, IsEncoding, IsJudgement, IsLinted, IsOutputOf, in_width}
 use Rattle.ti_tool.specs.Sources.{IsDueForText, notation_in, text_of}
 use Rattle.ti_line.specs.declared.options.TraceForm.{TraceForm}
 use Rattle.ti_line.specs.declared.options.TraceForm.TheVariants as trace_forms
@@ -176,7 +179,7 @@ one_due (TextOf text) parameters setting output r s d h = one_padded text parame
 -- ---- results on entries
 
 -- what is due for bytes is their refusal, or something due for the entry that they spell
-one_from : (input : List ℕ) (due also : EntryValue → Result (List ℕ) ToolFault → Type 0) → ((v : EntryValue) (r s : Result (List ℕ) ToolFault) → due v r → also v s → r ≡ s)
+pub one_from : (input : List ℕ) (due also : EntryValue → Result (List ℕ) ToolFault → Type 0) → ((v : EntryValue) (r s : Result (List ℕ) ToolFault) → due v r → also v s → r ≡ s)
     → (r s : Result (List ℕ) ToolFault) → IsDueFrom due input r → IsDueFrom also input s → r ≡ s
 one_from input due also once r s (inl (a, is, e)) (inl (b, same, f)) =
     let both : Some a ≡ Some b = sym is ∙ same in
@@ -235,11 +238,11 @@ are_one [] rows others is same = is ∙ sym same
 are_one (x ∷ xs) rows others (first, more, has, are, is) (first', more', has', are', same) =
     is ∙ ap₂ (λ a b. a ++ b) (has_one x.0 (text_in x.1) first first' has has') (are_one xs more more' are are') ∙ sym same
 
-one_verdicts : (naming : Naming) (v : EntryValue) (lines others : List ℕ) (sound as_sound : Bool) → AreVerdicts naming v lines sound → AreVerdicts naming v others as_sound → (lines ≡ others) × (sound ≡ as_sound)
+pub one_verdicts : (naming : Naming) (v : EntryValue) (lines others : List ℕ) (sound as_sound : Bool) → AreVerdicts naming v lines sound → AreVerdicts naming v others as_sound → (lines ≡ others) × (sound ≡ as_sound)
 one_verdicts naming v lines others sound as_sound (rows, are, is, s) (again, also, same, t) =
     let one = are_one (items v) rows again are also in (is ∙ ap (row_lines (record { naming = naming; form = forms.Notation })) one ∙ sym same, s ∙ ap are_sound one ∙ sym t)
 
-one_objects : (v : EntryValue) (objects others : List Data) (sound as_sound : Bool) → AreVerdictObjects v objects sound → AreVerdictObjects v others as_sound → (objects ≡ others) × (sound ≡ as_sound)
+pub one_objects : (v : EntryValue) (objects others : List Data) (sound as_sound : Bool) → AreVerdictObjects v objects sound → AreVerdictObjects v others as_sound → (objects ≡ others) × (sound ≡ as_sound)
 one_objects v objects others sound as_sound (rows, are, is, s) (again, also, same, t) =
     let one = are_one (items v) rows again are also in (is ∙ ap (flat_map row_objects) one ∙ sym same, s ∙ ap are_sound one ∙ sym t)
 
@@ -248,11 +251,6 @@ one_judgement naming v sound as_sound (Ok a) (Ok b) d h = ap Ok (one_verdicts na
 one_judgement naming v sound as_sound (Ok a) (Err e) d h = absurd h
 one_judgement naming v sound as_sound (Err e) s d h = absurd d
 
-pub one_soundness : CheckHasOneVerdict
-one_soundness naming input lines others sound as_sound (inl (refused, is, e)) h = absurd (cc)
-one_soundness naming input lines others sound as_sound (inr found) (inl (refused, is, e)) = absurd (cc)
-one_soundness naming input lines others sound as_sound (inr (v, spells, d)) (inr (w, other, h)) =
-    (one_verdicts naming v lines others sound as_sound d (subst (λ x. AreVerdicts naming x others as_sound) (at_most_one input w v other spells) h)).1
 
 -- ---- values of capabilities
 
@@ -311,18 +309,18 @@ one_traced_of t v r s (item, called, d) (other, again, h) =
 
 -- ---- documents
 
-one_list : (document : Document) (sound as_sound : Bool) (input : List ℕ) (v : EntryValue) (objects others : List Data) → IsSpelledOut (Entry (of_entry.Json document))
+one_list : (document : Document) (sound as_sound : Bool) (input : List ℕ) (v : EntryValue) (objects others : List Data)
     → AreObjects document sound input v objects → AreObjects document as_sound input v others → objects ≡ others
-one_list documents.Listing sound as_sound input v objects others spelled are are_too = are ∙ sym are_too
-one_list documents.Verdicts sound as_sound input v objects others spelled are are_too = (one_objects v objects others sound as_sound are are_too).0
-one_list (documents.Findings scope) sound as_sound input v objects others spelled are are_too = absurd spelled
+one_list documents.Listing sound as_sound input v objects others are are_too = are ∙ sym are_too
+one_list documents.Verdicts sound as_sound input v objects others are are_too = (one_objects v objects others sound as_sound are are_too).0
+one_list (documents.Findings scope) sound as_sound input v objects others are are_too = (one_findings scope input v sound as_sound objects others are are_too).0
 
-one_document : (document : Document) (sound as_sound : Bool) (input : List ℕ) (v : EntryValue) (r s : Result (List ℕ) ToolFault) → IsSpelledOut (Entry (of_entry.Json document)) → IsDocument document sound input v r
+one_document : (document : Document) (sound as_sound : Bool) (input : List ℕ) (v : EntryValue) (r s : Result (List ℕ) ToolFault) → IsDocument document sound input v r
     → IsDocument document as_sound input v s → r ≡ s
-one_document document sound as_sound input v (Ok a) (Ok b) spelled (objects, are, e) (others, are_too, f) =
-    ap Ok (e ∙ ap (λ ds. array_text ds ++ codes "\n") (one_list document sound as_sound input v objects others spelled are are_too) ∙ sym f)
-one_document document sound as_sound input v (Ok a) (Err e) spelled d h = absurd h
-one_document document sound as_sound input v (Err e) s spelled d h = absurd d
+one_document document sound as_sound input v (Ok a) (Ok b) (objects, are, e) (others, are_too, f) =
+    ap Ok (e ∙ ap (λ ds. array_text ds ++ codes "\n") (one_list document sound as_sound input v objects others are are_too) ∙ sym f)
+one_document document sound as_sound input v (Ok a) (Err e) d h = absurd h
+one_document document sound as_sound input v (Err e) s d h = absurd d
 
 document_never : (document : Document) (sound : Bool) (input : List ℕ) (v : EntryValue) → IsNeverOwn (IsDocument document sound input v)
 document_never document sound input v = record { no_write = λ gone d. d; no_memory = λ d. d }
@@ -337,22 +335,33 @@ one_for_text : (c : OfCapability) (parameters : List Value) (text : Result (List
 one_for_text c parameters (Ok text) = one_output c parameters text
 one_for_text c parameters (Err e) = λ r s d h. d ∙ sym h
 
-one_on : (e : OfEntry) → IsSpelledOut (Entry e) → (parameters : List Value) (sound as_sound : Bool) (input : List ℕ) (v : EntryValue) (r s : Result (List ℕ) ToolFault) → IsDueIn [] e parameters sound input v r → IsDueIn [] e parameters as_sound input v s → r ≡ s
-one_on (of_entry.Show options) spelled parameters sound as_sound input v r s d h = d ∙ sym h
-one_on (of_entry.Json document) spelled parameters sound as_sound input v r s d h = one_document document sound as_sound input v r s spelled d h
-one_on (of_entry.Check naming) spelled parameters sound as_sound input v r s d h = one_judgement naming v sound as_sound r s d h
-one_on (of_entry.Lint scope color) spelled parameters sound as_sound input v r s d h = absurd spelled
-one_on (of_entry.Expand e) spelled parameters sound as_sound input v r s d h = one_due_for e.name.names e.name.name.now parameters e.padding e.output v r s d h
-one_on (of_entry.Get g) spelled parameters sound as_sound input v r s d h = one_got g sound as_sound v r s d h
-one_on (of_entry.Trace t) spelled parameters sound as_sound input v r s d h = one_traced_of t v r s d h
-one_on (of_entry.Convert width) spelled parameters sound as_sound input v r s d h = one_encoding (in_width width v) r s d h
+one_linted : (scope : Scope) (color : Color) (before : List ℕ) (sound as_sound : Bool) (input : List ℕ) (v : EntryValue) (r s : Result (List ℕ) ToolFault)
+    → IsLinted scope color before sound input v r → IsLinted scope color before as_sound input v s → r ≡ s
+one_linted scope color before sound as_sound input v (Ok a) (Ok b) d h = ap Ok (one_lines scope color before input v a b d.0 h.0)
+one_linted scope color before sound as_sound input v (Ok a) (Err e) d h = absurd h
+one_linted scope color before sound as_sound input v (Err e) s d h = absurd d
+
+one_on : (before : List ℕ) (e : OfEntry) (parameters : List Value) (sound as_sound : Bool) (input : List ℕ) (v : EntryValue) (r s : Result (List ℕ) ToolFault)
+    → IsDueIn before e parameters sound input v r → IsDueIn before e parameters as_sound input v s → r ≡ s
+one_on before (of_entry.Show options) parameters sound as_sound input v r s d h = d ∙ sym h
+one_on before (of_entry.Json document) parameters sound as_sound input v r s d h = one_document document sound as_sound input v r s d h
+one_on before (of_entry.Check naming) parameters sound as_sound input v r s d h = one_judgement naming v sound as_sound r s d h
+one_on before (of_entry.Lint scope color) parameters sound as_sound input v r s d h = one_linted scope color before sound as_sound input v r s d h
+one_on before (of_entry.Expand e) parameters sound as_sound input v r s d h = one_due_for e.name.names e.name.name.now parameters e.padding e.output v r s d h
+one_on before (of_entry.Get g) parameters sound as_sound input v r s d h = one_got g sound as_sound v r s d h
+one_on before (of_entry.Trace t) parameters sound as_sound input v r s d h = one_traced_of t v r s d h
+one_on before (of_entry.Convert width) parameters sound as_sound input v r s d h = one_encoding (in_width width v) r s d h
+
+pub one_of : (before : List ℕ) (e : OfEntry) (parameters : List Value) (sound as_sound : Bool) (input : List ℕ) (r s : Result (List ℕ) ToolFault)
+    → IsDueOf before e parameters sound input r → IsDueOf before e parameters as_sound input s → r ≡ s
+one_of before e parameters sound as_sound input r s d h =
+    one_from input (IsDueIn before e parameters sound input) (IsDueIn before e parameters as_sound input) (one_on before e parameters sound as_sound input) r s d h
 
 pub one_answer : HasOneAnswer
-one_answer (Capability c) parameters input sound as_sound r s spelled d h = one_output c parameters input r s d h
-one_answer (Source c) parameters input sound as_sound r s spelled d h = one_for_text c parameters (text_of (notation_in input)) r s d h
-one_answer (Difference e) parameters input sound as_sound r s spelled d h = elim d [ ]
-one_answer (Entry e) parameters input sound as_sound r s spelled d h =
-    one_from input (IsDueIn [] e parameters sound input) (IsDueIn [] e parameters as_sound input) (one_on e spelled parameters sound as_sound input) r s d h
+one_answer (Capability c) parameters input sound as_sound r s d h = one_output c parameters input r s d h
+one_answer (Source c) parameters input sound as_sound r s d h = one_for_text c parameters (text_of (notation_in input)) r s d h
+one_answer (Difference e) parameters input sound as_sound r s d h = elim d [ ]
+one_answer (Entry e) parameters input sound as_sound r s d h = one_of [] e parameters sound as_sound input r s d h
 
 -- ---- the faults of a call itself
 

@@ -1,20 +1,20 @@
 -- What holds of the results of the calls, whatever they read.
-use Rattle.std.specs.Prelude.{◌≡◌, List, ℕ, Bool, Some, Result, Ok}
+use Rattle.std.specs.Prelude.{◌≡◌, ◌≢◌, List, ℕ, Bool, false, true, Some, Result, Ok}
 use Rattle.ti_words.specs.declared.Width.TheVariants.{Legacy, Wide}
 use Rattle.ti_words.specs.Value.{EntryValue}
 use Rattle.ti_words.specs.Spelling.{Spells}
 use Rattle.ti_draft.specs.Canonical.{canonical}
 use Rattle.ti_expand.specs.declared.values.Value.{Value}
 use Rattle.ti_line.specs.declared.options.Comparison.{Comparison}
-use Rattle.ti_line.specs.declared.options.Document.TheVariants as documents
 use Rattle.ti_line.specs.declared.options.Likeness.{Likeness}
-use Rattle.ti_line.specs.declared.options.Naming.{Naming}
 use Rattle.ti_line.specs.declared.request.Asked.{Asked}
 use Rattle.ti_line.specs.declared.request.Asked.TheVariants.{Entry}
+use Rattle.ti_line.specs.declared.request.OfEntry.{OfEntry}
 use Rattle.ti_line.specs.declared.request.OfEntry.TheVariants as of_entry
 use Rattle.ti_tool.specs.declared.fault.ToolFault.{ToolFault}
 use Rattle.ti_tool.specs.Comparisons.{IsCompared}
-use Rattle.ti_tool.specs.Results.{IsAnswer, IsConverted, IsDueFrom, IsJudgement}
+use Rattle.ti_tool.specs.FileRuns.{IsOutcomeOfContents}
+use Rattle.ti_tool.specs.Results.{Finds, IsAnswer, IsConverted}
 
 -- if an entry of the legacy format is widened, and what is written narrowed again, its canonical
 -- bytes come out
@@ -23,25 +23,18 @@ WideAndBack = (input wide back : List ℕ) (v : EntryValue) → Spells input v �
     → IsConverted (Some Wide) input (Ok wide) → IsConverted (Some Legacy) wide (Ok back)
     → back ≡ canonical v
 
--- the definitions say which bytes the result is; that of `lint`, also as JSON, says which findings it tells
-abbrev pub IsSpelledOut : Asked → Type 0
-IsSpelledOut (Entry (of_entry.Lint scope color)) = ⊥
-IsSpelledOut (Entry (of_entry.Json (documents.Findings scope))) = ⊥
-IsSpelledOut _ = Unit {0}
-
 -- at most one result or fault is due for what is asked, the parameters and the bytes that are read
 abbrev pub HasOneAnswer : Type 0
 HasOneAnswer = (asked : Asked) (parameters : List Value) (input : List ℕ)
-    (sound other_sound : Bool) (one other : Result (List ℕ) ToolFault) → IsSpelledOut asked
+    (sound other_sound : Bool) (one other : Result (List ℕ) ToolFault)
     → IsAnswer asked parameters sound input one → IsAnswer asked parameters other_sound input other
     → one ≡ other
 
--- and `check` finds that all texts are sound, or that they are not
-abbrev pub CheckHasOneVerdict : Type 0
-CheckHasOneVerdict = (naming : Naming) (input lines others : List ℕ) (sound other_sound : Bool)
-    → IsDueFrom (IsJudgement naming sound) input (Ok lines)
-    → IsDueFrom (IsJudgement naming other_sound) input (Ok others)
-    → sound ≡ other_sound
+-- and something is wrong in what was read, or a flag is not set, or that is not so
+abbrev pub HasOneVerdict : Type 0
+HasOneVerdict = (asked : Asked) (parameters : List Value) (input one other : List ℕ) (sound other_sound : Bool)
+    → IsAnswer asked parameters sound input (Ok one) → IsAnswer asked parameters other_sound input (Ok other)
+    → Finds asked sound → Finds asked other_sound → sound ≡ other_sound
 
 -- two runs write the same bytes and the same line on a fault, and end with the same status
 abbrev pub AreOne : List ℕ → List ℕ → List ℕ → List ℕ → ℕ → ℕ → Type 0
@@ -54,3 +47,17 @@ DiffHasOneResult = (by : Likeness) (form : Comparison) (file other one two : Lis
     → IsCompared by form file other one two out line status
     → IsCompared by form file other one two outs lines code
     → AreOne out outs line lines status code
+
+-- `get` and `trace` of an entry tell names that are near one that nothing has
+abbrev pub tells_names : OfEntry → Bool
+tells_names (of_entry.Get g) = true
+tells_names (of_entry.Trace t) = true
+tells_names _ = false
+
+-- the contents of a file lead to one result and status, and to one line but for the names that are near, if memory is not refused
+abbrev pub FileHasOneResult : Type 0
+FileHasOneResult = (e : OfEntry) (parameters : List Value) (several : Bool) (name contents : List ℕ)
+    (out outs line lines : List ℕ) (status code : ℕ) → status ≢ 6 → code ≢ 6
+    → IsOutcomeOfContents (Entry e) e parameters several name contents out line status
+    → IsOutcomeOfContents (Entry e) e parameters several name contents outs lines code
+    → (out ≡ outs) × (status ≡ code) × (tells_names e ≡ false → line ≡ lines)

@@ -1,7 +1,7 @@
 //! Laws of the program's results, each stated as the contract of an empty function.
 
 ghost use Rattle.ti_tool.specs.Printable.{CapIsPrintable, CheckIsPrintable, ExpandIsPrintable, GetIsPrintable, JsonIsPrintable, ObjectIsPrintable, ShowIsPrintable};
-ghost use Rattle.ti_tool.specs.Laws.{CheckHasOneVerdict, DiffHasOneResult, HasOneAnswer, WideAndBack};
+ghost use Rattle.ti_tool.specs.Laws.{DiffHasOneResult, FileHasOneResult, HasOneAnswer, HasOneVerdict, WideAndBack};
 
 /// Where an entry of the legacy format is converted to the one with numbers of 32 bits and back, its canonical bytes
 /// come out.
@@ -9,12 +9,13 @@ pub fn wide_and_back()
     ensures { WideAndBack }
 {}
 
-/// For a request but those of `lint`, and the bytes that are read, there is at most one result, or fault. The result of `lint` is
-/// said by its findings, and that these are one is not shown.
+/// For a request and the bytes that are read there is at most one result or fault, and it says that something is wrong or that
+/// nothing is. So it is of two files, and of each file that is named, if memory is not refused.
 pub fn results_are_one()
     ensures one { HasOneAnswer }
-    ensures verdict { CheckHasOneVerdict }
+    ensures verdict { HasOneVerdict }
     ensures diff { DiffHasOneResult }
+    ensures file { FileHasOneResult }
 {}
 
 /// Under `--escape` a result is as many lines as are due, and under `--json` it is one line, each of printable ASCII characters

@@ -6,6 +6,8 @@ use Rattle.ti_report.specs.declared.remark.Told.{Told}
 use Rattle.ti_report.specs.declared.remark.Told.TheVariants as tolds
 use Rattle.ti_report.specs.declared.remark.What.{What}
 use Rattle.ti_report.specs.declared.remark.What.TheVariants as whats
+use Rattle.ti_report.specs.declared.report.UsedText.{UsedText}
+use Rattle.ti_report.specs.Reports as reports
 
 abbrev pub about_held : About → spec.About
 about_held abouts.Entry = spec.OfEntry
@@ -28,3 +30,6 @@ told_held tolds.NotTried = spec.NotTried
 abbrev pub what_held : {A : Type 0} → What A → spec.What
 what_held (whats.Wrong wrong) = spec.IsWrong wrong
 what_held (whats.Told told) = spec.IsTold (told_held told)
+
+abbrev pub used_held : UsedText → reports.UsedText
+used_held t = record { name = t.subject.name.now; text = t.subject.text.now; usage = t.usage }

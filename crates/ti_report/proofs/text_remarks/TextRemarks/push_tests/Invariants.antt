@@ -3,11 +3,11 @@ use Rattle.std.proofs.Common.{◌≡◌, length}
 use Rattle.ti_cap.specs.Capability.{whole}
 use Rattle.ti_cap.specs.Spelling.{Written}
 use Rattle.ti_report.proofs.ConstantsLemmas.{Telling}
-use Rattle.ti_report.proofs.constants.push_tests.Given as goal
+use Rattle.ti_report.proofs.text_remarks.TextRemarks.push_tests.Given as goal
 
 abbrev pub invariant-tokens : goal.invariant-tokens
 invariant-tokens g l = record {
-  telling : Telling l.subject.name.now l.subject.text.now l.initial.out.items l.tape l.before.items l.out.items;
+  telling : Telling l.fn.capability l.initial.self l.tape l.before.items l.self;
   place : l.place ≡ length l.tape.taken;
   all : whole l.tape ≡ l.fn.capability;
   written : Written l.before.items l.tape.taken;

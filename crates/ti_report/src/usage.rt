@@ -1,0 +1,61 @@
+//! How a text of an entry is used: all that its judgement goes by but its bytes.
+
+ghost use Rattle.std.specs.Prelude.{◌≡◌};
+ghost use Rattle.ti_report.specs.Texts.{is_column, may_leave_out, usage_of};
+
+use ti_lint::{Scope, TextParameters, Variables, text_parameters};
+use ti_names::Class;
+
+/// How a text is used.
+#[derive(Clone, Copy, PartialEq, Eq)]
+pub struct Usage {
+    /// What it is.
+    pub class: Class,
+    /// Which of its parameters are texts.
+    pub texts: TextParameters,
+    /// The variables into which some text of the entry stores.
+    pub stored: Variables,
+    /// Whether it may leave out parameters.
+    pub may_leave_out: bool,
+    /// Whether a list has pairs.
+    pub has_pairs: bool,
+}
+
+/// Whether what a text may leave out is the column of a status line.
+fn is_column(scope: Scope, name: &[u8]) -> bool
+    ensures { result ≡ is_column scope name.now }
+{
+    match scope {
+        Scope::Mistakes => name == b"tsl".as_slice(),
+        Scope::All => false,
+    }
+}
+
+/// Whether a text may leave out parameters, by its name: attributes that a terminal lacks, and motions by one place.
+fn may_leave_out(scope: Scope, name: &[u8]) -> bool
+    ensures { result ≡ may_leave_out scope name.now }
+{
+    is_column(scope, name)
+        || name == b"sgr".as_slice()
+        || name == b"sgr1".as_slice()
+        || name == b"mhpa".as_slice()
+        || name == b"mcub".as_slice()
+        || name == b"mcud".as_slice()
+        || name == b"mcuf".as_slice()
+        || name == b"mcuu".as_slice()
+}
+
+impl Usage {
+    /// How a text with a name is used.
+    pub fn of(scope: Scope, stored: Variables, name: &[u8], class: Class) -> Self
+        ensures { result ≡ usage_of scope stored name.now class }
+    {
+        Usage {
+            class,
+            texts: text_parameters(name),
+            stored,
+            may_leave_out: may_leave_out(scope, name),
+            has_pairs: name == b"acsc".as_slice(),
+        }
+    }
+}

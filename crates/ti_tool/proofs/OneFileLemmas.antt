@@ -1,0 +1,107 @@
+-- A request has one verdict, and the contents of a file lead to one result.
+use Rattle.std.proofs.Common.{◌≡◌, ◌≢◌, ◌∙◌, ◌==◌, ℕ, Bool, true, false, List, Ok, Err, inl, inr, ap, length, refl, subst, sym}
+use Rattle.std.specs.Prelude.{Option, None, Some, Result}
+use Rattle.ti_expand.specs.declared.values.Value.{Value}
+use Rattle.ti_words.specs.Items.{FlagItem, ItemValue, NumberItem, TextItem}
+use Rattle.ti_words.specs.Texts.{AbsentText, CancelledText, TextOf}
+use Rattle.ti_words.specs.Value.{EntryValue}
+use Rattle.ti_entry.proofs.SpellsAtMostOneLemmas.{at_most_one}
+use Rattle.ti_line.specs.declared.options.Document.{Document}
+use Rattle.ti_line.specs.declared.options.Document.TheVariants as documents
+use Rattle.ti_line.specs.declared.request.Asked.TheVariants.{Capability, Difference, Entry, Source}
+use Rattle.ti_line.specs.declared.request.Get.{Get}
+use Rattle.ti_line.specs.declared.request.OfEntry.{OfEntry}
+use Rattle.ti_line.specs.declared.request.OfEntry.TheVariants as of_entry
+use Rattle.ti_report.proofs.OneReportLemmas.{one_findings, one_lines}
+use Rattle.ti_tool.specs.declared.fault.ToolFault.{ToolFault}
+use Rattle.ti_tool.specs.declared.fault.ToolFault.TheVariants as fault
+use Rattle.ti_tool.specs.Documents.{AreObjects, FindsIn}
+use Rattle.ti_tool.specs.FaultLines.{AreTold, IsAnswerLine, asked_line, fault_line}
+use Rattle.ti_tool.specs.FileRuns.{IsFileAnswer, IsOutcomeOfContents}
+use Rattle.ti_tool.specs.Files.{before_findings, file_line, result_of_file}
+use Rattle.ti_tool.specs.Got.{IsValueResult}
+use Rattle.ti_tool.specs.Laws.{FileHasOneResult, HasOneVerdict, tells_names}
+use Rattle.ti_tool.specs.Results.{Finds, IsDueIn, IsDueOf}
+use Rattle.ti_tool.specs.Statuses.{status_for}
+use Rattle.ti_tool.proofs.IsItemCalledLemmas.{one_item}
+use Rattle.ti_tool.proofs.OneResultLemmas.{one_objects, one_of, one_verdicts}
+
+-- ---- the verdict
+
+one_found_in : (document : Document) (input : List ℕ) (v : EntryValue) (objects others : List _) (sound as_sound : Bool) → AreObjects document sound input v objects → AreObjects document as_sound input v others
+    → FindsIn document sound → FindsIn document as_sound → sound ≡ as_sound
+one_found_in documents.Listing input v objects others sound as_sound are also f g = f ∙ sym g
+one_found_in documents.Verdicts input v objects others sound as_sound are also f g = (one_objects v objects others sound as_sound are also).1
+one_found_in (documents.Findings scope) input v objects others sound as_sound are also f g = (one_findings scope input v sound as_sound objects others are also).1
+
+one_set : (item : Option ItemValue) (g : Get) (set as_set : Bool) (r s : Result (List ℕ) ToolFault) → IsValueResult item g set r → IsValueResult item g as_set s → set ≡ as_set
+one_set None g set as_set r s d h = d.0 ∙ sym h.0
+one_set (Some (FlagItem flag)) g set as_set r s d h = d.0 ∙ sym h.0
+one_set (Some (NumberItem number)) g set as_set r s d h = d.0 ∙ sym h.0
+one_set (Some (TextItem AbsentText)) g set as_set r s d h = d.0 ∙ sym h.0
+one_set (Some (TextItem CancelledText)) g set as_set r s d h = d.0 ∙ sym h.0
+one_set (Some (TextItem (TextOf text))) g set as_set r s d h = d.0 ∙ sym h.0
+
+one_in : (before : List ℕ) (e : OfEntry) (parameters : List Value) (input : List ℕ) (v : EntryValue) (out outs : List ℕ) (sound as_sound : Bool) → IsDueIn before e parameters sound input v (Ok out)
+    → IsDueIn before e parameters as_sound input v (Ok outs) → Finds (Entry e) sound → Finds (Entry e) as_sound → sound ≡ as_sound
+one_in before (of_entry.Show options) parameters input v out outs sound as_sound d h f g = f ∙ sym g
+one_in before (of_entry.Json document) parameters input v out outs sound as_sound (objects, are, is) (others, also, same) f g = one_found_in document input v objects others sound as_sound are also f g
+one_in before (of_entry.Check naming) parameters input v out outs sound as_sound d h f g = (one_verdicts naming v out outs sound as_sound d h).1
+one_in before (of_entry.Lint scope color) parameters input v out outs sound as_sound d h f g = d.1 ∙ ap (λ lines. length lines == 0) (one_lines scope color before input v out outs d.0 h.0) ∙ sym h.1
+one_in before (of_entry.Expand e) parameters input v out outs sound as_sound d h f g = f ∙ sym g
+one_in before (of_entry.Convert width) parameters input v out outs sound as_sound d h f g = f ∙ sym g
+one_in before (of_entry.Trace t) parameters input v out outs sound as_sound d h f g = f ∙ sym g
+one_in before (of_entry.Get get) parameters input v out outs sound as_sound (item, called, d) (other, again, h) f g =
+    one_set item get sound as_sound (Ok out) (Ok outs) d (subst (λ i. IsValueResult i get as_sound (Ok outs)) (one_item v get.name.now other item again called) h)
+
+one_sound : (before : List ℕ) (e : OfEntry) (parameters : List Value) (input out outs : List ℕ) (sound as_sound : Bool) → IsDueOf before e parameters sound input (Ok out)
+    → IsDueOf before e parameters as_sound input (Ok outs) → Finds (Entry e) sound → Finds (Entry e) as_sound → sound ≡ as_sound
+one_sound before e parameters input out outs sound as_sound (inl (refused, is, same)) h f g = absurd (cc)
+one_sound before e parameters input out outs sound as_sound (inr found) (inl (refused, is, same)) f g = absurd (cc)
+one_sound before e parameters input out outs sound as_sound (inr (v, spells, d)) (inr (w, other, h)) f g =
+    one_in before e parameters input v out outs sound as_sound d (subst (λ x. IsDueIn before e parameters as_sound input x (Ok outs)) (at_most_one input w v other spells) h) f g
+
+pub one_verdict : HasOneVerdict
+one_verdict (Capability c) parameters input out outs sound as_sound d h f g = f ∙ sym g
+one_verdict (Source c) parameters input out outs sound as_sound d h f g = f ∙ sym g
+one_verdict (Difference c) parameters input out outs sound as_sound d h f g = elim d [ ]
+one_verdict (Entry e) parameters input out outs sound as_sound d h f g = one_sound [] e parameters input out outs sound as_sound d h f g
+
+-- ---- files
+
+-- no names are told but by `get` and `trace`
+one_line : (e : OfEntry) (contents : List ℕ) (why : ToolFault) (line : List ℕ) → tells_names e ≡ false → IsAnswerLine {V = Bool} (Entry e) contents (Err why) line → line ≡ fault_line why
+one_line (of_entry.Show options) contents why line none (near, told, is) = is
+one_line (of_entry.Json document) contents why line none (near, told, is) = is
+one_line (of_entry.Check naming) contents why line none (near, told, is) = is
+one_line (of_entry.Lint scope color) contents why line none (near, told, is) = is
+one_line (of_entry.Expand e) contents why line none (near, told, is) = is
+one_line (of_entry.Convert width) contents why line none (near, told, is) = is
+one_line (of_entry.Get g) contents why line none told = absurd (cc)
+one_line (of_entry.Trace t) contents why line none told = absurd (cc)
+
+pub one_file : FileHasOneResult
+one_file e parameters several name contents out outs line lines status code low high (answer, s, is) (other, t, too) = go answer other s t is too
+  where
+    go : (answer other : Result Bool ToolFault) → status ≡ status_for answer → code ≡ status_for other → IsFileAnswer (Entry e) e parameters several name contents answer out line
+        → IsFileAnswer (Entry e) e parameters several name contents other outs lines → (out ≡ outs) × (status ≡ code) × (tells_names e ≡ false → line ≡ lines)
+    go (Ok sound) (Ok as_sound) s t (finds, (plain, due, is), none) (found, (plains, also, same), empty) =
+        let one : Ok plain ≡ Ok plains = one_of (before_findings several name) e parameters sound as_sound contents (Ok plain) (Ok plains) due also in
+        let text : plain ≡ plains = cc in
+        let verdict = one_sound (before_findings several name) e parameters contents plain plains sound as_sound due also finds found in
+        (is ∙ ap (result_of_file several e name) text ∙ sym same, s ∙ ap (λ b. status_for (Ok b)) verdict ∙ sym t, λ quiet. none ∙ sym empty)
+    go (Ok sound) (Err why) s t (finds, (plain, due, is), none) (inl memory, rest) = absurd (high (t ∙ ap (λ w. status_for (Err w)) memory))
+    go (Ok sound) (Err why) s t (finds, (plain, due, is), none) (inr also, rest) =
+        let one : Ok plain ≡ Err why = one_of (before_findings several name) e parameters sound true contents (Ok plain) (Err why) due also in absurd (cc)
+    go (Err why) (Ok sound) s t (inl memory, rest) h = absurd (low (s ∙ ap (λ w. status_for (Err w)) memory))
+    go (Err why) (Ok sound) s t (inr also, rest) (finds, (plain, due, is), none) =
+        let one : Ok plain ≡ Err why = one_of (before_findings several name) e parameters sound true contents (Ok plain) (Err why) due also in absurd (cc)
+    go (Err why) (Err other) s t (inl memory, rest) h = absurd (low (s ∙ ap (λ w. status_for (Err w)) memory))
+    go (Err why) (Err other) s t d (inl memory, rest) = absurd (high (t ∙ ap (λ w. status_for (Err w)) memory))
+    go (Err why) (Err other) s t (inr due, none, (told, is_told, is)) (inr also, empty, (tolds, are_told, same)) =
+        let one : Err why ≡ Err other = one_of (before_findings several name) e parameters true true contents (Err why) (Err other) due also in
+        let fault_is : why ≡ other = cc in (
+          none ∙ sym empty,
+          s ∙ ap (λ w. status_for (Err w)) fault_is ∙ sym t,
+          λ quiet. is ∙ ap (file_line name) (one_line e contents why told quiet is_told ∙ ap fault_line fault_is ∙ sym (one_line e contents other tolds quiet are_told)) ∙ sym same,
+        )
