@@ -14,4 +14,5 @@ pub mod BaseLemmas
 pub mod NeighboursLemmas
 pub mod PlainLemmas
 pub mod TrialsLemmas
+pub mod UsageLemmas
 pub mod OneKeysLemmas

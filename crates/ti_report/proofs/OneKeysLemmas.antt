@@ -58,13 +58,13 @@ none_less x (y ∷ xs) sorted = (first_two x y xs sorted, further x y xs (first_
 
 sum_zero : (x : Key) (xs : List Key) → AllByRecursion (λ k. below k x ≡ false) xs → sum_by (is_below x) xs ≡ 0
 sum_zero x [] none = refl
-sum_zero x (k ∷ xs) none = omega (arith, sum_by-cons (is_below x) k xs, ap (λ b. cond b 1 0) none.0, sum_zero x xs none.1)
+sum_zero x (k ∷ xs) none = omega (arith, sum_by-cons (is_below x) k xs, ap {B = ℕ} (λ b. cond b 1 0) none.0, sum_zero x xs none.1)
 
 none_below : (x : Key) (xs : List Key) → IsSorted key_cmp (x ∷ xs) → sum_by (is_below x) (x ∷ xs) ≡ 0
 none_below x xs sorted = sum_zero x (x ∷ xs) (ap is_lt (tied_itself key_total x), none_less x xs sorted)
 
 one_below : (x y : Key) (ys : List Key) → below y x ≡ true → 1 ≤ sum_by (is_below x) (y ∷ ys)
-one_below x y ys is = omega (arith, sum_by-cons (is_below x) y ys, ap (λ b. cond b 1 0) is)
+one_below x y ys is = omega (arith, sum_by-cons (is_below x) y ys, ap {B = ℕ} (λ b. cond b 1 0) is)
 
 -- the first of another row with the same keys is not below it
 first_not_below : (x y : Key) (xs ys : List Key) → IsSorted key_cmp (x ∷ xs) → ((f : Key → ℕ) → sum_by f (x ∷ xs) ≡ sum_by f (y ∷ ys)) → below y x ≡ false

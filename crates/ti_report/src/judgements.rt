@@ -42,10 +42,7 @@ impl<'a, A: Allocator> Judgement<'a, A> {
     fn is_of(&self, usage: Usage, text: &[u8]) -> bool
         ensures { result ≡ true → IsJudged usage text.now self.now.2 }
     {
-        if self.usage != usage {
-            return false;
-        }
-        self.text == text
+        self.usage == usage && self.text == text
     }
 }
 

@@ -156,7 +156,10 @@ impl<A: Allocator + Copy> TextRemarks<A> {
             self.old self.new) }
     {
         match Capability::parse(text) {
-            Ok(capability) => self.push_findings(usage, parameters, &capability),
+            Ok(capability) => {
+                self.push_findings(usage, parameters, &capability)?;
+                Ok(())
+            }
             Err(refused) => self.push_malformed(refused),
         }
     }
