@@ -11,6 +11,7 @@ pub mod HeightsLemmas
 pub mod HoldsLemmas
 pub mod OnSomePathLemmas
 pub mod OneFoundLemmas
+pub mod OneSetLemmas
 pub mod OutlookLemmas
 pub mod PassLemmas
 pub mod PassStepLemmas
