@@ -12,6 +12,7 @@ pub mod HoldsLemmas
 pub mod OnSomePathLemmas
 pub mod OneFoundLemmas
 pub mod OneSetLemmas
+pub mod OneTestLemmas
 pub mod OutlookLemmas
 pub mod PassLemmas
 pub mod PassStepLemmas
