@@ -165,7 +165,7 @@ leaves_exact test (suc n) e = ((λ t. (n, e)), (λ l. grind arith))
 
 -- ---- tests of constants
 
-are_constant-part : (xs : List Token) (k : Token) (ys : List Token) → are_constant (xs ++ k ∷ ys) ≡ true → is_constant k ≡ true
+pub are_constant-part : (xs : List Token) (k : Token) (ys : List Token) → are_constant (xs ++ k ∷ ys) ≡ true → is_constant k ≡ true
 are_constant-part [] k ys e = first (is_constant k) (are_constant ys) e
   where
     first : (a b : Bool) → a && b ≡ true → a ≡ true
@@ -177,7 +177,7 @@ are_constant-part (x ∷ xs) k ys e = are_constant-part xs k ys (second (is_cons
     second true b f = f
     second false b f = absurd (cc)
 
-no_start : (k : Token) → IsTrue (starts_test k) → is_constant k ≡ false
+pub no_start : (k : Token) → IsTrue (starts_test k) → is_constant k ≡ false
 no_start CondOpen s = refl
 no_start CondElse s = refl
 no_start k s = absurd (cc (s))

@@ -1,5 +1,5 @@
 -- The list of findings, against the tokens that were taken.
-use Rattle.std.proofs.Common.{◌≡◌, ◌≢◌, ℕ, ◌+◌, ◌<◌, ◌⊎◌, inl, inr, ◌↔◌, List, [], ◌∷◌, ◌++◌, length, take, refl, sym, ◌∙◌, ap, subst, arith, Contains, All, AllPairs, append_assoc, length-append}
+use Rattle.std.proofs.Common.{◌≡◌, ℕ, ◌+◌, ◌<◌, ◌⊎◌, inl, inr, ◌↔◌, List, [], ◌∷◌, ◌++◌, length, take, lit<, refl, sym, ◌∙◌, ap, subst, arith, Contains, All, AllPairs, append_assoc, length-append}
 use Rattle.std.specs.Prelude.{Option, Some, None}
 use Rattle.std.proofs.lemmas.List.{append-nil, append_cancel_left, take_at}
 use Rattle.std.proofs.lemmas.List.Elements.{Contains-push, Contains-push_cases, Contains-append_left, All-nil, All-push, All-weaker}
@@ -11,11 +11,12 @@ use Rattle.ti_cap.specs.Capability.{Spot, IsWellFormed, Takes, IsFirst, whole}
 use Rattle.ti_cap.proofs.WrittenLemmas.{Same, one_form, one_cutting, spelled_long, written-append, written_one}
 use Rattle.ti_lint.specs.declared.expected.Expected.{Expected}
 use Rattle.ti_lint.specs.declared.finding.Finding.{Finding}
-use Rattle.ti_lint.specs.declared.finding.Finding.TheVariants.{StackUnderflow, TermcapParameter, ParameterRange, RepeatedIncrement, UnsetVariable, OperandType, NoEffect, ConstantCondition, RepeatedCondition}
+use Rattle.ti_lint.specs.declared.finding.Finding.TheVariants.{StackUnderflow, TermcapParameter, ParameterRange, RepeatedIncrement, UnsetVariable, OperandType, StackResidue, UnusedIncrement, LateIncrement, DeadStore, NoEffect, ConstantCondition, RepeatedCondition}
 use Rattle.ti_lint.specs.declared.placed_finding.PlacedFinding.{PlacedFinding}
 use Rattle.ti_lint.specs.OnSomePath.{Stands}
+use Rattle.ti_lint.specs.Conditionals.{IsFoundAmong}
 use Rattle.ti_lint.specs.Findings.{Underway, IsFoundBefore, IsFoundAfter, IsFoundWithin}
-use Rattle.ti_lint.specs.Found.{IsFoundAt, Precedes}
+use Rattle.ti_lint.specs.Found.{IsFoundAt, Precedes, rank}
 use Rattle.ti_lint.specs.inner.Found.{found_at}
 use Rattle.ti_lint.proofs.AtLemmas.{same_whole}
 
@@ -118,31 +119,29 @@ lists_start bytes expected at f start judged_by = record {
   order = λ i j d less within. absurd (omega arith);
 }
 
--- no finding is told by both what comes before and what comes after
-never_both : (at : Underway) (k : Token) (g : Finding) → IsFoundBefore at k g → IsFoundAfter at k g → ⊥
-never_both at k StackUnderflow b a = a
-never_both at k TermcapParameter b a = a
-never_both at k ParameterRange b a = a
-never_both at k RepeatedIncrement b a = a
-never_both at k UnsetVariable b a = a
-never_both at k OperandType b a = a
-never_both at k _ b a = b
+-- ---- the findings of one token, in the order of their table
 
--- nor by the conditional that the token is a part of
-never_before : (at : Underway) (k : Token) (g : Finding) → IsFoundBefore at k g → IsFoundWithin at k g → ⊥
-never_before at k StackUnderflow b w = w.found
-never_before at k TermcapParameter b w = w.found
-never_before at k ParameterRange b w = w.found
-never_before at k RepeatedIncrement b w = w.found
-never_before at k UnsetVariable b w = w.found
-never_before at k OperandType b w = w.found
-never_before at k _ b w = b
+rank_before : (at : Underway) (k : Token) (g : Finding) → IsFoundBefore at k g → rank g < 6
+rank_before at k StackUnderflow b = lit< tt
+rank_before at k TermcapParameter b = lit< tt
+rank_before at k ParameterRange b = lit< tt
+rank_before at k RepeatedIncrement b = lit< tt
+rank_before at k UnsetVariable b = lit< tt
+rank_before at k OperandType b = lit< tt
+rank_before at k _ b = absurd b
 
-never_after : (at : Underway) (k : Token) (g : Finding) → IsFoundAfter at k g → IsFoundWithin at k g → ⊥
-never_after at k NoEffect a w = a
-never_after at k ConstantCondition a w = a
-never_after at k RepeatedCondition a w = a
-never_after at k _ a w = w.found
+rank_after : (at : Underway) (k : Token) (g : Finding) → IsFoundAfter at k g → (5 < rank g) × (rank g < 10)
+rank_after at k StackResidue a = (lit< tt, lit< tt)
+rank_after at k UnusedIncrement a = (lit< tt, lit< tt)
+rank_after at k LateIncrement a = (lit< tt, lit< tt)
+rank_after at k DeadStore a = (lit< tt, lit< tt)
+rank_after at k _ a = absurd a
+
+rank_within : (before : List Token) (k : Token) (after : List Token) (g : Finding) → IsFoundAmong before k after g → 9 < rank g
+rank_within before k after NoEffect w = lit< tt
+rank_within before k after ConstantCondition w = lit< tt
+rank_within before k after RepeatedCondition w = lit< tt
+rank_within before k after _ w = absurd w
 
 -- what a token was judged by
 pub record IsJudged (at new : Underway) (k : Token) (before after within : Option Finding) : Type 0 where
@@ -174,10 +173,12 @@ lists_next bytes expected at new k before after within list l j = record {
       (λ g. longer) (λ g. longer) (λ g. longer);
   order = noted_order _ place within
       (noted_order _ place after (noted_order list place before l.order (λ g e. earlier g))
-      (λ g e. noted_all (λ one. Precedes one (record { place = place; finding = g })) list place before (earlier g) (λ h f. (omega arith, differs h g (λ same. by_both h g f e same)))))
+      (λ g e. noted_all (λ one. Precedes one (record { place = place; finding = g })) list place before (earlier g)
+      (λ h f. inr (refl, omega (arith, ranked_before h f, ranked_after g e)))))
       (λ g e. noted_all (λ one. Precedes one (record { place = place; finding = g })) _ place after
-      (noted_all (λ one. Precedes one (record { place = place; finding = g })) list place before (earlier g) (λ h f. (omega arith, differs h g (λ same. by_first h g f e same))))
-      (λ h f. (omega arith, differs h g (λ same. by_last h g f e same))));
+      (noted_all (λ one. Precedes one (record { place = place; finding = g })) list place before (earlier g)
+      (λ h f. inr (refl, omega (arith, ranked_before h f, ranked_within g e))))
+      (λ h f. inr (refl, omega (arith, ranked_after h f, ranked_within g e))));
 }
   where
     place : ℕ
@@ -194,19 +195,16 @@ lists_next bytes expected at new k before after within list l j = record {
     longer = omega (arith, spelled_long k j.takes.0 j.takes.1, ap length j.takes.3, length-append at.spot.taken j.takes.0)
 
     earlier : (g : Finding) → All (λ one. Precedes one (record { place = place; finding = g })) list
-    earlier g = All-weaker (λ one. one.place < place) (λ one. Precedes one (record { place = place; finding = g })) (λ one low. (omega arith, (λ e. let same : one.place ≡ place = ap (λ x. x.place) e in omega arith))) list l.low
+    earlier g = All-weaker (λ one. one.place < place) (λ one. Precedes one (record { place = place; finding = g })) (λ one low. inl low) list l.low
 
-    differs : (h g : Finding) → (h ≡ g → ⊥) → ◌≢◌ {A = PlacedFinding} (record { place = place; finding = h }) (record { place = place; finding = g })
-    differs h g other same = other (ap (λ x. x.finding) same)
+    ranked_before : (g : Finding) → before ≡ Some g → rank g < 6
+    ranked_before g e = rank_before at k g ((j.by_before g).0 e)
 
-    by_both : (h g : Finding) → before ≡ Some h → after ≡ Some g → h ≡ g → ⊥
-    by_both h g f e is = let P : Finding → Type 0 = λ x. IsFoundBefore at k x in never_both at k g (subst P is ((j.by_before h).0 f)) ((j.by_after g).0 e)
+    ranked_after : (g : Finding) → after ≡ Some g → (5 < rank g) × (rank g < 10)
+    ranked_after g e = rank_after at k g ((j.by_after g).0 e)
 
-    by_first : (h g : Finding) → before ≡ Some h → within ≡ Some g → h ≡ g → ⊥
-    by_first h g f e is = let P : Finding → Type 0 = λ x. IsFoundBefore at k x in never_before at k g (subst P is ((j.by_before h).0 f)) ((j.by_within g).0 e)
-
-    by_last : (h g : Finding) → after ≡ Some h → within ≡ Some g → h ≡ g → ⊥
-    by_last h g f e is = let P : Finding → Type 0 = λ x. IsFoundAfter at k x in never_after at k g (subst P is ((j.by_after h).0 f)) ((j.by_within g).0 e)
+    ranked_within : (g : Finding) → within ≡ Some g → 9 < rank g
+    ranked_within g e = let w = (j.by_within g).0 e in rank_within w.before k w.after g w.found
 
     stands : Stands bytes at.spot.taken k
     stands = record {

@@ -10,6 +10,9 @@ pub mod GoesOnLemmas
 pub mod HeightsLemmas
 pub mod HoldsLemmas
 pub mod OnSomePathLemmas
+pub mod OneFoundLemmas
+pub mod OneSetLemmas
+pub mod OneTestLemmas
 pub mod OutlookLemmas
 pub mod PassLemmas
 pub mod PassStepLemmas

@@ -8,9 +8,9 @@ use Rattle.ti_cap.specs.Spelling.{IsLetter, Spells, Written}
 use Rattle.ti_cap.specs.Capability.{Spot, IsWellFormed, Takes, IsFirst, whole}
 use Rattle.ti_cap.proofs.WrittenLemmas.{one_cutting, spelled_long, written-append, written_one}
 use Rattle.ti_lint.specs.declared.variables.Variables.{Variables}
-use Rattle.ti_lint.specs.Variables.{HasVariable, IsStored}
+use Rattle.ti_lint.specs.Variables.{HasOnlyLetters, HasVariable, IsStored}
 use Rattle.ti_lint.specs.inner.Facts.{stored_also}
-use Rattle.ti_lint.proofs.VariablesLemmas.{has_no_variable, has_stored_also}
+use Rattle.ti_lint.proofs.VariablesLemmas.{has_no_variable, has_stored_also, none_only_letters, stored_also_only_letters}
 use Rattle.ti_lint.proofs.FactsLemmas.{contains-snoc}
 use Rattle.ti_lint.proofs.PassLemmas.{chain}
 use Rattle.ti_lint.proofs.AtLemmas.{same_whole}
@@ -24,6 +24,7 @@ pub record Collects (bytes : List ℕ) (spot : Spot) (set : Variables) : Type 0 
   pub taken : Written before spot.taken
   pub left : Written after spot.left
   pub exact : (which : ℕ) → HasVariable set which ↔ Contains before (Store which)
+  pub only : HasOnlyLetters set
 
 pub collects_start : (bytes : List ℕ) → IsWellFormed bytes → Collects bytes (record { taken = []; left = bytes }) (record { mask = 0 })
 collects_start bytes f = record {
@@ -34,6 +35,7 @@ collects_start bytes f = record {
   taken = refl;
   left = f.writes.written;
   exact = λ which. ((λ h. absurd (has_no_variable which h)), (λ c. absurd (omega (arith, c.1))));
+  only = none_only_letters;
 }
 
 spelled_letter : (one : ℕ) (s : List ℕ) → Spells (Store one) s → IsLetter one
@@ -42,8 +44,8 @@ spelled_letter one s (inr (escape, spelled, is)) = spelled.0
 
 -- with the next token, of which the set has what it stores
 on_with : (bytes : List ℕ) (spot new : Spot) (k : Token) (set more : Variables) (w : Collects bytes spot set) → Takes k spot new → IsFirst k spot new
-    → ((which : ℕ) → HasVariable more which ↔ (HasVariable set which ⊎ (k ≡ Store which))) → Collects bytes new more
-on_with bytes spot new k set more w takes first step =
+    → ((which : ℕ) → HasVariable more which ↔ (HasVariable set which ⊎ (k ≡ Store which))) → HasOnlyLetters more → Collects bytes new more
+on_with bytes spot new k set more w takes first step only =
     let n : (rest : List Token) × (w.after ≡ k ∷ rest) × Written rest new.left = first w.after w.left in
     let P : List ℕ → Type 0 = λ x. Written (w.before ++ k ∷ []) x in
     record {
@@ -54,6 +56,7 @@ on_with bytes spot new k set more w takes first step =
       taken = subst P (sym takes.3) (written-append w.before (k ∷ []) spot.taken takes.0 w.taken (written_one k takes.0 takes.1));
       left = n.2;
       exact = λ which. chain (step which) (chain (old which) (turn (contains-snoc w.before k (Store which))));
+      only = only;
     }
   where
     turn : {A B : Type 0} → A ↔ B → B ↔ A
@@ -72,7 +75,7 @@ on_with bytes spot new k set more w takes first step =
 
 pub collects_store : (bytes : List ℕ) (spot new : Spot) (one : ℕ) (set : Variables) → Collects bytes spot set → Takes (Store one) spot new → IsFirst (Store one) spot new
     → Collects bytes new (stored_also one set)
-collects_store bytes spot new one set w takes first = on_with bytes spot new (Store one) set (stored_also one set) w takes first step
+collects_store bytes spot new one set w takes first = on_with bytes spot new (Store one) set (stored_also one set) w takes first step (stored_also_only_letters one set letter w.only)
   where
     letter : IsLetter one
     letter = spelled_letter one takes.0 takes.1
@@ -92,7 +95,7 @@ collects_store bytes spot new one set w takes first = on_with bytes spot new (St
 
 pub collects_other : (bytes : List ℕ) (spot new : Spot) (k : Token) (set : Variables) → Collects bytes spot set → Takes k spot new → IsFirst k spot new
     → ((which : ℕ) → k ≢ Store which) → Collects bytes new set
-collects_other bytes spot new k set w takes first other = on_with bytes spot new k set set w takes first step
+collects_other bytes spot new k set w takes first other = on_with bytes spot new k set set w takes first step w.only
   where
     step : (which : ℕ) → HasVariable set which ↔ (HasVariable set which ⊎ (k ≡ Store which))
     step which = ((λ h. inl h), back)

@@ -20,8 +20,8 @@ pub struct PlacedFinding {
     pub finding: Finding,
 }
 
-/// All findings of a capability, in order of their places. It goes over the tokens three times, and takes memory for each token
-/// and finding.
+/// All findings of a capability, in order of their places; those at one place are in the order of [`Finding`]. It goes over the
+/// tokens three times, and takes memory for each token and finding.
 pub fn findings_of<A: Allocator + Copy>(
     alloc: A,
     capability: &Capability<'_>,

@@ -1,7 +1,7 @@
 //! Sets of variables, as bits. Each call takes constant time.
 
 ghost use Rattle.std.specs.Prelude.{◌≡◌, ℕ, ◌≤◌, ◌↔◌, ◌⊎◌, IsTrue};
-ghost use Rattle.ti_lint.specs.Variables.{HasVariable};
+ghost use Rattle.ti_lint.specs.Variables.{HasOnlyLetters, HasVariable};
 ghost use Rattle.ti_lint.specs.inner.Facts.{has_bit, place_of, stored_also, either_set, both_sets};
 
 /// A set of variables. Bit N of the mask says whether the letter N places after `A` in ASCII is in it.
@@ -38,6 +38,7 @@ impl Variables {
     pub fn union(self, other: Variables) -> Variables
         ensures exact { (which : ℕ) → HasVariable result which
             ↔ (HasVariable self which ⊎ HasVariable other which) }
+        ensures only { HasOnlyLetters self → HasOnlyLetters other → HasOnlyLetters result }
     {
         self.either(other)
     }

@@ -1,6 +1,7 @@
 pub mod Examples
 pub mod NegativeLemmas
 pub mod NumbersLemmas
+pub mod OneSentLemmas
 pub mod RenditionLemmas
 pub mod SameLemmas
 pub mod SentLemmas

@@ -27,5 +27,8 @@ loop-token-preserved c =
     let e = c.in-Some.ensures in
     collects_other c.args.capability.now c.loop-token.tape c.token.new.self c.in-Some.token c.loop-token.stored c.loop-token.invariant e.some e.order c.in_default-token.not-Store
 
-pub returns : goal.returns
-returns c = record { exact = collected c.args.capability.now c.loop-token.tape c.loop-token.stored c.loop-token.invariant c.in_default.ensures.none.1 }
+pub returns-clause-exact : goal.returns-clause-exact
+returns-clause-exact c = collected c.args.capability.now c.loop-token.tape c.loop-token.stored c.loop-token.invariant c.in_default.ensures.none.1
+
+pub returns-clause-only : goal.returns-clause-only
+returns-clause-only c = c.loop-token.invariant.only
