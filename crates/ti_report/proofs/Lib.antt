@@ -16,3 +16,5 @@ pub mod PlainLemmas
 pub mod TrialsLemmas
 pub mod UsageLemmas
 pub mod OneKeysLemmas
+pub mod OnePlacesLemmas
+pub mod OneReportLemmas

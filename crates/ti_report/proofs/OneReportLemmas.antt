@@ -1,0 +1,244 @@
+-- An entry has one report.
+use Rattle.std.proofs.Common.{◌≡◌, ◌≢◌, ◌∙◌, ◌⊎◌, ◌↔◌, ◌++◌, ℕ, suc, Bool, true, false, List, [], ◌∷◌, Option, Some, None, ap, ap₂, arith, inl, inr, length, map, refl, subst, sym}
+use Rattle.std.specs.Prelude.{◌==◌}
+use Rattle.serde_json.specs.Data.{Data}
+use Rattle.ti_cap.specs.declared.language.CapRefused.{CapRefused}
+use Rattle.ti_cap.specs.declared.parameter_set.ParameterSet.{ParameterSet}
+use Rattle.ti_cap.specs.Refusal.{IsFaultless, IsRefusal}
+use Rattle.ti_cap.proofs.OneRefusalLemmas.{one_refusal}
+use Rattle.ti_escape.specs.declared.color.Color.{Color}
+use Rattle.ti_json.specs.Objects.{array_text}
+use Rattle.ti_lint.specs.declared.expected.Expected.{Expected}
+use Rattle.ti_lint.specs.declared.finding.Finding.{Finding}
+use Rattle.ti_lint.specs.declared.placed_finding.PlacedFinding.{PlacedFinding}
+use Rattle.ti_lint.specs.declared.scope.Scope.{Scope}
+use Rattle.ti_lint.specs.declared.scope.Scope.TheVariants as scopes
+use Rattle.ti_lint.specs.declared.variables.Variables.{Variables}
+use Rattle.ti_lint.specs.Pairs.{NamePair, all_pairs, all_toggles}
+use Rattle.ti_lint.specs.Plain.{IsMeantToExpand}
+use Rattle.ti_lint.proofs.OneFoundLemmas.{one_found}
+use Rattle.ti_lint.proofs.OneSetLemmas.{one_parameter_set, one_variables}
+use Rattle.ti_names.specs.declared.class.Class.{Class}
+use Rattle.ti_names.specs.declared.class.Class.TheVariants as classes
+use Rattle.ti_values.specs.declared.range.Range.{Range}
+use Rattle.ti_values.specs.declared.range.Range.TheVariants as ranges
+use Rattle.ti_values.specs.declared.tried.Tried.{Tried}
+use Rattle.ti_values.specs.Attributes.{IsCombinationAt}
+use Rattle.ti_values.specs.Findings.{IsEmptyAt, IsFirstOf, IsFirstSame, IsShownAt, IsUnendedAt, sent_at}
+use Rattle.ti_values.specs.Negative.{IsNegativeAt}
+use Rattle.ti_values.specs.Ranges.{values}
+use Rattle.ti_values.specs.Sent.{AreSent}
+use Rattle.ti_values.proofs.OneSentLemmas.{one_first_of, one_first_same, one_sent}
+use Rattle.ti_words.specs.Items.{ExtendedSubject, Listed, StandardSubject, items, text_in}
+use Rattle.ti_words.specs.Texts.{AbsentText, CancelledText, TextOf, TextValue}
+use Rattle.ti_words.specs.Value.{EntryValue, NamedPart}
+use Rattle.ti_report.specs.declared.marks.Sought.{Sought}
+use Rattle.ti_report.specs.declared.marks.Sought.TheVariants.{FalseMark, Mark, Percents}
+use Rattle.ti_report.specs.declared.usage.Usage.{Usage}
+use Rattle.ti_report.specs.declared.wrong.Wrong.{Wrong}
+use Rattle.ti_report.specs.declared.wrong.Wrong.TheVariants as wrongs
+use Rattle.ti_report.specs.Blocks.{report_lines}
+use Rattle.ti_report.specs.Constants.{IsTestsReport}
+use Rattle.ti_report.specs.Lines.{AreAll, AreReports, InTurn, IsIfThere}
+use Rattle.ti_report.specs.Marks.{ArePlacesOf}
+use Rattle.ti_report.specs.Names.{AreNameRemarks, IsNameReport}
+use Rattle.ti_report.specs.Objects.{remark_object}
+use Rattle.ti_report.specs.Remarks.{Remark, TextRemark, Told, placed, with_name}
+use Rattle.ti_report.specs.Reports.{AreFindings, AreLines, ArePairRemarks, AreStored, IsItemReport, IsReport, IsReportJson, IsTextReport, UsedText, used_text}
+use Rattle.ti_report.specs.Sequences.{AreSequencesIf, IsSequenceIn, IsSequenceOf, IsSequenceReport}
+use Rattle.ti_report.specs.Texts.{AreEscapes, AreFound, AreUnused, IsCapabilityReport, IsEscapeReport, IsFindingReport, IsFindingsReport, IsJudged, IsJudgedAs, IsKeyReport, IsPercentReport, IsPlacesReport, IsPlainReport, IsUnusedReport, all_findings, expected_in, unused_remarks}
+use Rattle.ti_report.specs.Values.{AreAttributesRemarks, AreNumbersRemarks, AreValueRemarks, IsAttributesReport, IsNamedTriedReport, IsNumbersReport, IsRangeReport, IsShortReport, IsToldOf, IsTriedReport, IsTriedReportOf, IsUnendedReport, is_ansi_entry, same_told, text_named, told_of, tried_at}
+use Rattle.ti_report.specs.Whole.{whole_remarks}
+use Rattle.ti_report.proofs.OneKeysLemmas.{one_keys}
+use Rattle.ti_report.proofs.OnePlacesLemmas.{one_marked, one_places_from, one_places_of, one_tests}
+
+-- at most one list is so
+abbrev IsOne : {Y : Type 0} → (List Y → Type 0) → Type 0
+IsOne {Y} Are = (one other : List Y) → Are one → Are other → one ≡ other
+
+-- what decides the same is decided alike
+both_ways : {A B C : Type 0} → A ↔ C → B ↔ C → A ↔ B
+both_ways p q = ((λ a. q.1 (p.0 a)), (λ b. p.1 (q.0 b)))
+
+-- ---- of items in order
+
+in_turn : {Y : Type 0} (Are AreMore : List Y → Type 0) → IsOne Are → IsOne AreMore → IsOne (InTurn Are AreMore)
+in_turn Are AreMore first then r s (a, x, is, more, e) (b, y, too, other, f) = e ∙ ap₂ (λ u w. u ++ w) (first a b is too) (then x y more other) ∙ sym f
+
+all : {X Y : Type 0} (L : X → List Y → Type 0) → ((x : X) → IsOne (L x)) → (xs : List X) → IsOne (AreAll L xs)
+all L each [] r s d h = d ∙ sym h
+all L each (x ∷ xs) r s (a, u, is, are, e) (b, w, too, also, f) = e ∙ ap₂ (λ p q. p ++ q) (each x a b is too) (all L each xs u w are also) ∙ sym f
+
+reports : {X Y : Type 0} (L : ℕ → X → List Y → Type 0) → ((i : ℕ) (x : X) → IsOne (L i x)) → (i : ℕ) (xs : List X) → IsOne (AreReports L i xs)
+reports L each i [] r s d h = d ∙ sym h
+reports L each i (x ∷ xs) r s (a, u, is, are, e) (b, w, too, also, f) = e ∙ ap₂ (λ p q. p ++ q) (each i x a b is too) (reports L each (suc i) xs u w are also) ∙ sym f
+
+if_there : {X Y : Type 0} (L : X → List Y → Type 0) → ((x : X) → IsOne (L x)) → (x : Option X) → IsOne (IsIfThere L x)
+if_there L each None r s d h = d ∙ sym h
+if_there L each (Some x) r s d h = each x r s d h
+
+-- it is so, or it is not
+either : {Y : Type 0} (Holds : Type 0) (these those : List Y) → IsOne (λ r. (Holds × (r ≡ these)) ⊎ ((¬ Holds) × (r ≡ those)))
+either Holds these those r s (inl a) (inl b) = a.1 ∙ sym b.1
+either Holds these those r s (inl a) (inr b) = absurd (b.0 a.0)
+either Holds these those r s (inr a) (inl b) = absurd (a.0 b.0)
+either Holds these those r s (inr a) (inr b) = a.1 ∙ sym b.1
+
+-- ---- texts
+
+-- what has no fault is not refused
+passes : (text : List ℕ) (refused : CapRefused) → IsFaultless text → ¬ IsRefusal text refused
+passes text refused sound (inl (long, is)) = let short = sound.0 in absurd (omega arith)
+passes text refused sound (inr (short, has, below)) = sound.1 refused.fault refused.place has
+
+refused_or : {Y : Type 0} (text : List ℕ) (of : CapRefused → List Y) (Are : List Y → Type 0) → IsOne Are
+    → IsOne (λ r. ((refused : CapRefused) × IsRefusal text refused × (r ≡ of refused)) ⊎ (IsFaultless text × Are r))
+refused_or text of Are one r s (inl (a, why, e)) (inl (b, because, f)) = e ∙ ap of (one_refusal a b text why because) ∙ sym f
+refused_or text of Are one r s (inl (a, why, e)) (inr (sound, is)) = absurd (passes text a sound why)
+refused_or text of Are one r s (inr (sound, is)) (inl (b, because, f)) = absurd (passes text b sound because)
+refused_or text of Are one r s (inr (sound, is)) (inr (again, too)) = one r s is too
+
+one_finding : (text : List ℕ) (parameters : ℕ) (founds : List PlacedFinding) (i : ℕ) (finding : Finding) → IsOne (IsFindingReport text parameters founds i finding)
+one_finding text parameters founds i finding r s (inl a) (inl b) = one_tests text r s a.1 b.1
+one_finding text parameters founds i finding r s (inl a) (inr b) = absurd (b.0 a.0)
+one_finding text parameters founds i finding r s (inr a) (inl b) = absurd (a.0 b.0)
+one_finding text parameters founds i finding r s (inr (other, ps, are, e)) (inr (too, qs, also, f)) =
+    e ∙ ap (λ places. placed places (wrongs.Token finding parameters)) (one_places_of finding founds ps qs are also) ∙ sym f
+
+one_unused : (may : Bool) (text : List ℕ) (parameters : ℕ) (founds : List PlacedFinding) → IsOne (IsUnusedReport may text parameters founds)
+one_unused may text parameters founds r s (set, ps, are, places, e) (other, qs, also, too, f) =
+    e ∙ ap₂ (λ x ys. unused_remarks may x ys) (one_parameter_set set other (λ which. both_ways (are which) (also which))) (one_places_of _ founds ps qs places too) ∙ sym f
+
+findings_once : (usage : Usage) (parameters : ℕ) (text : List ℕ) → IsOne (IsFindingsReport usage parameters text)
+findings_once usage parameters text r s (founds, are, d) (others, also, h) =
+    let L : List PlacedFinding → List TextRemark → Type 0 = λ list. InTurn (AreReports (IsFindingReport text parameters list) 0 all_findings) (IsUnusedReport usage.may_leave_out text parameters list) in
+    in_turn _ _ (reports _ (one_finding text parameters founds) 0 all_findings) (one_unused usage.may_leave_out text parameters founds) r s d
+    (subst (λ list. L list s) (one_found text (expected_in usage parameters) others founds also.exact also.order are.exact are.order) h)
+
+one_capability : (usage : Usage) (parameters : ℕ) (text : List ℕ) → IsOne (IsCapabilityReport usage parameters text)
+one_capability usage parameters text = refused_or text _ _ (findings_once usage parameters text)
+
+one_at : (sought : Sought) (wrong : Wrong) (text : List ℕ) → IsOne (IsPlacesReport sought wrong text)
+one_at sought wrong text r s (ps, are, e) (qs, also, f) = e ∙ ap (λ places. placed places wrong) (one_places_from _ 0 ps qs are also) ∙ sym f
+
+one_escapes : (text : List ℕ) → IsOne (IsEscapeReport text)
+one_escapes text r s (ps, are, e) (qs, also, f) =
+    e ∙ ap (λ places. placed places wrongs.UninterpretedEscape) (refused_or text (λ refused. []) _ (one_marked _ text) ps qs are also) ∙ sym f
+
+one_percent : (text : List ℕ) → IsOne (IsPercentReport text)
+one_percent text = one_at Percents wrongs.UninterpretedPercent text
+
+one_plain : (text : List ℕ) → IsOne (IsPlainReport text)
+one_plain text =
+    in_turn (IsEscapeReport text) _ (one_escapes text) (in_turn (IsPercentReport text) _ (one_percent text) (one_at FalseMark wrongs.FalseMark text))
+
+one_key : (text : List ℕ) → IsOne (IsKeyReport text)
+one_key text = in_turn (IsPercentReport text) _ (one_percent text) (one_at Mark wrongs.MarkInKey text)
+
+one_as : (class : Class) (usage : Usage) (text : List ℕ) → IsOne (IsJudgedAs class usage text)
+one_as (classes.Parameterized parameters) usage text = one_capability usage parameters text
+one_as classes.Plain usage text = one_plain text
+one_as classes.Key usage text = one_key text
+one_as classes.List usage text = λ r s d h. d ∙ sym h
+one_as class usage text = λ r s d h. d ∙ sym h
+
+pub one_judgement : (usage : Usage) (text : List ℕ) → IsOne (IsJudged usage text)
+one_judgement usage text = one_as usage.class usage text
+
+one_text : (t : UsedText) → IsOne (IsTextReport t)
+one_text t r s (judgement, is, e) (other, too, f) = e ∙ ap (map (with_name t.name t.text)) (one_judgement t.usage t.text judgement other is too) ∙ sym f
+
+one_item : (scope : Scope) (stored : Variables) (listed : Listed) → IsOne (IsItemReport scope stored listed)
+one_item scope stored listed = if_there IsTextReport one_text (used_text scope stored listed)
+
+-- ---- texts by their values
+
+one_told : {X : Type 0} (IsFound : Option X → Type 0) (told : X → Told) (name text : List ℕ) → ((a b : Option X) → IsFound a → IsFound b → a ≡ b) → IsOne (IsToldOf IsFound told name text)
+one_told IsFound told name text once r s (a, found, e) (b, also, f) = e ∙ ap (told_of name text told) (once a b found also) ∙ sym f
+
+one_unended : (ansi : Bool) (name text : List ℕ) (tried : List Tried) (sent : List (List ℕ)) → IsOne (IsUnendedReport ansi name text tried sent)
+one_unended false name text tried sent = λ r s d h. d ∙ sym h
+one_unended true name text tried sent = one_told _ _ name text (one_first_of _)
+
+one_of_numbers : (v : EntryValue) (name text : List ℕ) (tried : List Tried) (sent : List (List ℕ)) → IsOne (AreNumbersRemarks v name text tried sent)
+one_of_numbers v name text tried sent =
+    in_turn _ _ (one_told _ _ name text (one_first_of _)) (in_turn _ _ (one_told _ _ name text (one_first_same sent))
+    (in_turn _ _ (one_told _ _ name text (one_first_of _)) (one_unended (is_ansi_entry v) name text tried sent)))
+
+one_of_attributes : (v : EntryValue) (name text : List ℕ) (tried : List Tried) (sent : List (List ℕ)) → IsOne (AreAttributesRemarks v name text tried sent)
+one_of_attributes v name text tried sent =
+    in_turn _ _ (λ r s d h. d ∙ sym h) (in_turn _ _ (λ r s d h. d ∙ sym h) (in_turn _ _ (one_told _ _ name text (one_first_of _))
+    (in_turn _ _ (one_told _ _ name text (one_first_of _)) (one_unended (is_ansi_entry v) name text tried sent))))
+
+-- what is sent is one
+one_by_sent : (text : List ℕ) (tried : List Tried) (Are : List (List ℕ) → List Remark → Type 0) → ((sent : List (List ℕ)) → IsOne (Are sent)) → IsOne (λ r. (sent : List (List ℕ)) × AreSent text tried sent × Are sent r)
+one_by_sent text tried Are once r s (a, sent, is) (b, also, too) = once a r s is (subst (λ x. Are x s) (one_sent text tried b a also sent) too)
+
+one_numbers : (v : EntryValue) (name text : List ℕ) (range : Range) → IsOne (IsNumbersReport v name text range)
+one_numbers v name text range = one_by_sent text (values range) (AreNumbersRemarks v name text (values range)) (one_of_numbers v name text (values range))
+
+one_range : (v : EntryValue) (name text : List ℕ) (range : Range) → IsOne (IsRangeReport v name text range)
+one_range v name text ranges.Attributes = one_by_sent text (values ranges.Attributes) (AreAttributesRemarks v name text (values ranges.Attributes)) (one_of_attributes v name text (values ranges.Attributes))
+one_range v name text (ranges.Numbers from end) = one_numbers v name text (ranges.Numbers from end)
+one_range v name text (ranges.Places lines columns) = one_numbers v name text (ranges.Places lines columns)
+one_range v name text (ranges.Regions lines) = one_numbers v name text (ranges.Regions lines)
+
+one_short : (scope : Scope) (v : EntryValue) (name text : List ℕ) (range : Range) → IsOne (IsShortReport scope v name text range)
+one_short scope v name text range r s (inl a) (inl b) = a.1 ∙ sym b.1
+one_short scope v name text range r s (inl a) (inr b) = absurd (a.0 b.0)
+one_short scope v name text range r s (inr a) (inl b) = absurd (b.0 a.0)
+one_short scope v name text range r s (inr a) (inr b) = one_range v name text range r s a.1 b.1
+
+one_tried : (scope : Scope) (v : EntryValue) (name text : List ℕ) (range : Range) → IsOne (IsTriedReport scope v name text range)
+one_tried scope v name text range = refused_or text (λ refused. []) _ (one_short scope v name text range)
+
+one_tried_of : (scope : Scope) (v : EntryValue) (name : List ℕ) (text : TextValue) (range : Range) → IsOne (IsTriedReportOf scope v name text range)
+one_tried_of scope v name (TextOf text) range = one_tried scope v name text range
+one_tried_of scope v name AbsentText range = λ r s d h. d ∙ sym h
+one_tried_of scope v name CancelledText range = λ r s d h. d ∙ sym h
+
+one_named : (scope : Scope) (v : EntryValue) (i : ℕ) (row : List ℕ × Range) → IsOne (IsNamedTriedReport scope v i row)
+one_named scope v i (name, range) = one_tried_of scope v name (text_named v name) range
+
+one_of_values : (scope : Scope) (v : EntryValue) → IsOne (AreValueRemarks scope v)
+one_of_values scope v = reports _ (one_named scope v) 0 _
+
+-- ---- control sequences, pairs and names
+
+one_sequence_in : (name : List ℕ) (class : Option Class) (text : List ℕ) → IsOne (IsSequenceIn name class text)
+one_sequence_in name (Some classes.Plain) text = either _ _ _
+one_sequence_in name class text = λ r s d h. d ∙ sym h
+
+one_sequence : (listed : Listed) → IsOne (IsSequenceOf listed)
+one_sequence (StandardSubject kind index, item) = if_there _ (one_sequence_in _ _) (text_in item)
+one_sequence (ExtendedSubject kind name, item) = λ r s d h. d ∙ sym h
+
+one_sequences : (ansi : Bool) (v : EntryValue) → IsOne (AreSequencesIf ansi v)
+one_sequences true v = all IsSequenceOf one_sequence (items v)
+one_sequences false v = λ r s d h. d ∙ sym h
+
+one_pairs : (scope : Scope) (v : EntryValue) → IsOne (ArePairRemarks scope v)
+one_pairs scopes.Mistakes v = λ r s d h. d ∙ sym h
+one_pairs scopes.All v = in_turn _ _ (λ r s d h. d ∙ sym h) (λ r s d h. d ∙ sym h)
+
+one_names : (part : NamedPart) → IsOne (AreNameRemarks part)
+one_names part = reports _ (λ i name. either _ _ _) 0 _
+
+-- ---- an entry
+
+pub one_report : (scope : Scope) (bytes : List ℕ) (v : EntryValue) → IsOne (IsReport scope bytes v)
+one_report scope bytes v r s (stored, are, d) (other, also, h) =
+    let rest = in_turn _ _ (one_of_values scope v) (in_turn _ _ (one_sequences (is_ansi_entry v) v) (in_turn _ _ (one_pairs scope v)
+    (in_turn _ _ (one_keys scope v) (in_turn _ _ (one_names v.extended) (λ x y p q. p ∙ sym q))))) in
+    let Texts : Variables → List Remark → Type 0 = λ variables. AreAll (IsItemReport scope variables) (items v) in
+    in_turn (Texts stored) _ (all _ (one_item scope stored) (items v)) rest r s d
+    (subst (λ variables. InTurn (Texts variables) _ s) (one_variables other stored also.0 are.0 (λ which. both_ways (also.1 which) (are.1 which))) h)
+
+pub one_lines : (scope : Scope) (color : Color) (before bytes : List ℕ) (v : EntryValue) → IsOne (AreLines scope color before bytes v)
+one_lines scope color before bytes v r s (remarks, are, e) (others, also, f) = e ∙ ap (report_lines color before) (one_report scope bytes v remarks others are also) ∙ sym f
+
+pub one_findings : (scope : Scope) (bytes : List ℕ) (v : EntryValue) (sound as_sound : Bool) (objects others : List Data) → AreFindings scope bytes v sound objects
+    → AreFindings scope bytes v as_sound others → (objects ≡ others) × (sound ≡ as_sound)
+one_findings scope bytes v sound as_sound objects others p q =
+    let one : p.remarks ≡ q.remarks = one_report scope bytes v p.remarks q.remarks p.report q.report in
+    (p.objects_are ∙ ap (map remark_object) one ∙ sym q.objects_are, p.sound_is ∙ ap (λ remarks. length remarks == 0) one ∙ sym q.sound_is)
