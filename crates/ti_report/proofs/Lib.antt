@@ -18,3 +18,4 @@ pub mod UsageLemmas
 pub mod OneKeysLemmas
 pub mod OnePlacesLemmas
 pub mod OneReportLemmas
+pub mod PopsAlwaysLemmas

@@ -39,13 +39,14 @@ use Rattle.ti_report.specs.declared.wrong.Wrong.{Wrong}
 use Rattle.ti_report.specs.declared.wrong.Wrong.TheVariants as wrongs
 use Rattle.ti_report.specs.Blocks.{report_lines}
 use Rattle.ti_report.specs.Constants.{IsTestsReport}
+use Rattle.ti_report.specs.Keys.{AreKeyRemarks}
 use Rattle.ti_report.specs.Lines.{AreAll, AreReports, InTurn, IsIfThere}
 use Rattle.ti_report.specs.Marks.{ArePlacesOf}
 use Rattle.ti_report.specs.Names.{AreNameRemarks, IsNameReport}
 use Rattle.ti_report.specs.Objects.{remark_object}
 use Rattle.ti_report.specs.Remarks.{Remark, TextRemark, Told, placed, with_name}
 use Rattle.ti_report.specs.Reports.{AreFindings, AreLines, ArePairRemarks, AreStored, IsItemReport, IsReport, IsReportJson, IsTextReport, UsedText, used_text}
-use Rattle.ti_report.specs.Sequences.{AreSequencesIf, IsSequenceIn, IsSequenceOf, IsSequenceReport}
+use Rattle.ti_report.specs.Sequences.{AreSequenceRemarks, AreSequencesIf, IsSequenceIn, IsSequenceOf, IsSequenceReport}
 use Rattle.ti_report.specs.Texts.{AreEscapes, AreFound, AreUnused, IsCapabilityReport, IsEscapeReport, IsFindingReport, IsFindingsReport, IsJudged, IsJudgedAs, IsKeyReport, IsPercentReport, IsPlacesReport, IsPlainReport, IsUnusedReport, all_findings, expected_in, unused_remarks}
 use Rattle.ti_report.specs.Values.{AreAttributesRemarks, AreNumbersRemarks, AreValueRemarks, IsAttributesReport, IsNamedTriedReport, IsNumbersReport, IsRangeReport, IsShortReport, IsToldOf, IsTriedReport, IsTriedReportOf, IsUnendedReport, is_ansi_entry, same_told, text_named, told_of, tried_at}
 use Rattle.ti_report.specs.Whole.{whole_remarks}
@@ -226,13 +227,22 @@ one_names part = reports _ (λ i name. either _ _ _) 0 _
 
 -- ---- an entry
 
+abbrev AreOthers : Scope → List ℕ → EntryValue → List Remark → Type 0
+AreOthers scope bytes v =
+    InTurn (AreValueRemarks scope v) (InTurn (AreSequenceRemarks v) (InTurn (ArePairRemarks scope v)
+    (InTurn (AreKeyRemarks scope v) (InTurn (AreNameRemarks v.extended) (λ whole. whole ≡ whole_remarks bytes v)))))
+
+one_other : (scope : Scope) (bytes : List ℕ) (v : EntryValue) → IsOne (AreOthers scope bytes v)
+one_other scope bytes v =
+    in_turn (AreValueRemarks scope v) _ (one_of_values scope v) (in_turn (AreSequenceRemarks v) _ (one_sequences (is_ansi_entry v) v) (in_turn (ArePairRemarks scope v) _ (one_pairs scope v)
+    (in_turn (AreKeyRemarks scope v) _ (one_keys scope v) (in_turn (AreNameRemarks v.extended) _ (one_names v.extended) (λ x y p q. p ∙ sym q)))))
+
 pub one_report : (scope : Scope) (bytes : List ℕ) (v : EntryValue) → IsOne (IsReport scope bytes v)
 one_report scope bytes v r s (stored, are, d) (other, also, h) =
-    let rest = in_turn _ _ (one_of_values scope v) (in_turn _ _ (one_sequences (is_ansi_entry v) v) (in_turn _ _ (one_pairs scope v)
-    (in_turn _ _ (one_keys scope v) (in_turn _ _ (one_names v.extended) (λ x y p q. p ∙ sym q))))) in
     let Texts : Variables → List Remark → Type 0 = λ variables. AreAll (IsItemReport scope variables) (items v) in
-    in_turn (Texts stored) _ (all _ (one_item scope stored) (items v)) rest r s d
-    (subst (λ variables. InTurn (Texts variables) _ s) (one_variables other stored also.0 are.0 (λ which. both_ways (also.1 which) (are.1 which))) h)
+    let Report : Variables → Type 0 = λ variables. InTurn (Texts variables) (AreOthers scope bytes v) s in
+    in_turn (Texts stored) (AreOthers scope bytes v) (all (IsItemReport scope stored) (one_item scope stored) (items v)) (one_other scope bytes v) r s d
+    (subst Report (one_variables other stored also.0 are.0 (λ which. both_ways (also.1 which) (are.1 which))) h)
 
 pub one_lines : (scope : Scope) (color : Color) (before bytes : List ℕ) (v : EntryValue) → IsOne (AreLines scope color before bytes v)
 one_lines scope color before bytes v r s (remarks, are, e) (others, also, f) = e ∙ ap (report_lines color before) (one_report scope bytes v remarks others are also) ∙ sym f

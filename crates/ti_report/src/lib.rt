@@ -14,6 +14,7 @@ mod constants;
 mod document;
 mod judgements;
 mod keys;
+pub mod laws;
 mod layout;
 mod lookup;
 mod marks;
