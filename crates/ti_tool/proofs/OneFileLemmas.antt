@@ -1,5 +1,5 @@
 -- A request has one verdict, and the contents of a file lead to one result.
-use Rattle.std.proofs.Common.{◌≡◌, ◌≢◌, ◌∙◌, ◌==◌, ℕ, Bool, true, false, List, Ok, Err, inl, inr, ap, length, refl, subst, sym}
+use Rattle.std.proofs.Common.{◌≡◌, ◌≢◌, ◌∙◌, ◌==◌, ℕ, Bool, true, false, List, [], Ok, Err, inl, inr, ap, length, refl, subst, sym}
 use Rattle.std.specs.Prelude.{Option, None, Some, Result}
 use Rattle.ti_expand.specs.declared.values.Value.{Value}
 use Rattle.ti_words.specs.Items.{FlagItem, ItemValue, NumberItem, TextItem}
@@ -90,14 +90,14 @@ one_file e parameters several name contents out outs line lines status code low 
         let text : plain ≡ plains = cc in
         let verdict = one_sound (before_findings several name) e parameters contents plain plains sound as_sound due also finds found in
         (is ∙ ap (result_of_file several e name) text ∙ sym same, s ∙ ap (λ b. status_for (Ok b)) verdict ∙ sym t, λ quiet. none ∙ sym empty)
-    go (Ok sound) (Err why) s t (finds, (plain, due, is), none) (inl memory, rest) = absurd (high (t ∙ ap (λ w. status_for (Err w)) memory))
-    go (Ok sound) (Err why) s t (finds, (plain, due, is), none) (inr also, rest) =
+    go (Ok sound) (Err why) s t (finds, (plain, due, is), none) (inl memory, empty, told) = absurd (high (t ∙ ap (λ w. status_for (Err w)) memory))
+    go (Ok sound) (Err why) s t (finds, (plain, due, is), none) (inr also, empty, told) =
         let one : Ok plain ≡ Err why = one_of (before_findings several name) e parameters sound true contents (Ok plain) (Err why) due also in absurd (cc)
-    go (Err why) (Ok sound) s t (inl memory, rest) h = absurd (low (s ∙ ap (λ w. status_for (Err w)) memory))
-    go (Err why) (Ok sound) s t (inr also, rest) (finds, (plain, due, is), none) =
+    go (Err why) (Ok sound) s t (inl memory, none, told) h = absurd (low (s ∙ ap (λ w. status_for (Err w)) memory))
+    go (Err why) (Ok sound) s t (inr also, empty, told) (finds, (plain, due, is), none) =
         let one : Ok plain ≡ Err why = one_of (before_findings several name) e parameters sound true contents (Ok plain) (Err why) due also in absurd (cc)
-    go (Err why) (Err other) s t (inl memory, rest) h = absurd (low (s ∙ ap (λ w. status_for (Err w)) memory))
-    go (Err why) (Err other) s t d (inl memory, rest) = absurd (high (t ∙ ap (λ w. status_for (Err w)) memory))
+    go (Err why) (Err other) s t (inl memory, none, told) h = absurd (low (s ∙ ap (λ w. status_for (Err w)) memory))
+    go (Err why) (Err other) s t d (inl memory, none, told) = absurd (high (t ∙ ap (λ w. status_for (Err w)) memory))
     go (Err why) (Err other) s t (inr due, none, (told, is_told, is)) (inr also, empty, (tolds, are_told, same)) =
         let one : Err why ≡ Err other = one_of (before_findings several name) e parameters true true contents (Err why) (Err other) due also in
         let fault_is : why ≡ other = cc in (

@@ -251,7 +251,6 @@ one_judgement naming v sound as_sound (Ok a) (Ok b) d h = ap Ok (one_verdicts na
 one_judgement naming v sound as_sound (Ok a) (Err e) d h = absurd h
 one_judgement naming v sound as_sound (Err e) s d h = absurd d
 
-
 -- ---- values of capabilities
 
 alone_fault : (text : List ℕ) (setting : Setting) (output : Output) (e : ToolFault) → IsPaddedAlone text setting output (Err e) → (e ≡ fault.TooMuch (length (padded_text text setting))) × (most_padded_bytes < length (padded_text text setting))
