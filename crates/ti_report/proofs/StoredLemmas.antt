@@ -2,26 +2,28 @@
 use Rattle.std.proofs.Common.{◌≡◌, ◌⊎◌, ◌↔◌, ℕ, List, [], ◌∷◌, inl, inr, subst, sym}
 use Rattle.ti_words.specs.Items.{Listed, text_in}
 use Rattle.ti_lint.specs.declared.variables.Variables.{Variables}
-use Rattle.ti_lint.specs.Variables.{HasVariable}
-use Rattle.ti_lint.proofs.VariablesLemmas.{has_no_variable}
+use Rattle.ti_lint.specs.Variables.{HasOnlyLetters, HasVariable}
+use Rattle.ti_lint.proofs.VariablesLemmas.{has_no_variable, none_only_letters}
 use Rattle.ti_report.specs.Reports.{SomeStores, Stores}
 use Rattle.ti_report.specs.Subjects.{subject_class}
 
 -- into a variable some text stores exactly if one so far does, or one that is left
 pub record AreStoredBeside (all left : List Listed) (stored : Variables) : Type 0 where
   pub exact : (which : ℕ) → SomeStores all which ↔ (HasVariable stored which ⊎ SomeStores left which)
+  pub only : HasOnlyLetters stored
 
 pub stored_none : (all : List Listed) (stored : Variables) → stored ≡ record { mask = 0 } → AreStoredBeside all all stored
 stored_none all stored is =
     subst (λ s. AreStoredBeside all all s) (sym is) (record {
       exact = λ which. ((λ some. inr some), (λ either. elim either [ inl has ↦ absurd (has_no_variable which has) | inr some ↦ some ]));
+      only = none_only_letters;
     })
 
 pub stored_more : (all left rest : List Listed) (x : Listed) (stored one new : Variables) → left ≡ x ∷ rest → AreStoredBeside all left stored
     → ((which : ℕ) → HasVariable one which ↔ Stores (text_in x.1) (subject_class x.0) which) → ((which : ℕ) → HasVariable new which ↔ (HasVariable stored which ⊎ HasVariable one which))
-    → AreStoredBeside all rest new
-stored_more all left rest x stored one new is beside at union =
-    record { exact = λ which. (there which, back which) }
+    → HasOnlyLetters new → AreStoredBeside all rest new
+stored_more all left rest x stored one new is beside at union only =
+    record { exact = λ which. (there which, back which); only = only }
   where
     before : (which : ℕ) → SomeStores all which ↔ (HasVariable stored which ⊎ SomeStores (x ∷ rest) which)
     before which = subst (λ l. SomeStores all which ↔ (HasVariable stored which ⊎ SomeStores l which)) is (beside.exact which)

@@ -8,7 +8,7 @@ use Rattle.ti_names.specs.declared.class.Class.{Class}
 use Rattle.ti_names.specs.declared.class.Class.TheVariants as classes
 use Rattle.ti_lint.specs.declared.variables.Variables.{Variables}
 use Rattle.ti_lint.specs.Pairs.{NamePair, all_pairs, all_toggles}
-use Rattle.ti_lint.specs.Variables.{HasVariable, IsStored}
+use Rattle.ti_lint.specs.Variables.{HasOnlyLetters, HasVariable, IsStored}
 use Rattle.ti_lint.specs.declared.scope.Scope.{Scope}
 use Rattle.ti_lint.specs.declared.scope.Scope.TheVariants as scopes
 use Rattle.ti_escape.specs.declared.color.Color.{Color}
@@ -51,9 +51,10 @@ abbrev pub SomeStores : List Listed → ℕ → Type 0
 SomeStores [] which = ⊥
 SomeStores (listed ∷ rest) which = Stores (text_in listed.1) (subject_class listed.0) which ⊎ SomeStores rest which
 
--- the variables into which some text stores that has parameters
+-- the variables into which some text stores that has parameters, and no bit for anything else
 abbrev pub AreStored : EntryValue → Variables → Type 0
-AreStored v stored = (which : ℕ) → HasVariable stored which ↔ SomeStores (items v) which
+AreStored v stored =
+    HasOnlyLetters stored × ((which : ℕ) → HasVariable stored which ↔ SomeStores (items v) which)
 
 -- each pair of texts with these names
 abbrev pub ArePairRemarksOf : List NamePair → EntryValue → List Remark → Type 0

@@ -2,7 +2,7 @@
 
 ghost use Rattle.std.specs.Prelude.{ℕ, ◌↔◌, option_map};
 ghost use Rattle.ti_cap.specs.Refusal.{IsFaultless};
-ghost use Rattle.ti_lint.specs.Variables.{HasVariable, IsStored};
+ghost use Rattle.ti_lint.specs.Variables.{HasOnlyLetters, HasVariable, IsStored};
 ghost use Rattle.ti_report.specs.Reports.{AreStored, Stores, StoresAs};
 
 use crate::subject::subject_class;
@@ -13,8 +13,9 @@ use ti_names::Class;
 
 /// The variables into which a text stores, if it is a capability.
 fn stored_in(text: &[u8]) -> Variables
-    ensures { (which : ℕ) → HasVariable result which
+    ensures exact { (which : ℕ) → HasVariable result which
         ↔ (IsFaultless text.now × IsStored text.now which) }
+    ensures only { HasOnlyLetters result }
 {
     match Capability::parse(text) {
         Ok(capability) => stored_by(&capability),
@@ -24,7 +25,8 @@ fn stored_in(text: &[u8]) -> Variables
 
 /// The same of a text of a class: only one with parameters is expanded.
 fn stored_as(text: &[u8], class: Class) -> Variables
-    ensures { (which : ℕ) → HasVariable result which ↔ StoresAs class text.now which }
+    ensures exact { (which : ℕ) → HasVariable result which ↔ StoresAs class text.now which }
+    ensures only { HasOnlyLetters result }
 {
     match class {
         Class::Parameterized(_) => stored_in(text),
@@ -34,8 +36,9 @@ fn stored_as(text: &[u8], class: Class) -> Variables
 
 /// The same of a text that may not be there, nor be known.
 fn stored_at(text: Option<&[u8]>, class: Option<Class>) -> Variables
-    ensures { (which : ℕ) → HasVariable result which
+    ensures exact { (which : ℕ) → HasVariable result which
         ↔ Stores (option_map (λ bytes. bytes.now) text.entry) class which }
+    ensures only { HasOnlyLetters result }
 {
     match (text, class) {
         (Some(text), Some(class)) => stored_as(text, class),

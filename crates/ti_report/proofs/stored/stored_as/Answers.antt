@@ -7,4 +7,4 @@ use Rattle.ti_report.proofs.stored.stored_as.Goals as goal
 pub returns-in-Parameterized : goal.returns-in-Parameterized
 returns-in-Parameterized c =
     let P : Class → Type 0 = λ k. (which : ℕ) → HasVariable c.stored_in.result which ↔ StoresAs k c.args.text.now which in
-    subst P (sym c.in-Parameterized.is) c.stored_in.ensures
+    record { exact = subst P (sym c.in-Parameterized.is) c.stored_in.ensures.exact; only = c.stored_in.ensures.only }
