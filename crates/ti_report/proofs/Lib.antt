@@ -14,3 +14,4 @@ pub mod BaseLemmas
 pub mod NeighboursLemmas
 pub mod PlainLemmas
 pub mod TrialsLemmas
+pub mod OnePlacesLemmas
