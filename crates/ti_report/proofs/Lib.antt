@@ -15,3 +15,4 @@ pub mod NeighboursLemmas
 pub mod PlainLemmas
 pub mod TrialsLemmas
 pub mod OnePlacesLemmas
+pub mod PopsAlwaysLemmas

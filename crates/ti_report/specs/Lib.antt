@@ -6,6 +6,7 @@ pub mod Objects
 pub mod Marks
 pub mod Lines
 pub mod Constants
+pub mod ConstantLaws
 pub mod Texts
 pub mod Pairs
 pub mod Subjects

@@ -13,6 +13,7 @@ mod colors;
 mod constants;
 mod document;
 mod keys;
+pub mod laws;
 mod layout;
 mod lookup;
 mod marks;
