@@ -15,4 +15,5 @@ pub mod NeighboursLemmas
 pub mod PlainLemmas
 pub mod TrialsLemmas
 pub mod OnePlacesLemmas
+pub mod OneSetsLemmas
 pub mod PopsAlwaysLemmas
