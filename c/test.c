@@ -864,6 +864,9 @@ static void shows(size_t index, int8_t mark, const char *wanted) {
 static void is_found(const char *name, uint32_t kind, int32_t number, const char *text) {
     memset(&value, UNWRITTEN, sizeof value);
     expect(ti_view_find(&view, (const unsigned char *)name, strlen(name), &value) == TI_DONE, name);
+    ti_value named;
+    memset(&named, UNWRITTEN, sizeof named);
+    expect(ti_view_find_name(&view, name, &named) == TI_DONE && memcmp(&named, &value, sizeof value) == 0, "the same by a string");
     expect(value.kind == kind && value.number == number && is_text(value.text, text), name);
 }
 
@@ -1168,6 +1171,39 @@ static void test_words(void) {
     expect(ti_word(UINT32_MAX, &word) == TI_NOT_NAMED, "the greatest number");
 }
 
+/* ---- the sentences of faults */
+
+static int is_message(uint32_t number, const char *sentence) {
+    ti_bytes message = {NULL, 0};
+    return ti_message(number, &message) == TI_DONE && message.length == strlen(sentence)
+        && memcmp(message.bytes, sentence, message.length) == 0 && strcmp(ti_reason(number), sentence) == 0;
+}
+
+static void test_messages(void) {
+    size_t count = sizeof WORDS / sizeof *WORDS;
+    for (size_t i = 0; i < count; i++) {
+        ti_bytes message = {NULL, 0}, other = {NULL, 0};
+        expect(ti_message(WORDS[i].number, &message) == TI_DONE && message.length > 15 && ends_with_nul(message)
+                   && message.bytes[message.length - 1] != '.' && strlen((const char *)message.bytes) == message.length,
+               WORDS[i].word);
+        for (size_t j = 0; j < i; j++) {
+            expect(ti_message(WORDS[j].number, &other) == TI_DONE && strcmp((const char *)other.bytes, (const char *)message.bytes) != 0,
+                   "each fault has a sentence of its own");
+        }
+    }
+    for (uint32_t number = 0; number < 1000; number++) {
+        ti_bytes word = {out, 7}, message = {out, 7};
+        int same = ti_word(number, &word) == ti_message(number, &message);
+        expect(same && (word.bytes != out || (message.bytes == out && message.length == 7)), "a sentence for each word");
+        expect((word.bytes == out) == (*ti_reason(number) == 0), "a reason for each word");
+    }
+    expect(is_message(TI_BAD_MAGIC, "the first two bytes are those of no compiled entry"), "an entry's sentence");
+    expect(is_message(TI_BAD_PARAMETER, "%p is followed by no digit of 1 to 9"), "a capability's sentence");
+    expect(is_message(TI_TOO_MANY_PARAMETERS, "there are more than nine parameters"), "a call's sentence");
+    ti_bytes message = {out, 7};
+    expect(ti_message(UINT32_MAX, &message) == TI_NOT_NAMED && message.bytes == out, "the greatest number");
+}
+
 /* ---- padding */
 
 static size_t padded;
@@ -1247,6 +1283,93 @@ static void test_padding_faults(void) {
     free(text);
 }
 
+/* ---- sending */
+
+static ti_terminal terminal;
+static ti_sent sent;
+
+static uint32_t send_text(const char *text, const ti_parameter *parameters, size_t count, size_t room) {
+    size_t length = strlen(text);
+    unsigned char *capability = copy_of(text, length);
+    unsigned char *own = copy_of(out, room);
+    memset(&sent, UNWRITTEN, sizeof sent);
+    uint32_t answer = ti_send(capability, length, parameters, count, &terminal, own, room, &sent);
+    memcpy(out, own, room);
+    free(own);
+    free(capability);
+    return answer;
+}
+
+/* One text that is sent: what stands at the front of the room, and that no place is written. */
+static void sends(const char *text, const ti_parameter *parameters, size_t count, const char *wanted, size_t length) {
+    memset(out, '~', sizeof out);
+    uint32_t answer = send_text(text, parameters, count, sizeof out);
+    expect(answer == TI_DONE && sent.length == length && memcmp(out, wanted, length) == 0, text);
+    expect(are_unwritten(&sent.place, sizeof sent.place), "no place after a text that is sent");
+}
+
+/* One text that is not sent: the fault and its place, the terminal and the length as they were, and the room too if it is kept. */
+static void send_fault(const char *text, const ti_parameter *parameters, size_t count, size_t room, uint32_t fault, size_t place,
+                       int keeps_room) {
+    ti_terminal before = terminal;
+    memset(out, '~', sizeof out);
+    expect(send_text(text, parameters, count, room) == fault && sent.place == place, text);
+    expect(are_unwritten(&sent.length, sizeof sent.length), "no length after a fault");
+    expect(memcmp(&before.vars, &terminal.vars, sizeof before.vars) == 0, "the variables after a fault");
+    expect(before.padding.rate == terminal.padding.rate && before.padding.affected_lines == terminal.padding.affected_lines
+               && before.padding.xon == terminal.padding.xon && before.padding.pad == terminal.padding.pad,
+           "the padding after a fault");
+    expect(!keeps_room || are_unwritten(out, sizeof out), "the room after a fault");
+}
+
+/* UNWRITTEN in each byte of a number. */
+static const size_t UNWRITTEN_PLACE = (size_t)-1 / 255 * UNWRITTEN;
+
+static void test_sending(void) {
+    ti_parameter at[2] = {ti_number(4), ti_number(9)}, marked = ti_text("a$<2>b", 6), ten[10];
+    terminal = ti_terminal_at(0);
+    sends(CUP, at, 2, E "[5;10H", 7);
+    sends(E "[H$<5>" E "[J", NULL, 0, E "[H" E "[J", 6);
+    sends("%p1%s", &marked, 1, "ab", 2);
+    sends("", NULL, 0, "", 0);
+    sends("$<x>$<100000>$", NULL, 0, "$<x>$<100000>$", 14);
+    terminal = ti_terminal_at(1000);
+    sends("a$<3>b", NULL, 0, "a\0\0\0b", 5);
+    sends("%p1%s$<1>", &marked, 1, "a\0\0b\0", 5);
+    sends("$<%p1%d>", at, 1, "\0\0\0\0", 4);
+    terminal.padding = padding_of(1000, 2, 0, '!');
+    sends("a$<2*>b", NULL, 0, "a!!!!b", 6);
+    terminal.padding.xon = 1;
+    sends("a$<2*>b$<2*/>", NULL, 0, "ab!!!!", 6);
+    sends("%p1%Pa%p2%PZ", at, 2, "", 0);
+    expect(terminal.vars.values[0] == 4 && terminal.vars.values[51] == 9, "variables that are set");
+    sends("%ga%d,%gZ%d", NULL, 0, "4,9", 3);
+    for (int i = 0; i < 10; i++) ten[i] = ti_number(i);
+    terminal = ti_terminal_at(1000);
+    for (int i = 0; i < 52; i++) terminal.vars.values[i] = i - 26;
+    send_fault("%p1%Pa%z", ten, 1, ROOM, TI_UNKNOWN_ESCAPE, 6, 1);
+    send_fault("%p1%d", ten, 10, ROOM, TI_TOO_MANY_PARAMETERS, UNWRITTEN_PLACE, 1);
+    send_fault("%p1%Pb%p1%d", ten, 1, 10, TI_OUT_TOO_SMALL, 11, 1);
+    send_fault("%p1%PA%{7}%Pzab$<3>c", ten, 1, 12, TI_OUT_TOO_SMALL, 13, 0);
+    expect(send_text("%p1%PA%{7}%Pzab$<3>c", ten, 1, 13) == TI_DONE && sent.length == 6, "the room that is needed");
+    expect(terminal.vars.values[25] == 7 && terminal.vars.values[26] == 0, "variables that are set once");
+    terminal.padding.rate = 1000001;
+    send_fault("%p1%Pb%z", ten, 10, ROOM, TI_BAD_PADDING, UNWRITTEN_PLACE, 1);
+    terminal.padding = padding_of(1000000, 65535, 0, 0);
+    send_fault("%p1%Pb$<99999.9*>", ten, 1, ROOM, TI_TOO_MUCH, 6553493446500, 0);
+    ti_terminal none = ti_terminal_at(0);
+    expect(ti_send(NULL, 0, NULL, 0, &none, NULL, 0, &sent) == TI_DONE && sent.length == 0, "no text into no room");
+}
+
+/* ---- names as strings */
+
+static void test_strings(void) {
+    uint32_t kind;
+    size_t index;
+    expect(ti_find_name("cup", &kind, &index) == TI_DONE && kind == TI_TEXT && index == TI_CURSOR_ADDRESS, "a name as a string");
+    expect(ti_find_name("nosuch", &kind, &index) == TI_NOT_NAMED, "a string that is no name");
+}
+
 int main(void) {
     test_expansions();
     test_parameters();
@@ -1276,8 +1399,11 @@ int main(void) {
     test_ends_of_names();
     test_finding();
     test_words();
+    test_messages();
     test_padding();
     test_padding_faults();
+    test_sending();
+    test_strings();
     expect(ti_version() == 768, "version 0.3.0");
     printf("c: %d passed, %d failed\n", passed, failed);
     return failed != 0;

@@ -15,7 +15,7 @@ TPUT = ROOT / "examples/tput.c"
 CALL = (ROOT / "examples/linux", "cup", "4", "9")
 CUP = "\x1b[5;10H"
 STRICT = ["-std=c11", "-Wall", "-Wextra", "-Wpedantic", "-Werror"]
-DOCTEST = "import doctest, sys, ti; sys.exit(doctest.testmod(ti).failed)"
+DOCTEST = "import doctest, sys, mogyarsu; sys.exit(doctest.testmod(mogyarsu).failed)"
 
 
 @dataclass(frozen=True)
@@ -78,7 +78,6 @@ class Trial:
         """The flags of a line of ti.pc, for the folder below which all was put."""
         text = (self.library / "pkgconfig/ti.pc").read_text()
         text = text.replace("${libdir}", str(self.library)).replace("${includedir}", str(self.prefix / "include"))
-        text = text.replace("${prefix}", str(self.prefix))
         return next(line for line in text.splitlines() if line.startswith(f"{name}: ")).split()[1:]
 
     def check_c(self) -> None:

@@ -6,9 +6,9 @@ can't be read, and 4 if the entry, its text or the parameters are refused.
 """
 import re
 import sys
-from pathlib import Path
+from typing import NoReturn
 
-import ti
+import mogyarsu
 
 
 def parameter(word):
@@ -16,7 +16,7 @@ def parameter(word):
     return int(word) if is_number else word
 
 
-def fail(status, why):
+def fail(status: int, why: str) -> NoReturn:
     print(f"tput.py: {why}", file=sys.stderr)
     sys.exit(status)
 
@@ -26,17 +26,17 @@ def main():
         fail(2, "tput.py ENTRY-FILE NAME [PARAM..]")
     path, name, *words = sys.argv[1:]
     try:
-        entry = ti.Entry(Path(path).read_bytes())
+        entry = mogyarsu.Entry.from_path(path)
         text = entry.text(name)
         if text is None:
             fail(4, f"{name}: absent")
         # At the rate 0 padding vanishes.
-        sys.stdout.buffer.write(ti.pad(ti.expand(text, *map(parameter, words))))
+        sys.stdout.buffer.write(mogyarsu.send(text, *map(parameter, words)))
     except OSError as fault:
         fail(3, f"{path}: {fault.strerror}")
     except KeyError:
         fail(4, f"{name}: no text has this name")
-    except ti.Fault as fault:
+    except mogyarsu.Fault as fault:
         fail(4, f"{path}: {name}: {fault}")
 
 

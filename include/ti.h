@@ -1,36 +1,38 @@
-/* ti.h: terminfo entries and their capabilities, for C and C++ on x86-64. Link with -lti, as ./install puts it in place. It
- * may be included beside <term.h>, in any order.
+/* ti.h: terminfo entries and their capabilities, for C and C++ on Linux for x86-64 and aarch64. Link with -lti, as ./install puts it
+ * in place. It may be included beside <term.h>, in any order.
+ *
+ * An expansion may have padding marks, such as $<5>, which a terminal would show: ti_expand and ti_expand_kept write them as they
+ * stand. ti_send expands and pads in one call, so what it writes can be sent; ti_pad pads what was expanded.
  *
  * A call that returns a uint32_t returns TI_DONE or the number of a fault, but for ti_version. Nothing is
  * allocated, nothing is kept between calls, and any thread may call. The caller must pass valid pointers with correct
  * lengths: each pointer has as many elements as the length beside it says, and what is written overlaps no other argument.
- * A pointer may be null if its length is 0, the others not, but for the variables of ti_expand_kept. Memory that a call fills may never have been written
- * before; only ti_vars is read first.
+ * A pointer may be null if its length is 0, the others not, but for the variables of ti_expand_kept. Memory that a call fills may
+ * never have been written before; only ti_vars and ti_terminal are read first.
  * Lengths and places are in bytes. Capabilities are bytes as a compiled entry holds them: no NUL ends them, and escape is
  * the byte 27.
  *
  * A call writes only what its comment names. A place is written with its fault, and never after TI_DONE,
- * TI_ROOM_TOO_SMALL and TI_TOO_MANY_PARAMETERS.
- *
- *     ti_vars vars = {{0}};
- *     ti_parameter at[2] = {ti_number(4), ti_number(9)};
- *     unsigned char out[64];
- *     ti_run run;
- *     if (ti_expand(cup, cup_length, at, 2, &vars, out, sizeof out, &run) == TI_DONE)
- *         fwrite(out, 1, run.written, stdout);
+ * TI_ROOM_TOO_SMALL, TI_TOO_MANY_PARAMETERS and TI_BAD_PADDING.
  *
  * An entry is opened once; then the program takes what it needs. Its texts are pointers into its bytes.
  *
  *     ti_view view;
  *     ti_bytes cup;
- *     if (ti_open(file, file_length, &view) == TI_DONE && ti_view_text(&view, TI_CURSOR_ADDRESS, &cup) == 0)
- *         fault = ti_expand(cup.bytes, cup.length, at, 2, &vars, out, sizeof out, &run);
+ *     ti_terminal terminal = ti_terminal_at(0);
+ *     ti_parameter at[2] = {ti_number(4), ti_number(9)};
+ *     unsigned char out[256];
+ *     ti_sent sent;
+ *     if (ti_open(file, file_length, &view) == TI_DONE && ti_view_text(&view, TI_CURSOR_ADDRESS, &cup) == 0
+ *         && ti_send(cup.bytes, cup.length, at, 2, &terminal, out, sizeof out, &sent) == TI_DONE)
+ *         fwrite(out, 1, sent.length, stdout);
  */
 #ifndef TI_H
 #define TI_H
 
 #include <stddef.h>
 #include <stdint.h>
+#include <string.h>
 
 #include "ti_names.h"
 
@@ -75,7 +77,7 @@ enum {
     /* Faults of an expansion. */
     TI_TOO_MANY_PARAMETERS = 201, /* more than nine; no place is written */
     TI_TEXT_TOO_LONG = 202,       /* a text of more than 32767 bytes; the place is its parameter, counted from 1 */
-    TI_OUT_TOO_SMALL = 203,       /* less room than the capability's bound, or than the padded text; that is written */
+    TI_OUT_TOO_SMALL = 203,       /* less room than the capability's bound, or than the padded text; what is needed is written */
     TI_DOES_NOT_FIT = 204,        /* a capability that ti_compile does not take */
     TI_NO_VARIABLES = 205,        /* a compiled capability sets or gets a variable, and there are none */
     /* Faults of padding. */
@@ -116,7 +118,7 @@ enum {
     TI_MOST_PADDED_BYTES = 67108864   /* of a padded text */
 };
 
-/* Bytes that are lent. No NUL ends them, but for the names of ti_name and the words of ti_word. */
+/* Bytes that are lent. No NUL ends them, but for the names of ti_name, the words of ti_word and the sentences of ti_message. */
 typedef struct {
     const unsigned char *bytes;
     size_t length;
@@ -226,6 +228,18 @@ typedef struct {
     uint8_t pad;             /* the pad byte; 0 in nearly all terminals */
 } ti_padding;
 
+/* What lasts from one text to the next: how the line to a terminal pads, and the variables of its capabilities. */
+typedef struct {
+    ti_padding padding;
+    ti_vars vars;
+} ti_terminal;
+
+/* What is to be sent, or where the fault is. */
+typedef struct {
+    size_t length; /* bytes at the front of the room */
+    size_t place;  /* of a fault */
+} ti_sent;
+
 /* Opens a compiled entry, which has to be all of the bytes, for the calls that follow. Nothing is copied.
  *
  * TI_DONE: the view is written, but for the place of its counts.
@@ -250,10 +264,15 @@ int8_t ti_view_text(const ti_view *view, size_t index, ti_bytes *text);
  * was.
  *
  *     ti_value clipboard;
- *     if (ti_view_find(&view, (const unsigned char *)"Ms", 2, &clipboard) == TI_DONE && clipboard.kind == TI_TEXT
- *         && clipboard.number == 0)
- *         fault = ti_check(clipboard.text.bytes, clipboard.text.length, 1000, &limits); */
+ *     if (ti_view_find_name(&view, "Ms", &clipboard) == TI_DONE && clipboard.kind == TI_TEXT && clipboard.number == 0)
+ *         fault = ti_check(clipboard.text.bytes, clipboard.text.length, 1000, &limits);
+ *
+ * ti_view_find_name takes the name as a string of C. */
 uint32_t ti_view_find(const ti_view *view, const unsigned char *name, size_t length, ti_value *value);
+
+static inline uint32_t ti_view_find_name(const ti_view *view, const char *name, ti_value *value) {
+    return ti_view_find(view, (const unsigned char *)name, strlen(name), value);
+}
 
 /* Finds the name and the value of an extended flag, number or text by its index, from 0 to below the count in view->counts:
  * TI_DONE with both, or TI_NOT_NAMED, and both are as they were. */
@@ -300,7 +319,7 @@ uint32_t ti_read(const unsigned char *bytes, size_t length, ti_arrays *arrays, t
  *         room = malloc(limits.bound); */
 uint32_t ti_check(const unsigned char *capability, size_t length, uint16_t longest_text, ti_limits *limits);
 
-/* Expands a capability. Marks of padding, such as $<5>, are written as they stand.
+/* Expands a capability. Padding marks, such as $<5>, are written as they stand: pad the output before it is sent, or call ti_send.
  *
  * TI_DONE: the room starts with the output, the variables are those that the capability leaves, and the counts are
  * written. The place and the rest of the room are as they were.
@@ -355,12 +374,13 @@ uint32_t ti_expand_kept_alone(const ti_kept *kept, const int32_t *parameters, si
  *     uint32_t expand(const text *t, const int32_t *numbers, size_t count, ti_vars *vars, unsigned char *out, size_t room,
  *                     size_t *written) {
  *         ti_parameter parameters[TI_MOST_PARAMETERS];
+ *         ti_vars zeros = {{0}};
  *         ti_run run;
  *         uint32_t fault;
  *         if (t->fits) return ti_expand_kept(&t->kept, numbers, count, vars, out, room, written);
  *         if (count > TI_MOST_PARAMETERS) return TI_TOO_MANY_PARAMETERS;
  *         for (size_t i = 0; i < count; i++) parameters[i] = ti_number(numbers[i]);
- *         fault = ti_expand(t->bytes.bytes, t->bytes.length, parameters, count, vars, out, room, &run);
+ *         fault = ti_expand(t->bytes.bytes, t->bytes.length, parameters, count, vars ? vars : &zeros, out, room, &run);
  *         if (fault == TI_DONE) *written = run.written;
  *         return fault;
  *     } */
@@ -385,6 +405,29 @@ static inline uint32_t ti_expand_kept(const ti_kept *kept, const int32_t *parame
 uint32_t ti_pad(const unsigned char *text, size_t length, const ti_padding *padding, unsigned char *out, size_t room,
                 size_t *padded);
 
+/* Expands a capability and pads its output, the marks of texts among its parameters too, so that what it writes can be sent.
+ *
+ * TI_DONE: the room starts with what is to be sent, and its length is written. The variables of the terminal are those that the
+ * capability leaves. What the rest of the room holds is left open.
+ * Otherwise the first fault in this order is returned, the terminal and the length are as they were, and the place alone is
+ * written; but after TI_TOO_MUCH and TI_OUT_TOO_SMALL it is left open what the room holds:
+ * TI_BAD_PADDING, TI_TOO_MANY_PARAMETERS: no place is written.
+ * 101 to 113, TI_TEXT_TOO_LONG: the place is that of ti_expand.
+ * TI_OUT_TOO_SMALL: the place is the room that the expansion requires, its bound.
+ * TI_TOO_MUCH: the place is the length that the padded text would have, or SIZE_MAX if it is greater still.
+ * TI_OUT_TOO_SMALL: the place is the room for the output and the padded text, one after the other.
+ *
+ * Twice the bound is room enough if no mark becomes longer, as at the rate 0. Otherwise make the room as large as the place says,
+ * and call again, twice at most.
+ *
+ *     ti_terminal terminal = ti_terminal_at(960);
+ *     while ((fault = ti_send(text.bytes, text.length, NULL, 0, &terminal, out, room, &sent)) == TI_OUT_TOO_SMALL) {
+ *         free(out);
+ *         out = malloc(room = sent.place);
+ *     } */
+uint32_t ti_send(const unsigned char *capability, size_t length, const ti_parameter *parameters, size_t count,
+                 ti_terminal *terminal, unsigned char *out, size_t room, ti_sent *sent);
+
 /* Finds the short name of a flag, a number or a text (TI_FLAG, TI_NUMBER, TI_TEXT) by its index in an entry, among all names
  * of the header term.h of ncurses 6.4, which are 44, 39 and 414: TI_DONE with the name, which lasts as long as the program,
  * or TI_NOT_NAMED, and the name is as it was. After the bytes of the name there is a NUL, which its length does not count, so
@@ -393,8 +436,13 @@ uint32_t ti_name(uint32_t kind, size_t index, ti_bytes *name);
 
 /* Finds the kind and the index of the capability with a name among these: TI_DONE with both, as ti_name takes them, or
  * TI_NOT_NAMED, and both are as they were. For "cup" they are TI_TEXT and TI_CURSOR_ADDRESS. The names of extended
- * capabilities are the entry's own: ti_view_find finds them, and ti_view_item lists all of an entry. */
+ * capabilities are the entry's own: ti_view_find finds them, and ti_view_item lists all of an entry. ti_find_name takes the name as
+ * a string of C. */
 uint32_t ti_find(const unsigned char *name, size_t length, uint32_t *kind, size_t *index);
+
+static inline uint32_t ti_find_name(const char *name, uint32_t *kind, size_t *index) {
+    return ti_find((const unsigned char *)name, strlen(name), kind, index);
+}
 
 /* Finds the word of a fault by its number, to be printed: TI_DONE with the word, which lasts as long as the program, or
  * TI_NOT_NAMED, and the word is as it was. After the word there is a NUL, as after a name of ti_name. The word of
@@ -404,6 +452,21 @@ uint32_t ti_find(const unsigned char *name, size_t length, uint32_t *kind, size_
  *     if (ti_word(fault, &word) == TI_DONE)
  *         fprintf(stderr, "%s\n", (const char *)word.bytes); */
 uint32_t ti_word(uint32_t number, ti_bytes *word);
+
+/* Finds the sentence of a fault by its number, which says to a person what is wrong: TI_DONE with the sentence, which lasts as long as
+ * the program, or TI_NOT_NAMED, and the message is as it was. No full stop stands at its end, but a NUL, as after a word. The
+ * sentence of TI_BAD_MAGIC is "the first two bytes are those of no compiled entry".
+ *
+ * ti_reason returns it as a string of C, which is empty if no fault has the number.
+ *
+ *     fprintf(stderr, "%s: %s\n", path, ti_reason(fault)); */
+uint32_t ti_message(uint32_t number, ti_bytes *message);
+
+static inline const char *ti_reason(uint32_t number) {
+    ti_bytes message = {(const unsigned char *)"", 0};
+    (void)ti_message(number, &message);
+    return (const char *)message.bytes;
+}
 
 /* The version of the library: 65536 times its first number, 256 times its second, and its third. For 0.3.0 it is 768. */
 uint32_t ti_version(void);
@@ -426,6 +489,13 @@ static inline ti_padding ti_padding_at(uint32_t rate) {
     ti_padding padding = {0, 1, 0, 0};
     padding.rate = rate;
     return padding;
+}
+
+/* A terminal whose line has this rate, padded so, and whose variables are 0. */
+static inline ti_terminal ti_terminal_at(uint32_t rate) {
+    ti_terminal terminal = {{0, 1, 0, 0}, {{0}}};
+    terminal.padding.rate = rate;
+    return terminal;
 }
 
 /* The layouts that the library was built with. */
@@ -465,6 +535,8 @@ TI_LAYOUT(offsetof(ti_kept, count) == 24 && offsetof(ti_kept, marked) == 28 && o
 TI_LAYOUT(offsetof(ti_kept, steps) == 32);
 TI_LAYOUT(sizeof(ti_padding) == 12 && offsetof(ti_padding, rate) == 0 && offsetof(ti_padding, affected_lines) == 4);
 TI_LAYOUT(offsetof(ti_padding, xon) == 8 && offsetof(ti_padding, pad) == 9);
+TI_LAYOUT(sizeof(ti_terminal) == 220 && offsetof(ti_terminal, padding) == 0 && offsetof(ti_terminal, vars) == 12);
+TI_LAYOUT(sizeof(ti_sent) == 16 && offsetof(ti_sent, length) == 0 && offsetof(ti_sent, place) == 8);
 #undef TI_LAYOUT
 #endif
 

@@ -1,12 +1,21 @@
-"""Tests the module ti beside this file's folder, or that which PYTHONPATH names. The values are from terminfo(5) and from hand.
+"""Tests the module mogyarsu beside this file, or that which PYTHONPATH names, and ti, its former name. The values are from terminfo(5) and from hand.
 
 The last line is 'python: N passed, M failed'.
 """
 
+import copy
+import os
+import pickle
 import subprocess
 import sys
+import threading
 from pathlib import Path
 
+# What PYTHONPATH names comes before the folder of this file.
+if os.environ.get("PYTHONPATH"):
+    sys.path.append(sys.path.pop(0))
+
+import mogyarsu
 import ti
 
 LINUX = Path("examples/linux").read_bytes()
@@ -35,6 +44,94 @@ def raises(call, *arguments) -> bool:
     except KeyError:
         return True
     return False
+
+
+def says(kind, call, *arguments, **more) -> str | None:
+    """What an exception of this kind says that a call raises."""
+    try:
+        call(*arguments, **more)
+    except kind as fault:
+        return str(fault)
+    return None
+
+
+def test_mapping() -> None:
+    entry = mogyarsu.Entry.from_path("examples/linux")
+    expect(entry["cup"] == entry["cursor_address"] == entry[b"cup"] == b"\x1b[%i%p1%d;%p2%dH", "a text by its names")
+    expect(entry["am"] is True and entry["colors"] == entry["max_colors"] == 8, "a flag and a number by their names")
+    expect("cup" in entry and b"auto_right_margin" in entry and "AX" in entry, "what is in an entry")
+    expect("smcup" not in entry and "hc" not in entry and "nosuch" not in entry and 7 not in entry, "what is not")
+    expect(list(entry)[:2] == ["am", "xenl"] and len(entry) == len(list(entry)) == len(dict(entry)), "iteration and length")
+    expect("AX" in list(entry) and all(name in entry for name in entry), "extended names are iterated")
+    expect(dict(entry)["it"] == 8 and entry.get("smcup") is None and entry.get("smcup", b"") == b"", "a dict, and get")
+    expect(repr(entry) == f"<Entry 'linux|Linux console', {len(entry)} capabilities>", repr(entry))
+    expect(copy.deepcopy(entry) == entry and pickle.loads(pickle.dumps(entry))["cup"] == entry["cup"], "copies")
+    expect(says(KeyError, entry.__getitem__, "nosuch") == repr("'nosuch': no capability has this name"), "an unknown name")
+    expect(says(KeyError, entry.__getitem__, "smcup") == repr("'smcup': the terminal has no such text"), "an absent text")
+    expect(says(OSError, mogyarsu.Entry.from_path, "examples/nosuch") is not None, "no file")
+
+
+def test_wrong_arguments() -> None:
+    cup = b"\x1b[%i%p1%d;%p2%dH"
+    wrong = [
+        (mogyarsu.Entry, ["examples/linux"], "data: bytes are wanted, and this is a str"),
+        (mogyarsu.Entry, [5], "data: bytes are wanted, and this is a int"),
+        (mogyarsu.Entry, [open("examples/linux", "rb")], "data: bytes are wanted, and this is a BufferedReader"),
+        (mogyarsu.expand, [None], "capability: bytes are wanted, and this is a NoneType"),
+        (mogyarsu.expand, ["cup"], "capability: bytes are wanted, and this is a str"),
+        (mogyarsu.expand, [cup, 1, 2.5], "parameter 2: a str or bytes are wanted, and this is a float"),
+        (mogyarsu.Capability(cup), [1, None], "parameter 2: a str or bytes are wanted, and this is a NoneType"),
+        (mogyarsu.pad, [5], "text: bytes are wanted, and this is a int"),
+        (mogyarsu.check, [5], "capability: bytes are wanted, and this is a int"),
+        (mogyarsu.Entry(LINUX).text, [5], "name: a str or bytes are wanted, and this is a int"),
+        (mogyarsu.pad, [b"", "slow"], "rate: a number is wanted, and this is a str"),
+    ]
+    for call, arguments, sentence in wrong:
+        expect(says(TypeError, call, *arguments) == sentence, f"{sentence}: {says(TypeError, call, *arguments)}")
+    range_of = "is not between -2147483648 and 2147483647"
+    for call in (mogyarsu.Capability(cup), lambda *words: mogyarsu.expand(cup, *words)):
+        expect(says(ValueError, call, 1, 2**31) == f"parameter 2: 2147483648 {range_of}", "a number that does not fit")
+    unknown = "capability: no escape starts with the byte after the % (UnknownEscape at 0)"
+    expect(says(mogyarsu.Fault, mogyarsu.expand, b"%z") == unknown, "a fault of a capability")
+    expect(says(mogyarsu.Fault, mogyarsu.Capability, b"%z") == unknown, "a fault of one that is kept")
+    cut = "data: the bytes end before the entry does (Truncated at 100)"
+    expect(says(mogyarsu.Fault, mogyarsu.Entry, LINUX[:100]) == cut, "an entry that was cut")
+    expect(says(mogyarsu.Fault, mogyarsu.Capability(cup), *range(10)) == "parameters: there are more than nine parameters (TooManyParameters)",
+           "ten parameters")
+
+
+def test_kept() -> None:
+    move = mogyarsu.Capability(mogyarsu.Entry(LINUX)["cup"])
+    expect(move(4, 9) == b"\x1b[5;10H" and move() == b"\x1b[1;1H" and move(True, -1) == b"\x1b[2;0H", "cup, kept")
+    expect(mogyarsu.Capability(b"%p1%s:%p2%d")("a", 3) == b"a:3", "a capability that takes a text")
+    expect(mogyarsu.Capability(b"%p1%d")("abc") == b"0", "a text where a number is taken")
+    expect(mogyarsu.Capability(b"")() == b"" and mogyarsu.Capability(b"a\0b")() == b"a\0b", "no bytes, and a NUL")
+    variables, store = mogyarsu.Variables(), mogyarsu.Capability(b"%p1%PA%gA%d")
+    expect(store(7, variables=variables) == b"7" and variables.values[26] == 7 and store(8) == b"8", "variables")
+    expect(move.marked is False and mogyarsu.Capability(b"$<5>").marked is True, "marks")
+    expect(pickle.loads(pickle.dumps(move))(0, 0) == b"\x1b[1;1H", "a copy")
+    wrong = []
+
+    def many(row: int) -> None:
+        wrong.extend(column for column in range(2000) if move(row, column) != b"\x1b[%d;%dH" % (row + 1, column + 1))
+
+    threads = [threading.Thread(target=many, args=(row,)) for row in range(8)]
+    for thread in threads:
+        thread.start()
+    for thread in threads:
+        thread.join()
+    expect(not wrong, f"threads that share one: {wrong[:9]}")
+
+
+def test_send() -> None:
+    cup = mogyarsu.Entry(LINUX)["cup"]
+    expect(mogyarsu.send(cup, 4, 9) == b"\x1b[5;10H" and mogyarsu.send(b"a$<5>b") == b"ab", "what a terminal gets")
+    expect(mogyarsu.send(b"%p1%s$<1>", "a$<2>b", rate=1000, pad_byte=33) == b"a!!b!", "marks of a text")
+    expect(mogyarsu.send(b"$<5*>", rate=1000, affected_lines=3, xon=True) == b"", "flow control")
+    expect(len(mogyarsu.send(b"$<500>", rate=1000)) == 500 and len(mogyarsu.send(b"a" * 3000)) == 3000, "more room")
+    variables = mogyarsu.Variables()
+    expect(mogyarsu.send(b"%p1%Pa$<1>", 7, variables=variables) == b"" and variables.values[0] == 7, "variables")
+    expect(says(mogyarsu.Fault, mogyarsu.send, b"", rate=1000001) is not None, "a rate above the limit")
 
 
 def test_entry() -> None:
@@ -76,7 +173,12 @@ def test_version() -> None:
     expect(".".join(map(str, ti.version())) == told, f"version {ti.version()}, not {told}")
 
 
-for test in (test_entry, test_expand, test_check_and_pad, test_version):
+def test_former_name() -> None:
+    expect(ti.Entry is mogyarsu.Entry and ti.expand is mogyarsu.expand and ti.__version__ == mogyarsu.__version__, "ti")
+
+
+for test in (test_mapping, test_wrong_arguments, test_kept, test_send, test_entry, test_expand, test_check_and_pad, test_version,
+             test_former_name):
     test()
 print(f"python: {passed} passed, {failed} failed")
 sys.exit(1 if failed else 0)

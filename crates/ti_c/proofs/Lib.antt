@@ -3,6 +3,8 @@ pub mod NumbersLemmas
 pub mod OneFaultLemmas
 pub mod PaddingExamples
 pub mod PaddingLemmas
+pub mod SendingLemmas
+pub mod SendingExamples
 pub mod WordsExamples
 pub mod WordsLemmas
 pub mod StartsWithLemmas

@@ -2,6 +2,7 @@ pub mod Numbers
 pub mod Given
 pub mod Names
 pub mod Padding
+pub mod Sending
 pub mod Words
 pub mod Entries
 pub mod Views

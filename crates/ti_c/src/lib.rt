@@ -1,5 +1,5 @@
-//! Entries for callers in C: reading them, analysing, expanding, padding, naming and finding their capabilities, and the
-//! words of faults.
+//! Entries for callers in C: reading them, analysing, expanding, padding, sending, naming and finding their capabilities, and the
+//! words and sentences of faults.
 //!
 //! Each export is a library call of the crates below, with its pointers and lengths as slices, and states that call's
 //! clauses again. No export allocates, keeps state or stops the process; what a caller owes is valid pointers and
@@ -12,8 +12,10 @@ mod expansion;
 mod faults;
 mod finding;
 mod kept;
+mod messages;
 mod names;
 mod padding;
+mod sending;
 mod view;
 mod word_table;
 mod words;

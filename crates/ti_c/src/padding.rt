@@ -22,7 +22,7 @@ pub struct GivenPadding {
 }
 
 /// The padding that is given, if it is within its limits.
-fn padding_of(given: &GivenPadding) -> Option<Padding>
+pub(crate) fn padding_of(given: &GivenPadding) -> Option<Padding>
     ensures value { IfSome result (λ padding. padding ≡ setting_given given.now) }
     ensures within { IfSome result (λ padding. is_within_limits given.now ≡ true) }
     ensures none { IfNone result (is_within_limits given.now ≡ false) }
@@ -31,7 +31,7 @@ fn padding_of(given: &GivenPadding) -> Option<Padding>
 }
 
 /// A length as C gets it.
-fn told_length(need: u128) -> usize
+pub(crate) fn told_length(need: u128) -> usize
     ensures { result ≡ told_length need }
 {
     usize::try_from(need).unwrap_or(usize::MAX)

@@ -21,7 +21,7 @@ fn rows() -> &'static [(u32, &'static str)]
 }
 
 /// A word as the table holds it, without the NUL after it.
-fn front_of(word: &'static str) -> &'static [u8]
+pub(crate) fn front_of(word: &'static str) -> &'static [u8]
     ensures { result.now ≡ front word.now }
 {
     let bytes = word.as_bytes();
@@ -29,7 +29,7 @@ fn front_of(word: &'static str) -> &'static [u8]
 }
 
 /// The word of the fault with a number.
-fn word_of(number: u32) -> Option<&'static [u8]>
+pub(crate) fn word_of(number: u32) -> Option<&'static [u8]>
     ensures { option_map (λ word. word.now) result ≡ lookup (nat_eq number) word_rows }
 {
     for row in rows() {

@@ -1,0 +1,73 @@
+-- Why an output is not sent.
+use Rattle.std.proofs.Common.{◌≡◌, ◌≤◌, ◌+◌, ◌-◌, ◌↔◌, ℕ, ℤ, true, List, Result, Err, length, inl, inr, ◌⊎◌, refl, ap, sym, subst, arith}
+use Rattle.ti_expand.specs.Expands.{IsBytesFault}
+use Rattle.ti_expand.specs.declared.fault.BytesFault.{BytesFault}
+use Rattle.ti_expand.specs.declared.values.Value.{Value}
+use Rattle.ti_pad.specs.Into.{IsPadIntoFault}
+use Rattle.ti_pad.specs.Padded.{padded_text}
+use Rattle.ti_pad.specs.Setting.{Setting}
+use Rattle.ti_pad.specs.declared.slice.PadIntoFault.{PadIntoFault}
+use Rattle.ti_pad.specs.declared.slice.PadIntoFault.TheVariants.{TooMuch, OutTooSmall}
+use Rattle.ti_c.specs.declared.padding.GivenPadding.{GivenPadding}
+use Rattle.ti_c.specs.Given.{IsExpansionFault}
+use Rattle.ti_c.specs.Numbers.{out_too_small, too_much}
+use Rattle.ti_c.specs.Padding.{is_within_limits, padded_as_given, setting_given, told_length}
+use Rattle.ti_c.specs.Sending.{IsSendingFault, IsUnsent, IsUnsentOutput}
+
+-- ---- the faults of the padded text, in the room that the output leaves
+
+module _ (output padded : List ℕ) (room written : ℕ) (is : length output ≡ written) (within : written ≤ room) where
+  pub too_much_unsent : (need : ℕ) → IsPadIntoFault padded (room - written) (TooMuch need) → IsUnsent output padded room too_much (told_length need)
+  too_much_unsent need h = inl (h.1, refl, ap told_length h.0)
+
+  pub too_small_unsent : (need : ℕ) → IsPadIntoFault padded (room - written) (OutTooSmall need) → IsUnsent output padded room out_too_small (written + need)
+  too_small_unsent need h = inr (h.1, omega (arith, h.2), refl, omega (arith, h.0))
+
+  -- one that is not sent has one of them
+  pub only_unsent : (r : Result ℕ PadIntoFault) (number need : ℕ) → ((fault : PadIntoFault) → (r ≡ Err fault) ↔ IsPadIntoFault padded (room - written) fault)
+      → IsUnsent output padded room number need
+      → ((r ≡ Err (TooMuch (length padded))) × (number ≡ too_much) × (need ≡ told_length (length padded)))
+      ⊎ ((r ≡ Err (OutTooSmall (length padded))) × (number ≡ out_too_small) × (need ≡ written + length padded))
+  only_unsent r number need faults (inl (above, n, m)) = inl ((faults (TooMuch (length padded))).1 (refl, above), n, m)
+  only_unsent r number need faults (inr (low, small, n, m)) =
+      inr ((faults (OutTooSmall (length padded))).1 (refl, low, omega (arith, small, within, is)), n, omega (arith, m, is))
+
+-- ---- what is said of the output that was made is said of the one that is meant
+
+pub unsent_given : (made output : List ℕ) (s : Setting) (p : GivenPadding) (long room number need : ℕ) → made ≡ output → s ≡ setting_given p → long ≡ room
+    → IsUnsent made (padded_text made s) long number need → IsUnsent output (padded_as_given output p) room number need
+unsent_given made output s p long room number need is setting same h =
+    subst (λ (o : List ℕ). IsUnsent o (padded_as_given o p) room number need) is
+    (subst (λ (t : Setting). IsUnsent made (padded_text made t) room number need) setting
+    (subst (λ (n : ℕ). IsUnsent made (padded_text made s) n number need) same h))
+
+pub unsent_made : (made output : List ℕ) (s : Setting) (p : GivenPadding) (long room number need : ℕ) → made ≡ output → s ≡ setting_given p → long ≡ room
+    → IsUnsent output (padded_as_given output p) room number need → IsUnsent made (padded_text made s) long number need
+unsent_made made output s p long room number need is setting same h =
+    subst (λ (n : ℕ). IsUnsent made (padded_text made s) n number need) (sym same)
+    (subst (λ (t : Setting). IsUnsent made (padded_text made t) room number need) (sym setting)
+    (subst (λ (o : List ℕ). IsUnsent o (padded_as_given o p) room number need) (sym is) h))
+
+-- ---- one fault
+
+-- what is expanded without a fault has none
+pub none_of_expansion : (bytes : List ℕ) (values : List Value) (given room number place : ℕ) → given ≤ 9
+    → ((fault : BytesFault) → ¬ IsBytesFault bytes values room fault) → ¬ IsExpansionFault bytes values given room number place
+none_of_expansion bytes values given room number place few none (inl (many, n)) = omega (arith, many)
+none_of_expansion bytes values given room number place few none (inr (low, fault, told, is)) = none fault is
+
+-- within the limits a fault of what is sent is one of the expansion, or of the padded text
+pub within_limits : (bytes : List ℕ) (before : List ℤ) (values : List Value) (given : ℕ) (p : GivenPadding) (room number place : ℕ) → is_within_limits p ≡ true
+    → IsSendingFault bytes before values given p room number place
+    → IsExpansionFault bytes values given room number place ⊎ ((given ≤ 9) × IsUnsentOutput bytes before values p room number place)
+within_limits bytes before values given p room number place within (inl over) = absurd (cc (within, over.0))
+within_limits bytes before values given p room number place within (inr (w, due)) = due
+
+-- after an expansion it is one of the padded text
+pub after_expansion : (bytes : List ℕ) (before : List ℤ) (values : List Value) (given : ℕ) (p : GivenPadding) (room number place : ℕ) → is_within_limits p ≡ true
+    → given ≤ 9 → ((fault : BytesFault) → ¬ IsBytesFault bytes values room fault)
+    → IsSendingFault bytes before values given p room number place → IsUnsentOutput bytes before values p room number place
+after_expansion bytes before values given p room number place within few none due = elim (within_limits bytes before values given p room number place within due) [
+  | inl e ↦ absurd (none_of_expansion bytes values given room number place few none e)
+  | inr u ↦ u.1
+]
