@@ -7,16 +7,20 @@ from pathlib import Path
 
 from checks.machine import DIST
 
-# Each file of dist/ with the crate of which it is made.
+# Each proved file of dist/ with the crate of which it is made.
 FILES = {"ti": "ti", "libti.a": "ti_c", "libti.so": "ti_c"}
+# The page, which is not proved. `dist/sources page` sums up what it is made of.
+PAGE = "page.html"
 
 
 @dataclass
 class Record:
-    """The record: the kit's line, what linked the shared object, and for each file its sum and that of its sources."""
+    """The record: the kit's line, what linked the shared object, what made the page, and for each file its sum and that of its
+    sources."""
 
     kit: str = ""
     linkers: str = ""
+    page_tools: str = ""
     files: dict[str, tuple[str, str]] = field(default_factory=dict)
 
 
@@ -30,6 +34,8 @@ def read_record(folder: Path = DIST) -> Record:
             record.kit = rest
         elif word == "gcc":
             record.linkers = rest
+        elif word == "page":
+            record.page_tools = rest
         elif word == "file":
             name, total, _, sources = rest.split(" ")
             record.files[name] = total, sources
@@ -47,5 +53,5 @@ def call(function: str, *words: str | Path) -> "subprocess.CompletedProcess[str]
 
 
 def sum_of_sources(crate: str) -> str:
-    """The sum over the sources of a crate and of all that it stands on."""
+    """The sum over the sources of a crate and of all that it stands on, or of the page."""
     return subprocess.run([DIST / "sources", crate], stdout=subprocess.PIPE, text=True, check=True).stdout.strip()

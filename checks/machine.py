@@ -30,7 +30,12 @@ PACKAGES: dict[str, tuple[str, ...]] = {
     "pkg-config": ("pkg-config",),
     "binutils": ("readelf", "nm"),
     "dpkg": ("dpkg-deb",),
-    "cargo-web": ("cargo", "rustc"),
+    # Of these three page/make takes Debian's own.
+    "cargo-web": ("/usr/bin/cargo", "cargo"),
+    "rustc-web": ("/usr/bin/rustc", "rustc"),
+    "rust-web-src": (),
+    "lld": ("wasm-ld",),
+    "chromium": ("chromium",),
     "librust-clap-dev": (),
     "librust-strsim-dev": (),
     "librust-term-dev": (),

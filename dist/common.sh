@@ -1,5 +1,5 @@
 # shellcheck shell=bash disable=SC2034,SC2154
-# What ./ti, ./install, ./package and the scripts beside this file share: which program and which library are taken. A script reads
+# What ./ti, ./install, ./package and the scripts beside this file share: which program, library and page are taken. A script reads
 # this file after it has set `root`, the top of the repository.
 #
 # What was proved and built here comes first, if it is newer than its sources. What lies in dist/ comes second, if it fits: if
@@ -12,6 +12,7 @@ record=$dist/record
 kept=$dist/out
 made_program=$root/crates/ti/out/ti
 made_archive=$root/crates/ti_c/out/libti_c.a
+made_page=$root/page/out/page.html
 cpuinfo=/proc/cpuinfo
 # What the file in dist/ lacks, as a part of a sentence; empty if dist/ was not looked at.
 why=
@@ -51,6 +52,12 @@ look_at() {
             [ ! -d "$root/crates/$name/$part" ] || folders+=("crates/$name/$part")
         done
     done
+}
+
+# Looks at what the page is made of: the program, and beside it what page/make reads.
+look_at_page() {
+    look_at ti
+    folders+=(page/engine page/entries page/make page/source rust/library rust/make rust/targets.py examples/linux docs/ti.1)
 }
 
 # The sum over the sources of the crates that are looked at: over their lines of crates.txt, and over the names and sums of the
@@ -194,6 +201,17 @@ choose_library() {
     [ -z "${TI_PROVED_ONLY:-}" ] || return 1
     fits libti.a && fits libti.so || return
     archive=$dist/libti.a shared=$dist/libti.so
+}
+
+# Sets `page` to the page; it is empty, and the status not 0, if there is none of these sources. It is not proved, so it is never made
+# for this.
+choose_page() {
+    look_at_page
+    page=$made_page
+    ! is_fresh "$page" || return 0
+    page= why="it was not made here"
+    [ -z "${TI_PROVED_ONLY:-}" ] && fits page.html || return
+    page=$dist/page.html
 }
 
 # Says once at a terminal that the program is that of dist/.

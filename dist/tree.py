@@ -22,7 +22,11 @@ SOURCES = {
     "crates/ti_c/src/lib.rt": "fn ti_call() {}\n",
     "crates/ti/src/main.rt": "fn main() {}\n",
     "crates/ti_capability_tests/src/lib.rt": "fn test() {}\n",
+    "page/source/main.js": "a page\n",
 }
+# What else the page is made of.
+OF_PAGE = ["page/engine/Cargo.toml", "page/entries/t", "rust/library/Cargo.toml", "rust/make", "rust/targets.py", "examples/linux"]
+SOURCES |= {name: "\n" for name in OF_PAGE}
 # What the tree has of this repository.
 SHARED = ["ti", "install", "gate", "checks", "include", "python", "completions", "docs/ti.1", "docs/ti.3",
           "dist/common.sh", "dist/take", "dist/sources", "dist/make", "dist/compare"]
@@ -35,6 +39,10 @@ case $1 in
     ti_c) echo 'int ti_call(void); int ti_call(void) { return 1; }' >crates/ti_c/out/c.c &&
         gcc -c -o crates/ti_c/out/c.o crates/ti_c/out/c.c && ar rcD crates/ti_c/out/libti_c.a crates/ti_c/out/c.o ;;
 esac
+"""
+MAKE_PAGE = """#!/bin/sh
+cd "$(dirname "$0")/.." || exit 1
+if [ "$1" = --tools ]; then echo 'a compiler'; else cat page/source/main.js >"$1"; fi
 """
 RT = f"""#!/bin/sh
 case $1 in
@@ -92,6 +100,7 @@ class Tree:
             copy = shutil.copytree if (ROOT / name).is_dir() else shutil.copy
             copy(ROOT / name, folder / name)
         put(folder / "prove", PROVE, 0o755)
+        put(folder / "page/make", MAKE_PAGE, 0o755)
         put(folder / "bin/rt", RT, 0o755)
 
     def ship(self, text: str = SHIPPED) -> None:

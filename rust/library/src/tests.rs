@@ -212,3 +212,16 @@ fn what_a_compilation_fails_by_is_its_source() {
     assert_eq!(fault.message().to_string(), "at byte 0: the bytes end inside an escape");
     assert!(CompileError::DoesNotFit.source().is_none());
 }
+
+#[cfg(feature = "program")]
+#[test]
+fn the_program_runs_over_bytes_in_memory() {
+    let linux = include_bytes!("../examples/linux");
+    let outcome = program::run(&["get", "--escape", "cup", "4", "9"], linux, &[]);
+    assert_eq!((outcome.status, &outcome.output[..], &outcome.errors[..]), (0, &b"\\E[5;10H\n"[..], &b""[..]));
+    // Each name is that of the one file.
+    assert_eq!(program::run(&["diff", "-", "other"], linux, linux).status, 0);
+    assert_eq!(program::run(&["diff", "one", "other"], &[], linux).status, 0);
+    let refused = program::run(&["show"], &linux[..100], &[]);
+    assert_eq!((refused.status, &refused.output[..], &refused.errors[..]), (3, &b""[..], &b"entry: Truncated at 100\n"[..]));
+}
