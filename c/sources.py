@@ -111,8 +111,9 @@ def asks_for_names() -> str:
 
 
 def prints_abi() -> str:
-    """A program that prints the calls, the layouts of the structs and the values of the constants."""
-    body = [f'    puts("{declaration}");' for declaration in declared_calls().values()]
+    """A program that prints the soname, the calls, the layouts of the structs and the values of the constants."""
+    body = ['    printf("soname libti.so.%d.%d\\n", TI_VERSION >> 16, TI_VERSION >> 8 & 255);']
+    body += [f'    puts("{declaration}");' for declaration in declared_calls().values()]
     for name, fields in structs().items():
         body.append(f'    printf("{name} %zu\\n", sizeof({name}));')
         body += [f"    FIELD({name}, {field});" for field in fields]

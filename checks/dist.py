@@ -9,6 +9,9 @@ from checks.machine import DIST
 
 # Each proved file of dist/ with the crate of which it is made.
 FILES = {"ti": "ti", "libti.a": "ti_c", "libti.so": "ti_c"}
+# Those for Linux on aarch64, which a dist/ may lack.
+OTHER_FILES = {f"aarch64/{name}": crate for name, crate in FILES.items()}
+
 # The page, which is not proved. `dist/sources page` sums up what it is made of.
 PAGE = "page.html"
 

@@ -52,6 +52,13 @@ PACKAGES: dict[str, tuple[str, ...]] = {
     "vim": ("vim",),
     "less": ("less",),
     "tmux": ("tmux",),
+    "gcc-aarch64-linux-gnu": ("aarch64-linux-gnu-gcc",),
+    "binutils-aarch64-linux-gnu": ("aarch64-linux-gnu-strip",),
+    "libc6-dev-arm64-cross": (),
+    "qemu-user": ("qemu-aarch64",),
+    "lintian": ("lintian",),
+    "mypy": ("mypy",),
+    "python3-pip": ("pip3",),
 }
 
 # The folders of compiled entries. On many machines /lib is a link to /usr/lib.

@@ -85,7 +85,7 @@ is_fresh() {
 
 # The crate of which a file in dist/ is made.
 crate_of() {
-    if [ "$1" = ti ]; then echo ti; else echo ti_c; fi
+    if [ "${1##*/}" = ti ]; then echo ti; else echo ti_c; fi
 }
 
 # Whether a file in dist/ fits. If not, `why` says what it lacks.
@@ -225,13 +225,13 @@ tell_once() {
 
 # ---- the shared object
 
-# Links the shared object for C from the archive.
+# Links the shared object for C from the archive, with a compiler if one is named.
 link_library() {
     local scratch
     scratch=$(mktemp) || return 1
     # Only the calls of the header are seen. All is bound at the start, and what the loader has filled in is read-only then.
     printf 'TI_%s {\n    global: ti_*;\n    local: *;\n};\n' "$(series)" >"$scratch"
-    gcc -shared -o "$2" -Wl,-soname,"libti.so.$(series)" -Wl,--version-script="$scratch" -Wl,-z,relro,-z,now \
+    "${3:-gcc}" -shared -o "$2" -Wl,-soname,"libti.so.$(series)" -Wl,--version-script="$scratch" -Wl,-z,relro,-z,now \
         -Wl,--whole-archive "$1" -Wl,--no-whole-archive || { rm "$scratch" && return 1; }
     rm "$scratch"
 }
