@@ -1,7 +1,7 @@
 /* Prints the file of a terminal's entry, as ncurses finds it: find [NAME]
  *
  * The library opens bytes, and its caller finds the file. open_entry below does so for NAME, or TERM, and can be copied. It looks
- * below TERMINFO, ~/.terminfo, the directories of TERMINFO_DIRS, where an empty one means those of the system, and those of the
+ * below TERMINFO, ~/.terminfo, the directories of TERMINFO_DIRS, where an empty one means /etc/terminfo, and those of the
  * system; in each below the first letter of the name or, as on macOS, its number. The status is 1 if there is no such file.
  *
  *     cc -o find find.c
@@ -32,8 +32,8 @@ static FILE *open_listed(const char *list, const char *name, char *path, size_t 
         size_t length = strcspn(list, ":");
         if (length > 0)
             file = open_below(list, (int)length, name, path, room);
-        else if (list != SYSTEM)
-            file = open_listed(SYSTEM, name, path, room);
+        else
+            file = open_below(SYSTEM, (int)strcspn(SYSTEM, ":"), name, path, room);
         if (list[length] == 0)
             break;
         list += length + 1;
