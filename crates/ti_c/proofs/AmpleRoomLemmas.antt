@@ -5,7 +5,7 @@ use Rattle.ti_words.specs.declared.Number.{Number}
 use Rattle.ti_words.specs.declared.Width.{Width}
 use Rattle.ti_words.specs.Marks.{byte_of_flag}
 use Rattle.ti_words.specs.Value.{PartValue, NamedPart, EntryValue}
-use Rattle.ti_words.specs.Spelling.{Spells, SpellsPart, Strings, HasStandardPart, HasExtendedPart, HasNoExtendedPart, Each, mark_in, unnamed, part_names, count_word, pad, numbers_of, join, counts_spelling, part_spelling}
+use Rattle.ti_words.specs.Spelling.{Spells, SpellsPart, Strings, HasStandardPart, HasExtendedPart, HasNoExtendedPart, Each, mark_in, without_names, part_names, count_word, pad, numbers_of, join, counts_spelling, part_spelling}
 use Rattle.ti_draft.proofs.LengthLemmas.{length_words, length_numbers}
 use Rattle.ti_draft.proofs.LengthLemmas.{length_part_names}
 use Rattle.ti_c.specs.Entries.{HasRoom, IsAmple}
@@ -48,7 +48,7 @@ standard_size bytes v s rest h =
 extended_size : (bytes : List ℕ) (v : EntryValue) (table_size : ℕ) → HasExtendedPart v table_size bytes
     → 3 * length v.extended.flags + 4 * length v.extended.numbers + 4 * length v.extended.texts ≤ length bytes
 extended_size bytes v table_size h =
-    let p = unnamed v.extended in
+    let p = without_names v.extended in
     let part = join (part_spelling v.width (length p.flags) p h.strings) [] in
     let after = h.items ++ (count_word (length h.strings.table) ++ part) in
     omega (

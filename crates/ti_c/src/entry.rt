@@ -229,7 +229,7 @@ fn fill<'a>(entry: &Entry<'a>, extended: &Extended<'a>, arrays: &mut Arrays<'a, 
         (part_names entry.now.extended) }
     ensures stay { StayInPlace arrays.old arrays.new }
 {
-    let (standard, extended_part) = (entry.standard(), extended.unnamed());
+    let (standard, extended_part) = (entry.standard(), extended.without_names());
     put_flags(&standard, arrays.flags, 0);
     put_flags(&extended_part, arrays.flags, standard.flag_count());
     put_numbers(&standard, arrays.numbers, 0);

@@ -8,7 +8,7 @@ use Rattle.ti_words.specs.declared.Width.{Width}
 use Rattle.ti_words.specs.Texts.{TextValue, TextOf}
 use Rattle.ti_words.specs.Value.{PartValue, EntryValue}
 use Rattle.ti_words.specs.Widths.{number_size}
-use Rattle.ti_words.specs.Spelling.{unnamed, part_names}
+use Rattle.ti_words.specs.Spelling.{without_names, part_names}
 use Rattle.ti_draft.specs.Canonical.{canonical, texts_table, present_count}
 use Rattle.ti_draft.specs.Lengths.{AreFew, part_length}
 use Rattle.ti_draft.specs.EncodeFaults.{encode_fault, has_nul, text_has_nul, is_out_of_range}
@@ -18,22 +18,22 @@ use Rattle.ti_draft.proofs.LengthLemmas.{length_standard, length_extended, lengt
 pub record Fit (v : EntryValue) : Type 0 where
   pub named : (length v.names == 0) ≡ false
   pub names : has_nul v.names ≡ false
-  pub own_names : list_any text_has_nul (map TextOf (part_names v.extended)) ≡ false
+  pub extended_names : list_any text_has_nul (map TextOf (part_names v.extended)) ≡ false
   pub texts : list_any text_has_nul v.standard.texts ≡ false
-  pub own_texts : list_any text_has_nul (unnamed v.extended).texts ≡ false
+  pub extended_texts : list_any text_has_nul (without_names v.extended).texts ≡ false
   pub numbers : list_any (is_out_of_range v.width) v.standard.numbers ≡ false
-  pub own_numbers : list_any (is_out_of_range v.width) (unnamed v.extended).numbers ≡ false
+  pub extended_numbers : list_any (is_out_of_range v.width) (without_names v.extended).numbers ≡ false
   pub short : length (canonical v) ≤ 2 ^ 15
 
 pub fit : (v : EntryValue) → encode_fault v ≡ None → Fit v
 fit v h = record {
   named = grind (arith, nat_tests);
   names = grind (arith, nat_tests);
-  own_names = grind (arith, nat_tests);
+  extended_names = grind (arith, nat_tests);
   texts = grind (arith, nat_tests);
-  own_texts = grind (arith, nat_tests);
+  extended_texts = grind (arith, nat_tests);
   numbers = grind (arith, nat_tests);
-  own_numbers = grind (arith, nat_tests);
+  extended_numbers = grind (arith, nat_tests);
   short = grind (arith, nat_tests);
 }
 
@@ -70,5 +70,5 @@ few_standard v h =
     let size = length_standard v in
     record { part = few v.width v.standard [] (omega arith); names = omega arith }
 
-pub few_extended : (v : EntryValue) → encode_fault v ≡ None → (length (part_names v.extended) == 0) ≡ false → AreFew (unnamed v.extended) (map TextOf (part_names v.extended))
-few_extended v h e = few v.width (unnamed v.extended) (part_names v.extended) (omega (arith, (fit v h).short, length_parts v false e, length_extended v))
+pub few_extended : (v : EntryValue) → encode_fault v ≡ None → (length (part_names v.extended) == 0) ≡ false → AreFew (without_names v.extended) (map TextOf (part_names v.extended))
+few_extended v h e = few v.width (without_names v.extended) (part_names v.extended) (omega (arith, (fit v h).short, length_parts v false e, length_extended v))

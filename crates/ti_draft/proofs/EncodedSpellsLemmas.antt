@@ -9,7 +9,7 @@ use Rattle.ti_words.specs.declared.Number.{Number}
 use Rattle.ti_words.specs.declared.Width.{Width}
 use Rattle.ti_words.specs.Texts.{TextValue, AbsentText, CancelledText, TextOf, is_nul}
 use Rattle.ti_words.specs.Value.{PartValue, NamedPart, EntryValue, no_named}
-use Rattle.ti_words.specs.Spelling.{Spells, SpellsPart, HasNoExtendedPart, HasExtendedPart, HasNoNul, FitsWidth, Has, IsText, IsName, Each, count_word, texts_size, unnamed, part_names}
+use Rattle.ti_words.specs.Spelling.{Spells, SpellsPart, HasNoExtendedPart, HasExtendedPart, HasNoNul, FitsWidth, Has, IsText, IsName, Each, count_word, texts_size, without_names, part_names}
 use Rattle.ti_draft.specs.Canonical.{canonical, texts_table, text_words, strings_of, standard_strings, extended_strings, items_of, extended_bytes}
 use Rattle.ti_draft.specs.Lengths.{AreFew}
 use Rattle.ti_draft.specs.EncodeFaults.{encode_fault, has_nul, text_has_nul, is_out_of_range}
@@ -119,5 +119,5 @@ canonical_spells v h =
           strings = extended_strings v;
           joined = refl;
           items_size = refl;
-          part = part_put v.width (unnamed v.extended) (part_names v.extended) (few_extended v h e) good.own_texts good.own_numbers good.own_names;
+          part = part_put v.width (without_names v.extended) (part_names v.extended) (few_extended v h e) good.extended_texts good.extended_numbers good.extended_names;
         }

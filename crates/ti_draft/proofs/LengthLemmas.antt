@@ -9,7 +9,7 @@ use Rattle.ti_words.specs.Marks.{word_of_number}
 use Rattle.ti_words.specs.Word.{low_bytes, word}
 use Rattle.ti_words.specs.Value.{NamedPart, EntryValue}
 use Rattle.ti_words.specs.Widths.{number_size}
-use Rattle.ti_words.specs.Spelling.{pad_len, words_of, numbers_of, join, standard_spelling, unnamed, part_names}
+use Rattle.ti_words.specs.Spelling.{pad_len, words_of, numbers_of, join, standard_spelling, without_names, part_names}
 use Rattle.ti_draft.specs.Canonical.{text_bytes, text_words, texts_table, standard_strings, extended_bytes, canonical}
 use Rattle.ti_draft.specs.Lengths.{part_length}
 use Rattle.ti_draft.proofs.JoinLemmas.{join_then}
@@ -55,7 +55,7 @@ standard_bytes v = join (standard_spelling v (standard_strings v)) []
 pub length_standard : (v : EntryValue) → length (standard_bytes v) ≡ 13 + length v.names + pad_len (length v.names + 1 + length v.standard.flags) + part_length v.width v.standard []
 length_standard v = simp lengths (omega arith)
 
-pub length_extended : (v : EntryValue) → length (extended_bytes v) ≡ pad_len (length (standard_strings v).table) + 10 + pad_len (length (unnamed v.extended).flags) + part_length v.width (unnamed v.extended) (map TextOf (part_names v.extended))
+pub length_extended : (v : EntryValue) → length (extended_bytes v) ≡ pad_len (length (standard_strings v).table) + 10 + pad_len (length (without_names v.extended).flags) + part_length v.width (without_names v.extended) (map TextOf (part_names v.extended))
 length_extended v = simp lengths (omega arith)
 
 -- an entry is its standard part, and then the extended part if there is a name

@@ -16,11 +16,11 @@ abbrev pub with_texts : EntryValue → List TextValue → EntryValue
 with_texts v texts = record v { standard = record v.standard { texts = v.standard.texts ++ texts } }
 
 -- with more that the entry names itself
-abbrev pub with_own_flags : EntryValue → List (List ℕ × Flag) → EntryValue
-with_own_flags v flags = record v { extended = record v.extended { flags = v.extended.flags ++ flags } }
+abbrev pub with_extended_flags : EntryValue → List (List ℕ × Flag) → EntryValue
+with_extended_flags v flags = record v { extended = record v.extended { flags = v.extended.flags ++ flags } }
 
-abbrev pub with_own_numbers : EntryValue → List (List ℕ × Number) → EntryValue
-with_own_numbers v numbers = record v { extended = record v.extended { numbers = v.extended.numbers ++ numbers } }
+abbrev pub with_extended_numbers : EntryValue → List (List ℕ × Number) → EntryValue
+with_extended_numbers v numbers = record v { extended = record v.extended { numbers = v.extended.numbers ++ numbers } }
 
-abbrev pub with_own_texts : EntryValue → List (List ℕ × TextValue) → EntryValue
-with_own_texts v texts = record v { extended = record v.extended { texts = v.extended.texts ++ texts } }
+abbrev pub with_extended_texts : EntryValue → List (List ℕ × TextValue) → EntryValue
+with_extended_texts v texts = record v { extended = record v.extended { texts = v.extended.texts ++ texts } }

@@ -2,7 +2,7 @@
 use Rattle.std.specs.Prelude.{ℕ, ◌+◌, ℤ, pos, negsuc, List, [], ◌∷◌, ◌++◌, length, map, if◌then◌else◌, ◌==◌}
 use Rattle.ti_words.specs.Texts.{TextValue, AbsentText, CancelledText, TextOf}
 use Rattle.ti_words.specs.Value.{PartValue, NamedPart, EntryValue}
-use Rattle.ti_words.specs.Spelling.{Strings, join, count_word, mark_in, text_size, unnamed, part_names, standard_spelling, extended_spelling}
+use Rattle.ti_words.specs.Spelling.{Strings, join, count_word, mark_in, text_size, without_names, part_names, standard_spelling, extended_spelling}
 
 -- the texts that are there, in their order, each with its NUL
 abbrev pub text_bytes : TextValue → List ℕ
@@ -44,7 +44,7 @@ abbrev pub standard_strings : EntryValue → Strings
 standard_strings v = strings_of v.standard []
 
 abbrev pub extended_strings : EntryValue → Strings
-extended_strings v = strings_of (unnamed v.extended) (map TextOf (part_names v.extended))
+extended_strings v = strings_of (without_names v.extended) (map TextOf (part_names v.extended))
 
 -- the word items counts the texts that are there and the names
 abbrev pub items_of : NamedPart → ℕ
@@ -52,7 +52,7 @@ items_of p = present_count (map mark_in p.texts) + length (part_names p)
 
 abbrev pub extended_bytes : EntryValue → List ℕ
 extended_bytes v =
-    join (extended_spelling (length (standard_strings v).table) (count_word (items_of v.extended)) v.width (unnamed v.extended) (extended_strings v)) []
+    join (extended_spelling (length (standard_strings v).table) (count_word (items_of v.extended)) v.width (without_names v.extended) (extended_strings v)) []
 
 -- an extended part is written if there is a name
 abbrev pub canonical : EntryValue → List ℕ

@@ -6,7 +6,7 @@
 ghost use Rattle.std.specs.Prelude.{◌≡◌, ◌==◌, ◌+◌, ◌∷◌, [], length, map, IsOk, OnOk, OnErr};
 ghost use Rattle.ti_words.specs.Texts.{text_value, TextOf};
 ghost use Rattle.ti_words.specs.Spelling.{mark_in, part_names};
-ghost use Rattle.ti_draft.specs.Additions.{with_flags, with_numbers, with_texts, with_own_flags, with_own_numbers, with_own_texts};
+ghost use Rattle.ti_draft.specs.Additions.{with_flags, with_numbers, with_texts, with_extended_flags, with_extended_numbers, with_extended_texts};
 ghost use Rattle.ti_draft.specs.Lists.{names_lent};
 
 use crate::named::Named;
@@ -119,7 +119,7 @@ impl<'a, A: Allocator> Draft<'a, A> {
 
     /// Adds a flag with its name after the other extended flags.
     pub fn push_extended_flag(&mut self, name: &'a [u8], flag: Flag) -> Result<(), AllocError>
-        ensures added { OnOk result (self.new ≡ with_own_flags self.old ((name.now, flag) ∷ [])) }
+        ensures added { OnOk result (self.new ≡ with_extended_flags self.old ((name.now, flag) ∷ [])) }
         ensures unchanged { OnErr result (self.new ≡ self.old) }
     {
         self.extended_flags.push(name, flag)
@@ -128,7 +128,7 @@ impl<'a, A: Allocator> Draft<'a, A> {
     /// Adds a number with its name after the other extended numbers.
     pub fn push_extended_number(&mut self, name: &'a [u8], number: Number) -> Result<(), AllocError>
         ensures added { OnOk result
-            (self.new ≡ with_own_numbers self.old ((name.now, number) ∷ [])) }
+            (self.new ≡ with_extended_numbers self.old ((name.now, number) ∷ [])) }
         ensures unchanged { OnErr result (self.new ≡ self.old) }
     {
         self.extended_numbers.push(name, number)
@@ -137,7 +137,7 @@ impl<'a, A: Allocator> Draft<'a, A> {
     /// Adds a text with its name after the other extended texts.
     pub fn push_extended_text(&mut self, name: &'a [u8], text: Text<'a>) -> Result<(), AllocError>
         ensures added { OnOk result
-            (self.new ≡ with_own_texts self.old ((name.now, text_value text.entry) ∷ [])) }
+            (self.new ≡ with_extended_texts self.old ((name.now, text_value text.entry) ∷ [])) }
         ensures unchanged { OnErr result (self.new ≡ self.old) }
     {
         self.extended_texts.push(name, text)

@@ -9,7 +9,7 @@ use Rattle.ti_words.specs.declared.Number.{Number}
 use Rattle.ti_words.specs.Items.{ExtendedSubject, FlagItem, Listed, NumberItem, StandardSubject, TextItem, extended_items, items, standard_items}
 use Rattle.ti_words.specs.Texts.{TextValue}
 use Rattle.ti_words.specs.Value.{EntryValue, NamedPart, PartValue, bare}
-use Rattle.ti_draft.specs.Additions.{with_flags, with_numbers, with_own_flags, with_own_numbers, with_own_texts, with_texts}
+use Rattle.ti_draft.specs.Additions.{with_flags, with_numbers, with_extended_flags, with_extended_numbers, with_extended_texts, with_texts}
 use Rattle.ti_entry.specs.Drafts.{with_item}
 
 -- ---- those of a kind
@@ -26,17 +26,17 @@ texts_added : (v : EntryValue) (n : ℕ) (xs : List TextValue) → fold with_ite
 texts_added v n [] = ap (λ l. record v { standard = record v.standard { texts = l } }) (sym (append-nil v.standard.texts))
 texts_added v n (x ∷ xs) = texts_added (with_texts v (x ∷ [])) (n + 1) xs ∙ ap (λ l. record v { standard = record v.standard { texts = l } }) (append_assoc v.standard.texts (x ∷ []) xs)
 
-own_flags_added : (v : EntryValue) (xs : List (List ℕ × Flag)) → fold with_item v (map (λ named. (ExtendedSubject kinds.Flag named.0, FlagItem named.1)) xs) ≡ with_own_flags v xs
-own_flags_added v [] = ap (λ l. record v { extended = record v.extended { flags = l } }) (sym (append-nil v.extended.flags))
-own_flags_added v (x ∷ xs) = own_flags_added (with_own_flags v (x ∷ [])) xs ∙ ap (λ l. record v { extended = record v.extended { flags = l } }) (append_assoc v.extended.flags (x ∷ []) xs)
+extended_flags_added : (v : EntryValue) (xs : List (List ℕ × Flag)) → fold with_item v (map (λ named. (ExtendedSubject kinds.Flag named.0, FlagItem named.1)) xs) ≡ with_extended_flags v xs
+extended_flags_added v [] = ap (λ l. record v { extended = record v.extended { flags = l } }) (sym (append-nil v.extended.flags))
+extended_flags_added v (x ∷ xs) = extended_flags_added (with_extended_flags v (x ∷ [])) xs ∙ ap (λ l. record v { extended = record v.extended { flags = l } }) (append_assoc v.extended.flags (x ∷ []) xs)
 
-own_numbers_added : (v : EntryValue) (xs : List (List ℕ × Number)) → fold with_item v (map (λ named. (ExtendedSubject kinds.Number named.0, NumberItem named.1)) xs) ≡ with_own_numbers v xs
-own_numbers_added v [] = ap (λ l. record v { extended = record v.extended { numbers = l } }) (sym (append-nil v.extended.numbers))
-own_numbers_added v (x ∷ xs) = own_numbers_added (with_own_numbers v (x ∷ [])) xs ∙ ap (λ l. record v { extended = record v.extended { numbers = l } }) (append_assoc v.extended.numbers (x ∷ []) xs)
+extended_numbers_added : (v : EntryValue) (xs : List (List ℕ × Number)) → fold with_item v (map (λ named. (ExtendedSubject kinds.Number named.0, NumberItem named.1)) xs) ≡ with_extended_numbers v xs
+extended_numbers_added v [] = ap (λ l. record v { extended = record v.extended { numbers = l } }) (sym (append-nil v.extended.numbers))
+extended_numbers_added v (x ∷ xs) = extended_numbers_added (with_extended_numbers v (x ∷ [])) xs ∙ ap (λ l. record v { extended = record v.extended { numbers = l } }) (append_assoc v.extended.numbers (x ∷ []) xs)
 
-own_texts_added : (v : EntryValue) (xs : List (List ℕ × TextValue)) → fold with_item v (map (λ named. (ExtendedSubject kinds.Text named.0, TextItem named.1)) xs) ≡ with_own_texts v xs
-own_texts_added v [] = ap (λ l. record v { extended = record v.extended { texts = l } }) (sym (append-nil v.extended.texts))
-own_texts_added v (x ∷ xs) = own_texts_added (with_own_texts v (x ∷ [])) xs ∙ ap (λ l. record v { extended = record v.extended { texts = l } }) (append_assoc v.extended.texts (x ∷ []) xs)
+extended_texts_added : (v : EntryValue) (xs : List (List ℕ × TextValue)) → fold with_item v (map (λ named. (ExtendedSubject kinds.Text named.0, TextItem named.1)) xs) ≡ with_extended_texts v xs
+extended_texts_added v [] = ap (λ l. record v { extended = record v.extended { texts = l } }) (sym (append-nil v.extended.texts))
+extended_texts_added v (x ∷ xs) = extended_texts_added (with_extended_texts v (x ∷ [])) xs ∙ ap (λ l. record v { extended = record v.extended { texts = l } }) (append_assoc v.extended.texts (x ∷ []) xs)
 
 -- ---- all of them
 
@@ -52,14 +52,14 @@ standard_added v p =
     ∙ ap (λ w. fold with_item w (map (λ at. (StandardSubject kinds.Text at.0, TextItem at.1)) (enumerate_from 0 p.texts))) (numbers_added (with_flags v p.flags) 0 p.numbers)
     ∙ texts_added (with_numbers (with_flags v p.flags) p.numbers) 0 p.texts
 
-extended_added : (v : EntryValue) (p : NamedPart) → fold with_item v (extended_items p) ≡ with_own_texts (with_own_numbers (with_own_flags v p.flags) p.numbers) p.texts
+extended_added : (v : EntryValue) (p : NamedPart) → fold with_item v (extended_items p) ≡ with_extended_texts (with_extended_numbers (with_extended_flags v p.flags) p.numbers) p.texts
 extended_added v p =
     three v (map (λ named. (ExtendedSubject kinds.Flag named.0, FlagItem named.1)) p.flags) (map (λ named. (ExtendedSubject kinds.Number named.0, NumberItem named.1)) p.numbers)
     (map (λ named. (ExtendedSubject kinds.Text named.0, TextItem named.1)) p.texts)
     ∙ ap (λ w. fold with_item (fold with_item w (map (λ named. (ExtendedSubject kinds.Number named.0, NumberItem named.1)) p.numbers)) (map (λ named. (ExtendedSubject kinds.Text named.0, TextItem named.1)) p.texts))
-    (own_flags_added v p.flags)
-    ∙ ap (λ w. fold with_item w (map (λ named. (ExtendedSubject kinds.Text named.0, TextItem named.1)) p.texts)) (own_numbers_added (with_own_flags v p.flags) p.numbers)
-    ∙ own_texts_added (with_own_numbers (with_own_flags v p.flags) p.numbers) p.texts
+    (extended_flags_added v p.flags)
+    ∙ ap (λ w. fold with_item w (map (λ named. (ExtendedSubject kinds.Text named.0, TextItem named.1)) p.texts)) (extended_numbers_added (with_extended_flags v p.flags) p.numbers)
+    ∙ extended_texts_added (with_extended_numbers (with_extended_flags v p.flags) p.numbers) p.texts
 
 pub all_added : (v : EntryValue) → fold with_item (bare v.width v.names) (items v) ≡ v
 all_added v =

@@ -11,15 +11,15 @@ use Rattle.ti_layout.specs.declared.fault.Fault.TheVariants.{BadExtendedHeader}
 use Rattle.ti_layout.specs.declared.part.Part.{Part}
 use Rattle.ti_words.specs.Word.{unsigned_at}
 use Rattle.ti_layout.specs.Layout.{standard, extended_after, no_capability, places, flags_end, offsets_from, end_of, extended_from}
-use Rattle.ti_words.specs.Spelling.{pad_len, Spells, SpellsPart, HasExtendedPart, count_word, pad, join, part_spelling, extended_spelling, part_names, unnamed}
+use Rattle.ti_words.specs.Spelling.{pad_len, Spells, SpellsPart, HasExtendedPart, count_word, pad, join, part_spelling, extended_spelling, part_names, without_names}
 use Rattle.ti_layout.specs.Table.{table_of, base_of}
 use Rattle.ti_layout.specs.Checks.{Passes, Ends, verdict, pad_checks, ending_check, table_check, end_check}
 use Rattle.ti_layout.specs.declared.section.Half.TheVariants.{Extended}
 use Rattle.ti_layout.specs.declared.section.Section.TheVariants.{TableEnd, End}
-use Rattle.ti_layout.specs.declared.section.Item.TheVariants as item
+use Rattle.ti_layout.specs.declared.section.SectionItem.TheVariants as item
 use Rattle.ti_layout.specs.Refusal.{checks, extended_header_checks, extended_sections, extended_size_check, item_check, items, items_checks, room_check, section_checks, standard_sections}
 use Rattle.ti_layout.proofs.EndsLemmas.{SectionPasses, sections_pass, room_passes}
-use Rattle.ti_layout.specs.Content.{part_in, content_with, content, own_part}
+use Rattle.ti_layout.specs.Content.{part_in, content_with, content, extended_part}
 use Rattle.ti_layout.proofs.PassesLemmas.{first_passes}
 use Rattle.ti_layout.proofs.WordLemmas.{IsBytes}
 use Rattle.ti_layout.proofs.SectionReadLemmas.{both_pass, each_passed}
@@ -45,11 +45,11 @@ end_is : (len end : ℕ) → verdict len (end_check end ∷ []) ≡ Ends true �
 end_is len end e = grind (arith, nat_tests)
 
 extended_passes : (bytes : List ℕ) → IsBytes bytes → SectionPasses bytes TableEnd → AllByRecursion (SectionPasses bytes) extended_sections → verdict (length bytes) (flat_map (section_checks bytes) (End ∷ [])) ≡ Ends true
-    → ExtendedPasses bytes (standard bytes) (own_part bytes)
+    → ExtendedPasses bytes (standard bytes) (extended_part bytes)
 extended_passes bytes fits room k e =
     let len = length bytes in
     let s = standard bytes in
-    let x = own_part bytes in
+    let x = extended_part bytes in
     let from = extended_from s in
     let header = both_pass len (items_checks bytes (items (item.Sign BadExtendedHeader) from 3)) (extended_header_checks bytes s) k.0 in
     let signs = each_passed (item_check bytes (item.Sign BadExtendedHeader)) len from 2 3 header.0 in
@@ -101,7 +101,7 @@ extended_found bytes s x fits is k =
     let t1 = joins bytes (count_word (length p.flags)) _ from 2 (from + 2) refl (k.flags.bytes_are ∙ ap count_word (sym (counts.of_flags ∙ f0))) t2 in
     let t0 = joins bytes (pad s.table) _ (end_of s) (pad_len s.table) from (omega arith) (pad_is bytes (end_of s) s.table pad_even k.outer_pad) t1 in
     let shape : Width → PartValue → List ℕ = λ w q. join (extended_spelling s.table items w q strings) [] in
-    let said : unnamed v.extended ≡ p = values_are bytes x (base_of bytes x) in
+    let said : without_names v.extended ≡ p = values_are bytes x (base_of bytes x) in
     let few : HasFew x = record { flags = rw f0 k.flags.small; numbers = rw f1 k.numbers.small; texts = rw f2 k.texts.small; table = rw f3 k.table.small } in
     let found = part_found bytes x fits k.part (omega arith) few in
     record {
@@ -109,7 +109,7 @@ extended_found bytes s x fits is k =
       strings = strings;
       joined = t0 ∙ ap (λ w. shape w p) width ∙ ap (shape s.width) (sym said);
       items_size = length-take-le 2 (drop (from + 6) bytes) (omega (arith, length-drop (from + 6) bytes));
-      part = subst (λ w. SpellsPart w strings (unnamed v.extended) (part_names v.extended)) width
+      part = subst (λ w. SpellsPart w strings (without_names v.extended) (part_names v.extended)) width
           (subst (λ q. SpellsPart x.width strings q (part_names v.extended)) (sym said)
           (subst (λ names. SpellsPart x.width strings p names) (sym (all_names_in bytes x (base_of bytes x) named)) found));
     }
@@ -123,7 +123,7 @@ found bytes fits h =
   where
     by_end : (b : Bool) → leb (length bytes) (end_of (standard bytes)) ≡ b → HasPlain bytes
         → verdict (length bytes) (flat_map (section_checks bytes) later_sections) ≡ Ends true
-        → Spells bytes (content_with bytes (standard bytes) (cond b no_capability (own_part bytes)))
+        → Spells bytes (content_with bytes (standard bytes) (cond b no_capability (extended_part bytes)))
     by_end true e plain k =
         let le : length bytes ≤ end_of (standard bytes) = leb-true _ _ e in
         let fit = plain.fits in
@@ -136,7 +136,7 @@ found bytes fits h =
         }
     by_end false e plain k =
         let s = standard bytes in
-        let x = own_part bytes in
+        let x = extended_part bytes in
         let above : end_of s < length bytes = omega (arith, leb-false (length bytes) (end_of s) e) in
         let room = room_passes bytes (flat_map (section_checks bytes) (extended_sections ++ (End ∷ []))) above k in
         let rest = sections_pass bytes extended_sections (End ∷ []) (refl, (refl, (refl, (refl, (refl, tt))))) room.ends in

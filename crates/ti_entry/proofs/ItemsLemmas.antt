@@ -11,7 +11,7 @@ use Rattle.ti_words.specs.declared.Number.TheVariants as numbers
 use Rattle.ti_words.specs.declared.Width.{Width}
 use Rattle.ti_words.specs.declared.Width.TheVariants as widths
 use Rattle.ti_words.specs.Items.{ItemValue, Listed, StandardSubject, ExtendedSubject, FlagItem, NumberItem, TextItem, items, standard_items, extended_items}
-use Rattle.ti_words.specs.Spelling.{mark_in, name_in, unnamed}
+use Rattle.ti_words.specs.Spelling.{mark_in, name_in, without_names}
 use Rattle.ti_words.specs.Texts.{AbsentText}
 use Rattle.ti_words.specs.Value.{EntryValue, NamedPart, PartValue}
 use Rattle.ti_words.specs.Widths.{number_size}
@@ -84,8 +84,8 @@ standard_at p place kinds.Text i d lt is =
     ∙ in_third (map f (enumerate_from 0 p.flags)) (map n (enumerate_from 0 p.numbers)) (map t (enumerate_from 0 p.texts)) i d
     ∙ numbered t p.texts i d AbsentText (omega (arith, is, lt))
 
-extended_at : (p : NamedPart) (place : ℕ) (kind : Kind) (i : ℕ) (d : Listed) → place < count_of (unnamed p) → StandsAt (unnamed p) place kind i
-    → get_or (extended_items p) place d ≡ (ExtendedSubject kind (get_or (names_of p kind) i []), item_in (unnamed p) kind i)
+extended_at : (p : NamedPart) (place : ℕ) (kind : Kind) (i : ℕ) (d : Listed) → place < count_of (without_names p) → StandsAt (without_names p) place kind i
+    → get_or (extended_items p) place d ≡ (ExtendedSubject kind (get_or (names_of p kind) i []), item_in (without_names p) kind i)
 extended_at p place kinds.Flag i d lt (is, low) =
     let f : List ℕ × _ → Listed = λ named. (ExtendedSubject kinds.Flag named.0, FlagItem named.1) in
     let below : i < length p.flags = omega (arith, low, mapped mark_in p.flags) in
@@ -121,7 +121,7 @@ count_standard p =
       count_numbered t p.texts,
     )
 
-count_extended : (p : NamedPart) → length (extended_items p) ≡ count_of (unnamed p)
+count_extended : (p : NamedPart) → length (extended_items p) ≡ count_of (without_names p)
 count_extended p =
     let f : List ℕ × _ → Listed = λ named. (ExtendedSubject kinds.Flag named.0, FlagItem named.1) in
     let n : List ℕ × _ → Listed = λ named. (ExtendedSubject kinds.Number named.0, NumberItem named.1) in
@@ -153,29 +153,29 @@ standard_next v part now place count kind i item is of_entry counted lt at said 
     (λ d. get_or_append_left own (extended_items v.extended) d place low ∙ standard_at p place kind i d (omega (arith, low, count_standard p)) stands) in
     sym is ∙ next ∙ ap (λ x. (StandardSubject kind i, x) ∷ drop (place + 1) (items v)) (sym (said ∙ ap (λ q. item_in q kind i) of_entry))
 
-pub extended_next : (v : EntryValue) (part unnamed_part : PartValue) (own : NamedPart) (now : List Listed) (place count more : ℕ) (kind : Kind) (i : ℕ) (name : List ℕ) (item : ItemValue)
-    → drop place (items v) ≡ now → part ≡ v.standard → count ≡ count_of part → count ≤ place → own ≡ v.extended → unnamed_part ≡ unnamed own → more ≡ count_of unnamed_part
-    → place - count < more → StandsAt unnamed_part (place - count) kind i → name ≡ get_or (names_of own kind) i [] → item ≡ item_in unnamed_part kind i
+pub extended_next : (v : EntryValue) (part part_without_names : PartValue) (own : NamedPart) (now : List Listed) (place count more : ℕ) (kind : Kind) (i : ℕ) (name : List ℕ) (item : ItemValue)
+    → drop place (items v) ≡ now → part ≡ v.standard → count ≡ count_of part → count ≤ place → own ≡ v.extended → part_without_names ≡ without_names own → more ≡ count_of part_without_names
+    → place - count < more → StandsAt part_without_names (place - count) kind i → name ≡ get_or (names_of own kind) i [] → item ≡ item_in part_without_names kind i
     → now ≡ (ExtendedSubject kind name, item) ∷ drop (place + 1) (items v)
-extended_next v part unnamed_part own now place count more kind i name item is of_entry counted le of_extended of_own counted_more lt at called said =
+extended_next v part part_without_names own now place count more kind i name item is of_entry counted le of_extended of_own counted_more lt at called said =
     let p = v.extended in
     let before = standard_items v.standard in
     let k = place - count in
-    let same : unnamed_part ≡ unnamed p = of_own ∙ ap unnamed of_extended in
-    let stands : StandsAt (unnamed p) k kind i = subst (λ q. StandsAt q k kind i) same at in
-    let low : k < count_of (unnamed p) = omega (arith, lt, counted_more, ap count_of same) in
+    let same : part_without_names ≡ without_names p = of_own ∙ ap without_names of_extended in
+    let stands : StandsAt (without_names p) k kind i = subst (λ q. StandsAt q k kind i) same at in
+    let low : k < count_of (without_names p) = omega (arith, lt, counted_more, ap count_of same) in
     let at_place : place ≡ length before + k = omega (arith, le, counted, ap count_of of_entry, count_standard v.standard) in
-    let x : Listed = (ExtendedSubject kind (get_or (names_of p kind) i []), item_in (unnamed p) kind i) in
+    let x : Listed = (ExtendedSubject kind (get_or (names_of p kind) i []), item_in (without_names p) kind i) in
     let next = goes_on (items v) place x (omega (arith, at_place, low, length-append before (extended_items p), count_extended p))
     (λ d. ap (λ n. get_or (items v) n d) at_place ∙ get_or-append-add before (extended_items p) k d ∙ extended_at p k kind i d low stands) in
     sym is ∙ next
-    ∙ ap (λ s. (ExtendedSubject kind s, item_in (unnamed p) kind i) ∷ drop (place + 1) (items v)) (sym (called ∙ ap (λ q. get_or (names_of q kind) i []) of_extended))
+    ∙ ap (λ s. (ExtendedSubject kind s, item_in (without_names p) kind i) ∷ drop (place + 1) (items v)) (sym (called ∙ ap (λ q. get_or (names_of q kind) i []) of_extended))
     ∙ ap (λ y. (ExtendedSubject kind name, y) ∷ drop (place + 1) (items v)) (sym (said ∙ ap (λ q. item_in q kind i) same))
 
 -- nothing stands at or above the counts of both parts
-pub at_end : (v : EntryValue) (part unnamed_part : PartValue) (own : NamedPart) (now : List Listed) (place count more : ℕ) → drop place (items v) ≡ now → part ≡ v.standard
-    → count ≡ count_of part → count ≤ place → own ≡ v.extended → unnamed_part ≡ unnamed own → more ≡ count_of unnamed_part → more ≤ place - count → now ≡ []
-at_end v part unnamed_part own now place count more is of_entry counted le of_extended of_own counted_more above =
+pub at_end : (v : EntryValue) (part part_without_names : PartValue) (own : NamedPart) (now : List Listed) (place count more : ℕ) → drop place (items v) ≡ now → part ≡ v.standard
+    → count ≡ count_of part → count ≤ place → own ≡ v.extended → part_without_names ≡ without_names own → more ≡ count_of part_without_names → more ≤ place - count → now ≡ []
+at_end v part part_without_names own now place count more is of_entry counted le of_extended of_own counted_more above =
     sym is ∙ drop_all place (items v) (omega (
       arith,
       le,
@@ -183,7 +183,7 @@ at_end v part unnamed_part own now place count more is of_entry counted le of_ex
       counted,
       counted_more,
       ap count_of of_entry,
-      ap count_of (of_own ∙ ap unnamed of_extended),
+      ap count_of (of_own ∙ ap without_names of_extended),
       length-append (standard_items v.standard) (extended_items v.extended),
       count_standard v.standard,
       count_extended v.extended,

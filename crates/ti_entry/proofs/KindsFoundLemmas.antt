@@ -4,7 +4,7 @@ use Rattle.std.proofs.lemmas.Bool.{cases_lt, eqb-true}
 use Rattle.std.specs.List.{AllByRecursion}
 use Rattle.ti_words.specs.declared.Width.{Width}
 use Rattle.ti_words.specs.Marks.{byte_of_flag, word_of_number}
-use Rattle.ti_layout.specs.declared.section.Item.TheVariants as item
+use Rattle.ti_layout.specs.declared.section.SectionItem.TheVariants as item
 use Rattle.ti_layout.specs.Refusal.{item_check, items, items_checks}
 use Rattle.ti_layout.specs.declared.fault.Fault.{Fault}
 use Rattle.ti_layout.specs.declared.fault.Fault.TheVariants.{BadPad}

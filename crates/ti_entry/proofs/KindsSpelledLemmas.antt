@@ -11,7 +11,7 @@ use Rattle.ti_words.specs.declared.Number.TheVariants as numbers
 use Rattle.ti_words.specs.declared.Width.{Width}
 use Rattle.ti_words.specs.Marks.{byte_of_flag, word_of_number, flag_of_byte, number_of_word}
 use Rattle.ti_words.specs.Texts.{TextValue, TextOf, is_nul}
-use Rattle.ti_layout.specs.declared.section.Item.TheVariants as item
+use Rattle.ti_layout.specs.declared.section.SectionItem.TheVariants as item
 use Rattle.ti_layout.specs.Refusal.{item_check}
 use Rattle.ti_layout.specs.declared.fault.Fault.TheVariants.{BadPad}
 use Rattle.ti_words.specs.Word.{unsigned_at, word}

@@ -15,7 +15,7 @@ use Rattle.ti_layout.specs.Table.{text_of_word, size_at, sizes_at, table_of, bas
 use Rattle.ti_layout.specs.Content.{flag_at, number_at, text_at, name_from, texts_in, names_in, part_in, named_part_in}
 use Rattle.ti_entry.specs.Finding.{names_of}
 use Rattle.ti_layout.proofs.PlacesLemmas.{length_places, places_append}
-use Rattle.ti_words.specs.Spelling.{text_size, texts_size, name_in, mark_in, unnamed, part_names}
+use Rattle.ti_words.specs.Spelling.{text_size, texts_size, name_in, mark_in, without_names, part_names}
 
 -- ---- count items, each with its name
 
@@ -32,7 +32,7 @@ pub ruleset pairs = (length_places, length-zip, marks_of_pairs, names_of_pairs)
 
 -- ---- the values of an extended part, and its names
 
-pub values_are : (bytes : List ℕ) (x : Part) (base : ℕ) → unnamed (named_part_in bytes x base) ≡ part_in bytes x
+pub values_are : (bytes : List ℕ) (x : Part) (base : ℕ) → without_names (named_part_in bytes x base) ≡ part_in bytes x
 values_are bytes x base = simp marks_of_pairs
 
 pub names_are : (bytes : List ℕ) (x : Part) (base : ℕ) (kind : Kind) → names_of (named_part_in bytes x base) kind ≡ names_in bytes x base kind
@@ -83,7 +83,7 @@ zip_again [] = refl
 zip_again (x ∷ xs) = ap (λ (t : List _). x ∷ t) (zip_again xs)
 
 -- parts with the same values and the same names
-pub same_named : (v w : NamedPart) → unnamed v ≡ unnamed w → part_names v ≡ part_names w → v ≡ w
+pub same_named : (v w : NamedPart) → without_names v ≡ without_names w → part_names v ≡ part_names w → v ≡ w
 same_named v w values all =
     let f : map mark_in v.flags ≡ map mark_in w.flags = ap (λ (p : PartValue). p.flags) values in
     let n : map mark_in v.numbers ≡ map mark_in w.numbers = ap (λ (p : PartValue). p.numbers) values in
@@ -121,7 +121,7 @@ sizes_in table bytes place (suc count) =
 pub sizes_are_base : (bytes : List ℕ) (p : Part) → texts_size (texts_in bytes p) ≡ base_of bytes p
 sizes_are_base bytes p = sizes_in (table_of bytes p) bytes (offsets_from p) p.texts
 
-pub base_named : (bytes : List ℕ) (x : Part) → texts_size (unnamed (named_part_in bytes x (base_of bytes x))).texts ≡ base_of bytes x
+pub base_named : (bytes : List ℕ) (x : Part) → texts_size (without_names (named_part_in bytes x (base_of bytes x))).texts ≡ base_of bytes x
 base_named bytes x = ap (λ (p : PartValue). texts_size p.texts) (values_are bytes x (base_of bytes x)) ∙ sizes_are_base bytes x
 
 -- without names there is no text either

@@ -15,9 +15,9 @@ use Rattle.ti_layout.specs.Checks.{Check, Passes, verdict, pad_checks, ending_ch
 use Rattle.ti_layout.specs.declared.section.Half.{Half}
 use Rattle.ti_layout.specs.declared.section.Section.{Section}
 use Rattle.ti_layout.specs.declared.section.Section.TheVariants.{TableEnd, End}
-use Rattle.ti_layout.specs.declared.section.Item.TheVariants as item
+use Rattle.ti_layout.specs.declared.section.SectionItem.TheVariants as item
 use Rattle.ti_layout.specs.Refusal.{extended_sections, item_check, items, items_checks, part_of, part_sections, text_checks}
-use Rattle.ti_layout.specs.Content.{text_at, name_from, flags_in, numbers_in, texts_in, part_in, own_part}
+use Rattle.ti_layout.specs.Content.{text_at, name_from, flags_in, numbers_in, texts_in, part_in, extended_part}
 use Rattle.ti_layout.proofs.EndsLemmas.{SectionPasses}
 use Rattle.ti_layout.proofs.NamePlaceChecksLemmas.{table_length}
 use Rattle.ti_layout.proofs.PassesLemmas.{first_passes}
@@ -54,10 +54,10 @@ pub record PartPasses (bytes : List ℕ) (p : Part) : Type 0 where
   pub name_places : Passes ≡ verdict (length bytes) (all_name_place_checks bytes (table_of bytes p) (base_of bytes p) (end_of p) (places (names_from p) 2 p.names))
 
 -- the four sections of a part pass
-pub part_passes : (bytes : List ℕ) (half : Half) → AllByRecursion (SectionPasses bytes) (part_sections half) → PartPasses bytes (part_of half (standard bytes) (own_part bytes))
+pub part_passes : (bytes : List ℕ) (half : Half) → AllByRecursion (SectionPasses bytes) (part_sections half) → PartPasses bytes (part_of half (standard bytes) (extended_part bytes))
 part_passes bytes half h =
     let len = length bytes in
-    let p = part_of half (standard bytes) (own_part bytes) in
+    let p = part_of half (standard bytes) (extended_part bytes) in
     let flags = both_pass len (items_checks bytes (items item.Flag p.flags_from p.flags)) (pad_checks bytes (flags_end p)) h.0 in
     let numbers = both_pass len (items_checks bytes (items (item.Number p.width) (numbers_from p) p.numbers)) [] h.1.0 in
     let offsets = both_pass len (items_checks bytes (items (item.Offset p.table) (offsets_from p) p.texts)) [] h.1.1.0 in
@@ -68,10 +68,10 @@ part_passes bytes half h =
 pub text_checks_pass : (bytes : List ℕ) (p : Part) → PartPasses bytes p → Passes ≡ verdict (length bytes) (text_checks bytes p)
 text_checks_pass bytes p h = append_pass (length bytes) (ending_checks bytes (table_of bytes p) (end_of p) (offsets_from p) p.texts) _ h.endings h.name_places
 
-pub passes_part : (bytes : List ℕ) (half : Half) → PartPasses bytes (part_of half (standard bytes) (own_part bytes)) → AllByRecursion (SectionPasses bytes) (part_sections half)
+pub passes_part : (bytes : List ℕ) (half : Half) → PartPasses bytes (part_of half (standard bytes) (extended_part bytes)) → AllByRecursion (SectionPasses bytes) (part_sections half)
 passes_part bytes half h =
     let len = length bytes in
-    let p = part_of half (standard bytes) (own_part bytes) in
+    let p = part_of half (standard bytes) (extended_part bytes) in
     let flags = append_pass len (items_checks bytes (items item.Flag p.flags_from p.flags)) (pad_checks bytes (flags_end p)) h.flags h.zero in
     let numbers = append_pass len (items_checks bytes (items (item.Number p.width) (numbers_from p) p.numbers)) [] h.numbers refl in
     let offsets = append_pass len (items_checks bytes (items (item.Offset p.table) (offsets_from p) p.texts)) [] h.offsets refl in
@@ -166,18 +166,18 @@ part_with w from v names s = record {
 }
 
 -- what a reading makes of them, and what follows them
-pub record PartRead (bytes : List ℕ) (p : Part) (v : PartValue) (own_names : List (List ℕ)) (rest : List ℕ) : Type 0 where
+pub record PartRead (bytes : List ℕ) (p : Part) (v : PartValue) (its_names : List (List ℕ)) (rest : List ℕ) : Type 0 where
   pub passes : PartPasses bytes p
   pub said : part_in bytes p ≡ v
-  pub names : map (name_from bytes p (base_of bytes p)) (places (names_from p) 2 p.names) ≡ own_names
+  pub names : map (name_from bytes p (base_of bytes p)) (places (names_from p) 2 p.names) ≡ its_names
   pub next : HasFrom bytes (end_of p) rest
 
-pub part_read : (bytes rest : List ℕ) (w : Width) (from m : ℕ) (v : PartValue) (own_names : List (List ℕ)) (s : Strings)
-    → flags_end (part_with w from v own_names s) % 2 ≡ pad_len m → SpellsPart w s v own_names → HasFrom bytes from (join (part_spelling w m v s) rest)
-    → PartRead bytes (part_with w from v own_names s) v own_names rest
-part_read bytes rest w from m v own_names s even h there =
+pub part_read : (bytes rest : List ℕ) (w : Width) (from m : ℕ) (v : PartValue) (its_names : List (List ℕ)) (s : Strings)
+    → flags_end (part_with w from v its_names s) % 2 ≡ pad_len m → SpellsPart w s v its_names → HasFrom bytes from (join (part_spelling w m v s) rest)
+    → PartRead bytes (part_with w from v its_names s) v its_names rest
+part_read bytes rest w from m v its_names s even h there =
     let len = length bytes in
-    let p = part_with w from v own_names s in
+    let p = part_with w from v its_names s in
     let base = texts_size v.texts in
     let table = s.table in
     let q6 = table ++ rest in
@@ -193,7 +193,7 @@ part_read bytes rest w from m v own_names s even h there =
     texts_read bytes table q5 (offsets_from p) s.offsets v.texts c one h.small_table h.texts_there n.next in
     let t = texts (item_check bytes (item.Offset (length table))) (λ q z k g. record { long = k.room; holds = ap (is_offset_below (length table)) k.is ∙ g.below_size }) in
     let names = λ (c : ℕ → Check) (one : (q n : ℕ) (t : List ℕ) → CountAt bytes q n t → IsGood table (pos (base + n)) → Passed len (c q)).
-    names_read bytes table q6 base (names_from p) s.name_offsets own_names c one h.small_table h.names_there t.next in
+    names_read bytes table q6 base (names_from p) s.name_offsets its_names c one h.small_table h.names_there t.next in
     let o = names (item_check bytes (item.Sign BadExtendedName)) (λ q n t k g. k.passed BadExtendedName) in
     let end = after bytes table rest (table_from p) (length table) (end_of p) refl refl o.next in
     let long : end_of p ≤ len = omega (arith, end.room) in

@@ -8,18 +8,18 @@ use Rattle.ti_layout.specs.declared.part.Part.{Part}
 use Rattle.ti_words.specs.Value.{EntryValue}
 use Rattle.ti_words.specs.Word.{unsigned_at}
 use Rattle.ti_layout.specs.Layout.{standard, extended_after, no_capability, flags_end, end_of, extended_from, IsWithin}
-use Rattle.ti_words.specs.Spelling.{pad_len, Spells, HasExtendedPart, HasNoExtendedPart, count_word, join, part_spelling, part_names, unnamed}
+use Rattle.ti_words.specs.Spelling.{pad_len, Spells, HasExtendedPart, HasNoExtendedPart, count_word, join, part_spelling, part_names, without_names}
 use Rattle.ti_layout.specs.Table.{base_of}
 use Rattle.ti_layout.specs.Checks.{Passes, Ends, verdict, pad_checks, end_check, failure_of}
 use Rattle.std.specs.List.{AllByRecursion, flat_map}
 use Rattle.ti_layout.specs.declared.section.Half.TheVariants.{Extended}
 use Rattle.ti_layout.specs.declared.section.Section.TheVariants.{TableEnd, End}
-use Rattle.ti_layout.specs.declared.section.Item.TheVariants as item
+use Rattle.ti_layout.specs.declared.section.SectionItem.TheVariants as item
 use Rattle.ti_layout.specs.Refusal.{checks, extended_header_checks, extended_sections, extended_size_check, failure, items, items_checks, room_check, section_checks, standard_sections}
 use Rattle.ti_layout.proofs.EndsLemmas.{SectionPasses, passed_sections}
 use Rattle.ti_layout.proofs.NamePlaceChecksLemmas.{base_most}
 use Rattle.ti_layout.proofs.SectionReadLemmas.{Passed}
-use Rattle.ti_layout.specs.Content.{content_with, content, extended, own_part}
+use Rattle.ti_layout.specs.Content.{content_with, content, extended, extended_part}
 use Rattle.ti_entry.proofs.SpelledItemsLemmas.{HasFrom, after, count_at, passes_one, passes_list}
 use Rattle.ti_entry.proofs.KindsSpelledLemmas.{pad_read}
 use Rattle.ti_entry.proofs.NamedItemsLemmas.{values_are, all_names_in, base_is, same_named}
@@ -52,7 +52,7 @@ extended_read : (bytes rest : List ℕ) (v : EntryValue) (h : Part) → h ≡ st
 extended_read bytes rest v h is width short there s =
     let len = length bytes in
     let w = v.width in
-    let p = unnamed v.extended in
+    let p = without_names v.extended in
     let names = part_names v.extended in
     let few = s.part in
     let from = extended_from h in
@@ -80,7 +80,7 @@ extended_read bytes rest v h is width short there s =
     let h4 = c4.is in
     let header : extended_after h bytes ≡ x = rw (h1, h2, h3, h4, named, width) refl in
     let c = content_with bytes h x in
-    let values_same : unnamed v.extended ≡ unnamed c.extended = sym (values_are bytes x (base_of bytes x) ∙ r.said) in
+    let values_same : without_names v.extended ≡ without_names c.extended = sym (values_are bytes x (base_of bytes x) ∙ r.said) in
     let names_same : part_names v.extended ≡ part_names c.extended = sym r.names ∙ sym (all_names_in bytes x (base_of bytes x) named) in
     let base : base_of bytes x ≤ end_of x = omega (arith, sym (base_is bytes x (omega arith)), base_most bytes x (omega arith) (text_checks_pass bytes x r.passes)) in
     -- the checks
@@ -88,7 +88,7 @@ extended_read bytes rest v h is width short there s =
     let size : Passed len (extended_size_check (extended_after h bytes)) = subst (λ y. Passed len (extended_size_check y)) (sym header) (record { long = omega arith; holds = le-leb _ _ (omega arith) }) in
     let header_pass : Passes ≡ verdict len (items_checks bytes (items (item.Sign BadExtendedHeader) from 3) ++ extended_header_checks bytes h) =
     passes_list len (items_checks bytes (items (item.Sign BadExtendedHeader) from 3) ++ extended_header_checks bytes h) (c1.passed BadExtendedHeader, (c2.passed BadExtendedHeader, (c3.passed BadExtendedHeader, (c4.passed BadExtendedHeader, (size, tt))))) in
-    let known : own_part bytes ≡ x = ap (λ q. extended_after q bytes) (sym is) ∙ header in
+    let known : extended_part bytes ≡ x = ap (λ q. extended_after q bytes) (sym is) ∙ header in
     let last : verdict len (end_check (end_of x) ∷ []) ≡ Ends true = rw (lt-ltb len (end_of x + 1) (omega arith)) refl in
     let room_is = subst (λ q. Passes ≡ verdict len (room_check q ∷ pad_checks bytes (end_of q))) is room in
     let header_is = subst (λ q. Passes ≡ verdict len (items_checks bytes (items (item.Sign BadExtendedHeader) (extended_from q) 3) ++ extended_header_checks bytes q)) is header_pass in

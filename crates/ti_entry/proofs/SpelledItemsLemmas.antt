@@ -15,7 +15,7 @@ use Rattle.ti_words.specs.Marks.{byte_of_flag, word_of_number, flag_of_byte, num
 use Rattle.ti_words.specs.Texts.{TextValue, AbsentText, CancelledText, TextOf, is_nul}
 use Rattle.ti_words.specs.Word.{unsigned_at, word_at, word, signed, low_bytes}
 use Rattle.ti_words.specs.Widths.{number_size}
-use Rattle.ti_layout.specs.declared.section.Item.TheVariants as item
+use Rattle.ti_layout.specs.declared.section.SectionItem.TheVariants as item
 use Rattle.ti_layout.specs.Refusal.{item_check}
 use Rattle.ti_layout.specs.declared.fault.Fault.{Fault}
 use Rattle.ti_layout.specs.Layout.{places}

@@ -15,7 +15,7 @@ use Rattle.ti_words.specs.Texts.{is_nul}
 use Rattle.ti_layout.specs.Checks.{Passes, verdict, nul_check}
 use Rattle.std.specs.List.{AllByRecursion}
 use Rattle.ti_layout.specs.declared.section.Half.TheVariants.{Standard}
-use Rattle.ti_layout.specs.declared.section.Item.TheVariants as item
+use Rattle.ti_layout.specs.declared.section.SectionItem.TheVariants as item
 use Rattle.ti_layout.specs.Refusal.{item_check, items, items_checks, magic_check, named_check, size_check, size_checks, standard_sections}
 use Rattle.ti_layout.proofs.EndsLemmas.{SectionPasses}
 use Rattle.ti_layout.proofs.SectionReadLemmas.{Passed}

@@ -3,7 +3,7 @@ use Rattle.std.proofs.Common.{◌≡◌, ℕ, ◌+◌, ◌<◌, Bool, true, cond
 use Rattle.std.proofs.lemmas.Bool.{le-leb, lt-leb}
 use Rattle.std.specs.Prelude.{None}
 use Rattle.ti_layout.specs.declared.part.Part.{Part}
-use Rattle.ti_layout.specs.declared.section.Items.{Items}
+use Rattle.ti_layout.specs.declared.section.SectionItems.{SectionItems}
 use Rattle.ti_layout.specs.declared.section.Section.{Section}
 use Rattle.ti_layout.specs.declared.section.Section.TheVariants.{TableEnd, End}
 use Rattle.ti_layout.specs.declared.stage.Stage.{Stage}
@@ -11,7 +11,7 @@ use Rattle.ti_layout.specs.Layout.{standard, end_of, extended_from, no_capabilit
 use Rattle.ti_layout.specs.Checks.{Ends, verdict, failure_of}
 use Rattle.ti_layout.specs.Refusal.{checks, failure}
 use Rattle.ti_layout.specs.Table.{base_of, names_base}
-use Rattle.ti_layout.specs.Content.{content, content_from, content_with, extended, own_part}
+use Rattle.ti_layout.specs.Content.{content, content_from, content_with, extended, extended_part}
 use Rattle.ti_entry.specs.Reading.{base_of_names}
 use Rattle.ti_entry.proofs.NamedItemsLemmas.{base_is, base_named}
 use Rattle.ti_layout.specs.Stages.{Stands, StandsAt, Waits, bytes_awaited, is_whole, new_stage}
@@ -40,13 +40,13 @@ view_of xs s x base e f g = ap (content_from xs s x) g ∙ ap (content_with xs s
 counted_of : (xs : List ℕ) (x : Part) (base : ℕ) → x ≡ extended xs → base ≡ base_of xs x → base ≡ base_of_names (content xs)
 counted_of xs x base f g = g ∙ ap (base_of xs) f ∙ sym (base_named xs (extended xs))
 
-views : (section : Section) (xs : List ℕ) (it : Items) (s x : Part) (base : ℕ) → StandsAt xs (record { section = section; items = it; standard = s; extended = x; base = base })
+views : (section : Section) (xs : List ℕ) (it : SectionItems) (s x : Part) (base : ℕ) → StandsAt xs (record { section = section; items = it; standard = s; extended = x; base = base })
     → length xs < bytes_awaited (record { section = section; items = it; standard = s; extended = x; base = base }) → is_whole section ≡ true → IsView xs s x base
 views TableEnd xs it s x base k short e =
     let left = k.left in
     let ends = subst (λ n. length xs < n) (closing_next (record { section = TableEnd; items = it; standard = s; extended = x; base = base }) (omega arith)) short in
     let end : end_of (standard xs) ≡ end_of s = ap end_of (sym k.standard) in
-    let none : no_capability ≡ extended xs = sym (ap (λ b. cond b no_capability (own_part xs)) (le-leb (length xs) (end_of (standard xs)) (omega arith))) in
+    let none : no_capability ≡ extended xs = sym (ap (λ b. cond b no_capability (extended_part xs)) (le-leb (length xs) (end_of (standard xs)) (omega arith))) in
     let counts : base ≡ base_of xs x = rw (k.extended, k.base) refl in
     record {
       is_standard = ((k.fits, k.reached.1), k.reached.0, k.standard);
@@ -59,7 +59,7 @@ views End xs it s x base k short e =
     let from : x.flags_from ≡ extended_from (standard xs) + 10 = ap (λ (p : Part). p.flags_from) k.extended in
     let names : x.names ≡ x.flags + x.numbers + x.texts = ap (λ (p : Part). p.names) k.extended ∙ sym (ap (λ (p : Part). p.flags + p.numbers + p.texts) k.extended) in
     let end : end_of (standard xs) ≡ end_of s = ap end_of (sym k.standard) in
-    let some : own_part xs ≡ extended xs = sym (ap (λ b. cond b no_capability (own_part xs)) (lt-leb (length xs) (end_of (standard xs)) (omega arith))) in
+    let some : extended_part xs ≡ extended xs = sym (ap (λ b. cond b no_capability (extended_part xs)) (lt-leb (length xs) (end_of (standard xs)) (omega arith))) in
     let counts : base ≡ base_of xs x = k.base ∙ ap (names_base xs) (sym k.extended) ∙ base_is xs x (omega arith) in
     record {
       is_standard = ((k.fits, omega arith), k.reached.0, k.standard);

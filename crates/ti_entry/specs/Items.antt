@@ -5,7 +5,7 @@ use Rattle.ti_words.specs.declared.Kind.{Kind}
 use Rattle.ti_words.specs.declared.Kind.TheVariants as kinds
 use Rattle.ti_words.specs.declared.Number.TheVariants as numbers
 use Rattle.ti_words.specs.Items.{ItemValue, FlagItem, NumberItem, TextItem, SubjectValue, StandardSubject, ExtendedSubject, none_of}
-use Rattle.ti_words.specs.Spelling.{unnamed}
+use Rattle.ti_words.specs.Spelling.{without_names}
 use Rattle.ti_words.specs.Texts.{AbsentText}
 use Rattle.ti_words.specs.Value.{EntryValue, PartValue}
 use Rattle.ti_entry.specs.declared.finding.Position.{Position}
@@ -43,9 +43,9 @@ abbrev pub IsItemOf : EntryValue → SubjectValue → ItemValue → Type 0
 IsItemOf v (StandardSubject kind index) item = item ≡ item_in v.standard kind index
 IsItemOf v (ExtendedSubject kind name) item =
     (found : Option ℕ) × IsLeastIndex (names_of v.extended kind) name found
-    × (item ≡ item_found (unnamed v.extended) kind found)
+    × (item ≡ item_found (without_names v.extended) kind found)
 
 -- what an entry says at a position
 abbrev pub item_at : EntryValue → Position → ItemValue
 item_at v (Standard kind index) = item_in v.standard kind index
-item_at v (Extended kind index) = item_in (unnamed v.extended) kind index
+item_at v (Extended kind index) = item_in (without_names v.extended) kind index

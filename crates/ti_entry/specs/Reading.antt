@@ -7,7 +7,7 @@ use Rattle.ti_layout.specs.declared.stage.Stage.{Stage}
 use Rattle.ti_entry.specs.declared.source.ReadStop.{ReadStop}
 use Rattle.ti_entry.specs.declared.source.ReadStop.TheVariants as stop
 use Rattle.ti_words.specs.Value.{EntryValue}
-use Rattle.ti_words.specs.Spelling.{Spells, texts_size, unnamed}
+use Rattle.ti_words.specs.Spelling.{Spells, texts_size, without_names}
 use Rattle.ti_layout.specs.Refusal.{refusal, failure}
 use Rattle.ti_layout.specs.Stages.{Stands, Waits}
 use Rattle.ti_layout.specs.Content.{content}
@@ -30,7 +30,7 @@ pub record IsReadOf (bytes : List ℕ) (result : Result EntryValue Refused) : Ty
 
 -- what the offsets of an entry's names are counted from: the end of its extended texts
 abbrev pub base_of_names : EntryValue → ℕ
-base_of_names v = texts_size (unnamed v.extended).texts
+base_of_names v = texts_size (without_names v.extended).texts
 
 -- ---- the reader
 

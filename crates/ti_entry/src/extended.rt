@@ -9,7 +9,7 @@ ghost use Rattle.std.specs.Option.{option_map};
 ghost use Rattle.ti_words.specs.Texts.{text_value, AbsentText};
 ghost use Rattle.ti_layout.specs.Content.{named_part_in};
 ghost use Rattle.ti_layout.specs.Layout.{IsExtended};
-ghost use Rattle.ti_words.specs.Spelling.{mark_in, unnamed};
+ghost use Rattle.ti_words.specs.Spelling.{mark_in, without_names};
 ghost use Rattle.ti_entry.specs.Finding.{IsLeastIndex, IsFirstNamed, names_of};
 
 use crate::part_view::{PartView, part_view};
@@ -51,8 +51,8 @@ pub(crate) fn extended_of<'a>(bytes: &'a [u8], part: Part, base: usize) -> Exten
 impl<'a> Extended<'a> {
     /// Its capabilities without their names.
     #[tactic(auto, using(crate::proofs::NamedItemsLemmas::values_are))]
-    pub fn unnamed(&self) -> PartView<'a>
-        ensures { result ≡ unnamed self.now }
+    pub fn without_names(&self) -> PartView<'a>
+        ensures { result ≡ without_names self.now }
     {
         part_view(self.bytes, self.part)
     }
@@ -69,42 +69,42 @@ impl<'a> Extended<'a> {
     pub fn flag_count(&self) -> usize
         ensures { result ≡ length self.now.flags }
     {
-        self.unnamed().flag_count()
+        self.without_names().flag_count()
     }
 
     /// How many numbers it has.
     pub fn number_count(&self) -> usize
         ensures { result ≡ length self.now.numbers }
     {
-        self.unnamed().number_count()
+        self.without_names().number_count()
     }
 
     /// How many texts it has.
     pub fn text_count(&self) -> usize
         ensures { result ≡ length self.now.texts }
     {
-        self.unnamed().text_count()
+        self.without_names().text_count()
     }
 
     /// The flag at an index; at or above the count No.
     pub fn flag(&self, i: usize) -> Flag
         ensures { result ≡ get_or (map mark_in self.now.flags) i Flag.No }
     {
-        self.unnamed().flag(i)
+        self.without_names().flag(i)
     }
 
     /// The number at an index; at or above the count Absent.
     pub fn number(&self, i: usize) -> Number
         ensures { result ≡ get_or (map mark_in self.now.numbers) i Number.Absent }
     {
-        self.unnamed().number(i)
+        self.without_names().number(i)
     }
 
     /// The text at an index; at or above the count Absent.
     pub fn text(&self, i: usize) -> Text<'a>
         ensures { text_value result ≡ get_or (map mark_in self.now.texts) i AbsentText }
     {
-        self.unnamed().text(i)
+        self.without_names().text(i)
     }
 
     /// The name of the capability of a kind at an index, without its NUL; none at or above the count. It may be empty.

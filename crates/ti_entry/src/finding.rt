@@ -43,7 +43,7 @@ impl<'a> Entry<'a> {
     {
         match position {
             Position::Standard(kind, index) => self.standard().item(kind, index),
-            Position::Extended(kind, index) => self.extended().unnamed().item(kind, index),
+            Position::Extended(kind, index) => self.extended().without_names().item(kind, index),
         }
     }
 }

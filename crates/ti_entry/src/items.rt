@@ -25,14 +25,14 @@ pub struct Items<'e, 'a> {
 impl<'e, 'a> Model for Items<'e, 'a> {
     ghost use Rattle.std.specs.Prelude.{◌≡◌, List, drop};
     ghost use Rattle.ti_words.specs.Items.{Listed, items};
-    ghost use Rattle.ti_words.specs.Spelling.{unnamed};
+    ghost use Rattle.ti_words.specs.Spelling.{without_names};
 
     ghost Value = { List Listed };
 
     ghost view = { λ i. drop i.place (items i.entry.now) };
 
     ghost invariant = { λ i. (i.standard ≡ i.entry.now.standard.texts)
-        × (i.extended ≡ (unnamed i.entry.now.extended).texts) };
+        × (i.extended ≡ (without_names i.entry.now.extended).texts) };
 }
 
 /// The value of the capability of a kind at an index, its texts read one after another.
@@ -64,13 +64,13 @@ impl<'a> Items<'_, 'a> {
             return Some((Subject::Standard(kind, index), item));
         }
         let extended = self.entry.extended();
-        let unnamed = extended.unnamed();
-        if place - before >= unnamed.count() {
+        let without_names = extended.without_names();
+        if place - before >= without_names.count() {
             return None;
         }
         self.place += 1;
-        let (kind, index) = unnamed.at(place - before);
-        let item = item_of(&unnamed, &mut self.extended, kind, index);
+        let (kind, index) = without_names.at(place - before);
+        let item = item_of(&without_names, &mut self.extended, kind, index);
         let name = extended.name_or_empty(kind, index);
         Some((Subject::Extended(kind, name), item))
     }
@@ -115,7 +115,7 @@ impl<'a> Entry<'a> {
             entry: self,
             place,
             standard: self.standard().texts(),
-            extended: self.extended().unnamed().texts(),
+            extended: self.extended().without_names().texts(),
         }
     }
 
@@ -129,7 +129,7 @@ impl<'a> Entry<'a> {
             Subject::Extended(kind, name) => {
                 let extended = self.extended();
                 match extended.find_of(kind, name) {
-                    Some(index) => extended.unnamed().item(kind, index),
+                    Some(index) => extended.without_names().item(kind, index),
                     None => Item::none_of(kind),
                 }
             }

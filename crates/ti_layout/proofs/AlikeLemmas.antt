@@ -10,9 +10,9 @@ use Rattle.ti_words.specs.Marks.{flag_of_byte}
 use Rattle.ti_layout.specs.declared.fault.Fault.{Fault}
 use Rattle.ti_layout.specs.declared.fault.Fault.TheVariants.{BadPad}
 use Rattle.ti_layout.specs.declared.part.Part.{Part}
-use Rattle.ti_layout.specs.declared.section.Item.{Item}
-use Rattle.ti_layout.specs.declared.section.Item.TheVariants.{Sign, Name, Flag, Number, Offset}
-use Rattle.ti_layout.specs.declared.section.Items.{Items}
+use Rattle.ti_layout.specs.declared.section.SectionItem.{SectionItem}
+use Rattle.ti_layout.specs.declared.section.SectionItem.TheVariants.{Sign, Name, Flag, Number, Offset}
+use Rattle.ti_layout.specs.declared.section.SectionItems.{SectionItems}
 use Rattle.ti_layout.specs.declared.section.Section.{Section}
 use Rattle.ti_layout.specs.declared.section.Section.TheVariants.{Magic, Header, Names, Flags, NameOffsets, TableEnd, ExtendedHeader, End}
 use Rattle.ti_words.specs.Word.{unsigned_at, signed}
@@ -95,14 +95,14 @@ base_same xs ys p le =
 
 -- ---- the checks of a section
 
-item_same : (item : Item) (xs ys : List ℕ) (p : ℕ) → p + item_size item ≤ length xs → item_holds xs item p ≡ item_holds (xs ++ ys) item p
+item_same : (item : SectionItem) (xs ys : List ℕ) (p : ℕ) → p + item_size item ≤ length xs → item_holds xs item p ≡ item_holds (xs ++ ys) item p
 item_same (Sign fault) xs ys p le = ap (λ k. is_not_negative (signed 2 k)) (number_same 2 xs ys p le)
 item_same Name xs ys p le = ap (λ b. not (is_nul b)) (byte_same xs ys p le)
 item_same Flag xs ys p le = ap (λ b. is_some (flag_of_byte b)) (byte_same xs ys p le)
 item_same (Number width) xs ys p le = ap (λ k. is_number_word (signed (number_size width) k)) (number_same (number_size width) xs ys p le)
 item_same (Offset table_size) xs ys p le = ap (λ k. is_offset_below table_size (signed 2 k)) (number_same 2 xs ys p le)
 
-items_alike : (whole : Bool) (it : Items) (xs ys : List ℕ) → Each (Alike (length xs) whole) (items_checks xs it) (items_checks (xs ++ ys) it)
+items_alike : (whole : Bool) (it : SectionItems) (xs ys : List ℕ) → Each (Alike (length xs) whole) (items_checks xs it) (items_checks (xs ++ ys) it)
 items_alike whole it xs ys =
     each_item (Alike (length xs) whole) (item_check xs it.item) (item_check (xs ++ ys) it.item) it.at (item_size it.item) it.left (λ i lt. alike_by (λ le. item_same it.item xs ys (it.at + item_size it.item * i) le))
 
@@ -149,7 +149,7 @@ closing_alike ExtendedHeader xs ys s x = (
 closing_alike End xs ys s x = (record { same_front = refl; same = λ le. refl; inner = λ e. absurd cc }, tt)
 closing_alike _ xs ys s x = tt
 
-pub section_alike : (it : Items) (section : Section) (s x : Part) (xs ys : List ℕ)
+pub section_alike : (it : SectionItems) (section : Section) (s x : Part) (xs ys : List ℕ)
     → Each (Alike (length xs) (is_whole section)) (items_checks xs it ++ closing_checks section s x xs) (items_checks (xs ++ ys) it ++ closing_checks section s x (xs ++ ys))
 section_alike it section s x xs ys =
     let zs = xs ++ ys in
@@ -159,11 +159,11 @@ section_alike it section s x xs ys =
 within : (xs ys : List ℕ) → length xs ≤ length (xs ++ ys)
 within xs ys = omega (arith, length-append xs ys)
 
-pub section_stays : (it : Items) (section : Section) (s x : Part) (xs ys : List ℕ) → settled (verdict (length xs) (items_checks xs it ++ closing_checks section s x xs)) ≡ true
+pub section_stays : (it : SectionItems) (section : Section) (s x : Part) (xs ys : List ℕ) → settled (verdict (length xs) (items_checks xs it ++ closing_checks section s x xs)) ≡ true
     → verdict (length (xs ++ ys)) (items_checks (xs ++ ys) it ++ closing_checks section s x (xs ++ ys)) ≡ verdict (length xs) (items_checks xs it ++ closing_checks section s x xs)
 section_stays it section s x xs ys e = stays (length xs) (length (xs ++ ys)) (is_whole section) _ _ (within xs ys) (section_alike it section s x xs ys) e
 
-pub items_stay : (it : Items) (xs ys : List ℕ) → Passes ≡ verdict (length xs) (items_checks xs it) → verdict (length (xs ++ ys)) (items_checks (xs ++ ys) it) ≡ Passes
+pub items_stay : (it : SectionItems) (xs ys : List ℕ) → Passes ≡ verdict (length xs) (items_checks xs it) → verdict (length (xs ++ ys)) (items_checks (xs ++ ys) it) ≡ Passes
 items_stay it xs ys p = stays (length xs) (length (xs ++ ys)) true _ _ (within xs ys) (items_alike true it xs ys) (ap settled (sym p)) ∙ sym p
 
 pub closing_stays : (section : Section) (s x : Part) (xs ys : List ℕ) → Passes ≡ verdict (length xs) (closing_checks section s x xs) → verdict (length (xs ++ ys)) (closing_checks section s x (xs ++ ys)) ≡ Passes

@@ -5,7 +5,7 @@ use Rattle.std.proofs.lemmas.List.{length-append}
 use Rattle.std.specs.List.{flat_map}
 use Rattle.ti_base.specs.Limits.{most_entry_bytes}
 use Rattle.ti_layout.specs.declared.part.Part.{Part}
-use Rattle.ti_layout.specs.declared.section.Item.{Item}
+use Rattle.ti_layout.specs.declared.section.SectionItem.{SectionItem}
 use Rattle.ti_layout.specs.declared.section.Section.{Section}
 use Rattle.ti_layout.specs.declared.stage.Stage.{Stage}
 use Rattle.ti_layout.specs.Layout.{end_of}
@@ -14,7 +14,7 @@ use Rattle.ti_layout.specs.Refusal.{item_size, closing_checks, section_checks, c
 use Rattle.ti_layout.specs.Stages.{sections_after, Reached, StandsAt, Stands, Waits, closing_end, fault_when_full}
 use Rattle.ti_layout.proofs.StageStepLemmas.{bare, stands_now, closing_next, item_next}
 
-one_fits : (item : Item) (at n : ℕ) → at + item_size item * suc n ≤ most_entry_bytes → at + item_size item ≤ most_entry_bytes
+one_fits : (item : SectionItem) (at n : ℕ) → at + item_size item * suc n ≤ most_entry_bytes → at + item_size item ≤ most_entry_bytes
 one_fits item at n le = omega arith
 
 -- what is awaited after the items lies within the limit, except at the end of a whole entry

@@ -9,9 +9,9 @@ use Rattle.ti_layout.specs.declared.fault.Refused.{Refused}
 use Rattle.ti_layout.specs.declared.part.Part.{Part}
 use Rattle.ti_layout.specs.declared.section.Half.{Half}
 use Rattle.ti_layout.specs.declared.section.Half.TheVariants.{Standard, Extended}
-use Rattle.ti_layout.specs.declared.section.Item.{Item}
-use Rattle.ti_layout.specs.declared.section.Item.TheVariants.{Flag, Offset}
-use Rattle.ti_layout.specs.declared.section.Items.{Items}
+use Rattle.ti_layout.specs.declared.section.SectionItem.{SectionItem}
+use Rattle.ti_layout.specs.declared.section.SectionItem.TheVariants.{Flag, Offset}
+use Rattle.ti_layout.specs.declared.section.SectionItems.{SectionItems}
 use Rattle.ti_layout.specs.declared.section.Section.{Section}
 use Rattle.ti_layout.specs.declared.section.Section.TheVariants.{Magic, Header, Flags, Numbers, Offsets, NameOffsets, TableEnd, ExtendedHeader, End}
 use Rattle.ti_layout.specs.declared.stage.Stage.{Stage}
@@ -60,7 +60,7 @@ stands_now xs s h = subst (λ zs. StandsAt zs s) (append-nil xs) (h [])
 
 -- ---- items
 
-split_items : (bytes : List ℕ) (it : Items) (n : ℕ) (rest : List Check) → n ≤ it.left → items_checks bytes it ++ rest ≡ items_checks bytes (first_items n it) ++ (items_checks bytes (items_after n it) ++ rest)
+split_items : (bytes : List ℕ) (it : SectionItems) (n : ℕ) (rest : List Check) → n ≤ it.left → items_checks bytes it ++ rest ≡ items_checks bytes (first_items n it) ++ (items_checks bytes (items_after n it) ++ rest)
 split_items bytes it n rest le =
     let size = item_size it.item in
     let f = item_check bytes it.item in
@@ -69,7 +69,7 @@ split_items bytes it n rest le =
     ap (λ k. map f (places it.at size k)) m ∙ ap (map f) (places_append it.at size n (it.left - n)) ∙ map-append f (places it.at size n) (places (it.at + size * n) size (it.left - n)) in
     ap (λ (t : List Check). t ++ rest) split ∙ append_assoc (map f (places it.at size n)) (map f (places (it.at + size * n) size (it.left - n))) rest
 
-abbrev pub with_items : Stage → Items → Stage
+abbrev pub with_items : Stage → SectionItems → Stage
 with_items s it = record { section = s.section; items = it; standard = s.standard; extended = s.extended; base = s.base }
 
 -- what is checked after the items of a stage
@@ -107,7 +107,7 @@ items_fail xs s n r h le p =
 
 -- ---- from a section to the next
 
-none_left : (bytes : List ℕ) (it : Items) (rest : List Check) → it.left ≡ 0 → items_checks bytes it ++ rest ≡ rest
+none_left : (bytes : List ℕ) (it : SectionItems) (rest : List Check) → it.left ≡ 0 → items_checks bytes it ++ rest ≡ rest
 none_left bytes it rest e = rw e refl
 
 pub bare : (bytes : List ℕ) (s : Stage) → StandsAt bytes s → s.items.left ≡ 0 → verdict (length bytes) (checks bytes) ≡ verdict (length bytes) (rest_of_checks bytes s)
@@ -144,7 +144,7 @@ record Met (xs ys : List ℕ) (section : Section) (s x : Part) (base : ℕ) : Ty
   base_fits : base_after section s x base xs ≤ most_entry_bytes
   reached : Reached (next section) (length (xs ++ ys)) (standard_after section s xs) (extended_known_after section s x xs)
 
-met : (section : Section) (xs ys : List ℕ) (it : Items) (s x : Part) (base : ℕ) → StandsAt (xs ++ ys) (record { section = section; items = it; standard = s; extended = x; base = base })
+met : (section : Section) (xs ys : List ℕ) (it : SectionItems) (s x : Part) (base : ℕ) → StandsAt (xs ++ ys) (record { section = section; items = it; standard = s; extended = x; base = base })
     → closing_end section s x ≤ length xs → Passes ≡ verdict (length xs) (closing_checks section s x xs) → Met xs ys section s x base
 met Header xs ys it s x base k there p =
     let a = first_passes (length xs) (size_check (standard xs)) (named_check (standard xs) ∷ []) p in
@@ -191,7 +191,7 @@ items_fit section len s x fits extended_fits r = grind arith
 
 -- ---- what has not come
 
-items_early : (bytes : List ℕ) (it : Items) (n : ℕ) (rest : List Check) → it.left ≡ suc n → length bytes < it.at + item_size it.item → verdict (length bytes) (items_checks bytes it ++ rest) ≡ Ends false
+items_early : (bytes : List ℕ) (it : SectionItems) (n : ℕ) (rest : List Check) → it.left ≡ suc n → length bytes < it.at + item_size it.item → verdict (length bytes) (items_checks bytes it ++ rest) ≡ Ends false
 items_early bytes it n rest e lt = rw (e, lt-ltb (length bytes) (it.at + item_size it.item) lt) refl
 
 -- a section with items is not one that may end
@@ -257,7 +257,7 @@ closing_passes xs s h none p ys =
       reached = m.reached;
     }
 
-most_left : (item : Item) (at n : ℕ) → at + item_size item * n ≤ most_entry_bytes → n ≤ most_entry_bytes
+most_left : (item : SectionItem) (at n : ℕ) → at + item_size item * n ≤ most_entry_bytes → n ≤ most_entry_bytes
 most_left item at n le = grind arith
 
 -- the stage there, and that fewer steps are still to come
@@ -276,12 +276,12 @@ next_stage xs s new h none p e =
 pub first_front : (xs : List ℕ) (s : Stage) → s.section ≡ Magic → Stands xs s → Stands xs (at_front s)
 first_front xs s e h =
     let none : items_of s.section s.standard s.extended ≡ items Flag 0 0 = rw e refl in
-    subst (λ (it : Items). Stands xs (with_items s it)) (sym none) (λ ys.
+    subst (λ (it : SectionItems). Stands xs (with_items s it)) (sym none) (λ ys.
     let zs = xs ++ ys in
     let k = h ys in
     let left = k.left in
     record {
-      decides = bare zs s k (omega (arith, left, ap (λ (it : Items). it.left) none));
+      decides = bare zs s k (omega (arith, left, ap (λ (it : SectionItems). it.left) none));
       standard = k.standard;
       extended = k.extended;
       base = k.base;

@@ -9,7 +9,7 @@ use Rattle.std.proofs.lemmas.List.Concat.{flat_map-cons, flat_map_single}
 use Rattle.std.specs.Prelude.{is_some}
 use Rattle.ti_base.specs.Limits.{greatest_word, greatest_wide_word}
 use Rattle.ti_words.specs.Marks.{flag_of_byte}
-use Rattle.ti_layout.specs.declared.section.Items.{Items}
+use Rattle.ti_layout.specs.declared.section.SectionItems.{SectionItems}
 use Rattle.ti_words.specs.Word.{signed}
 use Rattle.ti_layout.specs.Layout.{places}
 use Rattle.ti_words.specs.Texts.{is_nul}
@@ -38,7 +38,7 @@ all_pass f len from size count h =
     all_pass_each (λ p. f p ∷ []) len from size count (λ i lt. (let t = h i lt in rw (le-ltb len (f (from + size * i)).prefix t.long, t.holds) refl))
     ∙ ap (verdict len) (flat_map_single f (places from size count))
 
-pub items_pass : (bytes : List ℕ) (it : Items) (count : ℕ) → it.at + item_size it.item * count ≤ length bytes
+pub items_pass : (bytes : List ℕ) (it : SectionItems) (count : ℕ) → it.at + item_size it.item * count ≤ length bytes
     → ((i : ℕ) → i < count → item_holds bytes it.item (it.at + item_size it.item * i) ≡ true) → Passes ≡ verdict (length bytes) (items_checks bytes (first_items count it))
 items_pass bytes it count there h = all_pass (item_check bytes it.item) (length bytes) it.at (item_size it.item) count (λ i lt. record {
   long = (let within = mul-le-mul_left {m = suc i} {n = count} (item_size it.item) (omega arith) in omega (arith, within));

@@ -73,12 +73,12 @@ abbrev pub content_with : List ℕ → Part → Part → EntryValue
 content_with bytes s x = content_from bytes s x (base_of bytes x)
 
 -- the part after the standard one, if bytes follow it
-abbrev pub own_part : List ℕ → Part
-own_part bytes = extended_after (standard bytes) bytes
+abbrev pub extended_part : List ℕ → Part
+extended_part bytes = extended_after (standard bytes) bytes
 
 -- an entry that ends with its standard part has no extended capability
 abbrev pub extended : List ℕ → Part
-extended bytes = if nat_le (length bytes) (end_of (standard bytes)) then no_capability else own_part bytes
+extended bytes = if nat_le (length bytes) (end_of (standard bytes)) then no_capability else extended_part bytes
 
 abbrev pub content : List ℕ → EntryValue
 content bytes = content_with bytes (standard bytes) (extended bytes)

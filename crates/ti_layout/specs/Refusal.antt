@@ -10,9 +10,9 @@ use Rattle.ti_layout.specs.declared.fault.Refused.{Refused}
 use Rattle.ti_layout.specs.declared.part.Part.{Part}
 use Rattle.ti_layout.specs.declared.section.Half.{Half}
 use Rattle.ti_layout.specs.declared.section.Half.TheVariants.{Standard, Extended}
-use Rattle.ti_layout.specs.declared.section.Item.{Item}
-use Rattle.ti_layout.specs.declared.section.Item.TheVariants.{Sign, Name, Flag, Number, Offset}
-use Rattle.ti_layout.specs.declared.section.Items.{Items}
+use Rattle.ti_layout.specs.declared.section.SectionItem.{SectionItem}
+use Rattle.ti_layout.specs.declared.section.SectionItem.TheVariants.{Sign, Name, Flag, Number, Offset}
+use Rattle.ti_layout.specs.declared.section.SectionItems.{SectionItems}
 use Rattle.ti_layout.specs.declared.section.Section.{Section}
 use Rattle.ti_layout.specs.declared.section.Section.TheVariants.{Magic, Header, Names, Flags, Numbers, Offsets, NameOffsets, TableEnd, ExtendedHeader, End}
 use Rattle.ti_base.specs.Limits.{most_entry_bytes}
@@ -23,35 +23,35 @@ use Rattle.ti_layout.specs.Checks.{Check, check, check_after, verdict, refusal_o
 
 -- ---- items that lie one after the other
 
-abbrev pub item_size : Item → ℕ
+abbrev pub item_size : SectionItem → ℕ
 item_size (Sign fault) = 2
 item_size Name = 1
 item_size Flag = 1
 item_size (Number width) = number_size width
 item_size (Offset table_size) = 2
 
-abbrev pub item_holds : List ℕ → Item → ℕ → Bool
+abbrev pub item_holds : List ℕ → SectionItem → ℕ → Bool
 item_holds bytes (Sign fault) p = is_not_negative (word_at 2 bytes p)
 item_holds bytes Name p = not (is_nul (slice_index bytes p))
 item_holds bytes Flag p = is_some (flag_of_byte (slice_index bytes p))
 item_holds bytes (Number width) p = is_number_word (word_at (number_size width) bytes p)
 item_holds bytes (Offset table_size) p = is_offset_below table_size (word_at 2 bytes p)
 
-abbrev pub item_fault : Item → Fault
+abbrev pub item_fault : SectionItem → Fault
 item_fault (Sign fault) = fault
 item_fault Name = BadNames
 item_fault Flag = BadFlag
 item_fault (Number width) = BadNumber
 item_fault (Offset table_size) = BadOffset
 
-abbrev pub item_check : List ℕ → Item → ℕ → Check
+abbrev pub item_check : List ℕ → SectionItem → ℕ → Check
 item_check bytes item p = check (p + item_size item) (item_holds bytes item p) (item_fault item) p
 
-abbrev pub items : Item → ℕ → ℕ → Items
+abbrev pub items : SectionItem → ℕ → ℕ → SectionItems
 items item at left = record { item = item; at = at; left = left }
 
 -- the checks of the items that are left
-abbrev pub items_checks : List ℕ → Items → List Check
+abbrev pub items_checks : List ℕ → SectionItems → List Check
 items_checks bytes s = map (item_check bytes s.item) (places s.at (item_size s.item) s.left)
 
 -- ---- the headers
@@ -96,7 +96,7 @@ part_of Standard s x = s
 part_of Extended s x = x
 
 -- the items of a section
-abbrev pub items_of : Section → Part → Part → Items
+abbrev pub items_of : Section → Part → Part → SectionItems
 items_of Header s x = items (Sign BadHeader) 2 5
 items_of Names s x = items Name 12 (s.flags_from - 13)
 items_of (Flags half) s x = let p = part_of half s x in items Flag p.flags_from p.flags

@@ -7,8 +7,8 @@ use Rattle.ti_layout.specs.declared.fault.Fault.{Fault}
 use Rattle.ti_layout.specs.declared.fault.Fault.TheVariants.{ExtendedTooBig, Trailing}
 use Rattle.ti_layout.specs.declared.part.Part.{Part}
 use Rattle.ti_layout.specs.declared.section.Half.TheVariants.{Standard, Extended}
-use Rattle.ti_layout.specs.declared.section.Item.TheVariants.{Flag}
-use Rattle.ti_layout.specs.declared.section.Items.{Items}
+use Rattle.ti_layout.specs.declared.section.SectionItem.TheVariants.{Flag}
+use Rattle.ti_layout.specs.declared.section.SectionItems.{SectionItems}
 use Rattle.ti_layout.specs.declared.section.Section.{Section}
 use Rattle.ti_layout.specs.declared.section.Section.TheVariants.{Magic, Header, Names, Flags, Numbers, Offsets, NameOffsets, TableEnd, ExtendedHeader, End}
 use Rattle.ti_layout.specs.declared.stage.Stage.{Stage}
@@ -18,10 +18,10 @@ use Rattle.ti_layout.specs.Checks.{Check, Ends, verdict}
 use Rattle.ti_layout.specs.Refusal.{item_size, items, items_checks, part_of, items_of, closing_checks, section_checks, sections, checks}
 
 -- so many of the items, and those after them
-abbrev pub first_items : ℕ → Items → Items
+abbrev pub first_items : ℕ → SectionItems → SectionItems
 first_items n s = items s.item s.at n
 
-abbrev pub items_after : ℕ → Items → Items
+abbrev pub items_after : ℕ → SectionItems → SectionItems
 items_after n s = items s.item (s.at + item_size s.item * n) (s.left - n)
 
 -- how many sections come before one

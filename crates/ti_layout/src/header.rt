@@ -9,7 +9,7 @@ ghost use Rattle.ti_layout.specs.Refusal.{magic_check, size_checks, room_check, 
 use crate::checks::check_pad;
 use crate::fault::{Fault, Refused};
 use crate::part::{Part, width_of};
-use crate::section::Item;
+use crate::section::SectionItem;
 use ti_base::MOST_ENTRY_BYTES;
 
 /// The first two bytes are the magic number of a format.
@@ -76,7 +76,7 @@ pub(crate) fn sized_extended(bytes: &[u8], standard: &Part) -> Result<Part, Refu
     ensures words { IfOk result (λ x. x ≡ extended_after standard.now bytes.now) }
 {
     let from = standard.extended_from();
-    Item::Sign(Fault::BadExtendedHeader).check(bytes, from + 8)?;
+    SectionItem::Sign(Fault::BadExtendedHeader).check(bytes, from + 8)?;
     let extended = standard.extended(bytes);
     if extended.end() > MOST_ENTRY_BYTES {
         return Err(Refused {

@@ -1,6 +1,6 @@
 //! The sections of an entry in the order of their checks, and the items of each.
 //!
-//! Items are tested at once, by the greatest of them, and gone over one by one only if that test leaves them open.
+//! SectionItems are tested at once, by the greatest of them, and gone over one by one only if that test leaves them open.
 
 ghost use Rattle.std.specs.Prelude.{◌≡◌, ◌+◌, ◌*◌, ◌<◌, ◌≤◌, ◌^◌, ◌∷◌, [], length, IsTrue};
 ghost use Rattle.std.specs.Bool.{OnTrue};
@@ -21,7 +21,7 @@ use ti_words::{Width, flag_of, number_size};
 
 /// What the items of a section are.
 #[derive(Clone, Copy)]
-pub(crate) enum Item {
+pub(crate) enum SectionItem {
     /// Words that are not negative, and the fault of one that is.
     Sign(Fault),
     /// Bytes of the names.
@@ -32,10 +32,10 @@ pub(crate) enum Item {
     Offset(usize),
 }
 
-/// Items of one kind that lie one after the other: where the first starts, and how many are left.
+/// SectionItems of one kind that lie one after the other: where the first starts, and how many are left.
 #[derive(Clone, Copy)]
-pub(crate) struct Items {
-    pub(crate) item: Item,
+pub(crate) struct SectionItems {
+    pub(crate) item: SectionItem,
     pub(crate) at: usize,
     pub(crate) left: usize,
 }
@@ -76,7 +76,7 @@ impl Half {
     }
 }
 
-impl Item {
+impl SectionItem {
     /// How many bytes one item has.
     #[inline(always)]
     pub(crate) fn size(self) -> usize
@@ -84,9 +84,9 @@ impl Item {
         ensures small { result ≤ 4 }
     {
         match self {
-            Item::Name | Item::Flag => 1,
-            Item::Sign(_) | Item::Offset(_) => 2,
-            Item::Number(width) => number_size(width),
+            SectionItem::Name | SectionItem::Flag => 1,
+            SectionItem::Sign(_) | SectionItem::Offset(_) => 2,
+            SectionItem::Number(width) => number_size(width),
         }
     }
 
@@ -96,11 +96,11 @@ impl Item {
         ensures { result ≡ item_holds bytes.now self place }
     {
         match self {
-            Item::Sign(_) => word_at(bytes, place) >= 0,
-            Item::Name => bytes[place] != 0,
-            Item::Flag => flag_of(bytes[place]).is_some(),
-            Item::Number(width) => number_word_at(bytes, width, place) >= -2,
-            Item::Offset(table_size) => is_offset_below(table_size, word_at(bytes, place)),
+            SectionItem::Sign(_) => word_at(bytes, place) >= 0,
+            SectionItem::Name => bytes[place] != 0,
+            SectionItem::Flag => flag_of(bytes[place]).is_some(),
+            SectionItem::Number(width) => number_word_at(bytes, width, place) >= -2,
+            SectionItem::Offset(table_size) => is_offset_below(table_size, word_at(bytes, place)),
         }
     }
 
@@ -109,11 +109,11 @@ impl Item {
         ensures { result ≡ item_fault self }
     {
         match self {
-            Item::Sign(fault) => fault,
-            Item::Name => Fault::BadNames,
-            Item::Flag => Fault::BadFlag,
-            Item::Number(_) => Fault::BadNumber,
-            Item::Offset(_) => Fault::BadOffset,
+            SectionItem::Sign(fault) => fault,
+            SectionItem::Name => Fault::BadNames,
+            SectionItem::Flag => Fault::BadFlag,
+            SectionItem::Number(_) => Fault::BadNumber,
+            SectionItem::Offset(_) => Fault::BadOffset,
         }
     }
 
@@ -133,11 +133,11 @@ impl Item {
     }
 }
 
-impl Items {
-    pub(crate) fn new(item: Item, at: usize, left: usize) -> Items
+impl SectionItems {
+    pub(crate) fn new(item: SectionItem, at: usize, left: usize) -> SectionItems
         ensures { result ≡ items item at left }
     {
-        Items { item, at, left }
+        SectionItems { item, at, left }
     }
 
     /// How many of the items the first `len` bytes cover.
@@ -165,14 +165,14 @@ impl Items {
             → Passes ≡ verdict (length bytes.now) (items_checks bytes.now (first_items count self)) }
     {
         match self.item {
-            Item::Sign(_) => greatest_word(bytes, self.at, count, 0) < WORDS,
-            Item::Name => greatest_byte(bytes, self.at, count, u8::MAX) < u8::MAX,
-            Item::Flag => greatest_byte(bytes, self.at, count, 2) < 4,
-            Item::Number(width) => match number_size(width) {
+            SectionItem::Sign(_) => greatest_word(bytes, self.at, count, 0) < WORDS,
+            SectionItem::Name => greatest_byte(bytes, self.at, count, u8::MAX) < u8::MAX,
+            SectionItem::Flag => greatest_byte(bytes, self.at, count, 2) < 4,
+            SectionItem::Number(width) => match number_size(width) {
                 2 => are_below(bytes, usize::from(WORDS), self.at, count),
                 _ => greatest_wide_word(bytes, self.at, count) < WIDE_WORDS + 2,
             },
-            Item::Offset(table_size) => are_below(bytes, table_size, self.at, count),
+            SectionItem::Offset(table_size) => are_below(bytes, table_size, self.at, count),
         }
     }
 
@@ -209,12 +209,12 @@ impl Items {
     }
 
     /// The items after so many.
-    pub(crate) fn after(self, count: usize) -> Items
+    pub(crate) fn after(self, count: usize) -> SectionItems
         requires most { count ≤ self.left }
         requires within { self.at + item_size self.item * self.left ≤ most_entry_bytes }
         ensures { result ≡ items_after count self }
     {
-        Items::new(
+        SectionItems::new(
             self.item,
             self.at + self.item.size() * count,
             self.left - count,
@@ -243,40 +243,56 @@ impl Section {
 
     /// Its items. A section without items counts as one with no flag.
     #[inline(always)]
-    pub(crate) fn items(self, standard: &Part, extended: &Part) -> Items
+    pub(crate) fn items(self, standard: &Part, extended: &Part) -> SectionItems
         requires fits { end_of standard.now ≤ most_entry_bytes }
         requires extended_fits { end_of extended.now ≤ most_entry_bytes }
         ensures { result ≡ items_of self standard.now extended.now }
     {
         match self {
-            Section::Header => Items::new(Item::Sign(Fault::BadHeader), 2, 5),
-            Section::Names => Items::new(Item::Name, 12, standard.flags_from.saturating_sub(13)),
-            Section::ExtendedHeader => Items::new(
-                Item::Sign(Fault::BadExtendedHeader),
+            Section::Header => SectionItems::new(SectionItem::Sign(Fault::BadHeader), 2, 5),
+            Section::Names => SectionItems::new(
+                SectionItem::Name,
+                12,
+                standard.flags_from.saturating_sub(13),
+            ),
+            Section::ExtendedHeader => SectionItems::new(
+                SectionItem::Sign(Fault::BadExtendedHeader),
                 standard.extended_from(),
                 3,
             ),
             Section::Flags(half) => {
                 let part = half.of(standard, extended);
-                Items::new(Item::Flag, part.flags_from, part.flags)
+                SectionItems::new(SectionItem::Flag, part.flags_from, part.flags)
             }
             Section::Numbers(half) => {
                 let part = half.of(standard, extended);
-                Items::new(Item::Number(part.width), part.numbers_from(), part.numbers)
+                SectionItems::new(
+                    SectionItem::Number(part.width),
+                    part.numbers_from(),
+                    part.numbers,
+                )
             }
             Section::Offsets(half) => {
                 let part = half.of(standard, extended);
-                Items::new(Item::Offset(part.table), part.offsets_from(), part.texts)
+                SectionItems::new(
+                    SectionItem::Offset(part.table),
+                    part.offsets_from(),
+                    part.texts,
+                )
             }
             Section::NameOffsets(half) => {
                 let part = half.of(standard, extended);
-                Items::new(
-                    Item::Sign(Fault::BadExtendedName),
+                SectionItems::new(
+                    SectionItem::Sign(Fault::BadExtendedName),
                     part.names_from(),
                     part.names,
                 )
             }
-            Section::Magic | Section::TableEnd | Section::End => Items::new(Item::Flag, 0, 0),
+            Section::Magic | Section::TableEnd | Section::End => SectionItems::new(
+                SectionItem::Flag,
+                0,
+                0,
+            ),
         }
     }
 

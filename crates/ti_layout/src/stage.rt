@@ -19,14 +19,14 @@ use crate::checks::{check_nul, check_pad};
 use crate::fault::{Fault, Refused};
 use crate::header::{check_magic, check_start, sized_extended, sized_standard};
 use crate::part::Part;
-use crate::section::{Half, Item, Items, Section};
+use crate::section::{Half, Section, SectionItem, SectionItems};
 use crate::table::check_texts;
 
 /// Which check is next, and the parts that are known by then.
 #[derive(Clone, Copy)]
 pub struct Stage {
     pub(crate) section: Section,
-    pub(crate) items: Items,
+    pub(crate) items: SectionItems,
     pub(crate) standard: Part,
     pub(crate) extended: Part,
     /// What the offsets of the extended names are counted from.
@@ -40,7 +40,7 @@ impl Stage {
     {
         Stage {
             section: Section::Magic,
-            items: Items::new(Item::Flag, 0, 0),
+            items: SectionItems::new(SectionItem::Flag, 0, 0),
             standard: Part::none(),
             extended: Part::none(),
             base: 0,

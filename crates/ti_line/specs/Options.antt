@@ -8,8 +8,8 @@ use Rattle.ti_escape.specs.declared.color.Color.TheVariants as colors
 use Rattle.ti_escape.specs.declared.form.Form.{Form}
 use Rattle.ti_escape.specs.declared.form.Form.TheVariants as forms
 use Rattle.ti_escape.specs.Forms.{formed}
-use Rattle.ti_lint.specs.declared.scope.Scope.{Scope}
-use Rattle.ti_lint.specs.declared.scope.Scope.TheVariants as scopes
+use Rattle.ti_lint.specs.declared.level.Level.{Level}
+use Rattle.ti_lint.specs.declared.level.Level.TheVariants as scopes
 use Rattle.ti_line.specs.declared.destination.Destination.{Destination}
 use Rattle.ti_line.specs.declared.destination.Destination.TheVariants as destinations
 use Rattle.ti_line.specs.declared.options.Comparison.{Comparison}
@@ -74,9 +74,9 @@ form_asked true = forms.Notation
 form_asked false = forms.Hex
 
 -- what `--all` asks for
-abbrev pub scope_asked : Bool → Scope
-scope_asked true = scopes.All
-scope_asked false = scopes.Mistakes
+abbrev pub level_asked : Bool → Level
+level_asked true = scopes.All
+level_asked false = scopes.Errors
 
 -- what `--expand` asks for
 abbrev pub likeness_asked : Bool → Likeness
@@ -118,8 +118,8 @@ check_asked false all_names escape terminal = of_entry.Check (naming_asked all_n
 
 -- what `lint` asks for by `--json` and `--all`
 abbrev pub lint_asked : Bool → Bool → Color → OfEntry
-lint_asked true all color = of_entry.Json (documents.Findings (scope_asked all))
-lint_asked false all color = of_entry.Lint (scope_asked all) color
+lint_asked true all color = of_entry.Json (documents.Findings (level_asked all))
+lint_asked false all color = of_entry.Lint (level_asked all) color
 
 -- what `trace` asks for by `--json` and `--escape`
 abbrev pub trace_asked : Bool → Bool → Color → TraceForm

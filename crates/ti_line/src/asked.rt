@@ -2,14 +2,14 @@
 
 ghost use Rattle.std.specs.Prelude.{◌≡◌};
 ghost use Rattle.ti_line.specs.Requests.{width_asked as the_width_asked};
-ghost use Rattle.ti_line.specs.Options.{check_asked as the_check_asked, comparison_asked as the_comparison_asked, form_asked as the_form_asked, input_asked as the_input_asked, likeness_asked as the_likeness_asked, lint_asked as the_lint_asked, list_options as the_list_options, names_asked as the_names_asked, naming_asked as the_naming_asked, output_asked as the_output_asked, scope_asked as the_scope_asked, show_asked as the_show_asked, trace_asked as the_trace_asked};
+ghost use Rattle.ti_line.specs.Options.{check_asked as the_check_asked, comparison_asked as the_comparison_asked, form_asked as the_form_asked, input_asked as the_input_asked, likeness_asked as the_likeness_asked, lint_asked as the_lint_asked, list_options as the_list_options, names_asked as the_names_asked, naming_asked as the_naming_asked, output_asked as the_output_asked, level_asked as the_scope_asked, show_asked as the_show_asked, trace_asked as the_trace_asked};
 
 use crate::options::{
     Comparison, Document, Likeness, ListOptions, NameForm, Naming, Output, TraceForm,
 };
 use crate::request::{Asked, OfCapability, OfEntry};
 use ti_escape::{Color, Form};
-use ti_lint::Scope;
+use ti_lint::Level;
 use ti_names::NameTable;
 use ti_words::Width;
 
@@ -47,10 +47,10 @@ pub fn names_asked(all_names: bool) -> NameTable
 }
 
 /// What `--all` requests of `lint`.
-pub fn scope_asked(all: bool) -> Scope
+pub fn level_asked(all: bool) -> Level
     ensures { result ≡ the_scope_asked all }
 {
-    if all { Scope::All } else { Scope::Mistakes }
+    if all { Level::All } else { Level::Errors }
 }
 
 /// What `--expand` requests of `diff`.
@@ -122,9 +122,9 @@ pub fn lint_asked<'a>(json: bool, all: bool, color: Color) -> OfEntry<'a>
     ensures { result ≡ the_lint_asked json all color }
 {
     if json {
-        OfEntry::Json(Document::Findings(scope_asked(all)))
+        OfEntry::Json(Document::Findings(level_asked(all)))
     } else {
-        OfEntry::Lint(scope_asked(all), color)
+        OfEntry::Lint(level_asked(all), color)
     }
 }
 

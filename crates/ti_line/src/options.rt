@@ -1,7 +1,7 @@
 //! How results are written.
 
 use ti_escape::{Color, Form};
-use ti_lint::Scope;
+use ti_lint::Level;
 use ti_names::NameTable;
 
 /// How the names that an entry brings with it are written: its own, and those of its extended capabilities.
@@ -48,7 +48,7 @@ pub enum Document {
     /// The verdict on each of its texts, as `check` gives it.
     Verdicts,
     /// What is wrong with it, as `lint` tells it.
-    Findings(Scope),
+    Findings(Level),
 }
 
 /// How a trace is written.

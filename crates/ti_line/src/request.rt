@@ -4,7 +4,7 @@ use crate::given::Given;
 use crate::options::{Comparison, Document, Likeness, ListOptions, Naming, Output, TraceForm};
 use ti_escape::Color;
 use ti_expand::Value;
-use ti_lint::Scope;
+use ti_lint::Level;
 use ti_names::NameTable;
 use ti_pad::Padding;
 use ti_words::Width;
@@ -73,7 +73,7 @@ pub enum OfEntry<'a> {
     /// To analyse each of its texts.
     Check(Naming),
     /// To tell what is wrong with it, in lines of which parts may stand out.
-    Lint(Scope, Color),
+    Lint(Level, Color),
     /// To expand and pad one of its texts.
     Expand(Expand<'a>),
     /// To write it in its canonical layout, in a width or else in its own.

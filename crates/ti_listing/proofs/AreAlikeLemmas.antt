@@ -1,6 +1,6 @@
 -- Two entries are told apart exactly if they do not say the same, and in one way.
 use Rattle.std.proofs.Common.{◌≡◌, ◌∙◌, ◌≤◌, ◌<◌, ◌⊎◌, ℕ, zero, suc, Bool, true, false, List, [], ◌∷◌, ◌++◌, map, inl, inr, refl, sym, ap, ap₂, subst, arith, if◌then◌else◌}
-use Rattle.ti_words.specs.Spelling.{unnamed}
+use Rattle.ti_words.specs.Spelling.{without_names}
 use Rattle.ti_words.specs.Items.{ExtendedSubject, FlagItem, ItemValue, NumberItem, StandardSubject, SubjectValue, TextItem, none_of}
 use Rattle.std.proofs.lemmas.Bool.{cases_lt}
 use Rattle.std.proofs.lemmas.Int.{ints, clamps}
@@ -60,7 +60,7 @@ one_change Same differ one other a b (inr (apart, is)) (inr (again, also)) = is 
 one_item : (v : EntryValue) (subject : SubjectValue) (a b : ItemValue) → IsItemOf v subject a → IsItemOf v subject b → a ≡ b
 one_item v (StandardSubject kind index) a b is also = is ∙ sym also
 one_item v (ExtendedSubject kind name) a b (found, least, is) (again, too, also) =
-    is ∙ ap (item_found (unnamed v.extended) kind) (one_first (names_of v.extended kind) name found again least too) ∙ sym also
+    is ∙ ap (item_found (without_names v.extended) kind) (one_first (names_of v.extended kind) name found again least too) ∙ sym also
 
 -- ---- the capabilities of both
 

@@ -11,8 +11,8 @@ use Rattle.ti_json.specs.Objects.{array_text}
 use Rattle.ti_lint.specs.declared.expected.Expected.{Expected}
 use Rattle.ti_lint.specs.declared.finding.Finding.{Finding}
 use Rattle.ti_lint.specs.declared.placed_finding.PlacedFinding.{PlacedFinding}
-use Rattle.ti_lint.specs.declared.scope.Scope.{Scope}
-use Rattle.ti_lint.specs.declared.scope.Scope.TheVariants as scopes
+use Rattle.ti_lint.specs.declared.level.Level.{Level}
+use Rattle.ti_lint.specs.declared.level.Level.TheVariants as scopes
 use Rattle.ti_lint.specs.declared.variables.Variables.{Variables}
 use Rattle.ti_lint.specs.Pairs.{NamePair, all_pairs, all_toggles}
 use Rattle.ti_lint.specs.Plain.{IsMeantToExpand}
@@ -149,8 +149,8 @@ one_judgement usage text = one_as usage.class usage text
 one_text : (t : UsedText) → IsOne (IsTextReport t)
 one_text t r s (judgement, is, e) (other, too, f) = e ∙ ap (map (with_name t.name t.text)) (one_judgement t.usage t.text judgement other is too) ∙ sym f
 
-one_item : (scope : Scope) (stored : Variables) (listed : Listed) → IsOne (IsItemReport scope stored listed)
-one_item scope stored listed = if_there IsTextReport one_text (used_text scope stored listed)
+one_item : (level : Level) (stored : Variables) (listed : Listed) → IsOne (IsItemReport level stored listed)
+one_item level stored listed = if_there IsTextReport one_text (used_text level stored listed)
 
 -- ---- texts by their values
 
@@ -184,25 +184,25 @@ one_range v name text (ranges.Numbers from end) = one_numbers v name text (range
 one_range v name text (ranges.Places lines columns) = one_numbers v name text (ranges.Places lines columns)
 one_range v name text (ranges.Regions lines) = one_numbers v name text (ranges.Regions lines)
 
-one_short : (scope : Scope) (v : EntryValue) (name text : List ℕ) (range : Range) → IsOne (IsShortReport scope v name text range)
-one_short scope v name text range r s (inl a) (inl b) = a.1 ∙ sym b.1
-one_short scope v name text range r s (inl a) (inr b) = absurd (a.0 b.0)
-one_short scope v name text range r s (inr a) (inl b) = absurd (b.0 a.0)
-one_short scope v name text range r s (inr a) (inr b) = one_range v name text range r s a.1 b.1
+one_short : (level : Level) (v : EntryValue) (name text : List ℕ) (range : Range) → IsOne (IsShortReport level v name text range)
+one_short level v name text range r s (inl a) (inl b) = a.1 ∙ sym b.1
+one_short level v name text range r s (inl a) (inr b) = absurd (a.0 b.0)
+one_short level v name text range r s (inr a) (inl b) = absurd (b.0 a.0)
+one_short level v name text range r s (inr a) (inr b) = one_range v name text range r s a.1 b.1
 
-one_tried : (scope : Scope) (v : EntryValue) (name text : List ℕ) (range : Range) → IsOne (IsTriedReport scope v name text range)
-one_tried scope v name text range = refused_or text (λ refused. []) _ (one_short scope v name text range)
+one_tried : (level : Level) (v : EntryValue) (name text : List ℕ) (range : Range) → IsOne (IsTriedReport level v name text range)
+one_tried level v name text range = refused_or text (λ refused. []) _ (one_short level v name text range)
 
-one_tried_of : (scope : Scope) (v : EntryValue) (name : List ℕ) (text : TextValue) (range : Range) → IsOne (IsTriedReportOf scope v name text range)
-one_tried_of scope v name (TextOf text) range = one_tried scope v name text range
-one_tried_of scope v name AbsentText range = λ r s d h. d ∙ sym h
-one_tried_of scope v name CancelledText range = λ r s d h. d ∙ sym h
+one_tried_of : (level : Level) (v : EntryValue) (name : List ℕ) (text : TextValue) (range : Range) → IsOne (IsTriedReportOf level v name text range)
+one_tried_of level v name (TextOf text) range = one_tried level v name text range
+one_tried_of level v name AbsentText range = λ r s d h. d ∙ sym h
+one_tried_of level v name CancelledText range = λ r s d h. d ∙ sym h
 
-one_named : (scope : Scope) (v : EntryValue) (i : ℕ) (row : List ℕ × Range) → IsOne (IsNamedTriedReport scope v i row)
-one_named scope v i (name, range) = one_tried_of scope v name (text_named v name) range
+one_named : (level : Level) (v : EntryValue) (i : ℕ) (row : List ℕ × Range) → IsOne (IsNamedTriedReport level v i row)
+one_named level v i (name, range) = one_tried_of level v name (text_named v name) range
 
-one_of_values : (scope : Scope) (v : EntryValue) → IsOne (AreValueRemarks scope v)
-one_of_values scope v = reports _ (one_named scope v) 0 _
+one_of_values : (level : Level) (v : EntryValue) → IsOne (AreValueRemarks level v)
+one_of_values level v = reports _ (one_named level v) 0 _
 
 -- ---- control sequences, pairs and names
 
@@ -218,8 +218,8 @@ one_sequences : (ansi : Bool) (v : EntryValue) → IsOne (AreSequencesIf ansi v)
 one_sequences true v = all IsSequenceOf one_sequence (items v)
 one_sequences false v = λ r s d h. d ∙ sym h
 
-one_pairs : (scope : Scope) (v : EntryValue) → IsOne (ArePairRemarks scope v)
-one_pairs scopes.Mistakes v = λ r s d h. d ∙ sym h
+one_pairs : (level : Level) (v : EntryValue) → IsOne (ArePairRemarks level v)
+one_pairs scopes.Errors v = λ r s d h. d ∙ sym h
 one_pairs scopes.All v = in_turn _ _ (λ r s d h. d ∙ sym h) (λ r s d h. d ∙ sym h)
 
 one_names : (part : NamedPart) → IsOne (AreNameRemarks part)
@@ -227,28 +227,28 @@ one_names part = reports _ (λ i name. either _ _ _) 0 _
 
 -- ---- an entry
 
-abbrev AreOthers : Scope → List ℕ → EntryValue → List Remark → Type 0
-AreOthers scope bytes v =
-    InTurn (AreValueRemarks scope v) (InTurn (AreSequenceRemarks v) (InTurn (ArePairRemarks scope v)
-    (InTurn (AreKeyRemarks scope v) (InTurn (AreNameRemarks v.extended) (λ whole. whole ≡ whole_remarks bytes v)))))
+abbrev AreOthers : Level → List ℕ → EntryValue → List Remark → Type 0
+AreOthers level bytes v =
+    InTurn (AreValueRemarks level v) (InTurn (AreSequenceRemarks v) (InTurn (ArePairRemarks level v)
+    (InTurn (AreKeyRemarks level v) (InTurn (AreNameRemarks v.extended) (λ whole. whole ≡ whole_remarks bytes v)))))
 
-one_other : (scope : Scope) (bytes : List ℕ) (v : EntryValue) → IsOne (AreOthers scope bytes v)
-one_other scope bytes v =
-    in_turn (AreValueRemarks scope v) _ (one_of_values scope v) (in_turn (AreSequenceRemarks v) _ (one_sequences (is_ansi_entry v) v) (in_turn (ArePairRemarks scope v) _ (one_pairs scope v)
-    (in_turn (AreKeyRemarks scope v) _ (one_keys scope v) (in_turn (AreNameRemarks v.extended) _ (one_names v.extended) (λ x y p q. p ∙ sym q)))))
+one_other : (level : Level) (bytes : List ℕ) (v : EntryValue) → IsOne (AreOthers level bytes v)
+one_other level bytes v =
+    in_turn (AreValueRemarks level v) _ (one_of_values level v) (in_turn (AreSequenceRemarks v) _ (one_sequences (is_ansi_entry v) v) (in_turn (ArePairRemarks level v) _ (one_pairs level v)
+    (in_turn (AreKeyRemarks level v) _ (one_keys level v) (in_turn (AreNameRemarks v.extended) _ (one_names v.extended) (λ x y p q. p ∙ sym q)))))
 
-pub one_report : (scope : Scope) (bytes : List ℕ) (v : EntryValue) → IsOne (IsReport scope bytes v)
-one_report scope bytes v r s (stored, are, d) (other, also, h) =
-    let Texts : Variables → List Remark → Type 0 = λ variables. AreAll (IsItemReport scope variables) (items v) in
-    let Report : Variables → Type 0 = λ variables. InTurn (Texts variables) (AreOthers scope bytes v) s in
-    in_turn (Texts stored) (AreOthers scope bytes v) (all (IsItemReport scope stored) (one_item scope stored) (items v)) (one_other scope bytes v) r s d
+pub one_report : (level : Level) (bytes : List ℕ) (v : EntryValue) → IsOne (IsReport level bytes v)
+one_report level bytes v r s (stored, are, d) (other, also, h) =
+    let Texts : Variables → List Remark → Type 0 = λ variables. AreAll (IsItemReport level variables) (items v) in
+    let Report : Variables → Type 0 = λ variables. InTurn (Texts variables) (AreOthers level bytes v) s in
+    in_turn (Texts stored) (AreOthers level bytes v) (all (IsItemReport level stored) (one_item level stored) (items v)) (one_other level bytes v) r s d
     (subst Report (one_variables other stored also.0 are.0 (λ which. both_ways (also.1 which) (are.1 which))) h)
 
-pub one_lines : (scope : Scope) (color : Color) (before bytes : List ℕ) (v : EntryValue) → IsOne (AreLines scope color before bytes v)
-one_lines scope color before bytes v r s (remarks, are, e) (others, also, f) = e ∙ ap (report_lines color before) (one_report scope bytes v remarks others are also) ∙ sym f
+pub one_lines : (level : Level) (color : Color) (before bytes : List ℕ) (v : EntryValue) → IsOne (AreLines level color before bytes v)
+one_lines level color before bytes v r s (remarks, are, e) (others, also, f) = e ∙ ap (report_lines color before) (one_report level bytes v remarks others are also) ∙ sym f
 
-pub one_findings : (scope : Scope) (bytes : List ℕ) (v : EntryValue) (sound as_sound : Bool) (objects others : List Data) → AreFindings scope bytes v sound objects
-    → AreFindings scope bytes v as_sound others → (objects ≡ others) × (sound ≡ as_sound)
-one_findings scope bytes v sound as_sound objects others p q =
-    let one : p.remarks ≡ q.remarks = one_report scope bytes v p.remarks q.remarks p.report q.report in
+pub one_findings : (level : Level) (bytes : List ℕ) (v : EntryValue) (sound as_sound : Bool) (objects others : List Data) → AreFindings level bytes v sound objects
+    → AreFindings level bytes v as_sound others → (objects ≡ others) × (sound ≡ as_sound)
+one_findings level bytes v sound as_sound objects others p q =
+    let one : p.remarks ≡ q.remarks = one_report level bytes v p.remarks q.remarks p.report q.report in
     (p.objects_are ∙ ap (map remark_object) one ∙ sym q.objects_are, p.sound_is ∙ ap (λ remarks. length remarks == 0) one ∙ sym q.sound_is)

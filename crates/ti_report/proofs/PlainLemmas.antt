@@ -25,7 +25,7 @@ use Rattle.ti_report.specs.declared.wrong.Wrong.TheVariants as wrongs
 use Rattle.ti_report.specs.Blocks.{what_meaning, what_word}
 use Rattle.ti_report.specs.Objects.{about_objects, place_number, remark_object}
 use Rattle.ti_report.specs.Remarks.{About, OfEntry, OfName, OfText, OfTwo, Remark, Told, Empty, Same, Negative, Unended, Shown, Ignored, Differing, Combined, UnendedText, NotTried, What, IsWrong, IsTold}
-use Rattle.ti_lint.specs.declared.scope.Scope.{Scope}
+use Rattle.ti_lint.specs.declared.level.Level.{Level}
 use Rattle.ti_words.specs.Value.{EntryValue}
 use Rattle.ti_report.specs.Reports.{AreFindings}
 use Rattle.ti_report.specs.Sentences.{finding_meaning, is_in, last_parameter, meaning_of, parameter_word, parameter_words, word_of}
@@ -210,6 +210,6 @@ remarks_are_plain : (remarks : List Remark) → HavePlain (map remark_object rem
 remarks_are_plain [] = tt
 remarks_are_plain (r ∷ remarks) = (remark_is_plain r, remarks_are_plain remarks)
 
-pub report_is_text : (scope : Scope) (bytes : List ℕ) (v : EntryValue) (sound : Bool) (objects : List Data) → AreFindings scope bytes v sound objects → IsText (array_text objects)
-report_is_text scope bytes v sound objects are =
+pub report_is_text : (level : Level) (bytes : List ℕ) (v : EntryValue) (sound : Bool) (objects : List Data) → AreFindings level bytes v sound objects → IsText (array_text objects)
+report_is_text level bytes v sound objects are =
     subst (λ ds. IsText (array_text ds)) (sym are.objects_are) (array_is_text (map remark_object are.remarks) (remarks_are_plain are.remarks))

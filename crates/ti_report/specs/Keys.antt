@@ -10,8 +10,8 @@ use Rattle.ti_words.specs.Items.{Listed, items, text_in}
 use Rattle.ti_words.specs.Value.{EntryValue}
 use Rattle.ti_names.specs.declared.class.Class.{Class}
 use Rattle.ti_names.specs.declared.class.Class.TheVariants as classes
-use Rattle.ti_lint.specs.declared.scope.Scope.{Scope}
-use Rattle.ti_lint.specs.declared.scope.Scope.TheVariants as scopes
+use Rattle.ti_lint.specs.declared.level.Level.{Level}
+use Rattle.ti_lint.specs.declared.level.Level.TheVariants as scopes
 use Rattle.ti_report.specs.declared.wrong.Wrong.{Wrong}
 use Rattle.ti_report.specs.declared.wrong.Wrong.TheVariants as wrongs
 use Rattle.ti_report.specs.Subjects.{subject_class, subject_name}
@@ -56,8 +56,8 @@ abbrev pub longer_key : List ℕ → List Key → Option Key
 longer_key text keys = find (λ other. is_first_part text other.0) keys
 
 -- keys that send the same are told only if all is
-abbrev pub on_alike : Scope → Key → Key → List Remark
-on_alike scopes.Mistakes one other = []
+abbrev pub on_alike : Level → Key → Key → List Remark
+on_alike scopes.Errors one other = []
 on_alike scopes.All one other = on_two one other wrongs.AlikeKeys
 
 abbrev pub on_longer : Key → Option Key → List Remark
@@ -65,18 +65,18 @@ on_longer one None = []
 on_longer one (Some other) = on_two one other wrongs.KeyPrefix
 
 -- a key beside the next one that sends the same, or else beside the first of all keys that sends more
-abbrev pub on_key : Scope → List Key → Key → Option Key → List Remark
-on_key scope all one (Some other) = on_alike scope one other
-on_key scope all one None = on_longer one (longer_key one.0 all)
+abbrev pub on_key : Level → List Key → Key → Option Key → List Remark
+on_key level all one (Some other) = on_alike level one other
+on_key level all one None = on_longer one (longer_key one.0 all)
 
 -- the remarks on some of all keys
-abbrev pub on_keys : Scope → List Key → List Key → List Remark
-on_keys scope all [] = []
-on_keys scope all (one ∷ rest) = on_key scope all one (alike_key one.0 rest) ++ on_keys scope all rest
+abbrev pub on_keys : Level → List Key → List Key → List Remark
+on_keys level all [] = []
+on_keys level all (one ∷ rest) = on_key level all one (alike_key one.0 rest) ++ on_keys level all rest
 
 -- The keys in order. What one sends is told, once, exactly if it is the first part of what another one sends.
-pub record AreKeyRemarks (scope : Scope) (v : EntryValue) (remarks : List Remark) : Type 0 where
+pub record AreKeyRemarks (level : Level) (v : EntryValue) (remarks : List Remark) : Type 0 where
   pub row : List Key
   pub same : IsPermutation (entry_keys v) row
   pub ascends : IsSorted key_cmp row
-  pub remarks_are : remarks ≡ on_keys scope row row
+  pub remarks_are : remarks ≡ on_keys level row row

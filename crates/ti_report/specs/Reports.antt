@@ -9,8 +9,8 @@ use Rattle.ti_names.specs.declared.class.Class.TheVariants as classes
 use Rattle.ti_lint.specs.declared.variables.Variables.{Variables}
 use Rattle.ti_lint.specs.Pairs.{NamePair, all_pairs, all_toggles}
 use Rattle.ti_lint.specs.Variables.{HasOnlyLetters, HasVariable, IsStored}
-use Rattle.ti_lint.specs.declared.scope.Scope.{Scope}
-use Rattle.ti_lint.specs.declared.scope.Scope.TheVariants as scopes
+use Rattle.ti_lint.specs.declared.level.Level.{Level}
+use Rattle.ti_lint.specs.declared.level.Level.TheVariants as scopes
 use Rattle.ti_escape.specs.declared.color.Color.{Color}
 use Rattle.serde_json.specs.Data.{Data}
 use Rattle.ti_json.specs.Objects.{array_text}
@@ -36,13 +36,13 @@ pub record UsedText : Type 0 where
   pub text : List ℕ
   pub usage : Usage
 
-abbrev pub used_as : Scope → Variables → List ℕ → Option Class → Option (List ℕ) → Option UsedText
-used_as scope stored name (Some class) (Some text) =
-    Some (record { name = name; text = text; usage = usage_of scope stored name class })
-used_as scope stored name class text = None
+abbrev pub used_as : Level → Variables → List ℕ → Option Class → Option (List ℕ) → Option UsedText
+used_as level stored name (Some class) (Some text) =
+    Some (record { name = name; text = text; usage = usage_of level stored name class })
+used_as level stored name class text = None
 
-abbrev pub used_text : Scope → Variables → Listed → Option UsedText
-used_text scope stored (subject, item) = used_as scope stored (subject_name subject) (subject_class subject) (text_in item)
+abbrev pub used_text : Level → Variables → Listed → Option UsedText
+used_text level stored (subject, item) = used_as level stored (subject_name subject) (subject_class subject) (text_in item)
 
 -- its judgement, under its name
 abbrev pub IsTextReport : UsedText → List Remark → Type 0
@@ -50,8 +50,8 @@ IsTextReport t remarks =
     (judgement : List TextRemark) × IsJudged t.usage t.text judgement × (remarks ≡ map (with_name t.name t.text) judgement)
 
 -- a capability, if it is such a text
-abbrev pub IsItemReport : Scope → Variables → Listed → List Remark → Type 0
-IsItemReport scope stored listed = IsIfThere IsTextReport (used_text scope stored listed)
+abbrev pub IsItemReport : Level → Variables → Listed → List Remark → Type 0
+IsItemReport level stored listed = IsIfThere IsTextReport (used_text level stored listed)
 
 -- ---- what they store into
 
@@ -79,35 +79,35 @@ abbrev pub ArePairRemarksOf : List NamePair → EntryValue → List Remark → T
 ArePairRemarksOf names v remarks = remarks ≡ flat_map (pair_remarks v) names
 
 -- each pair of texts of which one should undo the other, and, if all is told, those that start and end a mode
-abbrev pub ArePairRemarks : Scope → EntryValue → List Remark → Type 0
-ArePairRemarks scopes.Mistakes = ArePairRemarksOf all_pairs
+abbrev pub ArePairRemarks : Level → EntryValue → List Remark → Type 0
+ArePairRemarks scopes.Errors = ArePairRemarksOf all_pairs
 ArePairRemarks scopes.All = λ v. InTurn (ArePairRemarksOf all_pairs v) (ArePairRemarksOf all_toggles v)
 
 -- the texts, in the order of their capabilities, texts by their values and by their control sequences, pairs of
 -- texts, keys, names, and the whole entry that the bytes spell
-abbrev pub IsReport : Scope → List ℕ → EntryValue → List Remark → Type 0
-IsReport scope bytes v remarks =
+abbrev pub IsReport : Level → List ℕ → EntryValue → List Remark → Type 0
+IsReport level bytes v remarks =
     (stored : Variables) × AreStored v stored
-    × InTurn (AreAll (IsItemReport scope stored) (items v))
-    (InTurn (AreValueRemarks scope v)
+    × InTurn (AreAll (IsItemReport level stored) (items v))
+    (InTurn (AreValueRemarks level v)
     (InTurn (AreSequenceRemarks v)
-    (InTurn (ArePairRemarks scope v)
-    (InTurn (AreKeyRemarks scope v)
+    (InTurn (ArePairRemarks level v)
+    (InTurn (AreKeyRemarks level v)
     (InTurn (AreNameRemarks v.extended) (λ whole. whole ≡ whole_remarks bytes v)))))) remarks
 
 -- the lines of all remarks, with something before the first line of each
-abbrev pub AreLines : Scope → Color → List ℕ → List ℕ → EntryValue → List ℕ → Type 0
-AreLines scope color before bytes v lines =
-    (remarks : List Remark) × IsReport scope bytes v remarks × (lines ≡ report_lines color before remarks)
+abbrev pub AreLines : Level → Color → List ℕ → List ℕ → EntryValue → List ℕ → Type 0
+AreLines level color before bytes v lines =
+    (remarks : List Remark) × IsReport level bytes v remarks × (lines ≡ report_lines color before remarks)
 
 -- the objects of all remarks, and whether there is none
-pub record AreFindings (scope : Scope) (bytes : List ℕ) (v : EntryValue) (sound : Bool) (objects : List Data) : Type 0 where
+pub record AreFindings (level : Level) (bytes : List ℕ) (v : EntryValue) (sound : Bool) (objects : List Data) : Type 0 where
   pub remarks : List Remark
-  pub report : IsReport scope bytes v remarks
+  pub report : IsReport level bytes v remarks
   pub sound_is : sound ≡ (length remarks == 0)
   pub objects_are : objects ≡ map remark_object remarks
 
 -- the array of these
-abbrev pub IsReportJson : Scope → List ℕ → EntryValue → List ℕ → Bool → Type 0
-IsReportJson scope bytes v text sound =
-    (objects : List Data) × AreFindings scope bytes v sound objects × (text ≡ array_text objects)
+abbrev pub IsReportJson : Level → List ℕ → EntryValue → List ℕ → Bool → Type 0
+IsReportJson level bytes v text sound =
+    (objects : List Data) × AreFindings level bytes v sound objects × (text ≡ array_text objects)

@@ -15,8 +15,8 @@ use Rattle.ti_lint.specs.declared.variables.Variables.{Variables}
 use Rattle.ti_lint.specs.Found.{IsFoundAt, Precedes}
 use Rattle.ti_lint.specs.Plain.{IsMeantToExpand}
 use Rattle.ti_lint.specs.TextParameters.{text_parameters}
-use Rattle.ti_lint.specs.declared.scope.Scope.{Scope}
-use Rattle.ti_lint.specs.declared.scope.Scope.TheVariants as scopes
+use Rattle.ti_lint.specs.declared.level.Level.{Level}
+use Rattle.ti_lint.specs.declared.level.Level.TheVariants as scopes
 use Rattle.ti_report.specs.declared.usage.Usage.{Usage}
 use Rattle.ti_report.specs.declared.wrong.Wrong.{Wrong}
 use Rattle.ti_report.specs.declared.wrong.Wrong.TheVariants as wrongs
@@ -31,23 +31,23 @@ use Rattle.ti_report.specs.declared.marks.Sought.TheVariants.{Percents, Mark, Fa
 
 -- texts that may leave out parameters: attributes that a terminal lacks, and motions by one place; and the column of a status
 -- line, but not if all is told
-abbrev pub is_column : Scope → List ℕ → Bool
-is_column scopes.Mistakes name = bytes_eq name (codes "tsl")
+abbrev pub is_column : Level → List ℕ → Bool
+is_column scopes.Errors name = bytes_eq name (codes "tsl")
 is_column scopes.All name = false
 
-abbrev pub may_leave_out : Scope → List ℕ → Bool
-may_leave_out scope name =
-    is_column scope name
+abbrev pub may_leave_out : Level → List ℕ → Bool
+may_leave_out level name =
+    is_column level name
     || bytes_eq name (codes "sgr") || bytes_eq name (codes "sgr1") || bytes_eq name (codes "mhpa") || bytes_eq name (codes "mcub")
     || bytes_eq name (codes "mcud") || bytes_eq name (codes "mcuf") || bytes_eq name (codes "mcuu")
 
 -- a text with a name, of a class, in an entry whose texts store into these variables; `acsc` is a list of pairs
-abbrev pub usage_of : Scope → Variables → List ℕ → Class → Usage
-usage_of scope stored name class = record {
+abbrev pub usage_of : Level → Variables → List ℕ → Class → Usage
+usage_of level stored name class = record {
   class = class;
   texts = text_parameters name;
   stored = stored;
-  may_leave_out = may_leave_out scope name;
+  may_leave_out = may_leave_out level name;
   has_pairs = bytes_eq name (codes "acsc");
 }
 

@@ -18,7 +18,7 @@ use crate::trials::Trials;
 use std::alloc::{AllocError, Allocator, Global};
 use ti_entry::Entry;
 use ti_json::Printer;
-use ti_lint::Scope;
+use ti_lint::Level;
 
 /// What it means.
 fn meaning_of<A: Allocator>(alloc: A, what: &What<A>) -> Result<Vec<u8, A>, AllocError>
@@ -121,15 +121,15 @@ pub fn print_report<A: Allocator + Copy>(
     printer: &mut Printer<A>,
     alloc: A,
     trials: &mut Trials<A>,
-    scope: Scope,
+    level: Level,
     bytes: &[u8],
     entry: &Entry<'_>,
 ) -> Result<bool, AllocError>
     ensures { IfOk result (λ sound. (objects : List Data)
-        × AreFindings scope bytes.now entry.now sound objects
+        × AreFindings level bytes.now entry.now sound objects
         × Prints printer.old printer.new (data_tokens (array (items_of objects)))) }
 {
-    let remarks = remarks_of(alloc, trials, scope, bytes, entry)?;
+    let remarks = remarks_of(alloc, trials, level, bytes, entry)?;
     printer.begin_list();
     print_remarks(printer, alloc, remarks.as_slice())?;
     printer.end_list();
@@ -157,17 +157,17 @@ pub struct ReportJson<A: Allocator = Global> {
 pub fn report_json<A: Allocator + Copy>(
     alloc: A,
     trials: &mut Trials<A>,
-    scope: Scope,
+    level: Level,
     bytes: &[u8],
     entry: &Entry<'_>,
 ) -> Result<ReportJson<A>, AllocError>
     ensures text { IfOk result (λ json.
-        IsReportJson scope bytes.now entry.now json.text.items json.sound) }
+        IsReportJson level bytes.now entry.now json.text.items json.sound) }
     ensures printable { IfOk result
         (λ json. list_all is_printable json.text.items ≡ true) }
 {
     let mut printer = Printer::new(alloc);
-    let sound = print_report(&mut printer, alloc, trials, scope, bytes, entry)?;
+    let sound = print_report(&mut printer, alloc, trials, level, bytes, entry)?;
     Ok(ReportJson {
         text: printer.into_bytes()?,
         sound,

@@ -12,7 +12,7 @@ use crate::subject::{subject_class, subject_name};
 use crate::wrong::Wrong;
 use std::alloc::{AllocError, Allocator};
 use ti_entry::Entry;
-use ti_lint::Scope;
+use ti_lint::Level;
 use ti_names::Class;
 use ti_words::{Item, Subject};
 
@@ -91,16 +91,16 @@ fn push_two<'a, A: Allocator + Copy>(
 fn push_alike<'a, A: Allocator + Copy>(
     alloc: A,
     out: &mut Vec<Remark<'a, A>, A>,
-    scope: Scope,
+    level: Level,
     one: (&'a [u8], &'a [u8]),
     other: (&'a [u8], &'a [u8]),
 ) -> Result<(), AllocError>
     ensures { OnOk result (out.new.items
-        ≡ out.old.items ++ on_alike scope (key_lent one.entry) (key_lent other.entry)) }
+        ≡ out.old.items ++ on_alike level (key_lent one.entry) (key_lent other.entry)) }
 {
-    match scope {
-        Scope::Mistakes => Ok(()),
-        Scope::All => push_two(alloc, out, one, other, Wrong::AlikeKeys),
+    match level {
+        Level::Errors => Ok(()),
+        Level::All => push_two(alloc, out, one, other, Wrong::AlikeKeys),
     }
 }
 
@@ -108,18 +108,18 @@ fn push_alike<'a, A: Allocator + Copy>(
 fn push_neighbours<'a, A: Allocator + Copy>(
     alloc: A,
     out: &mut Vec<Remark<'a, A>, A>,
-    scope: Scope,
+    level: Level,
     one: (&'a [u8], &'a [u8]),
     other: (&'a [u8], &'a [u8]),
 ) -> Result<(), AllocError>
     ensures { OnOk result (out.new.items ≡ out.old.items
-        ++ on_neighbours scope (key_lent one.entry) (key_lent other.entry)) }
+        ++ on_neighbours level (key_lent one.entry) (key_lent other.entry)) }
 {
     if is_first_part(one.0, other.0) {
         return push_two(alloc, out, one, other, Wrong::KeyPrefix);
     }
     if one.0 == other.0 {
-        return push_alike(alloc, out, scope, one, other);
+        return push_alike(alloc, out, level, one, other);
     }
     Ok(())
 }
@@ -128,14 +128,14 @@ fn push_neighbours<'a, A: Allocator + Copy>(
 fn push_row<'a, A: Allocator + Copy>(
     alloc: A,
     out: &mut Vec<Remark<'a, A>, A>,
-    scope: Scope,
+    level: Level,
     row: &[(&'a [u8], &'a [u8])],
 ) -> Result<(), AllocError>
     ensures { OnOk result (out.new.items
-        ≡ out.old.items ++ on_row scope (keys_lent row.now)) }
+        ≡ out.old.items ++ on_row level (keys_lent row.now)) }
 {
     'keys: for next in 1..row.len() {
-        push_neighbours(alloc, out, scope, row[next - 1], row[next])?;
+        push_neighbours(alloc, out, level, row[next - 1], row[next])?;
     }
     Ok(())
 }
@@ -144,14 +144,14 @@ fn push_row<'a, A: Allocator + Copy>(
 pub fn push_keys<'a, A: Allocator + Copy>(
     alloc: A,
     out: &mut Vec<Remark<'a, A>, A>,
-    scope: Scope,
+    level: Level,
     entry: &Entry<'a>,
 ) -> Result<(), AllocError>
-    ensures { OnOk result (Adds (AreKeyRemarks scope entry.now)
+    ensures { OnOk result (Adds (AreKeyRemarks level entry.now)
         out.old.items out.new.items) }
 {
     let mut keys = keys_of(alloc, entry)?;
     keys.sort_unstable();
-    push_row(alloc, out, scope, keys.as_slice())?;
+    push_row(alloc, out, level, keys.as_slice())?;
     Ok(())
 }

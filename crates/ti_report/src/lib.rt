@@ -38,6 +38,6 @@ mod wrong;
 pub use document::{ReportJson, print_report, report_json};
 pub use report::push_report;
 pub use ti_escape::Color;
-pub use ti_lint::Scope;
+pub use ti_lint::Level;
 pub use trials::Trials;
 pub use wrong::Wrong;

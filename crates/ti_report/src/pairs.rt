@@ -13,7 +13,7 @@ use crate::remark::{NamedText, Remark, push_on_two};
 use crate::wrong::Wrong;
 use std::alloc::{AllocError, Allocator};
 use ti_entry::Entry;
-use ti_lint::{Scope, toggling_pairs, undoing_pairs};
+use ti_lint::{Level, toggling_pairs, undoing_pairs};
 use ti_names::NameTable;
 use ti_words::Text;
 
@@ -75,15 +75,15 @@ fn push_pairs_of<'a, A: Allocator + Copy>(
 pub fn push_pairs<'a, A: Allocator + Copy>(
     alloc: A,
     out: &mut Vec<Remark<'a, A>, A>,
-    scope: Scope,
+    level: Level,
     entry: &Entry<'a>,
 ) -> Result<(), AllocError>
-    ensures { OnOk result (Adds (ArePairRemarks scope entry.now)
+    ensures { OnOk result (Adds (ArePairRemarks level entry.now)
         out.old.items out.new.items) }
 {
     push_pairs_of(alloc, out, entry, undoing_pairs())?;
-    match scope {
-        Scope::Mistakes => Ok(()),
-        Scope::All => push_pairs_of(alloc, out, entry, toggling_pairs()),
+    match level {
+        Level::Errors => Ok(()),
+        Level::All => push_pairs_of(alloc, out, entry, toggling_pairs()),
     }
 }

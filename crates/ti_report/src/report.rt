@@ -23,7 +23,7 @@ use crate::whole::push_whole;
 use std::alloc::{AllocError, Allocator};
 use ti_entry::Entry;
 use ti_escape::Color;
-use ti_lint::{Scope, Variables};
+use ti_lint::{Level, Variables};
 use ti_words::{Item, Subject};
 
 /// A text of which something is known, and how it is used.
@@ -35,13 +35,13 @@ pub struct UsedText<'a> {
 
 /// A capability, if it is such a text.
 fn used_text<'a>(
-    scope: Scope,
+    level: Level,
     stored: Variables,
     subject: Subject<'a>,
     item: Item<'a>,
 ) -> Option<UsedText<'a>>
     ensures { option_map used_held result
-        ≡ used_text scope stored (subject_value subject.entry, item_value item.entry) }
+        ≡ used_text level stored (subject_value subject.entry, item_value item.entry) }
 {
     let (Some(class), Some(text)) = (subject_class(subject), item.text()) else {
         return None;
@@ -49,7 +49,7 @@ fn used_text<'a>(
     let name = subject_name(subject);
     Some(UsedText {
         subject: NamedText { name, text },
-        usage: Usage::of(scope, stored, name, class),
+        usage: Usage::of(level, stored, name, class),
     })
 }
 
@@ -93,17 +93,17 @@ fn push_if_there<'a, A: Allocator + Copy>(
 fn push_items<'a, A: Allocator + Copy>(
     alloc: A,
     out: &mut Vec<Remark<'a, A>, A>,
-    scope: Scope,
+    level: Level,
     stored: Variables,
     entry: &Entry<'a>,
 ) -> Result<(), AllocError>
-    ensures { OnOk result (Adds (AreAll (IsItemReport scope stored) (items entry.now))
+    ensures { OnOk result (Adds (AreAll (IsItemReport level stored) (items entry.now))
         out.old.items out.new.items) }
 {
     let mut judgements = Judgements::new(alloc);
     let mut items = entry.items();
     'items: while let Some((subject, item)) = items.next() {
-        let text = used_text(scope, stored, subject, item);
+        let text = used_text(level, stored, subject, item);
         push_if_there(alloc, out, &mut judgements, text)?;
     }
     Ok(())
@@ -113,19 +113,19 @@ fn push_items<'a, A: Allocator + Copy>(
 pub fn remarks_of<'a, A: Allocator + Copy>(
     alloc: A,
     trials: &mut Trials<A>,
-    scope: Scope,
+    level: Level,
     bytes: &[u8],
     entry: &Entry<'a>,
 ) -> Result<Vec<Remark<'a, A>, A>, AllocError>
-    ensures { IfOk result (λ remarks. IsReport scope bytes.now entry.now remarks.items) }
+    ensures { IfOk result (λ remarks. IsReport level bytes.now entry.now remarks.items) }
 {
     let stored = stored_by_texts(entry);
     let mut out = Vec::new(alloc);
-    push_items(alloc, &mut out, scope, stored, entry)?;
-    push_values(alloc, &mut out, trials, scope, entry)?;
+    push_items(alloc, &mut out, level, stored, entry)?;
+    push_values(alloc, &mut out, trials, level, entry)?;
     push_sequences(alloc, &mut out, entry)?;
-    push_pairs(alloc, &mut out, scope, entry)?;
-    push_keys(alloc, &mut out, scope, entry)?;
+    push_pairs(alloc, &mut out, level, entry)?;
+    push_keys(alloc, &mut out, level, entry)?;
     push_names(alloc, &mut out, &entry.extended())?;
     push_whole(alloc, &mut out, bytes, entry)?;
     Ok(out)
@@ -147,23 +147,23 @@ pub fn remarks_of<'a, A: Allocator + Copy>(
 /// let mut lines = Vec::new(rt.alloc());
 /// let alloc = rt.alloc();
 /// let trials = &mut Trials::new(alloc);
-/// let (scope, color) = (Scope::Mistakes, Color::Never);
-/// push_report(alloc, &mut lines, trials, scope, color, b"", FILE, &entry)?;
+/// let (level, color) = (Level::Errors, Color::Never);
+/// push_report(alloc, &mut lines, trials, level, color, b"", FILE, &entry)?;
 /// ```
 pub fn push_report<A: Allocator + Copy>(
     alloc: A,
     out: &mut Vec<u8, A>,
     trials: &mut Trials<A>,
-    scope: Scope,
+    level: Level,
     color: Color,
     prefix: &[u8],
     bytes: &[u8],
     entry: &Entry<'_>,
 ) -> Result<(), AllocError>
-    ensures lines { OnOk result (Adds (AreLines scope color prefix.now bytes.now entry.now)
+    ensures lines { OnOk result (Adds (AreLines level color prefix.now bytes.now entry.now)
         out.old.items out.new.items) }
 {
-    let remarks = remarks_of(alloc, trials, scope, bytes, entry)?;
+    let remarks = remarks_of(alloc, trials, level, bytes, entry)?;
     push_lines(out, color, prefix, remarks.as_slice())?;
     Ok(())
 }

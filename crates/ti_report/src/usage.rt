@@ -3,7 +3,7 @@
 ghost use Rattle.std.specs.Prelude.{◌≡◌};
 ghost use Rattle.ti_report.specs.Texts.{is_column, may_leave_out, usage_of};
 
-use ti_lint::{Scope, TextParameters, Variables, text_parameters};
+use ti_lint::{Level, TextParameters, Variables, text_parameters};
 use ti_names::Class;
 
 /// How a text is used.
@@ -22,20 +22,20 @@ pub struct Usage {
 }
 
 /// Whether what a text may leave out is the column of a status line.
-fn is_column(scope: Scope, name: &[u8]) -> bool
-    ensures { result ≡ is_column scope name.now }
+fn is_column(level: Level, name: &[u8]) -> bool
+    ensures { result ≡ is_column level name.now }
 {
-    match scope {
-        Scope::Mistakes => name == b"tsl".as_slice(),
-        Scope::All => false,
+    match level {
+        Level::Errors => name == b"tsl".as_slice(),
+        Level::All => false,
     }
 }
 
 /// Whether a text may leave out parameters, by its name: attributes that a terminal lacks, and motions by one place.
-fn may_leave_out(scope: Scope, name: &[u8]) -> bool
-    ensures { result ≡ may_leave_out scope name.now }
+fn may_leave_out(level: Level, name: &[u8]) -> bool
+    ensures { result ≡ may_leave_out level name.now }
 {
-    is_column(scope, name)
+    is_column(level, name)
         || name == b"sgr".as_slice()
         || name == b"sgr1".as_slice()
         || name == b"mhpa".as_slice()
@@ -47,14 +47,14 @@ fn may_leave_out(scope: Scope, name: &[u8]) -> bool
 
 impl Usage {
     /// How a text with a name is used.
-    pub fn of(scope: Scope, stored: Variables, name: &[u8], class: Class) -> Self
-        ensures { result ≡ usage_of scope stored name.now class }
+    pub fn of(level: Level, stored: Variables, name: &[u8], class: Class) -> Self
+        ensures { result ≡ usage_of level stored name.now class }
     {
         Usage {
             class,
             texts: text_parameters(name),
             stored,
-            may_leave_out: may_leave_out(scope, name),
+            may_leave_out: may_leave_out(level, name),
             has_pairs: name == b"acsc".as_slice(),
         }
     }

@@ -13,7 +13,7 @@ use crate::trials::Trials;
 use std::alloc::{AllocError, Allocator};
 use ti_cap::Capability;
 use ti_entry::Entry;
-use ti_lint::Scope;
+use ti_lint::Level;
 use ti_values::{Range, is_short, sent_for, tried_texts, values_of};
 use ti_words::Text;
 
@@ -21,15 +21,15 @@ use ti_words::Text;
 fn push_not_tried<'a, A: Allocator + Copy>(
     alloc: A,
     out: &mut Vec<Remark<'a, A>, A>,
-    scope: Scope,
+    level: Level,
     subject: &NamedText<'a>,
 ) -> Result<(), AllocError>
-    ensures { OnOk result (out.new.items ≡ out.old.items ++ on_not_tried scope
+    ensures { OnOk result (out.new.items ≡ out.old.items ++ on_not_tried level
         subject.now.name.now subject.now.text.now) }
 {
-    match scope {
-        Scope::Mistakes => Ok(()),
-        Scope::All => {
+    match level {
+        Level::Errors => Ok(()),
+        Level::All => {
             push_told(alloc, out, subject, Told::NotTried)?;
             Ok(())
         }
@@ -137,19 +137,19 @@ fn push_if_short<'a, A: Allocator + Copy>(
     alloc: A,
     out: &mut Vec<Remark<'a, A>, A>,
     trials: &mut Trials<A>,
-    scope: Scope,
+    level: Level,
     entry: &Entry<'a>,
     subject: &NamedText<'a>,
     capability: &Capability<'_>,
     range: Range,
 ) -> Result<(), AllocError>
     requires { capability.now ≡ subject.now.text.now }
-    ensures { OnOk result (Adds (IsShortReport scope entry.now
+    ensures { OnOk result (Adds (IsShortReport level entry.now
         subject.now.name.now subject.now.text.now range)
         out.old.items out.new.items) }
 {
     if !is_short(capability) {
-        push_not_tried(alloc, out, scope, subject)?;
+        push_not_tried(alloc, out, level, subject)?;
         return Ok(());
     }
     push_values_of(alloc, out, trials, entry, subject, capability, range)?;
@@ -161,12 +161,12 @@ fn push_tried_text<'a, A: Allocator + Copy>(
     alloc: A,
     out: &mut Vec<Remark<'a, A>, A>,
     trials: &mut Trials<A>,
-    scope: Scope,
+    level: Level,
     entry: &Entry<'a>,
     subject: &NamedText<'a>,
     range: Range,
 ) -> Result<(), AllocError>
-    ensures { OnOk result (Adds (IsTriedReport scope entry.now
+    ensures { OnOk result (Adds (IsTriedReport level entry.now
         subject.now.name.now subject.now.text.now range)
         out.old.items out.new.items) }
 {
@@ -176,7 +176,7 @@ fn push_tried_text<'a, A: Allocator + Copy>(
                 alloc,
                 out,
                 trials,
-                scope,
+                level,
                 entry,
                 subject,
                 &capability,
@@ -192,12 +192,12 @@ fn push_named<'a, A: Allocator + Copy>(
     alloc: A,
     out: &mut Vec<Remark<'a, A>, A>,
     trials: &mut Trials<A>,
-    scope: Scope,
+    level: Level,
     entry: &Entry<'a>,
     name: &'static str,
     range: Range,
 ) -> Result<(), AllocError>
-    ensures { OnOk result (Adds (IsTriedReportOf scope entry.now name.now
+    ensures { OnOk result (Adds (IsTriedReportOf level entry.now name.now
         (text_named entry.now name.now) range) out.old.items out.new.items) }
 {
     let Text::Value(text) = text_named(entry, name) else {
@@ -207,7 +207,7 @@ fn push_named<'a, A: Allocator + Copy>(
         name: name.as_bytes(),
         text,
     };
-    push_tried_text(alloc, out, trials, scope, entry, &subject, range)
+    push_tried_text(alloc, out, trials, level, entry, &subject, range)
 }
 
 /// Adds the remarks on some texts, each with its range.
@@ -215,15 +215,15 @@ fn push_texts<'a, A: Allocator + Copy>(
     alloc: A,
     out: &mut Vec<Remark<'a, A>, A>,
     trials: &mut Trials<A>,
-    scope: Scope,
+    level: Level,
     entry: &Entry<'a>,
     texts: &[(&'static str, Range)],
 ) -> Result<(), AllocError>
-    ensures { OnOk result (Adds (AreReports (IsNamedTriedReport scope entry.now) 0
+    ensures { OnOk result (Adds (AreReports (IsNamedTriedReport level entry.now) 0
         (map row_of texts.now)) out.old.items out.new.items) }
 {
     'texts: for (name, range) in texts {
-        push_named(alloc, out, trials, scope, entry, name, *range)?;
+        push_named(alloc, out, trials, level, entry, name, *range)?;
     }
     Ok(())
 }
@@ -233,16 +233,16 @@ pub fn push_values<'a, A: Allocator + Copy>(
     alloc: A,
     out: &mut Vec<Remark<'a, A>, A>,
     trials: &mut Trials<A>,
-    scope: Scope,
+    level: Level,
     entry: &Entry<'a>,
 ) -> Result<(), AllocError>
-    ensures { OnOk result (Adds (AreValueRemarks scope entry.now)
+    ensures { OnOk result (Adds (AreValueRemarks level entry.now)
         out.old.items out.new.items) }
 {
     let lines = number_named(entry, "lines");
     let columns = number_named(entry, "cols");
     let colors = number_named(entry, "colors");
     let texts = tried_texts(lines, columns, colors);
-    push_texts(alloc, out, trials, scope, entry, &texts)?;
+    push_texts(alloc, out, trials, level, entry, &texts)?;
     Ok(())
 }

@@ -9,7 +9,7 @@ use Rattle.ti_expand.specs.declared.values.Value.{Value}
 use Rattle.ti_line.specs.declared.request.OfEntry.{OfEntry}
 use Rattle.ti_tool.specs.Files.{IsDueOfFile, before_findings, result_of_file}
 use Rattle.ti_escape.specs.declared.color.Color.{Color}
-use Rattle.ti_lint.specs.declared.scope.Scope.{Scope}
+use Rattle.ti_lint.specs.declared.level.Level.{Level}
 use Rattle.ti_report.specs.Reports.{AreLines}
 use Rattle.ti_report.specs.Lines.{Adds}
 use Rattle.ti_tool.specs.inner.Dues.{FailsAsDue}
@@ -44,9 +44,9 @@ fault_is_high (fault.Entry refused) = omega arith
 fault_is_high other = omega arith
 
 -- lines that were written to none are those of the findings
-pub linted : (scope : Scope) (color : Color) (before input : List ℕ) (v : EntryValue) (start lines : List ℕ) (sound : Bool) → start ≡ []
-    → Adds (AreLines scope color before input v) start lines → sound ≡ (length lines == 0) → IsLinted scope color before sound input v (Ok lines)
-linted scope color before input v start lines sound empty adds none = go (subst (λ (s : List ℕ). Adds (AreLines scope color before input v) s lines) empty adds)
+pub linted : (level : Level) (color : Color) (before input : List ℕ) (v : EntryValue) (start lines : List ℕ) (sound : Bool) → start ≡ []
+    → Adds (AreLines level color before input v) start lines → sound ≡ (length lines == 0) → IsLinted level color before sound input v (Ok lines)
+linted level color before input v start lines sound empty adds none = go (subst (λ (s : List ℕ). Adds (AreLines level color before input v) s lines) empty adds)
   where
-    go : Adds (AreLines scope color before input v) [] lines → IsLinted scope color before sound input v (Ok lines)
-    go (all, is, joined) = (subst (AreLines scope color before input v) (sym joined) is, none)
+    go : Adds (AreLines level color before input v) [] lines → IsLinted level color before sound input v (Ok lines)
+    go (all, is, joined) = (subst (AreLines level color before input v) (sym joined) is, none)

@@ -70,17 +70,17 @@ module _ (v : EntryValue) (name : List ℕ) where
   abbrev IsFirst : Kind → ℕ → Type 0
   IsFirst k i = (slice_get (names_of v.extended k) i ≡ Some name) × Lacks (names_before v.extended k i) name
 
-  one_own : (k l : Kind) (i j : ℕ) → IsFirst k i → IsFirst l j → (k ≡ l) × (i ≡ j)
-  one_own kinds.Flag kinds.Flag i j a b = (refl, one_index Fs name i j a.0 a.1 b.0 b.1)
-  one_own kinds.Number kinds.Number i j a b = (refl, one_index Ns name i j a.0 (lacks_right Fs (take i Ns) name a.1) b.0 (lacks_right Fs (take j Ns) name b.1))
-  one_own kinds.Text kinds.Text i j a b =
+  one_extended : (k l : Kind) (i j : ℕ) → IsFirst k i → IsFirst l j → (k ≡ l) × (i ≡ j)
+  one_extended kinds.Flag kinds.Flag i j a b = (refl, one_index Fs name i j a.0 a.1 b.0 b.1)
+  one_extended kinds.Number kinds.Number i j a b = (refl, one_index Ns name i j a.0 (lacks_right Fs (take i Ns) name a.1) b.0 (lacks_right Fs (take j Ns) name b.1))
+  one_extended kinds.Text kinds.Text i j a b =
       (refl, one_index Ts name i j a.0 (lacks_right (Fs ++ Ns) (take i Ts) name a.1) b.0 (lacks_right (Fs ++ Ns) (take j Ts) name b.1))
-  one_own kinds.Flag kinds.Number i j a b = absurd (not_there Fs name i (lacks_left Fs (take j Ns) name b.1) a.0)
-  one_own kinds.Flag kinds.Text i j a b = absurd (not_there Fs name i (lacks_left Fs Ns name (lacks_left (Fs ++ Ns) (take j Ts) name b.1)) a.0)
-  one_own kinds.Number kinds.Flag i j a b = absurd (not_there Fs name j (lacks_left Fs (take i Ns) name a.1) b.0)
-  one_own kinds.Number kinds.Text i j a b = absurd (not_there Ns name i (lacks_right Fs Ns name (lacks_left (Fs ++ Ns) (take j Ts) name b.1)) a.0)
-  one_own kinds.Text kinds.Flag i j a b = absurd (not_there Fs name j (lacks_left Fs Ns name (lacks_left (Fs ++ Ns) (take i Ts) name a.1)) b.0)
-  one_own kinds.Text kinds.Number i j a b = absurd (not_there Ns name j (lacks_right Fs Ns name (lacks_left (Fs ++ Ns) (take i Ts) name a.1)) b.0)
+  one_extended kinds.Flag kinds.Number i j a b = absurd (not_there Fs name i (lacks_left Fs (take j Ns) name b.1) a.0)
+  one_extended kinds.Flag kinds.Text i j a b = absurd (not_there Fs name i (lacks_left Fs Ns name (lacks_left (Fs ++ Ns) (take j Ts) name b.1)) a.0)
+  one_extended kinds.Number kinds.Flag i j a b = absurd (not_there Fs name j (lacks_left Fs (take i Ns) name a.1) b.0)
+  one_extended kinds.Number kinds.Text i j a b = absurd (not_there Ns name i (lacks_right Fs Ns name (lacks_left (Fs ++ Ns) (take j Ts) name b.1)) a.0)
+  one_extended kinds.Text kinds.Flag i j a b = absurd (not_there Fs name j (lacks_left Fs Ns name (lacks_left (Fs ++ Ns) (take i Ts) name a.1)) b.0)
+  one_extended kinds.Text kinds.Number i j a b = absurd (not_there Ns name j (lacks_right Fs Ns name (lacks_left (Fs ++ Ns) (take i Ts) name a.1)) b.0)
 
   -- ---- the place
 
@@ -98,7 +98,7 @@ module _ (v : EntryValue) (name : List ℕ) where
   one_position (Some (Extended k i)) None p q = absurd (nowhere k i q.1 p.1.0)
   one_position (Some (Extended k i)) (Some (Standard l j)) p q = absurd (cc (p.0, q))
   one_position (Some (Extended k i)) (Some (Extended l j)) p q =
-      let one = one_own k l i j p.1 q.1 in
+      let one = one_extended k l i j p.1 q.1 in
       ap₂ (λ x y. Some (Extended x y)) one.0 one.1
 
   one_place : (a b : Option Position) → IsPlaceCalled name v a → IsPlaceCalled name v b → a ≡ b

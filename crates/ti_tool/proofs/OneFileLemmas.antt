@@ -32,7 +32,7 @@ one_found_in : (document : Document) (input : List ℕ) (v : EntryValue) (object
     → FindsIn document sound → FindsIn document as_sound → sound ≡ as_sound
 one_found_in documents.Listing input v objects others sound as_sound are also f g = f ∙ sym g
 one_found_in documents.Verdicts input v objects others sound as_sound are also f g = (one_objects v objects others sound as_sound are also).1
-one_found_in (documents.Findings scope) input v objects others sound as_sound are also f g = (one_findings scope input v sound as_sound objects others are also).1
+one_found_in (documents.Findings level) input v objects others sound as_sound are also f g = (one_findings level input v sound as_sound objects others are also).1
 
 one_set : (item : Option ItemValue) (g : Get) (set as_set : Bool) (r s : Result (List ℕ) ToolFault) → IsValueResult item g set r → IsValueResult item g as_set s → set ≡ as_set
 one_set None g set as_set r s d h = d.0 ∙ sym h.0
@@ -47,7 +47,7 @@ one_in : (before : List ℕ) (e : OfEntry) (parameters : List Value) (input : Li
 one_in before (of_entry.Show options) parameters input v out outs sound as_sound d h f g = f ∙ sym g
 one_in before (of_entry.Json document) parameters input v out outs sound as_sound (objects, are, is) (others, also, same) f g = one_found_in document input v objects others sound as_sound are also f g
 one_in before (of_entry.Check naming) parameters input v out outs sound as_sound d h f g = (one_verdicts naming v out outs sound as_sound d h).1
-one_in before (of_entry.Lint scope color) parameters input v out outs sound as_sound d h f g = d.1 ∙ ap (λ lines. length lines == 0) (one_lines scope color before input v out outs d.0 h.0) ∙ sym h.1
+one_in before (of_entry.Lint level color) parameters input v out outs sound as_sound d h f g = d.1 ∙ ap (λ lines. length lines == 0) (one_lines level color before input v out outs d.0 h.0) ∙ sym h.1
 one_in before (of_entry.Expand e) parameters input v out outs sound as_sound d h f g = f ∙ sym g
 one_in before (of_entry.Convert width) parameters input v out outs sound as_sound d h f g = f ∙ sym g
 one_in before (of_entry.Trace t) parameters input v out outs sound as_sound d h f g = f ∙ sym g
@@ -74,7 +74,7 @@ one_line : (e : OfEntry) (contents : List ℕ) (why : ToolFault) (line : List �
 one_line (of_entry.Show options) contents why line none (near, told, is) = is
 one_line (of_entry.Json document) contents why line none (near, told, is) = is
 one_line (of_entry.Check naming) contents why line none (near, told, is) = is
-one_line (of_entry.Lint scope color) contents why line none (near, told, is) = is
+one_line (of_entry.Lint level color) contents why line none (near, told, is) = is
 one_line (of_entry.Expand e) contents why line none (near, told, is) = is
 one_line (of_entry.Convert width) contents why line none (near, told, is) = is
 one_line (of_entry.Get g) contents why line none told = absurd (cc)

@@ -24,7 +24,7 @@ use Rattle.ti_expand.specs.State.{start}
 use Rattle.ti_expand.specs.Meaning.{meaning}
 use Rattle.ti_expand.specs.Expands.{IsFirstTooLong}
 use Rattle.ti_escape.specs.declared.color.Color.{Color}
-use Rattle.ti_lint.specs.declared.scope.Scope.{Scope}
+use Rattle.ti_lint.specs.declared.level.Level.{Level}
 use Rattle.ti_report.proofs.OneReportLemmas.{one_findings, one_lines}
 use Rattle.ti_trace.proofs.OneTraceLemmas.{is_one_trace, is_one_trace_json}
 use Rattle.ti_pad.specs.Setting.{Setting}
@@ -312,7 +312,7 @@ one_list : (document : Document) (sound as_sound : Bool) (input : List ℕ) (v :
     → AreObjects document sound input v objects → AreObjects document as_sound input v others → objects ≡ others
 one_list documents.Listing sound as_sound input v objects others are are_too = are ∙ sym are_too
 one_list documents.Verdicts sound as_sound input v objects others are are_too = (one_objects v objects others sound as_sound are are_too).0
-one_list (documents.Findings scope) sound as_sound input v objects others are are_too = (one_findings scope input v sound as_sound objects others are are_too).0
+one_list (documents.Findings level) sound as_sound input v objects others are are_too = (one_findings level input v sound as_sound objects others are are_too).0
 
 one_document : (document : Document) (sound as_sound : Bool) (input : List ℕ) (v : EntryValue) (r s : Result (List ℕ) ToolFault) → IsDocument document sound input v r
     → IsDocument document as_sound input v s → r ≡ s
@@ -334,18 +334,18 @@ one_for_text : (c : OfCapability) (parameters : List Value) (text : Result (List
 one_for_text c parameters (Ok text) = one_output c parameters text
 one_for_text c parameters (Err e) = λ r s d h. d ∙ sym h
 
-one_linted : (scope : Scope) (color : Color) (before : List ℕ) (sound as_sound : Bool) (input : List ℕ) (v : EntryValue) (r s : Result (List ℕ) ToolFault)
-    → IsLinted scope color before sound input v r → IsLinted scope color before as_sound input v s → r ≡ s
-one_linted scope color before sound as_sound input v (Ok a) (Ok b) d h = ap Ok (one_lines scope color before input v a b d.0 h.0)
-one_linted scope color before sound as_sound input v (Ok a) (Err e) d h = absurd h
-one_linted scope color before sound as_sound input v (Err e) s d h = absurd d
+one_linted : (level : Level) (color : Color) (before : List ℕ) (sound as_sound : Bool) (input : List ℕ) (v : EntryValue) (r s : Result (List ℕ) ToolFault)
+    → IsLinted level color before sound input v r → IsLinted level color before as_sound input v s → r ≡ s
+one_linted level color before sound as_sound input v (Ok a) (Ok b) d h = ap Ok (one_lines level color before input v a b d.0 h.0)
+one_linted level color before sound as_sound input v (Ok a) (Err e) d h = absurd h
+one_linted level color before sound as_sound input v (Err e) s d h = absurd d
 
 one_on : (before : List ℕ) (e : OfEntry) (parameters : List Value) (sound as_sound : Bool) (input : List ℕ) (v : EntryValue) (r s : Result (List ℕ) ToolFault)
     → IsDueIn before e parameters sound input v r → IsDueIn before e parameters as_sound input v s → r ≡ s
 one_on before (of_entry.Show options) parameters sound as_sound input v r s d h = d ∙ sym h
 one_on before (of_entry.Json document) parameters sound as_sound input v r s d h = one_document document sound as_sound input v r s d h
 one_on before (of_entry.Check naming) parameters sound as_sound input v r s d h = one_judgement naming v sound as_sound r s d h
-one_on before (of_entry.Lint scope color) parameters sound as_sound input v r s d h = one_linted scope color before sound as_sound input v r s d h
+one_on before (of_entry.Lint level color) parameters sound as_sound input v r s d h = one_linted level color before sound as_sound input v r s d h
 one_on before (of_entry.Expand e) parameters sound as_sound input v r s d h = one_due_for e.name.names e.name.name.now parameters e.padding e.output v r s d h
 one_on before (of_entry.Get g) parameters sound as_sound input v r s d h = one_got g sound as_sound v r s d h
 one_on before (of_entry.Trace t) parameters sound as_sound input v r s d h = one_traced_of t v r s d h
@@ -368,7 +368,7 @@ on_entry_never : (e : OfEntry) (parameters : List Value) (sound : Bool) (input :
 on_entry_never (of_entry.Show options) parameters sound input v = record { no_write = λ gone d. cc; no_memory = λ d. cc }
 on_entry_never (of_entry.Json document) parameters sound input v = document_never document sound input v
 on_entry_never (of_entry.Check naming) parameters sound input v = record { no_write = λ gone d. d; no_memory = λ d. d }
-on_entry_never (of_entry.Lint scope color) parameters sound input v = record { no_write = λ gone d. d; no_memory = λ d. d }
+on_entry_never (of_entry.Lint level color) parameters sound input v = record { no_write = λ gone d. d; no_memory = λ d. d }
 on_entry_never (of_entry.Expand e) parameters sound input v = record {
   no_write = λ gone (text, called, d). (text_never text parameters e.padding e.output).no_write gone d;
   no_memory = λ (text, called, d). (text_never text parameters e.padding e.output).no_memory d;

@@ -139,7 +139,7 @@ shown_lines options input out e n (inr (v, spells, listed)) =
 objects_text : (document : Document) (sound : Bool) (input : List ℕ) (v : EntryValue) (objects : List Data) → AreObjects document sound input v objects → IsText (array_text objects)
 objects_text documents.Listing sound input v objects are = subst (λ ds. IsText (array_text ds)) (sym are) (entry_is_text v)
 objects_text documents.Verdicts sound input v objects (rows, are, is, s) = array_is_text objects (subst HavePlain (sym is) (rows_are_plain rows))
-objects_text (documents.Findings scope) sound input v objects are = report_is_text scope input v sound objects are
+objects_text (documents.Findings level) sound input v objects are = report_is_text level input v sound objects are
 
 document_of : (document : Document) (sound : Bool) (input out : List ℕ) → IsDueFrom (IsDocument document sound input) input (Ok out) → (text : List ℕ) × IsText text × (out ≡ text ++ codes "\n")
 document_of document sound input out (inl (refused, is, same)) = absurd cc
@@ -151,7 +151,7 @@ json_line document sound input out due = let (text, is, e) = document_of documen
 key_text : (document : Document) → IsText (key_of document)
 key_text documents.Listing = refl
 key_text documents.Verdicts = refl
-key_text (documents.Findings scope) = refl
+key_text (documents.Findings level) = refl
 
 pub object_line : ObjectIsPrintable
 object_line document sound name input out due =

@@ -14,7 +14,7 @@ use Rattle.ti_tool.specs.Verdicts.{AreVerdictObjects}
 abbrev pub AreObjects : Document → Bool → List ℕ → EntryValue → List Data → Type 0
 AreObjects documents.Listing sound input v objects = objects ≡ entry_objects v
 AreObjects documents.Verdicts sound input v objects = AreVerdictObjects v objects sound
-AreObjects (documents.Findings scope) sound input v objects = AreFindings scope input v sound objects
+AreObjects (documents.Findings level) sound input v objects = AreFindings level input v sound objects
 
 -- the document in a line
 abbrev pub IsDocument : Document → Bool → List ℕ → EntryValue → Result (List ℕ) ToolFault → Type 0
@@ -26,13 +26,13 @@ IsDocument document sound input v (Err e) = ⊥
 abbrev pub FindsIn : Document → Bool → Type 0
 FindsIn documents.Listing sound = sound ≡ true
 FindsIn documents.Verdicts sound = Unit {0}
-FindsIn (documents.Findings scope) sound = Unit {0}
+FindsIn (documents.Findings level) sound = Unit {0}
 
 -- what the document of a file is called in its object
 abbrev pub key_of : Document → List ℕ
 key_of documents.Listing = codes "items"
 key_of documents.Verdicts = codes "verdicts"
-key_of (documents.Findings scope) = codes "findings"
+key_of (documents.Findings level) = codes "findings"
 
 -- an object of the name of a file and its document without its newline, in a line
 abbrev pub in_object : Document → List ℕ → List ℕ → List ℕ

@@ -91,7 +91,7 @@ abbrev pub takes_folders : OfEntry → Bool
 takes_folders (of_entry.Show options) = true
 takes_folders (of_entry.Json document) = true
 takes_folders (of_entry.Check naming) = true
-takes_folders (of_entry.Lint scope color) = true
+takes_folders (of_entry.Lint level color) = true
 takes_folders _ = false
 
 -- the files that a word names: the one of this name, or those of a folder, each of which is one of several

@@ -19,7 +19,7 @@ use Rattle.ti_line.specs.declared.options.Output.{Output}
 use Rattle.ti_line.specs.Options.{list_options, naming_asked, output_asked, output_bytes}
 pub use Rattle.ti_tool.specs.Expansions.{IsExpansion, IsPadded, IsUnexpanded}
 use Rattle.ti_escape.specs.declared.color.Color.{Color}
-use Rattle.ti_lint.specs.declared.scope.Scope.{Scope}
+use Rattle.ti_lint.specs.declared.level.Level.{Level}
 use Rattle.ti_report.specs.Reports.{AreLines}
 use Rattle.ti_tool.specs.Got.{IsGot}
 pub use Rattle.ti_tool.specs.Traces.{IsTraced, IsTracedOf}
@@ -92,10 +92,10 @@ abbrev pub IsChecked : Bool → List ℕ → Result (List ℕ) ToolFault → Typ
 IsChecked sound = IsDueFrom (IsJudgement (naming_asked false false false) sound)
 
 -- the lines of `lint` on what is wrong with an entry, with something before the first of each; nothing is wrong if there are none
-abbrev pub IsLinted : Scope → Color → List ℕ → Bool → List ℕ → EntryValue → Result (List ℕ) ToolFault → Type 0
-IsLinted scope color before sound input v (Ok lines) =
-    AreLines scope color before input v lines × (sound ≡ (length lines == 0))
-IsLinted scope color before sound input v (Err e) = ⊥
+abbrev pub IsLinted : Level → Color → List ℕ → Bool → List ℕ → EntryValue → Result (List ℕ) ToolFault → Type 0
+IsLinted level color before sound input v (Ok lines) =
+    AreLines level color before input v lines × (sound ≡ (length lines == 0))
+IsLinted level color before sound input v (Err e) = ⊥
 
 -- the canonical bytes of an entry, or why it has none
 abbrev pub IsEncoding : EntryValue → Result (List ℕ) ToolFault → Type 0
@@ -125,7 +125,7 @@ abbrev pub IsDueIn : List ℕ → OfEntry → List Value → Bool → List ℕ �
 IsDueIn before (of_entry.Show options) parameters sound input = IsListed options
 IsDueIn before (of_entry.Json document) parameters sound input = IsDocument document sound input
 IsDueIn before (of_entry.Check naming) parameters sound input = IsJudgement naming sound
-IsDueIn before (of_entry.Lint scope color) parameters sound input = IsLinted scope color before sound input
+IsDueIn before (of_entry.Lint level color) parameters sound input = IsLinted level color before sound input
 IsDueIn before (of_entry.Expand e) parameters sound input =
     IsDueFor e.name.names e.name.name.now parameters e.padding e.output
 IsDueIn before (of_entry.Convert width) parameters sound input = λ v. IsEncoding (in_width width v)
@@ -148,6 +148,6 @@ IsAnswer (Difference d) parameters sound = λ input answer. ⊥
 abbrev pub Finds : Asked → Bool → Type 0
 Finds (Entry (of_entry.Json document)) sound = FindsIn document sound
 Finds (Entry (of_entry.Check naming)) sound = Unit {0}
-Finds (Entry (of_entry.Lint scope color)) sound = Unit {0}
+Finds (Entry (of_entry.Lint level color)) sound = Unit {0}
 Finds (Entry (of_entry.Get g)) sound = Unit {0}
 Finds _ sound = sound ≡ true

@@ -96,8 +96,8 @@ pub fn answer_of_entry<A: Allocator + Copy>(
             return Ok(document_of(alloc, trials, *document, bytes, entry)?);
         }
         OfEntry::Check(naming) => return Ok(verdicts_of(alloc, *naming, entry)?),
-        OfEntry::Lint(scope, color) => {
-            return Ok(findings_of_entry(alloc, trials, *scope, *color, before, bytes, entry)?);
+        OfEntry::Lint(level, color) => {
+            return Ok(findings_of_entry(alloc, trials, *level, *color, before, bytes, entry)?);
         }
         OfEntry::Expand(expand) => expand_result(alloc, entry, expand, parameters)?,
         OfEntry::Convert(width) => convert_result(alloc, entry, *width)?,

@@ -88,8 +88,8 @@ abbrev pub mark_in : {A : Type 0} → List ℕ × A → A
 mark_in x = x.1
 
 -- without the names
-abbrev pub unnamed : NamedPart → PartValue
-unnamed p = record { flags = map mark_in p.flags; numbers = map mark_in p.numbers; texts = map mark_in p.texts }
+abbrev pub without_names : NamedPart → PartValue
+without_names p = record { flags = map mark_in p.flags; numbers = map mark_in p.numbers; texts = map mark_in p.texts }
 
 -- the names of flags, then numbers, then texts
 abbrev pub part_names : NamedPart → List (List ℕ)
@@ -167,9 +167,9 @@ extended_spelling table_size items w p s =
 pub record HasExtendedPart (v : EntryValue) (table_size : ℕ) (bytes : List ℕ) : Type 0 where
   pub items : List ℕ
   pub strings : Strings
-  pub joined : bytes ≡ join (extended_spelling table_size items v.width (unnamed v.extended) strings) []
+  pub joined : bytes ≡ join (extended_spelling table_size items v.width (without_names v.extended) strings) []
   pub items_size : length items ≡ 2
-  pub part : SpellsPart v.width strings (unnamed v.extended) (part_names v.extended)
+  pub part : SpellsPart v.width strings (without_names v.extended) (part_names v.extended)
 
 pub record HasNoExtendedPart (v : EntryValue) (bytes : List ℕ) : Type 0 where
   pub ends : bytes ≡ []

@@ -28,7 +28,7 @@ ti trace 4 --of=cursor_address --entry - => Entry(Trace(TraceOf { name: "cursor_
 ti trace --json --of=cup --color always => Entry(Trace(TraceOf { name: "cup", given: None, form: Json })) [Num(0), Num(0)]
 ti trace --color=always => Capability(Trace(Lines(Hex, Always))) [Num(0), Num(0)]
 ti lint --all => Entry(Lint(All, Never)) [Num(0), Num(0)]
-ti lint --json => Entry(Json(Findings(Mistakes))) [Num(0), Num(0)]
+ti lint --json => Entry(Json(Findings(Errors))) [Num(0), Num(0)]
 ti diff a b --json --expand => Difference(Pair { file: "a", other: "b", likeness: Tokens, form: Json }) [Num(0), Num(0)]
 ti show => Entry(Show(ListOptions { naming: Naming { table: Common, form: Raw }, form: Hex })) [Num(0), Num(0)]
 ti show --escape => Entry(Show(ListOptions { naming: Naming { table: Common, form: Notation }, form: Notation })) [Num(0), Num(0)]
@@ -123,9 +123,9 @@ ti check => Entry(Check(Naming { table: Common, form: Notation }))
 ti convert --force --wide => Entry(Convert(Some(Wide)))
 ti convert --wide --force => Entry(Convert(Some(Wide)))
 # Parts of lines stand out, unless a word says it.
-ti lint => Entry(Lint(Mistakes, Always))
-ti lint --color auto => Entry(Lint(Mistakes, Always))
-ti lint --color=never => Entry(Lint(Mistakes, Never))
+ti lint => Entry(Lint(Errors, Always))
+ti lint --color auto => Entry(Lint(Errors, Always))
+ti lint --color=never => Entry(Lint(Errors, Never))
 ";
 
 /// What words ask for at a terminal.

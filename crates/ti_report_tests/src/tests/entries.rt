@@ -6,7 +6,7 @@ use ti_draft::{Draft, encode};
 use ti_entry::read;
 use ti_fixtures::{Said, Unfound, bytes_of, item_of};
 use ti_names::NameTable;
-use ti_report::{Color, Scope, Trials, push_report};
+use ti_report::{Color, Level, Trials, push_report};
 use ti_words::{Flag, Kind, Number, Text, Width};
 
 /// What the items say of a capability of terminfo(5).
@@ -126,7 +126,7 @@ pub fn entry_of(alloc: Global, text: &str) -> Result<Vec<u8>, Unfound> {
 /// Which lines on an entry are requested, and how they look.
 #[derive(Clone, Copy)]
 pub struct Look {
-    pub scope: Scope,
+    pub level: Level,
     pub color: Color,
     pub prefix: &'static [u8],
 }
@@ -144,7 +144,7 @@ pub fn add_report(
         alloc,
         lines,
         trials,
-        look.scope,
+        look.level,
         look.color,
         look.prefix,
         file,
@@ -159,9 +159,9 @@ pub fn lines_on(alloc: Global, look: Look, file: &[u8]) -> Result<Vec<u8>, Unfou
     Ok(lines)
 }
 
-/// Mistakes, without color and without a name in front.
+/// Errors, without color and without a name in front.
 pub const MISTAKES: Look = Look {
-    scope: Scope::Mistakes,
+    level: Level::Errors,
     color: Color::Never,
     prefix: b"",
 };
@@ -171,7 +171,7 @@ pub fn look_of(words: &str) -> Look {
     let is_all = words.starts_with("all");
     let is_named = words.ends_with("in file");
     Look {
-        scope: if is_all { Scope::All } else { Scope::Mistakes },
+        level: if is_all { Level::All } else { Level::Errors },
         color: Color::Never,
         prefix: if is_named { b"file: " } else { b"" },
     }

@@ -43,7 +43,7 @@ fn print_document<A: Allocator + Copy>(
             Ok(true)
         }
         Document::Verdicts => Ok(print_verdicts(printer, entry)),
-        Document::Findings(scope) => print_report(printer, alloc, trials, scope, input, entry),
+        Document::Findings(level) => print_report(printer, alloc, trials, level, input, entry),
     }
 }
 

@@ -29,7 +29,7 @@ returns g c =
     let p = c.extended-part.ensures in
     let few = few_extended v c.requires.fit c.requires.extended in
     let table : c.args.sizes.now.table ≡ length (standard_strings v).table = omega (arith, (few_standard v c.requires.fit).part.table, c.requires.sizes.table) in
-    let own_table : c.args.sizes.now.extended_table ≡ length (extended_strings v).table = omega (arith, few.table, c.requires.sizes.extended_table) in
+    let extended_table : c.args.sizes.now.extended_table ≡ length (extended_strings v).table = omega (arith, few.table, c.requires.sizes.extended_table) in
     let items : c.items_count.result ≡ items_of v.extended = rw (c.items_count.ensures, p.texts, p.names) (simp length-map) in
     rw (
       c.in_ok-put_part.ensures,
@@ -38,7 +38,7 @@ returns g c =
       c.in_ok-put_counts.ensures,
       c.in_ok-put_pad.ensures,
       table,
-      own_table,
+      extended_table,
       items,
       p.flags,
       p.numbers,

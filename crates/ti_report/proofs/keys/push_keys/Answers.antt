@@ -13,13 +13,13 @@ returns g c =
     let keys = c.in_ok-keys.keys.items in
     let row = c.sort_unstable.new.self.items in
     let ascends = ascends_lent row c.sort_unstable.ensures.sorted in
-    let remarks : on_row c.args.scope (keys_lent row) ≡ on_keys c.args.scope (keys_lent row) (keys_lent row) = neighbours_are c.args.scope (keys_lent row) ascends in (
-      on_row c.args.scope (keys_lent row),
+    let remarks : on_row c.args.level (keys_lent row) ≡ on_keys c.args.level (keys_lent row) (keys_lent row) = neighbours_are c.args.level (keys_lent row) ascends in (
+      on_row c.args.level (keys_lent row),
       record {
         row = keys_lent row;
         same = subst (λ all. IsPermutation all (keys_lent row)) c.in_ok-keys.ensures (IsPermutation-map key_lent keys row c.sort_unstable.ensures.permutation);
         ascends = ascends;
         remarks_are = remarks;
       },
-      c.in_ok-push_row.ensures ∙ ap (λ items. c.args.out.now.items ++ on_row c.args.scope (keys_lent items)) c.as_slice.ensures.value,
+      c.in_ok-push_row.ensures ∙ ap (λ items. c.args.out.now.items ++ on_row c.args.level (keys_lent items)) c.as_slice.ensures.value,
     )

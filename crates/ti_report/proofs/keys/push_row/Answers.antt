@@ -18,9 +18,9 @@ keys-preserved g c =
     record {
       low = omega (arith, l.invariant.low);
       so_far =
-          row_next c.args.scope (keys_lent row) i ([], []) l.out.items c.push_neighbours.new.out.items _ l.invariant.low (omega (arith, c.keys-test.true, length-map row key_lent))
-          (c.in_ok-push_neighbours.ensures ∙ ap₂ (λ one other. l.out.items ++ on_neighbours c.args.scope one other) (sym before) (sym here)) l.invariant.so_far;
+          row_next c.args.level (keys_lent row) i ([], []) l.out.items c.push_neighbours.new.out.items _ l.invariant.low (omega (arith, c.keys-test.true, length-map row key_lent))
+          (c.in_ok-push_neighbours.ensures ∙ ap₂ (λ one other. l.out.items ++ on_neighbours c.args.level one other) (sym before) (sym here)) l.invariant.so_far;
     }
 
 pub returns : goal.returns
-returns g c = row_end c.args.scope (keys_lent c.args.row.now) c.keys.next c.keys.out.items _ (omega (arith, c.keys-test.false, length-map c.args.row.now key_lent)) c.keys.invariant.so_far
+returns g c = row_end c.args.level (keys_lent c.args.row.now) c.keys.next c.keys.out.items _ (omega (arith, c.keys-test.false, length-map c.args.row.now key_lent)) c.keys.invariant.so_far

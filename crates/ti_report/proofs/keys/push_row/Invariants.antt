@@ -7,5 +7,5 @@ use Rattle.ti_report.proofs.keys.push_row.Given as goal
 abbrev pub invariant-keys : goal.invariant-keys
 invariant-keys g l = record {
   low : 1 ≤ l.next;
-  so_far : l.out.items ++ on_row l.fn.scope (drop (l.next - 1) (keys_lent l.row)) ≡ l.initial.out.items ++ on_row l.fn.scope (keys_lent l.row);
+  so_far : l.out.items ++ on_row l.fn.level (drop (l.next - 1) (keys_lent l.row)) ≡ l.initial.out.items ++ on_row l.fn.level (keys_lent l.row);
 }

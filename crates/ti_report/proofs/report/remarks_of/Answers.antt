@@ -10,7 +10,7 @@ use Rattle.ti_report.proofs.report.remarks_of.Goals as goal
 
 pub returns : goal.returns
 returns g c =
-    let scope = c.args.scope in
+    let level = c.args.level in
     let stored = c.stored_by_texts-stored.result in
     let v = c.args.entry.now in
     let Q : NamedPart → Type 0 = λ part. Adds (AreNameRemarks part) c.push_keys.new.out.items c.push_names.new.out.items in
@@ -20,5 +20,5 @@ returns g c =
     let keys = in_turn _ _ _ _ _ c.in_ok-push_keys.ensures names in
     let rest = in_turn _ _ _ _ _ c.in_ok-push_values.ensures (in_turn _ _ _ _ _ c.in_ok-push_sequences.ensures (in_turn _ _ _ _ _ c.in_ok-push_pairs.ensures keys)) in
     let (remarks, are, so) = in_turn _ _ _ _ _ c.in_ok-push_items.ensures rest in
-    let Told : List Remark → Type 0 = λ all. IsReport scope c.args.bytes.now v all in
+    let Told : List Remark → Type 0 = λ all. IsReport level c.args.bytes.now v all in
     subst Told (sym (so ∙ ap (λ none. none ++ remarks) c.new-out.ensures.items)) (stored, c.stored_by_texts-stored.ensures, are)

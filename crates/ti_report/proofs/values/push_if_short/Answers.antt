@@ -7,7 +7,7 @@ pub returns-then-not-is_short : goal.returns-then-not-is_short
 returns-then-not-is_short g c =
     let s = c.args.subject.now in
     let P : List ℕ → Type 0 = λ text. IsShort text in
-    (on_not_tried c.args.scope s.name.now s.text.now, inl (λ short. cc (c.is_short.ensures.exact.1 (subst P (sym c.requires) short), c.if-not-is_short.true), refl), c.in_ok-push_not_tried.ensures)
+    (on_not_tried c.args.level s.name.now s.text.now, inl (λ short. cc (c.is_short.ensures.exact.1 (subst P (sym c.requires) short), c.if-not-is_short.true), refl), c.in_ok-push_not_tried.ensures)
 
 pub returns : goal.returns
 returns g c =

@@ -6,4 +6,4 @@ use Rattle.ti_report.proofs.ReportsLemmas.{GoesOn}
 use Rattle.ti_report.proofs.values.push_texts.Given as goal
 
 abbrev pub invariant-texts : goal.invariant-texts
-invariant-texts g l = GoesOn (IsNamedTriedReport l.fn.scope l.entry) (map row_of l.texts) l.initial.out.items l.name-index l.out.items
+invariant-texts g l = GoesOn (IsNamedTriedReport l.fn.level l.entry) (map row_of l.texts) l.initial.out.items l.name-index l.out.items

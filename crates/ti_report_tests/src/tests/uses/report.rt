@@ -2,7 +2,7 @@
 
 use std::test::Fail;
 use ti_entry::read;
-use ti_report::{Color, Scope, Trials, push_report, report_json};
+use ti_report::{Color, Level, Trials, push_report, report_json};
 
 /// An entry called `t` with `cup` as termcap writes `cm`.
 const FILE: &[u8] = b"\x1a\x01\x02\0\0\0\0\0\x0b\0\x09\0t\0\
@@ -14,8 +14,8 @@ fn an_entry_of_termcap(rt: HostRuntime) -> Result<(), Fail> {
     let mut lines = Vec::new(rt.alloc());
     let alloc = rt.alloc();
     let trials = &mut Trials::new(alloc);
-    let (scope, color) = (Scope::Mistakes, Color::Never);
-    push_report(alloc, &mut lines, trials, scope, color, b"", FILE, &entry)?;
+    let (level, color) = (Level::Errors, Color::Never);
+    push_report(alloc, &mut lines, trials, level, color, b"", FILE, &entry)?;
     let wanted = br"cup
   \E=%+ %+\s
      ^  ^
@@ -26,7 +26,7 @@ cup
   stack-residue: on some path the value that it pushes is left
 ";
     assert!(rt; lines.as_slice() == wanted.as_slice());
-    let json = report_json(alloc, trials, scope, FILE, &entry)?;
+    let json = report_json(alloc, trials, level, FILE, &entry)?;
     let wanted =
         br#"[{"finding":"termcap-parameter","meaning":"it pops a value, and the text has no %p","places":[2,5],"subjects":[{"name":"cup","text":"\\E=%+ %+\\s"}]},{"finding":"stack-residue","meaning":"on some path the value that it pushes is left","places":[5],"subjects":[{"name":"cup","text":"\\E=%+ %+\\s"}]}]"#;
     assert!(rt; json.text.as_slice() == wanted.as_slice());

@@ -1,6 +1,6 @@
 use Rattle.std.proofs.Common.{◌≤◌, ◌+◌, ◌*◌, ◌∙◌, length, ap, subst, sym}
 use Rattle.ti_base.specs.Limits.{most_entry_bytes}
-use Rattle.ti_layout.specs.declared.section.Items.{Items}
+use Rattle.ti_layout.specs.declared.section.SectionItems.{SectionItems}
 use Rattle.ti_layout.specs.declared.section.Section.{Section}
 use Rattle.ti_layout.specs.declared.stage.Stage.{Stage}
 use Rattle.ti_layout.specs.Refusal.{item_size, items_of}
@@ -17,7 +17,7 @@ items-items-requires-clause-extended_fits c = (stands_now c.args.bytes.now (at_f
 pub pass-requires : goal.pass-requires
 pass-requires c =
     let s = c.args.self.now in
-    let P : Items → Type 0 = λ it. it.at + item_size it.item * it.left ≤ most_entry_bytes in
+    let P : SectionItems → Type 0 = λ it. it.at + item_size it.item * it.left ≤ most_entry_bytes in
     let same = ap (λ (t : Section). items_of t s.standard s.extended) c.requires.here ∙ sym c.items-items.ensures in
     subst P same (stands_now c.args.bytes.now (at_front s) c.requires.stands).within
 

@@ -1,10 +1,10 @@
-//! How much is told of an entry.
+//! How much a report says.
 
-/// What is told of an entry.
+/// Which findings a report has.
 #[derive(Clone, Copy, Debug, PartialEq, Eq)]
-pub enum Scope {
+pub enum Level {
     /// What is wrong on nearly every terminal.
-    Mistakes,
+    Errors,
     /// Also what many entries have on purpose: keys that send the same, a mode whose start and end are the same, as on a
     /// terminal that toggles it, and a status line (`tsl`) without its column.
     All,

@@ -2,7 +2,7 @@ use Rattle.std.proofs.Common.{length, sym, ◌∙◌}
 use Rattle.std.proofs.lemmas.Result.{err_from_is_err_and}
 use Rattle.ti_layout.specs.Refusal.{item_check, item_size}
 use Rattle.ti_layout.proofs.VerdictLemmas.{opened}
-use Rattle.ti_layout.proofs.section.Items.check.Goals as goal
+use Rattle.ti_layout.proofs.section.SectionItems.check.Goals as goal
 
 pub loop-i-preserved : goal.loop-i-preserved
 loop-i-preserved c =

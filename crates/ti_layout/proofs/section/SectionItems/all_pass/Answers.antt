@@ -4,7 +4,7 @@ use Rattle.ti_words.specs.Widths.{number_size}
 use Rattle.ti_words.specs.Word.{unsigned_at, word_at}
 use Rattle.ti_layout.proofs.WordLemmas.{unsigned_fits}
 use Rattle.ti_layout.proofs.WholeSectionLemmas.{items_pass, no_nul, is_flag, not_negative, wide_number, number}
-use Rattle.ti_layout.proofs.section.Items.all_pass.Goals as goal
+use Rattle.ti_layout.proofs.section.SectionItems.all_pass.Goals as goal
 
 pub returns-in-Sign : goal.returns-in-Sign
 returns-in-Sign c = λ t. items_pass c.args.bytes.now c.args.self c.args.count c.requires (λ i lt.
