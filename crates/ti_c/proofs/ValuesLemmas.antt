@@ -1,8 +1,10 @@
 -- The values of the nine parameters, put one after another.
-use Rattle.std.proofs.Common.{◌≡◌, ℕ, zero, suc, ◌+◌, ◌<◌, List, [], ◌∷◌, length, take, get_or, set, pos, refl, sym, ap, ◌∙◌, arith, add-one}
+use Rattle.std.proofs.Common.{◌≡◌, ℕ, zero, suc, ◌+◌, ◌<◌, List, [], ◌∷◌, length, take, get_or, set, pos, refl, sym, ap, ◌∙◌, arith, add-one, ℤ}
+use Rattle.std.proofs.lemmas.List.{map-set}
 use Rattle.ti_c.specs.declared.expansion.Parameter.{Parameter}
 use Rattle.ti_expand.specs.declared.values.Value.{Value}
 use Rattle.ti_expand.specs.declared.values.Value.TheVariants.{Num}
+use Rattle.ti_expand.specs.State.{values_of}
 use Rattle.ti_c.specs.Given.{value_given, values_given}
 
 -- the values of the first parameters, and 0 for each that is missing
@@ -40,3 +42,12 @@ values_more ps i d more few =
     ∙ filled_more 9 ps i d more few
     ∙ sym (nine_filled (take (suc i) ps))
     ∙ ap (λ k. values_given (take k ps)) (sym (add-one i))
+
+-- one more number is put
+pub numbers_more : (ps : List Parameter) (numbers : List ℤ) (i : ℕ) (n : ℤ) (d : Parameter) → i < length ps → i < 9
+    → values_of numbers ≡ values_given (take i ps) → value_given (get_or ps i d) ≡ Num n → values_of (set numbers i n) ≡ values_given (take (i + 1) ps)
+numbers_more ps numbers i n d more few same is =
+    map-set (λ (m : ℤ). Num m) numbers i n
+    ∙ ap (λ (l : List Value). set l i (Num n)) same
+    ∙ ap (λ (v : Value). set (values_given (take i ps)) i v) (sym is)
+    ∙ values_more ps i d more few

@@ -1,16 +1,20 @@
 //! Expanding a capability for C.
 
 ghost use Rattle.std.specs.Prelude.{◌≡◌, ◌≤◌, ◌<◌, ◌⊎◌, ℕ, [], length, take, drop, IfSome, IfNone};
-ghost use Rattle.std.specs.Bool.{OnFalse};
+ghost use Rattle.std.specs.Bool.{OnFalse, OnTrue};
 ghost use Rattle.ti_cap.specs.Refusal.{IsFaultless};
 ghost use Rattle.ti_expand.specs.Sound.{IsSoundValue};
+ghost use Rattle.ti_expand.specs.declared.values.Value.TheVariants.{Num};
+ghost use Rattle.ti_expand.specs.State.{values_of};
 ghost use Rattle.ti_expand.specs.Expands.{text_len, AreShort, IsExpansion, IsBytesFault, IsRefusalTextOrRoom};
 ghost use Rattle.ti_c.specs.Numbers.{done, too_many_parameters};
 ghost use Rattle.ti_c.specs.Given.{value_given, values_given, IsExpansionFault, IsToldAs};
 
 use crate::faults::{DONE, OUT_TOO_SMALL, TEXT_TOO_LONG, TOO_MANY_PARAMETERS, capability_number};
 use ti_cap::{CapRefused, Capability};
-use ti_expand::{BytesFault, ExpandFault, Value, Vars, expand_bytes, expand_plain};
+use ti_expand::{
+    BytesFault, ExpandFault, Value, Vars, expand_at_once, expand_checked, expand_plain,
+};
 
 /// A parameter: the number if `is_text` is 0, else the text.
 #[repr(C)]
@@ -59,6 +63,7 @@ fn put_values<'a>(values: &mut [Value<'a>; 9], parameters: &[Parameter<'a>])
 fn is_text(parameter: &Parameter<'_>) -> bool
     ensures len { OnFalse result (text_len (value_given parameter.now) ≡ 0) }
     ensures sound { OnFalse result (IsSoundValue 0 (value_given parameter.now)) }
+    ensures number { OnFalse result (value_given parameter.now ≡ Num parameter.now.number) }
 {
     // A number fits 32 bits.
     let _number = parameter.number;
@@ -102,6 +107,49 @@ fn expand_if_plain(
         return None;
     }
     expand_plain(&plain, out)
+}
+
+/// Puts the numbers of the parameters over nine zeros, and returns whether none of them is a text.
+#[inline(always)]
+fn put_numbers(numbers: &mut [i32; 9], parameters: &[Parameter<'_>]) -> bool
+    requires few { length parameters.now ≤ 9 }
+    requires zeros { values_of numbers.old ≡ values_given [] }
+    ensures values { OnTrue result (values_of numbers.new ≡ values_given parameters.now) }
+    ensures short { OnTrue result (AreShort (values_of numbers.new) 0) }
+{
+    let mut found = false;
+    for i in 0..parameters.len() {
+        found |= is_text(&parameters[i]);
+        numbers[i] = parameters[i].number;
+    }
+    !found
+}
+
+/// Expands a capability over numbers in one pass, if no parameter is a text and if that takes little room.
+#[inline(always)]
+fn expand_if_numbers(
+    capability: &[u8],
+    parameters: &[Parameter<'_>],
+    variables: &mut Vars,
+    out: &mut [u8],
+    counts: &mut ti_expand::Run,
+) -> bool
+    requires few { length parameters.now ≤ 9 }
+    ensures kept { OnFalse result
+        ((variables.new ≡ variables.old) × (out.new ≡ out.old) × (counts.new ≡ counts.old)) }
+    ensures accepted { OnTrue result (IsFaultless capability.now) }
+    ensures faultless { OnTrue result ((fault : BytesFault)
+        → ¬ IsBytesFault capability.now (values_given parameters.now) (length out.old) fault) }
+    ensures expansion { OnTrue result (IsExpansion capability.now (values_given parameters.now)
+        variables.old variables.new (take counts.new.written out.new) counts.new) }
+    ensures rest { OnTrue result
+        (drop counts.new.written out.new ≡ drop counts.new.written out.old) }
+{
+    let mut numbers = [0; 9];
+    if !put_numbers(&mut numbers, parameters) {
+        return false;
+    }
+    expand_at_once(capability, &numbers, variables, out, counts)
 }
 
 /// The number of a fault, with its place.
@@ -160,6 +208,9 @@ pub extern "C" fn ti_expand<'a>(
         run.counts = copied;
         return DONE;
     }
+    if expand_if_numbers(capability, parameters, variables, out, &mut run.counts) {
+        return DONE;
+    }
     expand_values(capability, parameters, variables, out, run)
 }
 
@@ -192,7 +243,7 @@ fn expand_values<'a>(
 {
     let mut values = [Value::Num(0); 9];
     put_values(&mut values, parameters);
-    match expand_bytes(capability, &values, variables, out) {
+    match expand_checked(capability, &values, variables, out) {
         Ok(counts) => {
             run.counts = counts;
             DONE

@@ -8,7 +8,8 @@ ghost use Rattle.ti_cap.specs.Capability.{IsWellFormed};
 ghost use Rattle.ti_cap.specs.Refusal.{IsFaultless};
 ghost use Rattle.ti_cap.specs.Spelling.{Written};
 ghost use Rattle.ti_expand.specs.Expands.{ForMeaning};
-ghost use Rattle.ti_kept.specs.Kept.{IsKept, Fits, HasMarkStart, nine_of, take_variable, values_of};
+ghost use Rattle.ti_kept.specs.Kept.{IsKept, Fits, HasMarkStart, nine_of, take_variable};
+ghost use Rattle.ti_expand.specs.State.{values_of};
 ghost use Rattle.ti_c.specs.Numbers.{done, does_not_fit, no_variables, out_too_small, too_many_parameters};
 ghost use Rattle.ti_c.specs.Given.{IsRefusedAs};
 

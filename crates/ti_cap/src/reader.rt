@@ -52,7 +52,7 @@ impl Opens {
 pub struct Reader<'a, 'o> {
     bytes: &'a [u8],
     left: &'a [u8],
-    tokens: usize,
+    tokens: u32,
     scan: Scan,
     opens: &'o mut [OpenExtents; FEW_OPEN],
 }
@@ -225,7 +225,7 @@ impl<'a, 'o> Reader<'a, 'o> {
             return None;
         }
         let limits = Limits {
-            tokens: self.tokens,
+            tokens: self.tokens as usize,
             depth: self.scan.depth() as usize,
             nest: self.scan.nest(),
             bound: self.scan.bound(self.opens),

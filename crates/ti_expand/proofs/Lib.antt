@@ -25,4 +25,5 @@ pub mod StackInLemmas
 pub mod StackHeightLemmas
 pub mod TakenIsPathLemmas
 pub mod UnderwayLemmas
+pub mod ValuesInLemmas
 pub mod WrittenLemmas

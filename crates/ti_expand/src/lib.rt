@@ -16,6 +16,8 @@ mod expansion;
 mod fault;
 pub mod laws;
 mod machine;
+mod number_stack;
+mod numbers;
 mod operation;
 mod parameters;
 mod pass;
@@ -28,7 +30,8 @@ mod values;
 mod variables;
 mod write;
 
-pub use bytes::{expand_bytes, expand_plain};
+pub use at_once::expand_at_once;
+pub use bytes::{expand_bytes, expand_checked, expand_plain};
 pub use constant::constant_value;
 pub use counts::Run;
 pub use expansion::{expand, expand_into};

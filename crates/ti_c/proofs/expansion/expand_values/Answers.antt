@@ -39,5 +39,5 @@ returns-in-Ok-clause-faultless c = λ done fault holds.
 
 pub returns-in-Ok-clause-expansion : goal.returns-in-Ok-clause-expansion
 returns-in-Ok-clause-expansion c = λ done.
-    let P : List Value → Type 0 = λ v. IsExpansion c.args.capability.now v c.args.variables.now c.expand_bytes.new.vars (take c.in-Ok.counts.written c.expand_bytes.new.out) c.in-Ok.counts in
+    let P : List Value → Type 0 = λ v. IsExpansion c.args.capability.now v c.args.variables.now c.expand_checked.new.vars (take c.in-Ok.counts.written c.expand_checked.new.out) c.in-Ok.counts in
     subst P c.put_values.ensures c.in-Ok.ensures.expansion
