@@ -124,9 +124,21 @@ fn put_decimal(amount: u32, out: &mut [u8], at: usize) -> usize
     )
 }
 
-/// Prints a number from a place on, and returns the place after it. Most are small, and most formats are `%d`.
+/// Prints a number from a place on, and returns the place after it.
 #[inline(never)]
 pub(crate) fn print_number(format: Format, number: i32, out: &mut [u8], at: usize) -> usize
+    requires numeric { format.conversion ≢ Conversion.Text }
+    requires room { at + length (print_of_number format number) ≤ length out.old }
+    ensures end { result ≡ at + length (print_of_number format number) }
+    ensures written { take result out.new ≡ take at out.old ++ print_of_number format number }
+    ensures rest { drop result out.new ≡ drop result out.old }
+{
+    print_number_here(format, number, out, at)
+}
+
+/// The same, without a call for most numbers, which are small, and most formats, which are `%d`.
+#[inline(always)]
+pub(crate) fn print_number_here(format: Format, number: i32, out: &mut [u8], at: usize) -> usize
     requires numeric { format.conversion ≢ Conversion.Text }
     requires room { at + length (print_of_number format number) ≤ length out.old }
     ensures end { result ≡ at + length (print_of_number format number) }
@@ -138,22 +150,6 @@ pub(crate) fn print_number(format: Format, number: i32, out: &mut [u8], at: usiz
         return put_decimal(amount, out, at);
     }
     print_by_parts(&format, number, out, at)
-}
-
-/// The same, with a small number in decimal put at once.
-#[inline(always)]
-pub(crate) fn print_decimal(format: Format, number: i32, out: &mut [u8], at: usize) -> usize
-    requires numeric { format.conversion ≢ Conversion.Text }
-    requires room { at + length (print_of_number format number) ≤ length out.old }
-    ensures end { result ≡ at + length (print_of_number format number) }
-    ensures written { take result out.new ≡ take at out.old ++ print_of_number format number }
-    ensures rest { drop result out.new ≡ drop result out.old }
-{
-    let amount = number.cast_unsigned();
-    if amount < 1000 && is_plain_decimal(&format) {
-        return put_decimal(amount, out, at);
-    }
-    print_number(format, number, out, at)
 }
 
 /// Prints a number part by part from a place on, and returns the place after it.
