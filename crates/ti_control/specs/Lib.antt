@@ -1,0 +1,15 @@
+pub mod Capabilities
+pub mod Characters
+pub mod Cuts
+pub mod Effects
+pub mod FunctionEffects
+pub mod Functions
+pub mod Misplaced
+pub mod Numbers
+pub mod Openings
+pub mod Parts
+pub mod SentBytes
+pub mod SequenceEffects
+pub mod Sequences
+pub mod StringEffects
+pub mod Strings
