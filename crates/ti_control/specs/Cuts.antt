@@ -41,9 +41,9 @@ cut form start stop more = record { form = form; start = start; stop = stop; mor
 abbrev pub broken_cut : ℕ → Cut
 broken_cut = cut form.Broken 0 0
 
--- an introducer is an escape with a byte after it, or one byte
+-- an introducer is an escape or C2 with a byte after it, or one byte
 abbrev pub introducer_more : List SentByte → ℕ
-introducer_more bytes = if starts_between 0x1b 0x1b bytes then 1 else 0
+introducer_more bytes = if starts_between 0x1b 0x1b bytes || starts_between 0xc2 0xc2 bytes then 1 else 0
 
 -- ---- escape sequences: intermediate bytes, and a final one from 30 to 7E
 
@@ -108,7 +108,7 @@ character_cut bytes = cut form.Character 0 0 (character_more shapes bytes)
 
 abbrev pub cut_of : Reading → Opening → List SentByte → Cut
 cut_of reading opens.Character bytes = character_cut bytes
-cut_of reading opens.Control bytes = cut form.Control 0 1 0
+cut_of reading opens.Control bytes = cut form.Control 0 1 (introducer_more bytes)
 cut_of reading opens.Escape bytes = escape_cut bytes
 cut_of reading opens.Sequence bytes = sequence_cut bytes
 cut_of reading (opens.String kind) bytes = string_cut reading kind bytes

@@ -2,12 +2,15 @@ pub mod Capabilities
 pub mod Characters
 pub mod Cuts
 pub mod Effects
+pub mod Entries
 pub mod FunctionEffects
 pub mod Functions
 pub mod Misplaced
 pub mod Numbers
 pub mod Openings
 pub mod Parts
+pub mod Places
+pub mod Purposes
 pub mod SentBytes
 pub mod SequenceEffects
 pub mod Sequences

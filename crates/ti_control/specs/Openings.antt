@@ -26,6 +26,11 @@ one_byte Control = Control
 one_byte Sequence = Sequence
 one_byte (String kind) = String kind
 
+-- in UTF-8 one of 80 to 9F has C2 before it
+abbrev pub opened_by_letter : Option ℕ → Opening
+opened_by_letter None = Character
+opened_by_letter (Some byte) = if is_between 0x80 0x9f byte then one_byte (opened_by (byte - 0x40)) else Character
+
 abbrev pub opened_after : Option ℕ → Opening
 opened_after None = Escape
 opened_after (Some byte) = opened_by byte
@@ -34,6 +39,7 @@ abbrev pub opening_of : ℕ → Option ℕ → Opening
 opening_of first second =
     if first == 0x1b then opened_after second
     else if is_between 0x80 0x9f first then one_byte (opened_by (first - 0x40))
+    else if first == 0xc2 then opened_by_letter second
     else if nat_lt first 0x20 || first == 0x7f then Control
     else Character
 

@@ -18,12 +18,13 @@ ends_alone Start byte = byte == 0x9c
 ends_alone Privacy byte = byte == 0x9c
 ends_alone Application byte = byte == 0x9c
 
--- so many bytes end a string: one alone, or ST in two; none if it goes on
+-- so many bytes end a string: one alone, or ST in two, an escape or C2 and one more; none if it goes on
 abbrev pub terminator : StringKind → Option ℕ → Option ℕ → ℕ
 terminator kind None second = 0
 terminator kind (Some byte) second =
     if ends_alone kind byte then 1
     else if byte == 0x1b && passes (λ b. b == letter (codes "\\")) second then 2
+    else if byte == 0xc2 && passes (λ b. b == 0x9c) second then 2
     else 0
 
 abbrev pub terminator_len : StringKind → List SentByte → ℕ

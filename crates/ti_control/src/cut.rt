@@ -4,7 +4,7 @@ ghost use Rattle.std.specs.Prelude.{◌≡◌, ◌≤◌, ◌+◌, drop, length}
 ghost use Rattle.std.specs.List.{prefix_len};
 ghost use Rattle.ti_control.specs.Cuts.{body_len, broken_cut, character_cut, escape_cut, front_cut, introducer_more, is_carried_out, is_in_intermediates, is_in_parameters, is_intermediate, palette_cut, palette_len_of, sequence_cut, string_cut, string_form, whole_string_cut};
 
-use crate::bytes::{front_code, is_between, past, starts_between};
+use crate::bytes::{is_between, past, starts_between};
 use crate::character::character_more;
 use crate::opening::{Opening, StringKind, opening_at};
 use crate::sent_byte::SentByte;
@@ -161,12 +161,12 @@ fn escape_cut(bytes: &[SentByte]) -> Cut
     }
 }
 
-/// How many bytes an introducer has after its first: an escape has one after it.
+/// How many bytes an introducer has after its first: an escape and C2 have one after them.
 fn introducer_more(bytes: &[SentByte]) -> usize
     ensures value { result ≡ introducer_more bytes.now }
     ensures few { result ≤ 1 }
 {
-    if is_between(0x1b, 0x1b, front_code(bytes)) {
+    if starts_between(0x1b, 0x1b, bytes) || starts_between(0xc2, 0xc2, bytes) {
         1
     } else {
         0
@@ -284,7 +284,7 @@ pub fn front_cut(reading: Reading, bytes: &[SentByte]) -> Cut
             form: Form::Control,
             start: 0,
             stop: 1,
-            more: 0,
+            more: introducer_more(bytes),
         },
         Opening::Escape => escape_cut(bytes),
         Opening::Sequence => sequence_cut(bytes),

@@ -1,7 +1,7 @@
 //! What the first bytes open.
 
 ghost use Rattle.std.specs.Prelude.{◌≡◌, drop};
-ghost use Rattle.ti_control.specs.Openings.{one_byte, opened_by, opening_at, opening_of};
+ghost use Rattle.ti_control.specs.Openings.{one_byte, opened_by, opened_by_letter, opening_at, opening_of};
 
 use crate::bytes::{front_code, past};
 use crate::sent_byte::SentByte;
@@ -61,6 +61,22 @@ fn one_byte(opened: Opening) -> Opening
     }
 }
 
+/// The same of a letter in UTF-8 whose first byte is C2.
+fn opened_by_letter(second: Option<u8>) -> Opening
+    ensures { result ≡ opened_by_letter second }
+{
+    match second {
+        Some(byte) => {
+            if 0x80 <= byte && byte <= 0x9f {
+                one_byte(opened_by(byte - 0x40))
+            } else {
+                Opening::Character
+            }
+        }
+        None => Opening::Character,
+    }
+}
+
 /// What a byte opens, with the one after it.
 fn opening_of(first: u8, second: Option<u8>) -> Opening
     ensures { result ≡ opening_of first second }
@@ -73,6 +89,9 @@ fn opening_of(first: u8, second: Option<u8>) -> Opening
     }
     if 0x80 <= first && first <= 0x9f {
         return one_byte(opened_by(first - 0x40));
+    }
+    if first == 0xc2 {
+        return opened_by_letter(second);
     }
     if first < 0x20 || first == 0x7f {
         return Opening::Control;

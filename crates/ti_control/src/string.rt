@@ -30,7 +30,11 @@ pub fn terminator_len(kind: StringKind, bytes: &[SentByte]) -> usize
     if ends_alone(kind, byte) {
         return 1;
     }
-    if byte == 0x1b && is_between(b'\\', b'\\', front_code(past(bytes, 1))) {
+    let second = front_code(past(bytes, 1));
+    if byte == 0x1b && is_between(b'\\', b'\\', second) {
+        return 2;
+    }
+    if byte == 0xc2 && is_between(0x9c, 0x9c, second) {
         return 2;
     }
     0

@@ -47,6 +47,10 @@ const ROWS: &str = r"
 \342\224\2336n | clear | yes => -, -
 \340\233\2336n | clear | yes => answer 2, answer 2
 \23552;c;YQ==\234 | clear | yes => clipboard 0, clipboard 0
+\302\2336n | clear | yes => answer 0, answer 0
+\302\23552;c;YQ==\302\234 | clear | yes => clipboard 0, clipboard 0
+\302\251\2336n | clear | yes => answer 2, answer 2
+a\302\205\E[6n | clear | yes => answer 3, answer 3
 # data is in no control function
 ~\E[6n | clear | yes => -, -
 ~\2336n | clear | yes => -, -
