@@ -1,5 +1,6 @@
 -- The bytes that a text sends, each with where it comes from.
-use Rattle.std.specs.Prelude.{ℕ, Bool, false, ◌&&◌, nat_le, List, [], ◌∷◌, Option, Some, None}
+use Rattle.std.specs.Prelude.{ℕ, Bool, true, false, ◌&&◌, nat_le, List, [], ◌∷◌, Option, Some, None}
+use Rattle.std.specs.List.{list_any}
 use Rattle.ti_control.specs.declared.sent_byte.SentByte.{SentByte}
 use Rattle.ti_control.specs.declared.sent_byte.SentByte.TheVariants.{Plain, Printed, Data}
 
@@ -25,3 +26,12 @@ is_between low high byte = nat_le low byte && nat_le byte high
 -- the first byte lies in a range
 abbrev pub starts_between : ℕ → ℕ → List SentByte → Bool
 starts_between low high bytes = passes (is_between low high) (front_code bytes)
+
+-- a byte of a number that is printed
+abbrev pub is_printed : SentByte → Bool
+is_printed (Printed byte) = true
+is_printed (Plain byte) = false
+is_printed (Data byte) = false
+
+abbrev pub has_printed : List SentByte → Bool
+has_printed = list_any is_printed

@@ -38,4 +38,4 @@ pub use function::{Function, first_function};
 pub use misplaced::{Misplaced, Place, first_misplaced, misplaced_effect};
 pub use names::{first_control, first_malformed};
 pub use opening::StringKind;
-pub use sent_byte::SentByte;
+pub use sent_byte::{SentByte, has_printed};

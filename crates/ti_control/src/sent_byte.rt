@@ -1,7 +1,7 @@
 //! A byte that is sent, and where it comes from.
 
 ghost use Rattle.std.specs.Prelude.{◌≡◌};
-ghost use Rattle.ti_control.specs.SentBytes.{code_of};
+ghost use Rattle.ti_control.specs.SentBytes.{code_of, has_printed, is_printed};
 
 /// A byte that a text sends.
 #[derive(Clone, Copy, Debug, PartialEq, Eq)]
@@ -25,4 +25,21 @@ impl SentByte {
             SentByte::Data(_) => None,
         }
     }
+}
+
+/// Whether a byte is one of a number that is printed.
+fn is_printed(sent: SentByte) -> bool
+    ensures { result ≡ is_printed sent }
+{
+    match sent {
+        SentByte::Printed(_) => true,
+        _ => false,
+    }
+}
+
+/// Whether a printed number is part of some bytes, so that they depend on its value.
+pub fn has_printed(bytes: &[SentByte]) -> bool
+    ensures exact { result ≡ has_printed bytes.now }
+{
+    bytes.iter().any(|sent| is_printed(*sent))
 }
