@@ -34,6 +34,7 @@ pub fn check_rows<F: Finds>(rt: &(impl Abort + AllocGlobal), rows: &str, finds: 
     }
 }
 
+mod controls;
 mod notation;
 mod notation_memory;
 mod notation_read;

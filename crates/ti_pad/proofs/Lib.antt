@@ -1,5 +1,6 @@
 pub mod AppendsLemmas
 pub mod MarkAfterWholeLemmas
+pub mod DelayLemmas
 pub mod DigitsValueLemmas
 pub mod TakeWhileLemmas
 pub mod PiecesLemmas

@@ -1,3 +1,4 @@
+pub mod Delays
 pub mod Setting
 pub mod Marks
 pub mod Padded

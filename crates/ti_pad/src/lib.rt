@@ -5,6 +5,7 @@
 //! writer stopped. The time is linear in the bytes that are read and written. Only [`pad`] takes memory.
 #![tactic(auto)]
 
+mod delay;
 mod find_mark;
 pub mod laws;
 mod length;
@@ -17,6 +18,7 @@ mod slice;
 mod stretch;
 mod writing;
 
+pub use delay::{first_long_delay, total_delay};
 pub use find_mark::starts_with_mark;
 pub use length::padded_len;
 pub use memory::{PadFault, pad};

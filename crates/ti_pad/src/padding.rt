@@ -83,7 +83,7 @@ impl Padding {
 }
 
 /// The time of a mark in tenths of a millisecond.
-fn tenths_of(mark: &Mark<'_>) -> u32
+pub fn tenths_of(mark: &Mark<'_>) -> u32
     ensures value { result ≡ tenths (mark_of mark.now) }
     ensures most { result ≤ MOST_TENTHS }
 {
