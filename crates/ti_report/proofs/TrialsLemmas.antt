@@ -5,18 +5,19 @@ use Rattle.ti_values.specs.declared.range.Range.{Range}
 use Rattle.ti_values.specs.declared.tried.Tried.{Tried}
 use Rattle.ti_words.specs.Value.{EntryValue}
 use Rattle.ti_report.specs.Lines.{Adds, InTurn}
-use Rattle.ti_report.specs.Remarks.{Remark, Told}
+use Rattle.ti_report.specs.Remarks.{Evidence, Remark}
+use Rattle.ti_report.specs.declared.finding.Finding.{Finding}
 use Rattle.ti_report.specs.Trials.{IsQuiet}
-use Rattle.ti_report.specs.Values.{IsNumbersReport, IsToldOf, IsUnendedReport, is_ansi_entry}
+use Rattle.ti_report.specs.Values.{IsNumbersReport, IsRemarkOf, IsUnendedReport, is_ansi_entry}
 
 -- where nothing is told of one name, nothing is told of another
-untold : {X : Type 0} (IsFound : Option X → Type 0) (told : X → Told) (name other text : List ℕ) → IsToldOf IsFound told name text [] → IsToldOf IsFound told other text []
-untold IsFound told name other text (None, found, is) = (None, found, refl)
-untold IsFound told name other text (Some x, found, is) = absurd (cc)
+untold : {X : Type 0} (IsFound : Option X → Type 0) (finding : Finding) (evidence : X → Evidence) (name other text : List ℕ) → IsRemarkOf IsFound finding evidence name text [] → IsRemarkOf IsFound finding evidence other text []
+untold IsFound finding evidence name other text (None, found, is) = (None, found, refl)
+untold IsFound finding evidence name other text (Some x, found, is) = absurd (cc)
 
 untold_unended : (ansi : Bool) (name other text : List ℕ) (tried : List Tried) (sent : List (List ℕ)) → IsUnendedReport ansi name text tried sent [] → IsUnendedReport ansi other text tried sent []
 untold_unended false name other text tried sent is = refl
-untold_unended true name other text tried sent report = untold _ _ name other text report
+untold_unended true name other text tried sent report = untold _ _ _ name other text report
 
 -- of two kinds that come to nothing each comes to nothing
 both : (Are AreMore Others OtherMore : List Remark → Type 0) → (Are [] → Others []) → (AreMore [] → OtherMore []) → InTurn Are AreMore [] → InTurn Others OtherMore []
@@ -30,8 +31,8 @@ quiet v name text range (sent, are, report) =
       silent = λ w other same. (
         sent,
         are,
-        both _ _ _ _ (untold _ _ name other text) (both _ _ _ _ (untold _ _ name other text)
-            (both _ _ _ _ (untold _ _ name other text) (λ r. subst (λ ansi. IsUnendedReport ansi other text (values range) sent []) (sym same) (untold_unended _ name other text (values range) sent r)))) report,
+        both _ _ _ _ (untold _ _ _ name other text) (both _ _ _ _ (untold _ _ _ name other text)
+            (both _ _ _ _ (untold _ _ _ name other text) (λ r. subst (λ ansi. IsUnendedReport ansi other text (values range) sent []) (sym same) (untold_unended _ name other text (values range) sent r)))) report,
       );
     }
 

@@ -25,7 +25,9 @@ use Rattle.ti_names.specs.AllNames.{Place, place_in}
 use Rattle.ti_words.specs.Texts.{TextValue, AbsentText, TextOf}
 use Rattle.ti_words.specs.Value.{EntryValue}
 use Rattle.ti_report.specs.Lines.{AreReports, InTurn}
-use Rattle.ti_report.specs.Remarks.{Told, Empty, Same, Negative, Unended, Shown, Ignored, Differing, Combined, NotTried, Remark, on_values}
+use Rattle.ti_report.specs.Remarks.{Attribute, Evidence, For, Lacking, NoEvidence, Remark, Sent, SentForTwo, on_values}
+use Rattle.ti_report.specs.declared.finding.Finding.{Finding}
+use Rattle.ti_report.specs.declared.finding.Finding.TheVariants as findings
 use Rattle.ti_report.specs.Whole.{has}
 
 -- ---- what an entry has
@@ -63,42 +65,45 @@ is_ansi_entry v = is_ansi_text (text_named v (codes "cup"))
 abbrev pub tried_at : List Tried → ℕ → Tried
 tried_at tried k = get_or tried k (Number 0)
 
--- what is told, nothing if nothing was found
-abbrev pub told_of : {X : Type 0} → List ℕ → List ℕ → (X → Told) → Option X → List Remark
-told_of name text told None = []
-told_of name text told (Some found) = on_values name text (told found)
+-- the remark with the evidence of what was found, none if nothing was
+abbrev pub remark_of : {X : Type 0} → List ℕ → List ℕ → Finding → (X → Evidence) → Option X → List Remark
+remark_of name text finding evidence None = []
+remark_of name text finding evidence (Some found) = on_values name text finding (evidence found)
 
--- something is found by which values it is so
-abbrev pub IsToldOf : {X : Type 0} → (Option X → Type 0) → (X → Told) → List ℕ → List ℕ → List Remark → Type 0
-IsToldOf {X} IsFound told name text remarks =
-    (found : Option X) × IsFound found × (remarks ≡ told_of name text told found)
+abbrev pub IsRemarkOf : {X : Type 0} → (Option X → Type 0) → Finding → (X → Evidence) → List ℕ → List ℕ → List Remark → Type 0
+IsRemarkOf {X} IsFound finding evidence name text remarks =
+    (found : Option X) × IsFound found × (remarks ≡ remark_of name text finding evidence found)
+
+-- the value at a place, and what is sent for it
+abbrev pub sent_evidence : List Tried → List (List ℕ) → ℕ → Evidence
+sent_evidence tried sent k = Sent (tried_at tried k) (sent_at sent k)
+
+abbrev pub IsSentReport : (ℕ → Type 0) → Finding → List ℕ → List ℕ → List Tried → List (List ℕ) → List Remark → Type 0
+IsSentReport IsAt finding name text tried sent =
+    IsRemarkOf (IsFirstOf IsAt) finding (sent_evidence tried sent) name text
 
 abbrev pub IsEmptyReport : List ℕ → List ℕ → List Tried → List (List ℕ) → List Remark → Type 0
 IsEmptyReport name text tried sent =
-    IsToldOf (IsFirstOf (IsEmptyAt sent)) (λ k. Empty (tried_at tried k)) name text
+    IsRemarkOf (IsFirstOf (IsEmptyAt sent)) findings.EmptyOutput (λ k. For (tried_at tried k)) name text
 
-abbrev pub same_told : List Tried → List (List ℕ) → SameAt → Told
-same_told tried sent found =
-    Same (tried_at tried found.one) (tried_at tried found.other) (sent_at sent found.other)
+abbrev pub same_evidence : List Tried → List (List ℕ) → SameAt → Evidence
+same_evidence tried sent found =
+    SentForTwo (tried_at tried found.one) (tried_at tried found.other) (sent_at sent found.other)
 
 abbrev pub IsSameReport : List ℕ → List ℕ → List Tried → List (List ℕ) → List Remark → Type 0
-IsSameReport name text tried sent = IsToldOf (IsFirstSame sent) (same_told tried sent) name text
+IsSameReport name text tried sent = IsRemarkOf (IsFirstSame sent) findings.SameOutput (same_evidence tried sent) name text
 
 abbrev pub IsNegativeReport : List ℕ → List ℕ → List Tried → List (List ℕ) → List Remark → Type 0
-IsNegativeReport name text tried sent =
-    IsToldOf (IsFirstOf (IsNegativeAt text tried)) (λ k. Negative (tried_at tried k) (sent_at sent k)) name text
+IsNegativeReport name text tried = IsSentReport (IsNegativeAt text tried) findings.NegativeNumber name text tried
 
 abbrev pub IsUnendedFound : List ℕ → List ℕ → List Tried → List (List ℕ) → List Remark → Type 0
-IsUnendedFound name text tried sent =
-    IsToldOf (IsFirstOf (IsUnendedAt sent)) (λ k. Unended (tried_at tried k) (sent_at sent k)) name text
+IsUnendedFound name text tried sent = IsSentReport (IsUnendedAt sent) findings.UnendedSequence name text tried sent
 
 abbrev pub IsShownReport : List ℕ → List ℕ → List Tried → List (List ℕ) → List Remark → Type 0
-IsShownReport name text tried sent =
-    IsToldOf (IsFirstOf (IsShownAt sent)) (λ k. Shown (tried_at tried k) (sent_at sent k)) name text
+IsShownReport name text tried sent = IsSentReport (IsShownAt sent) findings.ShownText name text tried sent
 
 abbrev pub IsCombinationReport : List ℕ → List ℕ → List Tried → List (List ℕ) → List Remark → Type 0
-IsCombinationReport name text tried sent =
-    IsToldOf (IsFirstOf (IsCombinationAt sent)) (λ k. Combined (tried_at tried k) (sent_at sent k)) name text
+IsCombinationReport name text tried sent = IsSentReport (IsCombinationAt sent) findings.Combination name text tried sent
 
 -- only of a terminal of ECMA-48
 abbrev pub IsUnendedReport : Bool → List ℕ → List ℕ → List Tried → List (List ℕ) → List Remark → Type 0
@@ -107,7 +112,8 @@ IsUnendedReport true name text tried sent = IsUnendedFound name text tried sent
 
 -- an attribute whose text is there, and which `sgr` ignores
 abbrev pub ignored_if : Bool → List ℕ → List ℕ → List ℕ → ℕ → List Remark
-ignored_if told name text attribute set = if told then on_values name text (Ignored attribute set) else []
+ignored_if ignored name text attribute set =
+    if ignored then on_values name text findings.IgnoredAttribute (Attribute attribute set) else []
 
 abbrev pub on_ignored : EntryValue → List ℕ → List ℕ → List (List ℕ) → List ℕ × ℕ → List Remark
 on_ignored v name text sent (attribute, set) =
@@ -120,7 +126,8 @@ differing_text sent set its = None
 
 abbrev pub on_differing : EntryValue → List ℕ → List ℕ → List (List ℕ) → List ℕ × ℕ → List Remark
 on_differing v name text sent (attribute, set) =
-    told_of name text (λ its. Differing attribute set (sent_at sent set) its) (differing_text sent set (text_named v attribute))
+    remark_of name text findings.DifferingAttribute (λ its. Lacking attribute set (sent_at sent set) its)
+    (differing_text sent set (text_named v attribute))
 
 -- what is wrong with what was sent for numbers, and for sets of attributes
 abbrev pub AreNumbersRemarks : EntryValue → List ℕ → List ℕ → List Tried → List (List ℕ) → List Remark → Type 0
@@ -153,7 +160,7 @@ IsRangeReport v name text range = IsNumbersReport v name text range
 -- a text that is not tried is told only if all is
 abbrev pub on_not_tried : Level → List ℕ → List ℕ → List Remark
 on_not_tried scopes.Errors name text = []
-on_not_tried scopes.All name text = on_values name text NotTried
+on_not_tried scopes.All name text = on_values name text findings.NotTried NoEvidence
 
 abbrev pub IsShortReport : Level → EntryValue → List ℕ → List ℕ → Range → List Remark → Type 0
 IsShortReport level v name text range remarks =

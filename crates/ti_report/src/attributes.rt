@@ -9,9 +9,10 @@ ghost use Rattle.ti_report.specs.Values.{AreAttributesRemarks, IsCombinationRepo
 ghost use Rattle.ti_report.specs.Whole.{has};
 
 use crate::colors::has;
+use crate::finding::Finding;
 use crate::lookup::{is_ansi_entry, text_named};
-use crate::remark::{NamedText, Remark, Told, push_told};
-use crate::sent::{copy_of, push_unended, tried_at};
+use crate::remark::{Evidence, NamedText, Remark, push_on_values};
+use crate::sent::{copy_of, push_sent, push_unended};
 use std::alloc::{AllocError, Allocator};
 use ti_entry::Entry;
 use ti_values::{Tried, attributes, first_combination, first_shown, is_different, is_ignored};
@@ -57,7 +58,8 @@ fn push_differing<'a, A: Allocator + Copy>(
         Some(text) => {
             let its = Vec::from_slice(alloc, text)?;
             let sent = copy_of(alloc, sent, usize::from(set))?;
-            push_told(alloc, out, subject, Told::Differing(name, set, sent, its))
+            let evidence = Evidence::Lacking(name, set, sent, its);
+            push_on_values(alloc, out, subject, Finding::DifferingAttribute, evidence)
         }
     }
 }
@@ -90,15 +92,16 @@ fn push_combination<'a, A: Allocator + Copy>(
     ensures { OnOk result (Adds (IsCombinationReport subject.now.name.now
         subject.now.text.now tried.now (texts_of sent.now)) out.old.items out.new.items) }
 {
-    match first_combination(alloc, sent)? {
-        None => Ok(()),
-        Some(place) => {
-            let text = copy_of(alloc, sent, place)?;
-            let told = Told::Combined(tried_at(tried, place), text);
-            push_told(alloc, out, subject, told)?;
-            Ok(())
-        }
-    }
+    let found = first_combination(alloc, sent)?;
+    push_sent(
+        alloc,
+        out,
+        subject,
+        tried,
+        sent,
+        Finding::Combination,
+        found,
+    )
 }
 
 /// Adds the remark on a set of attributes for which something is sent that shows.
@@ -112,42 +115,36 @@ fn push_shown_text<'a, A: Allocator + Copy>(
     ensures { OnOk result (Adds (IsShownReport subject.now.name.now
         subject.now.text.now tried.now (texts_of sent.now)) out.old.items out.new.items) }
 {
-    match first_shown(sent) {
-        None => Ok(()),
-        Some(place) => {
-            let text = copy_of(alloc, sent, place)?;
-            push_told(
-                alloc,
-                out,
-                subject,
-                Told::Shown(tried_at(tried, place), text),
-            )?;
-            Ok(())
-        }
-    }
+    let found = first_shown(sent);
+    push_sent(alloc, out, subject, tried, sent, Finding::ShownText, found)
 }
 
-/// Adds the remark on an attribute, if it is told.
+/// Adds the remark on an attribute, if it is ignored.
 fn push_ignored<'a, A: Allocator + Copy>(
     alloc: A,
     out: &mut Vec<Remark<'a, A>, A>,
-    told: bool,
+    ignored: bool,
     subject: &NamedText<'a>,
     name: &'static str,
     set: u16,
 ) -> Result<(), AllocError>
-    ensures { OnOk result (out.new.items ≡ out.old.items ++ ignored_if told
+    ensures { OnOk result (out.new.items ≡ out.old.items ++ ignored_if ignored
         subject.now.name.now subject.now.text.now name.now set) }
 {
-    if !told {
+    if !ignored {
         return Ok(());
     }
-    push_told(alloc, out, subject, Told::Ignored(name, set))?;
-    Ok(())
+    let evidence = Evidence::Attribute(name, set);
+    push_on_values(alloc, out, subject, Finding::IgnoredAttribute, evidence)
 }
 
 /// Whether an attribute is ignored whose text is there.
-fn is_told<A: Allocator>(entry: &Entry<'_>, sent: &[Vec<u8, A>], name: &str, set: u16) -> bool
+fn is_ignored_text<A: Allocator>(
+    entry: &Entry<'_>,
+    sent: &[Vec<u8, A>],
+    name: &str,
+    set: u16,
+) -> bool
     ensures { result ≡ has entry.now name.now && is_ignored (texts_of sent.now) set }
 {
     has(entry, name) && is_ignored(sent, set)
@@ -169,7 +166,7 @@ fn push_all_ignored<'a, A: Allocator + Copy>(
         push_ignored(
             alloc,
             out,
-            is_told(entry, sent, name, *set),
+            is_ignored_text(entry, sent, name, *set),
             subject,
             name,
             *set,

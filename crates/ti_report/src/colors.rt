@@ -4,8 +4,8 @@ ghost use Rattle.std.specs.Prelude.{◌≡◌, ◌++◌, OnOk};
 ghost use Rattle.ti_words.specs.Texts.{text_value};
 ghost use Rattle.ti_report.specs.Whole.{color_remarks, colors_are_fixed, colors_stay, has, has_at, has_no_colors, is_above_0, is_there};
 
+use crate::finding::Finding;
 use crate::remark::{Remark, push_if};
-use crate::wrong::Wrong;
 use std::alloc::{AllocError, Allocator};
 use ti_entry::Entry;
 use ti_names::NameTable;
@@ -82,8 +82,8 @@ pub(crate) fn push_colors<'a, A: Allocator + Copy>(
 ) -> Result<(), AllocError>
     ensures { OnOk result (out.new.items ≡ out.old.items ++ color_remarks entry.now) }
 {
-    push_if(alloc, out, colors_stay(entry), Wrong::ColorsStay)?;
-    push_if(alloc, out, has_no_colors(entry), Wrong::NoColors)?;
-    push_if(alloc, out, colors_are_fixed(entry), Wrong::ColorsAreFixed)?;
+    push_if(alloc, out, colors_stay(entry), Finding::ColorsStay)?;
+    push_if(alloc, out, has_no_colors(entry), Finding::NoColors)?;
+    push_if(alloc, out, colors_are_fixed(entry), Finding::ColorsAreFixed)?;
     Ok(())
 }

@@ -7,8 +7,8 @@ ghost use Rattle.ti_report.specs.Names.{AreNameRemarks, IsNameReport, on_standar
 ghost use Rattle.ti_report.specs.inner.Lent.{texts_lent};
 ghost use Rattle.ti_words.specs.Spelling.{part_names};
 
+use crate::finding::Finding;
 use crate::remark::{Remark, push_on_name};
-use crate::wrong::Wrong;
 use std::alloc::{AllocError, Allocator};
 use std::collections::BTreeSet;
 use ti_entry::Extended;
@@ -54,7 +54,7 @@ fn push_new<'a, A: Allocator + Copy>(
         (out.new.items ≡ out.old.items ++ on_standard_name name.now) }
 {
     if NameTable::All.find_bytes(name).is_some() {
-        return push_on_name(alloc, out, name, Wrong::StandardName);
+        return push_on_name(alloc, out, name, Finding::StandardName);
     }
     Ok(())
 }
@@ -73,7 +73,7 @@ fn push_each<'a, A: Allocator + Copy>(
         if seen.insert(*name)? {
             push_new(alloc, out, name)?;
         } else {
-            push_on_name(alloc, out, name, Wrong::RepeatedName)?;
+            push_on_name(alloc, out, name, Finding::RepeatedName)?;
         }
     }
     Ok(())

@@ -8,9 +8,9 @@ ghost use Rattle.ti_report.specs.Pairs.{equal_pair, pair_remarks, standard_label
 ghost use Rattle.ti_report.specs.Reports.{ArePairRemarks};
 ghost use Rattle.ti_report.specs.Lines.{Adds};
 
+use crate::finding::Finding;
 use crate::lookup::text_named;
 use crate::remark::{NamedText, Remark, push_on_two};
-use crate::wrong::Wrong;
 use std::alloc::{AllocError, Allocator};
 use ti_entry::Entry;
 use ti_lint::{Level, toggling_pairs, undoing_pairs};
@@ -49,7 +49,7 @@ fn push_equal<'a, A: Allocator + Copy>(
         name: names.1.as_bytes(),
         text: other,
     };
-    push_on_two(alloc, out, one, other, Wrong::EqualPair)
+    push_on_two(alloc, out, one, other, Finding::EqualPair)
 }
 
 /// Adds the remarks on each pair of texts.

@@ -1,20 +1,20 @@
 //! The report on an entry.
 
-ghost use Rattle.std.specs.Prelude.{◌≡◌, IfOk, OnOk, option_map};
-ghost use Rattle.ti_words.specs.Items.{item_value, items, subject_value};
-ghost use Rattle.ti_report.specs.Lines.{Adds, AreAll, IsIfThere};
-ghost use Rattle.ti_report.specs.Reports.{AreLines, IsItemReport, IsReport, IsTextReport, used_text};
-ghost use Rattle.ti_report.specs.inner.Held.{used_held};
+ghost use Rattle.std.specs.Prelude.{IfOk, OnOk};
+ghost use Rattle.ti_report.specs.Lines.{Adds, AreAll};
+ghost use Rattle.ti_report.specs.Reports.{AreLines, IsReport, IsTextReport, IsUseReport};
+ghost use Rattle.ti_report.specs.inner.Held.{texts_held};
 
-use crate::block::push_lines;
 use crate::judgements::Judgements;
 use crate::keys::push_keys;
+use crate::lines::push_lines;
+use crate::lookup::is_ansi_entry;
 use crate::names::push_names;
 use crate::pairs::push_pairs;
 use crate::remark::{NamedText, Remark};
 use crate::sequences::push_sequences;
 use crate::stored::stored_by_texts;
-use crate::subject::{subject_class, subject_name};
+use crate::subject::{KnownText, known_texts};
 use crate::texts::judge;
 use crate::trials::Trials;
 use crate::usage::Usage;
@@ -24,87 +24,43 @@ use std::alloc::{AllocError, Allocator};
 use ti_entry::Entry;
 use ti_escape::Color;
 use ti_lint::{Level, Variables};
-use ti_words::{Item, Subject};
 
-/// A text of which something is known, and how it is used.
-#[derive(Clone, Copy)]
-pub struct UsedText<'a> {
-    pub subject: NamedText<'a>,
-    pub usage: Usage,
-}
-
-/// A capability, if it is such a text.
-fn used_text<'a>(
-    level: Level,
-    stored: Variables,
-    subject: Subject<'a>,
-    item: Item<'a>,
-) -> Option<UsedText<'a>>
-    ensures { option_map used_held result
-        ≡ used_text level stored (subject_value subject.entry, item_value item.entry) }
-{
-    let (Some(class), Some(text)) = (subject_class(subject), item.text()) else {
-        return None;
-    };
-    let name = subject_name(subject);
-    Some(UsedText {
-        subject: NamedText { name, text },
-        usage: Usage::of(level, stored, name, class),
-    })
-}
-
-/// Adds the remarks on a text.
+/// Adds the remarks on a text that is used so.
 fn push_text<'a, A: Allocator + Copy>(
     alloc: A,
     out: &mut Vec<Remark<'a, A>, A>,
     judgements: &mut Judgements<'a, A>,
-    text: UsedText<'a>,
+    usage: Usage,
+    subject: &NamedText<'a>,
 ) -> Result<(), AllocError>
-    ensures { OnOk result (Adds (IsTextReport (used_held text.entry)) out.old.items out.new.items) }
+    ensures { OnOk result (Adds (IsUseReport usage subject.now.name.now subject.now.text.now)
+        out.old.items out.new.items) }
 {
-    let subject = text.subject;
     judgements.begin(subject.text);
-    if let Some(remarks) = judgements.of(text.usage, subject.text) {
-        return remarks.push_with_name(out, &subject);
+    if let Some(remarks) = judgements.of(usage, subject.text) {
+        return remarks.push_with_name(out, subject);
     }
-    let remarks = judge(alloc, text.usage, subject.text)?;
-    remarks.push_with_name(out, &subject)?;
-    judgements.keep(text.usage, subject.text, remarks)?;
+    let remarks = judge(alloc, usage, subject.text)?;
+    remarks.push_with_name(out, subject)?;
+    judgements.keep(usage, subject.text, remarks)?;
     Ok(())
 }
 
-/// The same of a capability, if it is such a text.
-fn push_if_there<'a, A: Allocator + Copy>(
-    alloc: A,
-    out: &mut Vec<Remark<'a, A>, A>,
-    judgements: &mut Judgements<'a, A>,
-    text: Option<UsedText<'a>>,
-) -> Result<(), AllocError>
-    ensures { OnOk result (Adds (IsIfThere IsTextReport (option_map used_held text.entry))
-        out.old.items out.new.items) }
-{
-    match text {
-        Some(text) => push_text(alloc, out, judgements, text),
-        None => Ok(()),
-    }
-}
-
 /// Adds the remarks on all texts.
-fn push_items<'a, A: Allocator + Copy>(
+fn push_texts<'a, A: Allocator + Copy>(
     alloc: A,
     out: &mut Vec<Remark<'a, A>, A>,
     level: Level,
     stored: Variables,
-    entry: &Entry<'a>,
+    texts: &[KnownText<'a>],
 ) -> Result<(), AllocError>
-    ensures { OnOk result (Adds (AreAll (IsItemReport level stored) (items entry.now))
+    ensures { OnOk result (Adds (AreAll (IsTextReport level stored) (texts_held texts.now))
         out.old.items out.new.items) }
 {
     let mut judgements = Judgements::new(alloc);
-    let mut items = entry.items();
-    'items: while let Some((subject, item)) = items.next() {
-        let text = used_text(level, stored, subject, item);
-        push_if_there(alloc, out, &mut judgements, text)?;
+    'texts: for text in texts {
+        let usage = Usage::of(level, stored, text.subject.name, text.class);
+        push_text(alloc, out, &mut judgements, usage, &text.subject)?;
     }
     Ok(())
 }
@@ -119,13 +75,15 @@ pub fn remarks_of<'a, A: Allocator + Copy>(
 ) -> Result<Vec<Remark<'a, A>, A>, AllocError>
     ensures { IfOk result (λ remarks. IsReport level bytes.now entry.now remarks.items) }
 {
-    let stored = stored_by_texts(entry);
+    let known = known_texts(alloc, entry)?;
+    let texts = known.as_slice();
+    let stored = stored_by_texts(texts);
     let mut out = Vec::new(alloc);
-    push_items(alloc, &mut out, level, stored, entry)?;
+    push_texts(alloc, &mut out, level, stored, texts)?;
     push_values(alloc, &mut out, trials, level, entry)?;
-    push_sequences(alloc, &mut out, entry)?;
+    push_sequences(alloc, &mut out, is_ansi_entry(entry), texts)?;
     push_pairs(alloc, &mut out, level, entry)?;
-    push_keys(alloc, &mut out, level, entry)?;
+    push_keys(alloc, &mut out, level, texts)?;
     push_names(alloc, &mut out, &entry.extended())?;
     push_whole(alloc, &mut out, bytes, entry)?;
     Ok(out)

@@ -1,13 +1,14 @@
 //! What is wrong with what a capability sends for numbers.
 
-ghost use Rattle.std.specs.Prelude.{◌≡◌, IfOk, OnOk};
+ghost use Rattle.std.specs.Prelude.{◌≡◌, ◌++◌, IfOk, OnOk};
 ghost use Rattle.ti_values.specs.Findings.{sent_at as the_sent_at};
 ghost use Rattle.ti_values.specs.Sent.{texts_of};
 ghost use Rattle.ti_report.specs.Lines.{Adds};
-ghost use Rattle.ti_report.specs.Values.{AreNumbersRemarks, IsEmptyReport, IsNegativeReport, IsSameReport, IsUnendedFound, IsUnendedReport, tried_at};
+ghost use Rattle.ti_report.specs.Values.{AreNumbersRemarks, IsEmptyReport, IsNegativeReport, IsSameReport, IsUnendedFound, IsUnendedReport, remark_of, sent_evidence, tried_at};
 
+use crate::finding::Finding;
 use crate::lookup::is_ansi_entry;
-use crate::remark::{NamedText, Remark, Told, push_told};
+use crate::remark::{Evidence, NamedText, Remark, push_on_values};
 use std::alloc::{AllocError, Allocator};
 use ti_cap::Capability;
 use ti_entry::Entry;
@@ -51,7 +52,8 @@ fn push_empty<'a, A: Allocator + Copy>(
     match first_empty(sent) {
         None => Ok(()),
         Some(place) => {
-            push_told(alloc, out, subject, Told::Empty(tried_at(tried, place)))?;
+            let evidence = Evidence::For(tried_at(tried, place));
+            push_on_values(alloc, out, subject, Finding::EmptyOutput, evidence)?;
             Ok(())
         }
     }
@@ -73,13 +75,36 @@ fn push_same<'a, A: Allocator + Copy>(
         None => Ok(()),
         Some(found) => {
             let text = copy_of(alloc, sent, found.other)?;
-            let told = Told::Same(
+            let evidence = Evidence::SentForTwo(
                 tried_at(tried, found.one),
                 tried_at(tried, found.other),
                 text,
             );
-            push_told(alloc, out, subject, told)?;
+            push_on_values(alloc, out, subject, Finding::SameOutput, evidence)?;
             Ok(())
+        }
+    }
+}
+
+/// Adds the remark on the value at a place, with what is sent for it, if there is one.
+pub fn push_sent<'a, A: Allocator + Copy>(
+    alloc: A,
+    out: &mut Vec<Remark<'a, A>, A>,
+    subject: &NamedText<'a>,
+    tried: &[Tried],
+    sent: &[Vec<u8, A>],
+    finding: Finding,
+    found: Option<usize>,
+) -> Result<(), AllocError>
+    ensures { OnOk result (out.new.items ≡ out.old.items ++ remark_of subject.now.name.now
+        subject.now.text.now finding (sent_evidence tried.now (texts_of sent.now)) found) }
+{
+    match found {
+        None => Ok(()),
+        Some(place) => {
+            let text = copy_of(alloc, sent, place)?;
+            let evidence = Evidence::Sent(tried_at(tried, place), text);
+            push_on_values(alloc, out, subject, finding, evidence)
         }
     }
 }
@@ -97,15 +122,17 @@ fn push_negative<'a, A: Allocator + Copy>(
     ensures { OnOk result (Adds (IsNegativeReport subject.now.name.now
         subject.now.text.now tried.now (texts_of sent.now)) out.old.items out.new.items) }
 {
-    match first_negative(alloc, capability, tried)? {
-        None => Ok(()),
-        Some(place) => {
-            let text = copy_of(alloc, sent, place)?;
-            let told = Told::Negative(tried_at(tried, place), text);
-            push_told(alloc, out, subject, told)?;
-            Ok(())
-        }
-    }
+    let found = first_negative(alloc, capability, tried)?;
+    push_sent(
+        alloc,
+        out,
+        subject,
+        tried,
+        sent,
+        Finding::NegativeNumber,
+        found,
+    )?;
+    Ok(())
 }
 
 /// Adds the remark on a value for which a sequence is sent that is not ended.
@@ -119,19 +146,16 @@ fn push_unended_found<'a, A: Allocator + Copy>(
     ensures { OnOk result (Adds (IsUnendedFound subject.now.name.now
         subject.now.text.now tried.now (texts_of sent.now)) out.old.items out.new.items) }
 {
-    match first_unended(sent) {
-        None => Ok(()),
-        Some(place) => {
-            let text = copy_of(alloc, sent, place)?;
-            push_told(
-                alloc,
-                out,
-                subject,
-                Told::Unended(tried_at(tried, place), text),
-            )?;
-            Ok(())
-        }
-    }
+    let found = first_unended(sent);
+    push_sent(
+        alloc,
+        out,
+        subject,
+        tried,
+        sent,
+        Finding::UnendedSequence,
+        found,
+    )
 }
 
 /// The same of a terminal of ECMA-48.

@@ -6,8 +6,9 @@ ghost use Rattle.ti_report.specs.Lines.{Adds, AreReports};
 ghost use Rattle.ti_report.specs.Values.{AreValueRemarks, IsAttributesReport, IsNamedTriedReport, IsNumbersReport, IsRangeReport, IsShortReport, IsTriedReport, IsTriedReportOf, on_not_tried, text_named};
 
 use crate::attributes::push_attributes_remarks;
+use crate::finding::Finding;
 use crate::lookup::{is_ansi_entry, number_named, text_named};
-use crate::remark::{NamedText, Remark, Told, push_told};
+use crate::remark::{Evidence, NamedText, Remark, push_on_values};
 use crate::sent::push_numbers_remarks;
 use crate::trials::Trials;
 use std::alloc::{AllocError, Allocator};
@@ -30,7 +31,7 @@ fn push_not_tried<'a, A: Allocator + Copy>(
     match level {
         Level::Errors => Ok(()),
         Level::All => {
-            push_told(alloc, out, subject, Told::NotTried)?;
+            push_on_values(alloc, out, subject, Finding::NotTried, Evidence::None)?;
             Ok(())
         }
     }

@@ -5,9 +5,9 @@ ghost use Rattle.ti_report.specs.Whole.{whole_remarks};
 
 use crate::base::bases_differ;
 use crate::colors::push_colors;
+use crate::finding::Finding;
 use crate::layout::is_canonical;
 use crate::remark::{Remark, push_if};
-use crate::wrong::Wrong;
 use std::alloc::{AllocError, Allocator};
 use ti_entry::Entry;
 
@@ -23,7 +23,7 @@ pub fn push_whole<'a, A: Allocator + Copy>(
 {
     push_colors(alloc, out, entry)?;
     let canonical = is_canonical(alloc, bytes, entry)?;
-    push_if(alloc, out, !canonical, Wrong::Layout)?;
-    push_if(alloc, out, bases_differ(bytes), Wrong::Base)?;
+    push_if(alloc, out, !canonical, Finding::Layout)?;
+    push_if(alloc, out, bases_differ(bytes), Finding::Base)?;
     Ok(())
 }

@@ -1,6 +1,6 @@
 use Rattle.std.proofs.Common.{◌≡◌, ◌∙◌, ◌<◌, ◌++◌, ◌∷◌, ℕ, List, [], Bool, true, false, Bor, Contains, ap, arith, get_or, inl, inr, length, not, refl, subst, sym, take}
 use Rattle.std.proofs.lemmas.List.{get_or-map, length-map, take_more}
-use Rattle.ti_report.specs.declared.wrong.Wrong.TheVariants as wrongs
+use Rattle.ti_report.specs.declared.finding.Finding.TheVariants as findings
 use Rattle.ti_report.specs.Names.{IsNameReport, on_name, on_standard_name}
 use Rattle.ti_report.specs.inner.Lent.{texts_lent}
 use Rattle.ti_report.proofs.ReportsLemmas.{goes_end, goes_next}
@@ -43,9 +43,9 @@ names-preserved g c =
         | else-branch+in_ok-push_on_name w ↦
             let Q : List ℕ → Type 0 = λ t. Contains (take i all) t in
             next (
-              on_name (get_or all i []) wrongs.RepeatedName,
+              on_name (get_or all i []) findings.RepeatedName,
               inl (subst Q (sym text) (seen_before (take i all) l.seen.keys one l.invariant.seen (turned _ false (sym c.in_ok-insert.ensures.added ∙ w.if-branch.false))), refl),
-              ap (λ v. v.items) w.out-is ∙ w.in_ok-push_on_name.ensures ∙ ap (λ t. old ++ on_name t wrongs.RepeatedName) (sym text),
+              ap (λ v. v.items) w.out-is ∙ w.in_ok-push_on_name.ensures ∙ ap (λ t. old ++ on_name t findings.RepeatedName) (sym text),
             )
       ];
     }

@@ -3,20 +3,21 @@ use Rattle.std.proofs.lemmas.List.{append-nil}
 use Rattle.ti_values.specs.Findings.{IsFirstSame, sent_at}
 use Rattle.ti_values.specs.declared.same.Same.{Same as SameAt}
 use Rattle.ti_values.specs.Sent.{texts_of}
-use Rattle.ti_report.specs.Remarks.{Same, on_values}
-use Rattle.ti_report.specs.Values.{same_told}
+use Rattle.ti_report.specs.Remarks.{SentForTwo, on_values}
+use Rattle.ti_report.specs.declared.finding.Finding.TheVariants.{SameOutput}
+use Rattle.ti_report.specs.Values.{same_evidence}
 use Rattle.ti_report.proofs.sent.push_same.Goals as goal
 
-pub returns-in_ok-push_told-in-Some : goal.returns-in_ok-push_told-in-Some
-returns-in_ok-push_told-in-Some g c =
+pub returns-in_ok-push_on_values-in-Some : goal.returns-in_ok-push_on_values-in-Some
+returns-in_ok-push_on_values-in-Some g c =
     let s = c.args.subject.now in
     let found = c.in-Some.found in
     let P : Option SameAt → Type 0 = λ some. IsFirstSame (texts_of c.args.sent.now) some in (
-      on_values s.name.now s.text.now (same_told c.args.tried.now (texts_of c.args.sent.now) found),
+      on_values s.name.now s.text.now SameOutput (same_evidence c.args.tried.now (texts_of c.args.sent.now) found),
       (Some found, subst P c.in-Some.is c.in_ok-first_same.ensures.exact, refl),
-      c.in_ok-push_told-in-Some.ensures
-          ∙ ap (λ text. c.args.out.now.items ++ on_values s.name.now s.text.now (Same c.tried_at.result c.tried_at-in-Some.result text)) c.in_ok-text-in-Some.ensures
-          ∙ ap₂ (λ one other. c.args.out.now.items ++ on_values s.name.now s.text.now (Same one other (sent_at (texts_of c.args.sent.now) found.other))) c.tried_at.ensures c.tried_at-in-Some.ensures,
+      c.in_ok-push_on_values-in-Some.ensures
+          ∙ ap (λ text. c.args.out.now.items ++ on_values s.name.now s.text.now SameOutput (SentForTwo c.tried_at.result c.tried_at-in-Some.result text)) c.in_ok-text-in-Some.ensures
+          ∙ ap₂ (λ one other. c.args.out.now.items ++ on_values s.name.now s.text.now SameOutput (SentForTwo one other (sent_at (texts_of c.args.sent.now) found.other))) c.tried_at.ensures c.tried_at-in-Some.ensures,
     )
 
 pub returns-in-None : goal.returns-in-None

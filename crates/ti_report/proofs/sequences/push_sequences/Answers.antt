@@ -1,9 +1,13 @@
-use Rattle.std.proofs.Common.{Bool, subst}
-use Rattle.ti_report.specs.Lines.{Adds}
-use Rattle.ti_report.specs.Sequences.{AreSequencesIf}
+use Rattle.ti_report.specs.Sequences.{IsSequenceOf}
+use Rattle.ti_report.specs.inner.Held.{text_held}
+use Rattle.ti_report.proofs.ReportsLemmas.{all_end, all_step}
+use Rattle.ti_report.proofs.TextsLemmas.{no_text}
 use Rattle.ti_report.proofs.sequences.push_sequences.Goals as goal
 
+pub texts-preserved : goal.texts-preserved
+texts-preserved g c =
+    all_step (IsSequenceOf c.args.ansi) text_held c.args.texts.now c.texts.text-index no_text c.args.out.now.items c.texts.out.items c.push_sequence_of.new.out.items
+    c.texts-test.true c.texts.invariant c.in_ok-push_sequence_of.ensures
+
 pub returns : goal.returns
-returns g c =
-    let P : Bool → Type 0 = λ ansi. Adds (AreSequencesIf ansi c.args.entry.now) c.args.out.now.items c.push_sequences_if.new.out.items in
-    subst P c.is_ansi_entry.ensures c.in_ok-push_sequences_if.ensures
+returns g c = all_end (IsSequenceOf c.args.ansi) text_held c.args.texts.now c.texts.text-index c.args.out.now.items c.texts.out.items c.texts-test.false c.texts.invariant

@@ -2,7 +2,7 @@
 use Rattle.std.proofs.Common.{◌≡◌, ◌++◌, ◌*◌, ◌≤◌, drop}
 use Rattle.ti_escape.specs.Notation.{column}
 use Rattle.ti_report.specs.Blocks.{carets}
-use Rattle.ti_report.proofs.block.push_carets.Given as goal
+use Rattle.ti_report.proofs.lines.push_carets.Given as goal
 
 abbrev pub invariant-loop-next : goal.invariant-loop-next
 invariant-loop-next g l = record {

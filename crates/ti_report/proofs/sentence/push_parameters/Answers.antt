@@ -1,8 +1,8 @@
 use Rattle.std.proofs.Common.{◌≡◌, ◌∙◌, ◌++◌, [], ◌∷◌, ◌+◌, ap, append_assoc, append-nil, arith, sym}
 use Rattle.ti_report.specs.Sentences.{parameter_word}
 use Rattle.ti_report.proofs.ParametersLemmas.{words_end, words_next}
-use Rattle.ti_report.proofs.wrong.push_parameters.Goals.{then-is_in+in_ok-extend_from_slice+in_ok-push, else-is_in}
-use Rattle.ti_report.proofs.wrong.push_parameters.Goals as goal
+use Rattle.ti_report.proofs.sentence.push_parameters.Goals.{then-is_in+in_ok-extend_from_slice+in_ok-push, else-is_in}
+use Rattle.ti_report.proofs.sentence.push_parameters.Goals as goal
 
 pub parameters-preserved : goal.parameters-preserved
 parameters-preserved g c =

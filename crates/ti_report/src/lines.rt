@@ -3,12 +3,12 @@
 ghost use Rattle.std.specs.List.{flat_map};
 ghost use Rattle.std.specs.Prelude.{◌≡◌, ◌++◌, ◌*◌, ◌≤◌, [], replicate, OnOk};
 ghost use Rattle.ti_escape.specs.Notation.{column as the_column};
-ghost use Rattle.ti_report.specs.Blocks.{about_lines, caret_line, carets, head, painted, remark_lines, report_lines, sentence, text_of, what_meaning, what_word};
-ghost use Rattle.ti_report.specs.inner.Held.{about_held, what_held};
+ghost use Rattle.ti_report.specs.Blocks.{about_lines, caret_line, carets, head, painted, remark_lines, report_lines, sentence, text_of};
+ghost use Rattle.ti_report.specs.inner.Held.{about_held, evidence_held};
 
-use crate::remark::{About, NamedText, Remark, What};
-use crate::told::push_meaning_told;
-use crate::wrong::push_meaning;
+use crate::finding::Finding;
+use crate::remark::{About, Evidence, NamedText, Remark};
+use crate::sentence::push_meaning;
 use std::alloc::{AllocError, Allocator};
 use ti_escape::{
     Color, Form, Style, column, columns_between, push_closing, push_label, push_opening, push_shown,
@@ -133,44 +133,21 @@ fn push_caret_line<A: Allocator>(
     out.extend_from_slice(b"\n")
 }
 
-/// The word for a finding.
-pub fn word_of_what<A: Allocator>(what: &What<A>) -> &'static str
-    ensures { result.now ≡ what_word (what_held what.now) }
-{
-    match what {
-        What::Wrong(wrong) => wrong.word(),
-        What::Told(told) => told.finding().word(),
-    }
-}
-
-/// Writes what it means.
-pub fn push_meaning_of<A: Allocator, B: Allocator>(
-    out: &mut Vec<u8, A>,
-    what: &What<B>,
-) -> Result<(), AllocError>
-    ensures { OnOk result
-        (out.new.items ≡ out.old.items ++ what_meaning (what_held what.now)) }
-{
-    match what {
-        What::Wrong(wrong) => push_meaning(out, *wrong),
-        What::Told(told) => push_meaning_told(out, told),
-    }
-}
-
 /// Writes the sentence: the word for the finding, and what it means.
 fn push_sentence<A: Allocator>(
     out: &mut Vec<u8, A>,
     color: Color,
-    what: &What<A>,
+    finding: Finding,
+    evidence: &Evidence<A>,
 ) -> Result<(), AllocError>
     ensures { OnOk result
-        (out.new.items ≡ out.old.items ++ sentence color (what_held what.now)) }
+        (out.new.items ≡ out.old.items ++ sentence color finding (evidence_held evidence.now)) }
 {
     push_opening(out, color, Style::Red)?;
-    out.extend_from_slice(word_of_what(what).as_bytes())?;
+    out.extend_from_slice(finding.word().as_bytes())?;
     push_closing(out, color)?;
     out.extend_from_slice(b": ")?;
-    push_meaning_of(out, what)
+    push_meaning(out, finding, evidence)
 }
 
 /// Writes the lines of a remark.
@@ -187,7 +164,7 @@ fn push_remark<A: Allocator>(
     push_about(out, prefix, about)?;
     push_caret_line(out, color, text_of(about), remark.places())?;
     out.extend_from_slice(b"  ")?;
-    push_sentence(out, color, remark.what())?;
+    push_sentence(out, color, remark.finding(), remark.evidence())?;
     out.extend_from_slice(b"\n")?;
     Ok(())
 }

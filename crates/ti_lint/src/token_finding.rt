@@ -1,11 +1,11 @@
-//! The findings, each with its word.
+//! The findings of tokens, each with its word.
 
 ghost use Rattle.std.specs.Prelude.{◌≡◌};
-ghost use Rattle.ti_lint.specs.FindingWords.{finding_word};
+ghost use Rattle.ti_lint.specs.FindingWords.{token_word};
 
 /// What is wrong with a token of a capability, by the paths that meet it or by the conditional that it is a part of.
 #[derive(Clone, Copy, Debug, PartialEq, Eq)]
-pub enum Finding {
+pub enum TokenFinding {
     /// It pops more values than there are.
     StackUnderflow,
     /// The same in a text that names no parameter, as termcap writes `%d` and `%+ `.
@@ -34,25 +34,25 @@ pub enum Finding {
     RepeatedCondition,
 }
 
-impl Finding {
+impl TokenFinding {
     /// The word for the finding.
     pub fn word(self) -> &'static str
-        ensures name { result.now ≡ finding_word self }
+        ensures name { result.now ≡ token_word self }
     {
         match self {
-            Finding::StackUnderflow => "stack-underflow",
-            Finding::TermcapParameter => "termcap-parameter",
-            Finding::ParameterRange => "parameter-range",
-            Finding::RepeatedIncrement => "%i-repeated",
-            Finding::UnsetVariable => "unset-variable",
-            Finding::OperandType => "operand-type",
-            Finding::StackResidue => "stack-residue",
-            Finding::UnusedIncrement => "%i-unused",
-            Finding::LateIncrement => "%i-late",
-            Finding::DeadStore => "dead-store",
-            Finding::NoEffect => "no-effect",
-            Finding::ConstantCondition => "constant-condition",
-            Finding::RepeatedCondition => "repeated-condition",
+            TokenFinding::StackUnderflow => "stack-underflow",
+            TokenFinding::TermcapParameter => "termcap-parameter",
+            TokenFinding::ParameterRange => "parameter-range",
+            TokenFinding::RepeatedIncrement => "%i-repeated",
+            TokenFinding::UnsetVariable => "unset-variable",
+            TokenFinding::OperandType => "operand-type",
+            TokenFinding::StackResidue => "stack-residue",
+            TokenFinding::UnusedIncrement => "%i-unused",
+            TokenFinding::LateIncrement => "%i-late",
+            TokenFinding::DeadStore => "dead-store",
+            TokenFinding::NoEffect => "no-effect",
+            TokenFinding::ConstantCondition => "constant-condition",
+            TokenFinding::RepeatedCondition => "repeated-condition",
         }
     }
 }
