@@ -13,7 +13,6 @@ pub mod LayoutLemmas
 pub mod BaseLemmas
 pub mod NeighboursLemmas
 pub mod PlainLemmas
-pub mod TextsLemmas
 pub mod TrialsLemmas
 pub mod UsageLemmas
 pub mod OneKeysLemmas

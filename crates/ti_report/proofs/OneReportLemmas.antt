@@ -38,7 +38,7 @@ use Rattle.ti_report.specs.Reports.{AreFindings, AreLines, ArePairRemarks, IsRep
 use Rattle.ti_report.specs.Sequences.{AreSequenceRemarks, IsSequenceIn, IsSequenceOf}
 use Rattle.ti_report.specs.Subjects.{KnownText, known_texts}
 use Rattle.ti_report.specs.Texts.{IsCapabilityReport, IsEscapeReport, IsFindingReport, IsFindingsReport, IsJudged, IsJudgedAs, IsKeyReport, IsPercentReport, IsPlacesReport, IsPlainReport, IsUnusedReport, all_findings, evidence_of, expected_in, unused_remarks, usage_of}
-use Rattle.ti_report.specs.Values.{AreAttributesRemarks, AreNumbersRemarks, AreValueRemarks, IsNamedTriedReport, IsNumbersReport, IsRangeReport, IsShortReport, IsRemarkOf, IsTriedReport, IsTriedReportOf, IsUnendedReport, is_ansi_entry, remark_of, text_named}
+use Rattle.ti_report.specs.Values.{AreAttributesRemarks, AreNumbersRemarks, AreValueRemarks, IsNamedTriedReport, IsNumbersReport, IsRangeReport, IsShortReport, IsRemarkOf, IsTriedReport, IsTriedReportOf, IsUnendedReport, Trial, is_ansi_entry, remark_of, text_named}
 use Rattle.ti_report.specs.Whole.{whole_remarks}
 use Rattle.ti_report.proofs.OneKeysLemmas.{one_keys}
 use Rattle.ti_report.proofs.OnePlacesLemmas.{one_marked, one_places_from, one_places_of, one_tests}
@@ -138,35 +138,38 @@ one_text level stored t r s (judgement, is, e) (other, too, f) =
 
 -- ---- texts by their values
 
-one_remark : {X : Type 0} (IsFound : Option X → Type 0) (finding : Finding) (evidence : X → Evidence) (name text : List ℕ) → ((a b : Option X) → IsFound a → IsFound b → a ≡ b) → IsOne (IsRemarkOf IsFound finding evidence name text)
-one_remark IsFound finding evidence name text once r s (a, found, e) (b, also, f) = e ∙ ap (remark_of name text finding evidence) (once a b found also) ∙ sym f
+one_remark : {X : Type 0} (IsFound : Option X → Type 0) (finding : Finding) (evidence : X → Evidence) (t : Trial) → ((a b : Option X) → IsFound a → IsFound b → a ≡ b) → IsOne (IsRemarkOf IsFound finding evidence t)
+one_remark IsFound finding evidence t once r s (a, found, e) (b, also, f) = e ∙ ap (remark_of t finding evidence) (once a b found also) ∙ sym f
 
-one_unended : (ansi : Bool) (name text : List ℕ) (tried : List Tried) (sent : List (List ℕ)) → IsOne (IsUnendedReport ansi name text tried sent)
-one_unended false name text tried sent = λ r s d h. d ∙ sym h
-one_unended true name text tried sent = one_remark _ _ _ name text (one_first_of _)
+one_unended : (ansi : Bool) (t : Trial) → IsOne (IsUnendedReport ansi t)
+one_unended false t = λ r s d h. d ∙ sym h
+one_unended true t = one_remark _ _ _ t (one_first_of _)
 
-one_of_numbers : (v : EntryValue) (name text : List ℕ) (tried : List Tried) (sent : List (List ℕ)) → IsOne (AreNumbersRemarks v name text tried sent)
-one_of_numbers v name text tried sent =
-    in_turn _ _ (one_remark _ _ _ name text (one_first_of _)) (in_turn _ _ (one_remark _ _ _ name text (one_first_same sent))
-    (in_turn _ _ (one_remark _ _ _ name text (one_first_of _)) (one_unended (is_ansi_entry v) name text tried sent)))
+one_of_numbers : (ansi : Bool) (t : Trial) → IsOne (AreNumbersRemarks ansi t)
+one_of_numbers ansi t =
+    in_turn _ _ (one_remark _ _ _ t (one_first_of _)) (in_turn _ _ (one_remark _ _ _ t (one_first_same t.sent)) (in_turn _ _ (one_remark _ _ _ t (one_first_of _)) (one_unended ansi t)))
 
-one_of_attributes : (v : EntryValue) (name text : List ℕ) (tried : List Tried) (sent : List (List ℕ)) → IsOne (AreAttributesRemarks v name text tried sent)
-one_of_attributes v name text tried sent =
-    in_turn _ _ (λ r s d h. d ∙ sym h) (in_turn _ _ (λ r s d h. d ∙ sym h) (in_turn _ _ (one_remark _ _ _ name text (one_first_of _))
-    (in_turn _ _ (one_remark _ _ _ name text (one_first_of _)) (one_unended (is_ansi_entry v) name text tried sent))))
+one_of_attributes : (v : EntryValue) (t : Trial) → IsOne (AreAttributesRemarks v t)
+one_of_attributes v t =
+    in_turn _ _ (λ r s d h. d ∙ sym h) (in_turn _ _ (λ r s d h. d ∙ sym h) (in_turn _ _ (one_remark _ _ _ t (one_first_of _))
+    (in_turn _ _ (one_remark _ _ _ t (one_first_of _)) (one_unended (is_ansi_entry v) t))))
 
 -- what is sent is one
 one_by_sent : (text : List ℕ) (tried : List Tried) (Are : List (List ℕ) → List Remark → Type 0) → ((sent : List (List ℕ)) → IsOne (Are sent)) → IsOne (λ r. (sent : List (List ℕ)) × AreSent text tried sent × Are sent r)
 one_by_sent text tried Are once r s (a, sent, is) (b, also, too) = once a r s is (subst (λ x. Are x s) (one_sent text tried b a also sent) too)
 
-one_numbers : (v : EntryValue) (name text : List ℕ) (range : Range) → IsOne (IsNumbersReport v name text range)
-one_numbers v name text range = one_by_sent text (values range) (AreNumbersRemarks v name text (values range)) (one_of_numbers v name text (values range))
+abbrev trial : List ℕ → List ℕ → Range → List (List ℕ) → Trial
+trial name text range sent = record { name = name; text = text; tried = values range; sent = sent }
+
+one_numbers : (ansi : Bool) (name text : List ℕ) (range : Range) → IsOne (IsNumbersReport ansi name text range)
+one_numbers ansi name text range = one_by_sent text (values range) (λ sent. AreNumbersRemarks ansi (trial name text range sent)) (λ sent. one_of_numbers ansi (trial name text range sent))
 
 one_range : (v : EntryValue) (name text : List ℕ) (range : Range) → IsOne (IsRangeReport v name text range)
-one_range v name text ranges.Attributes = one_by_sent text (values ranges.Attributes) (AreAttributesRemarks v name text (values ranges.Attributes)) (one_of_attributes v name text (values ranges.Attributes))
-one_range v name text (ranges.Numbers from end) = one_numbers v name text (ranges.Numbers from end)
-one_range v name text (ranges.Places lines columns) = one_numbers v name text (ranges.Places lines columns)
-one_range v name text (ranges.Regions lines) = one_numbers v name text (ranges.Regions lines)
+one_range v name text ranges.Attributes =
+    one_by_sent text (values ranges.Attributes) (λ sent. AreAttributesRemarks v (trial name text ranges.Attributes sent)) (λ sent. one_of_attributes v (trial name text ranges.Attributes sent))
+one_range v name text (ranges.Numbers from end) = one_numbers (is_ansi_entry v) name text (ranges.Numbers from end)
+one_range v name text (ranges.Places lines columns) = one_numbers (is_ansi_entry v) name text (ranges.Places lines columns)
+one_range v name text (ranges.Regions lines) = one_numbers (is_ansi_entry v) name text (ranges.Regions lines)
 
 one_short : (level : Level) (v : EntryValue) (name text : List ℕ) (range : Range) → IsOne (IsShortReport level v name text range)
 one_short level v name text range r s (inl a) (inl b) = a.1 ∙ sym b.1

@@ -1,6 +1,8 @@
 -- Lines that are written one item after another.
-use Rattle.std.proofs.Common.{◌≡◌, ◌∙◌, ◌+◌, ◌<◌, ◌≤◌, ℕ, suc, List, [], ◌∷◌, ◌++◌, length, drop, get_or, map, refl, sym, ap, ap₂, arith, subst, append_assoc, add-one, drop-cons}
+use Rattle.std.proofs.Common.{◌≡◌, ◌∙◌, ◌+◌, ◌<◌, ◌≤◌, ℕ, suc, List, [], ◌∷◌, ◌++◌, length, drop, get_or, map, refl, sym, ap, ap₂, arith, false, subst, append_assoc, add-one, drop-cons}
 use Rattle.std.proofs.lemmas.List.{append-nil, drop_all, get_or-map, length-map}
+use Rattle.ti_names.specs.declared.class.Class.TheVariants.{Parameterized}
+use Rattle.ti_report.specs.declared.subject.KnownText.{KnownText}
 use Rattle.ti_report.specs.Lines.{Adds, AreAll, AreReports}
 
 -- what was written so far goes on to lines of the whole, whatever is told of the items from an index on
@@ -29,6 +31,14 @@ goes_end L xs i before out h g =
     (lines, are, sym (append-nil out) ∙ e)
 
 -- ---- the same of a slice, by what its items hold
+
+-- a text for which there is none
+abbrev pub no_text : KnownText
+no_text = record {
+  subject = record { name = record { ref_ptr = (0, 0); now = [] }; text = record { ref_ptr = (0, 0); now = [] } };
+  class = Parameterized 0;
+  standard = false;
+}
 
 -- what was written so far goes on to lines of all, whatever is told of those that are left
 pub record GoesOnWith {X Y : Type 0} (L : X → List Y → Type 0) (all left : List X) (before out : List Y) : Type 0 where

@@ -53,7 +53,7 @@ unplaced finding evidence = record { places = []; finding = finding; evidence = 
 -- ---- the one at some places; there is none without a place
 
 abbrev pub placed : List ℕ → Finding → Evidence → List TextRemark
-placed [] finding evidence = []
+placed [] _ _ = []
 placed (place ∷ places) finding evidence = record { places = place ∷ places; finding = finding; evidence = evidence } ∷ []
 
 -- ---- the same on the text with a name

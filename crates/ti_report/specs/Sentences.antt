@@ -45,7 +45,7 @@ before (Sent value sent) = sent_words value sent
 before (SentForTwo one other sent) = value_words one ++ (codes " and " ++ sent_words other sent)
 before (Attribute name set) = value_words (Attributes set)
 before (Lacking name set sent text) = sent_words (Attributes set) sent
-before evidence = []
+before _ = []
 
 -- and after them
 abbrev pub after : Evidence → List ℕ
@@ -54,7 +54,7 @@ after (Value value) = signed_decimal value
 after (Parameters set) = parameter_words set 9 1
 after (Attribute name set) = label_notation name
 after (Lacking name set sent text) = label_notation name ++ (codes " is " ++ shown forms.Notation text)
-after evidence = []
+after _ = []
 
 abbrev pub meaning : Finding → Evidence → List ℕ
 meaning finding evidence = before evidence ++ (finding_sentence finding ++ after evidence)

@@ -13,7 +13,7 @@ ghost use Rattle.ti_report.specs.inner.Held.{about_held, evidence_held};
 
 use crate::finding::Finding;
 use crate::remark::{About, Evidence, NamedText, Remark};
-use crate::report::remarks_of;
+use crate::report::report_of;
 use crate::sentence::push_meaning;
 use crate::trials::Trials;
 use std::alloc::{AllocError, Allocator, Global};
@@ -134,9 +134,10 @@ pub fn print_report<A: Allocator + Copy>(
         × AreFindings level bytes.now entry.now sound objects
         × Prints printer.old printer.new (data_tokens (array (items_of objects)))) }
 {
-    let remarks = remarks_of(alloc, trials, level, bytes, entry)?;
+    let report = report_of(alloc, trials, level, bytes, entry)?;
+    let remarks = report.remarks();
     printer.begin_list();
-    print_remarks(printer, alloc, remarks.as_slice())?;
+    print_remarks(printer, alloc, remarks)?;
     printer.end_list();
     Ok(remarks.is_empty())
 }

@@ -9,7 +9,8 @@ ghost use Rattle.ti_report.specs.inner.Lent.{key_lent, keys_lent};
 ghost use Rattle.ti_report.specs.inner.Neighbours.{on_neighbours, on_row};
 
 use crate::finding::Finding;
-use crate::remark::{NamedText, Remark, push_on_two};
+use crate::remark::NamedText;
+use crate::report::Report;
 use crate::subject::KnownText;
 use std::alloc::{AllocError, Allocator};
 use ti_lint::Level;
@@ -60,93 +61,82 @@ fn is_first_part(text: &[u8], other: &[u8]) -> bool
     text.len() < other.len() && other.starts_with(text)
 }
 
-/// Adds a remark on two keys.
-fn push_two<'a, A: Allocator + Copy>(
-    alloc: A,
-    out: &mut Vec<Remark<'a, A>, A>,
-    one: (&'a [u8], &'a [u8]),
-    other: (&'a [u8], &'a [u8]),
-    finding: Finding,
-) -> Result<(), AllocError>
-    ensures { OnOk result (out.new.items
-        ≡ out.old.items ++ on_two (key_lent one.entry) (key_lent other.entry) finding) }
-{
-    let one = NamedText {
-        name: one.1,
-        text: one.0,
-    };
-    let other = NamedText {
-        name: other.1,
-        text: other.0,
-    };
-    push_on_two(alloc, out, one, other, finding)
-}
-
-/// Adds the remark on two keys that send the same, if all is told.
-fn push_alike<'a, A: Allocator + Copy>(
-    alloc: A,
-    out: &mut Vec<Remark<'a, A>, A>,
-    level: Level,
-    one: (&'a [u8], &'a [u8]),
-    other: (&'a [u8], &'a [u8]),
-) -> Result<(), AllocError>
-    ensures { OnOk result (out.new.items
-        ≡ out.old.items ++ on_alike level (key_lent one.entry) (key_lent other.entry)) }
-{
-    match level {
-        Level::Errors => Ok(()),
-        Level::All => push_two(alloc, out, one, other, Finding::AlikeKeys),
+impl<'a, A: Allocator + Copy> Report<'a, A> {
+    /// Adds a remark on two keys.
+    fn push_two(
+        &mut self,
+        one: (&'a [u8], &'a [u8]),
+        other: (&'a [u8], &'a [u8]),
+        finding: Finding,
+    ) -> Result<(), AllocError>
+        ensures { OnOk result (self.new
+            ≡ self.old ++ on_two (key_lent one.entry) (key_lent other.entry) finding) }
+    {
+        let one = NamedText {
+            name: one.1,
+            text: one.0,
+        };
+        let other = NamedText {
+            name: other.1,
+            text: other.0,
+        };
+        self.push_on_two(one, other, finding)
     }
-}
 
-/// Adds the remark on a key and the next one.
-fn push_neighbours<'a, A: Allocator + Copy>(
-    alloc: A,
-    out: &mut Vec<Remark<'a, A>, A>,
-    level: Level,
-    one: (&'a [u8], &'a [u8]),
-    other: (&'a [u8], &'a [u8]),
-) -> Result<(), AllocError>
-    ensures { OnOk result (out.new.items ≡ out.old.items
-        ++ on_neighbours level (key_lent one.entry) (key_lent other.entry)) }
-{
-    if is_first_part(one.0, other.0) {
-        return push_two(alloc, out, one, other, Finding::KeyPrefix);
+    /// Adds the remark on two keys that send the same, if all is told.
+    fn push_alike(
+        &mut self,
+        level: Level,
+        one: (&'a [u8], &'a [u8]),
+        other: (&'a [u8], &'a [u8]),
+    ) -> Result<(), AllocError>
+        ensures { OnOk result (self.new
+            ≡ self.old ++ on_alike level (key_lent one.entry) (key_lent other.entry)) }
+    {
+        match level {
+            Level::Errors => Ok(()),
+            Level::All => self.push_two(one, other, Finding::AlikeKeys),
+        }
     }
-    if one.0 == other.0 {
-        return push_alike(alloc, out, level, one, other);
-    }
-    Ok(())
-}
 
-/// Adds the remarks on each key and the next one.
-fn push_row<'a, A: Allocator + Copy>(
-    alloc: A,
-    out: &mut Vec<Remark<'a, A>, A>,
-    level: Level,
-    row: &[(&'a [u8], &'a [u8])],
-) -> Result<(), AllocError>
-    ensures { OnOk result (out.new.items
-        ≡ out.old.items ++ on_row level (keys_lent row.now)) }
-{
-    'keys: for next in 1..row.len() {
-        push_neighbours(alloc, out, level, row[next - 1], row[next])?;
+    /// Adds the remark on a key and the next one.
+    fn push_neighbours(
+        &mut self,
+        level: Level,
+        one: (&'a [u8], &'a [u8]),
+        other: (&'a [u8], &'a [u8]),
+    ) -> Result<(), AllocError>
+        ensures { OnOk result (self.new ≡ self.old
+            ++ on_neighbours level (key_lent one.entry) (key_lent other.entry)) }
+    {
+        if is_first_part(one.0, other.0) {
+            return self.push_two(one, other, Finding::KeyPrefix);
+        }
+        if one.0 == other.0 {
+            return self.push_alike(level, one, other);
+        }
+        Ok(())
     }
-    Ok(())
-}
 
-/// Adds the remarks on keys of which one sends the first part of what another one sends, and on those that send the same.
-pub fn push_keys<'a, A: Allocator + Copy>(
-    alloc: A,
-    out: &mut Vec<Remark<'a, A>, A>,
-    level: Level,
-    texts: &[KnownText<'a>],
-) -> Result<(), AllocError>
-    ensures { OnOk result (Adds (AreRemarksOnKeys level (flat_map keys_in (texts_held texts.now)))
-        out.old.items out.new.items) }
-{
-    let mut keys = keys_of(alloc, texts)?;
-    keys.sort_unstable();
-    push_row(alloc, out, level, keys.as_slice())?;
-    Ok(())
+    /// Adds the remarks on each key and the next one.
+    fn push_row(&mut self, level: Level, row: &[(&'a [u8], &'a [u8])]) -> Result<(), AllocError>
+        ensures { OnOk result (self.new
+            ≡ self.old ++ on_row level (keys_lent row.now)) }
+    {
+        'keys: for next in 1..row.len() {
+            self.push_neighbours(level, row[next - 1], row[next])?;
+        }
+        Ok(())
+    }
+
+    /// Adds the remarks on keys of which one sends the first part of what another one sends, and on those that send the same.
+    pub fn push_keys(&mut self, level: Level, texts: &[KnownText<'a>]) -> Result<(), AllocError>
+        ensures { OnOk result (Adds (AreRemarksOnKeys level (flat_map keys_in (texts_held texts.now)))
+            self.old self.new) }
+    {
+        let mut keys = keys_of(self.allocator(), texts)?;
+        keys.sort_unstable();
+        self.push_row(level, keys.as_slice())?;
+        Ok(())
+    }
 }

@@ -1,11 +1,5 @@
 //! What is found in an entry: remarks, of which lines and JSON are two forms.
 
-ghost use Rattle.std.specs.Prelude.{◌≡◌, ◌++◌, IfOk, OnOk};
-ghost use Rattle.ti_report.specs.Names.{on_name};
-ghost use Rattle.ti_report.specs.Remarks.{NoEvidence, OfTwo, on_values, unmarked};
-ghost use Rattle.ti_report.specs.Whole.{found_if};
-ghost use Rattle.ti_report.specs.inner.Held.{evidence_held};
-
 use crate::finding::Finding;
 use std::alloc::{AllocError, Allocator};
 use std::marker::Model;
@@ -109,11 +103,15 @@ impl<'a, A: Allocator> Model for Remark<'a, A> {
 
 impl<'a, A: Allocator> Remark<'a, A> {
     ghost use Rattle.std.specs.Prelude.{◌≡◌};
-    ghost use Rattle.ti_report.specs.Remarks.{OfText};
     ghost use Rattle.ti_report.specs.inner.Held.{about_held, evidence_held};
 
     /// A remark.
-    fn new(about: About<'a>, places: Vec<usize, A>, finding: Finding, evidence: Evidence<A>) -> Self
+    pub fn new(
+        about: About<'a>,
+        places: Vec<usize, A>,
+        finding: Finding,
+        evidence: Evidence<A>,
+    ) -> Self
         ensures { result ≡ record {
           about = about_held about.entry;
           places = places.items;
@@ -127,23 +125,6 @@ impl<'a, A: Allocator> Remark<'a, A> {
             finding,
             evidence,
         }
-    }
-
-    /// A remark on a text at some places.
-    pub fn on_text(
-        subject: &NamedText<'a>,
-        places: Vec<usize, A>,
-        finding: Finding,
-        evidence: Evidence<A>,
-    ) -> Self
-        ensures { result ≡ record {
-          about = OfText subject.now.name.now subject.now.text.now;
-          places = places.items;
-          finding = finding;
-          evidence = evidence_held evidence;
-        } }
-    {
-        Remark::new(About::Text(*subject), places, finding, evidence)
     }
 
     /// What it is about.
@@ -173,67 +154,4 @@ impl<'a, A: Allocator> Remark<'a, A> {
     {
         &self.evidence
     }
-}
-
-/// Adds a remark on what is sent by a text.
-pub fn push_on_values<'a, A: Allocator + Copy>(
-    alloc: A,
-    out: &mut Vec<Remark<'a, A>, A>,
-    subject: &NamedText<'a>,
-    finding: Finding,
-    evidence: Evidence<A>,
-) -> Result<(), AllocError>
-    ensures { OnOk result (out.new.items ≡ out.old.items
-        ++ on_values subject.now.name.now subject.now.text.now finding (evidence_held evidence)) }
-{
-    let about = About::Text(*subject);
-    out.push(Remark::new(about, Vec::new(alloc), finding, evidence))?;
-    Ok(())
-}
-
-/// Adds a remark on two texts.
-pub fn push_on_two<'a, A: Allocator + Copy>(
-    alloc: A,
-    out: &mut Vec<Remark<'a, A>, A>,
-    one: NamedText<'a>,
-    other: NamedText<'a>,
-    finding: Finding,
-) -> Result<(), AllocError>
-    ensures { OnOk result (out.new.items ≡ out.old.items
-        ++ unmarked (OfTwo one.entry.name.now one.entry.text.now other.entry.name.now other.entry.text.now)
-        finding NoEvidence) }
-{
-    let about = About::Two(one, other);
-    out.push(Remark::new(about, Vec::new(alloc), finding, Evidence::None))?;
-    Ok(())
-}
-
-/// Adds a remark on a name.
-pub fn push_on_name<'a, A: Allocator + Copy>(
-    alloc: A,
-    out: &mut Vec<Remark<'a, A>, A>,
-    name: &'a [u8],
-    finding: Finding,
-) -> Result<(), AllocError>
-    ensures { OnOk result (out.new.items ≡ out.old.items ++ on_name name.now finding) }
-{
-    let about = About::Name(name);
-    out.push(Remark::new(about, Vec::new(alloc), finding, Evidence::None))?;
-    Ok(())
-}
-
-/// Adds a remark on the entry, if it is so.
-pub fn push_if<'a, A: Allocator + Copy>(
-    alloc: A,
-    out: &mut Vec<Remark<'a, A>, A>,
-    found: bool,
-    finding: Finding,
-) -> Result<(), AllocError>
-    ensures { OnOk result (out.new.items ≡ out.old.items ++ found_if found finding) }
-{
-    if !found {
-        return Ok(());
-    }
-    out.push(Remark::new(About::Entry, Vec::new(alloc), finding, Evidence::None))?;
-    Ok(())
 }

@@ -1,11 +1,12 @@
 //! Remarks on a text, whatever its name is.
 
-ghost use Rattle.std.specs.Prelude.{◌≡◌, ◌++◌, [], OnOk, IfOk, map};
+ghost use Rattle.std.specs.Prelude.{◌≡◌, ◌++◌, ◌∷◌, [], OnOk, map};
 ghost use Rattle.ti_report.specs.Remarks.{placed, unplaced, with_name};
 ghost use Rattle.ti_report.specs.inner.Held.{evidence_held};
 
 use crate::finding::Finding;
-use crate::remark::{Evidence, NamedText, Remark};
+use crate::remark::{About, Evidence, NamedText};
+use crate::report::Report;
 use std::alloc::{AllocError, Allocator};
 use std::marker::Model;
 
@@ -47,14 +48,19 @@ impl<A: Allocator> Model for TextRemarks<A> {
 }
 
 impl<A: Allocator + Copy> TextRemark<A> {
-    /// The same on the text with a name.
-    fn with_name<'a>(&self, alloc: A, subject: &NamedText<'a>) -> Result<Remark<'a, A>, AllocError>
-        ensures { IfOk result (λ remark.
-            remark ≡ with_name subject.now.name.now subject.now.text.now self.now) }
+    /// Adds it under the name of the text to a report.
+    fn push_with_name<'a>(
+        &self,
+        report: &mut Report<'a, A>,
+        subject: &NamedText<'a>,
+    ) -> Result<(), AllocError>
+        ensures { OnOk result (report.new ≡ report.old
+            ++ with_name subject.now.name.now subject.now.text.now self.now ∷ []) }
     {
+        let alloc = report.allocator();
         let places = self.places.as_slice().to_vec(alloc)?;
         let evidence = self.evidence.copy(alloc)?;
-        Ok(Remark::on_text(subject, places, self.finding, evidence))
+        report.push(About::Text(*subject), places, self.finding, evidence)
     }
 }
 
@@ -108,17 +114,17 @@ impl<A: Allocator + Copy> TextRemarks<A> {
         Ok(())
     }
 
-    /// Adds them under the name of the text to others.
+    /// Adds them under the name of the text to a report.
     pub fn push_with_name<'a>(
         &self,
-        out: &mut Vec<Remark<'a, A>, A>,
+        report: &mut Report<'a, A>,
         subject: &NamedText<'a>,
     ) -> Result<(), AllocError>
-        ensures { OnOk result (out.new.items ≡ out.old.items
+        ensures { OnOk result (report.new ≡ report.old
             ++ map (with_name subject.now.name.now subject.now.text.now) self.now) }
     {
         'remarks: for remark in &self.list {
-            out.push(remark.with_name(self.alloc, subject)?)?;
+            remark.push_with_name(report, subject)?;
         }
         Ok(())
     }

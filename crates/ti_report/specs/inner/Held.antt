@@ -7,6 +7,9 @@ use Rattle.ti_report.specs.declared.remark.Evidence.{Evidence}
 use Rattle.ti_report.specs.declared.remark.Evidence.TheVariants as evidences
 use Rattle.ti_report.specs.declared.subject.KnownText.{KnownText}
 use Rattle.ti_report.specs.Subjects as subjects
+use Rattle.ti_report.specs.declared.sent.Trial.{Trial}
+use Rattle.ti_report.specs.Values as values
+use Rattle.ti_values.specs.Sent.{texts_of}
 
 abbrev pub about_held : About → spec.About
 about_held abouts.Entry = spec.OfEntry
@@ -25,6 +28,10 @@ evidence_held (evidences.Sent value sent) = spec.Sent value sent.items
 evidence_held (evidences.SentForTwo one other sent) = spec.SentForTwo one other sent.items
 evidence_held (evidences.Attribute name set) = spec.Attribute name.now set
 evidence_held (evidences.Lacking name set sent text) = spec.Lacking name.now set sent.items text.items
+
+abbrev pub trial_held : {A : Type 0} → Trial A → values.Trial
+trial_held t =
+    record { name = t.subject.name.now; text = t.subject.text.now; tried = t.tried.now; sent = texts_of t.sent.now }
 
 abbrev pub text_held : KnownText → subjects.KnownText
 text_held t =

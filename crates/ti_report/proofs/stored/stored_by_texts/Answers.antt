@@ -1,9 +1,8 @@
 use Rattle.std.proofs.Common.{◌+◌, arith, drop, get_or, map}
 use Rattle.std.proofs.lemmas.List.{drop_all, length-map}
 use Rattle.ti_report.specs.inner.Held.{text_held}
-use Rattle.ti_report.proofs.ReportsLemmas.{one_more}
+use Rattle.ti_report.proofs.ReportsLemmas.{one_more, no_text}
 use Rattle.ti_report.proofs.StoredLemmas.{stored_all, stored_more}
-use Rattle.ti_report.proofs.TextsLemmas.{no_text}
 use Rattle.ti_report.proofs.stored.stored_by_texts.Goals as goal
 
 pub texts-preserved : goal.texts-preserved
