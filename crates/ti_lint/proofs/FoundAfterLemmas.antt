@@ -11,8 +11,8 @@ use Rattle.ti_base.specs.Limits.{most_open}
 use Rattle.ti_lint.specs.declared.outlook.Outlook.{Outlook}
 use Rattle.ti_lint.specs.declared.pass.Pass.{Pass}
 use Rattle.ti_lint.specs.declared.expected.Expected.{Expected}
-use Rattle.ti_lint.specs.declared.finding.Finding.{Finding}
-use Rattle.ti_lint.specs.declared.finding.Finding.TheVariants.{StackResidue, UnusedIncrement, LateIncrement, DeadStore}
+use Rattle.ti_lint.specs.declared.token_finding.TokenFinding.{TokenFinding}
+use Rattle.ti_lint.specs.declared.token_finding.TokenFinding.TheVariants.{StackResidue, UnusedIncrement, LateIncrement, DeadStore}
 use Rattle.ti_lint.specs.OnSomePath.{OnSomePath}
 use Rattle.ti_lint.specs.Findings.{IsMetBefore, Keeps, LeavesValue, NamesFirstTwo, IsUnused, IsLate, IsDead, IsFoundAfter}
 use Rattle.ti_lint.specs.inner.Facts.{has_bit, place_of}
@@ -116,14 +116,14 @@ leaves_is spot k p o b = chain (both_are (nat_lt 0 (pushes k)) (nat_eq o.needs 0
 -- ---- what is told
 
 -- a token is told of exactly if the finding holds
-pub prospect_exact : (spot : Spot) (expected : Expected) (k : Token) (p : Pass) (o : Outlook) → Between spot k p o → (g : Finding)
+pub prospect_exact : (spot : Spot) (expected : Expected) (k : Token) (p : Pass) (o : Outlook) → Between spot k p o → (g : TokenFinding)
     → (prospect k p.here o ≡ Some g) ↔ IsFoundAfter (record { spot = spot; expected = expected }) k g
 prospect_exact spot expected Increment p o b g = each g
   where
-    never : (x y : Bool) (g : Finding) → ((of_increment x y ≡ Some g) → ⊥) → (of_increment x y ≡ Some g) ↔ ⊥
+    never : (x y : Bool) (g : TokenFinding) → ((of_increment x y ≡ Some g) → ⊥) → (of_increment x y ≡ Some g) ↔ ⊥
     never x y g n = (n, (λ a. absurd a))
 
-    each : (g : Finding) → (of_increment p.here.named_first_two o.names_first_two ≡ Some g) ↔ IsFoundAfter (record { spot = spot; expected = expected }) Increment g
+    each : (g : TokenFinding) → (of_increment p.here.named_first_two o.names_first_two ≡ Some g) ↔ IsFoundAfter (record { spot = spot; expected = expected }) Increment g
     each StackResidue = ((λ a. absurd (other p.here.named_first_two o.names_first_two a)), (λ a. absurd (omega (arith, a.0))))
       where
         other : (x y : Bool) → of_increment x y ≡ Some StackResidue → ⊥
@@ -149,7 +149,7 @@ prospect_exact spot expected (Store which) p o b g = chain (found_is (nat_le 97 
     d : (nat_le 97 which && not (has_bit o.loads.mask (place_of which)) ≡ true) ↔ IsDead spot (Store which)
     d = store_dead spot which p o b
 
-    each : (g : Finding) → ((nat_le 97 which && not (has_bit o.loads.mask (place_of which)) ≡ true) × (DeadStore ≡ g)) ↔ IsFoundAfter (record { spot = spot; expected = expected }) (Store which) g
+    each : (g : TokenFinding) → ((nat_le 97 which && not (has_bit o.loads.mask (place_of which)) ≡ true) × (DeadStore ≡ g)) ↔ IsFoundAfter (record { spot = spot; expected = expected }) (Store which) g
     each StackResidue = ((λ a. absurd (cc (a.1))), (λ a. absurd (omega (arith, a.0))))
     each UnusedIncrement = ((λ a. absurd (cc (a.1))), (λ a. absurd (cc (a.0))))
     each LateIncrement = ((λ a. absurd (cc (a.1))), (λ a. absurd (cc (a.0))))
@@ -160,7 +160,7 @@ prospect_exact spot expected k p o b g = chain (found_is (nat_lt 0 (pushes k) &&
     l : (nat_lt 0 (pushes k) && nat_eq o.needs 0 ≡ true) ↔ LeavesValue spot k
     l = leaves_is spot k p o b
 
-    each : (g : Finding) → ((nat_lt 0 (pushes k) && nat_eq o.needs 0 ≡ true) × (StackResidue ≡ g)) ↔ IsFoundAfter (record { spot = spot; expected = expected }) k g
+    each : (g : TokenFinding) → ((nat_lt 0 (pushes k) && nat_eq o.needs 0 ≡ true) × (StackResidue ≡ g)) ↔ IsFoundAfter (record { spot = spot; expected = expected }) k g
     each StackResidue = ((λ a. l.0 a.0), (λ a. (l.1 a, refl)))
     each UnusedIncrement = ((λ a. absurd (cc (a.1))), (λ a. absurd (cc (a.0))))
     each LateIncrement = ((λ a. absurd (cc (a.1))), (λ a. absurd (cc (a.0))))

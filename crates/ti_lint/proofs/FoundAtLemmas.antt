@@ -10,8 +10,8 @@ use Rattle.ti_cap.specs.Spelling.{Written}
 use Rattle.ti_cap.specs.Capability.{Spot, IsWellFormed, Takes, IsFirst, whole}
 use Rattle.ti_cap.proofs.WrittenLemmas.{Same, one_form, one_cutting, spelled_long, written-append, written_one}
 use Rattle.ti_lint.specs.declared.expected.Expected.{Expected}
-use Rattle.ti_lint.specs.declared.finding.Finding.{Finding}
-use Rattle.ti_lint.specs.declared.finding.Finding.TheVariants.{StackUnderflow, TermcapParameter, ParameterRange, RepeatedIncrement, UnsetVariable, OperandType, StackResidue, UnusedIncrement, LateIncrement, DeadStore, NoEffect, ConstantCondition, RepeatedCondition}
+use Rattle.ti_lint.specs.declared.token_finding.TokenFinding.{TokenFinding}
+use Rattle.ti_lint.specs.declared.token_finding.TokenFinding.TheVariants.{StackUnderflow, TermcapParameter, ParameterRange, RepeatedIncrement, UnsetVariable, OperandType, StackResidue, UnusedIncrement, LateIncrement, DeadStore, NoEffect, ConstantCondition, RepeatedCondition}
 use Rattle.ti_lint.specs.declared.placed_finding.PlacedFinding.{PlacedFinding}
 use Rattle.ti_lint.specs.OnSomePath.{Stands}
 use Rattle.ti_lint.specs.Conditionals.{IsFoundAmong}
@@ -55,7 +55,7 @@ one_place bytes spot other k l all also s o e =
 
 -- ---- a list with a finding more
 
-pub in_noted : (list : List PlacedFinding) (place : ℕ) (finding : Option Finding) (one : PlacedFinding)
+pub in_noted : (list : List PlacedFinding) (place : ℕ) (finding : Option TokenFinding) (one : PlacedFinding)
     → Contains (list ++ found_at place finding) one ↔ (Contains list one ⊎ ((one.place ≡ place) × (finding ≡ Some one.finding)))
 in_noted list place None one = ((λ c. let P : List PlacedFinding → Type 0 = λ x. Contains x one in inl (subst P (append-nil list) c)), other)
   where
@@ -80,13 +80,13 @@ in_noted list place (Some g) one = (there, back)
         let is : record { place = place; finding = g } ≡ one = ap (λ x. record { place = x; finding = g }) (sym p.0) ∙ ap (λ x. record { place = one.place; finding = x }) (same p.1) in
         subst P is (Contains-push list (record { place = place; finding = g }))
 
-noted_all : (P : PlacedFinding → Type 0) (list : List PlacedFinding) (place : ℕ) (finding : Option Finding) → All P list → ((g : Finding) → finding ≡ Some g → P (record { place = place; finding = g }))
+noted_all : (P : PlacedFinding → Type 0) (list : List PlacedFinding) (place : ℕ) (finding : Option TokenFinding) → All P list → ((g : TokenFinding) → finding ≡ Some g → P (record { place = place; finding = g }))
     → All P (list ++ found_at place finding)
 noted_all P list place None all new = let Q : List PlacedFinding → Type 0 = λ x. All P x in subst Q (sym (append-nil list)) all
 noted_all P list place (Some g) all new = All-push P list (record { place = place; finding = g }) all (new g refl)
 
-noted_order : (list : List PlacedFinding) (place : ℕ) (finding : Option Finding) → AllPairs Precedes list
-    → ((g : Finding) → finding ≡ Some g → All (λ one. Precedes one (record { place = place; finding = g })) list) → AllPairs Precedes (list ++ found_at place finding)
+noted_order : (list : List PlacedFinding) (place : ℕ) (finding : Option TokenFinding) → AllPairs Precedes list
+    → ((g : TokenFinding) → finding ≡ Some g → All (λ one. Precedes one (record { place = place; finding = g })) list) → AllPairs Precedes (list ++ found_at place finding)
 noted_order list place None order before = let Q : List PlacedFinding → Type 0 = λ x. AllPairs Precedes x in subst Q (sym (append-nil list)) order
 noted_order list place (Some g) order before = all_pairs_push Precedes list (record { place = place; finding = g }) order (before g refl)
 
@@ -121,7 +121,7 @@ lists_start bytes expected at f start judged_by = record {
 
 -- ---- the findings of one token, in the order of their table
 
-rank_before : (at : Underway) (k : Token) (g : Finding) → IsFoundBefore at k g → rank g < 6
+rank_before : (at : Underway) (k : Token) (g : TokenFinding) → IsFoundBefore at k g → rank g < 6
 rank_before at k StackUnderflow b = lit< tt
 rank_before at k TermcapParameter b = lit< tt
 rank_before at k ParameterRange b = lit< tt
@@ -130,33 +130,33 @@ rank_before at k UnsetVariable b = lit< tt
 rank_before at k OperandType b = lit< tt
 rank_before at k _ b = absurd b
 
-rank_after : (at : Underway) (k : Token) (g : Finding) → IsFoundAfter at k g → (5 < rank g) × (rank g < 10)
+rank_after : (at : Underway) (k : Token) (g : TokenFinding) → IsFoundAfter at k g → (5 < rank g) × (rank g < 10)
 rank_after at k StackResidue a = (lit< tt, lit< tt)
 rank_after at k UnusedIncrement a = (lit< tt, lit< tt)
 rank_after at k LateIncrement a = (lit< tt, lit< tt)
 rank_after at k DeadStore a = (lit< tt, lit< tt)
 rank_after at k _ a = absurd a
 
-rank_within : (before : List Token) (k : Token) (after : List Token) (g : Finding) → IsFoundAmong before k after g → 9 < rank g
+rank_within : (before : List Token) (k : Token) (after : List Token) (g : TokenFinding) → IsFoundAmong before k after g → 9 < rank g
 rank_within before k after NoEffect w = lit< tt
 rank_within before k after ConstantCondition w = lit< tt
 rank_within before k after RepeatedCondition w = lit< tt
 rank_within before k after _ w = absurd w
 
 -- what a token was judged by
-pub record IsJudged (at new : Underway) (k : Token) (before after within : Option Finding) : Type 0 where
+pub record IsJudged (at new : Underway) (k : Token) (before after within : Option TokenFinding) : Type 0 where
   pub takes : Takes k at.spot new.spot
   pub first : IsFirst k at.spot new.spot
   pub same : new.expected ≡ at.expected
-  pub by_before : (g : Finding) → (before ≡ Some g) ↔ IsFoundBefore at k g
-  pub by_after : (g : Finding) → (after ≡ Some g) ↔ IsFoundAfter at k g
-  pub by_within : (g : Finding) → (within ≡ Some g) ↔ IsFoundWithin at k g
+  pub by_before : (g : TokenFinding) → (before ≡ Some g) ↔ IsFoundBefore at k g
+  pub by_after : (g : TokenFinding) → (after ≡ Some g) ↔ IsFoundAfter at k g
+  pub by_within : (g : TokenFinding) → (within ≡ Some g) ↔ IsFoundWithin at k g
 
 -- a token has the finding
-abbrev pub IsFoundOf : Underway → Token → Finding → Type 0
+abbrev pub IsFoundOf : Underway → Token → TokenFinding → Type 0
 IsFoundOf at k g = IsFoundBefore at k g ⊎ IsFoundAfter at k g ⊎ IsFoundWithin at k g
 
-pub lists_next : (bytes : List ℕ) (expected : Expected) (at new : Underway) (k : Token) (before after within : Option Finding) (list : List PlacedFinding) → Lists bytes expected at list
+pub lists_next : (bytes : List ℕ) (expected : Expected) (at new : Underway) (k : Token) (before after within : Option TokenFinding) (list : List PlacedFinding) → Lists bytes expected at list
     → IsJudged at new k before after within
     → Lists bytes expected new (((list ++ found_at (length at.spot.taken) before) ++ found_at (length at.spot.taken) after) ++ found_at (length at.spot.taken) within)
 lists_next bytes expected at new k before after within list l j = record {
@@ -184,8 +184,8 @@ lists_next bytes expected at new k before after within list l j = record {
     place : ℕ
     place = length at.spot.taken
 
-    all_noted : (P : PlacedFinding → Type 0) → All P list → ((g : Finding) → P (record { place = place; finding = g })) → ((g : Finding) → P (record { place = place; finding = g }))
-        → ((g : Finding) → P (record { place = place; finding = g })) → All P (((list ++ found_at place before) ++ found_at place after) ++ found_at place within)
+    all_noted : (P : PlacedFinding → Type 0) → All P list → ((g : TokenFinding) → P (record { place = place; finding = g })) → ((g : TokenFinding) → P (record { place = place; finding = g }))
+        → ((g : TokenFinding) → P (record { place = place; finding = g })) → All P (((list ++ found_at place before) ++ found_at place after) ++ found_at place within)
     all_noted P all one two three = noted_all P _ place within (noted_all P _ place after (noted_all P list place before all (λ g e. one g)) (λ g e. two g)) (λ g e. three g)
 
     n : (rest : List Token) × (l.after ≡ k ∷ rest) × Written rest new.spot.left
@@ -194,16 +194,16 @@ lists_next bytes expected at new k before after within list l j = record {
     longer : place < length new.spot.taken
     longer = omega (arith, spelled_long k j.takes.0 j.takes.1, ap length j.takes.3, length-append at.spot.taken j.takes.0)
 
-    earlier : (g : Finding) → All (λ one. Precedes one (record { place = place; finding = g })) list
+    earlier : (g : TokenFinding) → All (λ one. Precedes one (record { place = place; finding = g })) list
     earlier g = All-weaker (λ one. one.place < place) (λ one. Precedes one (record { place = place; finding = g })) (λ one low. inl low) list l.low
 
-    ranked_before : (g : Finding) → before ≡ Some g → rank g < 6
+    ranked_before : (g : TokenFinding) → before ≡ Some g → rank g < 6
     ranked_before g e = rank_before at k g ((j.by_before g).0 e)
 
-    ranked_after : (g : Finding) → after ≡ Some g → (5 < rank g) × (rank g < 10)
+    ranked_after : (g : TokenFinding) → after ≡ Some g → (5 < rank g) × (rank g < 10)
     ranked_after g e = rank_after at k g ((j.by_after g).0 e)
 
-    ranked_within : (g : Finding) → within ≡ Some g → 9 < rank g
+    ranked_within : (g : TokenFinding) → within ≡ Some g → 9 < rank g
     ranked_within g e = let w = (j.by_within g).0 e in rank_within w.before k w.after g w.found
 
     stands : Stands bytes at.spot.taken k

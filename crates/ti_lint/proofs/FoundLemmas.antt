@@ -18,8 +18,8 @@ use Rattle.ti_lint.specs.declared.values.Source.{Source}
 use Rattle.ti_lint.specs.declared.values.Source.TheVariants.{First, Second, Third, Other}
 use Rattle.ti_lint.specs.declared.values.Values.{Values}
 use Rattle.ti_lint.specs.inner.Values.{source_of}
-use Rattle.ti_lint.specs.declared.finding.Finding.{Finding}
-use Rattle.ti_lint.specs.declared.finding.Finding.TheVariants.{StackUnderflow, TermcapParameter, ParameterRange, RepeatedIncrement, UnsetVariable, OperandType}
+use Rattle.ti_lint.specs.declared.token_finding.TokenFinding.{TokenFinding}
+use Rattle.ti_lint.specs.declared.token_finding.TokenFinding.TheVariants.{StackUnderflow, TermcapParameter, ParameterRange, RepeatedIncrement, UnsetVariable, OperandType}
 use Rattle.ti_lint.specs.Findings.{IsMetAfter, Underflows, NamesNone, IsOutOfRange, IsRepeated, IsStoredElsewhere, IsUnset, is_text_value, HasKindAt, TakesOtherKind, IsFoundBefore}
 use Rattle.ti_lint.specs.inner.Facts.{has_bit, is_any_below, lacks, place_of, found_if, is_kept, is_unset, underflow, agrees, has_kind, is_other_below, of_pops, judgement}
 use Rattle.ti_lint.proofs.HeightsLemmas.{HasHeight}
@@ -65,7 +65,7 @@ not_by {A = A} false p = ((λ e a. absurd (differ (p.1 a))), (λ n. refl))
     differ : false ≡ true → ⊥
     differ e = absurd (cc)
 
-pub found_is : (b : Bool) (f g : Finding) → (found_if b f ≡ Some g) ↔ ((b ≡ true) × (f ≡ g))
+pub found_is : (b : Bool) (f g : TokenFinding) → (found_if b f ≡ Some g) ↔ ((b ≡ true) × (f ≡ g))
 found_is true f g = ((λ e. (refl, cc)), (λ p. ap (λ x. Some x) p.1))
 found_is false f g = ((λ e. absurd (cc)), (λ p. absurd (cc (p.0))))
 
@@ -308,7 +308,7 @@ other_is spot expected k p b = elim (near (pops k)) [ inl e ↦ never e | inr so
         no_part (inl e) = let f : pops k ≡ 0 = ap pops e in omega arith
         no_part (inr e) = let f : pops k ≡ 0 = ap pops e in omega arith
 
-of_pops_is : (l m : Bool) (u g : Finding) → (of_pops l u m ≡ Some g) ↔ (((l ≡ true) × (u ≡ g)) ⊎ ((l ≡ false) × (m ≡ true) × (OperandType ≡ g)))
+of_pops_is : (l m : Bool) (u g : TokenFinding) → (of_pops l u m ≡ Some g) ↔ (((l ≡ true) × (u ≡ g)) ⊎ ((l ≡ false) × (m ≡ true) × (OperandType ≡ g)))
 of_pops_is true m u g = ((λ e. inl (refl, cc)), back)
   where
     back : ((true ≡ true) × (u ≡ g)) ⊎ ((true ≡ false) × (m ≡ true) × (OperandType ≡ g)) → Some u ≡ Some g
@@ -326,7 +326,7 @@ of_pops_is false m u g = ((λ e. let t = (found_is m OperandType g).0 e in inr (
 abbrev IsOther : Token → Type 0
 IsOther k = ((which : ℕ) → k ≢ Param which) × (k ≢ Increment) × ((which : ℕ) → k ≢ Load which)
 
-by_pops : (spot : Spot) (expected : Expected) (termcap : Bool) (k : Token) (p : Pass) → Before spot k p → IsOther k → (IsTrue termcap ↔ NamesNone (whole spot)) → (g : Finding)
+by_pops : (spot : Spot) (expected : Expected) (termcap : Bool) (k : Token) (p : Pass) → Before spot k p → IsOther k → (IsTrue termcap ↔ NamesNone (whole spot)) → (g : TokenFinding)
     → (of_pops (lacks k p.here.heights) (underflow termcap) (is_other_below (pops k) expected.texts (takes_text k) p.here.values) ≡ Some g) ↔ IsFoundBefore (record { spot = spot; expected = expected }) k g
 by_pops spot expected termcap k p b other names g = chain (of_pops_is (lacks k p.here.heights) (is_other_below (pops k) expected.texts (takes_text k) p.here.values) (underflow termcap) g) (every g)
   where
@@ -356,7 +356,7 @@ by_pops spot expected termcap k p b other names g = chain (of_pops_is (lacks k p
     n : (termcap ≡ false) ↔ (¬ NamesNone (whole spot))
     n = not_by termcap names
 
-    each : (g : Finding) → g ≢ OperandType → ((lacks k p.here.heights ≡ true) × (underflow termcap ≡ g)) ↔ IsFoundBefore (record { spot = spot; expected = expected }) k g
+    each : (g : TokenFinding) → g ≢ OperandType → ((lacks k p.here.heights ≡ true) × (underflow termcap ≡ g)) ↔ IsFoundBefore (record { spot = spot; expected = expected }) k g
     each StackUnderflow unlike = ((λ a. (l.0 a.0, n.0 ((absent termcap).0 a.1))), (λ a. (l.1 a.0, (absent termcap).1 (n.1 a.1))))
     each TermcapParameter unlike = ((λ a. (l.0 a.0, names.0 ((present termcap).0 a.1))), (λ a. (l.1 a.0, (present termcap).1 (names.1 a.1))))
     each ParameterRange unlike = ((λ a. absurd (not_range termcap a.1)), (λ a. absurd (other.0 a.0 a.1)))
@@ -372,17 +372,17 @@ by_pops spot expected termcap k p b other names g = chain (of_pops_is (lacks k p
     m : (is_other_below (pops k) expected.texts (takes_text k) p.here.values ≡ true) ↔ TakesOtherKind expected spot k
     m = other_is spot expected k p b
 
-    Told : Finding → Type 0
+    Told : TokenFinding → Type 0
     Told g = ((lacks k p.here.heights ≡ true) × (underflow termcap ≡ g)) ⊎ ((lacks k p.here.heights ≡ false) × (is_other_below (pops k) expected.texts (takes_text k) p.here.values ≡ true) × (OperandType ≡ g))
 
-    told : (g : Finding) → g ≢ OperandType → Told g ↔ IsFoundBefore (record { spot = spot; expected = expected }) k g
+    told : (g : TokenFinding) → g ≢ OperandType → Told g ↔ IsFoundBefore (record { spot = spot; expected = expected }) k g
     told g unlike = (there, (λ f. inl ((each g unlike).1 f)))
       where
         there : Told g → IsFoundBefore (record { spot = spot; expected = expected }) k g
         there (inl a) = (each g unlike).0 a
         there (inr a) = absurd (unlike (sym a.2))
 
-    every : (g : Finding) → Told g ↔ IsFoundBefore (record { spot = spot; expected = expected }) k g
+    every : (g : TokenFinding) → Told g ↔ IsFoundBefore (record { spot = spot; expected = expected }) k g
     every OperandType = (there, (λ f. inr ((not_by (lacks k p.here.heights) l).1 f.0, m.1 f.1, refl)))
       where
         there : Told OperandType → IsFoundBefore (record { spot = spot; expected = expected }) k OperandType
@@ -391,14 +391,14 @@ by_pops spot expected termcap k p b other names g = chain (of_pops_is (lacks k p
     every g = told g (λ e. absurd (cc))
 
 -- a token has a finding exactly if it holds
-pub found_exact : (spot : Spot) (expected : Expected) (termcap : Bool) (k : Token) (p : Pass) → Before spot k p → (IsTrue termcap ↔ NamesNone (whole spot)) → (g : Finding)
+pub found_exact : (spot : Spot) (expected : Expected) (termcap : Bool) (k : Token) (p : Pass) → Before spot k p → (IsTrue termcap ↔ NamesNone (whole spot)) → (g : TokenFinding)
     → (judgement expected termcap k p.here ≡ Some g) ↔ IsFoundBefore (record { spot = spot; expected = expected }) k g
 found_exact spot expected termcap (Param which) p b names g = chain (found_is (nat_lt expected.parameters which) ParameterRange g) (each g)
   where
     r : (nat_lt expected.parameters which ≡ true) ↔ IsOutOfRange expected (Param which)
     r = range_is expected which
 
-    each : (g : Finding) → ((nat_lt expected.parameters which ≡ true) × (ParameterRange ≡ g)) ↔ IsFoundBefore (record { spot = spot; expected = expected }) (Param which) g
+    each : (g : TokenFinding) → ((nat_lt expected.parameters which ≡ true) × (ParameterRange ≡ g)) ↔ IsFoundBefore (record { spot = spot; expected = expected }) (Param which) g
     each StackUnderflow = ((λ a. absurd (cc (a.1))), (λ a. absurd (none_popped spot (Param which) refl a.0)))
     each TermcapParameter = ((λ a. absurd (cc (a.1))), (λ a. absurd (none_popped spot (Param which) refl a.0)))
     each ParameterRange = ((λ a. r.0 a.0), (λ a. (r.1 a, refl)))
@@ -411,7 +411,7 @@ found_exact spot expected termcap Increment p b names g = chain (found_is p.here
     r : (p.here.incremented ≡ true) ↔ IsRepeated spot Increment
     r = repeats_is spot p b
 
-    each : (g : Finding) → ((p.here.incremented ≡ true) × (RepeatedIncrement ≡ g)) ↔ IsFoundBefore (record { spot = spot; expected = expected }) Increment g
+    each : (g : TokenFinding) → ((p.here.incremented ≡ true) × (RepeatedIncrement ≡ g)) ↔ IsFoundBefore (record { spot = spot; expected = expected }) Increment g
     each StackUnderflow = ((λ a. absurd (cc (a.1))), (λ a. absurd (none_popped spot Increment refl a.0)))
     each TermcapParameter = ((λ a. absurd (cc (a.1))), (λ a. absurd (none_popped spot Increment refl a.0)))
     each ParameterRange = ((λ a. absurd (cc (a.1))), (λ a. absurd (cc (a.1))))
@@ -424,7 +424,7 @@ found_exact spot expected termcap (Load which) p b names g = chain (found_is (is
     r : (is_unset expected which p.here ≡ true) ↔ IsUnset expected spot (Load which)
     r = unset_is spot expected which p b
 
-    each : (g : Finding) → ((is_unset expected which p.here ≡ true) × (UnsetVariable ≡ g)) ↔ IsFoundBefore (record { spot = spot; expected = expected }) (Load which) g
+    each : (g : TokenFinding) → ((is_unset expected which p.here ≡ true) × (UnsetVariable ≡ g)) ↔ IsFoundBefore (record { spot = spot; expected = expected }) (Load which) g
     each StackUnderflow = ((λ a. absurd (cc (a.1))), (λ a. absurd (none_popped spot (Load which) refl a.0)))
     each TermcapParameter = ((λ a. absurd (cc (a.1))), (λ a. absurd (none_popped spot (Load which) refl a.0)))
     each ParameterRange = ((λ a. absurd (cc (a.1))), (λ a. absurd (cc (a.1))))

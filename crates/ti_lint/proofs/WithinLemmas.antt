@@ -6,7 +6,7 @@ use Rattle.ti_cap.specs.Spelling.{Written}
 use Rattle.ti_cap.specs.Capability.{Spot, Takes, IsFirst}
 use Rattle.ti_cap.proofs.WrittenLemmas.{one_cutting, written-append, written_one}
 use Rattle.ti_lint.specs.declared.expected.Expected.{Expected}
-use Rattle.ti_lint.specs.declared.finding.Finding.{Finding}
+use Rattle.ti_lint.specs.declared.token_finding.TokenFinding.{TokenFinding}
 use Rattle.ti_lint.specs.Conditionals.{IsFoundAmong}
 use Rattle.ti_lint.specs.Findings.{IsFoundWithin}
 use Rattle.ti_lint.specs.inner.Conditionals.{HasTokens}
@@ -53,7 +53,7 @@ among spot new tokens count k h takes first =
       };
     }
 
-pub within_exact : (spot new : Spot) (expected : Expected) (tokens : List Token) (count : ℕ) (k : Token) (g : Finding) → (a : Among spot new tokens count k)
+pub within_exact : (spot new : Spot) (expected : Expected) (tokens : List Token) (count : ℕ) (k : Token) (g : TokenFinding) → (a : Among spot new tokens count k)
     → IsFoundAmong a.before k a.after g ↔ IsFoundWithin (record { spot = spot; expected = expected }) k g
 within_exact spot new expected tokens count k g a = (
   (λ f. record { before = a.before; after = a.after; taken = a.taken; left = a.left; found = f }),

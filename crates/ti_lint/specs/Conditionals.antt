@@ -4,8 +4,8 @@ use Rattle.ti_cap.specs.declared.language.Token.{Token}
 use Rattle.ti_cap.specs.declared.language.Token.TheVariants.{Param, Constant, Load, Length, Compute, CondOpen, CondThen, CondElse, CondClose}
 use Rattle.ti_cap.specs.Height.{pops, next_height}
 use Rattle.ti_cap.specs.Tree.{Empty, Arms, Lone, Else, ElseIf, tokens, arm_tokens, closing}
-use Rattle.ti_lint.specs.declared.finding.Finding.{Finding}
-use Rattle.ti_lint.specs.declared.finding.Finding.TheVariants.{NoEffect, ConstantCondition, RepeatedCondition}
+use Rattle.ti_lint.specs.declared.token_finding.TokenFinding.{TokenFinding}
+use Rattle.ti_lint.specs.declared.token_finding.TokenFinding.TheVariants.{NoEffect, ConstantCondition, RepeatedCondition}
 
 -- ---- tests
 
@@ -112,7 +112,7 @@ pub record HasNoEffect (after : List Token) : Type 0 where
   pub ends : closed ≡ false → rest ≡ []
 
 -- the finding holds of a token between others
-abbrev pub IsFoundAmong : List Token → Token → List Token → Finding → Type 0
+abbrev pub IsFoundAmong : List Token → Token → List Token → TokenFinding → Type 0
 IsFoundAmong before token after NoEffect = (token ≡ CondOpen) × HasNoEffect after
 IsFoundAmong before token after ConstantCondition = (token ≡ CondThen) × IsConstantTest before
 IsFoundAmong before token after RepeatedCondition = (token ≡ CondElse) × IsRepeatedTest before after

@@ -10,8 +10,8 @@ use Rattle.ti_cap.specs.Spelling.{Written}
 use Rattle.ti_cap.specs.Capability.{Spot, whole}
 use Rattle.ti_lint.specs.declared.expected.Expected.{Expected}
 use Rattle.ti_lint.specs.declared.expected.TextParameters.{TextParameters}
-use Rattle.ti_lint.specs.declared.finding.Finding.{Finding}
-use Rattle.ti_lint.specs.declared.finding.Finding.TheVariants.{StackUnderflow, TermcapParameter, ParameterRange, RepeatedIncrement, UnsetVariable, OperandType, StackResidue, UnusedIncrement, LateIncrement, DeadStore}
+use Rattle.ti_lint.specs.declared.token_finding.TokenFinding.{TokenFinding}
+use Rattle.ti_lint.specs.declared.token_finding.TokenFinding.TheVariants.{StackUnderflow, TermcapParameter, ParameterRange, RepeatedIncrement, UnsetVariable, OperandType, StackResidue, UnusedIncrement, LateIncrement, DeadStore}
 use Rattle.ti_lint.specs.Variables.{HasVariable}
 use Rattle.ti_lint.specs.OnSomePath.{OnSomePath}
 use Rattle.ti_lint.specs.Conditionals.{IsFoundAmong}
@@ -73,7 +73,7 @@ TakesOtherKind expected spot token =
     (place : ℕ) × (place < pops token) × ¬ IsMetAfter spot token (HasKindAt expected.texts (takes_text token) place)
 
 -- the finding holds of the token that stands next, by what comes before it
-abbrev pub IsFoundBefore : Underway → Token → Finding → Type 0
+abbrev pub IsFoundBefore : Underway → Token → TokenFinding → Type 0
 IsFoundBefore at token StackUnderflow = Underflows at.spot token × ¬ NamesNone (whole at.spot)
 IsFoundBefore at token TermcapParameter = Underflows at.spot token × NamesNone (whole at.spot)
 IsFoundBefore at token ParameterRange = IsOutOfRange at.expected token
@@ -113,7 +113,7 @@ IsDead spot token =
     × ¬ IsMetBefore spot token (λ after. Contains after (Load which))
 
 -- the finding holds of the token that stands next, by what comes after it
-abbrev pub IsFoundAfter : Underway → Token → Finding → Type 0
+abbrev pub IsFoundAfter : Underway → Token → TokenFinding → Type 0
 IsFoundAfter at token StackResidue = LeavesValue at.spot token
 IsFoundAfter at token UnusedIncrement = IsUnused at.spot token
 IsFoundAfter at token LateIncrement = IsLate at.spot token
@@ -123,7 +123,7 @@ IsFoundAfter at token finding = ⊥
 -- ---- by the conditional that it is a part of
 
 -- the finding holds of the token that stands next, by the tokens before it and after it
-pub record IsFoundWithin (at : Underway) (token : Token) (finding : Finding) : Type 0 where
+pub record IsFoundWithin (at : Underway) (token : Token) (finding : TokenFinding) : Type 0 where
   pub before : List Token
   pub after : List Token
   pub taken : Written before at.spot.taken

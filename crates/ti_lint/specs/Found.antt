@@ -3,8 +3,8 @@ use Rattle.std.specs.Prelude.{◌≡◌, ℕ, ◌<◌, ◌⊎◌, List, length}
 use Rattle.ti_cap.specs.declared.language.Token.{Token}
 use Rattle.ti_cap.specs.Capability.{Spot, whole}
 use Rattle.ti_lint.specs.declared.expected.Expected.{Expected}
-use Rattle.ti_lint.specs.declared.finding.Finding.{Finding}
-use Rattle.ti_lint.specs.declared.finding.Finding.TheVariants.{StackUnderflow, TermcapParameter, ParameterRange, RepeatedIncrement, UnsetVariable, OperandType, StackResidue, UnusedIncrement, LateIncrement, DeadStore, NoEffect, ConstantCondition, RepeatedCondition}
+use Rattle.ti_lint.specs.declared.token_finding.TokenFinding.{TokenFinding}
+use Rattle.ti_lint.specs.declared.token_finding.TokenFinding.TheVariants.{StackUnderflow, TermcapParameter, ParameterRange, RepeatedIncrement, UnsetVariable, OperandType, StackResidue, UnusedIncrement, LateIncrement, DeadStore, NoEffect, ConstantCondition, RepeatedCondition}
 use Rattle.ti_lint.specs.declared.placed_finding.PlacedFinding.{PlacedFinding}
 use Rattle.ti_lint.specs.OnSomePath.{Stands}
 use Rattle.ti_lint.specs.Findings.{IsFoundBefore, IsFoundAfter, IsFoundWithin}
@@ -22,7 +22,7 @@ pub record IsFoundAt (bytes : List ℕ) (expected : Expected) (found : PlacedFin
 
 -- where a finding stands in the table of findings: those by what comes before the token, by what comes after it, and by its
 -- conditional
-abbrev pub rank : Finding → ℕ
+abbrev pub rank : TokenFinding → ℕ
 rank StackUnderflow = 0
 rank TermcapParameter = 1
 rank ParameterRange = 2

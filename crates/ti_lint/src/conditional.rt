@@ -8,12 +8,12 @@ ghost use Rattle.std.specs.Prelude.{◌≡◌, ◌↔◌, ◌<◌, ◌≤◌, �
 ghost use Rattle.ti_base.specs.Limits.{most_capability_bytes};
 ghost use Rattle.ti_lint.specs.Conditionals.{EndsWithTest, HasEarlier, HasNoEffect, IsConstantTest, IsFoundAmong, IsRepeatedTest, computed, is_constant, only_computes, starts_test, values_left};
 ghost use Rattle.ti_cap.specs.declared.language.Token.{Token};
-ghost use Rattle.ti_lint.specs.declared.finding.Finding.{Finding};
+ghost use Rattle.ti_lint.specs.declared.token_finding.TokenFinding.{TokenFinding};
 ghost use Rattle.ti_lint.specs.inner.Conditionals.{ConstantsFrom, LeavesValue, ends_at, height_of, idle_after, may_end, test_length};
 
 use crate::facts::found_if;
-use crate::finding::Finding;
 use crate::outlook::{pops, pushes};
+use crate::token_finding::TokenFinding;
 use ti_cap::Token;
 
 /// Whether a token only pushes a value, or makes one of those that it pops.
@@ -255,19 +255,19 @@ fn has_no_effect(after: &[Token]) -> bool
 }
 
 /// What is wrong with the token at a place by the conditional that it is a part of.
-pub fn judge_conditional(tokens: &[Token], place: usize) -> Option<Finding>
+pub fn judge_conditional(tokens: &[Token], place: usize) -> Option<TokenFinding>
     requires within { place < length tokens.now }
     requires few { length tokens.now ≤ most_capability_bytes }
-    ensures { (before after : List Token) (token : Token) (finding : Finding)
+    ensures { (before after : List Token) (token : Token) (finding : TokenFinding)
         → tokens.now ≡ before ++ token ∷ after → length before ≡ place
         → (result ≡ Some finding) ↔ IsFoundAmong before token after finding }
 {
     let before = &tokens[..place];
     let after = &tokens[place + 1..];
     match tokens[place] {
-        Token::CondOpen => found_if(has_no_effect(after), Finding::NoEffect),
-        Token::CondThen => found_if(ends_with_constants(before), Finding::ConstantCondition),
-        Token::CondElse => found_if(is_repeated(before, after), Finding::RepeatedCondition),
+        Token::CondOpen => found_if(has_no_effect(after), TokenFinding::NoEffect),
+        Token::CondThen => found_if(ends_with_constants(before), TokenFinding::ConstantCondition),
+        Token::CondElse => found_if(is_repeated(before, after), TokenFinding::RepeatedCondition),
         _ => None,
     }
 }

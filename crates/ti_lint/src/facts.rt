@@ -4,8 +4,8 @@ ghost use Rattle.std.specs.Prelude.{◌≡◌, ◌≤◌};
 ghost use Rattle.ti_lint.specs.inner.Facts.{after_token, is_first_two, joined, IsLettered, judgement, is_unset, found_if, of_pops, underflow};
 
 use crate::expected::Expected;
-use crate::finding::Finding;
 use crate::heights::Heights;
+use crate::token_finding::TokenFinding;
 use crate::values::Values;
 use crate::variables::Variables;
 use ti_cap::Token;
@@ -78,15 +78,18 @@ impl Facts {
     }
 
     /// What is wrong with a token on some path here. `termcap` says that the capability names no parameter.
-    pub fn judge(&self, token: Token, expected: &Expected, termcap: bool) -> Option<Finding>
+    pub fn judge(&self, token: Token, expected: &Expected, termcap: bool) -> Option<TokenFinding>
         requires { IsLettered token }
         ensures { result ≡ judgement expected.now termcap token self.now }
     {
         match token {
-            Token::Param(which) => found_if(which > expected.parameters, Finding::ParameterRange),
-            Token::Increment => found_if(self.incremented, Finding::RepeatedIncrement),
+            Token::Param(which) => found_if(
+                which > expected.parameters,
+                TokenFinding::ParameterRange,
+            ),
+            Token::Increment => found_if(self.incremented, TokenFinding::RepeatedIncrement),
             Token::Load(letter) => {
-                found_if(self.is_unset(letter, expected), Finding::UnsetVariable)
+                found_if(self.is_unset(letter, expected), TokenFinding::UnsetVariable)
             }
             _ => of_pops(
                 self.heights.lacks(token),
@@ -118,30 +121,30 @@ pub fn is_first_two(token: Token) -> bool
 }
 
 /// A finding, if it holds.
-pub fn found_if(holds: bool, finding: Finding) -> Option<Finding>
+pub fn found_if(holds: bool, finding: TokenFinding) -> Option<TokenFinding>
     ensures { result ≡ found_if holds finding }
 {
     if holds { Some(finding) } else { None }
 }
 
 /// The finding for a pop: that of the empty stack, if it may be empty, or else that of a value of the other kind.
-fn of_pops(lacks: bool, underflow: Finding, is_other: bool) -> Option<Finding>
+fn of_pops(lacks: bool, underflow: TokenFinding, is_other: bool) -> Option<TokenFinding>
     ensures { result ≡ of_pops lacks underflow is_other }
 {
     if lacks {
         Some(underflow)
     } else {
-        found_if(is_other, Finding::OperandType)
+        found_if(is_other, TokenFinding::OperandType)
     }
 }
 
 /// The finding for a pop of the empty stack.
-fn underflow(termcap: bool) -> Finding
+fn underflow(termcap: bool) -> TokenFinding
     ensures { result ≡ underflow termcap }
 {
     if termcap {
-        Finding::TermcapParameter
+        TokenFinding::TermcapParameter
     } else {
-        Finding::StackUnderflow
+        TokenFinding::StackUnderflow
     }
 }

@@ -7,9 +7,9 @@ ghost use Rattle.ti_lint.specs.Findings.{IsFoundBefore, IsFoundAfter, IsFoundWit
 use crate::backward::outlooks;
 use crate::conditional::judge_conditional;
 use crate::expected::Expected;
-use crate::finding::Finding;
 use crate::outlook::Outlook;
 use crate::pass::Pass;
+use crate::token_finding::TokenFinding;
 use crate::tokens::tokens_of;
 use std::alloc::{AllocError, Allocator, Global};
 use std::marker::Model;
@@ -21,11 +21,11 @@ pub struct Judged {
     /// The token.
     pub token: Token,
     /// What is wrong with it by what comes before it. No token has two such findings.
-    pub before: Option<Finding>,
+    pub before: Option<TokenFinding>,
     /// What is wrong with it by what comes after it. No token has two such findings.
-    pub after: Option<Finding>,
+    pub after: Option<TokenFinding>,
     /// What is wrong with it by the conditional that it is a part of. No token has two such findings.
-    pub within: Option<Finding>,
+    pub within: Option<TokenFinding>,
 }
 
 /// The tokens of a capability, each with what is wrong with it. It goes forward only.
@@ -63,7 +63,7 @@ impl<'a, A: Allocator> Model for Findings<'a, A> {
 }
 
 impl<'a, A: Allocator> Findings<'a, A> {
-    ghost use Rattle.ti_lint.specs.declared.finding.Finding.{Finding};
+    ghost use Rattle.ti_lint.specs.declared.token_finding.TokenFinding.{TokenFinding};
 
     /// The findings of a capability, before its first token. It takes memory for each token, and for what comes after it.
     ///
@@ -110,11 +110,11 @@ impl<'a, A: Allocator> Findings<'a, A> {
         ensures expected { self.new.expected ≡ self.old.expected }
 
         // and a finding is reported exactly if it holds
-        ensures before { IfSome result (λ judged. (finding : Finding)
+        ensures before { IfSome result (λ judged. (finding : TokenFinding)
             → (judged.before ≡ Some finding) ↔ IsFoundBefore self.old judged.token finding) }
-        ensures after { IfSome result (λ judged. (finding : Finding)
+        ensures after { IfSome result (λ judged. (finding : TokenFinding)
             → (judged.after ≡ Some finding) ↔ IsFoundAfter self.old judged.token finding) }
-        ensures within { IfSome result (λ judged. (finding : Finding)
+        ensures within { IfSome result (λ judged. (finding : TokenFinding)
             → (judged.within ≡ Some finding) ↔ IsFoundWithin self.old judged.token finding) }
     {
         let token = self.tape.token()?;

@@ -7,7 +7,7 @@ ghost use Rattle.ti_lint.specs.inner.Facts.{IsLettered, found_if};
 ghost use Rattle.ti_lint.specs.inner.Outlook.{either_outlook, of_increment, outlook_before, prospect};
 
 use crate::facts::{Facts, found_if, is_first_two};
-use crate::finding::Finding;
+use crate::token_finding::TokenFinding;
 use crate::variables::Variables;
 use ti_cap::{Op, Token};
 
@@ -55,7 +55,7 @@ impl Outlook {
     }
 
     /// What is wrong with a token after which the paths go on from here.
-    pub fn judge(&self, token: Token, before: &Facts) -> Option<Finding>
+    pub fn judge(&self, token: Token, before: &Facts) -> Option<TokenFinding>
         requires { IsLettered token }
         ensures { result ≡ prospect token before.now self.now }
     {
@@ -63,21 +63,24 @@ impl Outlook {
             Token::Increment => of_increment(before.named_first_two(), self.names_first_two),
             Token::Store(letter) => found_if(
                 letter >= b'a' && !self.loads.has(letter),
-                Finding::DeadStore,
+                TokenFinding::DeadStore,
             ),
-            _ => found_if(0 < pushes(token) && self.needs == 0, Finding::StackResidue),
+            _ => found_if(
+                0 < pushes(token) && self.needs == 0,
+                TokenFinding::StackResidue,
+            ),
         }
     }
 }
 
 /// The finding for a `%i`, by whether one of the first two parameters is pushed before and after it.
-fn of_increment(before: bool, after: bool) -> Option<Finding>
+fn of_increment(before: bool, after: bool) -> Option<TokenFinding>
     ensures { result ≡ of_increment before after }
 {
     if after {
-        found_if(before, Finding::LateIncrement)
+        found_if(before, TokenFinding::LateIncrement)
     } else {
-        Some(Finding::UnusedIncrement)
+        Some(TokenFinding::UnusedIncrement)
     }
 }
 

@@ -6,8 +6,8 @@ ghost use Rattle.ti_lint.specs.declared.placed_finding.PlacedFinding.{PlacedFind
 ghost use Rattle.ti_lint.specs.inner.Found.{found_at};
 
 use crate::expected::Expected;
-use crate::finding::Finding;
 use crate::findings::Findings;
+use crate::token_finding::TokenFinding;
 use std::alloc::{AllocError, Allocator};
 use ti_cap::Capability;
 
@@ -17,10 +17,10 @@ pub struct PlacedFinding {
     /// The number of bytes before the token.
     pub place: usize,
     /// What is wrong with it.
-    pub finding: Finding,
+    pub finding: TokenFinding,
 }
 
-/// All findings of a capability, in order of their places; those at one place are in the order of [`Finding`]. It goes over the
+/// All findings of a capability, in order of their places; those at one place are in the order of [`TokenFinding`]. It goes over the
 /// tokens three times, and takes memory for each token and finding.
 pub fn findings_of<A: Allocator + Copy>(
     alloc: A,
@@ -47,7 +47,7 @@ pub fn findings_of<A: Allocator + Copy>(
 fn note<A: Allocator>(
     list: &mut Vec<PlacedFinding, A>,
     place: usize,
-    finding: Option<Finding>,
+    finding: Option<TokenFinding>,
 ) -> Result<(), AllocError>
     ensures { OnOk result (list.new.items ≡ list.old.items ++ found_at place finding) }
 {

@@ -8,7 +8,7 @@ use Rattle.std.specs.Ordering.{is_lt, ordering_then}
 use Rattle.std.specs.Str.{bytes_eq}
 use Rattle.std.specs.Cmp.Lexicographic.{slice_cmp, nat_list_cmp_total, bytes_decides, pointwise}
 use Rattle.ti_lint.specs.declared.level.Level.{Level}
-use Rattle.ti_report.specs.declared.wrong.Wrong.TheVariants as wrongs
+use Rattle.ti_report.specs.declared.finding.Finding.TheVariants as findings
 use Rattle.ti_report.specs.Keys.{Key, alike_key, on_alike, is_first_part, key_cmp, on_key, on_keys, longer_key, on_longer, on_two}
 use Rattle.ti_report.specs.Remarks.{Remark}
 use Rattle.ti_report.specs.inner.Neighbours.{on_neighbours, on_row}
@@ -234,7 +234,7 @@ next_is level row before one other rest s = by (is_first_part one.0 other.0) ref
     later = s.on.1.0
 
     two : List Remark
-    two = on_two one other wrongs.KeyPrefix
+    two = on_two one other findings.KeyPrefix
 
     alike : List Remark
     alike = on_alike level one other

@@ -1,16 +1,16 @@
 -- The places at which something is so are one list, and the remarks on tests of constants are.
-use Rattle.std.proofs.Common.{◌≡◌, ℕ, ◌+◌, ◌<◌, ◌≤◌, ◌⊎◌, inl, inr, List, [], ◌∷◌, ◌++◌, length, refl, sym, ◌∙◌, ap, subst, arith, length-append}
+use Rattle.std.proofs.Common.{◌≡◌, ℕ, ◌+◌, ◌<◌, ◌⊎◌, inl, inr, List, [], ◌∷◌, ◌++◌, length, refl, sym, ◌∙◌, ap, subst, arith, length-append}
 use Rattle.ti_cap.specs.declared.language.Token.{Token}
 use Rattle.ti_cap.specs.Capability.{Spot, Takes}
 use Rattle.ti_cap.proofs.WrittenLemmas.{Same, one_form, spelled_long}
 use Rattle.ti_expand.specs.Constants.{value_of}
-use Rattle.ti_lint.specs.declared.finding.Finding.{Finding}
+use Rattle.ti_lint.specs.declared.token_finding.TokenFinding.{TokenFinding}
 use Rattle.ti_lint.specs.declared.placed_finding.PlacedFinding.{PlacedFinding}
-use Rattle.ti_lint.specs.Conditionals.{IsConstantTest}
 use Rattle.ti_lint.proofs.OneTestLemmas.{one_test}
-use Rattle.ti_report.specs.declared.wrong.Wrong.TheVariants.{ConstantTest}
+use Rattle.ti_lint.specs.declared.token_finding.TokenFinding.TheVariants.{ConstantCondition}
+use Rattle.ti_report.specs.declared.finding.Finding.TheVariants as findings
 use Rattle.ti_report.specs.Constants.{AreTestReports, IsTestReport, IsTestsReport}
-use Rattle.ti_report.specs.Remarks.{TextRemark, placed}
+use Rattle.ti_report.specs.Remarks.{TextRemark, Value, placed}
 use Rattle.ti_report.specs.Marks.{AreMarked, AreMarkedFrom, ArePlacesFrom, ArePlacesOf, IsToldIf}
 
 -- ---- one token
@@ -59,7 +59,7 @@ one_marked Holds text places others (all, p) (alike, q) = one_marked_from Holds 
 
 -- ---- of findings
 
-pub one_places_of : (finding : Finding) (founds : List PlacedFinding) (places others : List ℕ) → ArePlacesOf finding founds places → ArePlacesOf finding founds others → places ≡ others
+pub one_places_of : (finding : TokenFinding) (founds : List PlacedFinding) (places others : List ℕ) → ArePlacesOf finding founds places → ArePlacesOf finding founds others → places ≡ others
 one_places_of finding [] places others p q = p ∙ sym q
 one_places_of finding (one ∷ founds) places others (more, are, told) (rest, so, same) =
     let later : more ≡ rest = one_places_of finding founds more rest are so in
@@ -93,7 +93,7 @@ one_places_from Holds from (place ∷ places) (other ∷ others) p q = ap (λ x.
 one_test_report : (before : List Token) (token : Token) (place : ℕ) (remarks others : List TextRemark) → IsTestReport before token place remarks
     → IsTestReport before token place others → remarks ≡ others
 one_test_report before token place remarks others (inl (found, is, told)) (inl (other, same, again)) =
-    told ∙ ap (λ test. placed (place ∷ []) (ConstantTest (value_of test))) (one_test before found other) ∙ sym again
+    told ∙ ap (λ test. placed (place ∷ []) (findings.Token ConstantCondition) (Value (value_of test))) (one_test before found other) ∙ sym again
 one_test_report before token place remarks others (inl (found, is, told)) (inr (never, none)) = absurd (never (is, found))
 one_test_report before token place remarks others (inr (never, none)) (inl (found, is, told)) = absurd (never (is, found))
 one_test_report before token place remarks others (inr (never, none)) (inr (not, nothing)) = none ∙ sym nothing

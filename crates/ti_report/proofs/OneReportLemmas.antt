@@ -1,21 +1,16 @@
 -- An entry has one report.
-use Rattle.std.proofs.Common.{◌≡◌, ◌≢◌, ◌∙◌, ◌⊎◌, ◌↔◌, ◌++◌, ℕ, suc, Bool, true, false, List, [], ◌∷◌, Option, Some, None, ap, ap₂, arith, inl, inr, length, map, refl, subst, sym}
+use Rattle.std.proofs.Common.{◌≡◌, ◌∙◌, ◌⊎◌, ◌↔◌, ◌++◌, ℕ, suc, Bool, true, false, List, [], ◌∷◌, Option, ap, ap₂, arith, inl, inr, length, map, subst, sym}
 use Rattle.std.specs.Prelude.{◌==◌}
 use Rattle.serde_json.specs.Data.{Data}
 use Rattle.ti_cap.specs.declared.language.CapRefused.{CapRefused}
-use Rattle.ti_cap.specs.declared.parameter_set.ParameterSet.{ParameterSet}
 use Rattle.ti_cap.specs.Refusal.{IsFaultless, IsRefusal}
 use Rattle.ti_cap.proofs.OneRefusalLemmas.{one_refusal}
 use Rattle.ti_escape.specs.declared.color.Color.{Color}
-use Rattle.ti_json.specs.Objects.{array_text}
-use Rattle.ti_lint.specs.declared.expected.Expected.{Expected}
-use Rattle.ti_lint.specs.declared.finding.Finding.{Finding}
+use Rattle.ti_lint.specs.declared.token_finding.TokenFinding.{TokenFinding}
 use Rattle.ti_lint.specs.declared.placed_finding.PlacedFinding.{PlacedFinding}
 use Rattle.ti_lint.specs.declared.level.Level.{Level}
 use Rattle.ti_lint.specs.declared.level.Level.TheVariants as scopes
 use Rattle.ti_lint.specs.declared.variables.Variables.{Variables}
-use Rattle.ti_lint.specs.Pairs.{NamePair, all_pairs, all_toggles}
-use Rattle.ti_lint.specs.Plain.{IsMeantToExpand}
 use Rattle.ti_lint.proofs.OneFoundLemmas.{one_found}
 use Rattle.ti_lint.proofs.OneSetLemmas.{one_parameter_set, one_variables}
 use Rattle.ti_names.specs.declared.class.Class.{Class}
@@ -23,32 +18,27 @@ use Rattle.ti_names.specs.declared.class.Class.TheVariants as classes
 use Rattle.ti_values.specs.declared.range.Range.{Range}
 use Rattle.ti_values.specs.declared.range.Range.TheVariants as ranges
 use Rattle.ti_values.specs.declared.tried.Tried.{Tried}
-use Rattle.ti_values.specs.Attributes.{IsCombinationAt}
-use Rattle.ti_values.specs.Findings.{IsEmptyAt, IsFirstOf, IsFirstSame, IsShownAt, IsUnendedAt, sent_at}
-use Rattle.ti_values.specs.Negative.{IsNegativeAt}
 use Rattle.ti_values.specs.Ranges.{values}
 use Rattle.ti_values.specs.Sent.{AreSent}
 use Rattle.ti_values.proofs.OneSentLemmas.{one_first_of, one_first_same, one_sent}
-use Rattle.ti_words.specs.Items.{ExtendedSubject, Listed, StandardSubject, items, text_in}
 use Rattle.ti_words.specs.Texts.{AbsentText, CancelledText, TextOf, TextValue}
 use Rattle.ti_words.specs.Value.{EntryValue, NamedPart}
 use Rattle.ti_report.specs.declared.marks.Sought.{Sought}
 use Rattle.ti_report.specs.declared.marks.Sought.TheVariants.{FalseMark, Mark, Percents}
 use Rattle.ti_report.specs.declared.usage.Usage.{Usage}
-use Rattle.ti_report.specs.declared.wrong.Wrong.{Wrong}
-use Rattle.ti_report.specs.declared.wrong.Wrong.TheVariants as wrongs
+use Rattle.ti_report.specs.declared.finding.Finding.{Finding}
+use Rattle.ti_report.specs.declared.finding.Finding.TheVariants as findings
 use Rattle.ti_report.specs.Blocks.{report_lines}
-use Rattle.ti_report.specs.Constants.{IsTestsReport}
-use Rattle.ti_report.specs.Keys.{AreKeyRemarks}
-use Rattle.ti_report.specs.Lines.{AreAll, AreReports, InTurn, IsIfThere}
-use Rattle.ti_report.specs.Marks.{ArePlacesOf}
-use Rattle.ti_report.specs.Names.{AreNameRemarks, IsNameReport}
+use Rattle.ti_report.specs.Keys.{AreKeyRemarks, entry_keys}
+use Rattle.ti_report.specs.Lines.{AreAll, AreReports, InTurn}
+use Rattle.ti_report.specs.Names.{AreNameRemarks}
 use Rattle.ti_report.specs.Objects.{remark_object}
-use Rattle.ti_report.specs.Remarks.{Remark, TextRemark, Told, placed, with_name}
-use Rattle.ti_report.specs.Reports.{AreFindings, AreLines, ArePairRemarks, AreStored, IsItemReport, IsReport, IsReportJson, IsTextReport, UsedText, used_text}
-use Rattle.ti_report.specs.Sequences.{AreSequenceRemarks, AreSequencesIf, IsSequenceIn, IsSequenceOf, IsSequenceReport}
-use Rattle.ti_report.specs.Texts.{AreEscapes, AreFound, AreUnused, IsCapabilityReport, IsEscapeReport, IsFindingReport, IsFindingsReport, IsJudged, IsJudgedAs, IsKeyReport, IsPercentReport, IsPlacesReport, IsPlainReport, IsUnusedReport, all_findings, expected_in, unused_remarks}
-use Rattle.ti_report.specs.Values.{AreAttributesRemarks, AreNumbersRemarks, AreValueRemarks, IsAttributesReport, IsNamedTriedReport, IsNumbersReport, IsRangeReport, IsShortReport, IsToldOf, IsTriedReport, IsTriedReportOf, IsUnendedReport, is_ansi_entry, same_told, text_named, told_of, tried_at}
+use Rattle.ti_report.specs.Remarks.{Evidence, NoEvidence, Remark, TextRemark, placed, with_name}
+use Rattle.ti_report.specs.Reports.{AreFindings, AreLines, ArePairRemarks, IsReport, IsTextReport}
+use Rattle.ti_report.specs.Sequences.{AreSequenceRemarks, IsSequenceIn, IsSequenceOf}
+use Rattle.ti_report.specs.Subjects.{KnownText, known_texts}
+use Rattle.ti_report.specs.Texts.{IsCapabilityReport, IsEscapeReport, IsFindingReport, IsFindingsReport, IsJudged, IsJudgedAs, IsKeyReport, IsPercentReport, IsPlacesReport, IsPlainReport, IsUnusedReport, all_findings, evidence_of, expected_in, unused_remarks, usage_of}
+use Rattle.ti_report.specs.Values.{AreAttributesRemarks, AreNumbersRemarks, AreValueRemarks, IsNamedTriedReport, IsNumbersReport, IsRangeReport, IsShortReport, IsRemarkOf, IsTriedReport, IsTriedReportOf, IsUnendedReport, Trial, is_ansi_entry, remark_of, text_named}
 use Rattle.ti_report.specs.Whole.{whole_remarks}
 use Rattle.ti_report.proofs.OneKeysLemmas.{one_keys}
 use Rattle.ti_report.proofs.OnePlacesLemmas.{one_marked, one_places_from, one_places_of, one_tests}
@@ -74,10 +64,6 @@ reports : {X Y : Type 0} (L : ℕ → X → List Y → Type 0) → ((i : ℕ) (x
 reports L each i [] r s d h = d ∙ sym h
 reports L each i (x ∷ xs) r s (a, u, is, are, e) (b, w, too, also, f) = e ∙ ap₂ (λ p q. p ++ q) (each i x a b is too) (reports L each (suc i) xs u w are also) ∙ sym f
 
-if_there : {X Y : Type 0} (L : X → List Y → Type 0) → ((x : X) → IsOne (L x)) → (x : Option X) → IsOne (IsIfThere L x)
-if_there L each None r s d h = d ∙ sym h
-if_there L each (Some x) r s d h = each x r s d h
-
 -- it is so, or it is not
 either : {Y : Type 0} (Holds : Type 0) (these those : List Y) → IsOne (λ r. (Holds × (r ≡ these)) ⊎ ((¬ Holds) × (r ≡ those)))
 either Holds these those r s (inl a) (inl b) = a.1 ∙ sym b.1
@@ -99,12 +85,12 @@ refused_or text of Are one r s (inl (a, why, e)) (inr (sound, is)) = absurd (pas
 refused_or text of Are one r s (inr (sound, is)) (inl (b, because, f)) = absurd (passes text b sound because)
 refused_or text of Are one r s (inr (sound, is)) (inr (again, too)) = one r s is too
 
-one_finding : (text : List ℕ) (parameters : ℕ) (founds : List PlacedFinding) (i : ℕ) (finding : Finding) → IsOne (IsFindingReport text parameters founds i finding)
+one_finding : (text : List ℕ) (parameters : ℕ) (founds : List PlacedFinding) (i : ℕ) (finding : TokenFinding) → IsOne (IsFindingReport text parameters founds i finding)
 one_finding text parameters founds i finding r s (inl a) (inl b) = one_tests text r s a.1 b.1
 one_finding text parameters founds i finding r s (inl a) (inr b) = absurd (b.0 a.0)
 one_finding text parameters founds i finding r s (inr a) (inl b) = absurd (a.0 b.0)
 one_finding text parameters founds i finding r s (inr (other, ps, are, e)) (inr (too, qs, also, f)) =
-    e ∙ ap (λ places. placed places (wrongs.Token finding parameters)) (one_places_of finding founds ps qs are also) ∙ sym f
+    e ∙ ap (λ places. placed places (findings.Token finding) (evidence_of finding parameters)) (one_places_of finding founds ps qs are also) ∙ sym f
 
 one_unused : (may : Bool) (text : List ℕ) (parameters : ℕ) (founds : List PlacedFinding) → IsOne (IsUnusedReport may text parameters founds)
 one_unused may text parameters founds r s (set, ps, are, places, e) (other, qs, also, too, f) =
@@ -119,22 +105,22 @@ findings_once usage parameters text r s (founds, are, d) (others, also, h) =
 one_capability : (usage : Usage) (parameters : ℕ) (text : List ℕ) → IsOne (IsCapabilityReport usage parameters text)
 one_capability usage parameters text = refused_or text _ _ (findings_once usage parameters text)
 
-one_at : (sought : Sought) (wrong : Wrong) (text : List ℕ) → IsOne (IsPlacesReport sought wrong text)
-one_at sought wrong text r s (ps, are, e) (qs, also, f) = e ∙ ap (λ places. placed places wrong) (one_places_from _ 0 ps qs are also) ∙ sym f
+one_at : (sought : Sought) (finding : Finding) (text : List ℕ) → IsOne (IsPlacesReport sought finding text)
+one_at sought finding text r s (ps, are, e) (qs, also, f) = e ∙ ap (λ places. placed places finding NoEvidence) (one_places_from _ 0 ps qs are also) ∙ sym f
 
 one_escapes : (text : List ℕ) → IsOne (IsEscapeReport text)
 one_escapes text r s (ps, are, e) (qs, also, f) =
-    e ∙ ap (λ places. placed places wrongs.UninterpretedEscape) (refused_or text (λ refused. []) _ (one_marked _ text) ps qs are also) ∙ sym f
+    e ∙ ap (λ places. placed places findings.UninterpretedEscape NoEvidence) (refused_or text (λ refused. []) _ (one_marked _ text) ps qs are also) ∙ sym f
 
 one_percent : (text : List ℕ) → IsOne (IsPercentReport text)
-one_percent text = one_at Percents wrongs.UninterpretedPercent text
+one_percent text = one_at Percents findings.UninterpretedPercent text
 
 one_plain : (text : List ℕ) → IsOne (IsPlainReport text)
 one_plain text =
-    in_turn (IsEscapeReport text) _ (one_escapes text) (in_turn (IsPercentReport text) _ (one_percent text) (one_at FalseMark wrongs.FalseMark text))
+    in_turn (IsEscapeReport text) _ (one_escapes text) (in_turn (IsPercentReport text) _ (one_percent text) (one_at FalseMark findings.FalseMark text))
 
 one_key : (text : List ℕ) → IsOne (IsKeyReport text)
-one_key text = in_turn (IsPercentReport text) _ (one_percent text) (one_at Mark wrongs.MarkInKey text)
+one_key text = in_turn (IsPercentReport text) _ (one_percent text) (one_at Mark findings.MarkInKey text)
 
 one_as : (class : Class) (usage : Usage) (text : List ℕ) → IsOne (IsJudgedAs class usage text)
 one_as (classes.Parameterized parameters) usage text = one_capability usage parameters text
@@ -146,43 +132,44 @@ one_as class usage text = λ r s d h. d ∙ sym h
 pub one_judgement : (usage : Usage) (text : List ℕ) → IsOne (IsJudged usage text)
 one_judgement usage text = one_as usage.class usage text
 
-one_text : (t : UsedText) → IsOne (IsTextReport t)
-one_text t r s (judgement, is, e) (other, too, f) = e ∙ ap (map (with_name t.name t.text)) (one_judgement t.usage t.text judgement other is too) ∙ sym f
-
-one_item : (level : Level) (stored : Variables) (listed : Listed) → IsOne (IsItemReport level stored listed)
-one_item level stored listed = if_there IsTextReport one_text (used_text level stored listed)
+one_text : (level : Level) (stored : Variables) (t : KnownText) → IsOne (IsTextReport level stored t)
+one_text level stored t r s (judgement, is, e) (other, too, f) =
+    e ∙ ap (map (with_name t.name t.text)) (one_judgement (usage_of level stored t.name t.class) t.text judgement other is too) ∙ sym f
 
 -- ---- texts by their values
 
-one_told : {X : Type 0} (IsFound : Option X → Type 0) (told : X → Told) (name text : List ℕ) → ((a b : Option X) → IsFound a → IsFound b → a ≡ b) → IsOne (IsToldOf IsFound told name text)
-one_told IsFound told name text once r s (a, found, e) (b, also, f) = e ∙ ap (told_of name text told) (once a b found also) ∙ sym f
+one_remark : {X : Type 0} (IsFound : Option X → Type 0) (finding : Finding) (evidence : X → Evidence) (t : Trial) → ((a b : Option X) → IsFound a → IsFound b → a ≡ b) → IsOne (IsRemarkOf IsFound finding evidence t)
+one_remark IsFound finding evidence t once r s (a, found, e) (b, also, f) = e ∙ ap (remark_of t finding evidence) (once a b found also) ∙ sym f
 
-one_unended : (ansi : Bool) (name text : List ℕ) (tried : List Tried) (sent : List (List ℕ)) → IsOne (IsUnendedReport ansi name text tried sent)
-one_unended false name text tried sent = λ r s d h. d ∙ sym h
-one_unended true name text tried sent = one_told _ _ name text (one_first_of _)
+one_unended : (ansi : Bool) (t : Trial) → IsOne (IsUnendedReport ansi t)
+one_unended false t = λ r s d h. d ∙ sym h
+one_unended true t = one_remark _ _ _ t (one_first_of _)
 
-one_of_numbers : (v : EntryValue) (name text : List ℕ) (tried : List Tried) (sent : List (List ℕ)) → IsOne (AreNumbersRemarks v name text tried sent)
-one_of_numbers v name text tried sent =
-    in_turn _ _ (one_told _ _ name text (one_first_of _)) (in_turn _ _ (one_told _ _ name text (one_first_same sent))
-    (in_turn _ _ (one_told _ _ name text (one_first_of _)) (one_unended (is_ansi_entry v) name text tried sent)))
+one_of_numbers : (ansi : Bool) (t : Trial) → IsOne (AreNumbersRemarks ansi t)
+one_of_numbers ansi t =
+    in_turn _ _ (one_remark _ _ _ t (one_first_of _)) (in_turn _ _ (one_remark _ _ _ t (one_first_same t.sent)) (in_turn _ _ (one_remark _ _ _ t (one_first_of _)) (one_unended ansi t)))
 
-one_of_attributes : (v : EntryValue) (name text : List ℕ) (tried : List Tried) (sent : List (List ℕ)) → IsOne (AreAttributesRemarks v name text tried sent)
-one_of_attributes v name text tried sent =
-    in_turn _ _ (λ r s d h. d ∙ sym h) (in_turn _ _ (λ r s d h. d ∙ sym h) (in_turn _ _ (one_told _ _ name text (one_first_of _))
-    (in_turn _ _ (one_told _ _ name text (one_first_of _)) (one_unended (is_ansi_entry v) name text tried sent))))
+one_of_attributes : (v : EntryValue) (t : Trial) → IsOne (AreAttributesRemarks v t)
+one_of_attributes v t =
+    in_turn _ _ (λ r s d h. d ∙ sym h) (in_turn _ _ (λ r s d h. d ∙ sym h) (in_turn _ _ (one_remark _ _ _ t (one_first_of _))
+    (in_turn _ _ (one_remark _ _ _ t (one_first_of _)) (one_unended (is_ansi_entry v) t))))
 
 -- what is sent is one
 one_by_sent : (text : List ℕ) (tried : List Tried) (Are : List (List ℕ) → List Remark → Type 0) → ((sent : List (List ℕ)) → IsOne (Are sent)) → IsOne (λ r. (sent : List (List ℕ)) × AreSent text tried sent × Are sent r)
 one_by_sent text tried Are once r s (a, sent, is) (b, also, too) = once a r s is (subst (λ x. Are x s) (one_sent text tried b a also sent) too)
 
-one_numbers : (v : EntryValue) (name text : List ℕ) (range : Range) → IsOne (IsNumbersReport v name text range)
-one_numbers v name text range = one_by_sent text (values range) (AreNumbersRemarks v name text (values range)) (one_of_numbers v name text (values range))
+abbrev trial : List ℕ → List ℕ → Range → List (List ℕ) → Trial
+trial name text range sent = record { name = name; text = text; tried = values range; sent = sent }
+
+one_numbers : (ansi : Bool) (name text : List ℕ) (range : Range) → IsOne (IsNumbersReport ansi name text range)
+one_numbers ansi name text range = one_by_sent text (values range) (λ sent. AreNumbersRemarks ansi (trial name text range sent)) (λ sent. one_of_numbers ansi (trial name text range sent))
 
 one_range : (v : EntryValue) (name text : List ℕ) (range : Range) → IsOne (IsRangeReport v name text range)
-one_range v name text ranges.Attributes = one_by_sent text (values ranges.Attributes) (AreAttributesRemarks v name text (values ranges.Attributes)) (one_of_attributes v name text (values ranges.Attributes))
-one_range v name text (ranges.Numbers from end) = one_numbers v name text (ranges.Numbers from end)
-one_range v name text (ranges.Places lines columns) = one_numbers v name text (ranges.Places lines columns)
-one_range v name text (ranges.Regions lines) = one_numbers v name text (ranges.Regions lines)
+one_range v name text ranges.Attributes =
+    one_by_sent text (values ranges.Attributes) (λ sent. AreAttributesRemarks v (trial name text ranges.Attributes sent)) (λ sent. one_of_attributes v (trial name text ranges.Attributes sent))
+one_range v name text (ranges.Numbers from end) = one_numbers (is_ansi_entry v) name text (ranges.Numbers from end)
+one_range v name text (ranges.Places lines columns) = one_numbers (is_ansi_entry v) name text (ranges.Places lines columns)
+one_range v name text (ranges.Regions lines) = one_numbers (is_ansi_entry v) name text (ranges.Regions lines)
 
 one_short : (level : Level) (v : EntryValue) (name text : List ℕ) (range : Range) → IsOne (IsShortReport level v name text range)
 one_short level v name text range r s (inl a) (inl b) = a.1 ∙ sym b.1
@@ -206,17 +193,12 @@ one_of_values level v = reports _ (one_named level v) 0 _
 
 -- ---- control sequences, pairs and names
 
-one_sequence_in : (name : List ℕ) (class : Option Class) (text : List ℕ) → IsOne (IsSequenceIn name class text)
-one_sequence_in name (Some classes.Plain) text = either _ _ _
-one_sequence_in name class text = λ r s d h. d ∙ sym h
+one_sequence : (ansi standard : Bool) (class : Class) (name text : List ℕ) → IsOne (IsSequenceIn ansi standard class name text)
+one_sequence true true classes.Plain name text = either _ _ _
+one_sequence ansi standard class name text = λ r s d h. d ∙ sym h
 
-one_sequence : (listed : Listed) → IsOne (IsSequenceOf listed)
-one_sequence (StandardSubject kind index, item) = if_there _ (one_sequence_in _ _) (text_in item)
-one_sequence (ExtendedSubject kind name, item) = λ r s d h. d ∙ sym h
-
-one_sequences : (ansi : Bool) (v : EntryValue) → IsOne (AreSequencesIf ansi v)
-one_sequences true v = all IsSequenceOf one_sequence (items v)
-one_sequences false v = λ r s d h. d ∙ sym h
+one_sequences : (v : EntryValue) → IsOne (AreSequenceRemarks v)
+one_sequences v = all (IsSequenceOf (is_ansi_entry v)) (λ t. one_sequence _ t.standard t.class t.name t.text) (known_texts v)
 
 one_pairs : (level : Level) (v : EntryValue) → IsOne (ArePairRemarks level v)
 one_pairs scopes.Errors v = λ r s d h. d ∙ sym h
@@ -234,14 +216,14 @@ AreOthers level bytes v =
 
 one_other : (level : Level) (bytes : List ℕ) (v : EntryValue) → IsOne (AreOthers level bytes v)
 one_other level bytes v =
-    in_turn (AreValueRemarks level v) _ (one_of_values level v) (in_turn (AreSequenceRemarks v) _ (one_sequences (is_ansi_entry v) v) (in_turn (ArePairRemarks level v) _ (one_pairs level v)
-    (in_turn (AreKeyRemarks level v) _ (one_keys level v) (in_turn (AreNameRemarks v.extended) _ (one_names v.extended) (λ x y p q. p ∙ sym q)))))
+    in_turn (AreValueRemarks level v) _ (one_of_values level v) (in_turn (AreSequenceRemarks v) _ (one_sequences v) (in_turn (ArePairRemarks level v) _ (one_pairs level v)
+    (in_turn (AreKeyRemarks level v) _ (one_keys level (entry_keys v)) (in_turn (AreNameRemarks v.extended) _ (one_names v.extended) (λ x y p q. p ∙ sym q)))))
 
 pub one_report : (level : Level) (bytes : List ℕ) (v : EntryValue) → IsOne (IsReport level bytes v)
 one_report level bytes v r s (stored, are, d) (other, also, h) =
-    let Texts : Variables → List Remark → Type 0 = λ variables. AreAll (IsItemReport level variables) (items v) in
+    let Texts : Variables → List Remark → Type 0 = λ variables. AreAll (IsTextReport level variables) (known_texts v) in
     let Report : Variables → Type 0 = λ variables. InTurn (Texts variables) (AreOthers level bytes v) s in
-    in_turn (Texts stored) (AreOthers level bytes v) (all (IsItemReport level stored) (one_item level stored) (items v)) (one_other level bytes v) r s d
+    in_turn (Texts stored) (AreOthers level bytes v) (all (IsTextReport level stored) (one_text level stored) (known_texts v)) (one_other level bytes v) r s d
     (subst Report (one_variables other stored also.0 are.0 (λ which. both_ways (also.1 which) (are.1 which))) h)
 
 pub one_lines : (level : Level) (color : Color) (before bytes : List ℕ) (v : EntryValue) → IsOne (AreLines level color before bytes v)

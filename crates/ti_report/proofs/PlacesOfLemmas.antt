@@ -1,19 +1,19 @@
 -- The places of one finding among several.
 use Rattle.std.proofs.Common.{◌≡◌, ◌∙◌, ◌+◌, ◌<◌, ◌≤◌, ℕ, suc, inl, inr, List, [], ◌∷◌, ◌++◌, ap, add-one, append_assoc, drop, drop-cons, get_or, length, refl, subst, sym}
 use Rattle.std.proofs.lemmas.List.{append-nil, drop_all}
-use Rattle.ti_lint.specs.declared.finding.Finding.{Finding}
+use Rattle.ti_lint.specs.declared.token_finding.TokenFinding.{TokenFinding}
 use Rattle.ti_lint.specs.declared.placed_finding.PlacedFinding.{PlacedFinding}
 use Rattle.ti_report.specs.Marks.{ArePlacesOf}
 use Rattle.ti_report.proofs.MarkedLemmas.{Told}
 
 -- whatever places come of those from an index on, they come after these
-pub record Going (finding : Finding) (founds : List PlacedFinding) (index : ℕ) (places : List ℕ) : Type 0 where
+pub record Going (finding : TokenFinding) (founds : List PlacedFinding) (index : ℕ) (places : List ℕ) : Type 0 where
   pub goes : (more : List ℕ) → ArePlacesOf finding (drop index founds) more → ArePlacesOf finding founds (places ++ more)
 
-pub going_start : (finding : Finding) (founds : List PlacedFinding) → Going finding founds 0 []
+pub going_start : (finding : TokenFinding) (founds : List PlacedFinding) → Going finding founds 0 []
 going_start finding founds = record { goes = λ more h. h }
 
-pub going_next : (finding : Finding) (founds : List PlacedFinding) (index : ℕ) (d : PlacedFinding) (old new : List ℕ) → index < length founds
+pub going_next : (finding : TokenFinding) (founds : List PlacedFinding) (index : ℕ) (d : PlacedFinding) (old new : List ℕ) → index < length founds
     → Told ((get_or founds index d).finding ≡ finding) (get_or founds index d).place old new → Going finding founds index old → Going finding founds (index + 1) new
 going_next finding founds index d old new within told g = record {
   goes = λ more h.
@@ -29,7 +29,7 @@ going_next finding founds index d old new within told g = record {
       ];
 }
 
-pub going_end : (finding : Finding) (founds : List PlacedFinding) (index : ℕ) (places : List ℕ) → length founds ≤ index → Going finding founds index places → ArePlacesOf finding founds places
+pub going_end : (finding : TokenFinding) (founds : List PlacedFinding) (index : ℕ) (places : List ℕ) → length founds ≤ index → Going finding founds index places → ArePlacesOf finding founds places
 going_end finding founds index places end g =
     let P : List ℕ → Type 0 = λ l. ArePlacesOf finding founds l in
     let Q : List PlacedFinding → Type 0 = λ xs. ArePlacesOf finding xs [] in

@@ -1,6 +1,8 @@
 -- Lines that are written one item after another.
-use Rattle.std.proofs.Common.{◌≡◌, ◌∙◌, ◌+◌, ◌<◌, ◌≤◌, ℕ, suc, List, [], ◌∷◌, ◌++◌, length, drop, get_or, refl, sym, ap, subst, append_assoc, add-one, drop-cons}
-use Rattle.std.proofs.lemmas.List.{append-nil, drop_all}
+use Rattle.std.proofs.Common.{◌≡◌, ◌∙◌, ◌+◌, ◌<◌, ◌≤◌, ℕ, suc, List, [], ◌∷◌, ◌++◌, length, drop, get_or, map, refl, sym, ap, ap₂, arith, false, subst, append_assoc, add-one, drop-cons}
+use Rattle.std.proofs.lemmas.List.{append-nil, drop_all, get_or-map, length-map}
+use Rattle.ti_names.specs.declared.class.Class.TheVariants.{Parameterized}
+use Rattle.ti_report.specs.declared.subject.KnownText.{KnownText}
 use Rattle.ti_report.specs.Lines.{Adds, AreAll, AreReports}
 
 -- what was written so far goes on to lines of the whole, whatever is told of the items from an index on
@@ -28,7 +30,15 @@ goes_end L xs i before out h g =
     let (lines, are, e) = g.goes [] (subst P (sym (drop_all i xs h)) refl) in
     (lines, are, sym (append-nil out) ∙ e)
 
--- ---- the same of the capabilities of a list, taken one after another
+-- ---- the same of a slice, by what its items hold
+
+-- a text for which there is none
+abbrev pub no_text : KnownText
+no_text = record {
+  subject = record { name = record { ref_ptr = (0, 0); now = [] }; text = record { ref_ptr = (0, 0); now = [] } };
+  class = Parameterized 0;
+  standard = false;
+}
 
 -- what was written so far goes on to lines of all, whatever is told of those that are left
 pub record GoesOnWith {X Y : Type 0} (L : X → List Y → Type 0) (all left : List X) (before out : List Y) : Type 0 where
@@ -37,7 +47,7 @@ pub record GoesOnWith {X Y : Type 0} (L : X → List Y → Type 0) (all left : L
 pub all_first : {X Y : Type 0} (L : X → List Y → Type 0) (all : List X) (out : List Y) → GoesOnWith L all all out out
 all_first L all out = record { goes = λ more h. (more, h, refl) }
 
-pub all_next : {X Y : Type 0} (L : X → List Y → Type 0) (all left rest : List X) (x : X) (before out new : List Y) → left ≡ x ∷ rest
+all_next : {X Y : Type 0} (L : X → List Y → Type 0) (all left rest : List X) (x : X) (before out new : List Y) → left ≡ x ∷ rest
     → GoesOnWith L all left before out → Adds (L x) out new → GoesOnWith L all rest before new
 all_next L all left rest x before out new is g (line, told, n) = record {
   goes = λ more later.
@@ -46,7 +56,24 @@ all_next L all left rest x before out new is g (line, told, n) = record {
       (lines, are, ap (λ l. l ++ more) n ∙ append_assoc out line more ∙ e);
 }
 
-pub all_end : {X Y : Type 0} (L : X → List Y → Type 0) (all left : List X) (before out : List Y) → left ≡ [] → GoesOnWith L all left before out → Adds (AreAll L all) before out
-all_end L all left before out is g =
-    let (lines, are, e) = g.goes [] (subst (λ l. AreAll L l []) (sym is) refl) in
+-- the next item, by what it holds
+pub one_more : {X Z : Type 0} (hold : Z → X) (items : List Z) (i : ℕ) (d : Z) → i < length items → drop i (map hold items) ≡ hold (get_or items i d) ∷ drop (i + 1) (map hold items)
+one_more hold items i d within =
+    let all = map hold items in
+    drop-cons all i (hold d) (omega (arith, within, length-map items hold))
+    ∙ ap₂ (λ y k. y ∷ drop k all) (get_or-map hold items i d (hold d) within) (sym (add-one i))
+
+pub all_step : {X Y Z : Type 0} (L : X → List Y → Type 0) (hold : Z → X) (items : List Z) (i : ℕ) (d : Z) (before out new : List Y) → i < length items
+    → GoesOnWith L (map hold items) (drop i (map hold items)) before out → Adds (L (hold (get_or items i d))) out new
+    → GoesOnWith L (map hold items) (drop (i + 1) (map hold items)) before new
+all_step L hold items i d before out new within g told =
+    let all = map hold items in
+    all_next L all (drop i all) (drop (i + 1) all) (hold (get_or items i d)) before out new (one_more hold items i d within) g told
+
+pub all_end : {X Y Z : Type 0} (L : X → List Y → Type 0) (hold : Z → X) (items : List Z) (i : ℕ) (before out : List Y) → length items ≤ i
+    → GoesOnWith L (map hold items) (drop i (map hold items)) before out → Adds (AreAll L (map hold items)) before out
+all_end L hold items i before out h g =
+    let all = map hold items in
+    let none : drop i all ≡ [] = drop_all i all (omega (arith, h, length-map items hold)) in
+    let (lines, are, e) = g.goes [] (subst (λ l. AreAll L l []) (sym none) refl) in
     (lines, are, sym (append-nil out) ∙ e)

@@ -1,8 +1,7 @@
 -- The derived `==` of uses tells them apart.
-use Rattle.std.proofs.Common.{◌≡◌, ◌∙◌, ◌&&◌, Bool, rules, true, false, ap, refl, nat_eq, sym, true≢false}
+use Rattle.std.proofs.Common.{◌≡◌, ◌∙◌, ◌&&◌, Bool, rules, true, false, ap, refl, sym, true≢false}
 use Rattle.std.specs.Bool.{Decides}
 use Rattle.std.specs.Cmp.{booleans_Decides}
-use Rattle.std.specs.Prelude.{◌==◌}
 use Rattle.ti_names.specs.declared.class.Class.{Class}
 use Rattle.ti_names.specs.contracts.class.ClassPartialEq as class_eq
 use Rattle.ti_lint.specs.declared.expected.TextParameters.{TextParameters}

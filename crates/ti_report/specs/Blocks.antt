@@ -9,27 +9,20 @@ use Rattle.ti_escape.specs.declared.color.Style.TheVariants as styles
 use Rattle.ti_escape.specs.Forms.{shown}
 use Rattle.ti_escape.specs.declared.form.Form.TheVariants as forms
 use Rattle.ti_escape.specs.Notation.{column, label_notation}
-use Rattle.ti_values.specs.FindingWords.{value_finding_word}
-use Rattle.ti_report.specs.Remarks.{About, OfEntry, OfName, OfText, OfTwo, Remark, What, IsWrong, IsTold}
-use Rattle.ti_report.specs.Sentences.{meaning_of, word_of}
-use Rattle.ti_report.specs.ValueSentences.{finding_told, meaning_told}
+use Rattle.ti_report.specs.Remarks.{About, Evidence, OfEntry, OfName, OfText, OfTwo, Remark}
+use Rattle.ti_report.specs.Findings.{finding_word}
+use Rattle.ti_report.specs.Sentences.{meaning}
+use Rattle.ti_report.specs.declared.finding.Finding.{Finding}
 
 -- ---- the sentence
-
-abbrev pub what_word : What → List ℕ
-what_word (IsWrong wrong) = word_of wrong
-what_word (IsTold told) = value_finding_word (finding_told told)
-
-abbrev pub what_meaning : What → List ℕ
-what_meaning (IsWrong wrong) = meaning_of wrong
-what_meaning (IsTold told) = meaning_told told
 
 -- a part in a style
 abbrev pub painted : Color → Style → List ℕ → List ℕ
 painted color style part = opening color style ++ (part ++ closing color)
 
-abbrev pub sentence : Color → What → List ℕ
-sentence color what = painted color styles.Red (what_word what) ++ (codes ": " ++ what_meaning what)
+abbrev pub sentence : Color → Finding → Evidence → List ℕ
+sentence color finding evidence =
+    painted color styles.Red (finding_word finding) ++ (codes ": " ++ meaning finding evidence)
 
 -- ---- what it is about
 
@@ -72,7 +65,7 @@ caret_line color text (place ∷ places) = indented (painted color styles.Green 
 abbrev pub remark_lines : Color → List ℕ → Remark → List ℕ
 remark_lines color prefix r =
     about_lines prefix r.about
-    ++ (caret_line color (text_of r.about) r.places ++ indented (sentence color r.what))
+    ++ (caret_line color (text_of r.about) r.places ++ indented (sentence color r.finding r.evidence))
 
 -- something stands before the first line of each
 abbrev pub report_lines : Color → List ℕ → List Remark → List ℕ

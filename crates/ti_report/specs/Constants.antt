@@ -5,14 +5,15 @@ use Rattle.ti_cap.specs.declared.language.Token.TheVariants.{CondThen}
 use Rattle.ti_cap.specs.Capability.{Spot, Takes}
 use Rattle.ti_expand.specs.Constants.{value_of}
 use Rattle.ti_lint.specs.Conditionals.{IsConstantTest}
-use Rattle.ti_report.specs.declared.wrong.Wrong.TheVariants.{ConstantTest}
-use Rattle.ti_report.specs.Remarks.{TextRemark, placed}
+use Rattle.ti_lint.specs.declared.token_finding.TokenFinding.TheVariants.{ConstantCondition}
+use Rattle.ti_report.specs.declared.finding.Finding.TheVariants as findings
+use Rattle.ti_report.specs.Remarks.{TextRemark, Value, placed}
 
 -- one remark on a `%t` if the test before it has constants alone, and none on any other token
 abbrev pub IsTestReport : List Token → Token → ℕ → List TextRemark → Type 0
 IsTestReport before token place remarks =
     ((found : IsConstantTest before) × (token ≡ CondThen)
-    × (remarks ≡ placed (place ∷ []) (ConstantTest (value_of found.test))))
+    × (remarks ≡ placed (place ∷ []) (findings.Token ConstantCondition) (Value (value_of found.test))))
     ⊎ ((¬ ((token ≡ CondThen) × IsConstantTest before)) × (remarks ≡ []))
 
 -- the tokens write the bytes that are left after those before them, and the remarks are on these tokens

@@ -6,36 +6,30 @@ use Rattle.std.specs.List.{flat_map, starts_with}
 use Rattle.std.specs.List.Sorted.{IsPermutation, IsSorted}
 use Rattle.std.specs.Ordering.{nat_cmp, ordering_then}
 use Rattle.std.specs.declared.cmp.Ordering.{Ordering}
-use Rattle.ti_words.specs.Items.{Listed, items, text_in}
 use Rattle.ti_words.specs.Value.{EntryValue}
 use Rattle.ti_names.specs.declared.class.Class.{Class}
 use Rattle.ti_names.specs.declared.class.Class.TheVariants as classes
 use Rattle.ti_lint.specs.declared.level.Level.{Level}
 use Rattle.ti_lint.specs.declared.level.Level.TheVariants as scopes
-use Rattle.ti_report.specs.declared.wrong.Wrong.{Wrong}
-use Rattle.ti_report.specs.declared.wrong.Wrong.TheVariants as wrongs
-use Rattle.ti_report.specs.Subjects.{subject_class, subject_name}
-use Rattle.ti_report.specs.Remarks.{OfTwo, IsWrong, Remark, unmarked}
+use Rattle.ti_report.specs.declared.finding.Finding.{Finding}
+use Rattle.ti_report.specs.declared.finding.Finding.TheVariants as findings
+use Rattle.ti_report.specs.Subjects.{KnownText, known_texts}
+use Rattle.ti_report.specs.Remarks.{NoEvidence, OfTwo, Remark, unmarked}
 
 -- what a key sends, and its name
 abbrev pub Key : Type 0
 Key = List ℕ × List ℕ
 
-abbrev pub is_of_key : Option Class → Bool
-is_of_key (Some classes.Key) = true
+abbrev pub is_of_key : Class → Bool
+is_of_key classes.Key = true
 is_of_key class = false
 
--- a text that is there, if it is of a key
-abbrev pub keys_if : Option Class → List ℕ → Option (List ℕ) → List Key
-keys_if class name None = []
-keys_if class name (Some text) = if is_of_key class then (text, name) ∷ [] else []
-
-abbrev pub keys_in : Listed → List Key
-keys_in (subject, item) = keys_if (subject_class subject) (subject_name subject) (text_in item)
+abbrev pub keys_in : KnownText → List Key
+keys_in t = if is_of_key t.class then (t.text, t.name) ∷ [] else []
 
 -- the keys of an entry, in the order of its capabilities
 abbrev pub entry_keys : EntryValue → List Key
-entry_keys v = flat_map keys_in (items v)
+entry_keys v = flat_map keys_in (known_texts v)
 
 -- the order of the bytes that they send, and then of their names
 abbrev pub key_cmp : Key → Key → Ordering
@@ -45,8 +39,8 @@ key_cmp (text, name) (other, its) = ordering_then (slice_cmp nat_cmp text other)
 abbrev pub is_first_part : List ℕ → List ℕ → Bool
 is_first_part text other = nat_lt (length text) (length other) && starts_with nat_eq other text
 
-abbrev pub on_two : Key → Key → Wrong → List Remark
-on_two (text, name) (other, its) wrong = unmarked (OfTwo name text its other) (IsWrong wrong)
+abbrev pub on_two : Key → Key → Finding → List Remark
+on_two (text, name) (other, its) finding = unmarked (OfTwo name text its other) finding NoEvidence
 
 -- of some keys, the first that sends a text, and the first that sends more and starts with it
 abbrev pub alike_key : List ℕ → List Key → Option Key
@@ -58,11 +52,11 @@ longer_key text keys = find (λ other. is_first_part text other.0) keys
 -- keys that send the same are told only if all is
 abbrev pub on_alike : Level → Key → Key → List Remark
 on_alike scopes.Errors one other = []
-on_alike scopes.All one other = on_two one other wrongs.AlikeKeys
+on_alike scopes.All one other = on_two one other findings.AlikeKeys
 
 abbrev pub on_longer : Key → Option Key → List Remark
 on_longer one None = []
-on_longer one (Some other) = on_two one other wrongs.KeyPrefix
+on_longer one (Some other) = on_two one other findings.KeyPrefix
 
 -- a key beside the next one that sends the same, or else beside the first of all keys that sends more
 abbrev pub on_key : Level → List Key → Key → Option Key → List Remark
@@ -75,8 +69,11 @@ on_keys level all [] = []
 on_keys level all (one ∷ rest) = on_key level all one (alike_key one.0 rest) ++ on_keys level all rest
 
 -- The keys in order. What one sends is told, once, exactly if it is the first part of what another one sends.
-pub record AreKeyRemarks (level : Level) (v : EntryValue) (remarks : List Remark) : Type 0 where
+pub record AreRemarksOnKeys (level : Level) (keys : List Key) (remarks : List Remark) : Type 0 where
   pub row : List Key
-  pub same : IsPermutation (entry_keys v) row
+  pub same : IsPermutation keys row
   pub ascends : IsSorted key_cmp row
   pub remarks_are : remarks ≡ on_keys level row row
+
+abbrev pub AreKeyRemarks : Level → EntryValue → List Remark → Type 0
+AreKeyRemarks level v = AreRemarksOnKeys level (entry_keys v)

@@ -1,6 +1,6 @@
 pub mod Remarks
 pub mod Sentences
-pub mod ValueSentences
+pub mod Findings
 pub mod Blocks
 pub mod Objects
 pub mod Marks

@@ -1,5 +1,5 @@
 -- What is told of items that are gone over in order.
-use Rattle.std.specs.Prelude.{◌≡◌, ℕ, suc, List, [], ◌∷◌, ◌++◌, Option, Some, None}
+use Rattle.std.specs.Prelude.{◌≡◌, ℕ, suc, List, [], ◌∷◌, ◌++◌}
 
 -- what is told of each item, or whatever comes of it, from an index on
 abbrev pub AreReports : {X Y : Type 0} → (ℕ → X → List Y → Type 0) → ℕ → List X → List Y → Type 0
@@ -13,11 +13,6 @@ abbrev pub AreAll : {X Y : Type 0} → (X → List Y → Type 0) → List X → 
 AreAll IsReportOf [] all = all ≡ []
 AreAll IsReportOf (x ∷ xs) all =
     (one : List _) × (more : List _) × IsReportOf x one × AreAll IsReportOf xs more × (all ≡ one ++ more)
-
--- there is none of what is not there
-abbrev pub IsIfThere : {X Y : Type 0} → (X → List Y → Type 0) → Option X → List Y → Type 0
-IsIfThere IsReportOf None all = all ≡ []
-IsIfThere IsReportOf (Some x) all = IsReportOf x all
 
 -- some of a kind come after what was there
 abbrev pub Adds : {Y : Type 0} → (List Y → Type 0) → List Y → List Y → Type 0

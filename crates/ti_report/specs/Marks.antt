@@ -2,7 +2,7 @@
 use Rattle.std.specs.Prelude.{◌≡◌, ℕ, ◌+◌, ◌<◌, ◌≤◌, ◌⊎◌, List, [], ◌∷◌, length}
 use Rattle.ti_cap.specs.declared.language.Token.{Token}
 use Rattle.ti_cap.specs.Capability.{Spot, Takes}
-use Rattle.ti_lint.specs.declared.finding.Finding.{Finding}
+use Rattle.ti_lint.specs.declared.token_finding.TokenFinding.{TokenFinding}
 use Rattle.ti_lint.specs.declared.placed_finding.PlacedFinding.{PlacedFinding}
 use Rattle.ti_lint.specs.Marks.{IsMark, IsFalseMark}
 use Rattle.ti_lint.specs.Plain.{IsDoublePercent}
@@ -30,7 +30,7 @@ AreMarked Holds text places =
 -- ---- of findings
 
 -- the places of those that are this one
-abbrev pub ArePlacesOf : Finding → List PlacedFinding → List ℕ → Type 0
+abbrev pub ArePlacesOf : TokenFinding → List PlacedFinding → List ℕ → Type 0
 ArePlacesOf finding [] places = places ≡ []
 ArePlacesOf finding (one ∷ rest) places =
     (more : List ℕ) × ArePlacesOf finding rest more × IsToldIf (one.finding ≡ finding) one.place places more

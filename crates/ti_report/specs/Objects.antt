@@ -3,7 +3,8 @@ use Rattle.std.specs.Prelude.{ℕ, List, [], ◌∷◌, codes, map}
 use Rattle.serde_json.specs.Data.{Data, unsigned, number, string, array, object, Members, no_members, member}
 use Rattle.serde_json.specs.View.{items_of}
 use Rattle.ti_escape.specs.Notation.{label_notation, notation}
-use Rattle.ti_report.specs.Blocks.{what_meaning, what_word}
+use Rattle.ti_report.specs.Findings.{finding_word}
+use Rattle.ti_report.specs.Sentences.{meaning}
 use Rattle.ti_report.specs.Remarks.{About, OfEntry, OfName, OfText, OfTwo, Remark}
 
 -- what a remark is about: a name, with its text if it has one
@@ -29,7 +30,7 @@ place_number place = number (unsigned place)
 -- the word of the finding, what it means, where in the text it is so, and what it is about
 abbrev pub remark_object : Remark → Data
 remark_object r =
-    object (member (codes "finding") (string (what_word r.what))
-    (member (codes "meaning") (string (what_meaning r.what))
+    object (member (codes "finding") (string (finding_word r.finding))
+    (member (codes "meaning") (string (meaning r.finding r.evidence))
     (member (codes "places") (list_of (map place_number r.places))
     (member (codes "subjects") (list_of (about_objects r.about)) no_members))))

@@ -1,6 +1,8 @@
--- What is told of an entry: remarks, each on a text, on two texts, on a name or on the whole entry.
-use Rattle.std.specs.Prelude.{ℕ, List, [], ◌∷◌}
-use Rattle.ti_report.specs.declared.wrong.Wrong.{Wrong}
+-- What is found in an entry: remarks, each on a text, on two texts, on a name or on the whole entry.
+use Rattle.std.specs.Prelude.{ℕ, ℤ, List, [], ◌∷◌}
+use Rattle.ti_cap.specs.declared.language.CapFault.{CapFault}
+use Rattle.ti_cap.specs.declared.parameter_set.ParameterSet.{ParameterSet}
+use Rattle.ti_report.specs.declared.finding.Finding.{Finding}
 use Rattle.ti_values.specs.declared.tried.Tried.{Tried}
 
 -- what a remark is about: a text comes with its name before it
@@ -10,54 +12,52 @@ pub data About : Type 0 where
   OfText : List ℕ → List ℕ → About
   OfTwo : List ℕ → List ℕ → List ℕ → List ℕ → About
 
--- what is wrong with what is sent for some values, with these values and what is sent for them
-pub data Told : Type 0 where
-  Empty : Tried → Told
-  Same : Tried → Tried → List ℕ → Told
-  Negative : Tried → List ℕ → Told
-  Unended : Tried → List ℕ → Told
-  Shown : Tried → List ℕ → Told
-  Ignored : List ℕ → ℕ → Told
-  Differing : List ℕ → ℕ → List ℕ → List ℕ → Told
-  Combined : Tried → List ℕ → Told
-  UnendedText : Told
-  NotTried : Told
+-- what a sentence has beside the words of its finding: a fault, a number, parameters, values with what is sent for them, or an
+-- attribute, by the name of its text, with a set of attributes
+pub data Evidence : Type 0 where
+  NoEvidence : Evidence
+  Fault : CapFault → Evidence
+  Last : ℕ → Evidence
+  Value : ℤ → Evidence
+  Parameters : ParameterSet → Evidence
+  For : Tried → Evidence
+  Sent : Tried → List ℕ → Evidence
+  SentForTwo : Tried → Tried → List ℕ → Evidence
+  Attribute : List ℕ → ℕ → Evidence
+  Lacking : List ℕ → ℕ → List ℕ → List ℕ → Evidence
 
--- what was found
-pub data What : Type 0 where
-  IsWrong : Wrong → What
-  IsTold : Told → What
-
--- what it is about, the places of the text at which it is so, and what it is
+-- what it is about, the places of the text at which it is so, what was found, and the evidence
 pub record Remark : Type 0 where
   pub about : About
   pub places : List ℕ
-  pub what : What
+  pub finding : Finding
+  pub evidence : Evidence
 
--- what is wrong with a text, whatever its name is: the places at which it is so, and what it is
+-- the same of a text, whatever its name is
 pub record TextRemark : Type 0 where
   pub places : List ℕ
-  pub wrong : Wrong
+  pub finding : Finding
+  pub evidence : Evidence
 
 -- ---- the one remark, at no place
 
-abbrev pub unmarked : About → What → List Remark
-unmarked about what = record { about = about; places = []; what = what } ∷ []
+abbrev pub unmarked : About → Finding → Evidence → List Remark
+unmarked about finding evidence = record { about = about; places = []; finding = finding; evidence = evidence } ∷ []
 
-abbrev pub on_values : List ℕ → List ℕ → Told → List Remark
-on_values name text told = unmarked (OfText name text) (IsTold told)
+abbrev pub on_values : List ℕ → List ℕ → Finding → Evidence → List Remark
+on_values name text finding evidence = unmarked (OfText name text) finding evidence
 
-abbrev pub unplaced : Wrong → List TextRemark
-unplaced wrong = record { places = []; wrong = wrong } ∷ []
+abbrev pub unplaced : Finding → Evidence → List TextRemark
+unplaced finding evidence = record { places = []; finding = finding; evidence = evidence } ∷ []
 
 -- ---- the one at some places; there is none without a place
 
-abbrev pub placed : List ℕ → Wrong → List TextRemark
-placed [] wrong = []
-placed (place ∷ places) wrong = record { places = place ∷ places; wrong = wrong } ∷ []
+abbrev pub placed : List ℕ → Finding → Evidence → List TextRemark
+placed [] _ _ = []
+placed (place ∷ places) finding evidence = record { places = place ∷ places; finding = finding; evidence = evidence } ∷ []
 
 -- ---- the same on the text with a name
 
 abbrev pub with_name : List ℕ → List ℕ → TextRemark → Remark
 with_name name text remark =
-    record { about = OfText name text; places = remark.places; what = IsWrong remark.wrong }
+    record { about = OfText name text; places = remark.places; finding = remark.finding; evidence = remark.evidence }

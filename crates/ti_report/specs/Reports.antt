@@ -1,8 +1,7 @@
 -- What is wrong with an entry.
-use Rattle.std.specs.Prelude.{◌≡◌, ◌⊎◌, ℕ, ◌↔◌, ◌==◌, Bool, Option, Some, None, List, [], ◌∷◌, length, map}
+use Rattle.std.specs.Prelude.{◌≡◌, ◌⊎◌, ℕ, ◌↔◌, ◌==◌, Bool, List, [], ◌∷◌, length, map}
 use Rattle.std.specs.List.{flat_map}
 use Rattle.ti_cap.specs.Refusal.{IsFaultless}
-use Rattle.ti_words.specs.Items.{Listed, items, text_in}
 use Rattle.ti_words.specs.Value.{EntryValue}
 use Rattle.ti_names.specs.declared.class.Class.{Class}
 use Rattle.ti_names.specs.declared.class.Class.TheVariants as classes
@@ -16,8 +15,8 @@ use Rattle.serde_json.specs.Data.{Data}
 use Rattle.ti_json.specs.Objects.{array_text}
 use Rattle.ti_report.specs.Blocks.{report_lines}
 use Rattle.ti_report.specs.Keys.{AreKeyRemarks}
-use Rattle.ti_report.specs.Lines.{AreAll, InTurn, IsIfThere}
-use Rattle.ti_report.specs.Subjects.{subject_class, subject_name}
+use Rattle.ti_report.specs.Lines.{AreAll, InTurn}
+use Rattle.ti_report.specs.Subjects.{KnownText, known_texts}
 use Rattle.ti_report.specs.Names.{AreNameRemarks}
 use Rattle.ti_report.specs.Objects.{remark_object}
 use Rattle.ti_report.specs.Pairs.{pair_remarks}
@@ -30,28 +29,13 @@ use Rattle.ti_report.specs.Whole.{whole_remarks}
 
 -- ---- the texts
 
--- a text of an entry of which something is known: its name, its bytes, and how it is used
-pub record UsedText : Type 0 where
-  pub name : List ℕ
-  pub text : List ℕ
-  pub usage : Usage
+-- the judgement of a text by its use, under its name
+abbrev pub IsUseReport : Usage → List ℕ → List ℕ → List Remark → Type 0
+IsUseReport usage name text remarks =
+    (judgement : List TextRemark) × IsJudged usage text judgement × (remarks ≡ map (with_name name text) judgement)
 
-abbrev pub used_as : Level → Variables → List ℕ → Option Class → Option (List ℕ) → Option UsedText
-used_as level stored name (Some class) (Some text) =
-    Some (record { name = name; text = text; usage = usage_of level stored name class })
-used_as level stored name class text = None
-
-abbrev pub used_text : Level → Variables → Listed → Option UsedText
-used_text level stored (subject, item) = used_as level stored (subject_name subject) (subject_class subject) (text_in item)
-
--- its judgement, under its name
-abbrev pub IsTextReport : UsedText → List Remark → Type 0
-IsTextReport t remarks =
-    (judgement : List TextRemark) × IsJudged t.usage t.text judgement × (remarks ≡ map (with_name t.name t.text) judgement)
-
--- a capability, if it is such a text
-abbrev pub IsItemReport : Level → Variables → Listed → List Remark → Type 0
-IsItemReport level stored listed = IsIfThere IsTextReport (used_text level stored listed)
+abbrev pub IsTextReport : Level → Variables → KnownText → List Remark → Type 0
+IsTextReport level stored t = IsUseReport (usage_of level stored t.name t.class) t.name t.text
 
 -- ---- what they store into
 
@@ -60,19 +44,15 @@ abbrev pub StoresAs : Class → List ℕ → ℕ → Type 0
 StoresAs (classes.Parameterized parameters) text which = IsFaultless text × IsStored text which
 StoresAs class text which = ⊥
 
-abbrev pub Stores : Option (List ℕ) → Option Class → ℕ → Type 0
-Stores (Some text) (Some class) which = StoresAs class text which
-Stores text class which = ⊥
-
--- some capability of a list stores into a variable
-abbrev pub SomeStores : List Listed → ℕ → Type 0
+-- some text of a list stores into a variable
+abbrev pub SomeStores : List KnownText → ℕ → Type 0
 SomeStores [] which = ⊥
-SomeStores (listed ∷ rest) which = Stores (text_in listed.1) (subject_class listed.0) which ⊎ SomeStores rest which
+SomeStores (t ∷ rest) which = StoresAs t.class t.text which ⊎ SomeStores rest which
 
 -- the variables into which some text stores that has parameters, and no bit for anything else
-abbrev pub AreStored : EntryValue → Variables → Type 0
-AreStored v stored =
-    HasOnlyLetters stored × ((which : ℕ) → HasVariable stored which ↔ SomeStores (items v) which)
+abbrev pub AreStored : List KnownText → Variables → Type 0
+AreStored texts stored =
+    HasOnlyLetters stored × ((which : ℕ) → HasVariable stored which ↔ SomeStores texts which)
 
 -- each pair of texts with these names
 abbrev pub ArePairRemarksOf : List NamePair → EntryValue → List Remark → Type 0
@@ -87,8 +67,8 @@ ArePairRemarks scopes.All = λ v. InTurn (ArePairRemarksOf all_pairs v) (ArePair
 -- texts, keys, names, and the whole entry that the bytes spell
 abbrev pub IsReport : Level → List ℕ → EntryValue → List Remark → Type 0
 IsReport level bytes v remarks =
-    (stored : Variables) × AreStored v stored
-    × InTurn (AreAll (IsItemReport level stored) (items v))
+    (stored : Variables) × AreStored (known_texts v) stored
+    × InTurn (AreAll (IsTextReport level stored) (known_texts v))
     (InTurn (AreValueRemarks level v)
     (InTurn (AreSequenceRemarks v)
     (InTurn (ArePairRemarks level v)

@@ -8,8 +8,8 @@ use Rattle.ti_cap.specs.Refusal.{IsFaultless, IsRefusal}
 use Rattle.ti_names.specs.declared.class.Class.{Class}
 use Rattle.ti_names.specs.declared.class.Class.TheVariants as classes
 use Rattle.ti_lint.specs.declared.expected.Expected.{Expected}
-use Rattle.ti_lint.specs.declared.finding.Finding.{Finding}
-use Rattle.ti_lint.specs.declared.finding.Finding.TheVariants.{StackUnderflow, TermcapParameter, ParameterRange, RepeatedIncrement, UnsetVariable, StackResidue, UnusedIncrement, LateIncrement, DeadStore, OperandType, NoEffect, ConstantCondition, RepeatedCondition}
+use Rattle.ti_lint.specs.declared.token_finding.TokenFinding.{TokenFinding}
+use Rattle.ti_lint.specs.declared.token_finding.TokenFinding.TheVariants.{StackUnderflow, TermcapParameter, ParameterRange, RepeatedIncrement, UnsetVariable, StackResidue, UnusedIncrement, LateIncrement, DeadStore, OperandType, NoEffect, ConstantCondition, RepeatedCondition}
 use Rattle.ti_lint.specs.declared.placed_finding.PlacedFinding.{PlacedFinding}
 use Rattle.ti_lint.specs.declared.variables.Variables.{Variables}
 use Rattle.ti_lint.specs.Found.{IsFoundAt, Precedes}
@@ -18,9 +18,9 @@ use Rattle.ti_lint.specs.TextParameters.{text_parameters}
 use Rattle.ti_lint.specs.declared.level.Level.{Level}
 use Rattle.ti_lint.specs.declared.level.Level.TheVariants as scopes
 use Rattle.ti_report.specs.declared.usage.Usage.{Usage}
-use Rattle.ti_report.specs.declared.wrong.Wrong.{Wrong}
-use Rattle.ti_report.specs.declared.wrong.Wrong.TheVariants as wrongs
-use Rattle.ti_report.specs.Remarks.{TextRemark, placed, unplaced}
+use Rattle.ti_report.specs.declared.finding.Finding.{Finding}
+use Rattle.ti_report.specs.declared.finding.Finding.TheVariants as findings
+use Rattle.ti_report.specs.Remarks.{Evidence, Fault, Last, NoEvidence, Parameters, TextRemark, placed, unplaced}
 use Rattle.ti_report.specs.Constants.{IsTestsReport}
 use Rattle.ti_report.specs.Lines.{AreReports, InTurn}
 use Rattle.ti_report.specs.Marks.{AreMarked, ArePlacesFrom, ArePlacesOf, IsSought}
@@ -58,7 +58,7 @@ expected_in usage parameters = record { parameters = parameters; texts = usage.t
 -- ---- a capability
 
 -- the findings of tokens, in the order in which they are told
-unfoldable pub all_findings : List Finding
+unfoldable pub all_findings : List TokenFinding
 all_findings =
     StackUnderflow ∷ TermcapParameter ∷ StackResidue ∷ ParameterRange ∷ RepeatedIncrement ∷ UnusedIncrement
     ∷ LateIncrement ∷ UnsetVariable ∷ DeadStore ∷ OperandType ∷ NoEffect ∷ ConstantCondition ∷ RepeatedCondition ∷ []
@@ -68,12 +68,17 @@ pub record AreFound (text : List ℕ) (expected : Expected) (founds : List Place
   pub exact : (one : PlacedFinding) → Contains founds one ↔ IsFoundAt text expected one
   pub order : AllPairs Precedes founds
 
+-- a parameter beyond the last one comes with that
+abbrev pub evidence_of : TokenFinding → ℕ → Evidence
+evidence_of ParameterRange parameters = Last parameters
+evidence_of finding parameters = NoEvidence
+
 -- a finding, at its places; but a test of constants is told alone, with its value
-abbrev pub IsFindingReport : List ℕ → ℕ → List PlacedFinding → ℕ → Finding → List TextRemark → Type 0
+abbrev pub IsFindingReport : List ℕ → ℕ → List PlacedFinding → ℕ → TokenFinding → List TextRemark → Type 0
 IsFindingReport text parameters founds index finding remarks =
     ((finding ≡ ConstantCondition) × IsTestsReport text remarks)
     ⊎ ((finding ≢ ConstantCondition) × (places : List ℕ) × ArePlacesOf finding founds places
-    × (remarks ≡ placed places (wrongs.Token finding parameters)))
+    × (remarks ≡ placed places (findings.Token finding) (evidence_of finding parameters)))
 
 -- the parameters that the text has and no path pushes
 abbrev pub AreUnused : List ℕ → ℕ → ParameterSet → Type 0
@@ -83,7 +88,7 @@ AreUnused text parameters unused =
 -- they are told if there are some, if the text may not leave them out, and if it takes none from the empty stack
 abbrev pub unused_remarks : Bool → ParameterSet → List ℕ → List TextRemark
 unused_remarks may unused (place ∷ places) = []
-unused_remarks may unused [] = if unused.mask == 0 || may then [] else unplaced (wrongs.UnusedParameters unused)
+unused_remarks may unused [] = if unused.mask == 0 || may then [] else unplaced findings.UnusedParameter (Parameters unused)
 
 abbrev pub IsUnusedReport : Bool → List ℕ → ℕ → List PlacedFinding → List TextRemark → Type 0
 IsUnusedReport may text parameters founds remarks =
@@ -101,7 +106,7 @@ IsFindingsReport usage parameters text remarks =
 abbrev pub IsCapabilityReport : Usage → ℕ → List ℕ → List TextRemark → Type 0
 IsCapabilityReport usage parameters text remarks =
     ((refused : CapRefused) × IsRefusal text refused
-    × (remarks ≡ placed (refused.place ∷ []) (wrongs.Malformed refused.fault)))
+    × (remarks ≡ placed (refused.place ∷ []) findings.Malformed (Fault refused.fault)))
     ⊎ (IsFaultless text × IsFindingsReport usage parameters text remarks)
 
 -- ---- other texts
@@ -113,31 +118,31 @@ AreEscapes text places =
     ⊎ (IsFaultless text × AreMarked (λ spot token. IsMeantToExpand token) text places)
 
 -- the remarks on the places at which something stands that should not
-abbrev pub IsPlacesReport : Sought → Wrong → List ℕ → List TextRemark → Type 0
-IsPlacesReport sought wrong text remarks =
-    (places : List ℕ) × ArePlacesFrom (IsSought text sought) 0 places × (remarks ≡ placed places wrong)
+abbrev pub IsPlacesReport : Sought → Finding → List ℕ → List TextRemark → Type 0
+IsPlacesReport sought finding text remarks =
+    (places : List ℕ) × ArePlacesFrom (IsSought text sought) 0 places × (remarks ≡ placed places finding NoEvidence)
 
 -- what only an expansion takes away
 abbrev pub IsPercentReport : List ℕ → List TextRemark → Type 0
-IsPercentReport = IsPlacesReport Percents wrongs.UninterpretedPercent
+IsPercentReport = IsPlacesReport Percents findings.UninterpretedPercent
 
 abbrev pub IsEscapeReport : List ℕ → List TextRemark → Type 0
 IsEscapeReport text remarks =
-    (places : List ℕ) × AreEscapes text places × (remarks ≡ placed places wrongs.UninterpretedEscape)
+    (places : List ℕ) × AreEscapes text places × (remarks ≡ placed places findings.UninterpretedEscape NoEvidence)
 
 -- a text that is sent as it stands
 abbrev pub IsPlainReport : List ℕ → List TextRemark → Type 0
 IsPlainReport text =
     InTurn (IsEscapeReport text)
-    (InTurn (IsPercentReport text) (IsPlacesReport FalseMark wrongs.FalseMark text))
+    (InTurn (IsPercentReport text) (IsPlacesReport FalseMark findings.FalseMark text))
 
 -- what a key sends
 abbrev pub IsKeyReport : List ℕ → List TextRemark → Type 0
-IsKeyReport text = InTurn (IsPercentReport text) (IsPlacesReport Mark wrongs.MarkInKey text)
+IsKeyReport text = InTurn (IsPercentReport text) (IsPlacesReport Mark findings.MarkInKey text)
 
 -- a list of pairs
 abbrev pub half_paired : Bool → List ℕ → List TextRemark
-half_paired has_pairs text = if has_pairs && (length text % 2 == 1) then unplaced wrongs.HalfPaired else []
+half_paired has_pairs text = if has_pairs && (length text % 2 == 1) then unplaced findings.HalfPaired NoEvidence else []
 
 -- ---- the judgement of a text
 

@@ -25,7 +25,9 @@ use Rattle.ti_names.specs.AllNames.{Place, place_in}
 use Rattle.ti_words.specs.Texts.{TextValue, AbsentText, TextOf}
 use Rattle.ti_words.specs.Value.{EntryValue}
 use Rattle.ti_report.specs.Lines.{AreReports, InTurn}
-use Rattle.ti_report.specs.Remarks.{Told, Empty, Same, Negative, Unended, Shown, Ignored, Differing, Combined, NotTried, Remark, on_values}
+use Rattle.ti_report.specs.Remarks.{Attribute, Evidence, For, Lacking, NoEvidence, Remark, Sent, SentForTwo, on_values}
+use Rattle.ti_report.specs.declared.finding.Finding.{Finding}
+use Rattle.ti_report.specs.declared.finding.Finding.TheVariants as findings
 use Rattle.ti_report.specs.Whole.{has}
 
 -- ---- what an entry has
@@ -59,101 +61,104 @@ is_ansi_entry v = is_ansi_text (text_named v (codes "cup"))
 
 -- ---- a text that was tried
 
+-- a text with its name, the values that it was tried over, and what it sends for each
+pub record Trial : Type 0 where
+  pub name : List ℕ
+  pub text : List ℕ
+  pub tried : List Tried
+  pub sent : List (List ℕ)
+
 -- the value at a place
-abbrev pub tried_at : List Tried → ℕ → Tried
-tried_at tried k = get_or tried k (Number 0)
+abbrev pub tried_at : Trial → ℕ → Tried
+tried_at t k = get_or t.tried k (Number 0)
 
--- what is told, nothing if nothing was found
-abbrev pub told_of : {X : Type 0} → List ℕ → List ℕ → (X → Told) → Option X → List Remark
-told_of name text told None = []
-told_of name text told (Some found) = on_values name text (told found)
+-- the remark with the evidence of what was found, none if nothing was
+abbrev pub remark_of : {X : Type 0} → Trial → Finding → (X → Evidence) → Option X → List Remark
+remark_of t finding evidence None = []
+remark_of t finding evidence (Some found) = on_values t.name t.text finding (evidence found)
 
--- something is found by which values it is so
-abbrev pub IsToldOf : {X : Type 0} → (Option X → Type 0) → (X → Told) → List ℕ → List ℕ → List Remark → Type 0
-IsToldOf {X} IsFound told name text remarks =
-    (found : Option X) × IsFound found × (remarks ≡ told_of name text told found)
+abbrev pub IsRemarkOf : {X : Type 0} → (Option X → Type 0) → Finding → (X → Evidence) → Trial → List Remark → Type 0
+IsRemarkOf {X} IsFound finding evidence t remarks =
+    (found : Option X) × IsFound found × (remarks ≡ remark_of t finding evidence found)
 
-abbrev pub IsEmptyReport : List ℕ → List ℕ → List Tried → List (List ℕ) → List Remark → Type 0
-IsEmptyReport name text tried sent =
-    IsToldOf (IsFirstOf (IsEmptyAt sent)) (λ k. Empty (tried_at tried k)) name text
+abbrev pub IsEmptyReport : Trial → List Remark → Type 0
+IsEmptyReport t = IsRemarkOf (IsFirstOf (IsEmptyAt t.sent)) findings.EmptyOutput (λ k. For (tried_at t k)) t
 
-abbrev pub same_told : List Tried → List (List ℕ) → SameAt → Told
-same_told tried sent found =
-    Same (tried_at tried found.one) (tried_at tried found.other) (sent_at sent found.other)
+abbrev pub same_evidence : Trial → SameAt → Evidence
+same_evidence t found = SentForTwo (tried_at t found.one) (tried_at t found.other) (sent_at t.sent found.other)
 
-abbrev pub IsSameReport : List ℕ → List ℕ → List Tried → List (List ℕ) → List Remark → Type 0
-IsSameReport name text tried sent = IsToldOf (IsFirstSame sent) (same_told tried sent) name text
+abbrev pub IsSameReport : Trial → List Remark → Type 0
+IsSameReport t = IsRemarkOf (IsFirstSame t.sent) findings.SameOutput (same_evidence t) t
 
-abbrev pub IsNegativeReport : List ℕ → List ℕ → List Tried → List (List ℕ) → List Remark → Type 0
-IsNegativeReport name text tried sent =
-    IsToldOf (IsFirstOf (IsNegativeAt text tried)) (λ k. Negative (tried_at tried k) (sent_at sent k)) name text
+-- the first value for which it is so, with what is sent for it
+abbrev pub sent_evidence : Trial → ℕ → Evidence
+sent_evidence t k = Sent (tried_at t k) (sent_at t.sent k)
 
-abbrev pub IsUnendedFound : List ℕ → List ℕ → List Tried → List (List ℕ) → List Remark → Type 0
-IsUnendedFound name text tried sent =
-    IsToldOf (IsFirstOf (IsUnendedAt sent)) (λ k. Unended (tried_at tried k) (sent_at sent k)) name text
+abbrev pub IsSentReport : (ℕ → Type 0) → Finding → Trial → List Remark → Type 0
+IsSentReport IsAt finding t = IsRemarkOf (IsFirstOf IsAt) finding (sent_evidence t) t
 
-abbrev pub IsShownReport : List ℕ → List ℕ → List Tried → List (List ℕ) → List Remark → Type 0
-IsShownReport name text tried sent =
-    IsToldOf (IsFirstOf (IsShownAt sent)) (λ k. Shown (tried_at tried k) (sent_at sent k)) name text
+abbrev pub IsNegativeReport : Trial → List Remark → Type 0
+IsNegativeReport t = IsSentReport (IsNegativeAt t.text t.tried) findings.NegativeNumber t
 
-abbrev pub IsCombinationReport : List ℕ → List ℕ → List Tried → List (List ℕ) → List Remark → Type 0
-IsCombinationReport name text tried sent =
-    IsToldOf (IsFirstOf (IsCombinationAt sent)) (λ k. Combined (tried_at tried k) (sent_at sent k)) name text
+abbrev pub IsShownReport : Trial → List Remark → Type 0
+IsShownReport t = IsSentReport (IsShownAt t.sent) findings.ShownText t
+
+abbrev pub IsCombinationReport : Trial → List Remark → Type 0
+IsCombinationReport t = IsSentReport (IsCombinationAt t.sent) findings.Combination t
 
 -- only of a terminal of ECMA-48
-abbrev pub IsUnendedReport : Bool → List ℕ → List ℕ → List Tried → List (List ℕ) → List Remark → Type 0
-IsUnendedReport false name text tried sent = λ remarks. remarks ≡ []
-IsUnendedReport true name text tried sent = IsUnendedFound name text tried sent
+abbrev pub IsUnendedReport : Bool → Trial → List Remark → Type 0
+IsUnendedReport false t = λ remarks. remarks ≡ []
+IsUnendedReport true t = IsSentReport (IsUnendedAt t.sent) findings.UnendedSequence t
 
 -- an attribute whose text is there, and which `sgr` ignores
-abbrev pub ignored_if : Bool → List ℕ → List ℕ → List ℕ → ℕ → List Remark
-ignored_if told name text attribute set = if told then on_values name text (Ignored attribute set) else []
+abbrev pub ignored_if : Bool → Trial → List ℕ → ℕ → List Remark
+ignored_if ignored t attribute set =
+    if ignored then on_values t.name t.text findings.IgnoredAttribute (Attribute attribute set) else []
 
-abbrev pub on_ignored : EntryValue → List ℕ → List ℕ → List (List ℕ) → List ℕ × ℕ → List Remark
-on_ignored v name text sent (attribute, set) =
-    ignored_if (has v attribute && is_ignored sent set) name text attribute set
+abbrev pub on_ignored : EntryValue → Trial → List ℕ × ℕ → List Remark
+on_ignored v t (attribute, set) = ignored_if (has v attribute && is_ignored t.sent set) t attribute set
 
 -- the text that starts an attribute, if what `sgr` sends for it lacks a part of that
 abbrev pub differing_text : List (List ℕ) → ℕ → TextValue → Option (List ℕ)
 differing_text sent set (TextOf its) = if is_different sent set (without_marks its) then Some its else None
 differing_text sent set its = None
 
-abbrev pub on_differing : EntryValue → List ℕ → List ℕ → List (List ℕ) → List ℕ × ℕ → List Remark
-on_differing v name text sent (attribute, set) =
-    told_of name text (λ its. Differing attribute set (sent_at sent set) its) (differing_text sent set (text_named v attribute))
+abbrev pub on_differing : EntryValue → Trial → List ℕ × ℕ → List Remark
+on_differing v t (attribute, set) =
+    remark_of t findings.DifferingAttribute (λ its. Lacking attribute set (sent_at t.sent set) its)
+    (differing_text t.sent set (text_named v attribute))
 
 -- what is wrong with what was sent for numbers, and for sets of attributes
-abbrev pub AreNumbersRemarks : EntryValue → List ℕ → List ℕ → List Tried → List (List ℕ) → List Remark → Type 0
-AreNumbersRemarks v name text tried sent =
-    InTurn (IsEmptyReport name text tried sent)
-    (InTurn (IsSameReport name text tried sent)
-    (InTurn (IsNegativeReport name text tried sent) (IsUnendedReport (is_ansi_entry v) name text tried sent)))
+abbrev pub AreNumbersRemarks : Bool → Trial → List Remark → Type 0
+AreNumbersRemarks ansi t =
+    InTurn (IsEmptyReport t) (InTurn (IsSameReport t) (InTurn (IsNegativeReport t) (IsUnendedReport ansi t)))
 
-abbrev pub AreAttributesRemarks : EntryValue → List ℕ → List ℕ → List Tried → List (List ℕ) → List Remark → Type 0
-AreAttributesRemarks v name text tried sent =
-    InTurn (λ remarks. remarks ≡ flat_map (on_ignored v name text sent) attributes)
-    (InTurn (λ remarks. remarks ≡ flat_map (on_differing v name text sent) attributes)
-    (InTurn (IsCombinationReport name text tried sent)
-    (InTurn (IsShownReport name text tried sent) (IsUnendedReport (is_ansi_entry v) name text tried sent))))
+abbrev pub AreAttributesRemarks : EntryValue → Trial → List Remark → Type 0
+AreAttributesRemarks v t =
+    InTurn (λ remarks. remarks ≡ flat_map (on_ignored v t) attributes)
+    (InTurn (λ remarks. remarks ≡ flat_map (on_differing v t) attributes)
+    (InTurn (IsCombinationReport t) (InTurn (IsShownReport t) (IsUnendedReport (is_ansi_entry v) t))))
 
 -- what is wrong with what a text sends for numbers, for sets of attributes, and for the values of a range
-abbrev pub IsNumbersReport : EntryValue → List ℕ → List ℕ → Range → List Remark → Type 0
-IsNumbersReport v name text range remarks =
-    (sent : List (List ℕ)) × AreSent text (values range) sent × AreNumbersRemarks v name text (values range) sent remarks
+abbrev pub IsNumbersReport : Bool → List ℕ → List ℕ → Range → List Remark → Type 0
+IsNumbersReport ansi name text range remarks =
+    (sent : List (List ℕ)) × AreSent text (values range) sent
+    × AreNumbersRemarks ansi (record { name = name; text = text; tried = values range; sent = sent }) remarks
 
 abbrev pub IsAttributesReport : EntryValue → List ℕ → List ℕ → List Remark → Type 0
 IsAttributesReport v name text remarks =
     (sent : List (List ℕ)) × AreSent text (values ranges.Attributes) sent
-    × AreAttributesRemarks v name text (values ranges.Attributes) sent remarks
+    × AreAttributesRemarks v (record { name = name; text = text; tried = values ranges.Attributes; sent = sent }) remarks
 
 abbrev pub IsRangeReport : EntryValue → List ℕ → List ℕ → Range → List Remark → Type 0
 IsRangeReport v name text ranges.Attributes = IsAttributesReport v name text
-IsRangeReport v name text range = IsNumbersReport v name text range
+IsRangeReport v name text range = IsNumbersReport (is_ansi_entry v) name text range
 
 -- a text that is not tried is told only if all is
 abbrev pub on_not_tried : Level → List ℕ → List ℕ → List Remark
 on_not_tried scopes.Errors name text = []
-on_not_tried scopes.All name text = on_values name text NotTried
+on_not_tried scopes.All name text = on_values name text findings.NotTried NoEvidence
 
 abbrev pub IsShortReport : Level → EntryValue → List ℕ → List ℕ → Range → List Remark → Type 0
 IsShortReport level v name text range remarks =

@@ -12,10 +12,10 @@ use Rattle.ti_words.specs.Texts.{TextValue, AbsentText, TextOf}
 use Rattle.ti_words.specs.Value.{EntryValue}
 use Rattle.ti_draft.specs.Canonical.{canonical}
 use Rattle.ti_draft.specs.EncodeFaults.{encode_fault}
-use Rattle.ti_report.specs.declared.wrong.Wrong.{Wrong}
-use Rattle.ti_report.specs.declared.wrong.Wrong.TheVariants as wrongs
+use Rattle.ti_report.specs.declared.finding.Finding.{Finding}
+use Rattle.ti_report.specs.declared.finding.Finding.TheVariants as findings
 use Rattle.ti_report.specs.Bases.{bases_differ}
-use Rattle.ti_report.specs.Remarks.{OfEntry, IsWrong, Remark, unmarked}
+use Rattle.ti_report.specs.Remarks.{NoEvidence, OfEntry, Remark, unmarked}
 
 -- ---- what an entry has
 
@@ -69,16 +69,16 @@ is_canonical bytes v = is_none (encode_fault v) && bytes_eq bytes (canonical v)
 -- ---- the remarks
 
 -- what is wrong with the entry, if it is
-abbrev pub told_if : Bool → Wrong → List Remark
-told_if told wrong = if told then unmarked OfEntry (IsWrong wrong) else []
+abbrev pub found_if : Bool → Finding → List Remark
+found_if found finding = if found then unmarked OfEntry finding NoEvidence else []
 
 abbrev pub color_remarks : EntryValue → List Remark
 color_remarks v =
-    told_if (colors_stay v) wrongs.ColorsStay
-    ++ (told_if (has_no_colors v) wrongs.NoColors ++ told_if (colors_are_fixed v) wrongs.ColorsAreFixed)
+    found_if (colors_stay v) findings.ColorsStay
+    ++ (found_if (has_no_colors v) findings.NoColors ++ found_if (colors_are_fixed v) findings.ColorsAreFixed)
 
 -- the remarks on an entry that the bytes spell
 abbrev pub whole_remarks : List ℕ → EntryValue → List Remark
 whole_remarks bytes v =
     color_remarks v
-    ++ (told_if (not (is_canonical bytes v)) wrongs.Layout ++ told_if (bases_differ bytes) wrongs.Base)
+    ++ (found_if (not (is_canonical bytes v)) findings.Layout ++ found_if (bases_differ bytes) findings.Base)

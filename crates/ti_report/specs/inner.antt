@@ -2,4 +2,3 @@
 pub mod Held
 pub mod Lent
 pub mod Neighbours
-pub mod PlainMeaning

@@ -7,14 +7,17 @@ ghost use Rattle.ti_values.specs.Sent.{texts_of};
 ghost use Rattle.ti_report.specs.Lines.{Adds};
 ghost use Rattle.ti_report.specs.Values.{AreAttributesRemarks, IsCombinationReport, IsShownReport, differing_text as the_differing_text, ignored_if, on_differing, on_ignored, text_named};
 ghost use Rattle.ti_report.specs.Whole.{has};
+ghost use Rattle.ti_report.specs.inner.Held.{trial_held};
 
 use crate::colors::has;
+use crate::finding::Finding;
 use crate::lookup::{is_ansi_entry, text_named};
-use crate::remark::{NamedText, Remark, Told, push_told};
-use crate::sent::{copy_of, push_unended, tried_at};
+use crate::remark::Evidence;
+use crate::report::Report;
+use crate::sent::Trial;
 use std::alloc::{AllocError, Allocator};
 use ti_entry::Entry;
-use ti_values::{Tried, attributes, first_combination, first_shown, is_different, is_ignored};
+use ti_values::{attributes, first_combination, first_shown, is_different, is_ignored};
 use ti_words::Text;
 
 /// The text that starts an attribute, if what is sent for it lacks a part of that.
@@ -39,163 +42,122 @@ fn differing_text<'a, A: Allocator + Copy>(
     }
 }
 
-/// Adds the remark on an attribute that is not sent as its text is.
-fn push_differing<'a, A: Allocator + Copy>(
-    alloc: A,
-    out: &mut Vec<Remark<'a, A>, A>,
-    entry: &Entry<'a>,
-    subject: &NamedText<'a>,
-    sent: &[Vec<u8, A>],
-    name: &'static str,
-    set: u16,
-) -> Result<(), AllocError>
-    ensures { OnOk result (out.new.items ≡ out.old.items ++ on_differing entry.now
-        subject.now.name.now subject.now.text.now (texts_of sent.now) (name.now, set)) }
-{
-    match differing_text(alloc, entry, sent, name, set)? {
-        None => Ok(()),
-        Some(text) => {
-            let its = Vec::from_slice(alloc, text)?;
-            let sent = copy_of(alloc, sent, usize::from(set))?;
-            push_told(alloc, out, subject, Told::Differing(name, set, sent, its))
+impl<'a, A: Allocator + Copy> Report<'a, A> {
+    /// Adds the remark on an attribute that is not sent as its text is.
+    fn push_differing(
+        &mut self,
+        entry: &Entry<'a>,
+        trial: &Trial<'_, 'a, A>,
+        attribute: (&'static str, u16),
+    ) -> Result<(), AllocError>
+        ensures { OnOk result (self.new ≡ self.old
+            ++ on_differing entry.now (trial_held trial.now) (attribute.entry.0.now, attribute.entry.1)) }
+    {
+        let (name, set) = attribute;
+        match differing_text(self.allocator(), entry, trial.sent, name, set)? {
+            None => Ok(()),
+            Some(text) => {
+                let its = Vec::from_slice(self.allocator(), text)?;
+                let sent = trial.copy_of(self.allocator(), usize::from(set))?;
+                let evidence = Evidence::Lacking(name, set, sent, its);
+                self.push_on_values(&trial.subject, Finding::DifferingAttribute, evidence)
+            }
         }
     }
-}
 
-/// Adds the remarks on all attributes that are not sent as their texts are.
-fn push_all_differing<'a, A: Allocator + Copy>(
-    alloc: A,
-    out: &mut Vec<Remark<'a, A>, A>,
-    entry: &Entry<'a>,
-    subject: &NamedText<'a>,
-    sent: &[Vec<u8, A>],
-) -> Result<(), AllocError>
-    ensures { OnOk result (out.new.items ≡ out.old.items ++ flat_map (on_differing entry.now
-        subject.now.name.now subject.now.text.now (texts_of sent.now)) attributes) }
-{
-    'attributes: for (name, set) in attributes() {
-        push_differing(alloc, out, entry, subject, sent, name, *set)?;
-    }
-    Ok(())
-}
-
-/// Adds the remark on a set for which what is sent lacks what an attribute sends alone.
-fn push_combination<'a, A: Allocator + Copy>(
-    alloc: A,
-    out: &mut Vec<Remark<'a, A>, A>,
-    subject: &NamedText<'a>,
-    tried: &[Tried],
-    sent: &[Vec<u8, A>],
-) -> Result<(), AllocError>
-    ensures { OnOk result (Adds (IsCombinationReport subject.now.name.now
-        subject.now.text.now tried.now (texts_of sent.now)) out.old.items out.new.items) }
-{
-    match first_combination(alloc, sent)? {
-        None => Ok(()),
-        Some(place) => {
-            let text = copy_of(alloc, sent, place)?;
-            let told = Told::Combined(tried_at(tried, place), text);
-            push_told(alloc, out, subject, told)?;
-            Ok(())
+    /// Adds the remarks on all attributes that are not sent as their texts are.
+    fn push_all_differing(
+        &mut self,
+        entry: &Entry<'a>,
+        trial: &Trial<'_, 'a, A>,
+    ) -> Result<(), AllocError>
+        ensures { OnOk result (self.new
+            ≡ self.old ++ flat_map (on_differing entry.now (trial_held trial.now)) attributes) }
+    {
+        'attributes: for (name, set) in attributes() {
+            self.push_differing(entry, trial, (*name, *set))?;
         }
+        Ok(())
     }
-}
 
-/// Adds the remark on a set of attributes for which something is sent that shows.
-fn push_shown_text<'a, A: Allocator + Copy>(
-    alloc: A,
-    out: &mut Vec<Remark<'a, A>, A>,
-    subject: &NamedText<'a>,
-    tried: &[Tried],
-    sent: &[Vec<u8, A>],
-) -> Result<(), AllocError>
-    ensures { OnOk result (Adds (IsShownReport subject.now.name.now
-        subject.now.text.now tried.now (texts_of sent.now)) out.old.items out.new.items) }
-{
-    match first_shown(sent) {
-        None => Ok(()),
-        Some(place) => {
-            let text = copy_of(alloc, sent, place)?;
-            push_told(
-                alloc,
-                out,
-                subject,
-                Told::Shown(tried_at(tried, place), text),
-            )?;
-            Ok(())
-        }
+    /// Adds the remark on a set for which what is sent lacks what an attribute sends alone.
+    fn push_combination(&mut self, trial: &Trial<'_, 'a, A>) -> Result<(), AllocError>
+        ensures { OnOk result
+            (Adds (IsCombinationReport (trial_held trial.now)) self.old self.new) }
+    {
+        let found = first_combination(self.allocator(), trial.sent)?;
+        self.push_sent(trial, Finding::Combination, found)
     }
-}
 
-/// Adds the remark on an attribute, if it is told.
-fn push_ignored<'a, A: Allocator + Copy>(
-    alloc: A,
-    out: &mut Vec<Remark<'a, A>, A>,
-    told: bool,
-    subject: &NamedText<'a>,
-    name: &'static str,
-    set: u16,
-) -> Result<(), AllocError>
-    ensures { OnOk result (out.new.items ≡ out.old.items ++ ignored_if told
-        subject.now.name.now subject.now.text.now name.now set) }
-{
-    if !told {
-        return Ok(());
+    /// Adds the remark on a set of attributes for which something is sent that shows.
+    fn push_shown_text(&mut self, trial: &Trial<'_, 'a, A>) -> Result<(), AllocError>
+        ensures { OnOk result (Adds (IsShownReport (trial_held trial.now)) self.old self.new) }
+    {
+        let found = first_shown(trial.sent);
+        self.push_sent(trial, Finding::ShownText, found)
     }
-    push_told(alloc, out, subject, Told::Ignored(name, set))?;
-    Ok(())
 }
 
 /// Whether an attribute is ignored whose text is there.
-fn is_told<A: Allocator>(entry: &Entry<'_>, sent: &[Vec<u8, A>], name: &str, set: u16) -> bool
+fn is_ignored_text<A: Allocator>(
+    entry: &Entry<'_>,
+    sent: &[Vec<u8, A>],
+    name: &str,
+    set: u16,
+) -> bool
     ensures { result ≡ has entry.now name.now && is_ignored (texts_of sent.now) set }
 {
     has(entry, name) && is_ignored(sent, set)
 }
 
-/// Adds the remarks on all attributes that are ignored.
-fn push_all_ignored<'a, A: Allocator + Copy>(
-    alloc: A,
-    out: &mut Vec<Remark<'a, A>, A>,
-    entry: &Entry<'a>,
-    subject: &NamedText<'a>,
-    sent: &[Vec<u8, A>],
-) -> Result<(), AllocError>
-    ensures { OnOk result (out.new.items ≡ out.old.items ++ flat_map (on_ignored entry.now
-        subject.now.name.now subject.now.text.now
-        (texts_of sent.now)) attributes) }
-{
-    'attributes: for (name, set) in attributes() {
-        push_ignored(
-            alloc,
-            out,
-            is_told(entry, sent, name, *set),
-            subject,
-            name,
-            *set,
-        )?;
+impl<'a, A: Allocator + Copy> Report<'a, A> {
+    /// Adds the remark on an attribute, if it is ignored.
+    fn push_ignored(
+        &mut self,
+        ignored: bool,
+        trial: &Trial<'_, 'a, A>,
+        attribute: (&'static str, u16),
+    ) -> Result<(), AllocError>
+        ensures { OnOk result (self.new ≡ self.old
+            ++ ignored_if ignored (trial_held trial.now) attribute.entry.0.now attribute.entry.1) }
+    {
+        if !ignored {
+            return Ok(());
+        }
+        let evidence = Evidence::Attribute(attribute.0, attribute.1);
+        self.push_on_values(&trial.subject, Finding::IgnoredAttribute, evidence)
     }
-    Ok(())
-}
 
-/// Adds the remarks on what is sent for sets of attributes.
-pub fn push_attributes_remarks<'a, A: Allocator + Copy>(
-    alloc: A,
-    out: &mut Vec<Remark<'a, A>, A>,
-    entry: &Entry<'a>,
-    subject: &NamedText<'a>,
-    tried: &[Tried],
-    sent: &[Vec<u8, A>],
-) -> Result<(), AllocError>
-    ensures { OnOk result (Adds (AreAttributesRemarks entry.now
-        subject.now.name.now subject.now.text.now tried.now
-        (texts_of sent.now)) out.old.items out.new.items) }
-{
-    let ansi = is_ansi_entry(entry);
-    push_all_ignored(alloc, out, entry, subject, sent)?;
-    push_all_differing(alloc, out, entry, subject, sent)?;
-    push_combination(alloc, out, subject, tried, sent)?;
-    push_shown_text(alloc, out, subject, tried, sent)?;
-    push_unended(alloc, out, ansi, subject, tried, sent)?;
-    Ok(())
+    /// Adds the remarks on all attributes that are ignored.
+    fn push_all_ignored(
+        &mut self,
+        entry: &Entry<'a>,
+        trial: &Trial<'_, 'a, A>,
+    ) -> Result<(), AllocError>
+        ensures { OnOk result (self.new
+            ≡ self.old ++ flat_map (on_ignored entry.now (trial_held trial.now)) attributes) }
+    {
+        'attributes: for (name, set) in attributes() {
+            let ignored = is_ignored_text(entry, trial.sent, name, *set);
+            self.push_ignored(ignored, trial, (*name, *set))?;
+        }
+        Ok(())
+    }
+
+    /// Adds the remarks on what is sent for sets of attributes.
+    pub fn push_attributes_remarks(
+        &mut self,
+        entry: &Entry<'a>,
+        trial: &Trial<'_, 'a, A>,
+    ) -> Result<(), AllocError>
+        ensures { OnOk result
+            (Adds (AreAttributesRemarks entry.now (trial_held trial.now)) self.old self.new) }
+    {
+        self.push_all_ignored(entry, trial)?;
+        self.push_all_differing(entry, trial)?;
+        self.push_combination(trial)?;
+        self.push_shown_text(trial)?;
+        self.push_unended(is_ansi_entry(entry), trial)?;
+        Ok(())
+    }
 }

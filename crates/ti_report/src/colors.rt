@@ -4,8 +4,8 @@ ghost use Rattle.std.specs.Prelude.{◌≡◌, ◌++◌, OnOk};
 ghost use Rattle.ti_words.specs.Texts.{text_value};
 ghost use Rattle.ti_report.specs.Whole.{color_remarks, colors_are_fixed, colors_stay, has, has_at, has_no_colors, is_above_0, is_there};
 
-use crate::remark::{Remark, push_if};
-use crate::wrong::Wrong;
+use crate::finding::Finding;
+use crate::report::Report;
 use std::alloc::{AllocError, Allocator};
 use ti_entry::Entry;
 use ti_names::NameTable;
@@ -74,16 +74,14 @@ fn colors_are_fixed(entry: &Entry<'_>) -> bool
     has(entry, "ccc") && !(has(entry, "initc") || has(entry, "initp"))
 }
 
-/// Adds the remarks on the colors.
-pub(crate) fn push_colors<'a, A: Allocator + Copy>(
-    alloc: A,
-    out: &mut Vec<Remark<'a, A>, A>,
-    entry: &Entry<'a>,
-) -> Result<(), AllocError>
-    ensures { OnOk result (out.new.items ≡ out.old.items ++ color_remarks entry.now) }
-{
-    push_if(alloc, out, colors_stay(entry), Wrong::ColorsStay)?;
-    push_if(alloc, out, has_no_colors(entry), Wrong::NoColors)?;
-    push_if(alloc, out, colors_are_fixed(entry), Wrong::ColorsAreFixed)?;
-    Ok(())
+impl<'a, A: Allocator + Copy> Report<'a, A> {
+    /// Adds the remarks on the colors.
+    pub(crate) fn push_colors(&mut self, entry: &Entry<'a>) -> Result<(), AllocError>
+        ensures { OnOk result (self.new ≡ self.old ++ color_remarks entry.now) }
+    {
+        self.push_if(colors_stay(entry), Finding::ColorsStay)?;
+        self.push_if(has_no_colors(entry), Finding::NoColors)?;
+        self.push_if(colors_are_fixed(entry), Finding::ColorsAreFixed)?;
+        Ok(())
+    }
 }

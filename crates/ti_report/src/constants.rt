@@ -7,12 +7,13 @@ ghost use Rattle.ti_lint.specs.Conditionals.{IsConstantTest};
 ghost use Rattle.ti_report.specs.Constants.{IsTestReport, IsTestsReport};
 ghost use Rattle.ti_report.specs.Lines.{Adds};
 
+use crate::finding::Finding;
+use crate::remark::Evidence;
 use crate::text_remarks::TextRemarks;
-use crate::wrong::Wrong;
 use std::alloc::{AllocError, Allocator};
 use ti_cap::{Capability, Token};
 use ti_expand::constant_value;
-use ti_lint::constant_test;
+use ti_lint::{TokenFinding, constant_test};
 
 /// The test of constants before a token, if it is a `%t`.
 fn test_of(before: &[Token], token: Token) -> Option<&[Token]>
@@ -39,7 +40,8 @@ impl<A: Allocator + Copy> TextRemarks<A> {
         let value = constant_value(self.allocator(), test)?;
         let mut places = Vec::new(self.allocator());
         places.push(place)?;
-        self.push_at(places, Wrong::ConstantTest(value))?;
+        let finding = Finding::Token(TokenFinding::ConstantCondition);
+        self.push_at(places, finding, Evidence::Value(value))?;
         Ok(())
     }
 

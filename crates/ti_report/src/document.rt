@@ -6,14 +6,15 @@ ghost use Rattle.serde_json.specs.Data.{Data, array, no_members};
 ghost use Rattle.serde_json.specs.View.{items_of};
 ghost use Rattle.ti_escape.specs.Laws.{is_printable};
 ghost use Rattle.ti_json.specs.Printed.{Prints, all_tokens, data_tokens};
-ghost use Rattle.ti_report.specs.Blocks.{what_meaning};
+ghost use Rattle.ti_report.specs.Sentences.{meaning};
 ghost use Rattle.ti_report.specs.Objects.{about_objects, place_number, remark_object, subject_object, text_object};
 ghost use Rattle.ti_report.specs.Reports.{AreFindings, IsReportJson};
-ghost use Rattle.ti_report.specs.inner.Held.{about_held, what_held};
+ghost use Rattle.ti_report.specs.inner.Held.{about_held, evidence_held};
 
-use crate::block::{push_meaning_of, word_of_what};
-use crate::remark::{About, NamedText, Remark, What};
-use crate::report::remarks_of;
+use crate::finding::Finding;
+use crate::remark::{About, Evidence, NamedText, Remark};
+use crate::report::report_of;
+use crate::sentence::push_meaning;
 use crate::trials::Trials;
 use std::alloc::{AllocError, Allocator, Global};
 use ti_entry::Entry;
@@ -21,12 +22,16 @@ use ti_json::Printer;
 use ti_lint::Level;
 
 /// What it means.
-fn meaning_of<A: Allocator>(alloc: A, what: &What<A>) -> Result<Vec<u8, A>, AllocError>
-    ensures { IfOk result (λ meaning. meaning.items ≡ what_meaning (what_held what.now)) }
+fn meaning_of<A: Allocator>(
+    alloc: A,
+    finding: Finding,
+    evidence: &Evidence<A>,
+) -> Result<Vec<u8, A>, AllocError>
+    ensures { IfOk result (λ text. text.items ≡ meaning finding (evidence_held evidence.now)) }
 {
-    let mut meaning = Vec::new(alloc);
-    push_meaning_of(&mut meaning, what)?;
-    Ok(meaning)
+    let mut text = Vec::new(alloc);
+    push_meaning(&mut text, finding, evidence)?;
+    Ok(text)
 }
 
 /// Prints places.
@@ -81,9 +86,9 @@ fn print_remark<A: Allocator>(
 ) -> Result<(), AllocError>
     ensures { OnOk result (Prints printer.old printer.new (data_tokens (remark_object remark.now))) }
 {
-    let meaning = meaning_of(alloc, remark.what())?;
+    let meaning = meaning_of(alloc, remark.finding(), remark.evidence())?;
     printer.begin_object();
-    printer.word("finding", word_of_what(remark.what()));
+    printer.word("finding", remark.finding().word());
     printer.printable("meaning", meaning.as_slice());
     printer.key("places");
     printer.begin_list();
@@ -129,9 +134,10 @@ pub fn print_report<A: Allocator + Copy>(
         × AreFindings level bytes.now entry.now sound objects
         × Prints printer.old printer.new (data_tokens (array (items_of objects)))) }
 {
-    let remarks = remarks_of(alloc, trials, level, bytes, entry)?;
+    let report = report_of(alloc, trials, level, bytes, entry)?;
+    let remarks = report.remarks();
     printer.begin_list();
-    print_remarks(printer, alloc, remarks.as_slice())?;
+    print_remarks(printer, alloc, remarks)?;
     printer.end_list();
     Ok(remarks.is_empty())
 }

@@ -1,59 +1,55 @@
 //! What keys send. After what is the first part of another key's text a program has to wait for what may follow.
 
+ghost use Rattle.std.specs.List.{flat_map};
 ghost use Rattle.std.specs.Prelude.{◌≡◌, ◌++◌, OnOk, IfOk};
-ghost use Rattle.ti_report.specs.Keys.{AreKeyRemarks, entry_keys, is_first_part, is_of_key, keys_in, on_alike, on_two};
+ghost use Rattle.ti_report.specs.Keys.{AreRemarksOnKeys, is_first_part, is_of_key, keys_in, on_alike, on_two};
 ghost use Rattle.ti_report.specs.Lines.{Adds};
+ghost use Rattle.ti_report.specs.inner.Held.{text_held, texts_held};
 ghost use Rattle.ti_report.specs.inner.Lent.{key_lent, keys_lent};
 ghost use Rattle.ti_report.specs.inner.Neighbours.{on_neighbours, on_row};
-ghost use Rattle.ti_words.specs.Items.{item_value, subject_value};
 
-use crate::remark::{NamedText, Remark, push_on_two};
-use crate::subject::{subject_class, subject_name};
-use crate::wrong::Wrong;
+use crate::finding::Finding;
+use crate::remark::NamedText;
+use crate::report::Report;
+use crate::subject::KnownText;
 use std::alloc::{AllocError, Allocator};
-use ti_entry::Entry;
 use ti_lint::Level;
 use ti_names::Class;
-use ti_words::{Item, Subject};
 
 /// Whether a text is what a key sends.
-fn is_of_key(class: Option<Class>) -> bool
+fn is_of_key(class: Class) -> bool
     ensures { result ≡ is_of_key class }
 {
     match class {
-        Some(Class::Key) => true,
+        Class::Key => true,
         _ => false,
     }
 }
 
-/// Adds a capability, if it is what a key sends.
+/// Adds a text, if it is what a key sends.
 fn add_key<'a, A: Allocator>(
     keys: &mut Vec<(&'a [u8], &'a [u8]), A>,
-    subject: Subject<'a>,
-    item: Item<'a>,
+    text: &KnownText<'a>,
 ) -> Result<(), AllocError>
-    ensures { OnOk result (keys_lent keys.new.items
-        ≡ keys_lent keys.old.items ++ keys_in (subject_value subject.entry, item_value item.entry)) }
+    ensures { OnOk result
+        (keys_lent keys.new.items ≡ keys_lent keys.old.items ++ keys_in (text_held text.now)) }
 {
-    if let Some(text) = item.text() {
-        if is_of_key(subject_class(subject)) {
-            keys.push((text, subject_name(subject)))?;
-        }
+    if is_of_key(text.class) {
+        keys.push((text.subject.text, text.subject.name))?;
     }
     Ok(())
 }
 
-/// The keys of an entry.
+/// The texts that are what a key sends.
 fn keys_of<'a, A: Allocator>(
     alloc: A,
-    entry: &Entry<'a>,
+    texts: &[KnownText<'a>],
 ) -> Result<Vec<(&'a [u8], &'a [u8]), A>, AllocError>
-    ensures { IfOk result (λ keys. keys_lent keys.items ≡ entry_keys entry.now) }
+    ensures { IfOk result (λ keys. keys_lent keys.items ≡ flat_map keys_in (texts_held texts.now)) }
 {
     let mut keys = Vec::new(alloc);
-    let mut items = entry.items();
-    'items: while let Some((subject, item)) = items.next() {
-        add_key(&mut keys, subject, item)?;
+    'texts: for text in texts {
+        add_key(&mut keys, text)?;
     }
     Ok(keys)
 }
@@ -65,93 +61,82 @@ fn is_first_part(text: &[u8], other: &[u8]) -> bool
     text.len() < other.len() && other.starts_with(text)
 }
 
-/// Adds a remark on two keys.
-fn push_two<'a, A: Allocator + Copy>(
-    alloc: A,
-    out: &mut Vec<Remark<'a, A>, A>,
-    one: (&'a [u8], &'a [u8]),
-    other: (&'a [u8], &'a [u8]),
-    wrong: Wrong,
-) -> Result<(), AllocError>
-    ensures { OnOk result (out.new.items
-        ≡ out.old.items ++ on_two (key_lent one.entry) (key_lent other.entry) wrong) }
-{
-    let one = NamedText {
-        name: one.1,
-        text: one.0,
-    };
-    let other = NamedText {
-        name: other.1,
-        text: other.0,
-    };
-    push_on_two(alloc, out, one, other, wrong)
-}
-
-/// Adds the remark on two keys that send the same, if all is told.
-fn push_alike<'a, A: Allocator + Copy>(
-    alloc: A,
-    out: &mut Vec<Remark<'a, A>, A>,
-    level: Level,
-    one: (&'a [u8], &'a [u8]),
-    other: (&'a [u8], &'a [u8]),
-) -> Result<(), AllocError>
-    ensures { OnOk result (out.new.items
-        ≡ out.old.items ++ on_alike level (key_lent one.entry) (key_lent other.entry)) }
-{
-    match level {
-        Level::Errors => Ok(()),
-        Level::All => push_two(alloc, out, one, other, Wrong::AlikeKeys),
+impl<'a, A: Allocator + Copy> Report<'a, A> {
+    /// Adds a remark on two keys.
+    fn push_two(
+        &mut self,
+        one: (&'a [u8], &'a [u8]),
+        other: (&'a [u8], &'a [u8]),
+        finding: Finding,
+    ) -> Result<(), AllocError>
+        ensures { OnOk result (self.new
+            ≡ self.old ++ on_two (key_lent one.entry) (key_lent other.entry) finding) }
+    {
+        let one = NamedText {
+            name: one.1,
+            text: one.0,
+        };
+        let other = NamedText {
+            name: other.1,
+            text: other.0,
+        };
+        self.push_on_two(one, other, finding)
     }
-}
 
-/// Adds the remark on a key and the next one.
-fn push_neighbours<'a, A: Allocator + Copy>(
-    alloc: A,
-    out: &mut Vec<Remark<'a, A>, A>,
-    level: Level,
-    one: (&'a [u8], &'a [u8]),
-    other: (&'a [u8], &'a [u8]),
-) -> Result<(), AllocError>
-    ensures { OnOk result (out.new.items ≡ out.old.items
-        ++ on_neighbours level (key_lent one.entry) (key_lent other.entry)) }
-{
-    if is_first_part(one.0, other.0) {
-        return push_two(alloc, out, one, other, Wrong::KeyPrefix);
+    /// Adds the remark on two keys that send the same, if all is told.
+    fn push_alike(
+        &mut self,
+        level: Level,
+        one: (&'a [u8], &'a [u8]),
+        other: (&'a [u8], &'a [u8]),
+    ) -> Result<(), AllocError>
+        ensures { OnOk result (self.new
+            ≡ self.old ++ on_alike level (key_lent one.entry) (key_lent other.entry)) }
+    {
+        match level {
+            Level::Errors => Ok(()),
+            Level::All => self.push_two(one, other, Finding::AlikeKeys),
+        }
     }
-    if one.0 == other.0 {
-        return push_alike(alloc, out, level, one, other);
-    }
-    Ok(())
-}
 
-/// Adds the remarks on each key and the next one.
-fn push_row<'a, A: Allocator + Copy>(
-    alloc: A,
-    out: &mut Vec<Remark<'a, A>, A>,
-    level: Level,
-    row: &[(&'a [u8], &'a [u8])],
-) -> Result<(), AllocError>
-    ensures { OnOk result (out.new.items
-        ≡ out.old.items ++ on_row level (keys_lent row.now)) }
-{
-    'keys: for next in 1..row.len() {
-        push_neighbours(alloc, out, level, row[next - 1], row[next])?;
+    /// Adds the remark on a key and the next one.
+    fn push_neighbours(
+        &mut self,
+        level: Level,
+        one: (&'a [u8], &'a [u8]),
+        other: (&'a [u8], &'a [u8]),
+    ) -> Result<(), AllocError>
+        ensures { OnOk result (self.new ≡ self.old
+            ++ on_neighbours level (key_lent one.entry) (key_lent other.entry)) }
+    {
+        if is_first_part(one.0, other.0) {
+            return self.push_two(one, other, Finding::KeyPrefix);
+        }
+        if one.0 == other.0 {
+            return self.push_alike(level, one, other);
+        }
+        Ok(())
     }
-    Ok(())
-}
 
-/// Adds the remarks on keys of which one sends the first part of what another one sends, and on those that send the same.
-pub fn push_keys<'a, A: Allocator + Copy>(
-    alloc: A,
-    out: &mut Vec<Remark<'a, A>, A>,
-    level: Level,
-    entry: &Entry<'a>,
-) -> Result<(), AllocError>
-    ensures { OnOk result (Adds (AreKeyRemarks level entry.now)
-        out.old.items out.new.items) }
-{
-    let mut keys = keys_of(alloc, entry)?;
-    keys.sort_unstable();
-    push_row(alloc, out, level, keys.as_slice())?;
-    Ok(())
+    /// Adds the remarks on each key and the next one.
+    fn push_row(&mut self, level: Level, row: &[(&'a [u8], &'a [u8])]) -> Result<(), AllocError>
+        ensures { OnOk result (self.new
+            ≡ self.old ++ on_row level (keys_lent row.now)) }
+    {
+        'keys: for next in 1..row.len() {
+            self.push_neighbours(level, row[next - 1], row[next])?;
+        }
+        Ok(())
+    }
+
+    /// Adds the remarks on keys of which one sends the first part of what another one sends, and on those that send the same.
+    pub fn push_keys(&mut self, level: Level, texts: &[KnownText<'a>]) -> Result<(), AllocError>
+        ensures { OnOk result (Adds (AreRemarksOnKeys level (flat_map keys_in (texts_held texts.now)))
+            self.old self.new) }
+    {
+        let mut keys = keys_of(self.allocator(), texts)?;
+        keys.sort_unstable();
+        self.push_row(level, keys.as_slice())?;
+        Ok(())
+    }
 }

@@ -8,14 +8,14 @@ ghost use Rattle.ti_report.specs.Texts.{AreEscapes};
 use std::alloc::{AllocError, Allocator};
 use ti_cap::Capability;
 use ti_lint::{
-    Finding, PlacedFinding, is_double_percent, is_false_mark, is_mark, is_meant_to_expand,
+    PlacedFinding, TokenFinding, is_double_percent, is_false_mark, is_mark, is_meant_to_expand,
 };
 
 /// The places at which a finding was found.
 pub fn places_of<A: Allocator>(
     alloc: A,
     founds: &[PlacedFinding],
-    finding: Finding,
+    finding: TokenFinding,
 ) -> Result<Vec<usize, A>, AllocError>
     ensures { IfOk result (λ places. ArePlacesOf finding founds.now places.items) }
 {

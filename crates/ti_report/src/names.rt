@@ -7,8 +7,8 @@ ghost use Rattle.ti_report.specs.Names.{AreNameRemarks, IsNameReport, on_standar
 ghost use Rattle.ti_report.specs.inner.Lent.{texts_lent};
 ghost use Rattle.ti_words.specs.Spelling.{part_names};
 
-use crate::remark::{Remark, push_on_name};
-use crate::wrong::Wrong;
+use crate::finding::Finding;
+use crate::report::Report;
 use std::alloc::{AllocError, Allocator};
 use std::collections::BTreeSet;
 use ti_entry::Extended;
@@ -44,51 +44,41 @@ fn names_of<'a, A: Allocator>(
     Ok(names)
 }
 
-/// Adds the remark on a name that stands the first time.
-fn push_new<'a, A: Allocator + Copy>(
-    alloc: A,
-    out: &mut Vec<Remark<'a, A>, A>,
-    name: &'a [u8],
-) -> Result<(), AllocError>
-    ensures { OnOk result
-        (out.new.items ≡ out.old.items ++ on_standard_name name.now) }
-{
-    if NameTable::All.find_bytes(name).is_some() {
-        return push_on_name(alloc, out, name, Wrong::StandardName);
-    }
-    Ok(())
-}
-
-/// Adds the remarks on names.
-fn push_each<'a, A: Allocator + Copy>(
-    alloc: A,
-    out: &mut Vec<Remark<'a, A>, A>,
-    names: &[&'a [u8]],
-) -> Result<(), AllocError>
-    ensures { OnOk result (Adds (AreReports (IsNameReport (texts_lent names.now)) 0
-        (texts_lent names.now)) out.old.items out.new.items) }
-{
-    let mut seen = BTreeSet::new(alloc);
-    'names: for name in names {
-        if seen.insert(*name)? {
-            push_new(alloc, out, name)?;
-        } else {
-            push_on_name(alloc, out, name, Wrong::RepeatedName)?;
+impl<'a, A: Allocator + Copy> Report<'a, A> {
+    /// Adds the remark on a name that stands the first time.
+    fn push_new(&mut self, name: &'a [u8]) -> Result<(), AllocError>
+        ensures { OnOk result
+            (self.new ≡ self.old ++ on_standard_name name.now) }
+    {
+        if NameTable::All.find_bytes(name).is_some() {
+            return self.push_on_name(name, Finding::StandardName);
         }
+        Ok(())
     }
-    Ok(())
-}
 
-/// Adds the remarks on the names of extended capabilities.
-pub fn push_names<'a, A: Allocator + Copy>(
-    alloc: A,
-    out: &mut Vec<Remark<'a, A>, A>,
-    extended: &Extended<'a>,
-) -> Result<(), AllocError>
-    ensures { OnOk result (Adds (AreNameRemarks extended.now)
-        out.old.items out.new.items) }
-{
-    let names = names_of(alloc, extended)?;
-    push_each(alloc, out, names.as_slice())?;
-    Ok(())
+    /// Adds the remarks on names.
+    fn push_each(&mut self, names: &[&'a [u8]]) -> Result<(), AllocError>
+        ensures { OnOk result (Adds (AreReports (IsNameReport (texts_lent names.now)) 0
+            (texts_lent names.now)) self.old self.new) }
+    {
+        let mut seen = BTreeSet::new(self.allocator());
+        'names: for name in names {
+            if seen.insert(*name)? {
+                self.push_new(name)?;
+            } else {
+                self.push_on_name(name, Finding::RepeatedName)?;
+            }
+        }
+        Ok(())
+    }
+
+    /// Adds the remarks on the names of extended capabilities.
+    pub fn push_names(&mut self, extended: &Extended<'a>) -> Result<(), AllocError>
+        ensures { OnOk result (Adds (AreNameRemarks extended.now)
+            self.old self.new) }
+    {
+        let names = names_of(self.allocator(), extended)?;
+        self.push_each(names.as_slice())?;
+        Ok(())
+    }
 }

@@ -1,134 +1,197 @@
 //! The report on an entry.
 
-ghost use Rattle.std.specs.Prelude.{◌≡◌, IfOk, OnOk, option_map};
-ghost use Rattle.ti_words.specs.Items.{item_value, items, subject_value};
-ghost use Rattle.ti_report.specs.Lines.{Adds, AreAll, IsIfThere};
-ghost use Rattle.ti_report.specs.Reports.{AreLines, IsItemReport, IsReport, IsTextReport, used_text};
-ghost use Rattle.ti_report.specs.inner.Held.{used_held};
+ghost use Rattle.std.specs.Prelude.{◌≡◌, ◌++◌, ◌∷◌, [], IfOk, OnOk};
+ghost use Rattle.ti_report.specs.Lines.{Adds, AreAll};
+ghost use Rattle.ti_report.specs.Reports.{AreLines, IsReport, IsTextReport, IsUseReport};
+ghost use Rattle.ti_report.specs.Names.{on_name};
+ghost use Rattle.ti_report.specs.Remarks.{NoEvidence, OfTwo, on_values, unmarked};
+ghost use Rattle.ti_report.specs.Whole.{found_if};
+ghost use Rattle.ti_report.specs.inner.Held.{about_held, evidence_held, texts_held};
 
-use crate::block::push_lines;
+use crate::finding::Finding;
 use crate::judgements::Judgements;
-use crate::keys::push_keys;
-use crate::names::push_names;
-use crate::pairs::push_pairs;
-use crate::remark::{NamedText, Remark};
-use crate::sequences::push_sequences;
+use crate::lines::push_lines;
+use crate::lookup::is_ansi_entry;
+use crate::remark::{About, Evidence, NamedText, Remark};
 use crate::stored::stored_by_texts;
-use crate::subject::{subject_class, subject_name};
+use crate::subject::{KnownText, known_texts};
 use crate::texts::judge;
 use crate::trials::Trials;
 use crate::usage::Usage;
-use crate::values::push_values;
-use crate::whole::push_whole;
 use std::alloc::{AllocError, Allocator};
+use std::marker::Model;
 use ti_entry::Entry;
 use ti_escape::Color;
 use ti_lint::{Level, Variables};
-use ti_words::{Item, Subject};
 
-/// A text of which something is known, and how it is used.
-#[derive(Clone, Copy)]
-pub struct UsedText<'a> {
-    pub subject: NamedText<'a>,
-    pub usage: Usage,
-}
-
-/// A capability, if it is such a text.
-fn used_text<'a>(
-    level: Level,
-    stored: Variables,
-    subject: Subject<'a>,
-    item: Item<'a>,
-) -> Option<UsedText<'a>>
-    ensures { option_map used_held result
-        ≡ used_text level stored (subject_value subject.entry, item_value item.entry) }
-{
-    let (Some(class), Some(text)) = (subject_class(subject), item.text()) else {
-        return None;
-    };
-    let name = subject_name(subject);
-    Some(UsedText {
-        subject: NamedText { name, text },
-        usage: Usage::of(level, stored, name, class),
-    })
-}
-
-/// Adds the remarks on a text.
-fn push_text<'a, A: Allocator + Copy>(
+/// What is wrong with an entry: remarks, in order. Each rule adds its own.
+#[derive(Drop)]
+pub struct Report<'a, A: Allocator> {
     alloc: A,
-    out: &mut Vec<Remark<'a, A>, A>,
-    judgements: &mut Judgements<'a, A>,
-    text: UsedText<'a>,
-) -> Result<(), AllocError>
-    ensures { OnOk result (Adds (IsTextReport (used_held text.entry)) out.old.items out.new.items) }
-{
-    let subject = text.subject;
-    judgements.begin(subject.text);
-    if let Some(remarks) = judgements.of(text.usage, subject.text) {
-        return remarks.push_with_name(out, &subject);
-    }
-    let remarks = judge(alloc, text.usage, subject.text)?;
-    remarks.push_with_name(out, &subject)?;
-    judgements.keep(text.usage, subject.text, remarks)?;
-    Ok(())
+    list: Vec<Remark<'a, A>, A>,
 }
 
-/// The same of a capability, if it is such a text.
-fn push_if_there<'a, A: Allocator + Copy>(
-    alloc: A,
-    out: &mut Vec<Remark<'a, A>, A>,
-    judgements: &mut Judgements<'a, A>,
-    text: Option<UsedText<'a>>,
-) -> Result<(), AllocError>
-    ensures { OnOk result (Adds (IsIfThere IsTextReport (option_map used_held text.entry))
-        out.old.items out.new.items) }
-{
-    match text {
-        Some(text) => push_text(alloc, out, judgements, text),
-        None => Ok(()),
+impl<'a, A: Allocator> Model for Report<'a, A> {
+    ghost use Rattle.std.specs.Prelude.{List};
+    ghost use Rattle.ti_report.specs.Remarks.{Remark as TheRemark};
+
+    ghost Value = { List TheRemark };
+
+    ghost view = { λ r. r.list.items };
+}
+
+impl<'a, A: Allocator + Copy> Report<'a, A> {
+    /// None, which takes no memory.
+    fn new(alloc: A) -> Self
+        ensures { result ≡ [] }
+    {
+        Report {
+            alloc,
+            list: Vec::new(alloc),
+        }
+    }
+
+    /// What memory is taken from.
+    pub fn allocator(&self) -> A {
+        self.alloc
+    }
+
+    /// The remarks.
+    pub fn remarks(&self) -> &[Remark<'a, A>]
+        ensures { result.now ≡ self.now }
+    {
+        self.list.as_slice()
+    }
+
+    /// Adds a remark.
+    pub fn push(
+        &mut self,
+        about: About<'a>,
+        places: Vec<usize, A>,
+        finding: Finding,
+        evidence: Evidence<A>,
+    ) -> Result<(), AllocError>
+        ensures { OnOk result (self.new ≡ self.old ++ record {
+          about = about_held about.entry;
+          places = places.items;
+          finding = finding;
+          evidence = evidence_held evidence;
+        } ∷ []) }
+    {
+        self.list
+            .push(Remark::new(about, places, finding, evidence))?;
+        Ok(())
+    }
+
+    /// Adds a remark on what is sent by a text.
+    pub fn push_on_values(
+        &mut self,
+        subject: &NamedText<'a>,
+        finding: Finding,
+        evidence: Evidence<A>,
+    ) -> Result<(), AllocError>
+        ensures { OnOk result (self.new ≡ self.old
+            ++ on_values subject.now.name.now subject.now.text.now finding (evidence_held evidence)) }
+    {
+        let places = Vec::new(self.alloc);
+        self.push(About::Text(*subject), places, finding, evidence)
+    }
+
+    /// Adds a remark on two texts.
+    pub fn push_on_two(
+        &mut self,
+        one: NamedText<'a>,
+        other: NamedText<'a>,
+        finding: Finding,
+    ) -> Result<(), AllocError>
+        ensures { OnOk result (self.new ≡ self.old
+            ++ unmarked (OfTwo one.entry.name.now one.entry.text.now other.entry.name.now other.entry.text.now)
+            finding NoEvidence) }
+    {
+        let places = Vec::new(self.alloc);
+        self.push(About::Two(one, other), places, finding, Evidence::None)
+    }
+
+    /// Adds a remark on a name.
+    pub fn push_on_name(&mut self, name: &'a [u8], finding: Finding) -> Result<(), AllocError>
+        ensures { OnOk result (self.new ≡ self.old ++ on_name name.now finding) }
+    {
+        let places = Vec::new(self.alloc);
+        self.push(About::Name(name), places, finding, Evidence::None)
+    }
+
+    /// Adds a remark on the entry, if it is so.
+    pub fn push_if(&mut self, found: bool, finding: Finding) -> Result<(), AllocError>
+        ensures { OnOk result (self.new ≡ self.old ++ found_if found finding) }
+    {
+        if !found {
+            return Ok(());
+        }
+        let places = Vec::new(self.alloc);
+        self.push(About::Entry, places, finding, Evidence::None)
+    }
+
+    /// Adds the remarks on a text that is used so.
+    fn push_text(
+        &mut self,
+        judgements: &mut Judgements<'a, A>,
+        usage: Usage,
+        subject: &NamedText<'a>,
+    ) -> Result<(), AllocError>
+        ensures { OnOk result (Adds (IsUseReport usage subject.now.name.now subject.now.text.now)
+            self.old self.new) }
+    {
+        judgements.begin(subject.text);
+        if let Some(remarks) = judgements.of(usage, subject.text) {
+            return remarks.push_with_name(self, subject);
+        }
+        let remarks = judge(self.allocator(), usage, subject.text)?;
+        remarks.push_with_name(self, subject)?;
+        judgements.keep(usage, subject.text, remarks)?;
+        Ok(())
+    }
+
+    /// Adds the remarks on all texts.
+    fn push_texts(
+        &mut self,
+        level: Level,
+        stored: Variables,
+        texts: &[KnownText<'a>],
+    ) -> Result<(), AllocError>
+        ensures { OnOk result (Adds (AreAll (IsTextReport level stored) (texts_held texts.now))
+            self.old self.new) }
+    {
+        let mut judgements = Judgements::new(self.allocator());
+        'texts: for text in texts {
+            let usage = Usage::of(level, stored, text.subject.name, text.class);
+            self.push_text(&mut judgements, usage, &text.subject)?;
+        }
+        Ok(())
     }
 }
 
-/// Adds the remarks on all texts.
-fn push_items<'a, A: Allocator + Copy>(
-    alloc: A,
-    out: &mut Vec<Remark<'a, A>, A>,
-    level: Level,
-    stored: Variables,
-    entry: &Entry<'a>,
-) -> Result<(), AllocError>
-    ensures { OnOk result (Adds (AreAll (IsItemReport level stored) (items entry.now))
-        out.old.items out.new.items) }
-{
-    let mut judgements = Judgements::new(alloc);
-    let mut items = entry.items();
-    'items: while let Some((subject, item)) = items.next() {
-        let text = used_text(level, stored, subject, item);
-        push_if_there(alloc, out, &mut judgements, text)?;
-    }
-    Ok(())
-}
-
-/// The remarks on an entry that was read from the bytes.
-pub fn remarks_of<'a, A: Allocator + Copy>(
+/// The report on an entry that was read from the bytes.
+pub fn report_of<'a, A: Allocator + Copy>(
     alloc: A,
     trials: &mut Trials<A>,
     level: Level,
     bytes: &[u8],
     entry: &Entry<'a>,
-) -> Result<Vec<Remark<'a, A>, A>, AllocError>
-    ensures { IfOk result (λ remarks. IsReport level bytes.now entry.now remarks.items) }
+) -> Result<Report<'a, A>, AllocError>
+    ensures { IfOk result (IsReport level bytes.now entry.now) }
 {
-    let stored = stored_by_texts(entry);
-    let mut out = Vec::new(alloc);
-    push_items(alloc, &mut out, level, stored, entry)?;
-    push_values(alloc, &mut out, trials, level, entry)?;
-    push_sequences(alloc, &mut out, entry)?;
-    push_pairs(alloc, &mut out, level, entry)?;
-    push_keys(alloc, &mut out, level, entry)?;
-    push_names(alloc, &mut out, &entry.extended())?;
-    push_whole(alloc, &mut out, bytes, entry)?;
-    Ok(out)
+    let known = known_texts(alloc, entry)?;
+    let texts = known.as_slice();
+    let stored = stored_by_texts(texts);
+    let mut report = Report::new(alloc);
+    report.push_texts(level, stored, texts)?;
+    report.push_values(trials, level, entry)?;
+    report.push_sequences(is_ansi_entry(entry), texts)?;
+    report.push_pairs(level, entry)?;
+    report.push_keys(level, texts)?;
+    report.push_names(&entry.extended())?;
+    report.push_whole(bytes, entry)?;
+    Ok(report)
 }
 
 /// Appends the lines on what is wrong with an entry that was read from the bytes, and, if all is told, on what many have on
@@ -163,7 +226,7 @@ pub fn push_report<A: Allocator + Copy>(
     ensures lines { OnOk result (Adds (AreLines level color prefix.now bytes.now entry.now)
         out.old.items out.new.items) }
 {
-    let remarks = remarks_of(alloc, trials, level, bytes, entry)?;
-    push_lines(out, color, prefix, remarks.as_slice())?;
+    let report = report_of(alloc, trials, level, bytes, entry)?;
+    push_lines(out, color, prefix, report.remarks())?;
     Ok(())
 }

@@ -1,175 +1,150 @@
-//! What is wrong with what a capability sends for numbers.
+//! What is wrong with what a text sends for numbers, and the trial of a text that all such rules look at.
 
-ghost use Rattle.std.specs.Prelude.{◌≡◌, IfOk, OnOk};
+ghost use Rattle.std.specs.Prelude.{◌≡◌, ◌++◌, IfOk, OnOk};
 ghost use Rattle.ti_values.specs.Findings.{sent_at as the_sent_at};
 ghost use Rattle.ti_values.specs.Sent.{texts_of};
 ghost use Rattle.ti_report.specs.Lines.{Adds};
-ghost use Rattle.ti_report.specs.Values.{AreNumbersRemarks, IsEmptyReport, IsNegativeReport, IsSameReport, IsUnendedFound, IsUnendedReport, tried_at};
+ghost use Rattle.ti_report.specs.Values.{AreNumbersRemarks, IsEmptyReport, IsNegativeReport, IsSameReport, IsUnendedReport, remark_of, sent_evidence, tried_at};
+ghost use Rattle.ti_report.specs.inner.Held.{trial_held};
 
-use crate::lookup::is_ansi_entry;
-use crate::remark::{NamedText, Remark, Told, push_told};
+use crate::finding::Finding;
+use crate::remark::{Evidence, NamedText};
+use crate::report::Report;
 use std::alloc::{AllocError, Allocator};
 use ti_cap::Capability;
-use ti_entry::Entry;
 use ti_values::{Tried, first_empty, first_negative, first_same, first_unended, sent_at};
 
-/// The value of the try at a place.
-pub fn tried_at(tried: &[Tried], place: usize) -> Tried
-    ensures { result ≡ tried_at tried.now place }
-{
-    if place < tried.len() {
-        return tried[place];
+/// A text, the values that it is tried over, and what it sends for each.
+#[derive(Drop)]
+pub struct Trial<'t, 'a, A: Allocator> {
+    pub subject: NamedText<'a>,
+    pub tried: &'t [Tried],
+    pub sent: &'t [Vec<u8, A>],
+}
+
+impl<'t, 'a, A: Allocator + Copy> Trial<'t, 'a, A> {
+    ghost use Rattle.std.specs.Prelude.{◌≡◌, IfOk};
+    ghost use Rattle.ti_values.specs.Findings.{sent_at as the_sent_at};
+    ghost use Rattle.ti_values.specs.Sent.{texts_of};
+    ghost use Rattle.ti_report.specs.Values.{tried_at};
+    ghost use Rattle.ti_report.specs.inner.Held.{trial_held};
+
+    /// The value at a place.
+    fn tried_at(&self, place: usize) -> Tried
+        ensures { result ≡ tried_at (trial_held self.now) place }
+    {
+        if place < self.tried.len() {
+            return self.tried[place];
+        }
+        Tried::Number(0)
     }
-    Tried::Number(0)
+
+    /// A copy of what is sent for it.
+    pub fn copy_of(&self, alloc: A, place: usize) -> Result<Vec<u8, A>, AllocError>
+        ensures { IfOk result (λ text. text.items ≡ the_sent_at (texts_of self.now.sent.now) place) }
+    {
+        let mut text = Vec::new(alloc);
+        text.extend_from_slice(sent_at(self.sent, place))?;
+        Ok(text)
+    }
 }
 
-/// A copy of what is sent for it.
-pub fn copy_of<A: Allocator + Copy>(
-    alloc: A,
-    sent: &[Vec<u8, A>],
-    place: usize,
-) -> Result<Vec<u8, A>, AllocError>
-    ensures { IfOk result (λ text. text.items ≡ the_sent_at (texts_of sent.now) place) }
-{
-    let mut text = Vec::new(alloc);
-    text.extend_from_slice(sent_at(sent, place))?;
-    Ok(text)
-}
-
-/// Adds the remark on a value for which nothing is sent.
-fn push_empty<'a, A: Allocator + Copy>(
-    alloc: A,
-    out: &mut Vec<Remark<'a, A>, A>,
-    subject: &NamedText<'a>,
-    tried: &[Tried],
-    sent: &[Vec<u8, A>],
-) -> Result<(), AllocError>
-    ensures { OnOk result (Adds (IsEmptyReport
-        subject.now.name.now subject.now.text.now tried.now (texts_of sent.now))
-        out.old.items out.new.items) }
-{
-    match first_empty(sent) {
-        None => Ok(()),
-        Some(place) => {
-            push_told(alloc, out, subject, Told::Empty(tried_at(tried, place)))?;
-            Ok(())
+impl<'a, A: Allocator + Copy> Report<'a, A> {
+    /// Adds the remark on a value for which nothing is sent.
+    fn push_empty(&mut self, trial: &Trial<'_, 'a, A>) -> Result<(), AllocError>
+        ensures { OnOk result (Adds (IsEmptyReport (trial_held trial.now)) self.old self.new) }
+    {
+        match first_empty(trial.sent) {
+            None => Ok(()),
+            Some(place) => {
+                let evidence = Evidence::For(trial.tried_at(place));
+                self.push_on_values(&trial.subject, Finding::EmptyOutput, evidence)?;
+                Ok(())
+            }
         }
     }
-}
 
-/// Adds the remark on two values for which the same is sent.
-fn push_same<'a, A: Allocator + Copy>(
-    alloc: A,
-    out: &mut Vec<Remark<'a, A>, A>,
-    subject: &NamedText<'a>,
-    tried: &[Tried],
-    sent: &[Vec<u8, A>],
-) -> Result<(), AllocError>
-    ensures { OnOk result (Adds (IsSameReport
-        subject.now.name.now subject.now.text.now tried.now (texts_of sent.now))
-        out.old.items out.new.items) }
-{
-    match first_same(alloc, sent)? {
-        None => Ok(()),
-        Some(found) => {
-            let text = copy_of(alloc, sent, found.other)?;
-            let told = Told::Same(
-                tried_at(tried, found.one),
-                tried_at(tried, found.other),
-                text,
-            );
-            push_told(alloc, out, subject, told)?;
-            Ok(())
+    /// Adds the remark on two values for which the same is sent.
+    fn push_same(&mut self, trial: &Trial<'_, 'a, A>) -> Result<(), AllocError>
+        ensures { OnOk result (Adds (IsSameReport (trial_held trial.now)) self.old self.new) }
+    {
+        match first_same(self.allocator(), trial.sent)? {
+            None => Ok(()),
+            Some(found) => {
+                let text = trial.copy_of(self.allocator(), found.other)?;
+                let evidence = Evidence::SentForTwo(
+                    trial.tried_at(found.one),
+                    trial.tried_at(found.other),
+                    text,
+                );
+                self.push_on_values(&trial.subject, Finding::SameOutput, evidence)?;
+                Ok(())
+            }
         }
     }
-}
 
-/// Adds the remark on a value for which a number below 0 is sent.
-fn push_negative<'a, A: Allocator + Copy>(
-    alloc: A,
-    out: &mut Vec<Remark<'a, A>, A>,
-    subject: &NamedText<'a>,
-    capability: &Capability<'_>,
-    tried: &[Tried],
-    sent: &[Vec<u8, A>],
-) -> Result<(), AllocError>
-    requires { capability.now ≡ subject.now.text.now }
-    ensures { OnOk result (Adds (IsNegativeReport subject.now.name.now
-        subject.now.text.now tried.now (texts_of sent.now)) out.old.items out.new.items) }
-{
-    match first_negative(alloc, capability, tried)? {
-        None => Ok(()),
-        Some(place) => {
-            let text = copy_of(alloc, sent, place)?;
-            let told = Told::Negative(tried_at(tried, place), text);
-            push_told(alloc, out, subject, told)?;
-            Ok(())
+    /// Adds the remark on the value at a place, with what is sent for it, if there is one.
+    pub fn push_sent(
+        &mut self,
+        trial: &Trial<'_, 'a, A>,
+        finding: Finding,
+        found: Option<usize>,
+    ) -> Result<(), AllocError>
+        ensures { OnOk result (self.new ≡ self.old
+            ++ remark_of (trial_held trial.now) finding (sent_evidence (trial_held trial.now)) found) }
+    {
+        match found {
+            None => Ok(()),
+            Some(place) => {
+                let text = trial.copy_of(self.allocator(), place)?;
+                let evidence = Evidence::Sent(trial.tried_at(place), text);
+                self.push_on_values(&trial.subject, finding, evidence)
+            }
         }
     }
-}
 
-/// Adds the remark on a value for which a sequence is sent that is not ended.
-fn push_unended_found<'a, A: Allocator + Copy>(
-    alloc: A,
-    out: &mut Vec<Remark<'a, A>, A>,
-    subject: &NamedText<'a>,
-    tried: &[Tried],
-    sent: &[Vec<u8, A>],
-) -> Result<(), AllocError>
-    ensures { OnOk result (Adds (IsUnendedFound subject.now.name.now
-        subject.now.text.now tried.now (texts_of sent.now)) out.old.items out.new.items) }
-{
-    match first_unended(sent) {
-        None => Ok(()),
-        Some(place) => {
-            let text = copy_of(alloc, sent, place)?;
-            push_told(
-                alloc,
-                out,
-                subject,
-                Told::Unended(tried_at(tried, place), text),
-            )?;
-            Ok(())
+    /// Adds the remark on a value for which a number below 0 is sent.
+    fn push_negative(
+        &mut self,
+        capability: &Capability<'_>,
+        trial: &Trial<'_, 'a, A>,
+    ) -> Result<(), AllocError>
+        requires { capability.now ≡ trial.now.subject.text.now }
+        ensures { OnOk result
+            (Adds (IsNegativeReport (trial_held trial.now)) self.old self.new) }
+    {
+        let found = first_negative(self.allocator(), capability, trial.tried)?;
+        self.push_sent(trial, Finding::NegativeNumber, found)?;
+        Ok(())
+    }
+
+    /// Adds the remark on a value for which a sequence is sent that is not ended, of a terminal of ECMA-48.
+    pub fn push_unended(&mut self, ansi: bool, trial: &Trial<'_, 'a, A>) -> Result<(), AllocError>
+        ensures { OnOk result
+            (Adds (IsUnendedReport ansi (trial_held trial.now)) self.old self.new) }
+    {
+        if ansi {
+            let found = first_unended(trial.sent);
+            return self.push_sent(trial, Finding::UnendedSequence, found);
         }
+        Ok(())
     }
-}
 
-/// The same of a terminal of ECMA-48.
-pub fn push_unended<'a, A: Allocator + Copy>(
-    alloc: A,
-    out: &mut Vec<Remark<'a, A>, A>,
-    ansi: bool,
-    subject: &NamedText<'a>,
-    tried: &[Tried],
-    sent: &[Vec<u8, A>],
-) -> Result<(), AllocError>
-    ensures { OnOk result (Adds (IsUnendedReport ansi subject.now.name.now
-        subject.now.text.now tried.now (texts_of sent.now)) out.old.items out.new.items) }
-{
-    if ansi {
-        return push_unended_found(alloc, out, subject, tried, sent);
+    /// Adds the remarks on what is sent for numbers.
+    pub fn push_numbers_remarks(
+        &mut self,
+        ansi: bool,
+        capability: &Capability<'_>,
+        trial: &Trial<'_, 'a, A>,
+    ) -> Result<(), AllocError>
+        requires { capability.now ≡ trial.now.subject.text.now }
+        ensures { OnOk result
+            (Adds (AreNumbersRemarks ansi (trial_held trial.now)) self.old self.new) }
+    {
+        self.push_empty(trial)?;
+        self.push_same(trial)?;
+        self.push_negative(capability, trial)?;
+        self.push_unended(ansi, trial)?;
+        Ok(())
     }
-    Ok(())
-}
-
-/// Adds the remarks on what is sent for numbers.
-pub fn push_numbers_remarks<'a, A: Allocator + Copy>(
-    alloc: A,
-    out: &mut Vec<Remark<'a, A>, A>,
-    entry: &Entry<'a>,
-    subject: &NamedText<'a>,
-    capability: &Capability<'_>,
-    tried: &[Tried],
-    sent: &[Vec<u8, A>],
-) -> Result<(), AllocError>
-    requires { capability.now ≡ subject.now.text.now }
-    ensures { OnOk result (Adds (AreNumbersRemarks entry.now
-        subject.now.name.now subject.now.text.now tried.now
-        (texts_of sent.now)) out.old.items out.new.items) }
-{
-    push_empty(alloc, out, subject, tried, sent)?;
-    push_same(alloc, out, subject, tried, sent)?;
-    push_negative(alloc, out, subject, capability, tried, sent)?;
-    push_unended(alloc, out, is_ansi_entry(entry), subject, tried, sent)?;
-    Ok(())
 }

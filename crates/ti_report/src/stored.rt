@@ -1,13 +1,13 @@
 //! The variables into which the texts of an entry store.
 
-ghost use Rattle.std.specs.Prelude.{ℕ, ◌↔◌, option_map};
+ghost use Rattle.std.specs.Prelude.{ℕ, ◌↔◌};
 ghost use Rattle.ti_cap.specs.Refusal.{IsFaultless};
 ghost use Rattle.ti_lint.specs.Variables.{HasOnlyLetters, HasVariable, IsStored};
-ghost use Rattle.ti_report.specs.Reports.{AreStored, Stores, StoresAs};
+ghost use Rattle.ti_report.specs.Reports.{AreStored, StoresAs};
+ghost use Rattle.ti_report.specs.inner.Held.{texts_held};
 
-use crate::subject::subject_class;
+use crate::subject::KnownText;
 use ti_cap::Capability;
-use ti_entry::Entry;
 use ti_lint::{Variables, stored_by};
 use ti_names::Class;
 
@@ -34,26 +34,13 @@ fn stored_as(text: &[u8], class: Class) -> Variables
     }
 }
 
-/// The same of a text that may not be there, nor be known.
-fn stored_at(text: Option<&[u8]>, class: Option<Class>) -> Variables
-    ensures exact { (which : ℕ) → HasVariable result which
-        ↔ Stores (option_map (λ bytes. bytes.now) text.entry) class which }
-    ensures only { HasOnlyLetters result }
-{
-    match (text, class) {
-        (Some(text), Some(class)) => stored_as(text, class),
-        _ => Variables::NONE,
-    }
-}
-
-/// The variables into which some text of an entry stores.
-pub fn stored_by_texts(entry: &Entry<'_>) -> Variables
-    ensures { AreStored entry.now result }
+/// The variables into which some of the texts of an entry store.
+pub fn stored_by_texts(texts: &[KnownText<'_>]) -> Variables
+    ensures { AreStored (texts_held texts.now) result }
 {
     let mut stored = Variables::NONE;
-    let mut items = entry.items();
-    'items: while let Some((subject, item)) = items.next() {
-        stored = stored.union(stored_at(item.text(), subject_class(subject)));
+    'texts: for text in texts {
+        stored = stored.union(stored_as(text.subject.text, text.class));
     }
     stored
 }

@@ -1,10 +1,12 @@
 //! Remarks on a text, whatever its name is.
 
-ghost use Rattle.std.specs.Prelude.{◌≡◌, ◌++◌, [], OnOk, IfOk, map};
+ghost use Rattle.std.specs.Prelude.{◌≡◌, ◌++◌, ◌∷◌, [], OnOk, map};
 ghost use Rattle.ti_report.specs.Remarks.{placed, unplaced, with_name};
+ghost use Rattle.ti_report.specs.inner.Held.{evidence_held};
 
-use crate::remark::{NamedText, Remark};
-use crate::wrong::Wrong;
+use crate::finding::Finding;
+use crate::remark::{About, Evidence, NamedText};
+use crate::report::Report;
 use std::alloc::{AllocError, Allocator};
 use std::marker::Model;
 
@@ -12,15 +14,21 @@ use std::marker::Model;
 #[derive(Drop)]
 pub struct TextRemark<A: Allocator> {
     places: Vec<usize, A>,
-    wrong: Wrong,
+    finding: Finding,
+    evidence: Evidence<A>,
 }
 
 impl<A: Allocator> Model for TextRemark<A> {
     ghost use Rattle.ti_report.specs.Remarks.{TextRemark as TheTextRemark};
+    ghost use Rattle.ti_report.specs.inner.Held.{evidence_held};
 
     ghost Value = { TheTextRemark };
 
-    ghost view = { λ r. record { places = r.places.items; wrong = r.wrong } };
+    ghost view = { λ r. record {
+      places = r.places.items;
+      finding = r.finding;
+      evidence = evidence_held r.evidence;
+    } };
 }
 
 /// The remarks on a text, in order.
@@ -40,13 +48,19 @@ impl<A: Allocator> Model for TextRemarks<A> {
 }
 
 impl<A: Allocator + Copy> TextRemark<A> {
-    /// The same on the text with a name.
-    fn with_name<'a>(&self, alloc: A, subject: &NamedText<'a>) -> Result<Remark<'a, A>, AllocError>
-        ensures { IfOk result (λ remark.
-            remark ≡ with_name subject.now.name.now subject.now.text.now self.now) }
+    /// Adds it under the name of the text to a report.
+    fn push_with_name<'a>(
+        &self,
+        report: &mut Report<'a, A>,
+        subject: &NamedText<'a>,
+    ) -> Result<(), AllocError>
+        ensures { OnOk result (report.new ≡ report.old
+            ++ with_name subject.now.name.now subject.now.text.now self.now ∷ []) }
     {
+        let alloc = report.allocator();
         let places = self.places.as_slice().to_vec(alloc)?;
-        Ok(Remark::on_text(subject, places, self.wrong))
+        let evidence = self.evidence.copy(alloc)?;
+        report.push(About::Text(*subject), places, self.finding, evidence)
     }
 }
 
@@ -67,36 +81,50 @@ impl<A: Allocator + Copy> TextRemarks<A> {
     }
 
     /// Adds a remark at no place.
-    pub fn push(&mut self, wrong: Wrong) -> Result<(), AllocError>
-        ensures { OnOk result (self.new ≡ self.old ++ unplaced wrong) }
+    pub fn push(&mut self, finding: Finding, evidence: Evidence<A>) -> Result<(), AllocError>
+        ensures { OnOk result (self.new ≡ self.old ++ unplaced finding (evidence_held evidence)) }
     {
         let places = Vec::new(self.alloc);
-        self.list.push(TextRemark { places, wrong })?;
+        self.list.push(TextRemark {
+            places,
+            finding,
+            evidence,
+        })?;
         Ok(())
     }
 
     /// Adds a remark at some places. Without a place there is none.
-    pub fn push_at(&mut self, places: Vec<usize, A>, wrong: Wrong) -> Result<(), AllocError>
-        ensures { OnOk result (self.new ≡ self.old ++ placed places.items wrong) }
+    pub fn push_at(
+        &mut self,
+        places: Vec<usize, A>,
+        finding: Finding,
+        evidence: Evidence<A>,
+    ) -> Result<(), AllocError>
+        ensures { OnOk result
+            (self.new ≡ self.old ++ placed places.items finding (evidence_held evidence)) }
     {
         if places.is_empty() {
             return Ok(());
         }
-        self.list.push(TextRemark { places, wrong })?;
+        self.list.push(TextRemark {
+            places,
+            finding,
+            evidence,
+        })?;
         Ok(())
     }
 
-    /// Adds them under the name of the text to others.
+    /// Adds them under the name of the text to a report.
     pub fn push_with_name<'a>(
         &self,
-        out: &mut Vec<Remark<'a, A>, A>,
+        report: &mut Report<'a, A>,
         subject: &NamedText<'a>,
     ) -> Result<(), AllocError>
-        ensures { OnOk result (out.new.items ≡ out.old.items
+        ensures { OnOk result (report.new ≡ report.old
             ++ map (with_name subject.now.name.now subject.now.text.now) self.now) }
     {
         'remarks: for remark in &self.list {
-            out.push(remark.with_name(self.alloc, subject)?)?;
+            remark.push_with_name(report, subject)?;
         }
         Ok(())
     }

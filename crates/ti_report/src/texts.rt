@@ -3,41 +3,55 @@
 ghost use Rattle.std.specs.Prelude.{◌≡◌, ◌++◌, ◌∷◌, [], IfOk, OnOk};
 ghost use Rattle.ti_report.specs.Constants.{IsTestsReport};
 ghost use Rattle.ti_report.specs.Lines.{Adds, AreReports};
-ghost use Rattle.ti_report.specs.Remarks.{placed, unplaced};
-ghost use Rattle.ti_report.specs.Texts.{AreUnused, IsCapabilityReport, IsEscapeReport, IsFindingReport, IsFindingsReport, IsJudged, IsKeyReport, IsPercentReport, IsPlacesReport, IsPlainReport, IsUnusedReport, all_findings, expected_in, half_paired, unused_remarks};
+ghost use Rattle.ti_report.specs.Remarks.{Fault, placed, unplaced};
+ghost use Rattle.ti_report.specs.inner.Held.{evidence_held};
+ghost use Rattle.ti_report.specs.Texts.{AreUnused, IsCapabilityReport, IsEscapeReport, IsFindingReport, IsFindingsReport, IsJudged, IsKeyReport, IsPercentReport, IsPlacesReport, IsPlainReport, IsUnusedReport, all_findings, evidence_of as the_evidence, expected_in, half_paired, unused_remarks};
 
+use crate::finding::Finding;
 use crate::marks::{Sought, escapes_of, places_at, places_of};
+use crate::remark::Evidence;
 use crate::text_remarks::TextRemarks;
 use crate::usage::Usage;
-use crate::wrong::Wrong;
 use std::alloc::{AllocError, Allocator};
 use ti_cap::{CapRefused, Capability, ParameterSet};
-use ti_lint::{Expected, Finding, PlacedFinding, findings_of, is_half_paired, unused_parameters};
+use ti_lint::{
+    Expected, PlacedFinding, TokenFinding, findings_of, is_half_paired, unused_parameters,
+};
 use ti_names::Class;
 
 /// The findings of tokens, in the order in which they are told.
-static ALL_FINDINGS: [Finding; 13] = [
-    Finding::StackUnderflow,
-    Finding::TermcapParameter,
-    Finding::StackResidue,
-    Finding::ParameterRange,
-    Finding::RepeatedIncrement,
-    Finding::UnusedIncrement,
-    Finding::LateIncrement,
-    Finding::UnsetVariable,
-    Finding::DeadStore,
-    Finding::OperandType,
-    Finding::NoEffect,
-    Finding::ConstantCondition,
-    Finding::RepeatedCondition,
+static ALL_FINDINGS: [TokenFinding; 13] = [
+    TokenFinding::StackUnderflow,
+    TokenFinding::TermcapParameter,
+    TokenFinding::StackResidue,
+    TokenFinding::ParameterRange,
+    TokenFinding::RepeatedIncrement,
+    TokenFinding::UnusedIncrement,
+    TokenFinding::LateIncrement,
+    TokenFinding::UnsetVariable,
+    TokenFinding::DeadStore,
+    TokenFinding::OperandType,
+    TokenFinding::NoEffect,
+    TokenFinding::ConstantCondition,
+    TokenFinding::RepeatedCondition,
 ];
 
 /// The findings, as a slice.
 #[tactic(auto, unfolding(crate::specs::Texts::all_findings))]
-fn all_findings() -> &'static [Finding]
+fn all_findings() -> &'static [TokenFinding]
     ensures { result.now ≡ all_findings }
 {
     &ALL_FINDINGS
+}
+
+/// A parameter beyond the last one comes with that.
+fn evidence_of<A: Allocator>(finding: TokenFinding, parameters: u8) -> Evidence<A>
+    ensures { evidence_held result ≡ the_evidence finding parameters }
+{
+    match finding {
+        TokenFinding::ParameterRange => Evidence::Last(parameters),
+        _ => Evidence::None,
+    }
 }
 
 impl<A: Allocator + Copy> TextRemarks<A> {
@@ -48,17 +62,21 @@ impl<A: Allocator + Copy> TextRemarks<A> {
         &mut self,
         capability: &Capability<'_>,
         founds: &[PlacedFinding],
-        finding: Finding,
+        finding: TokenFinding,
         parameters: u8,
     ) -> Result<(), AllocError>
         ensures { OnOk result (Adds (IsFindingReport capability.now parameters founds.now 0 finding)
             self.old self.new) }
     {
         match finding {
-            Finding::ConstantCondition => self.push_tests(capability),
+            TokenFinding::ConstantCondition => self.push_tests(capability),
             _ => {
                 let places = places_of(self.allocator(), founds, finding)?;
-                self.push_at(places, Wrong::Token(finding, parameters))
+                self.push_at(
+                    places,
+                    Finding::Token(finding),
+                    evidence_of(finding, parameters),
+                )
             }
         }
     }
@@ -93,7 +111,7 @@ impl<A: Allocator + Copy> TextRemarks<A> {
         if !from_empty.is_empty() || unused.mask == 0 || may {
             return Ok(());
         }
-        self.push(Wrong::UnusedParameters(unused))
+        self.push(Finding::UnusedParameter, Evidence::Parameters(unused))
     }
 
     /// The same of a capability.
@@ -108,7 +126,7 @@ impl<A: Allocator + Copy> TextRemarks<A> {
             self.old self.new) }
     {
         let unused = unused_parameters(capability, parameters);
-        let from_empty = places_of(self.allocator(), founds, Finding::TermcapParameter)?;
+        let from_empty = places_of(self.allocator(), founds, TokenFinding::TermcapParameter)?;
         self.push_left_out(may, unused, from_empty.as_slice())?;
         Ok(())
     }
@@ -138,11 +156,11 @@ impl<A: Allocator + Copy> TextRemarks<A> {
     /// Adds the remark on a text that is no capability.
     fn push_malformed(&mut self, refused: CapRefused) -> Result<(), AllocError>
         ensures { OnOk result (self.new
-            ≡ self.old ++ placed (refused.place ∷ []) (Wrong.Malformed refused.fault)) }
+            ≡ self.old ++ placed (refused.place ∷ []) Finding.Malformed (Fault refused.fault)) }
     {
         let mut places = Vec::new(self.allocator());
         places.push(refused.place)?;
-        self.push_at(places, Wrong::Malformed(refused.fault))
+        self.push_at(places, Finding::Malformed, Evidence::Fault(refused.fault))
     }
 
     /// Adds the remarks on a text with parameters.
@@ -165,18 +183,23 @@ impl<A: Allocator + Copy> TextRemarks<A> {
     }
 
     /// Adds the remarks on the places at which something stands that should not.
-    fn push_places(&mut self, text: &[u8], sought: Sought, wrong: Wrong) -> Result<(), AllocError>
-        ensures { OnOk result (Adds (IsPlacesReport sought wrong text.now) self.old self.new) }
+    fn push_places(
+        &mut self,
+        text: &[u8],
+        sought: Sought,
+        finding: Finding,
+    ) -> Result<(), AllocError>
+        ensures { OnOk result (Adds (IsPlacesReport sought finding text.now) self.old self.new) }
     {
         let places = places_at(self.allocator(), text, sought)?;
-        self.push_at(places, wrong)
+        self.push_at(places, finding, Evidence::None)
     }
 
     /// Adds the remarks on what only an expansion takes away.
     fn push_percents(&mut self, text: &[u8]) -> Result<(), AllocError>
         ensures { OnOk result (Adds (IsPercentReport text.now) self.old self.new) }
     {
-        self.push_places(text, Sought::Percents, Wrong::UninterpretedPercent)
+        self.push_places(text, Sought::Percents, Finding::UninterpretedPercent)
     }
 
     /// Adds the remarks on tokens that are meant to be expanded.
@@ -184,7 +207,7 @@ impl<A: Allocator + Copy> TextRemarks<A> {
         ensures { OnOk result (Adds (IsEscapeReport text.now) self.old self.new) }
     {
         let places = escapes_of(self.allocator(), text)?;
-        self.push_at(places, Wrong::UninterpretedEscape)
+        self.push_at(places, Finding::UninterpretedEscape, Evidence::None)
     }
 
     /// Adds the remarks on a text that is sent as it stands.
@@ -193,7 +216,7 @@ impl<A: Allocator + Copy> TextRemarks<A> {
     {
         self.push_escapes(text)?;
         self.push_percents(text)?;
-        self.push_places(text, Sought::FalseMark, Wrong::FalseMark)?;
+        self.push_places(text, Sought::FalseMark, Finding::FalseMark)?;
         Ok(())
     }
 
@@ -202,7 +225,7 @@ impl<A: Allocator + Copy> TextRemarks<A> {
         ensures { OnOk result (Adds (IsKeyReport text.now) self.old self.new) }
     {
         self.push_percents(text)?;
-        self.push_places(text, Sought::Mark, Wrong::MarkInKey)?;
+        self.push_places(text, Sought::Mark, Finding::MarkInKey)?;
         Ok(())
     }
 
@@ -211,7 +234,7 @@ impl<A: Allocator + Copy> TextRemarks<A> {
         ensures { OnOk result (self.new ≡ self.old ++ half_paired has_pairs text.now) }
     {
         if has_pairs && is_half_paired(text) {
-            return self.push(Wrong::HalfPaired);
+            return self.push(Finding::HalfPaired, Evidence::None);
         }
         Ok(())
     }

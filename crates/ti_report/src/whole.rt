@@ -4,26 +4,22 @@ ghost use Rattle.std.specs.Prelude.{◌≡◌, ◌++◌, OnOk};
 ghost use Rattle.ti_report.specs.Whole.{whole_remarks};
 
 use crate::base::bases_differ;
-use crate::colors::push_colors;
+use crate::finding::Finding;
 use crate::layout::is_canonical;
-use crate::remark::{Remark, push_if};
-use crate::wrong::Wrong;
+use crate::report::Report;
 use std::alloc::{AllocError, Allocator};
 use ti_entry::Entry;
 
-/// Adds the remarks on the whole of an entry that was read from the bytes.
-pub fn push_whole<'a, A: Allocator + Copy>(
-    alloc: A,
-    out: &mut Vec<Remark<'a, A>, A>,
-    bytes: &[u8],
-    entry: &Entry<'a>,
-) -> Result<(), AllocError>
-    ensures { OnOk result
-        (out.new.items ≡ out.old.items ++ whole_remarks bytes.now entry.now) }
-{
-    push_colors(alloc, out, entry)?;
-    let canonical = is_canonical(alloc, bytes, entry)?;
-    push_if(alloc, out, !canonical, Wrong::Layout)?;
-    push_if(alloc, out, bases_differ(bytes), Wrong::Base)?;
-    Ok(())
+impl<'a, A: Allocator + Copy> Report<'a, A> {
+    /// Adds the remarks on the whole of an entry that was read from the bytes.
+    pub fn push_whole(&mut self, bytes: &[u8], entry: &Entry<'a>) -> Result<(), AllocError>
+        ensures { OnOk result
+            (self.new ≡ self.old ++ whole_remarks bytes.now entry.now) }
+    {
+        self.push_colors(entry)?;
+        let canonical = is_canonical(self.allocator(), bytes, entry)?;
+        self.push_if(!canonical, Finding::Layout)?;
+        self.push_if(bases_differ(bytes), Finding::Base)?;
+        Ok(())
+    }
 }

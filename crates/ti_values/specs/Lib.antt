@@ -1,6 +1,5 @@
 pub mod Attributes
 pub mod Findings
-pub mod FindingWords
 pub mod Limits
 pub mod Negative
 pub mod Ranges

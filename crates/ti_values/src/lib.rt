@@ -19,7 +19,6 @@ mod screen;
 mod sent;
 mod sequence;
 mod tried;
-mod value_finding;
 
 pub use attribute::{attributes, first_combination, is_different, is_ignored};
 pub use empty::first_empty;
@@ -34,4 +33,3 @@ pub use screen::tried_texts;
 pub use sent::sent_for;
 pub use sequence::{first_shown, first_unended, has_unended, is_ansi};
 pub use tried::Tried;
-pub use value_finding::ValueFinding;

@@ -11,8 +11,8 @@ use Rattle.ti_lint.specs.declared.facts.Facts.{Facts}
 use Rattle.ti_lint.specs.declared.expected.Expected.{Expected}
 use Rattle.ti_lint.specs.declared.expected.TextParameters.{TextParameters}
 use Rattle.ti_lint.specs.declared.values.Values.{Values}
-use Rattle.ti_lint.specs.declared.finding.Finding.{Finding}
-use Rattle.ti_lint.specs.declared.finding.Finding.TheVariants.{StackUnderflow, TermcapParameter, ParameterRange, RepeatedIncrement, UnsetVariable, OperandType}
+use Rattle.ti_lint.specs.declared.token_finding.TokenFinding.{TokenFinding}
+use Rattle.ti_lint.specs.declared.token_finding.TokenFinding.TheVariants.{StackUnderflow, TermcapParameter, ParameterRange, RepeatedIncrement, UnsetVariable, OperandType}
 use Rattle.ti_lint.specs.inner.Values.{no_values, either_values, after_values}
 
 abbrev pub has_bit : ℕ → ℕ → Bool
@@ -108,7 +108,7 @@ after_token token f = record {
 
 -- ---- what is found
 
-abbrev pub found_if : Bool → Finding → Option Finding
+abbrev pub found_if : Bool → TokenFinding → Option TokenFinding
 found_if test finding = if test then Some finding else None
 
 -- the variable keeps a value that a text of the entry has stored
@@ -118,7 +118,7 @@ is_kept expected which = nat_le which 90 && has_bit expected.stored.mask (place_
 abbrev pub is_unset : Expected → ℕ → Facts → Bool
 is_unset expected which f = not (has_bit f.stored.mask (place_of which)) && not (is_kept expected which)
 
-abbrev pub underflow : Bool → Finding
+abbrev pub underflow : Bool → TokenFinding
 underflow true = TermcapParameter
 underflow false = StackUnderflow
 
@@ -139,12 +139,12 @@ is_other_below zero texts wanted v = false
 is_other_below (suc n) texts wanted v = is_other_below n texts wanted v || not (has_kind texts wanted v n)
 
 -- what is told of a token that pops
-abbrev pub of_pops : Bool → Finding → Bool → Option Finding
+abbrev pub of_pops : Bool → TokenFinding → Bool → Option TokenFinding
 of_pops true below other = Some below
 of_pops false below other = found_if other OperandType
 
 -- `termcap` says that no parameter is named
-abbrev pub judgement : Expected → Bool → Token → Facts → Option Finding
+abbrev pub judgement : Expected → Bool → Token → Facts → Option TokenFinding
 judgement expected termcap (Param which) f = found_if (nat_lt expected.parameters which) ParameterRange
 judgement expected termcap Increment f = found_if f.incremented RepeatedIncrement
 judgement expected termcap (Load which) f = found_if (is_unset expected which f) UnsetVariable

@@ -9,8 +9,8 @@ use Rattle.ti_lint.specs.declared.variables.Variables.{Variables}
 use Rattle.ti_lint.specs.declared.facts.Facts.{Facts}
 use Rattle.ti_lint.specs.declared.outlook.Outlook.{Outlook}
 use Rattle.ti_lint.specs.declared.backward.OpenOutlooks.{OpenOutlooks}
-use Rattle.ti_lint.specs.declared.finding.Finding.{Finding}
-use Rattle.ti_lint.specs.declared.finding.Finding.TheVariants.{StackResidue, UnusedIncrement, LateIncrement, DeadStore}
+use Rattle.ti_lint.specs.declared.token_finding.TokenFinding.{TokenFinding}
+use Rattle.ti_lint.specs.declared.token_finding.TokenFinding.TheVariants.{StackResidue, UnusedIncrement, LateIncrement, DeadStore}
 use Rattle.ti_lint.specs.inner.Facts.{has_bit, place_of, stored_also, is_first_two, found_if}
 
 abbrev pub end_outlook : Outlook
@@ -41,11 +41,11 @@ outlook_before token after = record {
 
 -- ---- what is found
 
-abbrev pub of_increment : Bool → Bool → Option Finding
+abbrev pub of_increment : Bool → Bool → Option TokenFinding
 of_increment before true = found_if before LateIncrement
 of_increment before false = Some UnusedIncrement
 
-abbrev pub prospect : Token → Facts → Outlook → Option Finding
+abbrev pub prospect : Token → Facts → Outlook → Option TokenFinding
 prospect Increment before after = of_increment before.named_first_two after.names_first_two
 prospect (Store which) before after = found_if (nat_le 97 which && not (has_bit after.loads.mask (place_of which))) DeadStore
 prospect token before after = found_if (nat_lt 0 (pushes token) && nat_eq after.needs 0) StackResidue

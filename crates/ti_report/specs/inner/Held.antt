@@ -1,13 +1,15 @@
--- What a remark is about and what was found, as the code holds them.
+-- What a remark is about, its evidence, and the texts of an entry, as the code holds them.
+use Rattle.std.specs.Prelude.{List, map}
 use Rattle.ti_report.specs.Remarks as spec
 use Rattle.ti_report.specs.declared.remark.About.{About}
 use Rattle.ti_report.specs.declared.remark.About.TheVariants as abouts
-use Rattle.ti_report.specs.declared.remark.Told.{Told}
-use Rattle.ti_report.specs.declared.remark.Told.TheVariants as tolds
-use Rattle.ti_report.specs.declared.remark.What.{What}
-use Rattle.ti_report.specs.declared.remark.What.TheVariants as whats
-use Rattle.ti_report.specs.declared.report.UsedText.{UsedText}
-use Rattle.ti_report.specs.Reports as reports
+use Rattle.ti_report.specs.declared.remark.Evidence.{Evidence}
+use Rattle.ti_report.specs.declared.remark.Evidence.TheVariants as evidences
+use Rattle.ti_report.specs.declared.subject.KnownText.{KnownText}
+use Rattle.ti_report.specs.Subjects as subjects
+use Rattle.ti_report.specs.declared.sent.Trial.{Trial}
+use Rattle.ti_report.specs.Values as values
+use Rattle.ti_values.specs.Sent.{texts_of}
 
 abbrev pub about_held : About → spec.About
 about_held abouts.Entry = spec.OfEntry
@@ -15,21 +17,25 @@ about_held (abouts.Name name) = spec.OfName name.now
 about_held (abouts.Text subject) = spec.OfText subject.name.now subject.text.now
 about_held (abouts.Two one other) = spec.OfTwo one.name.now one.text.now other.name.now other.text.now
 
-abbrev pub told_held : {A : Type 0} → Told A → spec.Told
-told_held (tolds.Empty value) = spec.Empty value
-told_held (tolds.Same one other sent) = spec.Same one other sent.items
-told_held (tolds.Negative value sent) = spec.Negative value sent.items
-told_held (tolds.Unended value sent) = spec.Unended value sent.items
-told_held (tolds.Shown value sent) = spec.Shown value sent.items
-told_held (tolds.Ignored name set) = spec.Ignored name.now set
-told_held (tolds.Differing name set sent text) = spec.Differing name.now set sent.items text.items
-told_held (tolds.Combined value sent) = spec.Combined value sent.items
-told_held tolds.UnendedText = spec.UnendedText
-told_held tolds.NotTried = spec.NotTried
+abbrev pub evidence_held : {A : Type 0} → Evidence A → spec.Evidence
+evidence_held evidences.None = spec.NoEvidence
+evidence_held (evidences.Fault fault) = spec.Fault fault
+evidence_held (evidences.Last parameter) = spec.Last parameter
+evidence_held (evidences.Value value) = spec.Value value
+evidence_held (evidences.Parameters set) = spec.Parameters set
+evidence_held (evidences.For value) = spec.For value
+evidence_held (evidences.Sent value sent) = spec.Sent value sent.items
+evidence_held (evidences.SentForTwo one other sent) = spec.SentForTwo one other sent.items
+evidence_held (evidences.Attribute name set) = spec.Attribute name.now set
+evidence_held (evidences.Lacking name set sent text) = spec.Lacking name.now set sent.items text.items
 
-abbrev pub what_held : {A : Type 0} → What A → spec.What
-what_held (whats.Wrong wrong) = spec.IsWrong wrong
-what_held (whats.Told told) = spec.IsTold (told_held told)
+abbrev pub trial_held : {A : Type 0} → Trial A → values.Trial
+trial_held t =
+    record { name = t.subject.name.now; text = t.subject.text.now; tried = t.tried.now; sent = texts_of t.sent.now }
 
-abbrev pub used_held : UsedText → reports.UsedText
-used_held t = record { name = t.subject.name.now; text = t.subject.text.now; usage = t.usage }
+abbrev pub text_held : KnownText → subjects.KnownText
+text_held t =
+    record { name = t.subject.name.now; text = t.subject.text.now; class = t.class; standard = t.standard }
+
+abbrev pub texts_held : List KnownText → List subjects.KnownText
+texts_held texts = map text_held texts

@@ -1,7 +1,7 @@
 //! What is wrong with tokens of capabilities on some of their paths, or by their conditionals: rows worked by hand.
 
 use crate::tests::check_rows;
-use Finding::{
+use TokenFinding::{
     ConstantCondition, DeadStore, LateIncrement, NoEffect, OperandType, ParameterRange,
     RepeatedCondition, RepeatedIncrement, StackResidue, StackUnderflow, TermcapParameter,
     UnsetVariable, UnusedIncrement,
@@ -9,7 +9,7 @@ use Finding::{
 use ti_cap::Capability;
 use ti_fixtures::{Finds, Given, Unfound, number_of, show, show_debug};
 use ti_lint::{
-    Expected, Finding, PlacedFinding, TextParameters, Variables, findings_of, text_parameters,
+    Expected, PlacedFinding, TextParameters, TokenFinding, Variables, findings_of, text_parameters,
 };
 
 /// A capability, how many parameters it has, the mask of the variables that texts of its entry store, and what is wrong, each
@@ -217,7 +217,7 @@ fn some_parameters_are_texts(rt: HostRuntime) {
 }
 
 /// The findings, and their words.
-const WORDS: &[(Finding, &'static str)] = &[
+const WORDS: &[(TokenFinding, &'static str)] = &[
     (StackUnderflow, "stack-underflow"),
     (ParameterRange, "parameter-range"),
     (RepeatedIncrement, "%i-repeated"),
@@ -234,7 +234,7 @@ const WORDS: &[(Finding, &'static str)] = &[
 ];
 
 /// The first word that is not the one of its finding.
-fn first_other(words: &[(Finding, &'static str)]) -> &'static str {
+fn first_other(words: &[(TokenFinding, &'static str)]) -> &'static str {
     for (finding, word) in words {
         if finding.word() != *word {
             return *word;

@@ -4,10 +4,11 @@ use crate::tests::check_rows;
 use ti_cap::{Capability, Token};
 use ti_fixtures::{Finds, Given, Unfound, place_of, show, show_debug};
 use ti_lint::{
-    TextFinding, Variables, extended_class_of, is_double_percent, is_false_mark, is_half_paired,
-    is_mark, is_meant_to_expand, stored_by, toggling_pairs, undoing_pairs, unused_parameters,
+    Variables, extended_class_of, is_double_percent, is_false_mark, is_half_paired, is_mark,
+    is_meant_to_expand, stored_by, toggling_pairs, undoing_pairs, unused_parameters,
 };
 use ti_names::{Class, NameTable, class_of};
+use ti_report::Finding;
 use ti_words::Kind;
 
 /// Names of texts with what they are. In micro mode a text has the parameters of the text that it is like.
@@ -247,25 +248,27 @@ fn some_texts_of_own_names_are_known(rt: HostRuntime) {
 }
 
 /// The findings of texts and entries, and their words.
-const WORDS: &[(TextFinding, &'static str)] = &[
-    (TextFinding::Malformed, "malformed"),
-    (TextFinding::UnusedParameter, "parameter-unused"),
-    (TextFinding::UninterpretedEscape, "uninterpreted-escape"),
-    (TextFinding::UninterpretedPercent, "uninterpreted-percent"),
-    (TextFinding::EqualPair, "pair-equal"),
-    (TextFinding::FalseMark, "padding-malformed"),
-    (TextFinding::MarkInKey, "padding-in-key"),
-    (TextFinding::HalfPaired, "acsc-odd"),
-    (TextFinding::KeyPrefix, "key-prefix"),
-    (TextFinding::AlikeKeys, "keys-alike"),
-    (TextFinding::RepeatedName, "name-repeated"),
-    (TextFinding::Colors, "colors-pair"),
-    (TextFinding::Layout, "layout"),
-    (TextFinding::Base, "base"),
+const WORDS: &[(Finding, &'static str)] = &[
+    (Finding::Malformed, "malformed"),
+    (Finding::UnusedParameter, "parameter-unused"),
+    (Finding::UninterpretedEscape, "uninterpreted-escape"),
+    (Finding::UninterpretedPercent, "uninterpreted-percent"),
+    (Finding::EqualPair, "pair-equal"),
+    (Finding::FalseMark, "padding-malformed"),
+    (Finding::MarkInKey, "padding-in-key"),
+    (Finding::HalfPaired, "acsc-odd"),
+    (Finding::KeyPrefix, "key-prefix"),
+    (Finding::AlikeKeys, "keys-alike"),
+    (Finding::RepeatedName, "name-repeated"),
+    (Finding::ColorsStay, "colors-pair"),
+    (Finding::NoColors, "colors-pair"),
+    (Finding::ColorsAreFixed, "colors-pair"),
+    (Finding::Layout, "layout"),
+    (Finding::Base, "base"),
 ];
 
 /// The first word that is not the one of its finding.
-fn first_other(words: &[(TextFinding, &'static str)]) -> &'static str {
+fn first_other(words: &[(Finding, &'static str)]) -> &'static str {
     for (finding, word) in words {
         if finding.word() != *word {
             return *word;

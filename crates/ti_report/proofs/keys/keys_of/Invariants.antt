@@ -1,12 +1,10 @@
--- The keys so far go on to those of all capabilities.
-use Rattle.std.proofs.Common.{◌≡◌, ◌++◌, length}
+-- The keys so far are those of the texts so far.
+use Rattle.std.proofs.Common.{◌≡◌, map, take}
 use Rattle.std.specs.List.{flat_map}
-use Rattle.ti_report.specs.Keys.{entry_keys, keys_in}
+use Rattle.ti_report.specs.Keys.{keys_in}
+use Rattle.ti_report.specs.inner.Held.{text_held}
 use Rattle.ti_report.specs.inner.Lent.{keys_lent}
 use Rattle.ti_report.proofs.keys.keys_of.Given as goal
 
-abbrev pub invariant-items : goal.invariant-items
-invariant-items g l = keys_lent l.keys.items ++ flat_map keys_in l.items ≡ entry_keys l.entry
-
-abbrev pub decreases-items : goal.decreases-items
-decreases-items g l = length l.items
+abbrev pub invariant-texts : goal.invariant-texts
+invariant-texts g l = keys_lent l.keys.items ≡ flat_map keys_in (map text_held (take l.text-index l.texts))

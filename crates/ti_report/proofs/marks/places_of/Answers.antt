@@ -1,5 +1,5 @@
 use Rattle.std.proofs.Common.{◌∙◌, ap, inl, inr, rules}
-use Rattle.ti_lint.specs.declared.finding.Finding.TheVariants.{StackUnderflow}
+use Rattle.ti_lint.specs.declared.token_finding.TokenFinding.TheVariants.{StackUnderflow}
 use Rattle.ti_lint.specs.declared.placed_finding.PlacedFinding.{PlacedFinding}
 use Rattle.ti_report.proofs.PlacesOfLemmas.{going_end, going_next}
 use Rattle.ti_report.proofs.marks.places_of.Goals.{then-eq+in_ok-push, else-eq}

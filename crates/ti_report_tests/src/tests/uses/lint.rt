@@ -2,7 +2,9 @@
 
 use std::test::Fail;
 use ti_cap::Capability;
-use ti_lint::{Expected, Finding, Findings, PlacedFinding, TextParameters, Variables, findings_of};
+use ti_lint::{
+    Expected, Findings, PlacedFinding, TextParameters, TokenFinding, Variables, findings_of,
+};
 
 /// `tsl` as the entry of the IBM 8514 has it. Its parameter is a column.
 const TSL: &[u8] = b"\x1bj\x1bYI%+ \x1bo";
@@ -19,16 +21,16 @@ fn a_text_of_termcap(rt: HostRuntime) -> Result<(), Fail> {
     let wanted = [
         PlacedFinding {
             place: 5,
-            finding: Finding::TermcapParameter,
+            finding: TokenFinding::TermcapParameter,
         },
         PlacedFinding {
             place: 5,
-            finding: Finding::StackResidue,
+            finding: TokenFinding::StackResidue,
         },
     ];
     let found = findings_of(rt.alloc(), &Capability::parse(TSL)?, expected)?;
     assert!(rt; found.as_slice() == wanted.as_slice());
-    assert!(rt; Finding::TermcapParameter.word() == "termcap-parameter");
+    assert!(rt; TokenFinding::TermcapParameter.word() == "termcap-parameter");
     Ok(())
 }
 
@@ -49,7 +51,7 @@ fn one_token_at_a_time(rt: HostRuntime) -> Result<(), Fail> {
         );
     }
     let sum = findings.token().ok_or("end")?;
-    assert!(rt; sum.before == Some(Finding::TermcapParameter));
-    assert!(rt; sum.after == Some(Finding::StackResidue));
+    assert!(rt; sum.before == Some(TokenFinding::TermcapParameter));
+    assert!(rt; sum.after == Some(TokenFinding::StackResidue));
     Ok(())
 }

@@ -2,7 +2,7 @@
 
 use std::test::Fail;
 use ti_cap::Capability;
-use ti_values::{Range, Same, Tried, ValueFinding, first_empty, first_same, sent_for, values_of};
+use ti_values::{Range, Same, Tried, first_empty, first_same, sent_for, values_of};
 
 /// `setf` as the entry of the AT&T 6300 has it, for eight colors.
 const SETF: &[u8] = b"\x1b[?%?%p1%{0}%=%t0%e%p1%{1}%=%t2%e%p1%{1}%-%d%;m";
@@ -17,6 +17,5 @@ fn two_colors_are_the_same(rt: HostRuntime) -> Result<(), Fail> {
     assert!(rt; first_empty(sent.as_slice()).is_none());
     let same = first_same(rt.alloc(), sent.as_slice())?;
     assert!(rt; same == Some(Same { one: 1, other: 3 }));
-    assert!(rt; ValueFinding::SameOutput.word() == "same-output");
     Ok(())
 }

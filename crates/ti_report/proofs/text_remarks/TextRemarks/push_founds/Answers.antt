@@ -1,6 +1,6 @@
 use Rattle.std.proofs.Common.{◌<◌, List, ap, arith, get_or, length, subst}
-use Rattle.ti_lint.specs.declared.finding.Finding.{Finding}
-use Rattle.ti_lint.specs.declared.finding.Finding.TheVariants.{StackUnderflow}
+use Rattle.ti_lint.specs.declared.token_finding.TokenFinding.{TokenFinding}
+use Rattle.ti_lint.specs.declared.token_finding.TokenFinding.TheVariants.{StackUnderflow}
 use Rattle.ti_report.specs.Lines.{Adds}
 use Rattle.ti_report.specs.Texts.{IsFindingReport, all_findings}
 use Rattle.ti_report.proofs.ReportsLemmas.{goes_end, goes_next}
@@ -13,7 +13,7 @@ findings-preserved g c =
     let out = c.findings.self in
     let new = c.push_found.new.self in
     let L = IsFindingReport c.args.capability.now c.args.parameters c.args.founds.now in
-    let Q : List Finding → Type 0 = λ l. Adds (L i (get_or l i StackUnderflow)) out new in
+    let Q : List TokenFinding → Type 0 = λ l. Adds (L i (get_or l i StackUnderflow)) out new in
     let within : i < length all_findings = omega (arith, c.findings-test.true, ap length same) in
     goes_next L all_findings i StackUnderflow c.args.self.now out new within c.findings.invariant (subst Q same c.in_ok-push_found.ensures)
 

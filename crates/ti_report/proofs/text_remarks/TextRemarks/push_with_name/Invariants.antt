@@ -4,4 +4,4 @@ use Rattle.ti_report.specs.Remarks.{with_name}
 use Rattle.ti_report.proofs.text_remarks.TextRemarks.push_with_name.Given as goal
 
 abbrev pub invariant-remarks : goal.invariant-remarks
-invariant-remarks g l = l.out.items ≡ l.initial.out.items ++ map (with_name l.subject.name.now l.subject.text.now) (take l.remark-index l.self)
+invariant-remarks g l = l.report ≡ l.initial.report ++ map (with_name l.subject.name.now l.subject.text.now) (take l.remark-index l.self)

@@ -1,0 +1,13 @@
+-- Those that were seen are the names so far, and the remarks so far go on to those on all.
+use Rattle.std.proofs.Common.{take}
+use Rattle.ti_report.specs.Names.{IsNameReport}
+use Rattle.ti_report.specs.inner.Lent.{texts_lent}
+use Rattle.ti_report.proofs.ReportsLemmas.{GoesOn}
+use Rattle.ti_report.proofs.RepeatedLemmas.{AreSeen}
+use Rattle.ti_report.proofs.report.Report.push_each.Given as goal
+
+abbrev pub invariant-names : goal.invariant-names
+invariant-names g l = record {
+  seen : AreSeen (take l.name-index (texts_lent l.names)) l.seen.keys;
+  goes : GoesOn (IsNameReport (texts_lent l.names)) (texts_lent l.names) l.initial.self l.name-index l.self;
+}

@@ -1,0 +1,11 @@
+-- The remarks so far and those on the keys from the one before the next on are those on all.
+use Rattle.std.proofs.Common.{◌≡◌, ◌++◌, ◌-◌, ◌≤◌, drop}
+use Rattle.ti_report.specs.inner.Lent.{keys_lent}
+use Rattle.ti_report.specs.inner.Neighbours.{on_row}
+use Rattle.ti_report.proofs.report.Report.push_row.Given as goal
+
+abbrev pub invariant-keys : goal.invariant-keys
+invariant-keys g l = record {
+  low : 1 ≤ l.next;
+  so_far : l.self ++ on_row l.fn.level (drop (l.next - 1) (keys_lent l.row)) ≡ l.initial.self ++ on_row l.fn.level (keys_lent l.row);
+}
