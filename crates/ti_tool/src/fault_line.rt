@@ -188,6 +188,9 @@ pub fn line_fault_line(fault: LineFault) -> FaultLine
         LineFault::BothWidths => line_of(&[b"convert: both widths\n"]),
         LineFault::ToTerminal => line_of(&[b"convert: not to a terminal without --force\n"]),
         LineFault::FileCount => line_of(&[b"diff: one file or two\n"]),
+        LineFault::InputTwice => {
+            line_of(&[b"diff: standard input cannot be compared with itself\n"])
+        }
         LineFault::Words(why) => words_line(why),
     }
 }
