@@ -61,7 +61,7 @@ fn put<A: Allocator + Copy>(
 impl Store for Shelf {
     fn find<A: Allocator + Copy>(&self, alloc: A, name: &str) -> io::Result<Files<A>> {
         if name != "folder" {
-            return one_file(alloc, name, None);
+            return Ok(one_file(alloc, name, None)?);
         }
         let invalid = io::Error::from(ErrorKind::InvalidFilename);
         let mut files = one_file(alloc, "folder", Some(invalid))?;
@@ -86,6 +86,8 @@ const ROWS: &str = r#"
 ti show small | file => 0 out format: legacy\nnames: t\nflag bw\nnumber cols 80\ntext bel 07\n
 # the input has another text
 ti show small - | file => 0 out file: small\nformat: legacy\nnames: t\nflag bw\nnumber cols 80\ntext bel 07\nfile: -\nformat: legacy\nnames: t\nflag bw\nnumber cols 80\ntext bel 1b5b3f255b3b303132333435363738395d63\n
+# the second time it has nothing left
+ti show - - | file => 3 out file: -\nformat: legacy\nnames: t\nflag bw\nnumber cols 80\ntext bel 1b5b3f255b3b303132333435363738395d63\n err standard input: entry: Truncated at 0\n
 ti show --entry small | file => 0 out format: legacy\nnames: t\nflag bw\nnumber cols 80\ntext bel 07\n
 ti check more\E --entry small | file => 0 out small: text bel ok depth 0 bound 1\nmore\E: text bel ok depth 0 bound 1\nmore\E: text+ E3 ok depth 0 bound 4\n
 ti check --entry=- | file => 1 out text bel fault UnknownEscape at 3\n
