@@ -67,10 +67,10 @@ _ti() {
         '') words='show check lint get diff expand convert cap trace help --help --version' ;;
         cap) words='--source --hex --escape --help' ;;
         trace) words='--source --of --escape --json --color --entry --help' ;;
-        show) words='--escape --all-names --json --help' ;;
-        check) words='--escape --all-names --json --help' ;;
+        show) words='--escape --all-names --json --entry --help' ;;
+        check) words='--escape --all-names --json --entry --help' ;;
         expand) words="--hex --escape --all-names --rate --lines --xon --entry --help $_ti_texts" ;;
-        lint) words='--all --json --color --help' ;;
+        lint) words='--all --json --color --entry --help' ;;
         diff) words='--expand --json --color --help' ;;
         convert) words='--wide --narrow --force --help' ;;
         get) words="--hex --escape --rate --lines --xon --entry --help $_ti_names" ;;

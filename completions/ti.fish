@@ -24,7 +24,7 @@ complete -c ti -n '__fish_seen_subcommand_from diff' -l expand -d 'Ignore differ
 complete -c ti -n '__fish_seen_subcommand_from expand get' -l rate -x -d 'Speed of the line in bytes per second'
 complete -c ti -n '__fish_seen_subcommand_from expand get' -l lines -x -d 'Lines that the string affects'
 complete -c ti -n '__fish_seen_subcommand_from expand get' -l xon -d 'The line has flow control'
-complete -c ti -n '__fish_seen_subcommand_from expand get trace' -l entry -r -F -d 'The entry, in place of standard input'
+complete -c ti -n '__fish_seen_subcommand_from show check lint expand get trace' -l entry -r -F -d 'The entry, in place of standard input'
 complete -c ti -n '__fish_seen_subcommand_from show check lint diff convert' -F
 complete -c ti -n '__fish_seen_subcommand_from convert' -l wide -d 'Numbers of 32 bits'
 complete -c ti -n '__fish_seen_subcommand_from convert' -l narrow -d 'Numbers of 16 bits'

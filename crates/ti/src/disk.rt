@@ -14,7 +14,7 @@ pub struct Disk<'a, R> {
 impl<'a, R: Files + Alloc + Clone + Drop> Store for Disk<'a, R> {
     fn find<A: Allocator + Copy>(&self, alloc: A, name: &str) -> io::Result<ti_tool::Files<A>> {
         if !fs::metadata(self.rt, name)?.is_dir() {
-            return one_file(alloc, name, None);
+            return Ok(one_file(alloc, name, None)?);
         }
         let mut found = walk(self.rt, alloc, name)?;
         found.sort_by(|one, other| one.name.as_str().cmp(other.name.as_str()))?;

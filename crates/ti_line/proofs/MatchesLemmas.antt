@@ -1,5 +1,5 @@
 -- What the getters of `clap`'s matches read is what the rows hold.
-use Rattle.std.proofs.Common.{◌≡◌, ◌∙◌, ◌^◌, ◌&&◌, ℕ, Bool, true, false, refl, sym, ap, List, [], ◌∷◌, map, length, nat_lt, lt-ltb, ltb-true}
+use Rattle.std.proofs.Common.{◌≡◌, ◌∙◌, ◌^◌, ◌&&◌, ℕ, Bool, true, false, refl, sym, ap, List, [], ◌∷◌, ◌++◌, map, length, nat_lt, lt-ltb, ltb-true}
 use Rattle.std.specs.Prelude.{Option, Some, None, Result, Ok, Err, option_map, unwrap_or, codes}
 use Rattle.std.specs.Borrow.{Bor}
 use Rattle.std.specs.List.{list_all}
@@ -7,12 +7,13 @@ use Rattle.std.specs.Option.{option_map_or}
 use Rattle.std.specs.Str.{bytes_eq}
 use Rattle.std.specs.Char.{digit_value}
 use Rattle.std.specs.Str.Parse.{AllDigits, ParsesBool, ParsesUnsigned, digits_value, without_leading_plus}
+use Rattle.std.proofs.lemmas.List.{map-append}
 use Rattle.std.proofs.lemmas.Slice.Eq.{bytes_eq-Decides}
 use Rattle.std.specs.Bool.{Decides}
-use Rattle.clap.specs.Words.{Text, ReadsOne, matched_of, one_text, raw_values, rows_of}
+use Rattle.clap.specs.Words.{Row, Text, ReadsOne, matched_of, one_text, raw_values, rows_of}
 use Rattle.clap.specs.declared.parser.matches.Found.{Found}
 use Rattle.clap.proofs.WalkLemmas.{both, one_text-rows, raw_values-rows}
-use Rattle.ti_line.specs.CommandLine.{flag_in, number_in, number_or, is_input, named_files, words_in}
+use Rattle.ti_line.specs.CommandLine.{files_in, flag_in, number_in, number_or, is_input, named_files, words_in}
 
 decided_no : {P : Type 0} (b : Bool) → Decides b P → (P → ⊥) → b ≡ false
 decided_no true d never = absurd (never (d.0 refl))
@@ -88,3 +89,8 @@ no_files words names files e input none = rw (← e, input) none
 
 pub all_files : (words names files : List Text) → words ≡ names → is_input words ≡ false → files ≡ words → files ≡ named_files names
 all_files words names files e input all = rw (← e, input) all
+
+-- the files of both arguments
+pub all_read : (rows : List Row) (entry words all : List (Bor Text)) → all ≡ ([] ++ entry) ++ words → map (λ v. v.now) entry ≡ words_in (codes "ENTRY") rows → map (λ v. v.now) words ≡ words_in (codes "FILE") rows
+    → map (λ v. v.now) all ≡ files_in rows
+all_read rows entry words all is given named = ap (map (λ v. v.now)) is ∙ map-append (λ v. v.now) entry words ∙ ap (λ l. l ++ map (λ v. v.now) words) given ∙ ap (λ l. words_in (codes "ENTRY") rows ++ l) named

@@ -1,7 +1,7 @@
 -- The command line of `ti`: the command that is handed to `clap`, what words ask for by it, and the
 -- words that it refuses or answers with help. `fault_of` and `subcommand_of` are `clap`'s own
 -- definition of a simple command.
-use Rattle.std.specs.Prelude.{◌≡◌, ◌^◌, ◌&&◌, ℕ, Bool, true, false, not, List, [], ◌∷◌, fold, Option, Some, None, is_some, codes, pos, unwrap_or, option_and_then, if◌then◌else◌, nat_lt, nat_le, length}
+use Rattle.std.specs.Prelude.{◌≡◌, ◌^◌, ◌&&◌, ℕ, Bool, true, false, not, List, [], ◌∷◌, ◌++◌, fold, Option, Some, None, is_some, codes, pos, unwrap_or, option_and_then, if◌then◌else◌, nat_lt, nat_le, length}
 use Rattle.std.specs.List.{list_all, list_any}
 use Rattle.std.specs.Option.{option_map_or}
 use Rattle.std.specs.Str.{bytes_eq}
@@ -78,7 +78,7 @@ file_rule = new_rule (codes "FILE")
 
 -- `--entry FILE`
 abbrev pub entry_rule : Rule
-entry_rule = record file_rule { long = Some (codes "entry") }
+entry_rule = record (new_rule (codes "ENTRY")) { long = Some (codes "entry"); value_names = 1 }
 
 -- `--of NAME`
 abbrev pub of_rule : Rule
@@ -115,20 +115,21 @@ trace_app =
     with_rules (new_app (codes "trace"))
     (source_rule ∷ of_rule ∷ escape_rule ∷ json_rule ∷ color_rule ∷ entry_rule ∷ params_rule ∷ [])
 
--- `show [--escape] [--all-names] [--json] [FILE..]`
+-- `show [--escape] [--all-names] [--json] [--entry FILE] [FILE..]`
 abbrev pub show_app : App
 show_app =
-    with_rules (new_app (codes "show")) (escape_rule ∷ all_names_rule ∷ json_rule ∷ files_rule ∷ [])
+    with_rules (new_app (codes "show")) (escape_rule ∷ all_names_rule ∷ json_rule ∷ entry_rule ∷ files_rule ∷ [])
 
--- `check [--escape] [--all-names] [--json] [FILE..]`
+-- `check [--escape] [--all-names] [--json] [--entry FILE] [FILE..]`
 abbrev pub check_app : App
 check_app =
-    with_rules (new_app (codes "check")) (escape_rule ∷ all_names_rule ∷ json_rule ∷ files_rule ∷ [])
+    with_rules (new_app (codes "check")) (escape_rule ∷ all_names_rule ∷ json_rule ∷ entry_rule ∷ files_rule ∷ [])
 
--- `lint [--all] [--json] [--color WHEN] [FILE..]`
+-- `lint [--all] [--json] [--color WHEN] [--entry FILE] [FILE..]`
 abbrev pub lint_app : App
 lint_app =
-    with_rules (new_app (codes "lint")) (flag_rule (codes "all") ∷ json_rule ∷ color_rule ∷ files_rule ∷ [])
+    with_rules (new_app (codes "lint"))
+    (flag_rule (codes "all") ∷ json_rule ∷ color_rule ∷ entry_rule ∷ files_rule ∷ [])
 
 -- `expand NAME [--hex] [--escape] [--all-names] [--rate N] [--lines N] [--xon] [--entry FILE] [PARAM..]`
 abbrev pub expand_app : App
@@ -197,9 +198,13 @@ words_in id rows = unwrap_or (all_of id rows) []
 abbrev pub params_in : List Row → List Text
 params_in = words_in (codes "PARAM")
 
--- names of files are that of standard input, `-`
+-- the name of standard input
+abbrev pub is_minus : Text → Bool
+is_minus name = bytes_eq name (codes "-")
+
+-- names of files are that of standard input
 abbrev pub is_input : List Text → Bool
-is_input (name ∷ []) = bytes_eq name (codes "-")
+is_input (name ∷ []) = is_minus name
 is_input _ = false
 
 -- the files that are named, none for standard input
@@ -255,7 +260,7 @@ line_by command rows =
     else (if bytes_eq command (codes "trace")
     then Some (Trace (flag_in (codes "source") rows) (first_of (codes "NAME") rows)
     (flag_in (codes "json") rows) (flag_in (codes "escape") rows) (first_of (codes "color") rows)
-    (is_given_in (codes "FILE") rows) (params_in rows))
+    (is_given_in (codes "ENTRY") rows) (params_in rows))
     else (if bytes_eq command (codes "show")
     then Some (Show (flag_in (codes "json") rows) (flag_in (codes "escape") rows)
     (flag_in (codes "all-names") rows))
@@ -280,9 +285,13 @@ line_by command rows =
 abbrev pub line_in : Option (Text × List Row) → Option Line
 line_in found = option_and_then (λ p. line_by p.0 p.1) found
 
+-- the files of a subcommand: that of `--entry`, and those of its words
+abbrev pub files_in : List Row → List Text
+files_in rows = words_in (codes "ENTRY") rows ++ words_in (codes "FILE") rows
+
 -- the files that the words name
 abbrev pub files_found : Option (Text × List Row) → List Text
-files_found found = option_map_or (λ p. named_files (words_in (codes "FILE") p.1)) found []
+files_found found = option_map_or (λ p. named_files (files_in p.1)) found []
 
 abbrev pub files_of : List Text → List Text
 files_of words = files_found (subcommand_of ti_app words)

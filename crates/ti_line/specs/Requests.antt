@@ -7,7 +7,7 @@ use Rattle.ti_words.specs.declared.Width.{Width}
 use Rattle.ti_words.specs.declared.Width.TheVariants.{Legacy, Wide}
 use Rattle.ti_expand.specs.declared.values.Value.{Value}
 use Rattle.ti_pad.specs.Setting.{Setting}
-use Rattle.ti_line.specs.CommandLine.{Line, AsksForHelp, Cap, Trace, Show, Check, Lint, Expand, Convert, Diff, Get, IsRefused, Reads, files_of}
+use Rattle.ti_line.specs.CommandLine.{Line, AsksForHelp, Cap, Trace, Show, Check, Lint, Expand, Convert, Diff, Get, IsRefused, Reads, files_of, is_minus}
 use Rattle.ti_line.specs.Options.{check_asked, color_asked, comparison_asked, input_asked, is_terminal, likeness_asked, lint_asked, names_asked, output_asked, show_asked, trace_asked}
 use Rattle.ti_line.specs.Params.{AreGiven, AreParams, IsGiven, IsGivenBy, IsParam, IsWordFault}
 use Rattle.ti_line.specs.declared.destination.Destination.{Destination}
@@ -49,6 +49,12 @@ abbrev pub compared : List Text → Option (Text × Text)
 compared (other ∷ []) = Some (codes "-", other)
 compared (file ∷ (other ∷ [])) = Some (file, other)
 compared _ = None
+
+-- they are standard input and standard input, which is read once
+abbrev pub is_input_twice : List Text → Bool
+is_input_twice (other ∷ []) = is_minus other
+is_input_twice (file ∷ (other ∷ [])) = is_minus file && is_minus other
+is_input_twice _ = false
 
 -- the words stand for no parameters, and why
 abbrev pub StandForNone : List Text → WordFault → Type 0
@@ -110,9 +116,10 @@ Asks to (Get name hex escape rate lines xon words) r =
     × IsGivenBy words g.given × (g.padding ≡ setting_of rate lines xon)
     × (g.output ≡ output_asked hex escape))
 Asks to (Diff json expand color files) r =
-    (d : code_of_diff.Pair) × (r.asked ≡ asks.Difference d)
+    (is_input_twice files ≡ false)
+    × ((d : code_of_diff.Pair) × (r.asked ≡ asks.Difference d)
     × (compared files ≡ Some (d.file.now, d.other.now)) × (d.likeness ≡ likeness_asked expand)
-    × ((c : Color) × (color_asked to color ≡ Some c) × (d.form ≡ comparison_asked json c))
+    × ((c : Color) × (color_asked to color ≡ Some c) × (d.form ≡ comparison_asked json c)))
 
 -- a task is what a line asks for, of the files that the words name
 abbrev pub IsTask : Destination → List Text → Line → Task → Type 0
@@ -121,7 +128,7 @@ IsTask to words line task =
 
 -- why that can't be done: both of two such flags are given, or a notation is to be read and a name is given, or an entry and
 -- no name of a capability in it, or the word of `--color` asks for nothing, or else the words stand for no parameters, or an
--- entry would go to a terminal, or the files to compare are not one or two
+-- entry would go to a terminal, or the files to compare are not one or two, or both are standard input
 abbrev pub HasFault : Destination → Line → LineFault → Type 0
 HasFault to (Cap source hex escape words) fault.BothForms = hex && escape ≡ true
 HasFault to (Cap source hex escape words) (fault.Words why) =
@@ -154,6 +161,8 @@ HasFault to (Get name hex escape rate lines xon words) (fault.Words why) =
 HasFault to (Diff json expand color files) fault.ColorWord = color_asked to color ≡ None
 HasFault to (Diff json expand color files) fault.FileCount =
     IsSome (color_asked to color) × (compared files ≡ None)
+HasFault to (Diff json expand color files) fault.InputTwice =
+    IsSome (color_asked to color) × (is_input_twice files ≡ true)
 HasFault _ _ _ = ⊥
 
 -- a line is answered with what it asks for, or with its fault

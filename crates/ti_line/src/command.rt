@@ -129,7 +129,10 @@ fn entry<'a>(alloc: Global) -> Arg<'a>
     ensures rule { rule_of result ≡ entry_rule }
     ensures local { result.global ≡ false }
 {
-    Arg::new(alloc, "FILE").long("entry").help(FILE)
+    Arg::new(alloc, "ENTRY")
+        .long("entry")
+        .value_name("FILE")
+        .help(FILE)
 }
 
 const FILES: &str = "Compiled entries, or directories of them; - or nothing
@@ -261,7 +264,8 @@ fn show<'a>(alloc: Global) -> Result<Command<'a>, AllocError>
         "Example:\n  ti show /lib/terminfo/x/xterm\n\nFor an entry that a stranger wrote:\n  ti show --escape < entry",
     );
     let command = with_two(command, escape(alloc), all_names(alloc));
-    with_two(command, json(alloc), files(alloc, FILES))
+    let command = with_two(command, json(alloc), entry(alloc));
+    with_one(command, files(alloc, FILES))
 }
 
 fn check<'a>(alloc: Global) -> Result<Command<'a>, AllocError>
@@ -275,7 +279,8 @@ fn check<'a>(alloc: Global) -> Result<Command<'a>, AllocError>
         "Example, all entries of a directory:\n  ti check /lib/terminfo\n\nFor an entry that a stranger wrote:\n  ti check --escape < entry",
     );
     let command = with_two(command, escape(alloc), all_names(alloc));
-    with_two(command, json(alloc), files(alloc, FILES))
+    let command = with_two(command, json(alloc), entry(alloc));
+    with_one(command, files(alloc, FILES))
 }
 
 fn lint<'a>(alloc: Global) -> Result<Command<'a>, AllocError>
@@ -289,7 +294,8 @@ fn lint<'a>(alloc: Global) -> Result<Command<'a>, AllocError>
         "Example, all entries of a directory:\n  ti lint /lib/terminfo",
     );
     let command = with_two(command, flag(alloc, "all", ALL), json(alloc));
-    with_two(command, color(alloc), files(alloc, FILES))
+    let command = with_two(command, color(alloc), entry(alloc));
+    with_one(command, files(alloc, FILES))
 }
 
 fn get<'a>(alloc: Global) -> Result<Command<'a>, AllocError>

@@ -3,9 +3,9 @@
 ghost use Rattle.std.specs.Prelude.{◌≡◌, ◌≤◌, ◌&&◌, ◌||◌, true, false, Bool, IfOk, IfSome, IsSome, MatchResult, codes, option_map};
 ghost use Rattle.ti_base.specs.Limits.{greatest_rate, most_lines};
 ghost use Rattle.clap.specs.Words.{first_of};
-ghost use Rattle.ti_line.specs.CommandLine.{Cap, Check, Convert, Diff, Lint, Show, Trace, expand_by, flag_in, get_by, is_given_in, is_input as the_is_input, line_by, named_files, number_in, params_in, words_in};
+ghost use Rattle.ti_line.specs.CommandLine.{Cap, Check, Convert, Diff, Lint, Show, Trace, expand_by, files_in, flag_in, get_by, is_given_in, is_input as the_is_input, line_by, named_files, number_in, params_in, words_in};
 ghost use Rattle.ti_line.specs.Params.{AreParams, IsGivenBy};
-ghost use Rattle.ti_line.specs.Requests.{GiveNone, IsAnswered, IsNoTraceForm, IsTraceForm, StandForNone, compared, setting_of, texts_of};
+ghost use Rattle.ti_line.specs.Requests.{GiveNone, IsAnswered, IsNoTraceForm, IsTraceForm, StandForNone, compared, is_input_twice as the_is_input_twice, setting_of, texts_of};
 ghost use Rattle.ti_line.specs.Options.{color_asked, comparison_asked as the_comparison_asked, output_asked as the_output_asked};
 ghost use Rattle.ti_line.specs.declared.destination.Destination.{Destination};
 ghost use Rattle.ti_line.specs.declared.no_line.LineFault.TheVariants as fault;
@@ -65,14 +65,14 @@ fn is_input(words: &[&str]) -> bool
 /// The files that are named, none for standard input, which `-` alone names too.
 pub(crate) fn files<'a>(alloc: Global, given: &ArgMatches<'a>) -> Result<Vec<&'a str>, AllocError>
     ensures { IfOk result (λ v. texts_of v.items
-        ≡ named_files (words_in (codes "FILE") (given_rows given.now))) }
+        ≡ named_files (files_in (given_rows given.now))) }
 {
-    let words = given.get_strs("FILE").unwrap_or(&[]);
     let mut files = Vec::new(alloc);
-    if is_input(words) {
-        return Ok(files);
+    files.extend_from_slice(given.get_strs("ENTRY").unwrap_or(&[]))?;
+    files.extend_from_slice(given.get_strs("FILE").unwrap_or(&[]))?;
+    if is_input(files.as_slice()) {
+        files.clear();
     }
-    files.extend_from_slice(words)?;
     Ok(files)
 }
 
@@ -185,9 +185,9 @@ fn trace_input<'a>(to: Destination, given: &ArgMatches<'a>) -> Result<Request<'a
         IsAnswered to
         (Trace (flag_in (codes "source") rows) None (flag_in (codes "json") rows)
         (flag_in (codes "escape") rows) (first_of (codes "color") rows)
-        (is_given_in (codes "FILE") rows) (params_in rows)) result }
+        (is_given_in (codes "ENTRY") rows) (params_in rows)) result }
 {
-    if text(given, "FILE").is_some() {
+    if text(given, "ENTRY").is_some() {
         return Err(LineFault::EntryWithoutName);
     }
     let form = trace_form(to, given)?;
@@ -203,7 +203,7 @@ fn trace<'a>(to: Destination, given: &ArgMatches<'a>) -> Result<Request<'a>, Lin
         IsAnswered to
         (Trace (flag_in (codes "source") rows) (first_of (codes "NAME") rows)
         (flag_in (codes "json") rows) (flag_in (codes "escape") rows) (first_of (codes "color") rows)
-        (is_given_in (codes "FILE") rows) (params_in rows)) result }
+        (is_given_in (codes "ENTRY") rows) (params_in rows)) result }
 {
     match text(given, "NAME") {
         Some(name) => trace_of(to, given, name),
@@ -331,6 +331,17 @@ fn pair<'a>(likeness: Likeness, form: Comparison, words: &[&'a str]) -> Option<P
     }
 }
 
+/// Whether the files to compare are standard input and standard input.
+fn is_input_twice(words: &[&str]) -> bool
+    ensures { result ≡ the_is_input_twice (texts_of words.now) }
+{
+    match words {
+        [other] => *other == "-",
+        [file, other] => *file == "-" && *other == "-",
+        _ => false,
+    }
+}
+
 /// What `diff` requests.
 fn diff<'a>(to: Destination, given: &ArgMatches<'a>) -> Result<Request<'a>, LineFault>
     ensures { let rows = given_rows given.now in IsAnswered to
@@ -339,7 +350,11 @@ fn diff<'a>(to: Destination, given: &ArgMatches<'a>) -> Result<Request<'a>, Line
 {
     let form = comparison_asked(flag(given, "json"), color(to, given)?);
     let likeness = likeness_asked(flag(given, "expand"));
-    match pair(likeness, form, given.get_strs("FILE").unwrap_or(&[])) {
+    let words = given.get_strs("FILE").unwrap_or(&[]);
+    if is_input_twice(words) {
+        return Err(LineFault::InputTwice);
+    }
+    match pair(likeness, form, words) {
         Some(pair) => Ok(Request {
             parameters: NO_PARAMETERS,
             asked: Asked::Difference(pair),

@@ -27,6 +27,8 @@ pub enum LineFault {
     ToTerminal,
     /// `diff` is to compare no files, or more than two.
     FileCount,
+    /// `diff` is to compare standard input with itself.
+    InputTwice,
     /// The words of the parameters are none.
     Words(WordFault),
 }
@@ -42,6 +44,7 @@ impl fmt::Display for LineFault {
             LineFault::BothWidths => "BothWidths",
             LineFault::ToTerminal => "ToTerminal",
             LineFault::FileCount => "FileCount",
+            LineFault::InputTwice => "InputTwice",
             LineFault::Words(why) => return write!(f, "{why}"),
         };
         f.write_str(word)

@@ -1,5 +1,5 @@
 -- What two files lead to.
-use Rattle.std.proofs.Common.{◌≡◌, ◌∙◌, ◌==◌, ℕ, true, false, true≢false, List, [], ◌∷◌, length, map, inl, inr, refl, ap, arith}
+use Rattle.std.proofs.Common.{◌≡◌, ◌∙◌, ◌==◌, ℕ, true, false, true≢false, List, [], ◌∷◌, length, map, inl, inr, refl, ap, arith, subst, sym}
 use Rattle.std.proofs.lemmas.Bool.{eqb-true}
 use Rattle.std.specs.Prelude.{Option, Result, Ok, Err, IfOk, MatchResult, unwrap_or}
 use Rattle.ti_words.specs.Spelling.{Spells}
@@ -8,10 +8,12 @@ use Rattle.ti_line.specs.declared.options.Comparison.{Comparison}
 use Rattle.ti_line.specs.declared.options.Likeness.{Likeness}
 use Rattle.ti_line.specs.declared.request.Pair.{Pair}
 use Rattle.ti_tool.specs.declared.fault.ToolFault.TheVariants as fault
+use Rattle.ti_line.specs.CommandLine.{is_minus}
 use Rattle.ti_tool.specs.FaultLines.{fault_line}
-use Rattle.ti_tool.specs.FileRuns.{Contents, Delivered, Held, IsUnread, NoMemory, Supply, Unread}
+use Rattle.ti_tool.specs.Streams.{KnownFiles, Stream, Streams}
+use Rattle.ti_tool.specs.FileRuns.{Contents, Delivered, IsReadFrom, IsUnread, NoMemory, Supply, Unread}
 use Rattle.ti_listing.specs.Differences.{DifferenceValue}
-use Rattle.ti_tool.specs.Comparisons.{AreCompared, IsCompared, IsComparison, IsRefusedFile, RanDifference, status_of}
+use Rattle.ti_tool.specs.Comparisons.{AreCompared, AreSupplied, IsCompared, IsComparison, IsRefusedFile, RanDifference, status_of}
 
 -- the status of what is told
 pub low_status : {X : Type 0} (value : X → DifferenceValue) (told : List X) (len : ℕ) → length told ≡ len → (len == 0) ≡ true → 0 ≡ status_of (map value told)
@@ -35,21 +37,38 @@ module _ (F : Type 0) (O : Type 0) (bytes line : O → List ℕ) (status : O →
   other_refused (Ok o) contents of_other v spells refused = inr (inr ((v, spells), refused))
   other_refused (Err e) contents of_other v spells refused = tt
 
-  -- the other file is not read
-  pub other_unread : (r : Result O F) (contents : List ℕ) → IfOk r (λ o. IsUnread other (bytes o) (line o) (status o))
-      → IfOk r (λ o. (one : Supply) × (two : Supply) × IsComparison by form file other one two (bytes o) (line o) (status o))
-  other_unread (Ok o) contents unread = (Contents contents, Unread, unread)
-  other_unread (Err e) contents unread = tt
+-- bytes are read as the contents of a file
+abbrev Reads : KnownFiles → List ℕ → Stream → Stream → List ℕ → Type 0
+Reads known name before after read = IsReadFrom (is_minus name) (known.contents name) before after read
 
-  pub both_read : (r : Result O F) (contents of_other : List ℕ) → IfOk r (λ o. IsCompared by form file other contents of_other (bytes o) (line o) (status o))
-      → IfOk r (λ o. (one : Supply) × (two : Supply) × IsComparison by form file other one two (bytes o) (line o) (status o))
-  both_read (Ok o) contents of_other compared = (Contents contents, Contents of_other, compared)
-  both_read (Err e) contents of_other compared = tt
+-- what the two files hold, or that one is not read
+module _ {F O : Type 0} (bytes line : O → List ℕ) (status : O → ℕ) (known : KnownFiles) (d : Pair) (left0 between left1 : Stream) where
+  abbrev pub Led : Result O F → Type 0
+  Led r = IfOk r (λ o. (one : Supply) × (two : Supply) × AreSupplied known d left0 left1 one two × IsComparison d.likeness d.form d.file.now d.other.now one two (bytes o) (line o) (status o))
+
+  pub first_unread : (r : Result O F) → IfOk r (λ o. IsUnread d.file.now (bytes o) (line o) (status o)) → Led r
+  first_unread (Ok o) unread = (Unread, Unread, (between, tt, tt), unread)
+  first_unread (Err e) unread = tt
+
+  pub other_unread : (r : Result O F) (contents : List ℕ) → Reads known d.file.now left0 between contents → IfOk r (λ o. IsUnread d.other.now (bytes o) (line o) (status o)) → Led r
+  other_unread (Ok o) contents read unread = (Contents contents, Unread, (between, (refl, read), tt), unread)
+  other_unread (Err e) contents read unread = tt
+
+  pub both_read : (r : Result O F) (contents of_other one two : List ℕ) → Reads known d.file.now left0 between contents → Reads known d.other.now between left1 of_other → one ≡ contents → two ≡ of_other
+      → IfOk r (λ o. IsCompared d.likeness d.form d.file.now d.other.now one two (bytes o) (line o) (status o)) → Led r
+  both_read (Ok o) contents of_other one two read again is too compared = (
+    Contents one,
+    Contents two,
+    (between, (refl, subst (Reads known d.file.now left0 between) (sym is) read), (refl, subst (Reads known d.other.now between left1) (sym too) again)),
+    compared,
+  )
+  both_read (Err e) contents of_other one two read again is too compared = tt
 
 -- what they led to is written
-pub ran_difference : {F O : Type 0} (bytes line : O → List ℕ) (code : O → ℕ) (d : Pair) (held0 held1 told0 told1 : Held) (outcome : Result O F) (answer : Option ℕ) (status : ℕ)
-    → IfOk outcome (λ o. (one : Supply) × (two : Supply) × IsComparison d.likeness d.form d.file.now d.other.now one two (bytes o) (line o) (code o))
-    → MatchResult outcome (λ o. Delivered held0 held1 told0 told1 answer (bytes o) (line o) (code o)) (λ _. Delivered held0 held1 told0 told1 answer [] (fault_line fault.Memory) 6)
-    → status ≡ unwrap_or answer 5 → RanDifference d held0 held1 told0 told1 status
-ran_difference bytes line code d held0 held1 told0 told1 (Ok o) answer status (one, two, led) delivered is = (one, two, bytes o, line o, code o, answer, led, delivered, is)
-ran_difference bytes line code d held0 held1 told0 told1 (Err e) answer status led delivered is = (NoMemory, NoMemory, [], fault_line fault.Memory, 6, answer, (refl, refl, refl), delivered, is)
+pub ran_difference : {F O : Type 0} (bytes line : O → List ℕ) (code : O → ℕ) (known : KnownFiles) (d : Pair) (before after : Streams) (outcome : Result O F) (answer : Option ℕ) (status : ℕ)
+    → IfOk outcome (λ o. (one : Supply) × (two : Supply) × AreSupplied known d before.left after.left one two × IsComparison d.likeness d.form d.file.now d.other.now one two (bytes o) (line o) (code o))
+    → MatchResult outcome (λ o. Delivered before.held after.held before.told after.told answer (bytes o) (line o) (code o)) (λ _. Delivered before.held after.held before.told after.told answer [] (fault_line fault.Memory) 6)
+    → status ≡ unwrap_or answer 5 → RanDifference known d before after status
+ran_difference bytes line code known d before after (Ok o) answer status (one, two, supplied, led) delivered is = (one, two, bytes o, line o, code o, answer, supplied, led, delivered, is)
+ran_difference bytes line code known d before after (Err e) answer status led delivered is =
+    (NoMemory, NoMemory, [], fault_line fault.Memory, 6, answer, (before.left, tt, tt), (refl, refl, refl), delivered, is)

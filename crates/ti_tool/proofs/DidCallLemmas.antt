@@ -21,8 +21,7 @@ use Rattle.ti_tool.specs.Sources.{IsDueForSource}
 use Rattle.ti_line.specs.declared.request.OfEntry.{OfEntry}
 use Rattle.ti_tool.specs.inner.Kept.{IsKept}
 use Rattle.ti_tool.specs.inner.ReadsInto.{ReadsInto}
-use Rattle.ti_tool.specs.Calls.{Wrote, HasReadEnough, DidCall, DidCheck, HasFailed, IsEnough, IsFailedWrite, IsFullSource, stop_fault}
-use Rattle.ti_tool.specs.inner.Dues.{FailsAsDue}
+use Rattle.ti_tool.specs.Calls.{DidCall, DidCheck, FailsAsDue, HasFailed, HasReadEnough, IsEnough, IsFailedWrite, IsFullSource, Wrote, stop_fault}
 use Rattle.ti_tool.proofs.IsDueLemmas.{IsNeverOwn}
 
 pub failed : (due : Result (List ℕ) ToolFault → Type 0) (held : Option (List ℕ)) (e : ToolFault) → IsNeverOwn due → FailsAsDue due e → Wrote due held held (Err e)

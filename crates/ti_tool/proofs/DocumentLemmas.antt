@@ -1,5 +1,5 @@
 -- The line of a document, alone and in the object of its file.
-use Rattle.std.proofs.Common.{◌≡◌, ◌∙◌, ◌++◌, ◌-◌, ℕ, Bool, List, Some, ap, append_assoc, arith, length, length-append, refl, subst, sym, take}
+use Rattle.std.proofs.Common.{◌≡◌, ◌∙◌, ◌++◌, ◌-◌, ℕ, Bool, List, ap, append_assoc, arith, length, length-append, refl, sym, take}
 use Rattle.std.specs.Prelude.{codes}
 use Rattle.std.proofs.Math.Seq.{take-append_seam}
 use Rattle.json.specs.Print.{escape_byte, quoted}
@@ -7,18 +7,12 @@ use Rattle.serde_json.specs.Data.{Data, array, member, no_members, object, strin
 use Rattle.serde_json.specs.View.{items_of}
 use Rattle.serde_json.specs.Written.{compact_text}
 use Rattle.ti_escape.specs.Notation.{notation}
-use Rattle.ti_expand.specs.declared.values.Value.{Value}
 use Rattle.ti_line.specs.declared.options.Document.{Document}
 use Rattle.ti_line.specs.declared.options.Document.TheVariants as documents
-use Rattle.ti_line.specs.declared.request.Asked.TheVariants.{Entry}
-use Rattle.ti_line.specs.declared.request.OfEntry.{OfEntry}
-use Rattle.ti_line.specs.declared.request.OfEntry.TheVariants.{Json}
 use Rattle.ti_names.specs.AllNames.{front}
 use Rattle.ti_words.specs.Value.{EntryValue}
 use Rattle.ti_json.specs.Objects.{array_text}
-use Rattle.ti_tool.specs.Documents.{AreObjects, FindsIn, IsDocumentOfFile, in_object, key_of}
-use Rattle.ti_tool.specs.Results.{Finds}
-use Rattle.ti_tool.specs.inner.Several.{IsDueOfSeveral, document_in}
+use Rattle.ti_tool.specs.Documents.{AreObjects, IsDocumentOfFile, in_object, key_of}
 
 -- a line without its newline is its text
 pub without_newline : (text : List ℕ) → front (text ++ codes "\n") ≡ text
@@ -48,17 +42,3 @@ pub document_of_file : (document : Document) (name : List ℕ) (sound : Bool) (i
     → bytes ≡ compact_text (file_object document name (array (items_of objects))) → out ≡ bytes ++ codes "\n" → IsDocumentOfFile document name sound input v out
 document_of_file document name sound input v objects bytes out are is line =
     (array_text objects ++ codes "\n", (objects, are, refl), line ∙ ap (λ x. x ++ codes "\n") is ∙ object_is document name (array (items_of objects)))
-
--- ---- one of several files
-
-is_json : (asked : OfEntry) (document : Document) → document_in asked ≡ Some document → asked ≡ Json document
-is_json (Json given) document e = ap Json (cc)
-is_json other document e = absurd cc
-
-pub due_of_document : (asked : OfEntry) (document : Document) (parameters : List Value) (name : List ℕ) (sound : Bool) (input : List ℕ) (v : EntryValue) (out : List ℕ) → document_in asked ≡ Some document
-    → IsDocumentOfFile document name sound input v out → IsDueOfSeveral asked parameters name sound input v out
-due_of_document asked document parameters name sound input v out e due =
-    subst (λ a. IsDueOfSeveral a parameters name sound input v out) (sym (is_json asked document e)) due
-
-pub finds_document : (asked : OfEntry) (document : Document) (sound : Bool) → document_in asked ≡ Some document → FindsIn document sound → Finds (Entry asked) sound
-finds_document asked document sound e finds = subst (λ a. Finds (Entry a) sound) (sym (is_json asked document e)) finds

@@ -1,333 +1,196 @@
 -- What is done with files, one after another.
-use Rattle.std.proofs.Common.{◌≡◌, ◌==◌, ◌⊎◌, ◌∙◌, ℕ, ◌+◌, ◌<◌, Bool, true, false, List, [], ◌∷◌, ◌++◌, length, take, get_or, map, drop, ◌≤◌, take_all, nat_lt, refl, sym, ap, subst, inl, inr, arith, append_assoc}
-use Rattle.std.specs.Borrow.{Bor}
+use Rattle.std.proofs.Common.{◌≡◌, ◌==◌, ◌∙◌, ℕ, ◌+◌, ◌<◌, Bool, true, false, List, [], ◌∷◌, ◌++◌, length, take, get_or, map, drop, ◌≤◌, take_all, refl, sym, ap, subst, inl, inr, arith, append_assoc}
 use Rattle.std.specs.Prelude.{◌||◌, max, Option, Some, None, Result, Ok, Err, IfOk, MatchResult}
-use Rattle.std.specs.List.{AllByRecursion}
-use Rattle.std.specs.Option.{ok_or}
-use Rattle.std.specs.Io.KnownBytes.{Appends}
-use Rattle.std.proofs.KnownBytes.{Appends-nil, Appends-trans}
+use Rattle.std.specs.List.{flat_map, list_any}
 use Rattle.std.proofs.Math.Nat.{max-zero, zero-max}
 use Rattle.std.proofs.lemmas.Grind.{flat_map-append}
+use Rattle.std.proofs.lemmas.Bool.{eqb-true}
 use Rattle.std.proofs.lemmas.Int.{ints, clamps}
-use Rattle.std.proofs.lemmas.List.{append-nil, length-map, map-append, map_more, take-append-drop}
-use Rattle.ti_expand.specs.declared.values.Value.{Value}
+use Rattle.std.proofs.lemmas.List.{append-nil, map-append, map_more, take-append-drop}
+use Rattle.std.proofs.lemmas.List.Folds.{list_any-append}
+use Rattle.std.specs.Borrow.{Bor}
+use Rattle.ti_line.specs.CommandLine.{is_minus}
+use Rattle.ti_line.specs.Requests.{texts_of}
 use Rattle.ti_line.specs.declared.request.Asked.{Asked}
-use Rattle.ti_line.specs.declared.request.Asked.TheVariants.{Entry}
+use Rattle.ti_tool.specs.Runs.{RanRequest, RanTask}
 use Rattle.ti_line.specs.declared.request.OfEntry.{OfEntry}
 use Rattle.ti_tool.specs.declared.fault.ToolFault.TheVariants as fault
 use Rattle.ti_tool.specs.declared.fault.ToolFault.{ToolFault}
-use Rattle.ti_tool.specs.FaultLines.{AreTold, Told, asked_line, fault_line}
+use Rattle.ti_tool.specs.Calls.{FailsAsDue}
+use Rattle.ti_tool.specs.FaultLines.{IsAnswerLine, fault_line}
 use Rattle.ti_tool.specs.Files.{before_findings, file_line}
 use Rattle.ti_tool.specs.Results.{IsDueOf}
-use Rattle.ti_tool.specs.Runs.{RanTask}
 use Rattle.ti_tool.specs.Statuses.{status_for}
-use Rattle.ti_tool.specs.FileRuns.{AllTold, AreAllNamed, AreNamed, Contents, Delivered, DidFiles, DoneFile, Held, IsDone, IsOutcome, IsOutcomeOfContents, IsUnread, NoMemory, Unread, RanFiles, StoppedAt, Supply, greatest_status, takes_folders}
-use Rattle.ti_line.specs.Requests.{texts_of}
-use Rattle.ti_tool.specs.inner.Files.{AreCalled, RanFound, RanWord}
-
--- ---- lists of files
-
-all-append : {X : Type 0} (P : X → Type 0) (xs ys : List X) → AllByRecursion P xs → AllByRecursion P ys → AllByRecursion P (xs ++ ys)
-all-append P [] ys p q = q
-all-append P (x ∷ xs) ys p q = (p.0, all-append P xs ys p.1 q)
+use Rattle.ti_expand.specs.declared.values.Value.{Value}
+use Rattle.ti_line.specs.declared.request.Asked.TheVariants.{Entry}
+use Rattle.ti_tool.specs.FileRuns.{AreLookups, Delivered, DidFile, DidFiles, DoneFile, Contents, IsLookup, IsOutcome, IsOutcomeOfContents, IsReadFrom, IsSupplied, IsUnread, Job, NoMemory, RanFiles, RanFound, Supply, Unread, are_several, files_done, greatest_status}
+use Rattle.ti_tool.specs.Streams.{FileName, KnownFiles, Lookup, Streams}
 
 max_assoc : (a b c : ℕ) → max (max a b) c ≡ max a (max b c)
 max_assoc a b c = omega (arith, ints, clamps)
-
-greatest-append : (xs ys : List DoneFile) → greatest_status (xs ++ ys) ≡ max (greatest_status xs) (greatest_status ys)
-greatest-append [] ys = sym (zero-max (greatest_status ys))
-greatest-append (x ∷ xs) ys = ap (max x.status) (greatest-append xs ys) ∙ sym (max_assoc x.status (greatest_status xs) (greatest_status ys))
-
-told-append : (xs ys : List DoneFile) (a b c : Held) → AllTold xs a b → AllTold ys b c → AllTold (xs ++ ys) a c
-told-append [] ys a b c e q = let P : Held → Type 0 = λ x. AllTold ys x c in subst P e q
-told-append (x ∷ xs) ys a b c (m, t, r) q = (m, t, told-append xs ys m b c r q)
 
 -- both statuses are low if the greater one is
 pub max_low : (a b c : ℕ) → c ≡ max a b → c ≤ 1 → (a ≤ 1) × (b ≤ 1)
 max_low a b c is low = (omega (arith, ints, clamps), omega (arith, ints, clamps))
 
--- the names of the first elements of a list, and of one more
-pub names_more : {X : Type 0} (f : X → List ℕ) (xs : List X) (i : ℕ) (x : X) → i < length xs → x ≡ get_or xs i x → map f (take (i + 1) xs) ≡ map f (take i xs) ++ f x ∷ []
-names_more f xs i x h is = map_more f xs i x h ∙ ap (λ y. map f (take i xs) ++ f y ∷ []) (sym is)
+greatest-more : (xs : List DoneFile) (x : DoneFile) → greatest_status (xs ++ x ∷ []) ≡ max (greatest_status xs) x.status
+greatest-more [] x = max-zero x.status ∙ sym (zero-max x.status)
+greatest-more (y ∷ xs) x = ap (max y.status) (greatest-more xs x) ∙ sym (max_assoc y.status (greatest_status xs) x.status)
 
-split_at : {X : Type 0} (f : X → List ℕ) (xs : List X) (i : ℕ) (d : X) → i < length xs → map f xs ≡ (map f (take i xs) ++ f (get_or xs i d) ∷ []) ++ map f (drop (i + 1) xs)
-split_at f xs i d h =
-    ap (map f) (sym (take-append-drop (i + 1) xs)) ∙ map-append f (take (i + 1) xs) (drop (i + 1) xs) ∙ ap (λ y. y ++ map f (drop (i + 1) xs)) (map_more f xs i d h)
+-- ---- lists
 
-pub names_split : {X : Type 0} (f : X → List ℕ) (xs : List X) (i : ℕ) (x : X) → i < length xs → x ≡ get_or xs i x
+-- the values of the first elements of a list, and of one more
+pub some_more : {X Y : Type 0} (f : X → Y) (xs : List X) (i : ℕ) (x : X) → i < length xs → x ≡ get_or xs i x → map f (take (i + 1) xs) ≡ map f (take i xs) ++ f x ∷ []
+some_more f xs i x h is = map_more f xs i x h ∙ ap (λ y. map f (take i xs) ++ f y ∷ []) (sym is)
+
+pub some_split : {X Y : Type 0} (f : X → Y) (xs : List X) (i : ℕ) (x : X) → i < length xs → x ≡ get_or xs i x
     → map f xs ≡ (map f (take i xs) ++ f x ∷ []) ++ map f (drop (i + 1) xs)
-names_split f xs i x h is = split_at f xs i x h ∙ ap (λ y. (map f (take i xs) ++ f y ∷ []) ++ map f (drop (i + 1) xs)) (sym is)
+some_split f xs i x h is =
+    ap (map f) (sym (take-append-drop (i + 1) xs)) ∙ map-append f (take (i + 1) xs) (drop (i + 1) xs) ∙ ap (λ y. y ++ map f (drop (i + 1) xs)) (some_more f xs i x h is)
 
-all_names : {X : Type 0} (f : X → List ℕ) (xs : List X) (i : ℕ) → i ≡ length xs → map f (take i xs) ≡ map f xs
-all_names f xs i is = ap (map f) (take_all i xs (omega arith))
+pub all_some : {X Y : Type 0} (f : X → Y) (xs : List X) (i : ℕ) → i ≡ length xs → map f (take i xs) ≡ map f xs
+all_some f xs i is = ap (map f) (take_all i xs (omega arith))
 
--- ---- a file
+-- ---- files that words name
+
+lookups_more : (known : KnownFiles) (e : OfEntry) (words : List (List ℕ)) (word : List ℕ) (founds : List Lookup) (found : Lookup) → AreLookups known e words founds → IsLookup known e word found
+    → AreLookups known e (words ++ word ∷ []) (founds ++ found ∷ [])
+lookups_more known e [] word founds found none is = subst (λ (fs : List Lookup). AreLookups known e (word ∷ []) (fs ++ found ∷ [])) (sym none) (is, refl)
+lookups_more known e (w ∷ words) word [] found are is = absurd are
+lookups_more known e (w ∷ words) word (f ∷ founds) found (first, rest) is = (first, lookups_more known e words word founds found rest is)
+
+-- files of these words were found, some of them in folders, if several were named before
+abbrev pub Found : KnownFiles → OfEntry → List (List ℕ) → Bool → List FileName → Bool → Type 0
+Found known e words start files are_several =
+    (founds : List Lookup) × AreLookups known e words founds × (files ≡ flat_map (λ l. l.files) founds) × (are_several ≡ start || list_any (λ l. l.is_folder) founds)
+
+pub found_more : (known : KnownFiles) (e : OfEntry) (words : List (List ℕ)) (word : List ℕ) (start several more : Bool) (files all : List FileName) (one : Lookup) → Found known e words start files several
+    → IsLookup known e word one → all ≡ files ++ one.files → more ≡ several || one.is_folder → Found known e (words ++ word ∷ []) start all more
+found_more known e words word start several more files all one (founds, are, is, some) named joined either = (
+  founds ++ one ∷ [],
+  lookups_more known e words word founds one are named,
+  joined ∙ ap (λ fs. fs ++ one.files) is ∙ ap (λ fs. flat_map (λ l. l.files) founds ++ fs) (sym (append-nil one.files)) ∙ sym (flat_map-append (λ l. l.files) founds (one ∷ [])),
+  either ∙ ap (λ b. b || one.is_folder) some ∙ joined_by start (list_any (λ l. l.is_folder) founds) one.is_folder ∙ ap (λ b. start || b) (sym (list_any-append (λ l. l.is_folder) founds (one ∷ []))),
+)
+  where
+    joined_by : (a b c : Bool) → (a || b) || c ≡ a || (b || (c || false))
+    joined_by true b c = refl
+    joined_by false true c = refl
+    joined_by false false true = refl
+    joined_by false false false = refl
+
+pub found_word : (known : KnownFiles) (e : OfEntry) (words : List (Bor (List ℕ))) (i : ℕ) (d : Bor (List ℕ)) (start several more : Bool) (files all : List FileName) (one : Lookup) → i < length words
+    → Found known e (texts_of (take i words)) start files several → IsLookup known e (get_or words i d).now one → all ≡ files ++ one.files → more ≡ several || one.is_folder
+    → Found known e (texts_of (take (i + 1) words)) start all more
+found_word known e words i d start several more files all one within found named joined either =
+    subst (λ (ws : List (List ℕ)). Found known e ws start all more) (sym (map_more (λ w. w.now) words i d within))
+    (found_more known e (texts_of (take i words)) (get_or words i d).now start several more files all one found named joined either)
+
+-- ---- one file
 
 -- a fault of a file is what its contents lead to
-pub fault_led : {O F : Type 0} (bytes line : O → List ℕ) (status : O → ℕ) (asked : Asked) (e : OfEntry) (parameters : List Value) (several : Bool) (name contents said : List ℕ) (why : ToolFault) (near : List (List ℕ)) (code : ℕ) (r : Result O F)
-    → (why ≡ fault.Memory) ⊎ IsDueOf (before_findings several name) e parameters true contents (Err why) → AreTold asked contents why near → said ≡ asked_line asked near why → code ≡ status_for (Err why)
-    → IfOk r (λ o. (bytes o ≡ []) × (line o ≡ file_line name said) × (status o ≡ code))
-    → IfOk r (λ o. IsOutcomeOfContents asked e parameters several name contents (bytes o) (line o) (status o))
-fault_led bytes line status asked e parameters several name contents said why near code (Ok o) due told is coded (b, l, s) =
-    (Err why, s ∙ coded, (due, b, (asked_line asked near why, (near, told, refl), l ∙ ap (file_line name) is)))
-fault_led bytes line status asked e parameters several name contents said why near code (Err f) due told is coded led = tt
+pub fault_led : {O F : Type 0} (bytes line : O → List ℕ) (status : O → ℕ) (job : Job) (name contents told said : List ℕ) (why : ToolFault) (code : ℕ) (r : Result O F)
+    → FailsAsDue (IsDueOf (before_findings job.are_several name) job.e job.parameters true contents) why
+    → IsAnswerLine {V = Bool} (Entry job.e) contents (Err why) told → said ≡ told → code ≡ status_for (Err why) → IfOk r (λ o. (bytes o ≡ []) × (line o ≡ file_line name said) × (status o ≡ code))
+    → IfOk r (λ o. IsOutcomeOfContents job name contents (bytes o) (line o) (status o))
+fault_led bytes line status job name contents told said why code (Ok o) due is same coded (b, l, s) = (Err why, s ∙ coded, (due, b, (told, is, l ∙ ap (file_line name) same)))
+fault_led bytes line status job name contents told said why code (Err f) due is same coded led = tt
 
--- its contents are what there is of it
-pub contents_led : {O F : Type 0} (bytes line : O → List ℕ) (status : O → ℕ) (asked : Asked) (e : OfEntry) (parameters : List Value) (several : Bool) (name own contents : List ℕ) (r : Result O F) → name ≡ own
-    → IfOk r (λ o. IsOutcomeOfContents asked e parameters several name contents (bytes o) (line o) (status o))
-    → IfOk r (λ o. (supply : Supply) × IsOutcome asked e parameters several own supply (bytes o) (line o) (status o))
-contents_led bytes line status asked e parameters several name own contents (Ok o) same led =
-    let P : List ℕ → Type 0 = λ n. IsOutcomeOfContents asked e parameters several n contents (bytes o) (line o) (status o) in
-    (Contents contents, subst P same led)
-contents_led bytes line status asked e parameters several name own contents (Err f) same led = tt
+module _ {O F : Type 0} (bytes line : O → List ℕ) (status : O → ℕ) (known : KnownFiles) (job : Job) (file : FileName) (left0 left1 : Option (List ℕ)) where
+  abbrev pub Led : Result O F → Type 0
+  Led r = IfOk r (λ o. (supply : Supply) × IsSupplied known file left0 left1 supply × IsOutcome job file.name supply (bytes o) (line o) (status o))
+
+  -- its contents are what there is of it
+  pub contents_led : (name contents read : List ℕ) (r : Result O F) → name ≡ file.name → file.is_refused ≡ false → IsReadFrom (is_minus name) (known.contents name) left0 left1 read → contents ≡ read
+      → IfOk r (λ o. IsOutcomeOfContents job name contents (bytes o) (line o) (status o)) → Led r
+  contents_led name contents read (Ok o) named given from same led =
+      let From : List ℕ → Type 0 = λ n. IsReadFrom (is_minus n) (known.contents n) left0 left1 read in
+      let Outcome : List ℕ → Type 0 = λ n. IsOutcomeOfContents job n contents (bytes o) (line o) (status o) in
+      (Contents contents, (given, subst (λ b. IsReadFrom (is_minus file.name) (known.contents file.name) left0 left1 b) (sym same) (subst From named from)), subst Outcome named led)
+  contents_led name contents read (Err f) named given from same led = tt
+
+  -- nothing is there of it
+  pub unread_led : (name : List ℕ) (r : Result O F) → name ≡ file.name → IfOk r (λ o. IsUnread name (bytes o) (line o) (status o)) → Led r
+  unread_led name (Ok o) named led = (Unread, tt, subst (λ (n : List ℕ). IsUnread n (bytes o) (line o) (status o)) named led)
+  unread_led name (Err f) named led = tt
 
 -- ---- files that are done
 
-module _ (asked : Asked) (e : OfEntry) (parameters : List Value) where
-  pub did_none : (held told : Held) → DidFiles asked e parameters held held told told []
-  did_none held told = record { each = tt; written = Appends-nil held; told = refl }
+module _ (known : KnownFiles) (job : Job) where
+  did_append : (a b c : Streams) (xs ys : List DoneFile) → DidFiles known job a b xs → DidFiles known job b c ys → DidFiles known job a c (xs ++ ys)
+  did_append a b c [] ys same q = subst (λ (s : Streams). DidFiles known job s c ys) same q
+  did_append a b c (x ∷ xs) ys (between, did, rest) q = (between, did, did_append between b c xs ys rest q)
 
-  did_one : (held0 held1 told0 told1 : Held) (file : DoneFile) → IsDone asked e parameters file → Appends held0 held1 file.out → Told file.line told0 told1
-      → DidFiles asked e parameters held0 held1 told0 told1 (file ∷ [])
-  did_one held0 held1 told0 told1 file done out line =
-      record { each = (done, tt); written = subst (Appends held0 held1) (sym (append-nil file.out)) out; told = (told1, line, refl) }
+  -- a file with this name is done
+  abbrev pub DidOne : FileName → Streams → Streams → Option ℕ → Type 0
+  DidOne file before after answer = (done : DoneFile) × (done.file ≡ file) × DidFile known job before after answer done
 
-  did_more : (held0 held1 held2 told0 told1 told2 : Held) (xs ys : List DoneFile) → DidFiles asked e parameters held0 held1 told0 told1 xs
-      → DidFiles asked e parameters held1 held2 told1 told2 ys → DidFiles asked e parameters held0 held2 told0 told2 (xs ++ ys)
-  did_more held0 held1 held2 told0 told1 told2 xs ys p q = record {
-    each = all-append (IsDone asked e parameters) xs ys p.each q.each;
-    written = subst (Appends held0 held2) (sym (flat_map-append (λ f. f.out) xs ys)) (Appends-trans held0 held1 held2 _ _ p.written q.written);
-    told = told-append xs ys told0 told1 told2 p.told q.told;
-  }
-
-  stopped_more : (held0 held1 held2 told0 told1 told2 : Held) (xs ys : List DoneFile) (status : ℕ) → DidFiles asked e parameters held0 held1 told0 told1 xs
-      → StoppedAt asked e parameters held1 held2 told1 told2 ys status → StoppedAt asked e parameters held0 held2 told0 told2 (xs ++ ys) (max (greatest_status xs) status)
-  stopped_more held0 held1 held2 told0 told1 told2 xs ys status p q = record {
-    done = xs ++ q.done;
-    last = q.last;
-    all = ap (λ x. xs ++ x) q.all ∙ sym (append_assoc xs q.done (q.last ∷ []));
-    held = q.held;
-    told = q.told;
-    before = did_more held0 held1 q.held told0 told1 q.told xs q.done p q.before;
-    is_done = q.is_done;
-    gone = q.gone;
-    short = q.short;
-    part = q.part;
-    line = q.line;
-    greatest = ap (max (greatest_status xs)) q.greatest ∙ sym (max_assoc (greatest_status xs) (greatest_status q.done) 5) ∙ ap (λ n. max n 5) (sym (greatest-append xs q.done));
-  }
-
-  stopped_one : (held0 held1 told0 told1 : Held) (file : DoneFile) → IsDone asked e parameters file → Delivered held0 held1 told0 told1 None file.out file.line file.status
-      → StoppedAt asked e parameters held0 held1 told0 told1 (file ∷ []) 5
-  stopped_one held0 held1 told0 told1 file done (gone, short, part, line) = record {
-    done = [];
-    last = file;
-    all = refl;
-    held = held0;
-    told = told0;
-    before = did_none held0 told0;
-    is_done = done;
-    gone = gone;
-    short = short;
-    part = part;
-    line = line;
-    greatest = refl;
-  }
-
-  -- ---- files that were found
-
-  -- a file that was delivered, or memory was refused for it
-  abbrev IsNext : Bool → List ℕ → (List ℕ → List ℕ → ℕ → Type 0) → Type 0
-  IsNext several name IsDelivered =
-      (file : DoneFile) × (file.name ≡ name) × (file.is_one_of_several ≡ several) × IsDone asked e parameters file × IsDelivered file.out file.line file.status
-
-  pub next_file : {O F : Type 0} (bytes line : O → List ℕ) (status : O → ℕ) (several : Bool) (name : List ℕ) (IsDelivered : List ℕ → List ℕ → ℕ → Type 0) (outcome : Result O F)
-      → IfOk outcome (λ o. (supply : Supply) × IsOutcome asked e parameters several name supply (bytes o) (line o) (status o))
-      → MatchResult outcome (λ o. IsDelivered (bytes o) (line o) (status o)) (λ _. IsDelivered [] (fault_line fault.Memory) 6)
-      → IsNext several name IsDelivered
-  next_file bytes line status several name IsDelivered (Ok o) (supply, is) delivered = (
-    record { name = name; is_one_of_several = several; supply = supply; out = bytes o; line = line o; status = status o },
+  pub did_one : {O F : Type 0} (bytes line : O → List ℕ) (status : O → ℕ) (before after : Streams) (answer : Option ℕ) (file : FileName) (outcome : Result O F) → (is_minus file.name ≡ false → after.left ≡ before.left)
+      → IfOk outcome (λ o. (supply : Supply) × IsSupplied known file before.left after.left supply × IsOutcome job file.name supply (bytes o) (line o) (status o))
+      → MatchResult outcome (λ o. Delivered before.held after.held before.told after.told answer (bytes o) (line o) (status o)) (λ _. Delivered before.held after.held before.told after.told answer [] (fault_line fault.Memory) 6)
+      → DidOne file before after answer
+  did_one bytes line status before after answer file (Ok o) kept (supply, supplied, led) delivered = (
+    record { file = file; supply = supply; out = bytes o; line = line o; status = status o },
     refl,
-    refl,
-    is,
-    delivered,
+    record { supplied = supplied; kept = kept; led = led; delivered = delivered },
   )
-  next_file bytes line status several name IsDelivered (Err why) led delivered = (
-    record { name = name; is_one_of_several = several; supply = NoMemory; out = []; line = fault_line fault.Memory; status = 6 },
+  did_one bytes line status before after answer file (Err why) kept led delivered = (
+    record { file = file; supply = NoMemory; out = []; line = fault_line fault.Memory; status = 6 },
     refl,
-    refl,
-    (refl, refl, refl),
-    delivered,
+    record { supplied = tt; kept = kept; led = (refl, refl, refl); delivered = delivered },
   )
 
-  pub next_unread : {O F : Type 0} (bytes line : O → List ℕ) (status : O → ℕ) (several : Bool) (name : List ℕ) (IsDelivered : List ℕ → List ℕ → ℕ → Type 0) (outcome : Result O F)
-      → IfOk outcome (λ o. IsUnread name (bytes o) (line o) (status o)) → MatchResult outcome (λ o. IsDelivered (bytes o) (line o) (status o)) (λ _. IsDelivered [] (fault_line fault.Memory) 6)
-      → IsNext several name IsDelivered
-  next_unread {F = F} bytes line status several name IsDelivered (Ok o) led delivered = next_file {F = F} bytes line status several name IsDelivered (Ok o) (Unread, led) delivered
-  next_unread {O = O} bytes line status several name IsDelivered (Err why) led delivered = next_file {O = O} bytes line status several name IsDelivered (Err why) tt delivered
+  -- these files are done so far
+  abbrev pub RanSome : List FileName → Streams → Streams → ℕ → Type 0
+  RanSome files before after status = (dones : List DoneFile) × (files ≡ files_done dones) × DidFiles known job before after dones × (status ≡ greatest_status dones)
 
-  called_more : (several : Bool) (names : List (List ℕ)) (files : List DoneFile) (file : DoneFile) (name : List ℕ) → AreCalled several names files → file.name ≡ name
-      → file.is_one_of_several ≡ several → AreCalled several (names ++ name ∷ []) (files ++ file ∷ [])
-  called_more several names files file name called n s =
-      let tail : map (λ f. f.name) (file ∷ []) ≡ name ∷ [] = ap (λ x. x ∷ []) n in (
-        map-append (λ f. f.name) files (file ∷ []) ∙ ap (λ x. x ++ (file.name ∷ [])) called.0 ∙ ap (λ x. names ++ x) tail,
-        all-append (λ f. f.is_one_of_several ≡ several) files (file ∷ []) called.1 (s, tt),
+  pub ran_none : (before : Streams) → RanSome [] before before 0
+  ran_none before = ([], refl, refl, refl)
+
+  pub ran_more : (files more : List FileName) (file : FileName) (a b c : Streams) (greatest s new : ℕ) → RanSome files a b greatest → DidOne file b c (Some s) → more ≡ files ++ file ∷ [] → new ≡ max greatest s → RanSome more a c new
+  ran_more files more file a b c greatest s new (dones, are, did, is) (done, named, one) joined greater =
+      let status : s ≡ done.status = one.delivered.0 in (
+        dones ++ done ∷ [],
+        joined ∙ ap (λ fs. fs ++ file ∷ []) are ∙ ap (λ f. files_done dones ++ f ∷ []) (sym named) ∙ sym (map-append (λ d. d.file) dones (done ∷ [])),
+        did_append a b c dones (done ∷ []) did (c, subst (λ (n : ℕ). DidFile known job b c (Some n) done) status one, refl),
+        greater ∙ ap (λ n. max n s) is ∙ ap (max (greatest_status dones)) status ∙ sym (greatest-more dones done),
       )
 
-  pub found_next : (several : Bool) (names : List (List ℕ)) (name : List ℕ) (held0 held1 held2 told0 told1 told2 : Held) (greatest s : ℕ)
-      → RanFound asked e parameters several names held0 held1 told0 told1 (Ok greatest) → IsNext several name (Delivered held1 held2 told1 told2 (Some s))
-      → RanFound asked e parameters several (names ++ name ∷ []) held0 held2 told0 told2 (Ok (max greatest s))
-  found_next several names name held0 held1 held2 told0 told1 told2 greatest s (files, called, did, is) (file, n, several_is, done, (status, out, line)) = (
-    files ++ file ∷ [],
-    called_more several names files file name called n several_is,
-    did_more held0 held1 held2 told0 told1 told2 files (file ∷ []) did (did_one held1 held2 told1 told2 file done out line),
-    ap (λ x. max x s) is ∙ ap (max (greatest_status files)) (status ∙ sym (max-zero file.status)) ∙ sym (greatest-append files (file ∷ [])),
-  )
-
-  pub found_stops : (several : Bool) (names : List (List ℕ)) (name : List ℕ) (others all : List (List ℕ)) (held0 held1 held2 told0 told1 told2 : Held) (greatest : ℕ)
-      → RanFound asked e parameters several names held0 held1 told0 told1 (Ok greatest) → IsNext several name (Delivered held1 held2 told1 told2 None)
-      → all ≡ (names ++ name ∷ []) ++ others → RanFound asked e parameters several all held0 held2 told0 told2 (Err (max greatest 5))
-  found_stops several names name others all held0 held1 held2 told0 told1 told2 greatest (files, called, did, is) (file, n, several_is, done, failed) split = (
-    files ++ file ∷ [],
-    names ++ name ∷ [],
-    others,
-    split,
-    called_more several names files file name called n several_is,
-    let P : ℕ → Type 0 = λ x. StoppedAt asked e parameters held0 held2 told0 told2 (files ++ file ∷ []) (max x 5) in
-        subst P (sym is) (stopped_more held0 held1 held2 told0 told1 told2 files (file ∷ []) 5 did (stopped_one held1 held2 told1 told2 file done failed)),
-  )
-
-  -- ---- the files of a word
-
-  one_name : (names : List (List ℕ)) (word : List ℕ) (files : List DoneFile) (several : Bool) → AreCalled several names files → names ≡ word ∷ [] → AreNamed e several word files
-  one_name names word [] several called one = absurd (cc (called.0, one))
-  one_name names word (f ∷ []) several called one = inl (f, refl, cc (called.0, one), called.1.0)
-  one_name names word (f ∷ (g ∷ files)) several called one = absurd (cc (called.0, one))
-
-  first_name : (some others : List (List ℕ)) (word : List ℕ) (done files : List DoneFile) (last : DoneFile) (several : Bool) → AreCalled several some files → files ≡ done ++ last ∷ []
-      → word ∷ [] ≡ some ++ others → AreNamed e several word files
-  first_name [] others word [] files last several called all split = absurd (cc (called.0, all))
-  first_name [] others word (f ∷ done) files last several called all split = absurd (cc (called.0, all))
-  first_name (name ∷ []) others word done files last several called all split = one_name (name ∷ []) word files several called (cc (split))
-  first_name (name ∷ (other ∷ some)) others word done files last several called all split = absurd (cc (split))
-
-  -- the one file of a word, or those of a folder
-  abbrev IsLookedUp : Bool → List ℕ → Bool → List (List ℕ) → Type 0
-  IsLookedUp several word in_folder names = ((in_folder ≡ false) × (names ≡ word ∷ [])) ⊎ ((in_folder ≡ true) × (takes_folders e ≡ true))
-
-  one_of : (several is_one in_folder : Bool) → is_one ≡ several || in_folder → in_folder ≡ false → is_one ≡ several
-  one_of true is_one in_folder is alone = is
-  one_of false is_one in_folder is alone = is ∙ alone
-
-  in_one : (several is_one in_folder : Bool) → is_one ≡ several || in_folder → in_folder ≡ true → is_one ≡ true
-  in_one true is_one in_folder is inside = is
-  in_one false is_one in_folder is inside = is ∙ inside
-
-  pub word_of_found : (several is_one in_folder : Bool) (word : List ℕ) (names : List (List ℕ)) (held0 held1 told0 told1 : Held) (answer : Result ℕ ℕ)
-      → is_one ≡ several || in_folder → IsLookedUp several word in_folder names → RanFound asked e parameters is_one names held0 held1 told0 told1 answer
-      → RanWord asked e parameters several word held0 held1 told0 told1 answer
-  word_of_found several is_one in_folder word names held0 held1 told0 told1 (Ok status) is (inl (alone, one)) (files, called, did, greatest) =
-      let P : Bool → Type 0 = λ b. AreCalled b names files in
-      (files, one_name names word files several (subst P (one_of several is_one in_folder is alone) called) one, did, greatest)
-  word_of_found several is_one in_folder word names held0 held1 told0 told1 (Ok status) is (inr (inside, takes)) (files, called, did, greatest) =
-      let P : Bool → Type 0 = λ b. AreCalled b names files in
-      (files, inr (takes, (subst P (in_one several is_one in_folder is inside) called).1), did, greatest)
-  word_of_found several is_one in_folder word names held0 held1 told0 told1 (Err status) is (inl (alone, one)) (files, some, others, split, called, stopped) =
-      let P : Bool → Type 0 = λ b. AreCalled b some files in
-      (files, first_name some others word stopped.done files stopped.last several (subst P (one_of several is_one in_folder is alone) called) stopped.all (sym one ∙ split), stopped)
-  word_of_found several is_one in_folder word names held0 held1 told0 told1 (Err status) is (inr (inside, takes)) (files, some, others, split, called, stopped) =
-      let P : Bool → Type 0 = λ b. AreCalled b some files in
-      (files, inr (takes, (subst P (in_one several is_one in_folder is inside) called).1), stopped)
-
-  -- a word that the system does not give
-  pub word_unread : (several : Bool) (word : List ℕ) (held0 held1 told0 told1 : Held) (answer : Option ℕ) → IsNext several word (Delivered held0 held1 told0 told1 answer)
-      → RanWord asked e parameters several word held0 held1 told0 told1 (ok_or answer 5)
-  word_unread several word held0 held1 told0 told1 (Some s) (file, n, several_is, done, (status, written, told)) = (
-    file ∷ [],
-    inl (file, refl, n, several_is),
-    did_one held0 held1 told0 told1 file done written told,
-    status ∙ sym (max-zero file.status),
-  )
-  word_unread several word held0 held1 told0 told1 None (file, n, several_is, done, failed) = (
-    file ∷ [],
-    inl (file, refl, n, several_is),
-    stopped_one held0 held1 told0 told1 file done failed,
-  )
-
-  -- ---- the files of all words
-
-  named_more : (several : Bool) (words : List (List ℕ)) (word : List ℕ) (files more : List DoneFile) → AreAllNamed e several words files → AreNamed e several word more
-      → AreAllNamed e several (words ++ word ∷ []) (files ++ more)
-  named_more several [] word files more none named = (more, [], named, refl, ap (λ x. x ++ more) none ∙ sym (append-nil more))
-  named_more several (w ∷ words) word files more (first, rest, n, r, is) named = (
-    first,
-    rest ++ more,
-    n,
-    named_more several words word rest more r named,
-    ap (λ x. x ++ more) is ∙ append_assoc first rest more,
-  )
-
-  -- the words so far
-  abbrev pub RanSome : Bool → List (List ℕ) → Held → Held → Held → Held → ℕ → Type 0
-  RanSome several words held0 held1 told0 told1 greatest =
-      (files : List DoneFile) × AreAllNamed e several words files × DidFiles asked e parameters held0 held1 told0 told1 files × (greatest ≡ greatest_status files)
-
-  pub words_next : (several : Bool) (words : List (List ℕ)) (word : List ℕ) (held0 held1 held2 told0 told1 told2 : Held) (greatest status : ℕ)
-      → RanSome several words held0 held1 told0 told1 greatest → RanWord asked e parameters several word held1 held2 told1 told2 (Ok status)
-      → RanSome several (words ++ word ∷ []) held0 held2 told0 told2 (max greatest status)
-  words_next several words word held0 held1 held2 told0 told1 told2 greatest status (files, named, did, is) (more, n, d, s) = (
-    files ++ more,
-    named_more several words word files more named n,
-    did_more held0 held1 held2 told0 told1 told2 files more did d,
-    ap (λ x. max x status) is ∙ ap (max (greatest_status files)) s ∙ sym (greatest-append files more),
-  )
-
-  pub words_stop : (several : Bool) (words : List (List ℕ)) (word : List ℕ) (others all : List (List ℕ)) (held0 held1 held2 told0 told1 told2 : Held) (greatest status : ℕ)
-      → RanSome several words held0 held1 told0 told1 greatest → RanWord asked e parameters several word held1 held2 told1 told2 (Err status)
-      → all ≡ (words ++ word ∷ []) ++ others → RanFiles asked e parameters several all held0 held2 told0 told2 (max greatest status)
-  words_stop several words word others all held0 held1 held2 told0 told1 told2 greatest status (files, named, did, is) (more, n, stopped) split =
-      let P : ℕ → Type 0 = λ x. StoppedAt asked e parameters held0 held2 told0 told2 (files ++ more) (max x status) in
+  pub ran_stops : (files all rest : List FileName) (file : FileName) (a b c : Streams) (greatest new : ℕ) → RanSome files a b greatest → DidOne file b c None → all ≡ (files ++ file ∷ []) ++ rest → new ≡ max greatest 5
+      → RanFound known job all a c new
+  ran_stops files all rest file a b c greatest new (dones, are, did, is) (done, named, one) split greater =
       inr (
-        files ++ more,
-        words ++ word ∷ [],
-        others,
-        split,
-        named_more several words word files more named n,
-        subst P (sym is) (stopped_more held0 held1 held2 told0 told1 told2 files more status did stopped),
+        dones,
+        done,
+        rest,
+        b,
+        split ∙ append_assoc files (file ∷ []) rest ∙ ap (λ fs. fs ++ file ∷ rest) are ∙ ap (λ f. files_done dones ++ f ∷ rest) (sym named),
+        did,
+        one,
+        greater ∙ ap (λ n. max n 5) is,
       )
 
-  pub words_more : (several : Bool) (words : List (Bor (List ℕ))) (i : ℕ) (d : Bor (List ℕ)) (held0 held1 held2 told0 told1 told2 : Held) (greatest status new : ℕ) → i < length words → new ≡ max greatest status
-      → RanSome several (texts_of (take i words)) held0 held1 told0 told1 greatest → RanWord asked e parameters several (get_or words i d).now held1 held2 told1 told2 (Ok status)
-      → RanSome several (texts_of (take (i + 1) words)) held0 held2 told0 told2 new
-  words_more several words i d held0 held1 held2 told0 told1 told2 greatest status new h is before one =
-      let Ran : List (List ℕ) → Type 0 = λ ws. RanSome several ws held0 held2 told0 told2 new in
-      let Ends : ℕ → Type 0 = λ s. RanSome several (texts_of (take i words) ++ (get_or words i d).now ∷ []) held0 held2 told0 told2 s in
-      subst Ran (sym (map_more (λ w. w.now) words i d h))
-      (subst Ends (sym is) (words_next several (texts_of (take i words)) (get_or words i d).now held0 held1 held2 told0 told1 told2 greatest status before one))
+-- files that words name are done
+pub ran_files : (known : KnownFiles) (e : OfEntry) (parameters : List Value) (words : List (List ℕ)) (founds : List Lookup) (files : List FileName) (several : Bool) (before after : Streams) (status : ℕ)
+    → AreLookups known e words founds → files ≡ flat_map (λ l. l.files) founds → several ≡ are_several words founds
+    → RanFound known (record { e = e; parameters = parameters; are_several = several }) files before after status → RanFiles known e parameters words before after status
+ran_files known e parameters words founds files several before after status are is some ran =
+    let OfFiles : List FileName → Type 0 = λ fs. RanFound known (record { e = e; parameters = parameters; are_several = several }) fs before after status in
+    let OfSeveral : Bool → Type 0 = λ b. RanFound known (record { e = e; parameters = parameters; are_several = b }) (flat_map (λ l. l.files) founds) before after status in
+    inl (founds, are, subst OfSeveral some (subst OfFiles is ran))
 
-  pub words_end : (several : Bool) (words : List (Bor (List ℕ))) (i : ℕ) (d : Bor (List ℕ)) (held0 held1 held2 told0 told1 told2 : Held) (greatest status new : ℕ) → i < length words → new ≡ max greatest status
-      → RanSome several (texts_of (take i words)) held0 held1 told0 told1 greatest → RanWord asked e parameters several (get_or words i d).now held1 held2 told1 told2 (Err status)
-      → RanFiles asked e parameters several (texts_of words) held0 held2 told0 told2 new
-  words_end several words i d held0 held1 held2 told0 told1 told2 greatest status new h is before one =
-      let Ends : ℕ → Type 0 = λ s. RanFiles asked e parameters several (texts_of words) held0 held2 told0 told2 s in
-      subst Ends (sym is) (words_stop several (texts_of (take i words)) (get_or words i d).now (texts_of (drop (i + 1) words)) (texts_of words) held0 held1 held2 told0 told1 told2 greatest status before one
-      (split_at (λ w. w.now) words i d h))
+-- what is done with files is done for the request of them
+pub task_of_files : (known : KnownFiles) (files : List (Bor (List ℕ))) (asked : Asked) (e : OfEntry) (parameters : List Value) (V : Type 0) (before after : Streams) (status : ℕ) → asked ≡ Entry e → (length files == 0) ≡ false
+    → RanFiles known e parameters (texts_of files) before after status → RanTask known asked (texts_of files) parameters V before after status
+task_of_files known [] asked e parameters V before after status is some ran = absurd (cc (some))
+task_of_files known (file ∷ files) asked e parameters V before after status is some ran =
+    let Task : Asked → Type 0 = λ a. RanTask known a (texts_of (file ∷ files)) parameters V before after status in subst Task (sym is) ran
 
-  pub words_all : (several : Bool) (words : List (Bor (List ℕ))) (i : ℕ) (held0 held1 told0 told1 : Held) (status : ℕ) → i ≡ length words
-      → RanSome several (texts_of (take i words)) held0 held1 told0 told1 status → RanFiles asked e parameters several (texts_of words) held0 held1 told0 told1 status
-  words_all several words i held0 held1 told0 told1 status is all =
-      let Ran : List (List ℕ) → Type 0 = λ ws. RanSome several ws held0 held1 told0 told1 status in
-      inl (subst Ran (all_names (λ w. w.now) words i is) all)
-
--- ---- a task
-
--- what is done with files is done for the task that names them
-pub task_of_files : (files : List (Bor (List ℕ))) (asked : Asked) (e : OfEntry) (parameters : List Value) (V : Type 0) (left0 left1 held0 held1 told0 told1 : Held) (status : ℕ) → asked ≡ Entry e
-    → (length files == 0) ≡ false → RanFiles asked e parameters (nat_lt 1 (length files)) (texts_of files) held0 held1 told0 told1 status
-    → RanTask (texts_of files) asked parameters V left0 left1 held0 held1 told0 told1 status
-task_of_files [] asked e parameters V left0 left1 held0 held1 told0 told1 status is some ran = absurd (cc (some))
-task_of_files (file ∷ files) asked e parameters V left0 left1 held0 held1 told0 told1 status is some ran =
-    let Task : Asked → Type 0 = λ a. RanTask (texts_of (file ∷ files)) a parameters V left0 left1 held0 held1 told0 told1 status in
-    let Files : Asked → Type 0 = λ a. RanFiles a e parameters (nat_lt 1 (length (file ∷ files))) (texts_of (file ∷ files)) held0 held1 told0 told1 status in
-    let Several : ℕ → Type 0 = λ n. RanFiles (Entry e) e parameters (nat_lt 1 n) (texts_of (file ∷ files)) held0 held1 told0 told1 status in
-    subst Task (sym is) (subst Several (sym (length-map (file ∷ files) (λ w. w.now))) (subst Files is ran))
+-- what is done with standard input is done for the request of no file
+pub task_of_none : (known : KnownFiles) (files : List (Bor (List ℕ))) (asked : Asked) (e : OfEntry) (parameters : List Value) (V : Type 0) (before after : Streams) (status : ℕ) → asked ≡ Entry e → (length files == 0) ≡ true
+    → RanRequest asked parameters V before after status → RanTask known asked (texts_of files) parameters V before after status
+task_of_none known [] asked e parameters V before after status is none ran =
+    let Task : Asked → Type 0 = λ a. RanTask known a [] parameters V before after status in
+    let Request : Asked → Type 0 = λ a. RanRequest a parameters V before after status in
+    subst Task (sym is) (subst Request is ran)
+task_of_none known (file ∷ files) asked e parameters V before after status is none ran = let empty = eqb-true (length (file ∷ files)) 0 none in absurd (omega (arith, empty))

@@ -20,12 +20,11 @@ use Rattle.ti_line.specs.declared.request.TraceOf.{TraceOf}
 use Rattle.ti_line.specs.Options.{output_bytes}
 use Rattle.ti_tool.specs.declared.fault.ToolFault.{ToolFault}
 use Rattle.ti_tool.specs.declared.fault.ToolFault.TheVariants as fault
-use Rattle.ti_tool.specs.Calls.{NeedsMemory}
+use Rattle.ti_tool.specs.Calls.{FailsAsDue, NeedsMemory}
 use Rattle.ti_tool.specs.Expansions.{IsExpansion, IsPadded}
 use Rattle.ti_tool.specs.Got.{AreTaken, AreTakenFrom, IsDueBy, IsGot, IsPaddedAlone, IsTaken, IsTextResult, IsValueResult}
 use Rattle.ti_tool.specs.ItemNames.{IsItemCalled}
 use Rattle.ti_tool.specs.Traces.{IsTracedOf, IsTracedValue}
-use Rattle.ti_tool.specs.inner.Dues.{FailsAsDue}
 use Rattle.ti_tool.proofs.IsItemCalledLemmas.{one_item}
 use Rattle.ti_tool.proofs.NeedsMemoryLemmas.{expandable, faultless_passes, padded_needs}
 

@@ -21,5 +21,6 @@ pub mod IsItemCalledLemmas
 pub mod IsGotLemmas
 pub mod FileLemmas
 pub mod FileRunsLemmas
+pub mod ContentsLemmas
 pub mod ComparisonLemmas
 pub mod DocumentLemmas

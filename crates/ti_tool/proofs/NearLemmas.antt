@@ -1,22 +1,36 @@
 -- The nearest of the names that are not told yet.
-use Rattle.std.proofs.Common.{◌≡◌, ◌≤◌, ◌<◌, ◌∙◌, ℕ, zero, suc, List, [], ◌∷◌, ◌++◌, ◌≢◌, ◌↔◌, Bool, true, false, IsTrue, MatchBool, inl, inr, length, map, take, get_or, ap, arith, below_more, length-append, refl, subst, sym}
+use Rattle.std.proofs.Common.{◌≡◌, ◌≤◌, ◌<◌, ◌+◌, ◌⊎◌, ◌∙◌, ℕ, zero, suc, List, [], ◌∷◌, ◌++◌, ◌≢◌, ◌↔◌, Bool, true, false, IsTrue, MatchBool, inl, inr, length, map, take, take_all, get_or, ap, append-nil, append_assoc, arith, below_more, length-append, refl, subst, sym}
 use Rattle.std.specs.Borrow.{Bor}
-use Rattle.std.specs.Str.{IsUtf8}
-use Rattle.std.specs.Prelude.{Contains, Option, Some, None, IfSome, IfNone, Result, Ok, Err, IfOk}
-use Rattle.std.specs.List.{AllWithin, HoldsAt}
-use Rattle.std.proofs.lemmas.List.{get_or-map, get_or_append_left, length-map, map-append, take-append-le}
+use Rattle.std.specs.Prelude.{Contains, Option, Some, None, IfSome, IfNone, option_map, slice_get}
+use Rattle.std.specs.List.{AllByRecursion, AllWithin, HoldsAt}
+use Rattle.std.proofs.lemmas.Grind.{flat_map-append}
+use Rattle.std.proofs.lemmas.List.{get_or-map, get_or_append_left, length-map, map-append, take-append-le, take_more, take_more_same}
 use Rattle.std.proofs.Math.Seq.{get_or-append_seam, take-append_seam}
 use Rattle.std.proofs.lemmas.Bool.{false≢true}
+use Rattle.std.proofs.lemmas.Option.{get_or_from_slice_get, slice_get_within}
 use Rattle.ti_words.specs.declared.Kind.{Kind}
-use Rattle.ti_words.specs.declared.Kind.TheVariants as kinds
 use Rattle.ti_names.specs.declared.name_table.NameTable.{NameTable}
-use Rattle.ti_names.specs.declared.name_table.NameTable.TheVariants.{All, Long}
-use Rattle.ti_words.specs.Items.{ExtendedSubject, Listed, items}
+use Rattle.ti_names.specs.declared.name_table.NameTable.TheVariants as tables
+use Rattle.ti_names.specs.AllNames.{listed, name_in}
+use Rattle.ti_words.specs.Items.{Listed}
 use Rattle.ti_words.specs.Value.{EntryValue}
-use Rattle.ti_tool.specs.Near.{AreNearest, IsName, IsNameAmong, IsNameOf, IsNext, NoneIsNear, most_told}
-use Rattle.ti_tool.specs.inner.Near.{AreFarther, IsFarther, IsFartherIn, IsFartherOf, IsFound, IsFoundName, told_of}
-use Rattle.ti_tool.specs.declared.near.Nearest.{Nearest}
-use Rattle.ti_tool.specs.declared.near.SoughtName.{SoughtName}
+use Rattle.ti_tool.specs.Near.{AreNearest, IsFirst, IsNext, IsTellable, NoneIsNear, NoneNear, all_names, edits, most_edits, most_told, name_given, names_given}
+use Rattle.ti_tool.specs.inner.Near.{IsBestName, IsShortOrLong}
+
+-- ---- facts of each
+
+all-append : {X : Type 0} (P : X → Type 0) (xs ys : List X) → AllByRecursion P xs → AllByRecursion P ys → AllByRecursion P (xs ++ ys)
+all-append P [] ys p q = q
+all-append P (x ∷ xs) ys p q = (p.0, all-append P xs ys p.1 q)
+
+all_weaker : {X : Type 0} (P Q : X → Type 0) → ((x : X) → P x → Q x) → (xs : List X) → AllByRecursion P xs → AllByRecursion Q xs
+all_weaker P Q h [] p = tt
+all_weaker P Q h (x ∷ xs) p = (h x p.0, all_weaker P Q h xs p.1)
+
+-- of one in the middle
+in_middle : {X : Type 0} (P : X → Type 0) (xs ys : List X) (x : X) → AllByRecursion P (xs ++ x ∷ ys) → P x
+in_middle P [] ys x p = p.0
+in_middle P (y ∷ xs) ys x p = in_middle P xs ys x p.1
 
 -- ---- the names that are told
 
@@ -33,88 +47,125 @@ told_from_cases false (x ∷ xs) name none = (
       absurd (none w.0 x (omega arith) within (sym (get_or-map (λ n. n.now) (x ∷ xs) w.0 x name within) ∙ w.2)),
 )
 
--- ---- the next name
+-- ---- the nearest so far
 
--- no name that is not told is nearer, if none of terminfo(5)'s is and none of the entry's own
-farther : (s : SoughtName) (least : ℕ) → ((kind : Kind) → IsFartherIn s least All kind) → ((kind : Kind) → IsFartherIn s least Long kind) → AreFarther s least (items s.entry.now)
-    → (other : List ℕ) → IsName s.entry.now other → IsFarther s least other
-farther s least short long extended other (inl (kind, index, (within, inl is))) = short kind index other within is
-farther s least short long extended other (inl (kind, index, (within, inr is))) = long kind index other within is
-farther s least short long extended other (inr among) = extended other among
+module _ (word : List ℕ) (told : List (List ℕ)) where
+  -- the nearest is near, or none is found
+  least_low : (names : List (List ℕ)) (least : ℕ) (found : Option (Bor (List ℕ))) → IsBestName word told names least found → least ≤ most_edits word + 1
+  least_low names least None (is, none) = omega (arith, is)
+  least_low names least (Some old) (is, first) = omega (arith, is, first.near)
 
-of_kinds : (P : Kind → Type 0) → P kinds.Flag → P kinds.Number → P kinds.Text → (kind : Kind) → P kind
-of_kinds P flag number text kinds.Flag = flag
-of_kinds P flag number text kinds.Number = number
-of_kinds P flag number text kinds.Text = text
+  -- one more name that is no nearer, or can't be told
+  pub best_kept : (names : List (List ℕ)) (name : List ℕ) (least : ℕ) (found : Option (Bor (List ℕ))) → (IsTellable told name → least ≤ edits word name) → IsBestName word told names least found
+      → IsBestName word told (names ++ name ∷ []) least found
+  best_kept names name least None far (is, none) = (is, all-append _ names (name ∷ []) none ((λ can. omega (arith, is, far can)), tt))
+  best_kept names name least (Some old) far (is, first) = (
+    is,
+    record {
+      before = first.before;
+      after = first.after ++ name ∷ [];
+      among = ap (λ l. l ++ name ∷ []) first.among ∙ append_assoc first.before (old.now ∷ first.after) (name ∷ []);
+      tellable = first.tellable;
+      near = first.near;
+      first = first.first;
+      least = all-append _ first.after (name ∷ []) first.least ((λ can. omega (arith, is, far can)), tt);
+    },
+  )
 
-farther_in : (s : SoughtName) (less more : ℕ) (table : NameTable) (kind : Kind) → less ≤ more → IsFartherIn s more table kind → IsFartherIn s less table kind
-farther_in s less more table kind below far index name within is new = omega (arith, below, far index name within is new)
+  -- one more that is told, or not near
+  pub best_far : (names : List (List ℕ)) (name : List ℕ) (least : ℕ) (found : Option (Bor (List ℕ))) → (IsTellable told name → most_edits word < edits word name) → IsBestName word told names least found
+      → IsBestName word told (names ++ name ∷ []) least found
+  best_far names name least found far best =
+      let low = least_low names least found best in
+      best_kept names name least found (λ can. let beyond = far can in omega (arith, low, beyond)) best
 
--- what is found among the names of each kind, one kind after the other
-pub farther_of : {E : Type 0} (s : SoughtName) (table : NameTable) (flags numbers : Nearest) (r : Result Nearest E) → IsFartherIn s flags.edits table kinds.Flag → numbers.edits ≤ flags.edits → IsFartherIn s numbers.edits table kinds.Number
-    → IfOk r (λ f. f.edits ≤ numbers.edits) → IfOk r (λ f. IsFartherIn s f.edits table kinds.Text) → IfOk r (λ f. (kind : Kind) → IsFartherIn s f.edits table kind)
-farther_of s table flags numbers (Ok f) of_flags less of_numbers least of_texts =
-    of_kinds (λ kind. IsFartherIn s f.edits table kind) (farther_in s f.edits flags.edits table kinds.Flag (omega (arith, less, least)) of_flags) (farther_in s f.edits numbers.edits table kinds.Number least of_numbers) of_texts
-farther_of s table flags numbers (Err e) of_flags less of_numbers least of_texts = tt
+  -- none of the names is as near as what is nearer than the nearest
+  nearer_than : (names : List (List ℕ)) (least less : ℕ) (found : Option (Bor (List ℕ))) → less < least → IsBestName word told names least found
+      → AllByRecursion (λ other. IsTellable told other → less < edits word other) names × (less ≤ most_edits word)
+  nearer_than names least less None below (is, none) =
+      (all_weaker _ _ (λ other far can. let beyond = far can in omega (arith, below, is, beyond)) names none, omega (arith, below, is))
+  nearer_than names least less (Some old) below (is, first) =
+      let IsBelow : List ℕ → Type 0 = λ other. IsTellable told other → less < edits word other in (
+        subst (AllByRecursion IsBelow) (sym first.among)
+            (all-append IsBelow first.before (old.now ∷ first.after) (all_weaker _ IsBelow (λ other far can. let beyond = far can in omega (arith, below, is, beyond)) first.before first.first)
+            ((λ can. omega (arith, below, is)), all_weaker _ IsBelow (λ other far can. let beyond = far can in omega (arith, below, is, beyond)) first.after first.least)),
+        omega (arith, below, is, first.near),
+      )
 
--- ---- the names that an entry gives
+  -- one more name that is nearer
+  pub best_new : (names : List (List ℕ)) (name : Bor (List ℕ)) (least less : ℕ) (found : Option (Bor (List ℕ))) → less ≡ edits word name.now → less < least → IsTellable told name.now → IsBestName word told names least found
+      → IsBestName word told (names ++ name.now ∷ []) less (Some name)
+  best_new names name least less found is below can best =
+      let far = nearer_than names least less found below best in (
+        is,
+        record {
+          before = names;
+          after = [];
+          among = refl;
+          tellable = can;
+          near = omega (arith, is, far.1);
+          first = all_weaker _ _ (λ other beyond could. let more = beyond could in omega (arith, is, more)) names far.0;
+          least = tt;
+        },
+      )
 
-among_more : (name : List ℕ) (first : Listed) (rest : List Listed) → IsNameAmong rest name → IsNameAmong (first ∷ rest) name
-among_more name first rest (k, one, within, at, is) = (suc k, one, omega (arith, within), at, is)
+  -- ---- one name
 
-farther_more : (s : SoughtName) (best near : ℕ) (first : Listed) (rest : List Listed) → best ≤ near → IsFartherOf s near first.0 → AreFarther s best rest → AreFarther s best (first ∷ rest)
-farther_more s best near first rest below far others name (zero, one, within, at, is) new = omega (arith, below, far name (subst (λ x. IsNameOf x.0 name) (sym at) is) new)
-farther_more s best near first rest below far others name (suc k, one, within, at, is) new = others name (k, one, omega (arith, within), at, is) new
+  same_first : (b a c d : List (List ℕ)) (one two : List ℕ) → b ++ one ∷ a ≡ c ++ two ∷ d → IsTellable told one → IsTellable told two
+      → AllByRecursion (λ other. IsTellable told other → edits word one < edits word other) b → AllByRecursion (λ other. IsTellable told other → edits word one ≤ edits word other) a
+      → AllByRecursion (λ other. IsTellable told other → edits word two < edits word other) c → AllByRecursion (λ other. IsTellable told other → edits word two ≤ edits word other) d → one ≡ two
+  same_first [] a [] d one two is can could first least before after = cc
+  same_first [] a (x ∷ c) d one two is can could first least before after =
+      let head : x ≡ one = cc in
+      let tail : a ≡ c ++ two ∷ d = cc in
+      let less = before.0 (subst (IsTellable told) (sym head) can) in
+      let more = in_middle (λ other. IsTellable told other → edits word one ≤ edits word other) c d two (subst (AllByRecursion (λ other. IsTellable told other → edits word one ≤ edits word other)) tail least) could in
+      absurd (omega (arith, less, more, ap (edits word) head))
+  same_first (x ∷ b) a [] d one two is can could first least before after =
+      let head : x ≡ two = cc in
+      let tail : b ++ one ∷ a ≡ d = cc in
+      let less = first.0 (subst (IsTellable told) (sym head) could) in
+      let more = in_middle (λ other. IsTellable told other → edits word two ≤ edits word other) b a one (subst (AllByRecursion (λ other. IsTellable told other → edits word two ≤ edits word other)) (sym tail) after) can in
+      absurd (omega (arith, less, more, ap (edits word) head))
+  same_first (x ∷ b) a (y ∷ c) d one two is can could first least before after =
+      let tail : b ++ one ∷ a ≡ c ++ two ∷ d = cc in
+      same_first b a c d one two tail can could first.1 least before.1 after
 
--- bytes that are UTF-8 are a name
-pub named_as : (kind : Kind) (bytes name : List ℕ) → (name ≡ bytes) × IsUtf8 bytes → IsNameOf (ExtendedSubject kind bytes) name
-named_as kind bytes name (is, text) = (sym is, subst IsUtf8 (sym is) text)
+  one_first : (names : List (List ℕ)) (one two : List ℕ) → IsFirst word told names one → IsFirst word told names two → one ≡ two
+  one_first names one two first other =
+      same_first first.before first.after other.before other.after one two (sym first.among ∙ other.among) first.tellable other.tellable first.first first.least other.first other.least
 
-pub farther_as : {E : Type 0} (s : SoughtName) (kind : Kind) (bytes name : List ℕ) (r : Result Nearest E) → name ≡ bytes → IfOk r (λ f. IsFarther s f.edits name)
-    → IfOk r (λ f. IsFartherOf s f.edits (ExtendedSubject kind bytes))
-farther_as s kind bytes name (Ok f) is far = λ other (same, text). subst (λ x. IsFarther s f.edits x) (is ∙ same) far
-farther_as s kind bytes name (Err e) is far = tt
+  none_first : (names : List (List ℕ)) (one : List ℕ) → NoneNear word told names → IsFirst word told names one → ⊥
+  none_first names one none first =
+      let IsFar : List ℕ → Type 0 = λ other. IsTellable told other → most_edits word < edits word other in
+      let far = in_middle IsFar first.before first.after one (subst (AllByRecursion IsFar) first.among none) first.tellable in
+      omega (arith, far, first.near)
 
--- no name of a capability that is not left is nearer
-pub record Searched (s : SoughtName) (best : ℕ) (left : List Listed) : Type 0 where
-  pub named : (name : List ℕ) → IsNameAmong left name → IsName s.entry.now name
-  pub farther : (least : ℕ) → least ≤ best → AreFarther s least left → AreFarther s least (items s.entry.now)
+-- ---- names of terminfo(5)
 
-pub searched_start : (s : SoughtName) (best : ℕ) → Searched s best (items s.entry.now)
-searched_start s best = record { named = λ name h. inr h; farther = λ least below h. h }
+-- the names at some first indices, and at one more
+pub taken_more : (xs : List (List ℕ)) (i : ℕ) (o : Option (Bor (List ℕ))) (name : Bor (List ℕ)) → option_map (λ n. n.now) o ≡ slice_get xs i → o ≡ Some name → take (i + 1) xs ≡ take i xs ++ name.now ∷ []
+taken_more xs i o name at is =
+    let found : slice_get xs i ≡ Some name.now = sym at ∙ ap (option_map (λ n. n.now)) is in
+    take_more xs i [] (slice_get_within xs i name.now found) ∙ ap (λ n. take i xs ++ n ∷ []) (get_or_from_slice_get xs i name.now [] found)
 
-pub searched_named : (s : SoughtName) (best : ℕ) (old new : List Listed) (one : Listed) (name : List ℕ) → old ≡ one ∷ new → Searched s best old → IsNameOf one.0 name → IsName s.entry.now name
-searched_named s best old new one name is h of = h.named name (subst (λ l. IsNameAmong l name) (sym is) (0, one, omega arith, refl, of))
+slice_get_none : (xs : List (List ℕ)) (i : ℕ) → slice_get xs i ≡ None → length xs ≤ i
+slice_get_none [] i none = omega arith
+slice_get_none (x ∷ xs) zero none = absurd (cc)
+slice_get_none (x ∷ xs) (suc i) none = let rest = slice_get_none xs i none in omega (arith, rest)
 
-pub searched_next : (s : SoughtName) (best near : ℕ) (old new : List Listed) (one : Listed) → old ≡ one ∷ new → near ≤ best → IsFartherOf s near one.0 → Searched s best old → Searched s near new
-searched_next s best near old new one is below far h = record {
-  named = λ name among. h.named name (subst (λ l. IsNameAmong l name) (sym is) (among_more name one new among));
-  farther = λ least low others. h.farther least (omega (arith, low, below)) (subst (λ l. AreFarther s least l) (sym is) (farther_more s least near one new low far others));
-}
+pub taken_same : (xs : List (List ℕ)) (i : ℕ) (o : Option (Bor (List ℕ))) → option_map (λ n. n.now) o ≡ slice_get xs i → o ≡ None → take (i + 1) xs ≡ take i xs
+taken_same xs i o at is =
+    let past : length xs ≤ i = slice_get_none xs i (sym at ∙ ap (option_map (λ n. n.now)) is) in
+    take_all (i + 1) xs (omega (arith, past)) ∙ sym (take_all i xs past)
 
-pub searched_end : (s : SoughtName) (best : ℕ) (left : List Listed) → left ≡ [] → Searched s best left → AreFarther s best (items s.entry.now)
-searched_end s best left is h = h.farther best (omega arith) (subst (λ l. AreFarther s best l) (sym is) (λ name (k, one, within, at, of). absurd (omega (arith, within))))
+-- they are listed at their indices
+pub listed_at : (table : NameTable) (kind : Kind) (index : ℕ) → IsShortOrLong table → name_in table kind index ≡ slice_get (listed table kind) index
+listed_at tables.All kind index is = refl
+listed_at tables.Long kind index is = refl
+listed_at tables.Common kind index is = absurd is
 
--- what is found among all names is told next
-next_of : (s : SoughtName) (least : ℕ) (found : Option (Bor (List ℕ))) → IsFoundName s least found
-    → ((other : List ℕ) → IsName s.entry.now other → IsFarther s least other)
-    → IfSome found (λ name. IsNext s.entry.now s.word.now (told_of s) name.now) × IfNone found (NoneIsNear s.entry.now s.word.now (told_of s))
-next_of s least (Some name) found all = (
-  record {
-    named = found.0;
-    new = found.1;
-    near = omega (arith, found.2, found.3);
-    least = λ other named new. omega (arith, found.2, all other named new);
-  },
-  tt,
-)
-next_of s least None found all = (tt, λ other named new. omega (arith, found, all other named new))
-
-pub found_next : (s : SoughtName) (short standard f : Nearest) → IsFound s f → standard.edits ≤ short.edits → f.edits ≤ standard.edits
-    → ((kind : Kind) → IsFartherIn s short.edits All kind) → ((kind : Kind) → IsFartherIn s standard.edits Long kind) → AreFarther s f.edits (items s.entry.now)
-    → IfSome f.name (λ name. IsNext s.entry.now s.word.now (told_of s) name.now) × IfNone f.name (NoneIsNear s.entry.now s.word.now (told_of s))
-found_next s short standard f found below least of_short of_long extended =
-    next_of s f.edits f.name found (farther s f.edits (λ kind. farther_in s f.edits short.edits All kind (omega (arith, below, least)) (of_short kind)) (λ kind. farther_in s f.edits standard.edits Long kind least (of_long kind)) extended)
+-- ---- the names that are told one after another
 
 -- each name that is told is the next one after those before it
 abbrev pub EachIsNext : EntryValue → List ℕ → List (List ℕ) → Type 0
@@ -135,6 +186,35 @@ next_more v word told name each next =
     (next_as v word _ _ _ _ (take-append_seam told (name ∷ [])) (get_or-append_seam told name [] []) next) in
     λ index within. all index (omega (arith, within, length-append told (name ∷ [])))
 
+-- two lists start alike
+alike : (v : EntryValue) (word : List ℕ) (told others : List (List ℕ)) → EachIsNext v word told → EachIsNext v word others → (n : ℕ) → n ≤ length told → n ≤ length others → take n told ≡ take n others
+alike v word told others each also zero h k = refl
+alike v word told others each also (suc n) h k =
+    let same = alike v word told others each also n (omega (arith, h)) (omega (arith, k)) in
+    let name = one_first word (take n told) (all_names v) (get_or told n []) (get_or others n []) (each n (omega (arith, h))) (next_as v word (take n others) (take n told) _ _ same refl (also n (omega (arith, k)))) in
+    let next = take_more_same told others n [] (omega (arith, h)) (omega (arith, k)) same name in
+    let more : n + 1 ≡ suc n = omega arith in
+    subst (λ (m : ℕ). take m told ≡ take m others) more next
+
+-- none is left after the shorter one
+not_longer : (v : EntryValue) (word : List ℕ) (told others : List (List ℕ)) → AreNearest v word told → AreNearest v word others → ¬ (length told < length others)
+not_longer v word told others are also shorter =
+    let same : take (length told) told ≡ take (length told) others = alike v word told others are.each also.each (length told) (omega arith) (omega (arith, shorter)) in
+    let whole : told ≡ take (length told) others = sym (take_all (length told) told (omega arith)) ∙ same in
+    go are.all whole
+  where
+    go : (length told ≡ most_told) ⊎ NoneIsNear v word told → told ≡ take (length told) others → ⊥
+    go (inl three) whole = omega (arith, three, shorter, also.few)
+    go (inr none) whole = none_first word told (all_names v) (get_or others (length told) []) none (next_as v word (take (length told) others) told _ _ whole refl (also.each (length told) shorter))
+
+-- the names that are told are one list
+pub one_nearest : (v : EntryValue) (word : List ℕ) (told others : List (List ℕ)) → AreNearest v word told → AreNearest v word others → told ≡ others
+one_nearest v word told others are also =
+    let long = not_longer v word told others are also in
+    let short = not_longer v word others told also are in
+    let same = alike v word told others are.each also.each (length told) (omega arith) (omega (arith, long, short)) in
+    sym (take_all (length told) told (omega arith)) ∙ same ∙ take_all (length told) others (omega (arith, long, short))
+
 abbrev names_in : List (Bor (List ℕ)) → List (List ℕ)
 names_in told = map (λ n. n.now) told
 
@@ -154,3 +234,18 @@ nearest_done v word told items found is none same few each =
     let IsNoneOf : Option (Bor (List ℕ)) → Type 0 = λ x. IfNone x (NoneIsNear v word (names_in told)) in
     let IsNoneAfter : List (Bor (List ℕ)) → Type 0 = λ x. NoneIsNear v word (names_in x) in
     record { each = each; few = omega (arith, few, length-map items (λ n. n.now)); all = inr (subst IsNoneAfter same (subst IsNoneOf is none)) }
+
+-- the names given to some capabilities, and to one more
+pub given_more : (names : List (List ℕ)) (done : List Listed) (one : Listed) → (names ++ names_given done) ++ name_given one.0 ≡ names ++ names_given (done ++ one ∷ [])
+given_more names done one =
+    append_assoc names (names_given done) (name_given one.0)
+    ∙ ap (λ l. names ++ l) (ap (λ l. names_given done ++ l) (sym (append-nil (name_given one.0))) ∙ sym (flat_map-append (λ x. name_given x.0) done (one ∷ [])))
+
+pub joined : (a b c d : List (List ℕ)) → ((a ++ b) ++ c) ++ d ≡ a ++ (b ++ (c ++ d))
+joined a b c d = simp append_assoc
+
+-- the best of all names is the next one
+pub best_next : (v : EntryValue) (word : List ℕ) (told names : List (List ℕ)) (least : ℕ) (found : Option (Bor (List ℕ))) → names ≡ all_names v → IsBestName word told names least found
+    → IfSome found (λ name. IsNext v word told name.now) × IfNone found (NoneIsNear v word told)
+best_next v word told names least None is (one, none) = (tt, subst (NoneNear word told) is none)
+best_next v word told names least (Some name) is (one, first) = (subst (λ (l : List (List ℕ)). IsFirst word told l name.now) is first, tt)

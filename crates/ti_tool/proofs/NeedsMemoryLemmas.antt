@@ -23,11 +23,11 @@ use Rattle.ti_names.specs.declared.name_table.NameTable.{NameTable}
 use Rattle.ti_line.specs.declared.options.Output.{Output}
 use Rattle.ti_tool.specs.declared.fault.ToolFault.{ToolFault}
 use Rattle.ti_tool.specs.declared.fault.ToolFault.TheVariants as fault
-use Rattle.ti_tool.specs.Calls.{NeedsMemory}
+use Rattle.ti_tool.specs.Calls.{FailsAsDue, NeedsMemory}
 use Rattle.ti_tool.specs.Names.{IsCalled}
 use Rattle.ti_line.specs.Options.{output_bytes}
 use Rattle.ti_tool.specs.Results.{IsExpansion, IsUnexpanded, IsCappedAs, IsPadded, IsDue, IsDueFor, IsDueFrom, IsTraced}
-use Rattle.ti_tool.specs.inner.Dues.{FailsAsDue, IsExpandable}
+use Rattle.ti_tool.specs.inner.Dues.{IsExpandable}
 use Rattle.ti_tool.proofs.IsCalledLemmas.{one_called}
 
 -- ---- capabilities

@@ -1,6 +1,6 @@
 -- Rows on texts, one after another.
-use Rattle.std.proofs.Common.{rules, ◌≡◌, ◌∙◌, ◌++◌, ◌∷◌, ◌&&◌, ℕ, Bool, true, List, [], Some, None, inl, inr, ap, ap₂, append_assoc, refl, subst, sym}
-use Rattle.std.specs.List.{flat_map, list_all}
+use Rattle.std.proofs.Common.{rules, ◌≡◌, ◌∙◌, ◌++◌, ◌∷◌, ◌&&◌, ℕ, Bool, true, List, [], Some, None, inl, ap, ap₂, append_assoc, refl, subst, sym}
+use Rattle.std.specs.List.{flat_map}
 use Rattle.std.specs.Prelude.{Option}
 use Rattle.std.proofs.lemmas.Grind.{flat_map-append}
 use Rattle.std.proofs.lemmas.List.{append-nil}

@@ -7,7 +7,7 @@ use Rattle.ti_escape.specs.declared.reading.NotationRefused.{NotationRefused}
 use Rattle.ti_tool.specs.declared.fault.ToolFault.{ToolFault}
 use Rattle.ti_tool.specs.declared.fault.ToolFault.TheVariants as fault
 use Rattle.ti_tool.specs.Sources.{IsDueForSource, IsDueForText, most_notation_chars, notation_in, text_of, text_read, too_long}
-use Rattle.ti_tool.specs.inner.Dues.{FailsAsDue}
+use Rattle.ti_tool.specs.Calls.{FailsAsDue}
 
 abbrev text_by : Bool → Result (List ℕ) NotationRefused → Result (List ℕ) ToolFault
 text_by long read = cond long (Err (fault.Cap too_long)) (text_read read)

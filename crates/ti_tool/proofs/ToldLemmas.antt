@@ -9,7 +9,7 @@ use Rattle.ti_line.specs.declared.request.OfEntry.TheVariants as of_entry
 use Rattle.ti_tool.specs.declared.fault.ToolFault.TheVariants as fault
 use Rattle.ti_tool.specs.Runs.{Ends}
 use Rattle.ti_tool.specs.declared.fault.ToolFault.{ToolFault}
-use Rattle.ti_tool.specs.FaultLines.{AreTold, IsAnswerLine, Told, asked_line}
+use Rattle.ti_tool.specs.FaultLines.{IsAnswerLine, Told}
 use Rattle.ti_tool.specs.inner.Kept.{IsKept}
 
 -- a text is told by writing it, whether or not the writer fails
@@ -32,13 +32,13 @@ told_ok asked input answer v a b is same =
     let IsSilent : Option (List ℕ) → Type 0 = λ x. Told [] a x in
     ([], subst HasLine (sym is) refl, subst IsSilent (sym same) (inl (Appends-nil a)))
 
--- the line on a fault, with the names that are told in it
-pub told_fault : (asked : Asked) (input : List ℕ) (answer : Result Bool ToolFault) (e : ToolFault) (near : List (List ℕ)) (line bytes : List ℕ) (a b : Option (List ℕ)) (r : Result (Unit {0}) ℕ) → answer ≡ Err e → AreTold asked input e near
-    → line ≡ asked_line asked near e → bytes ≡ line → OnOk r (Appends a b bytes) → IfErr r (λ gone. gone < length bytes) → IfErr r (λ gone. Appends a b (take gone bytes))
+-- the line on a fault
+pub told_fault : (asked : Asked) (input : List ℕ) (answer : Result Bool ToolFault) (e : ToolFault) (line bytes : List ℕ) (a b : Option (List ℕ)) (r : Result (Unit {0}) ℕ) → answer ≡ Err e
+    → IsAnswerLine {V = Bool} asked input (Err e) line → bytes ≡ line → OnOk r (Appends a b bytes) → IfErr r (λ gone. gone < length bytes) → IfErr r (λ gone. Appends a b (take gone bytes))
     → (x : List ℕ) × IsAnswerLine asked input answer x × Told x a b
-told_fault asked input answer e near line bytes a b r is told line_is held whole short part =
-    let HasLine : Result Bool ToolFault → Type 0 = λ x. IsAnswerLine asked input x (asked_line asked near e) in
-    (asked_line asked near e, subst HasLine (sym is) (near, told, refl), told_line (asked_line asked near e) line bytes a b r line_is held whole short part)
+told_fault asked input answer e line bytes a b r is answers held whole short part =
+    let HasLine : Result Bool ToolFault → Type 0 = λ x. IsAnswerLine asked input x line in
+    (line, subst HasLine (sym is) answers, told_line line line bytes a b r refl held whole short part)
 
 -- the names that are told are those of what was read, if that is kept
 pub told_of_kept : (asked : Asked) (kept input : List ℕ) (answer : Result Bool ToolFault) (line : List ℕ) → IsKept asked kept input answer → IsAnswerLine asked kept answer line → IsAnswerLine asked input answer line

@@ -21,6 +21,10 @@ ComesAfterMemory _ = ⊥
 abbrev pub NeedsMemory : (Result (List ℕ) ToolFault → Type 0) → Type 0
 NeedsMemory due = (e : ToolFault) → due (Err e) → ComesAfterMemory e
 
+-- the fault that is due, or out of memory if what is due needs memory
+abbrev pub FailsAsDue : (Result (List ℕ) ToolFault → Type 0) → ToolFault → Type 0
+FailsAsDue due e = ((e ≡ fault.Memory) × NeedsMemory due) ⊎ due (Err e)
+
 -- What was written, if `due` says which result or fault is due. Nothing is written but a part of
 -- the due result: all of it, or the first `gone` bytes if the writer failed. Out of memory is
 -- answered only if what is due needs memory.

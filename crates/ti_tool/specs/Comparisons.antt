@@ -1,5 +1,5 @@
 -- What a run of `diff` does with the two files that it compares.
-use Rattle.std.specs.Prelude.{◌≡◌, ◌⊎◌, ℕ, List, [], ◌∷◌, ◌++◌, codes, Option, Some, unwrap_or}
+use Rattle.std.specs.Prelude.{◌≡◌, ◌⊎◌, ℕ, List, [], ◌∷◌, ◌++◌, codes, Option, Some, false, unwrap_or}
 use Rattle.ti_layout.specs.declared.fault.Refused.{Refused}
 use Rattle.ti_layout.specs.Refusal.{refusal}
 use Rattle.ti_words.specs.Spelling.{Spells}
@@ -13,8 +13,9 @@ use Rattle.ti_listing.specs.Differences.{AreDifferences, DifferenceValue}
 use Rattle.ti_listing.specs.DifferingLines.{differing_lines}
 use Rattle.ti_listing.specs.DifferingObjects.{differing_text}
 use Rattle.ti_tool.specs.FaultLines.{fault_line}
-use Rattle.ti_tool.specs.FileRuns.{Contents, Delivered, Held, IsRefusedMemory, IsUnread, Supply, Unread}
+use Rattle.ti_tool.specs.FileRuns.{Contents, Delivered, IsRefusedMemory, IsSupplied, IsUnread, Supply, Unread}
 use Rattle.ti_tool.specs.Files.{file_line}
+use Rattle.ti_tool.specs.Streams.{KnownFiles, Stream, Streams, file_name}
 
 -- contents that are no entry lead to the line on that, with the name of the file before it
 abbrev pub IsRefusedFile : List ℕ → List ℕ → List ℕ → List ℕ → ℕ → Type 0
@@ -54,9 +55,17 @@ IsComparison by form file other (Contents one) Unread out line status = IsUnread
 IsComparison by form file other Unread two out line status = IsUnread file out line status
 IsComparison by form file other _ _ out line status = IsRefusedMemory out line status
 
--- what that led to is written, or a first part of it
-abbrev pub RanDifference : Pair → Held → Held → Held → Held → ℕ → Type 0
-RanDifference d held0 held1 told0 told1 status =
-    (one : Supply) × (two : Supply) × (out : List ℕ) × (line : List ℕ) × (code : ℕ)
-    × (answer : Option ℕ) × IsComparison d.likeness d.form d.file.now d.other.now one two out line code
-    × Delivered held0 held1 told0 told1 answer out line code × (status ≡ unwrap_or answer 5)
+-- one file was read, and then the other
+abbrev pub AreSupplied : KnownFiles → Pair → Stream → Stream → Supply → Supply → Type 0
+AreSupplied known d left0 left1 one two =
+    (between : Stream) × IsSupplied known (file_name d.file.now false) left0 between one
+    × IsSupplied known (file_name d.other.now false) between left1 two
+
+-- what they led to is written, or a first part of it
+abbrev pub RanDifference : KnownFiles → Pair → Streams → Streams → ℕ → Type 0
+RanDifference known d before after status =
+    (one : Supply) × (two : Supply) × (out : List ℕ) × (line : List ℕ) × (code : ℕ) × (answer : Option ℕ)
+    × AreSupplied known d before.left after.left one two
+    × IsComparison d.likeness d.form d.file.now d.other.now one two out line code
+    × Delivered before.held after.held before.told after.told answer out line code
+    × (status ≡ unwrap_or answer 5)

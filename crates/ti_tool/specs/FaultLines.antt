@@ -56,6 +56,7 @@ line_fault_line line.EntryWithoutName = codes "trace: --entry without --of\n"
 line_fault_line line.BothWidths = codes "convert: both widths\n"
 line_fault_line line.ToTerminal = codes "convert: not to a terminal without --force\n"
 line_fault_line line.FileCount = codes "diff: one file or two\n"
+line_fault_line line.InputTwice = codes "diff: standard input cannot be compared with itself\n"
 line_fault_line (line.Words why) = words_line why
 
 -- the most characters of a name in a line on a fault

@@ -3,6 +3,7 @@ use Rattle.std.specs.Prelude.{◌≡◌, ◌==◌, ℕ, Bool, true, false, List,
 use Rattle.ti_base.specs.Letters.{letter}
 use Rattle.ti_expand.specs.declared.values.Value.{Value}
 use Rattle.ti_escape.specs.Notation.{notation}
+use Rattle.ti_line.specs.CommandLine.{is_minus}
 use Rattle.ti_line.specs.declared.options.NameForm.{NameForm}
 use Rattle.ti_line.specs.declared.options.NameForm.TheVariants as name_forms
 use Rattle.ti_line.specs.declared.request.OfEntry.{OfEntry}
@@ -36,9 +37,13 @@ abbrev pub result_of_file : Bool → OfEntry → List ℕ → List ℕ → List 
 result_of_file true asked name out = one_of_several asked name out
 result_of_file false asked name out = out
 
--- the name of one of several files stands before the first line of each finding
+-- what a file is called before a line on it
+abbrev pub file_called : List ℕ → List ℕ
+file_called name = if is_minus name then codes "standard input" else notation name
+
+-- one of several files is called so before the first line of each finding
 abbrev pub before_findings : Bool → List ℕ → List ℕ
-before_findings several name = if several then notation name ++ codes ": " else []
+before_findings several name = if several then file_called name ++ codes ": " else []
 
 -- what is due for the contents of a file is what is due for an entry of these bytes, with the name
 abbrev pub IsDueOfFile : Bool → OfEntry → List Value → List ℕ → Bool → List ℕ → List ℕ → Type 0
@@ -49,4 +54,4 @@ IsDueOfFile several asked parameters name sound contents out =
 
 -- the line on the fault of a file
 abbrev pub file_line : List ℕ → List ℕ → List ℕ
-file_line name line = notation name ++ codes ": " ++ line
+file_line name line = file_called name ++ codes ": " ++ line

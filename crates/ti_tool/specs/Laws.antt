@@ -1,5 +1,5 @@
 -- What holds of the results of the calls, whatever they read.
-use Rattle.std.specs.Prelude.{◌≡◌, ◌≢◌, List, ℕ, Bool, false, true, Some, Result, Ok}
+use Rattle.std.specs.Prelude.{◌≡◌, ◌≢◌, ◌⊎◌, List, [], ℕ, Bool, Some, Result, Ok}
 use Rattle.ti_words.specs.declared.Width.TheVariants.{Legacy, Wide}
 use Rattle.ti_words.specs.Value.{EntryValue}
 use Rattle.ti_words.specs.Spelling.{Spells}
@@ -8,12 +8,14 @@ use Rattle.ti_expand.specs.declared.values.Value.{Value}
 use Rattle.ti_line.specs.declared.options.Comparison.{Comparison}
 use Rattle.ti_line.specs.declared.options.Likeness.{Likeness}
 use Rattle.ti_line.specs.declared.request.Asked.{Asked}
-use Rattle.ti_line.specs.declared.request.Asked.TheVariants.{Entry}
 use Rattle.ti_line.specs.declared.request.OfEntry.{OfEntry}
-use Rattle.ti_line.specs.declared.request.OfEntry.TheVariants as of_entry
+use Rattle.ti_line.specs.declared.request.Asked.TheVariants.{Entry}
 use Rattle.ti_tool.specs.declared.fault.ToolFault.{ToolFault}
 use Rattle.ti_tool.specs.Comparisons.{IsCompared}
-use Rattle.ti_tool.specs.FileRuns.{IsOutcomeOfContents}
+use Rattle.ti_tool.specs.declared.fault.ToolFault.TheVariants as fault
+use Rattle.ti_tool.specs.FaultLines.{asked_line}
+use Rattle.ti_tool.specs.FileRuns.{IsOutcomeOfContents, Job}
+use Rattle.ti_tool.specs.Files.{file_line}
 use Rattle.ti_tool.specs.Results.{Finds, IsAnswer, IsConverted}
 
 -- if an entry of the legacy format is widened, and what is written narrowed again, its canonical
@@ -48,16 +50,19 @@ DiffHasOneResult = (by : Likeness) (form : Comparison) (file other one two : Lis
     → IsCompared by form file other one two outs lines code
     → AreOne out outs line lines status code
 
--- `get` and `trace` of an entry tell names that are near one that nothing has
-abbrev pub tells_names : OfEntry → Bool
-tells_names (of_entry.Get g) = true
-tells_names (of_entry.Trace t) = true
-tells_names _ = false
+-- the line on a name that nothing has, without the names that are near
+abbrev pub untold_line : OfEntry → List ℕ → List ℕ
+untold_line e name = file_line name (asked_line (Entry e) [] fault.NoSuchName)
 
--- the contents of a file lead to one result and status, and to one line but for the names that are near, if memory is not refused
+-- two lines are one, unless memory was refused for the names that are near in one of them
+abbrev pub AreOneLine : OfEntry → List ℕ → List ℕ → List ℕ → Type 0
+AreOneLine e name line other =
+    (line ≡ other) ⊎ ((line ≡ untold_line e name) ⊎ (other ≡ untold_line e name))
+
+-- the contents of a file lead to one result, status and line, if memory is not refused
 abbrev pub FileHasOneResult : Type 0
-FileHasOneResult = (e : OfEntry) (parameters : List Value) (several : Bool) (name contents : List ℕ)
-    (out outs line lines : List ℕ) (status code : ℕ) → status ≢ 6 → code ≢ 6
-    → IsOutcomeOfContents (Entry e) e parameters several name contents out line status
-    → IsOutcomeOfContents (Entry e) e parameters several name contents outs lines code
-    → (out ≡ outs) × (status ≡ code) × (tells_names e ≡ false → line ≡ lines)
+FileHasOneResult = (job : Job) (name contents out outs line lines : List ℕ) (status code : ℕ)
+    → status ≢ 6 → code ≢ 6
+    → IsOutcomeOfContents job name contents out line status
+    → IsOutcomeOfContents job name contents outs lines code
+    → (out ≡ outs) × (status ≡ code) × AreOneLine job.e name line lines

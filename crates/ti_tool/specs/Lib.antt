@@ -12,6 +12,7 @@ pub mod Calls
 pub mod Near
 pub mod FaultLines
 pub mod Files
+pub mod Streams
 pub mod Statuses
 pub mod FileRuns
 pub mod Comparisons

@@ -1,12 +1,14 @@
 -- The names that are told in place of a word that nothing has.
-use Rattle.std.specs.Prelude.{◌≡◌, ◌⊎◌, ◌<◌, ◌≤◌, ◌/◌, ℕ, List, [], Contains, get_or, length, take, Some}
-use Rattle.std.specs.List.{Any}
+use Rattle.std.specs.Prelude.{◌≡◌, ◌⊎◌, ◌<◌, ◌≤◌, ◌/◌, ◌++◌, ℕ, List, [], ◌∷◌, Contains, get_or, length, take}
+use Rattle.std.specs.List.{AllByRecursion, flat_map}
 use Rattle.std.specs.Str.{IsUtf8, chars}
 use Rattle.strsim.specs.Edits.{osa_table}
 use Rattle.ti_words.specs.declared.Kind.{Kind}
+use Rattle.ti_words.specs.declared.Kind.TheVariants as kinds
 use Rattle.ti_words.specs.Items.{ExtendedSubject, Listed, StandardSubject, SubjectValue, items}
+use Rattle.ti_names.specs.declared.name_table.NameTable.{NameTable}
 use Rattle.ti_names.specs.declared.name_table.NameTable.TheVariants.{All, Long}
-use Rattle.ti_names.specs.AllNames.{name_in}
+use Rattle.ti_names.specs.AllNames.{listed}
 use Rattle.ti_words.specs.Value.{EntryValue}
 
 -- ---- the names that there are
@@ -15,22 +17,24 @@ use Rattle.ti_words.specs.Value.{EntryValue}
 abbrev pub most_names : ℕ
 most_names = 414
 
--- the capability of a kind at an index has the name in terminfo(5), short or long
-abbrev pub IsStandardAt : Kind → ℕ → List ℕ → Type 0
-IsStandardAt kind index name =
-    (index < most_names) × ((name_in All kind index ≡ Some name) ⊎ (name_in Long kind index ≡ Some name))
+-- the names of terminfo(5) of a kind, short or long, in the order of their indices
+abbrev pub names_of : NameTable → Kind → List (List ℕ)
+names_of table kind = take most_names (listed table kind)
 
--- an entry names the capability so; only UTF-8 can be near to a word
-abbrev pub IsNameOf : SubjectValue → List ℕ → Type 0
-IsNameOf (StandardSubject kind index) name = ⊥
-IsNameOf (ExtendedSubject kind extended) name = (extended ≡ name) × IsUtf8 name
+abbrev pub names_in : NameTable → List (List ℕ)
+names_in table = names_of table kinds.Flag ++ (names_of table kinds.Number ++ names_of table kinds.Text)
 
--- some of these capabilities has the name
-abbrev pub IsNameAmong : List Listed → List ℕ → Type 0
-IsNameAmong listed name = Any (λ one. IsNameOf one.0 name) listed
+-- the name that an entry gives a capability
+abbrev pub name_given : SubjectValue → List (List ℕ)
+name_given (StandardSubject kind index) = []
+name_given (ExtendedSubject kind name) = name ∷ []
 
-abbrev pub IsName : EntryValue → List ℕ → Type 0
-IsName v name = ((kind : Kind) × (index : ℕ) × IsStandardAt kind index name) ⊎ IsNameAmong (items v) name
+abbrev pub names_given : List Listed → List (List ℕ)
+names_given = flat_map (λ one. name_given one.0)
+
+-- all names: the short ones, the long ones, and those that an entry gives
+abbrev pub all_names : EntryValue → List (List ℕ)
+all_names v = names_in All ++ (names_in Long ++ names_given (items v))
 
 -- ---- how near they are
 
@@ -48,17 +52,31 @@ most_edits word = length word / 3
 abbrev pub most_told : ℕ
 most_told = 3
 
--- a name that is near is told after others: of all that are not told yet, none is nearer
-pub record IsNext (v : EntryValue) (word : List ℕ) (told : List (List ℕ)) (name : List ℕ) : Type 0 where
-  pub named : IsName v name
-  pub new : ¬ Contains told name
+-- a name is told once, and only if it is UTF-8, as a word is
+abbrev pub IsTellable : List (List ℕ) → List ℕ → Type 0
+IsTellable told name = IsUtf8 name × ¬ Contains told name
+
+-- of the names that can be told none is near
+abbrev pub NoneNear : List ℕ → List (List ℕ) → List (List ℕ) → Type 0
+NoneNear word told = AllByRecursion (λ other. IsTellable told other → most_edits word < edits word other)
+
+-- it is near, and the first of the nearest of the names that can be told
+pub record IsFirst (word : List ℕ) (told names : List (List ℕ)) (name : List ℕ) : Type 0 where
+  pub before : List (List ℕ)
+  pub after : List (List ℕ)
+  pub among : names ≡ before ++ name ∷ after
+  pub tellable : IsTellable told name
   pub near : edits word name ≤ most_edits word
-  pub least : (other : List ℕ) → IsName v other → ¬ Contains told other → edits word name ≤ edits word other
+  pub first : AllByRecursion (λ other. IsTellable told other → edits word name < edits word other) before
+  pub least : AllByRecursion (λ other. IsTellable told other → edits word name ≤ edits word other) after
+
+-- such a name is told after others
+abbrev pub IsNext : EntryValue → List ℕ → List (List ℕ) → List ℕ → Type 0
+IsNext v word told name = IsFirst word told (all_names v) name
 
 -- all names that are near are told
 abbrev pub NoneIsNear : EntryValue → List ℕ → List (List ℕ) → Type 0
-NoneIsNear v word told =
-    (other : List ℕ) → IsName v other → ¬ Contains told other → most_edits word < edits word other
+NoneIsNear v word told = NoneNear word told (all_names v)
 
 -- each is the next one after those before it; there are three, or all that are near
 pub record AreNearest (v : EntryValue) (word : List ℕ) (told : List (List ℕ)) : Type 0 where

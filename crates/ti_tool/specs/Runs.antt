@@ -1,5 +1,5 @@
 -- What a run of the program does.
-use Rattle.std.specs.Prelude.{◌≡◌, ◌<◌, ◌⊎◌, ℕ, Bool, false, List, [], ◌∷◌, Option, Result, Err, IfErr, IfOk, length, nat_lt, take}
+use Rattle.std.specs.Prelude.{◌≡◌, ◌<◌, ◌⊎◌, ℕ, Bool, false, List, [], ◌∷◌, Result, Err, IfErr, IfOk, length, take}
 use Rattle.std.specs.Io.KnownBytes.{Appends, Keeps}
 use Rattle.ti_expand.specs.declared.values.Value.{Value}
 use Rattle.ti_line.specs.CommandLine.{Line, files_of}
@@ -19,11 +19,8 @@ use Rattle.ti_tool.specs.FileRuns.{RanFiles}
 use Rattle.ti_tool.specs.Comparisons.{RanDifference}
 use Rattle.ti_tool.specs.Results.{Finds, IsAnswer}
 use Rattle.ti_tool.specs.Statuses.{status_for}
+use Rattle.ti_tool.specs.Streams.{KnownFiles, Stream, Streams}
 use Rattle.ti_tool.specs.Calls.{DidCheck, IsEnough, IsFailedWrite}
-
--- what is known of the bytes that a reader has left, or that a writer holds
-abbrev pub Stream : Type 0
-Stream = Option (List ℕ)
 
 -- no stream is a terminal
 abbrev pub no_terminals : Terminals
@@ -34,10 +31,9 @@ no_terminals = record { input = false; output = destinations.File; errors = fals
 abbrev pub MayHaveWritten : ℕ → Type 0
 MayHaveWritten status = (status ≡ 0) ⊎ ((status ≡ 1) ⊎ (status ≡ 5))
 
--- In what follows `left0` and `left1` are what the reader has left before and after, `held0` and
--- `held1` what the writer of the results holds, `told0` and `told1` what the writer of the lines on
--- faults holds; `unread` says that the reader is what it was, `unwritten` that the writer of the
--- results is what it was.
+-- In what follows `held0` and `held1` are what the writer of the results holds before and after, `told0`
+-- and `told1` what the writer of the lines on faults holds; `unread` says that the reader is what it was,
+-- `unwritten` that the writer of the results is what it was.
 
 -- the status is that of the answer about what was read, and its line was written
 abbrev pub Ends : Asked → List ℕ → Result Bool ToolFault → Stream → Stream → ℕ → Type 0
@@ -46,29 +42,26 @@ Ends asked input answer told0 told1 status =
     × ((line : List ℕ) × IsAnswerLine asked input answer line × Told line told0 told1)
 
 -- a request was carried out; after a fault that is no failed write nothing was written
-abbrev pub RanRequest : Asked → List Value → Type 0 → Stream → Stream → Stream → Stream → Stream
-    → Stream → ℕ → Type 0
-RanRequest asked parameters unwritten left0 left1 held0 held1 told0 told1 status =
+abbrev pub RanRequest : Asked → List Value → Type 0 → Streams → Streams → ℕ → Type 0
+RanRequest asked parameters unwritten before after status =
     (answer : Result Bool ToolFault)
-    × (did : DidCheck (IsAnswer asked parameters) (IsEnough asked) left0 left1 held0 held1 answer)
+    × (did : DidCheck (IsAnswer asked parameters) (IsEnough asked) before.left after.left before.held after.held
+    answer)
     × IfOk answer (Finds asked) × IfErr answer (λ e. IsFailedWrite e ⊎ unwritten)
-    × Ends asked did.2.input answer told0 told1 status
+    × Ends asked did.2.input answer before.told after.told status
 
--- a request was carried out, of an entry for the files that are named, if there are any; or two of them
--- were compared
-abbrev pub RanTask : List (List ℕ) → Asked → List Value → Type 0 → Stream → Stream → Stream → Stream
-    → Stream → Stream → ℕ → Type 0
-RanTask [] asked parameters unwritten left0 left1 held0 held1 told0 told1 status =
-    RanRequest asked parameters unwritten left0 left1 held0 held1 told0 told1 status
-RanTask (file ∷ files) (Entry e) parameters unwritten left0 left1 held0 held1 told0 told1 status =
-    RanFiles (Entry e) e parameters (nat_lt 1 (length (file ∷ files))) (file ∷ files)
-    held0 held1 told0 told1 status
-RanTask (file ∷ files) (Capability c) parameters unwritten left0 left1 held0 held1 told0 told1 status =
-    RanRequest (Capability c) parameters unwritten left0 left1 held0 held1 told0 told1 status
-RanTask (file ∷ files) (Source c) parameters unwritten left0 left1 held0 held1 told0 told1 status =
-    RanRequest (Source c) parameters unwritten left0 left1 held0 held1 told0 told1 status
-RanTask (file ∷ files) (Difference d) parameters unwritten left0 left1 held0 held1 told0 told1 status =
-    RanDifference d held0 held1 told0 told1 status
+-- a request was carried out, of an entry for the files that are named, if there are any; or two were compared
+abbrev pub RanTask : KnownFiles → Asked → List (List ℕ) → List Value → Type 0 → Streams → Streams → ℕ → Type 0
+RanTask known (Entry e) [] parameters unwritten before after status =
+    RanRequest (Entry e) parameters unwritten before after status
+RanTask known (Entry e) (file ∷ files) parameters unwritten before after status =
+    RanFiles known e parameters (file ∷ files) before after status
+RanTask known (Capability c) files parameters unwritten before after status =
+    RanRequest (Capability c) parameters unwritten before after status
+RanTask known (Source c) files parameters unwritten before after status =
+    RanRequest (Source c) parameters unwritten before after status
+RanTask known (Difference d) files parameters unwritten before after status =
+    RanDifference known d before after status × (MayHaveWritten status ⊎ unwritten)
 
 -- a text was written as the result: with status 0 all of it, and nothing is told of a fault; with
 -- status 5 its first bytes and not all of them, and the line on that
@@ -91,14 +84,13 @@ EndsWords no_line.Memory unwritten held0 held1 told0 told1 status =
     (status ≡ 6) × unwritten × Told (fault_line fault.Memory) told0 told1
 
 -- what a line asks for was done, of the files that it names; or nothing is read, since the line has a fault, or memory was refused
-abbrev pub DidLine : Terminals → List (List ℕ) → Line → Type 0 → Type 0 → Stream → Stream → Stream → Stream
-    → Stream → Stream → ℕ → Type 0
-DidLine at words line unread unwritten left0 left1 held0 held1 told0 told1 status =
+abbrev pub DidLine : Terminals → KnownFiles → List (List ℕ) → Line → Type 0 → Type 0 → Streams → Streams → ℕ
+    → Type 0
+DidLine at known words line unread unwritten before after status =
     ((request : Request) × Asks at.output line request
-    × RanTask (files_of words) request.asked request.parameters unwritten
-    left0 left1 held0 held1 told0 told1 status)
+    × RanTask known request.asked (files_of words) request.parameters unwritten before after status)
     ⊎ ((why : NoLine) × IsReadAs at.output words line (Err why)
-    × unread × EndsWords why unwritten held0 held1 told0 told1 status)
+    × unread × EndsWords why unwritten before.held after.held before.told after.told status)
 
 -- words that are no line: they ask for help or are refused, with a message of at least one byte, or
 -- memory was refused; nothing is read

@@ -4,7 +4,7 @@ ghost use Rattle.std.specs.Prelude.{Ok, IfErr, IfOk, MatchResult, true};
 ghost use Rattle.ti_line.specs.declared.request.Asked.TheVariants as asks;
 ghost use Rattle.ti_tool.specs.Results.{Finds, IsDueIn, IsOutputOf};
 ghost use Rattle.ti_tool.specs.Sources.{IsDueForSource};
-ghost use Rattle.ti_tool.specs.inner.Dues.{FailsAsDue};
+ghost use Rattle.ti_tool.specs.Calls.{FailsAsDue};
 
 pub mod cap;
 pub mod check;

@@ -1,13 +1,14 @@
 //! A run of `diff`: two files are read, and what they do not have alike is written.
 //!
-//! As for other files, what is said here is of the contents that the system gives. The first file that can't be read, or
-//! is no entry, ends the run with the line on that.
+//! The first file that can't be read, or is no entry, ends the run with the line on that.
 
-ghost use Rattle.std.specs.Prelude.{◌≡◌, ◌≢◌, ◌≤◌, IfOk, map};
+ghost use Rattle.std.specs.Prelude.{◌≡◌, ◌≢◌, ◌≤◌, ◌⊎◌, IfOk, map};
 ghost use Rattle.ti_listing.specs.Values.{difference_value};
-ghost use Rattle.ti_tool.specs.Comparisons.{AreCompared, IsCompared, IsComparison, IsRefusedFile, RanDifference, comparison_text as the_comparison_text};
+ghost use Rattle.ti_tool.specs.Comparisons.{AreCompared, AreSupplied, IsCompared, IsComparison, IsRefusedFile, RanDifference, comparison_text as the_comparison_text};
 ghost use Rattle.ti_layout.specs.Refusal.{refusal};
 ghost use Rattle.ti_tool.specs.FileRuns.{Supply};
+ghost use Rattle.ti_tool.specs.Runs.{MayHaveWritten};
+ghost use Rattle.ti_tool.specs.Streams.{streams};
 ghost use Rattle.ti_tool.specs.inner.Files.{EndsFile};
 
 use crate::command::document::as_line;
@@ -29,7 +30,7 @@ fn refusal_outcome<A: Allocator + Copy>(
     refused: Refused,
 ) -> Result<Outcome<A>, AllocError>
     requires { refusal contents.now ≡ Some refused }
-    ensures ends { IfOk result (λ o. EndsFile o.status o.line.items) }
+    ensures ends { IfOk result (λ o. EndsFile o.status o.bytes.items o.line.items) }
     ensures led { IfOk result (λ o. IsRefusedFile name.now contents.now
         o.bytes.items o.line.items o.status) }
 {
@@ -60,7 +61,7 @@ fn difference_outcome<'a, A: Allocator + Copy>(
     one: &Entry<'a>,
     other: &Entry<'a>,
 ) -> Result<Outcome<A>, AllocError>
-    ensures ends { IfOk result (λ o. EndsFile o.status o.line.items) }
+    ensures ends { IfOk result (λ o. EndsFile o.status o.bytes.items o.line.items) }
     ensures led { IfOk result (λ o. AreCompared likeness form one.now other.now
         o.bytes.items o.line.items o.status) }
 {
@@ -81,7 +82,7 @@ fn outcome_of_both<A: Allocator + Copy>(
     contents: &[u8],
     of_other: &[u8],
 ) -> Result<Outcome<A>, AllocError>
-    ensures ends { IfOk result (λ o. EndsFile o.status o.line.items) }
+    ensures ends { IfOk result (λ o. EndsFile o.status o.bytes.items o.line.items) }
     ensures led { IfOk result (λ o. IsCompared pair.now.likeness pair.now.form pair.now.file.now pair.now.other.now
         contents.now of_other.now o.bytes.items o.line.items o.status) }
 {
@@ -103,8 +104,9 @@ fn outcome_of_pair<S: Store, A: Allocator + Copy, R: Read>(
     pair: &Pair<'_>,
     input: &mut R,
 ) -> Result<Outcome<A>, AllocError>
-    ensures ends { IfOk result (λ o. EndsFile o.status o.line.items) }
+    ensures ends { IfOk result (λ o. EndsFile o.status o.bytes.items o.line.items) }
     ensures led { IfOk result (λ o. (one : Supply) × (two : Supply)
+        × AreSupplied (S.known store.now) pair.now (R.remaining input.old) (R.remaining input.new) one two
         × IsComparison pair.now.likeness pair.now.form pair.now.file.now pair.now.other.now one two
         o.bytes.items o.line.items o.status) }
 {
@@ -130,8 +132,10 @@ pub fn run_pair<S: Store, A: Allocator + Copy, R: Read, W: Write, E: Write>(
 ) -> u8
     ensures known { result ≢ 2 }
     ensures silent { result ≤ 1 → errors.new ≡ errors.old }
-    ensures ran { RanDifference pair.now (W.contents output.old) (W.contents output.new)
-        (E.contents errors.old) (E.contents errors.new) result }
+    ensures ran { RanDifference (S.known store.now) pair.now
+        (streams (R.remaining input.old) (W.contents output.old) (E.contents errors.old))
+        (streams (R.remaining input.new) (W.contents output.new) (E.contents errors.new)) result }
+    ensures unwritten { MayHaveWritten result ⊎ (output.new ≡ output.old) }
 {
     let outcome = outcome_of_pair(store, alloc, pair, input);
     deliver(outcome, output, errors).unwrap_or(5)

@@ -4,13 +4,14 @@
 
 ghost use Rattle.std.specs.Prelude.{◌≡◌, ◌≤◌, ◌+◌, ◌++◌, codes, decimal, flat_map, length, map};
 ghost use Rattle.ti_tool.specs.FaultLines.{asked_line, fault_line, line_fault_line, place_line, words_line, near_part, no_name_line, shown_name as the_shown_name};
+ghost use Rattle.ti_line.specs.declared.request.Asked.TheVariants.{Entry};
 ghost use Rattle.ti_tool.specs.Near.{most_told};
 
 use crate::fault::ToolFault;
 use arrayvec::ArrayVec;
 use itoa::Buffer;
 use ti_escape::escape_into;
-use ti_line::{Asked, LineFault, OfEntry, WordFault};
+use ti_line::{LineFault, OfEntry, WordFault};
 
 /// The most bytes of a line.
 const MOST_BYTES: usize = 256;
@@ -139,26 +140,22 @@ fn no_name_line(command: &[u8], name: &str, near: &[&str]) -> FaultLine
     ])
 }
 
-/// The line on the fault of a call that was asked for, with the names that are told in place of the one that it was given.
-pub fn asked_line(asked: &Asked<'_>, near: &[&str], fault: &ToolFault) -> FaultLine
+/// The line on the fault of a request on an entry, with the names that are told in place of the one that it was given.
+pub fn asked_line(asked: &OfEntry<'_>, near: &[&str], fault: &ToolFault) -> FaultLine
     requires { length near.now ≤ most_told }
-    ensures { result.items ≡ asked_line asked.now (map (λ n. n.now) near.now) fault.now }
+    ensures { result.items ≡ asked_line (Entry asked.now) (map (λ n. n.now) near.now) fault.now }
 {
     match (asked, fault) {
-        (Asked::Entry(OfEntry::Get(get)), ToolFault::NoSuchText) => {
+        (OfEntry::Get(get), ToolFault::NoSuchText) => {
             let shown = shown_name(get.name);
             line_of(&[b"get: ", shown.as_slice(), b": absent\n"])
         }
-        (Asked::Entry(OfEntry::Get(get)), ToolFault::NoSuchName) => {
-            no_name_line(b"get: ", get.name, near)
-        }
-        (Asked::Entry(OfEntry::Trace(of)), ToolFault::NoSuchText) => {
+        (OfEntry::Get(get), ToolFault::NoSuchName) => { no_name_line(b"get: ", get.name, near) }
+        (OfEntry::Trace(of), ToolFault::NoSuchText) => {
             let shown = shown_name(of.name);
             line_of(&[b"trace: ", shown.as_slice(), b": no such text\n"])
         }
-        (Asked::Entry(OfEntry::Trace(of)), ToolFault::NoSuchName) => {
-            no_name_line(b"trace: ", of.name, near)
-        }
+        (OfEntry::Trace(of), ToolFault::NoSuchName) => { no_name_line(b"trace: ", of.name, near) }
         _ => fault_line(fault),
     }
 }
@@ -188,6 +185,9 @@ pub fn line_fault_line(fault: LineFault) -> FaultLine
         LineFault::BothWidths => line_of(&[b"convert: both widths\n"]),
         LineFault::ToTerminal => line_of(&[b"convert: not to a terminal without --force\n"]),
         LineFault::FileCount => line_of(&[b"diff: one file or two\n"]),
+        LineFault::InputTwice => {
+            line_of(&[b"diff: standard input cannot be compared with itself\n"])
+        }
         LineFault::Words(why) => words_line(why),
     }
 }

@@ -1,20 +1,27 @@
 //! What is due for a file that was named, from its contents: nothing here reads or writes.
 
-ghost use Rattle.std.specs.Prelude.{◌≡◌, ◌⊎◌, ◌++◌, codes, Err, None, OnOk, IfErr, IfOk, true};
+ghost use Rattle.std.specs.Prelude.{◌≡◌, ◌++◌, ℕ, List, codes, Ok, OnOk, IfErr, IfOk, true};
 ghost use Rattle.ti_line.specs.declared.request.Asked.TheVariants as asks;
-ghost use Rattle.ti_tool.specs.declared.fault.ToolFault.TheVariants as fault;
-ghost use Rattle.ti_tool.specs.Files.{IsDueOfFile, before_findings as the_before_findings, each_line, file_line as the_file_line, one_of_several as the_one_of_several, shown_file};
-ghost use Rattle.ti_tool.specs.Results.{Finds, IsDueIn, IsDueOf};
-ghost use Rattle.ti_tool.specs.inner.Several.{IsDueOfSeveral, document_in as the_document_in};
+ghost use Rattle.ti_line.specs.declared.request.OfEntry.TheVariants as of_entry;
+ghost use Rattle.ti_listing.specs.Listing.{entry_lines};
+ghost use Rattle.ti_tool.specs.Calls.{FailsAsDue};
+ghost use Rattle.ti_tool.specs.Files.{IsDueOfFile, before_findings as the_before_findings, each_line, file_called, file_line as the_file_line, one_of_several as the_one_of_several, shown_file};
+ghost use Rattle.ti_tool.specs.Results.{Finds, IsDueIn, IsDueOf, IsLinted};
+ghost use Rattle.ti_tool.specs.Verdicts.{AreVerdicts};
+ghost use Rattle.ti_tool.specs.inner.Several.{IsDueOfSeveral};
 
+use crate::command::check::verdicts_of;
 use crate::command::document::document_of_file;
+use crate::command::lint::findings_of_entry;
 use crate::command::{Answer, answer_of_entry};
 use crate::fault::ToolFault;
 use std::alloc::{AllocError, Allocator};
 use ti_entry::{Entry, read};
-use ti_escape::push_notation;
+use ti_escape::{Color, push_notation};
 use ti_expand::Value;
-use ti_line::{Document, NameForm, OfEntry};
+use ti_line::{ListOptions, NameForm, Naming, OfEntry};
+use ti_lint::Level;
+use ti_listing::lines_of;
 use ti_report::Trials;
 
 /// A file that was named.
@@ -96,68 +103,81 @@ fn by_name<A: Allocator + Copy>(
     Ok(out)
 }
 
+/// Writes what a file is called before a line on it.
+fn push_called<A: Allocator>(out: &mut Vec<u8, A>, name: &str) -> Result<(), AllocError>
+    ensures { OnOk result (out.new.items ≡ out.old.items ++ file_called name.now) }
+{
+    if name == "-" {
+        out.extend_from_slice(b"standard input")
+    } else {
+        push_notation(out, name.as_bytes())
+    }
+}
+
 /// What stands before the first line of each finding in one of several files.
 fn before_findings<A: Allocator + Copy>(alloc: A, name: &str) -> Result<Vec<u8, A>, AllocError>
     ensures { IfOk result (λ v. v.items ≡ the_before_findings true name.now) }
 {
     let mut before = Vec::new(alloc);
-    push_notation(&mut before, name.as_bytes())?;
+    push_called(&mut before, name)?;
     before.extend_from_slice(b": ")?;
     Ok(before)
 }
 
-/// The output for one of several files, if no document is requested.
-fn one_of_several<A: Allocator + Copy>(
+/// The lines of `show` on one of several files.
+fn listing_of_file<A: Allocator + Copy>(
     alloc: A,
-    asked: &OfEntry<'_>,
+    options: ListOptions,
     name: &str,
-    plain: Vec<u8, A>,
-) -> Result<Vec<u8, A>, AllocError>
-    requires { the_document_in asked.now ≡ None }
-    ensures { IfOk result (λ v. v.items ≡ the_one_of_several asked.now name.now plain.items) }
+    entry: &Entry<'_>,
+) -> Result<Answer<A>, AllocError>
+    ensures sound { IfOk result (λ a. a.sound ≡ true) }
+    ensures due { IfOk result (λ a. a.bytes.items
+        ≡ the_one_of_several (of_entry.Show options) name.now (entry_lines options entry.now)) }
 {
-    match asked {
-        OfEntry::Show(options) => after_name(alloc, options.naming.form, name, plain.as_slice()),
-        OfEntry::Check(naming) => by_name(alloc, naming.form, name, plain.as_slice()),
-        OfEntry::Json(_document) => unreachable!(),
-        _ => Ok(plain),
-    }
+    let listing = lines_of(alloc, options, entry)?;
+    let bytes = after_name(alloc, options.naming.form, name, listing.as_slice())?;
+    Ok(Answer { bytes, sound: true })
 }
 
-/// The document that is requested, if one is.
-fn document_in(asked: &OfEntry<'_>) -> Option<Document>
-    ensures { result ≡ the_document_in asked.now }
+/// The lines of `check` on one of several files.
+fn verdicts_of_file<A: Allocator + Copy>(
+    alloc: A,
+    naming: Naming,
+    name: &str,
+    entry: &Entry<'_>,
+) -> Result<Answer<A>, AllocError>
+    ensures { IfOk result (λ a. (plain : List ℕ) × AreVerdicts naming entry.now plain a.sound
+        × (a.bytes.items ≡ the_one_of_several (of_entry.Check naming) name.now plain)) }
 {
-    match asked {
-        OfEntry::Json(document) => Some(*document),
-        _ => None,
-    }
+    let Answer { bytes, sound } = verdicts_of(alloc, naming, entry)?;
+    let bytes = by_name(alloc, naming.form, name, bytes.as_slice())?;
+    Ok(Answer { bytes, sound })
 }
 
-/// The output of a request for one of several files, if no document is requested.
-fn lines_of_file<A: Allocator + Copy>(
+/// The lines of `lint` on one of several files.
+fn findings_of_file<A: Allocator + Copy>(
     alloc: A,
     trials: &mut Trials<A>,
-    asked: &OfEntry<'_>,
-    parameters: &[Value<'_>; 9],
+    level: Level,
+    color: Color,
     name: &str,
     contents: &[u8],
     entry: &Entry<'_>,
-) -> Result<Answer<A>, ToolFault>
-    requires { the_document_in asked.now ≡ None }
-    ensures finds { IfOk result (λ a. Finds (asks.Entry asked.now) a.sound) }
-    ensures due { IfOk result (λ a. IsDueOfSeveral asked.now parameters.now name.now
-        a.sound contents.now entry.now a.bytes.items) }
-    ensures fault { IfErr result (λ e. (e ≡ fault.Memory)
-        ⊎ IsDueIn (the_before_findings true name.now) asked.now parameters.now true
-        contents.now entry.now (Err e)) }
+) -> Result<Answer<A>, AllocError>
+    ensures { IfOk result (λ a. IsLinted level color (the_before_findings true name.now) a.sound
+        contents.now entry.now (Ok a.bytes.items)) }
 {
     let before = before_findings(alloc, name)?;
-    let before = before.as_slice();
-    let answer = answer_of_entry(alloc, trials, asked, parameters, before, contents, entry)?;
-    let Answer { bytes, sound } = answer;
-    let bytes = one_of_several(alloc, asked, name, bytes)?;
-    Ok(Answer { bytes, sound })
+    findings_of_entry(
+        alloc,
+        trials,
+        level,
+        color,
+        before.as_slice(),
+        contents,
+        entry,
+    )
 }
 
 /// The output of a request for one of several files.
@@ -173,13 +193,21 @@ fn answer_of_several<A: Allocator + Copy>(
     ensures finds { IfOk result (λ a. Finds (asks.Entry asked.now) a.sound) }
     ensures due { IfOk result (λ a. IsDueOfSeveral asked.now parameters.now name.now
         a.sound contents.now entry.now a.bytes.items) }
-    ensures fault { IfErr result (λ e. (e ≡ fault.Memory)
-        ⊎ IsDueIn (the_before_findings true name.now) asked.now parameters.now true
-        contents.now entry.now (Err e)) }
+    ensures fault { IfErr result (FailsAsDue (IsDueIn (the_before_findings true name.now)
+        asked.now parameters.now true contents.now entry.now)) }
 {
-    match document_in(asked) {
-        Some(document) => Ok(document_of_file(alloc, trials, document, name, contents, entry)?),
-        None => lines_of_file(alloc, trials, asked, parameters, name, contents, entry),
+    match asked {
+        OfEntry::Show(options) => Ok(listing_of_file(alloc, *options, name, entry)?),
+        OfEntry::Json(document) => {
+            Ok(document_of_file(alloc, trials, *document, name, contents, entry)?)
+        }
+        OfEntry::Check(naming) => Ok(verdicts_of_file(alloc, *naming, name, entry)?),
+        OfEntry::Lint(level, color) => {
+            Ok(findings_of_file(alloc, trials, *level, *color, name, contents, entry)?)
+        }
+        OfEntry::Expand(_) | OfEntry::Convert(_) | OfEntry::Get(_) | OfEntry::Trace(_) => {
+            answer_of_entry(alloc, trials, asked, parameters, b"", contents, entry)
+        }
     }
 }
 
@@ -188,7 +216,7 @@ fn answer_of_several<A: Allocator + Copy>(
 ///
 /// # Errors
 ///
-/// Those of the entry; [`ToolFault::Memory`] if a growth is refused.
+/// Those of the entry; [`ToolFault::Memory`] if a growth is refused, which no fault of the contents needs.
 pub fn answer_of_file<A: Allocator + Copy>(
     alloc: A,
     trials: &mut Trials<A>,
@@ -200,9 +228,9 @@ pub fn answer_of_file<A: Allocator + Copy>(
     ensures finds { IfOk result (λ a. Finds (asks.Entry asked.now) a.sound) }
     ensures due { IfOk result (λ a. IsDueOfFile file.entry.is_one_of_several asked.now
         parameters.now file.entry.name.now a.sound contents.now a.bytes.items) }
-    ensures fault { IfErr result (λ e. (e ≡ fault.Memory)
-        ⊎ IsDueOf (the_before_findings file.entry.is_one_of_several file.entry.name.now)
-        asked.now parameters.now true contents.now (Err e)) }
+    ensures fault { IfErr result (FailsAsDue (IsDueOf
+        (the_before_findings file.entry.is_one_of_several file.entry.name.now)
+        asked.now parameters.now true contents.now)) }
 {
     let entry = read(contents)?;
     if file.is_one_of_several {
@@ -222,7 +250,7 @@ pub fn file_line<A: Allocator + Copy>(
     ensures { IfOk result (λ v. v.items ≡ the_file_line name.now line.now) }
 {
     let mut out = Vec::new(alloc);
-    push_notation(&mut out, name.as_bytes())?;
+    push_called(&mut out, name)?;
     out.extend_from_slice(b": ")?;
     out.extend_from_slice(line)?;
     Ok(out)

@@ -3,13 +3,12 @@
 //! They are found one after another. For each, all short and long names and those of the entry's extended capabilities are gone over once. A name that
 //! is much longer or shorter than the word is passed over; each other one takes memory for its distance.
 
-ghost use Rattle.std.specs.Prelude.{◌≡◌, ◌≤◌, ◌<◌, ◌↔◌, ℕ, List, Contains, IfOk, IfSome, IfNone, IsTrue, false, length, map, option_map};
+ghost use Rattle.std.specs.Prelude.{◌≡◌, ◌<◌, ◌++◌, [], ◌∷◌, ◌↔◌, ℕ, List, Contains, IfOk, IfSome, IfNone, IsTrue, false, length, map, option_map};
 ghost use Rattle.std.specs.Str.{chars};
-ghost use Rattle.ti_words.specs.declared.Kind.{Kind};
 ghost use Rattle.ti_words.specs.Items.{items, subject_value};
 ghost use Rattle.ti_names.specs.AllNames.{name_in};
-ghost use Rattle.ti_tool.specs.Near.{AreNearest, IsName, IsNameOf, IsNext, NoneIsNear, edits, most_edits};
-ghost use Rattle.ti_tool.specs.inner.Near.{AreFarther, IsFarther, IsFartherIn, IsFartherOf, IsFound, IsShortOrLong, IsSought, told_of};
+ghost use Rattle.ti_tool.specs.Near.{AreNearest, IsNext, NoneIsNear, edits, most_edits, name_given, names_given, names_in, names_of};
+ghost use Rattle.ti_tool.specs.inner.Near.{IsBest, IsShortOrLong, IsSought, told_of};
 
 use arrayvec::ArrayVec;
 use std::alloc::{AllocError, Allocator};
@@ -77,12 +76,9 @@ fn nearer<'n, A: Allocator + Copy>(
     found: Nearest<'n>,
     name: &'n str,
 ) -> Result<Nearest<'n>, AllocError>
-    requires sought { IsSought sought.now }
-    requires named { IsName sought.now.entry.now name.now }
-    requires found { IsFound sought.now found }
-    ensures found { IfOk result (IsFound sought.now) }
-    ensures less { IfOk result (λ f. f.edits ≤ found.entry.edits) }
-    ensures least { IfOk result (λ f. IsFarther sought.now f.edits name.now) }
+    requires { IsSought sought.now }
+    ensures { (names : List (List ℕ)) → IsBest sought.now names found.entry
+        → IfOk result (IsBest sought.now (names ++ name.now ∷ [])) }
 {
     if is_told(sought.told, name) || !may_be_near(sought, name) {
         return Ok(found);
@@ -115,10 +111,8 @@ fn nearest_in<'n, A: Allocator + Copy>(
 ) -> Result<Nearest<'n>, AllocError>
     requires sought { IsSought sought.now }
     requires table { IsShortOrLong table }
-    requires found { IsFound sought.now found }
-    ensures found { IfOk result (IsFound sought.now) }
-    ensures less { IfOk result (λ f. f.edits ≤ found.entry.edits) }
-    ensures least { IfOk result (λ f. IsFartherIn sought.now f.edits table kind) }
+    ensures { (names : List (List ℕ)) → IsBest sought.now names found.entry
+        → IfOk result (IsBest sought.now (names ++ names_of table kind)) }
 {
     let mut best = found;
     for index in 0..MOST_NAMES {
@@ -138,10 +132,8 @@ fn nearest_of<'n, A: Allocator + Copy>(
 ) -> Result<Nearest<'n>, AllocError>
     requires sought { IsSought sought.now }
     requires table { IsShortOrLong table }
-    requires found { IsFound sought.now found }
-    ensures found { IfOk result (IsFound sought.now) }
-    ensures less { IfOk result (λ f. f.edits ≤ found.entry.edits) }
-    ensures least { IfOk result (λ f. (kind : Kind) → IsFartherIn sought.now f.edits table kind) }
+    ensures { (names : List (List ℕ)) → IsBest sought.now names found.entry
+        → IfOk result (IsBest sought.now (names ++ names_in table)) }
 {
     let flags = nearest_in(alloc, sought, found, table, Kind::Flag)?;
     let numbers = nearest_in(alloc, sought, flags, table, Kind::Number)?;
@@ -155,12 +147,9 @@ fn nearer_extended<'n, A: Allocator + Copy>(
     found: Nearest<'n>,
     subject: Subject<'n>,
 ) -> Result<Nearest<'n>, AllocError>
-    requires sought { IsSought sought.now }
-    requires named { (name : List ℕ) → IsNameOf (subject_value subject) name → IsName sought.now.entry.now name }
-    requires found { IsFound sought.now found }
-    ensures found { IfOk result (IsFound sought.now) }
-    ensures less { IfOk result (λ f. f.edits ≤ found.entry.edits) }
-    ensures least { IfOk result (λ f. IsFartherOf sought.now f.edits (subject_value subject.entry)) }
+    requires { IsSought sought.now }
+    ensures { (names : List (List ℕ)) → IsBest sought.now names found.entry
+        → IfOk result (IsBest sought.now (names ++ name_given (subject_value subject.entry))) }
 {
     let Subject::Extended(_, name) = subject else {
         return Ok(found);
@@ -177,11 +166,9 @@ fn nearest_extended<'n, A: Allocator + Copy>(
     sought: &SoughtName<'_, 'n>,
     found: Nearest<'n>,
 ) -> Result<Nearest<'n>, AllocError>
-    requires sought { IsSought sought.now }
-    requires found { IsFound sought.now found }
-    ensures found { IfOk result (IsFound sought.now) }
-    ensures less { IfOk result (λ f. f.edits ≤ found.entry.edits) }
-    ensures least { IfOk result (λ f. AreFarther sought.now f.edits (items sought.now.entry.now)) }
+    requires { IsSought sought.now }
+    ensures { (names : List (List ℕ)) → IsBest sought.now names found.entry
+        → IfOk result (IsBest sought.now (names ++ names_given (items sought.now.entry.now))) }
 {
     let mut best = found;
     let mut items = sought.entry.items();

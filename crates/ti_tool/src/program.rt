@@ -1,16 +1,18 @@
 //! The program over its words, a reader and two writers.
 
-ghost use Rattle.std.specs.Prelude.{◌≡◌, ◌≢◌, ◌≤◌, ◌⊎◌, [], map};
+ghost use Rattle.std.specs.Prelude.{◌≡◌, ◌≢◌, ◌≤◌, ◌⊎◌, [], Bool, Err, map};
 ghost use Rattle.ti_line.specs.CommandLine.{Line, Reads, files_of};
 ghost use Rattle.ti_line.specs.Requests.{texts_of};
-ghost use Rattle.ti_tool.specs.FaultLines.{AreTold, AreToldFor};
+ghost use Rattle.ti_line.specs.declared.request.Asked.TheVariants.{Entry};
+ghost use Rattle.ti_tool.specs.FaultLines.{AreTold, AreToldFor, IsAnswerLine};
 ghost use Rattle.ti_tool.specs.Runs.{DidLine, DidNoLine, Ends, EndsWords, MayHaveWritten, RanRequest, RanTask, no_terminals};
+ghost use Rattle.ti_tool.specs.Streams.{streams, unknown_files};
 
 use crate::call::carry_out_keeping;
 use crate::comparison::run_pair;
 use crate::fault::ToolFault;
-use crate::fault_line::{asked_line, fault_line, line_fault_line};
-use crate::files::{Errand, run_files};
+use crate::fault_line::{FaultLine, asked_line, fault_line, line_fault_line};
+use crate::files::run_files;
 use crate::near::{NearNames, nearest_names};
 use crate::status::status;
 use crate::store::{NoStore, Store};
@@ -37,20 +39,50 @@ fn names_for<'n, A: Allocator + Copy>(alloc: A, word: &str, input: &'n [u8]) -> 
 }
 
 /// The names that are told in a line on a fault, if nothing in what was read has the name that was given.
-pub(crate) fn told_names<'n, A: Allocator + Copy>(
+fn told_names<'n, A: Allocator + Copy>(
     alloc: A,
-    asked: &Asked<'_>,
+    asked: &OfEntry<'_>,
     input: &'n [u8],
     fault: &ToolFault,
 ) -> NearNames<'n>
-    ensures { AreTold asked.now input.now fault.now (map (λ name. name.now) result.items) }
+    ensures { AreTold (Entry asked.now) input.now fault.now (map (λ name. name.now) result.items) }
 {
     match (asked, fault) {
-        (Asked::Entry(OfEntry::Get(Get { name, .. })), ToolFault::NoSuchName)
-        | (Asked::Entry(OfEntry::Trace(TraceOf { name, .. })), ToolFault::NoSuchName) => {
+        (OfEntry::Get(Get { name, .. }), ToolFault::NoSuchName)
+        | (OfEntry::Trace(TraceOf { name, .. }), ToolFault::NoSuchName) => {
             names_for(alloc, name, input)
         }
         _ => ArrayVec::new(),
+    }
+}
+
+/// The line on the fault of a request on an entry, of which these bytes were read.
+pub(crate) fn entry_line<A: Allocator + Copy>(
+    alloc: A,
+    asked: &OfEntry<'_>,
+    input: &[u8],
+    fault: &ToolFault,
+) -> FaultLine
+    ensures { IsAnswerLine {V = Bool} (Entry asked.now) input.now (Err fault.now) result.items }
+{
+    let near = told_names(alloc, asked, input, fault);
+    asked_line(asked, near.as_slice(), fault)
+}
+
+/// The line on the fault of a request.
+fn answer_line<A: Allocator + Copy>(
+    alloc: A,
+    asked: &Asked<'_>,
+    input: &[u8],
+    fault: &ToolFault,
+) -> FaultLine
+    ensures { IsAnswerLine {V = Bool} asked.now input.now (Err fault.now) result.items }
+{
+    match asked {
+        Asked::Entry(asked) => entry_line(alloc, asked, input, fault),
+        Asked::Capability(_) => fault_line(fault),
+        Asked::Source(_) => fault_line(fault),
+        Asked::Difference(_) => fault_line(fault),
     }
 }
 
@@ -66,8 +98,7 @@ fn finish<A: Allocator + Copy, E: Write>(
     ensures silent { result ≤ 1 → errors.new ≡ errors.old }
 {
     if let Err(fault) = &answer {
-        let near = told_names(alloc, asked, input, fault);
-        let line = asked_line(asked, near.as_slice(), fault);
+        let line = answer_line(alloc, asked, input, fault);
         let _ = write_out(errors, line.as_slice());
     }
     status(&answer)
@@ -83,9 +114,8 @@ fn run_request<A: Allocator + Copy, R: Read, W: Write, E: Write>(
     errors: &mut E,
 ) -> u8
     ensures ran { RanRequest asked.now parameters.now (output.new ≡ output.old)
-        (R.remaining input.old) (R.remaining input.new)
-        (W.contents output.old) (W.contents output.new)
-        (E.contents errors.old) (E.contents errors.new) result }
+        (streams (R.remaining input.old) (W.contents output.old) (E.contents errors.old))
+        (streams (R.remaining input.new) (W.contents output.new) (E.contents errors.new)) result }
     ensures silent { result ≤ 1 → errors.new ≡ errors.old }
 {
     let mut kept = EntryReader::new();
@@ -104,30 +134,23 @@ fn run_task<S: Store, A: Allocator + Copy, R: Read, W: Write, E: Write>(
     output: &mut W,
     errors: &mut E,
 ) -> u8
-    ensures ran { RanTask (texts_of files.now) asked.now parameters.now (output.new ≡ output.old)
-        (R.remaining input.old) (R.remaining input.new)
-        (W.contents output.old) (W.contents output.new)
-        (E.contents errors.old) (E.contents errors.new) result }
+    ensures ran { RanTask (S.known store.now) asked.now (texts_of files.now) parameters.now
+        (output.new ≡ output.old)
+        (streams (R.remaining input.old) (W.contents output.old) (E.contents errors.old))
+        (streams (R.remaining input.new) (W.contents output.new) (E.contents errors.new)) result }
     ensures known { result ≢ 2 }
     ensures silent { result ≤ 1 → errors.new ≡ errors.old }
 {
     match asked {
         Asked::Entry(of_entry) if !files.is_empty() => {
-            let errand = Errand {
-                asked,
-                of_entry,
-                parameters,
-                has_several: files.len() > 1,
-            };
-            run_files(store, alloc, &errand, files, input, output, errors)
+            run_files(
+                store, alloc, of_entry, parameters, files, input, output, errors,
+            )
         }
-        Asked::Difference(pair) if !files.is_empty() => {
-            run_pair(store, alloc, pair, input, output, errors)
-        }
+        Asked::Difference(pair) => run_pair(store, alloc, pair, input, output, errors),
         Asked::Capability(_) => { run_request(alloc, asked, parameters, input, output, errors) }
         Asked::Source(_) => { run_request(alloc, asked, parameters, input, output, errors) }
         Asked::Entry(_) => { run_request(alloc, asked, parameters, input, output, errors) }
-        Asked::Difference(_) => { run_request(alloc, asked, parameters, input, output, errors) }
     }
 }
 
@@ -172,7 +195,7 @@ fn run_no_line<W: Write, E: Write>(why: &NoLine, output: &mut W, errors: &mut E)
 /// |---|---|---|
 /// | 0 | done, or help was requested | none |
 /// | 1 | `check` found a fault, `lint` something wrong, `diff` told something, or the flag that `get` asks for is not set | none |
-/// | 2 | the words are no command line or no parameters, or ask for both widths, or for both forms of an output, or for an entry at a terminal, or to compare no file or more than two | what is wrong and the usage; `parameters: more than nine`; `parameter K: bad word`; `convert: both widths`; `--hex and --escape exclude each other`; `--source and --of exclude each other`; `trace: --entry without --of`; `convert: not to a terminal without --force`; `diff: one file or two` |
+/// | 2 | the words are no command line or no parameters, or ask for both widths, or for both forms of an output, or for an entry at a terminal, or to compare no file, more than two, or standard input with itself | what is wrong and the usage; `parameters: more than nine`; `parameter K: bad word`; `convert: both widths`; `--hex and --escape exclude each other`; `--source and --of exclude each other`; `trace: --entry without --of`; `convert: not to a terminal without --force`; `diff: one file or two`; `diff: standard input cannot be compared with itself` |
 /// | 3 | the entry is refused, or can't be encoded | `entry: WORD at PLACE`; `entry: WORD` |
 /// | 4 | the capability or its notation is refused, or it is absent, a text is too long for it, or its padding too much | `capability: WORD at PLACE`; `source: WORD at PLACE`; `capability: absent`; `get: NAME: absent`; `trace: NAME: no such text`; `get: NAME: no such capability`, and the same of `trace`; `capability: TextTooLong K`; `capability: TooMuch N` |
 /// | 5 | reading or writing failed | `input: failed`; `output: failed` |
@@ -196,11 +219,10 @@ pub fn run_at<S: Store, A: Allocator + Copy, R: Read, W: Write, E: Write>(
 ) -> u8
     // If `clap` reads the words, the named call did its work, of each file that they name, unless memory was refused.
     ensures read { (line : Line) → Reads (texts_of words.now) line
-        → DidLine at (texts_of words.now) line
+        → DidLine at (S.known store.now) (texts_of words.now) line
         (input.new ≡ input.old) (output.new ≡ output.old)
-        (R.remaining input.old) (R.remaining input.new)
-        (W.contents output.old) (W.contents output.new)
-        (E.contents errors.old) (E.contents errors.new) result }
+        (streams (R.remaining input.old) (W.contents output.old) (E.contents errors.old))
+        (streams (R.remaining input.new) (W.contents output.new) (E.contents errors.new)) result }
     // If it does not, help was written, or the words are refused, unless memory was refused.
     ensures unread { ((line : Line) → ¬ Reads (texts_of words.now) line)
         → DidNoLine at (texts_of words.now)
@@ -257,11 +279,10 @@ pub fn run<A: Allocator + Copy, R: Read, W: Write, E: Write>(
 ) -> u8
     // If `clap` reads the words, the named call did its work, of each file that they name, unless memory was refused.
     ensures read { (line : Line) → Reads (texts_of words.now) line
-        → DidLine no_terminals (texts_of words.now) line
+        → DidLine no_terminals unknown_files (texts_of words.now) line
         (input.new ≡ input.old) (output.new ≡ output.old)
-        (R.remaining input.old) (R.remaining input.new)
-        (W.contents output.old) (W.contents output.new)
-        (E.contents errors.old) (E.contents errors.new) result }
+        (streams (R.remaining input.old) (W.contents output.old) (E.contents errors.old))
+        (streams (R.remaining input.new) (W.contents output.new) (E.contents errors.new)) result }
     // If it does not, help was written, or the words are refused, unless memory was refused.
     ensures unread { ((line : Line) → ¬ Reads (texts_of words.now) line)
         → DidNoLine no_terminals (texts_of words.now)

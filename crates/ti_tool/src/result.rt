@@ -1,6 +1,6 @@
 //! The whole result of a call, and writing it.
 
-ghost use Rattle.std.specs.Prelude.{◌≡◌, ◌++◌, codes, Ok, IfOk, IfErr};
+ghost use Rattle.std.specs.Prelude.{◌≡◌, ◌++◌, [], codes, Ok, IfOk, IfErr};
 ghost use Rattle.ti_tool.specs.declared.fault.ToolFault.TheVariants as fault;
 ghost use Rattle.ti_escape.specs.Forms.{formed};
 ghost use Rattle.ti_line.specs.Options.{output_bytes as the_output_bytes};
@@ -50,6 +50,7 @@ pub fn write_result<W: Write>(writer: &mut W, bytes: &[u8]) -> Result<(), ToolFa
     ensures written { Wrote (λ due. due ≡ Ok bytes.now)
         (W.contents writer.old) (W.contents writer.new) result }
     ensures fails { IfErr result IsFailedWrite }
+    ensures nothing { bytes.now ≡ [] → writer.new ≡ writer.old }
 {
     write_out(writer, bytes).map_err(ToolFault::Write)
 }

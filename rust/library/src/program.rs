@@ -44,7 +44,7 @@ struct InMemory<'a> {
 
 impl Store for InMemory<'_> {
     fn find<A: Allocator + Copy>(&self, alloc: A, name: &str) -> io::Result<Files<A>> {
-        one_file(alloc, name, None)
+        Ok(one_file(alloc, name, None)?)
     }
 
     fn read<A: Allocator>(&self, _name: &str, contents: &mut Vec<u8, A>) -> io::Result<()> {

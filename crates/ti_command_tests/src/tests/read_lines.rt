@@ -55,6 +55,8 @@ ti expand -- -X => Entry(Expand(Expand { name: TextName { name: "-X", names: Com
 /// Words of which the line has a fault, and the fault.
 const FAULTY: &str = r"
 ti diff => FileCount
+ti diff - => InputTwice
+ti diff - - => InputTwice
 ti cap help => BadWord 1
 ti cap n:1  s: => BadWord 2
 ti cap -- -5 --hex => BadWord 1

@@ -61,7 +61,7 @@ fn put<A: Allocator + Copy>(
 impl Store for Shelf {
     fn find<A: Allocator + Copy>(&self, alloc: A, name: &str) -> io::Result<Files<A>> {
         if name != "folder" {
-            return one_file(alloc, name, None);
+            return Ok(one_file(alloc, name, None)?);
         }
         let invalid = io::Error::from(ErrorKind::InvalidFilename);
         let mut files = one_file(alloc, "folder", Some(invalid))?;
@@ -86,6 +86,11 @@ const ROWS: &str = r#"
 ti show small | file => 0 out format: legacy\nnames: t\nflag bw\nnumber cols 80\ntext bel 07\n
 # the input has another text
 ti show small - | file => 0 out file: small\nformat: legacy\nnames: t\nflag bw\nnumber cols 80\ntext bel 07\nfile: -\nformat: legacy\nnames: t\nflag bw\nnumber cols 80\ntext bel 1b5b3f255b3b303132333435363738395d63\n
+# the second time it has nothing left
+ti show - - | file => 3 out file: -\nformat: legacy\nnames: t\nflag bw\nnumber cols 80\ntext bel 1b5b3f255b3b303132333435363738395d63\n err standard input: entry: Truncated at 0\n
+ti show --entry small | file => 0 out format: legacy\nnames: t\nflag bw\nnumber cols 80\ntext bel 07\n
+ti check more\E --entry small | file => 0 out small: text bel ok depth 0 bound 1\nmore\E: text bel ok depth 0 bound 1\nmore\E: text+ E3 ok depth 0 bound 4\n
+ti check --entry=- | file => 1 out text bel fault UnknownEscape at 3\n
 ti show --json small | terminal => 0 out [{"kind":"format","value":"legacy"},{"kind":"names","value":"t"},{"kind":"flag","name":"bw","value":true},{"kind":"number","name":"cols","value":80},{"hex":"07","kind":"text","name":"bel","value":"\^G"}]\n
 # a file that is no entry has no document
 ti show --json more\E cut small | file => 3 out {"file":"more\\\\E","items":[{"kind":"format","value":"legacy"},{"kind":"names","value":"t"},{"kind":"flag","name":"bw","value":true},{"kind":"number","name":"cols","value":80},{"hex":"07","kind":"text","name":"bel","value":"\^G"},{"kind":"flag","name":"AX","own":true,"value":true},{"hex":"1b5b334a","kind":"text","name":"E3","own":true,"value":"\\\\E[3J"}]}\n{"file":"small","items":[{"kind":"format","value":"legacy"},{"kind":"names","value":"t"},{"kind":"flag","name":"bw","value":true},{"kind":"number","name":"cols","value":80},{"hex":"07","kind":"text","name":"bel","value":"\^G"}]}\n err cut: entry: Truncated at 5\n

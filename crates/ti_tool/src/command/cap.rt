@@ -4,7 +4,7 @@
 
 ghost use Rattle.std.specs.Prelude.{Ok, MatchResult};
 ghost use Rattle.ti_tool.specs.Results.{IsCappedAs};
-ghost use Rattle.ti_tool.specs.inner.Dues.{FailsAsDue};
+ghost use Rattle.ti_tool.specs.Calls.{FailsAsDue};
 
 use crate::expansion::expansion_of;
 use crate::fault::ToolFault;

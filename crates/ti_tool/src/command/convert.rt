@@ -2,7 +2,7 @@
 
 ghost use Rattle.std.specs.Prelude.{◌≡◌, Ok, IfOk, MatchResult};
 ghost use Rattle.ti_tool.specs.Results.{IsEncoding, in_width};
-ghost use Rattle.ti_tool.specs.inner.Dues.{FailsAsDue};
+ghost use Rattle.ti_tool.specs.Calls.{FailsAsDue};
 
 use crate::fault::ToolFault;
 use std::alloc::{AllocError, Allocator};

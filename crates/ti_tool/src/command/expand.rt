@@ -6,7 +6,7 @@ ghost use Rattle.std.specs.Prelude.{◌≡◌, Ok, MatchResult};
 ghost use Rattle.ti_words.specs.Texts.{text_value};
 ghost use Rattle.ti_tool.specs.Got.{IsPaddedAlone};
 ghost use Rattle.ti_tool.specs.Results.{IsDue, IsDueFor, IsPadded};
-ghost use Rattle.ti_tool.specs.inner.Dues.{FailsAsDue};
+ghost use Rattle.ti_tool.specs.Calls.{FailsAsDue};
 
 use crate::expansion::expansion_of;
 use crate::fault::ToolFault;

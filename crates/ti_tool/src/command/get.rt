@@ -5,7 +5,7 @@
 ghost use Rattle.std.specs.Prelude.{◌≡◌, Ok, IfOk, MatchResult, option_map, true};
 ghost use Rattle.ti_words.specs.Items.{item_value};
 ghost use Rattle.ti_tool.specs.Got.{IsExpandedBy, IsGot, IsTextResult, IsValueResult, number_or_none as the_number_or_none, number_result as the_number_result};
-ghost use Rattle.ti_tool.specs.inner.Dues.{FailsAsDue};
+ghost use Rattle.ti_tool.specs.Calls.{FailsAsDue};
 
 use crate::command::Answer;
 use crate::command::expand::{expand_and_pad, padded_output};

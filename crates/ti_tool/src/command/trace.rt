@@ -5,7 +5,7 @@ ghost use Rattle.ti_words.specs.Items.{item_value};
 ghost use Rattle.ti_line.specs.declared.options.TraceForm.TheVariants as trace_forms;
 ghost use Rattle.ti_tool.specs.Got.{IsDueBy};
 ghost use Rattle.ti_tool.specs.Traces.{IsTraced, IsTracedBy, IsTracedOf, IsTracedValue};
-ghost use Rattle.ti_tool.specs.inner.Dues.{FailsAsDue};
+ghost use Rattle.ti_tool.specs.Calls.{FailsAsDue};
 
 use crate::command::document::as_line;
 use crate::fault::ToolFault;

@@ -62,6 +62,14 @@ impl<T, A: Allocator> Vec<T, A> {
         Ok(())
     }
 
+    /// Moves the items of another vector to the end.
+    #[cfg(feature = "alloc")]
+    pub fn append(&mut self, other: &mut Self) -> Result<(), AllocError> {
+        self.reserve(other.items.len())?;
+        self.items.append(&mut other.items);
+        Ok(())
+    }
+
     pub fn pop(&mut self) -> Option<T> {
         self.items.pop()
     }

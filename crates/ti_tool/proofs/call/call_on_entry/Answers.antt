@@ -1,8 +1,7 @@
 use Rattle.std.proofs.Common.{[], ℕ, List, Err, Ok, inl, inr, refl, subst, true}
 use Rattle.std.proofs.lemmas.Result.{err_from_is_err_and}
 use Rattle.ti_tool.specs.Results.{IsDueIn, IsDueOf}
-use Rattle.ti_tool.specs.Calls.{HasFailed}
-use Rattle.ti_tool.specs.inner.Dues.{FailsAsDue}
+use Rattle.ti_tool.specs.Calls.{FailsAsDue, HasFailed}
 use Rattle.ti_tool.proofs.NeedsMemoryLemmas.{due_from}
 use Rattle.ti_tool.proofs.DidCallLemmas.{did_fail, did_stop, did_write, keeps_all, kept_same, kept_stop, kept_written}
 use Rattle.ti_tool.proofs.OneResultLemmas.{entry_never}

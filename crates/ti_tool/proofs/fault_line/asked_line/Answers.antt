@@ -5,5 +5,5 @@ use Rattle.ti_tool.proofs.fault_line.asked_line.Goals as goal
 pub line_of-requires : goal.line_of-requires
 line_of-requires c = grind (arith, common_steps)
 
-pub line_of-requires-in-Entry-Trace-NoSuchText : goal.line_of-requires-in-Entry-Trace-NoSuchText
-line_of-requires-in-Entry-Trace-NoSuchText c = grind (arith, common_steps)
+pub line_of-requires-in-Trace-NoSuchText : goal.line_of-requires-in-Trace-NoSuchText
+line_of-requires-in-Trace-NoSuchText c = grind (arith, common_steps)

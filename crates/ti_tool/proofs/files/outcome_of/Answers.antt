@@ -1,5 +1,4 @@
-use Rattle.std.proofs.Common.{◌∙◌, ap, map}
-use Rattle.ti_tool.specs.FaultLines.{asked_line}
+use Rattle.ti_tool.specs.inner.Files.{job_of}
 use Rattle.ti_tool.proofs.FileLemmas.{fault_is_high}
 use Rattle.ti_tool.proofs.FileRunsLemmas.{fault_led}
 use Rattle.ti_tool.proofs.files.outcome_of.Goals as goal
@@ -9,6 +8,5 @@ fault_outcome-requires g c = rw c.status-in-Err.ensures (fault_is_high c.in-Err.
 
 pub returns-in-Err-clause-led : goal.returns-in-Err-clause-led
 returns-in-Err-clause-led g c =
-    fault_led (λ o. o.bytes.items) (λ o. o.line.items) (λ o. o.status) c.args.errand.now.asked.now c.args.errand.now.of_entry.now c.args.errand.now.parameters.now c.args.file.is_one_of_several
-    c.args.file.name.now c.args.contents.now c.as_slice-in-Err.result.now c.in-Err.fault (map (λ n. n.now) c.told_names-near.result.items) c.status-in-Err.result c.fault_outcome.result
-    c.in-Err.ensures.fault c.told_names-near.ensures (c.as_slice-in-Err.ensures.value ∙ c.asked_line-line.ensures ∙ ap (λ n. asked_line c.args.errand.now.asked.now (map (λ n. n.now) n) c.in-Err.fault) c.as_slice.ensures.value) c.status-in-Err.ensures c.fault_outcome.ensures.led
+    fault_led (λ o. o.bytes.items) (λ o. o.line.items) (λ o. o.status) (job_of c.args.errand.now) c.args.name.now c.args.contents.now c.entry_line-line.result.items c.as_slice.result.now c.in-Err.fault c.status-in-Err.result c.fault_outcome.result
+    c.in-Err.ensures.fault c.entry_line-line.ensures c.as_slice.ensures.value c.status-in-Err.ensures c.fault_outcome.ensures.led

@@ -1,8 +1,12 @@
-use Rattle.std.specs.Prelude.{string_bytes}
+use Rattle.std.proofs.Common.{ap}
+use Rattle.std.specs.Prelude.{is_some, string_bytes}
+use Rattle.ti_tool.specs.Streams.{file_name}
+use Rattle.ti_tool.specs.inner.Files.{job_of}
 use Rattle.ti_tool.proofs.FileRunsLemmas.{contents_led}
 use Rattle.ti_tool.proofs.files.outcome_of_found.Goals as goal
 
-pub returns-clause-led : goal.returns-clause-led
-returns-clause-led g c =
-    contents_led (λ o. o.bytes.items) (λ o. o.line.items) (λ o. o.status) c.args.errand.now.asked.now c.args.errand.now.of_entry.now c.args.errand.now.parameters.now c.args.is_one_of_several
-    c.as_str-name.result.now (string_bytes c.args.found.now.name) c.as_slice.result.now c.outcome_of.result c.as_str-name.ensures.value c.outcome_of.ensures.led
+pub returns-in-Ok-clause-led : goal.returns-in-Ok-clause-led
+returns-in-Ok-clause-led g c =
+    contents_led (λ o. o.bytes.items) (λ o. o.line.items) (λ o. o.status) (g.S.Store.known c.args.store.now) (job_of c.args.errand.now) (file_name (string_bytes c.args.found.now.name) (is_some c.args.found.now.fault))
+    (g.R.Read.remaining c.args.input.now) (g.R.Read.remaining c.contents_of.new.input) c.as_str-name.result.now c.as_slice.result.now c.in-Ok.contents.items c.outcome_of.result c.as_str-name.ensures.value
+    (ap is_some c.in_default.is) c.in-Ok.ensures.read c.as_slice.ensures.value c.outcome_of.ensures.led

@@ -1,28 +1,14 @@
-use Rattle.std.proofs.Common.{◌∙◌, arith}
-use Rattle.ti_tool.proofs.FileRunsLemmas.{max_low, words_all, words_end, words_more}
+use Rattle.std.proofs.Common.{◌∙◌, ap, map}
+use Rattle.std.specs.Prelude.{is_some, string_bytes}
+use Rattle.ti_line.specs.Requests.{texts_of}
+use Rattle.ti_tool.specs.Streams.{file_name, streams}
+use Rattle.ti_tool.proofs.FileRunsLemmas.{ran_files}
 use Rattle.ti_tool.proofs.files.run_files.Goals as goal
 
-pub loop-word-preserved : goal.loop-word-preserved
-loop-word-preserved g c = record {
-  known = c.greater-greatest.ensures.known c.loop-word.invariant.known c.in-Ok.ensures.known;
-  silent = λ low.
-      let both = max_low c.loop-word.greatest c.in-Ok.status c.greater-greatest.result c.greater-greatest.ensures.value low in
-      c.in-Ok.ensures.silent both.1 ∙ c.loop-word.invariant.silent both.0;
-  ran = words_more c.args.errand.now.asked.now c.args.errand.now.of_entry.now c.args.errand.now.parameters.now c.args.errand.now.has_several c.args.words.now c.loop-word.word-index _
-      (g.W.Write.contents c.args.output.now) (g.W.Write.contents c.loop-word.output) (g.W.Write.contents c.run_word.new.output)
-      (g.E.Write.contents c.args.errors.now) (g.E.Write.contents c.loop-word.errors) (g.E.Write.contents c.run_word.new.errors)
-      c.loop-word.greatest c.in-Ok.status c.greater-greatest.result c.loop-word-test.true c.greater-greatest.ensures.value c.loop-word.invariant.ran c.in-Ok.ensures.ran;
-}
-
-pub returns-in-Err-clause-ran : goal.returns-in-Err-clause-ran
-returns-in-Err-clause-ran g c =
-    words_end c.args.errand.now.asked.now c.args.errand.now.of_entry.now c.args.errand.now.parameters.now c.args.errand.now.has_several c.args.words.now c.loop-word.word-index _
-    (g.W.Write.contents c.args.output.now) (g.W.Write.contents c.loop-word.output) (g.W.Write.contents c.run_word.new.output)
-    (g.E.Write.contents c.args.errors.now) (g.E.Write.contents c.loop-word.errors) (g.E.Write.contents c.run_word.new.errors)
-    c.loop-word.greatest c.in-Err.status c.greater.result c.loop-word-test.true c.greater.ensures.value c.loop-word.invariant.ran c.in-Err.ensures.ran
-
-pub returns-clause-ran : goal.returns-clause-ran
-returns-clause-ran g c =
-    words_all c.args.errand.now.asked.now c.args.errand.now.of_entry.now c.args.errand.now.parameters.now c.args.errand.now.has_several c.args.words.now c.loop-word.word-index
-    (g.W.Write.contents c.args.output.now) (g.W.Write.contents c.loop-word.output) (g.E.Write.contents c.args.errors.now) (g.E.Write.contents c.loop-word.errors)
-    c.loop-word.greatest (omega (arith, c.loop-word.auto.word-index-end)) c.loop-word.invariant.ran
+pub returns-in-Ok-clause-ran : goal.returns-in-Ok-clause-ran
+returns-in-Ok-clause-ran g c =
+    let (founds, are, is, some) = c.in-Ok.ensures in
+    ran_files (g.S.Store.known c.args.store.now) c.args.of_entry.now c.args.parameters.now (texts_of c.args.words.now) founds (map (λ f. file_name (string_bytes f.name) (is_some f.fault)) c.as_slice.result.now) c.in-Ok.are_several
+    (streams (g.R.Read.remaining c.args.input.now) (g.W.Write.contents c.args.output.now) (g.E.Write.contents c.args.errors.now))
+    (streams (g.R.Read.remaining c.run_found.new.input) (g.W.Write.contents c.run_found.new.output) (g.E.Write.contents c.run_found.new.errors)) c.run_found.result
+    are (ap (map (λ f. file_name (string_bytes f.name) (is_some f.fault))) c.as_slice.ensures.value ∙ is) some c.run_found.ensures.ran

@@ -1,49 +1,53 @@
-use Rattle.std.proofs.Common.{◌∙◌, ℕ, ◌+◌, List, ◌∷◌, [], ◌++◌, drop, map, subst, sym, take, arith}
-use Rattle.std.specs.Prelude.{Err, None, Ok, Some, string_bytes}
-use Rattle.std.proofs.lemmas.Grind.{common_steps}
-use Rattle.ti_tool.specs.FileRuns.{Delivered}
-use Rattle.ti_tool.specs.inner.Files.{RanFound}
-use Rattle.ti_tool.proofs.FileRunsLemmas.{found_next, found_stops, max_low, names_more, names_split, next_file}
+use Rattle.std.proofs.Common.{◌+◌, ◌∙◌, [], List, ap, arith, drop, inl, map, refl, subst, take}
+use Rattle.std.specs.Prelude.{None, Some, is_some, string_bytes}
+use Rattle.ti_tool.specs.Streams.{FileName, file_name, streams}
+use Rattle.ti_tool.specs.inner.Files.{job_of}
+use Rattle.ti_tool.proofs.FileRunsLemmas.{RanSome, all_some, did_one, max_low, ran_more, ran_stops, some_more, some_split}
 use Rattle.ti_tool.proofs.files.run_found.Goals as goal
+
+pub loop-found-init : goal.loop-found-init
+loop-found-init g c = record { known = omega arith; silent = λ low. refl; ran = ([], refl, refl, refl) }
 
 pub loop-found-preserved : goal.loop-found-preserved
 loop-found-preserved g c =
-    let Ran : ℕ → List (List ℕ) → Type 0 = λ status names. RanFound c.args.errand.now.asked.now c.args.errand.now.of_entry.now c.args.errand.now.parameters.now c.args.is_one_of_several names
-    (g.W.Write.contents c.args.output.now) (g.W.Write.contents c.deliver.new.output) (g.E.Write.contents c.args.errors.now) (g.E.Write.contents c.deliver.new.errors) (Ok status) in
-    let name = string_bytes c.found-item.result.name in
-    let file = next_file c.args.errand.now.asked.now c.args.errand.now.of_entry.now c.args.errand.now.parameters.now (λ o. o.bytes.items) (λ o. o.line.items) (λ o. o.status) c.args.is_one_of_several name
-    (Delivered (g.W.Write.contents c.loop-found.output) (g.W.Write.contents c.deliver.new.output) (g.E.Write.contents c.loop-found.errors) (g.E.Write.contents c.deliver.new.errors) (Some c.in-Some.status))
-    c.outcome_of_found-outcome.result c.outcome_of_found-outcome.ensures.led c.in-Some.ensures.delivered in
-    let ran = found_next c.args.errand.now.asked.now c.args.errand.now.of_entry.now c.args.errand.now.parameters.now c.args.is_one_of_several
-    (map (λ f. string_bytes f.name) (take c.loop-found.found-index c.args.files.now)) name
-    (g.W.Write.contents c.args.output.now) (g.W.Write.contents c.loop-found.output) (g.W.Write.contents c.deliver.new.output)
-    (g.E.Write.contents c.args.errors.now) (g.E.Write.contents c.loop-found.errors) (g.E.Write.contents c.deliver.new.errors) c.loop-found.greatest c.in-Some.status c.loop-found.invariant.ran file in
-    let names = names_more (λ f. string_bytes f.name) c.args.files.now c.loop-found.found-index c.found-item.result c.loop-found-test.true c.found-item.is in
+    let known = g.S.Store.known c.args.store.now in
+    let job = job_of c.args.errand.now in
+    let file = file_name (string_bytes c.found-item.result.name) (is_some c.found-item.result.fault) in
+    let files = map (λ f. file_name (string_bytes f.name) (is_some f.fault)) (take c.loop-found.found-index c.args.files.now) in
+    let more = map (λ f. file_name (string_bytes f.name) (is_some f.fault)) (take (c.loop-found.found-index + 1) c.args.files.now) in
+    let start = streams (g.R.Read.remaining c.args.input.now) (g.W.Write.contents c.args.output.now) (g.E.Write.contents c.args.errors.now) in
+    let before = streams (g.R.Read.remaining c.loop-found.input) (g.W.Write.contents c.loop-found.output) (g.E.Write.contents c.loop-found.errors) in
+    let after = streams (g.R.Read.remaining c.outcome_of_found-outcome.new.input) (g.W.Write.contents c.deliver.new.output) (g.E.Write.contents c.deliver.new.errors) in
+    let one = did_one known job (λ o. o.bytes.items) (λ o. o.line.items) (λ o. o.status) before after (Some c.in-Some.status) file c.outcome_of_found-outcome.result
+    (λ other. ap g.R.Read.remaining (c.outcome_of_found-outcome.ensures.kept other)) c.outcome_of_found-outcome.ensures.led c.in-Some.ensures.delivered in
     record {
       known = c.greater-greatest.ensures.known c.loop-found.invariant.known c.in-Some.ensures.known;
       silent = λ low.
           let both = max_low c.loop-found.greatest c.in-Some.status c.greater-greatest.result c.greater-greatest.ensures.value low in
           c.in-Some.ensures.silent both.1 ∙ c.loop-found.invariant.silent both.0;
-      ran = subst (Ran c.greater-greatest.result) (sym names) (subst (λ s. Ran s (map (λ f. string_bytes f.name) (take c.loop-found.found-index c.args.files.now) ++ name ∷ [])) (sym c.greater-greatest.ensures.value) ran);
+      ran = ran_more known job files more file start before after c.loop-found.greatest c.in-Some.status c.greater-greatest.result c.loop-found.invariant.ran one
+          (some_more (λ f. file_name (string_bytes f.name) (is_some f.fault)) c.args.files.now c.loop-found.found-index c.found-item.result c.loop-found-test.true c.found-item.is) c.greater-greatest.ensures.value;
     }
 
 pub returns-in-None-clause-ran : goal.returns-in-None-clause-ran
 returns-in-None-clause-ran g c =
-    let Ran : ℕ → Type 0 = λ status. RanFound c.args.errand.now.asked.now c.args.errand.now.of_entry.now c.args.errand.now.parameters.now c.args.is_one_of_several (map (λ f. string_bytes f.name) c.args.files.now)
-    (g.W.Write.contents c.args.output.now) (g.W.Write.contents c.deliver.new.output) (g.E.Write.contents c.args.errors.now) (g.E.Write.contents c.deliver.new.errors) (Err status) in
-    let name = string_bytes c.found-item.result.name in
-    let file = next_file c.args.errand.now.asked.now c.args.errand.now.of_entry.now c.args.errand.now.parameters.now (λ o. o.bytes.items) (λ o. o.line.items) (λ o. o.status) c.args.is_one_of_several name
-    (Delivered (g.W.Write.contents c.loop-found.output) (g.W.Write.contents c.deliver.new.output) (g.E.Write.contents c.loop-found.errors) (g.E.Write.contents c.deliver.new.errors) None)
-    c.outcome_of_found-outcome.result c.outcome_of_found-outcome.ensures.led c.in-None.ensures.delivered in
-    subst Ran (sym c.greater.ensures.value) (found_stops c.args.errand.now.asked.now c.args.errand.now.of_entry.now c.args.errand.now.parameters.now c.args.is_one_of_several
-    (map (λ f. string_bytes f.name) (take c.loop-found.found-index c.args.files.now)) name (map (λ f. string_bytes f.name) (drop (c.loop-found.found-index + 1) c.args.files.now))
-    (map (λ f. string_bytes f.name) c.args.files.now)
-    (g.W.Write.contents c.args.output.now) (g.W.Write.contents c.loop-found.output) (g.W.Write.contents c.deliver.new.output)
-    (g.E.Write.contents c.args.errors.now) (g.E.Write.contents c.loop-found.errors) (g.E.Write.contents c.deliver.new.errors) c.loop-found.greatest c.loop-found.invariant.ran file
-    (names_split (λ f. string_bytes f.name) c.args.files.now c.loop-found.found-index c.found-item.result c.loop-found-test.true c.found-item.is))
-
-pub loop-found-init : goal.loop-found-init
-loop-found-init c = grind (arith, common_steps)
+    let known = g.S.Store.known c.args.store.now in
+    let job = job_of c.args.errand.now in
+    let file = file_name (string_bytes c.found-item.result.name) (is_some c.found-item.result.fault) in
+    let files = map (λ f. file_name (string_bytes f.name) (is_some f.fault)) (take c.loop-found.found-index c.args.files.now) in
+    let all = map (λ f. file_name (string_bytes f.name) (is_some f.fault)) c.args.files.now in
+    let rest = map (λ f. file_name (string_bytes f.name) (is_some f.fault)) (drop (c.loop-found.found-index + 1) c.args.files.now) in
+    let start = streams (g.R.Read.remaining c.args.input.now) (g.W.Write.contents c.args.output.now) (g.E.Write.contents c.args.errors.now) in
+    let before = streams (g.R.Read.remaining c.loop-found.input) (g.W.Write.contents c.loop-found.output) (g.E.Write.contents c.loop-found.errors) in
+    let after = streams (g.R.Read.remaining c.outcome_of_found-outcome.new.input) (g.W.Write.contents c.deliver.new.output) (g.E.Write.contents c.deliver.new.errors) in
+    let one = did_one known job (λ o. o.bytes.items) (λ o. o.line.items) (λ o. o.status) before after None file c.outcome_of_found-outcome.result
+    (λ other. ap g.R.Read.remaining (c.outcome_of_found-outcome.ensures.kept other)) c.outcome_of_found-outcome.ensures.led c.in-None.ensures.delivered in
+    ran_stops known job files all rest file start before after c.loop-found.greatest c.greater.result c.loop-found.invariant.ran one
+    (some_split (λ f. file_name (string_bytes f.name) (is_some f.fault)) c.args.files.now c.loop-found.found-index c.found-item.result c.loop-found-test.true c.found-item.is) c.greater.ensures.value
 
 pub returns-clause-ran : goal.returns-clause-ran
-returns-clause-ran c = grind (arith, common_steps)
+returns-clause-ran g c =
+    let Ran : List FileName → Type 0 = λ files. RanSome (g.S.Store.known c.args.store.now) (job_of c.args.errand.now) files
+    (streams (g.R.Read.remaining c.args.input.now) (g.W.Write.contents c.args.output.now) (g.E.Write.contents c.args.errors.now))
+    (streams (g.R.Read.remaining c.loop-found.input) (g.W.Write.contents c.loop-found.output) (g.E.Write.contents c.loop-found.errors)) c.loop-found.greatest in
+    inl (subst Ran (all_some (λ f. file_name (string_bytes f.name) (is_some f.fault)) c.args.files.now c.loop-found.found-index (omega (arith, c.loop-found.auto.found-index-end))) c.loop-found.invariant.ran)

@@ -2,7 +2,8 @@ use Rattle.std.proofs.Common.{[], false, refl, true}
 use Rattle.std.proofs.lemmas.Result.{IfErr-weaker, IfOk-weaker}
 use Rattle.ti_tool.specs.Files.{before_findings}
 use Rattle.ti_tool.specs.Results.{IsDueIn}
-use Rattle.ti_tool.proofs.FileLemmas.{due_of_file, due_of_several, fault_as_due, fault_of_file}
+use Rattle.ti_tool.proofs.FileLemmas.{due_of_file, due_of_several}
+use Rattle.ti_tool.proofs.NeedsMemoryLemmas.{due_from}
 use Rattle.ti_tool.proofs.named.answer_of_file.Goals as goal
 
 pub returns-then-file : goal.returns-then-file
@@ -11,7 +12,7 @@ returns-then-file g c =
     record {
       finds = c.answer_of_several.ensures.finds;
       due = IfOk-weaker c.answer_of_several.result _ _ (λ a due. rw c.if-file.true (due_of_several c.args.asked.now c.args.parameters.now name a.sound c.args.contents.now _ a.bytes.items c.in_ok-entry.ensures.found due)) c.answer_of_several.ensures.due;
-      fault = IfErr-weaker c.answer_of_several.result _ _ (λ e due. rw c.if-file.true (fault_of_file (before_findings true name) c.args.asked.now c.args.parameters.now c.args.contents.now _ e c.in_ok-entry.ensures.found due)) c.answer_of_several.ensures.fault;
+      fault = IfErr-weaker c.answer_of_several.result _ _ (λ e due. rw c.if-file.true (due_from (IsDueIn (before_findings true name) c.args.asked.now c.args.parameters.now true c.args.contents.now) c.args.contents.now _ e c.in_ok-entry.ensures.found due)) c.answer_of_several.ensures.fault;
     }
 
 pub returns : goal.returns
@@ -20,5 +21,5 @@ returns g c =
     record {
       finds = c.answer_of_entry.ensures.finds;
       due = IfOk-weaker c.answer_of_entry.result _ _ (λ a due. rw c.if-file.false (due_of_file false c.args.asked.now c.args.parameters.now name a.sound c.args.contents.now _ [] a.bytes.items a.bytes.items refl c.in_ok-entry.ensures.found due refl)) c.answer_of_entry.ensures.due;
-      fault = IfErr-weaker c.answer_of_entry.result _ _ (λ e due. rw c.if-file.false (fault_of_file [] c.args.asked.now c.args.parameters.now c.args.contents.now _ e c.in_ok-entry.ensures.found (fault_as_due (IsDueIn [] c.args.asked.now c.args.parameters.now true c.args.contents.now c.in_ok-entry.entry) e due))) c.answer_of_entry.ensures.fault;
+      fault = IfErr-weaker c.answer_of_entry.result _ _ (λ e due. rw c.if-file.false (due_from (IsDueIn [] c.args.asked.now c.args.parameters.now true c.args.contents.now) c.args.contents.now _ e c.in_ok-entry.ensures.found due)) c.answer_of_entry.ensures.fault;
     }

@@ -1,11 +1,8 @@
-use Rattle.std.proofs.Common.{◌≤◌}
-use Rattle.ti_tool.specs.inner.Near.{IsFartherBelow, IsFound}
+use Rattle.std.proofs.Common.{◌++◌, List, ℕ, take}
+use Rattle.ti_names.specs.AllNames.{listed}
+use Rattle.ti_tool.specs.inner.Near.{IsBest}
 use Rattle.ti_tool.proofs.near.nearest_in.Given as goal
 
--- the nearest of the names so far
+-- the first of the nearest of the names before and of those so far
 abbrev pub invariant-loop-index : goal.invariant-loop-index
-invariant-loop-index g l = record {
-  found : IsFound l.sought l.best;
-  less : l.best.edits ≤ l.fn.found.edits;
-  farther : IsFartherBelow l.sought l.best.edits l.table l.kind l.index;
-}
+invariant-loop-index g l = (names : List (List ℕ)) → IsBest l.sought names l.fn.found → IsBest l.sought (names ++ take l.index (listed l.table l.kind)) l.best

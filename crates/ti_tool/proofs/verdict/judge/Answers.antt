@@ -1,5 +1,4 @@
-use Rattle.std.proofs.Common.{inl, inr, refl, subst, sym}
-use Rattle.ti_cap.specs.Capability.{HasBound, HasDepth}
+use Rattle.std.proofs.Common.{inr, refl, subst, sym}
 use Rattle.ti_json.specs.Rows.{content_value}
 use Rattle.ti_tool.specs.Verdicts.{IsJudged}
 use Rattle.ti_tool.proofs.RowsLemmas.{sound_judged}

@@ -1,5 +1,4 @@
 use Rattle.std.proofs.Common.{◌++◌, ◌∷◌, [], refl, subst, sym}
-use Rattle.std.proofs.lemmas.List.{append-nil}
 use Rattle.ti_escape.specs.declared.form.Form.TheVariants as forms
 use Rattle.ti_json.specs.Rows.{OfCapability, content_value}
 use Rattle.ti_listing.specs.Listing.{row_line}
