@@ -57,7 +57,7 @@ look_at() {
 # Looks at what the page is made of: the program, and beside it what page/make reads.
 look_at_page() {
     look_at ti
-    folders+=(page/engine page/entries page/make page/source rust/library rust/make rust/targets.py examples/linux docs/ti.1)
+    folders+=(page/engine page/entries page/make page/source rust/library rust/make rust/targets.py examples/linux docs/ti-faults.7 docs/ti-findings.7)
 }
 
 # The sum over the sources of the crates that are looked at: over their lines of crates.txt, and over the names and sums of the

@@ -29,7 +29,8 @@ OF_PAGE = ["page/engine/Cargo.toml", "page/entries/t", "rust/library/Cargo.toml"
 SOURCES |= {name: "\n" for name in OF_PAGE}
 # What the tree has of this repository.
 SHARED = ["ti", "ti-path", "install", "gate", "checks", "include", "python", "completions", "docs/ti.1", "docs/ti-path.1", "docs/ti.3",
-          "dist/common.sh", "dist/take", "dist/sources", "dist/make", "dist/compare"]
+          "docs/ti-formats.5", "docs/ti-faults.7", "docs/ti-findings.7", "dist/common.sh", "dist/take", "dist/sources",
+          "dist/make", "dist/compare"]
 # Each command in place of another writes its name to the file `called`.
 PROVE = """#!/bin/sh
 cd "$(dirname "$0")" && echo "prove $1" >>called || exit 1
