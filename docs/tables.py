@@ -95,13 +95,15 @@ def check_tables(tell: Tell) -> None:
                 )
 
 
-def check_headline(text: str, tell: Tell) -> None:
-    """Each clause that the table of facts names is one of the function before it."""
+def check_headline(text: str, heading: str, tell: Tell) -> None:
+    """Each function that the table of PROOFS.md names is in the code, and each clause is one of the functions before it."""
     known: dict[str, set[str]] = {}
     for crate in sorted(ROOT.glob("crates/ti_*")):
         for function, names in clauses(crate.name).items():
             known.setdefault(function, set()).update(names)
-    for cells in list(rows(text, "The facts"))[1:]:
+    for cells in list(rows(text, heading))[1:]:
+        for function in CODE.findall(re.sub(r"\([^)]*\)", "", cells[1])):
+            tell(function.split("::")[-1] in known, f"PROOFS.md: no function {function}")
         for functions, names in re.findall(r"((?:`[\w:]+`(?:, )?)+) \(([^)]*)\)", cells[1]):
             for function in CODE.findall(functions):
                 for clause in CODE.findall(names):
