@@ -72,13 +72,19 @@ impl Store for Shelf {
     }
 
     fn read<A: Allocator>(&self, name: &str, contents: &mut Vec<u8, A>) -> io::Result<()> {
-        for (known, bytes) in SHELF {
-            if *known == name {
-                return read_contents(&mut Source::new(*bytes, 7), contents);
-            }
-        }
-        Err(io::Error::from(ErrorKind::NotFound))
+        let mut source = Source::new(bytes_of(name)?, 7);
+        read_contents(&mut source, contents)
     }
+}
+
+/// The bytes of a file on the shelf.
+fn bytes_of(name: &str) -> io::Result<&'static [u8]> {
+    for (known, bytes) in SHELF {
+        if *known == name {
+            return Ok(*bytes);
+        }
+    }
+    Err(io::Error::from(ErrorKind::NotFound))
 }
 
 /// Words, whether results go to a terminal or to a file, and the status with what is written.
