@@ -19,8 +19,10 @@ ALONE = {
     "entry_tests": ["entry_sources"],
     "draft_tests": ["entry_objects", "json"],
     "capability_tests": [],
-    "notation_tests": ["padding_memory", "padding_rows", "padding_writers", "trace", "traces"],
+    "notation_tests": ["padding_memory", "padding_rows", "padding_writers", "trace", "traces", "control", "controls"],
 }
+# Else these are left out of each: what Rust's own test does, and the tests of ti_control, on which the program does not stand.
+LEFT_OUT = ["tally", "control", "controls"]
 # What tests of memory that is refused take. Rust's own allocator refuses none on request, so they are not added.
 OF_MEMORY = ["LocalHeap", "Tally", "Tries", "tally_of", "GrowthsOf", "growths_of"]
 # A function, a type or what is implemented for one, at the top of a file.
@@ -97,7 +99,7 @@ def make_with_tests(make: ModuleType, target: Path, is_alone: bool) -> None:
     make.SHOWN.clear()
     make.make_library(target, is_alone)
     print_as_derived(target / "src/shown.rs")
-    added = ALONE if is_alone else {crate: ["tally"] for crate in TESTS}
+    added = ALONE if is_alone else dict.fromkeys(TESTS, LEFT_OUT)
     for crate, left_out in added.items():
         add_crate(make, target, crate, left_out)
     append(target / "src/kit.rs", "#[cfg(test)]\npub use vec::testing;\n")
