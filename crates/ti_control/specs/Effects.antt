@@ -1,5 +1,5 @@
 -- The words for what a terminal does on a control function, and a clause on it.
-use Rattle.std.specs.Prelude.{ℕ, List, codes}
+use Rattle.std.specs.Prelude.{ℕ, ◌==◌, Bool, List, [], ◌∷◌, codes}
 use Rattle.ti_control.specs.declared.effect.Effect.{Effect}
 use Rattle.ti_control.specs.declared.effect.Effect.TheVariants.{Answer, Report, Lock, Title, TitleStack, Clipboard, Print, PrintStop, Palette, Window, Reset, OtherControl, DeviceControl, OpenString}
 
@@ -18,6 +18,31 @@ effect_word Reset = codes "reset"
 effect_word OtherControl = codes "other-control"
 effect_word DeviceControl = codes "other-control"
 effect_word OpenString = codes "string-open"
+
+-- all effects, in the order in which they are reported, and the place of each in it
+unfoldable pub effects : List Effect
+effects =
+    Answer ∷ Report ∷ Lock ∷ Title ∷ TitleStack ∷ Clipboard ∷ Print ∷ PrintStop ∷ Palette ∷ Window ∷ Reset ∷ OtherControl ∷
+    DeviceControl ∷ OpenString ∷ []
+
+abbrev pub effect_index : Effect → ℕ
+effect_index Answer = 0
+effect_index Report = 1
+effect_index Lock = 2
+effect_index Title = 3
+effect_index TitleStack = 4
+effect_index Clipboard = 5
+effect_index Print = 6
+effect_index PrintStop = 7
+effect_index Palette = 8
+effect_index Window = 9
+effect_index Reset = 10
+effect_index OtherControl = 11
+effect_index DeviceControl = 12
+effect_index OpenString = 13
+
+abbrev pub is_effect : Effect → Effect → Bool
+is_effect one other = effect_index one == effect_index other
 
 -- the terminal ..
 abbrev pub consequence : Effect → List ℕ

@@ -43,7 +43,7 @@ request_by (Some byte) =
     else if byte == letter (codes "n") then codes "a request for the cursor's place or a status"
     else if byte == letter (codes "p") then codes "a request for a mode"
     else if byte == letter (codes "q") then codes "a request for the terminal's version"
-    else if byte == letter (codes "t") then codes "a request for the window's title, size or place"
+    else if byte == letter (codes "t") then codes "a request for the window's title or size"
     else if byte == letter (codes "u") then codes "a request for how keys or characters are set"
     else if byte == letter (codes "w") then codes "a request for the cursor and tabs"
     else if byte == letter (codes "x") then codes "a request for the terminal's parameters"

@@ -10,6 +10,12 @@ code_of (Plain byte) = Some byte
 code_of (Printed byte) = Some byte
 code_of (Data byte) = None
 
+-- the byte, whatever it comes from
+abbrev pub byte_of : SentByte → ℕ
+byte_of (Plain byte) = byte
+byte_of (Printed byte) = byte
+byte_of (Data byte) = byte
+
 -- that of the first byte
 abbrev pub front_code : List SentByte → Option ℕ
 front_code [] = None

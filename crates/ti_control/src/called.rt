@@ -51,7 +51,7 @@ fn request_by(last: Option<u8>) -> &'static str
         Some(b'n') => "a request for the cursor's place or a status",
         Some(b'p') => "a request for a mode",
         Some(b'q') => "a request for the terminal's version",
-        Some(b't') => "a request for the window's title, size or place",
+        Some(b't') => "a request for the window's title or size",
         Some(b'u') => "a request for how keys or characters are set",
         Some(b'w') => "a request for the cursor and tabs",
         Some(b'x') => "a request for the terminal's parameters",

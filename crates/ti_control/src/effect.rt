@@ -1,7 +1,7 @@
 //! What a terminal does on a control function.
 
 ghost use Rattle.std.specs.Prelude.{◌≡◌};
-ghost use Rattle.ti_control.specs.Effects.{consequence, effect_word};
+ghost use Rattle.ti_control.specs.Effects.{consequence, effect_index, effect_word, effects, is_effect};
 
 /// What a terminal does on a control function that not each text of an entry may send.
 #[derive(Clone, Copy, Debug, PartialEq, Eq)]
@@ -36,7 +36,62 @@ pub enum Effect {
     OpenString,
 }
 
+/// All effects, in the order in which they are reported.
+static EFFECTS: [Effect; 14] = [
+    Effect::Answer,
+    Effect::Report,
+    Effect::Lock,
+    Effect::Title,
+    Effect::TitleStack,
+    Effect::Clipboard,
+    Effect::Print,
+    Effect::PrintStop,
+    Effect::Palette,
+    Effect::Window,
+    Effect::Reset,
+    Effect::OtherControl,
+    Effect::DeviceControl,
+    Effect::OpenString,
+];
+
+/// All effects, in the order in which they are reported.
+#[tactic(auto, unfolding(crate::specs::Effects::effects))]
+pub fn all_effects() -> &'static [Effect]
+    ensures all { result.now ≡ effects }
+{
+    &EFFECTS
+}
+
 impl Effect {
+    /// Its place among all effects.
+    fn index(self) -> u8
+        ensures { result ≡ effect_index self }
+    {
+        match self {
+            Effect::Answer => 0,
+            Effect::Report => 1,
+            Effect::Lock => 2,
+            Effect::Title => 3,
+            Effect::TitleStack => 4,
+            Effect::Clipboard => 5,
+            Effect::Print => 6,
+            Effect::PrintStop => 7,
+            Effect::Palette => 8,
+            Effect::Window => 9,
+            Effect::Reset => 10,
+            Effect::OtherControl => 11,
+            Effect::DeviceControl => 12,
+            Effect::OpenString => 13,
+        }
+    }
+
+    /// Whether it is the same as another.
+    pub fn is(self, other: Effect) -> bool
+        ensures exact { result ≡ is_effect self other }
+    {
+        self.index() == other.index()
+    }
+
     /// The word for the finding.
     pub fn word(self) -> &'static str
         ensures name { result.now ≡ effect_word self }

@@ -32,7 +32,7 @@ pub use called::purpose;
 pub use capabilities::{is_sent, may_stand};
 pub use cut::{Form, Reading};
 pub use ecma::{ecma_capabilities, first_introducer};
-pub use effect::Effect;
+pub use effect::{Effect, all_effects};
 pub use files::{is_tabset, is_vast};
 pub use function::{Function, first_function};
 pub use misplaced::{Misplaced, Place, first_misplaced, misplaced_effect};

@@ -1,7 +1,7 @@
 //! A byte that is sent, and where it comes from.
 
 ghost use Rattle.std.specs.Prelude.{◌≡◌};
-ghost use Rattle.ti_control.specs.SentBytes.{code_of, has_printed, is_printed};
+ghost use Rattle.ti_control.specs.SentBytes.{byte_of, code_of, has_printed, is_printed};
 
 /// A byte that a text sends.
 #[derive(Clone, Copy, Debug, PartialEq, Eq)]
@@ -23,6 +23,17 @@ impl SentByte {
             SentByte::Plain(byte) => Some(byte),
             SentByte::Printed(byte) => Some(byte),
             SentByte::Data(_) => None,
+        }
+    }
+
+    /// The byte, whatever it comes from.
+    pub fn byte(self) -> u8
+        ensures exact { result ≡ byte_of self }
+    {
+        match self {
+            SentByte::Plain(byte) => byte,
+            SentByte::Printed(byte) => byte,
+            SentByte::Data(byte) => byte,
         }
     }
 }

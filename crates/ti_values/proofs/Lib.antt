@@ -1,8 +1,16 @@
+pub mod ArmsLemmas
+pub mod ControlsLemmas
 pub mod Examples
+pub mod MappedLemmas
+pub mod MeantLemmas
 pub mod NegativeLemmas
 pub mod NumbersLemmas
+pub mod OneControlsLemmas
 pub mod OneSentLemmas
+pub mod OutputsLemmas
+pub mod PaddingLemmas
 pub mod RenditionLemmas
 pub mod SameLemmas
+pub mod SentBytesLemmas
 pub mod SentLemmas
 pub mod ShownLemmas

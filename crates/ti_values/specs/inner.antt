@@ -1,4 +1,5 @@
 -- What private clauses alone cite.
+pub mod Founds
 pub mod Rate
 pub mod Rows
 pub mod Underway

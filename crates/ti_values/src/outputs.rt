@@ -1,0 +1,176 @@
+//! The control functions that are found in what a text sends.
+
+ghost use Rattle.std.specs.Prelude.{◌≡◌, ◌∷◌, ◌==◌, ◌||◌, [], not, IfOk};
+ghost use Rattle.ti_control.specs.Parts.{place_at};
+ghost use Rattle.ti_values.specs.Arms.{is_active};
+ghost use Rattle.ti_values.specs.Outputs.{AreArmsFound, AreOutputs, AreSamples, IsIdle, IsOutput, is_idle_but, is_idle_text, plain_found};
+ghost use Rattle.ti_values.specs.Samples.{few_samples};
+ghost use Rattle.ti_values.specs.inner.Founds.{founds_held, outputs_held};
+
+use crate::arms::{arms_of, avoids_all, is_active};
+use crate::controls::{FoundFunction, found_in};
+use crate::limits::is_short;
+use crate::placed::{plain_bytes, sent_bytes};
+use crate::range::Range;
+use crate::samples::{Sample, few_samples, samples_over};
+use std::alloc::{AllocError, Allocator};
+use ti_cap::Capability;
+use ti_control::Place;
+
+/// Whether no token of a capability writes a byte that a control function with an effect needs.
+pub fn is_idle(capability: &Capability<'_>) -> bool
+    ensures exact { IsIdle capability.now result }
+{
+    let without_m = avoids_all(capability, b'm');
+    let without_greater = avoids_all(capability, b'>');
+    without_m || without_greater
+}
+
+/// A few samples.
+fn few<A: Allocator>(alloc: A) -> Result<Vec<Sample, A>, AllocError>
+    ensures { IfOk result (λ list. list.items ≡ few_samples) }
+{
+    let mut list = Vec::new(alloc);
+    list.extend_from_slice(&few_samples())?;
+    Ok(list)
+}
+
+/// The samples for which a capability is tried: none if it can send no control function with an effect, else those of its range, or a few.
+///
+/// # Errors
+///
+/// Memory was refused.
+pub fn samples_of<A: Allocator + Copy>(
+    alloc: A,
+    capability: &Capability<'_>,
+    range: Option<Range>,
+) -> Result<Vec<Sample, A>, AllocError>
+    ensures all { IfOk result (λ list. AreSamples capability.now range list.items) }
+{
+    if is_idle(capability) {
+        return Ok(Vec::new(alloc));
+    }
+    let Some(range) = range else {
+        let list = few(alloc)?;
+        return Ok(list);
+    };
+    if is_short(capability) {
+        let list = samples_over(alloc, range)?;
+        return Ok(list);
+    }
+    let list = few(alloc)?;
+    Ok(list)
+}
+
+/// The control functions that may not stand there in what a capability sends for a sample.
+fn output_for<A: Allocator + Copy>(
+    alloc: A,
+    place: &Place<'_>,
+    capability: &Capability<'_>,
+    sample: Sample,
+) -> Result<Vec<FoundFunction<A>, A>, AllocError>
+    ensures { IfOk result (λ output. IsOutput (place_at place.now) capability.now sample (founds_held output.items)) }
+{
+    let parameters = sample.parameters();
+    let sent = sent_bytes(alloc, capability, &parameters)?;
+    let output = found_in(alloc, place, sent.as_slice())?;
+    Ok(output)
+}
+
+/// The same for each of some samples.
+///
+/// # Errors
+///
+/// Memory was refused.
+pub fn outputs_for<A: Allocator + Copy>(
+    alloc: A,
+    place: &Place<'_>,
+    capability: &Capability<'_>,
+    samples: &[Sample],
+) -> Result<Vec<Vec<FoundFunction<A>, A>, A>, AllocError>
+    ensures all { IfOk result
+        (λ list. AreOutputs (place_at place.now) capability.now samples.now (outputs_held list.items)) }
+{
+    let mut list = Vec::new(alloc);
+    'samples: for sample in samples {
+        list.push(output_for(alloc, place, capability, *sample)?)?;
+    }
+    Ok(list)
+}
+
+/// The same among the plain bytes of all arms of a capability.
+///
+/// # Errors
+///
+/// Memory was refused.
+pub fn arms_found<A: Allocator + Copy>(
+    alloc: A,
+    place: &Place<'_>,
+    capability: &Capability<'_>,
+) -> Result<Vec<FoundFunction<A>, A>, AllocError>
+    ensures all { IfOk result (λ found. AreArmsFound (place_at place.now) capability.now (founds_held found.items)) }
+{
+    let bytes = arms_of(alloc, capability)?;
+    let found = found_in(alloc, place, bytes.as_slice())?;
+    Ok(found)
+}
+
+/// Whether a byte is neither one that a control function with an effect needs, nor the other one.
+fn is_idle_byte(other: u8, byte: u8) -> bool
+    ensures { result ≡ not (is_active byte || byte == other) }
+{
+    !(is_active(byte) || byte == other)
+}
+
+/// Whether all bytes of a text are so.
+fn is_idle_but(other: u8, text: &[u8]) -> bool
+    ensures { result ≡ is_idle_but other text.now }
+{
+    text.iter().all(|byte| is_idle_byte(other, *byte))
+}
+
+/// Whether a text has no byte that a control function with an effect needs.
+fn is_idle_text(text: &[u8]) -> bool
+    ensures { result ≡ is_idle_text text.now }
+{
+    is_idle_but(b'm', text) || is_idle_but(b'>', text)
+}
+
+/// The control functions that may not stand there in a text that is sent as it stands.
+///
+/// # Errors
+///
+/// Memory was refused.
+pub fn plain_found<A: Allocator + Copy>(
+    alloc: A,
+    place: &Place<'_>,
+    text: &[u8],
+) -> Result<Vec<FoundFunction<A>, A>, AllocError>
+    ensures all { IfOk result (λ found. founds_held found.items ≡ plain_found (place_at place.now) text.now) }
+{
+    if is_idle_text(text) {
+        return Ok(Vec::new(alloc));
+    }
+    let sent = plain_bytes(alloc, text)?;
+    let found = found_in(alloc, place, sent.as_slice())?;
+    Ok(found)
+}
+
+/// The same as the list of one output.
+///
+/// # Errors
+///
+/// Memory was refused.
+pub fn plain_outputs<A: Allocator + Copy>(
+    alloc: A,
+    place: &Place<'_>,
+    text: &[u8],
+) -> Result<Vec<Vec<FoundFunction<A>, A>, A>, AllocError>
+    ensures all { IfOk result
+        (λ list. outputs_held list.items ≡ plain_found (place_at place.now) text.now ∷ []) }
+{
+    let found = plain_found(alloc, place, text)?;
+    let mut list = Vec::new(alloc);
+    list.push(found)?;
+    Ok(list)
+}
