@@ -3,44 +3,43 @@ use Rattle.std.proofs.Common.{◌≡◌, ◌∙◌, ◌+◌, ◌-◌, ◌<◌, �
 use Rattle.std.proofs.lemmas.List.{append-nil, get_or-map, length-drop, length-map}
 use Rattle.std.specs.List.Sorted.{IsSorted}
 use Rattle.std.specs.Ordering.{is_lt}
-use Rattle.ti_lint.specs.declared.level.Level.{Level}
 use Rattle.ti_report.specs.Keys.{Key, key_cmp}
 use Rattle.ti_report.specs.Remarks.{Remark}
 use Rattle.ti_report.specs.inner.Lent.{key_lent, keys_lent}
 use Rattle.ti_report.specs.inner.Neighbours.{on_neighbours, on_row}
 
-row_first : (level : Level) (keys : List Key) (i : ℕ) (d : Key) → 1 ≤ i → i < length keys
-    → on_row level (drop (i - 1) keys) ≡ on_neighbours level (get_or keys (i - 1) d) (get_or keys i d) ++ on_row level (drop i keys)
-row_first level keys i d low high =
+row_first : (keys : List Key) (i : ℕ) (d : Key) → 1 ≤ i → i < length keys
+    → on_row (drop (i - 1) keys) ≡ on_neighbours (get_or keys (i - 1) d) (get_or keys i d) ++ on_row (drop i keys)
+row_first keys i d low high =
     let before : suc (i - 1) ≡ i = omega arith in
     let one = get_or keys (i - 1) d in
     let other = get_or keys i d in
     let first : drop (i - 1) keys ≡ one ∷ drop i keys = drop-cons keys (i - 1) d (omega arith) ∙ ap (λ k. one ∷ drop k keys) before in
     let second : drop i keys ≡ other ∷ drop (suc i) keys = drop-cons keys i d high in
-    ap (on_row level) (first ∙ ap (λ l. one ∷ l) second) ∙ ap (λ l. on_neighbours level one other ++ on_row level l) (sym second)
+    ap (on_row) (first ∙ ap (λ l. one ∷ l) second) ∙ ap (λ l. on_neighbours one other ++ on_row l) (sym second)
 
 -- one key more
-pub row_next : (level : Level) (keys : List Key) (i : ℕ) (d : Key) (out new whole : List Remark) → 1 ≤ i → i < length keys
-    → new ≡ out ++ on_neighbours level (get_or keys (i - 1) d) (get_or keys i d) → out ++ on_row level (drop (i - 1) keys) ≡ whole
-    → new ++ on_row level (drop (i + 1 - 1) keys) ≡ whole
-row_next level keys i d out new whole low high is so =
-    let remarks = on_neighbours level (get_or keys (i - 1) d) (get_or keys i d) in
+pub row_next : (keys : List Key) (i : ℕ) (d : Key) (out new whole : List Remark) → 1 ≤ i → i < length keys
+    → new ≡ out ++ on_neighbours (get_or keys (i - 1) d) (get_or keys i d) → out ++ on_row (drop (i - 1) keys) ≡ whole
+    → new ++ on_row (drop (i + 1 - 1) keys) ≡ whole
+row_next keys i d out new whole low high is so =
+    let remarks = on_neighbours (get_or keys (i - 1) d) (get_or keys i d) in
     let here : i + 1 - 1 ≡ i = omega arith in
-    ap (λ k. new ++ on_row level (drop k keys)) here
-    ∙ ap (λ l. l ++ on_row level (drop i keys)) is
-    ∙ append_assoc out remarks (on_row level (drop i keys))
-    ∙ ap (λ l. out ++ l) (sym (row_first level keys i d low high)) ∙ so
+    ap (λ k. new ++ on_row (drop k keys)) here
+    ∙ ap (λ l. l ++ on_row (drop i keys)) is
+    ∙ append_assoc out remarks (on_row (drop i keys))
+    ∙ ap (λ l. out ++ l) (sym (row_first keys i d low high)) ∙ so
 
-lone : (level : Level) (keys : List Key) → length keys ≤ 1 → on_row level keys ≡ []
-lone level [] few = refl
-lone level (one ∷ []) few = refl
-lone level (one ∷ other ∷ rest) few = absurd (omega arith)
+lone : (keys : List Key) → length keys ≤ 1 → on_row keys ≡ []
+lone [] few = refl
+lone (one ∷ []) few = refl
+lone (one ∷ other ∷ rest) few = absurd (omega arith)
 
 -- none is left
-pub row_end : (level : Level) (keys : List Key) (i : ℕ) (out whole : List Remark) → length keys ≤ i → out ++ on_row level (drop (i - 1) keys) ≡ whole → out ≡ whole
-row_end level keys i out whole end so =
+pub row_end : (keys : List Key) (i : ℕ) (out whole : List Remark) → length keys ≤ i → out ++ on_row (drop (i - 1) keys) ≡ whole → out ≡ whole
+row_end keys i out whole end so =
     let few : length (drop (i - 1) keys) ≤ 1 = omega (arith, length-drop (i - 1) keys) in
-    sym (append-nil out) ∙ ap (λ l. out ++ l) (sym (lone level (drop (i - 1) keys) few)) ∙ so
+    sym (append-nil out) ∙ ap (λ l. out ++ l) (sym (lone (drop (i - 1) keys) few)) ∙ so
 
 abbrev nothing : Bor (List ℕ) × Bor (List ℕ)
 nothing = (record { ref_ptr = (0, 0); now = [] }, record { ref_ptr = (0, 0); now = [] })

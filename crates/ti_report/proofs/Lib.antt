@@ -1,7 +1,13 @@
-pub mod CaretsLemmas
 pub mod ConstantsLemmas
+pub mod ControlsLemmas
 pub mod MarkedLemmas
 pub mod PlacesLemmas
+pub mod ReportedLemmas
+pub mod FirstPlaceLemmas
+pub mod CoveragesLemmas
+pub mod NameBytesLemmas
+pub mod PartedLemmas
+pub mod Examples
 pub mod ReportsLemmas
 pub mod StoredLemmas
 pub mod ParametersLemmas
@@ -19,3 +25,4 @@ pub mod OneKeysLemmas
 pub mod OnePlacesLemmas
 pub mod OneReportLemmas
 pub mod PopsAlwaysLemmas
+pub mod HarmlessLemmas

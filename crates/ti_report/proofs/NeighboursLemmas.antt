@@ -7,7 +7,6 @@ use Rattle.std.specs.List.Sorted.{IsSorted}
 use Rattle.std.specs.Ordering.{is_lt, ordering_then}
 use Rattle.std.specs.Str.{bytes_eq}
 use Rattle.std.specs.Cmp.Lexicographic.{slice_cmp, nat_list_cmp_total, bytes_decides, pointwise}
-use Rattle.ti_lint.specs.declared.level.Level.{Level}
 use Rattle.ti_report.specs.declared.finding.Finding.TheVariants as findings
 use Rattle.ti_report.specs.Keys.{Key, alike_key, on_alike, is_first_part, key_cmp, on_key, on_keys, longer_key, on_longer, on_two}
 use Rattle.ti_report.specs.Remarks.{Remark}
@@ -223,9 +222,9 @@ none_longer one other rest first later not_same no_part =
 
 -- ---- the remarks
 
-next_is : (level : Level) (row before : List Key) (one other : Key) (rest : List Key) → Stands row before one (other ∷ rest)
-    → on_neighbours level one other ≡ on_key level row one (alike_key one.0 (other ∷ rest))
-next_is level row before one other rest s = by (is_first_part one.0 other.0) refl (bytes_eq one.0 other.0) refl
+next_is : (row before : List Key) (one other : Key) (rest : List Key) → Stands row before one (other ∷ rest)
+    → on_neighbours one other ≡ on_key row one (alike_key one.0 (other ∷ rest))
+next_is row before one other rest s = by (is_first_part one.0 other.0) refl (bytes_eq one.0 other.0) refl
   where
     first : AreInOrder one.0 other.0
     first = s.on.0.0
@@ -237,16 +236,16 @@ next_is level row before one other rest s = by (is_first_part one.0 other.0) ref
     two = on_two one other findings.KeyPrefix
 
     alike : List Remark
-    alike = on_alike level one other
+    alike = on_alike one other
 
     rest_of : Bool → List Remark
     rest_of q = cond q alike []
 
-    to_longer : one.0 ≢ other.0 → on_key level row one (alike_key one.0 (other ∷ rest)) ≡ on_key level row one None
-    to_longer not_same = ap (on_key level row one) (none_alike one other rest first later not_same)
+    to_longer : one.0 ≢ other.0 → on_key row one (alike_key one.0 (other ∷ rest)) ≡ on_key row one None
+    to_longer not_same = ap (on_key row one) (none_alike one other rest first later not_same)
 
     by : (p : Bool) → is_first_part one.0 other.0 ≡ p → (q : Bool) → bytes_eq one.0 other.0 ≡ q
-        → on_neighbours level one other ≡ on_key level row one (alike_key one.0 (other ∷ rest))
+        → on_neighbours one other ≡ on_key row one (alike_key one.0 (other ∷ rest))
     by true e q f =
         ap (λ t. cond t two (rest_of (bytes_eq one.0 other.0))) e
         ∙ ap (on_longer one) (sym (longer_is row before one (other ∷ rest) s ∙ ap (λ t. cond t (Some other) (longer_key one.0 rest)) e))
@@ -259,7 +258,7 @@ next_is level row before one other rest s = by (is_first_part one.0 other.0) ref
             absurd cc
     by false e true f =
         ap (λ t. cond t two (rest_of (bytes_eq one.0 other.0))) e ∙ ap rest_of f
-        ∙ sym (ap (λ t. on_key level row one (cond t (Some other) (alike_key one.0 rest))) f)
+        ∙ sym (ap (λ t. on_key row one (cond t (Some other) (alike_key one.0 rest))) f)
     by false e false f =
         ap (λ t. cond t two (rest_of (bytes_eq one.0 other.0))) e ∙ ap rest_of f
         ∙ ap (on_longer one) (sym (longer_is row before one (other ∷ rest) s ∙ none_longer one other rest first later not_same e))
@@ -268,18 +267,18 @@ next_is level row before one other rest s = by (is_first_part one.0 other.0) ref
         not_same : one.0 ≢ other.0
         not_same same = let wrong : true ≡ false = sym ((bytes_decides one.0 other.0).1 same) ∙ f in absurd cc
 
-rows_are : (level : Level) (row before left : List Key) → row ≡ before ++ left → AllByRecursion (λ b. Later b left) before → Ascends left
-    → on_row level left ≡ on_keys level row left
-rows_are level row before [] all up_to on = refl
-rows_are level row before (one ∷ []) all up_to on =
+rows_are : (row before left : List Key) → row ≡ before ++ left → AllByRecursion (λ b. Later b left) before → Ascends left
+    → on_row left ≡ on_keys row left
+rows_are row before [] all up_to on = refl
+rows_are row before (one ∷ []) all up_to on =
     sym (ap (λ found. on_longer one found ++ []) (longer_is row before one [] (record { all = all; up_to = up_to; on = on })))
-rows_are level row before (one ∷ other ∷ rest) all up_to on =
-    ap₂ (λ remarks more. remarks ++ more) (next_is level row before one other rest (record { all = all; up_to = up_to; on = on }))
-    (rows_are level row (before ++ one ∷ []) (other ∷ rest) (all ∙ sym (append_assoc before (one ∷ []) (other ∷ rest))) up_to_next on.1)
+rows_are row before (one ∷ other ∷ rest) all up_to on =
+    ap₂ (λ remarks more. remarks ++ more) (next_is row before one other rest (record { all = all; up_to = up_to; on = on }))
+    (rows_are row (before ++ one ∷ []) (other ∷ rest) (all ∙ sym (append_assoc before (one ∷ []) (other ∷ rest))) up_to_next on.1)
   where
     up_to_next : AllByRecursion (λ b. Later b (other ∷ rest)) (before ++ one ∷ [])
     up_to_next = and_last (λ b. Later b (other ∷ rest)) before one (each (λ b. Later b (one ∷ other ∷ rest)) (λ b. Later b (other ∷ rest)) (λ b l. l.1) before up_to) on.0
 
 -- told by the neighbours of a sorted row is what is told by all its keys
-pub neighbours_are : (level : Level) (row : List Key) → IsSorted key_cmp row → on_row level row ≡ on_keys level row row
-neighbours_are level row s = rows_are level row [] row refl tt (ascends row s)
+pub neighbours_are : (row : List Key) → IsSorted key_cmp row → on_row row ≡ on_keys row row
+neighbours_are row s = rows_are row [] row refl tt (ascends row s)

@@ -7,7 +7,6 @@ use Rattle.std.specs.List.Sorted.{IsSorted}
 use Rattle.std.specs.Ordering.{is_lt, ordering_then, nat_cmp}
 use Rattle.std.proofs.lemmas.List.Sorted.{ranks_by, sum_by-IsPermutation}
 use Rattle.std.proofs.lemmas.List.Sums.{sum_by-cons}
-use Rattle.ti_lint.specs.declared.level.Level.{Level}
 use Rattle.ti_report.specs.Keys.{AreRemarksOnKeys, Key, key_cmp, on_keys}
 use Rattle.ti_report.specs.Remarks.{Remark}
 use Rattle.ti_report.proofs.NeighboursLemmas.{both_ways, by_text}
@@ -81,7 +80,7 @@ one_row (x ∷ xs) (y ∷ ys) s t same =
     let first : x ≡ y = same_key x y (first_not_below y x ys xs t (λ f. sym (same f))) (first_not_below x y xs ys s same) in
     ap₂ (λ k ks. k ∷ ks) first (one_row xs ys (rest_sorted x xs s) (rest_sorted y ys t) (λ f. omega (arith, same f, sum_by-cons f x xs, sum_by-cons f y ys, ap f first)))
 
-pub one_keys : (level : Level) (keys : List Key) (one other : List Remark) → AreRemarksOnKeys level keys one → AreRemarksOnKeys level keys other → one ≡ other
-one_keys level keys one other p q =
+pub one_keys : (keys : List Key) (one other : List Remark) → AreRemarksOnKeys keys one → AreRemarksOnKeys keys other → one ≡ other
+one_keys keys one other p q =
     let same : (f : Key → ℕ) → sum_by f p.row ≡ sum_by f q.row = λ f. sum_by-IsPermutation f keys p.row p.same ∙ sym (sum_by-IsPermutation f keys q.row q.same) in
-    p.remarks_are ∙ ap (λ row. on_keys level row row) (one_row p.row q.row p.ascends q.ascends same) ∙ sym q.remarks_are
+    p.remarks_are ∙ ap (λ row. on_keys row row) (one_row p.row q.row p.ascends q.ascends same) ∙ sym q.remarks_are

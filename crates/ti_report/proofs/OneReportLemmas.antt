@@ -1,5 +1,5 @@
 -- An entry has one report.
-use Rattle.std.proofs.Common.{◌≡◌, ◌∙◌, ◌⊎◌, ◌↔◌, ◌++◌, ℕ, suc, Bool, true, false, List, [], ◌∷◌, Option, ap, ap₂, arith, inl, inr, length, map, subst, sym}
+use Rattle.std.proofs.Common.{◌≡◌, ◌∙◌, ◌⊎◌, ◌↔◌, ◌++◌, ℕ, suc, Bool, true, false, List, [], ◌∷◌, Option, ap, ap₂, arith, inl, inr, length, map, subst, sym, take}
 use Rattle.std.specs.Prelude.{◌==◌}
 use Rattle.serde_json.specs.Data.{Data}
 use Rattle.ti_cap.specs.declared.language.CapRefused.{CapRefused}
@@ -8,8 +8,7 @@ use Rattle.ti_cap.proofs.OneRefusalLemmas.{one_refusal}
 use Rattle.ti_escape.specs.declared.color.Color.{Color}
 use Rattle.ti_lint.specs.declared.token_finding.TokenFinding.{TokenFinding}
 use Rattle.ti_lint.specs.declared.placed_finding.PlacedFinding.{PlacedFinding}
-use Rattle.ti_lint.specs.declared.level.Level.{Level}
-use Rattle.ti_lint.specs.declared.level.Level.TheVariants as scopes
+use Rattle.ti_lint.specs.declared.lint_options.LintOptions.{LintOptions}
 use Rattle.ti_lint.specs.declared.variables.Variables.{Variables}
 use Rattle.ti_lint.proofs.OneFoundLemmas.{one_found}
 use Rattle.ti_lint.proofs.OneSetLemmas.{one_parameter_set, one_variables}
@@ -20,6 +19,11 @@ use Rattle.ti_values.specs.declared.range.Range.TheVariants as ranges
 use Rattle.ti_values.specs.declared.tried.Tried.{Tried}
 use Rattle.ti_values.specs.Ranges.{values}
 use Rattle.ti_values.specs.Sent.{AreSent}
+use Rattle.ti_control.specs.Capabilities.{is_sent}
+use Rattle.ti_control.specs.Misplaced.{Place}
+use Rattle.ti_values.specs.Controls.{Found}
+use Rattle.ti_values.specs.Outputs.{AreOutputs}
+use Rattle.ti_values.proofs.OneControlsLemmas.{one_arms_found, one_outputs, one_samples}
 use Rattle.ti_values.proofs.OneSentLemmas.{one_first_of, one_first_same, one_sent}
 use Rattle.ti_words.specs.Texts.{AbsentText, CancelledText, TextOf, TextValue}
 use Rattle.ti_words.specs.Value.{EntryValue, NamedPart}
@@ -28,16 +32,26 @@ use Rattle.ti_report.specs.declared.marks.Sought.TheVariants.{FalseMark, Mark, P
 use Rattle.ti_report.specs.declared.usage.Usage.{Usage}
 use Rattle.ti_report.specs.declared.finding.Finding.{Finding}
 use Rattle.ti_report.specs.declared.finding.Finding.TheVariants as findings
+use Rattle.ti_report.specs.Actions.{action_remarks}
 use Rattle.ti_report.specs.Blocks.{report_lines}
+use Rattle.ti_report.specs.Controls.{AreCapabilityControls, AreControlRemarks, AreControlsIn, AreControlsOf, ArePlainFound, Terminal, control_remarks, place_in, range_in, terminal_of}
 use Rattle.ti_report.specs.Keys.{AreKeyRemarks, entry_keys}
 use Rattle.ti_report.specs.Lines.{AreAll, AreReports, InTurn}
-use Rattle.ti_report.specs.Names.{AreNameRemarks}
+use Rattle.ti_report.specs.NameBytes.{AreAliases, IsRepeatedReport, parted, AreNameByteRemarks, IsAliasReport, IsOwnNameReport, IsUtf8Report, alias_remarks, long_names, on_names}
+use Rattle.ti_report.specs.Marks.{first_place}
+use Rattle.ti_control.specs.Entries.{starts_control}
+use Rattle.ti_words.specs.Spelling.{part_names}
+use Rattle.ti_report.proofs.NameBytesLemmas.{one_end}
+use Rattle.ti_report.specs.Names.{AreNameRemarks, IsNameReport}
+use Rattle.ti_report.specs.declared.names.NameKind.TheVariants.{Alias}
 use Rattle.ti_report.specs.Objects.{remark_object}
 use Rattle.ti_report.specs.Remarks.{Evidence, NoEvidence, Remark, TextRemark, placed, with_name}
-use Rattle.ti_report.specs.Reports.{AreFindings, AreLines, ArePairRemarks, IsReport, IsTextReport}
+use Rattle.ti_report.specs.Reports.{AreFindings, AreRemarks, AreLines, AreTextRemarks, IsReport, IsTextReport}
+use Rattle.ti_report.specs.Pairs.{all_pair_remarks}
+use Rattle.ti_report.specs.Reported.{reported}
 use Rattle.ti_report.specs.Sequences.{AreSequenceRemarks, IsSequenceIn, IsSequenceOf}
 use Rattle.ti_report.specs.Subjects.{KnownText, known_texts}
-use Rattle.ti_report.specs.Texts.{IsCapabilityReport, IsEscapeReport, IsFindingReport, IsFindingsReport, IsJudged, IsJudgedAs, IsKeyReport, IsPercentReport, IsPlacesReport, IsPlainReport, IsUnusedReport, all_findings, evidence_of, expected_in, unused_remarks, usage_of}
+use Rattle.ti_report.specs.Texts.{IsCapabilityReport, IsEscapeReport, IsFindingReport, IsFindingsReport, IsJudged, IsJudgedAs, IsKeyReport, IsPercentReport, IsPlacesReport, IsPlainReport, IsUnusedReport, all_findings, empty_key, evidence_of, expected_in, unused_remarks, usage_of}
 use Rattle.ti_report.specs.Values.{AreAttributesRemarks, AreNumbersRemarks, AreValueRemarks, IsNamedTriedReport, IsNumbersReport, IsRangeReport, IsShortReport, IsRemarkOf, IsTriedReport, IsTriedReportOf, IsUnendedReport, Trial, is_ansi_entry, remark_of, text_named}
 use Rattle.ti_report.specs.Whole.{whole_remarks}
 use Rattle.ti_report.proofs.OneKeysLemmas.{one_keys}
@@ -92,14 +106,14 @@ one_finding text parameters founds i finding r s (inr a) (inl b) = absurd (a.0 b
 one_finding text parameters founds i finding r s (inr (other, ps, are, e)) (inr (too, qs, also, f)) =
     e ∙ ap (λ places. placed places (findings.Token finding) (evidence_of finding parameters)) (one_places_of finding founds ps qs are also) ∙ sym f
 
-one_unused : (may : Bool) (text : List ℕ) (parameters : ℕ) (founds : List PlacedFinding) → IsOne (IsUnusedReport may text parameters founds)
-one_unused may text parameters founds r s (set, ps, are, places, e) (other, qs, also, too, f) =
-    e ∙ ap₂ (λ x ys. unused_remarks may x ys) (one_parameter_set set other (λ which. both_ways (are which) (also which))) (one_places_of _ founds ps qs places too) ∙ sym f
+one_unused : (usage : Usage) (text : List ℕ) (parameters : ℕ) (founds : List PlacedFinding) → IsOne (IsUnusedReport usage text parameters founds)
+one_unused usage text parameters founds r s (set, ps, are, places, e) (other, qs, also, too, f) =
+    e ∙ ap₂ (λ x ys. unused_remarks usage x ys) (one_parameter_set set other (λ which. both_ways (are which) (also which))) (one_places_of _ founds ps qs places too) ∙ sym f
 
 findings_once : (usage : Usage) (parameters : ℕ) (text : List ℕ) → IsOne (IsFindingsReport usage parameters text)
 findings_once usage parameters text r s (founds, are, d) (others, also, h) =
-    let L : List PlacedFinding → List TextRemark → Type 0 = λ list. InTurn (AreReports (IsFindingReport text parameters list) 0 all_findings) (IsUnusedReport usage.may_leave_out text parameters list) in
-    in_turn _ _ (reports _ (one_finding text parameters founds) 0 all_findings) (one_unused usage.may_leave_out text parameters founds) r s d
+    let L : List PlacedFinding → List TextRemark → Type 0 = λ list. InTurn (AreReports (IsFindingReport text parameters list) 0 all_findings) (IsUnusedReport usage text parameters list) in
+    in_turn _ _ (reports _ (one_finding text parameters founds) 0 all_findings) (one_unused usage text parameters founds) r s d
     (subst (λ list. L list s) (one_found text (expected_in usage parameters) others founds also.exact also.order are.exact are.order) h)
 
 one_capability : (usage : Usage) (parameters : ℕ) (text : List ℕ) → IsOne (IsCapabilityReport usage parameters text)
@@ -120,11 +134,12 @@ one_plain text =
     in_turn (IsEscapeReport text) _ (one_escapes text) (in_turn (IsPercentReport text) _ (one_percent text) (one_at FalseMark findings.FalseMark text))
 
 one_key : (text : List ℕ) → IsOne (IsKeyReport text)
-one_key text = in_turn (IsPercentReport text) _ (one_percent text) (one_at Mark findings.MarkInKey text)
+one_key text =
+    in_turn (λ all. all ≡ empty_key text) _ (λ x y p q. p ∙ sym q) (in_turn (IsPercentReport text) _ (one_percent text) (one_at Mark findings.MarkInKey text))
 
 one_as : (class : Class) (usage : Usage) (text : List ℕ) → IsOne (IsJudgedAs class usage text)
-one_as (classes.Parameterized parameters) usage text = one_capability usage parameters text
-one_as classes.Plain usage text = one_plain text
+one_as (classes.Parameterized parameters) usage text = in_turn _ _ (one_capability usage parameters text) (λ x y p q. p ∙ sym q)
+one_as classes.Plain usage text = in_turn _ _ (one_plain text) (λ x y p q. p ∙ sym q)
 one_as classes.Key usage text = one_key text
 one_as classes.List usage text = λ r s d h. d ∙ sym h
 one_as class usage text = λ r s d h. d ∙ sym h
@@ -132,9 +147,9 @@ one_as class usage text = λ r s d h. d ∙ sym h
 pub one_judgement : (usage : Usage) (text : List ℕ) → IsOne (IsJudged usage text)
 one_judgement usage text = one_as usage.class usage text
 
-one_text : (level : Level) (stored : Variables) (t : KnownText) → IsOne (IsTextReport level stored t)
-one_text level stored t r s (judgement, is, e) (other, too, f) =
-    e ∙ ap (map (with_name t.name t.text)) (one_judgement (usage_of level stored t.name t.class) t.text judgement other is too) ∙ sym f
+one_text : (stored : Variables) (t : KnownText) → IsOne (IsTextReport stored t)
+one_text stored t r s (judgement, is, e) (other, too, f) =
+    e ∙ ap (map (with_name t.name t.text)) (one_judgement (usage_of stored t.name t.class) t.text judgement other is too) ∙ sym f
 
 -- ---- texts by their values
 
@@ -171,25 +186,25 @@ one_range v name text (ranges.Numbers from end) = one_numbers (is_ansi_entry v) 
 one_range v name text (ranges.Places lines columns) = one_numbers (is_ansi_entry v) name text (ranges.Places lines columns)
 one_range v name text (ranges.Regions lines) = one_numbers (is_ansi_entry v) name text (ranges.Regions lines)
 
-one_short : (level : Level) (v : EntryValue) (name text : List ℕ) (range : Range) → IsOne (IsShortReport level v name text range)
-one_short level v name text range r s (inl a) (inl b) = a.1 ∙ sym b.1
-one_short level v name text range r s (inl a) (inr b) = absurd (a.0 b.0)
-one_short level v name text range r s (inr a) (inl b) = absurd (b.0 a.0)
-one_short level v name text range r s (inr a) (inr b) = one_range v name text range r s a.1 b.1
+one_short : (v : EntryValue) (name text : List ℕ) (range : Range) → IsOne (IsShortReport v name text range)
+one_short v name text range r s (inl a) (inl b) = a.1 ∙ sym b.1
+one_short v name text range r s (inl a) (inr b) = absurd (a.0 b.0)
+one_short v name text range r s (inr a) (inl b) = absurd (b.0 a.0)
+one_short v name text range r s (inr a) (inr b) = one_range v name text range r s a.1 b.1
 
-one_tried : (level : Level) (v : EntryValue) (name text : List ℕ) (range : Range) → IsOne (IsTriedReport level v name text range)
-one_tried level v name text range = refused_or text (λ refused. []) _ (one_short level v name text range)
+one_tried : (v : EntryValue) (name text : List ℕ) (range : Range) → IsOne (IsTriedReport v name text range)
+one_tried v name text range = refused_or text (λ refused. []) _ (one_short v name text range)
 
-one_tried_of : (level : Level) (v : EntryValue) (name : List ℕ) (text : TextValue) (range : Range) → IsOne (IsTriedReportOf level v name text range)
-one_tried_of level v name (TextOf text) range = one_tried level v name text range
-one_tried_of level v name AbsentText range = λ r s d h. d ∙ sym h
-one_tried_of level v name CancelledText range = λ r s d h. d ∙ sym h
+one_tried_of : (v : EntryValue) (name : List ℕ) (text : TextValue) (range : Range) → IsOne (IsTriedReportOf v name text range)
+one_tried_of v name (TextOf text) range = one_tried v name text range
+one_tried_of v name AbsentText range = λ r s d h. d ∙ sym h
+one_tried_of v name CancelledText range = λ r s d h. d ∙ sym h
 
-one_named : (level : Level) (v : EntryValue) (i : ℕ) (row : List ℕ × Range) → IsOne (IsNamedTriedReport level v i row)
-one_named level v i (name, range) = one_tried_of level v name (text_named v name) range
+one_named : (v : EntryValue) (i : ℕ) (row : List ℕ × Range) → IsOne (IsNamedTriedReport v i row)
+one_named v i (name, range) = one_tried_of v name (text_named v name) range
 
-one_of_values : (level : Level) (v : EntryValue) → IsOne (AreValueRemarks level v)
-one_of_values level v = reports _ (one_named level v) 0 _
+one_of_values : (v : EntryValue) → IsOne (AreValueRemarks v)
+one_of_values v = reports _ (one_named v) 0 _
 
 -- ---- control sequences, pairs and names
 
@@ -200,37 +215,74 @@ one_sequence ansi standard class name text = λ r s d h. d ∙ sym h
 one_sequences : (v : EntryValue) → IsOne (AreSequenceRemarks v)
 one_sequences v = all (IsSequenceOf (is_ansi_entry v)) (λ t. one_sequence _ t.standard t.class t.name t.text) (known_texts v)
 
-one_pairs : (level : Level) (v : EntryValue) → IsOne (ArePairRemarks level v)
-one_pairs scopes.Errors v = λ r s d h. d ∙ sym h
-one_pairs scopes.All v = in_turn _ _ (λ r s d h. d ∙ sym h) (λ r s d h. d ∙ sym h)
-
 one_names : (part : NamedPart) → IsOne (AreNameRemarks part)
 one_names part = reports _ (λ i name. either _ _ _) 0 _
 
+one_aliases : (names : List ℕ) → IsOne (IsAliasReport names)
+one_aliases names r s (aliases, (end, is, a), e) (others, (other, too, b), f) =
+    e ∙ ap (alias_remarks names) (a ∙ ap (λ n. take n names) (one_end names end other is too) ∙ sym b) ∙ sym f
+
+same_aliases : (names aliases others : List ℕ) → AreAliases names aliases → AreAliases names others → aliases ≡ others
+same_aliases names aliases others (end, is, a) (other, too, b) = a ∙ ap (λ n. take n names) (one_end names end other is too) ∙ sym b
+
+one_repeated : (names : List ℕ) → IsOne (IsRepeatedReport names)
+one_repeated names r s (aliases, are, told) (others, also, too) =
+    let P : List ℕ → Type 0 = λ l. AreReports (IsNameReport Alias (parted [] l)) 0 (parted [] l) s in
+    reports (IsNameReport Alias (parted [] aliases)) (λ i name. either _ _ _) 0 (parted [] aliases) r s told (subst P (same_aliases names others aliases also are) too)
+
+-- ---- control functions
+
+one_plain_found : (untrusted : Bool) (place : Place) (text : List ℕ) (found other : List Found) → ArePlainFound untrusted place text found → ArePlainFound untrusted place text other → found ≡ other
+one_plain_found true place text found other p q = one_arms_found place text found other p q
+one_plain_found false place text found other p q = p ∙ sym q
+
 -- ---- an entry
 
-abbrev AreOthers : Level → List ℕ → EntryValue → List Remark → Type 0
-AreOthers level bytes v =
-    InTurn (AreValueRemarks level v) (InTurn (AreSequenceRemarks v) (InTurn (ArePairRemarks level v)
-    (InTurn (AreKeyRemarks level v) (InTurn (AreNameRemarks v.extended) (λ whole. whole ≡ whole_remarks bytes v)))))
+one_of_texts : (v : EntryValue) → IsOne (AreTextRemarks v)
+one_of_texts v r s (stored, are, d) (other, also, h) =
+    let Texts : Variables → List Remark → Type 0 = λ variables. AreAll (IsTextReport variables) (known_texts v) in
+    all (IsTextReport stored) (one_text stored) (known_texts v) r s d
+    (subst (λ variables. Texts variables s) (one_variables other stored also.0 are.0 (λ which. both_ways (also.1 which) (are.1 which))) h)
 
-one_other : (level : Level) (bytes : List ℕ) (v : EntryValue) → IsOne (AreOthers level bytes v)
-one_other level bytes v =
-    in_turn (AreValueRemarks level v) _ (one_of_values level v) (in_turn (AreSequenceRemarks v) _ (one_sequences v) (in_turn (ArePairRemarks level v) _ (one_pairs level v)
-    (in_turn (AreKeyRemarks level v) _ (one_keys level (entry_keys v)) (in_turn (AreNameRemarks v.extended) _ (one_names v.extended) (λ x y p q. p ∙ sym q)))))
+one_bytes : (v : EntryValue) → IsOne (AreNameByteRemarks v)
+one_bytes v =
+    in_turn (λ all. all ≡ on_names v.names findings.NamesControl (first_place starts_control v.names)) _ (λ x y p q. p ∙ sym q)
+    (in_turn (IsUtf8Report v.names) _ (either _ _ _) (in_turn (IsAliasReport v.names) _ (one_aliases v.names)
+    (in_turn (IsRepeatedReport v.names) _ (one_repeated v.names)
+    (in_turn (λ all. all ≡ long_names v.names) _ (λ x y p q. p ∙ sym q) (all IsOwnNameReport (λ name. either _ _ _) (part_names v.extended))))))
 
-pub one_report : (level : Level) (bytes : List ℕ) (v : EntryValue) → IsOne (IsReport level bytes v)
-one_report level bytes v r s (stored, are, d) (other, also, h) =
-    let Texts : Variables → List Remark → Type 0 = λ variables. AreAll (IsTextReport level variables) (known_texts v) in
-    let Report : Variables → Type 0 = λ variables. InTurn (Texts variables) (AreOthers level bytes v) s in
-    in_turn (Texts stored) (AreOthers level bytes v) (all (IsTextReport level stored) (one_text level stored) (known_texts v)) (one_other level bytes v) r s d
-    (subst Report (one_variables other stored also.0 are.0 (λ which. both_ways (also.1 which) (are.1 which))) h)
+one_of_controls : (t : Terminal) (name text : List ℕ) → IsOne (AreCapabilityControls t name text)
+one_of_controls t name text r s (samples, outputs, plain, tried, sent, found, e) (others, also, same, again, too, so, f) =
+    let range = range_in t.rows name in
+    let place = place_in t name in
+    let alike : outputs ≡ also = one_outputs place text samples outputs also sent (subst (λ x. AreOutputs place text x also) (sym (one_samples text range samples others tried again)) too) in
+    e ∙ ap (λ o. control_remarks name text o plain) alike ∙ ap (control_remarks name text also) (one_plain_found t.untrusted place text plain same found so) ∙ sym f
 
-pub one_lines : (level : Level) (color : Color) (before bytes : List ℕ) (v : EntryValue) → IsOne (AreLines level color before bytes v)
-one_lines level color before bytes v r s (remarks, are, e) (others, also, f) = e ∙ ap (report_lines color before) (one_report level bytes v remarks others are also) ∙ sym f
+one_in_class : (sent : Bool) (t : Terminal) (class : Class) (name text : List ℕ) → IsOne (AreControlsIn sent t class name text)
+one_in_class true t classes.Plain name text = λ r s d h. d ∙ sym h
+one_in_class true t (classes.Parameterized parameters) name text = refused_or text (λ refused. []) _ (one_of_controls t name text)
+one_in_class true t class name text = λ r s d h. d ∙ sym h
+one_in_class false t class name text = λ r s d h. d ∙ sym h
 
-pub one_findings : (level : Level) (bytes : List ℕ) (v : EntryValue) (sound as_sound : Bool) (objects others : List Data) → AreFindings level bytes v sound objects
-    → AreFindings level bytes v as_sound others → (objects ≡ others) × (sound ≡ as_sound)
-one_findings level bytes v sound as_sound objects others p q =
-    let one : p.remarks ≡ q.remarks = one_report level bytes v p.remarks q.remarks p.report q.report in
+one_controls : (untrusted : Bool) (v : EntryValue) → IsOne (AreControlRemarks untrusted v)
+one_controls untrusted v = all (AreControlsOf (terminal_of untrusted v)) (λ t. one_in_class (is_sent t.name) (terminal_of untrusted v) t.class t.name t.text) (known_texts v)
+
+one_found_list : (untrusted : Bool) (bytes : List ℕ) (v : EntryValue) → IsOne (AreRemarks untrusted bytes v)
+one_found_list untrusted bytes v =
+    in_turn (AreTextRemarks v) _ (one_of_texts v) (in_turn (AreValueRemarks v) _ (one_of_values v) (in_turn (AreSequenceRemarks v) _ (one_sequences v)
+    (in_turn (λ all. all ≡ all_pair_remarks v) _ (λ x y p q. p ∙ sym q) (in_turn (AreKeyRemarks v) _ (one_keys (entry_keys v))
+    (in_turn (AreNameRemarks v.extended) _ (one_names v.extended) (in_turn (AreNameByteRemarks v) _ (one_bytes v)
+    (in_turn (λ all. all ≡ action_remarks v) _ (λ x y p q. p ∙ sym q)
+    (in_turn (λ all. all ≡ whole_remarks bytes v) _ (λ x y p q. p ∙ sym q) (one_controls untrusted v)))))))))
+
+pub one_report : (options : LintOptions) (bytes : List ℕ) (v : EntryValue) → IsOne (IsReport options bytes v)
+one_report options bytes v r s (found, are, d) (other, also, h) = d ∙ ap (reported options.level) (one_found_list options.untrusted bytes v found other are also) ∙ sym h
+
+pub one_lines : (options : LintOptions) (color : Color) (before bytes : List ℕ) (v : EntryValue) → IsOne (AreLines options color before bytes v)
+one_lines options color before bytes v r s (remarks, are, e) (others, also, f) = e ∙ ap (report_lines color before) (one_report options bytes v remarks others are also) ∙ sym f
+
+pub one_findings : (options : LintOptions) (bytes : List ℕ) (v : EntryValue) (sound as_sound : Bool) (objects others : List Data) → AreFindings options bytes v sound objects
+    → AreFindings options bytes v as_sound others → (objects ≡ others) × (sound ≡ as_sound)
+one_findings options bytes v sound as_sound objects others p q =
+    let one : p.remarks ≡ q.remarks = one_report options bytes v p.remarks q.remarks p.report q.report in
     (p.objects_are ∙ ap (map remark_object) one ∙ sym q.objects_are, p.sound_is ∙ ap (λ remarks. length remarks == 0) one ∙ sym q.sound_is)

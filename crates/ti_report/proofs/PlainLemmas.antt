@@ -1,5 +1,5 @@
 -- Each character of a report's JSON can be printed.
-use Rattle.std.proofs.Common.{◌≡◌, ◌+◌, ◌<◌, ◌≤◌, ◌++◌, ℕ, zero, suc, Bool, true, false, List, [], ◌∷◌, arith, cond, map, refl, subst, sym}
+use Rattle.std.proofs.Common.{◌≡◌, ◌+◌, ◌<◌, ◌≤◌, ◌++◌, ℕ, zero, suc, Bool, true, false, List, [], ◌∷◌, arith, cond, map, refl, rules, subst, sym}
 use Rattle.std.specs.Prelude.{◌==◌, codes, decimal}
 use Rattle.std.proofs.lemmas.Bool.{and_from}
 use Rattle.std.proofs.lemmas.Bool.Decides.{nat_tests}
@@ -14,17 +14,15 @@ use Rattle.ti_json.specs.Objects.{array_text}
 use Rattle.ti_json.proofs.PlainLemmas.{HavePlain, IsPlain, array_is_text, fault_text}
 use Rattle.ti_json.proofs.TextLemmas.{IsText, both, decimal_text, signed_text}
 use Rattle.ti_lint.specs.declared.token_finding.TokenFinding.{TokenFinding}
-use Rattle.ti_lint.specs.declared.token_finding.TokenFinding.TheVariants as tokens
 use Rattle.ti_lint.specs.FindingWords.{token_word}
 use Rattle.ti_values.specs.declared.tried.Tried.{Tried}
 use Rattle.ti_values.specs.declared.tried.Tried.TheVariants.{Number, Two, Attributes}
 use Rattle.ti_report.specs.declared.finding.Finding.{Finding}
-use Rattle.ti_report.specs.declared.finding.Finding.TheVariants as findings
-use Rattle.ti_report.specs.Findings.{finding_sentence, finding_word, token_sentence}
-use Rattle.ti_report.specs.Remarks.{About, OfEntry, OfName, OfText, OfTwo, Remark, Evidence, NoEvidence, Fault, Last, Value, Parameters, For, Sent, SentForTwo, Attribute, Lacking}
-use Rattle.ti_report.specs.Sentences.{after, before, is_in, meaning, parameter_word, parameter_words, sent_words, value_words}
+use Rattle.ti_report.specs.Findings.{finding_sentence, finding_word, token_words}
+use Rattle.ti_report.specs.Remarks.{About, OfEntry, OfName, OfText, OfTwo, Remark, Evidence, NoEvidence, Fault, Last, Value, Parameters, For, Sent, SentForTwo, Attribute, Lacking, Function}
+use Rattle.ti_report.specs.Sentences.{after, before, called_words, content_words, function_words, is_in, meaning, parameter_word, parameter_words, sent_words, value_words}
 use Rattle.ti_report.specs.Objects.{about_objects, place_number, remark_object}
-use Rattle.ti_lint.specs.declared.level.Level.{Level}
+use Rattle.ti_lint.specs.declared.lint_options.LintOptions.{LintOptions}
 use Rattle.ti_words.specs.Value.{EntryValue}
 use Rattle.ti_report.specs.Reports.{AreFindings}
 
@@ -41,50 +39,11 @@ shown_text (byte ∷ bytes) = is_printable_all (byte ∷ bytes)
 
 -- ---- findings
 
-token_text : (finding : TokenFinding) → IsText (token_word finding) × IsText (token_sentence finding)
-token_text tokens.StackUnderflow = (refl, refl)
-token_text tokens.TermcapParameter = (refl, refl)
-token_text tokens.ParameterRange = (refl, refl)
-token_text tokens.RepeatedIncrement = (refl, refl)
-token_text tokens.UnsetVariable = (refl, refl)
-token_text tokens.StackResidue = (refl, refl)
-token_text tokens.UnusedIncrement = (refl, refl)
-token_text tokens.LateIncrement = (refl, refl)
-token_text tokens.DeadStore = (refl, refl)
-token_text tokens.OperandType = (refl, refl)
-token_text tokens.NoEffect = (refl, refl)
-token_text tokens.ConstantCondition = (refl, refl)
-token_text tokens.RepeatedCondition = (refl, refl)
+token_text : (finding : TokenFinding) → IsText (token_word finding) × IsText (token_words finding).0
+token_text finding = search rules
 
 row_text : (finding : Finding) → IsText (finding_word finding) × IsText (finding_sentence finding)
-row_text (findings.Token finding) = token_text finding
-row_text findings.Malformed = (refl, refl)
-row_text findings.UnusedParameter = (refl, refl)
-row_text findings.UninterpretedEscape = (refl, refl)
-row_text findings.UninterpretedPercent = (refl, refl)
-row_text findings.FalseMark = (refl, refl)
-row_text findings.MarkInKey = (refl, refl)
-row_text findings.HalfPaired = (refl, refl)
-row_text findings.EqualPair = (refl, refl)
-row_text findings.KeyPrefix = (refl, refl)
-row_text findings.AlikeKeys = (refl, refl)
-row_text findings.RepeatedName = (refl, refl)
-row_text findings.StandardName = (refl, refl)
-row_text findings.ColorsStay = (refl, refl)
-row_text findings.NoColors = (refl, refl)
-row_text findings.ColorsAreFixed = (refl, refl)
-row_text findings.Layout = (refl, refl)
-row_text findings.Base = (refl, refl)
-row_text findings.EmptyOutput = (refl, refl)
-row_text findings.SameOutput = (refl, refl)
-row_text findings.NegativeNumber = (refl, refl)
-row_text findings.IgnoredAttribute = (refl, refl)
-row_text findings.DifferingAttribute = (refl, refl)
-row_text findings.Combination = (refl, refl)
-row_text findings.ShownText = (refl, refl)
-row_text findings.UnendedSequence = (refl, refl)
-row_text findings.UnendedText = (refl, refl)
-row_text findings.NotTried = (refl, refl)
+row_text finding = search rules
 
 -- ---- evidence
 
@@ -114,6 +73,20 @@ sent_text value sent =
     let it = shown forms.Notation sent in
     both (value_words value) (codes " it sends " ++ it) (value_text value) (both (codes " it sends ") it refl (shown_text sent))
 
+content_text : (content : List ℕ) → IsText (content_words content)
+content_text [] = refl
+content_text (byte ∷ rest) = both (codes " ") (shown forms.Notation (byte ∷ rest)) refl (shown_text (byte ∷ rest))
+
+called_text : (name content : List ℕ) → IsText (called_words name content)
+called_text [] content = shown_text content
+called_text (byte ∷ rest) content = both (label_notation (byte ∷ rest)) (content_words content) (label (byte ∷ rest)) (content_text content)
+
+function_text : (name content purpose : List ℕ) → IsText (function_words name content purpose)
+function_text name content purpose =
+    let it = shown forms.Notation purpose in
+    both (called_words name content) (codes ", " ++ (it ++ codes ": the terminal ")) (called_text name content)
+    (both (codes ", ") (it ++ codes ": the terminal ") refl (both it (codes ": the terminal ") (shown_text purpose) refl))
+
 before_text : (evidence : Evidence) → IsText (before evidence)
 before_text NoEvidence = refl
 before_text (Fault fault) = refl
@@ -126,6 +99,7 @@ before_text (SentForTwo one other sent) =
     both (value_words one) (codes " and " ++ sent_words other sent) (value_text one) (both (codes " and ") (sent_words other sent) refl (sent_text other sent))
 before_text (Attribute name set) = value_text (Attributes set)
 before_text (Lacking name set sent text) = sent_text (Attributes set) sent
+before_text (Function name content purpose) = function_text name content purpose
 
 after_text : (evidence : Evidence) → IsText (after evidence)
 after_text NoEvidence = refl
@@ -140,6 +114,7 @@ after_text (Attribute name set) = label name
 after_text (Lacking name set sent text) =
     let its = shown forms.Notation text in
     both (label_notation name) (codes " is " ++ its) (label name) (both (codes " is ") its refl (shown_text text))
+after_text (Function name content purpose) = refl
 
 pub meaning_text : (finding : Finding) (evidence : Evidence) → IsText (meaning finding evidence)
 meaning_text finding evidence =
@@ -167,6 +142,6 @@ remarks_are_plain : (remarks : List Remark) → HavePlain (map remark_object rem
 remarks_are_plain [] = tt
 remarks_are_plain (r ∷ remarks) = (remark_is_plain r, remarks_are_plain remarks)
 
-pub report_is_text : (level : Level) (bytes : List ℕ) (v : EntryValue) (sound : Bool) (objects : List Data) → AreFindings level bytes v sound objects → IsText (array_text objects)
-report_is_text level bytes v sound objects are =
+pub report_is_text : (options : LintOptions) (bytes : List ℕ) (v : EntryValue) (sound : Bool) (objects : List Data) → AreFindings options bytes v sound objects → IsText (array_text objects)
+report_is_text options bytes v sound objects are =
     subst (λ ds. IsText (array_text ds)) (sym are.objects_are) (array_is_text (map remark_object are.remarks) (remarks_are_plain are.remarks))

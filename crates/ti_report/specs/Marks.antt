@@ -1,5 +1,5 @@
 -- The places of a text at which something is so.
-use Rattle.std.specs.Prelude.{◌≡◌, ℕ, ◌+◌, ◌<◌, ◌≤◌, ◌⊎◌, List, [], ◌∷◌, length}
+use Rattle.std.specs.Prelude.{◌≡◌, ℕ, suc, Bool, Option, None, Some, if◌then◌else◌, option_map, ◌+◌, ◌<◌, ◌≤◌, ◌⊎◌, List, [], ◌∷◌, length}
 use Rattle.ti_cap.specs.declared.language.Token.{Token}
 use Rattle.ti_cap.specs.Capability.{Spot, Takes}
 use Rattle.ti_lint.specs.declared.token_finding.TokenFinding.{TokenFinding}
@@ -49,3 +49,8 @@ ArePlacesFrom Holds from [] = (other : ℕ) → from ≤ other → ¬ Holds othe
 ArePlacesFrom Holds from (place ∷ places) =
     (from ≤ place) × Holds place × ((other : ℕ) → from ≤ other → other < place → ¬ Holds other)
     × ArePlacesFrom Holds (place + 1) places
+
+-- the first place from which the bytes pass a test
+abbrev pub first_place : (List ℕ → Bool) → List ℕ → Option ℕ
+first_place test [] = None
+first_place test (byte ∷ rest) = if test (byte ∷ rest) then Some 0 else option_map (λ at. suc at) (first_place test rest)

@@ -12,8 +12,8 @@ pub data About : Type 0 where
   OfText : List ℕ → List ℕ → About
   OfTwo : List ℕ → List ℕ → List ℕ → List ℕ → About
 
--- what a sentence has beside the words of its finding: a fault, a number, parameters, values with what is sent for them, or an
--- attribute, by the name of its text, with a set of attributes
+-- what a sentence has beside the words of its finding: a fault, a number, parameters, values with what is sent for them, an
+-- attribute, by the name of its text, with a set of attributes; or a control function: its introducer, its content, and what it is for
 pub data Evidence : Type 0 where
   NoEvidence : Evidence
   Fault : CapFault → Evidence
@@ -25,6 +25,7 @@ pub data Evidence : Type 0 where
   SentForTwo : Tried → Tried → List ℕ → Evidence
   Attribute : List ℕ → ℕ → Evidence
   Lacking : List ℕ → ℕ → List ℕ → List ℕ → Evidence
+  Function : List ℕ → List ℕ → List ℕ → Evidence
 
 -- what it is about, the places of the text at which it is so, what was found, and the evidence
 pub record Remark : Type 0 where

@@ -12,7 +12,7 @@ use Rattle.ti_values.specs.declared.tried.Tried.{Tried}
 use Rattle.ti_values.specs.declared.tried.Tried.TheVariants.{Number, Two, Attributes}
 use Rattle.ti_report.specs.declared.finding.Finding.{Finding}
 use Rattle.ti_report.specs.Findings.{finding_sentence}
-use Rattle.ti_report.specs.Remarks.{Evidence, Fault, Last, Value, Parameters, For, Sent, SentForTwo, Attribute, Lacking}
+use Rattle.ti_report.specs.Remarks.{Evidence, Fault, Last, Value, Parameters, For, Sent, SentForTwo, Attribute, Lacking, Function}
 
 -- bit N - 1 is for parameter N
 abbrev pub is_in : ParameterSet → ℕ → Bool
@@ -37,6 +37,20 @@ value_words (Attributes set) =
 abbrev pub sent_words : Tried → List ℕ → List ℕ
 sent_words value sent = value_words value ++ (codes " it sends " ++ shown forms.Notation sent)
 
+-- the content of a control function after its introducer, if it has one
+abbrev pub content_words : List ℕ → List ℕ
+content_words [] = []
+content_words (byte ∷ rest) = codes " " ++ shown forms.Notation (byte ∷ rest)
+
+-- its introducer, if that has a name, and its content
+abbrev pub called_words : (label content : List ℕ) → List ℕ
+called_words [] content = shown forms.Notation content
+called_words (byte ∷ rest) content = label_notation (byte ∷ rest) ++ content_words content
+
+abbrev pub function_words : List ℕ → List ℕ → List ℕ → List ℕ
+function_words label content purpose =
+    called_words label content ++ (codes ", " ++ (shown forms.Notation purpose ++ codes ": the terminal "))
+
 -- the evidence before the words of the finding
 abbrev pub before : Evidence → List ℕ
 before (Last parameter) = codes "%p" ++ decimal parameter
@@ -45,6 +59,7 @@ before (Sent value sent) = sent_words value sent
 before (SentForTwo one other sent) = value_words one ++ (codes " and " ++ sent_words other sent)
 before (Attribute name set) = value_words (Attributes set)
 before (Lacking name set sent text) = sent_words (Attributes set) sent
+before (Function label content purpose) = function_words label content purpose
 before _ = []
 
 -- and after them

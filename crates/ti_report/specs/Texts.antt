@@ -1,5 +1,5 @@
 -- What is wrong with a text, by how it is used.
-use Rattle.std.specs.Prelude.{◌≡◌, ◌≢◌, ◌⊎◌, ◌↔◌, ℕ, List, [], ◌∷◌, ◌≤◌, ◌%◌, ◌==◌, ◌&&◌, ◌||◌, Bool, false, AllPairs, Contains, codes, if◌then◌else◌, length}
+use Rattle.std.specs.Prelude.{◌++◌, nat_lt, option_to_list, ◌≡◌, ◌≢◌, ◌⊎◌, ◌↔◌, ℕ, List, [], ◌∷◌, ◌≤◌, ◌%◌, ◌==◌, ◌&&◌, ◌||◌, Bool, AllPairs, Contains, codes, if◌then◌else◌, length}
 use Rattle.std.specs.Str.{bytes_eq}
 use Rattle.ti_cap.specs.declared.parameter_set.ParameterSet.{ParameterSet}
 use Rattle.ti_cap.specs.Sources.{Has, IsNamed}
@@ -13,41 +13,36 @@ use Rattle.ti_lint.specs.declared.token_finding.TokenFinding.TheVariants.{StackU
 use Rattle.ti_lint.specs.declared.placed_finding.PlacedFinding.{PlacedFinding}
 use Rattle.ti_lint.specs.declared.variables.Variables.{Variables}
 use Rattle.ti_lint.specs.Found.{IsFoundAt, Precedes}
+use Rattle.ti_pad.specs.Delays.{delay_at, total_delay}
 use Rattle.ti_lint.specs.Plain.{IsMeantToExpand}
 use Rattle.ti_lint.specs.TextParameters.{text_parameters}
-use Rattle.ti_lint.specs.declared.level.Level.{Level}
-use Rattle.ti_lint.specs.declared.level.Level.TheVariants as scopes
 use Rattle.ti_report.specs.declared.usage.Usage.{Usage}
 use Rattle.ti_report.specs.declared.finding.Finding.{Finding}
 use Rattle.ti_report.specs.declared.finding.Finding.TheVariants as findings
 use Rattle.ti_report.specs.Remarks.{Evidence, Fault, Last, NoEvidence, Parameters, TextRemark, placed, unplaced}
 use Rattle.ti_report.specs.Constants.{IsTestsReport}
 use Rattle.ti_report.specs.Lines.{AreReports, InTurn}
-use Rattle.ti_report.specs.Marks.{AreMarked, ArePlacesFrom, ArePlacesOf, IsSought}
+use Rattle.ti_report.specs.Marks.{AreMarked, ArePlacesFrom, ArePlacesOf, IsSought, first_place}
 use Rattle.ti_report.specs.declared.marks.Sought.{Sought}
 use Rattle.ti_report.specs.declared.marks.Sought.TheVariants.{Percents, Mark, FalseMark}
 
 -- ---- how a text is used
 
--- texts that may leave out parameters: attributes that a terminal lacks, and motions by one place; and the column of a status
--- line, but not if all is told
-abbrev pub is_column : Level → List ℕ → Bool
-is_column scopes.Errors name = bytes_eq name (codes "tsl")
-is_column scopes.All name = false
-
-abbrev pub may_leave_out : Level → List ℕ → Bool
-may_leave_out level name =
-    is_column level name
-    || bytes_eq name (codes "sgr") || bytes_eq name (codes "sgr1") || bytes_eq name (codes "mhpa") || bytes_eq name (codes "mcub")
+-- texts that may leave out parameters: attributes that a terminal lacks, and motions by one place
+abbrev pub may_leave_out : List ℕ → Bool
+may_leave_out name =
+    bytes_eq name (codes "sgr") || bytes_eq name (codes "sgr1") || bytes_eq name (codes "mhpa") || bytes_eq name (codes "mcub")
     || bytes_eq name (codes "mcud") || bytes_eq name (codes "mcuf") || bytes_eq name (codes "mcuu")
 
--- a text with a name, of a class, in an entry whose texts store into these variables; `acsc` is a list of pairs
-abbrev pub usage_of : Level → Variables → List ℕ → Class → Usage
-usage_of level stored name class = record {
+-- a text with a name, of a class, in an entry whose texts store into these variables; the parameter of `tsl` is the column of a
+-- status line, and `acsc` is a list of pairs
+abbrev pub usage_of : Variables → List ℕ → Class → Usage
+usage_of stored name class = record {
   class = class;
   texts = text_parameters name;
   stored = stored;
-  may_leave_out = may_leave_out level name;
+  may_leave_out = may_leave_out name;
+  has_column = bytes_eq name (codes "tsl");
   has_pairs = bytes_eq name (codes "acsc");
 }
 
@@ -86,21 +81,25 @@ AreUnused text parameters unused =
     (which : ℕ) → Has unused which ↔ ((1 ≤ which) × (which ≤ 9) × (which ≤ parameters) × ¬ IsNamed text which)
 
 -- they are told if there are some, if the text may not leave them out, and if it takes none from the empty stack
-abbrev pub unused_remarks : Bool → ParameterSet → List ℕ → List TextRemark
-unused_remarks may unused (place ∷ places) = []
-unused_remarks may unused [] = if unused.mask == 0 || may then [] else unplaced findings.UnusedParameter (Parameters unused)
+abbrev pub unused_finding : Usage → Finding
+unused_finding usage = if usage.has_column then findings.UnusedColumn else findings.UnusedParameter
 
-abbrev pub IsUnusedReport : Bool → List ℕ → ℕ → List PlacedFinding → List TextRemark → Type 0
-IsUnusedReport may text parameters founds remarks =
+abbrev pub unused_remarks : Usage → ParameterSet → List ℕ → List TextRemark
+unused_remarks usage unused (place ∷ places) = []
+unused_remarks usage unused [] =
+    if unused.mask == 0 || usage.may_leave_out then [] else unplaced (unused_finding usage) (Parameters unused)
+
+abbrev pub IsUnusedReport : Usage → List ℕ → ℕ → List PlacedFinding → List TextRemark → Type 0
+IsUnusedReport usage text parameters founds remarks =
     (unused : ParameterSet) × (places : List ℕ) × AreUnused text parameters unused × ArePlacesOf TermcapParameter founds places
-    × (remarks ≡ unused_remarks may unused places)
+    × (remarks ≡ unused_remarks usage unused places)
 
 -- the remarks of all findings, and then of the parameters that are left out
 abbrev pub IsFindingsReport : Usage → ℕ → List ℕ → List TextRemark → Type 0
 IsFindingsReport usage parameters text remarks =
     (founds : List PlacedFinding) × AreFound text (expected_in usage parameters) founds
     × InTurn (AreReports (IsFindingReport text parameters founds) 0 all_findings)
-    (IsUnusedReport usage.may_leave_out text parameters founds) remarks
+    (IsUnusedReport usage text parameters founds) remarks
 
 -- a capability: its fault, or else what is wrong with its tokens
 abbrev pub IsCapabilityReport : Usage → ℕ → List ℕ → List TextRemark → Type 0
@@ -137,18 +136,38 @@ IsPlainReport text =
     (InTurn (IsPercentReport text) (IsPlacesReport FalseMark findings.FalseMark text))
 
 -- what a key sends
+abbrev pub empty_key : List ℕ → List TextRemark
+empty_key text = if length text == 0 then unplaced findings.EmptyKey NoEvidence else []
+
 abbrev pub IsKeyReport : List ℕ → List TextRemark → Type 0
-IsKeyReport text = InTurn (IsPercentReport text) (IsPlacesReport Mark findings.MarkInKey text)
+IsKeyReport text =
+    InTurn (λ all. all ≡ empty_key text) (InTurn (IsPercentReport text) (IsPlacesReport Mark findings.MarkInKey text))
 
 -- a list of pairs
 abbrev pub half_paired : Bool → List ℕ → List TextRemark
 half_paired has_pairs text = if has_pairs && (length text % 2 == 1) then unplaced findings.HalfPaired NoEvidence else []
 
+-- ---- delays, in tenths of a millisecond
+
+-- a mark of more than a second for each affected line
+abbrev pub is_long : List ℕ → Bool
+is_long left = nat_lt 10000 (delay_at left)
+
+-- marks of more than 32,767 ms together
+abbrev pub are_long : List ℕ → Bool
+are_long text = nat_lt 327670 (total_delay text)
+
+abbrev pub delay_remarks : List ℕ → List TextRemark
+delay_remarks text =
+    placed (option_to_list (first_place is_long text)) findings.LongDelay NoEvidence
+    ++ (if are_long text then unplaced findings.LongDelays NoEvidence else [])
+
 -- ---- the judgement of a text
 
 abbrev pub IsJudgedAs : Class → Usage → List ℕ → List TextRemark → Type 0
-IsJudgedAs (classes.Parameterized parameters) usage text remarks = IsCapabilityReport usage parameters text remarks
-IsJudgedAs classes.Plain usage text remarks = IsPlainReport text remarks
+IsJudgedAs (classes.Parameterized parameters) usage text remarks =
+    InTurn (IsCapabilityReport usage parameters text) (λ all. all ≡ delay_remarks text) remarks
+IsJudgedAs classes.Plain usage text remarks = InTurn (IsPlainReport text) (λ all. all ≡ delay_remarks text) remarks
 IsJudgedAs classes.Key usage text remarks = IsKeyReport text remarks
 IsJudgedAs classes.List usage text remarks = remarks ≡ half_paired usage.has_pairs text
 IsJudgedAs class usage text remarks = remarks ≡ []

@@ -3,8 +3,6 @@ use Rattle.std.specs.Prelude.{◌≡◌, ◌⊎◌, ℕ, ◌&&◌, Bool, true, f
 use Rattle.std.specs.List.{flat_map}
 use Rattle.ti_cap.specs.declared.language.CapRefused.{CapRefused}
 use Rattle.ti_cap.specs.Refusal.{IsFaultless, IsRefusal}
-use Rattle.ti_lint.specs.declared.level.Level.{Level}
-use Rattle.ti_lint.specs.declared.level.Level.TheVariants as scopes
 use Rattle.ti_values.specs.declared.range.Range.{Range}
 use Rattle.ti_values.specs.declared.range.Range.TheVariants as ranges
 use Rattle.ti_values.specs.declared.same.Same.{Same as SameAt}
@@ -155,34 +153,30 @@ abbrev pub IsRangeReport : EntryValue → List ℕ → List ℕ → Range → Li
 IsRangeReport v name text ranges.Attributes = IsAttributesReport v name text
 IsRangeReport v name text range = IsNumbersReport (is_ansi_entry v) name text range
 
--- a text that is not tried is told only if all is
-abbrev pub on_not_tried : Level → List ℕ → List ℕ → List Remark
-on_not_tried scopes.Errors name text = []
-on_not_tried scopes.All name text = on_values name text findings.NotTried NoEvidence
-
-abbrev pub IsShortReport : Level → EntryValue → List ℕ → List ℕ → Range → List Remark → Type 0
-IsShortReport level v name text range remarks =
-    ((¬ IsShort text) × (remarks ≡ on_not_tried level name text))
+-- a text that is not tried is told as such
+abbrev pub IsShortReport : EntryValue → List ℕ → List ℕ → Range → List Remark → Type 0
+IsShortReport v name text range remarks =
+    ((¬ IsShort text) × (remarks ≡ on_values name text findings.NotTried NoEvidence))
     ⊎ (IsShort text × IsRangeReport v name text range remarks)
 
 -- a text that is no capability is told as such elsewhere
-abbrev pub IsTriedReport : Level → EntryValue → List ℕ → List ℕ → Range → List Remark → Type 0
-IsTriedReport level v name text range remarks =
+abbrev pub IsTriedReport : EntryValue → List ℕ → List ℕ → Range → List Remark → Type 0
+IsTriedReport v name text range remarks =
     ((refused : CapRefused) × IsRefusal text refused × (remarks ≡ []))
-    ⊎ (IsFaultless text × IsShortReport level v name text range remarks)
+    ⊎ (IsFaultless text × IsShortReport v name text range remarks)
 
 -- there is no remark on a text that is not there
-abbrev pub IsTriedReportOf : Level → EntryValue → List ℕ → TextValue → Range → List Remark → Type 0
-IsTriedReportOf level v name (TextOf text) range remarks = IsTriedReport level v name text range remarks
-IsTriedReportOf level v name text range remarks = remarks ≡ []
+abbrev pub IsTriedReportOf : EntryValue → List ℕ → TextValue → Range → List Remark → Type 0
+IsTriedReportOf v name (TextOf text) range remarks = IsTriedReport v name text range remarks
+IsTriedReportOf v name text range remarks = remarks ≡ []
 
 -- the text with a name
-abbrev pub IsNamedTriedReport : Level → EntryValue → ℕ → List ℕ × Range → List Remark → Type 0
-IsNamedTriedReport level v index (name, range) remarks =
-    IsTriedReportOf level v name (text_named v name) range remarks
+abbrev pub IsNamedTriedReport : EntryValue → ℕ → List ℕ × Range → List Remark → Type 0
+IsNamedTriedReport v index (name, range) remarks =
+    IsTriedReportOf v name (text_named v name) range remarks
 
 -- all texts that are tried, in order
-abbrev pub AreValueRemarks : Level → EntryValue → List Remark → Type 0
-AreValueRemarks level v =
-    AreReports (IsNamedTriedReport level v) 0
+abbrev pub AreValueRemarks : EntryValue → List Remark → Type 0
+AreValueRemarks v =
+    AreReports (IsNamedTriedReport v) 0
     (tried_texts (number_named v (codes "lines")) (number_named v (codes "cols")) (number_named v (codes "colors")))

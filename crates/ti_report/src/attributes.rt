@@ -1,17 +1,17 @@
 //! What is wrong with what `sgr` sends for sets of attributes, by itself and beside the texts that start them.
 
-ghost use Rattle.std.specs.Prelude.{◌≡◌, ◌++◌, ◌&&◌, IfOk, OnOk, option_map};
+ghost use Rattle.std.specs.Prelude.{◌≡◌, ◌&&◌, IfOk, OnOk, option_map};
 ghost use Rattle.std.specs.List.{flat_map};
 ghost use Rattle.ti_values.specs.Attributes.{attributes, is_ignored};
 ghost use Rattle.ti_values.specs.Sent.{texts_of};
-ghost use Rattle.ti_report.specs.Lines.{Adds};
 ghost use Rattle.ti_report.specs.Values.{AreAttributesRemarks, IsCombinationReport, IsShownReport, differing_text as the_differing_text, ignored_if, on_differing, on_ignored, text_named};
 ghost use Rattle.ti_report.specs.Whole.{has};
+ghost use Rattle.ti_report.specs.inner.Growing.{Gains, GainsThese};
 ghost use Rattle.ti_report.specs.inner.Held.{trial_held};
 
 use crate::colors::has;
 use crate::finding::Finding;
-use crate::lookup::{is_ansi_entry, text_named};
+use crate::lookup::text_named;
 use crate::remark::Evidence;
 use crate::report::Report;
 use crate::sent::Trial;
@@ -42,19 +42,18 @@ fn differing_text<'a, A: Allocator + Copy>(
     }
 }
 
-impl<'a, A: Allocator + Copy> Report<'a, A> {
+impl<'r, 'a, A: Allocator + Copy> Report<'r, 'a, A> {
     /// Adds the remark on an attribute that is not sent as its text is.
     fn push_differing(
         &mut self,
-        entry: &Entry<'a>,
         trial: &Trial<'_, 'a, A>,
         attribute: (&'static str, u16),
     ) -> Result<(), AllocError>
-        ensures { OnOk result (self.new ≡ self.old
-            ++ on_differing entry.now (trial_held trial.now) (attribute.entry.0.now, attribute.entry.1)) }
+        ensures { OnOk result (GainsThese (on_differing self.old.on.entry (trial_held trial.now)
+            (attribute.entry.0.now, attribute.entry.1)) self.old self.new) }
     {
         let (name, set) = attribute;
-        match differing_text(self.allocator(), entry, trial.sent, name, set)? {
+        match differing_text(self.allocator(), self.entry(), trial.sent, name, set)? {
             None => Ok(()),
             Some(text) => {
                 let its = Vec::from_slice(self.allocator(), text)?;
@@ -66,16 +65,12 @@ impl<'a, A: Allocator + Copy> Report<'a, A> {
     }
 
     /// Adds the remarks on all attributes that are not sent as their texts are.
-    fn push_all_differing(
-        &mut self,
-        entry: &Entry<'a>,
-        trial: &Trial<'_, 'a, A>,
-    ) -> Result<(), AllocError>
-        ensures { OnOk result (self.new
-            ≡ self.old ++ flat_map (on_differing entry.now (trial_held trial.now)) attributes) }
+    fn push_all_differing(&mut self, trial: &Trial<'_, 'a, A>) -> Result<(), AllocError>
+        ensures { OnOk result (GainsThese
+            (flat_map (on_differing self.old.on.entry (trial_held trial.now)) attributes) self.old self.new) }
     {
         'attributes: for (name, set) in attributes() {
-            self.push_differing(entry, trial, (*name, *set))?;
+            self.push_differing(trial, (*name, *set))?;
         }
         Ok(())
     }
@@ -83,7 +78,7 @@ impl<'a, A: Allocator + Copy> Report<'a, A> {
     /// Adds the remark on a set for which what is sent lacks what an attribute sends alone.
     fn push_combination(&mut self, trial: &Trial<'_, 'a, A>) -> Result<(), AllocError>
         ensures { OnOk result
-            (Adds (IsCombinationReport (trial_held trial.now)) self.old self.new) }
+            (Gains (IsCombinationReport (trial_held trial.now)) self.old self.new) }
     {
         let found = first_combination(self.allocator(), trial.sent)?;
         self.push_sent(trial, Finding::Combination, found)
@@ -91,7 +86,7 @@ impl<'a, A: Allocator + Copy> Report<'a, A> {
 
     /// Adds the remark on a set of attributes for which something is sent that shows.
     fn push_shown_text(&mut self, trial: &Trial<'_, 'a, A>) -> Result<(), AllocError>
-        ensures { OnOk result (Adds (IsShownReport (trial_held trial.now)) self.old self.new) }
+        ensures { OnOk result (Gains (IsShownReport (trial_held trial.now)) self.old self.new) }
     {
         let found = first_shown(trial.sent);
         self.push_sent(trial, Finding::ShownText, found)
@@ -110,7 +105,7 @@ fn is_ignored_text<A: Allocator>(
     has(entry, name) && is_ignored(sent, set)
 }
 
-impl<'a, A: Allocator + Copy> Report<'a, A> {
+impl<'r, 'a, A: Allocator + Copy> Report<'r, 'a, A> {
     /// Adds the remark on an attribute, if it is ignored.
     fn push_ignored(
         &mut self,
@@ -118,8 +113,8 @@ impl<'a, A: Allocator + Copy> Report<'a, A> {
         trial: &Trial<'_, 'a, A>,
         attribute: (&'static str, u16),
     ) -> Result<(), AllocError>
-        ensures { OnOk result (self.new ≡ self.old
-            ++ ignored_if ignored (trial_held trial.now) attribute.entry.0.now attribute.entry.1) }
+        ensures { OnOk result (GainsThese
+            (ignored_if ignored (trial_held trial.now) attribute.entry.0.now attribute.entry.1) self.old self.new) }
     {
         if !ignored {
             return Ok(());
@@ -129,14 +124,11 @@ impl<'a, A: Allocator + Copy> Report<'a, A> {
     }
 
     /// Adds the remarks on all attributes that are ignored.
-    fn push_all_ignored(
-        &mut self,
-        entry: &Entry<'a>,
-        trial: &Trial<'_, 'a, A>,
-    ) -> Result<(), AllocError>
-        ensures { OnOk result (self.new
-            ≡ self.old ++ flat_map (on_ignored entry.now (trial_held trial.now)) attributes) }
+    fn push_all_ignored(&mut self, trial: &Trial<'_, 'a, A>) -> Result<(), AllocError>
+        ensures { OnOk result (GainsThese
+            (flat_map (on_ignored self.old.on.entry (trial_held trial.now)) attributes) self.old self.new) }
     {
+        let entry = self.entry();
         'attributes: for (name, set) in attributes() {
             let ignored = is_ignored_text(entry, trial.sent, name, *set);
             self.push_ignored(ignored, trial, (*name, *set))?;
@@ -145,19 +137,15 @@ impl<'a, A: Allocator + Copy> Report<'a, A> {
     }
 
     /// Adds the remarks on what is sent for sets of attributes.
-    pub fn push_attributes_remarks(
-        &mut self,
-        entry: &Entry<'a>,
-        trial: &Trial<'_, 'a, A>,
-    ) -> Result<(), AllocError>
+    pub fn push_attributes_remarks(&mut self, trial: &Trial<'_, 'a, A>) -> Result<(), AllocError>
         ensures { OnOk result
-            (Adds (AreAttributesRemarks entry.now (trial_held trial.now)) self.old self.new) }
+            (Gains (AreAttributesRemarks self.old.on.entry (trial_held trial.now)) self.old self.new) }
     {
-        self.push_all_ignored(entry, trial)?;
-        self.push_all_differing(entry, trial)?;
+        self.push_all_ignored(trial)?;
+        self.push_all_differing(trial)?;
         self.push_combination(trial)?;
         self.push_shown_text(trial)?;
-        self.push_unended(is_ansi_entry(entry), trial)?;
+        self.push_unended(trial)?;
         Ok(())
     }
 }

@@ -1,8 +1,9 @@
 //! Whether the capabilities of color go together.
 
-ghost use Rattle.std.specs.Prelude.{◌≡◌, ◌++◌, OnOk};
+ghost use Rattle.std.specs.Prelude.{◌≡◌, OnOk};
 ghost use Rattle.ti_words.specs.Texts.{text_value};
 ghost use Rattle.ti_report.specs.Whole.{color_remarks, colors_are_fixed, colors_stay, has, has_at, has_no_colors, is_above_0, is_there};
+ghost use Rattle.ti_report.specs.inner.Growing.{GainsThese};
 
 use crate::finding::Finding;
 use crate::report::Report;
@@ -74,11 +75,12 @@ fn colors_are_fixed(entry: &Entry<'_>) -> bool
     has(entry, "ccc") && !(has(entry, "initc") || has(entry, "initp"))
 }
 
-impl<'a, A: Allocator + Copy> Report<'a, A> {
+impl<'r, 'a, A: Allocator + Copy> Report<'r, 'a, A> {
     /// Adds the remarks on the colors.
-    pub(crate) fn push_colors(&mut self, entry: &Entry<'a>) -> Result<(), AllocError>
-        ensures { OnOk result (self.new ≡ self.old ++ color_remarks entry.now) }
+    pub(crate) fn push_colors(&mut self) -> Result<(), AllocError>
+        ensures { OnOk result (GainsThese (color_remarks self.old.on.entry) self.old self.new) }
     {
+        let entry = self.entry();
         self.push_if(colors_stay(entry), Finding::ColorsStay)?;
         self.push_if(has_no_colors(entry), Finding::NoColors)?;
         self.push_if(colors_are_fixed(entry), Finding::ColorsAreFixed)?;

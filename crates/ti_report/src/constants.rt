@@ -1,4 +1,4 @@
-//! Tests of constants, each told with its value.
+//! Tests of constants, each reported with its value.
 
 ghost use Rattle.std.specs.Prelude.{◌≡◌, ◌≤◌, length, IfNone, IfSome, OnOk};
 ghost use Rattle.ti_base.specs.Limits.{most_capability_bytes};

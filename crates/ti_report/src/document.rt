@@ -19,7 +19,7 @@ use crate::trials::Trials;
 use std::alloc::{AllocError, Allocator, Global};
 use ti_entry::Entry;
 use ti_json::Printer;
-use ti_lint::Level;
+use ti_lint::LintOptions;
 
 /// What it means.
 fn meaning_of<A: Allocator>(
@@ -126,16 +126,16 @@ pub fn print_report<A: Allocator + Copy>(
     printer: &mut Printer<A>,
     alloc: A,
     trials: &mut Trials<A>,
-    level: Level,
+    options: LintOptions,
     bytes: &[u8],
     entry: &Entry<'_>,
 ) -> Result<bool, AllocError>
     ensures { IfOk result (λ sound. (objects : List Data)
-        × AreFindings level bytes.now entry.now sound objects
+        × AreFindings options bytes.now entry.now sound objects
         × Prints printer.old printer.new (data_tokens (array (items_of objects)))) }
 {
-    let report = report_of(alloc, trials, level, bytes, entry)?;
-    let remarks = report.remarks();
+    let list = report_of(alloc, trials, options, bytes, entry)?;
+    let remarks = list.as_slice();
     printer.begin_list();
     print_remarks(printer, alloc, remarks)?;
     printer.end_list();
@@ -146,7 +146,7 @@ pub fn print_report<A: Allocator + Copy>(
 #[derive(Drop)]
 pub struct ReportJson<A: Allocator = Global> {
     pub text: Vec<u8, A>,
-    /// Nothing is told.
+    /// Nothing is reported.
     pub sound: bool,
 }
 
@@ -163,17 +163,17 @@ pub struct ReportJson<A: Allocator = Global> {
 pub fn report_json<A: Allocator + Copy>(
     alloc: A,
     trials: &mut Trials<A>,
-    level: Level,
+    options: LintOptions,
     bytes: &[u8],
     entry: &Entry<'_>,
 ) -> Result<ReportJson<A>, AllocError>
     ensures text { IfOk result (λ json.
-        IsReportJson level bytes.now entry.now json.text.items json.sound) }
+        IsReportJson options bytes.now entry.now json.text.items json.sound) }
     ensures printable { IfOk result
         (λ json. list_all is_printable json.text.items ≡ true) }
 {
     let mut printer = Printer::new(alloc);
-    let sound = print_report(&mut printer, alloc, trials, level, bytes, entry)?;
+    let sound = print_report(&mut printer, alloc, trials, options, bytes, entry)?;
     Ok(ReportJson {
         text: printer.into_bytes()?,
         sound,

@@ -2,8 +2,8 @@
 
 ghost use Rattle.std.specs.List.{flat_map};
 ghost use Rattle.std.specs.Prelude.{◌≡◌, ◌++◌, OnOk, IfOk};
-ghost use Rattle.ti_report.specs.Keys.{AreRemarksOnKeys, is_first_part, is_of_key, keys_in, on_alike, on_two};
-ghost use Rattle.ti_report.specs.Lines.{Adds};
+ghost use Rattle.ti_report.specs.Keys.{AreKeyRemarks, is_first_part, is_of_key, keys_in, on_two};
+ghost use Rattle.ti_report.specs.inner.Growing.{Gains, GainsThese};
 ghost use Rattle.ti_report.specs.inner.Held.{text_held, texts_held};
 ghost use Rattle.ti_report.specs.inner.Lent.{key_lent, keys_lent};
 ghost use Rattle.ti_report.specs.inner.Neighbours.{on_neighbours, on_row};
@@ -13,7 +13,6 @@ use crate::remark::NamedText;
 use crate::report::Report;
 use crate::subject::KnownText;
 use std::alloc::{AllocError, Allocator};
-use ti_lint::Level;
 use ti_names::Class;
 
 /// Whether a text is what a key sends.
@@ -34,7 +33,7 @@ fn add_key<'a, A: Allocator>(
     ensures { OnOk result
         (keys_lent keys.new.items ≡ keys_lent keys.old.items ++ keys_in (text_held text.now)) }
 {
-    if is_of_key(text.class) {
+    if is_of_key(text.class) && !text.subject.text.is_empty() {
         keys.push((text.subject.text, text.subject.name))?;
     }
     Ok(())
@@ -61,7 +60,7 @@ fn is_first_part(text: &[u8], other: &[u8]) -> bool
     text.len() < other.len() && other.starts_with(text)
 }
 
-impl<'a, A: Allocator + Copy> Report<'a, A> {
+impl<'r, 'a, A: Allocator + Copy> Report<'r, 'a, A> {
     /// Adds a remark on two keys.
     fn push_two(
         &mut self,
@@ -69,8 +68,8 @@ impl<'a, A: Allocator + Copy> Report<'a, A> {
         other: (&'a [u8], &'a [u8]),
         finding: Finding,
     ) -> Result<(), AllocError>
-        ensures { OnOk result (self.new
-            ≡ self.old ++ on_two (key_lent one.entry) (key_lent other.entry) finding) }
+        ensures { OnOk result
+            (GainsThese (on_two (key_lent one.entry) (key_lent other.entry) finding) self.old self.new) }
     {
         let one = NamedText {
             name: one.1,
@@ -83,60 +82,43 @@ impl<'a, A: Allocator + Copy> Report<'a, A> {
         self.push_on_two(one, other, finding)
     }
 
-    /// Adds the remark on two keys that send the same, if all is told.
-    fn push_alike(
-        &mut self,
-        level: Level,
-        one: (&'a [u8], &'a [u8]),
-        other: (&'a [u8], &'a [u8]),
-    ) -> Result<(), AllocError>
-        ensures { OnOk result (self.new
-            ≡ self.old ++ on_alike level (key_lent one.entry) (key_lent other.entry)) }
-    {
-        match level {
-            Level::Errors => Ok(()),
-            Level::All => self.push_two(one, other, Finding::AlikeKeys),
-        }
-    }
-
     /// Adds the remark on a key and the next one.
     fn push_neighbours(
         &mut self,
-        level: Level,
         one: (&'a [u8], &'a [u8]),
         other: (&'a [u8], &'a [u8]),
     ) -> Result<(), AllocError>
-        ensures { OnOk result (self.new ≡ self.old
-            ++ on_neighbours level (key_lent one.entry) (key_lent other.entry)) }
+        ensures { OnOk result (GainsThese
+            (on_neighbours (key_lent one.entry) (key_lent other.entry)) self.old self.new) }
     {
         if is_first_part(one.0, other.0) {
             return self.push_two(one, other, Finding::KeyPrefix);
         }
         if one.0 == other.0 {
-            return self.push_alike(level, one, other);
+            return self.push_two(one, other, Finding::AlikeKeys);
         }
         Ok(())
     }
 
     /// Adds the remarks on each key and the next one.
-    fn push_row(&mut self, level: Level, row: &[(&'a [u8], &'a [u8])]) -> Result<(), AllocError>
-        ensures { OnOk result (self.new
-            ≡ self.old ++ on_row level (keys_lent row.now)) }
+    fn push_row(&mut self, row: &[(&'a [u8], &'a [u8])]) -> Result<(), AllocError>
+        ensures { OnOk result
+            (GainsThese (on_row (keys_lent row.now)) self.old self.new) }
     {
         'keys: for next in 1..row.len() {
-            self.push_neighbours(level, row[next - 1], row[next])?;
+            self.push_neighbours(row[next - 1], row[next])?;
         }
         Ok(())
     }
 
     /// Adds the remarks on keys of which one sends the first part of what another one sends, and on those that send the same.
-    pub fn push_keys(&mut self, level: Level, texts: &[KnownText<'a>]) -> Result<(), AllocError>
-        ensures { OnOk result (Adds (AreRemarksOnKeys level (flat_map keys_in (texts_held texts.now)))
-            self.old self.new) }
+    pub fn push_keys(&mut self) -> Result<(), AllocError>
+        ensures { OnOk result
+            (Gains (AreKeyRemarks self.old.on.entry) self.old self.new) }
     {
-        let mut keys = keys_of(self.allocator(), texts)?;
+        let mut keys = keys_of(self.allocator(), self.texts())?;
         keys.sort_unstable();
-        self.push_row(level, keys.as_slice())?;
+        self.push_row(keys.as_slice())?;
         Ok(())
     }
 }

@@ -6,10 +6,13 @@
 //! the lines or the document.
 #![tactic(auto)]
 
+mod actions;
 mod attributes;
 mod base;
 mod colors;
 mod constants;
+mod controls;
+mod coverage;
 mod document;
 mod finding;
 mod judgements;
@@ -19,10 +22,12 @@ mod layout;
 mod lines;
 mod lookup;
 mod marks;
+mod name_bytes;
 mod names;
 mod pairs;
 mod remark;
 mod report;
+mod reported;
 mod sent;
 mod sentence;
 mod sequences;
@@ -35,9 +40,10 @@ mod usage;
 mod values;
 mod whole;
 
+pub use coverage::{Coverage, coverage_of};
 pub use document::{ReportJson, print_report, report_json};
 pub use finding::Finding;
-pub use report::push_report;
+pub use report::{count_findings, push_report};
 pub use ti_escape::Color;
-pub use ti_lint::Level;
+pub use ti_lint::{Level, LintOptions};
 pub use trials::Trials;

@@ -2,8 +2,9 @@
 
 ghost use Rattle.std.specs.Prelude.{◌≡◌, ◌++◌, [], IfOk, OnOk, get_or, length};
 ghost use Rattle.ti_entry.specs.Finding.{names_of as the_names_of};
-ghost use Rattle.ti_report.specs.Lines.{Adds, AreReports};
-ghost use Rattle.ti_report.specs.Names.{AreNameRemarks, IsNameReport, on_standard_name};
+ghost use Rattle.ti_report.specs.Lines.{AreReports};
+ghost use Rattle.ti_report.specs.Names.{AreNameRemarks, IsNameReport, on_again, on_new, on_standard_name};
+ghost use Rattle.ti_report.specs.inner.Growing.{Gains, GainsThese};
 ghost use Rattle.ti_report.specs.inner.Lent.{texts_lent};
 ghost use Rattle.ti_words.specs.Spelling.{part_names};
 
@@ -14,6 +15,15 @@ use std::collections::BTreeSet;
 use ti_entry::Extended;
 use ti_names::NameTable;
 use ti_words::Kind;
+
+/// Which names stand.
+#[derive(Clone, Copy)]
+pub enum NameKind {
+    /// Those of extended capabilities.
+    Own,
+    /// Those of the entry.
+    Alias,
+}
 
 /// Adds the names of a kind.
 fn add_names<'a, A: Allocator>(
@@ -31,7 +41,7 @@ fn add_names<'a, A: Allocator>(
 }
 
 /// The names of flags, then of numbers, then of texts.
-fn names_of<'a, A: Allocator>(
+pub fn names_of<'a, A: Allocator>(
     alloc: A,
     extended: &Extended<'a>,
 ) -> Result<Vec<&'a [u8], A>, AllocError>
@@ -44,11 +54,10 @@ fn names_of<'a, A: Allocator>(
     Ok(names)
 }
 
-impl<'a, A: Allocator + Copy> Report<'a, A> {
-    /// Adds the remark on a name that stands the first time.
-    fn push_new(&mut self, name: &'a [u8]) -> Result<(), AllocError>
-        ensures { OnOk result
-            (self.new ≡ self.old ++ on_standard_name name.now) }
+impl<'r, 'a, A: Allocator + Copy> Report<'r, 'a, A> {
+    /// Adds the remark on a name that is one of terminfo(5).
+    fn push_standard(&mut self, name: &'a [u8]) -> Result<(), AllocError>
+        ensures { OnOk result (GainsThese (on_standard_name name.now) self.old self.new) }
     {
         if NameTable::All.find_bytes(name).is_some() {
             return self.push_on_name(name, Finding::StandardName);
@@ -56,29 +65,49 @@ impl<'a, A: Allocator + Copy> Report<'a, A> {
         Ok(())
     }
 
+    /// Adds the remark on a name that stands the first time.
+    fn push_new(&mut self, kind: NameKind, name: &'a [u8]) -> Result<(), AllocError>
+        ensures { OnOk result (GainsThese (on_new kind name.now) self.old self.new) }
+    {
+        match kind {
+            NameKind::Own => self.push_standard(name),
+            NameKind::Alias => Ok(()),
+        }
+    }
+
+    /// Adds the remark on a name that stands again.
+    fn push_again(&mut self, kind: NameKind, name: &'a [u8]) -> Result<(), AllocError>
+        ensures { OnOk result (GainsThese (on_again kind name.now) self.old self.new) }
+    {
+        match kind {
+            NameKind::Own => self.push_on_name(name, Finding::RepeatedName),
+            NameKind::Alias => self.push_on_name(name, Finding::RepeatedAlias),
+        }
+    }
+
     /// Adds the remarks on names.
-    fn push_each(&mut self, names: &[&'a [u8]]) -> Result<(), AllocError>
-        ensures { OnOk result (Adds (AreReports (IsNameReport (texts_lent names.now)) 0
+    pub fn push_each(&mut self, kind: NameKind, names: &[&'a [u8]]) -> Result<(), AllocError>
+        ensures { OnOk result (Gains (AreReports (IsNameReport kind (texts_lent names.now)) 0
             (texts_lent names.now)) self.old self.new) }
     {
         let mut seen = BTreeSet::new(self.allocator());
         'names: for name in names {
             if seen.insert(*name)? {
-                self.push_new(name)?;
+                self.push_new(kind, name)?;
             } else {
-                self.push_on_name(name, Finding::RepeatedName)?;
+                self.push_again(kind, name)?;
             }
         }
         Ok(())
     }
 
     /// Adds the remarks on the names of extended capabilities.
-    pub fn push_names(&mut self, extended: &Extended<'a>) -> Result<(), AllocError>
-        ensures { OnOk result (Adds (AreNameRemarks extended.now)
-            self.old self.new) }
+    pub fn push_names(&mut self) -> Result<(), AllocError>
+        ensures { OnOk result
+            (Gains (AreNameRemarks self.old.on.entry.extended) self.old self.new) }
     {
-        let names = names_of(self.allocator(), extended)?;
-        self.push_each(names.as_slice())?;
+        let names = names_of(self.allocator(), &self.entry().extended())?;
+        self.push_each(NameKind::Own, names.as_slice())?;
         Ok(())
     }
 }

@@ -44,6 +44,8 @@ pub enum Evidence<A: Allocator> {
     Attribute(&'static str, u16),
     /// The same, with what is sent for the set, and the text of which it lacks a part.
     Lacking(&'static str, u16, Vec<u8, A>, Vec<u8, A>),
+    /// A control function: its introducer, its content, and what it is for.
+    Function(&'static str, Vec<u8, A>, &'static str),
 }
 
 impl<A: Allocator + Copy> Evidence<A> {
@@ -73,6 +75,9 @@ impl<A: Allocator + Copy> Evidence<A> {
                     sent.as_slice().to_vec(alloc)?,
                     text.as_slice().to_vec(alloc)?,
                 )
+            }
+            Evidence::Function(label, content, purpose) => {
+                Evidence::Function(label, content.as_slice().to_vec(alloc)?, purpose)
             }
         })
     }

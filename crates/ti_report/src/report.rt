@@ -1,10 +1,14 @@
 //! The report on an entry.
 
-ghost use Rattle.std.specs.Prelude.{◌≡◌, ◌++◌, ◌∷◌, [], IfOk, OnOk};
-ghost use Rattle.ti_report.specs.Lines.{Adds, AreAll};
-ghost use Rattle.ti_report.specs.Reports.{AreLines, IsReport, IsTextReport, IsUseReport};
+ghost use Rattle.std.specs.Prelude.{◌≡◌, ◌∷◌, [], IfOk, OnOk, length};
+ghost use Rattle.ti_report.specs.Lines.{Adds};
+ghost use Rattle.ti_report.specs.Reports.{AreRemarks, AreLines, AreTextRemarks, IsFindingCount, IsReport, IsUseReport};
+ghost use Rattle.ti_report.specs.Reported.{reported as the_reported};
+ghost use Rattle.ti_report.specs.Subjects.{known_texts};
+ghost use Rattle.ti_report.specs.inner.Growing.{Gains, GainsThese};
 ghost use Rattle.ti_report.specs.Names.{on_name};
 ghost use Rattle.ti_report.specs.Remarks.{NoEvidence, OfTwo, on_values, unmarked};
+ghost use Rattle.ti_report.specs.Values.{is_ansi_entry as the_is_ansi};
 ghost use Rattle.ti_report.specs.Whole.{found_if};
 ghost use Rattle.ti_report.specs.inner.Held.{about_held, evidence_held, texts_held};
 
@@ -13,6 +17,7 @@ use crate::judgements::Judgements;
 use crate::lines::push_lines;
 use crate::lookup::is_ansi_entry;
 use crate::remark::{About, Evidence, NamedText, Remark};
+use crate::reported::reported;
 use crate::stored::stored_by_texts;
 use crate::subject::{KnownText, known_texts};
 use crate::texts::judge;
@@ -22,32 +27,58 @@ use std::alloc::{AllocError, Allocator};
 use std::marker::Model;
 use ti_entry::Entry;
 use ti_escape::Color;
-use ti_lint::{Level, Variables};
+use ti_lint::LintOptions;
 
 /// What is wrong with an entry: remarks, in order. Each rule adds its own.
 #[derive(Drop)]
-pub struct Report<'a, A: Allocator> {
+pub struct Report<'r, 'a, A: Allocator> {
     alloc: A,
-    list: Vec<Remark<'a, A>, A>,
+    bytes: &'r [u8],
+    entry: &'r Entry<'a>,
+    texts: &'r [KnownText<'a>],
+    options: LintOptions,
+    remarks: Vec<Remark<'a, A>, A>,
 }
 
-impl<'a, A: Allocator> Model for Report<'a, A> {
-    ghost use Rattle.std.specs.Prelude.{List};
-    ghost use Rattle.ti_report.specs.Remarks.{Remark as TheRemark};
+impl<'r, 'a, A: Allocator> Model for Report<'r, 'a, A> {
+    ghost use Rattle.std.specs.Prelude.{◌≡◌};
+    ghost use Rattle.ti_report.specs.Reported.{reported as the_reported};
+    ghost use Rattle.ti_report.specs.Subjects.{known_texts};
+    ghost use Rattle.ti_report.specs.inner.Growing.{Report as TheReport};
+    ghost use Rattle.ti_report.specs.inner.Held.{texts_held};
 
-    ghost Value = { List TheRemark };
+    ghost Value = { TheReport };
 
-    ghost view = { λ r. r.list.items };
+    ghost view = { λ r. record {
+      on = record { bytes = r.bytes.now; entry = r.entry.now; options = r.options };
+      remarks = r.remarks.items;
+    } };
+
+    ghost invariant = { λ r. texts_held r.texts.now ≡ known_texts r.entry.now };
 }
 
-impl<'a, A: Allocator + Copy> Report<'a, A> {
-    /// None, which takes no memory.
-    fn new(alloc: A) -> Self
-        ensures { result ≡ [] }
+impl<'r, 'a, A: Allocator + Copy> Report<'r, 'a, A> {
+    /// None on an entry that was read from the bytes and has these texts, which takes no memory.
+    fn new(
+        alloc: A,
+        bytes: &'r [u8],
+        entry: &'r Entry<'a>,
+        texts: &'r [KnownText<'a>],
+        options: LintOptions,
+    ) -> Self
+        requires { texts_held texts.now ≡ known_texts entry.now }
+        ensures { result ≡ record {
+          on = record { bytes = bytes.now; entry = entry.now; options = options };
+          remarks = [];
+        } }
     {
         Report {
             alloc,
-            list: Vec::new(alloc),
+            bytes,
+            entry,
+            texts,
+            options,
+            remarks: Vec::new(alloc),
         }
     }
 
@@ -56,11 +87,61 @@ impl<'a, A: Allocator + Copy> Report<'a, A> {
         self.alloc
     }
 
-    /// The remarks.
-    pub fn remarks(&self) -> &[Remark<'a, A>]
-        ensures { result.now ≡ self.now }
+    /// The bytes that the entry was read from.
+    pub fn bytes(&self) -> &'r [u8]
+        ensures { result.now ≡ self.now.on.bytes }
     {
-        self.list.as_slice()
+        self.bytes
+    }
+
+    /// The entry.
+    pub fn entry(&self) -> &'r Entry<'a>
+        ensures { result.now ≡ self.now.on.entry }
+    {
+        self.entry
+    }
+
+    /// The names of the entry.
+    pub fn names(&self) -> &'a [u8]
+        ensures { result.now ≡ self.now.on.entry.names }
+    {
+        self.entry.names()
+    }
+
+    /// The texts of the entry of which it is known what they are.
+    pub fn texts(&self) -> &'r [KnownText<'a>]
+        ensures { texts_held result.now ≡ known_texts self.now.on.entry }
+    {
+        self.texts
+    }
+
+    /// Whether the motions of the entry are those of a terminal of ECMA-48.
+    pub fn is_ansi(&self) -> bool
+        ensures { result ≡ the_is_ansi self.now.on.entry }
+    {
+        is_ansi_entry(self.entry)
+    }
+
+    /// Whether the entry comes from a stranger.
+    pub fn untrusted(&self) -> bool
+        ensures { result ≡ self.now.on.options.untrusted }
+    {
+        self.options.untrusted
+    }
+
+    /// How many remarks there are.
+    pub fn count(&self) -> usize
+        ensures { result ≡ length self.now.remarks }
+    {
+        self.remarks.len()
+    }
+
+    /// The remarks that are reported.
+    fn into_reported(self) -> Result<Vec<Remark<'a, A>, A>, AllocError>
+        ensures { IfOk result (λ remarks. remarks.items
+            ≡ the_reported self.entry.on.options.level self.entry.remarks) }
+    {
+        reported(self.alloc, self.options.level, self.remarks)
     }
 
     /// Adds a remark.
@@ -71,14 +152,14 @@ impl<'a, A: Allocator + Copy> Report<'a, A> {
         finding: Finding,
         evidence: Evidence<A>,
     ) -> Result<(), AllocError>
-        ensures { OnOk result (self.new ≡ self.old ++ record {
+        ensures { OnOk result (GainsThese (record {
           about = about_held about.entry;
           places = places.items;
           finding = finding;
           evidence = evidence_held evidence;
-        } ∷ []) }
+        } ∷ []) self.old self.new) }
     {
-        self.list
+        self.remarks
             .push(Remark::new(about, places, finding, evidence))?;
         Ok(())
     }
@@ -90,8 +171,9 @@ impl<'a, A: Allocator + Copy> Report<'a, A> {
         finding: Finding,
         evidence: Evidence<A>,
     ) -> Result<(), AllocError>
-        ensures { OnOk result (self.new ≡ self.old
-            ++ on_values subject.now.name.now subject.now.text.now finding (evidence_held evidence)) }
+        ensures { OnOk result (GainsThese
+            (on_values subject.now.name.now subject.now.text.now finding (evidence_held evidence))
+            self.old self.new) }
     {
         let places = Vec::new(self.alloc);
         self.push(About::Text(*subject), places, finding, evidence)
@@ -104,9 +186,9 @@ impl<'a, A: Allocator + Copy> Report<'a, A> {
         other: NamedText<'a>,
         finding: Finding,
     ) -> Result<(), AllocError>
-        ensures { OnOk result (self.new ≡ self.old
-            ++ unmarked (OfTwo one.entry.name.now one.entry.text.now other.entry.name.now other.entry.text.now)
-            finding NoEvidence) }
+        ensures { OnOk result (GainsThese
+            (unmarked (OfTwo one.entry.name.now one.entry.text.now other.entry.name.now other.entry.text.now)
+            finding NoEvidence) self.old self.new) }
     {
         let places = Vec::new(self.alloc);
         self.push(About::Two(one, other), places, finding, Evidence::None)
@@ -114,7 +196,7 @@ impl<'a, A: Allocator + Copy> Report<'a, A> {
 
     /// Adds a remark on a name.
     pub fn push_on_name(&mut self, name: &'a [u8], finding: Finding) -> Result<(), AllocError>
-        ensures { OnOk result (self.new ≡ self.old ++ on_name name.now finding) }
+        ensures { OnOk result (GainsThese (on_name name.now finding) self.old self.new) }
     {
         let places = Vec::new(self.alloc);
         self.push(About::Name(name), places, finding, Evidence::None)
@@ -122,7 +204,7 @@ impl<'a, A: Allocator + Copy> Report<'a, A> {
 
     /// Adds a remark on the entry, if it is so.
     pub fn push_if(&mut self, found: bool, finding: Finding) -> Result<(), AllocError>
-        ensures { OnOk result (self.new ≡ self.old ++ found_if found finding) }
+        ensures { OnOk result (GainsThese (found_if found finding) self.old self.new) }
     {
         if !found {
             return Ok(());
@@ -138,7 +220,7 @@ impl<'a, A: Allocator + Copy> Report<'a, A> {
         usage: Usage,
         subject: &NamedText<'a>,
     ) -> Result<(), AllocError>
-        ensures { OnOk result (Adds (IsUseReport usage subject.now.name.now subject.now.text.now)
+        ensures { OnOk result (Gains (IsUseReport usage subject.now.name.now subject.now.text.now)
             self.old self.new) }
     {
         judgements.begin(subject.text);
@@ -152,49 +234,57 @@ impl<'a, A: Allocator + Copy> Report<'a, A> {
     }
 
     /// Adds the remarks on all texts.
-    fn push_texts(
-        &mut self,
-        level: Level,
-        stored: Variables,
-        texts: &[KnownText<'a>],
-    ) -> Result<(), AllocError>
-        ensures { OnOk result (Adds (AreAll (IsTextReport level stored) (texts_held texts.now))
-            self.old self.new) }
+    fn push_texts(&mut self) -> Result<(), AllocError>
+        ensures { OnOk result
+            (Gains (AreTextRemarks self.old.on.entry) self.old self.new) }
     {
+        let texts = self.texts();
+        let stored = stored_by_texts(texts);
         let mut judgements = Judgements::new(self.allocator());
         'texts: for text in texts {
-            let usage = Usage::of(level, stored, text.subject.name, text.class);
+            let usage = Usage::of(stored, text.subject.name, text.class);
             self.push_text(&mut judgements, usage, &text.subject)?;
         }
         Ok(())
     }
+
+    /// Adds the remarks of all rules, in order.
+    fn push_all(&mut self, trials: &mut Trials<A>) -> Result<(), AllocError>
+        ensures { OnOk result (Gains
+            (AreRemarks self.old.on.options.untrusted self.old.on.bytes self.old.on.entry) self.old self.new) }
+    {
+        self.push_texts()?;
+        self.push_values(trials)?;
+        self.push_sequences()?;
+        self.push_pairs()?;
+        self.push_keys()?;
+        self.push_names()?;
+        self.push_name_bytes()?;
+        self.push_actions()?;
+        self.push_whole()?;
+        self.push_controls(trials)?;
+        Ok(())
+    }
 }
 
-/// The report on an entry that was read from the bytes.
+/// The remarks on an entry that was read from the bytes.
 pub fn report_of<'a, A: Allocator + Copy>(
     alloc: A,
     trials: &mut Trials<A>,
-    level: Level,
+    options: LintOptions,
     bytes: &[u8],
     entry: &Entry<'a>,
-) -> Result<Report<'a, A>, AllocError>
-    ensures { IfOk result (IsReport level bytes.now entry.now) }
+) -> Result<Vec<Remark<'a, A>, A>, AllocError>
+    ensures { IfOk result (λ remarks. IsReport options bytes.now entry.now remarks.items) }
 {
-    let known = known_texts(alloc, entry)?;
-    let texts = known.as_slice();
-    let stored = stored_by_texts(texts);
-    let mut report = Report::new(alloc);
-    report.push_texts(level, stored, texts)?;
-    report.push_values(trials, level, entry)?;
-    report.push_sequences(is_ansi_entry(entry), texts)?;
-    report.push_pairs(level, entry)?;
-    report.push_keys(level, texts)?;
-    report.push_names(&entry.extended())?;
-    report.push_whole(bytes, entry)?;
-    Ok(report)
+    let texts = known_texts(alloc, entry)?;
+    let mut report = Report::new(alloc, bytes, entry, texts.as_slice(), options);
+    report.push_all(trials)?;
+    let remarks = report.into_reported()?;
+    Ok(remarks)
 }
 
-/// Appends the lines on what is wrong with an entry that was read from the bytes, and, if all is told, on what many have on
+/// Appends the lines on what is wrong with an entry that was read from the bytes, and, if all is reported, on what many have on
 /// purpose. A sound entry has none. `prefix` stands before the first line of each finding, such as the name of the file. With
 /// color, the word of a finding is red, and carets are green. Texts that were tried for earlier entries with the same trials
 /// are not tried again.
@@ -210,23 +300,45 @@ pub fn report_of<'a, A: Allocator + Copy>(
 /// let mut lines = Vec::new(rt.alloc());
 /// let alloc = rt.alloc();
 /// let trials = &mut Trials::new(alloc);
-/// let (level, color) = (Level::Errors, Color::Never);
-/// push_report(alloc, &mut lines, trials, level, color, b"", FILE, &entry)?;
+/// let options = LintOptions {
+///     level: Level::Errors,
+///     untrusted: false,
+/// };
+/// let color = Color::Never;
+/// push_report(alloc, &mut lines, trials, options, color, b"", FILE, &entry)?;
 /// ```
 pub fn push_report<A: Allocator + Copy>(
     alloc: A,
     out: &mut Vec<u8, A>,
     trials: &mut Trials<A>,
-    level: Level,
+    options: LintOptions,
     color: Color,
     prefix: &[u8],
     bytes: &[u8],
     entry: &Entry<'_>,
 ) -> Result<(), AllocError>
-    ensures lines { OnOk result (Adds (AreLines level color prefix.now bytes.now entry.now)
+    ensures lines { OnOk result (Adds (AreLines options color prefix.now bytes.now entry.now)
         out.old.items out.new.items) }
 {
-    let report = report_of(alloc, trials, level, bytes, entry)?;
-    push_lines(out, color, prefix, report.remarks())?;
+    let remarks = report_of(alloc, trials, options, bytes, entry)?;
+    push_lines(out, color, prefix, remarks.as_slice())?;
     Ok(())
+}
+
+/// How many findings [`push_report`] appends lines of.
+///
+/// # Errors
+///
+/// Memory was refused.
+pub fn count_findings<A: Allocator + Copy>(
+    alloc: A,
+    trials: &mut Trials<A>,
+    options: LintOptions,
+    bytes: &[u8],
+    entry: &Entry<'_>,
+) -> Result<usize, AllocError>
+    ensures { IfOk result (IsFindingCount options bytes.now entry.now) }
+{
+    let remarks = report_of(alloc, trials, options, bytes, entry)?;
+    Ok(remarks.len())
 }

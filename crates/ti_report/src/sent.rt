@@ -1,10 +1,10 @@
 //! What is wrong with what a text sends for numbers, and the trial of a text that all such rules look at.
 
-ghost use Rattle.std.specs.Prelude.{◌≡◌, ◌++◌, IfOk, OnOk};
+ghost use Rattle.std.specs.Prelude.{◌≡◌, IfOk, OnOk};
 ghost use Rattle.ti_values.specs.Findings.{sent_at as the_sent_at};
 ghost use Rattle.ti_values.specs.Sent.{texts_of};
-ghost use Rattle.ti_report.specs.Lines.{Adds};
-ghost use Rattle.ti_report.specs.Values.{AreNumbersRemarks, IsEmptyReport, IsNegativeReport, IsSameReport, IsUnendedReport, remark_of, sent_evidence, tried_at};
+ghost use Rattle.ti_report.specs.inner.Growing.{Gains, GainsThese};
+ghost use Rattle.ti_report.specs.Values.{AreNumbersRemarks, IsEmptyReport, IsNegativeReport, IsSameReport, IsUnendedReport, is_ansi_entry, remark_of, sent_evidence, tried_at};
 ghost use Rattle.ti_report.specs.inner.Held.{trial_held};
 
 use crate::finding::Finding;
@@ -49,10 +49,10 @@ impl<'t, 'a, A: Allocator + Copy> Trial<'t, 'a, A> {
     }
 }
 
-impl<'a, A: Allocator + Copy> Report<'a, A> {
+impl<'r, 'a, A: Allocator + Copy> Report<'r, 'a, A> {
     /// Adds the remark on a value for which nothing is sent.
     fn push_empty(&mut self, trial: &Trial<'_, 'a, A>) -> Result<(), AllocError>
-        ensures { OnOk result (Adds (IsEmptyReport (trial_held trial.now)) self.old self.new) }
+        ensures { OnOk result (Gains (IsEmptyReport (trial_held trial.now)) self.old self.new) }
     {
         match first_empty(trial.sent) {
             None => Ok(()),
@@ -66,7 +66,7 @@ impl<'a, A: Allocator + Copy> Report<'a, A> {
 
     /// Adds the remark on two values for which the same is sent.
     fn push_same(&mut self, trial: &Trial<'_, 'a, A>) -> Result<(), AllocError>
-        ensures { OnOk result (Adds (IsSameReport (trial_held trial.now)) self.old self.new) }
+        ensures { OnOk result (Gains (IsSameReport (trial_held trial.now)) self.old self.new) }
     {
         match first_same(self.allocator(), trial.sent)? {
             None => Ok(()),
@@ -90,8 +90,8 @@ impl<'a, A: Allocator + Copy> Report<'a, A> {
         finding: Finding,
         found: Option<usize>,
     ) -> Result<(), AllocError>
-        ensures { OnOk result (self.new ≡ self.old
-            ++ remark_of (trial_held trial.now) finding (sent_evidence (trial_held trial.now)) found) }
+        ensures { OnOk result (GainsThese
+            (remark_of (trial_held trial.now) finding (sent_evidence (trial_held trial.now)) found) self.old self.new) }
     {
         match found {
             None => Ok(()),
@@ -111,7 +111,7 @@ impl<'a, A: Allocator + Copy> Report<'a, A> {
     ) -> Result<(), AllocError>
         requires { capability.now ≡ trial.now.subject.text.now }
         ensures { OnOk result
-            (Adds (IsNegativeReport (trial_held trial.now)) self.old self.new) }
+            (Gains (IsNegativeReport (trial_held trial.now)) self.old self.new) }
     {
         let found = first_negative(self.allocator(), capability, trial.tried)?;
         self.push_sent(trial, Finding::NegativeNumber, found)?;
@@ -119,11 +119,11 @@ impl<'a, A: Allocator + Copy> Report<'a, A> {
     }
 
     /// Adds the remark on a value for which a sequence is sent that is not ended, of a terminal of ECMA-48.
-    pub fn push_unended(&mut self, ansi: bool, trial: &Trial<'_, 'a, A>) -> Result<(), AllocError>
+    pub fn push_unended(&mut self, trial: &Trial<'_, 'a, A>) -> Result<(), AllocError>
         ensures { OnOk result
-            (Adds (IsUnendedReport ansi (trial_held trial.now)) self.old self.new) }
+            (Gains (IsUnendedReport (is_ansi_entry self.old.on.entry) (trial_held trial.now)) self.old self.new) }
     {
-        if ansi {
+        if self.is_ansi() {
             let found = first_unended(trial.sent);
             return self.push_sent(trial, Finding::UnendedSequence, found);
         }
@@ -133,18 +133,17 @@ impl<'a, A: Allocator + Copy> Report<'a, A> {
     /// Adds the remarks on what is sent for numbers.
     pub fn push_numbers_remarks(
         &mut self,
-        ansi: bool,
         capability: &Capability<'_>,
         trial: &Trial<'_, 'a, A>,
     ) -> Result<(), AllocError>
         requires { capability.now ≡ trial.now.subject.text.now }
         ensures { OnOk result
-            (Adds (AreNumbersRemarks ansi (trial_held trial.now)) self.old self.new) }
+            (Gains (AreNumbersRemarks (is_ansi_entry self.old.on.entry) (trial_held trial.now)) self.old self.new) }
     {
         self.push_empty(trial)?;
         self.push_same(trial)?;
         self.push_negative(capability, trial)?;
-        self.push_unended(ansi, trial)?;
+        self.push_unended(trial)?;
         Ok(())
     }
 }

@@ -5,7 +5,7 @@ ghost use Rattle.std.specs.Fmt.{signed_decimal};
 ghost use Rattle.ti_escape.specs.Forms.{shown};
 ghost use Rattle.ti_escape.specs.Notation.{label_notation};
 ghost use Rattle.ti_escape.specs.declared.form.Form.TheVariants as forms;
-ghost use Rattle.ti_report.specs.Sentences.{after, before, is_in, meaning, parameter_words, sent_words, value_words};
+ghost use Rattle.ti_report.specs.Sentences.{after, before, called_words, content_words, function_words, is_in, meaning, parameter_words, sent_words, value_words};
 ghost use Rattle.ti_report.specs.inner.Held.{evidence_held};
 
 use crate::finding::Finding;
@@ -128,6 +128,58 @@ fn push_text_of<A: Allocator>(
     push_shown(out, Form::Notation, text)
 }
 
+/// Writes the content of a control function.
+fn push_content<A: Allocator>(out: &mut Vec<u8, A>, content: &[u8]) -> Result<(), AllocError>
+    ensures { OnOk result (out.new.items ≡ out.old.items ++ content_words content.now) }
+{
+    if content.is_empty() {
+        return Ok(());
+    }
+    out.extend_from_slice(b" ")?;
+    push_shown(out, Form::Notation, content)
+}
+
+/// Writes what a control function is called.
+fn push_called<A: Allocator>(
+    out: &mut Vec<u8, A>,
+    label: &str,
+    content: &[u8],
+) -> Result<(), AllocError>
+    ensures { OnOk result (out.new.items ≡ out.old.items ++ called_words label.now content.now) }
+{
+    if label.is_empty() {
+        return push_shown(out, Form::Notation, content);
+    }
+    push_label(out, label.as_bytes())?;
+    push_content(out, content)?;
+    Ok(())
+}
+
+/// Writes what a control function is for.
+fn push_purpose<A: Allocator>(out: &mut Vec<u8, A>, purpose: &str) -> Result<(), AllocError>
+    ensures { OnOk result (out.new.items ≡ out.old.items ++ (shown forms.Notation purpose.now ++ codes ": the terminal ")) }
+{
+    push_shown(out, Form::Notation, purpose.as_bytes())?;
+    out.extend_from_slice(b": the terminal ")?;
+    Ok(())
+}
+
+/// Writes a control function, and what it is for.
+fn push_function<A: Allocator>(
+    out: &mut Vec<u8, A>,
+    label: &str,
+    content: &[u8],
+    purpose: &str,
+) -> Result<(), AllocError>
+    ensures { OnOk result (out.new.items ≡ out.old.items
+        ++ function_words label.now content.now purpose.now) }
+{
+    push_called(out, label, content)?;
+    out.extend_from_slice(b", ")?;
+    push_purpose(out, purpose)?;
+    Ok(())
+}
+
 /// Writes the evidence that comes before the words of the finding.
 fn push_before<A: Allocator, B: Allocator>(
     out: &mut Vec<u8, A>,
@@ -145,6 +197,9 @@ fn push_before<A: Allocator, B: Allocator>(
         Evidence::Attribute(_, set) => push_value(out, Tried::Attributes(*set)),
         Evidence::Lacking(_, set, sent, _) => {
             push_sent(out, Tried::Attributes(*set), sent.as_slice())
+        }
+        Evidence::Function(label, content, purpose) => {
+            push_function(out, label, content.as_slice(), purpose)
         }
         _ => Ok(()),
     }

@@ -1,9 +1,9 @@
 //! Texts that are sent as they stand and have a control sequence that is not ended.
 
 ghost use Rattle.std.specs.Prelude.{OnOk};
-ghost use Rattle.ti_report.specs.Lines.{Adds, AreAll};
-ghost use Rattle.ti_report.specs.Sequences.{IsSequenceOf, IsSequenceReport};
-ghost use Rattle.ti_report.specs.inner.Held.{text_held, texts_held};
+ghost use Rattle.ti_report.specs.Sequences.{AreSequenceRemarks, IsSequenceOf, IsSequenceReport};
+ghost use Rattle.ti_report.specs.inner.Growing.{Gains};
+ghost use Rattle.ti_report.specs.inner.Held.{text_held};
 
 use crate::finding::Finding;
 use crate::remark::{Evidence, NamedText};
@@ -13,10 +13,10 @@ use std::alloc::{AllocError, Allocator};
 use ti_names::Class;
 use ti_values::has_unended;
 
-impl<'a, A: Allocator + Copy> Report<'a, A> {
+impl<'r, 'a, A: Allocator + Copy> Report<'r, 'a, A> {
     /// Adds the remark on a text, if it has one.
     fn push_sequence(&mut self, subject: &NamedText<'a>) -> Result<(), AllocError>
-        ensures { OnOk result (Adds (IsSequenceReport subject.now.name.now
+        ensures { OnOk result (Gains (IsSequenceReport subject.now.name.now
             subject.now.text.now) self.old self.new) }
     {
         if has_unended(subject.text) {
@@ -28,7 +28,7 @@ impl<'a, A: Allocator + Copy> Report<'a, A> {
 
     /// The same, if it is a text of terminfo(5) that is sent as it stands, to a terminal of ECMA-48.
     fn push_sequence_of(&mut self, ansi: bool, text: &KnownText<'a>) -> Result<(), AllocError>
-        ensures { OnOk result (Adds (IsSequenceOf ansi (text_held text.now)) self.old self.new) }
+        ensures { OnOk result (Gains (IsSequenceOf ansi (text_held text.now)) self.old self.new) }
     {
         match (ansi, text.standard, text.class) {
             (true, true, Class::Plain) => self.push_sequence(&text.subject),
@@ -37,11 +37,11 @@ impl<'a, A: Allocator + Copy> Report<'a, A> {
     }
 
     /// Adds the remarks on all texts.
-    pub fn push_sequences(&mut self, ansi: bool, texts: &[KnownText<'a>]) -> Result<(), AllocError>
-        ensures { OnOk result (Adds (AreAll (IsSequenceOf ansi) (texts_held texts.now))
-            self.old self.new) }
+    pub fn push_sequences(&mut self) -> Result<(), AllocError>
+        ensures { OnOk result (Gains (AreSequenceRemarks self.old.on.entry) self.old self.new) }
     {
-        'texts: for text in texts {
+        let ansi = self.is_ansi();
+        'texts: for text in self.texts() {
             self.push_sequence_of(ansi, text)?;
         }
         Ok(())

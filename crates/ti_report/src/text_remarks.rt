@@ -2,6 +2,7 @@
 
 ghost use Rattle.std.specs.Prelude.{◌≡◌, ◌++◌, ◌∷◌, [], OnOk, map};
 ghost use Rattle.ti_report.specs.Remarks.{placed, unplaced, with_name};
+ghost use Rattle.ti_report.specs.inner.Growing.{GainsThese};
 ghost use Rattle.ti_report.specs.inner.Held.{evidence_held};
 
 use crate::finding::Finding;
@@ -51,11 +52,11 @@ impl<A: Allocator + Copy> TextRemark<A> {
     /// Adds it under the name of the text to a report.
     fn push_with_name<'a>(
         &self,
-        report: &mut Report<'a, A>,
+        report: &mut Report<'_, 'a, A>,
         subject: &NamedText<'a>,
     ) -> Result<(), AllocError>
-        ensures { OnOk result (report.new ≡ report.old
-            ++ with_name subject.now.name.now subject.now.text.now self.now ∷ []) }
+        ensures { OnOk result (GainsThese
+            (with_name subject.now.name.now subject.now.text.now self.now ∷ []) report.old report.new) }
     {
         let alloc = report.allocator();
         let places = self.places.as_slice().to_vec(alloc)?;
@@ -117,11 +118,11 @@ impl<A: Allocator + Copy> TextRemarks<A> {
     /// Adds them under the name of the text to a report.
     pub fn push_with_name<'a>(
         &self,
-        report: &mut Report<'a, A>,
+        report: &mut Report<'_, 'a, A>,
         subject: &NamedText<'a>,
     ) -> Result<(), AllocError>
-        ensures { OnOk result (report.new ≡ report.old
-            ++ map (with_name subject.now.name.now subject.now.text.now) self.now) }
+        ensures { OnOk result (GainsThese
+            (map (with_name subject.now.name.now subject.now.text.now) self.now) report.old report.new) }
     {
         'remarks: for remark in &self.list {
             remark.push_with_name(report, subject)?;

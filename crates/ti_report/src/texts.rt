@@ -1,11 +1,11 @@
 //! The judgement of a text: what is wrong with it by how it is used, whatever its name is.
 
-ghost use Rattle.std.specs.Prelude.{◌≡◌, ◌++◌, ◌∷◌, [], IfOk, OnOk};
+ghost use Rattle.std.specs.Prelude.{◌≡◌, ◌++◌, ◌∷◌, [], IfOk, OnOk, if◌then◌else◌, option_to_list};
 ghost use Rattle.ti_report.specs.Constants.{IsTestsReport};
-ghost use Rattle.ti_report.specs.Lines.{Adds, AreReports};
-ghost use Rattle.ti_report.specs.Remarks.{Fault, placed, unplaced};
+ghost use Rattle.ti_report.specs.Lines.{Adds, AreReports, InTurn};
+ghost use Rattle.ti_report.specs.Remarks.{Fault, NoEvidence, placed, unplaced};
 ghost use Rattle.ti_report.specs.inner.Held.{evidence_held};
-ghost use Rattle.ti_report.specs.Texts.{AreUnused, IsCapabilityReport, IsEscapeReport, IsFindingReport, IsFindingsReport, IsJudged, IsKeyReport, IsPercentReport, IsPlacesReport, IsPlainReport, IsUnusedReport, all_findings, evidence_of as the_evidence, expected_in, half_paired, unused_remarks};
+ghost use Rattle.ti_report.specs.Texts.{AreUnused, IsCapabilityReport, IsEscapeReport, IsFindingReport, IsFindingsReport, IsJudged, IsKeyReport, IsPercentReport, IsPlacesReport, IsPlainReport, IsUnusedReport, all_findings, are_long, delay_remarks, empty_key, evidence_of as the_evidence, expected_in, half_paired, unused_finding, unused_remarks};
 
 use crate::finding::Finding;
 use crate::marks::{Sought, escapes_of, places_at, places_of};
@@ -18,8 +18,9 @@ use ti_lint::{
     Expected, PlacedFinding, TokenFinding, findings_of, is_half_paired, unused_parameters,
 };
 use ti_names::Class;
+use ti_pad::{first_long_delay, total_delay};
 
-/// The findings of tokens, in the order in which they are told.
+/// The findings of tokens, in the order in which they are reported.
 static ALL_FINDINGS: [TokenFinding; 13] = [
     TokenFinding::StackUnderflow,
     TokenFinding::TermcapParameter,
@@ -52,6 +53,16 @@ fn evidence_of<A: Allocator>(finding: TokenFinding, parameters: u8) -> Evidence<
         TokenFinding::ParameterRange => Evidence::Last(parameters),
         _ => Evidence::None,
     }
+}
+
+/// What parameters are that nothing pushes.
+fn unused_finding(usage: Usage) -> Finding
+    ensures { result ≡ unused_finding usage }
+{
+    if usage.has_column {
+        return Finding::UnusedColumn;
+    }
+    Finding::UnusedParameter
 }
 
 impl<A: Allocator + Copy> TextRemarks<A> {
@@ -101,33 +112,33 @@ impl<A: Allocator + Copy> TextRemarks<A> {
     /// Adds the remark on parameters that are left out, but not if values were taken from the empty stack in their place.
     fn push_left_out(
         &mut self,
-        may: bool,
+        usage: Usage,
         unused: ParameterSet,
         from_empty: &[usize],
     ) -> Result<(), AllocError>
         ensures { OnOk result
-            (self.new ≡ self.old ++ unused_remarks may unused from_empty.now) }
+            (self.new ≡ self.old ++ unused_remarks usage unused from_empty.now) }
     {
-        if !from_empty.is_empty() || unused.mask == 0 || may {
+        if !from_empty.is_empty() || unused.mask == 0 || usage.may_leave_out {
             return Ok(());
         }
-        self.push(Finding::UnusedParameter, Evidence::Parameters(unused))
+        self.push(unused_finding(usage), Evidence::Parameters(unused))
     }
 
     /// The same of a capability.
     fn push_unused(
         &mut self,
-        may: bool,
+        usage: Usage,
         capability: &Capability<'_>,
         parameters: u8,
         founds: &[PlacedFinding],
     ) -> Result<(), AllocError>
-        ensures { OnOk result (Adds (IsUnusedReport may capability.now parameters founds.now)
+        ensures { OnOk result (Adds (IsUnusedReport usage capability.now parameters founds.now)
             self.old self.new) }
     {
         let unused = unused_parameters(capability, parameters);
         let from_empty = places_of(self.allocator(), founds, TokenFinding::TermcapParameter)?;
-        self.push_left_out(may, unused, from_empty.as_slice())?;
+        self.push_left_out(usage, unused, from_empty.as_slice())?;
         Ok(())
     }
 
@@ -149,7 +160,7 @@ impl<A: Allocator + Copy> TextRemarks<A> {
         let list = findings_of(self.allocator(), capability, expected)?;
         let founds = list.as_slice();
         self.push_founds(capability, founds, parameters)?;
-        self.push_unused(usage.may_leave_out, capability, parameters, founds)?;
+        self.push_unused(usage, capability, parameters, founds)?;
         Ok(())
     }
 
@@ -220,10 +231,54 @@ impl<A: Allocator + Copy> TextRemarks<A> {
         Ok(())
     }
 
+    /// Adds the remark on a key that sends nothing.
+    fn push_empty_key(&mut self, text: &[u8]) -> Result<(), AllocError>
+        ensures { OnOk result (self.new ≡ self.old ++ empty_key text.now) }
+    {
+        if text.is_empty() {
+            return self.push(Finding::EmptyKey, Evidence::None);
+        }
+        Ok(())
+    }
+
+    /// Adds the remark on the place of a mark that is long.
+    fn push_long_delay(&mut self, found: Option<usize>) -> Result<(), AllocError>
+        ensures { OnOk result (self.new
+            ≡ self.old ++ placed (option_to_list found) Finding.LongDelay NoEvidence) }
+    {
+        let Some(place) = found else {
+            return Ok(());
+        };
+        let mut places = Vec::new(self.allocator());
+        places.push(place)?;
+        self.push_at(places, Finding::LongDelay, Evidence::None)
+    }
+
+    /// Adds the remark on marks that are long together.
+    fn push_long_delays(&mut self, text: &[u8]) -> Result<(), AllocError>
+        ensures { OnOk result (self.new ≡ self.old
+            ++ (if are_long text.now then unplaced Finding.LongDelays NoEvidence else [])) }
+    {
+        if total_delay(text) > 327_670 {
+            return self.push(Finding::LongDelays, Evidence::None);
+        }
+        Ok(())
+    }
+
+    /// Adds the remarks on delays.
+    fn push_delays(&mut self, text: &[u8]) -> Result<(), AllocError>
+        ensures { OnOk result (self.new ≡ self.old ++ delay_remarks text.now) }
+    {
+        self.push_long_delay(first_long_delay(text))?;
+        self.push_long_delays(text)?;
+        Ok(())
+    }
+
     /// Adds the remarks on what a key sends.
     fn push_key(&mut self, text: &[u8]) -> Result<(), AllocError>
         ensures { OnOk result (Adds (IsKeyReport text.now) self.old self.new) }
     {
+        self.push_empty_key(text)?;
         self.push_percents(text)?;
         self.push_places(text, Sought::Mark, Finding::MarkInKey)?;
         Ok(())
@@ -239,13 +294,33 @@ impl<A: Allocator + Copy> TextRemarks<A> {
         Ok(())
     }
 
+    /// Adds the remarks on a text with parameters, and on its delays.
+    fn push_expanded(&mut self, usage: Usage, parameters: u8, text: &[u8]) -> Result<(), AllocError>
+        ensures { OnOk result (Adds (InTurn (IsCapabilityReport usage parameters text.now)
+            (λ all. all ≡ delay_remarks text.now)) self.old self.new) }
+    {
+        self.push_capability(usage, parameters, text)?;
+        self.push_delays(text)?;
+        Ok(())
+    }
+
+    /// The same of a text that is sent as it stands.
+    fn push_sent(&mut self, text: &[u8]) -> Result<(), AllocError>
+        ensures { OnOk result (Adds (InTurn (IsPlainReport text.now)
+            (λ all. all ≡ delay_remarks text.now)) self.old self.new) }
+    {
+        self.push_plain(text)?;
+        self.push_delays(text)?;
+        Ok(())
+    }
+
     /// Adds the remarks on a text by its use.
     fn push_judgement(&mut self, usage: Usage, text: &[u8]) -> Result<(), AllocError>
         ensures { OnOk result (Adds (IsJudged usage text.now) self.old self.new) }
     {
         match usage.class {
-            Class::Parameterized(parameters) => self.push_capability(usage, parameters, text),
-            Class::Plain => self.push_plain(text),
+            Class::Parameterized(parameters) => self.push_expanded(usage, parameters, text),
+            Class::Plain => self.push_sent(text),
             Class::Key => self.push_key(text),
             Class::List => self.push_half_paired(usage.has_pairs, text),
             Class::Label | Class::File | Class::Character | Class::Input => Ok(()),

@@ -1,9 +1,9 @@
 //! How a text of an entry is used: all that its judgement goes by but its bytes.
 
 ghost use Rattle.std.specs.Prelude.{◌≡◌};
-ghost use Rattle.ti_report.specs.Texts.{is_column, may_leave_out, usage_of};
+ghost use Rattle.ti_report.specs.Texts.{may_leave_out, usage_of};
 
-use ti_lint::{Level, TextParameters, Variables, text_parameters};
+use ti_lint::{TextParameters, Variables, text_parameters};
 use ti_names::Class;
 
 /// How a text is used.
@@ -17,26 +17,17 @@ pub struct Usage {
     pub stored: Variables,
     /// Whether it may leave out parameters.
     pub may_leave_out: bool,
+    /// Whether its parameter is the column of a status line.
+    pub has_column: bool,
     /// Whether a list has pairs.
     pub has_pairs: bool,
 }
 
-/// Whether what a text may leave out is the column of a status line.
-fn is_column(level: Level, name: &[u8]) -> bool
-    ensures { result ≡ is_column level name.now }
-{
-    match level {
-        Level::Errors => name == b"tsl".as_slice(),
-        Level::All => false,
-    }
-}
-
 /// Whether a text may leave out parameters, by its name: attributes that a terminal lacks, and motions by one place.
-fn may_leave_out(level: Level, name: &[u8]) -> bool
-    ensures { result ≡ may_leave_out level name.now }
+fn may_leave_out(name: &[u8]) -> bool
+    ensures { result ≡ may_leave_out name.now }
 {
-    is_column(level, name)
-        || name == b"sgr".as_slice()
+    name == b"sgr".as_slice()
         || name == b"sgr1".as_slice()
         || name == b"mhpa".as_slice()
         || name == b"mcub".as_slice()
@@ -47,14 +38,15 @@ fn may_leave_out(level: Level, name: &[u8]) -> bool
 
 impl Usage {
     /// How a text with a name is used.
-    pub fn of(level: Level, stored: Variables, name: &[u8], class: Class) -> Self
-        ensures { result ≡ usage_of level stored name.now class }
+    pub fn of(stored: Variables, name: &[u8], class: Class) -> Self
+        ensures { result ≡ usage_of stored name.now class }
     {
         Usage {
             class,
             texts: text_parameters(name),
             stored,
-            may_leave_out: may_leave_out(level, name),
+            may_leave_out: may_leave_out(name),
+            has_column: name == b"tsl".as_slice(),
             has_pairs: name == b"acsc".as_slice(),
         }
     }

@@ -1,20 +1,19 @@
 //! What is wrong with a text for some of the values that it may be given: which texts are tried, and over which values.
 
-ghost use Rattle.std.specs.Prelude.{◌≡◌, ◌++◌, OnOk, map};
+ghost use Rattle.std.specs.Prelude.{◌≡◌, OnOk, map};
 ghost use Rattle.ti_values.specs.inner.Rows.{row_of};
-ghost use Rattle.ti_report.specs.Lines.{Adds, AreReports};
-ghost use Rattle.ti_report.specs.Values.{AreValueRemarks, IsAttributesReport, IsNamedTriedReport, IsNumbersReport, IsRangeReport, IsTriedReport, IsTriedReportOf, on_not_tried, text_named};
+ghost use Rattle.ti_report.specs.Lines.{AreReports};
+ghost use Rattle.ti_report.specs.Values.{AreValueRemarks, IsAttributesReport, IsNamedTriedReport, IsNumbersReport, IsRangeReport, IsTriedReport, IsTriedReportOf, is_ansi_entry, text_named};
+ghost use Rattle.ti_report.specs.inner.Growing.{Gains};
 
 use crate::finding::Finding;
-use crate::lookup::{is_ansi_entry, number_named, text_named};
+use crate::lookup::{number_named, text_named};
 use crate::remark::{Evidence, NamedText};
 use crate::report::Report;
 use crate::sent::Trial;
 use crate::trials::Trials;
 use std::alloc::{AllocError, Allocator};
 use ti_cap::Capability;
-use ti_entry::Entry;
-use ti_lint::Level;
 use ti_values::{Range, is_short, sent_for, tried_texts, values_of};
 use ti_words::Text;
 
@@ -25,30 +24,15 @@ struct RangedText<'a> {
     range: Range,
 }
 
-impl<'a, A: Allocator + Copy> Report<'a, A> {
-    /// Adds the remark on a text that is not tried, if all is told.
-    fn push_not_tried(&mut self, level: Level, subject: &NamedText<'a>) -> Result<(), AllocError>
-        ensures { OnOk result (self.new ≡ self.old ++ on_not_tried level
-            subject.now.name.now subject.now.text.now) }
-    {
-        match level {
-            Level::Errors => Ok(()),
-            Level::All => {
-                self.push_on_values(subject, Finding::NotTried, Evidence::None)?;
-                Ok(())
-            }
-        }
-    }
-
+impl<'r, 'a, A: Allocator + Copy> Report<'r, 'a, A> {
     /// Adds the remarks on a capability that is tried over numbers.
     fn push_tried_numbers(
         &mut self,
-        ansi: bool,
         capability: &Capability<'_>,
         text: &RangedText<'a>,
     ) -> Result<(), AllocError>
         requires { capability.now ≡ text.now.subject.text.now }
-        ensures { OnOk result (Adds (IsNumbersReport ansi text.now.subject.name.now
+        ensures { OnOk result (Gains (IsNumbersReport (is_ansi_entry self.old.on.entry) text.now.subject.name.now
             text.now.subject.text.now text.now.range) self.old self.new) }
     {
         let all = values_of(self.allocator(), text.range)?;
@@ -61,28 +45,28 @@ impl<'a, A: Allocator + Copy> Report<'a, A> {
             tried,
             sent,
         };
-        self.push_numbers_remarks(ansi, capability, &trial)?;
+        self.push_numbers_remarks(capability, &trial)?;
         Ok(())
     }
 
-    /// The same, but a text that is kept as one of which nothing is told is not tried again.
+    /// The same, but a text that is kept as one of which nothing is reported is not tried again.
     fn push_of_numbers(
         &mut self,
         trials: &mut Trials<A>,
-        ansi: bool,
         capability: &Capability<'_>,
         text: &RangedText<'a>,
     ) -> Result<(), AllocError>
         requires { capability.now ≡ text.now.subject.text.now }
-        ensures { OnOk result (Adds (IsNumbersReport ansi text.now.subject.name.now
+        ensures { OnOk result (Gains (IsNumbersReport (is_ansi_entry self.old.on.entry) text.now.subject.name.now
             text.now.subject.text.now text.now.range) self.old self.new) }
     {
+        let ansi = self.is_ansi();
         if trials.is_quiet(ansi, text.subject.text, text.range) {
             return Ok(());
         }
-        let count = self.remarks().len();
-        self.push_tried_numbers(ansi, capability, text)?;
-        if self.remarks().len() == count {
+        let count = self.count();
+        self.push_tried_numbers(capability, text)?;
+        if self.count() == count {
             trials.keep_quiet(self.allocator(), ansi, text.subject.text, text.range)?;
         }
         Ok(())
@@ -92,37 +76,30 @@ impl<'a, A: Allocator + Copy> Report<'a, A> {
     fn push_of_attributes(
         &mut self,
         trials: &mut Trials<A>,
-        entry: &Entry<'a>,
         capability: &Capability<'_>,
         subject: &NamedText<'a>,
     ) -> Result<(), AllocError>
         requires { capability.now ≡ subject.now.text.now }
-        ensures { OnOk result (Adds (IsAttributesReport entry.now
+        ensures { OnOk result (Gains (IsAttributesReport self.old.on.entry
             subject.now.name.now subject.now.text.now) self.old self.new) }
     {
         let all = values_of(self.allocator(), Range::Attributes)?;
         let tried = all.as_slice();
         let subject = *subject;
         if let Some(sent) = trials.sent_for(subject.text) {
-            return self.push_attributes_remarks(
-                entry,
-                &Trial {
-                    subject,
-                    tried,
-                    sent,
-                },
-            );
-        }
-        let list = sent_for(self.allocator(), capability, tried)?;
-        let sent = list.as_slice();
-        self.push_attributes_remarks(
-            entry,
-            &Trial {
+            return self.push_attributes_remarks(&Trial {
                 subject,
                 tried,
                 sent,
-            },
-        )?;
+            });
+        }
+        let list = sent_for(self.allocator(), capability, tried)?;
+        let sent = list.as_slice();
+        self.push_attributes_remarks(&Trial {
+            subject,
+            tried,
+            sent,
+        })?;
         trials.keep_sent(self.allocator(), subject.text, list)?;
         Ok(())
     }
@@ -131,20 +108,17 @@ impl<'a, A: Allocator + Copy> Report<'a, A> {
     fn push_values_of(
         &mut self,
         trials: &mut Trials<A>,
-        entry: &Entry<'a>,
         capability: &Capability<'_>,
         text: &RangedText<'a>,
     ) -> Result<(), AllocError>
         requires { capability.now ≡ text.now.subject.text.now }
-        ensures { OnOk result (Adds (IsRangeReport entry.now text.now.subject.name.now
+        ensures { OnOk result (Gains (IsRangeReport self.old.on.entry text.now.subject.name.now
             text.now.subject.text.now text.now.range) self.old self.new) }
     {
         match text.range {
-            Range::Attributes => {
-                self.push_of_attributes(trials, entry, capability, &text.subject)
-            }
+            Range::Attributes => { self.push_of_attributes(trials, capability, &text.subject) }
             Range::Numbers(_, _) | Range::Places(_, _) | Range::Regions(_) => {
-                self.push_of_numbers(trials, is_ansi_entry(entry), capability, text)
+                self.push_of_numbers(trials, capability, text)
             }
         }
     }
@@ -153,20 +127,18 @@ impl<'a, A: Allocator + Copy> Report<'a, A> {
     fn push_ranged_text(
         &mut self,
         trials: &mut Trials<A>,
-        level: Level,
-        entry: &Entry<'a>,
         text: &RangedText<'a>,
     ) -> Result<(), AllocError>
-        ensures { OnOk result (Adds (IsTriedReport level entry.now text.now.subject.name.now
+        ensures { OnOk result (Gains (IsTriedReport self.old.on.entry text.now.subject.name.now
             text.now.subject.text.now text.now.range) self.old self.new) }
     {
         match Capability::parse(text.subject.text) {
             Ok(capability) => {
                 if !is_short(&capability) {
-                    self.push_not_tried(level, &text.subject)?;
+                    self.push_on_values(&text.subject, Finding::NotTried, Evidence::None)?;
                     return Ok(());
                 }
-                self.push_values_of(trials, entry, &capability, text)?;
+                self.push_values_of(trials, &capability, text)?;
                 Ok(())
             }
             Err(_) => Ok(()),
@@ -177,14 +149,12 @@ impl<'a, A: Allocator + Copy> Report<'a, A> {
     fn push_named(
         &mut self,
         trials: &mut Trials<A>,
-        level: Level,
-        entry: &Entry<'a>,
         row: (&'static str, Range),
     ) -> Result<(), AllocError>
-        ensures { OnOk result (Adds (IsTriedReportOf level entry.now row.entry.0.now
-            (text_named entry.now row.entry.0.now) row.entry.1) self.old self.new) }
+        ensures { OnOk result (Gains (IsTriedReportOf self.old.on.entry row.entry.0.now
+            (text_named self.old.on.entry row.entry.0.now) row.entry.1) self.old self.new) }
     {
-        let Text::Value(text) = text_named(entry, row.0) else {
+        let Text::Value(text) = text_named(self.entry(), row.0) else {
             return Ok(());
         };
         let name = row.0.as_bytes();
@@ -192,40 +162,34 @@ impl<'a, A: Allocator + Copy> Report<'a, A> {
             subject: NamedText { name, text },
             range: row.1,
         };
-        self.push_ranged_text(trials, level, entry, &text)
+        self.push_ranged_text(trials, &text)
     }
 
     /// Adds the remarks on some texts, each with its range.
     fn push_rows(
         &mut self,
         trials: &mut Trials<A>,
-        level: Level,
-        entry: &Entry<'a>,
         rows: &[(&'static str, Range)],
     ) -> Result<(), AllocError>
-        ensures { OnOk result (Adds (AreReports (IsNamedTriedReport level entry.now) 0
+        ensures { OnOk result (Gains (AreReports (IsNamedTriedReport self.old.on.entry) 0
             (map row_of rows.now)) self.old self.new) }
     {
         'rows: for (name, range) in rows {
-            self.push_named(trials, level, entry, (*name, *range))?;
+            self.push_named(trials, (*name, *range))?;
         }
         Ok(())
     }
 
     /// Adds the remarks on all texts that are tried over values.
-    pub fn push_values(
-        &mut self,
-        trials: &mut Trials<A>,
-        level: Level,
-        entry: &Entry<'a>,
-    ) -> Result<(), AllocError>
-        ensures { OnOk result (Adds (AreValueRemarks level entry.now) self.old self.new) }
+    pub fn push_values(&mut self, trials: &mut Trials<A>) -> Result<(), AllocError>
+        ensures { OnOk result (Gains (AreValueRemarks self.old.on.entry) self.old self.new) }
     {
+        let entry = self.entry();
         let lines = number_named(entry, "lines");
         let columns = number_named(entry, "cols");
         let colors = number_named(entry, "colors");
         let rows = tried_texts(lines, columns, colors);
-        self.push_rows(trials, level, entry, &rows)?;
+        self.push_rows(trials, &rows)?;
         Ok(())
     }
 }

@@ -1,4 +1,4 @@
-//! Tests of what is told of mistakes.
+//! Tests of reports on mistakes.
 #![tactic(auto)]
 
 #[cfg(test)]

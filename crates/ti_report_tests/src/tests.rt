@@ -23,6 +23,7 @@ pub fn check_rows<F: Finds>(rt: &(impl Abort + AllocGlobal), rows: &str, finds: 
 }
 
 mod attributes;
+mod controls;
 mod entries;
 mod lint_findings;
 mod lint_reports;

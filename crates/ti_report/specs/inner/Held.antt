@@ -1,21 +1,34 @@
--- What a remark is about, its evidence, and the texts of an entry, as the code holds them.
+-- A row of the table, what a remark is about, its evidence, and the texts of an entry, as the code holds them.
 use Rattle.std.specs.Prelude.{List, map}
 use Rattle.ti_report.specs.Remarks as spec
 use Rattle.ti_report.specs.declared.remark.About.{About}
 use Rattle.ti_report.specs.declared.remark.About.TheVariants as abouts
 use Rattle.ti_report.specs.declared.remark.Evidence.{Evidence}
 use Rattle.ti_report.specs.declared.remark.Evidence.TheVariants as evidences
+use Rattle.ti_report.specs.declared.finding.Row.{Row}
+use Rattle.ti_report.specs.Findings as findings
+use Rattle.ti_report.specs.declared.reported.Head.{Head}
+use Rattle.ti_report.specs.Reported as reports
+use Rattle.ti_report.specs.Controls as controls
+use Rattle.ti_report.specs.declared.controls.Terminal.{Terminal}
 use Rattle.ti_report.specs.declared.subject.KnownText.{KnownText}
 use Rattle.ti_report.specs.Subjects as subjects
 use Rattle.ti_report.specs.declared.sent.Trial.{Trial}
 use Rattle.ti_report.specs.Values as values
 use Rattle.ti_values.specs.Sent.{texts_of}
+use Rattle.ti_values.specs.Screens.{tried_texts}
 
 abbrev pub about_held : About → spec.About
 about_held abouts.Entry = spec.OfEntry
 about_held (abouts.Name name) = spec.OfName name.now
 about_held (abouts.Text subject) = spec.OfText subject.name.now subject.text.now
 about_held (abouts.Two one other) = spec.OfTwo one.name.now one.text.now other.name.now other.text.now
+
+abbrev pub head_held : Head → reports.Head
+head_held h = record { about = about_held h.about; word = h.word.now }
+
+abbrev pub heads_held : List Head → List reports.Head
+heads_held heads = map head_held heads
 
 abbrev pub evidence_held : {A : Type 0} → Evidence A → spec.Evidence
 evidence_held evidences.None = spec.NoEvidence
@@ -28,10 +41,19 @@ evidence_held (evidences.Sent value sent) = spec.Sent value sent.items
 evidence_held (evidences.SentForTwo one other sent) = spec.SentForTwo one other sent.items
 evidence_held (evidences.Attribute name set) = spec.Attribute name.now set
 evidence_held (evidences.Lacking name set sent text) = spec.Lacking name.now set sent.items text.items
+evidence_held (evidences.Function label content purpose) = spec.Function label.now content.items purpose.now
+
+abbrev pub row_held : Row → findings.Row
+row_held r =
+    record { word = r.word.now; sentence = r.sentence.now; remedy = r.remedy.now; only_all = r.only_all; hidden_by = r.hidden_by.now }
 
 abbrev pub trial_held : {A : Type 0} → Trial A → values.Trial
 trial_held t =
     record { name = t.subject.name.now; text = t.subject.text.now; tried = t.tried.now; sent = texts_of t.sent.now }
+
+abbrev pub terminal_held : {A : Type 0} → Terminal A → controls.Terminal
+terminal_held t =
+    record { untrusted = t.untrusted; is_ecma = t.is_ecma; after = t.after.items; rows = tried_texts t.lines t.columns t.colors }
 
 abbrev pub text_held : KnownText → subjects.KnownText
 text_held t =

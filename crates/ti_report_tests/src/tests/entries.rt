@@ -6,7 +6,7 @@ use ti_draft::{Draft, encode};
 use ti_entry::read;
 use ti_fixtures::{Said, Unfound, bytes_of, item_of};
 use ti_names::NameTable;
-use ti_report::{Color, Level, Trials, push_report};
+use ti_report::{Color, Level, LintOptions, Trials, push_report};
 use ti_words::{Flag, Kind, Number, Text, Width};
 
 /// What the items say of a capability of terminfo(5).
@@ -126,7 +126,7 @@ pub fn entry_of(alloc: Global, text: &str) -> Result<Vec<u8>, Unfound> {
 /// Which lines on an entry are requested, and how they look.
 #[derive(Clone, Copy)]
 pub struct Look {
-    pub level: Level,
+    pub options: LintOptions,
     pub color: Color,
     pub prefix: &'static [u8],
 }
@@ -144,7 +144,7 @@ pub fn add_report(
         alloc,
         lines,
         trials,
-        look.level,
+        look.options,
         look.color,
         look.prefix,
         file,
@@ -159,19 +159,45 @@ pub fn lines_on(alloc: Global, look: Look, file: &[u8]) -> Result<Vec<u8>, Unfou
     Ok(lines)
 }
 
+/// What is looked for by default, and with `--all`.
+pub const ERRORS: LintOptions = LintOptions {
+    level: Level::Errors,
+    untrusted: false,
+};
+
+const ALL: LintOptions = LintOptions {
+    level: Level::All,
+    untrusted: false,
+};
+
+const UNTRUSTED: LintOptions = LintOptions {
+    level: Level::Errors,
+    untrusted: true,
+};
+
 /// Errors, without color and without a name in front.
 pub const MISTAKES: Look = Look {
-    level: Level::Errors,
+    options: ERRORS,
     color: Color::Never,
     prefix: b"",
 };
 
-/// The look that the first field of a row asks for: `mistakes` or `all`, and each `in file` or not.
+/// What the first word of a row asks for.
+fn options_of(words: &str) -> LintOptions {
+    if words.starts_with("all") {
+        ALL
+    } else if words.starts_with("untrusted") {
+        UNTRUSTED
+    } else {
+        ERRORS
+    }
+}
+
+/// The look that the first field of a row asks for: `mistakes`, `all` or `untrusted`, and each `in file` or not.
 pub fn look_of(words: &str) -> Look {
-    let is_all = words.starts_with("all");
     let is_named = words.ends_with("in file");
     Look {
-        level: if is_all { Level::All } else { Level::Errors },
+        options: options_of(words),
         color: Color::Never,
         prefix: if is_named { b"file: " } else { b"" },
     }

@@ -16,12 +16,12 @@ mistakes | cols#5 | lines#4 | colors#8 | sgr=\E[0mB => sgr\n  \\E[0mB\n  sgr-tex
 mistakes | cols#5 | lines#4 | colors#8 | cup=\E[%i%p1%d;%p2%dH\E[ => cup\n  \\E[%i%p1%d;%p2%dH\\E[\n  control-sequence: for 0 0 it sends \\E[1;1H\\E[, where a \\E[ is not ended\n
 ";
 
-/// A text that is not tried, which is told if all is.
+/// A text that is not tried, which is reported if all is.
 const NOT_TRIED: &str = r"
 all | cols#5 | lines#4 | colors#8 | cub=%p1%200d%p1%200d => cub\n  %p1%200d%p1%200d\n  not-tried: it is too long, or may send too much\n
 ";
 
-/// The same, of which nothing is told among the mistakes: the first line is one on the entry.
+/// The same, of which nothing is reported among the mistakes: the first line is one on the entry.
 const NO_MISTAKE: &str = r"
 mistakes | cols#5 | lines#4 | colors#8 | cub=%p1%200d%p1%200d => entry\n
 ";
@@ -77,7 +77,7 @@ fn what_is_not_tried_is_told_if_all_is(rt: HostRuntime) {
     check_rows(&rt, NO_MISTAKE, &FirstLines(1));
 }
 
-/// Whether the same is told of entries that are tried one after another, each twice.
+/// Whether the same is reported of entries that are tried one after another, each twice.
 fn are_told_again(alloc: Global, rows: &str) -> Result<bool, Unfound> {
     let mut trials = Trials::new(alloc);
     for row in rows.lines() {
@@ -88,7 +88,7 @@ fn are_told_again(alloc: Global, rows: &str) -> Result<bool, Unfound> {
     Ok(true)
 }
 
-/// A text of which nothing is told.
+/// A text of which nothing is reported.
 const TOLD_NOTHING: &str = r"
 mistakes | cols#5 | lines#4 | colors#8 | cub=\E[%p1%dD => -
 ";

@@ -2,8 +2,10 @@
 
 use super::entries::{entry_of, lines_on, look_of};
 use crate::tests::check_rows;
+use ti_entry::read;
 use ti_fixtures::entries::{EXTENDED, changed};
-use ti_fixtures::{Finds, Given, Unfound};
+use ti_fixtures::{Finds, Given, Unfound, show_debug};
+use ti_report::coverage_of;
 
 /// Adds the lines on an entry as a whole, which come after those on its texts.
 fn add_whole(found: &mut Vec<u8>, file: &[u8]) -> Result<(), Unfound> {
@@ -96,4 +98,60 @@ impl Finds for LinesOnCount {
 #[test]
 fn a_count_of_items_that_is_not_theirs_is_reported(rt: HostRuntime) {
     check_rows(&rt, COUNTS, &LinesOnCount);
+}
+
+/// Entries with nothing but names, and the lines on them: term(5) has the names between `|`, and the last describes the terminal.
+const NAMES: &str = r"
+^Z^A^H\000\000\000\000\000\000\000\000\000a|b /cd\000 => -
+^Z^A^D\000\000\000\000\000\000\000\000\000aa^A\000 => names\n  aa\^A\n    \^\n  names-control: this is a control character\n
+^Z^A^D\000\000\000\000\000\000\000\000\000aa\377\000 => names\n  aa\\377\n    \^\n  names-control: from here on it is no UTF-8\n
+^Z^A^F\000\000\000\000\000\000\000\000\000a||bc\000 => names\n  a||bc\n    \^\n  names-control: an alias is empty\n
+^Z^A^F\000\000\000\000\000\000\000\000\000a|a|b\000 => a\n  alias-repeated: the entry has the alias twice\n
+# The description is no alias.
+^Z^A^F\000\000\000\000\000\000\000\000\000a|b|a\000 => -
+# One name alone is an alias.
+^Z^A^D\000\000\000\000\000\000\000\000\000a/b\000 => names\n  a/b\n   \^\n  names-control: an alias has a space or a /, so no file has its name\n
+";
+
+/// The lines on the entry of a row.
+struct NamesOf;
+
+impl Finds for NamesOf {
+    fn find(&self, given: &Given<'_, '_>, found: &mut Vec<u8>) -> Result<(), Unfound> {
+        let file = entry_of(*found.allocator(), given.text)?;
+        let lines = lines_on(*found.allocator(), look_of("mistakes"), file.as_slice())?;
+        Ok(found.extend_from_slice(lines.as_slice())?)
+    }
+}
+
+#[test]
+fn names_with_bytes_of_no_name_are_reported(rt: HostRuntime) {
+    check_rows(&rt, NAMES, &NamesOf);
+}
+
+/// Entries, and how much of them a report looks at.
+const COVERED: &str = r"
+bel=^G | lines#2 | cols#3 | cup=\E[%i%p1%d;%p2%dH => Coverage { strings: 2, tried: 1, values: 6 }
+bel=^G | cup=\E[%i%p1%d;%p2%dH => Coverage { strings: 2, tried: 0, values: 0 }
+# It is no capability.
+cols#3 | hpa=%u => Coverage { strings: 1, tried: 0, values: 0 }
+# All sets of nine attributes.
+sgr=\E[0m => Coverage { strings: 1, tried: 1, values: 512 }
+";
+
+/// How much of the entry of a row is looked at.
+struct CoverageOf;
+
+impl Finds for CoverageOf {
+    fn find(&self, given: &Given<'_, '_>, found: &mut Vec<u8>) -> Result<(), Unfound> {
+        let alloc = *found.allocator();
+        let file = entry_of(alloc, given.text)?;
+        let entry = read(file.as_slice())?;
+        show_debug(found, &coverage_of(alloc, &entry)?)
+    }
+}
+
+#[test]
+fn reports_look_at_strings_and_values(rt: HostRuntime) {
+    check_rows(&rt, COVERED, &CoverageOf);
 }

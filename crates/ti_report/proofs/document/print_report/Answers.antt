@@ -6,9 +6,9 @@ use Rattle.ti_report.proofs.document.print_report.Goals as goal
 
 pub returns : goal.returns
 returns g c =
-    let remarks = c.in_ok-report.report in
+    let remarks = c.in_ok-list.list.items in
     let objects = map remark_object remarks in (
       objects,
-      record { remarks = remarks; report = c.in_ok-report.ensures; sound_is = c.is_empty.ensures ∙ ap (λ rs. length rs == 0) c.remarks-remarks.ensures; objects_are = refl },
-      list_printed objects c.begin_list.ensures (as_said (ap (λ rs. all_tokens (map remark_object rs)) c.remarks-remarks.ensures) c.in_ok-print_remarks.ensures) c.end_list.ensures,
+      record { remarks = remarks; report = c.in_ok-list.ensures; sound_is = c.is_empty.ensures ∙ ap (λ rs. length rs == 0) c.as_slice-remarks.ensures.value; objects_are = refl },
+      list_printed objects c.begin_list.ensures (as_said (ap (λ rs. all_tokens (map remark_object rs)) c.as_slice-remarks.ensures.value) c.in_ok-print_remarks.ensures) c.end_list.ensures,
     )

@@ -2,7 +2,7 @@
 
 use std::test::Fail;
 use ti_entry::read;
-use ti_report::{Color, Level, Trials, push_report, report_json};
+use ti_report::{Color, Level, LintOptions, Trials, push_report, report_json};
 
 /// An entry called `t` with `cup` as termcap writes `cm`.
 const FILE: &[u8] = b"\x1a\x01\x02\0\0\0\0\0\x0b\0\x09\0t\0\
@@ -14,8 +14,12 @@ fn an_entry_of_termcap(rt: HostRuntime) -> Result<(), Fail> {
     let mut lines = Vec::new(rt.alloc());
     let alloc = rt.alloc();
     let trials = &mut Trials::new(alloc);
-    let (level, color) = (Level::Errors, Color::Never);
-    push_report(alloc, &mut lines, trials, level, color, b"", FILE, &entry)?;
+    let options = LintOptions {
+        level: Level::Errors,
+        untrusted: false,
+    };
+    let color = Color::Never;
+    push_report(alloc, &mut lines, trials, options, color, b"", FILE, &entry)?;
     let wanted = br"cup
   \E=%+ %+\s
      ^  ^
@@ -26,7 +30,7 @@ cup
   stack-residue: on some path the value that it pushes is left
 ";
     assert!(rt; lines.as_slice() == wanted.as_slice());
-    let json = report_json(alloc, trials, level, FILE, &entry)?;
+    let json = report_json(alloc, trials, options, FILE, &entry)?;
     let wanted =
         br#"[{"finding":"termcap-parameter","meaning":"it pops a value, and the text has no %p","places":[2,5],"subjects":[{"name":"cup","text":"\\E=%+ %+\\s"}]},{"finding":"stack-residue","meaning":"on some path the value that it pushes is left","places":[5],"subjects":[{"name":"cup","text":"\\E=%+ %+\\s"}]}]"#;
     assert!(rt; json.text.as_slice() == wanted.as_slice());

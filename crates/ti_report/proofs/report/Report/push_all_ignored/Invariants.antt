@@ -7,5 +7,7 @@ use Rattle.ti_report.specs.inner.Held.{trial_held}
 use Rattle.ti_report.proofs.report.Report.push_all_ignored.Given as goal
 
 abbrev pub invariant-attributes : goal.invariant-attributes
-invariant-attributes g l =
-    l.self ≡ l.initial.self ++ flat_map (on_ignored l.entry (trial_held l.trial)) (map row_of (take l.name-index l.name-items))
+invariant-attributes g l = record {
+  kept : l.self.on ≡ l.initial.self.on;
+  so_far : l.self.remarks ≡ l.initial.self.remarks ++ flat_map (on_ignored l.fn.self.on.entry (trial_held l.trial)) (map row_of (take l.name-index l.name-items));
+}

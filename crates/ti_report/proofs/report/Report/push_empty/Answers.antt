@@ -8,8 +8,12 @@ use Rattle.ti_report.proofs.report.Report.push_empty.Goals as goal
 pub returns-in_ok-push_on_values-in-Some : goal.returns-in_ok-push_on_values-in-Some
 returns-in_ok-push_on_values-in-Some g c =
     let t = trial_held c.args.trial.now in
-    let k = c.in-Some.place in (
-      on_values t.name t.text EmptyOutput (For (tried_at t k)),
-      (Some k, c.in-Some.ensures.exact, refl),
-      c.in_ok-push_on_values-in-Some.ensures ∙ ap (λ value. c.args.self.now ++ on_values t.name t.text EmptyOutput (For value)) c.tried_at.ensures,
+    let k = c.in-Some.place in
+    let (kept, is) = c.in_ok-push_on_values-in-Some.ensures in (
+      kept,
+      (
+        on_values t.name t.text EmptyOutput (For (tried_at t k)),
+        (Some k, c.in-Some.ensures.exact, refl),
+        is ∙ ap (λ value. c.args.self.now.remarks ++ on_values t.name t.text EmptyOutput (For value)) c.tried_at.ensures,
+      ),
     )

@@ -6,4 +6,7 @@ use Rattle.ti_report.specs.Pairs.{pair_remarks}
 use Rattle.ti_report.proofs.report.Report.push_pairs_of.Given as goal
 
 abbrev pub invariant-pairs : goal.invariant-pairs
-invariant-pairs g l = l.self ≡ l.initial.self ++ flat_map (pair_remarks l.entry) (map names_of (take l.one-index l.pairs))
+invariant-pairs g l = record {
+  kept : l.self.on ≡ l.initial.self.on;
+  so_far : l.self.remarks ≡ l.initial.self.remarks ++ flat_map (pair_remarks l.finding l.fn.self.on.entry) (map names_of (take l.one-index l.pairs));
+}

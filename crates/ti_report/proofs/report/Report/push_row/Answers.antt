@@ -15,12 +15,17 @@ keys-preserved g c =
     let i = l.next in
     let before : get_or (keys_lent row) (i - 1) ([], []) ≡ key_lent (get_or row (i - 1) (no_text, no_text)) = get_or-map key_lent row (i - 1) (no_text, no_text) ([], []) (omega (arith, c.keys-test.true)) in
     let here : get_or (keys_lent row) i ([], []) ≡ key_lent (get_or row i (no_text, no_text)) = get_or-map key_lent row i (no_text, no_text) ([], []) (omega (arith, c.keys-test.true)) in
+    let (kept, is) = c.in_ok-push_neighbours.ensures in
     record {
       low = omega (arith, l.invariant.low);
+      kept = kept ∙ l.invariant.kept;
       so_far =
-          row_next c.args.level (keys_lent row) i ([], []) l.self c.push_neighbours.new.self _ l.invariant.low (omega (arith, c.keys-test.true, length-map row key_lent))
-          (c.in_ok-push_neighbours.ensures ∙ ap₂ (λ one other. l.self ++ on_neighbours c.args.level one other) (sym before) (sym here)) l.invariant.so_far;
+          row_next (keys_lent row) i ([], []) l.self.remarks c.push_neighbours.new.self.remarks _ l.invariant.low (omega (arith, c.keys-test.true, length-map row key_lent))
+          (is ∙ ap₂ (λ one other. l.self.remarks ++ on_neighbours one other) (sym before) (sym here)) l.invariant.so_far;
     }
 
 pub returns : goal.returns
-returns g c = row_end c.args.level (keys_lent c.args.row.now) c.keys.next c.keys.self _ (omega (arith, c.keys-test.false, length-map c.args.row.now key_lent)) c.keys.invariant.so_far
+returns g c = (
+  c.keys.invariant.kept,
+  row_end (keys_lent c.args.row.now) c.keys.next c.keys.self.remarks _ (omega (arith, c.keys-test.false, length-map c.args.row.now key_lent)) c.keys.invariant.so_far,
+)

@@ -7,5 +7,6 @@ use Rattle.ti_report.proofs.report.Report.push_row.Given as goal
 abbrev pub invariant-keys : goal.invariant-keys
 invariant-keys g l = record {
   low : 1 ≤ l.next;
-  so_far : l.self ++ on_row l.fn.level (drop (l.next - 1) (keys_lent l.row)) ≡ l.initial.self ++ on_row l.fn.level (keys_lent l.row);
+  kept : l.self.on ≡ l.initial.self.on;
+  so_far : l.self.remarks ++ on_row (drop (l.next - 1) (keys_lent l.row)) ≡ l.initial.self.remarks ++ on_row (keys_lent l.row);
 }

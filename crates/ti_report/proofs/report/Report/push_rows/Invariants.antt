@@ -1,9 +1,12 @@
 -- The remarks so far go on to those on all texts.
-use Rattle.std.proofs.Common.{map}
+use Rattle.std.proofs.Common.{◌≡◌, map}
 use Rattle.ti_values.specs.inner.Rows.{row_of}
 use Rattle.ti_report.specs.Values.{IsNamedTriedReport}
 use Rattle.ti_report.proofs.ReportsLemmas.{GoesOn}
 use Rattle.ti_report.proofs.report.Report.push_rows.Given as goal
 
 abbrev pub invariant-rows : goal.invariant-rows
-invariant-rows g l = GoesOn (IsNamedTriedReport l.fn.level l.entry) (map row_of l.rows) l.initial.self l.name-index l.self
+invariant-rows g l = record {
+  kept : l.self.on ≡ l.initial.self.on;
+  goes : GoesOn (IsNamedTriedReport l.fn.self.on.entry) (map row_of l.rows) l.initial.self.remarks l.name-index l.self.remarks;
+}

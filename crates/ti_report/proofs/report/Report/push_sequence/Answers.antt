@@ -6,8 +6,9 @@ use Rattle.ti_report.proofs.report.Report.push_sequence.Goals as goal
 
 pub returns-then-has_unended : goal.returns-then-has_unended
 returns-then-has_unended g c =
-    (on_values c.args.subject.now.name.now c.args.subject.now.text.now UnendedText NoEvidence, inl (c.has_unended.ensures.exact.0 c.if-has_unended.true, refl), c.in_ok-push_on_values.ensures)
+    let (kept, is) = c.in_ok-push_on_values.ensures in
+    (kept, (on_values c.args.subject.now.name.now c.args.subject.now.text.now UnendedText NoEvidence, inl (c.has_unended.ensures.exact.0 c.if-has_unended.true, refl), is))
 
 pub returns : goal.returns
 returns g c =
-    ([], inr (λ has. cc (c.has_unended.ensures.exact.1 has, c.if-has_unended.false), refl), sym (append-nil c.args.self.now))
+    (refl, ([], inr (λ has. cc (c.has_unended.ensures.exact.1 has, c.if-has_unended.false), refl), sym (append-nil c.args.self.now.remarks)))

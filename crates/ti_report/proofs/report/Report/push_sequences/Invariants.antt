@@ -1,9 +1,12 @@
 -- The remarks so far go on to those on all texts.
-use Rattle.std.proofs.Common.{drop}
+use Rattle.std.proofs.Common.{◌≡◌, drop}
 use Rattle.ti_report.specs.Sequences.{IsSequenceOf}
 use Rattle.ti_report.specs.inner.Held.{texts_held}
 use Rattle.ti_report.proofs.ReportsLemmas.{GoesOnWith}
 use Rattle.ti_report.proofs.report.Report.push_sequences.Given as goal
 
 abbrev pub invariant-texts : goal.invariant-texts
-invariant-texts g l = GoesOnWith (IsSequenceOf l.fn.ansi) (texts_held l.texts) (drop l.text-index (texts_held l.texts)) l.initial.self l.self
+invariant-texts g l = record {
+  kept : l.self.on ≡ l.initial.self.on;
+  goes : GoesOnWith (IsSequenceOf l.ansi) (texts_held l.text-items) (drop l.text-index (texts_held l.text-items)) l.initial.self.remarks l.self.remarks;
+}

@@ -1,4 +1,4 @@
-use Rattle.std.proofs.Common.{◌∙◌, ◌++◌, Bool, List, ap, ap₂, append_assoc}
+use Rattle.std.proofs.Common.{◌≡◌, ◌∙◌, ◌++◌, Bool, List, ap, ap₂, append_assoc}
 use Rattle.std.specs.Prelude.{not}
 use Rattle.ti_report.specs.Remarks.{Remark}
 use Rattle.ti_report.specs.Bases.{bases_differ}
@@ -8,13 +8,19 @@ use Rattle.ti_report.proofs.report.Report.push_whole.Goals as goal
 
 pub returns : goal.returns
 returns g c =
-    let old = c.args.self.now in
-    let colors = color_remarks c.args.entry.now in
+    let on = c.args.self.now.on in
+    let old = c.args.self.now.remarks in
+    let colors = color_remarks on.entry in
     let layout : Bool → List Remark = λ is. found_if (not is) Layout in
     let base : Bool → List Remark = λ differ. found_if differ Base in
-    let is = is_canonical c.args.bytes.now c.args.entry.now in
-    let differ = bases_differ c.args.bytes.now in
-    c.in_ok-push_if-2.ensures ∙ ap (λ all. all ++ base c.bases_differ.result) (c.in_ok-push_if.ensures ∙ ap (λ all. all ++ layout c.in_ok-canonical.canonical) c.in_ok-push_colors.ensures)
-    ∙ ap₂ (λ one other. ((old ++ colors) ++ layout one) ++ base other) c.in_ok-canonical.ensures c.bases_differ.ensures
-    ∙ append_assoc (old ++ colors) (layout is) (base differ)
-    ∙ append_assoc old colors (layout is ++ base differ)
+    let is : c.in_ok-canonical.canonical ≡ is_canonical on.bytes on.entry = c.in_ok-canonical.ensures ∙ ap₂ is_canonical c.bytes-bytes.ensures c.entry-entry.ensures in
+    let differ : c.bases_differ-differ.result ≡ bases_differ on.bytes = c.bases_differ-differ.ensures ∙ ap bases_differ c.bytes-bytes.ensures in
+    let (colored, first) = c.in_ok-push_colors.ensures in
+    let (laid, second) = c.in_ok-push_if.ensures in
+    let (based, third) = c.in_ok-push_if-2.ensures in (
+      based ∙ laid ∙ colored,
+      third ∙ ap (λ all. all ++ base c.bases_differ-differ.result) (second ∙ ap (λ all. all ++ layout c.in_ok-canonical.canonical) first)
+          ∙ ap₂ (λ one other. ((old ++ colors) ++ layout one) ++ base other) is differ
+          ∙ append_assoc (old ++ colors) (layout (is_canonical on.bytes on.entry)) (base (bases_differ on.bytes))
+          ∙ append_assoc old colors (layout (is_canonical on.bytes on.entry) ++ base (bases_differ on.bytes)),
+    )

@@ -11,6 +11,6 @@ returns g c =
     let founds = c.in_ok-list.list.items in
     let n = c.args.parameters in
     let Q : List PlacedFinding → Type 0 = λ list. Adds (AreReports (IsFindingReport text n list) 0 all_findings) c.args.self.now c.push_founds.new.self in
-    let R : List PlacedFinding → Type 0 = λ list. Adds (IsUnusedReport c.args.usage.may_leave_out text n list) c.push_founds.new.self c.push_unused.new.self in
+    let R : List PlacedFinding → Type 0 = λ list. Adds (IsUnusedReport c.args.usage text n list) c.push_founds.new.self c.push_unused.new.self in
     let (remarks, are, is) = in_turn _ _ _ _ _ (subst Q c.as_slice-founds.ensures.value c.in_ok-push_founds.ensures) (subst R c.as_slice-founds.ensures.value c.in_ok-push_unused.ensures) in
     (remarks, (founds, record { exact = c.in_ok-list.ensures.exact; order = c.in_ok-list.ensures.order }, are), is)
