@@ -1,6 +1,6 @@
 -- Words that mean values, read one after another.
 use Rattle.std.proofs.Common.{◌≡◌, ◌==◌, ℕ, false, true≢false, suc, ◌+◌, ◌-◌, ◌<◌, ◌≤◌, inl, inr, List, [], ◌∷◌, ◌++◌, length, refl, sym, ◌∙◌, ap, subst, arith, set, take, drop, get_or, Bor, add-one, drop-cons}
-use Rattle.std.specs.Prelude.{◌↔◌, slice_set, Result, Ok, Err, OnOk, IfOk, MatchResult, Some, ℤ, codes}
+use Rattle.std.specs.Prelude.{◌↔◌, slice_set, Result, Ok, Err, IfOk, MatchResult, Some, codes}
 use Rattle.std.specs.List.{AllByRecursion}
 use Rattle.std.proofs.lemmas.Bool.{cases_lt}
 use Rattle.std.proofs.Math.Seq.{take-suc}
@@ -8,10 +8,12 @@ use Rattle.std.proofs.lemmas.List.{map-append, length-map, length-take-le, take-
 use Rattle.ti_line.specs.declared.params.WordFault.{WordFault}
 use Rattle.ti_line.specs.declared.params.WordFault.TheVariants.{TooMany, BadWord}
 use Rattle.ti_line.specs.Requests.{texts_of}
+use Rattle.ti_expand.specs.declared.values.Value.{Value}
+use Rattle.ti_expand.specs.declared.values.Value.TheVariants.{Num, Text}
 use Rattle.ti_line.specs.declared.given.Given.{Given}
 use Rattle.ti_line.specs.declared.given.Param.{Param}
 use Rattle.ti_line.specs.declared.given.Param.TheVariants as params
-use Rattle.ti_line.specs.Params.{AreGiven, IsFirstBad, IsGiven, IsGivenBy, IsNumber, IsWordFault, Stand}
+use Rattle.ti_line.specs.Params.{AreNine, AreGiven, IsFirstBad, IsGiven, IsGivenBy, IsMarked, IsParam, IsWordFault, Stand}
 
 -- how many of the words there are, and one among them
 
@@ -24,14 +26,11 @@ texts_of-split words i d h =
     ap (λ x. texts_of x) (sym (take-append-drop i words) ∙ ap (λ x. take i words ++ x) (drop-cons words i d h))
     ∙ map-append (λ w. w.now) (take i words) (get_or words i d ∷ drop (suc i) words)
 
--- what a word means, and what a missing value is
-module _ (V : Type 0) (Means : List ℕ → V → Type 0) (IsMissing : V → Type 0) where
-  abbrev AreAll : List (List ℕ) → List V → Type 0
-  AreAll words values = (length values ≡ 9) × Stand Means IsMissing words values
-
+-- what a word means, and the missing value
+module _ (V : Type 0) (Means : List ℕ → V → Type 0) (missing : V) where
   -- the first words stand for the first values, and the values after them are missing
-  stand_more : (words : List (List ℕ)) (word : List ℕ) (values : List V) (value : V) → Stand Means IsMissing words values → length words < length values → Means word value
-      → Stand Means IsMissing (words ++ word ∷ []) (set values (length words) value)
+  stand_more : (words : List (List ℕ)) (word : List ℕ) (values : List V) (value : V) → Stand Means missing words values → length words < length values → Means word value
+      → Stand Means missing (words ++ word ∷ []) (set values (length words) value)
   stand_more [] word [] value s h w = absurd (omega arith)
   stand_more [] word (v ∷ vs) value s h w = (w, s.1)
   stand_more (x ∷ words) word [] value s h w = absurd s
@@ -41,7 +40,7 @@ module _ (V : Type 0) (Means : List ℕ → V → Type 0) (IsMissing : V → Typ
   abbrev AllStand : List (List ℕ) → Type 0
   AllStand words = AllByRecursion (λ word. (value : V) × Means word value) words
 
-  stand_all : (words : List (List ℕ)) (values : List V) → Stand Means IsMissing words values → AllStand words
+  stand_all : (words : List (List ℕ)) (values : List V) → Stand Means missing words values → AllStand words
   stand_all [] values s = tt
   stand_all (x ∷ words) [] s = absurd s
   stand_all (x ∷ words) (v ∷ vs) s = ((v, s.0), stand_all words vs s.1)
@@ -54,16 +53,16 @@ module _ (V : Type 0) (Means : List ℕ → V → Type 0) (IsMissing : V → Typ
       inr (omega arith, s.0, subst P (omega arith) (bad_first words word later s.1 none))
 
   pub stand_next : (words : List (Bor (List ℕ))) (i : ℕ) (d : Bor (List ℕ)) (values : List V) (value : V) → i < length words → length words ≤ 9 → length values ≡ 9
-      → Stand Means IsMissing (texts_of (take i words)) values → Means (get_or words i d).now value → Stand Means IsMissing (texts_of (take (i + 1) words)) (slice_set values i value)
+      → Stand Means missing (texts_of (take i words)) values → Means (get_or words i d).now value → Stand Means missing (texts_of (take (i + 1) words)) (slice_set values i value)
   stand_next words i d values value h few nine s w =
       let n : length (texts_of (take i words)) ≡ i = texts_of-take words i (omega arith) in
       let e : texts_of (take (i + 1) words) ≡ texts_of (take i words) ++ (get_or words i d).now ∷ [] =
       ap (λ x. texts_of (take x words)) (add-one i) ∙ ap (λ x. texts_of x) (take-suc words i d h) ∙ map-append (λ w. w.now) (take i words) (get_or words i d ∷ []) in
-      let P : List (List ℕ) → Type 0 = λ x. Stand Means IsMissing x (slice_set values i value) in
-      let Q : ℕ → Type 0 = λ x. Stand Means IsMissing (texts_of (take i words) ++ (get_or words i d).now ∷ []) (slice_set values x value) in
+      let P : List (List ℕ) → Type 0 = λ x. Stand Means missing x (slice_set values i value) in
+      let Q : ℕ → Type 0 = λ x. Stand Means missing (texts_of (take i words) ++ (get_or words i d).now ∷ []) (slice_set values x value) in
       subst P (sym e) (subst Q n (stand_more (texts_of (take i words)) (get_or words i d).now values value s (omega arith) w))
 
-  pub bad_here : (words : List (Bor (List ℕ))) (i : ℕ) (d : Bor (List ℕ)) (values : List V) → i < length words → Stand Means IsMissing (texts_of (take i words)) values
+  pub bad_here : (words : List (Bor (List ℕ))) (i : ℕ) (d : Bor (List ℕ)) (values : List V) → i < length words → Stand Means missing (texts_of (take i words)) values
       → ((value : V) → ¬ Means (get_or words i d).now value) → IsFirstBad Means (i + 1) (texts_of words)
   bad_here words i d values h s none =
       let P : List (List ℕ) → Type 0 = λ x. IsFirstBad Means (i + 1) x in
@@ -71,12 +70,12 @@ module _ (V : Type 0) (Means : List ℕ → V → Type 0) (IsMissing : V → Typ
       subst P (sym (texts_of-split words i d h)) (subst Q (texts_of-take words i (omega arith))
       (bad_first (texts_of (take i words)) (get_or words i d).now (texts_of (drop (suc i) words)) (stand_all (texts_of (take i words)) values s) none))
 
-  stand_few : (words : List (List ℕ)) (values : List V) → Stand Means IsMissing words values → length words ≤ length values
+  stand_few : (words : List (List ℕ)) (values : List V) → Stand Means missing words values → length words ≤ length values
   stand_few [] values s = omega arith
   stand_few (x ∷ words) [] s = absurd s
   stand_few (x ∷ words) (v ∷ vs) s = omega (arith, stand_few words vs s.1)
 
-  bad_none : (which : ℕ) (words : List (List ℕ)) (values : List V) → IsFirstBad Means which words → ¬ Stand Means IsMissing words values
+  bad_none : (which : ℕ) (words : List (List ℕ)) (values : List V) → IsFirstBad Means which words → ¬ Stand Means missing words values
   bad_none which [] values b s = b
   bad_none which (x ∷ words) [] b s = s
   bad_none which (x ∷ words) (v ∷ vs) (inl (e, none)) s = none v s.0
@@ -84,7 +83,7 @@ module _ (V : Type 0) (Means : List ℕ → V → Type 0) (IsMissing : V → Typ
 
   -- words that are refused stand for no parameters
   no_params : {R : Type 0} (ws : List (List ℕ)) (fault : WordFault) (r : Result R WordFault) → r ≡ Err fault → (r ≡ Err TooMany → 9 < length ws)
-      → ((which : ℕ) → r ≡ Err (BadWord which) → IsFirstBad Means which ws) → (values : List V) → ¬ AreAll ws values
+      → ((which : ℕ) → r ≡ Err (BadWord which) → IsFirstBad Means which ws) → (values : List V) → ¬ AreNine Means missing ws values
   no_params ws TooMany r e many bad values p = omega (arith, many e, stand_few ws values p.1)
   no_params ws (BadWord which) r e many bad values p = bad_none which ws values (bad which e) p.1
 
@@ -100,17 +99,12 @@ module _ (V : Type 0) (Means : List ℕ → V → Type 0) (IsMissing : V → Typ
   -- the words stand for parameters, or for none
   pub params_or_none : {R : Type 0} (Are : List (List ℕ) → R → Type 0) (ws : List (Bor (List ℕ))) (r : Result R WordFault) → IfOk r (Are (texts_of ws)) → (r ≡ Err TooMany) ↔ (9 < length ws)
       → ((which : ℕ) → r ≡ Err (BadWord which) → IsFirstBad Means which (texts_of ws))
-      → MatchResult r (Are (texts_of ws)) (λ why. IsWordFault Means (texts_of ws) why × ((values : List V) → ¬ AreAll (texts_of ws) values))
+      → MatchResult r (Are (texts_of ws)) (λ why. IsWordFault Means (texts_of ws) why × ((values : List V) → ¬ AreNine Means missing (texts_of ws) values))
   params_or_none Are ws (Ok values) are many bad = are
   params_or_none Are ws (Err why) are many bad = (
     params_refused ws why (Err why) refl many.0 many.1 bad,
     no_params (texts_of ws) why (Err why) refl (λ e. omega (arith, length-map ws (λ w. w.now), many.0 e)) bad,
   )
-
-pub params_by : {V R : Type 0} (Are : List (List ℕ) → V → Type 0) (ws : List (List ℕ)) (values : V) (value : R) (Has : List (List ℕ) → R → Type 0) (r : Result (Unit {0}) WordFault) (m : Result R WordFault)
-    → MatchResult r (λ x. m ≡ Ok value) (λ e. m ≡ Err e) → OnOk r (Are ws values) → (Are ws values → Has ws value) → IfOk m (Has ws)
-params_by Are ws values value Has (Ok u) m h s f = rw h (f s)
-params_by Are ws values value Has (Err e) m h s f = rw h tt
 
 pub some_words : (words : List (Bor (List ℕ))) → (length words == 0) ≡ false → 0 < length (texts_of words)
 some_words [] e = absurd (true≢false e)
@@ -121,14 +115,14 @@ pub given_by : (ws : List (List ℕ)) (given : Given) → 0 < length ws → AreG
 given_by [] given some are = absurd (omega arith)
 given_by (w ∷ ws) given some are = (given, refl, are)
 
--- a word with the mark of a number and no number after it gives nothing
-pub none_given : (word text : List ℕ) → word ≡ codes "n:" ++ text → ((z : ℤ) → ¬ IsNumber text z) → (param : Param) → ¬ IsGiven word param
-none_given word text is none (params.Number z) (other, same, number) =
-    let joined : codes "n:" ++ other ≡ codes "n:" ++ text = sym same ∙ is in
-    let one : other ≡ text = cc in
-    none z (subst (λ t. IsNumber t z) one number)
-none_given word text is none (params.Text t) (inl same) =
-    let first : 110 ≡ 115 = ap (λ ws. get_or ws 0 0) (sym is ∙ same) in
-    absurd (omega (arith, first))
-none_given word text is none (params.Text t) (inr (plain, no_number, same)) = plain (text, inl is)
-none_given word text is none (params.Either z t) (plain, number, same) = plain (text, inl is)
+-- a word that means nothing and has no mark of a number has no mark
+pub no_mark : (word : List ℕ) → ((value : Value) → ¬ IsParam word value) → ((text : List ℕ) → ¬ (word ≡ codes "n:" ++ text)) → ¬ IsMarked word
+no_mark word none not_number (text, inl is) = not_number text is
+no_mark word none not_number (text, inr is) = none (Text (record { ref_ptr = (0, 0); now = text })) is
+
+-- a word with a mark that means nothing gives nothing
+pub none_given : (word : List ℕ) → IsMarked word → ((value : Value) → ¬ IsParam word value) → (param : Param) → ¬ IsGiven word param
+none_given word marked none (params.Value value) (inl is) = none value is
+none_given word marked none (params.Value (Num z)) (inr plain) = plain
+none_given word marked none (params.Value (Text t)) (inr plain) = plain.0 marked
+none_given word marked none (params.Either z t) (plain, number, same) = plain marked

@@ -2,7 +2,7 @@
 use Rattle.std.proofs.Common.{◌≡◌, [], ◌∷◌, true, false, refl}
 use Rattle.std.specs.Prelude.{None, Some, codes}
 use Rattle.clap.proofs.OnLiterals.{clap_on_literals}
-use Rattle.ti_line.specs.CommandLine.{AsksForHelp, Cap, Check, Convert, Diff, Expand, Get, IsRefused, Lint, Reads, Show, Trace, files_of}
+use Rattle.ti_line.specs.CommandLine.{AsksForHelp, Cap, Check, Convert, Diff, Expand, Get, IsRefused, Lint, Reads, Show, Trace, files_of, has_summary}
 
 -- `ti cap n:4 --hex n:9`
 cap_row : Reads (codes "ti" ∷ codes "cap" ∷ codes "n:4" ∷ codes "--hex" ∷ codes "n:9" ∷ []) (Cap false true false (codes "n:4" ∷ codes "n:9" ∷ []))
@@ -70,7 +70,7 @@ unfolding clap_on_literals
 get_row = (refl, refl)
 
 -- `ti lint a`
-lint_row : Reads (codes "ti" ∷ codes "lint" ∷ codes "a" ∷ []) (Lint false false None)
+lint_row : Reads (codes "ti" ∷ codes "lint" ∷ codes "a" ∷ []) (Lint false false false None)
 unfolding clap_on_literals
 lint_row = (refl, refl)
 
@@ -79,8 +79,8 @@ diff_row : Reads (codes "ti" ∷ codes "diff" ∷ codes "a" ∷ codes "b" ∷ []
 unfolding clap_on_literals
 diff_row = (refl, refl)
 
--- `ti lint --json --all`, `ti diff --color=never a b` and `ti trace --json --color always`
-lint_json_row : Reads (codes "ti" ∷ codes "lint" ∷ codes "--json" ∷ codes "--all" ∷ []) (Lint true true None)
+-- `ti lint --json --all --untrusted`, `ti diff --color=never a b` and `ti trace --json --color always`
+lint_json_row : Reads (codes "ti" ∷ codes "lint" ∷ codes "--json" ∷ codes "--all" ∷ codes "--untrusted" ∷ []) (Lint true true true None)
 unfolding clap_on_literals
 lint_json_row = (refl, refl)
 
@@ -104,6 +104,15 @@ entry_row = refl
 input_row : files_of (codes "ti" ∷ codes "show" ∷ codes "-" ∷ []) ≡ []
 unfolding clap_on_literals
 input_row = refl
+
+-- `ti lint --summary` has the option, and `ti lint` has not
+summary_row : has_summary (codes "ti" ∷ codes "lint" ∷ codes "--summary" ∷ []) ≡ true
+unfolding clap_on_literals
+summary_row = refl
+
+no_summary_row : has_summary (codes "ti" ∷ codes "lint" ∷ []) ≡ false
+unfolding clap_on_literals
+no_summary_row = refl
 
 -- `ti expand --rate 1000001 bel`
 rate_row : IsRefused (codes "ti" ∷ codes "expand" ∷ codes "--rate" ∷ codes "1000001" ∷ codes "bel" ∷ [])

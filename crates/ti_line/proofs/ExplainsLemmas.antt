@@ -8,8 +8,8 @@ use Rattle.ti_line.specs.CommandLine.{faults, is_help}
 use Rattle.ti_line.specs.Requests.{Explains}
 use Rattle.ti_line.specs.inner.Errors.{TellsOf}
 use Rattle.ti_line.specs.declared.destination.Destination.{Destination}
-use Rattle.ti_line.specs.declared.no_line.NoLine.{NoLine}
-use Rattle.ti_line.specs.declared.no_line.NoLine.TheVariants as no_line
+use Rattle.ti_line.specs.declared.no_request.NoRequest.{NoRequest}
+use Rattle.ti_line.specs.declared.no_request.NoRequest.TheVariants as no_request
 
 any_of : (p : ErrorKind → Bool) (k : ErrorKind) (ks : Kinds) → IsAmong k ks → p k ≡ true → list_any p ks ≡ true
 any_of p k [] h t = elim h [ ]
@@ -20,11 +20,11 @@ any_of p k (x ∷ ks) (inr h) t = or_true (p x) _ (any_of p k ks h t)
     or_true true b h = refl
     or_true false b h = h
 
-pub explains : (to : Destination) (words : List Text) (ks : Kinds) (k : ErrorKind) (why : NoLine) → ks ≡ faults words → (k ≡ kind.OutOfMemory) ⊎ IsAmong k ks → TellsOf k why → Explains to words why
-explains to words ks k (no_line.Help message) e (inl m) t = absurd (true≢false (sym t ∙ ap is_help m))
-explains to words ks k (no_line.Help message) e (inr a) t = subst (λ (l : Kinds). list_any is_help l ≡ true) e (any_of is_help k ks a t)
-explains to words ks k (no_line.Refused message) e (inl m) t = absurd (t.1 m)
-explains to words ks k (no_line.Refused message) e (inr a) t =
+pub explains : (to : Destination) (words : List Text) (ks : Kinds) (k : ErrorKind) (why : NoRequest) → ks ≡ faults words → (k ≡ kind.OutOfMemory) ⊎ IsAmong k ks → TellsOf k why → Explains to words why
+explains to words ks k (no_request.Help message) e (inl m) t = absurd (true≢false (sym t ∙ ap is_help m))
+explains to words ks k (no_request.Help message) e (inr a) t = subst (λ (l : Kinds). list_any is_help l ≡ true) e (any_of is_help k ks a t)
+explains to words ks k (no_request.Refused message) e (inl m) t = absurd (t.1 m)
+explains to words ks k (no_request.Refused message) e (inr a) t =
     subst (λ (l : Kinds). list_any (λ x. not (is_help x)) l ≡ true) e (any_of (λ x. not (is_help x)) k ks a (ap not t.0))
-explains to words ks k (no_line.Fault why) e h t = absurd t
-explains to words ks k no_line.Memory e h t = tt
+explains to words ks k (no_request.Fault why) e h t = absurd t
+explains to words ks k no_request.Memory e h t = tt

@@ -232,9 +232,9 @@ each_weaker P Q (x ∷ xs) f h = (f x h.0, each_weaker P Q xs f h.1)
 abbrev HasLine : Option Line → Type 0
 HasLine o = (line : Line) × (o ≡ Some line)
 
-made : (b : Bool) (asked : Line) → b ≡ true → HasLine (cond b (Some asked) None)
-made true asked e = (asked, refl)
-made false asked e = absurd (true≢false (sym e))
+made : (b : Bool) (action : Line) → b ≡ true → HasLine (cond b (Some action) None)
+made true action e = (action, refl)
+made false action e = absurd (true≢false (sym e))
 
 number_low : (id : Text) (default most : ℕ) (rows : List Row) → default ≤ most → Each (Fits id (IsLow default most)) rows → number_in id default rows ≤ most
 number_low id default most rows low all = go (find (λ r. bytes_eq r.id id) rows) (row_found id (IsLow default most) rows all)
@@ -369,8 +369,8 @@ has_line words e = go stop (walk_past (built ti_app).top (names_of (built ti_app
 
 pub line_made : (words : List Text) → faults words ≡ [] → (line : Line) × Reads words line
 line_made words e =
-    let asked = has_line words e in
-    (asked.0, (e, asked.1))
+    let action = has_line words e in
+    (action.0, (e, action.1))
 
 -- ---- the numbers of a line
 

@@ -4,6 +4,6 @@ pub mod LawsLemmas
 pub mod RowsLemmas
 pub mod FaultlessLemmas
 pub mod ExplainsLemmas
-pub mod TaskLemmas
+pub mod ActionLemmas
 pub mod Examples
 pub mod AreParamsLemmas

@@ -125,11 +125,12 @@ abbrev pub check_app : App
 check_app =
     with_rules (new_app (codes "check")) (escape_rule ∷ all_names_rule ∷ json_rule ∷ entry_rule ∷ files_rule ∷ [])
 
--- `lint [--all] [--json] [--color WHEN] [--entry FILE] [FILE..]`
+-- `lint [--all] [--untrusted] [--summary] [--json] [--color WHEN] [--entry FILE] [FILE..]`
 abbrev pub lint_app : App
 lint_app =
     with_rules (new_app (codes "lint"))
-    (flag_rule (codes "all") ∷ json_rule ∷ color_rule ∷ entry_rule ∷ files_rule ∷ [])
+    (flag_rule (codes "all") ∷ flag_rule (codes "untrusted") ∷ flag_rule (codes "summary") ∷ json_rule ∷ color_rule
+    ∷ entry_rule ∷ files_rule ∷ [])
 
 -- `expand NAME [--hex] [--escape] [--all-names] [--rate N] [--lines N] [--xon] [--entry FILE] [PARAM..]`
 abbrev pub expand_app : App
@@ -220,7 +221,7 @@ pub data Line : Type 0 where
       → (params : List Text) → Line
   Show : (json escape all_names : Bool) → Line
   Check : (json escape all_names : Bool) → Line
-  Lint : (json all : Bool) → (color : Option Text) → Line
+  Lint : (json all untrusted : Bool) → (color : Option Text) → Line
   Expand : (name : Text) → (hex escape all_names : Bool) → (rate lines : ℕ) → (xon : Bool)
       → (params : List Text) → Line
   Convert : (wide narrow force : Bool) → Line
@@ -268,7 +269,8 @@ line_by command rows =
     then Some (Check (flag_in (codes "json") rows) (flag_in (codes "escape") rows)
     (flag_in (codes "all-names") rows))
     else (if bytes_eq command (codes "lint")
-    then Some (Lint (flag_in (codes "json") rows) (flag_in (codes "all") rows) (first_of (codes "color") rows))
+    then Some (Lint (flag_in (codes "json") rows) (flag_in (codes "all") rows) (flag_in (codes "untrusted") rows)
+    (first_of (codes "color") rows))
     else (if bytes_eq command (codes "expand")
     then option_and_then (expand_by rows) (first_of (codes "NAME") rows)
     else (if bytes_eq command (codes "convert")
@@ -295,6 +297,13 @@ files_found found = option_map_or (λ p. named_files (files_in p.1)) found []
 
 abbrev pub files_of : List Text → List Text
 files_of words = files_found (subcommand_of ti_app words)
+
+-- the words have `--summary`
+abbrev pub summary_found : Option (Text × List Row) → Bool
+summary_found found = option_map_or (λ p. flag_in (codes "summary") p.1) found false
+
+abbrev pub has_summary : List Text → Bool
+has_summary words = summary_found (subcommand_of ti_app words)
 
 -- ---- which words are a command line
 

@@ -10,6 +10,7 @@ use Rattle.ti_escape.specs.declared.form.Form.TheVariants as forms
 use Rattle.ti_escape.specs.Forms.{formed}
 use Rattle.ti_lint.specs.declared.level.Level.{Level}
 use Rattle.ti_lint.specs.declared.level.Level.TheVariants as scopes
+use Rattle.ti_lint.specs.declared.lint_options.LintOptions.{LintOptions}
 use Rattle.ti_line.specs.declared.destination.Destination.{Destination}
 use Rattle.ti_line.specs.declared.destination.Destination.TheVariants as destinations
 use Rattle.ti_line.specs.declared.options.Comparison.{Comparison}
@@ -25,11 +26,11 @@ use Rattle.ti_line.specs.declared.options.Output.{Output}
 use Rattle.ti_line.specs.declared.options.Output.TheVariants as outputs
 use Rattle.ti_line.specs.declared.options.TraceForm.{TraceForm}
 use Rattle.ti_line.specs.declared.options.TraceForm.TheVariants as trace_forms
-use Rattle.ti_line.specs.declared.request.Asked.{Asked}
-use Rattle.ti_line.specs.declared.request.Asked.TheVariants as asks
-use Rattle.ti_line.specs.declared.request.OfCapability.{OfCapability}
-use Rattle.ti_line.specs.declared.request.OfEntry.{OfEntry}
-use Rattle.ti_line.specs.declared.request.OfEntry.TheVariants as of_entry
+use Rattle.ti_line.specs.declared.request.Action.{Action}
+use Rattle.ti_line.specs.declared.request.Action.TheVariants as asks
+use Rattle.ti_line.specs.declared.request.CapabilityAction.{CapabilityAction}
+use Rattle.ti_line.specs.declared.request.EntryAction.{EntryAction}
+use Rattle.ti_line.specs.declared.request.EntryAction.TheVariants as of_entry
 
 -- results go to a terminal
 abbrev pub is_terminal : Destination → Bool
@@ -48,9 +49,9 @@ color_by to word =
     else (if bytes_eq word (codes "always") then Some colors.Always
     else (if bytes_eq word (codes "never") then Some colors.Never else None))
 
-abbrev pub color_asked : Destination → Option (List ℕ) → Option Color
-color_asked to None = Some (color_at to)
-color_asked to (Some word) = color_by to word
+abbrev pub color_of : Destination → Option (List ℕ) → Option Color
+color_of to None = Some (color_at to)
+color_of to (Some word) = color_by to word
 
 -- an output: its bytes as they stand, or in a form with a newline
 abbrev pub output_bytes : Output → List ℕ → List ℕ
@@ -58,75 +59,79 @@ output_bytes outputs.Raw bytes = bytes
 output_bytes (outputs.Line form) bytes = formed form bytes ++ codes "\n"
 
 -- what `--source` asks for: that the input is read as the notation of a capability
-abbrev pub input_asked : Bool → OfCapability → Asked
-input_asked true asked = asks.Source asked
-input_asked false asked = asks.Capability asked
+abbrev pub input_action : Bool → CapabilityAction → Action
+input_action true action = asks.Source action
+input_action false action = asks.Capability action
 
 -- what `--hex` and `--escape` ask for of an output
-abbrev pub output_asked : Bool → Bool → Output
-output_asked true escape = outputs.Line forms.Hex
-output_asked false true = outputs.Line forms.Notation
-output_asked false false = outputs.Raw
+abbrev pub output_of : Bool → Bool → Output
+output_of true escape = outputs.Line forms.Hex
+output_of false true = outputs.Line forms.Notation
+output_of false false = outputs.Raw
 
 -- what `--escape` asks for of the texts of a listing, or of a trace
-abbrev pub form_asked : Bool → Form
-form_asked true = forms.Notation
-form_asked false = forms.Hex
+abbrev pub form_of : Bool → Form
+form_of true = forms.Notation
+form_of false = forms.Hex
 
 -- what `--all` asks for
-abbrev pub level_asked : Bool → Level
-level_asked true = scopes.All
-level_asked false = scopes.Errors
+abbrev pub level_of : Bool → Level
+level_of true = scopes.All
+level_of false = scopes.Errors
+
+-- what `--all` and `--untrusted` ask for
+abbrev pub lint_options : Bool → Bool → LintOptions
+lint_options all untrusted = record { level = level_of all; untrusted = untrusted }
 
 -- what `--expand` asks for
-abbrev pub likeness_asked : Bool → Likeness
-likeness_asked true = likenesses.Tokens
-likeness_asked false = likenesses.Bytes
+abbrev pub likeness_of : Bool → Likeness
+likeness_of true = likenesses.Tokens
+likeness_of false = likenesses.Bytes
 
 -- what `--all-names` asks for
-abbrev pub names_asked : Bool → NameTable
-names_asked true = tables.All
-names_asked false = tables.Common
+abbrev pub name_table_of : Bool → NameTable
+name_table_of true = tables.All
+name_table_of false = tables.Common
 
 -- how the names of an entry are written: in the notation if `--escape` asks for it, or if results go
 -- to a terminal, which would obey their bytes
-abbrev pub name_form_asked : Bool → Bool → NameForm
-name_form_asked true terminal = name_forms.Notation
-name_form_asked false true = name_forms.Notation
-name_form_asked false false = name_forms.Raw
+abbrev pub name_form_of : Bool → Bool → NameForm
+name_form_of true terminal = name_forms.Notation
+name_form_of false true = name_forms.Notation
+name_form_of false false = name_forms.Raw
 
 -- what a listing calls an entry and its capabilities, by the flags `--all-names` and `--escape`, and by
 -- whether it goes to a terminal
-abbrev pub naming_asked : Bool → Bool → Bool → Naming
-naming_asked all_names escape terminal =
-    record { table = names_asked all_names; form = name_form_asked escape terminal }
+abbrev pub naming_of : Bool → Bool → Bool → Naming
+naming_of all_names escape terminal =
+    record { table = name_table_of all_names; form = name_form_of escape terminal }
 
 -- the options of a listing by the same
 abbrev pub list_options : Bool → Bool → Bool → ListOptions
 list_options all_names escape terminal =
-    record { naming = naming_asked all_names escape terminal; form = form_asked escape }
+    record { naming = naming_of all_names escape terminal; form = form_of escape }
 
 -- what `show` asks for by the same, and by `--json`
-abbrev pub show_asked : Bool → Bool → Bool → Bool → OfEntry
-show_asked true all_names escape terminal = of_entry.Json documents.Listing
-show_asked false all_names escape terminal = of_entry.Show (list_options all_names escape terminal)
+abbrev pub show_action : Bool → Bool → Bool → Bool → EntryAction
+show_action true all_names escape terminal = of_entry.Json documents.Listing
+show_action false all_names escape terminal = of_entry.Show (list_options all_names escape terminal)
 
 -- what `check` asks for by the same
-abbrev pub check_asked : Bool → Bool → Bool → Bool → OfEntry
-check_asked true all_names escape terminal = of_entry.Json documents.Verdicts
-check_asked false all_names escape terminal = of_entry.Check (naming_asked all_names escape terminal)
+abbrev pub check_action : Bool → Bool → Bool → Bool → EntryAction
+check_action true all_names escape terminal = of_entry.Json documents.Verdicts
+check_action false all_names escape terminal = of_entry.Check (naming_of all_names escape terminal)
 
--- what `lint` asks for by `--json` and `--all`
-abbrev pub lint_asked : Bool → Bool → Color → OfEntry
-lint_asked true all color = of_entry.Json (documents.Findings (level_asked all))
-lint_asked false all color = of_entry.Lint (level_asked all) color
+-- what `lint` asks for by `--json`
+abbrev pub lint_action : Bool → LintOptions → Color → EntryAction
+lint_action true options color = of_entry.Json (documents.Findings options)
+lint_action false options color = of_entry.Lint options color
 
 -- what `trace` asks for by `--json` and `--escape`
-abbrev pub trace_asked : Bool → Bool → Color → TraceForm
-trace_asked true escape color = trace_forms.Json
-trace_asked false escape color = trace_forms.Lines (form_asked escape) color
+abbrev pub trace_form_of : Bool → Bool → Color → TraceForm
+trace_form_of true escape color = trace_forms.Json
+trace_form_of false escape color = trace_forms.Lines (form_of escape) color
 
 -- what `diff` asks for by `--json`
-abbrev pub comparison_asked : Bool → Color → Comparison
-comparison_asked true color = comparisons.Json
-comparison_asked false color = comparisons.Lines color
+abbrev pub comparison_of : Bool → Color → Comparison
+comparison_of true color = comparisons.Json
+comparison_of false color = comparisons.Lines color

@@ -24,20 +24,20 @@ abbrev pub IsParam : List ℕ → Value → Type 0
 IsParam word (Num z) = (text : List ℕ) × (word ≡ codes "n:" ++ text) × IsNumber text z
 IsParam word (Text t) = word ≡ codes "s:" ++ t.now
 
-abbrev pub IsZero : Value → Type 0
-IsZero value = value ≡ Num (pos 0)
+-- each word means the value in its place, and after the words each value is the missing one
+abbrev pub Stand : {V : Type 0} → (List ℕ → V → Type 0) → V → List (List ℕ) → List V → Type 0
+Stand Means missing [] values = AllByRecursion (λ value. value ≡ missing) values
+Stand Means missing (word ∷ words) [] = ⊥
+Stand Means missing (word ∷ words) (value ∷ values) =
+    Means word value × Stand Means missing words values
 
--- each word means the value in its place, and after the words each value is a missing one
-abbrev pub Stand : {V : Type 0} → (List ℕ → V → Type 0) → (V → Type 0) → List (List ℕ) → List V
-    → Type 0
-Stand Means IsMissing [] values = AllByRecursion IsMissing values
-Stand Means IsMissing (word ∷ words) [] = ⊥
-Stand Means IsMissing (word ∷ words) (value ∷ values) =
-    Means word value × Stand Means IsMissing words values
+-- the words mean nine values, of which those without a word are the missing one
+abbrev pub AreNine : {V : Type 0} → (List ℕ → V → Type 0) → V → List (List ℕ) → List V → Type 0
+AreNine Means missing words values = (length values ≡ 9) × Stand Means missing words values
 
 -- the words stand for nine parameters, of which the missing ones are 0
 abbrev pub AreParams : List (List ℕ) → List Value → Type 0
-AreParams words values = (length values ≡ 9) × Stand IsParam IsZero words values
+AreParams = AreNine IsParam (Num (pos 0))
 
 -- the word in this place, from 1 on, means nothing, and each before it means something
 abbrev pub IsFirstBad : {V : Type 0} → (List ℕ → V → Type 0) → ℕ → List (List ℕ) → Type 0
@@ -57,21 +57,20 @@ IsWordFault Means words (faults.BadWord which) = (length words ≤ 9) × IsFirst
 abbrev pub IsMarked : List ℕ → Type 0
 IsMarked word = (text : List ℕ) × ((word ≡ codes "n:" ++ text) ⊎ (word ≡ codes "s:" ++ text))
 
+-- the text of a word without a mark that is no number of 32 bits
+abbrev pub IsPlain : List ℕ → Value → Type 0
+IsPlain word (Num z) = ⊥
+IsPlain word (Text t) = (¬ IsMarked word) × ((z : ℤ) → ¬ IsNumber word z) × (t.now ≡ word)
+
 -- a mark makes a word a number or a text; without one a number of 32 bits may be either, and any other
 -- word is a text
 abbrev pub IsGiven : List ℕ → Param → Type 0
-IsGiven word (params.Number z) = (text : List ℕ) × (word ≡ codes "n:" ++ text) × IsNumber text z
-IsGiven word (params.Text t) =
-    (word ≡ codes "s:" ++ t.now)
-    ⊎ ((¬ IsMarked word) × ((z : ℤ) → ¬ IsNumber word z) × (t.now ≡ word))
+IsGiven word (params.Value value) = IsParam word value ⊎ IsPlain word value
 IsGiven word (params.Either z t) = (¬ IsMarked word) × IsNumber word z × (t.now ≡ word)
-
-abbrev pub IsMissing : Param → Type 0
-IsMissing param = param ≡ params.Number (pos 0)
 
 -- the words give nine parameters, of which the missing ones are 0
 abbrev pub AreGiven : List (List ℕ) → List Param → Type 0
-AreGiven words params = (length params ≡ 9) × Stand IsGiven IsMissing words params
+AreGiven = AreNine IsGiven (params.Value (Num (pos 0)))
 
 -- the parameters of `get`: none if there are no words
 abbrev pub IsGivenBy : List (List ℕ) → Option Given → Type 0

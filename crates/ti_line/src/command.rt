@@ -189,6 +189,12 @@ the 114 common ones";
 const ALL: &str = "Report also findings that may be intended, such as two
 keys that send the same string";
 
+const UNTRUSTED: &str = "Also look at every arm of each string, as for an entry
+from a stranger";
+
+const SUMMARY: &str = "Write what was looked at on standard error, as is done if
+that is a terminal";
+
 const EXPAND: &str = "Ignore differences in spelling, such as %{65} and %'A',
 which expand to the same";
 
@@ -293,7 +299,9 @@ fn lint<'a>(alloc: Global) -> Result<Command<'a>, AllocError>
         "Report mistakes in entries; status 1 if there are any",
         "Example, all entries of a directory:\n  ti lint /lib/terminfo",
     );
-    let command = with_two(command, flag(alloc, "all", ALL), json(alloc));
+    let untrusted = flag(alloc, "untrusted", UNTRUSTED);
+    let command = with_two(command, flag(alloc, "all", ALL), untrusted);
+    let command = with_two(command, flag(alloc, "summary", SUMMARY), json(alloc));
     let command = with_two(command, color(alloc), entry(alloc));
     with_one(command, files(alloc, FILES))
 }

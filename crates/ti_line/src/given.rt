@@ -1,21 +1,18 @@
 //! The parameters of `get`, from the words of a command line: whether a number without a mark is a text is for the
 //! capability to say.
 
-ghost use Rattle.std.specs.Prelude.{◌≡◌, ℕ, ◌<◌, ◌↔◌, length, IfSome, IfNone, IfOk, OnOk};
-ghost use Rattle.std.specs.List.{AllByRecursion};
-ghost use Rattle.ti_line.specs.declared.given.Param.{Param};
+ghost use Rattle.std.specs.Prelude.{◌≡◌, ℕ, ◌<◌, ◌↔◌, length, IfOk};
 ghost use Rattle.ti_line.specs.Requests.{texts_of};
-ghost use Rattle.ti_line.specs.Params.{AreGiven, IsFirstBad, IsGiven, IsGivenBy, IsMarked, IsMissing};
+ghost use Rattle.ti_line.specs.Params.{IsFirstBad, IsGiven, IsGivenBy, IsMarked};
 
-use crate::params::{COUNT, WordFault, number, with};
+use crate::params::{FromWord, WordFault, number, read_all};
+use ti_expand::Value;
 
 /// A parameter of `get` as its word gives it.
 #[derive(Clone, Copy, Debug)]
 pub enum Param<'a> {
-    /// A number: `n:` and decimal digits.
-    Number(i32),
-    /// A text: `s:` and any bytes, or a word that is no number.
-    Text(&'a [u8]),
+    /// The value of a word with a mark, or the text of one that is no number.
+    Value(Value<'a>),
     /// A decimal number without a mark: a text if the capability takes it as one.
     Either {
         /// The number.
@@ -40,45 +37,25 @@ fn unmarked(word: &str) -> Param<'_>
     let text = word.as_bytes();
     match number(word) {
         Some(number) => Param::Either { number, text },
-        None => Param::Text(text),
+        None => Param::Value(Value::Text(text)),
     }
 }
 
-/// What a word gives.
-fn param_of(word: &str) -> Option<Param<'_>>
-    ensures some { IfSome result (λ param. IsGiven word.now param) }
-    ensures none { IfNone result ((param : Param) → ¬ IsGiven word.now param) }
-{
-    if let Some(text) = word.strip_prefix("s:") {
-        return Some(Param::Text(text.as_bytes()));
-    }
-    match word.strip_prefix("n:") {
-        Some(text) => match number(text) {
-            Some(number) => Some(Param::Number(number)),
-            None => None,
-        },
-        None => Some(unmarked(word)),
-    }
-}
+impl<'a> FromWord<'a> for Param<'a> {
+    ghost use Rattle.ti_line.specs.Params.{IsGiven};
 
-/// Puts what the words give into the first places.
-fn put_given<'a>(words: &[&'a str], params: &mut [Param<'a>; COUNT]) -> Result<(), WordFault>
-    requires { AllByRecursion IsMissing params.old }
-    ensures params { OnOk result (AreGiven (texts_of words.now) params.new) }
-    ensures many { (result ≡ Err WordFault.TooMany) ↔ (9 < length words.now) }
-    ensures bad { (which : ℕ) → result ≡ Err (WordFault.BadWord which)
-        → IsFirstBad IsGiven which (texts_of words.now) }
-{
-    if words.len() > COUNT {
-        return Err(WordFault::TooMany);
-    }
-    for (i, word) in words.iter().enumerate() {
-        match param_of(word) {
-            Some(param) => params[i] = param,
-            None => return Err(WordFault::BadWord { which: i + 1 }),
+    ghost means = { IsGiven };
+
+    #[tactic(auto, using(crate::proofs::AreParamsLemmas::no_mark))]
+    fn from_word(word: &'a str) -> Option<Param<'a>> {
+        match Value::from_word(word) {
+            Some(value) => Some(Param::Value(value)),
+            None => match word.strip_prefix("n:") {
+                Some(_) => None,
+                None => Some(unmarked(word)),
+            },
         }
     }
-    Ok(())
 }
 
 /// The parameters that words give to `get`, none if there are no words: `n:` and a number, `s:` and a text, or a word
@@ -94,7 +71,8 @@ pub fn read_given<'a>(words: &[&'a str]) -> Result<Option<Given<'a>>, WordFault>
     if words.is_empty() {
         return Ok(None);
     }
-    let mut params = [Param::Number(0); COUNT];
-    let read = put_given(words, &mut params);
-    with(read, Some(Given { params }))
+    match read_all(words, Param::Value(Value::Num(0))) {
+        Ok(params) => Ok(Some(Given { params })),
+        Err(fault) => Err(fault),
+    }
 }

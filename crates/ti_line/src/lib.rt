@@ -5,30 +5,31 @@
 //! requests, or why it can't be done. Nothing here reads or writes.
 #![tactic(auto)]
 
-mod asked;
 mod command;
 mod destination;
+mod flags;
 mod given;
 pub mod laws;
 mod matches;
 mod message;
-mod no_line;
+mod no_request;
 mod options;
 mod params;
 mod printable;
 mod read;
 mod request;
 
-pub use asked::{list_options, naming_asked, output_asked};
 pub use destination::Destination;
+pub use flags::{list_options, naming_of, output_of};
 pub use given::{Given, Param, read_given};
 pub use message::Message;
-pub use no_line::{LineFault, NoLine};
+pub use no_request::{LineFault, NoRequest};
 pub use options::{
     Comparison, Document, Likeness, ListOptions, NameForm, Naming, Output, TraceForm,
 };
 pub use params::{WordFault, read_params};
 pub use read::read_line;
 pub use request::{
-    Asked, Expand, Get, OfCapability, OfEntry, Pair, Request, Task, TextName, TraceOf,
+    Action, CapabilityAction, CapabilityResult, EntryAction, Expand, Get, Pair, ParameterValues,
+    Request, TextName, TraceOf,
 };

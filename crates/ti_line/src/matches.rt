@@ -4,38 +4,45 @@ ghost use Rattle.std.specs.Prelude.{◌≡◌, ◌≤◌, ◌&&◌, ◌||◌, tr
 ghost use Rattle.ti_base.specs.Limits.{greatest_rate, most_lines};
 ghost use Rattle.clap.specs.Words.{first_of};
 ghost use Rattle.ti_line.specs.CommandLine.{Cap, Check, Convert, Diff, Lint, Show, Trace, expand_by, files_in, flag_in, get_by, is_given_in, is_input as the_is_input, line_by, named_files, number_in, params_in, words_in};
-ghost use Rattle.ti_line.specs.Params.{AreParams, IsGivenBy};
-ghost use Rattle.ti_line.specs.Requests.{GiveNone, IsAnswered, IsNoTraceForm, IsTraceForm, StandForNone, compared, is_input_twice as the_is_input_twice, setting_of, texts_of};
-ghost use Rattle.ti_line.specs.Options.{color_asked, comparison_asked as the_comparison_asked, output_asked as the_output_asked};
+ghost use Rattle.ti_line.specs.Params.{AreGiven, AreParams, IsGiven, IsGivenBy, IsParam};
+ghost use Rattle.ti_line.specs.Requests.{IsAnswered, IsNoTraceForm, IsTraceForm, MeanNone, compared, is_input_twice as the_is_input_twice, setting_of, texts_of};
+ghost use Rattle.ti_line.specs.Options.{color_of, comparison_of as the_comparison_of, output_of as the_output_of};
 ghost use Rattle.ti_line.specs.declared.destination.Destination.{Destination};
-ghost use Rattle.ti_line.specs.declared.no_line.LineFault.TheVariants as fault;
-ghost use Rattle.ti_line.specs.declared.request.Asked.TheVariants.{Entry};
+ghost use Rattle.ti_line.specs.declared.no_request.LineFault.TheVariants as fault;
+ghost use Rattle.ti_line.specs.declared.request.Action.TheVariants.{Entry};
 ghost use Rattle.ti_line.specs.inner.Matches.{given_rows};
 
-use crate::asked::{
-    check_asked, comparison_asked, input_asked, likeness_asked, lint_asked, names_asked,
-    output_asked, show_asked, trace_asked, width_asked,
-};
 use crate::destination::Destination;
+use crate::flags::{
+    check_action, comparison_of, input_action, likeness_of, lint_action, lint_options,
+    name_table_of, output_of, show_action, trace_form_of, width_of,
+};
 use crate::given::{Given, read_given};
-use crate::no_line::LineFault;
+use crate::no_request::LineFault;
 use crate::options::{Comparison, Likeness, Output, TraceForm};
 use crate::params::{WordFault, read_params};
-use crate::request::{Asked, Expand, Get, OfCapability, OfEntry, Pair, Request, TextName, TraceOf};
+use crate::request::{
+    Action, CapabilityAction, CapabilityResult, EntryAction, Expand, Get, Pair, ParameterValues,
+    TextName, TraceOf,
+};
 use clap::ArgMatches;
 use std::alloc::{AllocError, Global};
 use ti_escape::Color;
 use ti_expand::Value;
 use ti_pad::Padding;
 
-/// The parameters if a subcommand takes none.
-const NO_PARAMETERS: [Value<'static>; 9] = [Value::Num(0); 9];
-
 /// Whether an option without a value was given.
 fn flag(given: &ArgMatches<'_>, id: &str) -> bool
     ensures { result ≡ flag_in id.now (given_rows given.now) }
 {
     given.get_one::<bool>(id).unwrap_or(false)
+}
+
+/// Whether `--summary` was given.
+pub(crate) fn has_summary(given: &ArgMatches<'_>) -> bool
+    ensures { result ≡ flag_in (codes "summary") (given_rows given.now) }
+{
+    flag(given, "summary")
 }
 
 /// The number of an option.
@@ -80,7 +87,7 @@ pub(crate) fn files<'a>(alloc: Global, given: &ArgMatches<'a>) -> Result<Vec<&'a
 fn parameters<'a>(given: &ArgMatches<'a>) -> Result<[Value<'a>; 9], WordFault>
     ensures { MatchResult result
         (AreParams (params_in (given_rows given.now)))
-        (StandForNone (params_in (given_rows given.now))) }
+        (MeanNone IsParam AreParams (params_in (given_rows given.now))) }
 {
     read_params(given.get_strs("PARAM").unwrap_or(&[]))
 }
@@ -89,7 +96,7 @@ fn parameters<'a>(given: &ArgMatches<'a>) -> Result<[Value<'a>; 9], WordFault>
 fn given_parameters<'a>(given: &ArgMatches<'a>) -> Result<Option<Given<'a>>, WordFault>
     ensures { MatchResult result
         (IsGivenBy (params_in (given_rows given.now)))
-        (GiveNone (params_in (given_rows given.now))) }
+        (MeanNone IsGiven AreGiven (params_in (given_rows given.now))) }
 {
     read_given(given.get_strs("PARAM").unwrap_or(&[]))
 }
@@ -99,36 +106,39 @@ fn output(given: &ArgMatches<'_>) -> Result<Output, LineFault>
     ensures { let hex = flag_in (codes "hex") (given_rows given.now) in
         let escape = flag_in (codes "escape") (given_rows given.now) in
         MatchResult result
-        (λ output. (hex && escape ≡ false) × (output ≡ the_output_asked hex escape))
+        (λ output. (hex && escape ≡ false) × (output ≡ the_output_of hex escape))
         (λ why. (hex && escape ≡ true) × (why ≡ fault.BothForms)) }
 {
     let (hex, escape) = (flag(given, "hex"), flag(given, "escape"));
     if hex && escape {
         return Err(LineFault::BothForms);
     }
-    Ok(output_asked(hex, escape))
+    Ok(output_of(hex, escape))
 }
 
 /// What `cap` requests.
-fn cap<'a>(given: &ArgMatches<'a>) -> Result<Request<'a>, LineFault>
+fn cap<'a>(given: &ArgMatches<'a>) -> Result<Action<'a>, LineFault>
     ensures { (to : Destination) → let rows = given_rows given.now in
         IsAnswered to
         (Cap (flag_in (codes "source") rows) (flag_in (codes "hex") rows)
         (flag_in (codes "escape") rows) (params_in rows)) result }
 {
     let output = output(given)?;
-    Ok(Request {
-        parameters: parameters(given)?,
-        asked: input_asked(flag(given, "source"), OfCapability::Cap(output)),
-    })
+    let action = CapabilityAction {
+        parameters: ParameterValues {
+            values: parameters(given)?,
+        },
+        result: CapabilityResult::Cap(output),
+    };
+    Ok(input_action(flag(given, "source"), action))
 }
 
 /// Whether parts of lines stand out, by `--color` and by where results go.
 fn color(to: Destination, given: &ArgMatches<'_>) -> Result<Color, LineFault>
-    ensures { let asked = color_asked to (first_of (codes "color") (given_rows given.now)) in
+    ensures { let action = color_of to (first_of (codes "color") (given_rows given.now)) in
         MatchResult result
-        (λ color. asked ≡ Some color)
-        (λ why. (asked ≡ None) × (why ≡ fault.ColorWord)) }
+        (λ color. action ≡ Some color)
+        (λ why. (action ≡ None) × (why ≡ fault.ColorWord)) }
 {
     match text(given, "color") {
         None => Ok(to.color()),
@@ -151,7 +161,7 @@ fn trace_form(to: Destination, given: &ArgMatches<'_>) -> Result<TraceForm, Line
     if json && escape {
         return Err(LineFault::JsonForm);
     }
-    Ok(trace_asked(json, escape, color(to, given)?))
+    Ok(trace_form_of(json, escape, color(to, given)?))
 }
 
 /// What `trace` requests of the capability with a name, in place of which no notation is to be read.
@@ -159,7 +169,7 @@ fn trace_of<'a>(
     to: Destination,
     given: &ArgMatches<'a>,
     name: &'a str,
-) -> Result<Request<'a>, LineFault>
+) -> Result<Action<'a>, LineFault>
     ensures { (has_entry : Bool) → let rows = given_rows given.now in
         IsAnswered to
         (Trace (flag_in (codes "source") rows) (Some name.entry.now) (flag_in (codes "json") rows)
@@ -169,18 +179,15 @@ fn trace_of<'a>(
         return Err(LineFault::BothInputs);
     }
     let form = trace_form(to, given)?;
-    Ok(Request {
-        parameters: NO_PARAMETERS,
-        asked: Asked::Entry(OfEntry::Trace(TraceOf {
-            name,
-            given: given_parameters(given)?,
-            form,
-        })),
-    })
+    Ok(Action::Entry(EntryAction::Trace(TraceOf {
+        name,
+        given: given_parameters(given)?,
+        form,
+    })))
 }
 
 /// What `trace` requests of the capability that is read.
-fn trace_input<'a>(to: Destination, given: &ArgMatches<'a>) -> Result<Request<'a>, LineFault>
+fn trace_input<'a>(to: Destination, given: &ArgMatches<'a>) -> Result<Action<'a>, LineFault>
     ensures { let rows = given_rows given.now in
         IsAnswered to
         (Trace (flag_in (codes "source") rows) None (flag_in (codes "json") rows)
@@ -191,14 +198,17 @@ fn trace_input<'a>(to: Destination, given: &ArgMatches<'a>) -> Result<Request<'a
         return Err(LineFault::EntryWithoutName);
     }
     let form = trace_form(to, given)?;
-    Ok(Request {
-        parameters: parameters(given)?,
-        asked: input_asked(flag(given, "source"), OfCapability::Trace(form)),
-    })
+    let action = CapabilityAction {
+        parameters: ParameterValues {
+            values: parameters(given)?,
+        },
+        result: CapabilityResult::Trace(form),
+    };
+    Ok(input_action(flag(given, "source"), action))
 }
 
 /// What `trace` requests.
-fn trace<'a>(to: Destination, given: &ArgMatches<'a>) -> Result<Request<'a>, LineFault>
+fn trace<'a>(to: Destination, given: &ArgMatches<'a>) -> Result<Action<'a>, LineFault>
     ensures { let rows = given_rows given.now in
         IsAnswered to
         (Trace (flag_in (codes "source") rows) (first_of (codes "NAME") rows)
@@ -228,31 +238,25 @@ fn json(given: &ArgMatches<'_>) -> Result<bool, LineFault>
 }
 
 /// What `show` requests.
-fn show<'a>(to: Destination, given: &ArgMatches<'a>) -> Result<Request<'a>, LineFault>
+fn show<'a>(to: Destination, given: &ArgMatches<'a>) -> Result<Action<'a>, LineFault>
     ensures { let rows = given_rows given.now in
         IsAnswered to (Show (flag_in (codes "json") rows) (flag_in (codes "escape") rows)
         (flag_in (codes "all-names") rows)) result }
 {
     let json = json(given)?;
     let (escape, all_names) = (flag(given, "escape"), flag(given, "all-names"));
-    Ok(Request {
-        parameters: NO_PARAMETERS,
-        asked: Asked::Entry(show_asked(json, all_names, escape, to.is_terminal())),
-    })
+    Ok(Action::Entry(show_action(json, all_names, escape, to.is_terminal())))
 }
 
 /// What `check` requests.
-fn check<'a>(to: Destination, given: &ArgMatches<'a>) -> Result<Request<'a>, LineFault>
+fn check<'a>(to: Destination, given: &ArgMatches<'a>) -> Result<Action<'a>, LineFault>
     ensures { let rows = given_rows given.now in
         IsAnswered to (Check (flag_in (codes "json") rows) (flag_in (codes "escape") rows)
         (flag_in (codes "all-names") rows)) result }
 {
     let json = json(given)?;
     let (escape, all_names) = (flag(given, "escape"), flag(given, "all-names"));
-    Ok(Request {
-        parameters: NO_PARAMETERS,
-        asked: Asked::Entry(check_asked(json, all_names, escape, to.is_terminal())),
-    })
+    Ok(Action::Entry(check_action(json, all_names, escape, to.is_terminal())))
 }
 
 /// The padding of `expand` or `get`, whose numbers are within their ranges.
@@ -271,25 +275,25 @@ fn padding(given: &ArgMatches<'_>) -> Padding
 }
 
 /// What `expand` requests of a name.
-fn expand<'a>(given: &ArgMatches<'a>, name: &'a str) -> Result<Request<'a>, LineFault>
+fn expand<'a>(given: &ArgMatches<'a>, name: &'a str) -> Result<Action<'a>, LineFault>
     requires within { IsSome (expand_by (given_rows given.now) name.now) }
     ensures { (to : Destination) → IfSome (expand_by (given_rows given.now) name.entry.now)
         (λ line. IsAnswered to line result) }
 {
     let output = output(given)?;
-    let names = names_asked(flag(given, "all-names"));
-    Ok(Request {
-        parameters: parameters(given)?,
-        asked: Asked::Entry(OfEntry::Expand(Expand {
-            name: TextName { name, names },
-            padding: padding(given),
-            output,
-        })),
-    })
+    let names = name_table_of(flag(given, "all-names"));
+    Ok(Action::Entry(EntryAction::Expand(Expand {
+        name: TextName { name, names },
+        parameters: ParameterValues {
+            values: parameters(given)?,
+        },
+        padding: padding(given),
+        output,
+    })))
 }
 
 /// What `convert` requests.
-fn convert<'a>(to: Destination, given: &ArgMatches<'a>) -> Result<Request<'a>, LineFault>
+fn convert<'a>(to: Destination, given: &ArgMatches<'a>) -> Result<Action<'a>, LineFault>
     ensures { let rows = given_rows given.now in
         IsAnswered to (Convert (flag_in (codes "wide") rows) (flag_in (codes "narrow") rows)
         (flag_in (codes "force") rows)) result }
@@ -301,10 +305,7 @@ fn convert<'a>(to: Destination, given: &ArgMatches<'a>) -> Result<Request<'a>, L
     if to.is_terminal() && !flag(given, "force") {
         return Err(LineFault::ToTerminal);
     }
-    Ok(Request {
-        parameters: NO_PARAMETERS,
-        asked: Asked::Entry(OfEntry::Convert(width_asked(wide, narrow))),
-    })
+    Ok(Action::Entry(EntryAction::Convert(width_of(wide, narrow))))
 }
 
 /// The files that words name to be compared.
@@ -343,63 +344,55 @@ fn is_input_twice(words: &[&str]) -> bool
 }
 
 /// What `diff` requests.
-fn diff<'a>(to: Destination, given: &ArgMatches<'a>) -> Result<Request<'a>, LineFault>
+fn diff<'a>(to: Destination, given: &ArgMatches<'a>) -> Result<Action<'a>, LineFault>
     ensures { let rows = given_rows given.now in IsAnswered to
         (Diff (flag_in (codes "json") rows) (flag_in (codes "expand") rows)
         (first_of (codes "color") rows) (words_in (codes "FILE") rows)) result }
 {
-    let form = comparison_asked(flag(given, "json"), color(to, given)?);
-    let likeness = likeness_asked(flag(given, "expand"));
+    let form = comparison_of(flag(given, "json"), color(to, given)?);
+    let likeness = likeness_of(flag(given, "expand"));
     let words = given.get_strs("FILE").unwrap_or(&[]);
     if is_input_twice(words) {
         return Err(LineFault::InputTwice);
     }
     match pair(likeness, form, words) {
-        Some(pair) => Ok(Request {
-            parameters: NO_PARAMETERS,
-            asked: Asked::Difference(pair),
-        }),
+        Some(pair) => Ok(Action::Difference(pair)),
         None => Err(LineFault::FileCount),
     }
 }
 
 /// What `lint` requests.
-fn lint<'a>(to: Destination, given: &ArgMatches<'a>) -> Result<Request<'a>, LineFault>
+fn lint<'a>(to: Destination, given: &ArgMatches<'a>) -> Result<Action<'a>, LineFault>
     ensures { let rows = given_rows given.now in IsAnswered to
         (Lint (flag_in (codes "json") rows) (flag_in (codes "all") rows)
-        (first_of (codes "color") rows)) result }
+        (flag_in (codes "untrusted") rows) (first_of (codes "color") rows)) result }
 {
     let color = color(to, given)?;
-    Ok(Request {
-        parameters: NO_PARAMETERS,
-        asked: Asked::Entry(lint_asked(flag(given, "json"), flag(given, "all"), color)),
-    })
+    let options = lint_options(flag(given, "all"), flag(given, "untrusted"));
+    Ok(Action::Entry(lint_action(flag(given, "json"), options, color)))
 }
 
 /// What `get` requests of a name.
-fn get<'a>(given: &ArgMatches<'a>, name: &'a str) -> Result<Request<'a>, LineFault>
+fn get<'a>(given: &ArgMatches<'a>, name: &'a str) -> Result<Action<'a>, LineFault>
     requires within { IsSome (get_by (given_rows given.now) name.now) }
     ensures { (to : Destination) → IfSome (get_by (given_rows given.now) name.entry.now)
         (λ line. IsAnswered to line result) }
 {
     let output = output(given)?;
-    Ok(Request {
-        parameters: NO_PARAMETERS,
-        asked: Asked::Entry(OfEntry::Get(Get {
-            name,
-            given: given_parameters(given)?,
-            padding: padding(given),
-            output,
-        })),
-    })
+    Ok(Action::Entry(EntryAction::Get(Get {
+        name,
+        given: given_parameters(given)?,
+        padding: padding(given),
+        output,
+    })))
 }
 
 /// What a subcommand and its values ask for, by where results go.
-pub(crate) fn request_of<'a>(
+pub(crate) fn action_of<'a>(
     to: Destination,
     command: &str,
     given: &ArgMatches<'a>,
-) -> Result<Request<'a>, LineFault>
+) -> Result<Action<'a>, LineFault>
     requires { IsSome (line_by command.now (given_rows given.now)) }
     ensures { IfSome (line_by command.now (given_rows given.now))
         (λ line. IsAnswered to line result) }

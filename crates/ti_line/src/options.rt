@@ -1,7 +1,7 @@
 //! How results are written.
 
 use ti_escape::{Color, Form};
-use ti_lint::Level;
+use ti_lint::LintOptions;
 use ti_names::NameTable;
 
 /// How the names that an entry brings with it are written: its own, and those of its extended capabilities.
@@ -47,8 +47,8 @@ pub enum Document {
     Listing,
     /// The verdict on each of its texts, as `check` gives it.
     Verdicts,
-    /// What is wrong with it, as `lint` tells it.
-    Findings(Level),
+    /// What is wrong with it, as `lint` reports it.
+    Findings(LintOptions),
 }
 
 /// How a trace is written.

@@ -1,10 +1,9 @@
 //! The parameters of a capability, from the words of a command line.
 
-ghost use Rattle.std.specs.Prelude.{◌≡◌, ℕ, ℤ, ◌<◌, ◌↔◌, length, IfSome, IfNone, IfOk, OnOk, MatchResult};
-ghost use Rattle.std.specs.List.{AllByRecursion};
+ghost use Rattle.std.specs.Prelude.{◌≡◌, ℕ, ℤ, ◌<◌, ◌↔◌, length, IfSome, IfNone, IfOk};
 ghost use Rattle.ti_expand.specs.declared.values.Value.{Value};
 ghost use Rattle.ti_line.specs.Requests.{texts_of};
-ghost use Rattle.ti_line.specs.Params.{IsNumber, IsParam, IsZero, AreParams, IsFirstBad};
+ghost use Rattle.ti_line.specs.Params.{AreNine, AreParams, IsFirstBad, IsNumber, IsParam};
 
 use thiserror::Error;
 use ti_expand::Value;
@@ -37,51 +36,58 @@ pub(crate) fn number(text: &str) -> Option<i32>
     text.parse::<i32>().ok()
 }
 
-/// What a word means.
-fn value_of(word: &str) -> Option<Value<'_>>
-    ensures some { IfSome result (λ value. IsParam word.now value) }
-    ensures none { IfNone result ((value : Value) → ¬ IsParam word.now value) }
-{
-    if let Some(text) = word.strip_prefix("s:") {
-        return Some(Value::Text(text.as_bytes()));
-    }
-    match word.strip_prefix("n:") {
-        Some(text) => match number(text) {
-            Some(number) => Some(Value::Num(number)),
+/// A value that a word may mean.
+pub(crate) trait FromWord<'a>: Copy {
+    ghost use Rattle.std.specs.Prelude.{ℕ, List, IfSome, IfNone};
+
+    ghost means: { List ℕ → Self → Type 0 };
+
+    /// The value of a word, if it means one.
+    fn from_word(word: &'a str) -> Option<Self>
+        ensures some { IfSome result (λ value. means word.now value) }
+        ensures none { IfNone result ((value : Self) → ¬ means word.now value) };
+}
+
+impl<'a> FromWord<'a> for Value<'a> {
+    ghost use Rattle.ti_line.specs.Params.{IsParam};
+
+    ghost means = { IsParam };
+
+    fn from_word(word: &'a str) -> Option<Value<'a>> {
+        if let Some(text) = word.strip_prefix("s:") {
+            return Some(Value::Text(text.as_bytes()));
+        }
+        match word.strip_prefix("n:") {
+            Some(text) => match number(text) {
+                Some(number) => Some(Value::Num(number)),
+                None => None,
+            },
             None => None,
-        },
-        None => None,
+        }
     }
 }
 
-/// Puts what the words mean into the first places.
-fn read_into<'a>(words: &[&'a str], values: &mut [Value<'a>; COUNT]) -> Result<(), WordFault>
-    requires { AllByRecursion IsZero values.old }
-    ensures values { OnOk result (AreParams (texts_of words.now) values.new) }
+/// The nine values that words mean, of which those without a word are `missing`.
+pub(crate) fn read_all<'a, V: FromWord<'a>>(
+    words: &[&'a str],
+    missing: V,
+) -> Result<[V; COUNT], WordFault>
+    ensures values { IfOk result (λ values. AreNine V.means missing (texts_of words.now) values) }
     ensures many { (result ≡ Err WordFault.TooMany) ↔ (9 < length words.now) }
     ensures bad { (which : ℕ) → result ≡ Err (WordFault.BadWord which)
-        → IsFirstBad IsParam which (texts_of words.now) }
+        → IsFirstBad V.means which (texts_of words.now) }
 {
     if words.len() > COUNT {
         return Err(WordFault::TooMany);
     }
+    let mut values = [missing; COUNT];
     for (i, word) in words.iter().enumerate() {
-        match value_of(word) {
+        match V::from_word(word) {
             Some(value) => values[i] = value,
             None => return Err(WordFault::BadWord { which: i + 1 }),
         }
     }
-    Ok(())
-}
-
-/// The value, unless there is an error.
-pub(crate) fn with<T: Drop, E>(done: Result<(), E>, value: T) -> Result<T, E>
-    ensures { MatchResult done (λ _. result ≡ Ok value) (λ e. result ≡ Err e) }
-{
-    match done {
-        Ok(()) => Ok(value),
-        Err(error) => Err(error),
-    }
+    Ok(values)
 }
 
 /// The parameters that words mean: `n:` and a decimal number of 32 bits with a `-` before it or none, or `s:` and a
@@ -94,7 +100,5 @@ pub fn read_params<'a>(words: &[&'a str]) -> Result<[Value<'a>; 9], WordFault>
     ensures bad { (which : ℕ) → result ≡ Err (WordFault.BadWord which)
         → IsFirstBad IsParam which (texts_of words.now) }
 {
-    let mut values = [Value::Num(0); COUNT];
-    let read = read_into(words, &mut values);
-    with(read, values)
+    read_all(words, Value::Num(0))
 }

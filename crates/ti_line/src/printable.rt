@@ -1,6 +1,6 @@
 //! Words of which each character can be printed.
 //!
-//! A word may hold bytes that a terminal obeys, such as ESC, and newlines that forge a line. So `clap` is asked again, about
+//! A word may hold bytes that a terminal obeys, such as ESC, and newlines that forge a line. So `clap` is called again, with
 //! the words in the notation of terminfo(5), before any of them is shown.
 
 use crate::command::program;

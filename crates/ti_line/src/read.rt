@@ -3,18 +3,18 @@
 ghost use Rattle.std.specs.Prelude.{◌≡◌, ◌<◌, IfErr, IfOk, Some, length};
 ghost use Rattle.clap.specs.Words.{FailsBy, kind_of, subcommand_of};
 ghost use Rattle.ti_line.specs.CommandLine.{Line, Reads, line_in, faults, ti_app};
-ghost use Rattle.ti_line.specs.Requests.{Explains, HasText, IsReadAs, IsTask, texts_of};
+ghost use Rattle.ti_line.specs.Requests.{Explains, HasText, IsReadAs, IsRequest, texts_of};
 ghost use Rattle.ti_line.specs.inner.Matches.{IsSaidOf};
 ghost use Rattle.ti_line.specs.Message.{message_text};
 ghost use Rattle.ti_line.specs.inner.Errors.{TellsOf};
 
 use crate::command::program;
 use crate::destination::Destination;
-use crate::matches::{files, request_of};
+use crate::matches::{action_of, files, has_summary};
 use crate::message::Message;
-use crate::no_line::{LineFault, NoLine};
+use crate::no_request::{LineFault, NoRequest};
 use crate::printable::printable_text;
-use crate::request::Task;
+use crate::request::Request;
 use clap::Error;
 use clap::error::ErrorKind;
 use std::alloc::{AllocError, Global};
@@ -24,7 +24,7 @@ fn read_words<'a>(
     alloc: Global,
     to: Destination,
     words: &'a [&'a str],
-) -> Result<Result<Task<'a>, LineFault>, Error>
+) -> Result<Result<Request<'a>, LineFault>, Error>
     ensures read { IfOk result (λ answer. IsSaidOf to (texts_of words.entry.now)
         (line_in (subcommand_of ti_app (texts_of words.entry.now))) answer) }
     ensures kinds { FailsBy (faults (texts_of words.entry.now)) result }
@@ -33,8 +33,13 @@ fn read_words<'a>(
     match matches.subcommand() {
         Some((command, given)) => {
             let files = files(alloc, given)?;
-            match request_of(to, command, given) {
-                Ok(request) => Ok(Ok(Task { request, files })),
+            let has_summary = has_summary(given);
+            match action_of(to, command, given) {
+                Ok(action) => Ok(Ok(Request {
+                    action,
+                    files,
+                    has_summary,
+                })),
                 Err(fault) => Ok(Err(fault)),
             }
         }
@@ -51,18 +56,18 @@ fn message_on<'a>(alloc: Global, words: &'a [&'a str], error: &Error) -> Result<
 }
 
 /// What an error of `clap` says of the words.
-fn no_line<'a>(alloc: Global, words: &'a [&'a str], error: &Error) -> NoLine
+fn no_request<'a>(alloc: Global, words: &'a [&'a str], error: &Error) -> NoRequest
     ensures tells { TellsOf (kind_of error.now) result }
     ensures says { HasText result }
 {
     let message = match message_on(alloc, words, error) {
         Ok(message) => message,
-        Err(AllocError) => return NoLine::Memory,
+        Err(AllocError) => return NoRequest::Memory,
     };
     match error.kind() {
-        ErrorKind::OutOfMemory => NoLine::Memory,
-        ErrorKind::DisplayHelp | ErrorKind::DisplayVersion => NoLine::Help(message),
-        _ => NoLine::Refused(message),
+        ErrorKind::OutOfMemory => NoRequest::Memory,
+        ErrorKind::DisplayHelp | ErrorKind::DisplayVersion => NoRequest::Help(message),
+        _ => NoRequest::Refused(message),
     }
 }
 
@@ -73,24 +78,24 @@ fn no_line<'a>(alloc: Global, words: &'a [&'a str], error: &Error) -> NoLine
 ///
 /// # Errors
 ///
-/// [`NoLine::Help`] if help or the version is requested, [`NoLine::Refused`] if the words are no command line,
-/// [`NoLine::Fault`] if the line requests both forms or both widths, or JSON in a form, or a trace of a notation and of a name, or of an entry
-/// and no name, its parameters are none, or an entry would go to a terminal, and [`NoLine::Memory`] if a growth was refused. A message shows no byte of a word but printable ASCII characters: the others are in the notation
+/// [`NoRequest::Help`] if help or the version is requested, [`NoRequest::Refused`] if the words are no command line,
+/// [`NoRequest::Fault`] if the line requests both forms or both widths, or JSON in a form, or a trace of a notation and of a name, or of an entry
+/// and no name, its parameters are none, or an entry would go to a terminal, and [`NoRequest::Memory`] if a growth was refused. A message shows no byte of a word but printable ASCII characters: the others are in the notation
 /// of terminfo(5).
 ///
 /// # Examples
 ///
 /// ```rust
-/// let Task { request, .. } = read_line(rt.alloc(), Destination::File, &["ti", "cap", "n:7"])?;
-/// assert!(rt; matches!(request.asked, Asked::Capability(OfCapability::Cap(_))));
+/// let request = read_line(rt.alloc(), Destination::File, &["ti", "cap", "n:7"])?;
+/// assert!(rt; matches!(request.action, Action::Capability(_)));
 /// ```
 pub fn read_line<'a>(
     alloc: Global,
     to: Destination,
     words: &'a [&'a str],
-) -> Result<Task<'a>, NoLine>
-    ensures read { IfOk result (λ task. (line : Line) × Reads (texts_of words.entry.now) line
-        × IsTask to (texts_of words.entry.now) line task) }
+) -> Result<Request<'a>, NoRequest>
+    ensures read { IfOk result (λ request. (line : Line) × Reads (texts_of words.entry.now) line
+        × IsRequest to (texts_of words.entry.now) line request) }
     ensures only { (line : Line) → Reads (texts_of words.entry.now) line
         → IsReadAs to (texts_of words.entry.now) line result }
     ensures none { IfErr result (Explains to (texts_of words.entry.now)) }
@@ -98,8 +103,8 @@ pub fn read_line<'a>(
     ensures says { IfErr result HasText }
 {
     match read_words(alloc, to, words) {
-        Ok(Ok(task)) => Ok(task),
-        Ok(Err(fault)) => Err(NoLine::Fault(fault)),
-        Err(error) => Err(no_line(alloc, words, &error)),
+        Ok(Ok(request)) => Ok(request),
+        Ok(Err(fault)) => Err(NoRequest::Fault(fault)),
+        Err(error) => Err(no_request(alloc, words, &error)),
     }
 }

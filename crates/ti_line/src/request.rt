@@ -4,40 +4,32 @@ use crate::given::Given;
 use crate::options::{Comparison, Document, Likeness, ListOptions, Naming, Output, TraceForm};
 use ti_escape::Color;
 use ti_expand::Value;
-use ti_lint::Level;
+use ti_lint::LintOptions;
 use ti_names::NameTable;
 use ti_pad::Padding;
 use ti_words::Width;
 
-/// What a command line requests of an input.
-#[derive(Debug, Drop)]
-pub struct Request<'a> {
-    /// The parameters of the capability or of the text; all are the number 0 if none are given or taken. Those of `get`
-    /// and of a trace of an entry's text are in [`Get::given`] and [`TraceOf::given`].
-    pub parameters: [Value<'a>; 9],
-    /// What is done.
-    pub asked: Asked<'a>,
-}
-
 /// What a command line requests, and of which files.
 #[derive(Debug, Drop)]
-pub struct Task<'a> {
-    /// What is requested of each.
-    pub request: Request<'a>,
+pub struct Request<'a> {
+    /// What is done with each.
+    pub action: Action<'a>,
     /// The names of the files, in their order. None is standard input.
     pub files: Vec<&'a str>,
+    /// Whether it is reported at the end how much was looked at.
+    pub has_summary: bool,
 }
 
-/// What is requested of an input.
+/// What is done with an input.
 #[derive(Debug, Drop)]
-pub enum Asked<'a> {
-    /// Something of an input as one capability.
-    Capability(OfCapability),
-    /// Something of an input as the notation of one capability.
-    Source(OfCapability),
-    /// Something of an input as an entry.
-    Entry(OfEntry<'a>),
-    /// What two entries do not have alike.
+pub enum Action<'a> {
+    /// Something with an input as one capability.
+    Capability(CapabilityAction<'a>),
+    /// Something with an input as the notation of one capability.
+    Source(CapabilityAction<'a>),
+    /// Something with an input as an entry.
+    Entry(EntryAction<'a>),
+    /// To write what two entries do not have alike.
     Difference(Pair<'a>),
 }
 
@@ -54,26 +46,42 @@ pub struct Pair<'a> {
     pub form: Comparison,
 }
 
-/// What is requested of a capability.
+/// The parameters of a capability.
+#[derive(Clone, Copy, Debug)]
+pub struct ParameterValues<'a> {
+    /// The nine; missing ones are the number 0.
+    pub values: [Value<'a>; 9],
+}
+
+/// What is done with a capability.
+#[derive(Debug, Drop)]
+pub struct CapabilityAction<'a> {
+    /// Its parameters.
+    pub parameters: ParameterValues<'a>,
+    /// What is written of it.
+    pub result: CapabilityResult,
+}
+
+/// What is written of a capability.
 #[derive(Clone, Copy, Debug, PartialEq, Eq)]
-pub enum OfCapability {
-    /// To expand it.
+pub enum CapabilityResult {
+    /// What it expands to.
     Cap(Output),
-    /// To show what each of its tokens does.
+    /// What each of its tokens does.
     Trace(TraceForm),
 }
 
-/// What is requested of an entry.
+/// What is done with an entry.
 #[derive(Debug, Drop)]
-pub enum OfEntry<'a> {
+pub enum EntryAction<'a> {
     /// To list it.
     Show(ListOptions),
     /// To say of it in JSON what a document says.
     Json(Document),
     /// To analyse each of its texts.
     Check(Naming),
-    /// To tell what is wrong with it, in lines of which parts may stand out.
-    Lint(Level, Color),
+    /// To report what is wrong with it, in lines of which parts may stand out.
+    Lint(LintOptions, Color),
     /// To expand and pad one of its texts.
     Expand(Expand<'a>),
     /// To write it in its canonical layout, in a width or else in its own.
@@ -89,6 +97,8 @@ pub enum OfEntry<'a> {
 pub struct Expand<'a> {
     /// The name of the text.
     pub name: TextName<'a>,
+    /// Its parameters.
+    pub parameters: ParameterValues<'a>,
     /// The padding.
     pub padding: Padding,
     /// How the output is written.

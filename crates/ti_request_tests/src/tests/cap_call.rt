@@ -10,7 +10,7 @@ use ti_fixtures::capabilities::{
     COLORS, CONDITIONAL, FORMATS, OPERATIONS, SGR, STACK, TEXTS, values_of,
 };
 use ti_fixtures::{Endless, Finds, Given, Sink, Source, Unfound};
-use ti_line::{Asked, OfCapability, Output};
+use ti_line::{Action, CapabilityAction, CapabilityResult, Output, ParameterValues};
 use ti_tool::{ToolFault, cap_run, carry_out};
 
 /// Expands a capability for these parameters, and writes as it stands or in hex.
@@ -138,8 +138,13 @@ impl Calls for Formed {
         source: &mut Source<'_>,
         writer: &mut Sink,
     ) -> Result<(), ToolFault> {
-        let asked = Asked::Capability(OfCapability::Cap(self.0));
-        carry_out(alloc, &asked, &SEVEN.parameters, source, writer).map(|_sound| ())
+        let action = Action::Capability(CapabilityAction {
+            parameters: ParameterValues {
+                values: SEVEN.parameters,
+            },
+            result: CapabilityResult::Cap(self.0),
+        });
+        carry_out(alloc, &action, source, writer).map(|_sound| ())
     }
 }
 

@@ -4,17 +4,15 @@ use super::calls::{Calls, add_written};
 use super::show_call::Listed;
 use crate::tests::check_rows;
 use std::alloc::{Allocator, Global};
-use ti_expand::Value;
 use ti_fixtures::entries::UNCOMMON;
 use ti_fixtures::{Finds, Given, Sink, Source, TMUX, Unfound, show};
-use ti_line::{Asked, Destination, Request, Task, read_line};
+use ti_line::{Action, Destination, read_line};
 use ti_tool::{ToolFault, carry_out, check};
 
-/// Does what is requested.
+/// Carries out an action.
 #[derive(Clone, Copy)]
 struct CarriedOut<'a> {
-    asked: &'a Asked<'a>,
-    parameters: &'a [Value<'a>; 9],
+    action: &'a Action<'a>,
 }
 
 impl Calls for CarriedOut<'_> {
@@ -24,7 +22,7 @@ impl Calls for CarriedOut<'_> {
         source: &mut Source<'_>,
         writer: &mut Sink,
     ) -> Result<(), ToolFault> {
-        carry_out(alloc, self.asked, self.parameters, source, writer).map(|_sound| ())
+        carry_out(alloc, self.action, source, writer).map(|_sound| ())
     }
 }
 
@@ -33,11 +31,9 @@ struct Requested;
 
 impl Finds for Requested {
     fn find(&self, given: &Given<'_, '_>, found: &mut Vec<u8>) -> Result<(), Unfound> {
-        let Task { request, .. } = read_line(*found.allocator(), Destination::File, given.words)?;
-        let Request { parameters, asked } = request;
+        let request = read_line(*found.allocator(), Destination::File, given.words)?;
         let carried = CarriedOut {
-            asked: &asked,
-            parameters: &parameters,
+            action: &request.action,
         };
         add_written(found, &carried, &mut Source::new(UNCOMMON, 3))
     }

@@ -8,7 +8,7 @@ use ti_escape::{Color, Form};
 use ti_expand::Value;
 use ti_fixtures::traces::{COLUMN, COLUMN_OF_7};
 use ti_fixtures::{Sink, Source, Tries, Unfound, only_if, tally_of};
-use ti_line::{Asked, OfCapability, TraceForm};
+use ti_line::{Action, CapabilityAction, CapabilityResult, ParameterValues, TraceForm};
 use ti_tool::{ToolFault, carry_out};
 use ti_trace::trace;
 
@@ -26,8 +26,11 @@ impl Calls for Traced<'_> {
         writer: &mut Sink,
     ) -> Result<(), ToolFault> {
         let lines = TraceForm::Lines(Form::Hex, Color::Never);
-        let asked = Asked::Capability(OfCapability::Trace(lines));
-        carry_out(alloc, &asked, self.0, source, writer).map(|_sound| ())
+        let action = Action::Capability(CapabilityAction {
+            parameters: ParameterValues { values: *self.0 },
+            result: CapabilityResult::Trace(lines),
+        });
+        carry_out(alloc, &action, source, writer).map(|_sound| ())
     }
 }
 

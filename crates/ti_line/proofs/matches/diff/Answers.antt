@@ -1,7 +1,7 @@
 use Rattle.std.proofs.Common.{◌∙◌, ap, is_some, refl, sym}
 use Rattle.std.specs.Prelude.{codes, option_map}
 use Rattle.clap.specs.Words.{found_of}
-use Rattle.ti_line.specs.Options.{comparison_asked, likeness_asked}
+use Rattle.ti_line.specs.Options.{comparison_of, likeness_of}
 use Rattle.ti_line.specs.Requests.{compared, is_input_twice, texts_of}
 use Rattle.ti_line.proofs.MatchesLemmas.{words_read}
 use Rattle.ti_line.proofs.matches.diff.Goals as goal
@@ -19,11 +19,11 @@ returns-in-Some c =
         c.in-Some.pair,
         refl,
         ap compared (sym read) ∙ sym c.pair.ensures.files ∙ ap (option_map (λ d. (d.file.now, d.other.now))) c.in-Some.is,
-        c.in-Some.ensures.likeness ∙ c.likeness_asked-likeness.ensures ∙ ap likeness_asked c.flag-2.ensures,
+        c.in-Some.ensures.likeness ∙ c.likeness_of-likeness.ensures ∙ ap likeness_of c.flag-2.ensures,
         (
           c.in_ok-color.field-0,
           c.in_ok-color.ensures,
-          c.in-Some.ensures.form ∙ c.comparison_asked-form.ensures ∙ ap (λ json. comparison_asked json c.in_ok-color.field-0) c.flag.ensures,
+          c.in-Some.ensures.form ∙ c.comparison_of-form.ensures ∙ ap (λ json. comparison_of json c.in_ok-color.field-0) c.flag.ensures,
         ),
       ),
     )

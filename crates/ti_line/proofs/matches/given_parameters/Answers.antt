@@ -1,9 +1,8 @@
 use Rattle.std.proofs.Common.{◌∙◌, List, ap, refl, subst}
 use Rattle.std.specs.Prelude.{MatchResult, codes}
 use Rattle.clap.specs.Words.{Text, found_of}
-use Rattle.ti_line.specs.declared.given.Param.{Param}
-use Rattle.ti_line.specs.Params.{IsGiven, IsGivenBy, IsMissing}
-use Rattle.ti_line.specs.Requests.{GiveNone, texts_of}
+use Rattle.ti_line.specs.Params.{AreGiven, IsGiven, IsGivenBy}
+use Rattle.ti_line.specs.Requests.{MeanNone, texts_of}
 use Rattle.ti_line.proofs.AreParamsLemmas.{params_or_none}
 use Rattle.ti_line.proofs.MatchesLemmas.{words_read}
 use Rattle.ti_line.proofs.matches.given_parameters.Goals as goal
@@ -11,6 +10,6 @@ use Rattle.ti_line.proofs.matches.given_parameters.Goals as goal
 pub returns : goal.returns
 returns c =
     let read = words_read (found_of c.args.given.now) (codes "PARAM") c.get_strs.result _ refl c.get_strs.ensures in
-    let P : List Text → Type 0 = λ words. MatchResult c.read_given.result (IsGivenBy words) (GiveNone words) in
+    let P : List Text → Type 0 = λ words. MatchResult c.read_given.result (IsGivenBy words) (MeanNone IsGiven AreGiven words) in
     subst P (ap (λ s. texts_of s.now) c.unwrap_or.ensures ∙ read)
-    (params_or_none Param IsGiven IsMissing IsGivenBy c.unwrap_or.result.now c.read_given.result c.read_given.ensures.given c.read_given.ensures.many c.read_given.ensures.bad)
+    (params_or_none _ IsGiven _ IsGivenBy c.unwrap_or.result.now c.read_given.result c.read_given.ensures.given c.read_given.ensures.many c.read_given.ensures.bad)

@@ -1,7 +1,7 @@
 //! Why there is no request.
 
 ghost use Rattle.std.specs.Prelude.{◌≡◌};
-ghost use Rattle.ti_line.specs.declared.no_line.LineFault.TheVariants as fault;
+ghost use Rattle.ti_line.specs.declared.no_request.LineFault.TheVariants as fault;
 
 use crate::message::Message;
 use crate::params::WordFault;
@@ -61,10 +61,10 @@ impl From<WordFault> for LineFault {
     }
 }
 
-/// Why there is no request. Its `Display` is the text for the user, in full lines, of [`NoLine::Help`] and
-/// [`NoLine::Refused`].
+/// Why there is no request. Its `Display` is the text for the user, in full lines, of [`NoRequest::Help`] and
+/// [`NoRequest::Refused`].
 #[derive(Debug, Drop, Error)]
-pub enum NoLine {
+pub enum NoRequest {
     /// Help or the version was requested. The text goes where results go, and the status is 0.
     #[error("{0}")]
     Help(Message),

@@ -1,4 +1,4 @@
-use Rattle.ti_line.proofs.matches.request_of.Goals as goal
+use Rattle.ti_line.proofs.matches.action_of.Goals as goal
 
 pub returns-in-cap : goal.returns-in-cap
 returns-in-cap c = rw c.in-cap.is (c.cap.ensures c.args.to)

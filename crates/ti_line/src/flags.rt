@@ -1,0 +1,177 @@
+//! The options that the flags of a line request.
+
+ghost use Rattle.std.specs.Prelude.{◌≡◌};
+ghost use Rattle.ti_line.specs.Requests.{width_of as the_width_of};
+ghost use Rattle.ti_line.specs.Options.{check_action as the_check_action, comparison_of as the_comparison_of, form_of as the_form_of, input_action as the_input_action, likeness_of as the_likeness_of, lint_action as the_lint_action, lint_options as the_lint_options, list_options as the_list_options, name_table_of as the_name_table_of, naming_of as the_naming_of, output_of as the_output_of, level_of as the_level_of, show_action as the_show_action, trace_form_of as the_trace_form_of};
+
+use crate::options::{
+    Comparison, Document, Likeness, ListOptions, NameForm, Naming, Output, TraceForm,
+};
+use crate::request::{Action, CapabilityAction, EntryAction};
+use ti_escape::{Color, Form};
+use ti_lint::{Level, LintOptions};
+use ti_names::NameTable;
+use ti_words::Width;
+
+/// What is done with an input by `--source`, which says that it is the notation of a capability.
+pub fn input_action(source: bool, action: CapabilityAction<'_>) -> Action<'_>
+    ensures { result ≡ the_input_action source action.entry }
+{
+    if source {
+        Action::Source(action)
+    } else {
+        Action::Capability(action)
+    }
+}
+
+/// What `--hex` and `--escape` ask for of an output, of which at most one is given.
+pub fn output_of(hex: bool, escape: bool) -> Output
+    ensures { result ≡ the_output_of hex escape }
+{
+    match (hex, escape) {
+        (true, _) => Output::Line(Form::Hex),
+        (false, true) => Output::Line(Form::Notation),
+        (false, false) => Output::Raw,
+    }
+}
+
+/// What `--all-names` requests.
+pub fn name_table_of(all_names: bool) -> NameTable
+    ensures { result ≡ the_name_table_of all_names }
+{
+    if all_names {
+        NameTable::All
+    } else {
+        NameTable::Common
+    }
+}
+
+/// What `--all` requests of `lint`.
+pub fn level_of(all: bool) -> Level
+    ensures { result ≡ the_level_of all }
+{
+    if all { Level::All } else { Level::Errors }
+}
+
+/// What `--all` and `--untrusted` request of `lint`.
+pub fn lint_options(all: bool, untrusted: bool) -> LintOptions
+    ensures { result ≡ the_lint_options all untrusted }
+{
+    LintOptions {
+        level: level_of(all),
+        untrusted,
+    }
+}
+
+/// What `--expand` requests of `diff`.
+pub fn likeness_of(expand: bool) -> Likeness
+    ensures { result ≡ the_likeness_of expand }
+{
+    if expand {
+        Likeness::Tokens
+    } else {
+        Likeness::Bytes
+    }
+}
+
+/// What `--escape` requests of the texts of a listing, or of a trace.
+pub fn form_of(escape: bool) -> Form
+    ensures { result ≡ the_form_of escape }
+{
+    if escape { Form::Notation } else { Form::Hex }
+}
+
+/// What a listing calls an entry and its capabilities, by its flags, and by whether it goes to a terminal.
+pub fn naming_of(all_names: bool, escape: bool, terminal: bool) -> Naming
+    ensures { result ≡ the_naming_of all_names escape terminal }
+{
+    Naming {
+        table: name_table_of(all_names),
+        form: if escape || terminal {
+            NameForm::Notation
+        } else {
+            NameForm::Raw
+        },
+    }
+}
+
+/// The options of a listing by its flags, and by whether it goes to a terminal.
+pub fn list_options(all_names: bool, escape: bool, terminal: bool) -> ListOptions
+    ensures { result ≡ the_list_options all_names escape terminal }
+{
+    ListOptions {
+        naming: naming_of(all_names, escape, terminal),
+        form: form_of(escape),
+    }
+}
+
+/// What `show` requests of an entry, which `--json` makes a document.
+pub fn show_action<'a>(json: bool, all_names: bool, escape: bool, terminal: bool) -> EntryAction<'a>
+    ensures { result ≡ the_show_action json all_names escape terminal }
+{
+    if json {
+        EntryAction::Json(Document::Listing)
+    } else {
+        EntryAction::Show(list_options(all_names, escape, terminal))
+    }
+}
+
+/// What `check` requests of an entry, which `--json` makes a document.
+pub fn check_action<'a>(
+    json: bool,
+    all_names: bool,
+    escape: bool,
+    terminal: bool,
+) -> EntryAction<'a>
+    ensures { result ≡ the_check_action json all_names escape terminal }
+{
+    if json {
+        EntryAction::Json(Document::Verdicts)
+    } else {
+        EntryAction::Check(naming_of(all_names, escape, terminal))
+    }
+}
+
+/// What `lint` requests of an entry, which `--json` makes a document.
+pub fn lint_action<'a>(json: bool, options: LintOptions, color: Color) -> EntryAction<'a>
+    ensures { result ≡ the_lint_action json options color }
+{
+    if json {
+        EntryAction::Json(Document::Findings(options))
+    } else {
+        EntryAction::Lint(options, color)
+    }
+}
+
+/// How `trace` writes, by `--json` and `--escape`, which exclude each other.
+pub fn trace_form_of(json: bool, escape: bool, color: Color) -> TraceForm
+    ensures { result ≡ the_trace_form_of json escape color }
+{
+    if json {
+        TraceForm::Json
+    } else {
+        TraceForm::Lines(form_of(escape), color)
+    }
+}
+
+/// How `diff` writes.
+pub fn comparison_of(json: bool, color: Color) -> Comparison
+    ensures { result ≡ the_comparison_of json color }
+{
+    if json {
+        Comparison::Json
+    } else {
+        Comparison::Lines(color)
+    }
+}
+
+/// The width that a flag of `convert` requests.
+pub fn width_of(wide: bool, narrow: bool) -> Option<Width>
+    ensures { result ≡ the_width_of wide narrow }
+{
+    match (wide, narrow) {
+        (true, _) => Some(Width::Wide),
+        (false, true) => Some(Width::Legacy),
+        (false, false) => None,
+    }
+}
