@@ -25,16 +25,24 @@ fn words(rt: &HostRuntime) -> io::Result<Vec<String>> {
     Ok(words)
 }
 
-/// Where results go. At a terminal parts of lines stand out, unless `NO_COLOR` is set to a word.
+/// Whether a variable of the environment is set to a word other than this one.
+fn is_other_than(rt: &HostRuntime, name: &str, word: &str) -> bool {
+    match std::env::var(rt, name) {
+        Ok(value) => !value.is_empty() && value.as_str() != word,
+        Err(VarError::NotPresent) => false,
+        Err(_) => true,
+    }
+}
+
+/// Where results go. At a terminal parts of lines stand out, unless `NO_COLOR` is set to a word, or `TERM` is not set or `dumb`.
 fn destination(rt: &HostRuntime, is_terminal: bool) -> Destination {
     if !is_terminal {
         return Destination::File;
     }
-    match std::env::var(rt, "NO_COLOR") {
-        Ok(word) if word.is_empty() => Destination::Terminal(Color::Always),
-        Err(VarError::NotPresent) => Destination::Terminal(Color::Always),
-        Ok(_) | Err(_) => Destination::Terminal(Color::Never),
+    if !is_other_than(rt, "NO_COLOR", "") && is_other_than(rt, "TERM", "dumb") {
+        return Destination::Terminal(Color::Always);
     }
+    Destination::Terminal(Color::Never)
 }
 
 /// The status of the run.
@@ -52,7 +60,7 @@ fn status(rt: &HostRuntime) -> io::Result<u8> {
     };
     let is_closed = Cell::new(false);
     Ok(run_at(
-        &Disk { rt },
+        &Disk::new(rt),
         rt.alloc(),
         rt.alloc(),
         at,
@@ -73,7 +81,7 @@ fn status(rt: &HostRuntime) -> io::Result<u8> {
     ))
 }
 
-/// Words that are no UTF-8 end with status 2, and out of memory for them with 6 and the line `memory`.
+/// A word that is not UTF-8 ends the run with status 2 and a line, and out of memory for the words with 6 and the line `memory`.
 fn main(rt: HostRuntime) -> ExitCode {
     match status(&rt) {
         Ok(status) => ExitCode::from(status),
@@ -81,6 +89,9 @@ fn main(rt: HostRuntime) -> ExitCode {
             let _ = eprintln!(rt; "memory");
             ExitCode::from(6)
         }
-        Err(_) => ExitCode::from(2),
+        Err(_) => {
+            let _ = eprintln!(rt; "error: a word of the command line is not UTF-8");
+            ExitCode::from(2)
+        }
     }
 }

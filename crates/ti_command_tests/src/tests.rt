@@ -29,6 +29,7 @@ mod fault_messages;
 mod flushing;
 mod forged_names;
 mod help;
+mod known_files;
 mod large_runs;
 mod parameters;
 mod read_lines;

@@ -1,7 +1,7 @@
 -- What two files lead to.
-use Rattle.std.proofs.Common.{◌≡◌, ◌∙◌, ◌==◌, ℕ, true, false, true≢false, List, [], ◌∷◌, length, map, inl, inr, refl, ap, arith, subst, sym}
+use Rattle.std.proofs.Common.{◌≡◌, ◌∙◌, ◌==◌, ◌<◌, ℕ, true, false, true≢false, List, [], ◌∷◌, length, map, inl, inr, refl, ap, arith, subst, sym}
 use Rattle.std.proofs.lemmas.Bool.{eqb-true}
-use Rattle.std.specs.Prelude.{Option, Result, Ok, Err, IfOk, MatchResult, unwrap_or}
+use Rattle.std.specs.Prelude.{Option, Result, Ok, Err, IfOk, IfSome, MatchResult, unwrap_or}
 use Rattle.ti_words.specs.Spelling.{Spells}
 use Rattle.ti_words.specs.Value.{EntryValue}
 use Rattle.ti_line.specs.declared.options.Comparison.{Comparison}
@@ -65,10 +65,10 @@ module _ {F O : Type 0} (bytes line : O → List ℕ) (status : O → ℕ) (know
   both_read (Err e) contents of_other one two read again is too compared = tt
 
 -- what they led to is written
-pub ran_difference : {F O : Type 0} (bytes line : O → List ℕ) (code : O → ℕ) (known : KnownFiles) (d : Pair) (before after : Streams) (outcome : Result O F) (answer : Option ℕ) (status : ℕ)
+pub ran_difference : {F O : Type 0} (bytes line : O → List ℕ) (code : O → ℕ) (known : KnownFiles) (d : Pair) (before after : Streams) (outcome : Result O F) (answer : Option ℕ) (status : ℕ) (V : Type 0)
     → IfOk outcome (λ o. (one : Supply) × (two : Supply) × AreSupplied known d before.left after.left one two × IsComparison d.likeness d.form d.file.now d.other.now one two (bytes o) (line o) (code o))
     → MatchResult outcome (λ o. Delivered before.held after.held before.told after.told answer (bytes o) (line o) (code o)) (λ _. Delivered before.held after.held before.told after.told answer [] (fault_line fault.Memory) 6)
-    → status ≡ unwrap_or answer 5 → RanDifference known d before after status
-ran_difference bytes line code known d before after (Ok o) answer status (one, two, supplied, led) delivered is = (one, two, bytes o, line o, code o, answer, supplied, led, delivered, is)
-ran_difference bytes line code known d before after (Err e) answer status led delivered is =
-    (NoMemory, NoMemory, [], fault_line fault.Memory, 6, answer, (before.left, tt, tt), (refl, refl, refl), delivered, is)
+    → status ≡ unwrap_or answer 5 → IfSome answer (λ s. 1 < s → V) → RanDifference known d V before after status
+ran_difference bytes line code known d before after (Ok o) answer status V (one, two, supplied, led) delivered is kept = (one, two, supplied, (bytes o, line o, code o, led, (answer, delivered, is, kept)))
+ran_difference bytes line code known d before after (Err e) answer status V led delivered is kept =
+    (NoMemory, NoMemory, (before.left, tt, tt), ([], fault_line fault.Memory, 6, (refl, refl, refl), (answer, delivered, is, kept)))

@@ -1,30 +1,37 @@
--- What a call has done, from what it read and what it wrote.
-use Rattle.std.proofs.Common.{◌≡◌, ℕ, Bool, ◌⊎◌, inl, inr, List, [], Ok, Err, Some, None, refl, subst, sym, ap, ◌∙◌}
-use Rattle.std.specs.Prelude.{Option, Result, IfErr, IsErrAnd, true}
+-- How a request is answered, from what is read, and what a call has done.
+use Rattle.std.proofs.Common.{◌≡◌, ◌<◌, ℕ, Bool, ◌⊎◌, inl, inr, List, [], Ok, Err, Some, None, refl, subst, sym, ap, ◌∙◌}
+use Rattle.std.specs.Prelude.{Option, Result, IfErr, IfOk, IfSome, MatchResult, true, unwrap_or}
 use Rattle.std.specs.Io.KnownBytes.{Consumes, IsAtEnd}
 use Rattle.std.proofs.KnownBytes.{Keeps-refl}
 use Rattle.ti_tool.specs.declared.fault.ToolFault.{ToolFault}
 use Rattle.ti_tool.specs.declared.fault.ToolFault.TheVariants as fault
 use Rattle.ti_layout.specs.declared.fault.Refused.{Refused}
-use Rattle.ti_layout.specs.Refusal.{refusal, failure}
+use Rattle.ti_layout.specs.Refusal.{failure}
+use Rattle.ti_words.specs.Spelling.{Spells}
+use Rattle.ti_words.specs.Value.{EntryValue}
 use Rattle.ti_entry.specs.Reading.{Reading, FeedsFrom, new_reading, reading_after, refusal_after}
 use Rattle.ti_entry.specs.declared.source.ReadStop.{ReadStop}
 use Rattle.ti_entry.specs.declared.source.ReadStop.TheVariants as stop
 use Rattle.ti_entry.proofs.FeedLemmas.{failure_refuses}
 use Rattle.ti_entry.proofs.FeedsFromLemmas.{FeedsFrom-whole}
-use Rattle.ti_expand.specs.declared.values.Value.{Value}
-use Rattle.ti_line.specs.declared.request.Asked.{Asked}
-use Rattle.ti_line.specs.declared.request.Asked.TheVariants.{Entry, Source}
-use Rattle.ti_line.specs.declared.request.OfCapability.{OfCapability}
-use Rattle.ti_tool.specs.Results.{IsAnswer, IsDueOf, IsOutputOf}
-use Rattle.ti_tool.specs.Sources.{IsDueForSource}
-use Rattle.ti_line.specs.declared.request.OfEntry.{OfEntry}
-use Rattle.ti_tool.specs.inner.Kept.{IsKept}
-use Rattle.ti_tool.specs.inner.ReadsInto.{ReadsInto}
-use Rattle.ti_tool.specs.Calls.{DidCall, DidCheck, FailsAsDue, HasFailed, HasReadEnough, IsEnough, IsFailedWrite, IsFullSource, Wrote, stop_fault}
-use Rattle.ti_tool.proofs.IsDueLemmas.{IsNeverOwn}
+use Rattle.ti_line.specs.declared.request.Action.{Action}
+use Rattle.ti_line.specs.declared.request.Action.TheVariants.{Capability, Difference, Entry, Source}
+use Rattle.ti_line.specs.declared.request.EntryAction.{EntryAction}
+use Rattle.ti_line.specs.declared.request.EntryAction.TheVariants as of_entry
+use Rattle.ti_tool.specs.Calls.{DidCall, DidCheck, FailsAsDue, HasReadEnough, IsEnough, IsFailedWrite, Wrote, stop_fault}
+use Rattle.ti_tool.specs.FaultLines.{IsAnswerLine, action_line, fault_line}
+use Rattle.ti_tool.specs.FileRuns.{Contents, Delivered, IsInput, IsOutcomeOfInput, NoMemory, RanInput, Supply, Unread, looked}
+use Rattle.ti_tool.specs.Results.{Finds, IsAnswer, IsDueIn}
+use Rattle.ti_lint.specs.declared.lint_options.LintOptions.{LintOptions}
+use Rattle.ti_tool.specs.Summaries.{IsSummarized}
+use Rattle.ti_tool.specs.Statuses.{status_for}
+use Rattle.ti_tool.specs.Streams.{Streams}
+use Rattle.ti_tool.specs.inner.Answered.{HasFault, HasOutput, IsKept}
+use Rattle.ti_tool.proofs.IsDueLemmas.{IsNeverOwn, output_never, source_never}
+use Rattle.ti_tool.proofs.NeedsMemoryLemmas.{due_from}
+use Rattle.ti_tool.proofs.OneResultLemmas.{entry_never}
 
-pub failed : (due : Result (List ℕ) ToolFault → Type 0) (held : Option (List ℕ)) (e : ToolFault) → IsNeverOwn due → FailsAsDue due e → Wrote due held held (Err e)
+failed : (due : Result (List ℕ) ToolFault → Type 0) (held : Option (List ℕ)) (e : ToolFault) → IsNeverOwn due → FailsAsDue due e → Wrote due held held (Err e)
 failed due held fault.Read never h = Keeps-refl held
 failed due held fault.Memory never (inl (e, needs)) = (needs, Keeps-refl held)
 failed due held fault.Memory never (inr d) = absurd (never.no_memory d)
@@ -32,13 +39,13 @@ failed due held (fault.Write gone) never (inr d) = absurd (never.no_write gone d
 failed due held other never (inl (e, needs)) = absurd (cc)
 failed due held other never (inr d) = (d, Keeps-refl held)
 
-pub ended : (enough : Type 0) (left : Option (List ℕ)) (answer : Result (Unit {0}) ToolFault) → enough ⊎ IsAtEnd left → HasReadEnough enough left answer
+ended : (enough : Type 0) (left : Option (List ℕ)) (answer : Result (Unit {0}) ToolFault) → enough ⊎ IsAtEnd left → HasReadEnough enough left answer
 ended enough left (Ok u) h = h
 ended enough left (Err fault.Read) h = tt
 ended enough left (Err other) h = h
 
 -- a call that found a fault before it wrote
-abbrev pub did_fail : (due : List ℕ → Result (List ℕ) ToolFault → Type 0) (enough : List ℕ → Type 0) (left0 left1 held : Option (List ℕ)) (input : List ℕ) (e : ToolFault)
+did_fail : (due : List ℕ → Result (List ℕ) ToolFault → Type 0) (enough : List ℕ → Type 0) (left0 left1 held : Option (List ℕ)) (input : List ℕ) (e : ToolFault)
     → Consumes left0 left1 input → enough input ⊎ IsAtEnd left1 → IsNeverOwn (due input) → FailsAsDue (due input) e
     → DidCall due enough left0 left1 held held (Err e)
 did_fail due enough left0 left1 held input e read at never h =
@@ -52,45 +59,16 @@ wrote_due due out held0 held1 (Err (fault.Write gone)) d (x, is, l, a) fails = (
 wrote_due due out held0 held1 (Err other) d w fails = absurd fails
 
 -- a call that wrote what is due
-pub did_write : (due : List ℕ → Result (List ℕ) ToolFault → Type 0) (enough : List ℕ → Type 0) (left0 left1 held0 held1 : Option (List ℕ)) (input out written : List ℕ) (answer : Result (Unit {0}) ToolFault)
+did_write : (due : List ℕ → Result (List ℕ) ToolFault → Type 0) (enough : List ℕ → Type 0) (left0 left1 held0 held1 : Option (List ℕ)) (input out written : List ℕ) (answer : Result (Unit {0}) ToolFault)
     → Consumes left0 left1 input → enough input ⊎ IsAtEnd left1 → due input (Ok out) → written ≡ out → Wrote (λ d. d ≡ Ok written) held0 held1 answer
     → IfErr answer IsFailedWrite → DidCall due enough left0 left1 held0 held1 answer
 did_write due enough left0 left1 held0 held1 input out written answer read at d e w fails =
     let P : List ℕ → Type 0 = λ x. due input (Ok x) in
     record { input = input; read = read; ended = ended (enough input) left1 answer at; wrote = wrote_due (due input) written held0 held1 answer (subst P (sym e) d) w fails }
 
--- a call whose reader failed
-pub did_not_read : (due : List ℕ → Result (List ℕ) ToolFault → Type 0) (enough : List ℕ → Type 0) (left0 left1 held : Option (List ℕ)) (old new : List ℕ)
-    → ReadsInto left0 left1 old new → DidCall due enough left0 left1 held held (Err fault.Read)
-did_not_read due enough left0 left1 held old new (bytes, took, is) = record { input = bytes; read = took; ended = tt; wrote = Keeps-refl held }
-
 -- what a new reader refused is why the bytes fail
 stopped_on : (bytes : List ℕ) (old new : Reading) (r : Refused) → old ≡ new_reading → new ≡ reading_after old bytes → new.refusal ≡ Some r → failure bytes ≡ Some r
 stopped_on bytes old new r o n h = ap (λ x. (reading_after x bytes).refusal) (sym o) ∙ ap (λ x. x.refusal) (sym n) ∙ h
-
--- a call whose reading stopped
-pub did_stop : (due : List ℕ → Result (List ℕ) ToolFault → Type 0) (left0 left1 held : Option (List ℕ)) (old new : Reading) (why : ReadStop) → old ≡ new_reading
-    → FeedsFrom left0 left1 old new → new.refusal ≡ refusal_after why
-    → ((bytes : List ℕ) (refused : Refused) → refusal bytes ≡ Some refused → due bytes (Err (fault.Entry refused)))
-    → DidCall due HasFailed left0 left1 held held (Err (stop_fault why))
-did_stop due left0 left1 held old new stop.Io first (bytes, took, fed) none h = record { input = bytes; read = took; ended = tt; wrote = Keeps-refl held }
-did_stop due left0 left1 held old new (stop.Refused refused) first (bytes, took, fed) some h =
-    let failed = stopped_on bytes old new refused first fed some in
-    record { input = bytes; read = took; ended = inl (refused, failed); wrote = (h bytes refused (failure_refuses bytes refused failed), Keeps-refl held) }
-
--- what is kept is what was read, unless reading stopped
-pub kept_stop : (e : OfEntry) (kept input : List ℕ) (why : ReadStop) → IsKept (Entry e) kept input (Err (stop_fault why))
-kept_stop e kept input stop.Io = tt
-kept_stop e kept input (stop.Refused refused) = tt
-
-pub kept_same : (e : OfEntry) (kept : List ℕ) (answer : Result Bool ToolFault) → IsKept (Entry e) kept kept answer
-kept_same e kept (Err fault.NoSuchName) = refl
-kept_same e kept (Ok v) = tt
-kept_same e kept (Err other) = tt
-
-pub kept_written : (e : OfEntry) (kept input : List ℕ) (why : ToolFault) → IsFailedWrite why → IsKept (Entry e) kept input (Err why)
-kept_written e kept input (fault.Write gone) failed = tt
-kept_written e kept input other failed = absurd failed
 
 -- all that there was to read is kept, and nothing is refused so far
 pub record KeepsAll (before after : Option (List ℕ)) (reading : Reading) : Type 0 where
@@ -105,20 +83,90 @@ keeps_all before after old new first fed end none =
     let Fed : Reading → Type 0 = λ r. FeedsFrom before after r new in
     record { read = FeedsFrom-whole before after new (subst Fed first fed) none; end = end; unrefused = none }
 
--- a call on an entry is one of the request that is of it
-pub entry_did : (asked : Asked) (e : OfEntry) (parameters : List Value) (left0 left1 held0 held1 : Option (List ℕ)) (kept : List ℕ) (answer : Result Bool ToolFault) → asked ≡ Entry e
-    → ((did : DidCheck (λ sound. IsDueOf [] e parameters sound) HasFailed left0 left1 held0 held1 answer) × IsKept (Entry e) kept did.2.input answer)
-    → (did : DidCheck (IsAnswer asked parameters) (IsEnough asked) left0 left1 held0 held1 answer) × IsKept asked kept did.2.input answer
-entry_did asked e parameters left0 left1 held0 held1 kept answer is did =
-    let Did : Asked → Type 0 = λ a. (did : DidCheck (IsAnswer a parameters) (IsEnough a) left0 left1 held0 held1 answer) × IsKept a kept did.2.input answer in
-    subst Did (sym is) did
+-- ---- requests
 
--- a call on a notation that failed is one of the request that is of it
-pub source_failed : (asked : Asked) (c : OfCapability) (parameters : List Value) (left0 left1 held0 held1 : Option (List ℕ)) (kept : List ℕ) (result : Result (Unit {0}) ToolFault) (answer : Result Bool ToolFault) (e : ToolFault)
-    → asked ≡ Source c → result ≡ Err e → IsErrAnd answer (λ x. x ≡ e) → DidCall (IsDueForSource (IsOutputOf c parameters)) IsFullSource left0 left1 held0 held1 result
-    → (did : DidCheck (IsAnswer asked parameters) (IsEnough asked) left0 left1 held0 held1 answer) × IsKept asked kept did.2.input answer
-source_failed asked c parameters left0 left1 held0 held1 kept result (Ok sound) e is failed same did = absurd same
-source_failed asked c parameters left0 left1 held0 held1 kept result (Err x) e is failed same did =
-    let Did : Asked → Type 0 = λ a. (did : DidCheck (IsAnswer a parameters) (IsEnough a) left0 left1 held0 held1 (Err x)) × IsKept a kept did.2.input (Err x) in
-    let P : Result (Unit {0}) ToolFault → Type 0 = λ r. DidCall (IsDueForSource (IsOutputOf c parameters)) IsFullSource left0 left1 held0 held1 r in
-    subst Did (sym is) ((true, tt, subst P (failed ∙ ap (λ f. Err f) (sym same)) did), tt)
+answer_never : (action : Action) (input : List ℕ) → IsNeverOwn (IsAnswer action true input)
+answer_never (Capability c) input = output_never c.result c.parameters.values input
+answer_never (Source c) input = source_never c.result c.parameters.values input
+answer_never (Entry e) input = entry_never e true input
+answer_never (Difference d) input = record { no_write = λ gone d. d; no_memory = λ d. d }
+
+-- a source that stopped gave no entry
+pub stopped : (e : EntryAction) (kept : List ℕ) (left0 left1 : Option (List ℕ)) (old new : Reading) (why : ReadStop) → old ≡ new_reading → FeedsFrom left0 left1 old new
+    → new.refusal ≡ refusal_after why → (supply : Supply) × IsInput (Entry e) left0 left1 supply × HasFault (Entry e) kept supply (stop_fault why)
+stopped e kept left0 left1 old new stop.Io first (bytes, took, fed) none = (Unread, (bytes, took), refl)
+stopped e kept left0 left1 old new (stop.Refused refused) first (bytes, took, fed) some =
+    let failed = stopped_on bytes old new refused first fed some in
+    (Contents bytes, (took, inl (refused, failed)), (inr (inl (refused, failure_refuses bytes refused failed, refl)), tt))
+
+-- what is due for an entry is due for the bytes that are kept of it
+pub entry_answered : {O : Type 0} (passed : O → Bool) (out : O → List ℕ) (r : Result O ToolFault) (e : EntryAction) (kept bytes : List ℕ) (v : EntryValue) → Spells kept v → bytes ≡ kept
+    → IfOk r (λ o. IsDueIn [] e (passed o) bytes v (Ok (out o))) → IfErr r (FailsAsDue (IsDueIn [] e true bytes v))
+    → MatchResult r (λ o. HasOutput (Entry e) kept (Contents kept) (passed o) (out o)) (HasFault (Entry e) kept (Contents kept))
+entry_answered passed out (Ok o) e kept bytes v spells same due fails =
+    (inr (v, spells, subst (λ (b : List ℕ). IsDueIn [] e (passed o) b v (Ok (out o))) same due), refl)
+entry_answered passed out (Err why) e kept bytes v spells same due fails = (
+  due_from (IsDueIn [] e true kept) kept v why spells (subst (λ (b : List ℕ). FailsAsDue (IsDueIn [] e true b v) why) same fails),
+  is_kept e kept why,
+)
+  where
+    is_kept : (e : EntryAction) (kept : List ℕ) (why : ToolFault) → IsKept (Entry e) kept kept why
+    is_kept e kept fault.NoSuchName = refl
+    is_kept e kept other = tt
+
+module _ (action : Action) (left0 left1 : Option (List ℕ)) where
+  -- a call that was answered with a fault
+  pub failed_call : (supply : Supply) (kept : List ℕ) (held : Option (List ℕ)) (e : ToolFault) → IsInput action left0 left1 supply → HasFault action kept supply e
+      → DidCheck (IsAnswer action) (IsEnough action) left0 left1 held held (Err e)
+  failed_call (Contents bytes) kept held e (read, at) (due, same) = (true, tt, did_fail (IsAnswer action true) (IsEnough action) left0 left1 held bytes e read at (answer_never action bytes) due)
+  failed_call Unread kept held e (bytes, read) is =
+      let Did : ToolFault → Type 0 = λ f. DidCall (IsAnswer action true) (IsEnough action) left0 left1 held held (Err f) in
+      (true, tt, subst Did (sym is) (record { input = bytes; read = read; ended = tt; wrote = Keeps-refl held }))
+  failed_call NoMemory kept held e none h = absurd none
+
+  -- a call that wrote an output
+  pub wrote_call : (supply : Supply) (kept : List ℕ) (passed : Bool) (held0 held1 : Option (List ℕ)) (out written : List ℕ) (answer : Result (Unit {0}) ToolFault) → IsInput action left0 left1 supply
+      → HasOutput action kept supply passed out → written ≡ out → Wrote (λ d. d ≡ Ok written) held0 held1 answer → IfErr answer IsFailedWrite
+      → DidCall (IsAnswer action passed) (IsEnough action) left0 left1 held0 held1 answer
+  wrote_call (Contents bytes) kept passed held0 held1 out written answer (read, at) (due, keeps) same w fails =
+      did_write (IsAnswer action passed) (IsEnough action) left0 left1 held0 held1 bytes out written answer read at due same w fails
+  wrote_call Unread kept passed held0 held1 out written answer read due same w fails = absurd due
+  wrote_call NoMemory kept passed held0 held1 out written answer read due same w fails = absurd due
+
+-- ---- what standard input leads to
+
+read_line : (action : Action) (near : List (List ℕ)) → action_line action near fault.Read ≡ fault_line fault.Read
+read_line (Entry (of_entry.Get g)) near = refl
+read_line (Entry (of_entry.Trace t)) near = refl
+read_line action near = refl
+
+told_of_kept : (action : Action) (kept bytes : List ℕ) (e : ToolFault) (line : List ℕ) → IsKept action kept bytes e → IsAnswerLine {V = Bool} action kept (Err e) line → IsAnswerLine {V = Bool} action bytes (Err e) line
+told_of_kept (Entry (of_entry.Get g)) kept bytes fault.NoSuchName line same is =
+    subst (λ (x : List ℕ). IsAnswerLine {V = Bool} (Entry (of_entry.Get g)) x (Err fault.NoSuchName) line) same is
+told_of_kept (Entry (of_entry.Trace t)) kept bytes fault.NoSuchName line same is =
+    subst (λ (x : List ℕ). IsAnswerLine {V = Bool} (Entry (of_entry.Trace t)) x (Err fault.NoSuchName) line) same is
+told_of_kept action kept bytes e line same is = is
+
+module _ (action : Action) where
+  pub output_leads : (supply : Supply) (kept : List ℕ) (passed : Bool) (out bytes line : List ℕ) (status : ℕ) → HasOutput action kept supply passed out → Finds action passed → bytes ≡ out → line ≡ [] → status ≡ status_for (Ok passed)
+      → IsOutcomeOfInput action supply bytes line status
+  output_leads (Contents input) kept passed out bytes line status (due, keeps) finds same none is =
+      (Ok passed, is, (finds, subst (λ (b : List ℕ). IsAnswer action passed input (Ok b)) (sym same) due, none))
+  output_leads Unread kept passed out bytes line status due finds same none is = absurd due
+  output_leads NoMemory kept passed out bytes line status due finds same none is = absurd due
+
+  pub fault_leads : (supply : Supply) (kept held : List ℕ) (why : ToolFault) (told bytes line : List ℕ) (status : ℕ) → HasFault action kept supply why → held ≡ kept → IsAnswerLine {V = Bool} action held (Err why) told
+      → line ≡ told → bytes ≡ [] → status ≡ status_for (Err why) → IsOutcomeOfInput action supply bytes line status
+  fault_leads (Contents input) kept held why told bytes line status (due, is_kept) holds is_told same none is =
+      let OfKept : List ℕ → Type 0 = λ x. IsAnswerLine {V = Bool} action x (Err why) told in
+      (Err why, is, (due, none, (told, told_of_kept action kept input why told is_kept (subst OfKept holds is_told), same)))
+  fault_leads Unread kept held why told bytes line status read holds (near, are, says) same none is =
+      (none, same ∙ says ∙ ap (action_line action near) read ∙ read_line action near, is ∙ ap (λ w. status_for (Err w)) read)
+  fault_leads NoMemory kept held why told bytes line status read holds (near, are, says) same none is =
+      (none, same ∙ says ∙ ap (action_line action near) read ∙ read_line action near, is ∙ ap (λ w. status_for (Err w)) read)
+
+  -- a request of standard input that leads to something, which is delivered
+  pub ran_input : (summary : Option LintOptions) (supply : Supply) (V : Type 0) (before between after : Streams) (out line : List ℕ) (code status : ℕ) → IsInput action before.left between.left supply → IsOutcomeOfInput action supply out line code
+      → ((answer : Option ℕ) × Delivered before.held between.held before.told between.told answer out line code × (status ≡ unwrap_or answer 5) × IfSome answer (λ s. 1 < s → V))
+      → IsSummarized summary (looked supply status) between after → RanInput summary action V before after status
+  ran_input summary supply V before between after out line code status read led delivered sums = (supply, between, read, (out, line, code, led, delivered), sums)

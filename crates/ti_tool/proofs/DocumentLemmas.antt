@@ -36,9 +36,9 @@ object_is : (document : Document) (name : List ℕ) (d : Data) → compact_text 
 unfolding escape_byte
 object_is documents.Listing name d = in_order (codes "{\"file\":") (quoted (notation name)) (codes ",\"") (codes "items") (codes "\":") (compact_text d)
 object_is documents.Verdicts name d = in_order (codes "{\"file\":") (quoted (notation name)) (codes ",\"") (codes "verdicts") (codes "\":") (compact_text d)
-object_is (documents.Findings level) name d = in_order (codes "{\"file\":") (quoted (notation name)) (codes ",\"") (codes "findings") (codes "\":") (compact_text d)
+object_is (documents.Findings options) name d = in_order (codes "{\"file\":") (quoted (notation name)) (codes ",\"") (codes "findings") (codes "\":") (compact_text d)
 
-pub document_of_file : (document : Document) (name : List ℕ) (sound : Bool) (input : List ℕ) (v : EntryValue) (objects : List Data) (bytes out : List ℕ) → AreObjects document sound input v objects
-    → bytes ≡ compact_text (file_object document name (array (items_of objects))) → out ≡ bytes ++ codes "\n" → IsDocumentOfFile document name sound input v out
-document_of_file document name sound input v objects bytes out are is line =
+pub document_of_file : (document : Document) (name : List ℕ) (passed : Bool) (input : List ℕ) (v : EntryValue) (objects : List Data) (bytes out : List ℕ) → AreObjects document passed input v objects
+    → bytes ≡ compact_text (file_object document name (array (items_of objects))) → out ≡ bytes ++ codes "\n" → IsDocumentOfFile document name passed input v out
+document_of_file document name passed input v objects bytes out are is line =
     (array_text objects ++ codes "\n", (objects, are, refl), line ∙ ap (λ x. x ++ codes "\n") is ∙ object_is document name (array (items_of objects)))

@@ -11,20 +11,25 @@ use Rattle.std.proofs.lemmas.List.Folds.{list_any-append}
 use Rattle.std.specs.Borrow.{Bor}
 use Rattle.ti_line.specs.CommandLine.{is_minus}
 use Rattle.ti_line.specs.Requests.{texts_of}
-use Rattle.ti_line.specs.declared.request.Asked.{Asked}
-use Rattle.ti_tool.specs.Runs.{RanRequest, RanTask}
-use Rattle.ti_line.specs.declared.request.OfEntry.{OfEntry}
+use Rattle.ti_line.specs.declared.request.Action.{Action}
+use Rattle.ti_tool.specs.Runs.{RanRequest}
+use Rattle.ti_line.specs.declared.request.EntryAction.{EntryAction}
 use Rattle.ti_tool.specs.declared.fault.ToolFault.TheVariants as fault
 use Rattle.ti_tool.specs.declared.fault.ToolFault.{ToolFault}
 use Rattle.ti_tool.specs.Calls.{FailsAsDue}
-use Rattle.ti_tool.specs.FaultLines.{IsAnswerLine, fault_line}
+use Rattle.ti_tool.specs.FaultLines.{IsAnswerLine, Told, fault_line}
 use Rattle.ti_tool.specs.Files.{before_findings, file_line}
 use Rattle.ti_tool.specs.Results.{IsDueOf}
+use Rattle.ti_lint.specs.declared.lint_options.LintOptions.{LintOptions}
+use Rattle.ti_tool.specs.Summaries.{IsSummarized, no_tally}
+use Rattle.ti_tool.specs.declared.summary.Tally.{Tally}
+use Rattle.ti_tool.specs.inner.Tallies.{IsCounted, IsLooked}
+use Rattle.ti_tool.proofs.FileLemmas.{fault_is_high}
+use Rattle.ti_tool.proofs.SummaryLemmas.{counted_none, fault_unlooked}
 use Rattle.ti_tool.specs.Statuses.{status_for}
-use Rattle.ti_expand.specs.declared.values.Value.{Value}
-use Rattle.ti_line.specs.declared.request.Asked.TheVariants.{Entry}
-use Rattle.ti_tool.specs.FileRuns.{AreLookups, Delivered, DidFile, DidFiles, DoneFile, Contents, IsLookup, IsOutcome, IsOutcomeOfContents, IsReadFrom, IsSupplied, IsUnread, Job, NoMemory, RanFiles, RanFound, Supply, Unread, are_several, files_done, greatest_status}
-use Rattle.ti_tool.specs.Streams.{FileName, KnownFiles, Lookup, Streams}
+use Rattle.ti_line.specs.declared.request.Action.TheVariants.{Entry}
+use Rattle.ti_tool.specs.FileRuns.{AreLookups, Delivered, DidFile, DidFiles, DoneFile, Contents, EndsWithNone, IsLookup, IsOutcome, IsOutcomeOfContents, IsReadFrom, IsSupplied, IsUnread, Job, NoMemory, RanFiles, RanFound, RanInput, Supply, Unread, all_looked, are_several, files_done, greatest_status, line_on_none, lines_on_none, looked}
+use Rattle.ti_tool.specs.Streams.{FileName, KnownFiles, Lookup, Stream, Streams, streams}
 
 max_assoc : (a b c : ℕ) → max (max a b) c ≡ max a (max b c)
 max_assoc a b c = omega (arith, ints, clamps)
@@ -53,24 +58,33 @@ all_some f xs i is = ap (map f) (take_all i xs (omega arith))
 
 -- ---- files that words name
 
-lookups_more : (known : KnownFiles) (e : OfEntry) (words : List (List ℕ)) (word : List ℕ) (founds : List Lookup) (found : Lookup) → AreLookups known e words founds → IsLookup known e word found
+lookups_more : (known : KnownFiles) (e : EntryAction) (words : List (List ℕ)) (word : List ℕ) (founds : List Lookup) (found : Lookup) → AreLookups known e words founds → IsLookup known e word found
     → AreLookups known e (words ++ word ∷ []) (founds ++ found ∷ [])
 lookups_more known e [] word founds found none is = subst (λ (fs : List Lookup). AreLookups known e (word ∷ []) (fs ++ found ∷ [])) (sym none) (is, refl)
 lookups_more known e (w ∷ words) word [] found are is = absurd are
 lookups_more known e (w ∷ words) word (f ∷ founds) found (first, rest) is = (first, lookups_more known e words word founds found rest is)
 
 -- files of these words were found, some of them in folders, if several were named before
-abbrev pub Found : KnownFiles → OfEntry → List (List ℕ) → Bool → List FileName → Bool → Type 0
-Found known e words start files are_several =
-    (founds : List Lookup) × AreLookups known e words founds × (files ≡ flat_map (λ l. l.files) founds) × (are_several ≡ start || list_any (λ l. l.is_folder) founds)
+abbrev pub Found : KnownFiles → EntryAction → List (List ℕ) → Bool → List FileName → Bool → List ℕ → Type 0
+Found known e words start files are_several lines =
+    (founds : List Lookup) × AreLookups known e words founds × (files ≡ flat_map (λ l. l.files) founds) × (are_several ≡ start || list_any (λ l. l.is_folder) founds) × (lines ≡ lines_on_none e words founds)
 
-pub found_more : (known : KnownFiles) (e : OfEntry) (words : List (List ℕ)) (word : List ℕ) (start several more : Bool) (files all : List FileName) (one : Lookup) → Found known e words start files several
-    → IsLookup known e word one → all ≡ files ++ one.files → more ≡ several || one.is_folder → Found known e (words ++ word ∷ []) start all more
-found_more known e words word start several more files all one (founds, are, is, some) named joined either = (
+lines_more : (known : KnownFiles) (e : EntryAction) (words : List (List ℕ)) (word : List ℕ) (founds : List Lookup) (found : Lookup) → AreLookups known e words founds
+    → lines_on_none e (words ++ word ∷ []) (founds ++ found ∷ []) ≡ lines_on_none e words founds ++ line_on_none e word found
+lines_more known e [] word founds found none =
+    subst (λ (fs : List Lookup). lines_on_none e (word ∷ []) (fs ++ found ∷ []) ≡ lines_on_none e [] fs ++ line_on_none e word found) (sym none) (append-nil (line_on_none e word found))
+lines_more known e (w ∷ words) word [] found are = absurd are
+lines_more known e (w ∷ words) word (f ∷ founds) found (first, rest) =
+    ap (λ l. line_on_none e w f ++ l) (lines_more known e words word founds found rest) ∙ sym (append_assoc (line_on_none e w f) (lines_on_none e words founds) (line_on_none e word found))
+
+pub found_more : (known : KnownFiles) (e : EntryAction) (words : List (List ℕ)) (word : List ℕ) (start several more : Bool) (files all : List FileName) (one : Lookup) (lines says : List ℕ) → Found known e words start files several lines
+    → IsLookup known e word one → all ≡ files ++ one.files → more ≡ several || one.is_folder → says ≡ lines ++ line_on_none e word one → Found known e (words ++ word ∷ []) start all more says
+found_more known e words word start several more files all one lines says (founds, are, is, some, said) named joined either line = (
   founds ++ one ∷ [],
   lookups_more known e words word founds one are named,
   joined ∙ ap (λ fs. fs ++ one.files) is ∙ ap (λ fs. flat_map (λ l. l.files) founds ++ fs) (sym (append-nil one.files)) ∙ sym (flat_map-append (λ l. l.files) founds (one ∷ [])),
   either ∙ ap (λ b. b || one.is_folder) some ∙ joined_by start (list_any (λ l. l.is_folder) founds) one.is_folder ∙ ap (λ b. start || b) (sym (list_any-append (λ l. l.is_folder) founds (one ∷ []))),
+  line ∙ ap (λ l. l ++ line_on_none e word one) said ∙ sym (lines_more known e words word founds one are),
 )
   where
     joined_by : (a b c : Bool) → (a || b) || c ≡ a || (b || (c || false))
@@ -79,40 +93,50 @@ found_more known e words word start several more files all one (founds, are, is,
     joined_by false false true = refl
     joined_by false false false = refl
 
-pub found_word : (known : KnownFiles) (e : OfEntry) (words : List (Bor (List ℕ))) (i : ℕ) (d : Bor (List ℕ)) (start several more : Bool) (files all : List FileName) (one : Lookup) → i < length words
-    → Found known e (texts_of (take i words)) start files several → IsLookup known e (get_or words i d).now one → all ≡ files ++ one.files → more ≡ several || one.is_folder
-    → Found known e (texts_of (take (i + 1) words)) start all more
-found_word known e words i d start several more files all one within found named joined either =
-    subst (λ (ws : List (List ℕ)). Found known e ws start all more) (sym (map_more (λ w. w.now) words i d within))
-    (found_more known e (texts_of (take i words)) (get_or words i d).now start several more files all one found named joined either)
+pub found_word : (known : KnownFiles) (e : EntryAction) (words : List (Bor (List ℕ))) (i : ℕ) (d : Bor (List ℕ)) (start several more : Bool) (files all : List FileName) (one : Lookup) (lines says : List ℕ) → i < length words
+    → Found known e (texts_of (take i words)) start files several lines → IsLookup known e (get_or words i d).now one → all ≡ files ++ one.files → more ≡ several || one.is_folder
+    → says ≡ lines ++ line_on_none e (get_or words i d).now one → Found known e (texts_of (take (i + 1) words)) start all more says
+found_word known e words i d start several more files all one lines says within found named joined either line =
+    subst (λ (ws : List (List ℕ)). Found known e ws start all more says) (sym (map_more (λ w. w.now) words i d within))
+    (found_more known e (texts_of (take i words)) (get_or words i d).now start several more files all one lines says found named joined either line)
 
 -- ---- one file
 
 -- a fault of a file is what its contents lead to
 pub fault_led : {O F : Type 0} (bytes line : O → List ℕ) (status : O → ℕ) (job : Job) (name contents told said : List ℕ) (why : ToolFault) (code : ℕ) (r : Result O F)
-    → FailsAsDue (IsDueOf (before_findings job.are_several name) job.e job.parameters true contents) why
+    → FailsAsDue (IsDueOf (before_findings job.are_several name) job.e true contents) why
     → IsAnswerLine {V = Bool} (Entry job.e) contents (Err why) told → said ≡ told → code ≡ status_for (Err why) → IfOk r (λ o. (bytes o ≡ []) × (line o ≡ file_line name said) × (status o ≡ code))
     → IfOk r (λ o. IsOutcomeOfContents job name contents (bytes o) (line o) (status o))
 fault_led bytes line status job name contents told said why code (Ok o) due is same coded (b, l, s) = (Err why, s ∙ coded, (due, b, (told, is, l ∙ ap (file_line name) same)))
 fault_led bytes line status job name contents told said why code (Err f) due is same coded led = tt
 
-module _ {O F : Type 0} (bytes line : O → List ℕ) (status : O → ℕ) (known : KnownFiles) (job : Job) (file : FileName) (left0 left1 : Option (List ℕ)) where
+-- and nothing was looked at in it
+pub fault_unseen : {O F : Type 0} (bytes line : O → List ℕ) (status : O → ℕ) (seen : O → Option Tally) (summary : Option LintOptions) (contents said : List ℕ) (why : ToolFault) (code : ℕ) (r : Result O F)
+    → code ≡ status_for (Err why) → IfOk r (λ o. (bytes o ≡ []) × (line o ≡ said) × (status o ≡ code)) → IfOk r (λ o. seen o ≡ None) → IfOk r (λ o. IsLooked summary (looked (Contents contents) (status o)) (seen o))
+fault_unseen bytes line status seen summary contents said why code (Ok o) is (p, q, same) none = fault_unlooked summary contents (status o) (seen o) (rw (same ∙ is) (fault_is_high why)) none
+fault_unseen bytes line status seen summary contents said why code (Err f) is led none = tt
+
+not_looked : (summary : Option LintOptions) (seen : Option Tally) → seen ≡ None → IsLooked summary [] seen
+not_looked None seen is = tt
+not_looked (Some options) seen is = is
+
+module _ {O F : Type 0} (bytes line : O → List ℕ) (status : O → ℕ) (seen : O → Option Tally) (known : KnownFiles) (job : Job) (file : FileName) (left0 left1 : Option (List ℕ)) where
   abbrev pub Led : Result O F → Type 0
-  Led r = IfOk r (λ o. (supply : Supply) × IsSupplied known file left0 left1 supply × IsOutcome job file.name supply (bytes o) (line o) (status o))
+  Led r = IfOk r (λ o. (supply : Supply) × IsSupplied known file left0 left1 supply × IsOutcome job file.name supply (bytes o) (line o) (status o) × IsLooked job.summary (looked supply (status o)) (seen o))
 
   -- its contents are what there is of it
   pub contents_led : (name contents read : List ℕ) (r : Result O F) → name ≡ file.name → file.is_refused ≡ false → IsReadFrom (is_minus name) (known.contents name) left0 left1 read → contents ≡ read
-      → IfOk r (λ o. IsOutcomeOfContents job name contents (bytes o) (line o) (status o)) → Led r
-  contents_led name contents read (Ok o) named given from same led =
+      → IfOk r (λ o. IsOutcomeOfContents job name contents (bytes o) (line o) (status o)) → IfOk r (λ o. IsLooked job.summary (looked (Contents contents) (status o)) (seen o)) → Led r
+  contents_led name contents read (Ok o) named given from same led looks =
       let From : List ℕ → Type 0 = λ n. IsReadFrom (is_minus n) (known.contents n) left0 left1 read in
       let Outcome : List ℕ → Type 0 = λ n. IsOutcomeOfContents job n contents (bytes o) (line o) (status o) in
-      (Contents contents, (given, subst (λ b. IsReadFrom (is_minus file.name) (known.contents file.name) left0 left1 b) (sym same) (subst From named from)), subst Outcome named led)
-  contents_led name contents read (Err f) named given from same led = tt
+      (Contents contents, (given, subst (λ b. IsReadFrom (is_minus file.name) (known.contents file.name) left0 left1 b) (sym same) (subst From named from)), subst Outcome named led, looks)
+  contents_led name contents read (Err f) named given from same led looks = tt
 
   -- nothing is there of it
-  pub unread_led : (name : List ℕ) (r : Result O F) → name ≡ file.name → IfOk r (λ o. IsUnread name (bytes o) (line o) (status o)) → Led r
-  unread_led name (Ok o) named led = (Unread, tt, subst (λ (n : List ℕ). IsUnread n (bytes o) (line o) (status o)) named led)
-  unread_led name (Err f) named led = tt
+  pub unread_led : (name : List ℕ) (r : Result O F) → name ≡ file.name → IfOk r (λ o. IsUnread name (bytes o) (line o) (status o)) → IfOk r (λ o. seen o ≡ None) → Led r
+  unread_led name (Ok o) named led unseen = (Unread, tt, subst (λ (n : List ℕ). IsUnread n (bytes o) (line o) (status o)) named led, not_looked job.summary (seen o) unseen)
+  unread_led name (Err f) named led unseen = tt
 
 -- ---- files that are done
 
@@ -122,43 +146,52 @@ module _ (known : KnownFiles) (job : Job) where
   did_append a b c (x ∷ xs) ys (between, did, rest) q = (between, did, did_append between b c xs ys rest q)
 
   -- a file with this name is done
-  abbrev pub DidOne : FileName → Streams → Streams → Option ℕ → Type 0
-  DidOne file before after answer = (done : DoneFile) × (done.file ≡ file) × DidFile known job before after answer done
+  abbrev pub DidOne : FileName → Streams → Streams → Option ℕ → Option Tally → Type 0
+  DidOne file before after answer since =
+      (done : DoneFile) × (done.file ≡ file) × DidFile known job before after answer done × IsLooked job.summary (looked done.supply done.status) since
 
-  pub did_one : {O F : Type 0} (bytes line : O → List ℕ) (status : O → ℕ) (before after : Streams) (answer : Option ℕ) (file : FileName) (outcome : Result O F) → (is_minus file.name ≡ false → after.left ≡ before.left)
-      → IfOk outcome (λ o. (supply : Supply) × IsSupplied known file before.left after.left supply × IsOutcome job file.name supply (bytes o) (line o) (status o))
+  pub did_one : {O F : Type 0} (bytes line : O → List ℕ) (status : O → ℕ) (seen : O → Option Tally) (since : Option Tally) (before after : Streams) (answer : Option ℕ) (file : FileName) (outcome : Result O F) → (is_minus file.name ≡ false → after.left ≡ before.left)
+      → IfOk outcome (λ o. (supply : Supply) × IsSupplied known file before.left after.left supply × IsOutcome job file.name supply (bytes o) (line o) (status o) × IsLooked job.summary (looked supply (status o)) (seen o))
+      → MatchResult outcome (λ o. since ≡ seen o) (λ _. since ≡ None)
       → MatchResult outcome (λ o. Delivered before.held after.held before.told after.told answer (bytes o) (line o) (status o)) (λ _. Delivered before.held after.held before.told after.told answer [] (fault_line fault.Memory) 6)
-      → DidOne file before after answer
-  did_one bytes line status before after answer file (Ok o) kept (supply, supplied, led) delivered = (
+      → DidOne file before after answer since
+  did_one bytes line status seen since before after answer file (Ok o) kept (supply, supplied, led, looks) is delivered = (
     record { file = file; supply = supply; out = bytes o; line = line o; status = status o },
     refl,
     record { supplied = supplied; kept = kept; led = led; delivered = delivered },
+    subst (λ t. IsLooked job.summary (looked supply (status o)) t) (sym is) looks,
   )
-  did_one bytes line status before after answer file (Err why) kept led delivered = (
+  did_one bytes line status seen since before after answer file (Err why) kept led is delivered = (
     record { file = file; supply = NoMemory; out = []; line = fault_line fault.Memory; status = 6 },
     refl,
     record { supplied = tt; kept = kept; led = (refl, refl, refl); delivered = delivered },
+    not_looked job.summary since is,
   )
 
   -- these files are done so far
-  abbrev pub RanSome : List FileName → Streams → Streams → ℕ → Type 0
-  RanSome files before after status = (dones : List DoneFile) × (files ≡ files_done dones) × DidFiles known job before after dones × (status ≡ greatest_status dones)
+  abbrev pub RanSome : List FileName → Streams → Streams → ℕ → Tally → Type 0
+  RanSome files before after status tally =
+      (dones : List DoneFile) × (files ≡ files_done dones) × DidFiles known job before after dones × (status ≡ greatest_status dones) × IsCounted job.summary (all_looked dones) tally
 
-  pub ran_none : (before : Streams) → RanSome [] before before 0
-  ran_none before = ([], refl, refl, refl)
+  pub ran_none : (before : Streams) → RanSome [] before before 0 no_tally
+  ran_none before = ([], refl, refl, refl, counted_none job.summary)
 
-  pub ran_more : (files more : List FileName) (file : FileName) (a b c : Streams) (greatest s new : ℕ) → RanSome files a b greatest → DidOne file b c (Some s) → more ≡ files ++ file ∷ [] → new ≡ max greatest s → RanSome more a c new
-  ran_more files more file a b c greatest s new (dones, are, did, is) (done, named, one) joined greater =
+  pub ran_more : (files more : List FileName) (file : FileName) (a b c : Streams) (greatest s new : ℕ) (tally all : Tally) (since : Option Tally) → RanSome files a b greatest tally → DidOne file b c (Some s) since → more ≡ files ++ file ∷ [] → new ≡ max greatest s
+      → ((summary : Option LintOptions) (contents looks : List (List ℕ)) → IsCounted summary contents tally → IsLooked summary looks since → IsCounted summary (contents ++ looks) all) → RanSome more a c new all
+  ran_more files more file a b c greatest s new tally all since (dones, are, did, is, counted) (done, named, one, looks) joined greater adds =
       let status : s ≡ done.status = one.delivered.0 in (
         dones ++ done ∷ [],
         joined ∙ ap (λ fs. fs ++ file ∷ []) are ∙ ap (λ f. files_done dones ++ f ∷ []) (sym named) ∙ sym (map-append (λ d. d.file) dones (done ∷ [])),
         did_append a b c dones (done ∷ []) did (c, subst (λ (n : ℕ). DidFile known job b c (Some n) done) status one, refl),
         greater ∙ ap (λ n. max n s) is ∙ ap (max (greatest_status dones)) status ∙ sym (greatest-more dones done),
+        subst (λ (x : List (List ℕ)). IsCounted job.summary x all)
+            (ap (λ x. all_looked dones ++ x) (sym (append-nil (looked done.supply done.status))) ∙ sym (flat_map-append (λ d. looked d.supply d.status) dones (done ∷ [])))
+            (adds job.summary (all_looked dones) (looked done.supply done.status) counted looks),
       )
 
-  pub ran_stops : (files all rest : List FileName) (file : FileName) (a b c : Streams) (greatest new : ℕ) → RanSome files a b greatest → DidOne file b c None → all ≡ (files ++ file ∷ []) ++ rest → new ≡ max greatest 5
+  pub ran_stops : (files all rest : List FileName) (file : FileName) (a b c : Streams) (greatest new : ℕ) (tally : Tally) (since : Option Tally) → RanSome files a b greatest tally → DidOne file b c None since → all ≡ (files ++ file ∷ []) ++ rest → new ≡ max greatest 5
       → RanFound known job all a c new
-  ran_stops files all rest file a b c greatest new (dones, are, did, is) (done, named, one) split greater =
+  ran_stops files all rest file a b c greatest new tally since (dones, are, did, is, counted) (done, named, one, looks) split greater =
       inr (
         dones,
         done,
@@ -170,27 +203,46 @@ module _ (known : KnownFiles) (job : Job) where
         greater ∙ ap (λ n. max n 5) is,
       )
 
+  pub ran_all : (files : List FileName) (a b c : Streams) (greatest : ℕ) (tally : Tally) → RanSome files a b greatest tally
+      → ((contents : List (List ℕ)) → IsCounted job.summary contents tally → IsSummarized job.summary contents b c) → RanFound known job files a c greatest
+  ran_all files a b c greatest tally (dones, are, did, is, counted) sums = inl (dones, b, are, did, sums (all_looked dones) counted, is)
+
 -- files that words name are done
-pub ran_files : (known : KnownFiles) (e : OfEntry) (parameters : List Value) (words : List (List ℕ)) (founds : List Lookup) (files : List FileName) (several : Bool) (before after : Streams) (status : ℕ)
-    → AreLookups known e words founds → files ≡ flat_map (λ l. l.files) founds → several ≡ are_several words founds
-    → RanFound known (record { e = e; parameters = parameters; are_several = several }) files before after status → RanFiles known e parameters words before after status
-ran_files known e parameters words founds files several before after status are is some ran =
-    let OfFiles : List FileName → Type 0 = λ fs. RanFound known (record { e = e; parameters = parameters; are_several = several }) fs before after status in
-    let OfSeveral : Bool → Type 0 = λ b. RanFound known (record { e = e; parameters = parameters; are_several = b }) (flat_map (λ l. l.files) founds) before after status in
-    inl (founds, are, subst OfSeveral some (subst OfFiles is ran))
+pub ran_files : (known : KnownFiles) (summary : Option LintOptions) (e : EntryAction) (words : List (List ℕ)) (founds : List Lookup) (files : List FileName) (several : Bool) (lines : List ℕ) (before between after : Streams) (code status : ℕ)
+    → AreLookups known e words founds → files ≡ flat_map (λ l. l.files) founds → several ≡ are_several words founds → lines ≡ lines_on_none e words founds
+    → RanFound known (record { e = e; are_several = several; summary = summary }) files before between code → EndsWithNone lines code between after status → RanFiles known summary e words before after status
+ran_files known summary e words founds files several lines before between after code status are is some said ran ends =
+    let OfFiles : List FileName → Type 0 = λ fs. RanFound known (record { e = e; are_several = several; summary = summary }) fs before between code in
+    let OfSeveral : Bool → Type 0 = λ b. RanFound known (record { e = e; are_several = b; summary = summary }) (flat_map (λ l. l.files) founds) before between code in
+    let WithNone : List ℕ → Type 0 = λ l. EndsWithNone l code between after status in
+    inl (founds, are, between, code, subst OfSeveral some (subst OfFiles is ran), subst WithNone said ends)
+
+-- no line is written if there is none, else all or the first of them
+pub none_ends : (lines : List ℕ) (left held told : Stream) (status : ℕ) → (length lines == 0) ≡ true → EndsWithNone lines status (streams left held told) (streams left held told) status
+none_ends [] left held told status none = (refl, refl)
+none_ends (b ∷ bs) left held told status none = let empty = eqb-true (length (b ∷ bs)) 0 none in absurd (omega (arith, empty))
+
+pub lines_end : (lines : List ℕ) (left held told0 told1 : Stream) (code status : ℕ) → (length lines == 0) ≡ false → Told lines told0 told1 → status ≡ max code 5
+    → EndsWithNone lines code (streams left held told0) (streams left held told1) status
+lines_end [] left held told0 told1 code status some told is = absurd (cc (some))
+lines_end (b ∷ bs) left held told0 told1 code status some told is = (refl, refl, told, is)
 
 -- what is done with files is done for the request of them
-pub task_of_files : (known : KnownFiles) (files : List (Bor (List ℕ))) (asked : Asked) (e : OfEntry) (parameters : List Value) (V : Type 0) (before after : Streams) (status : ℕ) → asked ≡ Entry e → (length files == 0) ≡ false
-    → RanFiles known e parameters (texts_of files) before after status → RanTask known asked (texts_of files) parameters V before after status
-task_of_files known [] asked e parameters V before after status is some ran = absurd (cc (some))
-task_of_files known (file ∷ files) asked e parameters V before after status is some ran =
-    let Task : Asked → Type 0 = λ a. RanTask known a (texts_of (file ∷ files)) parameters V before after status in subst Task (sym is) ran
+pub request_of_files : (known : KnownFiles) (summary : Option LintOptions) (files : List (Bor (List ℕ))) (action : Action) (e : EntryAction) (V : Type 0) (before after : Streams) (status : ℕ) → action ≡ Entry e → (length files == 0) ≡ false
+    → RanFiles known summary e (texts_of files) before after status → RanRequest known summary action (texts_of files) V before after status
+request_of_files known summary [] action e V before after status is some ran = absurd (cc (some))
+request_of_files known summary (file ∷ files) action e V before after status is some ran =
+    let Ran : Action → Type 0 = λ a. RanRequest known summary a (texts_of (file ∷ files)) V before after status in subst Ran (sym is) ran
+
+pub some_files : (files : List (Bor (List ℕ))) → (length files == 0) ≡ false → texts_of files ≡ [] → ⊥
+some_files [] some none = cc (some)
+some_files (file ∷ files) some none = cc (none)
 
 -- what is done with standard input is done for the request of no file
-pub task_of_none : (known : KnownFiles) (files : List (Bor (List ℕ))) (asked : Asked) (e : OfEntry) (parameters : List Value) (V : Type 0) (before after : Streams) (status : ℕ) → asked ≡ Entry e → (length files == 0) ≡ true
-    → RanRequest asked parameters V before after status → RanTask known asked (texts_of files) parameters V before after status
-task_of_none known [] asked e parameters V before after status is none ran =
-    let Task : Asked → Type 0 = λ a. RanTask known a [] parameters V before after status in
-    let Request : Asked → Type 0 = λ a. RanRequest a parameters V before after status in
-    subst Task (sym is) (subst Request is ran)
-task_of_none known (file ∷ files) asked e parameters V before after status is none ran = let empty = eqb-true (length (file ∷ files)) 0 none in absurd (omega (arith, empty))
+pub request_of_none : (known : KnownFiles) (summary : Option LintOptions) (files : List (Bor (List ℕ))) (action : Action) (e : EntryAction) (V : Type 0) (before after : Streams) (status : ℕ) → action ≡ Entry e → (length files == 0) ≡ true
+    → RanInput summary action V before after status → RanRequest known summary action (texts_of files) V before after status
+request_of_none known summary [] action e V before after status is none ran =
+    let Ran : Action → Type 0 = λ a. RanRequest known summary a [] V before after status in
+    let Input : Action → Type 0 = λ a. RanInput summary a V before after status in
+    subst Ran (sym is) (subst Input is ran)
+request_of_none known summary (file ∷ files) action e V before after status is none ran = let empty = eqb-true (length (file ∷ files)) 0 none in absurd (omega (arith, empty))

@@ -4,11 +4,11 @@ use Rattle.ti_words.specs.Items.{FlagItem, ItemValue, NumberItem, TextItem}
 use Rattle.std.specs.Prelude.{Option, Some, None, Result, nat_lt}
 use Rattle.ti_escape.specs.Reading.{reading}
 use Rattle.ti_escape.specs.declared.reading.NotationRefused.{NotationRefused}
-use Rattle.ti_words.specs.Texts.{TextValue, AbsentText, CancelledText, TextOf}
+use Rattle.ti_words.specs.Texts.{AbsentText, CancelledText, TextOf}
 use Rattle.ti_expand.specs.declared.values.Value.{Value}
 use Rattle.ti_pad.specs.Setting.{Setting}
-use Rattle.ti_line.specs.declared.request.OfCapability.{OfCapability}
-use Rattle.ti_line.specs.declared.request.OfCapability.TheVariants as of_cap
+use Rattle.ti_line.specs.declared.request.CapabilityResult.{CapabilityResult}
+use Rattle.ti_line.specs.declared.request.CapabilityResult.TheVariants as of_cap
 use Rattle.ti_line.specs.declared.options.Output.{Output}
 use Rattle.ti_tool.specs.declared.fault.ToolFault.{ToolFault}
 use Rattle.ti_tool.specs.declared.fault.ToolFault.TheVariants as fault
@@ -26,13 +26,12 @@ pub record IsNeverOwn (due : Result (List ℕ) ToolFault → Type 0) : Type 0 wh
   pub no_write : (gone : ℕ) → ¬ due (Err (fault.Write gone))
   pub no_memory : ¬ due (Err fault.Memory)
 
-pub text_never : (text : TextValue) (parameters : List Value) (setting : Setting) (output : Output) → IsNeverOwn (IsDue text parameters setting output)
-text_never AbsentText parameters setting output = record { no_write = λ gone d. cc; no_memory = λ d. cc }
-text_never CancelledText parameters setting output = record { no_write = λ gone d. cc; no_memory = λ d. cc }
-text_never (TextOf text) parameters setting output = record { no_write = λ gone d. d; no_memory = λ d. d }
+pub text_never : (text : Option (List ℕ)) (parameters : List Value) (setting : Setting) (output : Output) → IsNeverOwn (IsDue text parameters setting output)
+text_never None parameters setting output = record { no_write = λ gone d. cc; no_memory = λ d. cc }
+text_never (Some text) parameters setting output = record { no_write = λ gone d. d; no_memory = λ d. d }
 
 -- of a capability
-pub output_never : (c : OfCapability) (parameters : List Value) (input : List ℕ) → IsNeverOwn (IsOutputOf c parameters input)
+pub output_never : (c : CapabilityResult) (parameters : List Value) (input : List ℕ) → IsNeverOwn (IsOutputOf c parameters input)
 output_never (of_cap.Cap output) parameters input = record { no_write = λ gone d. d; no_memory = λ d. d }
 output_never (of_cap.Trace form) parameters input = record { no_write = λ gone d. d; no_memory = λ d. d }
 
@@ -43,7 +42,7 @@ text_or_fault_never due never true read = record { no_write = λ gone d. cc; no_
 text_or_fault_never due never false (Ok text) = never text
 text_or_fault_never due never false (Err refused) = record { no_write = λ gone d. cc; no_memory = λ d. cc }
 
-pub source_never : (c : OfCapability) (parameters : List Value) (input : List ℕ) → IsNeverOwn (IsDueForSource (IsOutputOf c parameters) input)
+pub source_never : (c : CapabilityResult) (parameters : List Value) (input : List ℕ) → IsNeverOwn (IsDueForSource (IsOutputOf c parameters) input)
 source_never c parameters input =
     text_or_fault_never (IsOutputOf c parameters) (output_never c parameters) (nat_lt most_notation_chars (length (notation_in input))) (reading (notation_in input))
 
@@ -53,11 +52,11 @@ by_never text given due never = record { no_write = writes; no_memory = takes }
   where
     writes : (gone : ℕ) → ¬ IsDueBy text given due (Err (fault.Write gone))
     writes gone (inl (refused, why, is)) = absurd (cc)
-    writes gone (inr (sound, (parameters, are, d))) = (never parameters).no_write gone d
+    writes gone (inr (passed, (parameters, are, d))) = (never parameters).no_write gone d
 
     takes : ¬ IsDueBy text given due (Err fault.Memory)
     takes (inl (refused, why, is)) = absurd (cc)
-    takes (inr (sound, (parameters, are, d))) = (never parameters).no_memory d
+    takes (inr (passed, (parameters, are, d))) = (never parameters).no_memory d
 
 -- of a value
 result_never : (text : List ℕ) (given : Option Given) (setting : Setting) (output : Output) → IsNeverOwn (IsTextResult text given setting output)

@@ -1,12 +1,11 @@
 -- What `get` makes of a value, and that it is one result.
-use Rattle.std.proofs.Common.{◌≡◌, ℕ, suc, ◌+◌, ◌<◌, ◌≤◌, Bool, true, List, [], ◌∷◌, ◌++◌, length, Ok, Err, Some, inl, inr, refl, sym, ap, ap₂, subst, ◌∙◌, arith, set, take, get_or, add-one}
-use Rattle.ti_words.specs.Items.{ItemValue, TextItem}
-use Rattle.std.specs.Prelude.{Option, Result, IfOk, IfErr, MatchResult, slice_set}
+use Rattle.std.proofs.Common.{◌≡◌, ℕ, suc, ◌+◌, ◌<◌, ◌≤◌, true, List, [], ◌∷◌, ◌++◌, length, Ok, Err, Some, inl, inr, refl, sym, ap, ap₂, subst, ◌∙◌, arith, set, take, get_or, add-one}
+use Rattle.ti_words.specs.Items.{TextItem}
+use Rattle.std.specs.Prelude.{Result, IfOk, IfErr, MatchResult, slice_set}
 use Rattle.std.proofs.Math.Seq.{take-suc}
 use Rattle.std.proofs.lemmas.List.{length-take-le}
 use Rattle.ti_base.specs.Limits.{most_padded_bytes}
 use Rattle.ti_words.specs.Texts.{TextOf}
-use Rattle.ti_words.specs.Value.{EntryValue}
 use Rattle.ti_cap.specs.Refusal.{IsFaultless}
 use Rattle.ti_expand.specs.declared.values.Value.{Value}
 use Rattle.ti_pad.specs.Setting.{Setting}
@@ -16,16 +15,12 @@ use Rattle.ti_line.specs.declared.given.Param.{Param}
 use Rattle.ti_line.specs.declared.given.Param.TheVariants as params
 use Rattle.ti_line.specs.declared.options.Output.{Output}
 use Rattle.ti_line.specs.declared.request.Get.{Get}
-use Rattle.ti_line.specs.declared.request.TraceOf.{TraceOf}
 use Rattle.ti_line.specs.Options.{output_bytes}
 use Rattle.ti_tool.specs.declared.fault.ToolFault.{ToolFault}
 use Rattle.ti_tool.specs.declared.fault.ToolFault.TheVariants as fault
 use Rattle.ti_tool.specs.Calls.{FailsAsDue, NeedsMemory}
 use Rattle.ti_tool.specs.Expansions.{IsExpansion, IsPadded}
-use Rattle.ti_tool.specs.Got.{AreTaken, AreTakenFrom, IsDueBy, IsGot, IsPaddedAlone, IsTaken, IsTextResult, IsValueResult}
-use Rattle.ti_tool.specs.ItemNames.{IsItemCalled}
-use Rattle.ti_tool.specs.Traces.{IsTracedOf, IsTracedValue}
-use Rattle.ti_tool.proofs.IsItemCalledLemmas.{one_item}
+use Rattle.ti_tool.specs.Got.{AreTaken, AreTakenFrom, IsDueBy, IsPaddedAlone, IsTaken, IsTextResult, IsValueResult}
 use Rattle.ti_tool.proofs.NeedsMemoryLemmas.{expandable, faultless_passes, padded_needs}
 
 -- ---- parameters
@@ -53,8 +48,7 @@ taken_more capability params i d values value h same are is =
     subst P (sym e) (subst Q n (taken_next capability 1 (take i params) (get_or params i d) values value are (omega arith) (subst R (omega arith) is)))
 
 taken_once : (capability : List ℕ) (which : ℕ) (param : Param) (a b : Value) → IsTaken capability which param a → IsTaken capability which param b → a ≡ b
-taken_once capability which (params.Number z) a b p q = p ∙ sym q
-taken_once capability which (params.Text t) a b p q = p ∙ sym q
+taken_once capability which (params.Value taken) a b p q = p ∙ sym q
 taken_once capability which (params.Either z t) a b (inl (text, p)) (inl (also, q)) = p ∙ sym q
 taken_once capability which (params.Either z t) a b (inl (text, p)) (inr (none, q)) = absurd (none text)
 taken_once capability which (params.Either z t) a b (inr (none, p)) (inl (text, q)) = absurd (none text)
@@ -97,38 +91,38 @@ alone_of (Err f) bytes_of text setting output padded e short is fails = inl (fai
 -- what is due for an expansion as it stands is due for the text
 alone_due : (text : List ℕ) (parameters : List Value) (setting : Setting) (output : Output) (plain : List ℕ) (e : ToolFault) → IsFaultless text → IsExpansion text parameters plain
     → IsPaddedAlone plain setting output (Err e) → IsPadded text parameters setting output (Err e)
-alone_due text parameters setting output plain (fault.TooMuch need) sound p d = (plain, sound, p, d.0, d.1)
-alone_due text parameters setting output plain (fault.Entry refused) sound p d = absurd d
-alone_due text parameters setting output plain (fault.Encode unfit) sound p d = absurd d
-alone_due text parameters setting output plain (fault.Cap refused) sound p d = absurd d
-alone_due text parameters setting output plain (fault.Source refused) sound p d = absurd d
-alone_due text parameters setting output plain fault.NoSuchText sound p d = absurd d
-alone_due text parameters setting output plain fault.NoSuchName sound p d = absurd d
-alone_due text parameters setting output plain (fault.TextTooLong k) sound p d = absurd d
-alone_due text parameters setting output plain fault.Read sound p d = absurd d
-alone_due text parameters setting output plain (fault.Write gone) sound p d = absurd d
-alone_due text parameters setting output plain fault.Memory sound p d = absurd d
+alone_due text parameters setting output plain (fault.TooMuch need) passed p d = (plain, passed, p, d.0, d.1)
+alone_due text parameters setting output plain (fault.Entry refused) passed p d = absurd d
+alone_due text parameters setting output plain (fault.Encode unfit) passed p d = absurd d
+alone_due text parameters setting output plain (fault.Cap refused) passed p d = absurd d
+alone_due text parameters setting output plain (fault.Source refused) passed p d = absurd d
+alone_due text parameters setting output plain fault.NoSuchText passed p d = absurd d
+alone_due text parameters setting output plain fault.NoSuchName passed p d = absurd d
+alone_due text parameters setting output plain (fault.TextTooLong k) passed p d = absurd d
+alone_due text parameters setting output plain fault.Read passed p d = absurd d
+alone_due text parameters setting output plain (fault.Write gone) passed p d = absurd d
+alone_due text parameters setting output plain fault.Memory passed p d = absurd d
 
 pub expanded_of : {V : Type 0} (r : Result V ToolFault) (bytes_of : V → List ℕ) (text : List ℕ) (parameters : List Value) (setting : Setting) (output : Output) (plain : List ℕ) → IsFaultless text → IsExpansion text parameters plain
     → MatchResult r (λ v. IsPaddedAlone plain setting output (Ok (bytes_of v))) (FailsAsDue (IsPaddedAlone plain setting output))
     → MatchResult r (λ v. IsPadded text parameters setting output (Ok (bytes_of v))) (FailsAsDue (IsPadded text parameters setting output))
-expanded_of (Ok v) bytes_of text parameters setting output plain sound p h = (plain, sound, p, h.0, h.1)
-expanded_of (Err e) bytes_of text parameters setting output plain sound p (inl (is, needs)) = inl (is, padded_needs text parameters setting output (expandable text parameters sound p.short))
-expanded_of (Err e) bytes_of text parameters setting output plain sound p (inr d) = inr (alone_due text parameters setting output plain e sound p d)
+expanded_of (Ok v) bytes_of text parameters setting output plain passed p h = (plain, passed, p, h.0, h.1)
+expanded_of (Err e) bytes_of text parameters setting output plain passed p (inl (is, needs)) = inl (is, padded_needs text parameters setting output (expandable text parameters passed p.short))
+expanded_of (Err e) bytes_of text parameters setting output plain passed p (inr d) = inr (alone_due text parameters setting output plain e passed p d)
 
 -- ---- a text with parameters
 
 module _ (text : List ℕ) (given : Given) (due : List Value → Result (List ℕ) ToolFault → Type 0) where
   by_needs : (parameters : List Value) → IsFaultless text → AreTaken text given.params parameters → NeedsMemory (due parameters) → NeedsMemory (IsDueBy text given due)
-  by_needs parameters sound are needs e (inl (refused, why, is)) = absurd (faultless_passes text refused sound why)
-  by_needs parameters sound are needs e (inr (again, (others, also, d))) = needs e (subst (λ ps. due ps (Err e)) (one_taken text given.params others parameters also are) d)
+  by_needs parameters passed are needs e (inl (refused, why, is)) = absurd (faultless_passes text refused passed why)
+  by_needs parameters passed are needs e (inr (again, (others, also, d))) = needs e (subst (λ ps. due ps (Err e)) (one_taken text given.params others parameters also are) d)
 
   pub given_of : {V : Type 0} (r : Result V ToolFault) (bytes_of : V → List ℕ) (parameters : List Value) → IsFaultless text → AreTaken text given.params parameters
       → MatchResult r (λ v. due parameters (Ok (bytes_of v))) (FailsAsDue (due parameters))
       → MatchResult r (λ v. IsDueBy text given due (Ok (bytes_of v))) (FailsAsDue (IsDueBy text given due))
-  given_of (Ok v) bytes_of parameters sound are h = inr (sound, (parameters, are, h))
-  given_of (Err e) bytes_of parameters sound are (inl (is, needs)) = inl (is, by_needs parameters sound are needs)
-  given_of (Err e) bytes_of parameters sound are (inr d) = inr (inr (sound, (parameters, are, d)))
+  given_of (Ok v) bytes_of parameters passed are h = inr (passed, (parameters, are, h))
+  given_of (Err e) bytes_of parameters passed are (inl (is, needs)) = inl (is, by_needs parameters passed are needs)
+  given_of (Err e) bytes_of parameters passed are (inr d) = inr (inr (passed, (parameters, are, d)))
 
 -- ---- a value
 
@@ -136,22 +130,3 @@ module _ (text : List ℕ) (given : Given) (due : List Value → Result (List �
 pub text_fails : (g : Get) (text : List ℕ) (e : ToolFault) → FailsAsDue (IsTextResult text g.given g.padding g.output) e → FailsAsDue (IsValueResult (Some (TextItem (TextOf text))) g true) e
 text_fails g text e (inl (is, needs)) = inl (is, λ f d. needs f d.1)
 text_fails g text e (inr d) = inr (refl, d)
-
--- what is due for the value is due for the capability that has it
-pub got_of : {V : Type 0} (r : Result V ToolFault) (set_of : V → Bool) (bytes_of : V → List ℕ) (g : Get) (v : EntryValue) (item : Option ItemValue) → IsItemCalled g.name.now v item
-    → MatchResult r (λ a. IsValueResult item g (set_of a) (Ok (bytes_of a))) (FailsAsDue (IsValueResult item g true))
-    → MatchResult r (λ a. IsGot g (set_of a) v (Ok (bytes_of a))) (FailsAsDue (IsGot g true v))
-got_of (Ok a) set_of bytes_of g v item called h = (item, called, h)
-got_of (Err e) set_of bytes_of g v item called (inr d) = inr (item, called, d)
-got_of (Err e) set_of bytes_of g v item called (inl (is, needs)) =
-    inl (is, λ f (other, again, d). needs f (subst (λ i. IsValueResult i g true (Err f)) (one_item v g.name.now other item again called) d))
-
--- ---- a trace
-
-pub traced_of : {V : Type 0} (r : Result V ToolFault) (bytes_of : V → List ℕ) (t : TraceOf) (v : EntryValue) (item : Option ItemValue) → IsItemCalled t.name.now v item
-    → MatchResult r (λ a. IsTracedValue item t (Ok (bytes_of a))) (FailsAsDue (IsTracedValue item t))
-    → MatchResult r (λ a. IsTracedOf t v (Ok (bytes_of a))) (FailsAsDue (IsTracedOf t v))
-traced_of (Ok a) bytes_of t v item called h = (item, called, h)
-traced_of (Err e) bytes_of t v item called (inr d) = inr (item, called, d)
-traced_of (Err e) bytes_of t v item called (inl (is, needs)) =
-    inl (is, λ f (other, again, d). needs f (subst (λ i. IsTracedValue i t (Err f)) (one_item v t.name.now other item again called) d))

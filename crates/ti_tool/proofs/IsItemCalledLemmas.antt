@@ -1,26 +1,33 @@
 -- A name means at most one capability of an entry.
 use Rattle.std.proofs.Common.{◌≡◌, ℕ, List, [], ◌∷◌, ◌++◌, take, get_or, refl, sym, ap, ap₂, subst, ◌∙◌, inl, inr, arith}
 use Rattle.ti_words.specs.Items.{ItemValue}
-use Rattle.std.specs.Prelude.{Option, Some, None, slice_get, option_map, unwrap_or}
+use Rattle.std.specs.Prelude.{Option, Some, None, codes, slice_get, option_map, unwrap_or}
+use Rattle.std.specs.Str.Parse.{digits_value}
 use Rattle.ti_words.specs.declared.Kind.{Kind}
 use Rattle.ti_words.specs.declared.Kind.TheVariants as kinds
 use Rattle.ti_names.specs.AllNames.{Place}
 use Rattle.ti_words.specs.Spelling.{part_names}
-use Rattle.ti_words.specs.Value.{EntryValue}
-use Rattle.ti_entry.specs.Finding.{IsPosition, Lacks, names_before, names_of}
+use Rattle.ti_words.specs.Value.{EntryValue, NamedPart}
+use Rattle.ti_entry.specs.Finding.{Lacks, names_before, names_of}
 use Rattle.ti_entry.specs.declared.finding.Position.{Position}
 use Rattle.ti_entry.specs.declared.finding.Position.TheVariants.{Standard, Extended}
 use Rattle.ti_entry.specs.Items.{item_at}
 use Rattle.ti_json.specs.Objects.{kind_word}
-use Rattle.ti_tool.specs.ItemNames.{IsItemCalled, IsKindLabel, IsPlaceCalled}
-use Rattle.ti_tool.specs.Names.{IsLabel}
+use Rattle.ti_tool.specs.declared.item_name.Names.{Names}
+use Rattle.ti_tool.specs.declared.item_name.Names.TheVariants.{Texts, All}
+use Rattle.ti_tool.specs.ItemNames.{HasKind, IsItemCalled, IsKindLabel, IsLabel, IsPlaceCalled, IsPositionBy, named_by}
 use Rattle.ti_listing.proofs.IsLeastIndexLemmas.{not_there, one_index}
-use Rattle.ti_tool.proofs.IsCalledLemmas.{one_label}
 
--- ---- a label with a kind
+-- ---- labels
+
+one_label : (name : List ℕ) (i j : ℕ) → IsLabel name i → IsLabel name j → i ≡ j
+one_label name i j (digits, is, numeral, few, value) (others, same, numerals, fews, values) =
+    let joined : codes "#" ++ digits ≡ codes "#" ++ others = sym is ∙ same in
+    let one : digits ≡ others = cc in
+    value ∙ ap (digits_value 10) one ∙ sym values
 
 -- the three words begin apart
-pub one_kind : (k l : Kind) (a b : List ℕ) → kind_word k ++ a ≡ kind_word l ++ b → (k ≡ l) × (a ≡ b)
+one_kind : (k l : Kind) (a b : List ℕ) → kind_word k ++ a ≡ kind_word l ++ b → (k ≡ l) × (a ≡ b)
 one_kind kinds.Flag kinds.Flag a b e = (refl, cc)
 one_kind kinds.Number kinds.Number a b e = (refl, cc)
 one_kind kinds.Text kinds.Text a b e = (refl, cc)
@@ -31,15 +38,19 @@ one_kind kinds.Number kinds.Text a b e = let first : 110 ≡ 116 = ap (λ ws. ge
 one_kind kinds.Text kinds.Flag a b e = let first : 116 ≡ 102 = ap (λ ws. get_or ws 0 0) e in absurd (omega (arith, first))
 one_kind kinds.Text kinds.Number a b e = let first : 116 ≡ 110 = ap (λ ws. get_or ws 0 0) e in absurd (omega (arith, first))
 
--- a name with one of them is no label if what comes after it is none
-pub no_label : (name label : List ℕ) (k : Kind) → name ≡ kind_word k ++ label → ((index : ℕ) → ¬ IsLabel label index) → (l : Kind) (index : ℕ) → ¬ IsKindLabel name l index
-no_label name label k is none l index (other, same, labels) =
-    let one = one_kind l k other label (sym same ∙ is) in
+one_split : (names : Names) (name : List ℕ) (k l : Kind) (a b : List ℕ) → HasKind names name k a → HasKind names name l b → (k ≡ l) × (a ≡ b)
+one_split (Texts table) name k l a b (is, same) (also, too) = (is ∙ sym also, sym same ∙ too)
+one_split All name k l a b is same = one_kind k l a b (sym is ∙ same)
+
+-- a name is no label if what comes after its kind is none
+pub no_label : (names : Names) (name label : List ℕ) (k : Kind) → HasKind names name k label → ((index : ℕ) → ¬ IsLabel label index) → (l : Kind) (index : ℕ) → ¬ IsKindLabel names name l index
+no_label names name label k is none l index (other, same, labels) =
+    let one = one_split names name l k other label same is in
     none index (subst (λ x. IsLabel x index) one.1 labels)
 
-one_kind_label : (name : List ℕ) (k l : Kind) (i j : ℕ) → IsKindLabel name k i → IsKindLabel name l j → (k ≡ l) × (i ≡ j)
-one_kind_label name k l i j (a, is, labels) (b, same, others) =
-    let one = one_kind k l a b (sym is ∙ same) in
+one_kind_label : (names : Names) (name : List ℕ) (k l : Kind) (i j : ℕ) → IsKindLabel names name k i → IsKindLabel names name l j → (k ≡ l) × (i ≡ j)
+one_kind_label names name k l i j (a, is, labels) (b, same, others) =
+    let one = one_split names name k l a b is same in
     (one.0, one_label b i j (subst (λ x. IsLabel x i) one.1 labels) others)
 
 -- ---- the first of a name among the entry's own
@@ -52,23 +63,26 @@ lacks_right : (xs ys : List (List ℕ)) (name : List ℕ) → Lacks (xs ++ ys) n
 lacks_right [] ys name h = h
 lacks_right (x ∷ xs) ys name h = lacks_right xs ys name h.1
 
-module _ (v : EntryValue) (name : List ℕ) where
+module _ (names : Names) (v : EntryValue) (name : List ℕ) where
+  abbrev Own : NamedPart
+  Own = named_by names v.extended
+
   abbrev Fs : List (List ℕ)
-  Fs = names_of v.extended kinds.Flag
+  Fs = names_of Own kinds.Flag
 
   abbrev Ns : List (List ℕ)
-  Ns = names_of v.extended kinds.Number
+  Ns = names_of Own kinds.Number
 
   abbrev Ts : List (List ℕ)
-  Ts = names_of v.extended kinds.Text
+  Ts = names_of Own kinds.Text
 
-  nowhere : (k : Kind) (i : ℕ) → Lacks (part_names v.extended) name → slice_get (names_of v.extended k) i ≡ Some name → ⊥
+  nowhere : (k : Kind) (i : ℕ) → Lacks (part_names Own) name → slice_get (names_of Own k) i ≡ Some name → ⊥
   nowhere kinds.Flag i lacks is = not_there Fs name i (lacks_left Fs Ns name (lacks_left (Fs ++ Ns) Ts name lacks)) is
   nowhere kinds.Number i lacks is = not_there Ns name i (lacks_right Fs Ns name (lacks_left (Fs ++ Ns) Ts name lacks)) is
   nowhere kinds.Text i lacks is = not_there Ts name i (lacks_right (Fs ++ Ns) Ts name lacks) is
 
   abbrev IsFirst : Kind → ℕ → Type 0
-  IsFirst k i = (slice_get (names_of v.extended k) i ≡ Some name) × Lacks (names_before v.extended k i) name
+  IsFirst k i = (slice_get (names_of Own k) i ≡ Some name) × Lacks (names_before Own k i) name
 
   one_extended : (k l : Kind) (i j : ℕ) → IsFirst k i → IsFirst l j → (k ≡ l) × (i ≡ j)
   one_extended kinds.Flag kinds.Flag i j a b = (refl, one_index Fs name i j a.0 a.1 b.0 b.1)
@@ -84,7 +98,7 @@ module _ (v : EntryValue) (name : List ℕ) where
 
   -- ---- the place
 
-  one_position : (a b : Option Position) → IsPosition v name a → IsPosition v name b → a ≡ b
+  one_position : (a b : Option Position) → IsPositionBy names v name a → IsPositionBy names v name b → a ≡ b
   one_position None None p q = refl
   one_position None (Some (Standard k i)) p q = absurd (cc (p.0, q))
   one_position None (Some (Extended k i)) p q = absurd (nowhere k i p.1 q.1.0)
@@ -101,9 +115,9 @@ module _ (v : EntryValue) (name : List ℕ) where
       let one = one_extended k l i j p.1 q.1 in
       ap₂ (λ x y. Some (Extended x y)) one.0 one.1
 
-  one_place : (a b : Option Position) → IsPlaceCalled name v a → IsPlaceCalled name v b → a ≡ b
+  one_place : (a b : Option Position) → IsPlaceCalled names name v a → IsPlaceCalled names name v b → a ≡ b
   one_place a b (inl (k, i, label, is)) (inl (l, j, other, same)) =
-      let one = one_kind_label name k l i j label other in
+      let one = one_kind_label names name k l i j label other in
       is ∙ ap₂ (λ x y. Some (Standard x y)) one.0 one.1 ∙ sym same
   one_place a b (inl (k, i, label, is)) (inr (none, at)) = absurd (none k i label)
   one_place a b (inr (none, at)) (inl (l, j, other, same)) = absurd (none l j other)
@@ -111,5 +125,5 @@ module _ (v : EntryValue) (name : List ℕ) where
 
   -- ---- the value
 
-  pub one_item : (a b : Option ItemValue) → IsItemCalled name v a → IsItemCalled name v b → a ≡ b
+  pub one_item : (a b : Option ItemValue) → IsItemCalled names name v a → IsItemCalled names name v b → a ≡ b
   one_item a b (place, called, is) (other, again, same) = is ∙ ap (option_map (item_at v)) (one_place place other called again) ∙ sym same

@@ -6,7 +6,6 @@ pub mod NearLemmas
 pub mod NearPartLemmas
 pub mod ToldLemmas
 pub mod IsExpansionLemmas
-pub mod IsCalledLemmas
 pub mod NeedsMemoryLemmas
 pub mod IsLabelLemmas
 pub mod DidLineLemmas
@@ -17,9 +16,11 @@ pub mod OneResultLemmas
 pub mod OneComparisonLemmas
 pub mod OneFileLemmas
 pub mod PrintableLemmas
+pub mod SeveralLemmas
 pub mod IsItemCalledLemmas
 pub mod IsGotLemmas
 pub mod FileLemmas
+pub mod SummaryLemmas
 pub mod FileRunsLemmas
 pub mod ContentsLemmas
 pub mod ComparisonLemmas

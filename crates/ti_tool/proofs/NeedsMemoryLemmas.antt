@@ -1,8 +1,8 @@
 -- Where no fault is due but one that comes after memory was taken.
 use Rattle.std.proofs.Common.{◌≡◌, ◌⊎◌, ℕ, ◌<◌, ◌≤◌, List, length, Ok, Err, Some, None, inl, inr, sym, ap, subst, ◌∙◌, arith}
-use Rattle.std.specs.Prelude.{Result, IfOk, IfErr, IsErrAnd, MatchResult, ◌↔◌}
+use Rattle.std.specs.Prelude.{Option, Result, IfOk, IfErr, IsErrAnd, MatchResult, ◌↔◌}
 use Rattle.ti_base.specs.Limits.{most_padded_bytes}
-use Rattle.ti_words.specs.Texts.{TextValue, TextOf}
+use Rattle.ti_words.specs.Items.{ItemValue}
 use Rattle.ti_words.specs.Value.{EntryValue}
 use Rattle.ti_words.specs.Spelling.{Spells}
 use Rattle.ti_layout.specs.declared.fault.Refused.{Refused}
@@ -19,27 +19,27 @@ use Rattle.ti_pad.specs.Setting.{Setting}
 use Rattle.ti_pad.specs.Padded.{padded_text}
 use Rattle.ti_entry.proofs.SpellsAtMostOneLemmas.{at_most_one}
 use Rattle.ti_entry.proofs.SpelledExtendedLemmas.{only}
-use Rattle.ti_names.specs.declared.name_table.NameTable.{NameTable}
 use Rattle.ti_line.specs.declared.options.Output.{Output}
 use Rattle.ti_tool.specs.declared.fault.ToolFault.{ToolFault}
 use Rattle.ti_tool.specs.declared.fault.ToolFault.TheVariants as fault
 use Rattle.ti_tool.specs.Calls.{FailsAsDue, NeedsMemory}
-use Rattle.ti_tool.specs.Names.{IsCalled}
+use Rattle.ti_tool.specs.ItemNames.{IsItemCalled}
+use Rattle.ti_tool.specs.declared.item_name.Names.{Names}
 use Rattle.ti_line.specs.Options.{output_bytes}
-use Rattle.ti_tool.specs.Results.{IsExpansion, IsUnexpanded, IsCappedAs, IsPadded, IsDue, IsDueFor, IsDueFrom, IsTraced}
+use Rattle.ti_tool.specs.Results.{IsExpansion, IsUnexpanded, IsCappedAs, IsPadded, IsDueFrom, IsTraced}
 use Rattle.ti_tool.specs.inner.Dues.{IsExpandable}
-use Rattle.ti_tool.proofs.IsCalledLemmas.{one_called}
+use Rattle.ti_tool.proofs.IsItemCalledLemmas.{one_item}
 
 -- ---- capabilities
 
 pub faultless_passes : (bytes : List ℕ) (r : CapRefused) → IsFaultless bytes → ¬ IsRefusal bytes r
-faultless_passes bytes r sound (inl (long, is)) = let short = sound.0 in absurd (omega arith)
-faultless_passes bytes r sound (inr (short, has, below)) = sound.1 r.fault r.place has
+faultless_passes bytes r passed (inl (long, is)) = let short = passed.0 in absurd (omega arith)
+faultless_passes bytes r passed (inr (short, has, below)) = passed.1 r.fault r.place has
 
 pub expandable : (text : List ℕ) (parameters : List Value) → IsFaultless text → ((k : ℕ) → ¬ IsFirstTooLong parameters k) → IsExpandable text parameters
-expandable text parameters sound short (fault.Cap refused) d = faultless_passes text refused sound d
-expandable text parameters sound short (fault.TextTooLong k) d = short k d.1
-expandable text parameters sound short other d = d
+expandable text parameters passed short (fault.Cap refused) d = faultless_passes text refused passed d
+expandable text parameters passed short (fault.TextTooLong k) d = short k d.1
+expandable text parameters passed short other d = d
 
 pub capped_needs : (parameters : List Value) (output : Output) (input : List ℕ) → IsExpandable input parameters → NeedsMemory (IsCappedAs parameters output input)
 capped_needs parameters output input can e d = absurd (can e d)
@@ -60,13 +60,13 @@ traced_needs parameters form input can e d = absurd (can e d)
 pub none_too_long_traced : {V : Type 0} (r : Result V TraceFault) (input : List ℕ) (parameters : List Value) → IsFaultless input
     → ((k : ℕ) → (r ≡ Err (trace_fault.TextTooLong k)) ↔ (IsFaultless input × IsFirstTooLong parameters k)) → r ≡ Err trace_fault.Memory
     → (k : ℕ) → ¬ IsFirstTooLong parameters k
-none_too_long_traced r input parameters sound h e k first = absurd (cc (e, (h k).1 (sound, first)))
+none_too_long_traced r input parameters passed h e k first = absurd (cc (e, (h k).1 (passed, first)))
 
 -- nor if it is there
 pub none_too_long_shown : {V : Type 0} (r : Result V TraceFault) (v : V) (input : List ℕ) (parameters : List Value) → IsFaultless input
     → ((k : ℕ) → (r ≡ Err (trace_fault.TextTooLong k)) ↔ (IsFaultless input × IsFirstTooLong parameters k)) → r ≡ Ok v
     → (k : ℕ) → ¬ IsFirstTooLong parameters k
-none_too_long_shown r v input parameters sound h is k first = absurd (cc (is, (h k).1 (sound, first)))
+none_too_long_shown r v input parameters passed h is k first = absurd (cc (is, (h k).1 (passed, first)))
 
 -- out of memory is the one fault
 pub out_of_memory : {V : Type 0} (r : Result V ToolFault) (bytes_of : V → List ℕ) (due : Result (List ℕ) ToolFault → Type 0) → IsErrAnd r (λ e. e ≡ fault.Memory) → NeedsMemory due
@@ -78,16 +78,16 @@ out_of_memory (Err e) bytes_of due fails needs = inl (fails, needs)
 pub capped_of : {V : Type 0} (r : Result V ToolFault) (bytes_of : V → List ℕ) (parameters : List Value) (output : Output) (input plain : List ℕ) → IsFaultless input → IsExpansion input parameters plain
     → IfOk r (λ v. bytes_of v ≡ output_bytes output plain) → IfErr r (λ e. e ≡ fault.Memory)
     → MatchResult r (λ v. IsCappedAs parameters output input (Ok (bytes_of v))) (FailsAsDue (IsCappedAs parameters output input))
-capped_of (Ok v) bytes_of parameters output input plain sound expansion is fails = (plain, sound, expansion, is)
-capped_of (Err e) bytes_of parameters output input plain sound expansion is fails = inl (fails, capped_needs parameters output input (expandable input parameters sound expansion.short))
+capped_of (Ok v) bytes_of parameters output input plain passed expansion is fails = (plain, passed, expansion, is)
+capped_of (Err e) bytes_of parameters output input plain passed expansion is fails = inl (fails, capped_needs parameters output input (expandable input parameters passed expansion.short))
 
 -- the same of a padded text
 pub padded_of : {V : Type 0} (r : Result V ToolFault) (bytes_of : V → List ℕ) (text : List ℕ) (parameters : List Value) (setting : Setting) (output : Output) (plain padded : List ℕ) → IsFaultless text → IsExpansion text parameters plain
     → padded ≡ padded_text plain setting → length (padded_text plain setting) ≤ most_padded_bytes
     → IfOk r (λ v. bytes_of v ≡ output_bytes output padded) → IfErr r (λ e. e ≡ fault.Memory)
     → MatchResult r (λ v. IsPadded text parameters setting output (Ok (bytes_of v))) (FailsAsDue (IsPadded text parameters setting output))
-padded_of (Ok v) bytes_of text parameters setting output plain padded sound expansion e short is fails = (plain, sound, expansion, short, is ∙ ap (output_bytes output) e)
-padded_of (Err f) bytes_of text parameters setting output plain padded sound expansion e short is fails = inl (fails, padded_needs text parameters setting output (expandable text parameters sound expansion.short))
+padded_of (Ok v) bytes_of text parameters setting output plain padded passed expansion e short is fails = (plain, passed, expansion, short, is ∙ ap (output_bytes output) e)
+padded_of (Err f) bytes_of text parameters setting output plain padded passed expansion e short is fails = inl (fails, padded_needs text parameters setting output (expandable text parameters passed expansion.short))
 
 -- why a text is not expanded is why it is not padded
 pub unexpanded_due : (text : List ℕ) (parameters : List Value) (setting : Setting) (output : Output) (e : ToolFault) → ((e ≡ fault.Memory) × IsExpandable text parameters) ⊎ IsUnexpanded text parameters e → FailsAsDue (IsPadded text parameters setting output) e
@@ -103,21 +103,16 @@ within_limit n faults h none = at_most n (λ lt. none (h.1 lt))
     at_most : (n : ℕ) → ¬ (most_padded_bytes < n) → n ≤ most_padded_bytes
     at_most n never = omega (arith, never)
 
--- ---- named texts
+-- ---- capabilities
 
--- what is due for a text is due for the name that stands for it
-pub due_for : (names : NameTable) (name : List ℕ) (parameters : List Value) (setting : Setting) (output : Output) (v : EntryValue) (text : TextValue) (e : ToolFault) → IsCalled names name v text
-    → FailsAsDue (IsDue text parameters setting output) e → FailsAsDue (IsDueFor names name parameters setting output v) e
-due_for names name parameters setting output v text e called (inl (is, needs)) =
-    inl (is, λ f (other, again, d). needs f (subst (λ t. IsDue t parameters setting output (Err f)) (one_called names name v other text again called) d))
-due_for names name parameters setting output v text e called (inr d) = inr (text, called, d)
-
--- the named text of an entry
-pub named_of : {V : Type 0} (r : Result V ToolFault) (bytes_of : V → List ℕ) (names : NameTable) (name : List ℕ) (parameters : List Value) (setting : Setting) (output : Output) (v : EntryValue) (text : List ℕ) → IsCalled names name v (TextOf text)
-    → MatchResult r (λ w. IsPadded text parameters setting output (Ok (bytes_of w))) (FailsAsDue (IsPadded text parameters setting output))
-    → MatchResult r (λ w. IsDueFor names name parameters setting output v (Ok (bytes_of w))) (FailsAsDue (IsDueFor names name parameters setting output v))
-named_of (Ok w) bytes_of names name parameters setting output v text called h = (TextOf text, called, h)
-named_of (Err e) bytes_of names name parameters setting output v text called h = due_for names name parameters setting output v (TextOf text) e called h
+-- what is due for the value is due for the capability that has it
+pub called_of : {V : Type 0} (r : Result V ToolFault) (names : Names) (name : List ℕ) (v : EntryValue) (Has : Option ItemValue → V → Type 0) (due : Option ItemValue → Result (List ℕ) ToolFault → Type 0) (item : Option ItemValue)
+    → IsItemCalled names name v item → MatchResult r (Has item) (FailsAsDue (due item))
+    → MatchResult r (λ w. (i : Option ItemValue) × IsItemCalled names name v i × Has i w) (FailsAsDue (λ answer. (i : Option ItemValue) × IsItemCalled names name v i × due i answer))
+called_of (Ok w) names name v Has due item called h = (item, called, h)
+called_of (Err e) names name v Has due item called (inr d) = inr (item, called, d)
+called_of (Err e) names name v Has due item called (inl (is, needs)) =
+    inl (is, λ f (other, again, d). needs f (subst (λ i. due i (Err f)) (one_item names v name other item again called) d))
 
 -- ---- entries
 

@@ -3,8 +3,8 @@ use Rattle.std.proofs.Common.{◌≡◌, ◌⊎◌, ℕ, zero, suc, ◌<◌, ◌
 use Rattle.ti_words.specs.Items.{FlagItem, ItemValue, Listed, NumberItem, SubjectValue, TextItem, items, text_in}
 use Rattle.std.specs.List.{flat_map}
 use Rattle.ti_escape.specs.declared.form.Form.TheVariants as forms
-use Rattle.std.specs.Prelude.{Option, Result, replicate, codes}
-use Rattle.ti_words.specs.Texts.{TextValue, AbsentText, CancelledText, TextOf}
+use Rattle.std.specs.Prelude.{Option, Result, option_and_then, replicate, codes}
+use Rattle.ti_words.specs.Texts.{AbsentText, CancelledText, TextOf}
 use Rattle.ti_words.specs.Value.{EntryValue}
 use Rattle.ti_layout.specs.declared.fault.Refused.{Refused}
 use Rattle.ti_draft.specs.declared.fault.EncodeFault.{EncodeFault}
@@ -24,7 +24,7 @@ use Rattle.ti_expand.specs.State.{start}
 use Rattle.ti_expand.specs.Meaning.{meaning}
 use Rattle.ti_expand.specs.Expands.{IsFirstTooLong}
 use Rattle.ti_escape.specs.declared.color.Color.{Color}
-use Rattle.ti_lint.specs.declared.level.Level.{Level}
+use Rattle.ti_lint.specs.declared.lint_options.LintOptions.{LintOptions}
 use Rattle.ti_report.proofs.OneReportLemmas.{one_findings, one_lines}
 use Rattle.ti_trace.proofs.OneTraceLemmas.{is_one_trace, is_one_trace_json}
 use Rattle.ti_pad.specs.Setting.{Setting}
@@ -34,11 +34,11 @@ use Rattle.ti_entry.proofs.SpellsAtMostOneLemmas.{at_most_one}
 use Rattle.ti_names.specs.declared.name_table.NameTable.{NameTable}
 use Rattle.ti_line.specs.declared.options.Naming.{Naming}
 use Rattle.ti_line.specs.declared.options.Output.{Output}
-use Rattle.ti_line.specs.declared.request.Asked.TheVariants.{Capability, Difference, Entry, Source}
-use Rattle.ti_line.specs.declared.request.OfCapability.{OfCapability}
-use Rattle.ti_line.specs.declared.request.OfCapability.TheVariants as of_cap
-use Rattle.ti_line.specs.declared.request.OfEntry.{OfEntry}
-use Rattle.ti_line.specs.declared.request.OfEntry.TheVariants as of_entry
+use Rattle.ti_line.specs.declared.request.Action.TheVariants.{Capability, Difference, Entry, Source}
+use Rattle.ti_line.specs.declared.request.CapabilityResult.{CapabilityResult}
+use Rattle.ti_line.specs.declared.request.CapabilityResult.TheVariants as of_cap
+use Rattle.ti_line.specs.declared.request.EntryAction.{EntryAction}
+use Rattle.ti_line.specs.declared.request.EntryAction.TheVariants as of_entry
 use Rattle.ti_tool.specs.declared.fault.ToolFault.{ToolFault}
 use Rattle.ti_tool.specs.declared.fault.ToolFault.TheVariants as fault
 use Rattle.ti_tool.specs.Laws.{HasOneAnswer}
@@ -61,7 +61,7 @@ use Rattle.ti_line.specs.declared.given.Given.{Given}
 use Rattle.ti_line.specs.declared.request.Get.{Get}
 use Rattle.ti_line.specs.declared.request.TraceOf.{TraceOf}
 use Rattle.ti_tool.specs.Got.{IsDueBy, IsGot, IsPaddedAlone, IsTextResult, IsValueResult}
-use Rattle.ti_tool.proofs.IsCalledLemmas.{one_called}
+use Rattle.ti_tool.specs.declared.item_name.Names.TheVariants.{Texts, All}
 use Rattle.ti_tool.proofs.IsDueLemmas.{IsNeverOwn, text_never, traced_never, value_never}
 use Rattle.ti_tool.proofs.IsGotLemmas.{one_taken}
 use Rattle.ti_tool.proofs.IsItemCalledLemmas.{one_item}
@@ -112,17 +112,17 @@ unexpanded text parameters other d = absurd d
 
 one_of_two : (text : List ℕ) (parameters : List Value) (e f : ToolFault) → Unexpanded text parameters e → Unexpanded text parameters f → e ≡ f
 one_of_two text parameters e f (refused_as r is d) (refused_as q same h) = is ∙ ap (λ (x : CapRefused). fault.Cap x) (one_refusal r q text d h) ∙ sym same
-one_of_two text parameters e f (refused_as r is d) (too_long_at k same sound long) = absurd (faultless_passes text r sound d)
-one_of_two text parameters e f (too_long_at k is sound long) (refused_as q same h) = absurd (faultless_passes text q sound h)
-one_of_two text parameters e f (too_long_at k is sound long) (too_long_at l same other longer) = is ∙ ap (λ x. fault.TextTooLong x) (one_too_long parameters k l long longer) ∙ sym same
+one_of_two text parameters e f (refused_as r is d) (too_long_at k same passed long) = absurd (faultless_passes text r passed d)
+one_of_two text parameters e f (too_long_at k is passed long) (refused_as q same h) = absurd (faultless_passes text q passed h)
+one_of_two text parameters e f (too_long_at k is passed long) (too_long_at l same other longer) = is ∙ ap (λ x. fault.TextTooLong x) (one_too_long parameters k l long longer) ∙ sym same
 
 one_unexpanded : (text : List ℕ) (parameters : List Value) (e f : ToolFault) → IsUnexpanded text parameters e → IsUnexpanded text parameters f → e ≡ f
 one_unexpanded text parameters e f d h = one_of_two text parameters e f (unexpanded text parameters e d) (unexpanded text parameters f h)
 
 one_capped : (parameters : List Value) (output : Output) (input : List ℕ) → IsOneResult (IsCappedAs parameters output input)
-one_capped parameters output input (Ok a) (Ok b) (plain, sound, p, is) (other, again, q, same) = ap Ok (is ∙ ap (output_bytes output) (one_expansion input parameters plain other p q) ∙ sym same)
-one_capped parameters output input (Ok a) (Err e) (plain, sound, p, is) d = absurd (expandable input parameters sound p.short e d)
-one_capped parameters output input (Err e) (Ok b) d (plain, sound, p, is) = absurd (expandable input parameters sound p.short e d)
+one_capped parameters output input (Ok a) (Ok b) (plain, passed, p, is) (other, again, q, same) = ap Ok (is ∙ ap (output_bytes output) (one_expansion input parameters plain other p q) ∙ sym same)
+one_capped parameters output input (Ok a) (Err e) (plain, passed, p, is) d = absurd (expandable input parameters passed p.short e d)
+one_capped parameters output input (Err e) (Ok b) d (plain, passed, p, is) = absurd (expandable input parameters passed p.short e d)
 one_capped parameters output input (Err e) (Err f) d h = ap Err (one_unexpanded input parameters e f d h)
 
 one_trace : (form : TraceForm) (input : List ℕ) (parameters : List Value) (a b : List ℕ) → IsTraceAs form input parameters a → IsTraceAs form input parameters b → a ≡ b
@@ -130,9 +130,9 @@ one_trace (trace_forms.Lines form color) input parameters a b is same = is_one_t
 one_trace trace_forms.Json input parameters a b (text, is, e) (other, same, f) = e ∙ ap (λ t. t ++ codes "\n") (is_one_trace_json input parameters text other is same) ∙ sym f
 
 one_traced : (parameters : List Value) (form : TraceForm) (input : List ℕ) → IsOneResult (IsTraced parameters form input)
-one_traced parameters form input (Ok a) (Ok b) (sound, short, is) (again, low, same) = ap Ok (one_trace form input parameters a b is same)
-one_traced parameters form input (Ok a) (Err e) (sound, short, is) d = absurd (expandable input parameters sound short e d)
-one_traced parameters form input (Err e) (Ok b) d (sound, short, is) = absurd (expandable input parameters sound short e d)
+one_traced parameters form input (Ok a) (Ok b) (passed, short, is) (again, low, same) = ap Ok (one_trace form input parameters a b is same)
+one_traced parameters form input (Ok a) (Err e) (passed, short, is) d = absurd (expandable input parameters passed short e d)
+one_traced parameters form input (Err e) (Ok b) d (passed, short, is) = absurd (expandable input parameters passed short e d)
 one_traced parameters form input (Err e) (Err f) d h = ap Err (one_unexpanded input parameters e f d h)
 
 -- ---- padded texts
@@ -144,7 +144,7 @@ data Unpadded (text : List ℕ) (parameters : List Value) (setting : Setting) (e
       → Unpadded text parameters setting e
 
 unpadded : (text : List ℕ) (parameters : List Value) (setting : Setting) (output : Output) (e : ToolFault) → IsPadded text parameters setting output (Err e) → Unpadded text parameters setting e
-unpadded text parameters setting output (fault.TooMuch need) (plain, sound, p, is, over) = too_much need plain refl sound p is over
+unpadded text parameters setting output (fault.TooMuch need) (plain, passed, p, is, over) = too_much need plain refl passed p is over
 unpadded text parameters setting output (fault.Cap r) d = not_expanded d
 unpadded text parameters setting output (fault.TextTooLong k) d = not_expanded d
 unpadded text parameters setting output other d = absurd d
@@ -154,27 +154,26 @@ same_padded text parameters setting plain other p q = ap (λ x. padded_text x se
 
 one_unpadded : (text : List ℕ) (parameters : List Value) (setting : Setting) (e f : ToolFault) → Unpadded text parameters setting e → Unpadded text parameters setting f → e ≡ f
 one_unpadded text parameters setting e f (not_expanded d) (not_expanded h) = one_unexpanded text parameters e f d h
-one_unpadded text parameters setting e f (not_expanded d) (too_much need plain is sound p long over) = absurd (expandable text parameters sound p.short e d)
-one_unpadded text parameters setting e f (too_much need plain is sound p long over) (not_expanded h) = absurd (expandable text parameters sound p.short f h)
-one_unpadded text parameters setting e f (too_much need plain is sound p long over) (too_much needs other same again q longer overs) =
+one_unpadded text parameters setting e f (not_expanded d) (too_much need plain is passed p long over) = absurd (expandable text parameters passed p.short e d)
+one_unpadded text parameters setting e f (too_much need plain is passed p long over) (not_expanded h) = absurd (expandable text parameters passed p.short f h)
+one_unpadded text parameters setting e f (too_much need plain is passed p long over) (too_much needs other same again q longer overs) =
     is ∙ ap (λ x. fault.TooMuch x) (long ∙ ap length (same_padded text parameters setting plain other p q) ∙ sym longer) ∙ sym same
 
 padded_or_not : (text : List ℕ) (parameters : List Value) (setting : Setting) (plain : List ℕ) (e : ToolFault) → IsFaultless text → IsExpansion text parameters plain → length (padded_text plain setting) ≤ most_padded_bytes → Unpadded text parameters setting e → ⊥
-padded_or_not text parameters setting plain e sound p short (not_expanded d) = expandable text parameters sound p.short e d
-padded_or_not text parameters setting plain e sound p short (too_much need other is again q long over) =
+padded_or_not text parameters setting plain e passed p short (not_expanded d) = expandable text parameters passed p.short e d
+padded_or_not text parameters setting plain e passed p short (too_much need other is again q long over) =
     let same : length (padded_text plain setting) ≡ length (padded_text other setting) = ap length (same_padded text parameters setting plain other p q) in absurd (omega arith)
 
 one_padded : (text : List ℕ) (parameters : List Value) (setting : Setting) (output : Output) → IsOneResult (IsPadded text parameters setting output)
-one_padded text parameters setting output (Ok a) (Ok b) (plain, sound, p, short, is) (other, again, q, shorts, same) =
+one_padded text parameters setting output (Ok a) (Ok b) (plain, passed, p, short, is) (other, again, q, shorts, same) =
     ap Ok (is ∙ ap (output_bytes output) (same_padded text parameters setting plain other p q) ∙ sym same)
-one_padded text parameters setting output (Ok a) (Err e) (plain, sound, p, short, is) d = absurd (padded_or_not text parameters setting plain e sound p short (unpadded text parameters setting output e d))
-one_padded text parameters setting output (Err e) (Ok b) d (plain, sound, p, short, is) = absurd (padded_or_not text parameters setting plain e sound p short (unpadded text parameters setting output e d))
+one_padded text parameters setting output (Ok a) (Err e) (plain, passed, p, short, is) d = absurd (padded_or_not text parameters setting plain e passed p short (unpadded text parameters setting output e d))
+one_padded text parameters setting output (Err e) (Ok b) d (plain, passed, p, short, is) = absurd (padded_or_not text parameters setting plain e passed p short (unpadded text parameters setting output e d))
 one_padded text parameters setting output (Err e) (Err f) d h = ap Err (one_unpadded text parameters setting e f (unpadded text parameters setting output e d) (unpadded text parameters setting output f h))
 
-one_due : (text : TextValue) (parameters : List Value) (setting : Setting) (output : Output) → IsOneResult (IsDue text parameters setting output)
-one_due AbsentText parameters setting output r s d h = d ∙ sym h
-one_due CancelledText parameters setting output r s d h = d ∙ sym h
-one_due (TextOf text) parameters setting output r s d h = one_padded text parameters setting output r s d h
+one_due : (text : Option (List ℕ)) (parameters : List Value) (setting : Setting) (output : Output) → IsOneResult (IsDue text parameters setting output)
+one_due None parameters setting output r s d h = d ∙ sym h
+one_due (Some text) parameters setting output r s d h = one_padded text parameters setting output r s d h
 
 -- ---- results on entries
 
@@ -190,8 +189,8 @@ one_from input due also once r s (inr (v, spells, d)) (inr (w, other, h)) =
     once v r s d (subst (λ x. also x s) (at_most_one input w v other spells) h)
 
 one_due_for : (names : NameTable) (name : List ℕ) (parameters : List Value) (setting : Setting) (output : Output) (v : EntryValue) → IsOneResult (IsDueFor names name parameters setting output v)
-one_due_for names name parameters setting output v r s (text, called, d) (other, again, h) =
-    one_due text parameters setting output r s d (subst (λ t. IsDue t parameters setting output s) (one_called names name v other text again called) h)
+one_due_for names name parameters setting output v r s (item, called, d) (other, again, h) =
+    one_due (option_and_then text_in item) parameters setting output r s d (subst (λ i. IsDue (option_and_then text_in i) parameters setting output s) (one_item (Texts names) v name other item again called) h)
 
 encoding_fault : (v : EntryValue) (e : ToolFault) → IsEncoding v (Err e) → (unfit : EncodeFault) × (e ≡ fault.Encode unfit) × (encode_fault v ≡ Some unfit)
 encoding_fault v (fault.Encode unfit) d = (unfit, refl, d)
@@ -238,18 +237,18 @@ are_one [] rows others is same = is ∙ sym same
 are_one (x ∷ xs) rows others (first, more, has, are, is) (first', more', has', are', same) =
     is ∙ ap₂ (λ a b. a ++ b) (has_one x.0 (text_in x.1) first first' has has') (are_one xs more more' are are') ∙ sym same
 
-pub one_verdicts : (naming : Naming) (v : EntryValue) (lines others : List ℕ) (sound as_sound : Bool) → AreVerdicts naming v lines sound → AreVerdicts naming v others as_sound → (lines ≡ others) × (sound ≡ as_sound)
-one_verdicts naming v lines others sound as_sound (rows, are, is, s) (again, also, same, t) =
+pub one_verdicts : (naming : Naming) (v : EntryValue) (lines others : List ℕ) (passed as_passed : Bool) → AreVerdicts naming v lines passed → AreVerdicts naming v others as_passed → (lines ≡ others) × (passed ≡ as_passed)
+one_verdicts naming v lines others passed as_passed (rows, are, is, s) (again, also, same, t) =
     let one = are_one (items v) rows again are also in (is ∙ ap (row_lines (record { naming = naming; form = forms.Notation })) one ∙ sym same, s ∙ ap are_sound one ∙ sym t)
 
-pub one_objects : (v : EntryValue) (objects others : List Data) (sound as_sound : Bool) → AreVerdictObjects v objects sound → AreVerdictObjects v others as_sound → (objects ≡ others) × (sound ≡ as_sound)
-one_objects v objects others sound as_sound (rows, are, is, s) (again, also, same, t) =
+pub one_objects : (v : EntryValue) (objects others : List Data) (passed as_passed : Bool) → AreVerdictObjects v objects passed → AreVerdictObjects v others as_passed → (objects ≡ others) × (passed ≡ as_passed)
+one_objects v objects others passed as_passed (rows, are, is, s) (again, also, same, t) =
     let one = are_one (items v) rows again are also in (is ∙ ap (flat_map row_objects) one ∙ sym same, s ∙ ap are_sound one ∙ sym t)
 
-one_judgement : (naming : Naming) (v : EntryValue) (sound as_sound : Bool) (r s : Result (List ℕ) ToolFault) → IsJudgement naming sound v r → IsJudgement naming as_sound v s → r ≡ s
-one_judgement naming v sound as_sound (Ok a) (Ok b) d h = ap Ok (one_verdicts naming v a b sound as_sound d h).0
-one_judgement naming v sound as_sound (Ok a) (Err e) d h = absurd h
-one_judgement naming v sound as_sound (Err e) s d h = absurd d
+one_judgement : (naming : Naming) (v : EntryValue) (passed as_passed : Bool) (r s : Result (List ℕ) ToolFault) → IsJudgement naming passed v r → IsJudgement naming as_passed v s → r ≡ s
+one_judgement naming v passed as_passed (Ok a) (Ok b) d h = ap Ok (one_verdicts naming v a b passed as_passed d h).0
+one_judgement naming v passed as_passed (Ok a) (Err e) d h = absurd h
+one_judgement naming v passed as_passed (Err e) s d h = absurd d
 
 -- ---- values of capabilities
 
@@ -265,9 +264,9 @@ one_alone text setting output (Err e) (Err f) d h = ap Err ((alone_fault text se
 
 one_by : (text : List ℕ) (given : Given) (due : List Value → Result (List ℕ) ToolFault → Type 0) → ((parameters : List Value) → IsOneResult (due parameters)) → IsOneResult (IsDueBy text given due)
 one_by text given due once r s (inl (a, why, is)) (inl (b, because, same)) = is ∙ ap (λ (x : CapRefused). Err (fault.Cap x)) (one_refusal a b text why because) ∙ sym same
-one_by text given due once r s (inl (a, why, is)) (inr (sound, rest)) = absurd (faultless_passes text a sound why)
-one_by text given due once r s (inr (sound, rest)) (inl (b, because, same)) = absurd (faultless_passes text b sound because)
-one_by text given due once r s (inr (sound, (ps, are, d))) (inr (again, (qs, also, h))) =
+one_by text given due once r s (inl (a, why, is)) (inr (passed, rest)) = absurd (faultless_passes text a passed why)
+one_by text given due once r s (inr (passed, rest)) (inl (b, because, same)) = absurd (faultless_passes text b passed because)
+one_by text given due once r s (inr (passed, (ps, are, d))) (inr (again, (qs, also, h))) =
     once ps r s d (subst (λ x. due x s) (one_taken text given.params qs ps also are) h)
 
 one_text : (text : List ℕ) (given : Option Given) (setting : Setting) (output : Output) → IsOneResult (IsTextResult text given setting output)
@@ -285,7 +284,7 @@ one_value (Some (TextItem (TextOf text))) g set as_set r s d h = one_text text g
 
 one_got : (g : Get) (set as_set : Bool) (v : EntryValue) (r s : Result (List ℕ) ToolFault) → IsGot g set v r → IsGot g as_set v s → r ≡ s
 one_got g set as_set v r s (item, called, d) (other, again, h) =
-    one_value item g set as_set r s d (subst (λ i. IsValueResult i g as_set s) (one_item v g.name.now other item again called) h)
+    one_value item g set as_set r s d (subst (λ i. IsValueResult i g as_set s) (one_item All v g.name.now other item again called) h)
 
 -- ---- traces of capabilities
 
@@ -304,93 +303,93 @@ one_traced_value (Some (TextItem (TextOf text))) t r s d h = one_traced_by text 
 
 one_traced_of : (t : TraceOf) (v : EntryValue) → IsOneResult (IsTracedOf t v)
 one_traced_of t v r s (item, called, d) (other, again, h) =
-    one_traced_value item t r s d (subst (λ i. IsTracedValue i t s) (one_item v t.name.now other item again called) h)
+    one_traced_value item t r s d (subst (λ i. IsTracedValue i t s) (one_item All v t.name.now other item again called) h)
 
 -- ---- documents
 
-one_list : (document : Document) (sound as_sound : Bool) (input : List ℕ) (v : EntryValue) (objects others : List Data)
-    → AreObjects document sound input v objects → AreObjects document as_sound input v others → objects ≡ others
-one_list documents.Listing sound as_sound input v objects others are are_too = are ∙ sym are_too
-one_list documents.Verdicts sound as_sound input v objects others are are_too = (one_objects v objects others sound as_sound are are_too).0
-one_list (documents.Findings level) sound as_sound input v objects others are are_too = (one_findings level input v sound as_sound objects others are are_too).0
+one_list : (document : Document) (passed as_passed : Bool) (input : List ℕ) (v : EntryValue) (objects others : List Data)
+    → AreObjects document passed input v objects → AreObjects document as_passed input v others → objects ≡ others
+one_list documents.Listing passed as_passed input v objects others are are_too = are ∙ sym are_too
+one_list documents.Verdicts passed as_passed input v objects others are are_too = (one_objects v objects others passed as_passed are are_too).0
+one_list (documents.Findings options) passed as_passed input v objects others are are_too = (one_findings options input v passed as_passed objects others are are_too).0
 
-one_document : (document : Document) (sound as_sound : Bool) (input : List ℕ) (v : EntryValue) (r s : Result (List ℕ) ToolFault) → IsDocument document sound input v r
-    → IsDocument document as_sound input v s → r ≡ s
-one_document document sound as_sound input v (Ok a) (Ok b) (objects, are, e) (others, are_too, f) =
-    ap Ok (e ∙ ap (λ ds. array_text ds ++ codes "\n") (one_list document sound as_sound input v objects others are are_too) ∙ sym f)
-one_document document sound as_sound input v (Ok a) (Err e) d h = absurd h
-one_document document sound as_sound input v (Err e) s d h = absurd d
+one_document : (document : Document) (passed as_passed : Bool) (input : List ℕ) (v : EntryValue) (r s : Result (List ℕ) ToolFault) → IsDocument document passed input v r
+    → IsDocument document as_passed input v s → r ≡ s
+one_document document passed as_passed input v (Ok a) (Ok b) (objects, are, e) (others, are_too, f) =
+    ap Ok (e ∙ ap (λ ds. array_text ds ++ codes "\n") (one_list document passed as_passed input v objects others are are_too) ∙ sym f)
+one_document document passed as_passed input v (Ok a) (Err e) d h = absurd h
+one_document document passed as_passed input v (Err e) s d h = absurd d
 
-document_never : (document : Document) (sound : Bool) (input : List ℕ) (v : EntryValue) → IsNeverOwn (IsDocument document sound input v)
-document_never document sound input v = record { no_write = λ gone d. d; no_memory = λ d. d }
+document_never : (document : Document) (passed : Bool) (input : List ℕ) (v : EntryValue) → IsNeverOwn (IsDocument document passed input v)
+document_never document passed input v = record { no_write = λ gone d. d; no_memory = λ d. d }
 
 -- ---- requests
 
-one_output : (c : OfCapability) (parameters : List Value) (input : List ℕ) → IsOneResult (IsOutputOf c parameters input)
+one_output : (c : CapabilityResult) (parameters : List Value) (input : List ℕ) → IsOneResult (IsOutputOf c parameters input)
 one_output (of_cap.Cap output) parameters input = one_capped parameters output input
 one_output (of_cap.Trace form) parameters input = one_traced parameters form input
 
-one_for_text : (c : OfCapability) (parameters : List Value) (text : Result (List ℕ) ToolFault) → IsOneResult (IsDueForText (IsOutputOf c parameters) text)
+one_for_text : (c : CapabilityResult) (parameters : List Value) (text : Result (List ℕ) ToolFault) → IsOneResult (IsDueForText (IsOutputOf c parameters) text)
 one_for_text c parameters (Ok text) = one_output c parameters text
 one_for_text c parameters (Err e) = λ r s d h. d ∙ sym h
 
-one_linted : (level : Level) (color : Color) (before : List ℕ) (sound as_sound : Bool) (input : List ℕ) (v : EntryValue) (r s : Result (List ℕ) ToolFault)
-    → IsLinted level color before sound input v r → IsLinted level color before as_sound input v s → r ≡ s
-one_linted level color before sound as_sound input v (Ok a) (Ok b) d h = ap Ok (one_lines level color before input v a b d.0 h.0)
-one_linted level color before sound as_sound input v (Ok a) (Err e) d h = absurd h
-one_linted level color before sound as_sound input v (Err e) s d h = absurd d
+one_linted : (options : LintOptions) (color : Color) (before : List ℕ) (passed as_passed : Bool) (input : List ℕ) (v : EntryValue) (r s : Result (List ℕ) ToolFault)
+    → IsLinted options color before passed input v r → IsLinted options color before as_passed input v s → r ≡ s
+one_linted options color before passed as_passed input v (Ok a) (Ok b) d h = ap Ok (one_lines options color before input v a b d.0 h.0)
+one_linted options color before passed as_passed input v (Ok a) (Err e) d h = absurd h
+one_linted options color before passed as_passed input v (Err e) s d h = absurd d
 
-one_on : (before : List ℕ) (e : OfEntry) (parameters : List Value) (sound as_sound : Bool) (input : List ℕ) (v : EntryValue) (r s : Result (List ℕ) ToolFault)
-    → IsDueIn before e parameters sound input v r → IsDueIn before e parameters as_sound input v s → r ≡ s
-one_on before (of_entry.Show options) parameters sound as_sound input v r s d h = d ∙ sym h
-one_on before (of_entry.Json document) parameters sound as_sound input v r s d h = one_document document sound as_sound input v r s d h
-one_on before (of_entry.Check naming) parameters sound as_sound input v r s d h = one_judgement naming v sound as_sound r s d h
-one_on before (of_entry.Lint level color) parameters sound as_sound input v r s d h = one_linted level color before sound as_sound input v r s d h
-one_on before (of_entry.Expand e) parameters sound as_sound input v r s d h = one_due_for e.name.names e.name.name.now parameters e.padding e.output v r s d h
-one_on before (of_entry.Get g) parameters sound as_sound input v r s d h = one_got g sound as_sound v r s d h
-one_on before (of_entry.Trace t) parameters sound as_sound input v r s d h = one_traced_of t v r s d h
-one_on before (of_entry.Convert width) parameters sound as_sound input v r s d h = one_encoding (in_width width v) r s d h
+one_on : (before : List ℕ) (e : EntryAction) (passed as_passed : Bool) (input : List ℕ) (v : EntryValue) (r s : Result (List ℕ) ToolFault)
+    → IsDueIn before e passed input v r → IsDueIn before e as_passed input v s → r ≡ s
+one_on before (of_entry.Show options) passed as_passed input v r s d h = d ∙ sym h
+one_on before (of_entry.Json document) passed as_passed input v r s d h = one_document document passed as_passed input v r s d h
+one_on before (of_entry.Check naming) passed as_passed input v r s d h = one_judgement naming v passed as_passed r s d h
+one_on before (of_entry.Lint options color) passed as_passed input v r s d h = one_linted options color before passed as_passed input v r s d h
+one_on before (of_entry.Expand e) passed as_passed input v r s d h = one_due_for e.name.names e.name.name.now e.parameters.values e.padding e.output v r s d h
+one_on before (of_entry.Get g) passed as_passed input v r s d h = one_got g passed as_passed v r s d h
+one_on before (of_entry.Trace t) passed as_passed input v r s d h = one_traced_of t v r s d h
+one_on before (of_entry.Convert width) passed as_passed input v r s d h = one_encoding (in_width width v) r s d h
 
-pub one_of : (before : List ℕ) (e : OfEntry) (parameters : List Value) (sound as_sound : Bool) (input : List ℕ) (r s : Result (List ℕ) ToolFault)
-    → IsDueOf before e parameters sound input r → IsDueOf before e parameters as_sound input s → r ≡ s
-one_of before e parameters sound as_sound input r s d h =
-    one_from input (IsDueIn before e parameters sound input) (IsDueIn before e parameters as_sound input) (one_on before e parameters sound as_sound input) r s d h
+pub one_of : (before : List ℕ) (e : EntryAction) (passed as_passed : Bool) (input : List ℕ) (r s : Result (List ℕ) ToolFault)
+    → IsDueOf before e passed input r → IsDueOf before e as_passed input s → r ≡ s
+one_of before e passed as_passed input r s d h =
+    one_from input (IsDueIn before e passed input) (IsDueIn before e as_passed input) (one_on before e passed as_passed input) r s d h
 
 pub one_answer : HasOneAnswer
-one_answer (Capability c) parameters input sound as_sound r s d h = one_output c parameters input r s d h
-one_answer (Source c) parameters input sound as_sound r s d h = one_for_text c parameters (text_of (notation_in input)) r s d h
-one_answer (Difference e) parameters input sound as_sound r s d h = elim d [ ]
-one_answer (Entry e) parameters input sound as_sound r s d h = one_of [] e parameters sound as_sound input r s d h
+one_answer (Capability c) input passed as_passed r s d h = one_output c.result c.parameters.values input r s d h
+one_answer (Source c) input passed as_passed r s d h = one_for_text c.result c.parameters.values (text_of (notation_in input)) r s d h
+one_answer (Difference e) input passed as_passed r s d h = elim d [ ]
+one_answer (Entry e) input passed as_passed r s d h = one_of [] e passed as_passed input r s d h
 
 -- ---- the faults of a call itself
 
-on_entry_never : (e : OfEntry) (parameters : List Value) (sound : Bool) (input : List ℕ) (v : EntryValue) → IsNeverOwn (IsDueIn [] e parameters sound input v)
-on_entry_never (of_entry.Show options) parameters sound input v = record { no_write = λ gone d. cc; no_memory = λ d. cc }
-on_entry_never (of_entry.Json document) parameters sound input v = document_never document sound input v
-on_entry_never (of_entry.Check naming) parameters sound input v = record { no_write = λ gone d. d; no_memory = λ d. d }
-on_entry_never (of_entry.Lint level color) parameters sound input v = record { no_write = λ gone d. d; no_memory = λ d. d }
-on_entry_never (of_entry.Expand e) parameters sound input v = record {
-  no_write = λ gone (text, called, d). (text_never text parameters e.padding e.output).no_write gone d;
-  no_memory = λ (text, called, d). (text_never text parameters e.padding e.output).no_memory d;
+on_entry_never : (e : EntryAction) (passed : Bool) (input : List ℕ) (v : EntryValue) → IsNeverOwn (IsDueIn [] e passed input v)
+on_entry_never (of_entry.Show options) passed input v = record { no_write = λ gone d. cc; no_memory = λ d. cc }
+on_entry_never (of_entry.Json document) passed input v = document_never document passed input v
+on_entry_never (of_entry.Check naming) passed input v = record { no_write = λ gone d. d; no_memory = λ d. d }
+on_entry_never (of_entry.Lint options color) passed input v = record { no_write = λ gone d. d; no_memory = λ d. d }
+on_entry_never (of_entry.Expand e) passed input v = record {
+  no_write = λ gone (item, called, d). (text_never (option_and_then text_in item) e.parameters.values e.padding e.output).no_write gone d;
+  no_memory = λ (item, called, d). (text_never (option_and_then text_in item) e.parameters.values e.padding e.output).no_memory d;
 }
-on_entry_never (of_entry.Convert width) parameters sound input v = record { no_write = λ gone d. d; no_memory = λ d. d }
-on_entry_never (of_entry.Get g) parameters sound input v = record {
-  no_write = λ gone (item, called, d). (value_never item g sound).no_write gone d;
-  no_memory = λ (item, called, d). (value_never item g sound).no_memory d;
+on_entry_never (of_entry.Convert width) passed input v = record { no_write = λ gone d. d; no_memory = λ d. d }
+on_entry_never (of_entry.Get g) passed input v = record {
+  no_write = λ gone (item, called, d). (value_never item g passed).no_write gone d;
+  no_memory = λ (item, called, d). (value_never item g passed).no_memory d;
 }
-on_entry_never (of_entry.Trace t) parameters sound input v = record {
+on_entry_never (of_entry.Trace t) passed input v = record {
   no_write = λ gone (item, called, d). (traced_never item t).no_write gone d;
   no_memory = λ (item, called, d). (traced_never item t).no_memory d;
 }
 
 -- of the bytes of an entry
-pub entry_never : (e : OfEntry) (parameters : List Value) (sound : Bool) (input : List ℕ) → IsNeverOwn (IsDueOf [] e parameters sound input)
-entry_never e parameters sound input = record { no_write = writes; no_memory = takes }
+pub entry_never : (e : EntryAction) (passed : Bool) (input : List ℕ) → IsNeverOwn (IsDueOf [] e passed input)
+entry_never e passed input = record { no_write = writes; no_memory = takes }
   where
-    writes : (gone : ℕ) → ¬ IsDueOf [] e parameters sound input (Err (fault.Write gone))
+    writes : (gone : ℕ) → ¬ IsDueOf [] e passed input (Err (fault.Write gone))
     writes gone (inl (refused, is, same)) = absurd (cc)
-    writes gone (inr (v, spells, d)) = (on_entry_never e parameters sound input v).no_write gone d
+    writes gone (inr (v, spells, d)) = (on_entry_never e passed input v).no_write gone d
 
-    takes : ¬ IsDueOf [] e parameters sound input (Err fault.Memory)
+    takes : ¬ IsDueOf [] e passed input (Err fault.Memory)
     takes (inl (refused, is, same)) = absurd (cc)
-    takes (inr (v, spells, d)) = (on_entry_never e parameters sound input v).no_memory d
+    takes (inr (v, spells, d)) = (on_entry_never e passed input v).no_memory d

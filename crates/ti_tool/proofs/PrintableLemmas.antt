@@ -1,7 +1,7 @@
 -- Results under `--escape` are printable lines, as many as are due.
 use Rattle.std.proofs.Common.{◌≡◌, ◌∙◌, ◌+◌, ℕ, Bool, true, false, List, [], ◌∷◌, ◌++◌, Some, inl, inr, refl, sym, ap, ap₂, subst, arith, append_assoc}
 use Rattle.ti_words.specs.Items.{ExtendedSubject, FlagItem, ItemValue, Listed, NumberItem, StandardSubject, SubjectValue, TextItem, items, text_in}
-use Rattle.std.specs.Prelude.{Option, None, Ok, ◌⊎◌, codes, decimal, if◌then◌else◌}
+use Rattle.std.specs.Prelude.{Option, None, Ok, option_and_then, ◌⊎◌, codes, decimal, if◌then◌else◌}
 use Rattle.std.specs.List.{flat_map, list_all}
 use Rattle.std.specs.Fmt.{signed_decimal}
 use Rattle.std.proofs.lemmas.Bool.{and_from}
@@ -42,7 +42,7 @@ use Rattle.ti_line.specs.declared.options.Document.TheVariants as documents
 use Rattle.ti_report.proofs.PlainLemmas.{report_is_text}
 use Rattle.ti_tool.specs.Documents.{AreObjects, IsDocument, key_of}
 use Rattle.ti_tool.proofs.DocumentLemmas.{without_newline}
-use Rattle.ti_tool.specs.Results.{IsDueFrom}
+use Rattle.ti_tool.specs.Results.{IsDue, IsDueFrom}
 use Rattle.ti_tool.specs.Printable.{JsonIsPrintable, ObjectIsPrintable, ArePrintableLines, listed_lines, row_count, rows_count, text_count, texts_count, ShowIsPrintable, CheckIsPrintable, CapIsPrintable, ExpandIsPrintable, GetIsPrintable}
 
 -- ---- joining
@@ -53,7 +53,7 @@ with_newline line = line ++ codes "\n"
 none : ArePrintableLines 0 []
 none = record { lines = []; counted = refl; printable = refl; joined = refl }
 
-one : (line out : List ℕ) → IsText line → out ≡ line ++ codes "\n" → ArePrintableLines 1 out
+pub one : (line out : List ℕ) → IsText line → out ≡ line ++ codes "\n" → ArePrintableLines 1 out
 one line out is e = record {
   lines = line ∷ [];
   counted = refl;
@@ -61,7 +61,7 @@ one line out is e = record {
   joined = e ∙ sym (append-nil (line ++ codes "\n"));
 }
 
-joined_lines : (m n : ℕ) (a b : List ℕ) → ArePrintableLines m a → ArePrintableLines n b → ArePrintableLines (m + n) (a ++ b)
+pub joined_lines : (m n : ℕ) (a b : List ℕ) → ArePrintableLines m a → ArePrintableLines n b → ArePrintableLines (m + n) (a ++ b)
 joined_lines m n a b of_a of_b = record {
   lines = of_a.lines ++ of_b.lines;
   counted = omega (arith, length-append of_a.lines of_b.lines, of_a.counted, of_b.counted);
@@ -136,26 +136,26 @@ shown_lines options input out e n (inr (v, spells, listed)) =
 
 -- ---- documents
 
-objects_text : (document : Document) (sound : Bool) (input : List ℕ) (v : EntryValue) (objects : List Data) → AreObjects document sound input v objects → IsText (array_text objects)
-objects_text documents.Listing sound input v objects are = subst (λ ds. IsText (array_text ds)) (sym are) (entry_is_text v)
-objects_text documents.Verdicts sound input v objects (rows, are, is, s) = array_is_text objects (subst HavePlain (sym is) (rows_are_plain rows))
-objects_text (documents.Findings level) sound input v objects are = report_is_text level input v sound objects are
+objects_text : (document : Document) (passed : Bool) (input : List ℕ) (v : EntryValue) (objects : List Data) → AreObjects document passed input v objects → IsText (array_text objects)
+objects_text documents.Listing passed input v objects are = subst (λ ds. IsText (array_text ds)) (sym are) (entry_is_text v)
+objects_text documents.Verdicts passed input v objects (rows, are, is, s) = array_is_text objects (subst HavePlain (sym is) (rows_are_plain rows))
+objects_text (documents.Findings options) passed input v objects are = report_is_text options input v passed objects are
 
-document_of : (document : Document) (sound : Bool) (input out : List ℕ) → IsDueFrom (IsDocument document sound input) input (Ok out) → (text : List ℕ) × IsText text × (out ≡ text ++ codes "\n")
-document_of document sound input out (inl (refused, is, same)) = absurd cc
-document_of document sound input out (inr (v, spells, (objects, are, e))) = (array_text objects, objects_text document sound input v objects are, e)
+document_of : (document : Document) (passed : Bool) (input out : List ℕ) → IsDueFrom (IsDocument document passed input) input (Ok out) → (text : List ℕ) × IsText text × (out ≡ text ++ codes "\n")
+document_of document passed input out (inl (refused, is, same)) = absurd cc
+document_of document passed input out (inr (v, spells, (objects, are, e))) = (array_text objects, objects_text document passed input v objects are, e)
 
 pub json_line : JsonIsPrintable
-json_line document sound input out due = let (text, is, e) = document_of document sound input out due in one text out is e
+json_line document passed input out due = let (text, is, e) = document_of document passed input out due in one text out is e
 
 key_text : (document : Document) → IsText (key_of document)
 key_text documents.Listing = refl
 key_text documents.Verdicts = refl
-key_text (documents.Findings level) = refl
+key_text (documents.Findings options) = refl
 
 pub object_line : ObjectIsPrintable
-object_line document sound name input out due =
-    let (text, is, e) = document_of document sound input out due in
+object_line document passed name input out due =
+    let (text, is, e) = document_of document passed input out due in
     let head = codes "{\"file\":" ++ text_json name ++ codes ",\"" ++ key_of document ++ codes "\":" in
     let of_head : IsText head =
     both (codes "{\"file\":" ++ text_json name ++ codes ",\"" ++ key_of document) (codes "\":")
@@ -184,8 +184,8 @@ rows_counted (x ∷ xs) rows (first, more, has, are, is) =
     ap rows_count is ∙ both_count first more ∙ ap₂ (λ m n. m + n) (judged_count x.0 (text_in x.1) first has) (rows_counted xs more are)
 
 pub check_lines : CheckIsPrintable
-check_lines naming input out sound n (inl (refused, is, same)) = absurd cc
-check_lines naming input out sound n (inr (v, spells, (rows, are, is, s))) =
+check_lines naming input out passed n (inl (refused, is, same)) = absurd cc
+check_lines naming input out passed n (inr (v, spells, (rows, are, is, s))) =
     let options : ListOptions = record { naming = naming; form = forms.Notation } in
     let P : ℕ → List ℕ → Type 0 = λ m x. ArePrintableLines m x in
     let Q : ℕ → Type 0 = λ m. P m out in
@@ -198,10 +198,11 @@ cap_line parameters input out (plain, faultless, expansion, is) = one (notation 
 
 pub expand_line : ExpandIsPrintable
 expand_line names name parameters setting input out (inl (refused, is, e)) = absurd cc
-expand_line names name parameters setting input out (inr (v, spells, (AbsentText, called, e))) = absurd cc
-expand_line names name parameters setting input out (inr (v, spells, (CancelledText, called, e))) = absurd cc
-expand_line names name parameters setting input out (inr (v, spells, (TextOf text, called, (plain, faultless, expansion, short, is)))) =
-    one (notation (padded_text plain setting)) out (is_printable_all (padded_text plain setting)) is
+expand_line names name parameters setting input out (inr (v, spells, (item, called, due))) = go (option_and_then text_in item) due
+  where
+    go : (text : Option (List ℕ)) → IsDue text parameters setting (outputs.Line forms.Notation) (Ok out) → ArePrintableLines 1 out
+    go None e = absurd cc
+    go (Some text) (plain, faultless, expansion, short, is) = one (notation (padded_text plain setting)) out (is_printable_all (padded_text plain setting)) is
 
 got_text : (text : List ℕ) (given : Option Given) (setting : Setting) (output : Output) (out : List ℕ) → output ≡ outputs.Line forms.Notation → IsTextResult text given setting output (Ok out) → ArePrintableLines 1 out
 got_text text given setting output out e due = go given (let P : Output → Type 0 = λ o. IsTextResult text given setting o (Ok out) in subst P e due)

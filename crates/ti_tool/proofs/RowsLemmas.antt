@@ -35,8 +35,8 @@ one_row subject found text content is judged = subst (λ f. HasRows subject f ((
 pub no_row : (subject : SubjectValue) (found : Option (List ℕ)) → None ≡ found → HasRows subject found []
 no_row subject found is = subst (λ f. HasRows subject f []) is refl
 
-pub one_more_sound : (rows : List RowValue) (subject : SubjectValue) (content : ContentValue) (sound one : Bool) → sound ≡ are_sound rows → one ≡ is_sound content → (sound && one) ≡ are_sound (rows ++ (OfCapability subject, content) ∷ [])
-one_more_sound rows subject content sound one s o =
+pub one_more_sound : (rows : List RowValue) (subject : SubjectValue) (content : ContentValue) (passed one : Bool) → passed ≡ are_sound rows → one ≡ is_sound content → (passed && one) ≡ are_sound (rows ++ (OfCapability subject, content) ∷ [])
+one_more_sound rows subject content passed one s o =
     ap₂ (λ a b. a && b) s o ∙ ap (λ b. are_sound rows && b) (sym (and_true (is_sound content))) ∙ sym (list_all-append (λ row. is_sound row.1) rows ((OfCapability subject, content) ∷ []))
   where
     and_true : (b : Bool) → (b && true) ≡ b

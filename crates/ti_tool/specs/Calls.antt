@@ -6,8 +6,8 @@ use Rattle.ti_layout.specs.declared.fault.Refused.{Refused}
 use Rattle.ti_layout.specs.Refusal.{failure}
 use Rattle.ti_entry.specs.declared.source.ReadStop.{ReadStop}
 use Rattle.ti_entry.specs.declared.source.ReadStop.TheVariants as stop
-use Rattle.ti_line.specs.declared.request.Asked.{Asked}
-use Rattle.ti_line.specs.declared.request.Asked.TheVariants.{Capability, Difference, Entry, Source}
+use Rattle.ti_line.specs.declared.request.Action.{Action}
+use Rattle.ti_line.specs.declared.request.Action.TheVariants.{Capability, Difference, Entry, Source}
 use Rattle.ti_tool.specs.declared.fault.ToolFault.{ToolFault}
 use Rattle.ti_tool.specs.declared.fault.ToolFault.TheVariants as fault
 
@@ -74,7 +74,7 @@ abbrev pub HasFailed : List ℕ → Type 0
 HasFailed input = (refused : Refused) × (failure input ≡ Some refused)
 
 -- what is enough to read for a request
-abbrev pub IsEnough : Asked → List ℕ → Type 0
+abbrev pub IsEnough : Action → List ℕ → Type 0
 IsEnough (Capability c) = IsFull
 IsEnough (Source c) = IsFullSource
 IsEnough (Entry e) = HasFailed
@@ -90,5 +90,5 @@ abbrev pub DidCheck : (Bool → List ℕ → Result (List ℕ) ToolFault → Typ
     → Option (List ℕ) → Option (List ℕ) → Option (List ℕ) → Option (List ℕ) → Result Bool ToolFault
     → Type 0
 DidCheck due enough left0 left1 held0 held1 answer =
-    (sound : Bool) × IfOk answer (λ s. s ≡ sound)
-    × DidCall (due sound) enough left0 left1 held0 held1 (without_value answer)
+    (passed : Bool) × IfOk answer (λ s. s ≡ passed)
+    × DidCall (due passed) enough left0 left1 held0 held1 (without_value answer)

@@ -1,5 +1,5 @@
 -- What a run of `diff` does with the two files that it compares.
-use Rattle.std.specs.Prelude.{◌≡◌, ◌⊎◌, ℕ, List, [], ◌∷◌, ◌++◌, codes, Option, Some, false, unwrap_or}
+use Rattle.std.specs.Prelude.{◌≡◌, ◌⊎◌, ℕ, List, [], ◌∷◌, ◌++◌, codes, Some, false}
 use Rattle.ti_layout.specs.declared.fault.Refused.{Refused}
 use Rattle.ti_layout.specs.Refusal.{refusal}
 use Rattle.ti_words.specs.Spelling.{Spells}
@@ -13,7 +13,7 @@ use Rattle.ti_listing.specs.Differences.{AreDifferences, DifferenceValue}
 use Rattle.ti_listing.specs.DifferingLines.{differing_lines}
 use Rattle.ti_listing.specs.DifferingObjects.{differing_text}
 use Rattle.ti_tool.specs.FaultLines.{fault_line}
-use Rattle.ti_tool.specs.FileRuns.{Contents, Delivered, IsRefusedMemory, IsSupplied, IsUnread, Supply, Unread}
+use Rattle.ti_tool.specs.FileRuns.{Contents, Ends, IsRefusedMemory, IsSupplied, IsUnread, Supply, Unread}
 use Rattle.ti_tool.specs.Files.{file_line}
 use Rattle.ti_tool.specs.Streams.{KnownFiles, Stream, Streams, file_name}
 
@@ -62,10 +62,7 @@ AreSupplied known d left0 left1 one two =
     × IsSupplied known (file_name d.other.now false) between left1 two
 
 -- what they led to is written, or a first part of it
-abbrev pub RanDifference : KnownFiles → Pair → Streams → Streams → ℕ → Type 0
-RanDifference known d before after status =
-    (one : Supply) × (two : Supply) × (out : List ℕ) × (line : List ℕ) × (code : ℕ) × (answer : Option ℕ)
-    × AreSupplied known d before.left after.left one two
-    × IsComparison d.likeness d.form d.file.now d.other.now one two out line code
-    × Delivered before.held after.held before.told after.told answer out line code
-    × (status ≡ unwrap_or answer 5)
+abbrev pub RanDifference : KnownFiles → Pair → Type 0 → Streams → Streams → ℕ → Type 0
+RanDifference known d unwritten before after status =
+    (one : Supply) × (two : Supply) × AreSupplied known d before.left after.left one two
+    × Ends (IsComparison d.likeness d.form d.file.now d.other.now one two) unwritten before after status

@@ -12,27 +12,27 @@ use Rattle.ti_tool.specs.Verdicts.{AreVerdictObjects}
 
 -- the objects of a document on an entry that the bytes spell, with nothing wrong or with something in verdicts or findings
 abbrev pub AreObjects : Document → Bool → List ℕ → EntryValue → List Data → Type 0
-AreObjects documents.Listing sound input v objects = objects ≡ entry_objects v
-AreObjects documents.Verdicts sound input v objects = AreVerdictObjects v objects sound
-AreObjects (documents.Findings level) sound input v objects = AreFindings level input v sound objects
+AreObjects documents.Listing passed input v objects = objects ≡ entry_objects v
+AreObjects documents.Verdicts passed input v objects = AreVerdictObjects v objects passed
+AreObjects (documents.Findings options) passed input v objects = AreFindings options input v passed objects
 
 -- the document in a line
 abbrev pub IsDocument : Document → Bool → List ℕ → EntryValue → Result (List ℕ) ToolFault → Type 0
-IsDocument document sound input v (Ok out) =
-    (objects : List Data) × AreObjects document sound input v objects × (out ≡ array_text objects ++ codes "\n")
-IsDocument document sound input v (Err e) = ⊥
+IsDocument document passed input v (Ok out) =
+    (objects : List Data) × AreObjects document passed input v objects × (out ≡ array_text objects ++ codes "\n")
+IsDocument document passed input v (Err e) = ⊥
 
 -- only verdicts and findings find that something is wrong
 abbrev pub FindsIn : Document → Bool → Type 0
-FindsIn documents.Listing sound = sound ≡ true
-FindsIn documents.Verdicts sound = Unit {0}
-FindsIn (documents.Findings level) sound = Unit {0}
+FindsIn documents.Listing passed = passed ≡ true
+FindsIn documents.Verdicts passed = Unit {0}
+FindsIn (documents.Findings options) passed = Unit {0}
 
 -- what the document of a file is called in its object
 abbrev pub key_of : Document → List ℕ
 key_of documents.Listing = codes "items"
 key_of documents.Verdicts = codes "verdicts"
-key_of (documents.Findings level) = codes "findings"
+key_of (documents.Findings options) = codes "findings"
 
 -- an object of the name of a file and its document without its newline, in a line
 abbrev pub in_object : Document → List ℕ → List ℕ → List ℕ
@@ -42,5 +42,5 @@ in_object document name line =
 
 -- the line of the document on the entry of a file
 abbrev pub IsDocumentOfFile : Document → List ℕ → Bool → List ℕ → EntryValue → List ℕ → Type 0
-IsDocumentOfFile document name sound input v out =
-    (plain : List ℕ) × IsDocument document sound input v (Ok plain) × (out ≡ in_object document name plain)
+IsDocumentOfFile document name passed input v out =
+    (plain : List ℕ) × IsDocument document passed input v (Ok plain) × (out ≡ in_object document name plain)

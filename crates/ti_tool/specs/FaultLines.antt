@@ -13,11 +13,11 @@ use Rattle.ti_tool.specs.declared.fault.ToolFault.{ToolFault}
 use Rattle.ti_tool.specs.declared.fault.ToolFault.TheVariants as fault
 use Rattle.ti_line.specs.declared.params.WordFault.{WordFault}
 use Rattle.ti_line.specs.declared.params.WordFault.TheVariants as words
-use Rattle.ti_line.specs.declared.request.Asked.{Asked}
-use Rattle.ti_line.specs.declared.request.Asked.TheVariants.{Entry}
-use Rattle.ti_line.specs.declared.request.OfEntry.TheVariants as of_entry
-use Rattle.ti_line.specs.declared.no_line.LineFault.{LineFault}
-use Rattle.ti_line.specs.declared.no_line.LineFault.TheVariants as line
+use Rattle.ti_line.specs.declared.request.Action.{Action}
+use Rattle.ti_line.specs.declared.request.Action.TheVariants.{Entry}
+use Rattle.ti_line.specs.declared.request.EntryAction.TheVariants as of_entry
+use Rattle.ti_line.specs.declared.no_request.LineFault.{LineFault}
+use Rattle.ti_line.specs.declared.no_request.LineFault.TheVariants as line
 
 -- the name of a fault and its place, after what is at fault
 abbrev pub place_line : List ℕ → List ℕ → ℕ → List ℕ
@@ -83,32 +83,32 @@ no_name_line near = codes ": no such capability" ++ near_part near ++ codes "\n"
 
 -- the line on the fault of a call, by what was asked for: `get`, and `trace` of an entry, name the
 -- capability
-abbrev pub asked_line : Asked → List (List ℕ) → ToolFault → List ℕ
-asked_line (Entry (of_entry.Get g)) near fault.NoSuchText =
+abbrev pub action_line : Action → List (List ℕ) → ToolFault → List ℕ
+action_line (Entry (of_entry.Get g)) near fault.NoSuchText =
     codes "get: " ++ shown_name g.name.now ++ codes ": absent\n"
-asked_line (Entry (of_entry.Get g)) near fault.NoSuchName =
+action_line (Entry (of_entry.Get g)) near fault.NoSuchName =
     codes "get: " ++ shown_name g.name.now ++ no_name_line near
-asked_line (Entry (of_entry.Trace t)) near fault.NoSuchText =
+action_line (Entry (of_entry.Trace t)) near fault.NoSuchText =
     codes "trace: " ++ shown_name t.name.now ++ codes ": no such text\n"
-asked_line (Entry (of_entry.Trace t)) near fault.NoSuchName =
+action_line (Entry (of_entry.Trace t)) near fault.NoSuchName =
     codes "trace: " ++ shown_name t.name.now ++ no_name_line near
-asked_line asked near e = fault_line e
+action_line action near e = fault_line e
 
 -- the nearest names are told of those that there are for the entry that the bytes spell; none if memory was refused
 abbrev pub AreToldFor : List ℕ → List ℕ → List (List ℕ) → Type 0
 AreToldFor input word near = (near ≡ []) ⊎ ((v : EntryValue) × Spells input v × AreNearest v word near)
 
 -- the names that are told, if nothing in what was read has the name that was given
-abbrev pub AreTold : Asked → List ℕ → ToolFault → List (List ℕ) → Type 0
+abbrev pub AreTold : Action → List ℕ → ToolFault → List (List ℕ) → Type 0
 AreTold (Entry (of_entry.Get g)) input fault.NoSuchName near = AreToldFor input g.name.now near
 AreTold (Entry (of_entry.Trace t)) input fault.NoSuchName near = AreToldFor input t.name.now near
-AreTold asked input e near = near ≡ []
+AreTold action input e near = near ≡ []
 
 -- the line on an answer about what was read, none if it has no fault
-abbrev pub IsAnswerLine : {V : Type 0} → Asked → List ℕ → Result V ToolFault → List ℕ → Type 0
-IsAnswerLine asked input (Ok v) line = line ≡ []
-IsAnswerLine asked input (Err e) line =
-    (near : List (List ℕ)) × AreTold asked input e near × (line ≡ asked_line asked near e)
+abbrev pub IsAnswerLine : {V : Type 0} → Action → List ℕ → Result V ToolFault → List ℕ → Type 0
+IsAnswerLine action input (Ok v) line = line ≡ []
+IsAnswerLine action input (Err e) line =
+    (near : List (List ℕ)) × AreTold action input e near × (line ≡ action_line action near e)
 
 -- a text was written whole, or its first bytes, if the writer failed after them
 abbrev pub Told : List ℕ → Option (List ℕ) → Option (List ℕ) → Type 0

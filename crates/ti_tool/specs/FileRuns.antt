@@ -1,29 +1,50 @@
--- What a run does with files that were named, one after another.
-use Rattle.std.specs.Prelude.{◌≡◌, ◌<◌, ◌⊎◌, ◌||◌, ◌&&◌, ℕ, max, Bool, not, true, false, List, [], ◌∷◌, ◌++◌, Option, Some, None, Result, Ok, Err, length, map, nat_lt, take}
+-- What a run does with standard input, and with files that were named, one after another.
+use Rattle.std.specs.Prelude.{◌≡◌, ◌<◌, ◌⊎◌, ◌||◌, ◌&&◌, ◌==◌, ℕ, max, Bool, not, true, false, List, [], ◌∷◌, ◌++◌, Option, Some, None, IfSome, Result, Ok, Err, codes, if◌then◌else◌, length, map, nat_le, nat_lt, take, unwrap_or}
 use Rattle.std.specs.List.{flat_map, list_any}
-use Rattle.std.specs.Io.KnownBytes.{Appends}
-use Rattle.ti_expand.specs.declared.values.Value.{Value}
+use Rattle.std.specs.Io.KnownBytes.{Appends, Consumes, IsAtEnd}
 use Rattle.ti_line.specs.CommandLine.{is_minus}
-use Rattle.ti_line.specs.declared.request.Asked.TheVariants.{Entry}
-use Rattle.ti_line.specs.declared.request.OfEntry.{OfEntry}
-use Rattle.ti_line.specs.declared.request.OfEntry.TheVariants as of_entry
+use Rattle.ti_line.specs.declared.options.Document.TheVariants as documents
+use Rattle.ti_line.specs.declared.request.Action.{Action}
+use Rattle.ti_line.specs.declared.request.Action.TheVariants.{Entry}
+use Rattle.ti_line.specs.declared.request.EntryAction.{EntryAction}
+use Rattle.ti_line.specs.declared.request.EntryAction.TheVariants as of_entry
 use Rattle.ti_tool.specs.declared.fault.ToolFault.{ToolFault}
 use Rattle.ti_tool.specs.declared.fault.ToolFault.TheVariants as fault
-use Rattle.ti_tool.specs.Calls.{FailsAsDue}
+use Rattle.ti_tool.specs.Calls.{FailsAsDue, IsEnough}
 use Rattle.ti_tool.specs.FaultLines.{IsAnswerLine, Told, fault_line}
 use Rattle.ti_tool.specs.Files.{IsDueOfFile, before_findings, file_line}
-use Rattle.ti_tool.specs.Results.{Finds, IsDueOf}
+use Rattle.ti_tool.specs.Results.{Finds, IsAnswer, IsDueOf}
 use Rattle.ti_tool.specs.Statuses.{status_for}
+use Rattle.ti_tool.specs.Summaries.{IsSummarized}
+use Rattle.ti_lint.specs.declared.lint_options.LintOptions.{LintOptions}
 use Rattle.ti_tool.specs.Streams.{AreContents, AreFound, FileName, Gives, IsOne, KnownFiles, Lookup, Stream, Streams}
+
+-- ---- contents
+
+-- an answer to a request of contents has its output and no line, or no output and the line on its fault, after what it is
+-- called; out of memory only if what is due needs memory
+abbrev pub AnswerLeadsTo : (Bool → Result (List ℕ) ToolFault → Type 0) → Action → (List ℕ → List ℕ) → List ℕ
+    → Result Bool ToolFault → List ℕ → List ℕ → Type 0
+AnswerLeadsTo due action called contents (Ok passed) out line = Finds action passed × due passed (Ok out) × (line ≡ [])
+AnswerLeadsTo due action called contents (Err why) out line =
+    FailsAsDue (due true) why × (out ≡ [])
+    × ((told : List ℕ) × IsAnswerLine {V = Bool} action contents (Err why) told × (line ≡ called told))
+
+-- contents lead to an output, a line and a status
+abbrev pub LeadsTo : (Bool → Result (List ℕ) ToolFault → Type 0) → Action → (List ℕ → List ℕ) → List ℕ
+    → List ℕ → List ℕ → ℕ → Type 0
+LeadsTo due action called contents out line status =
+    (answer : Result Bool ToolFault) × (status ≡ status_for answer)
+    × AnswerLeadsTo due action called contents answer out line
 
 -- ---- which files
 
 -- only `show`, `check` and `lint` take a folder for the files in it, as JSON too
-abbrev pub takes_folders : OfEntry → Bool
+abbrev pub takes_folders : EntryAction → Bool
 takes_folders (of_entry.Show options) = true
 takes_folders (of_entry.Json document) = true
 takes_folders (of_entry.Check naming) = true
-takes_folders (of_entry.Lint level color) = true
+takes_folders (of_entry.Lint options color) = true
 takes_folders _ = false
 
 -- a word names the file of this name, or if it is looked up what is found by it; one that the system refuses is a file that can't be read
@@ -34,10 +55,10 @@ IsLookupIf true known word found =
     ⊎ IsOne word true found
 
 -- standard input, `-`, is not looked up
-abbrev pub IsLookup : KnownFiles → OfEntry → List ℕ → Lookup → Type 0
+abbrev pub IsLookup : KnownFiles → EntryAction → List ℕ → Lookup → Type 0
 IsLookup known e word = IsLookupIf (takes_folders e && not (is_minus word)) (known.found word) word
 
-abbrev pub AreLookups : KnownFiles → OfEntry → List (List ℕ) → List Lookup → Type 0
+abbrev pub AreLookups : KnownFiles → EntryAction → List (List ℕ) → List Lookup → Type 0
 AreLookups known e [] founds = founds ≡ []
 AreLookups known e (word ∷ words) [] = ⊥
 AreLookups known e (word ∷ words) (found ∷ founds) =
@@ -51,9 +72,9 @@ are_several words founds = nat_lt 1 (length words) || list_any (λ l. l.is_folde
 
 -- what is done with each file
 pub record Job : Type 0 where
-  pub e : OfEntry
-  pub parameters : List Value
+  pub e : EntryAction
   pub are_several : Bool
+  pub summary : Option LintOptions
 
 -- what there is of a file: its contents; or the system gives none; or memory was refused
 pub data Supply : Type 0 where
@@ -71,22 +92,16 @@ IsSupplied known file left0 left1 (Contents bytes) =
     (file.is_refused ≡ false) × IsReadFrom (is_minus file.name) (known.contents file.name) left0 left1 bytes
 IsSupplied known file left0 left1 _ = Unit {0}
 
--- contents lead to what is due for them and no line, or to nothing and the line on their fault, with the
--- name of the file before it; out of memory only if what is due needs memory
-abbrev pub IsFileAnswer : Job → List ℕ → List ℕ → Result Bool ToolFault → List ℕ → List ℕ → Type 0
-IsFileAnswer job name contents (Ok sound) out line =
-    Finds (Entry job.e) sound × IsDueOfFile job.are_several job.e job.parameters name sound contents out
-    × (line ≡ [])
-IsFileAnswer job name contents (Err why) out line =
-    FailsAsDue (IsDueOf (before_findings job.are_several name) job.e job.parameters true contents) why
-    × (out ≡ [])
-    × ((told : List ℕ) × IsAnswerLine {V = Bool} (Entry job.e) contents (Err why) told
-    × (line ≡ file_line name told))
+-- the output of its contents, with its name, or their fault
+abbrev pub IsDueOfJob : Job → List ℕ → List ℕ → Bool → Result (List ℕ) ToolFault → Type 0
+IsDueOfJob job name contents passed (Ok out) =
+    IsDueOfFile job.are_several job.e name passed contents out
+IsDueOfJob job name contents passed (Err why) =
+    IsDueOf (before_findings job.are_several name) job.e passed contents (Err why)
 
 abbrev pub IsOutcomeOfContents : Job → List ℕ → List ℕ → List ℕ → List ℕ → ℕ → Type 0
 IsOutcomeOfContents job name contents out line status =
-    (answer : Result Bool ToolFault) × (status ≡ status_for answer)
-    × IsFileAnswer job name contents answer out line
+    LeadsTo (IsDueOfJob job name contents) (Entry job.e) (file_line name) contents out line status
 
 -- a file that can't be read leads to a line with its name and the system's reason, and to status 5
 abbrev pub IsUnread : List ℕ → List ℕ → List ℕ → ℕ → Type 0
@@ -111,6 +126,41 @@ Delivered held0 held1 told0 told1 (Some s) out line status =
 Delivered held0 held1 told0 told1 None out line status =
     (gone : ℕ) × (gone < length out) × Appends held0 held1 (take gone out)
     × Told (fault_line (fault.Write gone)) told0 told1
+
+-- something leads to an output, a line and a status, which are delivered; after a fault that is no failed write nothing was
+-- written as a result
+abbrev pub Ends : (List ℕ → List ℕ → ℕ → Type 0) → Type 0 → Streams → Streams → ℕ → Type 0
+Ends leads unwritten before after status =
+    (out : List ℕ) × (line : List ℕ) × (code : ℕ) × leads out line code
+    × ((answer : Option ℕ) × Delivered before.held after.held before.told after.told answer out line code
+    × (status ≡ unwrap_or answer 5) × IfSome answer (λ s. 1 < s → unwritten))
+
+-- the contents that have an output, which is that of an entry
+abbrev pub looked : Supply → ℕ → List (List ℕ)
+looked (Contents bytes) status = if nat_le status 1 then bytes ∷ [] else []
+looked supply status = []
+
+-- ---- standard input
+
+-- what was read of it: all, or as much as is enough for the request; or reading failed
+abbrev pub IsInput : Action → Stream → Stream → Supply → Type 0
+IsInput action left0 left1 (Contents bytes) = Consumes left0 left1 bytes × (IsEnough action bytes ⊎ IsAtEnd left1)
+IsInput action left0 left1 Unread = (bytes : List ℕ) × Consumes left0 left1 bytes
+IsInput action left0 left1 NoMemory = ⊥
+
+-- if no word names it, its lines on faults have no name
+abbrev pub IsOutcomeOfInput : Action → Supply → List ℕ → List ℕ → ℕ → Type 0
+IsOutcomeOfInput action (Contents bytes) out line status =
+    LeadsTo (λ passed. IsAnswer action passed bytes) action (λ told. told) bytes out line status
+IsOutcomeOfInput action _ out line status =
+    (out ≡ []) × (line ≡ fault_line fault.Read) × (status ≡ 5)
+
+-- a request of it was carried out, and what was looked at is told if that is wanted
+abbrev pub RanInput : Option LintOptions → Action → Type 0 → Streams → Streams → ℕ → Type 0
+RanInput summary action unwritten before after status =
+    (supply : Supply) × (between : Streams) × IsInput action before.left between.left supply
+    × Ends (IsOutcomeOfInput action supply) unwritten before between status
+    × IsSummarized summary (looked supply status) between after
 
 -- ---- one after another
 
@@ -141,25 +191,54 @@ DidFiles known job before after (done ∷ dones) =
 abbrev pub files_done : List DoneFile → List FileName
 files_done = map (λ done. done.file)
 
+abbrev pub all_looked : List DoneFile → List (List ℕ)
+all_looked = flat_map (λ done. looked done.supply done.status)
+
 -- the greatest of their statuses, 0 if there is no file
 abbrev pub greatest_status : List DoneFile → ℕ
 greatest_status [] = 0
 greatest_status (done ∷ dones) = max done.status (greatest_status dones)
 
--- all files are done, and the status is the greatest; or those up to the one at which the writer fails
+-- all files are done, what was looked at is told if that is wanted, and the status is the greatest; or those up to the one at
+-- which the writer fails are done
 abbrev pub RanFound : KnownFiles → Job → List FileName → Streams → Streams → ℕ → Type 0
 RanFound known job files before after status =
-    ((dones : List DoneFile) × (files ≡ files_done dones) × DidFiles known job before after dones
-    × (status ≡ greatest_status dones))
+    ((dones : List DoneFile) × (between : Streams) × (files ≡ files_done dones) × DidFiles known job before between dones
+    × IsSummarized job.summary (all_looked dones) between after × (status ≡ greatest_status dones))
     ⊎ ((dones : List DoneFile) × (last : DoneFile) × (rest : List FileName) × (between : Streams)
     × (files ≡ files_done dones ++ last.file ∷ rest) × DidFiles known job before between dones
     × DidFile known job between after None last × (status ≡ max (greatest_status dones) 5))
 
+-- ---- folders with nothing to read
+
+-- `lint` reports them, also as JSON
+abbrev pub is_lint : EntryAction → Bool
+is_lint (of_entry.Lint options color) = true
+is_lint (of_entry.Json (documents.Findings options)) = true
+is_lint _ = false
+
+abbrev pub line_on_none : EntryAction → List ℕ → Lookup → List ℕ
+line_on_none e word found =
+    if is_lint e && (found.is_folder && length found.files == 0)
+    then file_line word (codes "no entry was read\n") else []
+
+abbrev pub lines_on_none : EntryAction → List (List ℕ) → List Lookup → List ℕ
+lines_on_none e (word ∷ words) (found ∷ founds) = line_on_none e word found ++ lines_on_none e words founds
+lines_on_none e _ _ = []
+
+-- the lines come after all others, and the status is at least that of a failed read
+abbrev pub EndsWithNone : List ℕ → ℕ → Streams → Streams → ℕ → Type 0
+EndsWithNone [] code before after status = (after ≡ before) × (status ≡ code)
+EndsWithNone (b ∷ bs) code before after status =
+    (after.left ≡ before.left) × (after.held ≡ before.held) × Told (b ∷ bs) before.told after.told
+    × (status ≡ max code 5)
+
 -- what is done with the files that words name, unless memory is refused for their names
-abbrev pub RanFiles : KnownFiles → OfEntry → List Value → List (List ℕ) → Streams → Streams → ℕ → Type 0
-RanFiles known e parameters words before after status =
-    ((founds : List Lookup) × AreLookups known e words founds
-    × RanFound known (record { e = e; parameters = parameters; are_several = are_several words founds })
-    (flat_map (λ l. l.files) founds) before after status)
+abbrev pub RanFiles : KnownFiles → Option LintOptions → EntryAction → List (List ℕ) → Streams → Streams → ℕ → Type 0
+RanFiles known summary e words before after status =
+    ((founds : List Lookup) × AreLookups known e words founds × (between : Streams) × (code : ℕ)
+    × RanFound known (record { e = e; are_several = are_several words founds; summary = summary })
+    (flat_map (λ l. l.files) founds) before between code
+    × EndsWithNone (lines_on_none e words founds) code between after status)
     ⊎ (Delivered before.held after.held before.told after.told (Some status) [] (fault_line fault.Memory) 6
     × (after.left ≡ before.left))

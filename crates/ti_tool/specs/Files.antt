@@ -1,13 +1,12 @@
 -- What is due for a file that was named, from its contents, and the line on its fault.
 use Rattle.std.specs.Prelude.{◌≡◌, ◌==◌, ℕ, Bool, true, false, List, [], ◌∷◌, ◌++◌, Ok, codes, if◌then◌else◌}
 use Rattle.ti_base.specs.Letters.{letter}
-use Rattle.ti_expand.specs.declared.values.Value.{Value}
 use Rattle.ti_escape.specs.Notation.{notation}
 use Rattle.ti_line.specs.CommandLine.{is_minus}
 use Rattle.ti_line.specs.declared.options.NameForm.{NameForm}
 use Rattle.ti_line.specs.declared.options.NameForm.TheVariants as name_forms
-use Rattle.ti_line.specs.declared.request.OfEntry.{OfEntry}
-use Rattle.ti_line.specs.declared.request.OfEntry.TheVariants as of_entry
+use Rattle.ti_line.specs.declared.request.EntryAction.{EntryAction}
+use Rattle.ti_line.specs.declared.request.EntryAction.TheVariants as of_entry
 use Rattle.ti_tool.specs.Documents.{in_object}
 use Rattle.ti_tool.specs.Results.{IsDueOf}
 
@@ -24,7 +23,7 @@ each_line before false (b ∷ bs) = b ∷ each_line before (b == letter (codes "
 
 -- the result of one of several files: a listing after a line with the name, each verdict after the name, a
 -- document in an object with the name
-abbrev pub one_of_several : OfEntry → List ℕ → List ℕ → List ℕ
+abbrev pub one_of_several : EntryAction → List ℕ → List ℕ → List ℕ
 one_of_several (of_entry.Show options) name out =
     codes "file: " ++ shown_file options.naming.form name ++ codes "\n" ++ out
 one_of_several (of_entry.Check naming) name out =
@@ -33,9 +32,9 @@ one_of_several (of_entry.Json document) name out = in_object document name out
 one_of_several _ name out = out
 
 -- the result of a file; of one alone it is as of an entry on standard input
-abbrev pub result_of_file : Bool → OfEntry → List ℕ → List ℕ → List ℕ
-result_of_file true asked name out = one_of_several asked name out
-result_of_file false asked name out = out
+abbrev pub result_of_file : Bool → EntryAction → List ℕ → List ℕ → List ℕ
+result_of_file true action name out = one_of_several action name out
+result_of_file false action name out = out
 
 -- what a file is called before a line on it
 abbrev pub file_called : List ℕ → List ℕ
@@ -46,11 +45,11 @@ abbrev pub before_findings : Bool → List ℕ → List ℕ
 before_findings several name = if several then file_called name ++ codes ": " else []
 
 -- what is due for the contents of a file is what is due for an entry of these bytes, with the name
-abbrev pub IsDueOfFile : Bool → OfEntry → List Value → List ℕ → Bool → List ℕ → List ℕ → Type 0
-IsDueOfFile several asked parameters name sound contents out =
+abbrev pub IsDueOfFile : Bool → EntryAction → List ℕ → Bool → List ℕ → List ℕ → Type 0
+IsDueOfFile several action name passed contents out =
     (plain : List ℕ)
-    × IsDueOf (before_findings several name) asked parameters sound contents (Ok plain)
-    × (out ≡ result_of_file several asked name plain)
+    × IsDueOf (before_findings several name) action passed contents (Ok plain)
+    × (out ≡ result_of_file several action name plain)
 
 -- the line on the fault of a file
 abbrev pub file_line : List ℕ → List ℕ → List ℕ

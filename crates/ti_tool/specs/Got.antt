@@ -7,7 +7,7 @@ use Rattle.ti_words.specs.declared.Flag.{Flag}
 use Rattle.ti_words.specs.declared.Flag.TheVariants as flags
 use Rattle.ti_words.specs.declared.Number.{Number}
 use Rattle.ti_words.specs.declared.Number.TheVariants as numbers
-use Rattle.ti_words.specs.Texts.{AbsentText, CancelledText, TextOf}
+use Rattle.ti_words.specs.Texts.{TextOf}
 use Rattle.ti_words.specs.Value.{EntryValue}
 use Rattle.ti_cap.specs.declared.language.CapRefused.{CapRefused}
 use Rattle.ti_cap.specs.Refusal.{IsFaultless, IsRefusal}
@@ -24,6 +24,7 @@ use Rattle.ti_line.specs.declared.request.Get.{Get}
 use Rattle.ti_line.specs.Options.{output_bytes}
 use Rattle.ti_tool.specs.Expansions.{IsPadded}
 use Rattle.ti_tool.specs.ItemNames.{IsItemCalled}
+use Rattle.ti_tool.specs.declared.item_name.Names.TheVariants.{All}
 use Rattle.ti_tool.specs.declared.fault.ToolFault.{ToolFault}
 use Rattle.ti_tool.specs.declared.fault.ToolFault.TheVariants as fault
 
@@ -32,8 +33,7 @@ use Rattle.ti_tool.specs.declared.fault.ToolFault.TheVariants as fault
 -- a word without a mark is a text if the capability takes this parameter, counted from 1, as one on some
 -- path, and else its number
 abbrev pub IsTaken : List ℕ → ℕ → Param → Value → Type 0
-IsTaken capability which (params.Number z) value = value ≡ values.Num z
-IsTaken capability which (params.Text t) value = value ≡ values.Text t
+IsTaken capability which (params.Value taken) value = value ≡ taken
 IsTaken capability which (params.Either z t) value =
     (IsTakenAsText capability which × (value ≡ values.Text t))
     ⊎ ((¬ IsTakenAsText capability which) × (value ≡ values.Num z))
@@ -101,15 +101,12 @@ abbrev pub IsValueResult : Option ItemValue → Get → Bool → Result (List �
 IsValueResult (Some (FlagItem flag)) g set answer = (set ≡ is_set flag) × (answer ≡ Ok [])
 IsValueResult (Some (NumberItem number)) g set answer =
     (set ≡ true) × (answer ≡ Ok (number_result number))
-IsValueResult (Some (TextItem AbsentText)) g set answer =
-    (set ≡ true) × (answer ≡ Err fault.NoSuchText)
-IsValueResult (Some (TextItem CancelledText)) g set answer =
-    (set ≡ true) × (answer ≡ Err fault.NoSuchText)
 IsValueResult (Some (TextItem (TextOf text))) g set answer =
     (set ≡ true) × IsTextResult text g.given g.padding g.output answer
+IsValueResult (Some (TextItem text)) g set answer = (set ≡ true) × (answer ≡ Err fault.NoSuchText)
 IsValueResult None g set answer = (set ≡ true) × (answer ≡ Err fault.NoSuchName)
 
 -- what is due for the capability of an entry that the name means
 abbrev pub IsGot : Get → Bool → EntryValue → Result (List ℕ) ToolFault → Type 0
 IsGot g set v answer =
-    (item : Option ItemValue) × IsItemCalled g.name.now v item × IsValueResult item g set answer
+    (item : Option ItemValue) × IsItemCalled All g.name.now v item × IsValueResult item g set answer

@@ -1,29 +1,74 @@
 -- Which capability of an entry a name means, and its value.
-use Rattle.std.specs.Prelude.{◌≡◌, ◌⊎◌, ℕ, List, ◌++◌, Option, Some, option_map}
+use Rattle.std.specs.Prelude.{◌≡◌, ◌≤◌, ◌⊎◌, ℕ, List, [], ◌++◌, length, codes, Option, Some, None, option_map}
+use Rattle.std.specs.Str.Parse.{IsNumeral, digits_value}
 use Rattle.ti_words.specs.Items.{ItemValue}
 use Rattle.ti_words.specs.declared.Kind.{Kind}
-use Rattle.ti_words.specs.Value.{EntryValue}
-use Rattle.ti_entry.specs.Finding.{IsPosition}
+use Rattle.ti_words.specs.declared.Kind.TheVariants as kinds
+use Rattle.ti_words.specs.Value.{NamedPart, EntryValue}
+use Rattle.ti_names.specs.AllNames.{Place, place_in}
+use Rattle.ti_entry.specs.Finding.{IsFirstNamed, standard_place}
 use Rattle.ti_entry.specs.declared.finding.Position.{Position}
-use Rattle.ti_entry.specs.declared.finding.Position.TheVariants.{Standard}
+use Rattle.ti_entry.specs.declared.finding.Position.TheVariants.{Standard, Extended}
 use Rattle.ti_entry.specs.Items.{item_at}
 use Rattle.ti_json.specs.Objects.{kind_word}
-use Rattle.ti_tool.specs.Names.{IsLabel}
+use Rattle.ti_tool.specs.declared.item_name.Names.{Names}
+use Rattle.ti_tool.specs.declared.item_name.Names.TheVariants.{Texts, All}
 
--- `flag`, `number` or `text`, then `#` and an index, such as `text#10`
-abbrev pub IsKindLabel : List ℕ → Kind → ℕ → Type 0
-IsKindLabel name kind index =
-    (label : List ℕ) × (name ≡ kind_word kind ++ label) × IsLabel label index
+-- ---- labels
 
--- the place that such a name tells, or else that of the capability with the name: a short name of
--- terminfo(5), a long one, or an extended one
-abbrev pub IsPlaceCalled : List ℕ → EntryValue → Option Position → Type 0
-IsPlaceCalled name v place =
-    ((kind : Kind) × (index : ℕ) × IsKindLabel name kind index
+-- `#` and one to five digits
+abbrev pub IsLabel : List ℕ → ℕ → Type 0
+IsLabel name index =
+    (digits : List ℕ) × (name ≡ codes "#" ++ digits) × IsNumeral 10 digits × (length digits ≤ 5)
+    × (index ≡ digits_value 10 digits)
+
+-- the word of a kind stands before a label, and none if a name may mean a text alone
+abbrev pub HasKind : Names → List ℕ → Kind → List ℕ → Type 0
+HasKind (Texts table) name kind label = (kind ≡ kinds.Text) × (name ≡ label)
+HasKind All name kind label = name ≡ kind_word kind ++ label
+
+-- the kind and the index of a label, such as `text#10`
+abbrev pub IsKindLabel : Names → List ℕ → Kind → ℕ → Type 0
+IsKindLabel names name kind index =
+    (label : List ℕ) × HasKind names name kind label × IsLabel label index
+
+-- ---- names
+
+-- a place if it is one of a text
+abbrev pub only_text : Option Place → Option Place
+only_text (Some (kinds.Text, index)) = Some (kinds.Text, index)
+only_text _ = None
+
+-- the standard capability with a name: a text in the table, or one with that short or long name
+abbrev pub place_by : Names → List ℕ → Option Place
+place_by (Texts table) name = only_text (place_in table name)
+place_by All name = standard_place name
+
+-- the extended capabilities that a name may mean
+abbrev pub named_by : Names → NamedPart → NamedPart
+named_by (Texts table) p = record { flags = []; numbers = []; texts = p.texts }
+named_by All p = p
+
+-- where an entry has the capability with a name: a standard one comes before the entry's own
+abbrev pub IsPositionBy : Names → EntryValue → List ℕ → Option Position → Type 0
+IsPositionBy names v name None =
+    (place_by names name ≡ None) × IsFirstNamed (named_by names v.extended) name None
+IsPositionBy names v name (Some (Standard kind i)) = place_by names name ≡ Some (kind, i)
+IsPositionBy names v name (Some (Extended kind i)) =
+    (place_by names name ≡ None) × IsFirstNamed (named_by names v.extended) name (Some (kind, i))
+
+-- ---- the capability
+
+-- the place of a label, or else that of the capability with the name
+abbrev pub IsPlaceCalled : Names → List ℕ → EntryValue → Option Position → Type 0
+IsPlaceCalled names name v place =
+    ((kind : Kind) × (index : ℕ) × IsKindLabel names name kind index
     × (place ≡ Some (Standard kind index)))
-    ⊎ (((kind : Kind) (index : ℕ) → ¬ IsKindLabel name kind index) × IsPosition v name place)
+    ⊎ (((kind : Kind) (index : ℕ) → ¬ IsKindLabel names name kind index)
+    × IsPositionBy names v name place)
 
 -- the value of the capability that a name means, or none if nothing has the name
-abbrev pub IsItemCalled : List ℕ → EntryValue → Option ItemValue → Type 0
-IsItemCalled name v item =
-    (place : Option Position) × IsPlaceCalled name v place × (item ≡ option_map (item_at v) place)
+abbrev pub IsItemCalled : Names → List ℕ → EntryValue → Option ItemValue → Type 0
+IsItemCalled names name v item =
+    (place : Option Position) × IsPlaceCalled names name v place
+    × (item ≡ option_map (item_at v) place)

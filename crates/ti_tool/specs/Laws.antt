@@ -1,22 +1,21 @@
 -- What holds of the results of the calls, whatever they read.
-use Rattle.std.specs.Prelude.{◌≡◌, ◌≢◌, ◌⊎◌, List, [], ℕ, Bool, Some, Result, Ok}
+use Rattle.std.specs.Prelude.{◌≡◌, ◌≢◌, ◌⊎◌, List, [], ◌∷◌, ℕ, Bool, Some, Result, Ok, map}
 use Rattle.ti_words.specs.declared.Width.TheVariants.{Legacy, Wide}
 use Rattle.ti_words.specs.Value.{EntryValue}
 use Rattle.ti_words.specs.Spelling.{Spells}
 use Rattle.ti_draft.specs.Canonical.{canonical}
-use Rattle.ti_expand.specs.declared.values.Value.{Value}
 use Rattle.ti_line.specs.declared.options.Comparison.{Comparison}
 use Rattle.ti_line.specs.declared.options.Likeness.{Likeness}
-use Rattle.ti_line.specs.declared.request.Asked.{Asked}
-use Rattle.ti_line.specs.declared.request.OfEntry.{OfEntry}
-use Rattle.ti_line.specs.declared.request.Asked.TheVariants.{Entry}
+use Rattle.ti_line.specs.declared.request.Action.{Action}
+use Rattle.ti_line.specs.declared.request.Action.TheVariants.{Entry}
 use Rattle.ti_tool.specs.declared.fault.ToolFault.{ToolFault}
 use Rattle.ti_tool.specs.Comparisons.{IsCompared}
 use Rattle.ti_tool.specs.declared.fault.ToolFault.TheVariants as fault
-use Rattle.ti_tool.specs.FaultLines.{asked_line}
-use Rattle.ti_tool.specs.FileRuns.{IsOutcomeOfContents, Job}
+use Rattle.ti_tool.specs.FaultLines.{action_line}
+use Rattle.ti_tool.specs.FileRuns.{DidFiles, DoneFile, IsOutcomeOfContents, IsOutcomeOfInput, Job, Supply, greatest_status}
 use Rattle.ti_tool.specs.Files.{file_line}
 use Rattle.ti_tool.specs.Results.{Finds, IsAnswer, IsConverted}
+use Rattle.ti_tool.specs.Streams.{KnownFiles, Streams}
 
 -- if an entry of the legacy format is widened, and what is written narrowed again, its canonical
 -- bytes come out
@@ -25,18 +24,18 @@ WideAndBack = (input wide back : List ℕ) (v : EntryValue) → Spells input v �
     → IsConverted (Some Wide) input (Ok wide) → IsConverted (Some Legacy) wide (Ok back)
     → back ≡ canonical v
 
--- at most one result or fault is due for what is asked, the parameters and the bytes that are read
+-- at most one result or fault is due for an action and the bytes that are read
 abbrev pub HasOneAnswer : Type 0
-HasOneAnswer = (asked : Asked) (parameters : List Value) (input : List ℕ)
-    (sound other_sound : Bool) (one other : Result (List ℕ) ToolFault)
-    → IsAnswer asked parameters sound input one → IsAnswer asked parameters other_sound input other
+HasOneAnswer = (action : Action) (input : List ℕ)
+    (passed other_passed : Bool) (one other : Result (List ℕ) ToolFault)
+    → IsAnswer action passed input one → IsAnswer action other_passed input other
     → one ≡ other
 
 -- and something is wrong in what was read, or a flag is not set, or that is not so
 abbrev pub HasOneVerdict : Type 0
-HasOneVerdict = (asked : Asked) (parameters : List Value) (input one other : List ℕ) (sound other_sound : Bool)
-    → IsAnswer asked parameters sound input (Ok one) → IsAnswer asked parameters other_sound input (Ok other)
-    → Finds asked sound → Finds asked other_sound → sound ≡ other_sound
+HasOneVerdict = (action : Action) (input one other : List ℕ) (passed other_passed : Bool)
+    → IsAnswer action passed input (Ok one) → IsAnswer action other_passed input (Ok other)
+    → Finds action passed → Finds action other_passed → passed ≡ other_passed
 
 -- two runs write the same bytes and the same line on a fault, and end with the same status
 abbrev pub AreOne : List ℕ → List ℕ → List ℕ → List ℕ → ℕ → ℕ → Type 0
@@ -51,13 +50,13 @@ DiffHasOneResult = (by : Likeness) (form : Comparison) (file other one two : Lis
     → AreOne out outs line lines status code
 
 -- the line on a name that nothing has, without the names that are near
-abbrev pub untold_line : OfEntry → List ℕ → List ℕ
-untold_line e name = file_line name (asked_line (Entry e) [] fault.NoSuchName)
+abbrev pub untold_line : Action → (List ℕ → List ℕ) → List ℕ
+untold_line action called = called (action_line action [] fault.NoSuchName)
 
 -- two lines are one, unless memory was refused for the names that are near in one of them
-abbrev pub AreOneLine : OfEntry → List ℕ → List ℕ → List ℕ → Type 0
-AreOneLine e name line other =
-    (line ≡ other) ⊎ ((line ≡ untold_line e name) ⊎ (other ≡ untold_line e name))
+abbrev pub AreOneLine : Action → (List ℕ → List ℕ) → List ℕ → List ℕ → Type 0
+AreOneLine action called line other =
+    (line ≡ other) ⊎ ((line ≡ untold_line action called) ⊎ (other ≡ untold_line action called))
 
 -- the contents of a file lead to one result, status and line, if memory is not refused
 abbrev pub FileHasOneResult : Type 0
@@ -65,4 +64,26 @@ FileHasOneResult = (job : Job) (name contents out outs line lines : List ℕ) (s
     → status ≢ 6 → code ≢ 6
     → IsOutcomeOfContents job name contents out line status
     → IsOutcomeOfContents job name contents outs lines code
-    → (out ≡ outs) × (status ≡ code) × AreOneLine job.e name line lines
+    → (out ≡ outs) × (status ≡ code) × AreOneLine (Entry job.e) (file_line name) line lines
+
+-- so does what is read of standard input
+abbrev pub InputHasOneResult : Type 0
+InputHasOneResult = (action : Action) (supply : Supply) (out outs line lines : List ℕ) (status code : ℕ)
+    → status ≢ 6 → code ≢ 6
+    → IsOutcomeOfInput action supply out line status → IsOutcomeOfInput action supply outs lines code
+    → (out ≡ outs) × (status ≡ code) × AreOneLine action (λ told. told) line lines
+
+-- memory was not refused
+abbrev pub HadMemory : List DoneFile → Type 0
+HadMemory [] = Unit {0}
+HadMemory (done ∷ dones) = (done.status ≢ 6) × HadMemory dones
+
+-- runs over the same files with the same contents write the same results and end with the same status
+abbrev pub RunsHaveOneResult : Type 0
+RunsHaveOneResult = (known other : KnownFiles) (job : Job) (a b c d : Streams) (dones others : List DoneFile)
+    → DidFiles known job a b dones → DidFiles other job c d others
+    → map (λ done. done.file.name) dones ≡ map (λ done. done.file.name) others
+    → map (λ done. done.supply) dones ≡ map (λ done. done.supply) others
+    → HadMemory dones → HadMemory others
+    → (map (λ done. done.out) dones ≡ map (λ done. done.out) others)
+    × (greatest_status dones ≡ greatest_status others)

@@ -1,5 +1,4 @@
 pub mod Documents
-pub mod Names
 pub mod Verdicts
 pub mod ItemNames
 pub mod Expansions
@@ -14,6 +13,7 @@ pub mod FaultLines
 pub mod Files
 pub mod Streams
 pub mod Statuses
+pub mod Summaries
 pub mod FileRuns
 pub mod Comparisons
 pub mod Runs

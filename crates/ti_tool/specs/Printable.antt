@@ -17,7 +17,9 @@ use Rattle.ti_line.specs.declared.options.Naming.{Naming}
 use Rattle.ti_line.specs.declared.options.Output.TheVariants as outputs
 use Rattle.ti_line.specs.declared.request.Get.{Get}
 use Rattle.ti_line.specs.declared.options.Document.{Document}
+use Rattle.ti_line.specs.declared.request.EntryAction.TheVariants as of_entry
 use Rattle.ti_tool.specs.Documents.{IsDocument, in_object}
+use Rattle.ti_tool.specs.Files.{IsDueOfFile}
 use Rattle.ti_tool.specs.Got.{IsGot}
 use Rattle.ti_tool.specs.Results.{IsCappedAs, IsDueFor, IsDueFrom, IsJudgement, IsListed}
 
@@ -63,18 +65,18 @@ ShowIsPrintable = (options : ListOptions) (input out : List ℕ) → options.for
 
 -- a document of JSON is one line, with no option
 abbrev pub JsonIsPrintable : Type 0
-JsonIsPrintable = (document : Document) (sound : Bool) (input out : List ℕ)
-    → IsDueFrom (IsDocument document sound input) input (Ok out) → ArePrintableLines 1 out
+JsonIsPrintable = (document : Document) (passed : Bool) (input out : List ℕ)
+    → IsDueFrom (IsDocument document passed input) input (Ok out) → ArePrintableLines 1 out
 
 -- of one of several files too
 abbrev pub ObjectIsPrintable : Type 0
-ObjectIsPrintable = (document : Document) (sound : Bool) (name input out : List ℕ)
-    → IsDueFrom (IsDocument document sound input) input (Ok out)
+ObjectIsPrintable = (document : Document) (passed : Bool) (name input out : List ℕ)
+    → IsDueFrom (IsDocument document passed input) input (Ok out)
     → ArePrintableLines 1 (in_object document name out)
 
 abbrev pub CheckIsPrintable : Type 0
-CheckIsPrintable = (naming : Naming) (input out : List ℕ) (sound : Bool)
-    → naming.form ≡ name_forms.Notation → IsDueFrom (IsJudgement naming sound) input (Ok out)
+CheckIsPrintable = (naming : Naming) (input out : List ℕ) (passed : Bool)
+    → naming.form ≡ name_forms.Notation → IsDueFrom (IsJudgement naming passed) input (Ok out)
     → (v : EntryValue) × Spells input v × ArePrintableLines (checked_lines v) out
 
 abbrev pub CapIsPrintable : Type 0
@@ -92,3 +94,18 @@ abbrev pub GetIsPrintable : Type 0
 GetIsPrintable = (g : Get) (set : Bool) (input out : List ℕ)
     → g.output ≡ outputs.Line forms.Notation → IsDueFrom (IsGot g set) input (Ok out)
     → ArePrintableLines 0 out ⊎ ArePrintableLines 1 out
+
+-- ---- of one of several files
+
+-- the listing comes after a line with the name of the file
+abbrev pub ShowOfSeveralIsPrintable : Type 0
+ShowOfSeveralIsPrintable = (options : ListOptions) (name input out : List ℕ) (passed : Bool)
+    → options.form ≡ forms.Notation → options.naming.form ≡ name_forms.Notation
+    → IsDueOfFile true (of_entry.Show options) name passed input out
+    → (v : EntryValue) × Spells input v × ArePrintableLines (1 + listed_lines v) out
+
+-- each verdict comes after the name
+abbrev pub CheckOfSeveralIsPrintable : Type 0
+CheckOfSeveralIsPrintable = (naming : Naming) (name input out : List ℕ) (passed : Bool)
+    → naming.form ≡ name_forms.Notation → IsDueOfFile true (of_entry.Check naming) name passed input out
+    → (v : EntryValue) × Spells input v × ArePrintableLines (checked_lines v) out

@@ -1,5 +1,5 @@
 -- What each call of the program makes of the bytes that it read.
-use Rattle.std.specs.Prelude.{◌≡◌, ◌⊎◌, ◌==◌, ℕ, Bool, true, false, List, [], Result, Ok, Err, Some, None, Option, length}
+use Rattle.std.specs.Prelude.{◌≡◌, ◌⊎◌, ◌==◌, ℕ, Bool, true, false, List, [], Result, Ok, Err, Some, None, Option, length, option_and_then}
 use Rattle.ti_cap.specs.Refusal.{IsFaultless}
 use Rattle.ti_expand.specs.declared.values.Value.{Value}
 use Rattle.ti_layout.specs.declared.fault.Refused.{Refused}
@@ -9,17 +9,17 @@ use Rattle.ti_layout.specs.Refusal.{refusal}
 use Rattle.ti_names.specs.declared.name_table.NameTable.{NameTable}
 use Rattle.ti_names.specs.declared.name_table.NameTable.TheVariants as tables
 use Rattle.ti_words.specs.declared.Width.{Width}
-use Rattle.ti_words.specs.Texts.{TextValue, AbsentText, CancelledText, TextOf}
+use Rattle.ti_words.specs.Items.{ItemValue, text_in}
 use Rattle.ti_pad.specs.Setting.{Setting}
 use Rattle.ti_draft.specs.Canonical.{canonical}
 use Rattle.ti_draft.specs.EncodeFaults.{encode_fault}
 use Rattle.ti_line.specs.declared.options.ListOptions.{ListOptions}
 use Rattle.ti_line.specs.declared.options.Naming.{Naming}
 use Rattle.ti_line.specs.declared.options.Output.{Output}
-use Rattle.ti_line.specs.Options.{list_options, naming_asked, output_asked, output_bytes}
+use Rattle.ti_line.specs.Options.{list_options, naming_of, output_of, output_bytes}
 pub use Rattle.ti_tool.specs.Expansions.{IsExpansion, IsPadded, IsUnexpanded}
 use Rattle.ti_escape.specs.declared.color.Color.{Color}
-use Rattle.ti_lint.specs.declared.level.Level.{Level}
+use Rattle.ti_lint.specs.declared.lint_options.LintOptions.{LintOptions}
 use Rattle.ti_report.specs.Reports.{AreLines}
 use Rattle.ti_tool.specs.Got.{IsGot}
 pub use Rattle.ti_tool.specs.Traces.{IsTraced, IsTracedOf}
@@ -27,13 +27,14 @@ use Rattle.ti_tool.specs.Sources.{IsDueForSource}
 use Rattle.ti_tool.specs.Verdicts.{AreVerdicts}
 use Rattle.ti_tool.specs.Documents.{FindsIn, IsDocument}
 use Rattle.ti_listing.specs.Listing.{entry_lines}
-use Rattle.ti_tool.specs.Names.{IsCalled}
-use Rattle.ti_line.specs.declared.request.Asked.{Asked}
-use Rattle.ti_line.specs.declared.request.Asked.TheVariants.{Capability, Difference, Entry, Source}
-use Rattle.ti_line.specs.declared.request.OfCapability.{OfCapability}
-use Rattle.ti_line.specs.declared.request.OfCapability.TheVariants as of_cap
-use Rattle.ti_line.specs.declared.request.OfEntry.{OfEntry}
-use Rattle.ti_line.specs.declared.request.OfEntry.TheVariants as of_entry
+use Rattle.ti_tool.specs.ItemNames.{IsItemCalled}
+use Rattle.ti_tool.specs.declared.item_name.Names.TheVariants.{Texts}
+use Rattle.ti_line.specs.declared.request.Action.{Action}
+use Rattle.ti_line.specs.declared.request.Action.TheVariants.{Capability, Difference, Entry, Source}
+use Rattle.ti_line.specs.declared.request.CapabilityResult.{CapabilityResult}
+use Rattle.ti_line.specs.declared.request.CapabilityResult.TheVariants as of_cap
+use Rattle.ti_line.specs.declared.request.EntryAction.{EntryAction}
+use Rattle.ti_line.specs.declared.request.EntryAction.TheVariants as of_entry
 use Rattle.ti_tool.specs.declared.fault.ToolFault.{ToolFault}
 use Rattle.ti_tool.specs.declared.fault.ToolFault.TheVariants as fault
 
@@ -46,20 +47,20 @@ IsCappedAs parameters output input (Err e) = IsUnexpanded input parameters e
 
 -- its bytes, or the same in hex
 abbrev pub IsCapped : List Value → Bool → List ℕ → Result (List ℕ) ToolFault → Type 0
-IsCapped parameters hex = IsCappedAs parameters (output_asked hex false)
+IsCapped parameters hex = IsCappedAs parameters (output_of hex false)
 
 -- what is due for a text, or for none
-abbrev pub IsDue : TextValue → List Value → Setting → Output → Result (List ℕ) ToolFault → Type 0
-IsDue (TextOf text) parameters setting output answer =
+abbrev pub IsDue : Option (List ℕ) → List Value → Setting → Output → Result (List ℕ) ToolFault → Type 0
+IsDue (Some text) parameters setting output answer =
     IsPadded text parameters setting output answer
-IsDue AbsentText parameters setting output answer = answer ≡ Err fault.NoSuchText
-IsDue CancelledText parameters setting output answer = answer ≡ Err fault.NoSuchText
+IsDue None parameters setting output answer = answer ≡ Err fault.NoSuchText
 
--- what is due for the text of an entry that a name stands for
+-- what is due for the text of an entry that a name means
 abbrev pub IsDueFor : NameTable → List ℕ → List Value → Setting → Output → EntryValue
     → Result (List ℕ) ToolFault → Type 0
 IsDueFor names name parameters setting output v answer =
-    (text : TextValue) × IsCalled names name v text × IsDue text parameters setting output answer
+    (item : Option ItemValue) × IsItemCalled (Texts names) name v item
+    × IsDue (option_and_then text_in item) parameters setting output answer
 
 -- what is due for the bytes of an entry: their refusal, or what is due for the entry that they spell
 abbrev pub IsDueFrom : (EntryValue → Result (List ℕ) ToolFault → Type 0) → List ℕ
@@ -72,7 +73,7 @@ IsDueFrom due input answer =
 abbrev pub IsExpanded : List ℕ → List Value → Setting → Bool → List ℕ
     → Result (List ℕ) ToolFault → Type 0
 IsExpanded name parameters setting hex =
-    IsDueFrom (IsDueFor tables.Common name parameters setting (output_asked hex false))
+    IsDueFrom (IsDueFor tables.Common name parameters setting (output_of hex false))
 
 -- the lines of `show`
 abbrev pub IsListed : ListOptions → EntryValue → Result (List ℕ) ToolFault → Type 0
@@ -84,18 +85,18 @@ IsShown = IsDueFrom (IsListed (list_options false false false))
 
 -- the lines of `check`, which are those of sound texts alone or not
 abbrev pub IsJudgement : Naming → Bool → EntryValue → Result (List ℕ) ToolFault → Type 0
-IsJudgement naming sound v (Ok out) = AreVerdicts naming v out sound
-IsJudgement naming sound v (Err e) = ⊥
+IsJudgement naming passed v (Ok out) = AreVerdicts naming v out passed
+IsJudgement naming passed v (Err e) = ⊥
 
 -- by the common names, with names as they stand in the entry
 abbrev pub IsChecked : Bool → List ℕ → Result (List ℕ) ToolFault → Type 0
-IsChecked sound = IsDueFrom (IsJudgement (naming_asked false false false) sound)
+IsChecked passed = IsDueFrom (IsJudgement (naming_of false false false) passed)
 
 -- the lines of `lint` on what is wrong with an entry, with something before the first of each; nothing is wrong if there are none
-abbrev pub IsLinted : Level → Color → List ℕ → Bool → List ℕ → EntryValue → Result (List ℕ) ToolFault → Type 0
-IsLinted level color before sound input v (Ok lines) =
-    AreLines level color before input v lines × (sound ≡ (length lines == 0))
-IsLinted level color before sound input v (Err e) = ⊥
+abbrev pub IsLinted : LintOptions → Color → List ℕ → Bool → List ℕ → EntryValue → Result (List ℕ) ToolFault → Type 0
+IsLinted options color before passed input v (Ok lines) =
+    AreLines options color before input v lines × (passed ≡ (length lines == 0))
+IsLinted options color before passed input v (Err e) = ⊥
 
 -- the canonical bytes of an entry, or why it has none
 abbrev pub IsEncoding : EntryValue → Result (List ℕ) ToolFault → Type 0
@@ -115,39 +116,39 @@ IsConverted width = IsDueFrom (λ v. IsEncoding (in_width width v))
 -- ---- what is due for a request
 
 -- on a capability
-abbrev pub IsOutputOf : OfCapability → List Value → List ℕ → Result (List ℕ) ToolFault → Type 0
+abbrev pub IsOutputOf : CapabilityResult → List Value → List ℕ → Result (List ℕ) ToolFault → Type 0
 IsOutputOf (of_cap.Cap output) parameters = IsCappedAs parameters output
 IsOutputOf (of_cap.Trace form) parameters = IsTraced parameters form
 
 -- on an entry that is sound or not, or whose flag is set or not, which the bytes spell, with something before each finding
-abbrev pub IsDueIn : List ℕ → OfEntry → List Value → Bool → List ℕ → EntryValue
+abbrev pub IsDueIn : List ℕ → EntryAction → Bool → List ℕ → EntryValue
     → Result (List ℕ) ToolFault → Type 0
-IsDueIn before (of_entry.Show options) parameters sound input = IsListed options
-IsDueIn before (of_entry.Json document) parameters sound input = IsDocument document sound input
-IsDueIn before (of_entry.Check naming) parameters sound input = IsJudgement naming sound
-IsDueIn before (of_entry.Lint level color) parameters sound input = IsLinted level color before sound input
-IsDueIn before (of_entry.Expand e) parameters sound input =
-    IsDueFor e.name.names e.name.name.now parameters e.padding e.output
-IsDueIn before (of_entry.Convert width) parameters sound input = λ v. IsEncoding (in_width width v)
-IsDueIn before (of_entry.Get g) parameters sound input = IsGot g sound
-IsDueIn before (of_entry.Trace t) parameters sound input = IsTracedOf t
+IsDueIn before (of_entry.Show options) passed input = IsListed options
+IsDueIn before (of_entry.Json document) passed input = IsDocument document passed input
+IsDueIn before (of_entry.Check naming) passed input = IsJudgement naming passed
+IsDueIn before (of_entry.Lint options color) passed input = IsLinted options color before passed input
+IsDueIn before (of_entry.Expand e) passed input =
+    IsDueFor e.name.names e.name.name.now e.parameters.values e.padding e.output
+IsDueIn before (of_entry.Convert width) passed input = λ v. IsEncoding (in_width width v)
+IsDueIn before (of_entry.Get g) passed input = IsGot g passed
+IsDueIn before (of_entry.Trace t) passed input = IsTracedOf t
 
 -- on the bytes of an entry
-abbrev pub IsDueOf : List ℕ → OfEntry → List Value → Bool → List ℕ → Result (List ℕ) ToolFault
+abbrev pub IsDueOf : List ℕ → EntryAction → Bool → List ℕ → Result (List ℕ) ToolFault
     → Type 0
-IsDueOf before e parameters sound input = IsDueFrom (IsDueIn before e parameters sound input) input
+IsDueOf before e passed input = IsDueFrom (IsDueIn before e passed input) input
 
 -- on the bytes that were read; two files are compared by a run alone, which reads them
-abbrev pub IsAnswer : Asked → List Value → Bool → List ℕ → Result (List ℕ) ToolFault → Type 0
-IsAnswer (Capability c) parameters sound = IsOutputOf c parameters
-IsAnswer (Source c) parameters sound = IsDueForSource (IsOutputOf c parameters)
-IsAnswer (Entry e) parameters sound = IsDueOf [] e parameters sound
-IsAnswer (Difference d) parameters sound = λ input answer. ⊥
+abbrev pub IsAnswer : Action → Bool → List ℕ → Result (List ℕ) ToolFault → Type 0
+IsAnswer (Capability c) passed = IsOutputOf c.result c.parameters.values
+IsAnswer (Source c) passed = IsDueForSource (IsOutputOf c.result c.parameters.values)
+IsAnswer (Entry e) passed = IsDueOf [] e passed
+IsAnswer (Difference d) passed = λ input answer. ⊥
 
 -- only `check`, also as JSON, and `lint` find that something is wrong, and only `get` that a flag is not set
-abbrev pub Finds : Asked → Bool → Type 0
-Finds (Entry (of_entry.Json document)) sound = FindsIn document sound
-Finds (Entry (of_entry.Check naming)) sound = Unit {0}
-Finds (Entry (of_entry.Lint level color)) sound = Unit {0}
-Finds (Entry (of_entry.Get g)) sound = Unit {0}
-Finds _ sound = sound ≡ true
+abbrev pub Finds : Action → Bool → Type 0
+Finds (Entry (of_entry.Json document)) passed = FindsIn document passed
+Finds (Entry (of_entry.Check naming)) passed = Unit {0}
+Finds (Entry (of_entry.Lint options color)) passed = Unit {0}
+Finds (Entry (of_entry.Get g)) passed = Unit {0}
+Finds _ passed = passed ≡ true

@@ -1,7 +1,7 @@
 -- What `trace` makes of a capability, and of one of an entry.
 use Rattle.std.specs.Prelude.{◌≡◌, ◌++◌, ℕ, List, codes, Option, Some, None, Result, Ok, Err, pos, replicate}
-use Rattle.ti_words.specs.Items.{FlagItem, ItemValue, NumberItem, TextItem}
-use Rattle.ti_words.specs.Texts.{AbsentText, CancelledText, TextOf}
+use Rattle.ti_words.specs.Items.{ItemValue, TextItem}
+use Rattle.ti_words.specs.Texts.{TextOf}
 use Rattle.ti_words.specs.Value.{EntryValue}
 use Rattle.ti_cap.specs.Refusal.{IsFaultless}
 use Rattle.ti_expand.specs.declared.values.Value.{Value}
@@ -16,6 +16,7 @@ use Rattle.ti_line.specs.declared.request.TraceOf.{TraceOf}
 use Rattle.ti_tool.specs.Expansions.{IsUnexpanded}
 use Rattle.ti_tool.specs.Got.{IsDueBy}
 use Rattle.ti_tool.specs.ItemNames.{IsItemCalled}
+use Rattle.ti_tool.specs.declared.item_name.Names.TheVariants.{All}
 use Rattle.ti_tool.specs.declared.fault.ToolFault.{ToolFault}
 use Rattle.ti_tool.specs.declared.fault.ToolFault.TheVariants as fault
 
@@ -40,16 +41,13 @@ abbrev pub IsTracedBy : List ℕ → Option Given → TraceForm → Result (List
 IsTracedBy text None form = IsTraced no_values form text
 IsTracedBy text (Some given) form = IsDueBy text given (λ parameters. IsTraced parameters form text)
 
--- that of the text that a value is; a flag and a number are no text
+-- that of the text that a value is, if it is one that is there
 abbrev pub IsTracedValue : Option ItemValue → TraceOf → Result (List ℕ) ToolFault → Type 0
 IsTracedValue (Some (TextItem (TextOf text))) t answer = IsTracedBy text t.given t.form answer
-IsTracedValue (Some (TextItem AbsentText)) t answer = answer ≡ Err fault.NoSuchText
-IsTracedValue (Some (TextItem CancelledText)) t answer = answer ≡ Err fault.NoSuchText
-IsTracedValue (Some (FlagItem flag)) t answer = answer ≡ Err fault.NoSuchText
-IsTracedValue (Some (NumberItem number)) t answer = answer ≡ Err fault.NoSuchText
+IsTracedValue (Some item) t answer = answer ≡ Err fault.NoSuchText
 IsTracedValue None t answer = answer ≡ Err fault.NoSuchName
 
 -- that of the capability of an entry that the name means
 abbrev pub IsTracedOf : TraceOf → EntryValue → Result (List ℕ) ToolFault → Type 0
 IsTracedOf t v answer =
-    (item : Option ItemValue) × IsItemCalled t.name.now v item × IsTracedValue item t answer
+    (item : Option ItemValue) × IsItemCalled All t.name.now v item × IsTracedValue item t answer

@@ -51,11 +51,11 @@ are_sound rows = list_all (λ row. is_sound row.1) rows
 
 -- the lines, and the objects
 abbrev pub AreVerdicts : Naming → EntryValue → List ℕ → Bool → Type 0
-AreVerdicts naming v out sound =
+AreVerdicts naming v out passed =
     (rows : List RowValue) × AreRows (items v) rows
-    × (out ≡ row_lines (record { naming = naming; form = forms.Notation }) rows) × (sound ≡ are_sound rows)
+    × (out ≡ row_lines (record { naming = naming; form = forms.Notation }) rows) × (passed ≡ are_sound rows)
 
 abbrev pub AreVerdictObjects : EntryValue → List Data → Bool → Type 0
-AreVerdictObjects v objects sound =
+AreVerdictObjects v objects passed =
     (rows : List RowValue) × AreRows (items v) rows
-    × (objects ≡ flat_map row_objects rows) × (sound ≡ are_sound rows)
+    × (objects ≡ flat_map row_objects rows) × (passed ≡ are_sound rows)

@@ -1,16 +1,17 @@
-//! What is asked, done: reading, and writing what is due.
+//! A request of what a reader gives: its output, and writing it.
 //!
 //! Nothing is written before the whole result is there: after a fault other than `Write` the writer is as it was.
 
-ghost use Rattle.std.specs.Prelude.{[], ◌⊎◌, ◌≡◌, IfErr, IfOk};
-ghost use Rattle.ti_line.specs.declared.request.Asked.TheVariants as asks;
-ghost use Rattle.ti_tool.specs.Calls.{DidCall, DidCheck, HasFailed, IsEnough, IsFailedWrite, IsFull, IsFullSource};
-ghost use Rattle.ti_tool.specs.Results.{Finds, IsAnswer, IsDueOf, IsOutputOf};
-ghost use Rattle.ti_tool.specs.Sources.{IsDueForSource};
-ghost use Rattle.ti_tool.specs.inner.Kept.{IsKept};
+ghost use Rattle.std.specs.Prelude.{◌⊎◌, ◌≡◌, ℕ, List, IfErr, IfOk, MatchResult, true};
+ghost use Rattle.ti_line.specs.declared.request.Action.TheVariants.{Capability, Entry, Source};
+ghost use Rattle.ti_tool.specs.Calls.{DidCheck, IsEnough, IsFailedWrite};
+ghost use Rattle.ti_tool.specs.FileRuns.{IsInput, Supply};
+ghost use Rattle.ti_tool.specs.Results.{Finds, IsAnswer};
+ghost use Rattle.ti_tool.specs.inner.Answered.{HasFault, HasOutput};
+ghost use Rattle.ti_entry.specs.Reading.{new_reading};
 ghost use Rattle.ti_entry.specs.Reading.{new_reading};
 
-use crate::command::{answer_of_capability, answer_of_entry, answer_of_source};
+use crate::command::{Answer, answer_of_capability, answer_of_entry, answer_of_source};
 use crate::fault::ToolFault;
 use crate::result::write_result;
 use crate::source::{MOST_BYTES, MOST_CHARACTERS, read_up_to};
@@ -18,79 +19,112 @@ use arrayvec::ArrayVec;
 use std::alloc::Allocator;
 use std::io::{Read, Write};
 use ti_entry::{EntryReader, read_from};
-use ti_expand::Value;
-use ti_line::{Asked, OfCapability, OfEntry};
+use ti_line::{Action, CapabilityAction, EntryAction};
 use ti_report::Trials;
 
-/// Takes what the reader gives as one capability, each byte of it as it stands. At most 32768 bytes of the input are kept,
-/// which is one more than a capability may have.
-fn call_on_capability<A: Allocator + Copy, R: Read, W: Write>(
+/// The output of a request on what the reader gives as one capability, each byte of it as it stands. At most 32768 bytes of the
+/// input are kept, which is one more than a capability may have.
+fn answer_of_bytes<A: Allocator + Copy, R: Read>(
     alloc: A,
-    asked: OfCapability,
-    parameters: &[Value<'_>; 9],
+    action: &CapabilityAction<'_>,
     reader: &mut R,
-    writer: &mut W,
-) -> Result<(), ToolFault>
-    ensures did { DidCall (IsOutputOf asked parameters.now) IsFull
-        (R.remaining reader.old) (R.remaining reader.new)
-        (W.contents writer.old) (W.contents writer.new) result }
-    ensures unwritten { IfErr result (λ e. IsFailedWrite e ⊎ (writer.new ≡ writer.old)) }
+) -> Result<Answer<A>, ToolFault>
+    ensures finds { IfOk result (λ a. a.passed ≡ true) }
+    ensures answered { (kept : List ℕ) → (supply : Supply)
+        × IsInput (Capability action.now) (R.remaining reader.old) (R.remaining reader.new) supply
+        × MatchResult result
+        (λ a. HasOutput (Capability action.now) kept supply a.passed a.bytes.items)
+        (HasFault (Capability action.now) kept supply) }
 {
     let mut input: ArrayVec<u8, MOST_BYTES> = ArrayVec::new();
     read_up_to(&mut input, reader)?;
-    let result = answer_of_capability(alloc, asked, parameters, input.as_slice())?;
-    write_result(writer, result.as_slice())
+    let bytes = answer_of_capability(
+        alloc,
+        action.result,
+        &action.parameters.values,
+        input.as_slice(),
+    )?;
+    Ok(Answer {
+        bytes,
+        passed: true,
+    })
 }
 
-/// Takes what the reader gives as the notation of one capability. At most 131070 characters of the input are kept: those of
-/// the longest notation, a newline and one more.
-fn call_on_source<A: Allocator + Copy, R: Read, W: Write>(
+/// The output of a request on what the reader gives as the notation of one capability. At most 131070 characters of the input
+/// are kept: those of the longest notation, a newline and one more.
+fn answer_of_notation<A: Allocator + Copy, R: Read>(
     alloc: A,
-    asked: OfCapability,
-    parameters: &[Value<'_>; 9],
+    action: &CapabilityAction<'_>,
     reader: &mut R,
-    writer: &mut W,
-) -> Result<(), ToolFault>
-    ensures did { DidCall (IsDueForSource (IsOutputOf asked parameters.now)) IsFullSource
-        (R.remaining reader.old) (R.remaining reader.new)
-        (W.contents writer.old) (W.contents writer.new) result }
-    ensures unwritten { IfErr result (λ e. IsFailedWrite e ⊎ (writer.new ≡ writer.old)) }
+) -> Result<Answer<A>, ToolFault>
+    ensures finds { IfOk result (λ a. a.passed ≡ true) }
+    ensures answered { (kept : List ℕ) → (supply : Supply)
+        × IsInput (Source action.now) (R.remaining reader.old) (R.remaining reader.new) supply
+        × MatchResult result
+        (λ a. HasOutput (Source action.now) kept supply a.passed a.bytes.items)
+        (HasFault (Source action.now) kept supply) }
 {
     let mut input: ArrayVec<u8, MOST_CHARACTERS> = ArrayVec::new();
     read_up_to(&mut input, reader)?;
-    let result = answer_of_source(alloc, asked, parameters, input.as_mut_slice())?;
-    write_result(writer, result.as_slice())
+    let bytes = answer_of_source(
+        alloc,
+        action.result,
+        &action.parameters.values,
+        input.as_mut_slice(),
+    )?;
+    Ok(Answer {
+        bytes,
+        passed: true,
+    })
 }
 
-/// Takes what the reader gives as an entry, which is kept. The result is whether no text that was analysed has a fault, and
-/// no flag that was asked for is not set.
-fn call_on_entry<A: Allocator + Copy, R: Read, W: Write>(
+/// The output of a request on what the reader gives as an entry, which is kept.
+fn answer_of_kept<A: Allocator + Copy, R: Read>(
     alloc: A,
-    asked: &OfEntry<'_>,
-    parameters: &[Value<'_>; 9],
+    action: &EntryAction<'_>,
     kept: &mut EntryReader,
     reader: &mut R,
-    writer: &mut W,
-) -> Result<bool, ToolFault>
+) -> Result<Answer<A>, ToolFault>
     requires { kept.old ≡ new_reading }
-    ensures finds { IfOk result (Finds (asks.Entry asked.now)) }
-    ensures did { (did : DidCheck (λ sound. IsDueOf [] asked.now parameters.now sound) HasFailed
-        (R.remaining reader.old) (R.remaining reader.new)
-        (W.contents writer.old) (W.contents writer.new) result)
-        × IsKept (asks.Entry asked.now) kept.new.kept did.2.input result }
-    ensures unwritten { IfErr result (λ e. IsFailedWrite e ⊎ (writer.new ≡ writer.old)) }
+    ensures finds { IfOk result (λ a. Finds (Entry action.now) a.passed) }
+    ensures answered { (supply : Supply)
+        × IsInput (Entry action.now) (R.remaining reader.old) (R.remaining reader.new) supply
+        × MatchResult result
+        (λ a. HasOutput (Entry action.now) kept.new.kept supply a.passed a.bytes.items)
+        (HasFault (Entry action.now) kept.new.kept supply) }
 {
     read_from(kept, reader)?;
     let entry = kept.finish()?;
     let bytes = kept.bytes();
     let mut trials = Trials::new(alloc);
-    let answer = answer_of_entry(alloc, &mut trials, asked, parameters, b"", bytes, &entry)?;
-    write_result(writer, answer.bytes.as_slice())?;
-    Ok(answer.sound)
+    answer_of_entry(alloc, &mut trials, action, b"", bytes, &entry)
 }
 
-/// Does what is asked: what the reader gives is taken as one capability, as the notation of one or as an entry, and what is
-/// due for it is written. Each variable of a capability starts as 0. The result is false if `check` found a text with a fault,
+/// The output of a request on what the reader gives. The bytes of an entry are kept: a line on a fault may have its names.
+pub(crate) fn answer_of_input<A: Allocator + Copy, R: Read>(
+    alloc: A,
+    action: &Action<'_>,
+    kept: &mut EntryReader,
+    reader: &mut R,
+) -> Result<Answer<A>, ToolFault>
+    requires { kept.old ≡ new_reading }
+    ensures finds { IfOk result (λ a. Finds action.now a.passed) }
+    ensures answered { (supply : Supply)
+        × IsInput action.now (R.remaining reader.old) (R.remaining reader.new) supply
+        × MatchResult result
+        (λ a. HasOutput action.now kept.new.kept supply a.passed a.bytes.items)
+        (HasFault action.now kept.new.kept supply) }
+{
+    match action {
+        Action::Capability(action) => answer_of_bytes(alloc, action, reader),
+        Action::Source(action) => answer_of_notation(alloc, action, reader),
+        Action::Entry(action) => answer_of_kept(alloc, action, kept, reader),
+        Action::Difference(_) => Err(ToolFault::Read),
+    }
+}
+
+/// Carries out a request: what the reader gives is taken as one capability, as the notation of one or as an entry, and the
+/// output for it is written. Each variable of a capability starts as 0. The result is false if `check` found a text with a fault,
 /// `lint` something wrong, or `get` a flag that is not set.
 ///
 /// Nothing is written before the whole result is there: after a fault other than `Write` the writer is as it was.
@@ -104,49 +138,19 @@ fn call_on_entry<A: Allocator + Copy, R: Read, W: Write>(
 /// be more than 32768, which shared texts or wider numbers can lead to, `Write`; `Memory` if a growth is refused.
 pub fn carry_out<A: Allocator + Copy, R: Read, W: Write>(
     alloc: A,
-    asked: &Asked<'_>,
-    parameters: &[Value<'_>; 9],
+    action: &Action<'_>,
     reader: &mut R,
     writer: &mut W,
 ) -> Result<bool, ToolFault>
-    ensures finds { IfOk result (Finds asked.now) }
-    ensures did { DidCheck (IsAnswer asked.now parameters.now) (IsEnough asked.now)
+    ensures finds { IfOk result (Finds action.now) }
+    ensures did { DidCheck (IsAnswer action.now) (IsEnough action.now)
         (R.remaining reader.old) (R.remaining reader.new)
         (W.contents writer.old) (W.contents writer.new) result }
     // After a fault other than `Write` the writer is as it was.
     ensures unwritten { IfErr result (λ e. IsFailedWrite e ⊎ (writer.new ≡ writer.old)) }
 {
     let mut kept = EntryReader::new();
-    carry_out_keeping(alloc, asked, parameters, &mut kept, reader, writer)
-}
-
-/// [`carry_out`] with a new reader of entries, which keeps the bytes of an entry: a line on a fault may tell its names.
-pub(crate) fn carry_out_keeping<A: Allocator + Copy, R: Read, W: Write>(
-    alloc: A,
-    asked: &Asked<'_>,
-    parameters: &[Value<'_>; 9],
-    kept: &mut EntryReader,
-    reader: &mut R,
-    writer: &mut W,
-) -> Result<bool, ToolFault>
-    requires { kept.old ≡ new_reading }
-    ensures finds { IfOk result (Finds asked.now) }
-    ensures did { (did : DidCheck (IsAnswer asked.now parameters.now) (IsEnough asked.now)
-        (R.remaining reader.old) (R.remaining reader.new)
-        (W.contents writer.old) (W.contents writer.new) result)
-        × IsKept asked.now kept.new.kept did.2.input result }
-    ensures unwritten { IfErr result (λ e. IsFailedWrite e ⊎ (writer.new ≡ writer.old)) }
-{
-    match asked {
-        Asked::Capability(asked) => {
-            call_on_capability(alloc, *asked, parameters, reader, writer)?;
-            Ok(true)
-        }
-        Asked::Source(asked) => {
-            call_on_source(alloc, *asked, parameters, reader, writer)?;
-            Ok(true)
-        }
-        Asked::Entry(asked) => { call_on_entry(alloc, asked, parameters, kept, reader, writer) }
-        Asked::Difference(_) => Err(ToolFault::Read),
-    }
+    let answer = answer_of_input(alloc, action, &mut kept, reader)?;
+    write_result(writer, answer.bytes.as_slice())?;
+    Ok(answer.passed)
 }

@@ -10,14 +10,12 @@ use std::alloc::Allocator;
 use std::io::{Read, Write};
 use ti_expand::Value;
 use ti_line::{
-    Asked, Expand, OfCapability, OfEntry, TextName, list_options, naming_asked, output_asked,
+    Action, CapabilityAction, CapabilityResult, EntryAction, Expand, ParameterValues, TextName,
+    list_options, naming_of, output_of,
 };
 use ti_names::NameTable;
 use ti_pad::Padding;
 use ti_words::Width;
-
-/// What is handed over if there are no parameters.
-const NO_PARAMETERS: [Value<'static>; 9] = [Value::Num(0); 9];
 
 /// An answer without its value.
 fn without_value(answer: Result<bool, ToolFault>) -> Result<(), ToolFault>
@@ -44,8 +42,13 @@ pub fn cap_run<A: Allocator + Copy, R: Read, W: Write>(
     // After a fault other than `Write` the writer is as it was.
     ensures unwritten { IfErr result (λ e. IsFailedWrite e ⊎ (writer.new ≡ writer.old)) }
 {
-    let asked = Asked::Capability(OfCapability::Cap(output_asked(hex, false)));
-    without_value(carry_out(alloc, &asked, parameters, reader, writer))
+    let action = Action::Capability(CapabilityAction {
+        parameters: ParameterValues {
+            values: *parameters,
+        },
+        result: CapabilityResult::Cap(output_of(hex, false)),
+    });
+    without_value(carry_out(alloc, &action, reader, writer))
 }
 
 /// Lists the entry that the reader gives, one line an item: the format, the names, then the flags, numbers and texts in
@@ -62,8 +65,8 @@ pub fn show<A: Allocator + Copy, R: Read, W: Write>(
     // After a fault other than `Write` the writer is as it was.
     ensures unwritten { IfErr result (λ e. IsFailedWrite e ⊎ (writer.new ≡ writer.old)) }
 {
-    let asked = Asked::Entry(OfEntry::Show(list_options(false, false, false)));
-    without_value(carry_out(alloc, &asked, &NO_PARAMETERS, reader, writer))
+    let action = Action::Entry(EntryAction::Show(list_options(false, false, false)));
+    without_value(carry_out(alloc, &action, reader, writer))
 }
 
 /// Analyses each text of the entry that the reader gives, and writes a line for each that is present, in the order of
@@ -80,8 +83,8 @@ pub fn check<A: Allocator + Copy, R: Read, W: Write>(
     // After a fault other than `Write` the writer is as it was.
     ensures unwritten { IfErr result (λ e. IsFailedWrite e ⊎ (writer.new ≡ writer.old)) }
 {
-    let asked = Asked::Entry(OfEntry::Check(naming_asked(false, false, false)));
-    carry_out(alloc, &asked, &NO_PARAMETERS, reader, writer)
+    let action = Action::Entry(EntryAction::Check(naming_of(false, false, false)));
+    carry_out(alloc, &action, reader, writer)
 }
 
 /// Expands one text of the entry that the reader gives, pads it, and writes the result as it stands, or with `hex` the
@@ -89,28 +92,31 @@ pub fn check<A: Allocator + Copy, R: Read, W: Write>(
 ///
 /// A name is `#` and one to five digits, which is the index of a text; else the common name of a text; else that of an
 /// extended text, the first of those that have it.
-pub fn expand_named<A: Allocator + Copy, R: Read, W: Write>(
+pub fn expand_named<'x, A: Allocator + Copy, R: Read, W: Write>(
     alloc: A,
     reader: &mut R,
-    name: &str,
-    parameters: &[Value<'_>; 9],
+    name: &'x str,
+    parameters: &[Value<'x>; 9],
     padding: &Padding,
     hex: bool,
     writer: &mut W,
 ) -> Result<(), ToolFault>
-    ensures did { DidCall (IsExpanded name.now parameters.now padding.now hex) HasFailed
+    ensures did { DidCall (IsExpanded name.entry.now parameters.now padding.now hex) HasFailed
         (R.remaining reader.old) (R.remaining reader.new)
         (W.contents writer.old) (W.contents writer.new) result }
     // After a fault other than `Write` the writer is as it was.
     ensures unwritten { IfErr result (λ e. IsFailedWrite e ⊎ (writer.new ≡ writer.old)) }
 {
     let names = NameTable::Common;
-    let asked = Asked::Entry(OfEntry::Expand(Expand {
+    let action = Action::Entry(EntryAction::Expand(Expand {
         name: TextName { name, names },
+        parameters: ParameterValues {
+            values: *parameters,
+        },
         padding: *padding,
-        output: output_asked(hex, false),
+        output: output_of(hex, false),
     }));
-    without_value(carry_out(alloc, &asked, parameters, reader, writer))
+    without_value(carry_out(alloc, &action, reader, writer))
 }
 
 /// Writes the entry that the reader gives in its canonical layout: each text in its place without sharing, the extended
@@ -129,6 +135,6 @@ pub fn convert<A: Allocator + Copy, R: Read, W: Write>(
     // After a fault other than `Write` the writer is as it was.
     ensures unwritten { IfErr result (λ e. IsFailedWrite e ⊎ (writer.new ≡ writer.old)) }
 {
-    let asked = Asked::Entry(OfEntry::Convert(width));
-    without_value(carry_out(alloc, &asked, &NO_PARAMETERS, reader, writer))
+    let action = Action::Entry(EntryAction::Convert(width));
+    without_value(carry_out(alloc, &action, reader, writer))
 }

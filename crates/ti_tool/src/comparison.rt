@@ -14,7 +14,7 @@ ghost use Rattle.ti_tool.specs.inner.Files.{EndsFile};
 use crate::command::document::as_line;
 use crate::fault::ToolFault;
 use crate::fault_line::fault_line;
-use crate::files::{Outcome, contents_of, deliver, fault_outcome, refused_outcome};
+use crate::files::{Outcome, contents_of, deliver_outcome, fault_outcome, refused_outcome};
 use crate::store::Store;
 use std::alloc::{AllocError, Allocator};
 use std::io::{Read, Write};
@@ -38,7 +38,7 @@ fn refusal_outcome<A: Allocator + Copy>(
     fault_outcome(alloc, name, line.as_slice(), 3)
 }
 
-/// What two entries do not have alike, as it is asked for.
+/// What two entries do not have alike, as it is requested.
 fn comparison_text<A: Allocator + Copy>(
     alloc: A,
     form: Comparison,
@@ -72,6 +72,7 @@ fn difference_outcome<'a, A: Allocator + Copy>(
         bytes,
         line: Vec::new(alloc),
         status,
+        tally: None,
     })
 }
 
@@ -132,11 +133,11 @@ pub fn run_pair<S: Store, A: Allocator + Copy, R: Read, W: Write, E: Write>(
 ) -> u8
     ensures known { result ≢ 2 }
     ensures silent { result ≤ 1 → errors.new ≡ errors.old }
-    ensures ran { RanDifference (S.known store.now) pair.now
+    ensures ran { RanDifference (S.known store.now) pair.now (output.new ≡ output.old)
         (streams (R.remaining input.old) (W.contents output.old) (E.contents errors.old))
         (streams (R.remaining input.new) (W.contents output.new) (E.contents errors.new)) result }
     ensures unwritten { MayHaveWritten result ⊎ (output.new ≡ output.old) }
 {
     let outcome = outcome_of_pair(store, alloc, pair, input);
-    deliver(outcome, output, errors).unwrap_or(5)
+    deliver_outcome(outcome, output, errors).unwrap_or(5)
 }

@@ -3,15 +3,15 @@
 //! A line is put together before any byte of it is written. No memory is taken.
 
 ghost use Rattle.std.specs.Prelude.{◌≡◌, ◌≤◌, ◌+◌, ◌++◌, codes, decimal, flat_map, length, map};
-ghost use Rattle.ti_tool.specs.FaultLines.{asked_line, fault_line, line_fault_line, place_line, words_line, near_part, no_name_line, shown_name as the_shown_name};
-ghost use Rattle.ti_line.specs.declared.request.Asked.TheVariants.{Entry};
+ghost use Rattle.ti_tool.specs.FaultLines.{action_line, fault_line, line_fault_line, place_line, words_line, near_part, no_name_line, shown_name as the_shown_name};
+ghost use Rattle.ti_line.specs.declared.request.Action.TheVariants.{Entry};
 ghost use Rattle.ti_tool.specs.Near.{most_told};
 
 use crate::fault::ToolFault;
 use arrayvec::ArrayVec;
 use itoa::Buffer;
 use ti_escape::escape_into;
-use ti_line::{LineFault, OfEntry, WordFault};
+use ti_line::{EntryAction, LineFault, WordFault};
 
 /// The most bytes of a line.
 const MOST_BYTES: usize = 256;
@@ -25,7 +25,7 @@ const MOST_COMMAND_BYTES: usize = 7;
 /// The most characters of a name.
 const MOST_SHOWN: usize = 40;
 
-/// The most bytes of the names that are told, each with what stands before it.
+/// The most bytes of the names that are reported, each with what stands before it.
 const MOST_NEAR_BYTES: usize = 153;
 
 /// A line on a fault.
@@ -109,7 +109,7 @@ fn shown_name(name: &str) -> ArrayVec<u8, MOST_SHOWN>
     shown
 }
 
-/// The part of a line that tells names, each with what stands before it.
+/// The part of a line that has names, each with what stands before it.
 fn near_part(near: &[&str]) -> ArrayVec<u8, MOST_NEAR_BYTES>
     requires { length (near_part (map (λ name. name.now) near.now)) ≤ MOST_NEAR_BYTES }
     ensures { result.items ≡ near_part (map (λ name. name.now) near.now) }
@@ -140,22 +140,24 @@ fn no_name_line(command: &[u8], name: &str, near: &[&str]) -> FaultLine
     ])
 }
 
-/// The line on the fault of a request on an entry, with the names that are told in place of the one that it was given.
-pub fn asked_line(asked: &OfEntry<'_>, near: &[&str], fault: &ToolFault) -> FaultLine
+/// The line on the fault of a request on an entry, with the names that are reported in place of the one that it was given.
+pub fn action_line(action: &EntryAction<'_>, near: &[&str], fault: &ToolFault) -> FaultLine
     requires { length near.now ≤ most_told }
-    ensures { result.items ≡ asked_line (Entry asked.now) (map (λ n. n.now) near.now) fault.now }
+    ensures { result.items ≡ action_line (Entry action.now) (map (λ n. n.now) near.now) fault.now }
 {
-    match (asked, fault) {
-        (OfEntry::Get(get), ToolFault::NoSuchText) => {
+    match (action, fault) {
+        (EntryAction::Get(get), ToolFault::NoSuchText) => {
             let shown = shown_name(get.name);
             line_of(&[b"get: ", shown.as_slice(), b": absent\n"])
         }
-        (OfEntry::Get(get), ToolFault::NoSuchName) => { no_name_line(b"get: ", get.name, near) }
-        (OfEntry::Trace(of), ToolFault::NoSuchText) => {
+        (EntryAction::Get(get), ToolFault::NoSuchName) => { no_name_line(b"get: ", get.name, near) }
+        (EntryAction::Trace(of), ToolFault::NoSuchText) => {
             let shown = shown_name(of.name);
             line_of(&[b"trace: ", shown.as_slice(), b": no such text\n"])
         }
-        (OfEntry::Trace(of), ToolFault::NoSuchName) => { no_name_line(b"trace: ", of.name, near) }
+        (EntryAction::Trace(of), ToolFault::NoSuchName) => {
+            no_name_line(b"trace: ", of.name, near)
+        }
         _ => fault_line(fault),
     }
 }

@@ -1,20 +1,52 @@
-//! The value of a capability of any kind, by any name.
+//! The value of the capability that a name means.
 
-ghost use Rattle.std.specs.Prelude.{◌≡◌, ◌≢◌, ◌++◌, ℕ, IfSome, IfNone, List, option_map};
+ghost use Rattle.std.specs.Prelude.{◌≡◌, ℕ, IfSome, IfNone, List, option_map};
 ghost use Rattle.ti_words.specs.Items.{item_value};
 ghost use Rattle.ti_words.specs.declared.Kind.{Kind};
-ghost use Rattle.ti_json.specs.Objects.{kind_word};
-ghost use Rattle.ti_tool.specs.ItemNames.{IsItemCalled, IsKindLabel, IsPlaceCalled};
+ghost use Rattle.ti_tool.specs.declared.item_name.Names.TheVariants.{Texts};
+ghost use Rattle.ti_tool.specs.ItemNames.{HasKind, IsItemCalled, IsKindLabel, IsLabel, IsPlaceCalled, IsPositionBy};
 
-use crate::text_name::index_of;
 use ti_entry::{Entry, Position};
+use ti_names::NameTable;
 use ti_words::{Item, Kind};
 
-/// The kind whose word a name begins with, and what stands after it.
-fn after_kind(name: &str) -> Option<(Kind, &str)>
-    ensures some { IfSome result (λ p. name.now ≡ kind_word p.0 ++ p.1.now) }
-    ensures none { IfNone result ((kind : Kind) (label : List ℕ) → name.now ≢ kind_word kind ++ label) }
+/// The most digits of an index.
+const MOST_DIGITS: usize = 5;
+
+/// What a name may mean.
+#[derive(Clone, Copy)]
+pub enum Names {
+    /// A text: `#` and one to five digits give its index; else it has the name in a table, or an extended one has it.
+    Texts(NameTable),
+    /// A capability of any kind: `flag#`, `number#` or `text#` and one to five digits give its index; else the name is
+    /// a short one of terminfo(5), a long one, or an extended one.
+    All,
+}
+
+/// The index that `#` and one to five digits mean.
+fn index_of(name: &str) -> Option<usize>
+    ensures some { IfSome result (λ index. IsLabel name.now index) }
+    ensures none { IfNone result ((index : ℕ) → ¬ IsLabel name.now index) }
 {
+    match name.strip_prefix("#") {
+        Some(digits) => {
+            if digits.len() > MOST_DIGITS || digits.starts_with('+') {
+                return None;
+            }
+            digits.parse::<usize>().ok()
+        }
+        None => None,
+    }
+}
+
+/// The kind whose word a name begins with, if it may be of any kind, and what stands after it.
+fn after_kind(name: &str, names: Names) -> Option<(Kind, &str)>
+    ensures some { IfSome result (λ p. HasKind names name.now p.0 p.1.now) }
+    ensures none { IfNone result ((kind : Kind) (label : List ℕ) → ¬ HasKind names name.now kind label) }
+{
+    if let Names::Texts(_) = names {
+        return Some((Kind::Text, name));
+    }
     if let Some(label) = name.strip_prefix("flag") {
         return Some((Kind::Flag, label));
     }
@@ -27,12 +59,12 @@ fn after_kind(name: &str) -> Option<(Kind, &str)>
     }
 }
 
-/// The kind and the index that a name such as `text#10` tells.
-fn place_of_label(name: &str) -> Option<(Kind, usize)>
-    ensures some { IfSome result (λ p. IsKindLabel name.now p.0 p.1) }
-    ensures none { IfNone result ((kind : Kind) (index : ℕ) → ¬ IsKindLabel name.now kind index) }
+/// The kind and the index that a name such as `text#10` has.
+fn place_of_label(name: &str, names: Names) -> Option<(Kind, usize)>
+    ensures some { IfSome result (λ p. IsKindLabel names name.now p.0 p.1) }
+    ensures none { IfNone result ((kind : Kind) (index : ℕ) → ¬ IsKindLabel names name.now kind index) }
 {
-    match after_kind(name) {
+    match after_kind(name, names) {
         Some((kind, label)) => match index_of(label) {
             Some(index) => Some((kind, index)),
             None => None,
@@ -41,22 +73,37 @@ fn place_of_label(name: &str) -> Option<(Kind, usize)>
     }
 }
 
-/// The place of the capability that a name means: `flag#`, `number#` or `text#` and one to five digits tell its index; else
-/// it is a short name of terminfo(5), a long one, or an extended one.
-fn place_called(entry: &Entry<'_>, name: &str) -> Option<Position>
-    ensures { IsPlaceCalled name.now entry.now result }
+/// The place of the text that has a name in a table, or else of the first extended one.
+fn text_position(entry: &Entry<'_>, name: &str, table: NameTable) -> Option<Position>
+    ensures { IsPositionBy (Texts table) entry.now name.now result }
 {
-    match place_of_label(name) {
-        Some((kind, index)) => Some(Position::Standard(kind, index)),
-        None => entry.position(name.as_bytes()),
+    if let Some((Kind::Text, index)) = table.find(name) {
+        return Some(Position::Standard(Kind::Text, index));
+    }
+    match entry.extended().find_text(name.as_bytes()) {
+        Some(index) => Some(Position::Extended(Kind::Text, index)),
+        None => None,
+    }
+}
+
+/// The place of the capability that a name means.
+fn place_called(entry: &Entry<'_>, name: &str, names: Names) -> Option<Position>
+    ensures { IsPlaceCalled names name.now entry.now result }
+{
+    if let Some((kind, index)) = place_of_label(name, names) {
+        return Some(Position::Standard(kind, index));
+    }
+    match names {
+        Names::Texts(table) => text_position(entry, name, table),
+        Names::All => entry.position(name.as_bytes()),
     }
 }
 
 /// The value of the capability that a name means.
-pub fn item_called<'a>(entry: &Entry<'a>, name: &str) -> Option<Item<'a>>
-    ensures { IsItemCalled name.now entry.now (option_map item_value result) }
+pub fn item_called<'a>(entry: &Entry<'a>, name: &str, names: Names) -> Option<Item<'a>>
+    ensures { IsItemCalled names name.now entry.now (option_map item_value result) }
 {
-    match place_called(entry, name) {
+    match place_called(entry, name, names) {
         Some(place) => Some(entry.item_at(place)),
         None => None,
     }

@@ -24,13 +24,13 @@ const MOST_NAMES: usize = 414;
 /// There is one edit at most for so many bytes of a word.
 const BYTES_OF_AN_EDIT: usize = 3;
 
-/// The most names that are told.
+/// The most names that are reported.
 pub const MOST_TOLD: usize = 3;
 
-/// The names that are told in place of a word.
+/// The names that are reported in place of a word.
 pub type NearNames<'a> = ArrayVec<&'a str, MOST_TOLD>;
 
-/// A word, and the names of an entry that are told in its place so far.
+/// A word, and the names of an entry that are reported in its place so far.
 #[derive(Clone, Copy)]
 pub struct SoughtName<'w, 'n> {
     word: &'w str,
@@ -46,7 +46,7 @@ pub struct Nearest<'n> {
     name: Option<&'n str>,
 }
 
-/// Whether a name is told already.
+/// Whether a name is reported already.
 fn is_told(told: &[&str], name: &str) -> bool
     ensures { IsTrue result ↔ Contains (map (λ n. n.now) told.now) name.now }
 {
@@ -178,7 +178,7 @@ fn nearest_extended<'n, A: Allocator + Copy>(
     Ok(best)
 }
 
-/// The name that is nearest to a word of those that are not told, the first of several, or none if none is near.
+/// The name that is nearest to a word of those that are not reported, the first of several, or none if none is near.
 fn next_name<'n, A: Allocator + Copy>(
     alloc: A,
     sought: &SoughtName<'_, 'n>,

@@ -1,31 +1,33 @@
 //! The program over its words, a reader and two writers.
 
-ghost use Rattle.std.specs.Prelude.{◌≡◌, ◌≢◌, ◌≤◌, ◌⊎◌, [], Bool, Err, map};
+ghost use Rattle.std.specs.Prelude.{◌≡◌, ◌≢◌, ◌≤◌, ◌||◌, ◌⊎◌, [], Bool, Err, None, map};
 ghost use Rattle.ti_line.specs.CommandLine.{Line, Reads, files_of};
 ghost use Rattle.ti_line.specs.Requests.{texts_of};
-ghost use Rattle.ti_line.specs.declared.request.Asked.TheVariants.{Entry};
+ghost use Rattle.ti_line.specs.declared.request.Action.TheVariants.{Entry};
 ghost use Rattle.ti_tool.specs.FaultLines.{AreTold, AreToldFor, IsAnswerLine};
-ghost use Rattle.ti_tool.specs.Runs.{DidLine, DidNoLine, Ends, EndsWords, MayHaveWritten, RanRequest, RanTask, no_terminals};
-ghost use Rattle.ti_tool.specs.Streams.{streams, unknown_files};
+ghost use Rattle.ti_tool.specs.FileRuns.{RanInput};
+ghost use Rattle.ti_tool.specs.Runs.{DidLine, DidNoLine, EndsWords, HasNoSummary, MayHaveWritten, RanRequest, no_terminals};
+ghost use Rattle.ti_tool.specs.inner.Tallies.{HasContents};
+ghost use Rattle.ti_tool.specs.Streams.{Stream, streams, unknown_files};
 
-use crate::call::carry_out_keeping;
+use crate::call::answer_of_input;
 use crate::comparison::run_pair;
 use crate::fault::ToolFault;
-use crate::fault_line::{FaultLine, asked_line, fault_line, line_fault_line};
-use crate::files::run_files;
+use crate::fault_line::{FaultLine, action_line, fault_line, line_fault_line};
+use crate::files::{deliver_last, run_files};
 use crate::near::{NearNames, nearest_names};
 use crate::status::status;
 use crate::store::{NoStore, Store};
+use crate::summary::{report_contents, summary_of};
 use crate::terminals::Terminals;
 use arrayvec::ArrayVec;
 use std::alloc::{AllocError, Allocator, Global};
 use std::io::{Read, Write};
 use ti_entry::{EntryReader, read};
-use ti_expand::Value;
-use ti_line::{Asked, Get, NoLine, OfEntry, Request, Task, TraceOf, read_line};
-use ti_pad::write_out;
+use ti_line::{Action, EntryAction, Get, NoRequest, Request, TraceOf, read_line};
+use ti_lint::LintOptions;
 
-/// The names that are told in place of a word: the nearest ones, also of the entry that was read. None if memory is refused.
+/// The names that are reported in place of a word: the nearest ones, also of the entry that was read. None if memory is refused.
 fn names_for<'n, A: Allocator + Copy>(alloc: A, word: &str, input: &'n [u8]) -> NearNames<'n>
     ensures { AreToldFor input.now word.now (map (λ name. name.now) result.items) }
 {
@@ -38,18 +40,18 @@ fn names_for<'n, A: Allocator + Copy>(alloc: A, word: &str, input: &'n [u8]) -> 
     }
 }
 
-/// The names that are told in a line on a fault, if nothing in what was read has the name that was given.
+/// The names that are reported in a line on a fault, if nothing in what was read has the name that was given.
 fn told_names<'n, A: Allocator + Copy>(
     alloc: A,
-    asked: &OfEntry<'_>,
+    action: &EntryAction<'_>,
     input: &'n [u8],
     fault: &ToolFault,
 ) -> NearNames<'n>
-    ensures { AreTold (Entry asked.now) input.now fault.now (map (λ name. name.now) result.items) }
+    ensures { AreTold (Entry action.now) input.now fault.now (map (λ name. name.now) result.items) }
 {
-    match (asked, fault) {
-        (OfEntry::Get(Get { name, .. }), ToolFault::NoSuchName)
-        | (OfEntry::Trace(TraceOf { name, .. }), ToolFault::NoSuchName) => {
+    match (action, fault) {
+        (EntryAction::Get(Get { name, .. }), ToolFault::NoSuchName)
+        | (EntryAction::Trace(TraceOf { name, .. }), ToolFault::NoSuchName) => {
             names_for(alloc, name, input)
         }
         _ => ArrayVec::new(),
@@ -59,150 +61,153 @@ fn told_names<'n, A: Allocator + Copy>(
 /// The line on the fault of a request on an entry, of which these bytes were read.
 pub(crate) fn entry_line<A: Allocator + Copy>(
     alloc: A,
-    asked: &OfEntry<'_>,
+    action: &EntryAction<'_>,
     input: &[u8],
     fault: &ToolFault,
 ) -> FaultLine
-    ensures { IsAnswerLine {V = Bool} (Entry asked.now) input.now (Err fault.now) result.items }
+    ensures { IsAnswerLine {V = Bool} (Entry action.now) input.now (Err fault.now) result.items }
 {
-    let near = told_names(alloc, asked, input, fault);
-    asked_line(asked, near.as_slice(), fault)
+    let near = told_names(alloc, action, input, fault);
+    action_line(action, near.as_slice(), fault)
 }
 
 /// The line on the fault of a request.
 fn answer_line<A: Allocator + Copy>(
     alloc: A,
-    asked: &Asked<'_>,
+    action: &Action<'_>,
     input: &[u8],
     fault: &ToolFault,
 ) -> FaultLine
-    ensures { IsAnswerLine {V = Bool} asked.now input.now (Err fault.now) result.items }
+    ensures { IsAnswerLine {V = Bool} action.now input.now (Err fault.now) result.items }
 {
-    match asked {
-        Asked::Entry(asked) => entry_line(alloc, asked, input, fault),
-        Asked::Capability(_) => fault_line(fault),
-        Asked::Source(_) => fault_line(fault),
-        Asked::Difference(_) => fault_line(fault),
+    match action {
+        Action::Entry(action) => entry_line(alloc, action, input, fault),
+        Action::Capability(_) => fault_line(fault),
+        Action::Source(_) => fault_line(fault),
+        Action::Difference(_) => fault_line(fault),
     }
 }
 
-/// The status of a call's answer about what was read, whose fault is told.
-fn finish<A: Allocator + Copy, E: Write>(
+/// Carries out a request of standard input, which no word names. A fault is reported, or what was looked at, if that is wanted.
+fn run_input<A: Allocator + Copy, R: Read, W: Write, E: Write>(
     alloc: A,
-    errors: &mut E,
-    asked: &Asked<'_>,
-    input: &[u8],
-    answer: Result<bool, ToolFault>,
-) -> u8
-    ensures ends { Ends asked.now input.now answer (E.contents errors.old) (E.contents errors.new) result }
-    ensures silent { result ≤ 1 → errors.new ≡ errors.old }
-{
-    if let Err(fault) = &answer {
-        let line = answer_line(alloc, asked, input, fault);
-        let _ = write_out(errors, line.as_slice());
-    }
-    status(&answer)
-}
-
-/// Carries a request out. A fault is told.
-fn run_request<A: Allocator + Copy, R: Read, W: Write, E: Write>(
-    alloc: A,
-    asked: &Asked<'_>,
-    parameters: &[Value<'_>; 9],
+    summary: Option<LintOptions>,
+    action: &Action<'_>,
     input: &mut R,
     output: &mut W,
     errors: &mut E,
 ) -> u8
-    ensures ran { RanRequest asked.now parameters.now (output.new ≡ output.old)
+    requires summary { HasContents summary action.now }
+    ensures ran { RanInput summary action.now (output.new ≡ output.old)
         (streams (R.remaining input.old) (W.contents output.old) (E.contents errors.old))
         (streams (R.remaining input.new) (W.contents output.new) (E.contents errors.new)) result }
-    ensures silent { result ≤ 1 → errors.new ≡ errors.old }
+    ensures known { result ≢ 2 }
+    ensures silent { summary ≡ None → result ≤ 1 → errors.new ≡ errors.old }
+    ensures unwritten { MayHaveWritten result ⊎ (output.new ≡ output.old) }
 {
     let mut kept = EntryReader::new();
-    let answer = carry_out_keeping(alloc, asked, parameters, &mut kept, input, output);
-    finish(alloc, errors, asked, kept.bytes(), answer)
+    match answer_of_input(alloc, action, &mut kept, input) {
+        Ok(answer) => {
+            let status = status(&Ok(answer.passed));
+            let status = deliver_last(answer.bytes.as_slice(), b"", status, output, errors);
+            report_contents(alloc, summary, kept.bytes(), status, errors);
+            status
+        }
+        Err(fault) => {
+            let line = answer_line(alloc, action, kept.bytes(), &fault);
+            deliver_last(b"", line.as_slice(), status(&Err(fault)), output, errors)
+        }
+    }
 }
 
-/// Does what is requested, of standard input or of files.
-fn run_task<S: Store, A: Allocator + Copy, R: Read, W: Write, E: Write>(
+/// Carries out a request of standard input or of files, or compares two.
+fn run_request<S: Store, A: Allocator + Copy, R: Read, W: Write, E: Write>(
     store: &S,
     alloc: A,
-    asked: &Asked<'_>,
-    parameters: &[Value<'_>; 9],
+    summary: Option<LintOptions>,
+    action: &Action<'_>,
     files: &[&str],
     input: &mut R,
     output: &mut W,
     errors: &mut E,
 ) -> u8
-    ensures ran { RanTask (S.known store.now) asked.now (texts_of files.now) parameters.now
+    requires summary { HasContents summary action.now }
+    ensures ran { RanRequest (S.known store.now) summary action.now (texts_of files.now)
         (output.new ≡ output.old)
         (streams (R.remaining input.old) (W.contents output.old) (E.contents errors.old))
         (streams (R.remaining input.new) (W.contents output.new) (E.contents errors.new)) result }
     ensures known { result ≢ 2 }
-    ensures silent { result ≤ 1 → errors.new ≡ errors.old }
+    ensures silent { summary ≡ None → result ≤ 1 → errors.new ≡ errors.old }
+    ensures unwritten { texts_of files.now ≡ []
+        → MayHaveWritten result ⊎ (output.new ≡ output.old) }
 {
-    match asked {
-        Asked::Entry(of_entry) if !files.is_empty() => {
+    match action {
+        Action::Entry(of_entry) if !files.is_empty() => {
             run_files(
-                store, alloc, of_entry, parameters, files, input, output, errors,
+                store, alloc, summary, of_entry, files, input, output, errors,
             )
         }
-        Asked::Difference(pair) => run_pair(store, alloc, pair, input, output, errors),
-        Asked::Capability(_) => { run_request(alloc, asked, parameters, input, output, errors) }
-        Asked::Source(_) => { run_request(alloc, asked, parameters, input, output, errors) }
-        Asked::Entry(_) => { run_request(alloc, asked, parameters, input, output, errors) }
+        Action::Difference(pair) => run_pair(store, alloc, pair, input, output, errors),
+        Action::Capability(_) => { run_input(alloc, summary, action, input, output, errors) }
+        Action::Source(_) => { run_input(alloc, summary, action, input, output, errors) }
+        Action::Entry(_) => { run_input(alloc, summary, action, input, output, errors) }
     }
 }
 
-/// Words that ask for nothing that can be done: the text of help goes where results go, any other where faults go.
-fn run_no_line<W: Write, E: Write>(why: &NoLine, output: &mut W, errors: &mut E) -> u8
-    ensures ends { EndsWords why.now (output.new ≡ output.old)
-        (W.contents output.old) (W.contents output.new)
-        (E.contents errors.old) (E.contents errors.new) result }
+/// Whether `lint` has a summary: at a terminal, or by `--summary`.
+fn wants_summary(at: Terminals, has_summary: bool) -> bool
+    ensures { result ≡ at.errors || has_summary }
+{
+    at.errors || has_summary
+}
+
+/// Words that request nothing: the text of help goes where results go, any other where faults go.
+fn run_no_request<W: Write, E: Write>(why: &NoRequest, output: &mut W, errors: &mut E) -> u8
+    ensures ends { (left0 left1 : Stream) → EndsWords why.now (output.new ≡ output.old)
+        (streams left0 (W.contents output.old) (E.contents errors.old))
+        (streams left1 (W.contents output.new) (E.contents errors.new)) result }
     ensures silent { result ≤ 1 → errors.new ≡ errors.old }
+    ensures unwritten { MayHaveWritten result ⊎ (output.new ≡ output.old) }
 {
     match why {
-        NoLine::Help(message) => match write_out(output, message.as_str().as_bytes()) {
-            Ok(()) => 0,
-            Err(gone) => {
-                let line = fault_line(&ToolFault::Write(gone));
-                let _ = write_out(errors, line.as_slice());
-                5
-            }
-        },
-        NoLine::Refused(message) => {
-            let _ = write_out(errors, message.as_str().as_bytes());
-            2
+        NoRequest::Help(message) => {
+            deliver_last(message.as_str().as_bytes(), b"", 0, output, errors)
         }
-        NoLine::Fault(fault) => {
-            let line = line_fault_line(*fault);
-            let _ = write_out(errors, line.as_slice());
-            2
+        NoRequest::Refused(message) => {
+            deliver_last(b"", message.as_str().as_bytes(), 2, output, errors)
         }
-        NoLine::Memory => {
-            let line = fault_line(&ToolFault::Memory);
-            let _ = write_out(errors, line.as_slice());
-            6
+        NoRequest::Fault(fault) => {
+            deliver_last(b"", line_fault_line(*fault).as_slice(), 2, output, errors)
+        }
+        NoRequest::Memory => {
+            deliver_last(
+                b"",
+                fault_line(&ToolFault::Memory).as_slice(),
+                6,
+                output,
+                errors,
+            )
         }
     }
 }
 
-/// Runs the program: `words` start with its own name, results go to `output` and lines on faults to `errors`; `at` tells
+/// Runs the program: `words` start with its own name, results go to `output` and lines on faults to `errors`; `at` says
 /// which of the streams are terminals. If the words name files, these are read from `store` in place of `input`, one after
 /// another. The result is the exit status, of several files the greatest.
 ///
 /// | Status | When | Line on `errors` |
 /// |---|---|---|
-/// | 0 | done, or help was requested | none |
-/// | 1 | `check` found a fault, `lint` something wrong, `diff` told something, or the flag that `get` asks for is not set | none |
-/// | 2 | the words are no command line or no parameters, or ask for both widths, or for both forms of an output, or for an entry at a terminal, or to compare no file, more than two, or standard input with itself | what is wrong and the usage; `parameters: more than nine`; `parameter K: bad word`; `convert: both widths`; `--hex and --escape exclude each other`; `--source and --of exclude each other`; `trace: --entry without --of`; `convert: not to a terminal without --force`; `diff: one file or two`; `diff: standard input cannot be compared with itself` |
+/// | 0 | done, or help was requested | none, but a summary of `lint` that is wanted |
+/// | 1 | `check` found a fault, `lint` something wrong, `diff` a difference, or the flag of `get` is not set | the same |
+/// | 2 | the words are no command line or no parameters, or request both widths, or both forms of an output, or an entry at a terminal, or to compare no file, more than two, or standard input with itself | what is wrong and the usage; `parameters: more than nine`; `parameter K: bad word`; `convert: both widths`; `--hex and --escape exclude each other`; `--source and --of exclude each other`; `trace: --entry without --of`; `convert: not to a terminal without --force`; `diff: one file or two`; `diff: standard input cannot be compared with itself` |
 /// | 3 | the entry is refused, or can't be encoded | `entry: WORD at PLACE`; `entry: WORD` |
 /// | 4 | the capability or its notation is refused, or it is absent, a text is too long for it, or its padding too much | `capability: WORD at PLACE`; `source: WORD at PLACE`; `capability: absent`; `get: NAME: absent`; `trace: NAME: no such text`; `get: NAME: no such capability`, and the same of `trace`; `capability: TextTooLong K`; `capability: TooMuch N` |
 /// | 5 | reading or writing failed | `input: failed`; `output: failed` |
 /// | 6 | out of memory | `memory` |
 ///
 /// After a word that names a file a fault line starts with `FILE: `, but for a failed write, and status 5 has the system's
-/// reason, such as `FILE: No such file or directory (os error 2)`.
+/// reason, such as `FILE: No such file or directory (os error 2)`. For a folder without a file `lint` ends with status 5, and
+/// the line is `FILE: no entry was read`.
 ///
 /// A fault line that cannot be written changes no status. No byte of an entry or of a word goes to `errors` but printable
 /// ASCII characters. If `output` is a terminal, `show` and `check` write names and labels in the notation of terminfo(5),
@@ -227,8 +232,8 @@ pub fn run_at<S: Store, A: Allocator + Copy, R: Read, W: Write, E: Write>(
     ensures unread { ((line : Line) → ¬ Reads (texts_of words.now) line)
         → DidNoLine at (texts_of words.now)
         (input.new ≡ input.old) (output.new ≡ output.old)
-        (W.contents output.old) (W.contents output.new)
-        (E.contents errors.old) (E.contents errors.new) result }
+        (streams (R.remaining input.old) (W.contents output.old) (E.contents errors.old))
+        (streams (R.remaining input.new) (W.contents output.new) (E.contents errors.new)) result }
     // Words that are refused are refused before anything is read.
     ensures refused { result ≡ 2 → input.new ≡ input.old }
     // If the words are no line, nothing is read.
@@ -237,26 +242,23 @@ pub fn run_at<S: Store, A: Allocator + Copy, R: Read, W: Write, E: Write>(
     // If the words name no file, the writer of results is what it was after any other status than 0, 1 and 5.
     ensures unwritten { files_of (texts_of words.now) ≡ []
         → MayHaveWritten result ⊎ (output.new ≡ output.old) }
-    // Without a fault nothing is written to `errors`.
-    ensures silent { result ≤ 1 → errors.new ≡ errors.old }
+    // Without a fault nothing is written to `errors`, but a summary.
+    ensures silent { HasNoSummary at (texts_of words.now) → result ≤ 1 → errors.new ≡ errors.old }
 {
     match read_line(global, at.output, &*words) {
-        Ok(task) => {
-            let Task { request, files } = task;
-            let Request { parameters, asked } = request;
-            let files = files.as_slice();
-            run_task(
-                store,
-                alloc,
-                &asked,
-                &parameters,
+        Ok(request) => {
+            let Request {
+                action,
                 files,
-                input,
-                output,
-                errors,
+                has_summary,
+            } = request;
+            let files = files.as_slice();
+            let summary = summary_of(wants_summary(at, has_summary), &action);
+            run_request(
+                store, alloc, summary, &action, &files, input, output, errors,
             )
         }
-        Err(why) => run_no_line(&why, output, errors),
+        Err(why) => run_no_request(&why, output, errors),
     }
 }
 
@@ -287,8 +289,8 @@ pub fn run<A: Allocator + Copy, R: Read, W: Write, E: Write>(
     ensures unread { ((line : Line) → ¬ Reads (texts_of words.now) line)
         → DidNoLine no_terminals (texts_of words.now)
         (input.new ≡ input.old) (output.new ≡ output.old)
-        (W.contents output.old) (W.contents output.new)
-        (E.contents errors.old) (E.contents errors.new) result }
+        (streams (R.remaining input.old) (W.contents output.old) (E.contents errors.old))
+        (streams (R.remaining input.new) (W.contents output.new) (E.contents errors.new)) result }
     // Words that are refused are refused before anything is read.
     ensures refused { result ≡ 2 → input.new ≡ input.old }
     // If the words are no line, nothing is read.
@@ -297,8 +299,8 @@ pub fn run<A: Allocator + Copy, R: Read, W: Write, E: Write>(
     // If the words name no file, the writer of results is what it was after any other status than 0, 1 and 5.
     ensures unwritten { files_of (texts_of words.now) ≡ []
         → MayHaveWritten result ⊎ (output.new ≡ output.old) }
-    // Without a fault nothing is written to `errors`.
-    ensures silent { result ≤ 1 → errors.new ≡ errors.old }
+    // Without a fault nothing is written to `errors`, but a summary.
+    ensures silent { HasNoSummary no_terminals (texts_of words.now) → result ≤ 1 → errors.new ≡ errors.old }
 {
     let at = Terminals::NONE;
     run_at(&NoStore, global, alloc, at, words, input, output, errors)

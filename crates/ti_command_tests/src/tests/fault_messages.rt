@@ -3,7 +3,7 @@
 use ti_cap::{CapFault, CapRefused};
 use ti_entry::{EncodeFault, Fault, Refused};
 use ti_fixtures::are_shown;
-use ti_line::NoLine;
+use ti_line::NoRequest;
 use ti_tool::{ToolFault, WordFault};
 use ti_trace::TraceFault;
 
@@ -75,5 +75,5 @@ fn faults_of_words_are_shown(rt: HostRuntime) {
 
 #[test]
 fn no_memory_for_a_line_is_shown(rt: HostRuntime) {
-    assert_that!(rt; are_shown(rt.alloc(), &[(NoLine::Memory, "Memory")]));
+    assert_that!(rt; are_shown(rt.alloc(), &[(NoRequest::Memory, "Memory")]));
 }

@@ -6,7 +6,7 @@ use crate::tests::check_rows;
 use std::alloc::Global;
 use ti_fixtures::entries::SMALL;
 use ti_fixtures::{Finds, Given, Sink, Source, Unfound, bytes_of, only_if};
-use ti_line::{Destination, NoLine, read_line};
+use ti_line::{Destination, NoRequest, read_line};
 
 /// Words that ask for help, and what the help has.
 const HELP: &str = r"
@@ -18,7 +18,7 @@ ti cap --help | --source | --hex | --escape | [PARAM]... | n:NUMBER | s:TEXT | E
 ti trace --help | --source | --of <NAME> | --entry <FILE> | --escape | [PARAM]... | n:NUMBER | s:TEXT | Example => -
 ti expand --help | <NAME> | --rate <N> | 1000000 | --lines <N> | 65535 | --xon | Example => -
 ti check --help | status 1 | Example => -
-ti lint --help | Usage: ti lint [OPTIONS] [FILE]... | --all | Example => -
+ti lint --help | Usage: ti lint [OPTIONS] [FILE]... | --all | --summary | Example => -
 ti convert --help | canonical | --force | Example => -
 ti diff --help | Usage: ti diff [OPTIONS] [FILE] <OTHER> | --expand | standard input | status 1 | Example => -
 ti get --help | <NAME> | < ENTRY | --entry <FILE> | cursor_address | flag#N | as tput does | Example => -
@@ -28,7 +28,7 @@ ti --version | ti 0.3.0\n => -
 /// Adds the help that words ask for.
 fn add_help(help: &mut Vec<u8>, words: &[&str]) -> Result<(), Unfound> {
     match read_line(*help.allocator(), Destination::File, words) {
-        Err(NoLine::Help(message)) => Ok(help.extend_from_slice(message.as_str().as_bytes())?),
+        Err(NoRequest::Help(message)) => Ok(help.extend_from_slice(message.as_str().as_bytes())?),
         _ => Err(Unfound),
     }
 }
@@ -91,9 +91,9 @@ ti expand --help => written
 ";
 
 /// Whether help goes where results go, and the run reads nothing; and fails if it cannot be written.
-struct Asked;
+struct Action;
 
-impl Finds for Asked {
+impl Finds for Action {
     fn find(&self, given: &Given<'_, '_>, found: &mut Vec<u8>) -> Result<(), Unfound> {
         let alloc = *found.allocator();
         let end = end_of(alloc, given.words, SMALL);
@@ -106,7 +106,7 @@ impl Finds for Asked {
 
 #[test]
 fn help_goes_where_results_go(rt: HostRuntime) {
-    check_rows(&rt, ASKING, &Asked);
+    check_rows(&rt, ASKING, &Action);
 }
 
 /// What the help of the whole command has.

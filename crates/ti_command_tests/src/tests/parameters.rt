@@ -36,15 +36,15 @@ fn words_are_read_as_parameters(rt: HostRuntime) {
 /// Words of `get`, and the first two parameters that they give.
 const GIVEN: &str = r"
 7 -7 => [Either { number: 7, text: [55] }, Either { number: -7, text: [45, 55] }]
-n:7 s:7 => [Number(7), Text([55])]
-s:n:7 => [Text([110, 58, 55]), Number(0)]
-\s+7 => [Text([]), Text([43, 55])]
+n:7 s:7 => [Value(Num(7)), Value(Text([55]))]
+s:n:7 => [Value(Text([110, 58, 55])), Value(Num(0))]
+\s+7 => [Value(Text([])), Value(Text([43, 55]))]
 # as many bits as a number has, and one more
-2147483647 => [Either { number: 2147483647, text: [50, 49, 52, 55, 52, 56, 51, 54, 52, 55] }, Number(0)]
-2147483648 => [Text([50, 49, 52, 55, 52, 56, 51, 54, 52, 56]), Number(0)]
+2147483647 => [Either { number: 2147483647, text: [50, 49, 52, 55, 52, 56, 51, 54, 52, 55] }, Value(Num(0))]
+2147483648 => [Value(Text([50, 49, 52, 55, 52, 56, 51, 54, 52, 56])), Value(Num(0))]
 # digits are decimal
-010 0x1 => [Either { number: 10, text: [48, 49, 48] }, Text([48, 120, 49])]
-n - => [Text([110]), Text([45])]
+010 0x1 => [Either { number: 10, text: [48, 49, 48] }, Value(Text([48, 120, 49]))]
+n - => [Value(Text([110])), Value(Text([45]))]
 ";
 
 /// The first two parameters that words give to `get`.

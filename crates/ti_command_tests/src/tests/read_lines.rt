@@ -4,52 +4,54 @@ use crate::tests::check_rows;
 use std::alloc::Global;
 use ti_escape::Color;
 use ti_fixtures::{Finds, Given, Unfound, only_if, show, show_debug};
-use ti_line::{Asked, Destination, LineFault, NoLine, Request, Task, read_line};
+use ti_line::{Action, Destination, LineFault, NoRequest, Request, read_line};
 
 /// A terminal on which parts of lines stand out.
 const TERMINAL: Destination = Destination::Terminal(Color::Always);
 
-/// Words, what they ask for, and the first two parameters.
+/// Words, and what they request.
 const READ: &str = r##"
-ti cap n:7 => Capability(Cap(Raw)) [Num(7), Num(0)]
-ti cap => Capability(Cap(Raw)) [Num(0), Num(0)]
-ti show --json => Entry(Json(Listing)) [Num(0), Num(0)]
-ti check --json => Entry(Json(Verdicts)) [Num(0), Num(0)]
-ti cap n:4 --hex n:9 => Capability(Cap(Line(Hex))) [Num(4), Num(9)]
-ti cap s:-x n:-5 s: s:\303\251^A => Capability(Cap(Raw)) [Text([45, 120]), Num(-5)]
-ti cap s: s:\303\251^A => Capability(Cap(Raw)) [Text([]), Text([195, 169, 1])]
-ti cap -- s:--hex n:-5 => Capability(Cap(Raw)) [Text([45, 45, 104, 101, 120]), Num(-5)]
-ti cap n:7 --source => Source(Cap(Raw)) [Num(7), Num(0)]
-ti trace --source -e => Source(Trace(Lines(Notation, Never))) [Num(0), Num(0)]
-ti trace n:7 => Capability(Trace(Lines(Hex, Never))) [Num(7), Num(0)]
-ti trace n:4 --escape s:-x => Capability(Trace(Lines(Notation, Never))) [Num(4), Text([45, 120])]
-ti trace --of cup -e => Entry(Trace(TraceOf { name: "cup", given: None, form: Lines(Notation, Never) })) [Num(0), Num(0)]
-ti trace 4 --of=cursor_address --entry - => Entry(Trace(TraceOf { name: "cursor_address", given: Some(Given { params: [Either { number: 4, text: [52] }, Number(0), Number(0), Number(0), Number(0), Number(0), Number(0), Number(0), Number(0)] }), form: Lines(Hex, Never) })) [Num(0), Num(0)]
-ti trace --json --of=cup --color always => Entry(Trace(TraceOf { name: "cup", given: None, form: Json })) [Num(0), Num(0)]
-ti trace --color=always => Capability(Trace(Lines(Hex, Always))) [Num(0), Num(0)]
-ti lint --all => Entry(Lint(All, Never)) [Num(0), Num(0)]
-ti lint --json => Entry(Json(Findings(Errors))) [Num(0), Num(0)]
-ti diff a b --json --expand => Difference(Pair { file: "a", other: "b", likeness: Tokens, form: Json }) [Num(0), Num(0)]
-ti show => Entry(Show(ListOptions { naming: Naming { table: Common, form: Raw }, form: Hex })) [Num(0), Num(0)]
-ti show --escape => Entry(Show(ListOptions { naming: Naming { table: Common, form: Notation }, form: Notation })) [Num(0), Num(0)]
-ti show --all-names => Entry(Show(ListOptions { naming: Naming { table: All, form: Raw }, form: Hex })) [Num(0), Num(0)]
-ti check => Entry(Check(Naming { table: Common, form: Raw })) [Num(0), Num(0)]
-ti check --all-names => Entry(Check(Naming { table: All, form: Raw })) [Num(0), Num(0)]
-ti check --escape => Entry(Check(Naming { table: Common, form: Notation })) [Num(0), Num(0)]
-ti cap --escape n:1 => Capability(Cap(Line(Notation))) [Num(1), Num(0)]
-ti check -ea => Entry(Check(Naming { table: All, form: Notation })) [Num(0), Num(0)]
-ti cap -x n:1 => Capability(Cap(Line(Hex))) [Num(1), Num(0)]
-ti expand --all-names --escape acsc => Entry(Expand(Expand { name: TextName { name: "acsc", names: All }, padding: Padding { rate: 0, lines: 1, xon: false, pad: 0 }, output: Line(Notation) })) [Num(0), Num(0)]
-ti convert => Entry(Convert(None)) [Num(0), Num(0)]
-ti convert --wide => Entry(Convert(Some(Wide))) [Num(0), Num(0)]
-ti convert --narrow => Entry(Convert(Some(Legacy))) [Num(0), Num(0)]
-ti expand cup => Entry(Expand(Expand { name: TextName { name: "cup", names: Common }, padding: Padding { rate: 0, lines: 1, xon: false, pad: 0 }, output: Raw })) [Num(0), Num(0)]
-ti expand --hex --rate 1000000 --lines=65535 --xon #0 s:$<5> n:1 => Entry(Expand(Expand { name: TextName { name: "#0", names: Common }, padding: Padding { rate: 1000000, lines: 65535, xon: true, pad: 0 }, output: Line(Hex) })) [Text([36, 60, 53, 62]), Num(1)]
-ti expand bel n:1 --lines 0 --rate=0 => Entry(Expand(Expand { name: TextName { name: "bel", names: Common }, padding: Padding { rate: 0, lines: 0, xon: false, pad: 0 }, output: Raw })) [Num(1), Num(0)]
-ti get cup => Entry(Get(Get { name: "cup", given: None, padding: Padding { rate: 0, lines: 1, xon: false, pad: 0 }, output: Raw })) [Num(0), Num(0)]
-ti get --escape --rate=960 cursor_address => Entry(Get(Get { name: "cursor_address", given: None, padding: Padding { rate: 960, lines: 1, xon: false, pad: 0 }, output: Line(Notation) })) [Num(0), Num(0)]
-ti get bel 7 => Entry(Get(Get { name: "bel", given: Some(Given { params: [Either { number: 7, text: [55] }, Number(0), Number(0), Number(0), Number(0), Number(0), Number(0), Number(0), Number(0)] }), padding: Padding { rate: 0, lines: 1, xon: false, pad: 0 }, output: Raw })) [Num(0), Num(0)]
-ti expand -- -X => Entry(Expand(Expand { name: TextName { name: "-X", names: Common }, padding: Padding { rate: 0, lines: 1, xon: false, pad: 0 }, output: Raw })) [Num(0), Num(0)]
+ti cap n:7 => Capability(CapabilityAction { parameters: ParameterValues { values: [Num(7), Num(0), Num(0), Num(0), Num(0), Num(0), Num(0), Num(0), Num(0)] }, result: Cap(Raw) })
+ti cap => Capability(CapabilityAction { parameters: ParameterValues { values: [Num(0), Num(0), Num(0), Num(0), Num(0), Num(0), Num(0), Num(0), Num(0)] }, result: Cap(Raw) })
+ti show --json => Entry(Json(Listing))
+ti check --json => Entry(Json(Verdicts))
+ti cap n:4 --hex n:9 => Capability(CapabilityAction { parameters: ParameterValues { values: [Num(4), Num(9), Num(0), Num(0), Num(0), Num(0), Num(0), Num(0), Num(0)] }, result: Cap(Line(Hex)) })
+ti cap s:-x n:-5 s: s:\303\251^A => Capability(CapabilityAction { parameters: ParameterValues { values: [Text([45, 120]), Num(-5), Text([]), Text([195, 169, 1]), Num(0), Num(0), Num(0), Num(0), Num(0)] }, result: Cap(Raw) })
+ti cap s: s:\303\251^A => Capability(CapabilityAction { parameters: ParameterValues { values: [Text([]), Text([195, 169, 1]), Num(0), Num(0), Num(0), Num(0), Num(0), Num(0), Num(0)] }, result: Cap(Raw) })
+ti cap -- s:--hex n:-5 => Capability(CapabilityAction { parameters: ParameterValues { values: [Text([45, 45, 104, 101, 120]), Num(-5), Num(0), Num(0), Num(0), Num(0), Num(0), Num(0), Num(0)] }, result: Cap(Raw) })
+ti cap n:7 --source => Source(CapabilityAction { parameters: ParameterValues { values: [Num(7), Num(0), Num(0), Num(0), Num(0), Num(0), Num(0), Num(0), Num(0)] }, result: Cap(Raw) })
+ti trace --source -e => Source(CapabilityAction { parameters: ParameterValues { values: [Num(0), Num(0), Num(0), Num(0), Num(0), Num(0), Num(0), Num(0), Num(0)] }, result: Trace(Lines(Notation, Never)) })
+ti trace n:7 => Capability(CapabilityAction { parameters: ParameterValues { values: [Num(7), Num(0), Num(0), Num(0), Num(0), Num(0), Num(0), Num(0), Num(0)] }, result: Trace(Lines(Hex, Never)) })
+ti trace n:4 --escape s:-x => Capability(CapabilityAction { parameters: ParameterValues { values: [Num(4), Text([45, 120]), Num(0), Num(0), Num(0), Num(0), Num(0), Num(0), Num(0)] }, result: Trace(Lines(Notation, Never)) })
+ti trace --of cup -e => Entry(Trace(TraceOf { name: "cup", given: None, form: Lines(Notation, Never) }))
+ti trace 4 --of=cursor_address --entry - => Entry(Trace(TraceOf { name: "cursor_address", given: Some(Given { params: [Either { number: 4, text: [52] }, Value(Num(0)), Value(Num(0)), Value(Num(0)), Value(Num(0)), Value(Num(0)), Value(Num(0)), Value(Num(0)), Value(Num(0))] }), form: Lines(Hex, Never) }))
+ti trace --json --of=cup --color always => Entry(Trace(TraceOf { name: "cup", given: None, form: Json }))
+ti trace --color=always => Capability(CapabilityAction { parameters: ParameterValues { values: [Num(0), Num(0), Num(0), Num(0), Num(0), Num(0), Num(0), Num(0), Num(0)] }, result: Trace(Lines(Hex, Always)) })
+ti lint --all => Entry(Lint(LintOptions { level: All, untrusted: false }, Never))
+ti lint --json => Entry(Json(Findings(LintOptions { level: Errors, untrusted: false })))
+ti lint --untrusted => Entry(Lint(LintOptions { level: Errors, untrusted: true }, Never))
+ti lint --untrusted --json --all => Entry(Json(Findings(LintOptions { level: All, untrusted: true })))
+ti diff a b --json --expand => Difference(Pair { file: "a", other: "b", likeness: Tokens, form: Json })
+ti show => Entry(Show(ListOptions { naming: Naming { table: Common, form: Raw }, form: Hex }))
+ti show --escape => Entry(Show(ListOptions { naming: Naming { table: Common, form: Notation }, form: Notation }))
+ti show --all-names => Entry(Show(ListOptions { naming: Naming { table: All, form: Raw }, form: Hex }))
+ti check => Entry(Check(Naming { table: Common, form: Raw }))
+ti check --all-names => Entry(Check(Naming { table: All, form: Raw }))
+ti check --escape => Entry(Check(Naming { table: Common, form: Notation }))
+ti cap --escape n:1 => Capability(CapabilityAction { parameters: ParameterValues { values: [Num(1), Num(0), Num(0), Num(0), Num(0), Num(0), Num(0), Num(0), Num(0)] }, result: Cap(Line(Notation)) })
+ti check -ea => Entry(Check(Naming { table: All, form: Notation }))
+ti cap -x n:1 => Capability(CapabilityAction { parameters: ParameterValues { values: [Num(1), Num(0), Num(0), Num(0), Num(0), Num(0), Num(0), Num(0), Num(0)] }, result: Cap(Line(Hex)) })
+ti expand --all-names --escape acsc => Entry(Expand(Expand { name: TextName { name: "acsc", names: All }, parameters: ParameterValues { values: [Num(0), Num(0), Num(0), Num(0), Num(0), Num(0), Num(0), Num(0), Num(0)] }, padding: Padding { rate: 0, lines: 1, xon: false, pad: 0 }, output: Line(Notation) }))
+ti convert => Entry(Convert(None))
+ti convert --wide => Entry(Convert(Some(Wide)))
+ti convert --narrow => Entry(Convert(Some(Legacy)))
+ti expand cup => Entry(Expand(Expand { name: TextName { name: "cup", names: Common }, parameters: ParameterValues { values: [Num(0), Num(0), Num(0), Num(0), Num(0), Num(0), Num(0), Num(0), Num(0)] }, padding: Padding { rate: 0, lines: 1, xon: false, pad: 0 }, output: Raw }))
+ti expand --hex --rate 1000000 --lines=65535 --xon #0 s:$<5> n:1 => Entry(Expand(Expand { name: TextName { name: "#0", names: Common }, parameters: ParameterValues { values: [Text([36, 60, 53, 62]), Num(1), Num(0), Num(0), Num(0), Num(0), Num(0), Num(0), Num(0)] }, padding: Padding { rate: 1000000, lines: 65535, xon: true, pad: 0 }, output: Line(Hex) }))
+ti expand bel n:1 --lines 0 --rate=0 => Entry(Expand(Expand { name: TextName { name: "bel", names: Common }, parameters: ParameterValues { values: [Num(1), Num(0), Num(0), Num(0), Num(0), Num(0), Num(0), Num(0), Num(0)] }, padding: Padding { rate: 0, lines: 0, xon: false, pad: 0 }, output: Raw }))
+ti get cup => Entry(Get(Get { name: "cup", given: None, padding: Padding { rate: 0, lines: 1, xon: false, pad: 0 }, output: Raw }))
+ti get --escape --rate=960 cursor_address => Entry(Get(Get { name: "cursor_address", given: None, padding: Padding { rate: 960, lines: 1, xon: false, pad: 0 }, output: Line(Notation) }))
+ti get bel 7 => Entry(Get(Get { name: "bel", given: Some(Given { params: [Either { number: 7, text: [55] }, Value(Num(0)), Value(Num(0)), Value(Num(0)), Value(Num(0)), Value(Num(0)), Value(Num(0)), Value(Num(0)), Value(Num(0))] }), padding: Padding { rate: 0, lines: 1, xon: false, pad: 0 }, output: Raw }))
+ti expand -- -X => Entry(Expand(Expand { name: TextName { name: "-X", names: Common }, parameters: ParameterValues { values: [Num(0), Num(0), Num(0), Num(0), Num(0), Num(0), Num(0), Num(0), Num(0)] }, padding: Padding { rate: 0, lines: 1, xon: false, pad: 0 }, output: Raw }))
 "##;
 
 /// Words of which the line has a fault, and the fault.
@@ -80,18 +82,15 @@ ti get bel x n:x => BadWord 2
 ti get bel 1 2 3 4 5 6 7 8 9 10 => TooMany
 ";
 
-/// What words request, and the first two parameters. No file is named but by a difference.
+/// What words request. No file is named but by a difference.
 struct Requests;
 
 impl Finds for Requests {
     fn find(&self, given: &Given<'_, '_>, found: &mut Vec<u8>) -> Result<(), Unfound> {
         let alloc = *found.allocator();
-        let Task { request, files } = read_line(alloc, Destination::File, given.words)?;
-        let Request { parameters, asked } = request;
-        only_if(files.is_empty() || matches!(asked, Asked::Difference(_)))?;
-        show_debug(found, &asked)?;
-        found.push(b' ')?;
-        show_debug(found, &&parameters[..2])
+        let Request { action, files, .. } = read_line(alloc, Destination::File, given.words)?;
+        only_if(files.is_empty() || matches!(action, Action::Difference(_)))?;
+        show_debug(found, &action)
     }
 }
 
@@ -106,7 +105,7 @@ struct FaultAt(Destination);
 impl Finds for FaultAt {
     fn find(&self, given: &Given<'_, '_>, found: &mut Vec<u8>) -> Result<(), Unfound> {
         match read_line(*found.allocator(), self.0, given.words) {
-            Err(NoLine::Fault(fault)) => show(found, &fault),
+            Err(NoRequest::Fault(fault)) => show(found, &fault),
             _ => Err(Unfound),
         }
     }
@@ -125,25 +124,24 @@ ti check => Entry(Check(Naming { table: Common, form: Notation }))
 ti convert --force --wide => Entry(Convert(Some(Wide)))
 ti convert --wide --force => Entry(Convert(Some(Wide)))
 # Parts of lines stand out, unless a word says it.
-ti lint => Entry(Lint(Errors, Always))
-ti lint --color auto => Entry(Lint(Errors, Always))
-ti lint --color=never => Entry(Lint(Errors, Never))
+ti lint => Entry(Lint(LintOptions { level: Errors, untrusted: false }, Always))
+ti lint --color auto => Entry(Lint(LintOptions { level: Errors, untrusted: false }, Always))
+ti lint --color=never => Entry(Lint(LintOptions { level: Errors, untrusted: false }, Never))
 ";
 
 /// What words ask for at a terminal.
-struct AskedAtTerminal;
+struct RequestedAtTerminal;
 
-impl Finds for AskedAtTerminal {
+impl Finds for RequestedAtTerminal {
     fn find(&self, given: &Given<'_, '_>, found: &mut Vec<u8>) -> Result<(), Unfound> {
-        let Task { request, .. } = read_line(*found.allocator(), TERMINAL, given.words)?;
-        let Request { asked, .. } = request;
-        show_debug(found, &asked)
+        let Request { action, .. } = read_line(*found.allocator(), TERMINAL, given.words)?;
+        show_debug(found, &action)
     }
 }
 
 #[test]
 fn a_terminal_asks_for_the_notation_and_color(rt: HostRuntime) {
-    check_rows(&rt, AT_A_TERMINAL, &AskedAtTerminal);
+    check_rows(&rt, AT_A_TERMINAL, &RequestedAtTerminal);
 }
 
 #[test]
@@ -169,7 +167,7 @@ struct FilesOf;
 
 impl Finds for FilesOf {
     fn find(&self, given: &Given<'_, '_>, found: &mut Vec<u8>) -> Result<(), Unfound> {
-        let Task { files, .. } = read_line(*found.allocator(), Destination::File, given.words)?;
+        let Request { files, .. } = read_line(*found.allocator(), Destination::File, given.words)?;
         show_debug(found, &files)
     }
 }

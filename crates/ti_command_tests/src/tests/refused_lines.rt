@@ -1,11 +1,11 @@
-//! Words that are no command line, and what the user is told of them.
+//! Words that are no command line, and what the user is reported of them.
 
 use super::ending::{end_of, is_end};
 use crate::tests::check_rows;
 use std::alloc::Global;
 use ti_fixtures::entries::SMALL;
 use ti_fixtures::{Finds, Given, Unfound, only_if};
-use ti_line::{Destination, NoLine, read_line};
+use ti_line::{Destination, NoRequest, read_line};
 
 /// Words that are refused, and what the text on them has.
 const REFUSED: &str = r"
@@ -37,7 +37,9 @@ ti expand --lines x bel | invalid value 'x' for '--lines <N>' => -
 /// Adds the text on the refusal of words.
 fn add_refusal(text: &mut Vec<u8>, words: &[&str]) -> Result<(), Unfound> {
     match read_line(*text.allocator(), Destination::File, words) {
-        Err(NoLine::Refused(message)) => Ok(text.extend_from_slice(message.as_str().as_bytes())?),
+        Err(NoRequest::Refused(message)) => Ok(text.extend_from_slice(
+            message.as_str().as_bytes(),
+        )?),
         _ => Err(Unfound),
     }
 }

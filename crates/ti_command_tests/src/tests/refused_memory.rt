@@ -32,7 +32,7 @@ impl Finds for EndWith {
     }
 }
 
-/// Words, what is read, how much memory there is, and how the run ends. A name that is missing is told alone.
+/// Words, what is read, how much memory there is, and how the run ends. A name that is missing is reported alone.
 const WITHOUT: &str = r"
 ti cap n:7 | %p1%255d | 64 => 6 err memory\n
 ti expand #0 s:0123456789012345678901234567890123456789012345678901234567890123456789 | @TEXT | 0 => 6 err memory\n

@@ -58,7 +58,7 @@ fn lines_on<'a, A: Allocator + Copy>(
     differing_lines(alloc, Color::Never, differences.as_slice())
 }
 
-/// Two entries that are told apart.
+/// Two entries that are reported apart.
 struct ToldApart;
 
 impl Tries for ToldApart {

@@ -43,7 +43,7 @@ const SHELF: &[(&str, &[u8])] = &[
     ("quoted", QUOTED),
 ];
 
-/// Files in memory, and a folder with two of them and a name that is not valid UTF-8.
+/// Files in memory, a folder with two of them and a name that is not valid UTF-8, and an empty folder.
 struct Shelf;
 
 /// Adds a file of the folder.
@@ -60,6 +60,12 @@ fn put<A: Allocator + Copy>(
 
 impl Store for Shelf {
     fn find<A: Allocator + Copy>(&self, alloc: A, name: &str) -> io::Result<Files<A>> {
+        if name == "empty" {
+            return Ok(Files {
+                found: Vec::new(alloc),
+                are_in_folder: true,
+            });
+        }
         if name != "folder" {
             return Ok(one_file(alloc, name, None)?);
         }
@@ -87,7 +93,7 @@ fn bytes_of(name: &str) -> io::Result<&'static [u8]> {
     Err(io::Error::from(ErrorKind::NotFound))
 }
 
-/// Words, whether results go to a terminal or to a file, and the status with what is written.
+/// Words, whether results and fault lines go to a terminal or to a file, and the status with what is written.
 const ROWS: &str = r#"
 ti show small | file => 0 out format: legacy\nnames: t\nflag bw\nnumber cols 80\ntext bel 07\n
 # the input has another text
@@ -106,6 +112,11 @@ ti check more\E small | terminal => 0 out more\\E: text bel ok depth 0 bound 1\n
 ti check folder | file => 5 out folder/fault: text bel fault UnknownEscape at 3\nfolder/whole: text bel ok depth 0 bound 1\nfolder/whole: text+ E3 ok depth 0 bound 4\n err folder: invalid filename\n
 ti check --json folder | file => 5 out {"file":"folder/fault","verdicts":[{"fault":"UnknownEscape","kind":"text","name":"bel","place":3}]}\n{"file":"folder/whole","verdicts":[{"bound":1,"depth":0,"kind":"text","name":"bel"},{"bound":4,"depth":0,"kind":"text","name":"E3","own":true}]}\n err folder: invalid filename\n
 ti check - | file => 1 out text bel fault UnknownEscape at 3\n
+# only `lint` reports a folder without a file
+ti check empty | file => 0
+ti show --json empty | file => 0
+ti lint empty | file => 5 err empty: no entry was read\n
+ti lint --json empty cut empty | file => 5 err cut: entry: Truncated at 5\nempty: no entry was read\nempty: no entry was read\n
 ti check none\E cut small | file => 5 out small: text bel ok depth 0 bound 1\n err none\\E: entity not found\ncut: entry: Truncated at 5\n
 ti convert cut | file => 3 err cut: entry: Truncated at 5\n
 ti get cols --entry small | file => 0 out 80\n
@@ -121,6 +132,7 @@ fn end_at(alloc: Global, words: &[&str], at_terminal: bool, fails_at: usize) -> 
     let mut input = Source::new(QUESTION, 100);
     let at = Terminals {
         output: destination(at_terminal),
+        errors: at_terminal,
         ..Terminals::NONE
     };
     let status = run_at(

@@ -3,10 +3,14 @@ use Rattle.std.specs.Prelude.{◌≡◌, ◌≢◌, ◌<◌, ◌≤◌, ℕ, Lis
 use Rattle.ti_tool.specs.FileRuns.{Job}
 use Rattle.ti_tool.specs.declared.files.Errand.{Errand}
 
--- the status is not that of refused words, without a fault there is no line, and with one no result
+-- without a fault there is no line, and with one no result
+abbrev pub IsResultOrLine : ℕ → List ℕ → List ℕ → Type 0
+IsResultOrLine status bytes line = (status ≤ 1 → line ≡ []) × (1 < status → bytes ≡ [])
+
+-- and the status is not that of refused words
 abbrev pub EndsFile : ℕ → List ℕ → List ℕ → Type 0
-EndsFile status bytes line = (status ≢ 2) × (status ≤ 1 → line ≡ []) × (1 < status → bytes ≡ [])
+EndsFile status bytes line = (status ≢ 2) × IsResultOrLine status bytes line
 
 abbrev pub job_of : Errand → Job
 job_of errand =
-    record { e = errand.of_entry.now; parameters = errand.parameters.now; are_several = errand.are_several }
+    record { e = errand.of_entry.now; are_several = errand.are_several; summary = errand.summary }

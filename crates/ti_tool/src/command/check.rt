@@ -24,14 +24,14 @@ pub fn verdicts_of<A: Allocator + Copy>(
     naming: Naming,
     entry: &Entry<'_>,
 ) -> Result<Answer<A>, AllocError>
-    ensures { IfOk result (λ v. AreVerdicts naming entry.now v.bytes.items v.sound) }
+    ensures { IfOk result (λ v. AreVerdicts naming entry.now v.bytes.items v.passed) }
 {
     let options = ListOptions {
         naming,
         form: Form::Notation,
     };
     let mut lines = Vec::new(alloc);
-    let mut sound = true;
+    let mut passed = true;
     let mut last = judge(b"");
     let mut items = entry.items();
     'items: while let Some((subject, item)) = items.next() {
@@ -44,12 +44,12 @@ pub fn verdicts_of<A: Allocator + Copy>(
                 Topic::Capability(subject),
                 last.content,
             )?;
-            sound &= last.is_sound();
+            passed &= last.is_sound();
         }
     }
     Ok(Answer {
         bytes: lines,
-        sound,
+        passed,
     })
 }
 
@@ -77,7 +77,7 @@ pub fn print_verdicts<A: Allocator>(printer: &mut Printer<A>, entry: &Entry<'_>)
         × Prints printer.old printer.new (data_tokens (array (items_of objects))) }
 {
     printer.begin_list();
-    let sound = print_objects(printer, entry);
+    let passed = print_objects(printer, entry);
     printer.end_list();
-    sound
+    passed
 }

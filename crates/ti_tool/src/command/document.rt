@@ -33,8 +33,8 @@ fn print_document<A: Allocator + Copy>(
     entry: &Entry<'_>,
 ) -> Result<bool, AllocError>
     ensures finds { IfOk result (FindsIn document) }
-    ensures objects { IfOk result (λ sound. (objects : List Data)
-        × AreObjects document sound input.now entry.now objects
+    ensures objects { IfOk result (λ passed. (objects : List Data)
+        × AreObjects document passed input.now entry.now objects
         × Prints printer.old printer.new (data_tokens (array (items_of objects)))) }
 {
     match document {
@@ -43,7 +43,7 @@ fn print_document<A: Allocator + Copy>(
             Ok(true)
         }
         Document::Verdicts => Ok(print_verdicts(printer, entry)),
-        Document::Findings(level) => print_report(printer, alloc, trials, level, input, entry),
+        Document::Findings(options) => print_report(printer, alloc, trials, options, input, entry),
     }
 }
 
@@ -55,13 +55,13 @@ pub fn document_of<A: Allocator + Copy>(
     input: &[u8],
     entry: &Entry<'_>,
 ) -> Result<Answer<A>, AllocError>
-    ensures finds { IfOk result (λ a. FindsIn document a.sound) }
-    ensures due { IfOk result (λ a. IsDocument document a.sound input.now entry.now (Ok a.bytes.items)) }
+    ensures finds { IfOk result (λ a. FindsIn document a.passed) }
+    ensures due { IfOk result (λ a. IsDocument document a.passed input.now entry.now (Ok a.bytes.items)) }
 {
     let mut printer = Printer::new(alloc);
-    let sound = print_document(&mut printer, alloc, trials, document, input, entry)?;
+    let passed = print_document(&mut printer, alloc, trials, document, input, entry)?;
     let bytes = as_line(printer.into_bytes()?)?;
-    Ok(Answer { bytes, sound })
+    Ok(Answer { bytes, passed })
 }
 
 /// What a document is called in the object of its file.
@@ -84,15 +84,15 @@ pub fn document_of_file<A: Allocator + Copy>(
     input: &[u8],
     entry: &Entry<'_>,
 ) -> Result<Answer<A>, AllocError>
-    ensures finds { IfOk result (λ a. FindsIn document a.sound) }
-    ensures due { IfOk result (λ a. IsDocumentOfFile document name.now a.sound input.now entry.now a.bytes.items) }
+    ensures finds { IfOk result (λ a. FindsIn document a.passed) }
+    ensures due { IfOk result (λ a. IsDocumentOfFile document name.now a.passed input.now entry.now a.bytes.items) }
 {
     let mut printer = Printer::new(alloc);
     printer.begin_object();
     printer.text("file", name.as_bytes());
     printer.key(key_of(document));
-    let sound = print_document(&mut printer, alloc, trials, document, input, entry)?;
+    let passed = print_document(&mut printer, alloc, trials, document, input, entry)?;
     printer.end_object();
     let bytes = as_line(printer.into_bytes()?)?;
-    Ok(Answer { bytes, sound })
+    Ok(Answer { bytes, passed })
 }

@@ -10,8 +10,8 @@ ghost use Rattle.ti_tool.specs.Calls.{FailsAsDue};
 use crate::command::Answer;
 use crate::command::expand::{expand_and_pad, padded_output};
 use crate::fault::ToolFault;
-use crate::item_name::item_called;
-use crate::taken::values_for;
+use crate::given_values::values_for;
+use crate::item_name::{Names, item_called};
 use itoa::Buffer;
 use std::alloc::{AllocError, Allocator};
 use ti_cap::Capability;
@@ -62,14 +62,14 @@ fn expand_given<A: Allocator + Copy>(
 fn text_result<A: Allocator + Copy>(
     alloc: A,
     text: &[u8],
-    asked: &Get<'_>,
+    action: &Get<'_>,
 ) -> Result<Vec<u8, A>, ToolFault>
-    ensures { let IsDue = IsTextResult text.now asked.now.given asked.now.padding asked.now.output in
+    ensures { let IsDue = IsTextResult text.now action.now.given action.now.padding action.now.output in
         MatchResult result (λ v. IsDue (Ok v.items)) (FailsAsDue IsDue) }
 {
-    match &asked.given {
-        Some(given) => expand_given(alloc, text, given, &asked.padding, asked.output),
-        None => padded_output(alloc, text, &asked.padding, asked.output),
+    match &action.given {
+        Some(given) => expand_given(alloc, text, given, &action.padding, action.output),
+        None => padded_output(alloc, text, &action.padding, action.output),
     }
 }
 
@@ -77,25 +77,25 @@ fn text_result<A: Allocator + Copy>(
 fn value_result<A: Allocator + Copy>(
     alloc: A,
     item: Option<Item<'_>>,
-    asked: &Get<'_>,
+    action: &Get<'_>,
 ) -> Result<Answer<A>, ToolFault>
     ensures { let value = option_map item_value item.entry in
         MatchResult result
-        (λ a. IsValueResult value asked.now a.sound (Ok a.bytes.items))
-        (FailsAsDue (IsValueResult value asked.now true)) }
+        (λ a. IsValueResult value action.now a.passed (Ok a.bytes.items))
+        (FailsAsDue (IsValueResult value action.now true)) }
 {
     match item {
         Some(Item::Flag(flag)) => Ok(Answer {
             bytes: Vec::new(alloc),
-            sound: flag == Flag::Yes,
+            passed: flag == Flag::Yes,
         }),
         Some(Item::Number(number)) => Ok(Answer {
             bytes: number_result(alloc, number)?,
-            sound: true,
+            passed: true,
         }),
         Some(Item::Text(Text::Value(text))) => Ok(Answer {
-            bytes: text_result(alloc, text, asked)?,
-            sound: true,
+            bytes: text_result(alloc, text, action)?,
+            passed: true,
         }),
         Some(Item::Text(Text::Absent | Text::Cancelled)) => Err(ToolFault::NoSuchText),
         None => Err(ToolFault::NoSuchName),
@@ -106,11 +106,11 @@ fn value_result<A: Allocator + Copy>(
 pub fn get_result<A: Allocator + Copy>(
     alloc: A,
     entry: &Entry<'_>,
-    asked: &Get<'_>,
+    action: &Get<'_>,
 ) -> Result<Answer<A>, ToolFault>
     ensures { MatchResult result
-        (λ a. IsGot asked.now a.sound entry.now (Ok a.bytes.items))
-        (FailsAsDue (IsGot asked.now true entry.now)) }
+        (λ a. IsGot action.now a.passed entry.now (Ok a.bytes.items))
+        (FailsAsDue (IsGot action.now true entry.now)) }
 {
-    value_result(alloc, item_called(entry, asked.name), asked)
+    value_result(alloc, item_called(entry, action.name, Names::All), action)
 }

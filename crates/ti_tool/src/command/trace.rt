@@ -9,8 +9,8 @@ ghost use Rattle.ti_tool.specs.Calls.{FailsAsDue};
 
 use crate::command::document::as_line;
 use crate::fault::ToolFault;
-use crate::item_name::item_called;
-use crate::taken::values_for;
+use crate::given_values::values_for;
+use crate::item_name::{Names, item_called};
 use std::alloc::Allocator;
 use ti_cap::Capability;
 use ti_entry::Entry;
@@ -95,14 +95,14 @@ fn trace_given<A: Allocator + Copy>(
 fn trace_text<A: Allocator + Copy>(
     alloc: A,
     text: &[u8],
-    asked: &TraceOf<'_>,
+    action: &TraceOf<'_>,
 ) -> Result<Vec<u8, A>, ToolFault>
-    ensures { let IsDue = IsTracedBy text.now asked.now.given asked.now.form in
+    ensures { let IsDue = IsTracedBy text.now action.now.given action.now.form in
         MatchResult result (λ v. IsDue (Ok v.items)) (FailsAsDue IsDue) }
 {
-    match &asked.given {
-        Some(given) => trace_given(alloc, text, given, asked.form),
-        None => trace_result(alloc, text, &NO_VALUES, asked.form),
+    match &action.given {
+        Some(given) => trace_given(alloc, text, given, action.form),
+        None => trace_result(alloc, text, &NO_VALUES, action.form),
     }
 }
 
@@ -110,15 +110,14 @@ fn trace_text<A: Allocator + Copy>(
 fn trace_value<A: Allocator + Copy>(
     alloc: A,
     item: Option<Item<'_>>,
-    asked: &TraceOf<'_>,
+    action: &TraceOf<'_>,
 ) -> Result<Vec<u8, A>, ToolFault>
-    ensures { let IsDue = IsTracedValue (option_map item_value item.entry) asked.now in
+    ensures { let IsDue = IsTracedValue (option_map item_value item.entry) action.now in
         MatchResult result (λ v. IsDue (Ok v.items)) (FailsAsDue IsDue) }
 {
     match item {
-        Some(Item::Text(Text::Value(text))) => trace_text(alloc, text, asked),
-        Some(Item::Text(Text::Absent | Text::Cancelled)) => Err(ToolFault::NoSuchText),
-        Some(Item::Flag(_)) | Some(Item::Number(_)) => Err(ToolFault::NoSuchText),
+        Some(Item::Text(Text::Value(text))) => trace_text(alloc, text, action),
+        Some(_) => Err(ToolFault::NoSuchText),
         None => Err(ToolFault::NoSuchName),
     }
 }
@@ -127,11 +126,11 @@ fn trace_value<A: Allocator + Copy>(
 pub fn trace_of_result<A: Allocator + Copy>(
     alloc: A,
     entry: &Entry<'_>,
-    asked: &TraceOf<'_>,
+    action: &TraceOf<'_>,
 ) -> Result<Vec<u8, A>, ToolFault>
     ensures { MatchResult result
-        (λ v. IsTracedOf asked.now entry.now (Ok v.items))
-        (FailsAsDue (IsTracedOf asked.now entry.now)) }
+        (λ v. IsTracedOf action.now entry.now (Ok v.items))
+        (FailsAsDue (IsTracedOf action.now entry.now)) }
 {
-    trace_value(alloc, item_called(entry, asked.name), asked)
+    trace_value(alloc, item_called(entry, action.name, Names::All), action)
 }

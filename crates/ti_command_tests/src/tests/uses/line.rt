@@ -1,13 +1,12 @@
 //! What words request.
 
 use std::test::Fail;
-use ti_expand::Value;
-use ti_line::{Asked, Destination, OfCapability, Task, read_line};
+use ti_line::{Action, Destination, read_line};
 
 #[test]
 fn words_request_an_expansion(rt: HostRuntime) -> Result<(), Fail> {
-    let Task { request, .. } = read_line(rt.alloc(), Destination::File, &["ti", "cap", "n:7"])?;
-    assert!(rt; matches!(request.asked, Asked::Capability(OfCapability::Cap(_))));
-    assert!(rt; matches!(request.parameters[0], Value::Num(7)));
+    let request = read_line(rt.alloc(), Destination::File, &["ti", "cap", "n:7"])?;
+    assert!(rt; matches!(request.action, Action::Capability(_)));
+    assert!(rt; request.files.is_empty());
     Ok(())
 }

@@ -6,7 +6,7 @@ use Rattle.ti_tool.proofs.command.answer_of_source.Goals as goal
 pub returns-in_err-len : goal.returns-in_err-len
 returns-in_err-len g c =
     let p = err_from_is_err_and c.from_residual.result c.from_residual.ensures.1 in
-    rw (p.1, p.2) (fault_due (IsOutputOf c.args.asked c.args.parameters.now) c.args.input.now c.in_err-len.field-0.0 c.in_err-len.ensures.fault)
+    rw (p.1, p.2) (fault_due (IsOutputOf c.args.output c.args.parameters.now) c.args.input.now c.in_err-len.field-0.0 c.in_err-len.ensures.fault)
 
 pub returns : goal.returns
-returns g c = text_due (IsOutputOf c.args.asked c.args.parameters.now) c.args.input.now c.answer_of_capability.result (λ v. v.items) _ c.in_ok-len.ensures.text c.answer_of_capability.ensures
+returns g c = text_due (IsOutputOf c.args.output c.args.parameters.now) c.args.input.now c.answer_of_capability.result (λ v. v.items) _ c.in_ok-len.ensures.text c.answer_of_capability.ensures

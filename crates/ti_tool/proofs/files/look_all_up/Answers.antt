@@ -1,4 +1,4 @@
-use Rattle.std.proofs.Common.{◌≡◌, ◌||◌, ◌∙◌, ap, length, map, nat_lt, sym}
+use Rattle.std.proofs.Common.{◌≡◌, ◌||◌, ◌∙◌, ◌++◌, ap, length, map, nat_lt, sym}
 use Rattle.std.specs.Prelude.{is_some, string_bytes}
 use Rattle.std.proofs.lemmas.List.{map-append}
 use Rattle.ti_tool.specs.Streams.{file_name, lookup}
@@ -17,5 +17,6 @@ loop-word-preserved g c =
     ] in
     found_word (g.S.Store.known c.args.store.now) c.args.of_entry.now c.args.words.now c.loop-word.word-index _ (nat_lt 1 (length c.args.words.now)) c.loop-word.are_several c.if-are_several.are_several
     (map (λ f. file_name (string_bytes f.name) (is_some f.fault)) c.loop-word.all.items) (map (λ f. file_name (string_bytes f.name) (is_some f.fault)) c.append.new.self.items)
-    (lookup in_folder (map (λ f. file_name (string_bytes f.name) (is_some f.fault)) found)) c.loop-word-test.true c.loop-word.invariant c.in_ok-files.ensures
+    (lookup in_folder (map (λ f. file_name (string_bytes f.name) (is_some f.fault)) found)) c.loop-word.lines.items c.extend_from_slice.new.self.items c.loop-word-test.true c.loop-word.invariant c.in_ok-files.ensures
     (ap (map (λ f. file_name (string_bytes f.name) (is_some f.fault))) c.in_ok-append.ensures.items ∙ map-append (λ f. file_name (string_bytes f.name) (is_some f.fault)) c.loop-word.all.items found) some
+    (c.in_ok-extend_from_slice.ensures.items ∙ ap (λ l. c.loop-word.lines.items ++ l) (c.as_slice.ensures.value ∙ c.in_ok-line.ensures))

@@ -7,6 +7,6 @@ use Rattle.ti_tool.proofs.files.outcome_of_found.Goals as goal
 
 pub returns-in-Ok-clause-led : goal.returns-in-Ok-clause-led
 returns-in-Ok-clause-led g c =
-    contents_led (λ o. o.bytes.items) (λ o. o.line.items) (λ o. o.status) (g.S.Store.known c.args.store.now) (job_of c.args.errand.now) (file_name (string_bytes c.args.found.now.name) (is_some c.args.found.now.fault))
+    contents_led (λ o. o.bytes.items) (λ o. o.line.items) (λ o. o.status) (λ o. o.tally) (g.S.Store.known c.args.store.now) (job_of c.args.errand.now) (file_name (string_bytes c.args.found.now.name) (is_some c.args.found.now.fault))
     (g.R.Read.remaining c.args.input.now) (g.R.Read.remaining c.contents_of.new.input) c.as_str-name.result.now c.as_slice.result.now c.in-Ok.contents.items c.outcome_of.result c.as_str-name.ensures.value
-    (ap is_some c.in_default.is) c.in-Ok.ensures.read c.as_slice.ensures.value c.outcome_of.ensures.led
+    (ap is_some c.in_default.is) c.in-Ok.ensures.read c.as_slice.ensures.value c.outcome_of.ensures.led c.outcome_of.ensures.seen

@@ -18,31 +18,31 @@ pub items-preserved-in-Some-text : goal.items-preserved-in-Some-text
 items-preserved-in-Some-text g c =
     let subject = subject_value c.in-Some.subject in
     let content = content_value c.next-last.result.content in
-    let (rows, goes, printed, sound) = c.items.invariant.rows in record {
+    let (rows, goes, printed, passed) = c.items.invariant.rows in record {
       rows = (
         rows ++ (OfCapability subject, content) ∷ [],
         goes_next (items c.args.entry.now) c.items.items c.next.new.self (listed_value (c.in-Some.subject, c.in-Some.item)) rows _ c.in-Some.ensures.some
             (one_row subject (text_in (item_value c.in-Some.item)) c.in-Some-text.text.now content c.in-Some-text.ensures c.next-last.ensures.content) goes,
         as_said (one_more_tokens row_objects rows (OfCapability subject, content)) (printed then c.print_row.ensures),
-        one_more_sound rows subject content c.items.are_sound c.is_sound-are_sound.result sound c.is_sound-are_sound.ensures,
+        one_more_sound rows subject content c.items.are_sound c.is_sound-are_sound.result passed c.is_sound-are_sound.ensures,
       );
       judged = subst (λ text. IsJudged text content) (sym c.next-last.ensures.text) c.next-last.ensures.content;
     }
 
 pub items-preserved : goal.items-preserved
 items-preserved g c =
-    let (rows, goes, printed, sound) = c.items.invariant.rows in record {
+    let (rows, goes, printed, passed) = c.items.invariant.rows in record {
       rows = (
         rows,
         goes_skip (items c.args.entry.now) c.items.items c.next.new.self (listed_value (c.in-Some.subject, c.in-Some.item)) rows c.in-Some.ensures.some
             (no_row (subject_value c.in-Some.subject) (text_in (item_value c.in-Some.item)) c.in_default-text.ensures) goes,
         printed,
-        sound,
+        passed,
       );
       judged = c.items.invariant.judged;
     }
 
 pub returns : goal.returns
 returns g c =
-    let (rows, goes, printed, sound) = c.items.invariant.rows in
-    (flat_map row_objects rows, (rows, goes_end (items c.args.entry.now) c.items.items rows c.in_default.ensures.none.0 goes, refl, sound), printed)
+    let (rows, goes, printed, passed) = c.items.invariant.rows in
+    (flat_map row_objects rows, (rows, goes_end (items c.args.entry.now) c.items.items rows c.in_default.ensures.none.0 goes, refl, passed), printed)

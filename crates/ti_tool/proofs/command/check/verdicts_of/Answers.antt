@@ -17,30 +17,30 @@ pub items-preserved-in-Some-text : goal.items-preserved-in-Some-text
 items-preserved-in-Some-text g c =
     let subject = subject_value c.in-Some.subject in
     let content = content_value c.next-last.result.content in
-    let (rows, goes, lines, sound) = c.items.invariant.rows in record {
+    let (rows, goes, lines, passed) = c.items.invariant.rows in record {
       rows = (
         rows ++ (OfCapability subject, content) ∷ [],
         goes_next (items c.args.entry.now) c.items.items c.next.new.self (listed_value (c.in-Some.subject, c.in-Some.item)) rows _ c.in-Some.ensures.some
             (one_row subject (text_in (item_value c.in-Some.item)) c.in-Some-text.text.now content c.in-Some-text.ensures c.next-last.ensures.content) goes,
         one_more_made (row_line (record { naming = c.args.naming; form = forms.Notation }) []) rows (OfCapability subject, content) [] c.items.lines.items c.push_row.new.out.items lines c.in_ok-push_row.ensures,
-        one_more_sound rows subject content c.items.sound c.is_sound-sound.result sound c.is_sound-sound.ensures,
+        one_more_sound rows subject content c.items.passed c.is_sound-passed.result passed c.is_sound-passed.ensures,
       );
       judged = subst (λ text. IsJudged text content) (sym c.next-last.ensures.text) c.next-last.ensures.content;
     }
 
 pub items-preserved : goal.items-preserved
 items-preserved g c =
-    let (rows, goes, lines, sound) = c.items.invariant.rows in record {
+    let (rows, goes, lines, passed) = c.items.invariant.rows in record {
       rows = (
         rows,
         goes_skip (items c.args.entry.now) c.items.items c.next.new.self (listed_value (c.in-Some.subject, c.in-Some.item)) rows c.in-Some.ensures.some
             (no_row (subject_value c.in-Some.subject) (text_in (item_value c.in-Some.item)) c.in_default-text.ensures) goes,
         lines,
-        sound,
+        passed,
       );
       judged = c.items.invariant.judged;
     }
 
 pub returns : goal.returns
 returns g c =
-    let (rows, goes, lines, sound) = c.items.invariant.rows in (rows, goes_end (items c.args.entry.now) c.items.items rows c.in_default.ensures.none.0 goes, lines, sound)
+    let (rows, goes, lines, passed) = c.items.invariant.rows in (rows, goes_end (items c.args.entry.now) c.items.items rows c.in_default.ensures.none.0 goes, lines, passed)

@@ -9,7 +9,7 @@ use Rattle.ti_tool.proofs.command.check.verdicts_of.Given as goal
 
 abbrev pub invariant-items : goal.invariant-items
 invariant-items g l = record {
-  rows : (rows : List RowValue) × GoesOn (items l.entry) l.items rows × (l.lines.items ≡ row_lines l.options rows) × (l.sound ≡ are_sound rows);
+  rows : (rows : List RowValue) × GoesOn (items l.entry) l.items rows × (l.lines.items ≡ row_lines l.options rows) × (l.passed ≡ are_sound rows);
   judged : IsJudged l.last.text.now (content_value l.last.content);
 }
 

@@ -7,6 +7,6 @@ use Rattle.ti_tool.proofs.command.document.document_of.Goals as goal
 
 pub returns-clause-due : goal.returns-clause-due
 returns-clause-due g c =
-    let (objects, are, printed) = c.in_ok-sound.ensures.objects in
+    let (objects, are, printed) = c.in_ok-passed.ensures.objects in
     let text = document (array (items_of objects)) c.new-printer.result c.print_document.new.printer _ c.new-printer.ensures.tokens printed c.in_ok-into_bytes.ensures.printed in
     (objects, are, c.in_ok-bytes.ensures ∙ ap (λ x. x ++ codes "\n") text)

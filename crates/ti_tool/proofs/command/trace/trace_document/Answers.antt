@@ -11,16 +11,16 @@ returns-in-Err-TextTooLong g c =
 pub returns-in-Err-Memory : goal.returns-in-Err-Memory
 returns-in-Err-Memory g c =
     let out_of_memory = c.in-Err-Memory.is ∙ ap Err c.in-Err-Memory.field-0-is in
-    let sound = (c.trace_json.ensures.memory out_of_memory).0 in
+    let passed = (c.trace_json.ensures.memory out_of_memory).0 in
     inl (
       refl,
       traced_needs c.args.parameters.now trace_forms.Json c.args.input.now
-          (expandable c.args.input.now c.args.parameters.now sound (none_too_long_traced c.trace_json.result c.args.input.now c.args.parameters.now sound c.trace_json.ensures.too_long out_of_memory)),
+          (expandable c.args.input.now c.args.parameters.now passed (none_too_long_traced c.trace_json.result c.args.input.now c.args.parameters.now passed c.trace_json.ensures.too_long out_of_memory)),
     )
 
 pub returns-in_err-as_line-in-Ok : goal.returns-in_err-as_line-in-Ok
 returns-in_err-as_line-in-Ok g c =
-    let sound = c.in-Ok.ensures.accepted in
-    let short = none_too_long_shown c.trace_json.result c.in-Ok.text c.args.input.now c.args.parameters.now sound c.trace_json.ensures.too_long c.in-Ok.is in
+    let passed = c.in-Ok.ensures.accepted in
+    let short = none_too_long_shown c.trace_json.result c.in-Ok.text c.args.input.now c.args.parameters.now passed c.trace_json.ensures.too_long c.in-Ok.is in
     out_of_memory c.from_residual.result (λ v. v.items) (IsTraced c.args.parameters.now trace_forms.Json c.args.input.now) c.from_residual.ensures.1
-    (traced_needs c.args.parameters.now trace_forms.Json c.args.input.now (expandable c.args.input.now c.args.parameters.now sound short))
+    (traced_needs c.args.parameters.now trace_forms.Json c.args.input.now (expandable c.args.input.now c.args.parameters.now passed short))

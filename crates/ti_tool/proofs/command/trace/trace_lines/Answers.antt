@@ -9,9 +9,9 @@ returns-in-Err-TextTooLong g c = inr ((c.trace.ensures.too_long c.in-Err-TextToo
 pub returns-in-Err-Memory : goal.returns-in-Err-Memory
 returns-in-Err-Memory g c =
     let out_of_memory = c.in-Err-Memory.is ∙ ap Err c.in-Err-Memory.field-0-is in
-    let sound = (c.trace.ensures.memory out_of_memory).0 in
+    let passed = (c.trace.ensures.memory out_of_memory).0 in
     inl (
       refl,
       traced_needs c.args.parameters.now (trace_forms.Lines c.args.form c.args.color) c.args.input.now
-          (expandable c.args.input.now c.args.parameters.now sound (none_too_long_traced c.trace.result c.args.input.now c.args.parameters.now sound c.trace.ensures.too_long out_of_memory)),
+          (expandable c.args.input.now c.args.parameters.now passed (none_too_long_traced c.trace.result c.args.input.now c.args.parameters.now passed c.trace.ensures.too_long out_of_memory)),
     )
