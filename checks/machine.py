@@ -61,6 +61,9 @@ PACKAGES: dict[str, tuple[str, ...]] = {
     "python3-pip": ("pip3",),
 }
 
+# Whether a check runs over another program than the proved one: rust/over.py.
+OTHER = False
+
 # The folders of compiled entries. On many machines /lib is a link to /usr/lib.
 ENTRY_FOLDERS = [Path("/etc/terminfo"), Path("/lib/terminfo"), Path("/usr/lib/terminfo"), Path("/usr/share/terminfo")]
 

@@ -24,7 +24,8 @@ from checks.machine import DIST, PROVED_ARCHIVE, PROVED_PROGRAM, ROOT, is_there,
 # The parts that test the built program and the library, those that take longest first.
 OF_PROGRAM = [
     "rust/check", "page/check", "dist/qemu", "completions/check", "model/compare 150", "docs/commands", "c/installed", "c/check",
-    "c/package", "model/names", "model/tic", "model/tput", "dist/check", "python/check", "c/header", "program/check", "program/paths",
+    "c/package", "model/names", "model/tic", "model/tput", "model/upstream", "dist/check", "python/check", "c/header", "program/check", "program/paths",
+    "program/hostile",
 ]
 WHOLE = "./gate is the whole test"
 # What a part cannot try here, for lack of one of the packages that ./neighbours installs.

@@ -70,7 +70,7 @@ _ti() {
         show) words='--escape --all-names --json --entry --help' ;;
         check) words='--escape --all-names --json --entry --help' ;;
         expand) words="--hex --escape --all-names --rate --lines --xon --entry --help $_ti_texts" ;;
-        lint) words='--all --json --color --entry --help' ;;
+        lint) words='--all --untrusted --summary --json --color --entry --help' ;;
         diff) words='--expand --json --color --help' ;;
         convert) words='--wide --narrow --force --help' ;;
         get) words="--hex --escape --rate --lines --xon --entry --help $_ti_names" ;;

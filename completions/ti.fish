@@ -20,6 +20,8 @@ complete -c ti -n '__fish_seen_subcommand_from show check expand' -l all-names -
 complete -c ti -n '__fish_seen_subcommand_from show check lint diff trace' -l json -d 'Write JSON'
 complete -c ti -n '__fish_seen_subcommand_from lint diff trace' -l color -x -a 'auto always never' -d 'When to use color'
 complete -c ti -n '__fish_seen_subcommand_from lint' -l all -d 'Report also findings that may be intended'
+complete -c ti -n '__fish_seen_subcommand_from lint' -l untrusted -d 'Also look at every arm of each string'
+complete -c ti -n '__fish_seen_subcommand_from lint' -l summary -d 'Write what was looked at on standard error'
 complete -c ti -n '__fish_seen_subcommand_from diff' -l expand -d 'Ignore differences in spelling'
 complete -c ti -n '__fish_seen_subcommand_from expand get' -l rate -x -d 'Speed of the line in bytes per second'
 complete -c ti -n '__fish_seen_subcommand_from expand get' -l lines -x -d 'Lines that the string affects'

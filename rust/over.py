@@ -13,6 +13,7 @@ from checks import machine
 def main(program: str, script: str) -> None:
     other = Path(program)
     machine.LAUNCHER = machine.PROGRAM = other
+    machine.OTHER = True
     machine.build_program = lambda: None
     path = ROOT / script
     sys.path.insert(0, str(path.parent))

@@ -21,8 +21,8 @@ ALONE = {
     "capability_tests": [],
     "notation_tests": ["padding_memory", "padding_rows", "padding_writers", "trace", "traces", "control", "controls"],
 }
-# Else these are left out of each: what Rust's own test does, and the tests of ti_control, on which the program does not stand.
-LEFT_OUT = ["tally", "control", "controls"]
+# Else what Rust's own test does is left out of each.
+LEFT_OUT = ["tally"]
 # What tests of memory that is refused take. Rust's own allocator refuses none on request, so they are not added.
 OF_MEMORY = ["LocalHeap", "Tally", "Tries", "tally_of", "GrowthsOf", "growths_of"]
 # A function, a type or what is implemented for one, at the top of a file.

@@ -108,7 +108,7 @@ def stored_case() -> Case:
 
 def folder_cases() -> Iterator[Case]:
     """All entries of this machine, a folder at a time."""
-    forms = ["show --json", "show --escape", "show --all-names", "check", "check --json", "lint", "lint --json", "lint --all --json"]
+    forms = ["show --json", "show --escape", "show --all-names", "check", "check --json", "lint", "lint --json", "lint --all --json", "lint --untrusted"]
     for folder in {folder.resolve(): folder for folder in ENTRY_FOLDERS if folder.is_dir()}.values():
         for form in forms:
             yield Case((*form.split(), str(folder)), b"")
@@ -130,7 +130,7 @@ def upper_cases(rounds: int, seed: int) -> Iterator[Case]:
     random.seed(seed)
     for _ in range(rounds):
         entry, name = an_entry(made, installed), random.choice(NAMES)
-        yield Case(("lint", *random.choice([(), ("--json",), ("--all",), ("--all", "--json"), ("--color=always",)])), entry)
+        yield Case(("lint", *random.choice([(), ("--json",), ("--all",), ("--all", "--json"), ("--untrusted",), ("--summary",), ("--color=always",)])), entry)
         yield Case((random.choice(["show", "check"]), random.choice(["--json", "--escape"])), entry)
         yield Case(("get", "-e", "--", name, *parameters(made)), entry)
         yield Case(("trace", random.choice(["--json", "--escape", "--color=always"]), "--of", name, "--", *parameters(made)), entry)

@@ -8,11 +8,6 @@ use std::io::{self, IsTerminal as _, Read, Write};
 #[derive(Clone, Copy, Debug)]
 pub struct HostRuntime;
 
-/// What has the global allocator.
-pub trait Alloc {}
-
-impl Alloc for HostRuntime {}
-
 impl HostRuntime {
     pub fn alloc(&self) -> Global {
         Global
@@ -95,19 +90,12 @@ pub fn print_error(_host: &HostRuntime, line: &str) -> io::Result<()> {
     Stderr.write_all(&[line.as_bytes(), b"\n"].concat())
 }
 
-pub mod rt {
-    /// What reaches files.
-    pub trait Files {}
-
-    impl Files for super::HostRuntime {}
-}
-
 pub mod env {
     use super::*;
 
     pub use std::env::VarError;
 
-    /// The words of the command line. One that is no UTF-8 is a fault.
+    /// The words of the command line. One that is not UTF-8 is a fault.
     pub fn args(_host: &HostRuntime) -> io::Result<impl Iterator<Item = String>> {
         let words = std::env::args_os().map(|word| word.into_string().map(String::of));
         let words: Result<std::vec::Vec<_>, _> = words.collect();
@@ -121,31 +109,32 @@ pub mod env {
 
 pub mod fs {
     use super::*;
-    use std::fs::{File, FileType, Metadata};
+    pub use std::fs::Metadata;
+    use std::fs::File;
 
-    pub fn metadata<R: rt::Files>(_host: &R, name: &str) -> io::Result<Metadata> {
+    pub fn metadata(_host: &HostRuntime, name: &str) -> io::Result<Metadata> {
         std::fs::metadata(name)
     }
 
-    pub fn open<R: rt::Files>(_host: &R, name: &str) -> io::Result<File> {
+    pub fn open(_host: &HostRuntime, name: &str) -> io::Result<File> {
         File::open(name)
     }
 
-    /// What is in a folder. A name that is no UTF-8 is a fault.
-    pub fn read_dir<R: rt::Files>(_host: &R, name: &str) -> io::Result<impl Iterator<Item = io::Result<DirEntry>>> {
+    /// What is in a folder. A name that is not UTF-8 is a fault.
+    pub fn read_dir(_host: &HostRuntime, name: &str) -> io::Result<impl Iterator<Item = io::Result<DirEntry>>> {
         let entries = std::fs::read_dir(name)?;
         Ok(entries.map(|entry| {
             let entry = entry?;
             let path = entry.path().into_os_string().into_string().map_err(|_| io::ErrorKind::InvalidFilename)?;
-            Ok(DirEntry { path: String::of(path), kind: entry.file_type() })
+            Ok(DirEntry { path: String::of(path), entry })
         }))
     }
 
-    /// A file or a folder in a folder.
+    /// A file, a folder or a link in a folder.
     #[derive(Debug)]
     pub struct DirEntry {
         path: String,
-        kind: io::Result<FileType>,
+        entry: std::fs::DirEntry,
     }
 
     impl DirEntry {
@@ -153,10 +142,47 @@ pub mod fs {
             &self.path
         }
 
-        pub fn file_type(&self) -> io::Result<FileType> {
-            match &self.kind {
-                Ok(kind) => Ok(*kind),
-                Err(fault) => Err(fault.kind().into()),
+        pub fn metadata(&self) -> io::Result<Metadata> {
+            self.entry.metadata()
+        }
+    }
+}
+
+pub mod os {
+    pub mod unix {
+        pub mod fs {
+            use std::fs::Metadata;
+
+            /// Which file it is.
+            pub trait MetadataExt {
+                fn dev(&self) -> u64;
+
+                fn ino(&self) -> u64;
+            }
+
+            #[cfg(unix)]
+            impl MetadataExt for Metadata {
+                fn dev(&self) -> u64 {
+                    std::os::unix::fs::MetadataExt::dev(self)
+                }
+
+                fn ino(&self) -> u64 {
+                    std::os::unix::fs::MetadataExt::ino(self)
+                }
+            }
+
+            /// A system that has no such numbers: each file counts as one that was not found before.
+            #[cfg(not(unix))]
+            impl MetadataExt for Metadata {
+                fn dev(&self) -> u64 {
+                    0
+                }
+
+                fn ino(&self) -> u64 {
+                    use std::sync::atomic::{AtomicU64, Ordering};
+                    static COUNT: AtomicU64 = AtomicU64::new(0);
+                    COUNT.fetch_add(1, Ordering::Relaxed)
+                }
             }
         }
     }
