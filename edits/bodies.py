@@ -108,9 +108,9 @@ def module_of(file):
 
 
 def impl_at(lines, number):
-    """The type of the impl that has the line, and the trait if it is of one. A check prints one after the other."""
+    """The type of the impl that has the line, and the trait if it is of one, without lifetimes. A check prints one after the other."""
     head = next((line for line in reversed(lines[:number]) if line.startswith("impl")), "impl ? {")
-    head = re.sub(r"^impl(<.*?>)? | where .*|\w+::", "", head).rstrip(" {")
+    head = re.sub(r"^impl(<.*?>)? | where .*|\w+::|'\w+(, )?", "", head).rstrip(" {")
     trait, _, owner = head.rpartition(" for ")
     return re.sub(r"<.*", "", owner), re.sub(r"\W", "", trait)
 
