@@ -1,21 +1,27 @@
 #!/usr/bin/env python3
-"""The last part of PROOFS.md: for each lemma file the functions whose proofs cite it, or else the lemma files that do.
+"""The last table of PROOFS.md: for each function of its facts the lemma files that its proof rests on.
 
     docs/lemmas.py
 
-writes it between two comments. A proof cites a file by `use` in the folder of its function, or by `using` above the function."""
+writes it between two comments. These are the files that its proof cites, or that of a function which it calls in its crate, or that
+of one which this calls, and so on. A proof cites a file by `use` in the folder of its function, or by `using` above the function.
+Calls are found by name, so a file may be listed that is cited by another function of the same name."""
 
 import re
 import sys
+from functools import cache
 from pathlib import Path
 
 sys.dont_write_bytecode = True
 sys.path.insert(0, str(Path(__file__).resolve().parent.parent))
 from checks.machine import ROOT
+from tables import CODE, TESTS, rows
 
 PAGE = ROOT / "docs/PROOFS.md"
 START, END = "<!-- made by docs/lemmas.py -->\n", "<!-- end of what docs/lemmas.py made -->\n"
-Place = tuple[str, str]
+FUNCTION = re.compile(r'\s*(pub )?(?:pub\([a-z]+\) )?(?:const )?(?:extern "C" )?fn (\w+)')
+CALLED = re.compile(r"\b(\w+)(?:::<[^()]*?>)?\(")
+CITED = re.compile(r"(?m)^use Rattle\.(ti_\w+)\.proofs\.(\w+Lemmas)\b")
 
 
 def owned(parts: list[str]) -> str:
@@ -23,66 +29,87 @@ def owned(parts: list[str]) -> str:
     return "::".join(parts[-2:] if len(parts) > 1 and (parts[-2][0].isupper() or parts[-2] == "laws") else parts[-1:])
 
 
-def cited_in_source(path: Path) -> list[tuple[Place, str]]:
-    """The lemma files that the functions of a source cite by `using`."""
-    crate = path.relative_to(ROOT / "crates").parts[0]
-    outside = "laws" if path.stem == "laws" else ""
-    found, owner, cited = [], outside, set()
-    for line in path.read_text().splitlines():
-        implemented = re.match(r"impl(?:<[^>]*>)? (?:.* for )?(\w+)", line)
-        if implemented or line == "}":
-            owner = implemented.group(1) if implemented else outside
-        cited.update(re.findall(r"\b(\w+)::proofs::(\w+Lemmas)\b", line))
-        function = re.match(r"\s*(?:pub(?:\([a-z]+\))? )?(?:const )?(?:extern \"C\" )?fn (\w+)", line)
-        if function:
-            parts = [part for part in [owner, function.group(1)] if part]
-            found += [((crate if of == "crate" else of, file), owned(parts)) for of, file in cited]
-            cited = set()
-    return found
+class Crate:
+    """The functions of a crate: the names that each calls, the lemma files that its proof cites, and whether it is public."""
+
+    def __init__(self, name: str) -> None:
+        self.name = name
+        self.calls: dict[str, set[str]] = {}
+        self.cited: dict[str, set[str]] = {}
+        self.public: set[str] = set()
+        top = ROOT / "crates" / name
+        for path in sorted(top.glob("src/**/*.rt")):
+            if "tests" not in path.parts:
+                self.read(path)
+        for path in sorted(top.glob("proofs/**/*.antt")):
+            parts = list(path.relative_to(top / "proofs").parts[:-1])
+            if parts:
+                for place in CITED.findall(path.read_text()):
+                    self.cite(owned(parts), *place)
+
+    def cite(self, function: str, crate: str, file: str) -> None:
+        self.cited.setdefault(function, set()).add(file if crate in ("crate", self.name) else f"{crate}::{file}")
+
+    def read(self, path: Path) -> None:
+        """Adds the functions of a source."""
+        outside = "laws" if path.stem == "laws" else ""
+        owner, name, cited = outside, "", set()
+        for line in path.read_text().splitlines():
+            implemented = re.match(r"impl(?:<[^>]*>)? (?:.* for )?(\w+)", line)
+            if implemented or line == "}":
+                owner = implemented[1] if implemented else outside
+            cited.update(re.findall(r"\b(\w+)::proofs::(\w+Lemmas)\b", line))
+            if function := FUNCTION.match(line):
+                name = owned([part for part in [owner, function[2]] if part])
+                self.calls.setdefault(name, set())
+                if function[1]:
+                    self.public.add(name)
+                for place in cited:
+                    self.cite(name, *place)
+                cited = set()
+            elif name and not re.match(r"\s*(//|ensures|requires|ghost)", line):
+                self.calls[name].update(CALLED.findall(line))
+
+    def rests_on(self, function: str) -> list[str]:
+        """The lemma files that the proof of a function rests on."""
+        reached, ahead = {function}, [function]
+        while ahead:
+            called = self.calls.get(ahead.pop(), set())
+            more = {name for name in self.calls if name.split("::")[-1] in called} - reached
+            reached |= more
+            ahead += more
+        return sorted(set().union(*(self.cited.get(name, set()) for name in reached)))
 
 
-def citations() -> tuple[dict[Place, set[str]], dict[Place, set[Place]]]:
-    """For each lemma file the functions whose proofs cite it, and the lemma files that do."""
-    functions: dict[Place, set[str]] = {}
-    files: dict[Place, set[Place]] = {}
-    for path in sorted(ROOT.glob("crates/*/proofs/**/*.antt")):
-        crate, _, *parts = path.relative_to(ROOT / "crates").parts
-        for place in re.findall(r"(?m)^use Rattle\.(ti_\w+)\.proofs\.(\w+Lemmas)\b", path.read_text()):
-            if len(parts) > 1:
-                functions.setdefault(place, set()).add(owned(parts[:-1]))
-            elif place != (crate, path.stem) and path.stem.endswith("Lemmas"):
-                files.setdefault(place, set()).add((crate, path.stem))
-    for path in sorted(ROOT.glob("crates/*/src/**/*.rt")):
-        for place, name in cited_in_source(path):
-            functions.setdefault(place, set()).add(name)
-    return functions, files
+@cache
+def crates() -> list[Crate]:
+    return [Crate(path.name) for path in sorted(ROOT.glob("crates/ti_*")) if path.name not in TESTS]
+
+
+def functions_of_facts() -> list[str]:
+    """The functions that the facts name, each once, in their order."""
+    cells = [cells[1] for cells in list(rows(PAGE.read_text(), "The facts"))[1:]]
+    return list(dict.fromkeys(name for cell in cells for name in CODE.findall(re.sub(r"\([^)]*\)", "", cell))))
 
 
 def made() -> str:
-    """The lists, one for each crate that has lemma files."""
-    functions, files = citations()
-    text = ""
-    for crate in sorted(ROOT.glob("crates/ti_*")):
-        lines = []
-        for path in sorted(crate.glob("proofs/*Lemmas.antt")):
-            place = (crate.name, path.stem)
-            citing = files.get(place, set())
-            near = {file for of, file in citing if of == crate.name} or {f"{of}::{file}" for of, file in citing}
-            names = sorted(functions.get(place, near))
-            lines.append(f"- `{path.stem}`: {', '.join(f'`{name}`' for name in names) or 'nothing'}\n")
-        if lines:
-            text += f"### `{crate.name}`\n\n" + "".join(lines) + "\n"
+    """The table: a row for each function that rests on a lemma file."""
+    text = "| Function | Lemma files |\n|---|---|\n"
+    for function in functions_of_facts():
+        files = [file for crate in crates() if function in crate.public for file in crate.rests_on(function)]
+        if files:
+            text += f"| `{function}` | {', '.join(f'`{file}`' for file in files)} |\n"
     return text
 
 
 def shown() -> str:
     """What the page has between the two comments."""
-    return PAGE.read_text().split(START, 1)[1].split(END, 1)[0].lstrip("\n")
+    return PAGE.read_text().split(START, 1)[1].split(END, 1)[0].strip("\n") + "\n"
 
 
 def main() -> None:
     before, rest = PAGE.read_text().split(START, 1)
-    PAGE.write_text(before + START + "\n" + made() + END + rest.split(END, 1)[1])
+    PAGE.write_text(before + START + "\n" + made() + "\n" + END + rest.split(END, 1)[1])
 
 
 if __name__ == "__main__":

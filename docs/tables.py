@@ -61,6 +61,32 @@ def clauses(crate: str) -> dict[str, set[str]]:
     return found
 
 
+def exported(crate: str) -> set[str]:
+    """What the root file of a crate shows to other crates."""
+    text = (ROOT / "crates" / crate / "src/lib.rt").read_text()
+    shown = " ".join(re.findall(r"(?s)^pub use (?:\w+::)*(.*?);", text, re.M))
+    return set(re.findall(r"\w+", shown)) | ({"laws"} if "pub mod laws;" in text else set())
+
+
+def public_clauses(crate: str) -> Iterator[tuple[str, str]]:
+    """The named clauses of the functions that other crates can call, and of the methods of the types that they see."""
+    shown = exported(crate)
+    for path in sorted((ROOT / "crates" / crate / "src").rglob("*.rt")):
+        if "tests" in path.parts:
+            continue
+        owner, function = None, None
+        for line in path.read_text().splitlines():
+            start = re.match(r"impl(?:<[^>]*>)? (?!.* for )(\w+)", line)
+            owner = start.group(1) if start else None if line == "}" else owner
+            start = re.match(r"\s*(pub(?:\([a-z]+\))? )?(?:const )?(?:extern \"C\" )?fn (\w+)", line)
+            if start:
+                seen = owner or ("laws" if path.stem == "laws" else start.group(2))
+                function = start.group(2) if start.group(1) == "pub " and seen in shown else None
+            clause = re.match(r"\s*ensures\s+(\w+)\s*\{", line)
+            if clause and function:
+                yield function, clause.group(1)
+
+
 def cells_of(line: str) -> list[str]:
     """The cells of a line of a table."""
     return [cell.strip() for cell in line.strip("|").split("|")]
@@ -76,23 +102,27 @@ def rows(text: str, heading: str) -> Iterator[list[str]]:
 
 
 def check_tables(tell: Tell) -> None:
-    """Each function and clause of the table in a crate's README is in the crate."""
+    """Each function and clause of the table in a crate's README is in the crate, and each named clause of a public function is in
+    the table."""
     for path in sorted(ROOT.glob("crates/*/README.md")):
         crate = path.parent.name
         if crate in TESTS:
             continue
-        known = clauses(crate)
-        functions = []
+        known, functions = clauses(crate), []
+        listed: dict[str, set[str]] = {}
         for cells in list(rows(path.read_text(), "What is proved"))[1:]:
             named = [word.split("::")[-1] for word in CODE.findall(cells[0])]
             functions = named or functions
             for function in functions:
+                listed.setdefault(function, set()).update(CODE.findall(cells[1]))
                 tell(function in known, f"{crate}/README.md: no function {function}")
             for clause in CODE.findall(cells[1]):
                 tell(
                     any(clause in known.get(function, ()) for function in functions),
                     f"{crate}/README.md: no clause {clause} at {functions}",
                 )
+        for function, clause in public_clauses(crate):
+            tell(clause in listed.get(function, ()), f"{crate}/README.md: the clause {clause} of {function} is not listed")
 
 
 def check_headline(text: str, heading: str, tell: Tell) -> None:
