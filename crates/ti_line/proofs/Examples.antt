@@ -1,96 +1,103 @@
 -- Worked rows of the command line.
-use Rattle.std.proofs.Common.{◌≡◌, [], ◌∷◌, true, false, refl}
-use Rattle.std.specs.Prelude.{None, Some, codes}
+use Rattle.std.proofs.Common.{◌≡◌, List, [], ◌∷◌, true, false, map, refl}
+use Rattle.std.specs.Prelude.{codes, filter}
+use Rattle.clap.specs.Facts.{explicit_source}
+use Rattle.clap.specs.Words.{Row, Text}
 use Rattle.clap.proofs.OnLiterals.{clap_on_literals}
-use Rattle.ti_line.specs.CommandLine.{AsksForHelp, Cap, Check, Convert, Diff, Expand, Get, IsRefused, Lint, Reads, Show, Trace, files_of, has_summary}
+use Rattle.ti_line.specs.CommandLine.{AsksForHelp, Cap, Check, Command, Convert, Diff, Expand, Get, IsRefused, Lint, Reads, Show, Trace, files_of, has_summary}
+
+-- words are read as a subcommand with these values of arguments, besides the defaults
+abbrev IsReadAs : List Text → Command → List (Text × List Text) → Type 0
+IsReadAs words command given =
+    (rows : List Row) × Reads words command rows × (map (λ r. (r.id, r.values)) (filter (λ r. explicit_source r.source) rows) ≡ given)
 
 -- `ti cap n:4 --hex n:9`
-cap_row : Reads (codes "ti" ∷ codes "cap" ∷ codes "n:4" ∷ codes "--hex" ∷ codes "n:9" ∷ []) (Cap false true false (codes "n:4" ∷ codes "n:9" ∷ []))
+cap_row : IsReadAs (codes "ti" ∷ codes "cap" ∷ codes "n:4" ∷ codes "--hex" ∷ codes "n:9" ∷ []) Cap ((codes "PARAM", codes "n:4" ∷ codes "n:9" ∷ []) ∷ (codes "hex", codes "true" ∷ []) ∷ [])
 unfolding clap_on_literals
-cap_row = (refl, refl)
+cap_row = (_, (refl, refl), refl)
 
 -- `ti cap n:7 --source`
-source_row : Reads (codes "ti" ∷ codes "cap" ∷ codes "n:7" ∷ codes "--source" ∷ []) (Cap true false false (codes "n:7" ∷ []))
+source_row : IsReadAs (codes "ti" ∷ codes "cap" ∷ codes "n:7" ∷ codes "--source" ∷ []) Cap ((codes "PARAM", codes "n:7" ∷ []) ∷ (codes "source", codes "true" ∷ []) ∷ [])
 unfolding clap_on_literals
-source_row = (refl, refl)
+source_row = (_, (refl, refl), refl)
 
 -- `ti trace n:7 --escape`
-trace_row : Reads (codes "ti" ∷ codes "trace" ∷ codes "n:7" ∷ codes "--escape" ∷ []) (Trace false None false true None false (codes "n:7" ∷ []))
+trace_row : IsReadAs (codes "ti" ∷ codes "trace" ∷ codes "n:7" ∷ codes "--escape" ∷ []) Trace ((codes "PARAM", codes "n:7" ∷ []) ∷ (codes "escape", codes "true" ∷ []) ∷ [])
 unfolding clap_on_literals
-trace_row = (refl, refl)
+trace_row = (_, (refl, refl), refl)
 
 -- `ti trace --of cup 7 --entry a`
-trace_of_row : Reads (codes "ti" ∷ codes "trace" ∷ codes "--of" ∷ codes "cup" ∷ codes "7" ∷ codes "--entry" ∷ codes "a" ∷ []) (Trace false (Some (codes "cup")) false false None true (codes "7" ∷ []))
+trace_of_row : IsReadAs (codes "ti" ∷ codes "trace" ∷ codes "--of" ∷ codes "cup" ∷ codes "7" ∷ codes "--entry" ∷ codes "a" ∷ []) Trace ((codes "NAME", codes "cup" ∷ []) ∷ (codes "PARAM", codes "7" ∷ []) ∷ (codes "ENTRY", codes "a" ∷ []) ∷ [])
 unfolding clap_on_literals
-trace_of_row = (refl, refl)
+trace_of_row = (_, (refl, refl), refl)
 
 -- `ti trace --source --of cup`
-both_inputs_row : Reads (codes "ti" ∷ codes "trace" ∷ codes "--source" ∷ codes "--of" ∷ codes "cup" ∷ []) (Trace true (Some (codes "cup")) false false None false [])
+both_inputs_row : IsReadAs (codes "ti" ∷ codes "trace" ∷ codes "--source" ∷ codes "--of" ∷ codes "cup" ∷ []) Trace ((codes "source", codes "true" ∷ []) ∷ (codes "NAME", codes "cup" ∷ []) ∷ [])
 unfolding clap_on_literals
-both_inputs_row = (refl, refl)
+both_inputs_row = (_, (refl, refl), refl)
 
 -- `ti show`
-show_row : Reads (codes "ti" ∷ codes "show" ∷ []) (Show false false false)
+show_row : IsReadAs (codes "ti" ∷ codes "show" ∷ []) Show []
 unfolding clap_on_literals
-show_row = (refl, refl)
+show_row = (_, (refl, refl), refl)
 
 -- `ti show --escape`
-escape_row : Reads (codes "ti" ∷ codes "show" ∷ codes "--escape" ∷ []) (Show false true false)
+escape_row : IsReadAs (codes "ti" ∷ codes "show" ∷ codes "--escape" ∷ []) Show ((codes "escape", codes "true" ∷ []) ∷ [])
 unfolding clap_on_literals
-escape_row = (refl, refl)
+escape_row = (_, (refl, refl), refl)
 
 -- `ti show --json`
-json_row : Reads (codes "ti" ∷ codes "show" ∷ codes "--json" ∷ []) (Show true false false)
+json_row : IsReadAs (codes "ti" ∷ codes "show" ∷ codes "--json" ∷ []) Show ((codes "json", codes "true" ∷ []) ∷ [])
 unfolding clap_on_literals
-json_row = (refl, refl)
+json_row = (_, (refl, refl), refl)
 
 -- `ti check --all-names`
-names_row : Reads (codes "ti" ∷ codes "check" ∷ codes "--all-names" ∷ []) (Check false false true)
+names_row : IsReadAs (codes "ti" ∷ codes "check" ∷ codes "--all-names" ∷ []) Check ((codes "all-names", codes "true" ∷ []) ∷ [])
 unfolding clap_on_literals
-names_row = (refl, refl)
+names_row = (_, (refl, refl), refl)
 
 -- `ti convert --wide`
-wide_row : Reads (codes "ti" ∷ codes "convert" ∷ codes "--wide" ∷ []) (Convert true false false)
+wide_row : IsReadAs (codes "ti" ∷ codes "convert" ∷ codes "--wide" ∷ []) Convert ((codes "wide", codes "true" ∷ []) ∷ [])
 unfolding clap_on_literals
-wide_row = (refl, refl)
+wide_row = (_, (refl, refl), refl)
 
 -- `ti convert --narrow --wide`
-both_row : Reads (codes "ti" ∷ codes "convert" ∷ codes "--narrow" ∷ codes "--wide" ∷ []) (Convert true true false)
+both_row : IsReadAs (codes "ti" ∷ codes "convert" ∷ codes "--narrow" ∷ codes "--wide" ∷ []) Convert ((codes "narrow", codes "true" ∷ []) ∷ (codes "wide", codes "true" ∷ []) ∷ [])
 unfolding clap_on_literals
-both_row = (refl, refl)
+both_row = (_, (refl, refl), refl)
 
 -- `ti expand --rate 960 cup`
-expand_row : Reads (codes "ti" ∷ codes "expand" ∷ codes "--rate" ∷ codes "960" ∷ codes "cup" ∷ []) (Expand (codes "cup") false false false 960 1 false [])
+expand_row : IsReadAs (codes "ti" ∷ codes "expand" ∷ codes "--rate" ∷ codes "960" ∷ codes "cup" ∷ []) Expand ((codes "rate", codes "960" ∷ []) ∷ (codes "NAME", codes "cup" ∷ []) ∷ [])
 unfolding clap_on_literals
-expand_row = (refl, refl)
+expand_row = (_, (refl, refl), refl)
 
 -- `ti get cup 4 -- -9`
-get_row : Reads (codes "ti" ∷ codes "get" ∷ codes "cup" ∷ codes "4" ∷ codes "--" ∷ codes "-9" ∷ []) (Get (codes "cup") false false 0 1 false (codes "4" ∷ codes "-9" ∷ []))
+get_row : IsReadAs (codes "ti" ∷ codes "get" ∷ codes "cup" ∷ codes "4" ∷ codes "--" ∷ codes "-9" ∷ []) Get ((codes "NAME", codes "cup" ∷ []) ∷ (codes "PARAM", codes "4" ∷ codes "-9" ∷ []) ∷ [])
 unfolding clap_on_literals
-get_row = (refl, refl)
+get_row = (_, (refl, refl), refl)
 
 -- `ti lint a`
-lint_row : Reads (codes "ti" ∷ codes "lint" ∷ codes "a" ∷ []) (Lint false false false None)
+lint_row : IsReadAs (codes "ti" ∷ codes "lint" ∷ codes "a" ∷ []) Lint ((codes "FILE", codes "a" ∷ []) ∷ [])
 unfolding clap_on_literals
-lint_row = (refl, refl)
+lint_row = (_, (refl, refl), refl)
 
 -- `ti diff a b`
-diff_row : Reads (codes "ti" ∷ codes "diff" ∷ codes "a" ∷ codes "b" ∷ []) (Diff false false None (codes "a" ∷ codes "b" ∷ []))
+diff_row : IsReadAs (codes "ti" ∷ codes "diff" ∷ codes "a" ∷ codes "b" ∷ []) Diff ((codes "FILE", codes "a" ∷ codes "b" ∷ []) ∷ [])
 unfolding clap_on_literals
-diff_row = (refl, refl)
+diff_row = (_, (refl, refl), refl)
 
 -- `ti lint --json --all --untrusted`, `ti diff --color=never a b` and `ti trace --json --color always`
-lint_json_row : Reads (codes "ti" ∷ codes "lint" ∷ codes "--json" ∷ codes "--all" ∷ codes "--untrusted" ∷ []) (Lint true true true None)
+lint_json_row : IsReadAs (codes "ti" ∷ codes "lint" ∷ codes "--json" ∷ codes "--all" ∷ codes "--untrusted" ∷ []) Lint ((codes "json", codes "true" ∷ []) ∷ (codes "all", codes "true" ∷ []) ∷ (codes "untrusted", codes "true" ∷ []) ∷ [])
 unfolding clap_on_literals
-lint_json_row = (refl, refl)
+lint_json_row = (_, (refl, refl), refl)
 
-color_row : Reads (codes "ti" ∷ codes "diff" ∷ codes "--color=never" ∷ codes "a" ∷ codes "b" ∷ []) (Diff false false (Some (codes "never")) (codes "a" ∷ codes "b" ∷ []))
+color_row : IsReadAs (codes "ti" ∷ codes "diff" ∷ codes "--color=never" ∷ codes "a" ∷ codes "b" ∷ []) Diff ((codes "color", codes "never" ∷ []) ∷ (codes "FILE", codes "a" ∷ codes "b" ∷ []) ∷ [])
 unfolding clap_on_literals
-color_row = (refl, refl)
+color_row = (_, (refl, refl), refl)
 
-trace_json_row : Reads (codes "ti" ∷ codes "trace" ∷ codes "--json" ∷ codes "--color" ∷ codes "always" ∷ []) (Trace false None true false (Some (codes "always")) false [])
+trace_json_row : IsReadAs (codes "ti" ∷ codes "trace" ∷ codes "--json" ∷ codes "--color" ∷ codes "always" ∷ []) Trace ((codes "json", codes "true" ∷ []) ∷ (codes "color", codes "always" ∷ []) ∷ [])
 unfolding clap_on_literals
-trace_json_row = (refl, refl)
+trace_json_row = (_, (refl, refl), refl)
 
 -- `ti check a b` and `ti get cup --entry a` name files, and `ti show -` names none
 several_row : files_of (codes "ti" ∷ codes "check" ∷ codes "a" ∷ codes "b" ∷ []) ≡ codes "a" ∷ codes "b" ∷ []

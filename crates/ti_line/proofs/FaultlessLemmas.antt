@@ -1,5 +1,5 @@
--- Words on which `clap` finds no fault make a line.
-use Rattle.std.proofs.Common.{◌≡◌, ◌≤◌, ◌==◌, ◌||◌, ◌&&◌, ℕ, Bool, true, false, not, zero, suc, length, refl, sym, ◌∙◌, subst, true≢false, arith, List, [], ◌∷◌, Option, Some, None, is_some, cond, IfSome, nat_lt, nat_le, leb-true, le-leb, codes, drop, unwrap_or}
+-- Words on which `clap` finds no fault are read, and what is wanted is there.
+use Rattle.std.proofs.Common.{◌≡◌, ◌≤◌, ◌==◌, ◌||◌, ◌&&◌, ℕ, Bool, true, false, not, zero, suc, length, refl, sym, ◌∙◌, ap, subst, true≢false, arith, List, [], ◌∷◌, Option, Some, None, is_some, cond, IfSome, nat_lt, nat_le, leb-true, le-leb, codes, drop, unwrap_or}
 use Rattle.std.specs.Prelude.{int_le, pos, neg_ℤ, slice_get, option_and_then, option_map, if◌then◌else◌}
 use Rattle.std.specs.Char.{digit_value}
 use Rattle.std.specs.List.{find, fold}
@@ -24,9 +24,8 @@ use Rattle.clap.specs.declared.builder.value_parser.ValueParser.{ValueParser}
 use Rattle.clap.specs.declared.builder.value_parser.ValueParser.TheVariants as vp
 use Rattle.clap.specs.declared.error.kind.ErrorKind.TheVariants as kind
 use Rattle.ti_base.specs.Limits.{greatest_rate, most_lines}
-use Rattle.ti_line.specs.CommandLine.{Diff, Line, expand_app, expand_by, expand_of, faults, flag_in, get_app, get_by, get_of, lines_rule, name_rule, number_rule, rate_rule, number_in, number_or, ranged, Reads, line_by, line_in, ti_app, words_in}
-use Rattle.ti_line.specs.Laws.{IsWithin}
-use Rattle.ti_line.proofs.LawsLemmas.{none_some, some_is}
+use Rattle.ti_line.specs.CommandLine.{AreRead, Command, HasNameAndNumbers, IsComplete, Reads, command_in, command_of, expand_app, faults, get_app, lines_rule, name_rule, number_in, number_or, number_rule, rate_rule, ti_app}
+use Rattle.ti_line.proofs.LawsLemmas.{none_some, same}
 use Rattle.ti_line.proofs.RowsLemmas.{Each, FirstIs, Fits, Gives, is_count, neither, row_found, rows_fit}
 
 -- ---- the subcommand that a walk stops at is not `help`
@@ -227,14 +226,7 @@ each_weaker : {X : Type 0} (P Q : X → Type 0) (xs : List X) → ((x : X) → P
 each_weaker P Q [] f h = tt
 each_weaker P Q (x ∷ xs) f h = (f x h.0, each_weaker P Q xs f h.1)
 
--- ---- the line
-
-abbrev HasLine : Option Line → Type 0
-HasLine o = (line : Line) × (o ≡ Some line)
-
-made : (b : Bool) (action : Line) → b ≡ true → HasLine (cond b (Some action) None)
-made true action e = (action, refl)
-made false action e = absurd (true≢false (sym e))
+-- ---- a name and numbers
 
 number_low : (id : Text) (default most : ℕ) (rows : List Row) → default ≤ most → Each (Fits id (IsLow default most)) rows → number_in id default rows ≤ most
 number_low id default most rows low all = go (find (λ r. bytes_eq r.id id) rows) (row_found id (IsLow default most) rows all)
@@ -247,16 +239,14 @@ number_low id default most rows low all = go (find (λ r. bytes_eq r.id id) rows
     go None f = low
     go (Some r) f = by r.reading r.values f
 
--- the numbers that were found are within their ranges
-abbrev are_within : List Row → Bool
-are_within rows = nat_le (number_in (codes "rate") 0 rows) greatest_rate && nat_le (number_in (codes "lines") 1 rows) most_lines
-
--- a command that wants a name, and makes a line of it and of numbers within their ranges
-named_line : (s : Shape) (by : List Row → Text → Option Line) → Each GivesEach s.rules → ((rows : List Row) → check_fault s rows false ≡ [] → is_given (codes "NAME") rows ≡ true)
-    → ((rows : List Row) (name : Text) → are_within rows ≡ true → HasLine (by rows name)) → (words : List Text) → level_fault s [] nothing_held words false [] ≡ []
-    → HasLine (option_and_then (by (rows_after s.rules [] words)) (first_of (codes "NAME") (rows_after s.rules [] words)))
-named_line s by all wants makes words e =
-    go (find (λ r. bytes_eq r.id (codes "NAME")) rows) (row_found _ Any rows (rows_fit _ Any s [] words (each_weaker GivesEach _ s.rules (λ a g. g.0) all) e)) given
+-- a command that wants a name, and takes numbers
+named_line : (s : Shape) → Each GivesEach s.rules → ((rows : List Row) → check_fault s rows false ≡ [] → is_given (codes "NAME") rows ≡ true) → (words : List Text) → level_fault s [] nothing_held words false [] ≡ []
+    → HasNameAndNumbers (rows_after s.rules [] words)
+named_line s all wants words e = (
+  go (find (λ r. bytes_eq r.id (codes "NAME")) rows) (row_found _ Any rows (rows_fit _ Any s [] words (each_weaker GivesEach _ s.rules (λ a g. g.0) all) e)) given,
+  number_low (codes "rate") 0 greatest_rate rows (omega arith) (rows_fit _ _ s [] words (each_weaker GivesEach _ s.rules (λ a g. g.1) all) e),
+  number_low (codes "lines") 1 most_lines rows (omega arith) (rows_fit _ _ s [] words (each_weaker GivesEach _ s.rules (λ a g. g.2) all) e),
+)
   where
     rows : List Row
     rows = rows_after s.rules [] words
@@ -267,18 +257,11 @@ named_line s by all wants makes words e =
     given : is_given (codes "NAME") rows ≡ true
     given = wants rows (neither (defaults_fault (settled s.rules end).rows s.rules) _ (neither (settle_fault s.rules s.args_override_self end) _ (neither (walk_fault s [] (walk_from nothing_held) words) _ e).1).1).1
 
-    low : are_within rows ≡ true
-    low = rw (
-      le-leb _ _ (number_low (codes "rate") 0 greatest_rate rows (omega arith) (rows_fit _ _ s [] words (each_weaker GivesEach _ s.rules (λ a g. g.1) all) e)),
-      le-leb _ _ (number_low (codes "lines") 1 most_lines rows (omega arith) (rows_fit _ _ s [] words (each_weaker GivesEach _ s.rules (λ a g. g.2) all) e)),
-    ) refl
-
-    called : (values : List Text) (how : Reading) → FirstIs Any how values → HasLine (option_and_then (by rows) (slice_get values 0))
+    called : (values : List Text) (how : Reading) → FirstIs Any how values → is_some (slice_get values 0) ≡ true
     called [] how f = absurd f
-    called (v ∷ vs) how f = makes rows v low
+    called (v ∷ vs) how f = refl
 
-    go : (o : Option Row) → IfSome o (λ r. FirstIs Any r.reading r.values) → option_map_or (λ r. explicit_source r.source) o false ≡ true
-        → HasLine (option_and_then (by rows) (option_and_then (λ r. slice_get r.values 0) o))
+    go : (o : Option Row) → IfSome o (λ r. FirstIs Any r.reading r.values) → option_map_or (λ r. explicit_source r.source) o false ≡ true → is_some (option_and_then (λ r. slice_get r.values 0) o) ≡ true
     go None f g = absurd (true≢false (sym g))
     go (Some r) f g = called r.values r.reading f
 
@@ -289,8 +272,8 @@ wanted false f = absurd (cc)
 abbrev expand_shape : Shape
 expand_shape = built_leaf (inherited (built ti_app).top expand_app.top)
 
-expand_line : (words : List Text) → level_fault expand_shape [] nothing_held words false [] ≡ [] → HasLine (line_by (codes "expand") (rows_after expand_shape.rules [] words))
-expand_line = named_line expand_shape expand_by all (λ rows f. wanted (is_given (codes "NAME") rows) f) (λ rows name low. made _ _ low)
+expand_line : (words : List Text) → level_fault expand_shape [] nothing_held words false [] ≡ [] → HasNameAndNumbers (rows_after expand_shape.rules [] words)
+expand_line = named_line expand_shape all (λ rows f. wanted (is_given (codes "NAME") rows) f)
   where
     all : Each GivesEach expand_shape.rules
     all = (named, (none _ refl refl refl refl, (none _ refl refl refl refl, (none _ refl refl refl refl, (rated, (lined, (none _ refl refl refl refl, (none _ refl refl refl refl, (none _ refl refl refl refl, (none _ refl refl refl refl, tt))))))))))
@@ -298,8 +281,8 @@ expand_line = named_line expand_shape expand_by all (λ rows f. wanted (is_given
 abbrev get_shape : Shape
 get_shape = built_leaf (inherited (built ti_app).top get_app.top)
 
-get_line : (words : List Text) → level_fault get_shape [] nothing_held words false [] ≡ [] → HasLine (line_by (codes "get") (rows_after get_shape.rules [] words))
-get_line = named_line get_shape get_by all (λ rows f. wanted (is_given (codes "NAME") rows) f) (λ rows name low. made _ _ low)
+get_line : (words : List Text) → level_fault get_shape [] nothing_held words false [] ≡ [] → HasNameAndNumbers (rows_after get_shape.rules [] words)
+get_line = named_line get_shape all (λ rows f. wanted (is_given (codes "NAME") rows) f)
   where
     all : Each GivesEach get_shape.rules
     all = (named, (none _ refl refl refl refl, (none _ refl refl refl refl, (rated, (lined, (none _ refl refl refl refl, (none _ refl refl refl refl, (none _ refl refl refl refl, (none _ refl refl refl refl, tt)))))))))
@@ -314,13 +297,17 @@ found_so P test (x ∷ xs) h = go (test x) refl (found_so P test xs h.1)
     go true e more = h.0 e
     go false e more = more
 
--- a subcommand whose words have no fault asks for something
-abbrev Asks : Text × List Text → Shape → Type 0
-Asks p s = level_fault s [] nothing_held p.1 false [] ≡ [] → HasLine (line_by s.name (rows_after s.rules [] p.1))
+-- a subcommand is found, and what it wants is there
+abbrev pub IsFound : Option (Command × List Row) → Type 0
+IsFound found = (command : Command) × (rows : List Row) × (found ≡ Some (command, rows)) × IsComplete command rows
 
-all_ask : (p : Text × List Text) → NotHelp p.0 → Each (λ s. answers_to p.0 (label_of s) ≡ true → Asks p s) (built ti_app).subs
-all_ask p past =
-    (λ t e. (_, refl), (λ t e. (_, refl), (λ t e. (_, refl), (λ t e. get_line p.1 e, (λ t e. (_, refl), (λ t e. expand_line p.1 e, (λ t e. (_, refl), (λ t e. (_, refl), (λ t e. (_, refl), (λ t e. absurd (help t), tt))))))))))
+-- as one is whose words have no fault
+abbrev Finds : Text × List Text → Shape → Type 0
+Finds p s = level_fault s [] nothing_held p.1 false [] ≡ [] → IsFound (command_in (Some (s.name, rows_after s.rules [] p.1)))
+
+all_find : (p : Text × List Text) → NotHelp p.0 → Each (λ s. answers_to p.0 (label_of s) ≡ true → Finds p s) (built ti_app).subs
+all_find p past =
+    (λ t e. (_, _, refl, tt), (λ t e. (_, _, refl, tt), (λ t e. (_, _, refl, tt), (λ t e. (_, _, refl, get_line p.1 e), (λ t e. (_, _, refl, tt), (λ t e. (_, _, refl, expand_line p.1 e), (λ t e. (_, _, refl, tt), (λ t e. (_, _, refl, tt), (λ t e. (_, _, refl, tt), (λ t e. absurd (help t), tt))))))))))
   where
     help : (bytes_eq (codes "help") p.0 || false) ≡ true → ⊥
     help t = go (bytes_eq (codes "help") p.0) refl t
@@ -331,9 +318,9 @@ all_ask p past =
             true≢false (subst (λ (name : Text). bytes_eq name (codes "help") ≡ false) (sym same) past)
         go false is f = true≢false (sym f)
 
--- words on which there is no fault make a line
-pub has_line : (words : List Text) → faults words ≡ [] → HasLine (line_in (subcommand_of ti_app words))
-has_line words e = go stop (walk_past (built ti_app).top (names_of (built ti_app)) refl (walk_from nothing_held) rest level.0 tt) below here
+-- words on which there is no fault are read
+pub is_found : (words : List Text) → faults words ≡ [] → IsFound (command_in (subcommand_of ti_app words))
+is_found words e = go stop (walk_past (built ti_app).top (names_of (built ti_app)) refl (walk_from nothing_held) rest level.0 tt) below here
   where
     rest : List Text
     rest = argument_words ti_app words
@@ -358,48 +345,49 @@ has_line words e = go stop (walk_past (built ti_app).top (names_of (built ti_app
         by true f = refl
         by false f = absurd (cc)
 
-    go : (o : Option (Text × List Text)) → IfSome o (λ p. NotHelp p.0) → entered_fault (built ti_app) o ≡ [] → is_some (entered (built ti_app) o) ≡ true → HasLine (line_in (entered (built ti_app) o))
+    go : (o : Option (Text × List Text)) → IfSome o (λ p. NotHelp p.0) → entered_fault (built ti_app) o ≡ [] → is_some (entered (built ti_app) o) ≡ true → IsFound (command_in (entered (built ti_app) o))
     go None past f h = absurd (true≢false (sym h))
-    go (Some p) past f h = by (find (λ s. answers_to p.0 (label_of s)) (built ti_app).subs) (found_so (Asks p) (λ s. answers_to p.0 (label_of s)) (built ti_app).subs (all_ask p past)) f h
+    go (Some p) past f h = by (find (λ s. answers_to p.0 (label_of s)) (built ti_app).subs) (found_so (Finds p) (λ s. answers_to p.0 (label_of s)) (built ti_app).subs (all_find p past)) f h
       where
-        by : (o : Option Shape) → IfSome o (Asks p) → option_map_or (λ s. level_fault s [] nothing_held p.1 false []) o [] ≡ [] → is_some (option_map (λ s. rows_at s p.1) o) ≡ true
-            → HasLine (line_in (option_map (λ s. rows_at s p.1) o))
+        by : (o : Option Shape) → IfSome o (Finds p) → option_map_or (λ s. level_fault s [] nothing_held p.1 false []) o [] ≡ [] → is_some (option_map (λ s. rows_at s p.1) o) ≡ true
+            → IsFound (command_in (option_map (λ s. rows_at s p.1) o))
         by None asks f h = absurd (true≢false (sym h))
         by (Some s) asks f h = asks f
 
-pub line_made : (words : List Text) → faults words ≡ [] → (line : Line) × Reads words line
-line_made words e =
-    let action = has_line words e in
-    (action.0, (e, action.1))
+pub line_made : (words : List Text) → faults words ≡ [] → AreRead words
+line_made words e = let (command, rows, is, complete) = is_found words e in (command, rows, (e, is))
 
--- ---- the numbers of a line
+-- words that are read have what is wanted
+pub all_complete : (words : List Text) (command : Command) (rows : List Row) → Reads words command rows → IsComplete command rows
+all_complete words command rows read =
+    let (found, values, is, complete) = is_found words read.0 in
+    let P : Command × List Row → Type 0 = λ p. IsComplete p.0 p.1 in
+    subst P (same _ (found, values) (command, rows) is read.1) complete
 
-either : (b : Bool) (x y : Option Line) → IfSome x IsWithin → IfSome y IsWithin → IfSome (if b then x else y) IsWithin
-either true x y h k = h
-either false x y h k = k
+-- ---- of a subcommand that was found
 
--- numbers that make a line are within their ranges
-bounded : (rows : List Row) (line : Text → ℕ → ℕ → Line) → ((name : Text) (rate lines : ℕ) → (rate ≤ greatest_rate) × (lines ≤ most_lines) → IsWithin (line name rate lines))
-    → (name : Option Text) → IfSome (option_and_then (λ n. ranged rows (line n)) name) IsWithin
-bounded rows line h None = tt
-bounded rows line h (Some name) = go (are_within rows) refl
+pub found_complete : (words : List Text) (name : Text) (rows : List Row) → Some (name, rows) ≡ subcommand_of ti_app words → faults words ≡ [] → IsFound (command_in (Some (name, rows)))
+found_complete words name rows found none = subst IsFound (sym (ap command_in found)) (is_found words none)
+
+pub known : (name : Text) (rows : List Row) → IsFound (command_in (Some (name, rows))) → is_some (command_of name) ≡ true
+known name rows = go (command_of name)
   where
-    go : (b : Bool) → are_within rows ≡ b → IfSome (if b then Some (line name (number_in (codes "rate") 0 rows) (number_in (codes "lines") 1 rows)) else None) IsWithin
-    go false e = tt
-    go true e = let parts = both _ _ e in h name _ _ (leb-true _ _ parts.0, leb-true _ _ parts.1)
+    go : (o : Option Command) → IsFound (option_map {U = Command × List Row} (λ command. (command, rows)) o) → is_some o ≡ true
+    go None (command, values, is, whole) = absurd (none_some None _ refl is)
+    go (Some found) f = refl
 
-line_within : (command : Text) (rows : List Row) → IfSome (line_by command rows) IsWithin
-line_within command rows =
-    either (bytes_eq command (codes "cap")) _ _ tt
-    (either (bytes_eq command (codes "trace")) _ _ tt
-    (either (bytes_eq command (codes "show")) _ _ tt
-    (either (bytes_eq command (codes "check")) _ _ tt
-    (either (bytes_eq command (codes "lint")) _ _ tt
-    (either (bytes_eq command (codes "expand")) _ _ (bounded rows (expand_of rows) (λ name rate lines low. low) (first_of (codes "NAME") rows))
-    (either (bytes_eq command (codes "convert")) _ _ tt
-    (either (bytes_eq command (codes "get")) _ _ (bounded rows (get_of rows) (λ name rate lines low. low) (first_of (codes "NAME") rows))
-    (either (bytes_eq command (codes "diff")) (Some (Diff (flag_in (codes "json") rows) (flag_in (codes "expand") rows) (first_of (codes "color") rows) (words_in (codes "FILE") rows))) None tt tt))))))))
+pub complete : (name : Text) (rows : List Row) → IsFound (command_in (Some (name, rows))) → IfSome (command_of name) (λ command. IsComplete command rows)
+complete name rows = go (command_of name)
+  where
+    go : (o : Option Command) → IsFound (option_map {U = Command × List Row} (λ command. (command, rows)) o) → IfSome o (λ command. IsComplete command rows)
+    go None f = tt
+    go (Some found) (command, values, is, whole) =
+        let P : Command × List Row → Type 0 = λ p. IsComplete p.0 p.1 in
+        subst P (same _ (command, values) (found, rows) is refl) whole
 
-pub within_request : (found : Option (Text × List Row)) (line : Line) → line_in found ≡ Some line → IsWithin line
-within_request None line e = absurd (none_some None line refl e)
-within_request (Some p) line e = some_is (line_by p.0 p.1) IsWithin line (line_within p.0 p.1) e
+pub of_found : (name : Text) (rows : List Row) (P : Command → Type 0) → IsFound (command_in (Some (name, rows))) → IfSome (command_of name) P → (command : Command) × (command_in (Some (name, rows)) ≡ Some (command, rows)) × P command
+of_found name rows P = go (command_of name)
+  where
+    go : (o : Option Command) → IsFound (option_map {U = Command × List Row} (λ x. (x, rows)) o) → IfSome o P → (command : Command) × (option_map {U = Command × List Row} (λ x. (x, rows)) o ≡ Some (command, rows)) × P command
+    go None (command, values, is, whole) p = absurd (none_some None _ refl is)
+    go (Some found) f p = (found, refl, p)

@@ -4,6 +4,5 @@ pub mod LawsLemmas
 pub mod RowsLemmas
 pub mod FaultlessLemmas
 pub mod ExplainsLemmas
-pub mod ActionLemmas
 pub mod Examples
 pub mod AreParamsLemmas

@@ -1,7 +1,7 @@
 -- The command line of `ti`: the command that is handed to `clap`, what words ask for by it, and the
 -- words that it refuses or answers with help. `fault_of` and `subcommand_of` are `clap`'s own
 -- definition of a simple command.
-use Rattle.std.specs.Prelude.{◌≡◌, ◌^◌, ◌&&◌, ℕ, Bool, true, false, not, List, [], ◌∷◌, ◌++◌, fold, Option, Some, None, is_some, codes, pos, unwrap_or, option_and_then, if◌then◌else◌, nat_lt, nat_le, length}
+use Rattle.std.specs.Prelude.{◌≡◌, ◌≤◌, ◌^◌, ◌&&◌, ℕ, Bool, true, false, not, List, [], ◌∷◌, ◌++◌, fold, Option, Some, None, IsSome, codes, pos, unwrap_or, option_and_then, option_map, if◌then◌else◌, nat_lt, length}
 use Rattle.std.specs.List.{list_all, list_any}
 use Rattle.std.specs.Option.{option_map_or}
 use Rattle.std.specs.Str.{bytes_eq}
@@ -10,7 +10,8 @@ use Rattle.std.specs.Str.Parse.{digits_value, without_leading_plus}
 use Rattle.ti_base.specs.Letters.{letter}
 use Rattle.ti_base.specs.Limits.{greatest_rate, most_lines}
 use Rattle.clap.specs.Lexer.{usize_max}
-use Rattle.clap.specs.Words.{App, Kinds, Row, Rule, Text, all_of, fault_of, first_of, new_app, new_rule, one_of, subcommand_of, with_rule, with_subcommand}
+pub use Rattle.clap.specs.Words.{Row}
+use Rattle.clap.specs.Words.{App, Kinds, Rule, Text, all_of, fault_of, first_of, new_app, new_rule, one_of, subcommand_of, with_rule, with_subcommand}
 use Rattle.clap.specs.Simple.{on_top}
 use Rattle.clap.specs.declared.builder.action.ArgAction.TheVariants.{Append, SetTrue}
 use Rattle.clap.specs.declared.builder.value_parser.ValueParser.TheVariants as vp
@@ -175,10 +176,6 @@ ti_app =
 abbrev pub flag_in : Text → List Row → Bool
 flag_in id rows = option_map_or (λ t. bytes_eq t (codes "true")) (one_of id rows) false
 
--- an argument was given
-abbrev pub is_given_in : Text → List Row → Bool
-is_given_in id rows = is_some (first_of id rows)
-
 -- the number that a text spells in decimal, below 2^32, or else `default`
 abbrev pub number_or : ℕ → Text → ℕ
 number_or default text =
@@ -212,81 +209,6 @@ is_input _ = false
 abbrev pub named_files : List Text → List Text
 named_files names = if is_input names then [] else names
 
--- ---- what a command line asks for
-
--- what a line asks for, of which parameters are the words as they were given
-pub data Line : Type 0 where
-  Cap : (source hex escape : Bool) → (params : List Text) → Line
-  Trace : (source : Bool) → (of_name : Option Text) → (json escape : Bool) → (color : Option Text) → (has_entry : Bool)
-      → (params : List Text) → Line
-  Show : (json escape all_names : Bool) → Line
-  Check : (json escape all_names : Bool) → Line
-  Lint : (json all untrusted : Bool) → (color : Option Text) → Line
-  Expand : (name : Text) → (hex escape all_names : Bool) → (rate lines : ℕ) → (xon : Bool)
-      → (params : List Text) → Line
-  Convert : (wide narrow force : Bool) → Line
-  Diff : (json expand : Bool) → (color : Option Text) → (files : List Text) → Line
-  Get : (name : Text) → (hex escape : Bool) → (rate lines : ℕ) → (xon : Bool)
-      → (params : List Text) → Line
-
--- a line of a rate and a number of lines within their ranges
-abbrev pub ranged : List Row → (ℕ → ℕ → Line) → Option Line
-ranged rows line =
-    let rate = number_in (codes "rate") 0 rows in
-    let lines = number_in (codes "lines") 1 rows in
-    if nat_le rate greatest_rate && nat_le lines most_lines then Some (line rate lines) else None
-
-abbrev pub expand_of : List Row → Text → ℕ → ℕ → Line
-expand_of rows name rate lines =
-    Expand name (flag_in (codes "hex") rows) (flag_in (codes "escape") rows)
-    (flag_in (codes "all-names") rows) rate lines (flag_in (codes "xon") rows) (params_in rows)
-
-abbrev pub expand_by : List Row → Text → Option Line
-expand_by rows name = ranged rows (expand_of rows name)
-
-abbrev pub get_of : List Row → Text → ℕ → ℕ → Line
-get_of rows name rate lines =
-    Get name (flag_in (codes "hex") rows) (flag_in (codes "escape") rows)
-    rate lines (flag_in (codes "xon") rows) (params_in rows)
-
-abbrev pub get_by : List Row → Text → Option Line
-get_by rows name = ranged rows (get_of rows name)
-
--- what a subcommand and its values ask for
-abbrev pub line_by : Text → List Row → Option Line
-line_by command rows =
-    if bytes_eq command (codes "cap")
-    then Some (Cap (flag_in (codes "source") rows) (flag_in (codes "hex") rows)
-    (flag_in (codes "escape") rows) (params_in rows))
-    else (if bytes_eq command (codes "trace")
-    then Some (Trace (flag_in (codes "source") rows) (first_of (codes "NAME") rows)
-    (flag_in (codes "json") rows) (flag_in (codes "escape") rows) (first_of (codes "color") rows)
-    (is_given_in (codes "ENTRY") rows) (params_in rows))
-    else (if bytes_eq command (codes "show")
-    then Some (Show (flag_in (codes "json") rows) (flag_in (codes "escape") rows)
-    (flag_in (codes "all-names") rows))
-    else (if bytes_eq command (codes "check")
-    then Some (Check (flag_in (codes "json") rows) (flag_in (codes "escape") rows)
-    (flag_in (codes "all-names") rows))
-    else (if bytes_eq command (codes "lint")
-    then Some (Lint (flag_in (codes "json") rows) (flag_in (codes "all") rows) (flag_in (codes "untrusted") rows)
-    (first_of (codes "color") rows))
-    else (if bytes_eq command (codes "expand")
-    then option_and_then (expand_by rows) (first_of (codes "NAME") rows)
-    else (if bytes_eq command (codes "convert")
-    then Some (Convert (flag_in (codes "wide") rows) (flag_in (codes "narrow") rows)
-    (flag_in (codes "force") rows))
-    else (if bytes_eq command (codes "get")
-    then option_and_then (get_by rows) (first_of (codes "NAME") rows)
-    else (if bytes_eq command (codes "diff")
-    then Some (Diff (flag_in (codes "json") rows) (flag_in (codes "expand") rows) (first_of (codes "color") rows)
-    (words_in (codes "FILE") rows))
-    else None))))))))
-
--- what the subcommand that was found asks for
-abbrev pub line_in : Option (Text × List Row) → Option Line
-line_in found = option_and_then (λ p. line_by p.0 p.1) found
-
 -- the files of a subcommand: that of `--entry`, and those of its words
 abbrev pub files_in : List Row → List Text
 files_in rows = words_in (codes "ENTRY") rows ++ words_in (codes "FILE") rows
@@ -305,15 +227,61 @@ summary_found found = option_map_or (λ p. flag_in (codes "summary") p.1) found 
 abbrev pub has_summary : List Text → Bool
 has_summary words = summary_found (subcommand_of ti_app words)
 
+-- ---- the subcommands
+
+pub data Command : Type 0 where
+  Cap : Command
+  Trace : Command
+  Show : Command
+  Check : Command
+  Lint : Command
+  Expand : Command
+  Convert : Command
+  Diff : Command
+  Get : Command
+
+abbrev pub command_of : Text → Option Command
+command_of name =
+    if bytes_eq name (codes "cap") then Some Cap
+    else (if bytes_eq name (codes "trace") then Some Trace
+    else (if bytes_eq name (codes "show") then Some Show
+    else (if bytes_eq name (codes "check") then Some Check
+    else (if bytes_eq name (codes "lint") then Some Lint
+    else (if bytes_eq name (codes "expand") then Some Expand
+    else (if bytes_eq name (codes "convert") then Some Convert
+    else (if bytes_eq name (codes "get") then Some Get
+    else (if bytes_eq name (codes "diff") then Some Diff else None))))))))
+
+-- the subcommand that was found, and its values
+abbrev pub command_in : Option (Text × List Row) → Option (Command × List Row)
+command_in found = option_and_then (λ p. option_map (λ command. (command, p.1)) (command_of p.0)) found
+
+-- a name, and numbers within their ranges
+abbrev pub HasNameAndNumbers : List Row → Type 0
+HasNameAndNumbers rows =
+    IsSome (first_of (codes "NAME") rows)
+    × (number_in (codes "rate") 0 rows ≤ greatest_rate) × (number_in (codes "lines") 1 rows ≤ most_lines)
+
+-- what a subcommand wants is there
+abbrev pub IsComplete : Command → List Row → Type 0
+IsComplete Expand rows = HasNameAndNumbers rows
+IsComplete Get rows = HasNameAndNumbers rows
+IsComplete _ rows = Unit {0}
+
 -- ---- which words are a command line
 
 -- the kinds of fault, or of help, that `clap` finds in the words: none if it reads them
 abbrev pub faults : List Text → Kinds
 faults words = fault_of ti_app words
 
--- the words, of which the first is the program's own name, are read as this line
-abbrev pub Reads : List Text → Line → Type 0
-Reads words line = (faults words ≡ []) × (line_in (subcommand_of ti_app words) ≡ Some line)
+-- the words, of which the first is the program's own name, are read as this subcommand with these values
+abbrev pub Reads : List Text → Command → List Row → Type 0
+Reads words command rows =
+    (faults words ≡ []) × (command_in (subcommand_of ti_app words) ≡ Some (command, rows))
+
+-- as one with any values
+abbrev pub AreRead : List Text → Type 0
+AreRead words = (command : Command) × (rows : List Row) × Reads words command rows
 
 -- help or the version
 abbrev pub is_help : ErrorKind → Bool

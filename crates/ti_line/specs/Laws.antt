@@ -1,36 +1,26 @@
 -- What holds of all words.
-use Rattle.std.specs.Prelude.{◌≡◌, ◌⊎◌, ◌≤◌, List, []}
-use Rattle.clap.specs.Words.{Text}
-use Rattle.ti_base.specs.Limits.{greatest_rate, most_lines}
-use Rattle.ti_line.specs.CommandLine.{Line, Expand, Get, AsksForHelp, IsRefused, Reads, faults}
+use Rattle.std.specs.Prelude.{◌≡◌, ◌⊎◌, List, []}
+use Rattle.clap.specs.Words.{Row, Text}
+use Rattle.ti_line.specs.CommandLine.{AreRead, AsksForHelp, Command, IsComplete, IsRefused, Reads, faults}
 
--- words on which `clap` finds no fault make a line
+-- words on which `clap` finds no fault are read
 abbrev pub MakesLine : Type 0
-MakesLine = (words : List Text) → faults words ≡ [] → (line : Line) × Reads words line
+MakesLine = (words : List Text) → faults words ≡ [] → AreRead words
 
--- words are read as one line
+-- words are read as one subcommand with one list of values
 abbrev pub ReadsOneLine : Type 0
-ReadsOneLine = (words : List Text) (line other : Line)
-    → Reads words line → Reads words other → line ≡ other
+ReadsOneLine = (words : List Text) (command other : Command) (rows others : List Row)
+    → Reads words command rows → Reads words other others → (command ≡ other) × (rows ≡ others)
 
 -- words that are read neither ask for help nor are refused
 abbrev pub StandApart : Type 0
-StandApart = (words : List Text) (line : Line)
-    → Reads words line → (AsksForHelp words ⊎ IsRefused words) → ⊥
+StandApart = (words : List Text) → AreRead words → (AsksForHelp words ⊎ IsRefused words) → ⊥
 
 -- words are read, ask for help or are refused
 abbrev pub IsOneOfThree : Type 0
-IsOneOfThree = (words : List Text)
-    → ((line : Line) × Reads words line) ⊎ (AsksForHelp words ⊎ IsRefused words)
+IsOneOfThree = (words : List Text) → AreRead words ⊎ (AsksForHelp words ⊎ IsRefused words)
 
--- the numbers of a line are within their ranges
-abbrev pub IsWithin : Line → Type 0
-IsWithin (Expand name hex escape all_names rate lines xon params) =
-    (rate ≤ greatest_rate) × (lines ≤ most_lines)
-IsWithin (Get name hex escape rate lines xon params) =
-    (rate ≤ greatest_rate) × (lines ≤ most_lines)
-IsWithin _ = Unit {0}
-
--- of each line that is read
-abbrev pub HasNumbersWithin : Type 0
-HasNumbersWithin = (words : List Text) (line : Line) → Reads words line → IsWithin line
+-- what a subcommand wants is there if it is read: a name, and numbers within their ranges
+abbrev pub ReadsWhatIsWanted : Type 0
+ReadsWhatIsWanted =
+    (words : List Text) (command : Command) (rows : List Row) → Reads words command rows → IsComplete command rows

@@ -1,10 +1,15 @@
-//! The command that is handed to `clap`: subcommands of one level, options, positionals, and the texts of help.
+//! The command that is handed to `clap`: subcommands of one level, options and positionals.
 
 ghost use Rattle.std.specs.Prelude.{◌≡◌, [], ◌∷◌, IfOk, false};
 ghost use Rattle.clap.specs.Words.{App, Rule, app_of, new_app, rule_of, with_rule};
 ghost use Rattle.ti_line.specs.CommandLine.{all_names_rule, cap_app, check_app, color_rule, convert_app, diff_app, entry_rule, escape_rule, expand_app, file_rule, files_rule, flag_rule, get_app, hex_rule, json_rule, lint_app, name_rule, number_rule, of_rule, params_rule, show_app, source_rule, start_app, ti_app, trace_app, with_commands, with_rules};
 ghost use Rattle.ti_line.specs.inner.Command.{Makes};
 
+use crate::help::{
+    ALL, ALL_NAMES, ANY_NAME, ANY_PARAMS, COLOR, ESCAPE, EXPAND, FILE, FILES, FORCE, HEX, JSON,
+    LINES, NARROW, OF, PAIR, PARAMS, RATE, SOURCE, STATUSES, SUMMARY, TEXT_NAME, TRACE_PARAMS,
+    UNTRUSTED, WIDE, XON,
+};
 use clap::{Arg, ArgAction, Command, value_parser};
 use std::alloc::{AllocError, Global};
 use ti_base::{GREATEST_RATE, MOST_LINES, VERSION};
@@ -94,17 +99,6 @@ fn params<'a>(alloc: Global, help: &'a str) -> Arg<'a>
         .help(help)
 }
 
-// A line of a help text has at most 58 characters, so that help fits into 80 columns.
-
-const PARAMS: &str = "Parameters: n:NUMBER (-2147483648 to 2147483647) or
-s:TEXT; at most nine, a missing one is the number 0";
-
-const TRACE_PARAMS: &str = "Parameters: n:NUMBER or s:TEXT, or with --of 5 or red;
-at most nine, a missing one is the number 0";
-
-const ANY_PARAMS: &str = "Parameters, such as 5 or red; n:5 and s:5 force the type;
-with none the string is padded, but not expanded";
-
 /// `FILE..`: any number of files, with what help says of them.
 fn files<'a>(alloc: Global, help: &'a str) -> Arg<'a>
     ensures rule { rule_of result ≡ files_rule }
@@ -135,14 +129,6 @@ fn entry<'a>(alloc: Global) -> Arg<'a>
         .help(FILE)
 }
 
-const FILES: &str = "Compiled entries, or directories of them; - or nothing
-means standard input";
-
-const FILE: &str = "A compiled entry; - or nothing means standard input";
-
-const PAIR: &str = "One entry, to compare standard input with, or two entries;
-either can be -, which means standard input";
-
 /// `--of NAME`.
 fn of<'a>(alloc: Global) -> Arg<'a>
     ensures rule { rule_of result ≡ of_rule }
@@ -151,9 +137,6 @@ fn of<'a>(alloc: Global) -> Arg<'a>
     Arg::new(alloc, "NAME").long("of").help(OF)
 }
 
-const OF: &str = "Trace this string of an entry, by any name that ti get
-takes; without --of the string is read from standard input";
-
 /// The argument of a name, with what help says of it.
 fn name<'a>(alloc: Global, help: &'a str) -> Arg<'a>
     ensures rule { rule_of result ≡ name_rule }
@@ -161,58 +144,6 @@ fn name<'a>(alloc: Global, help: &'a str) -> Arg<'a>
 {
     Arg::new(alloc, "NAME").required(true).help(help)
 }
-
-const TEXT_NAME: &str = "The name of a string, such as cup, or a user-defined name;
-or #N, the string with index N, such as #10";
-
-const ANY_NAME: &str = "The name: cup, cursor_address or a user-defined name; or
-flag#N, number#N or text#N, the capability with index N";
-
-const SOURCE: &str = "Read the string as terminfo(5) writes it, such as
-\\E[%p1%dG; a newline at its end is left out";
-
-const HEX: &str = "Write the output as lower-case hex and a newline; not with
---escape";
-
-const ESCAPE: &str = "Write names, strings and outputs in the notation of
-terminfo(5), such as \\E[H";
-
-const JSON: &str = "Write JSON; names are of all 497 capabilities, and strings
-are in the notation of terminfo(5)";
-
-const COLOR: &str = "Use color: always, never or auto; auto, the default, means
-only at a terminal, and only if NO_COLOR is not set";
-
-const ALL_NAMES: &str = "Use the names of all 497 capabilities, in place of
-the 114 common ones";
-
-const ALL: &str = "Report also findings that may be intended, such as two
-keys that send the same string";
-
-const UNTRUSTED: &str = "Also look at every arm of each string, as for an entry
-from a stranger";
-
-const SUMMARY: &str = "Write what was looked at on standard error, as is done if
-that is a terminal";
-
-const EXPAND: &str = "Ignore differences in spelling, such as %{65} and %'A',
-which expand to the same";
-
-const RATE: &str = "Speed of the line in bytes per second, 0 to 1000000;
-default 0, at which a delay writes nothing";
-
-const LINES: &str = "Lines that the string affects, 0 to 65535 (default 1); a
-delay with * is multiplied by it";
-
-const XON: &str = "Flow control: of the delays write only the mandatory ones,
-which are marked by /";
-
-const WIDE: &str = "Write the format with numbers of 32 bits";
-
-const NARROW: &str = "Write the format with numbers of 16 bits, which are
-at most 32767; not with --wide";
-
-const FORCE: &str = "Write the entry even to a terminal";
 
 /// A command with its name, its usage, a line on what it does, and what its long help has at its end.
 fn new_command<'a>(
@@ -409,22 +340,6 @@ fn trace<'a>(alloc: Global) -> Result<Command<'a>, AllocError>
     let command = with_two(command, color(alloc), entry(alloc));
     with_one(command, params(alloc, TRACE_PARAMS))
 }
-
-/// The exit statuses in help, and examples.
-const STATUSES: &str = "Status:
-  0  done
-  1  check found a fault, lint a mistake, diff a difference,
-     or get a boolean that is not set
-  2  usage error
-  3  not a valid entry
-  4  invalid or missing capability
-  5  reading or writing failed
-  6  out of memory
-
-Examples (infocmp | head -n 1 names the file of your terminal):
-  ti show --escape /lib/terminfo/x/xterm
-  ti lint /lib/terminfo/x/xterm
-  ti get cup 4 9 --entry /lib/terminfo/x/xterm";
 
 /// `ti` itself, before its subcommands.
 fn start<'a>(alloc: Global) -> Result<Command<'a>, AllocError>

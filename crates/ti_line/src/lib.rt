@@ -5,10 +5,12 @@
 //! requests, or why it can't be done. Nothing here reads or writes.
 #![tactic(auto)]
 
+mod actions;
 mod command;
 mod destination;
 mod flags;
 mod given;
+mod help;
 pub mod laws;
 mod matches;
 mod message;

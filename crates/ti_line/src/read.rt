@@ -1,16 +1,17 @@
 //! Words as a command line.
 
-ghost use Rattle.std.specs.Prelude.{◌≡◌, ◌<◌, IfErr, IfOk, Some, length};
-ghost use Rattle.clap.specs.Words.{FailsBy, kind_of, subcommand_of};
-ghost use Rattle.ti_line.specs.CommandLine.{Line, Reads, line_in, faults, ti_app};
+ghost use Rattle.std.specs.Prelude.{◌≡◌, ◌<◌, IfErr, IfOk, List, Some, length};
+ghost use Rattle.clap.specs.Words.{FailsBy, Row, kind_of, subcommand_of};
+ghost use Rattle.ti_line.specs.CommandLine.{Command, Reads, command_in, faults, ti_app};
 ghost use Rattle.ti_line.specs.Requests.{Explains, HasText, IsReadAs, IsRequest, texts_of};
 ghost use Rattle.ti_line.specs.inner.Matches.{IsSaidOf};
 ghost use Rattle.ti_line.specs.Message.{message_text};
 ghost use Rattle.ti_line.specs.inner.Errors.{TellsOf};
 
+use crate::actions::action_of;
 use crate::command::program;
 use crate::destination::Destination;
-use crate::matches::{action_of, files, has_summary};
+use crate::matches::{files, has_summary};
 use crate::message::Message;
 use crate::no_request::{LineFault, NoRequest};
 use crate::printable::printable_text;
@@ -26,7 +27,7 @@ fn read_words<'a>(
     words: &'a [&'a str],
 ) -> Result<Result<Request<'a>, LineFault>, Error>
     ensures read { IfOk result (λ answer. IsSaidOf to (texts_of words.entry.now)
-        (line_in (subcommand_of ti_app (texts_of words.entry.now))) answer) }
+        (command_in (subcommand_of ti_app (texts_of words.entry.now))) answer) }
     ensures kinds { FailsBy (faults (texts_of words.entry.now)) result }
 {
     let matches = program(alloc)?.try_get_matches_from(words)?;
@@ -94,10 +95,12 @@ pub fn read_line<'a>(
     to: Destination,
     words: &'a [&'a str],
 ) -> Result<Request<'a>, NoRequest>
-    ensures read { IfOk result (λ request. (line : Line) × Reads (texts_of words.entry.now) line
-        × IsRequest to (texts_of words.entry.now) line request) }
-    ensures only { (line : Line) → Reads (texts_of words.entry.now) line
-        → IsReadAs to (texts_of words.entry.now) line result }
+    ensures read { IfOk result (λ request. (command : Command) × (rows : List Row)
+        × Reads (texts_of words.entry.now) command rows
+        × IsRequest to (texts_of words.entry.now) command rows request) }
+    ensures only { (command : Command) (rows : List Row)
+        → Reads (texts_of words.entry.now) command rows
+        → IsReadAs to (texts_of words.entry.now) command rows result }
     ensures none { IfErr result (Explains to (texts_of words.entry.now)) }
     // A message is never empty.
     ensures says { IfErr result HasText }

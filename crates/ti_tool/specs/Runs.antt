@@ -1,6 +1,6 @@
 -- What a run of the program does.
 use Rattle.std.specs.Prelude.{◌≡◌, ◌⊎◌, ◌||◌, ℕ, false, List, [], ◌∷◌, Option, None, Err}
-use Rattle.ti_line.specs.CommandLine.{Line, Reads, files_of, has_summary}
+use Rattle.ti_line.specs.CommandLine.{Command, Reads, Row, files_of, has_summary}
 use Rattle.ti_line.specs.Message.{message_text}
 use Rattle.ti_line.specs.Requests.{Asks, Explains, HasText, IsReadAs}
 use Rattle.ti_line.specs.declared.destination.Destination.TheVariants as destinations
@@ -45,7 +45,8 @@ summary_for at words = summary_of (at.errors || has_summary words)
 -- no request that the words make has one
 abbrev pub HasNoSummary : Terminals → List (List ℕ) → Type 0
 HasNoSummary at words =
-    (line : Line) (action : Action) → Reads words line → Asks at.output line action → summary_for at words action ≡ None
+    (command : Command) (rows : List Row) (action : Action) → Reads words command rows
+    → Asks at.output command rows action → summary_for at words action ≡ None
 
 -- there is no request: the result is help, or nothing, with a line on the words, on the fault of the line or on memory. What a
 -- message says is `clap`'s, which states nothing of it.
@@ -59,12 +60,12 @@ abbrev pub EndsWords : NoRequest → Type 0 → Streams → Streams → ℕ → 
 EndsWords why = Ends (IsSaid why)
 
 -- what a line asks for was done, of the files that it names; or nothing is read, since the line has a fault, or memory was refused
-abbrev pub DidLine : Terminals → KnownFiles → List (List ℕ) → Line → Type 0 → Type 0 → Streams → Streams → ℕ
-    → Type 0
-DidLine at known words line unread unwritten before after status =
-    ((action : Action) × Asks at.output line action
+abbrev pub DidLine : Terminals → KnownFiles → List (List ℕ) → Command → List Row → Type 0 → Type 0 → Streams → Streams
+    → ℕ → Type 0
+DidLine at known words command rows unread unwritten before after status =
+    ((action : Action) × Asks at.output command rows action
     × RanRequest known (summary_for at words action) action (files_of words) unwritten before after status)
-    ⊎ ((why : NoRequest) × IsReadAs at.output words line (Err why)
+    ⊎ ((why : NoRequest) × IsReadAs at.output words command rows (Err why)
     × unread × EndsWords why unwritten before after status)
 
 -- words that are no line: they ask for help or are refused, with a message of at least one byte, or

@@ -1,7 +1,7 @@
 //! The program over its words, a reader and two writers.
 
-ghost use Rattle.std.specs.Prelude.{◌≡◌, ◌≢◌, ◌≤◌, ◌||◌, ◌⊎◌, [], Bool, Err, None, map};
-ghost use Rattle.ti_line.specs.CommandLine.{Line, Reads, files_of};
+ghost use Rattle.std.specs.Prelude.{◌≡◌, ◌≢◌, ◌≤◌, ◌||◌, ◌⊎◌, [], Bool, Err, List, None, map};
+ghost use Rattle.ti_line.specs.CommandLine.{AreRead, Command, Reads, Row, files_of};
 ghost use Rattle.ti_line.specs.Requests.{texts_of};
 ghost use Rattle.ti_line.specs.declared.request.Action.TheVariants.{Entry};
 ghost use Rattle.ti_tool.specs.FaultLines.{AreTold, AreToldFor, IsAnswerLine};
@@ -223,13 +223,13 @@ pub fn run_at<S: Store, A: Allocator + Copy, R: Read, W: Write, E: Write>(
     errors: &mut E,
 ) -> u8
     // If `clap` reads the words, the named call did its work, of each file that they name, unless memory was refused.
-    ensures read { (line : Line) → Reads (texts_of words.now) line
-        → DidLine at (S.known store.now) (texts_of words.now) line
+    ensures read { (command : Command) (rows : List Row) → Reads (texts_of words.now) command rows
+        → DidLine at (S.known store.now) (texts_of words.now) command rows
         (input.new ≡ input.old) (output.new ≡ output.old)
         (streams (R.remaining input.old) (W.contents output.old) (E.contents errors.old))
         (streams (R.remaining input.new) (W.contents output.new) (E.contents errors.new)) result }
     // If it does not, help was written, or the words are refused, unless memory was refused.
-    ensures unread { ((line : Line) → ¬ Reads (texts_of words.now) line)
+    ensures unread { ¬ AreRead (texts_of words.now)
         → DidNoLine at (texts_of words.now)
         (input.new ≡ input.old) (output.new ≡ output.old)
         (streams (R.remaining input.old) (W.contents output.old) (E.contents errors.old))
@@ -237,8 +237,7 @@ pub fn run_at<S: Store, A: Allocator + Copy, R: Read, W: Write, E: Write>(
     // Words that are refused are refused before anything is read.
     ensures refused { result ≡ 2 → input.new ≡ input.old }
     // If the words are no line, nothing is read.
-    ensures no_input { ((line : Line) → ¬ Reads (texts_of words.now) line)
-        → input.new ≡ input.old }
+    ensures no_input { ¬ AreRead (texts_of words.now) → input.new ≡ input.old }
     // If the words name no file, the writer of results is what it was after any other status than 0, 1 and 5.
     ensures unwritten { files_of (texts_of words.now) ≡ []
         → MayHaveWritten result ⊎ (output.new ≡ output.old) }
@@ -280,13 +279,13 @@ pub fn run<A: Allocator + Copy, R: Read, W: Write, E: Write>(
     errors: &mut E,
 ) -> u8
     // If `clap` reads the words, the named call did its work, of each file that they name, unless memory was refused.
-    ensures read { (line : Line) → Reads (texts_of words.now) line
-        → DidLine no_terminals unknown_files (texts_of words.now) line
+    ensures read { (command : Command) (rows : List Row) → Reads (texts_of words.now) command rows
+        → DidLine no_terminals unknown_files (texts_of words.now) command rows
         (input.new ≡ input.old) (output.new ≡ output.old)
         (streams (R.remaining input.old) (W.contents output.old) (E.contents errors.old))
         (streams (R.remaining input.new) (W.contents output.new) (E.contents errors.new)) result }
     // If it does not, help was written, or the words are refused, unless memory was refused.
-    ensures unread { ((line : Line) → ¬ Reads (texts_of words.now) line)
+    ensures unread { ¬ AreRead (texts_of words.now)
         → DidNoLine no_terminals (texts_of words.now)
         (input.new ≡ input.old) (output.new ≡ output.old)
         (streams (R.remaining input.old) (W.contents output.old) (E.contents errors.old))
@@ -294,8 +293,7 @@ pub fn run<A: Allocator + Copy, R: Read, W: Write, E: Write>(
     // Words that are refused are refused before anything is read.
     ensures refused { result ≡ 2 → input.new ≡ input.old }
     // If the words are no line, nothing is read.
-    ensures no_input { ((line : Line) → ¬ Reads (texts_of words.now) line)
-        → input.new ≡ input.old }
+    ensures no_input { ¬ AreRead (texts_of words.now) → input.new ≡ input.old }
     // If the words name no file, the writer of results is what it was after any other status than 0, 1 and 5.
     ensures unwritten { files_of (texts_of words.now) ≡ []
         → MayHaveWritten result ⊎ (output.new ≡ output.old) }

@@ -9,8 +9,8 @@ use Rattle.ti_tool.specs.Summaries.{summary_of}
 use Rattle.ti_tool.proofs.program.run_at.Goals as goal
 
 pub returns-in-Ok-clause-read : goal.returns-in-Ok-clause-read
-returns-in-Ok-clause-read g c = λ line reads.
-    let asks = c.in-Ok.ensures.only line reads in
+returns-in-Ok-clause-read g c = λ command rows reads.
+    let asks = c.in-Ok.ensures.only command rows reads in
     let Ran : List (List ℕ) → Type 0 = λ files. RanRequest (g.S.Store.known c.args.store.now) c.summary_of-summary.result c.in-Ok.request.action files (c.run_request.new.output ≡ c.args.output.now)
     (streams (g.R.Read.remaining c.args.input.now) (g.W.Write.contents c.args.output.now) (g.E.Write.contents c.args.errors.now))
     (streams (g.R.Read.remaining c.run_request.new.input) (g.W.Write.contents c.run_request.new.output) (g.E.Write.contents c.run_request.new.errors)) c.run_request.result in
@@ -21,26 +21,26 @@ returns-in-Ok-clause-read g c = λ line reads.
     inl (c.in-Ok.request.action, asks.0, subst Summed wanted (subst Ran (ap texts_of c.as_slice-files.ensures.value ∙ asks.1) c.run_request.ensures.ran))
 
 pub returns-in-Ok-clause-unread : goal.returns-in-Ok-clause-unread
-returns-in-Ok-clause-unread g c = λ none. let (line, reads, asks) = c.in-Ok.ensures.read in absurd (none line reads)
+returns-in-Ok-clause-unread g c = λ none. let (command, rows, reads, asks) = c.in-Ok.ensures.read in absurd (none (command, rows, reads))
 
 pub returns-in-Ok-clause-refused : goal.returns-in-Ok-clause-refused
 returns-in-Ok-clause-refused g c = λ two. absurd (c.run_request.ensures.known two)
 
 pub returns-in-Ok-clause-unwritten : goal.returns-in-Ok-clause-unwritten
 returns-in-Ok-clause-unwritten g c = λ none.
-    let (line, reads, asks) = c.in-Ok.ensures.read in c.run_request.ensures.unwritten (ap texts_of c.as_slice-files.ensures.value ∙ asks.1 ∙ none)
+    let (command, rows, reads, asks) = c.in-Ok.ensures.read in c.run_request.ensures.unwritten (ap texts_of c.as_slice-files.ensures.value ∙ asks.1 ∙ none)
 
 pub returns-in-Ok-clause-no_input : goal.returns-in-Ok-clause-no_input
-returns-in-Ok-clause-no_input g c = λ none. let (line, reads, asks) = c.in-Ok.ensures.read in absurd (none line reads)
+returns-in-Ok-clause-no_input g c = λ none. let (command, rows, reads, asks) = c.in-Ok.ensures.read in absurd (none (command, rows, reads))
 
 pub returns-in-Ok-clause-silent : goal.returns-in-Ok-clause-silent
 returns-in-Ok-clause-silent g c = λ none.
-    let (line, reads, asks) = c.in-Ok.ensures.read in
+    let (command, rows, reads, asks) = c.in-Ok.ensures.read in
     let wanted = c.summary_of-summary.ensures.value ∙ ap (λ b. summary_of b c.in-Ok.request.action) c.wants_summary.ensures ∙ ap (λ has. summary_of (c.args.at.errors || has) c.in-Ok.request.action) asks.2 in
-    c.run_request.ensures.silent (wanted ∙ none line c.in-Ok.request.action reads asks.0)
+    c.run_request.ensures.silent (wanted ∙ none command rows c.in-Ok.request.action reads asks.0)
 
 pub returns-in-Err-clause-read : goal.returns-in-Err-clause-read
-returns-in-Err-clause-read g c = λ line reads. inr (c.in-Err.why, c.in-Err.ensures.only line reads, refl, c.run_no_request.ensures.ends (g.R.Read.remaining c.args.input.now) (g.R.Read.remaining c.args.input.now))
+returns-in-Err-clause-read g c = λ command rows reads. inr (c.in-Err.why, c.in-Err.ensures.only command rows reads, refl, c.run_no_request.ensures.ends (g.R.Read.remaining c.args.input.now) (g.R.Read.remaining c.args.input.now))
 
 pub returns-in-Err-clause-unread : goal.returns-in-Err-clause-unread
 returns-in-Err-clause-unread g c = λ none. (c.in-Err.why, c.in-Err.ensures.none, c.in-Err.ensures.says, refl, c.run_no_request.ensures.ends (g.R.Read.remaining c.args.input.now) (g.R.Read.remaining c.args.input.now))

@@ -1,4 +1,4 @@
-use Rattle.ti_line.proofs.matches.action_of.Goals as goal
+use Rattle.ti_line.proofs.actions.action_of.Goals as goal
 
 pub returns-in-cap : goal.returns-in-cap
 returns-in-cap c = rw c.in-cap.is (c.cap.ensures c.args.to)
@@ -20,3 +20,9 @@ returns-in-show c = rw c.in-show.is c.show.ensures
 
 pub returns-in-check : goal.returns-in-check
 returns-in-check c = rw c.in-check.is c.check.ensures
+
+pub returns-in-expand : goal.returns-in-expand
+returns-in-expand c = rw c.in-expand.is (c.expand.ensures c.args.to)
+
+pub returns-in-get : goal.returns-in-get
+returns-in-get c = rw c.in-get.is (c.get.ensures c.args.to)

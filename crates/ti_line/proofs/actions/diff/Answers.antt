@@ -4,7 +4,7 @@ use Rattle.clap.specs.Words.{found_of}
 use Rattle.ti_line.specs.Options.{comparison_of, likeness_of}
 use Rattle.ti_line.specs.Requests.{compared, is_input_twice, texts_of}
 use Rattle.ti_line.proofs.MatchesLemmas.{words_read}
-use Rattle.ti_line.proofs.matches.diff.Goals as goal
+use Rattle.ti_line.proofs.actions.diff.Goals as goal
 
 pub returns-then-is_input_twice : goal.returns-then-is_input_twice
 returns-then-is_input_twice c =
