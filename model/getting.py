@@ -4,16 +4,29 @@ Written from the manual page, to be compared with the proved program. Which para
 by going along all paths of its tree, with the stack of each.
 """
 import re
+from pathlib import Path
 
 import capability
 from entry import ABSENT, CANCELLED
 from notation import formed, notation
 
 KINDS = ["flag", "number", "text"]
+# The short name of each text, what it is, and how many parameters terminfo(5) gives it.
+CLASSES = [line.split() for line in (Path(__file__).parent / "classes.txt").read_text().splitlines()]
+# A function key has a number and then texts, and so has its label.
+TAKE_TEXTS = {"pfkey", "pfloc", "pfx", "pln", "pfxl"}
 
 
 class Failed(Exception):
     """Why nothing is written, as the line on it."""
+
+    status = 4
+
+
+class Misfit(Failed):
+    """The line on words that do not fit the capability with a name."""
+
+    status = 2
 
 
 # ---- the capability
@@ -119,15 +132,32 @@ def texts_of(text):
     return texts
 
 
+def is_number(word):
+    return re.fullmatch(r"-?[0-9]+", word) is not None and -(2**31) <= int(word) < 2**31
+
+
+def must_fit(name, words, tables):
+    """A Misfit if these are more words than terminfo(5) gives the capability with a name, or if one is no number where it has
+    a number."""
+    texts = [index for table in tables for index, its_name in table["text"].items() if its_name == name]
+    short, kind, count = CLASSES[texts[0]] if texts else ("", "", "0")
+    if kind != "parameterized":
+        return
+    is_other = [word[:2] not in ("n:", "s:") and not is_number(word) for word in words]
+    if len(words) > int(count):
+        hint = "; an entry is named by --entry FILE" if is_other[int(count)] else ""
+        raise Misfit(f"parameters: {short} takes {count}, not {len(words)}{hint}")
+    for which, other in enumerate(is_other[:1] if short in TAKE_TEXTS else is_other, 1):
+        if other:
+            raise Misfit(f"parameter {which} of {short}: no 32-bit number")
+
+
 def value_of(word, is_text):
     if word.startswith("n:"):
         return int(word[2:])
     if word.startswith("s:"):
         return word[2:].encode()
-    number = re.fullmatch(r"-?[0-9]+", word)
-    if number and -(2**31) <= int(word) < 2**31 and not is_text:
-        return int(word)
-    return word.encode()
+    return int(word) if is_number(word) and not is_text else word.encode()
 
 
 def parameters_of(text, words):
@@ -142,6 +172,7 @@ def parameters_of(text, words):
 
 def got(entry, name, tables, words, rate, lines, xon, form):
     """The status and the output, or Failed or Refused."""
+    must_fit(name, words, tables)
     kind, value = item_of(entry, name, tables, "get")
     if kind == "flag":
         return (0 if value == "yes" else 1), b""
@@ -157,6 +188,7 @@ def got(entry, name, tables, words, rate, lines, xon, form):
 
 def traced(entry, name, tables, words, escape):
     """The status and the trace, or Failed or Refused."""
+    must_fit(name, words, tables)
     kind, value = item_of(entry, name, tables, "trace")
     if kind != "text" or value in (ABSENT, CANCELLED):
         raise Failed(f"trace: {shown_name(name)}: no such text")

@@ -122,7 +122,6 @@ no_mark word none not_number (text, inr is) = none (Text (record { ref_ptr = (0,
 
 -- a word with a mark that means nothing gives nothing
 pub none_given : (word : List ℕ) → IsMarked word → ((value : Value) → ¬ IsParam word value) → (param : Param) → ¬ IsGiven word param
-none_given word marked none (params.Value value) (inl is) = none value is
-none_given word marked none (params.Value (Num z)) (inr plain) = plain
-none_given word marked none (params.Value (Text t)) (inr plain) = plain.0 marked
+none_given word marked none (params.Value value) is = none value is
 none_given word marked none (params.Either z t) (plain, number, same) = plain marked
+none_given word marked none (params.Word t) (plain, number, same) = plain marked

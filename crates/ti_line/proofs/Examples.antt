@@ -1,9 +1,14 @@
 -- Worked rows of the command line.
-use Rattle.std.proofs.Common.{◌≡◌, List, [], ◌∷◌, true, false, map, refl}
-use Rattle.std.specs.Prelude.{codes, filter}
+use Rattle.std.proofs.Common.{◌≡◌, arith, List, [], ◌∷◌, true, false, map, refl}
+use Rattle.std.specs.Prelude.{◌<◌, Option, None, Some, ℕ, codes, filter, pos}
 use Rattle.clap.specs.Facts.{explicit_source}
 use Rattle.clap.specs.Words.{Row, Text}
 use Rattle.clap.proofs.OnLiterals.{clap_on_literals}
+use Rattle.ti_names.specs.NameLists.{all_flags, all_numbers, all_texts}
+use Rattle.ti_line.specs.Fits.{Fit, IsMisfit, counted}
+use Rattle.ti_line.specs.declared.given.Param.{Param}
+use Rattle.ti_line.specs.declared.given.Param.TheVariants.{Either, Word}
+use Rattle.ti_line.specs.declared.no_request.LineFault.TheVariants.{NoNumber, Surplus}
 use Rattle.ti_line.specs.CommandLine.{AsksForHelp, Cap, Check, Command, Convert, Diff, Expand, Get, IsRefused, Lint, Reads, Show, Trace, files_of, has_summary}
 
 -- words are read as a subcommand with these values of arguments, besides the defaults
@@ -135,3 +140,46 @@ alone_row = refl
 help_row : AsksForHelp (codes "ti" ∷ codes "--help" ∷ [])
 unfolding clap_on_literals
 help_row = refl
+
+-- ---- parameters of `get` that fit, and such as do not
+
+abbrev word : Text → Param
+word text = Word (record { ref_ptr = (0, 0); now = text })
+
+abbrev number : ℕ → Text → Param
+number n text = Either (pos n) (record { ref_ptr = (0, 0); now = text })
+
+-- terminfo(5) gives `cup`, the text at 10, two parameters, by its long name too; to `bel` and to an own name it gives no count
+cup_row : counted (codes "cup") ≡ Some (10, 2)
+unfolding all_flags all_numbers all_texts
+cup_row = refl
+
+long_row : counted (codes "cursor_address") ≡ Some (10, 2)
+unfolding all_flags all_numbers all_texts
+long_row = refl
+
+bel_row : counted (codes "bel") ≡ None
+unfolding all_flags all_numbers all_texts
+bel_row = refl
+
+own_row : counted (codes "E3") ≡ None
+unfolding all_flags all_numbers all_texts
+own_row = refl
+
+-- `cup 4 9`, `cup 4 9 entry` and `cup 4 red`
+fit_row : Fit (codes "cup") 2 (number 4 (codes "4") ∷ number 9 (codes "9") ∷ [])
+unfolding all_flags all_numbers all_texts
+fit_row = (omega arith, refl)
+
+surplus_row : IsMisfit (codes "cup") 3 (number 4 (codes "4") ∷ number 9 (codes "9") ∷ word (codes "entry") ∷ []) (Surplus 10 2 3 true)
+unfolding all_flags all_numbers all_texts
+surplus_row = (refl, omega arith, refl, refl)
+
+no_number_row : IsMisfit (codes "cup") 2 (number 4 (codes "4") ∷ word (codes "red") ∷ []) (NoNumber 10 2)
+unfolding all_flags all_numbers all_texts
+no_number_row = (2, refl, omega arith, refl)
+
+-- `pfkey 1 text`
+key_row : Fit (codes "pfkey") 2 (number 1 (codes "1") ∷ word (codes "text") ∷ [])
+unfolding all_flags all_numbers all_texts
+key_row = (omega arith, refl)

@@ -1,6 +1,6 @@
 -- What the getters of `clap`'s matches read is what the rows hold.
-use Rattle.std.proofs.Common.{◌≡◌, ◌∙◌, ◌^◌, ◌&&◌, ℕ, Bool, true, false, refl, sym, ap, List, [], ◌∷◌, ◌++◌, map, length, nat_lt, lt-ltb, ltb-true}
-use Rattle.std.specs.Prelude.{Option, Some, None, Result, Ok, Err, option_map, unwrap_or, codes}
+use Rattle.std.proofs.Common.{◌≡◌, ◌∙◌, ◌^◌, ◌&&◌, ℕ, Bool, true, false, refl, sym, ap, subst, List, [], ◌∷◌, ◌++◌, map, length, nat_lt, lt-ltb, ltb-true}
+use Rattle.std.specs.Prelude.{IsErrAnd, MatchResult, Option, Some, None, Result, Ok, Err, option_map, unwrap_or, codes}
 use Rattle.std.specs.Borrow.{Bor}
 use Rattle.std.specs.List.{list_all}
 use Rattle.std.specs.Option.{option_map_or}
@@ -94,3 +94,8 @@ all_files words names files e input all = rw (← e, input) all
 pub all_read : (rows : List Row) (entry words all : List (Bor Text)) → all ≡ ([] ++ entry) ++ words → map (λ v. v.now) entry ≡ words_in (codes "ENTRY") rows → map (λ v. v.now) words ≡ words_in (codes "FILE") rows
     → map (λ v. v.now) all ≡ files_in rows
 all_read rows entry words all is given named = ap (map (λ v. v.now)) is ∙ map-append (λ v. v.now) entry words ∙ ap (λ l. l ++ map (λ v. v.now) words) given ∙ ap (λ l. words_in (codes "ENTRY") rows ++ l) named
+
+-- an error that is handed on says what it said
+pub refused_by : {T E : Type 0} (r : Result T E) (Good : T → Type 0) (Bad : E → Type 0) (why : E) → IsErrAnd r (λ x. x ≡ why) → Bad why → MatchResult r Good Bad
+refused_by (Ok x) Good Bad why is h = elim is [ ]
+refused_by (Err x) Good Bad why is h = subst Bad (sym is) h

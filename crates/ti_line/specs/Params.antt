@@ -57,16 +57,12 @@ IsWordFault Means words (faults.BadWord which) = (length words ≤ 9) × IsFirst
 abbrev pub IsMarked : List ℕ → Type 0
 IsMarked word = (text : List ℕ) × ((word ≡ codes "n:" ++ text) ⊎ (word ≡ codes "s:" ++ text))
 
--- the text of a word without a mark that is no number of 32 bits
-abbrev pub IsPlain : List ℕ → Value → Type 0
-IsPlain word (Num z) = ⊥
-IsPlain word (Text t) = (¬ IsMarked word) × ((z : ℤ) → ¬ IsNumber word z) × (t.now ≡ word)
-
 -- a mark makes a word a number or a text; without one a number of 32 bits may be either, and any other
 -- word is a text
 abbrev pub IsGiven : List ℕ → Param → Type 0
-IsGiven word (params.Value value) = IsParam word value ⊎ IsPlain word value
+IsGiven word (params.Value value) = IsParam word value
 IsGiven word (params.Either z t) = (¬ IsMarked word) × IsNumber word z × (t.now ≡ word)
+IsGiven word (params.Word t) = (¬ IsMarked word) × ((z : ℤ) → ¬ IsNumber word z) × (t.now ≡ word)
 
 -- the words give nine parameters, of which the missing ones are 0
 abbrev pub AreGiven : List (List ℕ) → List Param → Type 0

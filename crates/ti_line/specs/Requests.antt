@@ -1,5 +1,5 @@
 -- What a line asks for, or why that can't be done, and what an answer tells of the words.
-use Rattle.std.specs.Prelude.{◌≡◌, ◌<◌, ◌&&◌, ◌||◌, ℕ, Bool, true, false, not, List, Option, Some, None, Result, Ok, Err, IsSome, MatchResult, is_some, length, map, [], ◌∷◌, codes}
+use Rattle.std.specs.Prelude.{◌≡◌, ◌<◌, ◌&&◌, ◌||◌, ◌⊎◌, ℕ, Bool, true, false, not, List, Option, Some, None, Result, Ok, Err, IsSome, MatchResult, is_some, length, map, [], ◌∷◌, codes}
 use Rattle.std.specs.Borrow.{Bor}
 use Rattle.clap.specs.Words.{Row, Text, first_of}
 use Rattle.ti_escape.specs.declared.color.Color.{Color}
@@ -8,7 +8,8 @@ use Rattle.ti_words.specs.declared.Width.TheVariants.{Legacy, Wide}
 use Rattle.ti_pad.specs.Setting.{Setting}
 use Rattle.ti_line.specs.CommandLine.{AsksForHelp, Cap, Check, Command, Convert, Diff, Expand, Get, IsRefused, Lint, Reads, Show, Trace, files_of, flag_in, has_summary, is_minus, number_in, params_in, words_in}
 use Rattle.ti_line.specs.Options.{check_action, color_of, comparison_of, input_action, is_terminal, likeness_of, lint_action, lint_options, name_table_of, output_of, show_action, trace_form_of}
-use Rattle.ti_line.specs.Params.{AreGiven, AreParams, IsGiven, IsGivenBy, IsParam, IsWordFault}
+use Rattle.ti_line.specs.Fits.{HasMisfit, IsGivenTo}
+use Rattle.ti_line.specs.Params.{AreGiven, AreParams, IsGiven, IsParam, IsWordFault}
 use Rattle.ti_line.specs.declared.destination.Destination.{Destination}
 use Rattle.ti_line.specs.declared.params.WordFault.{WordFault}
 use Rattle.ti_line.specs.declared.request.Action.TheVariants.{Entry}
@@ -137,7 +138,7 @@ AsksToTrace to rows None action =
 AsksToTrace to rows (Some name) action =
     (is_source rows ≡ false)
     × ((t : code_of_trace.TraceOf) × (action ≡ Entry (of_entry.Trace t)) × (t.name.now ≡ name)
-    × IsGivenBy (params_in rows) t.given × IsTraceForm to rows t.form)
+    × IsGivenTo name (params_in rows) t.given × IsTraceForm to rows t.form)
 
 -- what a subcommand and its values ask for, by where results go; of two flags that exclude each other at most one is given,
 -- a word of `--color` asks for something, a notation is to be traced only without a name, an entry to be traced in only with
@@ -168,7 +169,7 @@ Asks to Convert rows action =
 Asks to Get rows action =
     (has_both_forms rows ≡ false)
     × ((g : code_of_get.Get) × (action ≡ Entry (of_entry.Get g)) × (first_of (codes "NAME") rows ≡ Some g.name.now)
-    × IsGivenBy (params_in rows) g.given × (g.padding ≡ setting_in rows) × (g.output ≡ output_in rows))
+    × IsGivenTo g.name.now (params_in rows) g.given × (g.padding ≡ setting_in rows) × (g.output ≡ output_in rows))
 Asks to Diff rows action =
     (is_input_twice (pair_in rows) ≡ false)
     × ((d : code_of_diff.Pair) × (action ≡ asks.Difference d)
@@ -182,16 +183,21 @@ IsRequest to words command rows request =
     Asks to command rows request.action × (texts_of request.files.items ≡ files_of words)
     × (request.has_summary ≡ has_summary words)
 
+-- why words give the capability with a name no parameters: they stand for none, or for some that do not fit it
+abbrev pub HasNoParameters : List ℕ → List Text → LineFault → Type 0
+HasNoParameters name words why =
+    ((word : WordFault) × (why ≡ fault.Words word) × MeanNone IsGiven AreGiven words word) ⊎ HasMisfit name words why
+
 -- why `trace` can't be done
 abbrev pub HasTraceFault : Destination → List Row → Option Text → LineFault → Type 0
 HasTraceFault to rows None fault.EntryWithoutName = has_entry rows ≡ true
 HasTraceFault to rows None (fault.Words why) =
     (has_entry rows ≡ false) × HasTraceForm to rows × MeanNone IsParam AreParams (params_in rows) why
 HasTraceFault to rows None why = (has_entry rows ≡ false) × IsNoTraceForm to rows why
-HasTraceFault to rows (Some name) fault.BothInputs = is_source rows ≡ true
-HasTraceFault to rows (Some name) (fault.Words why) =
-    (is_source rows ≡ false) × HasTraceForm to rows × MeanNone IsGiven AreGiven (params_in rows) why
-HasTraceFault to rows (Some name) why = (is_source rows ≡ false) × IsNoTraceForm to rows why
+HasTraceFault to rows (Some name) why =
+    ((is_source rows ≡ true) × (why ≡ fault.BothInputs))
+    ⊎ ((is_source rows ≡ false)
+    × (IsNoTraceForm to rows why ⊎ (HasTraceForm to rows × HasNoParameters name (params_in rows) why)))
 
 -- why what a line asks for can't be done: both of two such flags are given, or a notation is to be read and a name is given,
 -- or an entry and no name of a capability in it, or the word of `--color` asks for nothing, or else the words stand for no
@@ -209,9 +215,10 @@ HasFault to Expand rows (fault.Words why) =
     (has_both_forms rows ≡ false) × MeanNone IsParam AreParams (params_in rows) why
 HasFault to Convert rows fault.BothWidths = has_both_widths rows ≡ true
 HasFault to Convert rows fault.ToTerminal = (has_both_widths rows ≡ false) × (is_kept_back to rows ≡ true)
-HasFault to Get rows fault.BothForms = has_both_forms rows ≡ true
-HasFault to Get rows (fault.Words why) =
-    (has_both_forms rows ≡ false) × MeanNone IsGiven AreGiven (params_in rows) why
+HasFault to Get rows why =
+    ((has_both_forms rows ≡ true) × (why ≡ fault.BothForms))
+    ⊎ ((has_both_forms rows ≡ false)
+    × ((name : Text) × (first_of (codes "NAME") rows ≡ Some name) × HasNoParameters name (params_in rows) why))
 HasFault to Diff rows fault.ColorWord = color_in to rows ≡ None
 HasFault to Diff rows fault.FileCount = IsSome (color_in to rows) × (compared (pair_in rows) ≡ None)
 HasFault to Diff rows fault.InputTwice = IsSome (color_in to rows) × (is_input_twice (pair_in rows) ≡ true)

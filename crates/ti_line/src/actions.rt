@@ -13,7 +13,7 @@ use crate::flags::{
     name_table_of, show_action, width_of,
 };
 use crate::matches::{
-    color, flag, given_parameters, json, name, output, padding, parameters, text, trace_form,
+    color, fitting_parameters, flag, json, name, output, padding, parameters, text, trace_form,
 };
 use crate::no_request::LineFault;
 use crate::options::{Comparison, Likeness};
@@ -52,7 +52,7 @@ fn trace_of<'a>(
     let form = trace_form(to, given)?;
     Ok(Action::Entry(EntryAction::Trace(TraceOf {
         name,
-        given: given_parameters(given)?,
+        given: fitting_parameters(given, name)?,
         form,
     })))
 }
@@ -203,9 +203,10 @@ fn get<'a>(given: &ArgMatches<'a>) -> Result<Action<'a>, LineFault>
     ensures { (to : Destination) → IsAnswered to commands.Get (given_rows given.now) result }
 {
     let output = output(given)?;
+    let name = name(given);
     Ok(Action::Entry(EntryAction::Get(Get {
-        name: name(given),
-        given: given_parameters(given)?,
+        name,
+        given: fitting_parameters(given, name)?,
         padding: padding(given),
         output,
     })))

@@ -11,7 +11,7 @@ use ti_expand::Value;
 /// A parameter of `get` as its word gives it.
 #[derive(Clone, Copy, Debug)]
 pub enum Param<'a> {
-    /// The value of a word with a mark, or the text of one that is no number.
+    /// The value of a word with a mark.
     Value(Value<'a>),
     /// A decimal number without a mark: a text if the capability takes it as one.
     Either {
@@ -20,6 +20,8 @@ pub enum Param<'a> {
         /// The word.
         text: &'a [u8],
     },
+    /// A word without a mark that is no number of 32 bits.
+    Word(&'a [u8]),
 }
 
 /// The parameters that words give to `get`.
@@ -37,7 +39,7 @@ fn unmarked(word: &str) -> Param<'_>
     let text = word.as_bytes();
     match number(word) {
         Some(number) => Param::Either { number, text },
-        None => Param::Value(Value::Text(text)),
+        None => Param::Word(text),
     }
 }
 

@@ -8,6 +8,7 @@
 mod actions;
 mod command;
 mod destination;
+mod fit;
 mod flags;
 mod given;
 mod help;

@@ -3,12 +3,14 @@
 ghost use Rattle.std.specs.Prelude.{◌≡◌, true, false, IfOk, IsSome, MatchResult, Some, codes, option_map};
 ghost use Rattle.clap.specs.Words.{first_of};
 ghost use Rattle.ti_line.specs.CommandLine.{HasNameAndNumbers, files_in, flag_in, is_input as the_is_input, named_files, number_in, params_in};
+ghost use Rattle.ti_line.specs.Fits.{IsGivenTo};
 ghost use Rattle.ti_line.specs.Params.{AreGiven, AreParams, IsGiven, IsGivenBy, IsParam};
-ghost use Rattle.ti_line.specs.Requests.{IsNoTraceForm, IsTraceForm, MeanNone, color_in, has_both_forms, has_json_form, is_json, output_in, setting_in, texts_of};
+ghost use Rattle.ti_line.specs.Requests.{HasNoParameters, IsNoTraceForm, IsTraceForm, MeanNone, color_in, has_both_forms, has_json_form, is_json, output_in, setting_in, texts_of};
 ghost use Rattle.ti_line.specs.declared.no_request.LineFault.TheVariants as fault;
 ghost use Rattle.ti_line.specs.inner.Matches.{given_rows};
 
 use crate::destination::Destination;
+use crate::fit::fit;
 use crate::flags::{output_of, trace_form_of};
 use crate::given::{Given, read_given};
 use crate::no_request::LineFault;
@@ -82,12 +84,30 @@ pub(crate) fn parameters<'a>(given: &ArgMatches<'a>) -> Result<[Value<'a>; 9], W
 }
 
 /// The parameters of `get`.
-pub(crate) fn given_parameters<'a>(given: &ArgMatches<'a>) -> Result<Option<Given<'a>>, WordFault>
+fn given_parameters<'a>(given: &ArgMatches<'a>) -> Result<Option<Given<'a>>, WordFault>
     ensures { MatchResult result
         (IsGivenBy (params_in (given_rows given.now)))
         (MeanNone IsGiven AreGiven (params_in (given_rows given.now))) }
 {
     read_given(given.get_strs("PARAM").unwrap_or(&[]))
+}
+
+/// The parameters of `get`, or of `trace` with a name, which fit the capability with the name.
+pub(crate) fn fitting_parameters<'a>(
+    given: &ArgMatches<'a>,
+    name: &str,
+) -> Result<Option<Given<'a>>, LineFault>
+    ensures { let words = params_in (given_rows given.now) in
+        MatchResult result (IsGivenTo name.now words) (HasNoParameters name.now words) }
+{
+    let words = given.get_strs("PARAM").unwrap_or(&[]);
+    match given_parameters(given)? {
+        Some(parameters) => {
+            fit(name, words.len(), &parameters.params)?;
+            Ok(Some(parameters))
+        }
+        None => Ok(None),
+    }
 }
 
 /// How an output is written, by `--hex` and `--escape`, which exclude each other.

@@ -31,6 +31,24 @@ pub enum LineFault {
     InputTwice,
     /// The words of the parameters are none.
     Words(WordFault),
+    /// There are more parameters than terminfo(5) gives the capability.
+    Surplus {
+        /// The index of the text.
+        text: usize,
+        /// How many parameters it has.
+        takes: u8,
+        /// How many there are.
+        given: usize,
+        /// Whether the first that is too many is a word that is no number, so that it may name a file.
+        is_named: bool,
+    },
+    /// A word without a mark is no number of 32 bits, where terminfo(5) has a number.
+    NoNumber {
+        /// The index of the text.
+        text: usize,
+        /// Which word it is, counted from 1.
+        which: usize,
+    },
 }
 
 impl fmt::Display for LineFault {
@@ -46,6 +64,8 @@ impl fmt::Display for LineFault {
             LineFault::FileCount => "FileCount",
             LineFault::InputTwice => "InputTwice",
             LineFault::Words(why) => return write!(f, "{why}"),
+            LineFault::Surplus { .. } => "Surplus",
+            LineFault::NoNumber { .. } => "NoNumber",
         };
         f.write_str(word)
     }

@@ -80,9 +80,10 @@ fn no_request<'a>(alloc: Global, words: &'a [&'a str], error: &Error) -> NoReque
 /// # Errors
 ///
 /// [`NoRequest::Help`] if help or the version is requested, [`NoRequest::Refused`] if the words are no command line,
-/// [`NoRequest::Fault`] if the line requests both forms or both widths, or JSON in a form, or a trace of a notation and of a name, or of an entry
-/// and no name, its parameters are none, or an entry would go to a terminal, and [`NoRequest::Memory`] if a growth was refused. A message shows no byte of a word but printable ASCII characters: the others are in the notation
-/// of terminfo(5).
+/// [`NoRequest::Fault`] if the line requests both forms or both widths, or JSON in a form, or a trace of a notation and of a
+/// name, or of an entry and no name, its parameters are none or do not fit the capability with the name, or an entry would go
+/// to a terminal, and [`NoRequest::Memory`] if a growth was refused. A message shows no byte of a word but printable ASCII
+/// characters: the others are in the notation of terminfo(5).
 ///
 /// # Examples
 ///

@@ -49,6 +49,7 @@ taken_more capability params i d values value h same are is =
 
 taken_once : (capability : List ℕ) (which : ℕ) (param : Param) (a b : Value) → IsTaken capability which param a → IsTaken capability which param b → a ≡ b
 taken_once capability which (params.Value taken) a b p q = p ∙ sym q
+taken_once capability which (params.Word t) a b p q = p ∙ sym q
 taken_once capability which (params.Either z t) a b (inl (text, p)) (inl (also, q)) = p ∙ sym q
 taken_once capability which (params.Either z t) a b (inl (text, p)) (inr (none, q)) = absurd (none text)
 taken_once capability which (params.Either z t) a b (inr (none, p)) (inl (text, q)) = absurd (none text)

@@ -1,11 +1,14 @@
 -- The lines that the program writes on faults, and what was written of one.
-use Rattle.std.specs.Prelude.{◌<◌, ◌⊎◌, ℕ, List, [], ◌∷◌, ◌++◌, Option, Result, Ok, Err, codes, decimal, length, nat_le, take, if◌then◌else◌, ◌≡◌}
+use Rattle.std.specs.Prelude.{◌<◌, ◌⊎◌, ℕ, Bool, true, false, List, [], ◌∷◌, ◌++◌, Option, Result, Ok, Err, codes, decimal, length, nat_le, take, unwrap_or, if◌then◌else◌, ◌≡◌}
 use Rattle.std.specs.Io.KnownBytes.{Appends}
 use Rattle.ti_layout.specs.Faults.{fault_word}
 use Rattle.ti_draft.specs.EncodeFaults.{encode_fault_word}
 use Rattle.ti_escape.specs.FaultNames.{notation_fault_word}
 use Rattle.ti_escape.specs.Notation.{notation}
 use Rattle.ti_cap.specs.FaultNames.{cap_fault_word}
+use Rattle.ti_names.specs.AllNames.{name_in}
+use Rattle.ti_names.specs.declared.name_table.NameTable.TheVariants as tables
+use Rattle.ti_words.specs.declared.Kind.TheVariants as kinds
 use Rattle.ti_words.specs.Spelling.{Spells}
 use Rattle.ti_words.specs.Value.{EntryValue}
 use Rattle.ti_tool.specs.Near.{AreNearest}
@@ -46,6 +49,34 @@ abbrev pub words_line : WordFault → List ℕ
 words_line words.TooMany = codes "parameters: more than nine\n"
 words_line (words.BadWord which) = codes "parameter " ++ decimal which ++ codes ": bad word\n"
 
+-- the most characters of a name in a line on a fault
+abbrev pub most_shown : ℕ
+most_shown = 40
+
+-- a name in the notation, or `..` if that has more characters
+abbrev pub shown_name : List ℕ → List ℕ
+shown_name name =
+    if nat_le (length (notation name)) most_shown then notation name else codes ".."
+
+-- the short name of a text of terminfo(5)
+abbrev pub text_named : ℕ → List ℕ
+text_named text = shown_name (unwrap_or (name_in tables.All kinds.Text text) [])
+
+-- what is said of a word that may name a file
+abbrev pub entry_hint : Bool → List ℕ
+entry_hint true = codes "; an entry is named by --entry FILE"
+entry_hint false = []
+
+-- the lines on parameters that do not fit a text
+abbrev pub surplus_line : ℕ → ℕ → ℕ → Bool → List ℕ
+surplus_line text takes given is_named =
+    codes "parameters: " ++ text_named text ++ codes " takes " ++ decimal takes ++ codes ", not " ++ decimal given
+    ++ entry_hint is_named ++ codes "\n"
+
+abbrev pub no_number_line : ℕ → ℕ → List ℕ
+no_number_line text which =
+    codes "parameter " ++ decimal which ++ codes " of " ++ text_named text ++ codes ": no 32-bit number\n"
+
 -- the line on what a command line can't ask for
 abbrev pub line_fault_line : LineFault → List ℕ
 line_fault_line line.BothForms = codes "--hex and --escape exclude each other\n"
@@ -58,15 +89,8 @@ line_fault_line line.ToTerminal = codes "convert: not to a terminal without --fo
 line_fault_line line.FileCount = codes "diff: one file or two\n"
 line_fault_line line.InputTwice = codes "diff: standard input cannot be compared with itself\n"
 line_fault_line (line.Words why) = words_line why
-
--- the most characters of a name in a line on a fault
-abbrev pub most_shown : ℕ
-most_shown = 40
-
--- a name in the notation, or `..` if that has more characters
-abbrev pub shown_name : List ℕ → List ℕ
-shown_name name =
-    if nat_le (length (notation name)) most_shown then notation name else codes ".."
+line_fault_line (line.Surplus text takes given is_named) = surplus_line text takes given is_named
+line_fault_line (line.NoNumber text which) = no_number_line text which
 
 -- names, the first after a mark and each other one after a comma
 abbrev pub names_after : List ℕ → List (List ℕ) → List ℕ

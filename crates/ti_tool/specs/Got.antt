@@ -30,10 +30,11 @@ use Rattle.ti_tool.specs.declared.fault.ToolFault.TheVariants as fault
 
 -- ---- parameters
 
--- a word without a mark is a text if the capability takes this parameter, counted from 1, as one on some
--- path, and else its number
+-- a word with a mark is its value, and one that is no number a text; a number is a text if the capability takes this
+-- parameter, counted from 1, as one on some path
 abbrev pub IsTaken : List ℕ → ℕ → Param → Value → Type 0
 IsTaken capability which (params.Value taken) value = value ≡ taken
+IsTaken capability which (params.Word t) value = value ≡ values.Text t
 IsTaken capability which (params.Either z t) value =
     (IsTakenAsText capability which × (value ≡ values.Text t))
     ⊎ ((¬ IsTakenAsText capability which) × (value ≡ values.Num z))

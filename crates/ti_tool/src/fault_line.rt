@@ -3,7 +3,7 @@
 //! A line is put together before any byte of it is written. No memory is taken.
 
 ghost use Rattle.std.specs.Prelude.{◌≡◌, ◌≤◌, ◌+◌, ◌++◌, codes, decimal, flat_map, length, map};
-ghost use Rattle.ti_tool.specs.FaultLines.{action_line, fault_line, line_fault_line, place_line, words_line, near_part, no_name_line, shown_name as the_shown_name};
+ghost use Rattle.ti_tool.specs.FaultLines.{action_line, entry_hint as the_entry_hint, fault_line, line_fault_line, place_line, words_line, near_part, no_name_line, no_number_line as the_no_number_line, shown_name as the_shown_name, surplus_line as the_surplus_line, text_named as the_text_named};
 ghost use Rattle.ti_line.specs.declared.request.Action.TheVariants.{Entry};
 ghost use Rattle.ti_tool.specs.Near.{most_told};
 
@@ -12,6 +12,7 @@ use arrayvec::ArrayVec;
 use itoa::Buffer;
 use ti_escape::escape_into;
 use ti_line::{EntryAction, LineFault, WordFault};
+use ti_names::NameTable;
 
 /// The most bytes of a line.
 const MOST_BYTES: usize = 256;
@@ -174,6 +175,55 @@ fn words_line(fault: WordFault) -> FaultLine
     }
 }
 
+/// The short name of a text of terminfo(5).
+fn text_named(text: usize) -> ArrayVec<u8, MOST_SHOWN>
+    ensures { result.items ≡ the_text_named text }
+{
+    shown_name(NameTable::All.text_name(text).unwrap_or(""))
+}
+
+/// What is said of a word that may name a file.
+fn entry_hint(is_named: bool) -> &'static [u8]
+    ensures { result.now ≡ the_entry_hint is_named }
+{
+    if is_named {
+        b"; an entry is named by --entry FILE"
+    } else {
+        b""
+    }
+}
+
+/// The line on more parameters than a text takes.
+fn surplus_line(text: usize, takes: u8, given: usize, is_named: bool) -> FaultLine
+    ensures { result.items ≡ the_surplus_line text takes given is_named }
+{
+    let (mut most, mut count) = (Buffer::new(), Buffer::new());
+    line_of(&[
+        b"parameters: ",
+        text_named(text).as_slice(),
+        b" takes ",
+        most.format(takes).as_bytes(),
+        b", not ",
+        count.format(given).as_bytes(),
+        entry_hint(is_named),
+        b"\n",
+    ])
+}
+
+/// The line on a word in place of a number.
+fn no_number_line(text: usize, which: usize) -> FaultLine
+    ensures { result.items ≡ the_no_number_line text which }
+{
+    let mut digits = Buffer::new();
+    line_of(&[
+        b"parameter ",
+        digits.format(which).as_bytes(),
+        b" of ",
+        text_named(text).as_slice(),
+        b": no 32-bit number\n",
+    ])
+}
+
 /// The line on what a command line can't ask for.
 pub fn line_fault_line(fault: LineFault) -> FaultLine
     ensures { result.items ≡ line_fault_line fault }
@@ -191,5 +241,12 @@ pub fn line_fault_line(fault: LineFault) -> FaultLine
             line_of(&[b"diff: standard input cannot be compared with itself\n"])
         }
         LineFault::Words(why) => words_line(why),
+        LineFault::Surplus {
+            text,
+            takes,
+            given,
+            is_named,
+        } => surplus_line(text, takes, given, is_named),
+        LineFault::NoNumber { text, which } => no_number_line(text, which),
     }
 }

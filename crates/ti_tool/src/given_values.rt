@@ -15,6 +15,7 @@ fn value_of(param: Param<'_>, is_text: bool) -> Value<'_>
 {
     match param {
         Param::Value(value) => value,
+        Param::Word(text) => Value::Text(text),
         Param::Either { number, text } => {
             if is_text {
                 Value::Text(text)

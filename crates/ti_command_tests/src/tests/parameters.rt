@@ -38,13 +38,13 @@ const GIVEN: &str = r"
 7 -7 => [Either { number: 7, text: [55] }, Either { number: -7, text: [45, 55] }]
 n:7 s:7 => [Value(Num(7)), Value(Text([55]))]
 s:n:7 => [Value(Text([110, 58, 55])), Value(Num(0))]
-\s+7 => [Value(Text([])), Value(Text([43, 55]))]
+\s+7 => [Word([]), Word([43, 55])]
 # as many bits as a number has, and one more
 2147483647 => [Either { number: 2147483647, text: [50, 49, 52, 55, 52, 56, 51, 54, 52, 55] }, Value(Num(0))]
-2147483648 => [Value(Text([50, 49, 52, 55, 52, 56, 51, 54, 52, 56])), Value(Num(0))]
+2147483648 => [Word([50, 49, 52, 55, 52, 56, 51, 54, 52, 56]), Value(Num(0))]
 # digits are decimal
-010 0x1 => [Either { number: 10, text: [48, 49, 48] }, Value(Text([48, 120, 49]))]
-n - => [Value(Text([110])), Value(Text([45]))]
+010 0x1 => [Either { number: 10, text: [48, 49, 48] }, Word([48, 120, 49])]
+n - => [Word([110]), Word([45])]
 ";
 
 /// The first two parameters that words give to `get`.

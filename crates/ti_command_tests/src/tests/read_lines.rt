@@ -80,6 +80,12 @@ ti convert --narrow --wide --force => BothWidths
 ti get --escape --hex bel n:x => BothForms
 ti get bel x n:x => BadWord 2
 ti get bel 1 2 3 4 5 6 7 8 9 10 => TooMany
+ti get cup 1 2 3 => Surplus
+ti get cup red => NoNumber
+ti get cup x 1 n:x => BadWord 3
+ti trace --of cup 1 2 3 => Surplus
+ti trace --of setaf red => NoNumber
+ti trace --of setaf --json --escape red => JsonForm
 ";
 
 /// What words request. No file is named but by a difference.

@@ -109,6 +109,41 @@ fn texts_are_got_with_parameters(rt: HostRuntime) {
     check_rows(&rt, GIVEN, &EndOf);
 }
 
+/// Runs with parameters for a capability to which terminfo(5) gives some. Those that do not fit are refused before
+/// anything is read.
+const FITTED: &str = r"
+ti get cup 4 9 entry | ^Z => 2 err parameters: cup takes 2, not 3; an entry is named by --entry FILE\n
+ti get cursor_address 4 9 1 | ^Z => 2 err parameters: cup takes 2, not 3\n
+ti get setaf n:1 s:x x | ^Z => 2 err parameters: setaf takes 1, not 3\n
+ti get setaf x x | ^Z => 2 err parameters: setaf takes 1, not 2; an entry is named by --entry FILE\n
+ti get setaf red | ^Z => 2 err parameter 1 of setaf: no 32-bit number\n
+ti get sgr 1 0 0 0 0 0 0 0 x | ^Z => 2 err parameter 9 of sgr: no 32-bit number\n
+ti get cup 2147483647 2147483648 | ^Z => 2 err parameter 2 of cup: no 32-bit number\n
+ti get cup -- -2147483648 -2147483649 | ^Z => 2 err parameter 2 of cup: no 32-bit number\n
+ti get cup 99999999999 +1 | ^Z => 2 err parameter 1 of cup: no 32-bit number\n
+# a text comes after the number of a function key or of its label
+ti get pfkey x x | ^Z => 2 err parameter 1 of pfkey: no 32-bit number\n
+ti get pkey_plab 1 x y z | ^Z => 2 err parameters: pfxl takes 3, not 4; an entry is named by --entry FILE\n
+ti get pfkey 1 x | @SMALL => 4 err get: pfkey: absent\n
+ti get plab_norm 1 x | @SMALL => 4 err get: plab_norm: absent\n
+ti trace --of=cup 1 2 3 | ^Z => 2 err parameters: cup takes 2, not 3\n
+ti trace --of=setaf red | ^Z => 2 err parameter 1 of setaf: no 32-bit number\n
+# a mark makes each word fit
+ti get setaf s:red | @SMALL => 4 err get: setaf: absent\n
+ti get cup n:1 s: | @SMALL => 4 err get: cup: absent\n
+# terminfo(5) gives no count to these, to a name of the entry's own, and to a label
+ti get bel 1 red 99999999999 | @SMALL => 0 out ^G
+ti get am red | @SMALL => 1
+ti get cols red | @SMALL => 0 out 80\n
+ti get E3 red 99999999999 | @EXTENDED => 0 out \E[3J
+ti get text#10 1 2 3 | @SMALL => 4 err get: text#10: absent\n
+";
+
+#[test]
+fn parameters_fit_what_terminfo_gives(rt: HostRuntime) {
+    check_rows(&rt, FITTED, &EndOf);
+}
+
 /// No byte of a name is shown but printable ones.
 #[test]
 fn a_name_with_control_characters_is_shown_by_its_notation(rt: HostRuntime) {
